@@ -1,0 +1,12 @@
+//! The lines of a text of bytes, and blanks.
+#![tactic(auto)]
+
+ghost use Rattle.std.specs.Prelude.{◌≡◌};
+ghost use Rattle.text_lines.specs.Blanks.{is_blank};
+
+/// Whether the byte is a blank, a space or a tab.
+pub fn is_blank(byte: u8) -> bool
+    ensures { result ≡ is_blank byte }
+{
+    byte == b' ' || byte == b'\t'
+}
