@@ -1,1 +1,11 @@
+pub mod World
+pub mod Lay
+pub mod Fill
 pub mod Step
+pub mod Iterate
+pub mod Live
+pub mod Range
+pub mod Arrival
+pub mod Moved
+pub mod Near
+pub mod Laws

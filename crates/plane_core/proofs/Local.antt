@@ -1,0 +1,67 @@
+-- After n generations a cell depends on the cells at most n away, wherever the pattern lies.
+use Rattle.std.proofs.Common.{◌≡◌, ℕ, zero, suc, ◌+◌, List, [], ◌∷◌, ap, ◌∙◌, sym, subst, arith, negsuc, ℤ, pos, ◌+ℤ◌, ◌-ℤ◌, refl, add-zero, zero-add, add-one, add-suc, ◌<◌}
+use Rattle.std.proofs.lemmas.Int.{ints}
+use Rattle.plane_core.specs.declared.cell.CellSet.{CellSet}
+use Rattle.plane_core.specs.World.{World, cell, blank, cell-blank, same_world}
+use Rattle.plane_core.specs.Lay.{lay}
+use Rattle.plane_core.specs.Step.{around, step, nine_zeros, cell-step, step-fill}
+use Rattle.plane_core.specs.Iterate.{iterate, iterate-zero, iterate-one_more}
+use Rattle.plane_core.specs.Arrival.{arrive, after, arrive-zero, arrive-one_more}
+use Rattle.plane_core.specs.Near.{IsNear, AgreeNear, NoneNear}
+use Rattle.plane_core.proofs.Cells.{nine, same_cell}
+
+-- the same one cell further on
+closer : (n : ℕ) (v : World) (x y : ℤ) (w : World) (a b : ℤ) (ex ey : ℤ) → IsNear 1 ex ey → AgreeNear (n + 1) v x y w a b → AgreeNear n v (x +ℤ ex) (y +ℤ ey) w (a +ℤ ex) (b +ℤ ey)
+closer n v x y w a b ex ey near h dx dy far =
+    same_cell v _ _ (x +ℤ (ex +ℤ dx)) (y +ℤ (ey +ℤ dy)) (omega (arith, ints)) (omega (arith, ints))
+    ∙ h (ex +ℤ dx) (ey +ℤ dy) (record { left = omega (arith, ints); right = omega (arith, ints); top = omega (arith, ints); bottom = omega (arith, ints) })
+    ∙ same_cell w _ _ _ _ (omega (arith, ints)) (omega (arith, ints))
+
+-- two cells that lie alike
+alike : (v : World) (x y : ℤ) (w : World) (a b dx dy p q r s : ℤ) → AgreeNear 1 v x y w a b → IsNear 1 dx dy → p ≡ x +ℤ dx → q ≡ y +ℤ dy → r ≡ a +ℤ dx → s ≡ b +ℤ dy → cell v p q ≡ cell w r s
+alike v x y w a b dx dy p q r s h near ep eq er es = same_cell v p q _ _ ep eq ∙ h dx dy near ∙ sym (same_cell w r s _ _ er es)
+
+-- the states around agree where the nine agree
+around-agree : (v : World) (x y : ℤ) (w : World) (a b : ℤ) → AgreeNear 1 v x y w a b → around v x y ≡ around w a b
+around-agree v x y w a b h =
+    nine w a b
+    (alike v x y w a b (pos 0) (pos 0) x y a b h (record { left = omega (arith, ints); right = omega (arith, ints); top = omega (arith, ints); bottom = omega (arith, ints) }) (omega (arith, ints)) (omega (arith, ints)) (omega (arith, ints)) (omega (arith, ints)))
+    (alike v x y w a b (pos 0) (negsuc 0) x (y -ℤ pos 1) a (b -ℤ pos 1) h (record { left = omega (arith, ints); right = omega (arith, ints); top = omega (arith, ints); bottom = omega (arith, ints) }) (omega (arith, ints)) (omega (arith, ints)) (omega (arith, ints)) (omega (arith, ints)))
+    (alike v x y w a b (pos 1) (negsuc 0) (x +ℤ pos 1) (y -ℤ pos 1) (a +ℤ pos 1) (b -ℤ pos 1) h (record { left = omega (arith, ints); right = omega (arith, ints); top = omega (arith, ints); bottom = omega (arith, ints) }) (omega (arith, ints)) (omega (arith, ints)) (omega (arith, ints)) (omega (arith, ints)))
+    (alike v x y w a b (pos 1) (pos 0) (x +ℤ pos 1) y (a +ℤ pos 1) b h (record { left = omega (arith, ints); right = omega (arith, ints); top = omega (arith, ints); bottom = omega (arith, ints) }) (omega (arith, ints)) (omega (arith, ints)) (omega (arith, ints)) (omega (arith, ints)))
+    (alike v x y w a b (pos 1) (pos 1) (x +ℤ pos 1) (y +ℤ pos 1) (a +ℤ pos 1) (b +ℤ pos 1) h (record { left = omega (arith, ints); right = omega (arith, ints); top = omega (arith, ints); bottom = omega (arith, ints) }) (omega (arith, ints)) (omega (arith, ints)) (omega (arith, ints)) (omega (arith, ints)))
+    (alike v x y w a b (pos 0) (pos 1) x (y +ℤ pos 1) a (b +ℤ pos 1) h (record { left = omega (arith, ints); right = omega (arith, ints); top = omega (arith, ints); bottom = omega (arith, ints) }) (omega (arith, ints)) (omega (arith, ints)) (omega (arith, ints)) (omega (arith, ints)))
+    (alike v x y w a b (negsuc 0) (pos 1) (x -ℤ pos 1) (y +ℤ pos 1) (a -ℤ pos 1) (b +ℤ pos 1) h (record { left = omega (arith, ints); right = omega (arith, ints); top = omega (arith, ints); bottom = omega (arith, ints) }) (omega (arith, ints)) (omega (arith, ints)) (omega (arith, ints)) (omega (arith, ints)))
+    (alike v x y w a b (negsuc 0) (pos 0) (x -ℤ pos 1) y (a -ℤ pos 1) b h (record { left = omega (arith, ints); right = omega (arith, ints); top = omega (arith, ints); bottom = omega (arith, ints) }) (omega (arith, ints)) (omega (arith, ints)) (omega (arith, ints)) (omega (arith, ints)))
+    (alike v x y w a b (negsuc 0) (negsuc 0) (x -ℤ pos 1) (y -ℤ pos 1) (a -ℤ pos 1) (b -ℤ pos 1) h (record { left = omega (arith, ints); right = omega (arith, ints); top = omega (arith, ints); bottom = omega (arith, ints) }) (omega (arith, ints)) (omega (arith, ints)) (omega (arith, ints)) (omega (arith, ints)))
+
+-- what HashLife rests on: a cell n generations on, by the cells at most n away
+pub cell-iterate : (next : List ℕ → ℕ) → next nine_zeros ≡ 0 → (n : ℕ) (v : World) (x y : ℤ) (w : World) (a b : ℤ) → AgreeNear n v x y w a b
+    → cell (iterate n (step next) v) x y ≡ cell (iterate n (step next) w) a b
+cell-iterate next quiet zero v x y w a b h =
+    ap (λ u. cell u x y) (iterate-zero (step next) v)
+    ∙ same_cell v _ _ (x +ℤ pos 0) (y +ℤ pos 0) (omega (arith, ints)) (omega (arith, ints))
+    ∙ h (pos 0) (pos 0) (record { left = omega (arith, ints); right = omega (arith, ints); top = omega (arith, ints); bottom = omega (arith, ints) })
+    ∙ same_cell w _ _ _ _ (omega (arith, ints)) (omega (arith, ints))
+    ∙ sym (ap (λ u. cell u a b) (iterate-zero (step next) w))
+cell-iterate next quiet (suc n) v x y w a b h =
+    let k : suc n ≡ n + 1 = omega arith in
+    let near : AgreeNear (n + 1) v x y w a b = subst (λ m. AgreeNear m v x y w a b) k h in
+    let one : AgreeNear 1 (iterate n (step next) v) x y (iterate n (step next) w) a b = λ ex ey at. cell-iterate next quiet n v _ _ w _ _ (closer n v x y w a b ex ey at near) in
+    ap (λ m. cell (iterate m (step next) v) x y) k
+    ∙ ap (λ u. cell u x y) (iterate-one_more n (step next) v)
+    ∙ cell-step next quiet (iterate n (step next) v) x y
+    ∙ ap next (around-agree _ x y _ a b one)
+    ∙ sym (cell-step next quiet (iterate n (step next) w) a b)
+    ∙ sym (ap (λ u. cell u a b) (iterate-one_more n (step next) w))
+    ∙ sym (ap (λ m. cell (iterate m (step next) w) a b) k)
+
+-- the states around a place with no live cell near it
+around-none : (w : World) (x y : ℤ) → NoneNear 1 w x y → around w x y ≡ nine_zeros
+around-none w x y h =
+    around-agree w x y blank x y (λ dx dy near. h dx dy near ∙ sym (cell-blank (x +ℤ dx) (y +ℤ dy)))
+    ∙ sym (nine blank x y (sym (cell-blank _ _)) (sym (cell-blank _ _)) (sym (cell-blank _ _)) (sym (cell-blank _ _)) (sym (cell-blank _ _)) (sym (cell-blank _ _)) (sym (cell-blank _ _)) (sym (cell-blank _ _)) (sym (cell-blank _ _)))
+
+-- activity spreads at most one cell a generation
+pub cell-step-none : (next : List ℕ → ℕ) → next nine_zeros ≡ 0 → (w : World) (x y : ℤ) → NoneNear 1 w x y → cell (step next w) x y ≡ 0
+cell-step-none next quiet w x y h = cell-step next quiet w x y ∙ ap next (around-none w x y h) ∙ quiet
