@@ -2,6 +2,7 @@
 use Rattle.std.specs.Prelude.{◌≡◌, ℕ, ◌+◌, ◌<◌, ◌≤◌, ◌^◌, ℤ, pos, neg_ℤ, ◌+ℤ◌, ◌-ℤ◌, ◌≤ℤ◌, ◌<ℤ◌}
 use Rattle.plane_core.specs.World.{World, cell}
 use Rattle.plane_core.specs.declared.cell.Bounds.{Bounds}
+use Rattle.plane_core.specs.declared.cell.CellSet.{CellSet}
 
 -- (x, y) lies in the range of planes, from -2^61 up to 2^61, and at least `margin` cells from its edges
 pub record IsInside (margin : ℕ) (x y : ℤ) : Type 0 where
@@ -9,6 +10,10 @@ pub record IsInside (margin : ℕ) (x y : ℤ) : Type 0 where
   pub right : (x +ℤ pos margin) <ℤ pos (2 ^ 61)
   pub top : neg_ℤ (pos (2 ^ 61)) ≤ℤ (y -ℤ pos margin)
   pub bottom : (y +ℤ pos margin) <ℤ pos (2 ^ 61)
+
+-- a cell that a plane can have: in the range of planes, with a state below 256
+abbrev pub CanBeLaid : CellSet → Type 0
+CanBeLaid c = IsInside 0 c.x c.y × (c.state < 256)
 
 -- each live cell lies so
 abbrev pub HasMargin : ℕ → World → Type 0

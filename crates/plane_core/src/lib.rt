@@ -5,6 +5,7 @@ mod cell;
 mod laws;
 mod listing;
 mod next;
+mod plane;
 mod refusal;
 mod stop;
 
@@ -16,5 +17,6 @@ pub use laws::{
 };
 pub use listing::Listing;
 pub use next::{Around, Next};
+pub use plane::Plane;
 pub use refusal::Refusal;
 pub use stop::{NoStop, Stop};

@@ -1,0 +1,142 @@
+-- How a plane keeps a world: as the list of its live cells, row by row.
+use Rattle.std.specs.Prelude.{◌≡◌, ℕ, zero, suc, ◌-◌, ◌<◌, Bool, true, false, cond, List, [], ◌∷◌, map, length, ℤ, Option, Some, unwrap_or}
+use Rattle.std.proofs.Common.{refl, sym, ap, ◌∙◌, ap₂, subst, w64, to_z, of_z, SFits, to_z-of_z, arith, Less, Equal, Greater}
+use Rattle.std.specs.List.{AllByRecursion}
+use Rattle.std.specs.List.Sorted.{IsStrictlySortedBy}
+use Rattle.std.specs.Map.{keys_of, lookup, remove_entry}
+use Rattle.std.specs.BTreeMap.{insert_entry}
+use Rattle.std.specs.Ordering.{match_ordering}
+use Rattle.std.specs.FinMap as map
+use Rattle.std.specs.FinMap.Entries.{by_order}
+use Rattle.plane_core.specs.World.{World, Place, place_cmp, same_place, cell, put, blank, cell-put, cell-blank, same_world, places_total, put-suc, entries-blank}
+use Rattle.plane_core.specs.Live.{live, live-entries}
+use Rattle.plane_core.specs.Range.{IsInside, HasMargin}
+use Rattle.plane_core.specs.Fill.{same_is}
+use Rattle.std.specs.Cmp.{eq_by_cmp_equiv}
+
+-- the state that a list of cells gives a place: that of its first mention, else 0
+abbrev pub state_at : List (Place × ℕ) → Place → ℕ
+state_at es p = unwrap_or (lookup (same_place p) es) 0
+
+-- the world in which each cell has the state of its first mention in the list
+pub world_of : List (Place × ℕ) → World
+world_of [] = blank
+world_of (e ∷ es) = put (world_of es) e.0.1 e.0.0 e.1
+
+unwrap_or-cond : (b : Bool) (s n : ℕ) (o : Option ℕ) → n ≡ unwrap_or o 0 → cond b s n ≡ unwrap_or (cond b (Some s) o) 0
+unwrap_or-cond true s n o h = refl
+unwrap_or-cond false s n o h = h
+
+unwrap_or-branch : (b : Bool) (o p : Option ℕ) → unwrap_or (cond b o p) 0 ≡ cond b (unwrap_or o 0) (unwrap_or p 0)
+unwrap_or-branch true o p = refl
+unwrap_or-branch false o p = refl
+
+pub cell-world_of : (es : List (Place × ℕ)) (x y : ℤ) → cell (world_of es) x y ≡ state_at es (y, x)
+unfolding world_of
+cell-world_of [] x y = cell-blank x y
+cell-world_of (e ∷ es) x y = cell-put (world_of es) e.0.1 e.0.0 e.1 x y ∙ unwrap_or-cond (same_place (y, x) e.0) e.1 _ (lookup (same_place (y, x)) es) (cell-world_of es x y)
+
+-- lists that differ at one place make worlds that differ there
+pub world_of-put : (es fs : List (Place × ℕ)) (x y : ℤ) (s : ℕ) → ((q : Place) → state_at fs q ≡ cond (same_place q (y, x)) s (state_at es q)) → world_of fs ≡ put (world_of es) x y s
+world_of-put es fs x y s h =
+    same_world _ _ (λ x' y'. cell-world_of fs x' y' ∙ h (y', x') ∙ ap (cond (same_place (y', x') (y, x)) s) (sym (cell-world_of es x' y')) ∙ sym (cell-put (world_of es) x y s x' y'))
+
+pub world_of-none : world_of [] ≡ blank
+unfolding world_of
+world_of-none = refl
+
+-- the place (y, x) as the code passes it on
+abbrev pub passed : ℤ → ℤ → Place
+passed y x = (to_z w64 (of_z w64 y), to_z w64 (of_z w64 x))
+
+pub passed-same : (y x : ℤ) → SFits w64 y → SFits w64 x → passed y x ≡ (y, x)
+passed-same y x f g = λ i. (to_z-of_z f i, to_z-of_z g i)
+
+-- a look-up among the cells that a world is made of
+pub cell-from_lookup : (es : List (Place × ℕ)) (w : World) (x y : ℤ) → SFits w64 x → SFits w64 y → world_of es ≡ w → unwrap_or (lookup (same_place (passed y x)) es) 0 ≡ cell w x y
+cell-from_lookup es w x y fx fy is = ap (state_at es) (passed-same y x fy fx) ∙ sym (cell-world_of es x y) ∙ ap (λ v. cell v x y) is
+
+none : (s : ℕ) → (0 < s → ⊥) → s ≡ 0
+none s h = omega (arith, h)
+
+-- what an update of the cells at p does to the world
+pub world_of-update : (es fs : List (Place × ℕ)) (w : World) (x y : ℤ) (s : ℕ) (o : Option ℕ) → SFits w64 x → SFits w64 y → world_of es ≡ w → unwrap_or o 0 ≡ s
+    → ((q : Place) → lookup (same_place q) fs ≡ cond (same_place (passed y x) q) o (lookup (same_place q) es)) → world_of fs ≡ put w x y s
+world_of-update es fs w x y s o fx fy is kept h =
+    world_of-put es fs x y s (λ q. ap (λ r. unwrap_or r 0) (h q) ∙ unwrap_or-branch (same_place (passed y x) q) o _ ∙ ap₂ (λ (r : Place) n. cond (same_place r q) n (state_at es q)) (passed-same y x fy fx) kept ∙ ap (λ b. cond b s (state_at es q)) ((eq_by_cmp_equiv places_total).symm (y, x) q))
+    ∙ ap (λ v. put v x y s) is
+
+-- a cell that a plane keeps: it is live, and in the range of planes
+abbrev pub IsKept : Place × ℕ → Type 0
+IsKept e = (0 < e.1) × IsInside 0 e.0.1 e.0.0
+
+-- a plane keeps such cells alone
+abbrev pub AllKept : List (Place × ℕ) → Type 0
+AllKept = AllByRecursion IsKept
+
+less_one : Place × ℕ → Place × ℕ
+less_one e = (e.0, e.1 - 1)
+
+put-first : (k : Place) (n : ℕ) (es : List (Place × ℕ)) → AllByRecursion (λ q. place_cmp k q ≡ Less) (keys_of es) → map.Entries.put place_cmp k n (map less_one es) ≡ (k, n) ∷ map less_one es
+unfolding less_one
+put-first k n [] h = refl
+put-first k n (e ∷ es) h = ap (λ o. by_order o ((k, n) ∷ map less_one (e ∷ es)) ((e.0, n) ∷ map less_one es) (less_one e ∷ map.Entries.put place_cmp k n (map less_one es))) h.0
+
+put-live : (w : World) (k : Place) (s : ℕ) → 0 < s → put w k.1 k.0 s ≡ map.insert w k (s - 1)
+put-live w k zero h = absurd (omega (arith, h))
+put-live w k (suc n) h = put-suc w k.1 k.0 n ∙ ap (map.insert w k) (omega arith)
+
+entries-world_of : (es : List (Place × ℕ)) → IsStrictlySortedBy place_cmp (keys_of es) → AllKept es → map.entries (world_of es) ≡ map less_one es
+unfolding world_of IsStrictlySortedBy less_one
+entries-world_of [] o h = entries-blank
+entries-world_of (e ∷ es) o h =
+    ap map.entries (put-live (world_of es) e.0 e.1 h.0.0)
+    ∙ map.entries-insert places_total (world_of es) e.0 (e.1 - 1)
+    ∙ ap (map.Entries.put place_cmp e.0 (e.1 - 1)) (entries-world_of es o.1 h.1)
+    ∙ put-first e.0 (e.1 - 1) es o.0
+
+one_more : (es : List (Place × ℕ)) → AllKept es → map (λ e. (e.0, suc e.1)) (map less_one es) ≡ es
+unfolding less_one
+one_more [] h = refl
+one_more (e ∷ es) h = ap₂ (λ (s : ℕ) (fs : List (Place × ℕ)). (e.0, s) ∷ fs) (let k : 0 < e.1 = h.0.0 in omega arith) (one_more es h.1)
+
+-- a list of live cells in order is the list of its world
+pub live-world_of : (es : List (Place × ℕ)) → IsStrictlySortedBy place_cmp (keys_of es) → AllKept es → live (world_of es) ≡ es
+live-world_of es o h = live-entries (world_of es) ∙ ap (map (λ e. (e.0, suc e.1))) (entries-world_of es o h) ∙ one_more es h
+
+pub live-from_view : (es : List (Place × ℕ)) (w : World) → world_of es ≡ w → IsStrictlySortedBy place_cmp (keys_of es) → AllKept es → live w ≡ es
+live-from_view es w is o h = ap live (sym is) ∙ live-world_of es o h
+
+pub AllKept-insert : (es : List (Place × ℕ)) (k : Place) (s : ℕ) → IsKept (k, s) → AllKept es → AllKept (insert_entry place_cmp es k s)
+AllKept-insert [] k s h a = (h, a)
+AllKept-insert (e ∷ es) k s h a =
+    elim (place_cmp k e.0) as (λ o. AllKept (match_ordering o ((k, s) ∷ e ∷ es) ((e.0, s) ∷ es) (e ∷ insert_entry place_cmp es k s))) [
+      | Less ↦ (h, a)
+      | Equal ↦ ((h.0, a.0.1), a.1)
+      | Greater ↦ (a.0, AllKept-insert es k s h a.1)
+    ]
+
+pub AllKept-remove : (es : List (Place × ℕ)) (test : Place → Bool) → AllKept es → AllKept (remove_entry test es)
+AllKept-remove [] test a = a
+AllKept-remove (e ∷ es) test a = elim (test e.0) as (λ b. AllKept (cond b es (e ∷ remove_entry test es))) [ true ↦ a.1 | false ↦ (a.0, AllKept-remove es test a.1) ]
+
+
+kept_state : (es : List (Place × ℕ)) (x y : ℤ) → AllKept es → 0 < state_at es (y, x) → IsInside 0 x y
+kept_state [] x y kept live = absurd (omega (arith, live))
+kept_state (e ∷ es) x y kept live =
+    elim (same_place (y, x) e.0) as (λ b. same_place (y, x) e.0 ≡ b → 0 < unwrap_or (cond b (Some e.1) (lookup (same_place (y, x)) es)) 0 → IsInside 0 x y) [
+      | true ↦ λ same l. subst (λ (p : Place). IsInside 0 p.1 p.0) (sym (same_is (y, x) e.0 same)) kept.0.1
+      | false ↦ λ same l. kept_state es x y kept.1 l
+    ] refl live
+
+-- the live cells of a plane lie in the range of planes
+pub HasMargin-kept : (es : List (Place × ℕ)) (w : World) → world_of es ≡ w → AllKept es → HasMargin 0 w
+HasMargin-kept es w is kept x y live = kept_state es x y kept (subst (λ s. 0 < s) (ap (λ v. cell v x y) (sym is) ∙ cell-world_of es x y) live)
+
+-- a cell outside it isn't live
+pub cell-outside : (w : World) (x y : ℤ) → HasMargin 0 w → (IsInside 0 x y → ⊥) → cell w x y ≡ 0
+cell-outside w x y inside out = none (cell w x y) (λ live. out (inside x y live))
+
+-- a live cell in range, as the code passes it on, is kept
+pub IsKept-passed : (x y : ℤ) (s : ℕ) → SFits w64 x → SFits w64 y → 0 < s → IsInside 0 x y → IsKept (passed y x, s)
+IsKept-passed x y s fx fy live inside = (live, subst (λ (p : Place). IsInside 0 p.1 p.0) (sym (passed-same y x fy fx)) inside)
