@@ -4,3 +4,4 @@ pub mod Steps
 pub mod Turns
 pub mod Alike
 pub mod Listed
+pub mod Lists

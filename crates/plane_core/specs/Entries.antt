@@ -9,14 +9,10 @@ use Rattle.std.specs.Ordering.{match_ordering}
 use Rattle.std.specs.FinMap as map
 use Rattle.std.specs.FinMap.Entries.{by_order}
 use Rattle.plane_core.specs.World.{World, Place, place_cmp, same_place, cell, put, blank, cell-put, cell-blank, same_world, places_total, put-suc, entries-blank}
-use Rattle.plane_core.specs.Live.{live, live-entries}
+use Rattle.plane_core.specs.Live.{live, live-entries, state_at}
 use Rattle.plane_core.specs.Range.{IsInside, HasMargin}
 use Rattle.plane_core.specs.Fill.{same_is}
 use Rattle.std.specs.Cmp.{eq_by_cmp_equiv}
-
--- the state that a list of cells gives a place: that of its first mention, else 0
-abbrev pub state_at : List (Place × ℕ) → Place → ℕ
-state_at es p = unwrap_or (lookup (same_place p) es) 0
 
 -- the world in which each cell has the state of its first mention in the list
 pub world_of : List (Place × ℕ) → World

@@ -5,6 +5,7 @@ pub mod Step
 pub mod Iterate
 pub mod Live
 pub mod Range
+pub mod Box
 pub mod Entries
 pub mod Arrival
 pub mod Moved

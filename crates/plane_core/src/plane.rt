@@ -1,9 +1,10 @@
 //! The pattern: the states of all cells of the plane.
-ghost use Rattle.std.specs.Prelude.{◌≡◌, ◌<◌, ◌≤◌, ◌^◌, ℕ, map, OnOk, OnErr, IfOk, IfSome, IfNone, All, IsTrue, ◌↔◌, slice_index, length, MatchOption};
+ghost use Rattle.std.specs.Prelude.{◌≡◌, ◌<◌, ◌≤◌, ◌^◌, ℕ, map, OnOk, OnErr, IfOk, IfSome, IfNone, All, IsTrue, ◌↔◌, slice_index, slice_set, ◌+◌, length, MatchOption, IsNone};
 ghost use Rattle.plane_core.specs.World.{cell, blank, put};
 ghost use Rattle.plane_core.specs.Lay.{lay};
 ghost use Rattle.plane_core.specs.Live.{population, count_of, live, of_cell};
 ghost use Rattle.plane_core.specs.Range.{IsInside, HasMargin, AllBelow, IsGreatest, IsBoundingBox, CanBeLaid};
+ghost use Rattle.plane_core.specs.Box.{grown};
 
 use crate::cell::{Bounds, Cell, CellSet};
 use std::alloc::{AllocError, Global};
@@ -31,6 +32,35 @@ impl Model for Plane {
     ghost view = { λ p. world_of p.cells.entries };
 
     ghost invariant = { λ p. AllKept p.cells.entries };
+}
+
+// The least box that holds the given one and a place, which is its y and then its x.
+fn grown(bounds: Option<Bounds>, place: (i64, i64)) -> Bounds
+    ensures { result ≡ grown bounds place.1 place.0 }
+{
+    let (y, x) = place;
+    match bounds {
+        None => Bounds {
+            left: x,
+            top: y,
+            right: x,
+            bottom: y,
+        },
+        Some(b) => Bounds {
+            left: b.left.min(x),
+            top: b.top.min(y),
+            right: b.right.max(x),
+            bottom: b.bottom.max(y),
+        },
+    }
+}
+
+// Counts one more cell with the state.
+fn count_one(counts: &mut [u128; 256], state: u8)
+    requires { slice_index counts.old state + 1 < 2 ^ 128 }
+    ensures { counts.new ≡ slice_set counts.old state (slice_index counts.old state + 1) }
+{
+    counts[state as usize] += 1;
 }
 
 impl Plane {
@@ -120,6 +150,42 @@ impl Plane {
             return Ok(None);
         }
         Ok(Some(self.live_cells()?))
+    }
+
+    /// The greatest state, 0 where no cell is live.
+    pub fn greatest(&self) -> u8
+        ensures { IsGreatest self.now result }
+    {
+        let mut greatest = 0;
+        for (_, state) in &self.cells {
+            greatest = greatest.max(*state);
+        }
+        greatest
+    }
+
+    /// The least box that holds the live cells, None where no cell is live.
+    pub fn bounds(&self) -> Option<Bounds>
+        ensures none { IsNone result ↔ (self.now ≡ blank) }
+        ensures some { IfSome result (λ b. IsBoundingBox b self.now) }
+    {
+        let mut bounds = None;
+        for (place, _) in &self.cells {
+            bounds = Some(grown(bounds, *place));
+        }
+        bounds
+    }
+
+    /// How many live cells have each state, by state; the first count, that of the state 0, is 0.
+    pub fn counts(&self) -> Result<[u128; 256], AllocError>
+        ensures { IfOk result (λ counts. (s : ℕ) → s < 256 → slice_index counts s ≡ count_of self.now s) }
+    {
+        // `len` says that there are few enough for the counts.
+        let _ = self.cells.len();
+        let mut counts = [0; 256];
+        for (_, state) in &self.cells {
+            count_one(&mut counts, *state);
+        }
+        Ok(counts)
     }
 
     /// Whether the cells are the same.

@@ -1,0 +1,7 @@
+use Rattle.std.proofs.Common.{◌≡◌, ℕ, ◌+◌, ◌<◌, get_or}
+use Rattle.plane_core.specs.Live.{live}
+use Rattle.plane_core.proofs.Lists.{Counted}
+use Rattle.plane_core.proofs.plane.Plane.counts.Given as goal
+
+abbrev pub invariant-loop-state : goal.invariant-loop-state
+invariant-loop-state l = Counted l.self l.counts l.state-iterator
