@@ -5,3 +5,5 @@ pub mod Turns
 pub mod Alike
 pub mod Listed
 pub mod Lists
+pub mod Filled
+pub mod Stepped

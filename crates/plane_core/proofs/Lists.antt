@@ -35,9 +35,9 @@ below_greatest : (es : List (Place × ℕ)) → AllByRecursion (λ (e : Place ×
 below_greatest [] = tt
 below_greatest (e ∷ es) = (omega arith, raise e.1 (greatest_of es) es (below_greatest es))
   where
-  raise : (m n : ℕ) (fs : List (Place × ℕ)) → AllByRecursion (λ (f : Place × ℕ). f.1 ≤ n) fs → AllByRecursion (λ (f : Place × ℕ). f.1 ≤ max m n) fs
-  raise m n [] h = tt
-  raise m n (f ∷ fs) h = ((let k : f.1 ≤ n = h.0 in omega arith), raise m n fs h.1)
+    raise : (m n : ℕ) (fs : List (Place × ℕ)) → AllByRecursion (λ (f : Place × ℕ). f.1 ≤ n) fs → AllByRecursion (λ (f : Place × ℕ). f.1 ≤ max m n) fs
+    raise m n [] h = tt
+    raise m n (f ∷ fs) h = ((let k : f.1 ≤ n = h.0 in omega arith), raise m n fs h.1)
 
 least_greatest : (w : World) (n : ℕ) (es : List (Place × ℕ)) → AllBelow n w → AllByRecursion (λ (e : Place × ℕ). (cell w e.0.1 e.0.0 ≡ e.1) × (0 < e.1)) es → greatest_of es < n
 least_greatest w n [] below h = let k = below (Rattle.std.specs.Prelude.pos 0) (Rattle.std.specs.Prelude.pos 0) in omega (arith, k)

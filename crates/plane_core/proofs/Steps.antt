@@ -1,5 +1,5 @@
 -- Steps added up, and arrivals with nothing laid.
-use Rattle.std.proofs.Common.{◌≡◌, ℕ, zero, suc, ◌+◌, ◌<◌, List, [], ◌∷◌, ap, ◌∙◌, sym, arith, ℤ, refl}
+use Rattle.std.proofs.Common.{◌≡◌, ℕ, zero, suc, ◌+◌, ◌-◌, ◌<◌, ◌≤◌, List, [], ◌∷◌, ap, ◌∙◌, sym, arith, ℤ, refl}
 use Rattle.plane_core.specs.declared.cell.CellSet.{CellSet}
 use Rattle.plane_core.specs.World.{World, blank}
 use Rattle.plane_core.specs.Lay.{lay}
@@ -27,6 +27,15 @@ iterate-fixed f a zero same = iterate-zero f a
 iterate-fixed f a (suc n) same =
     let k : suc n ≡ n + 1 = omega arith in
     ap (λ i. iterate i f a) k ∙ iterate-one_more n f a ∙ ap f (iterate-fixed f a n same) ∙ same
+
+-- what a function leaves alone after k times it leaves alone after any more
+pub still-iterate : {A : Type 0} (f : A → A) (a b : A) (k n : ℕ) → k ≤ n → b ≡ iterate k f a → f b ≡ b → b ≡ iterate n f a
+still-iterate f a b k n le is same =
+    let apart : (n - k) + k ≡ n = omega arith in
+    sym (iterate-fixed f b (n - k) same)
+    ∙ ap (iterate (n - k) f) is
+    ∙ sym (iterate-add f a (n - k) k)
+    ∙ ap (λ i. iterate i f a) apart
 
 pub arrive-undisturbed : (next : List ℕ → ℕ) (cells : ℕ → List CellSet) (start : World) (g : ℕ) → ((k : ℕ) → k < g → cells k ≡ []) → arrive next cells start g ≡ iterate g (step next) start
 arrive-undisturbed next cells start zero none = arrive-zero next cells start ∙ sym (iterate-zero (step next) start)

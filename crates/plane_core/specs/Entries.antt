@@ -116,7 +116,6 @@ pub AllKept-remove : (es : List (Place × ℕ)) (test : Place → Bool) → AllK
 AllKept-remove [] test a = a
 AllKept-remove (e ∷ es) test a = elim (test e.0) as (λ b. AllKept (cond b es (e ∷ remove_entry test es))) [ true ↦ a.1 | false ↦ (a.0, AllKept-remove es test a.1) ]
 
-
 kept_state : (es : List (Place × ℕ)) (x y : ℤ) → AllKept es → 0 < state_at es (y, x) → IsInside 0 x y
 kept_state [] x y kept live = absurd (omega (arith, live))
 kept_state (e ∷ es) x y kept live =

@@ -11,3 +11,4 @@ pub mod Arrival
 pub mod Moved
 pub mod Near
 pub mod Laws
+pub mod Evolved

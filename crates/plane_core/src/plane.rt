@@ -167,6 +167,7 @@ impl Plane {
     pub fn bounds(&self) -> Option<Bounds>
         ensures none { IsNone result ↔ (self.now ≡ blank) }
         ensures some { IfSome result (λ b. IsBoundingBox b self.now) }
+        ensures in_range { HasMargin 0 self.now }
     {
         let mut bounds = None;
         for (place, _) in &self.cells {

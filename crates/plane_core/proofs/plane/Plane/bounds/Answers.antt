@@ -1,7 +1,7 @@
 use Rattle.std.proofs.Common.{◌≡◌, ◌∙◌, ap, sym, subst, [], Option, None, Some}
 use Rattle.std.specs.Map.Iter.{deref_pair}
 use Rattle.std.proofs.lemmas.Map.Iter.{rest_all, rest_more}
-use Rattle.plane_core.specs.Entries.{live-from_view}
+use Rattle.plane_core.specs.Entries.{live-from_view, HasMargin-kept}
 use Rattle.plane_core.proofs.Lists.{Walked, Walked-none, Walked-more, none_walked, some_walked}
 use Rattle.plane_core.proofs.plane.Plane.bounds.Goals as goal
 
@@ -20,3 +20,6 @@ returns-clause-none c = none_walked c.args.self.now c.loop-place.bounds _ (rest_
 
 pub returns-clause-some : goal.returns-clause-some
 returns-clause-some c = some_walked c.args.self.now c.loop-place.bounds _ (rest_all deref_pair _ _ _ c.in-None.is c.next.ensures.steps) c.loop-place.invariant
+
+pub returns-clause-in_range : goal.returns-clause-in_range
+returns-clause-in_range c = HasMargin-kept c.self.inside.cells.entries c.args.self.now c.self.view_is c.self.invariant
