@@ -1,33 +1,28 @@
 -- Planes with the same entries, and planes of the same world.
-use Rattle.std.proofs.Common.{◌≡◌, ℕ, Bool, true, false, ◌&&◌, sym, ap, ◌∙◌, Decides, eqb, BTreeMap, IsTrue, ◌↔◌, refl}
+use Rattle.std.proofs.Common.{◌≡◌, ℕ, Bool, ◌&&◌, sym, ap, ◌∙◌, Decides, eqb, BTreeMap, IsTrue, ◌↔◌}
 use Rattle.std.specs.Ordering.{int_eq}
 use Rattle.std.specs.List.Sorted.{IsStrictlySortedBy}
 use Rattle.std.specs.Map.{keys_of}
 use Rattle.std.proofs.lemmas.Map.Lookups.{btree_map_eq-Decides}
+use Rattle.std.proofs.lemmas.Bool.{and_parts, and_from}
 use Rattle.std.proofs.lemmas.Bool.Decides.{Decides-eqb, Decides-int_eq}
 use lib.Pointwise.{pointwise}
 use Rattle.plane_core.specs.World.{World, Place, place_cmp}
+use Rattle.plane_core.specs.Live.{live}
 use Rattle.plane_core.specs.Entries.{world_of, AllKept, live-from_view}
 
+-- whether two places are one, as `==` compares them
 abbrev pub place_eq : Place → Place → Bool
 place_eq p q = int_eq p.0 q.0 && int_eq p.1 q.1
 
-left_of : (a b : Bool) → (a && b) ≡ true → a ≡ true
-left_of true b h = refl
-left_of false b h = h
-
-right_of : (a b : Bool) → (a && b) ≡ true → b ≡ true
-right_of true b h = h
-right_of false b h = cc
-
-both : (a b : Bool) → a ≡ true → b ≡ true → (a && b) ≡ true
-both true b h k = k
-both false b h k = h
-
 Decides-place_eq : (p q : Place) → Decides (place_eq p q) (p ≡ q)
 Decides-place_eq p q = (
-  λ h. let e = (Decides-int_eq p.0 q.0).0 (left_of _ _ h) in let f = (Decides-int_eq p.1 q.1).0 (right_of _ _ h) in λ i. (e i, f i),
-  λ e. both _ _ ((Decides-int_eq p.0 q.0).1 (ap (λ (r : Place). r.0) e)) ((Decides-int_eq p.1 q.1).1 (ap (λ (r : Place). r.1) e)),
+  λ h.
+      let parts = and_parts (int_eq p.0 q.0) (int_eq p.1 q.1) h in
+      let e = (Decides-int_eq p.0 q.0).0 parts.0 in
+      let f = (Decides-int_eq p.1 q.1).0 parts.1 in
+      λ i. (e i, f i),
+  λ e. and_from _ _ ((Decides-int_eq p.0 q.0).1 (ap (λ (r : Place). r.0) e)) ((Decides-int_eq p.1 q.1).1 (ap (λ (r : Place). r.1) e)),
 )
 
 pub equals-worlds : (m n : BTreeMap Place ℕ) (v w : World) (r : Bool) → world_of m.entries ≡ v → world_of n.entries ≡ w
@@ -36,5 +31,5 @@ pub equals-worlds : (m n : BTreeMap Place ℕ) (v w : World) (r : Bool) → worl
 equals-worlds m n v w r mv nw om on lm ln e =
     let d = btree_map_eq-Decides Decides-place_eq Decides-eqb m n r e in (
       λ h. sym mv ∙ ap world_of (d.0 h) ∙ nw,
-      λ h. d.1 (sym (live-from_view m.entries v mv om lm) ∙ ap Rattle.plane_core.specs.Live.live h ∙ live-from_view n.entries w nw on ln),
+      λ h. d.1 (sym (live-from_view m.entries v mv om lm) ∙ ap live h ∙ live-from_view n.entries w nw on ln),
     )

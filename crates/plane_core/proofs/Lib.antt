@@ -7,3 +7,4 @@ pub mod Listed
 pub mod Lists
 pub mod Filled
 pub mod Stepped
+pub mod Keeps

@@ -1,5 +1,6 @@
 -- The live cells as a list of `Cell`.
-use Rattle.std.proofs.Common.{◌≡◌, ℕ, zero, suc, ◌<◌, Bool, true, false, ◌||◌, List, [], ◌∷◌, length, map, get_or, ap, ◌∙◌, sym, subst, refl, arith}
+use Rattle.std.proofs.Common.{◌≡◌, ℕ, zero, suc, ◌<◌, true, List, [], ◌∷◌, length, map, get_or, ap, ◌∙◌, sym, subst, refl, arith}
+use Rattle.std.proofs.lemmas.Bool.{or_left, or_right}
 use Rattle.std.specs.List.{list_any}
 use Rattle.std.specs.Map.{keys_of}
 use Rattle.std.specs.FinMap as finite
@@ -14,14 +15,6 @@ keys-of_cells (c ∷ cs) = ap (λ ps. place_of c ∷ ps) (keys-of_cells cs)
 -- their places
 pub places-from_live : (w : World) (cs : List Cell) → map of_cell cs ≡ live w → map place_of cs ≡ finite.keys w
 places-from_live w cs e = sym (keys-of_cells cs) ∙ ap keys_of e ∙ keys-live w
-
-or_right : (a b : Bool) → b ≡ true → (a || b) ≡ true
-or_right true b e = refl
-or_right false b e = e
-
-or_left : (a b : Bool) → a ≡ true → (a || b) ≡ true
-or_left true b e = refl
-or_left false b e = cc
 
 listed : (cs : List Cell) (i : ℕ) (d : Cell) → i < length cs → list_any (same_place (place_of (get_or cs i d))) (map place_of cs) ≡ true
 listed [] i d h = absurd (omega arith)

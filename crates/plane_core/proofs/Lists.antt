@@ -1,35 +1,23 @@
 -- What a walk over the live cells finds: the greatest state, the bounding box, and how many have a state.
-use Rattle.std.proofs.Common.{◌≡◌, ℕ, zero, suc, ◌+◌, ◌<◌, ◌≤◌, ◌^◌, ◌≢◌, max, Bool, true, false, cond, List, [], ◌∷◌, ◌++◌, length, refl, sym, ap, ◌∙◌, subst, arith, ℤ, ◌≤ℤ◌, Option, None, Some, unwrap_or, append-nil, append_assoc}
+use Rattle.std.proofs.Common.{◌≡◌, ℕ, zero, suc, ◌+◌, ◌<◌, ◌≤◌, ◌^◌, ◌≢◌, max, Bool, true, false, cond, List, [], ◌∷◌, ◌++◌, length, refl, sym, ap, ◌∙◌, subst, arith, ℤ, pos, Option, None, Some, append-nil, append_assoc}
 use Rattle.std.specs.Prelude.{MatchOption, IfSome, IsNone, ◌↔◌}
 use Rattle.std.specs.List.{AllByRecursion}
-use Rattle.std.specs.Map.{lookup}
-use Rattle.std.specs.Int.{int_min, int_max}
-use Rattle.std.specs.Prelude.{int_lt, count_by, ◌==◌, get_or}
+use Rattle.std.specs.Prelude.{count_by, ◌==◌, get_or}
 use Rattle.std.proofs.lemmas.Int.{ints}
 use Rattle.std.proofs.lemmas.Bool.Decides.{nat_tests}
 use Rattle.std.proofs.lemmas.List.{get_or-replicate, get_or-set_same, get_or-set_other}
 use Rattle.std.proofs.lemmas.List.Sums.{sum_by-cons, count_by-le-length}
 use Rattle.std.proofs.Math.ListN.{replicate, set}
 use Rattle.plane_core.specs.declared.cell.Bounds.{Bounds}
-use Rattle.plane_core.specs.World.{World, Place, cell, blank, same_place, same_world, cell-blank}
-use Rattle.plane_core.specs.Fill.{same_is}
-use Rattle.plane_core.specs.Live.{live, count_of, state_at, cell-live, live-states}
-use Rattle.plane_core.specs.Range.{AllBelow, IsGreatest, IsInBox, Holds, IsBoundingBox}
+use Rattle.plane_core.specs.World.{World, Place, cell, blank, same_world, cell-blank}
+use Rattle.plane_core.specs.Live.{live, count_of, state_at, cell-state_at, live-states, by_place}
+use Rattle.plane_core.specs.Range.{AllBelow, IsGreatest, IsInBox, IsBoundingBox}
 use Rattle.plane_core.specs.Box.{grown}
 
 -- the greatest of the states of listed cells
 abbrev pub greatest_of : List (Place × ℕ) → ℕ
 greatest_of [] = 0
 greatest_of (e ∷ es) = max e.1 (greatest_of es)
-
--- a property of each listed cell is one of each live place
-pub by_place : (es : List (Place × ℕ)) (P : ℤ → ℤ → ℕ → Type 0) → AllByRecursion (λ (e : Place × ℕ). P e.0.1 e.0.0 e.1) es → (x y : ℤ) → 0 < state_at es (y, x) → P x y (state_at es (y, x))
-by_place [] P h x y live = absurd (omega (arith, live))
-by_place (e ∷ es) P h x y live =
-    elim (same_place (y, x) e.0) as (λ b. same_place (y, x) e.0 ≡ b → 0 < unwrap_or (cond b (Some e.1) (lookup (same_place (y, x)) es)) 0 → P x y (unwrap_or (cond b (Some e.1) (lookup (same_place (y, x)) es)) 0)) [
-      | true ↦ λ same l. subst (λ (p : Place). P p.1 p.0 e.1) (sym (same_is (y, x) e.0 same)) h.0
-      | false ↦ λ same l. by_place es P h.1 x y l
-    ] refl live
 
 below_greatest : (es : List (Place × ℕ)) → AllByRecursion (λ (e : Place × ℕ). e.1 ≤ greatest_of es) es
 below_greatest [] = tt
@@ -40,7 +28,7 @@ below_greatest (e ∷ es) = (omega arith, raise e.1 (greatest_of es) es (below_g
     raise m n (f ∷ fs) h = ((let k : f.1 ≤ n = h.0 in omega arith), raise m n fs h.1)
 
 least_greatest : (w : World) (n : ℕ) (es : List (Place × ℕ)) → AllBelow n w → AllByRecursion (λ (e : Place × ℕ). (cell w e.0.1 e.0.0 ≡ e.1) × (0 < e.1)) es → greatest_of es < n
-least_greatest w n [] below h = let k = below (Rattle.std.specs.Prelude.pos 0) (Rattle.std.specs.Prelude.pos 0) in omega (arith, k)
+least_greatest w n [] below h = let k = below (pos 0) (pos 0) in omega (arith, k)
 least_greatest w n (e ∷ es) below h =
     let k = below e.0.1 e.0.0 in
     let is : cell w e.0.1 e.0.0 ≡ e.1 = h.0.0 in
@@ -55,7 +43,7 @@ pub IsGreatest-live : (w : World) (g : ℕ) → g ≡ greatest_of (live w) → I
 IsGreatest-live w g is = record {
   least = λ n below. subst (λ m. m < n) (sym is) (least_greatest w n (live w) below (live-states w));
   above = λ x y. at_most (cell w x y) g (λ l.
-      let s = cell-live w x y in
+      let s = cell-state_at w x y in
       let k = by_place (live w) (λ _ _ s. s ≤ greatest_of (live w)) (below_greatest (live w)) x y (subst (λ m. 0 < m) s l) in
       omega (arith, s, k, is));
 }
@@ -132,7 +120,7 @@ pub Walked-none : (w : World) (rest : List (Place × ℕ)) → rest ≡ live w �
 Walked-none w rest is = record { before = []; split = is; so_far = refl }
 
 no_live : (w : World) → live w ≡ [] → w ≡ blank
-no_live w none = same_world w blank (λ x y. cell-live w x y ∙ ap (λ es. state_at es (y, x)) none ∙ sym (cell-blank x y))
+no_live w none = same_world w blank (λ x y. cell-state_at w x y ∙ ap (λ es. state_at es (y, x)) none ∙ sym (cell-blank x y))
 
 not_blank : (w : World) (x y : ℤ) → 0 < cell w x y → w ≡ blank → ⊥
 not_blank w x y live is = let k = ap (λ v. cell v x y) is ∙ cell-blank x y in omega (arith, k, live)
@@ -144,7 +132,7 @@ walked_all w bounds rest h none = sym (append-nil h.before) ∙ ap (λ (es : Lis
 pub some_walked : (w : World) (bounds : Option Bounds) (rest : List (Place × ℕ)) → rest ≡ [] → Walked w bounds rest → IfSome bounds (λ b. IsBoundingBox b w)
 some_walked w None rest none h = tt
 some_walked w (Some b) rest none h = record {
-  holds = λ x y live. by_place h.before (λ x y _. IsInBox b x y) h.so_far.holds x y (subst (λ s. 0 < s) (cell-live w x y ∙ ap (λ es. state_at es (y, x)) (sym (walked_all w (Some b) rest h none))) live);
+  holds = λ x y live. by_place h.before (λ x y _. IsInBox b x y) h.so_far.holds x y (subst (λ s. 0 < s) (cell-state_at w x y ∙ ap (λ es. state_at es (y, x)) (sym (walked_all w (Some b) rest h none))) live);
   touched_left = h.so_far.touched_left;
   touched_right = h.so_far.touched_right;
   touched_top = h.so_far.touched_top;

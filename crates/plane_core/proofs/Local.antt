@@ -1,12 +1,9 @@
 -- After n generations a cell depends on the cells at most n away, wherever the pattern lies.
-use Rattle.std.proofs.Common.{◌≡◌, ℕ, zero, suc, ◌+◌, List, [], ◌∷◌, ap, ◌∙◌, sym, subst, arith, negsuc, ℤ, pos, ◌+ℤ◌, ◌-ℤ◌, refl, add-zero, zero-add, add-one, add-suc, ◌<◌}
+use Rattle.std.proofs.Common.{◌≡◌, ℕ, zero, suc, ◌+◌, List, ap, ◌∙◌, sym, subst, arith, negsuc, ℤ, pos, ◌+ℤ◌, ◌-ℤ◌}
 use Rattle.std.proofs.lemmas.Int.{ints}
-use Rattle.plane_core.specs.declared.cell.CellSet.{CellSet}
-use Rattle.plane_core.specs.World.{World, cell, blank, cell-blank, same_world}
-use Rattle.plane_core.specs.Lay.{lay}
-use Rattle.plane_core.specs.Step.{around, step, nine_zeros, cell-step, step-fill}
+use Rattle.plane_core.specs.World.{World, cell, blank, cell-blank}
+use Rattle.plane_core.specs.Step.{around, step, nine_zeros, cell-step}
 use Rattle.plane_core.specs.Iterate.{iterate, iterate-zero, iterate-one_more}
-use Rattle.plane_core.specs.Arrival.{arrive, after, arrive-zero, arrive-one_more}
 use Rattle.plane_core.specs.Near.{IsNear, AgreeNear, NoneNear}
 use Rattle.plane_core.proofs.Cells.{nine, same_cell}
 

@@ -1,13 +1,13 @@
 -- What a generation keeps.
-use Rattle.std.proofs.Common.{◌≡◌, ℕ, suc, ◌+◌, ◌<◌, ◌≤◌, ◌^◌, List, ap, ◌∙◌, sym, subst, arith, ℤ, pos, neg_ℤ, ◌+ℤ◌, ◌-ℤ◌, ◌≤ℤ◌, ◌<ℤ◌, All, refl}
-use Rattle.std.specs.Prelude.{Option, None, Some, IfSome, IsNone, ◌↔◌}
+use Rattle.std.proofs.Common.{◌≡◌, ℕ, suc, ◌<◌, ◌≤◌, ◌^◌, List, ap, ◌∙◌, sym, subst, arith, ℤ, pos, neg_ℤ, ◌+ℤ◌, ◌-ℤ◌, ◌≤ℤ◌, ◌<ℤ◌, refl}
+use Rattle.std.specs.Prelude.{◌↔◌}
 use Rattle.std.proofs.lemmas.Int.{ints, by_lt_z}
 use Rattle.std.proofs.lemmas.List.Elements.{All-from_recursion}
 use Rattle.plane_core.specs.declared.cell.Bounds.{Bounds}
 use Rattle.plane_core.specs.World.{World, cell, blank, cell-blank}
 use Rattle.plane_core.specs.Step.{around, step, nine_zeros, AreNineBelow, cell-step}
-use Rattle.plane_core.specs.Near.{IsNear, NoneNear}
-use Rattle.plane_core.specs.Range.{IsInside, HasMargin, AllBelow, IsBoundingBox}
+use Rattle.plane_core.specs.Near.{IsNear}
+use Rattle.plane_core.specs.Range.{HasMargin, AllBelow, IsBoundingBox}
 use Rattle.plane_core.specs.Box.{IsInRange, BoxHasMargin}
 use Rattle.plane_core.proofs.Local.{cell-step-none}
 
@@ -20,14 +20,10 @@ AreNineBelow-around n w h x y = record {
 pub AllBelow-step : (n : ℕ) (next : List ℕ → ℕ) (w : World) → next nine_zeros ≡ 0 → ((states : List ℕ) → AreNineBelow n states → next states < n) → AllBelow n w → AllBelow n (step next w)
 AllBelow-step n next w quiet below h x y = subst (λ s. s < n) (sym (cell-step next quiet w x y)) (below (around w x y) (AreNineBelow-around n w h x y))
 
--- the state of a cell that can't be live
-none : (s : ℕ) → (0 < s → ⊥) → s ≡ 0
-none s h = omega (arith, h)
-
 -- a cell that is live after a step has one near it that was live before
 stays : (next : List ℕ → ℕ) (w : World) → next nine_zeros ≡ 0 → (x y : ℤ) → ((dx dy : ℤ) → IsNear 1 dx dy → 0 < cell w (x +ℤ dx) (y +ℤ dy) → ⊥) → 0 < cell (step next w) x y → ⊥
 stays next w quiet x y h live =
-    let is : cell (step next w) x y ≡ 0 = cell-step-none next quiet w x y (λ dx dy near. none _ (h dx dy near)) in
+    let is : cell (step next w) x y ≡ 0 = cell-step-none next quiet w x y (λ dx dy near. let dead = h dx dy near in omega (arith, dead)) in
     omega arith
 
 -- activity that has room for one more generation than n has room for n after a step

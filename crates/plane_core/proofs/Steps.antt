@@ -1,11 +1,11 @@
 -- Steps added up, and arrivals with nothing laid.
-use Rattle.std.proofs.Common.{◌≡◌, ℕ, zero, suc, ◌+◌, ◌-◌, ◌<◌, ◌≤◌, List, [], ◌∷◌, ap, ◌∙◌, sym, arith, ℤ, refl}
+use Rattle.std.proofs.Common.{◌≡◌, ℕ, zero, suc, ◌+◌, ◌-◌, ◌<◌, ◌≤◌, List, [], ap, ◌∙◌, sym, arith}
 use Rattle.plane_core.specs.declared.cell.CellSet.{CellSet}
-use Rattle.plane_core.specs.World.{World, blank}
+use Rattle.plane_core.specs.World.{World}
 use Rattle.plane_core.specs.Lay.{lay}
 use Rattle.plane_core.specs.Step.{step}
 use Rattle.plane_core.specs.Iterate.{iterate, iterate-zero, iterate-one_more}
-use Rattle.plane_core.specs.Arrival.{arrive, after, arrive-zero, arrive-one_more}
+use Rattle.plane_core.specs.Arrival.{arrive, arrive-zero, arrive-one_more}
 
 -- a function applied m + n times
 pub iterate-add : {A : Type 0} (f : A → A) (a : A) (m n : ℕ) → iterate (m + n) f a ≡ iterate m f (iterate n f a)

@@ -1,6 +1,6 @@
 -- The history of a pattern under interventions: which world arrives at a generation, and which one leaves it.
 use Rattle.std.specs.Prelude.{◌≡◌, ℕ, zero, suc, ◌+◌, ◌<◌, List, [], ◌∷◌, ◌++◌, ◌==◌, if◌then◌else◌}
-use Rattle.std.proofs.Common.{refl, sym, ap, ap₂, ◌∙◌, add-one, add-suc, arith}
+use Rattle.std.proofs.Common.{refl, sym, ap, ap₂, ◌∙◌, add-one, arith}
 use Rattle.plane_core.specs.declared.cell.CellSet.{CellSet}
 use Rattle.plane_core.specs.World.{World}
 use Rattle.plane_core.specs.Lay.{lay}

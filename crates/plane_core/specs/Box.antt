@@ -1,5 +1,5 @@
 -- Boxes of cells: how one grows to hold one more cell, and how far it lies from the edges of the range of planes.
-use Rattle.std.specs.Prelude.{ℕ, ◌^◌, ◌<◌, ℤ, pos, neg_ℤ, ◌+ℤ◌, ◌-ℤ◌, ◌≤ℤ◌, ◌<ℤ◌, Option, None, Some}
+use Rattle.std.specs.Prelude.{ℕ, ◌^◌, ℤ, pos, neg_ℤ, ◌+ℤ◌, ◌-ℤ◌, ◌≤ℤ◌, ◌<ℤ◌, Option, None, Some}
 use Rattle.std.specs.Int.{int_min, int_max}
 use Rattle.plane_core.specs.declared.cell.Bounds.{Bounds}
 

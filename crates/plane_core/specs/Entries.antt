@@ -1,5 +1,5 @@
 -- How a plane keeps a world: as the list of its live cells, row by row.
-use Rattle.std.specs.Prelude.{◌≡◌, ℕ, zero, suc, ◌-◌, ◌<◌, Bool, true, false, cond, List, [], ◌∷◌, map, length, ℤ, Option, Some, unwrap_or}
+use Rattle.std.specs.Prelude.{◌≡◌, ℕ, zero, suc, ◌-◌, ◌<◌, Bool, true, false, cond, List, [], ◌∷◌, map, ℤ, Option, Some, unwrap_or}
 use Rattle.std.proofs.Common.{refl, sym, ap, ◌∙◌, ap₂, subst, w64, to_z, of_z, SFits, to_z-of_z, arith, Less, Equal, Greater}
 use Rattle.std.specs.List.{AllByRecursion}
 use Rattle.std.specs.List.Sorted.{IsStrictlySortedBy}
@@ -9,15 +9,30 @@ use Rattle.std.specs.Ordering.{match_ordering}
 use Rattle.std.specs.FinMap as map
 use Rattle.std.specs.FinMap.Entries.{by_order}
 use Rattle.plane_core.specs.World.{World, Place, place_cmp, same_place, cell, put, blank, cell-put, cell-blank, same_world, places_total, put-suc, entries-blank}
-use Rattle.plane_core.specs.Live.{live, live-entries, state_at}
+use Rattle.plane_core.specs.Live.{live, as_live, live-entries, state_at, by_place}
 use Rattle.plane_core.specs.Range.{IsInside, HasMargin}
-use Rattle.plane_core.specs.Fill.{same_is}
 use Rattle.std.specs.Cmp.{eq_by_cmp_equiv}
 
 -- the world in which each cell has the state of its first mention in the list
 pub world_of : List (Place × ℕ) → World
 world_of [] = blank
 world_of (e ∷ es) = put (world_of es) e.0.1 e.0.0 e.1
+
+-- a cell that a plane keeps: it is live, and in the range of planes
+abbrev pub IsKept : Place × ℕ → Type 0
+IsKept e = (0 < e.1) × IsInside 0 e.0.1 e.0.0
+
+-- a plane keeps such cells alone
+abbrev pub AllKept : List (Place × ℕ) → Type 0
+AllKept = AllByRecursion IsKept
+
+-- the place (y, x) as the code passes it on
+abbrev pub passed : ℤ → ℤ → Place
+passed y x = (to_z w64 (of_z w64 y), to_z w64 (of_z w64 x))
+
+-- the entry that a world has of a live cell, by its place and state
+as_entry : Place × ℕ → Place × ℕ
+as_entry e = (e.0, e.1 - 1)
 
 unwrap_or-cond : (b : Bool) (s n : ℕ) (o : Option ℕ) → n ≡ unwrap_or o 0 → cond b s n ≡ unwrap_or (cond b (Some s) o) 0
 unwrap_or-cond true s n o h = refl
@@ -27,6 +42,7 @@ unwrap_or-branch : (b : Bool) (o p : Option ℕ) → unwrap_or (cond b o p) 0 �
 unwrap_or-branch true o p = refl
 unwrap_or-branch false o p = refl
 
+-- each state of that world
 pub cell-world_of : (es : List (Place × ℕ)) (x y : ℤ) → cell (world_of es) x y ≡ state_at es (y, x)
 unfolding world_of
 cell-world_of [] x y = cell-blank x y
@@ -37,14 +53,12 @@ pub world_of-put : (es fs : List (Place × ℕ)) (x y : ℤ) (s : ℕ) → ((q :
 world_of-put es fs x y s h =
     same_world _ _ (λ x' y'. cell-world_of fs x' y' ∙ h (y', x') ∙ ap (cond (same_place (y', x') (y, x)) s) (sym (cell-world_of es x' y')) ∙ sym (cell-put (world_of es) x y s x' y'))
 
+-- no cells make the blank world
 pub world_of-none : world_of [] ≡ blank
 unfolding world_of
 world_of-none = refl
 
--- the place (y, x) as the code passes it on
-abbrev pub passed : ℤ → ℤ → Place
-passed y x = (to_z w64 (of_z w64 y), to_z w64 (of_z w64 x))
-
+-- which is that place, where both fit
 pub passed-same : (y x : ℤ) → SFits w64 y → SFits w64 x → passed y x ≡ (y, x)
 passed-same y x f g = λ i. (to_z-of_z f i, to_z-of_z g i)
 
@@ -52,38 +66,24 @@ passed-same y x f g = λ i. (to_z-of_z f i, to_z-of_z g i)
 pub cell-from_lookup : (es : List (Place × ℕ)) (w : World) (x y : ℤ) → SFits w64 x → SFits w64 y → world_of es ≡ w → unwrap_or (lookup (same_place (passed y x)) es) 0 ≡ cell w x y
 cell-from_lookup es w x y fx fy is = ap (state_at es) (passed-same y x fy fx) ∙ sym (cell-world_of es x y) ∙ ap (λ v. cell v x y) is
 
-none : (s : ℕ) → (0 < s → ⊥) → s ≡ 0
-none s h = omega (arith, h)
-
--- what an update of the cells at p does to the world
+-- what an update of the entry of (x, y) does to the world
 pub world_of-update : (es fs : List (Place × ℕ)) (w : World) (x y : ℤ) (s : ℕ) (o : Option ℕ) → SFits w64 x → SFits w64 y → world_of es ≡ w → unwrap_or o 0 ≡ s
     → ((q : Place) → lookup (same_place q) fs ≡ cond (same_place (passed y x) q) o (lookup (same_place q) es)) → world_of fs ≡ put w x y s
 world_of-update es fs w x y s o fx fy is kept h =
     world_of-put es fs x y s (λ q. ap (λ r. unwrap_or r 0) (h q) ∙ unwrap_or-branch (same_place (passed y x) q) o _ ∙ ap₂ (λ (r : Place) n. cond (same_place r q) n (state_at es q)) (passed-same y x fy fx) kept ∙ ap (λ b. cond b s (state_at es q)) ((eq_by_cmp_equiv places_total).symm (y, x) q))
     ∙ ap (λ v. put v x y s) is
 
--- a cell that a plane keeps: it is live, and in the range of planes
-abbrev pub IsKept : Place × ℕ → Type 0
-IsKept e = (0 < e.1) × IsInside 0 e.0.1 e.0.0
-
--- a plane keeps such cells alone
-abbrev pub AllKept : List (Place × ℕ) → Type 0
-AllKept = AllByRecursion IsKept
-
-less_one : Place × ℕ → Place × ℕ
-less_one e = (e.0, e.1 - 1)
-
-put-first : (k : Place) (n : ℕ) (es : List (Place × ℕ)) → AllByRecursion (λ q. place_cmp k q ≡ Less) (keys_of es) → map.Entries.put place_cmp k n (map less_one es) ≡ (k, n) ∷ map less_one es
-unfolding less_one
+put-first : (k : Place) (n : ℕ) (es : List (Place × ℕ)) → AllByRecursion (λ q. place_cmp k q ≡ Less) (keys_of es) → map.Entries.put place_cmp k n (map as_entry es) ≡ (k, n) ∷ map as_entry es
+unfolding as_entry
 put-first k n [] h = refl
-put-first k n (e ∷ es) h = ap (λ o. by_order o ((k, n) ∷ map less_one (e ∷ es)) ((e.0, n) ∷ map less_one es) (less_one e ∷ map.Entries.put place_cmp k n (map less_one es))) h.0
+put-first k n (e ∷ es) h = ap (λ o. by_order o ((k, n) ∷ map as_entry (e ∷ es)) ((e.0, n) ∷ map as_entry es) (as_entry e ∷ map.Entries.put place_cmp k n (map as_entry es))) h.0
 
 put-live : (w : World) (k : Place) (s : ℕ) → 0 < s → put w k.1 k.0 s ≡ map.insert w k (s - 1)
 put-live w k zero h = absurd (omega (arith, h))
 put-live w k (suc n) h = put-suc w k.1 k.0 n ∙ ap (map.insert w k) (omega arith)
 
-entries-world_of : (es : List (Place × ℕ)) → IsStrictlySortedBy place_cmp (keys_of es) → AllKept es → map.entries (world_of es) ≡ map less_one es
-unfolding world_of IsStrictlySortedBy less_one
+entries-world_of : (es : List (Place × ℕ)) → IsStrictlySortedBy place_cmp (keys_of es) → AllKept es → map.entries (world_of es) ≡ map as_entry es
+unfolding world_of IsStrictlySortedBy as_entry
 entries-world_of [] o h = entries-blank
 entries-world_of (e ∷ es) o h =
     ap map.entries (put-live (world_of es) e.0 e.1 h.0.0)
@@ -91,18 +91,20 @@ entries-world_of (e ∷ es) o h =
     ∙ ap (map.Entries.put place_cmp e.0 (e.1 - 1)) (entries-world_of es o.1 h.1)
     ∙ put-first e.0 (e.1 - 1) es o.0
 
-one_more : (es : List (Place × ℕ)) → AllKept es → map (λ e. (e.0, suc e.1)) (map less_one es) ≡ es
-unfolding less_one
+one_more : (es : List (Place × ℕ)) → AllKept es → map as_live (map as_entry es) ≡ es
+unfolding as_entry
 one_more [] h = refl
 one_more (e ∷ es) h = ap₂ (λ (s : ℕ) (fs : List (Place × ℕ)). (e.0, s) ∷ fs) (let k : 0 < e.1 = h.0.0 in omega arith) (one_more es h.1)
 
 -- a list of live cells in order is the list of its world
 pub live-world_of : (es : List (Place × ℕ)) → IsStrictlySortedBy place_cmp (keys_of es) → AllKept es → live (world_of es) ≡ es
-live-world_of es o h = live-entries (world_of es) ∙ ap (map (λ e. (e.0, suc e.1))) (entries-world_of es o h) ∙ one_more es h
+live-world_of es o h = live-entries (world_of es) ∙ ap (map as_live) (entries-world_of es o h) ∙ one_more es h
 
+-- the same, of the world that contracts see
 pub live-from_view : (es : List (Place × ℕ)) (w : World) → world_of es ≡ w → IsStrictlySortedBy place_cmp (keys_of es) → AllKept es → live w ≡ es
 live-from_view es w is o h = ap live (sym is) ∙ live-world_of es o h
 
+-- one more cell
 pub AllKept-insert : (es : List (Place × ℕ)) (k : Place) (s : ℕ) → IsKept (k, s) → AllKept es → AllKept (insert_entry place_cmp es k s)
 AllKept-insert [] k s h a = (h, a)
 AllKept-insert (e ∷ es) k s h a =
@@ -112,25 +114,20 @@ AllKept-insert (e ∷ es) k s h a =
       | Greater ↦ (a.0, AllKept-insert es k s h a.1)
     ]
 
+-- one cell less
 pub AllKept-remove : (es : List (Place × ℕ)) (test : Place → Bool) → AllKept es → AllKept (remove_entry test es)
 AllKept-remove [] test a = a
 AllKept-remove (e ∷ es) test a = elim (test e.0) as (λ b. AllKept (cond b es (e ∷ remove_entry test es))) [ true ↦ a.1 | false ↦ (a.0, AllKept-remove es test a.1) ]
 
-kept_state : (es : List (Place × ℕ)) (x y : ℤ) → AllKept es → 0 < state_at es (y, x) → IsInside 0 x y
-kept_state [] x y kept live = absurd (omega (arith, live))
-kept_state (e ∷ es) x y kept live =
-    elim (same_place (y, x) e.0) as (λ b. same_place (y, x) e.0 ≡ b → 0 < unwrap_or (cond b (Some e.1) (lookup (same_place (y, x)) es)) 0 → IsInside 0 x y) [
-      | true ↦ λ same l. subst (λ (p : Place). IsInside 0 p.1 p.0) (sym (same_is (y, x) e.0 same)) kept.0.1
-      | false ↦ λ same l. kept_state es x y kept.1 l
-    ] refl live
-
 -- the live cells of a plane lie in the range of planes
 pub HasMargin-kept : (es : List (Place × ℕ)) (w : World) → world_of es ≡ w → AllKept es → HasMargin 0 w
-HasMargin-kept es w is kept x y live = kept_state es x y kept (subst (λ s. 0 < s) (ap (λ v. cell v x y) (sym is) ∙ cell-world_of es x y) live)
+HasMargin-kept es w is kept x y live =
+    let listed : 0 < state_at es (y, x) = subst (λ s. 0 < s) (ap (λ v. cell v x y) (sym is) ∙ cell-world_of es x y) live in
+    (by_place es (λ x y s. (0 < s) × IsInside 0 x y) kept x y listed).1
 
 -- a cell outside it isn't live
 pub cell-outside : (w : World) (x y : ℤ) → HasMargin 0 w → (IsInside 0 x y → ⊥) → cell w x y ≡ 0
-cell-outside w x y inside out = none (cell w x y) (λ live. out (inside x y live))
+cell-outside w x y inside out = let dead : 0 < cell w x y → ⊥ = λ live. out (inside x y live) in omega (arith, dead)
 
 -- a live cell in range, as the code passes it on, is kept
 pub IsKept-passed : (x y : ℤ) (s : ℕ) → SFits w64 x → SFits w64 y → 0 < s → IsInside 0 x y → IsKept (passed y x, s)

@@ -1,5 +1,5 @@
 -- Worlds by their state at each listed place.
-use Rattle.std.specs.Prelude.{◌≡◌, ℕ, zero, suc, ◌<◌, Bool, true, false, cond, ◌||◌, List, [], ◌∷◌, ◌++◌, ℤ}
+use Rattle.std.specs.Prelude.{◌≡◌, ℕ, ◌<◌, Bool, true, false, cond, ◌||◌, List, [], ◌∷◌, ◌++◌, ℤ}
 use Rattle.std.proofs.Common.{refl, sym, ap, ◌∙◌, subst, arith}
 use Rattle.std.specs.List.{list_any}
 use Rattle.std.specs.Ordering.{is_eq}
@@ -16,9 +16,11 @@ fill (p ∷ ps) f w = fill ps f (put w p.1 p.0 (f p.1 p.0))
 pub gather : List Place → (ℤ → ℤ → ℕ) → World
 gather ps f = fill ps f blank
 
+-- places that are the same are equal
 pub same_is : (p q : Place) → same_place p q ≡ true → p ≡ q
 same_is p q h = tells_apart places_exact p q h
 
+-- and places with equal coordinates are the same
 pub is_same : (p q : Place) → p.0 ≡ q.0 → p.1 ≡ q.1 → same_place p q ≡ true
 is_same p q e f =
     let at : p ≡ q = λ i. (e i, f i) in
@@ -29,6 +31,7 @@ chosen true true s t n e = refl
 chosen true false s t n e = e refl
 chosen false c s t n e = refl
 
+-- each state of a filled world
 pub cell-fill : (ps : List Place) (f : ℤ → ℤ → ℕ) (w : World) (x y : ℤ) → cell (fill ps f w) x y ≡ cond (list_any (same_place (y, x)) ps) (f x y) (cell w x y)
 unfolding fill
 cell-fill [] f w x y = refl
@@ -37,10 +40,12 @@ cell-fill (p ∷ ps) f w x y =
     ∙ ap (cond (list_any (same_place (y, x)) ps) (f x y)) (cell-put w p.1 p.0 (f p.1 p.0) x y)
     ∙ chosen (same_place (y, x) p) (list_any (same_place (y, x)) ps) _ _ _ (λ e. ap (λ (q : Place). f q.1 q.0) (sym (same_is (y, x) p e)))
 
+-- no places
 pub fill-none : (f : ℤ → ℤ → ℕ) (w : World) → fill [] f w ≡ w
 unfolding fill
 fill-none f w = refl
 
+-- one list of places after another
 pub fill-append : (ps qs : List Place) (f : ℤ → ℤ → ℕ) (w : World) → fill (ps ++ qs) f w ≡ fill qs f (fill ps f w)
 unfolding fill
 fill-append [] qs f w = refl
@@ -51,12 +56,9 @@ pub fill-one : (x y : ℤ) (f : ℤ → ℤ → ℕ) (w : World) → fill ((y, x
 unfolding fill
 fill-one x y f w = refl
 
-none : (s : ℕ) → (0 < s → ⊥) → s ≡ 0
-none s h = omega (arith, h)
-
 by_cover : (b : Bool) (s : ℕ) → (0 < s → b ≡ true) → cond b s 0 ≡ s
 by_cover true s h = refl
-by_cover false s h = sym (none s (λ k. let e = h k in cc))
+by_cover false s h = let dead : 0 < s → ⊥ = λ live. let e = h live in cc in omega (arith, dead)
 
 -- where the list has each place at which f isn't 0
 pub cell-gather : (ps : List Place) (f : ℤ → ℤ → ℕ) → ((x y : ℤ) → 0 < f x y → list_any (same_place (y, x)) ps ≡ true) → (x y : ℤ) → cell (gather ps f) x y ≡ f x y

@@ -1,12 +1,12 @@
 -- What the definitions are meant to say: each statement is proved by a function of the same name.
-use Rattle.std.specs.Prelude.{◌≡◌, ℕ, ◌+◌, ◌-◌, ◌<◌, ◌^◌, List, [], ℤ, pos, neg_ℤ, ◌-ℤ◌, ◌≤ℤ◌}
+use Rattle.std.specs.Prelude.{◌≡◌, ℕ, ◌+◌, ◌<◌, List, [], ℤ, ◌-ℤ◌}
 use Rattle.plane_core.specs.declared.cell.CellSet.{CellSet}
 use Rattle.plane_core.specs.World.{World, cell, blank}
 use Rattle.plane_core.specs.Lay.{lay, last_mention}
 use Rattle.plane_core.specs.Step.{step, around, nine_zeros}
 use Rattle.plane_core.specs.Iterate.{iterate}
 use Rattle.plane_core.specs.Moved.{moved}
-use Rattle.plane_core.specs.Arrival.{arrive, after}
+use Rattle.plane_core.specs.Arrival.{arrive}
 use Rattle.plane_core.specs.Near.{AgreeNear, NoneNear}
 
 -- two worlds with the same state everywhere are one

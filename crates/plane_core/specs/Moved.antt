@@ -1,6 +1,7 @@
 -- A world moved over the plane.
-use Rattle.std.specs.Prelude.{◌≡◌, ℕ, ◌<◌, Bool, true, false, ◌||◌, List, [], ◌∷◌, map, ℤ, pos, ◌+ℤ◌, ◌-ℤ◌}
-use Rattle.std.proofs.Common.{refl, sym, ap, ap₂, ◌∙◌, subst, arith}
+use Rattle.std.specs.Prelude.{◌≡◌, ℕ, ◌<◌, true, false, List, [], ◌∷◌, map, ℤ, pos, ◌+ℤ◌, ◌-ℤ◌}
+use Rattle.std.proofs.Common.{refl, sym, ap, ap₂, ◌∙◌, arith, inl, inr}
+use Rattle.std.proofs.lemmas.Bool.{or_cases, or_left, or_right}
 use Rattle.std.proofs.lemmas.Int.{ints}
 use Rattle.std.specs.List.{list_any}
 use Rattle.std.specs.FinMap as finite
@@ -12,29 +13,18 @@ use Rattle.plane_core.specs.Step.{step, around, nine_zeros, cell-step}
 pub moved : ℤ → ℤ → World → World
 moved dx dy w = gather (map (λ (p : Place). (p.0 +ℤ dy, p.1 +ℤ dx)) (finite.keys w)) (λ x y. cell w (x -ℤ dx) (y -ℤ dy))
 
-or_right : (a b : Bool) → b ≡ true → (a || b) ≡ true
-or_right true b e = refl
-or_right false b e = e
-
-or_left : (a b : Bool) → a ≡ true → (a || b) ≡ true
-or_left true b e = refl
-or_left false b e = cc
-
-or_cases : (a b : Bool) {P : Type 0} → (a || b) ≡ true → (a ≡ true → P) → (b ≡ true → P) → P
-or_cases true b h f g = f refl
-or_cases false b h f g = g h
-
 -- a listed place is listed after the move
 moved_listed : (dx dy x y : ℤ) (ks : List Place) → list_any (same_place (y -ℤ dy, x -ℤ dx)) ks ≡ true → list_any (same_place (y, x)) (map (λ (p : Place). (p.0 +ℤ dy, p.1 +ℤ dx)) ks) ≡ true
 moved_listed dx dy x y [] h = cc
 moved_listed dx dy x y (k ∷ ks) h =
-    or_cases (same_place (y -ℤ dy, x -ℤ dx) k) (list_any (same_place (y -ℤ dy, x -ℤ dx)) ks) h
-    (λ e.
-    let is : (y -ℤ dy, x -ℤ dx) ≡ k = same_is (y -ℤ dy, x -ℤ dx) k e in
-    let row : y -ℤ dy ≡ k.0 = ap (λ (p : Place). p.0) is in
-    let column : x -ℤ dx ≡ k.1 = ap (λ (p : Place). p.1) is in
-    or_left _ _ (is_same (y, x) (k.0 +ℤ dy, k.1 +ℤ dx) (omega (arith, ints)) (omega (arith, ints))))
-    (λ e. or_right _ _ (moved_listed dx dy x y ks e))
+    elim (or_cases (same_place (y -ℤ dy, x -ℤ dx) k) (list_any (same_place (y -ℤ dy, x -ℤ dx)) ks) h) [
+      | inl e ↦
+          let is : (y -ℤ dy, x -ℤ dx) ≡ k = same_is (y -ℤ dy, x -ℤ dx) k e in
+          let row : y -ℤ dy ≡ k.0 = ap (λ (p : Place). p.0) is in
+          let column : x -ℤ dx ≡ k.1 = ap (λ (p : Place). p.1) is in
+          or_left _ _ (is_same (y, x) (k.0 +ℤ dy, k.1 +ℤ dx) (omega (arith, ints)) (omega (arith, ints)))
+      | inr e ↦ or_right _ _ (moved_listed dx dy x y ks e)
+    ]
 
 live_listed : (w : World) (x y : ℤ) → 0 < cell w x y → list_any (same_place (y, x)) (finite.keys w) ≡ true
 live_listed w x y h =

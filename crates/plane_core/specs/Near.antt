@@ -1,5 +1,5 @@
 -- Cells near a place, and how far activity spreads.
-use Rattle.std.specs.Prelude.{◌≡◌, ℕ, ◌<◌, ℤ, pos, neg_ℤ, ◌≤ℤ◌, ◌+ℤ◌}
+use Rattle.std.specs.Prelude.{◌≡◌, ℕ, ℤ, pos, neg_ℤ, ◌≤ℤ◌, ◌+ℤ◌}
 use Rattle.plane_core.specs.World.{World, cell}
 
 -- (dx, dy) is at most r away from (0, 0), each coordinate by itself

@@ -1,5 +1,5 @@
 -- Where the live cells of a world lie, and which states they have.
-use Rattle.std.specs.Prelude.{◌≡◌, ℕ, ◌+◌, ◌<◌, ◌≤◌, ◌^◌, ℤ, pos, neg_ℤ, ◌+ℤ◌, ◌-ℤ◌, ◌≤ℤ◌, ◌<ℤ◌}
+use Rattle.std.specs.Prelude.{ℕ, ◌+◌, ◌<◌, ◌^◌, ℤ, pos, neg_ℤ, ◌+ℤ◌, ◌-ℤ◌, ◌≤ℤ◌, ◌<ℤ◌}
 use Rattle.plane_core.specs.World.{World, cell}
 use Rattle.plane_core.specs.declared.cell.Bounds.{Bounds}
 use Rattle.plane_core.specs.declared.cell.CellSet.{CellSet}

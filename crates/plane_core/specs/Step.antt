@@ -1,6 +1,7 @@
 -- One generation: each cell's next state is a function of the nine states at and around it.
-use Rattle.std.specs.Prelude.{◌≡◌, ℕ, Bool, true, false, cond, ◌||◌, ◌<◌, List, [], ◌∷◌, length, All, ℤ, pos, ◌+ℤ◌, ◌-ℤ◌, get_or}
-use Rattle.std.proofs.Common.{refl, sym, ap, ◌∙◌, subst, arith, lit<}
+use Rattle.std.specs.Prelude.{◌≡◌, ℕ, Bool, true, false, cond, ◌<◌, List, [], ◌∷◌, length, All, ℤ, pos, ◌+ℤ◌, ◌-ℤ◌, get_or}
+use Rattle.std.proofs.Common.{refl, sym, ap, ◌∙◌, subst, arith, lit<, inl, inr}
+use Rattle.std.proofs.lemmas.Bool.{or_cases, or_left, or_right}
 use Rattle.std.proofs.lemmas.Int.{ints}
 use Rattle.std.specs.List.{list_any, flat_map}
 use Rattle.std.specs.FinMap as map
@@ -54,26 +55,15 @@ near_live w = flat_map places_around (map.keys w)
 pub step : (List ℕ → ℕ) → World → World
 step next w = fill (near_live w) (λ x y. next (around w x y)) blank
 
-or_right : (a b : Bool) → b ≡ true → (a || b) ≡ true
-or_right true b e = refl
-or_right false b e = e
-
-or_left : (a b : Bool) → a ≡ true → (a || b) ≡ true
-or_left true b e = refl
-or_left false b e = cc
-
-or_cases : (a b : Bool) {P : Type 0} → (a || b) ≡ true → (a ≡ true → P) → (b ≡ true → P) → P
-or_cases true b h f g = f refl
-or_cases false b h f g = g h
-
 -- what is around a listed place is among what is around all of them
 around_listed : (p q : Place) (ks : List Place) → list_any (same_place q) ks ≡ true → list_any (same_place p) (places_around q) ≡ true → list_any (same_place p) (flat_map places_around ks) ≡ true
 around_listed p q [] h t = cc
 around_listed p q (k ∷ ks) h t =
     list_any-append (same_place p) (places_around k) (flat_map places_around ks)
-    ∙ or_cases (same_place q k) (list_any (same_place q) ks) h
-    (λ e. or_left _ _ (subst (λ r. list_any (same_place p) (places_around r) ≡ true) (same_is q k e) t))
-    (λ e. or_right _ _ (around_listed p q ks e t))
+    ∙ elim (or_cases (same_place q k) (list_any (same_place q) ks) h) [
+      | inl e ↦ or_left _ _ (subst (λ r. list_any (same_place p) (places_around r) ≡ true) (same_is q k e) t)
+      | inr e ↦ or_right _ _ (around_listed p q ks e t)
+    ]
 
 -- a place that isn't near a live cell has no live cell around it
 far : (w : World) (p q : Place) → list_any (same_place p) (near_live w) ≡ false → list_any (same_place p) (places_around q) ≡ true → cell w q.1 q.0 ≡ 0

@@ -50,6 +50,7 @@ pub enum EvolveFault {
     /// The computation was told to stop.
     #[error("the computation was stopped")]
     Stopped,
+    /// A growth was refused.
     #[error("there is no memory")]
     NoMemory,
 }
@@ -134,8 +135,8 @@ fn box_fits(bounds: Bounds, margin: u64) -> bool
 /// The plane `generations` later, by one step after another.
 ///
 /// The plane's states are below the rule's, and it fits. The stop is asked before each step, and
-/// Stopped is answered where it says yes. A pattern that a step leaves as it was is not stepped
-/// again. Nothing is shared, so `limit`, the number of squares that an engine may hold, is not
+/// Stopped is answered where it says yes; NoMemory where a growth was refused. A pattern that a
+/// step leaves as it was is not stepped again. Nothing is shared, so `limit`, the number of squares that an engine may hold, is not
 /// used, and NoRoom never comes.
 pub fn evolve_plain<R: Next, S: Stop>(
     alloc: Global,

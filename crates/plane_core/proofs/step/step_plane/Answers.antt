@@ -1,4 +1,4 @@
-use Rattle.std.proofs.Common.{◌≡◌, ◌∙◌, sym, ap, ◌<◌, length, arith, rules, map}
+use Rattle.std.proofs.Common.{◌≡◌, ◌∙◌, sym, ap, ◌<◌, length, arith, map}
 use Rattle.plane_core.specs.World.{blank}
 use Rattle.plane_core.specs.Live.{of_cell}
 use Rattle.plane_core.specs.Live.{live}

@@ -1,4 +1,4 @@
-use Rattle.std.proofs.Common.{◌≡◌, ◌∙◌, ap, sym, subst, [], Option, None, Some}
+use Rattle.std.proofs.Common.{◌∙◌, sym, subst, Some}
 use Rattle.std.specs.Map.Iter.{deref_pair}
 use Rattle.std.proofs.lemmas.Map.Iter.{rest_all, rest_more}
 use Rattle.plane_core.specs.Entries.{live-from_view, HasMargin-kept}

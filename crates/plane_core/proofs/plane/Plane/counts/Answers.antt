@@ -1,6 +1,6 @@
-use Rattle.std.proofs.Common.{◌≡◌, ◌∙◌, ap, sym, ◌<◌, ◌^◌, length, rules, arith, subst}
+use Rattle.std.proofs.Common.{◌≡◌, ◌∙◌, ap, sym, ◌<◌, ◌^◌, length, rules, subst}
 use Rattle.std.specs.Map.Iter.{deref_pair}
-use Rattle.std.proofs.lemmas.Map.Iter.{rest_all, rest_more}
+use Rattle.std.proofs.lemmas.Map.Iter.{rest_more}
 use Rattle.plane_core.specs.Live.{live}
 use Rattle.plane_core.specs.Entries.{live-from_view}
 use Rattle.plane_core.proofs.Lists.{Counted-none, Counted-more, count_fits}

@@ -1,5 +1,3 @@
-use Rattle.std.proofs.Common.{◌≡◌, ℕ, ◌+◌, ◌<◌, get_or}
-use Rattle.plane_core.specs.Live.{live}
 use Rattle.plane_core.proofs.Lists.{Counted}
 use Rattle.plane_core.proofs.plane.Plane.counts.Given as goal
 
