@@ -1,5 +1,5 @@
 -- The lines of a text.
-use Rattle.std.specs.Prelude.{◌≡◌, ℕ, ◌==◌, List, [], ◌∷◌, ◌++◌, false, if◌then◌else◌}
+use Rattle.std.specs.Prelude.{◌≡◌, ℕ, ◌+◌, ◌==◌, List, [], ◌∷◌, ◌++◌, map, false, if◌then◌else◌}
 use Rattle.text_lines.specs.Blanks.{trim}
 
 -- how a text stopped: it came to its end, or the reading of it broke off
@@ -45,3 +45,12 @@ lines_until stop bytes = lines_from stop [] bytes
 -- the lines of a whole text
 abbrev pub lines : List ℕ → List Line
 lines bytes = lines_until Ended bytes
+
+-- what each line of a whole text says
+abbrev pub says : List ℕ → List (List ℕ)
+says bytes = map (λ line. line.says) (lines bytes)
+
+-- how many bytes stand before the first line feed, or how many there are if there is none
+abbrev pub line_len : List ℕ → ℕ
+line_len [] = 0
+line_len (b ∷ bs) = if b == 10 then 0 else line_len bs + 1

@@ -1,12 +1,19 @@
-//! The lines of a text of bytes, and blanks.
+//! What every text of the workspace is made of: lines, blanks and decimal numbers.
+//!
+//! A text is any bytes. Its lines end with a line feed, directly before which a carriage return
+//! may stand, and say what lies between the blanks at their ends. Everything here reads the bytes
+//! once and takes no memory.
 #![tactic(auto)]
 
-ghost use Rattle.std.specs.Prelude.{◌≡◌};
-ghost use Rattle.text_lines.specs.Blanks.{is_blank};
+mod blanks;
+mod bytes;
+mod lines;
+mod numbers;
 
-/// Whether the byte is a blank, a space or a tab.
-pub fn is_blank(byte: u8) -> bool
-    ensures { result ≡ is_blank byte }
-{
-    byte == b' ' || byte == b'\t'
-}
+pub use blanks::{is_blank, trim, trim_end, trim_start};
+pub use bytes::find_byte;
+pub use lines::Lines;
+pub use numbers::number;
+
+#[cfg(test)]
+mod tests;

@@ -1,0 +1,5 @@
+mod FirstOf
+mod KeptLines
+mod KeptResults
+mod KeptTables
+mod Splits

@@ -1,0 +1,62 @@
+-- A line that is being read.
+use Rattle.std.proofs.Common.{◌≡◌, ◌≢◌, ℕ, ◌==◌, List, [], ◌∷◌, ◌++◌, true, false, Bool, sym, ◌∙◌, ap, refl, append_assoc, append-nil, Option, Some, None}
+use Rattle.std.specs.Io.KnownBytes.{Consumes}
+use Rattle.std.proofs.KnownBytes.{Consumes-trans}
+use Rattle.text_lines.specs.Lines.{NoLineFeed, strip_carriage_return}
+use Rattle.script_lines.specs.KeptLine.{Took, Saw, waiting}
+use Rattle.script_lines.specs.Text.{Grows}
+use Rattle.script_lines.specs.declared.kept_line.KeptLine.{KeptLine}
+use Rattle.script_lines.proofs.Trims.{push_not_nil}
+
+-- these bytes of the line were seen
+pub record IsReading (old new : Option (List ℕ)) (before after : Option (List ℕ)) (line : KeptLine) (empty : Bool) : Type 0 where
+  pub seen : List ℕ
+  pub no_line_feed : NoLineFeed seen
+  pub consumed : Consumes old new seen
+  pub grows : Grows before after seen
+  pub saw : Saw line seen
+  pub nothing : empty ≡ true → seen ≡ []
+  pub some : empty ≡ false → seen ≢ []
+
+no_line_feed-push : (bs : List ℕ) (b : ℕ) → NoLineFeed bs → (b == 10) ≡ false → NoLineFeed (bs ++ b ∷ [])
+no_line_feed-push [] b h k = (k, tt)
+no_line_feed-push (c ∷ cs) b h k = (h.0, no_line_feed-push cs b h.1 k)
+
+strip_return-push_return : (bs : List ℕ) → strip_carriage_return (bs ++ 13 ∷ []) ≡ bs
+strip_return-push_return [] = refl
+strip_return-push_return (b ∷ []) = refl
+strip_return-push_return (b ∷ c ∷ bs) = ap (λ t. b ∷ t) (strip_return-push_return (c ∷ bs))
+
+strip_return-push : (bs : List ℕ) (b : ℕ) → (b == 13) ≡ false → strip_carriage_return (bs ++ b ∷ []) ≡ bs ++ b ∷ []
+strip_return-push [] b h = rw h refl
+strip_return-push (c ∷ []) b h = ap (λ t. c ∷ t) (strip_return-push [] b h)
+strip_return-push (c ∷ d ∷ bs) b h = ap (λ t. c ∷ t) (strip_return-push (d ∷ bs) b h)
+
+pub grows-trans : (a b c : Option (List ℕ)) (xs ys : List ℕ) → Grows a b xs → Grows b c ys → Grows a c (xs ++ ys)
+grows-trans a b None xs ys f g = tt
+grows-trans a None (Some z) xs ys f g = absurd g
+grows-trans None (Some y) (Some z) xs ys f g = absurd f
+grows-trans (Some x) (Some y) (Some z) xs ys f g = g ∙ ap (λ t. t ++ ys) f ∙ append_assoc x xs ys
+
+pub grows-refl : (a : Option (List ℕ)) → Grows a a []
+grows-refl None = tt
+grows-refl (Some x) = sym (append-nil x)
+
+-- one more byte
+pub reads_on : (old mid new before between after : Option (List ℕ)) (line next : KeptLine) (empty : Bool) (b : ℕ) → (b == 10) ≡ false → Consumes mid new (b ∷ []) → Grows between after (b ∷ [])
+    → ((seen : List ℕ) → Saw line seen → Saw next (seen ++ b ∷ [])) → IsReading old mid before between line empty → IsReading old new before after next false
+reads_on old mid new before between after line next empty b k c g s r = record {
+  seen = r.seen ++ b ∷ [];
+  no_line_feed = no_line_feed-push r.seen b r.no_line_feed k;
+  consumed = Consumes-trans old mid new r.seen (b ∷ []) r.consumed c;
+  grows = grows-trans before between after r.seen (b ∷ []) r.grows g;
+  saw = s r.seen r.saw;
+  nothing = λ e. absurd (cc);
+  some = λ e. push_not_nil r.seen b;
+}
+
+pub saw_more : (line : KeptLine) (seen : List ℕ) (b : ℕ) → line.waits ≡ false → (b == 13) ≡ false → Took line (seen ++ b ∷ []) → Saw line (seen ++ b ∷ [])
+saw_more line seen b w k t = record { taken = seen ++ b ∷ []; split = sym (append-nil (seen ++ b ∷ [])) ∙ ap (λ v. (seen ++ b ∷ []) ++ waiting v) (sym w); stripped = strip_return-push seen b k; took = t }
+
+pub saw_return : (line : KeptLine) (seen : List ℕ) (b : ℕ) → line.waits ≡ true → b ≡ 13 → Took line seen → Saw line (seen ++ b ∷ [])
+saw_return line seen b w k t = record { taken = seen; split = ap (λ v. seen ++ v ∷ []) k ∙ ap (λ v. seen ++ waiting v) (sym w); stripped = ap (λ v. strip_carriage_return (seen ++ v ∷ [])) k ∙ strip_return-push_return seen; took = t }

@@ -1,0 +1,30 @@
+//! The lower half of a script server: lines, words, numbers and texts of a script that is read as
+//! it comes, and replies that are written.
+//!
+//! What a reader gives is taken a line at a time, and what is proved is that the lines are those
+//! of the bytes that were read, whatever follows them. Memory is taken for one line or text and
+//! never for the script: a line is kept as far as there is memory, and always as far as is needed
+//! to tell short lines apart, runs of spaces cut to one. A line or a text costs time and memory in
+//! proportion to its own length. Failures of both ends are counted, and a fault leaves what was
+//! read or written by then named exactly.
+#![tactic(auto)]
+
+mod counted;
+mod failures;
+mod input;
+mod kept_line;
+mod numbers;
+mod script;
+mod text;
+mod words;
+
+pub use counted::{Counted, Failed};
+pub use failures::Failures;
+pub use kept_line::{Found, KeptLine};
+pub use numbers::{signed, unsigned};
+pub use script::{Script, TextFound};
+pub use text::Text;
+pub use words::next_word;
+
+#[cfg(test)]
+mod tests;

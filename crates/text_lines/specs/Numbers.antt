@@ -1,0 +1,14 @@
+-- Decimal numbers.
+use Rattle.std.specs.Prelude.{ℕ, List, [], ◌∷◌, Bool, false, Option, Some, None, if◌then◌else◌}
+use Rattle.std.specs.List.{list_all}
+use Rattle.std.specs.Char.{is_ascii_digit}
+use Rattle.std.specs.Str.Parse.{digits_value}
+
+-- one byte or more, each a decimal digit
+abbrev pub are_digits : List ℕ → Bool
+are_digits [] = false
+are_digits (b ∷ bs) = list_all is_ascii_digit (b ∷ bs)
+
+-- the number that decimal digits write, of any length and with zeros before it; other bytes write none
+abbrev pub number_of : List ℕ → Option ℕ
+number_of bs = if are_digits bs then Some (digits_value 10 bs) else None
