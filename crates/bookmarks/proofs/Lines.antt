@@ -1,0 +1,32 @@
+-- Steps of the text of counts.
+use Rattle.std.proofs.Common.{◌≡◌, ℕ, suc, ◌+◌, ◌-◌, ◌<◌, List, [], ◌∷◌, ◌++◌, ap, ap₂, ◌∙◌, sym, arith, append_assoc, append-nil, refl}
+use Rattle.plane_core.specs.World.{World}
+use Rattle.plane_core.specs.Live.{count_of}
+use Rattle.bookmarks.specs.Counts.{count_line, count_lines, count_lines-none, count_lines-more, or_empty}
+
+-- one more state
+pub lines-more : (w : World) (text after : List ℕ) (below state count : ℕ) → below < 255 → state ≡ below + 1 → count ≡ count_of w state → after ≡ text ++ count_line state count
+    → text ++ count_lines w (below + 1) (255 - below) ≡ count_lines w 1 255
+    → after ++ count_lines w ((below + 1) + 1) (255 - (below + 1)) ≡ count_lines w 1 255
+lines-more w text after below state count h is counted grown before =
+    let left : 255 - below ≡ suc (255 - (below + 1)) = omega arith in
+    let next : (below + 1) + 1 ≡ suc (below + 1) = omega arith in
+    ap (λ bs. bs ++ count_lines w ((below + 1) + 1) (255 - (below + 1))) grown
+    ∙ append_assoc text (count_line state count) (count_lines w ((below + 1) + 1) (255 - (below + 1)))
+    ∙ ap (λ s. text ++ (count_line state count ++ count_lines w s (255 - (below + 1)))) next
+    ∙ ap₂ (λ s n. text ++ (count_line s n ++ count_lines w (suc (below + 1)) (255 - (below + 1)))) is (counted ∙ ap (count_of w) is)
+    ∙ ap (λ bs. text ++ bs) (sym (count_lines-more w (below + 1) (255 - (below + 1))))
+    ∙ ap (λ n. text ++ count_lines w (below + 1) n) (sym left)
+    ∙ before
+
+-- at the end
+pub lines_all : (w : World) (text : List ℕ) (below : ℕ) → 255 - below ≡ 0 → text ++ count_lines w (below + 1) (255 - below) ≡ count_lines w 1 255 → text ≡ count_lines w 1 255
+lines_all w text below none is =
+    sym (append-nil text)
+    ∙ ap (λ bs. text ++ bs) (sym (count_lines-none w (below + 1)))
+    ∙ ap (λ n. text ++ count_lines w (below + 1) n) (sym none)
+    ∙ is
+
+pub or_empty-some : (text : List ℕ) (b : ℕ) (bs : List ℕ) → text ≡ b ∷ bs → text ≡ or_empty text
+or_empty-some [] b bs is = cc
+or_empty-some (c ∷ cs) b bs is = refl

@@ -1,0 +1,96 @@
+-- Steps of the way from the start to a generation.
+use Rattle.std.proofs.Common.{◌≡◌, ℕ, suc, ◌+◌, ◌-◌, ◌<◌, ◌≤◌, Bool, true, false, List, [], ◌∷◌, ◌++◌, length, take, get_or, refl, sym, ap, ◌∙◌, arith, append_assoc, append-nil}
+use Rattle.std.specs.Prelude.{◌==◌, if◌then◌else◌}
+use Rattle.std.proofs.lemmas.Bool.Decides.{nat_tests}
+use Rattle.std.proofs.lemmas.List.{take_more}
+use Rattle.plane_core.specs.World.{World}
+use Rattle.plane_core.specs.Lay.{lay, lay-append}
+use Rattle.plane_core.specs.Step.{step}
+use Rattle.plane_core.specs.Iterate.{iterate}
+use Rattle.plane_core.specs.Arrival.{arrive-zero, arrive-gap}
+use Rattle.plane_core.specs.declared.cell.CellSet.{CellSet}
+use Rattle.rule_file.specs.Rule.{next_of}
+use Rattle.schedule.specs.declared.document.Intervention.{Intervention}
+use Rattle.schedule.specs.Plan.{Plan}
+use Rattle.schedule.specs.Scratch.{cells_at, arrival, after}
+
+-- the cells of one intervention, where it acts at g
+abbrev pub own_cells : Intervention → ℕ → List CellSet
+own_cells i g = if i.generation == g then i.cells else []
+
+joined : (b : Bool) (cs ds es : List CellSet) → (if b then cs ++ (ds ++ es) else (ds ++ es)) ≡ (if b then cs ++ ds else ds) ++ es
+joined true cs ds es = sym (append_assoc cs ds es)
+joined false cs ds es = refl
+
+alone : (b : Bool) (cs : List CellSet) → (if b then cs ++ [] else []) ≡ (if b then cs else [])
+alone true cs = append-nil cs
+alone false cs = refl
+
+-- one more intervention
+pub cells_at-push : (is : List Intervention) (i : Intervention) (g : ℕ) → cells_at (is ++ i ∷ []) g ≡ cells_at is g ++ own_cells i g
+cells_at-push [] i g = alone (i.generation == g) i.cells
+cells_at-push (j ∷ is) i g =
+    ap (λ cs. if j.generation == g then j.cells ++ cs else cs) (cells_at-push is i g)
+    ∙ joined (j.generation == g) j.cells (cells_at is g) (own_cells i g)
+
+pub cells_at-more : (is : List Intervention) (k : ℕ) (d : Intervention) (g : ℕ) → k < length is → cells_at (take (k + 1) is) g ≡ cells_at (take k is) g ++ own_cells (get_or is k d) g
+cells_at-more is k d g h = ap (λ js. cells_at js g) (take_more is k d h) ∙ cells_at-push (take k is) (get_or is k d) g
+
+other : (i : Intervention) (g : ℕ) → (i.generation ≡ g → ⊥) → own_cells i g ≡ []
+other i g apart =
+    elim (i.generation == g) as (λ b. (i.generation == g) ≡ b → (if b then i.cells else []) ≡ []) [
+      | true ↦ λ same. absurd (apart (grind (arith, nat_tests)))
+      | false ↦ λ _. refl
+    ] refl
+
+-- nothing is laid between at and next, as far as the first k interventions go
+pub record IsQuiet (is : List Intervention) (at next : ℕ) : Type 0 where
+  pub none : (g : ℕ) → at < g → g < next → cells_at is g ≡ []
+
+pub IsQuiet-none : (at next : ℕ) → IsQuiet [] at next
+IsQuiet-none at next = record { none = λ g a b. refl }
+
+pub IsQuiet-more : (is : List Intervention) (k : ℕ) (d : Intervention) (at next sooner : ℕ) → k < length is → IsQuiet (take k is) at next → sooner ≤ next
+    → (at < (get_or is k d).generation → sooner ≤ (get_or is k d).generation) → IsQuiet (take (k + 1) is) at sooner
+IsQuiet-more is k d at next sooner h quiet less own = record {
+  none = λ g a b.
+      cells_at-more is k d g h
+      ∙ ap (λ cs. cs ++ own_cells (get_or is k d) g) (quiet.none g a (omega arith))
+      ∙ other (get_or is k d) g (λ same. let later : at < (get_or is k d).generation = omega arith in let s = own later in omega arith);
+}
+
+pub lay-laid : (is : List Intervention) (k : ℕ) (d : Intervention) (g : ℕ) (w v : World) → k < length is → (get_or is k d).generation ≡ g → v ≡ lay (cells_at (take k is) g) w
+    → lay (get_or is k d).cells v ≡ lay (cells_at (take (k + 1) is) g) w
+lay-laid is k d g w v h acts before =
+    let i = get_or is k d in
+    let own : own_cells i g ≡ i.cells = ap (λ b. if b then i.cells else []) (let t : (i.generation == g) ≡ true = grind (arith, nat_tests) in t) in
+    ap (lay i.cells) before
+    ∙ sym (lay-append (cells_at (take k is) g) i.cells w)
+    ∙ ap (λ cs. lay (cells_at (take k is) g ++ cs) w) (sym own)
+    ∙ ap (λ cs. lay cs w) (sym (cells_at-more is k d g h))
+
+pub lay-passed : (is : List Intervention) (k : ℕ) (d : Intervention) (g : ℕ) (w v : World) → k < length is → ((get_or is k d).generation ≡ g → ⊥) → v ≡ lay (cells_at (take k is) g) w
+    → v ≡ lay (cells_at (take (k + 1) is) g) w
+lay-passed is k d g w v h passes before =
+    before
+    ∙ ap (λ cs. lay cs w) (sym (append-nil (cells_at (take k is) g)))
+    ∙ ap (λ cs. lay (cells_at (take k is) g ++ cs) w) (sym (other (get_or is k d) g passes))
+    ∙ ap (λ cs. lay cs w) (sym (cells_at-more is k d g h))
+
+-- the start, with the cells of generation 0
+pub after-zero : (p : Plan) → after p 0 ≡ lay (cells_at p.interventions 0) p.start
+after-zero p = ap (lay (cells_at p.interventions 0)) (arrive-zero (next_of p.rule) (cells_at p.interventions) p.start)
+
+-- from one generation to a later one with nothing between
+pub after-gap : (p : Plan) (at next : ℕ) (w v : World) → at < next → IsQuiet p.interventions at next → w ≡ after p at → v ≡ iterate (next - at) (step (next_of p.rule)) w → lay (cells_at p.interventions next) v ≡ after p next
+after-gap p at next w v later quiet here there =
+    let n : ℕ = (next - at) - 1 in
+    let gap : next - at ≡ suc n = omega arith in
+    let end : at + suc n ≡ next = omega arith in
+    let f = step (next_of p.rule) in
+    let arrived : iterate (next - at) f w ≡ arrival p next =
+    ap (λ m. iterate m f w) gap
+    ∙ ap (iterate (suc n) f) here
+    ∙ sym (arrive-gap (next_of p.rule) (cells_at p.interventions) p.start at n (λ k a b. quiet.none k a (omega arith)))
+    ∙ ap (arrival p) end in
+    ap (lay (cells_at p.interventions next)) (there ∙ arrived)

@@ -1,0 +1,4 @@
+pub mod Each
+pub mod Below
+pub mod Sounds
+pub mod History

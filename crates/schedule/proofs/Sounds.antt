@@ -1,0 +1,130 @@
+-- Every edit that isn't refused keeps the limits of documents.
+use Rattle.std.proofs.Common.{◌≡◌, ℕ, ◌+◌, ◌<◌, ◌≤◌, ◌^◌, Bool, true, false, ◌&&◌, not, nat_lt, nat_le, List, [], ◌∷◌, ◌++◌, length, refl, sym, ap, ◌∙◌, subst, arith, Option, None, Some, length-append}
+use Rattle.std.specs.Prelude.{if◌then◌else◌}
+use Rattle.std.specs.List.{AllByRecursion}
+use Rattle.std.specs.Prelude.{All}
+use Rattle.std.proofs.lemmas.Bool.{and_parts, not-false}
+use Rattle.std.proofs.lemmas.Bool.Decides.{nat_tests}
+use Rattle.plane_core.specs.World.{World, blank, cell-blank}
+use Rattle.plane_core.specs.Lay.{lay}
+use Rattle.plane_core.specs.Range.{HasMargin, AllBelow, CanBeLaid}
+use Rattle.plane_core.specs.declared.cell.CellSet.{CellSet}
+use Rattle.plane_core.proofs.Keeps.{HasMargin-lay, AllBelow-lay}
+use Rattle.rule_file.specs.declared.rule.Rule.{Rule}
+use Rattle.rule_file.specs.Rule.{states_of, still, states_of-still}
+use Rattle.bookmarks.specs.declared.view.View.{View}
+use Rattle.schedule.specs.declared.document.Intervention.{Intervention}
+use Rattle.schedule.specs.declared.document.Bookmark.{Bookmark}
+use Rattle.schedule.specs.declared.fault.EditFault.{EditFault}
+use Rattle.schedule.specs.Plan.{Plan, opening}
+use Rattle.schedule.specs.Sound.{AreNamed, SetBelow, IsAllowed, IdsRise, IsSound}
+use Rattle.schedule.specs.Change.{first_refusal, for_cells, for_rule, for_bookmark, revised, stay_in_range, set_below, lies_below, all_set_below, is_too_far}
+use Rattle.schedule.proofs.History.{CanBeLaid-named}
+use Rattle.schedule.proofs.Each.{each_passes, all_append, all_weaker}
+use Rattle.schedule.proofs.Below.{AreNamed-stay, SetBelow-test, AllBelow-lies}
+
+passed : (b : Bool) (fault : EditFault) (rest : Option EditFault) → (if b then Some fault else rest) ≡ None → (b ≡ false) × (rest ≡ None)
+passed true fault rest h = absurd cc
+passed false fault rest h = (refl, h)
+
+-- cells that aren't refused
+pub record FitCells (p : Plan) (cells : List CellSet) : Type 0 where
+  pub named : AreNamed cells
+  pub below : SetBelow (states_of p.rule) cells
+
+pub fit_cells : (p : Plan) (cells : List CellSet) → first_refusal (for_cells p cells) ≡ None → FitCells p cells
+fit_cells p cells h =
+    let many = passed (nat_lt 10000 (length cells)) _ _ h in
+    let outside = passed (not (stay_in_range cells)) _ _ many.1 in
+    let high = passed (not (set_below (states_of p.rule) cells)) _ _ outside.1 in
+    record {
+      named = AreNamed-stay cells (not-false (stay_in_range cells) outside.0);
+      below = SetBelow-test (states_of p.rule) cells (not-false (set_below (states_of p.rule) cells) high.0);
+    }
+
+pub IsSound-cells : (p : Plan) (cells : List CellSet) (start : World) → IsSound p → first_refusal (for_cells p cells) ≡ None → start ≡ lay cells p.start → IsSound (record (revised p) { start = start })
+IsSound-cells p cells start sound free is =
+    let fit = fit_cells p cells free in
+    record {
+      few_states = sound.few_states;
+      start_below = subst (AllBelow (states_of p.rule)) (sym is) (AllBelow-lay (states_of p.rule) cells p.start fit.below sound.start_below);
+      start_inside = subst (HasMargin (2 ^ 60)) (sym is) (HasMargin-lay (2 ^ 60) cells p.start fit.named sound.start_inside);
+      interventions_allowed = sound.interventions_allowed;
+      bookmarks_near = sound.bookmarks_near;
+      ids_rise = sound.ids_rise;
+      ids_given = sound.ids_given;
+      few_bookmarks = sound.few_bookmarks;
+      ids_within = (let k = sound.ids_within in omega (arith, k));
+    }
+
+still_allowed : (m n : ℕ) (is : List Intervention) → AllByRecursion (IsAllowed m) is → AllByRecursion (λ (i : Intervention). set_below n i.cells ≡ true) is → AllByRecursion (IsAllowed n) is
+still_allowed m n [] h below = tt
+still_allowed m n (i ∷ is) h below = (record { near = h.0.near; named = h.0.named; below = SetBelow-test n i.cells below.0 }, still_allowed m n is h.1 below.1)
+
+pub IsSound-rule : (p : Plan) (rule : Rule) → IsSound p → first_refusal (for_rule p rule) ≡ None → 0 < states_of rule → states_of rule ≤ 256 → IsSound (record (revised p) { rule = rule })
+IsSound-rule p rule sound free some few =
+    let n = states_of rule in
+    let fits = not-false (lies_below n p.start && all_set_below n p.interventions) (passed (not (lies_below n p.start && all_set_below n p.interventions)) _ _ free).0 in
+    let parts = and_parts (lies_below n p.start) (all_set_below n p.interventions) fits in
+    record {
+      few_states = few;
+      start_below = AllBelow-lies n p.start some parts.0;
+      start_inside = sound.start_inside;
+      interventions_allowed = still_allowed (states_of p.rule) n p.interventions sound.interventions_allowed (each_passes (λ (i : Intervention). set_below n i.cells) _ p.interventions (λ i k. k) parts.1);
+      bookmarks_near = sound.bookmarks_near;
+      ids_rise = sound.ids_rise;
+      ids_given = sound.ids_given;
+      few_bookmarks = sound.few_bookmarks;
+      ids_within = (let k = sound.ids_within in omega (arith, k));
+    }
+
+rise_push : (bs : List Bookmark) (b : Bookmark) (last : ℕ) → IdsRise bs → AllByRecursion (λ (c : Bookmark). c.id ≤ last) bs → last < b.id → IdsRise (bs ++ b ∷ [])
+rise_push [] b last rise given more = (tt, tt)
+rise_push (c ∷ bs) b last rise given more =
+    (all_append (λ (d : Bookmark). c.id < d.id) bs (b ∷ []) rise.0 ((let k : c.id ≤ last = given.0 in omega (arith, k, more)), tt), rise_push bs b last rise.1 given.1 more)
+
+pub IsSound-bookmark : (p : Plan) (generation : ℕ) (view : View) (bs : List Bookmark) → IsSound p → first_refusal (for_bookmark p generation) ≡ None
+    → bs ≡ p.bookmarks ++ record { id = p.last_bookmark + 1; generation = generation; view = view } ∷ []
+    → IsSound (record (revised p) { bookmarks = bs; last_bookmark = p.last_bookmark + 1 })
+IsSound-bookmark p generation view bs sound free is =
+    let b : Bookmark = record { id = p.last_bookmark + 1; generation = generation; view = view } in
+    let far = passed (is_too_far generation) _ _ free in
+    let many = passed (nat_le 4096 (length p.bookmarks)) _ _ far.1 in
+    let near : generation ≤ 2 ^ 60 = (let k : nat_lt (2 ^ 60) generation ≡ false = far.0 in grind (arith, nat_tests)) in
+    let few : length p.bookmarks < 4096 = (let k : nat_le 4096 (length p.bookmarks) ≡ false = many.0 in grind (arith, nat_tests)) in
+    let long : length bs ≡ length p.bookmarks + 1 = ap length is ∙ length-append p.bookmarks (b ∷ []) in
+    record {
+      few_states = sound.few_states;
+      start_below = sound.start_below;
+      start_inside = sound.start_inside;
+      interventions_allowed = sound.interventions_allowed;
+      bookmarks_near = subst (AllByRecursion (λ (c : Bookmark). c.generation ≤ 2 ^ 60)) (sym is) (all_append (λ (c : Bookmark). c.generation ≤ 2 ^ 60) p.bookmarks (b ∷ []) sound.bookmarks_near (near, tt));
+      ids_rise = subst IdsRise (sym is) (rise_push p.bookmarks b p.last_bookmark sound.ids_rise sound.ids_given (omega arith));
+      ids_given = subst (AllByRecursion (λ (c : Bookmark). c.id ≤ p.last_bookmark + 1)) (sym is) (all_append (λ (c : Bookmark). c.id ≤ p.last_bookmark + 1) p.bookmarks (b ∷ []) (all_weaker (λ (c : Bookmark). c.id ≤ p.last_bookmark) _ p.bookmarks (λ c k. omega (arith, k)) sound.ids_given) ((omega arith), tt));
+      few_bookmarks = omega (arith, long, few);
+      ids_within = (let k = sound.ids_within in omega (arith, k));
+    }
+
+sound_opening : (revision : ℕ) → IsSound (opening revision)
+sound_opening revision = record {
+  few_states = (let n = states_of-still in omega (arith, n));
+  start_below = λ x y. (let k = cell-blank x y in let n = states_of-still in omega (arith, k, n));
+  start_inside = λ x y live. absurd (let k = cell-blank x y in omega (arith, k, live));
+  interventions_allowed = tt;
+  bookmarks_near = tt;
+  ids_rise = tt;
+  ids_given = tt;
+  few_bookmarks = omega arith;
+  ids_within = omega arith;
+}
+
+pub IsSound-opening : (rule : Rule) (start : World) (is : List Intervention) (bs : List Bookmark) (revision : ℕ) → rule ≡ still → start ≡ blank → is ≡ [] → bs ≡ []
+    → IsSound (record { rule = rule; start = start; interventions = is; bookmarks = bs; revision = revision; last_intervention = 0; last_bookmark = 0 })
+IsSound-opening rule start is bs revision e f g h =
+    let same : opening revision ≡ record { rule = rule; start = start; interventions = is; bookmarks = bs; revision = revision; last_intervention = 0; last_bookmark = 0 } =
+    λ i. record { rule = sym e i; start = sym f i; interventions = sym g i; bookmarks = sym h i; revision = revision; last_intervention = 0; last_bookmark = 0 } in
+    subst IsSound same (sound_opening revision)
+
+-- a plane takes cells that aren't refused
+pub CanBeLaid-fit : (p : Plan) (cells : List CellSet) → states_of p.rule ≤ 256 → first_refusal (for_cells p cells) ≡ None → All CanBeLaid cells
+CanBeLaid-fit p cells few free = let fit = fit_cells p cells free in CanBeLaid-named (states_of p.rule) cells few fit.named fit.below

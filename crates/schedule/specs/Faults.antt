@@ -1,0 +1,30 @@
+-- The number and the name of each fault of an edit.
+use Rattle.std.specs.Prelude.{ℕ, List, codes}
+use Rattle.schedule.specs.declared.fault.EditFault.{EditFault}
+use Rattle.schedule.specs.declared.fault.EditFault.TheVariants.{GenerationTooFar, CellOutOfRange, CellStateTooHigh, NoSuchIntervention, NoSuchBookmark, TooManyInterventions, TooManyBookmarks, TooManyCells, BadWindow, RevisionSpent, NoMemory}
+
+abbrev pub fault_number : EditFault → ℕ
+fault_number GenerationTooFar = 40
+fault_number CellOutOfRange = 41
+fault_number CellStateTooHigh = 42
+fault_number NoSuchIntervention = 43
+fault_number NoSuchBookmark = 44
+fault_number TooManyInterventions = 45
+fault_number TooManyBookmarks = 46
+fault_number TooManyCells = 47
+fault_number BadWindow = 48
+fault_number RevisionSpent = 49
+fault_number NoMemory = 70
+
+abbrev pub fault_name : EditFault → List ℕ
+fault_name GenerationTooFar = codes "GenerationTooFar"
+fault_name CellOutOfRange = codes "CellOutOfRange"
+fault_name CellStateTooHigh = codes "CellStateTooHigh"
+fault_name NoSuchIntervention = codes "NoSuchIntervention"
+fault_name NoSuchBookmark = codes "NoSuchBookmark"
+fault_name TooManyInterventions = codes "TooManyInterventions"
+fault_name TooManyBookmarks = codes "TooManyBookmarks"
+fault_name TooManyCells = codes "TooManyCells"
+fault_name BadWindow = codes "BadWindow"
+fault_name RevisionSpent = codes "RevisionSpent"
+fault_name NoMemory = codes "NoMemory"

@@ -1,0 +1,6 @@
+pub mod Faults
+pub mod Plan
+pub mod Kept
+pub mod Sound
+pub mod Scratch
+pub mod Change

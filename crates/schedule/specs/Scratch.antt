@@ -1,0 +1,26 @@
+-- What a bookmark shows by definition: the pattern computed anew from the start, one generation after another.
+use Rattle.std.specs.Prelude.{ℕ, List, map}
+use Rattle.plane_core.specs.declared.cell.CellSet.{CellSet}
+use Rattle.plane_core.specs.World.{World}
+use Rattle.plane_core.specs.Arrival as history
+use Rattle.rule_file.specs.Rule.{name_of, states_of, next_of}
+use Rattle.bookmarks.specs.Text.{text_of}
+use Rattle.schedule.specs.declared.document.Intervention.{Intervention}
+use Rattle.schedule.specs.declared.document.Bookmark.{Bookmark}
+use Rattle.schedule.specs.Plan.{Plan}
+
+-- the cells that the interventions of generation g set, by rising id
+abbrev pub cells_at : List Intervention → ℕ → List CellSet
+cells_at interventions g = history.cells_at (map (λ (i : Intervention). (i.generation, i.cells)) interventions) g
+
+-- the world that arrives at generation g
+abbrev pub arrival : Plan → ℕ → World
+arrival p g = history.arrive (next_of p.rule) (cells_at p.interventions) p.start g
+
+-- the world after the interventions of generation g
+abbrev pub after : Plan → ℕ → World
+after p g = history.after (next_of p.rule) (cells_at p.interventions) p.start g
+
+-- the text that a bookmark shows
+abbrev pub scratch : Plan → Bookmark → List ℕ
+scratch p b = text_of b.view (after p b.generation) (name_of p.rule) (states_of p.rule) b.generation

@@ -1,0 +1,123 @@
+//! Whether an edit fits a document.
+ghost use Rattle.std.specs.Prelude.{◌≡◌, ◌<◌, MatchResult};
+ghost use Rattle.schedule.specs.Change.{refusal, may_be_named, stay_in_range, set_below, lies_below, all_set_below, first_refusal, spent, for_cells, for_rule, for_bookmark};
+
+use crate::document::{Document, Intervention};
+use crate::edit::Edit;
+use crate::fault::EditFault;
+use plane_core::{CellSet, Next, Plane};
+use rule_file::Rule;
+
+/// The generation of an intervention or a bookmark is at most this.
+pub const FARTHEST_GENERATION: u64 = 1 << 60;
+
+/// There are at most this many bookmarks.
+pub const MOST_BOOKMARKS: usize = 4096;
+
+/// One edit names at most this many cells.
+pub const MOST_CELLS: usize = 10_000;
+
+// Named cells have coordinates from the least up to but not including the one beyond.
+const LEAST: i64 = -(1 << 60);
+
+const BEYOND: i64 = 1 << 60;
+
+// Whether an edit may name the cell, by its place.
+fn may_be_named(cell: &CellSet) -> bool
+    ensures { result ≡ may_be_named cell.now }
+{
+    LEAST <= cell.x && cell.x < BEYOND && (LEAST <= cell.y && cell.y < BEYOND)
+}
+
+// Whether an edit may name each cell.
+fn stay_in_range(cells: &[CellSet]) -> bool
+    ensures { result ≡ stay_in_range cells.now }
+{
+    cells.iter().all(may_be_named)
+}
+
+// Whether each cell's state is below `states`.
+fn set_below(states: u16, cells: &[CellSet]) -> bool
+    ensures { result ≡ set_below states cells.now }
+{
+    cells.iter().all(|cell| cell.state < states)
+}
+
+// Whether each state of the plane is below `states`.
+fn lies_below(states: u16, plane: &Plane) -> bool
+    requires { 0 < states }
+    ensures { result ≡ lies_below states plane.now }
+{
+    u16::from(plane.greatest()) < states
+}
+
+// Whether each intervention sets states below `states` alone.
+fn all_set_below(states: u16, interventions: &[Intervention]) -> bool
+    ensures { result ≡ all_set_below states interventions.now }
+{
+    interventions.iter().all(|intervention| set_below(states, intervention.cells.as_slice()))
+}
+
+impl Document {
+    /// Whether the edit fits the document: Ok, or the first refusal of its kind. It takes no
+    /// memory, and NoMemory isn't among its answers.
+    pub fn check(&self, edit: &Edit) -> Result<(), EditFault>
+        ensures { MatchResult result (λ _. refusal self.now edit.now ≡ None) (λ fault. refusal self.now edit.now ≡ Some fault) }
+    {
+        match edit {
+            Edit::SetCells { cells } => self.check_cells(cells.as_slice()),
+            Edit::ReplaceRule(rule) => self.check_rule(rule),
+            Edit::AddBookmark { generation, .. } => self.check_bookmark(*generation),
+        }
+    }
+
+    // Whether one more revision fits.
+    fn check_revision(&self) -> Result<(), EditFault>
+        ensures { MatchResult result (λ _. first_refusal (spent self.now) ≡ None) (λ fault. first_refusal (spent self.now) ≡ Some fault) }
+    {
+        if self.revision == u64::MAX {
+            return Err(EditFault::RevisionSpent);
+        }
+        Ok(())
+    }
+
+    // Whether the start may get these cells.
+    fn check_cells(&self, cells: &[CellSet]) -> Result<(), EditFault>
+        ensures { MatchResult result (λ _. first_refusal (for_cells self.now cells.now) ≡ None) (λ fault. first_refusal (for_cells self.now cells.now) ≡ Some fault) }
+    {
+        if cells.len() > MOST_CELLS {
+            return Err(EditFault::TooManyCells);
+        }
+        if !stay_in_range(cells) {
+            return Err(EditFault::CellOutOfRange);
+        }
+        if !set_below(self.rule.states(), cells) {
+            return Err(EditFault::CellStateTooHigh);
+        }
+        self.check_revision()
+    }
+
+    // Whether the document may get this rule.
+    fn check_rule(&self, rule: &Rule) -> Result<(), EditFault>
+        ensures { MatchResult result (λ _. first_refusal (for_rule self.now rule.now) ≡ None) (λ fault. first_refusal (for_rule self.now rule.now) ≡ Some fault) }
+    {
+        let states = rule.states();
+        if !lies_below(states, &self.start) || !all_set_below(states, &self.interventions) {
+            return Err(EditFault::CellStateTooHigh);
+        }
+        self.check_revision()
+    }
+
+    // Whether the document may get a bookmark at this generation.
+    fn check_bookmark(&self, generation: u64) -> Result<(), EditFault>
+        ensures { MatchResult result (λ _. first_refusal (for_bookmark self.now generation) ≡ None) (λ fault. first_refusal (for_bookmark self.now generation) ≡ Some fault) }
+    {
+        if generation > FARTHEST_GENERATION {
+            return Err(EditFault::GenerationTooFar);
+        }
+        if self.bookmarks.len() >= MOST_BOOKMARKS {
+            return Err(EditFault::TooManyBookmarks);
+        }
+        self.check_revision()
+    }
+}

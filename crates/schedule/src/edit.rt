@@ -1,0 +1,27 @@
+//! Edits of a document.
+
+use bookmarks::View;
+use plane_core::{CellSet, Listing};
+use rule_file::Rule;
+use std::sync::Arc;
+
+/// A change that a user asks for.
+#[derive(Drop)]
+pub enum Edit {
+    /// Sets cells of the start, at most 10,000 in `-2^60 <= x, y < 2^60`; the last mention of a
+    /// cell wins.
+    SetCells { cells: Listing<CellSet> },
+    /// Takes another rule, whose states are enough for the start and for all interventions.
+    ReplaceRule(Arc<Rule>),
+    /// Adds a bookmark at a generation of at most 2^60.
+    AddBookmark { generation: u64, view: View },
+}
+
+/// What an accepted edit answers.
+#[derive(Clone, Copy, Debug, PartialEq, Eq)]
+pub struct Edited {
+    /// The document's revision after the edit.
+    pub revision: u64,
+    /// The id of the intervention or bookmark that the edit made, if it made one.
+    pub id: Option<u64>,
+}

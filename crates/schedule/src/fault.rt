@@ -1,0 +1,108 @@
+//! Why an edit is refused.
+ghost use Rattle.std.specs.Prelude.{◌≡◌};
+ghost use Rattle.schedule.specs.declared.fault.EditFault.TheVariants.{NoMemory};
+
+use plane_core::Refusal;
+use std::alloc::{AllocError, AllocFailed};
+use thiserror::Error;
+
+/// Why an edit is refused. A refused edit changes nothing.
+#[derive(Clone, Copy, Debug, PartialEq, Eq, Error)]
+pub enum EditFault {
+    /// A generation is beyond 2^60.
+    #[error("the generation is beyond 2^60")]
+    GenerationTooFar,
+    /// A cell or a window leaves its range.
+    #[error("a cell is out of range")]
+    CellOutOfRange,
+    /// A state isn't below the rule's number of states.
+    #[error("a state is not below the rule's")]
+    CellStateTooHigh,
+    /// The document has no intervention of that id.
+    #[error("there is no such intervention")]
+    NoSuchIntervention,
+    /// The document has no bookmark of that id.
+    #[error("there is no such bookmark")]
+    NoSuchBookmark,
+    /// There are 4,096 interventions.
+    #[error("there are 4,096 interventions already")]
+    TooManyInterventions,
+    /// There are 4,096 bookmarks.
+    #[error("there are 4,096 bookmarks already")]
+    TooManyBookmarks,
+    /// One edit names more than 10,000 cells.
+    #[error("more than 10,000 cells in one edit")]
+    TooManyCells,
+    /// A window has no cells, or more than 65,536.
+    #[error("the window has no cells or too many")]
+    BadWindow,
+    /// The revision is the greatest there is.
+    #[error("no revision is left")]
+    RevisionSpent,
+    /// Memory was wanted.
+    #[error("there is not enough memory")]
+    NoMemory,
+}
+
+impl From<AllocError> for EditFault {
+    ghost from_gives = { λ _ fault. fault ≡ NoMemory };
+
+    fn from(_error: AllocError) -> EditFault {
+        EditFault::NoMemory
+    }
+}
+
+impl<T: Drop> From<AllocFailed<T>> for EditFault {
+    ghost from_gives = { λ _ fault. fault ≡ NoMemory };
+
+    fn from(_error: AllocFailed<T>) -> EditFault {
+        EditFault::NoMemory
+    }
+}
+
+impl Refusal for EditFault {
+    ghost use Rattle.std.specs.Prelude.{None};
+    ghost use Rattle.schedule.specs.Faults.{fault_number, fault_name};
+
+    ghost number_of = { fault_number };
+
+    ghost name_of = { fault_name };
+
+    ghost place_of = { λ _. None };
+
+    fn number(&self) -> u8 {
+        match self {
+            EditFault::GenerationTooFar => 40,
+            EditFault::CellOutOfRange => 41,
+            EditFault::CellStateTooHigh => 42,
+            EditFault::NoSuchIntervention => 43,
+            EditFault::NoSuchBookmark => 44,
+            EditFault::TooManyInterventions => 45,
+            EditFault::TooManyBookmarks => 46,
+            EditFault::TooManyCells => 47,
+            EditFault::BadWindow => 48,
+            EditFault::RevisionSpent => 49,
+            EditFault::NoMemory => 70,
+        }
+    }
+
+    fn name(&self) -> &'static str {
+        match self {
+            EditFault::GenerationTooFar => "GenerationTooFar",
+            EditFault::CellOutOfRange => "CellOutOfRange",
+            EditFault::CellStateTooHigh => "CellStateTooHigh",
+            EditFault::NoSuchIntervention => "NoSuchIntervention",
+            EditFault::NoSuchBookmark => "NoSuchBookmark",
+            EditFault::TooManyInterventions => "TooManyInterventions",
+            EditFault::TooManyBookmarks => "TooManyBookmarks",
+            EditFault::TooManyCells => "TooManyCells",
+            EditFault::BadWindow => "BadWindow",
+            EditFault::RevisionSpent => "RevisionSpent",
+            EditFault::NoMemory => "NoMemory",
+        }
+    }
+
+    fn place(&self) -> Option<u64> {
+        None
+    }
+}
