@@ -1,0 +1,190 @@
+-- What lines ask.
+use Rattle.std.proofs.Common.{◌≡◌, ℕ, ◌+◌, List, [], ◌∷◌, ◌++◌, length, Bool, true, false, sym, ◌∙◌, ap, refl, append_assoc, append-nil, arith, subst, Option, Result, Ok, Err, IfOk, OnErr}
+use Rattle.std.proofs.KnownBytes.{Consumes-trans}
+use Rattle.text_lines.specs.Lines.{End, Ended, Broken, Line, lines_until}
+use Rattle.script_lines.specs.ScriptLine.{NoneEnds, raw_bytes, is_end, is_passed_over}
+use Rattle.script_lines.specs.Script.{Follows, LineTaken, EndsHere, StopsInLine, TextTaken, NoEndAmong, ReadsText}
+use Rattle.script_lines.specs.declared.script.TextFound.{TextFound}
+use Rattle.script_lines.specs.declared.script.TextFound.TheVariants as found_text
+use Rattle.script_lines.specs.declared.kept_line.KeptLine.{KeptLine}
+use Rattle.std.specs.Io.KnownBytes.{IsAtEnd}
+use Rattle.desk_server.specs.Command.{command_of, takes_text}
+use Rattle.desk_server.specs.Answer.{Say, Tell, NoEnd}
+use Rattle.desk_server.specs.Script.{asks, Between, InText, without_end}
+use Rattle.desk_server.specs.Heard.{Asked, Hears, BreaksOff}
+use Rattle.desk_server.specs.declared.heard.What.{What}
+use Rattle.desk_server.specs.declared.heard.What.TheVariants as what
+
+-- lines up to one that is `end` are the text
+asks-text : (stop : End) (at : ℕ) (kept : List ℕ) (n : ℕ) (lines : List Line) (closing : Line) (rest : List Line) → NoneEnds lines → is_end closing.says ≡ true
+    → asks stop (InText at kept) n (lines ++ closing ∷ rest) ≡ Tell (kept ++ raw_bytes lines) ∷ asks stop Between (n + length lines + 1) rest
+asks-text stop at kept n [] closing rest inside ends = rw ends (ap (λ t. Tell t ∷ asks stop Between (n + 1) rest) (sym (append-nil kept)) ∙ ap (λ m. Tell (kept ++ []) ∷ asks stop Between m rest) (omega arith))
+asks-text stop at kept n (line ∷ lines) closing rest inside ends =
+    rw inside.0 (asks-text stop at (kept ++ line.raw) (n + 1) lines closing rest inside.1 ends
+    ∙ ap (λ t. Tell t ∷ asks stop Between (n + 1 + length lines + 1) rest) (append_assoc kept line.raw (raw_bytes lines))
+    ∙ ap (λ m. Tell (kept ++ (line.raw ++ raw_bytes lines)) ∷ asks stop Between m rest) (omega arith))
+
+-- where none is `end`, the text has no end
+asks-open_text : (stop : End) (at : ℕ) (kept : List ℕ) (n : ℕ) (lines : List Line) → NoneEnds lines → asks stop (InText at kept) n lines ≡ without_end stop at
+asks-open_text stop at kept n [] inside = refl
+asks-open_text stop at kept n (line ∷ lines) inside = rw inside.0 (asks-open_text stop at (kept ++ line.raw) (n + 1) lines inside.1)
+
+-- one line, and what follows it
+asks-passed : (stop : End) (n : ℕ) (line : Line) (rest : List Line) → is_passed_over line.says ≡ true → asks stop Between n (line ∷ rest) ≡ asks stop Between (n + 1) rest
+asks-passed stop n line rest passed = rw passed refl
+
+asks-command : (stop : End) (n : ℕ) (line : Line) (rest : List Line) → is_passed_over line.says ≡ false → takes_text (command_of line.says) ≡ false
+    → asks stop Between n (line ∷ rest) ≡ Say n (command_of line.says) ∷ asks stop Between (n + 1) rest
+asks-command stop n line rest passed text = rw passed (rw text refl)
+
+asks-text_command : (stop : End) (n : ℕ) (line : Line) (rest : List Line) → is_passed_over line.says ≡ false → takes_text (command_of line.says) ≡ true
+    → asks stop Between n (line ∷ rest) ≡ asks stop (InText n []) (n + 1) rest
+asks-text_command stop n line rest passed text = rw passed (rw text refl)
+
+-- a line that begins no text
+pub hears-nothing : (old new : Option (List ℕ)) (kept : KeptLine) (last : Bool) (n : ℕ) → (t : LineTaken last old new kept) → is_passed_over t.line.says ≡ true → Hears old new Between what.Nothing last n n (n + 1)
+hears-nothing old new kept last n t passed = record {
+  bytes = t.line.raw;
+  asked = [];
+  consumed = t.consumed;
+  law = λ stop more f. ap (asks stop Between n) (t.law stop more f) ∙ asks-passed stop n t.line (lines_until stop more) passed;
+  is = refl;
+  at_end = t.at_end;
+}
+
+pub hears-command : (old new : Option (List ℕ)) (kept : KeptLine) (last : Bool) (what : What) (n : ℕ) → (t : LineTaken last old new kept) → is_passed_over t.line.says ≡ false → takes_text (command_of t.line.says) ≡ false
+    → Asked what n (Say n (command_of t.line.says) ∷ []) → Hears old new Between what last n n (n + 1)
+hears-command old new kept last what n t passed text is = record {
+  bytes = t.line.raw;
+  asked = Say n (command_of t.line.says) ∷ [];
+  consumed = t.consumed;
+  law = λ stop more f. ap (asks stop Between n) (t.law stop more f) ∙ asks-command stop n t.line (lines_until stop more) passed text;
+  is = is;
+  at_end = t.at_end;
+}
+
+-- anything may follow a line that isn't the last
+pub follows-any : (last : Bool) (stop : End) (more : List ℕ) → last ≡ false → Follows last stop more
+follows-any false stop more e = tt
+follows-any true stop more e = absurd (cc)
+
+-- the command of a text
+pub hears-text : (old mid new : Option (List ℕ)) (kept : KeptLine) (first : Bool) (what : What) (last : Bool) (line n m : ℕ) → first ≡ false → (t : LineTaken first old mid kept) → is_passed_over t.line.says ≡ false → takes_text (command_of t.line.says) ≡ true
+    → Hears mid new (InText n []) what last line (n + 1) m → Hears old new Between what last line n m
+hears-text old mid new kept first what last line n m e t passed text h = record {
+  bytes = t.line.raw ++ h.bytes;
+  asked = h.asked;
+  consumed = Consumes-trans old mid new t.line.raw h.bytes t.consumed h.consumed;
+  law = λ stop more f.
+      ap (λ v. asks stop Between n (lines_until stop v)) (append_assoc t.line.raw h.bytes more)
+      ∙ ap (asks stop Between n) (t.law stop (h.bytes ++ more) (follows-any first stop (h.bytes ++ more) e))
+      ∙ asks-text_command stop n t.line (lines_until stop (h.bytes ++ more)) passed text
+      ∙ h.law stop more f;
+  is = h.is;
+  at_end = h.at_end;
+}
+
+pub breaks-text : (old mid new : Option (List ℕ)) (kept : KeptLine) (first : Bool) (n : ℕ) → first ≡ false → (t : LineTaken first old mid kept) → is_passed_over t.line.says ≡ false → takes_text (command_of t.line.says) ≡ true
+    → BreaksOff mid new (InText n []) (n + 1) → BreaksOff old new Between n
+breaks-text old mid new kept first n e t passed text b = record {
+  bytes = t.line.raw ++ b.bytes;
+  consumed = Consumes-trans old mid new t.line.raw b.bytes t.consumed b.consumed;
+  law = ap (asks Broken Between n) (t.law Broken b.bytes (follows-any first Broken b.bytes e)) ∙ asks-text_command Broken n t.line (lines_until Broken b.bytes) passed text ∙ b.law;
+}
+
+-- nothing follows the command of a text
+nothing-follows : (stop : End) (n m : ℕ) (more : List ℕ) → Follows true stop more → asks stop (InText n []) m (lines_until stop more) ≡ NoEnd n ∷ asks stop Between m (lines_until stop more)
+nothing-follows stop n m more f =
+    ap (λ v. asks stop (InText n []) m (lines_until stop v)) f.1
+    ∙ ap (λ s. asks s (InText n []) m (lines_until s [])) f.0
+    ∙ sym (ap (λ s. NoEnd n ∷ asks s Between m (lines_until s [])) f.0)
+    ∙ sym (ap (λ v. NoEnd n ∷ asks stop Between m (lines_until stop v)) f.1)
+
+pub hears-last_text : (old new : Option (List ℕ)) (kept : KeptLine) (n : ℕ) → (t : LineTaken true old new kept) → is_passed_over t.line.says ≡ false → takes_text (command_of t.line.says) ≡ true
+    → Hears old new Between what.NoEnd true n n (n + 1)
+hears-last_text old new kept n t passed text = record {
+  bytes = t.line.raw;
+  asked = NoEnd n ∷ [];
+  consumed = t.consumed;
+  law = λ stop more f.
+      ap (asks stop Between n) (t.law stop more f) ∙ asks-text_command stop n t.line (lines_until stop more) passed text
+      ∙ nothing-follows stop n (n + 1) more f;
+  is = refl;
+  at_end = t.at_end;
+}
+
+-- a text with its end
+hears-whole_text : (text : Option (List ℕ)) (old new : Option (List ℕ)) (last : Bool) (n m : ℕ) → TextTaken last text old new n m → Hears old new (InText n []) (what.Tells text) last n (n + 1) (m + 1)
+hears-whole_text text old new last n m t = record {
+  bytes = raw_bytes t.lines ++ t.closing.raw;
+  asked = Tell (raw_bytes t.lines) ∷ [];
+  consumed = t.consumed;
+  law = λ stop more f.
+      ap (asks stop (InText n []) (n + 1)) (t.law stop more f)
+      ∙ asks-text stop n [] (n + 1) t.lines t.closing (lines_until stop more) t.inside t.ends
+      ∙ ap (λ k. Tell (raw_bytes t.lines) ∷ asks stop Between k (lines_until stop more)) (omega (arith, t.number));
+  is = (raw_bytes t.lines, refl, t.is);
+  at_end = t.at_end;
+}
+
+-- a text without one
+open-law : (stop : End) (n k m : ℕ) (bytes more : List ℕ) → NoneEnds (lines_until Ended bytes) → Follows true stop more
+    → asks stop (InText n []) k (lines_until stop (bytes ++ more)) ≡ NoEnd n ∷ asks stop Between m (lines_until stop more)
+open-law stop n k m bytes more inside f =
+    ap (λ v. asks stop (InText n []) k (lines_until stop (bytes ++ v))) f.1
+    ∙ ap (λ v. asks stop (InText n []) k (lines_until stop v)) (append-nil bytes)
+    ∙ ap (λ s. asks s (InText n []) k (lines_until s bytes)) f.0
+    ∙ asks-open_text Ended n [] k (lines_until Ended bytes) inside
+    ∙ sym (ap (λ s. NoEnd n ∷ asks s Between m (lines_until s [])) f.0)
+    ∙ sym (ap (λ v. NoEnd n ∷ asks stop Between m (lines_until stop v)) f.1)
+
+hears-open_text : (old new : Option (List ℕ)) (n m : ℕ) → NoEndAmong Ended old new → IsAtEnd new → Hears old new (InText n []) what.NoEnd true n (n + 1) m
+hears-open_text old new n m t end = record {
+  bytes = t.bytes;
+  asked = NoEnd n ∷ [];
+  consumed = t.consumed;
+  law = λ stop more f. open-law stop n (n + 1) m t.bytes more t.inside f;
+  is = refl;
+  at_end = λ _. end;
+}
+
+pub reads-ended : (found : TextFound) (text : Option (List ℕ)) (last : Bool) (old new : Option (List ℕ)) (n m : ℕ) → found ≡ found_text.Ended text last → ReadsText found old new n m → Hears old new (InText n []) (what.Tells text) last n (n + 1) (m + 1)
+reads-ended found text last old new n m e h = hears-whole_text text old new last n m (subst (λ f. ReadsText f old new n m) e h)
+
+pub reads-open : (found : TextFound) (old new : Option (List ℕ)) (n m : ℕ) → found ≡ found_text.NoEnd → ReadsText found old new n m → Hears old new (InText n []) what.NoEnd true n (n + 1) (m + 1)
+reads-open found old new n m e h = let parts = subst (λ f. ReadsText f old new n m) e h in hears-open_text old new n (m + 1) parts.0 parts.1
+
+pub breaks-open_text : (old new : Option (List ℕ)) (n : ℕ) → NoEndAmong Broken old new → BreaksOff old new (InText n []) (n + 1)
+breaks-open_text old new n t = record {
+  bytes = t.bytes;
+  consumed = t.consumed;
+  law = asks-open_text Broken n [] (n + 1) (lines_until Broken t.bytes) t.inside;
+}
+
+-- the reading broke off within a line
+pub breaks-line : (old new : Option (List ℕ)) (n : ℕ) → StopsInLine old new → BreaksOff old new Between n
+breaks-line old new n s = record { bytes = s.seen; consumed = s.consumed; law = ap (asks Broken Between n) s.none }
+
+-- the script is at its end
+pub hears-end : (old new : Option (List ℕ)) (line n m : ℕ) → EndsHere old new → Hears old new Between what.Nothing true line n m
+hears-end old new line n m e = record {
+  bytes = [];
+  asked = [];
+  consumed = e.0;
+  law = λ stop more f.
+      ap (λ v. asks stop Between n (lines_until stop v)) f.1
+      ∙ ap (λ s. asks s Between n (lines_until s [])) f.0
+      ∙ sym (ap (λ s. asks s Between m (lines_until s [])) f.0)
+      ∙ sym (ap (λ v. asks stop Between m (lines_until stop v)) f.1);
+  is = refl;
+  at_end = λ _. e.1;
+}
+
+-- what follows from a clause
+pub if_ok_map : {T E : Type 0} (r : Result T E) (P Q : T → Type 0) → ((x : T) → P x → Q x) → IfOk r P → IfOk r Q
+if_ok_map (Ok x) P Q f h = f x h
+if_ok_map (Err e) P Q f h = tt
+
+pub on_err_map : {T E : Type 0} (r : Result T E) (P Q : Type 0) → (P → Q) → OnErr r P → OnErr r Q
+on_err_map (Ok x) P Q f h = tt
+on_err_map (Err e) P Q f h = f h

@@ -1,0 +1,6 @@
+pub mod Prepends
+pub mod Wants
+pub mod Hearing
+pub mod Replies
+pub mod Parts
+pub mod Rounds

@@ -1,0 +1,198 @@
+-- One command after another.
+use Rattle.std.proofs.Common.{◌≡◌, ◌≢◌, ℕ, List, [], ◌∷◌, ◌++◌, Bool, true, false, cond, sym, ◌∙◌, ap, refl, append_assoc, append-nil, subst, Option, Some, None, IfSome}
+use Rattle.std.proofs.KnownBytes.{Appends-nil, Appends-trans, Consumes-nil, Consumes-trans}
+use Rattle.std.specs.Io.KnownBytes.{Consumes, Appends, IsAtEnd}
+use Rattle.text_lines.specs.Lines.{End, Ended, Broken, lines_until}
+use Rattle.script_lines.specs.Faults.{AppendsFront}
+use Rattle.script_lines.specs.Script.{Follows}
+use Rattle.script_lines.proofs.Told.{front_first, front_then}
+use Rattle.schedule.specs.Plan.{Plan, opening}
+use Rattle.desk_core.specs.Rows.{Known}
+use Rattle.desk_server.specs.Answer.{Ask, After, Want, answer}
+use Rattle.desk_server.specs.Script.{asks, Between, replies_to, replies_by, replies_with}
+use Rattle.desk_server.specs.Told.{text_of, ends}
+use Rattle.desk_server.specs.Heard.{Hears, Served, BreaksOff}
+use Rattle.desk_server.specs.Run.{Answers, Finishes, StopsTelling, AnswersWhole, AnswersAll, AnswersFront}
+use Rattle.desk_server.specs.declared.heard.What.{What}
+use Rattle.desk_server.specs.declared.reply.Reply.{Reply}
+use Rattle.desk_server.specs.declared.reply.Reply.TheVariants as reply
+use Rattle.desk_server.proofs.Hearing.{follows-any}
+
+pub ends-other : (r : Reply) → r ≢ reply.Bye → ends r ≡ false
+ends-other (reply.Accepted edited) h = refl
+ends-other reply.Settled h = refl
+ends-other (reply.Unsettled pending cause) h = refl
+ends-other (reply.Shown id) h = refl
+ends-other (reply.Refused number name place) h = refl
+ends-other reply.Bye h = absurd (h refl)
+
+-- nothing is left of what is at its end
+at_end_nil : (new : Option (List ℕ)) (rest : List ℕ) → IsAtEnd new → new ≡ Some rest → rest ≡ []
+at_end_nil None rest h e = absurd (cc)
+at_end_nil (Some x) rest h e = let same : x ≡ rest = cc in sym same ∙ h
+
+follows_nothing : (last : Bool) (new : Option (List ℕ)) (rest : List ℕ) → (last ≡ true → IsAtEnd new) → new ≡ Some rest → Follows last Ended rest
+follows_nothing false new rest h e = tt
+follows_nothing true new rest h e = (refl, at_end_nil new rest (h refl) e)
+
+-- the reply to one command, and those to the rest
+after_is : (want : Want) (p : Plan) (ask : Ask) (r : Reply) (k : Known) → answer want p ask ≡ record { told = text_of k r; plan = k.plan; ends = ends r } → (rest : List Ask) (later : List Want)
+    → replies_to p (ask ∷ rest) (want ∷ later) ≡ text_of k r ++ cond (ends r) [] (replies_to k.plan rest later)
+after_is want p ask r k e rest later = ap (λ (a : After). a.told ++ cond a.ends [] (replies_to a.plan rest later)) e
+
+-- nothing was asked
+pub goes_on_silent : (old new told : Option (List ℕ)) (what : What) (last : Bool) (line : ℕ) (j k : Known) (n m : ℕ) → last ≡ false
+    → (h : Hears old new Between what last line n m) → Served None h.asked j k → Answers old new told told j.plan k.plan n m
+goes_on_silent old new told what last line j k n m e h s = record {
+  bytes = h.bytes;
+  wants = [];
+  told = [];
+  consumed = h.consumed;
+  wrote = Appends-nil told;
+  law = λ stop more later. ap (λ v. replies_to j.plan v later) (h.law stop more (follows-any last stop more e) ∙ ap (λ v. v ++ asks stop Between m (lines_until stop more)) s.0)
+      ∙ ap (λ q. replies_to q (asks stop Between m (lines_until stop more)) later) (sym s.1);
+}
+
+pub done_silent : (old new told : Option (List ℕ)) (what : What) (last : Bool) (line : ℕ) (j k : Known) (n m : ℕ) → last ≡ true
+    → (h : Hears old new Between what last line n m) → Served None h.asked j k → Finishes old new told told j.plan n
+done_silent old new told what last line j k n m e h s = record {
+  bytes = h.bytes;
+  wants = [];
+  consumed = h.consumed;
+  told = [];
+  wrote = Appends-nil told;
+  law = λ rest x. ap (λ v. replies_to j.plan v []) (h.law Ended rest (follows_nothing last new rest h.at_end x) ∙ ap (λ v. v ++ asks Ended Between m (lines_until Ended rest)) s.0
+      ∙ ap (λ v. asks Ended Between m (lines_until Ended v)) (at_end_nil new rest (h.at_end e) x));
+}
+
+-- the replies from here on, where a reply was found
+replies_from : (old new : Option (List ℕ)) (what : What) (last : Bool) (line : ℕ) (j k : Known) (n m : ℕ) (r : Reply)
+    → (h : Hears old new Between what last line n m) → (s : Served (Some r) h.asked j k) → (stop : End) (more : List ℕ) (later : List Want) → Follows last stop more
+    → replies_to j.plan (asks stop Between n (lines_until stop (h.bytes ++ more))) (s.1 ∷ later) ≡ text_of k r ++ cond (ends r) [] (replies_to k.plan (asks stop Between m (lines_until stop more)) later)
+replies_from old new what last line j k n m r h s stop more later f =
+    ap (λ v. replies_to j.plan v (s.1 ∷ later)) (h.law stop more f ∙ ap (λ v. v ++ asks stop Between m (lines_until stop more)) s.2) ∙ after_is s.1 j.plan s.0 r k s.3 (asks stop Between m (lines_until stop more)) later
+
+pub goes_on_told : (old new before after : Option (List ℕ)) (what : What) (last : Bool) (line : ℕ) (j k : Known) (n m : ℕ) (r : Reply) → last ≡ false → r ≢ reply.Bye
+    → (h : Hears old new Between what last line n m) → Served (Some r) h.asked j k → Appends before after (text_of k r) → Answers old new before after j.plan k.plan n m
+goes_on_told old new before after what last line j k n m r e b h s w = record {
+  bytes = h.bytes;
+  wants = s.1 ∷ [];
+  told = text_of k r;
+  consumed = h.consumed;
+  wrote = w;
+  law = λ stop more later. replies_from old new what last line j k n m r h s stop more later (follows-any last stop more e)
+      ∙ ap (λ v. text_of k r ++ cond v [] (replies_to k.plan (asks stop Between m (lines_until stop more)) later)) (ends-other r b);
+}
+
+nothing_more : (v : Bool) (t : List ℕ) → t ++ cond v [] [] ≡ t
+nothing_more true t = append-nil t
+nothing_more false t = append-nil t
+
+pub done_last : (old new before after : Option (List ℕ)) (what : What) (last : Bool) (line : ℕ) (j k : Known) (n m : ℕ) (r : Reply) → last ≡ true
+    → (h : Hears old new Between what last line n m) → Served (Some r) h.asked j k → Appends before after (text_of k r) → Finishes old new before after j.plan n
+done_last old new before after what last line j k n m r e h s w = record {
+  bytes = h.bytes;
+  wants = s.1 ∷ [];
+  consumed = h.consumed;
+  told = text_of k r;
+  wrote = w;
+  law = λ rest x. replies_from old new what last line j k n m r h s Ended rest [] (follows_nothing last new rest h.at_end x)
+      ∙ ap (λ v. text_of k r ++ cond (ends r) [] (replies_to k.plan (asks Ended Between m (lines_until Ended v)) [])) (at_end_nil new rest (h.at_end e) x) ∙ nothing_more (ends r) (text_of k r);
+}
+
+pub done_bye : (old new before after : Option (List ℕ)) (what : What) (last : Bool) (line : ℕ) (j k : Known) (n m : ℕ) (r : Reply) → r ≡ reply.Bye
+    → (h : Hears old new Between what last line n m) → Served (Some r) h.asked j k → Appends before after (text_of k r) → Finishes old new before after j.plan n
+done_bye old new before after what last line j k n m r b h s w = record {
+  bytes = h.bytes;
+  wants = s.1 ∷ [];
+  consumed = h.consumed;
+  told = text_of k r;
+  wrote = w;
+  law = λ rest x. replies_from old new what last line j k n m r h s Ended rest [] (follows_nothing last new rest h.at_end x)
+      ∙ ap (λ v. text_of k r ++ cond (ends v) [] (replies_to k.plan (asks Ended Between m (lines_until Ended rest)) [])) b ∙ append-nil (text_of k r);
+}
+
+pub stops_telling : (old new before after : Option (List ℕ)) (what : What) (last : Bool) (line : ℕ) (j k : Known) (n m : ℕ) (r : Reply)
+    → (h : Hears old new Between what last line n m) → Served (Some r) h.asked j k → AppendsFront before after (text_of k r) → StopsTelling old new before after j.plan n
+stops_telling old new before after what last line j k n m r h s w = record {
+  bytes = h.bytes;
+  wants = s.1 ∷ [];
+  consumed = h.consumed;
+  law = λ rest x. subst (AppendsFront before after) (sym (replies_from old new what last line j k n m r h s Ended rest [] (follows_nothing last new rest h.at_end x)))
+      (front_first before after (text_of k r) (cond (ends r) [] (replies_to k.plan (asks Ended Between m (lines_until Ended rest)) [])) w);
+}
+
+-- what was answered, and then what was answered next
+pub answers_answers : (a b c x y z : Option (List ℕ)) (p q s : Plan) (n m k : ℕ) → Answers a b x y p q n m → Answers b c y z q s m k → Answers a c x z p s n k
+answers_answers a b c x y z p q s n m k f g = record {
+  bytes = f.bytes ++ g.bytes;
+  wants = f.wants ++ g.wants;
+  told = f.told ++ g.told;
+  consumed = Consumes-trans a b c f.bytes g.bytes f.consumed g.consumed;
+  wrote = Appends-trans x y z f.told g.told f.wrote g.wrote;
+  law = λ stop more later.
+      ap (λ v. replies_to p (asks stop Between n (lines_until stop v)) ((f.wants ++ g.wants) ++ later)) (append_assoc f.bytes g.bytes more)
+      ∙ ap (replies_to p (asks stop Between n (lines_until stop (f.bytes ++ (g.bytes ++ more))))) (append_assoc f.wants g.wants later)
+      ∙ f.law stop (g.bytes ++ more) (g.wants ++ later) ∙ ap (λ v. f.told ++ v) (g.law stop more later) ∙ sym (append_assoc f.told g.told (replies_to s (asks stop Between k (lines_until stop more)) later));
+}
+
+pub answers_finishes : (a b c x y z : Option (List ℕ)) (p q : Plan) (n m : ℕ) → Answers a b x y p q n m → Finishes b c y z q m → Finishes a c x z p n
+answers_finishes a b c x y z p q n m f g = record {
+  bytes = f.bytes ++ g.bytes;
+  wants = f.wants ++ g.wants;
+  consumed = Consumes-trans a b c f.bytes g.bytes f.consumed g.consumed;
+  told = f.told ++ g.told;
+  wrote = Appends-trans x y z f.told g.told f.wrote g.wrote;
+  law = λ rest e.
+      ap (λ v. replies_to p (asks Ended Between n (lines_until Ended v)) (f.wants ++ g.wants)) (append_assoc f.bytes g.bytes rest)
+      ∙ f.law Ended (g.bytes ++ rest) g.wants ∙ ap (λ v. f.told ++ v) (g.law rest e);
+}
+
+pub answers_stops : (a b c x y z : Option (List ℕ)) (p q : Plan) (n m : ℕ) → Answers a b x y p q n m → StopsTelling b c y z q m → StopsTelling a c x z p n
+answers_stops a b c x y z p q n m f g = record {
+  bytes = f.bytes ++ g.bytes;
+  wants = f.wants ++ g.wants;
+  consumed = Consumes-trans a b c f.bytes g.bytes f.consumed g.consumed;
+  law = λ rest e.
+      let same = ap (λ v. replies_to p (asks Ended Between n (lines_until Ended v)) (f.wants ++ g.wants)) (append_assoc f.bytes g.bytes rest) ∙ f.law Ended (g.bytes ++ rest) g.wants in
+      subst (AppendsFront x z) (sym same) (front_then x y z f.told (replies_to q (asks Ended Between m (lines_until Ended (g.bytes ++ rest))) g.wants) f.wrote (g.law rest e));
+}
+
+pub answers_breaks : (a b c x y : Option (List ℕ)) (q : Plan) (m : ℕ) → Answers a b x y (opening 0) q 1 m → BreaksOff b c Between m → AnswersWhole a c x y
+answers_breaks a b c x y q m f g =
+    let all : replies_by Broken (f.bytes ++ g.bytes) (f.wants ++ []) ≡ f.told
+    = f.law Broken g.bytes [] ∙ ap (λ v. f.told ++ replies_to q v []) g.law ∙ append-nil f.told in
+    record {
+      read = f.bytes ++ g.bytes;
+      wants = f.wants ++ [];
+      consumed = Consumes-trans a b c f.bytes g.bytes f.consumed g.consumed;
+      wrote = subst (Appends x y) (sym all) f.wrote;
+    }
+
+-- at the beginning
+pub answers_none : (a b x : Option (List ℕ)) (p q : Plan) (n : ℕ) → b ≡ a → q ≡ p → Answers a b x x p q n n
+answers_none a b x p q n e same = record {
+  bytes = [];
+  wants = [];
+  told = [];
+  consumed = subst (λ o. Consumes a o []) (sym e) (Consumes-nil a);
+  wrote = Appends-nil x;
+  law = λ stop more later. ap (λ r. replies_to r (asks stop Between n (lines_until stop more)) later) (sym same);
+}
+
+-- at the end
+pub finishes_all : (a c x z : Option (List ℕ)) → Finishes a c x z (opening 0) 1 → IfSome a (AnswersAll x z)
+finishes_all None c x z f = tt
+finishes_all (Some script) None x z f = absurd f.consumed
+finishes_all (Some script) (Some rest) x z f = record {
+  wants = f.wants;
+  wrote = subst (Appends x z) (sym (ap (λ v. replies_with v f.wants) f.consumed ∙ f.law rest refl)) f.wrote;
+}
+
+pub stops_front : (a c x z : Option (List ℕ)) → StopsTelling a c x z (opening 0) 1 → IfSome a (AnswersFront x z)
+stops_front None c x z f = tt
+stops_front (Some script) None x z f = absurd f.consumed
+stops_front (Some script) (Some rest) x z f = record {
+  wants = f.wants;
+  wrote = subst (λ v. AppendsFront x z (replies_with v f.wants)) (sym f.consumed) (f.law rest refl);
+}

@@ -1,0 +1,123 @@
+-- Which commands can meet want of memory.
+use Rattle.std.proofs.Common.{◌≡◌, ℕ, ◌-◌, ◌^◌, ◌≤◌, ◌<◌, List, [], ◌∷◌, length, Bool, true, false, cond, codes, ap, refl, arith, Option, Some, None}
+use Rattle.std.specs.List.{join_with_byte}
+use Rattle.std.specs.Str.{bytes_eq}
+use Rattle.std.proofs.lemmas.Slice.Eq.{bytes_eq-Decides}
+use Rattle.script_lines.specs.Words.{words, squashed}
+use Rattle.plane_core.specs.declared.cell.CellSet.{CellSet}
+use Rattle.bookmarks.specs.declared.view.View.TheVariants.{Counts}
+use Rattle.schedule.specs.declared.document.Bookmark.{Bookmark}
+use Rattle.schedule.specs.Plan.{Plan}
+use Rattle.desk_core.specs.Rows.{bookmark_in}
+use Rattle.desk_server.specs.Command.{up_to, cells_of, command_of, command_of_words, command_by, verb_of, alone, set_of, mark_of, mark_at, show_of, show_by}
+use Rattle.desk_server.specs.Answer.{shown, no_memory, Memory, MayWant}
+use Rattle.desk_server.specs.declared.command.Verb.{Verb}
+use Rattle.desk_server.specs.declared.command.Verb.TheVariants as verb
+use Rattle.desk_server.specs.declared.command.Command.{Command}
+use Rattle.desk_server.specs.declared.command.Command.TheVariants.{Rule, Set, Mark, Settle, Show, Quit, Bad}
+
+-- the commands whose words are fixed
+abbrev is_fixed : Command → Bool
+is_fixed Rule = true
+is_fixed (Set cells) = false
+is_fixed (Mark g view) = false
+is_fixed Settle = true
+is_fixed (Show id) = false
+is_fixed Quit = true
+is_fixed Bad = false
+
+-- and the first words of such
+abbrev is_fixed_verb : Verb → Bool
+is_fixed_verb verb.Rule = true
+is_fixed_verb verb.Set = false
+is_fixed_verb verb.Mark = false
+is_fixed_verb verb.Settle = true
+is_fixed_verb verb.Show = false
+is_fixed_verb verb.Quit = true
+is_fixed_verb verb.Other = false
+
+shown-wants : (p : Plan) (id : ℕ) (b : Option Bookmark) → shown Memory p id b ≡ no_memory p
+shown-wants p id None = refl
+shown-wants p id (Some b) = refl
+
+other-wants : (command : Command) → is_fixed command ≡ false → MayWant command
+other-wants Rule h = absurd (cc)
+other-wants (Set cells) h = (refl, λ line p. refl)
+other-wants (Mark g view) h = (refl, λ line p. refl)
+other-wants Settle h = absurd (cc)
+other-wants (Show id) h = (refl, λ line p. shown-wants p id (bookmark_in p.bookmarks id))
+other-wants Quit h = absurd (cc)
+other-wants Bad h = (refl, λ line p. refl)
+
+set-open : (o : Option (List CellSet)) → is_fixed (set_of o) ≡ false
+set-open None = refl
+set-open (Some []) = refl
+set-open (Some (c ∷ cs)) = refl
+
+-- setting cells can meet it
+pub set-wants : (o : Option (List CellSet)) → MayWant (set_of o)
+set-wants o = other-wants (set_of o) (set-open o)
+
+mark_at-open : (o : Option ℕ) → is_fixed (mark_at o Counts) ≡ false
+mark_at-open None = refl
+mark_at-open (Some n) = refl
+
+mark-open : (ws : List (List ℕ)) → is_fixed (mark_of ws) ≡ false
+mark-open [] = refl
+mark-open (g ∷ []) = refl
+mark-open (g ∷ view ∷ []) = elim (bytes_eq view (codes "counts")) as (λ v. is_fixed (cond v (mark_at (up_to (2 ^ 64 - 1) g) Counts) Bad) ≡ false) [ true ↦ mark_at-open (up_to (2 ^ 64 - 1) g) | false ↦ refl ]
+mark-open (g ∷ view ∷ w ∷ rest) = refl
+
+show_by-open : (o : Option ℕ) → is_fixed (show_by o) ≡ false
+show_by-open None = refl
+show_by-open (Some n) = refl
+
+show-open : (ws : List (List ℕ)) → is_fixed (show_of ws) ≡ false
+show-open [] = refl
+show-open (id ∷ []) = show_by-open (up_to (2 ^ 64 - 1) id)
+show-open (id ∷ w ∷ rest) = refl
+
+-- a command of fixed words is one word
+alone-fixed : (command : Command) (rest : List (List ℕ)) → is_fixed (alone command rest) ≡ true → rest ≡ []
+alone-fixed command [] h = refl
+alone-fixed command (w ∷ rest) h = absurd (cc)
+
+by-fixed : (v : Verb) (rest : List (List ℕ)) → is_fixed (command_by v rest) ≡ true → (is_fixed_verb v ≡ true) × (rest ≡ [])
+by-fixed verb.Rule rest h = (refl, alone-fixed Rule rest h)
+by-fixed verb.Set rest h = absurd (cc (h, set-open (cells_of rest)))
+by-fixed verb.Mark rest h = absurd (cc (h, mark-open rest))
+by-fixed verb.Settle rest h = (refl, alone-fixed Settle rest h)
+by-fixed verb.Show rest h = absurd (cc (h, show-open rest))
+by-fixed verb.Quit rest h = (refl, alone-fixed Quit rest h)
+by-fixed verb.Other rest h = absurd (cc)
+
+chosen : (n : ℕ) (p q r s t u : Bool) → (p ≡ true → n ≤ 64) → (s ≡ true → n ≤ 64) → (u ≡ true → n ≤ 64)
+    → is_fixed_verb (cond p verb.Rule (cond q verb.Set (cond r verb.Mark (cond s verb.Settle (cond t verb.Show (cond u verb.Quit verb.Other)))))) ≡ true → n ≤ 64
+chosen n true q r s t u a b c h = a refl
+chosen n false true r s t u a b c h = absurd (cc)
+chosen n false false true s t u a b c h = absurd (cc)
+chosen n false false false true t u a b c h = b refl
+chosen n false false false false true u a b c h = absurd (cc)
+chosen n false false false false false true a b c h = c refl
+chosen n false false false false false false a b c h = absurd (cc)
+
+short : (word text : List ℕ) → length text ≤ 64 → bytes_eq word text ≡ true → length word ≤ 64
+short word text h e = omega (arith, ap length ((bytes_eq-Decides word text).0 e))
+
+verb-short : (word : List ℕ) → is_fixed_verb (verb_of word) ≡ true → length word ≤ 64
+verb-short word h =
+    chosen (length word) (bytes_eq word (codes "rule")) (bytes_eq word (codes "set")) (bytes_eq word (codes "mark")) (bytes_eq word (codes "settle")) (bytes_eq word (codes "show")) (bytes_eq word (codes "quit"))
+    (short word (codes "rule") (omega arith)) (short word (codes "settle") (omega arith)) (short word (codes "quit") (omega arith)) h
+
+words-short : (ws : List (List ℕ)) → is_fixed (command_of_words ws) ≡ true → length (join_with_byte 32 ws) ≤ 64
+words-short [] h = absurd (cc)
+words-short (word ∷ []) h = verb-short word (by-fixed (verb_of word) [] h).0
+words-short (word ∷ w ∷ rest) h = absurd (let none = (by-fixed (verb_of word) (w ∷ rest) h).1 in cc)
+
+-- a long line can meet it
+pub long-wants : (says : List ℕ) → 64 < length (squashed says) → MayWant (command_of says)
+long-wants says long = other-wants (command_of says) (go (is_fixed (command_of says)) refl)
+  where
+    go : (v : Bool) → is_fixed (command_of says) ≡ v → is_fixed (command_of says) ≡ false
+    go false e = e
+    go true e = absurd (omega (arith, long, words-short (words says) e))

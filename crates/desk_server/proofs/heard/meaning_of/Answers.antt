@@ -1,0 +1,6 @@
+use Rattle.std.proofs.Common.{sym}
+use Rattle.desk_server.proofs.Wants.{long-wants}
+use Rattle.desk_server.proofs.heard.meaning_of.Goals as goal
+
+pub returns-in_default : goal.returns-in_default
+returns-in_default c = λ says s. (sym (c.if-is_passed_over.ensures says s), long-wants says (c.in_default.ensures says s))

@@ -1,0 +1,9 @@
+pub mod Command
+pub mod Cells
+pub mod Faults
+pub mod Reply
+pub mod Answer
+pub mod Script
+pub mod Told
+pub mod Heard
+pub mod Run

@@ -1,0 +1,92 @@
+//! What the desk does when something is asked.
+ghost use Rattle.std.specs.Prelude.{◌≡◌, List};
+ghost use Rattle.schedule.specs.Change.{change};
+ghost use Rattle.rule_file.specs.Rule.{rule_of};
+ghost use Rattle.desk_core.specs.Rows.{bookmark_in};
+ghost use Rattle.desk_server.specs.Answer.{Ask, Want, unless_memory, edited, ruled, settled, shown, obeyed};
+ghost use Rattle.desk_server.specs.Heard.{Asked, Gives, Served};
+
+use crate::command::Command;
+use crate::fault::ScriptFault;
+use crate::heard::What;
+use crate::reply::{Reply, refused};
+use desk_core::{Desk, Edit, EditFault, Rule, Settling, Shown};
+use std::alloc::Global;
+use std::sync::Arc;
+
+// Makes an edit, or refuses it.
+fn edit(desk: &mut Desk, edit: &Edit) -> Reply
+    ensures { (want : Want) × Gives (unless_memory want desk.old.plan (edited desk.old.plan (change desk.old.plan edit.now))) result desk.new }
+{
+    match desk.edit(edit) {
+        Ok(edited) => Reply::Accepted(edited),
+        Err(fault) => refused(&fault),
+    }
+}
+
+// Takes the rule that a text means.
+fn take_rule(alloc: Global, desk: &mut Desk, text: &[u8]) -> Reply
+    ensures { (want : Want) × Gives (unless_memory want desk.old.plan (ruled desk.old.plan (rule_of text.now))) result desk.new }
+{
+    let rule = match Rule::read(alloc, text) {
+        Ok(rule) => rule,
+        Err(fault) => return refused(&fault),
+    };
+    match Arc::new(alloc, rule) {
+        Ok(rule) => edit(desk, &Edit::ReplaceRule(rule)),
+        Err(_) => refused(&EditFault::NoMemory),
+    }
+}
+
+fn settle(desk: &mut Desk) -> Reply
+    ensures { (want : Want) × Gives (settled want desk.old.plan) result desk.new }
+{
+    match desk.settle() {
+        Settling::Settled => Reply::Settled,
+        Settling::Unsettled { pending, cause } => Reply::Unsettled {
+            pending,
+            cause: cause.unwrap_or(0),
+        },
+    }
+}
+
+// Shows a bookmark, after settling.
+fn show(desk: &mut Desk, id: u64) -> Reply
+    ensures { (want : Want) × Gives (shown want desk.old.plan id (bookmark_in desk.old.plan.bookmarks id)) result desk.new }
+{
+    if desk.shown(id) != Shown::NoSuch {
+        desk.settle();
+    }
+    // Whatever the desk kept, what it shows is what starting over gives.
+    let _shown = desk.shown(id);
+    Reply::Shown { id }
+}
+
+fn obey(desk: &mut Desk, command: Command, line: u64) -> Reply
+    ensures { (want : Want) × Gives (obeyed want desk.old.plan line command) result desk.new }
+{
+    match command {
+        Command::Set(cells) => edit(desk, &Edit::SetCells { cells }),
+        Command::Mark { generation, view } => edit(desk, &Edit::AddBookmark { generation, view }),
+        Command::Settle => settle(desk),
+        Command::Show { id } => show(desk, id),
+        Command::Quit => Reply::Bye,
+        Command::Rule | Command::Bad => refused(&ScriptFault::BadCommand(line)),
+    }
+}
+
+/// Does what was asked, and gives the reply to it, if anything was.
+pub(crate) fn serve(alloc: Global, desk: &mut Desk, what: What, line: u64) -> Option<Reply>
+    ensures { (asked : List Ask) → Asked what line asked → Served result asked desk.old desk.new }
+{
+    match what {
+        What::Nothing => None,
+        What::Says(command) => Some(obey(desk, command, line)),
+        What::Tells(text) => match text.bytes() {
+            Some(bytes) => Some(take_rule(alloc, desk, bytes)),
+            None => Some(refused(&EditFault::NoMemory)),
+        },
+        What::NoMemory => Some(refused(&EditFault::NoMemory)),
+        What::NoEnd => Some(refused(&ScriptFault::NoEnd(line))),
+    }
+}

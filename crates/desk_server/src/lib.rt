@@ -1,0 +1,22 @@
+//! Scripts: what is asked of a desk in lines of text, and what it replies.
+//!
+//! `run` reads a script and writes the reply to each command before it reads the next. What it
+//! writes is the replies to the script: what each command in turn makes of the document, and for
+//! each bookmark that is shown the text that starting over gives. A command that meets want of
+//! memory says so and changes nothing, or leaves a bookmark pending.
+//!
+//! A line is kept only as far as its command needs. A settling costs what its bookmarks cost; all
+//! else is in proportion to what is read and written.
+#![tactic(auto)]
+
+mod asked;
+mod command;
+mod fault;
+mod heard;
+mod reply;
+mod server;
+#[cfg(test)]
+mod tests;
+
+pub use script_lines::{Counted, Failures};
+pub use server::{RunFault, run};

@@ -1,0 +1,215 @@
+//! Replies, and how they are written.
+ghost use Rattle.std.specs.Prelude.{◌≡◌, ◌+◌, ℕ, OnOk, OnErr, codes, false, true};
+ghost use Rattle.script_lines.specs.Faults.{Wrote};
+ghost use Rattle.desk_core.specs.Rows.{Known, bookmark_in, text_in};
+ghost use Rattle.desk_server.specs.Reply.{ok_text, refused_text, current_text, pending_text};
+ghost use Rattle.desk_server.specs.Told.{text_of, ends, part_text, parts_text};
+
+use desk_core::{Desk, EditFault, Edited, Refusal, Shown};
+use script_lines::{Counted, Failed};
+use std::io::Write;
+use std::sync::ledger::Ledger;
+
+/// What is replied to a command.
+#[derive(Clone, Copy, Debug, PartialEq, Eq)]
+pub enum Reply {
+    /// The edit was made.
+    Accepted(Edited),
+    /// Every bookmark is current.
+    Settled,
+    /// So many bookmarks are pending, for the refusal of this number; 0 where none was met.
+    Unsettled {
+        pending: u32,
+        cause: u8,
+    },
+    /// What the desk shows of the bookmark of this id.
+    Shown {
+        id: u64,
+    },
+    /// A refusal: its number and name, and its line or offset if it has one.
+    Refused {
+        number: u8,
+        name: &'static str,
+        place: Option<u64>,
+    },
+    /// The script ends.
+    Bye,
+}
+
+/// A part of a reply.
+#[derive(Clone, Copy, Debug)]
+pub enum Part<'a> {
+    Text(&'a [u8]),
+    Number(u64),
+}
+
+/// The reply to something refused.
+pub(crate) fn refused<F: Refusal>(fault: &F) -> Reply
+    ensures text { (known : Known) → text_of known result ≡ refused_text (F.number_of fault.now) (F.name_of fault.now) (F.place_of fault.now) }
+    ensures goes_on { ends result ≡ false }
+{
+    Reply::Refused {
+        number: fault.number(),
+        name: fault.name(),
+        place: fault.place(),
+    }
+}
+
+fn tell_part<W: Write, L: Ledger>(writer: &mut Counted<W, L>, part: Part<'_>) -> Result<(), Failed>
+    ensures bytes { Wrote (W.contents writer.old.inner) (W.contents writer.new.inner) result (part_text part.entry) }
+    ensures worked { OnOk result (writer.new.failures ≡ writer.old.failures) }
+    ensures failed { OnErr result (writer.new.failures ≡ writer.old.failures + 1) }
+{
+    match part {
+        Part::Text(bytes) => writer.tell(bytes),
+        Part::Number(number) => writer.tell_number(number),
+    }
+}
+
+fn tell_parts<W: Write, L: Ledger>(
+    writer: &mut Counted<W, L>,
+    parts: &[Part<'_>],
+) -> Result<(), Failed>
+    ensures bytes { Wrote (W.contents writer.old.inner) (W.contents writer.new.inner) result (parts_text parts.now) }
+    ensures worked { OnOk result (writer.new.failures ≡ writer.old.failures) }
+    ensures failed { OnErr result (writer.new.failures ≡ writer.old.failures + 1) }
+{
+    for part in parts {
+        tell_part(writer, *part)?;
+    }
+    Ok(())
+}
+
+fn tell_accepted<W: Write, L: Ledger>(
+    writer: &mut Counted<W, L>,
+    edited: Edited,
+) -> Result<(), Failed>
+    ensures bytes { Wrote (W.contents writer.old.inner) (W.contents writer.new.inner) result (ok_text edited) }
+    ensures worked { OnOk result (writer.new.failures ≡ writer.old.failures) }
+    ensures failed { OnErr result (writer.new.failures ≡ writer.old.failures + 1) }
+{
+    let (ok, revision, end) = (
+        Part::Text(b"ok "),
+        Part::Number(edited.revision),
+        Part::Text(b"\n"),
+    );
+    match edited.id {
+        None => tell_parts(writer, &[ok, revision, end]),
+        Some(id) => tell_parts(
+            writer,
+            &[
+                ok,
+                revision,
+                Part::Text(b" bookmark "),
+                Part::Number(id),
+                end,
+            ],
+        ),
+    }
+}
+
+fn tell_refused<W: Write, L: Ledger>(
+    writer: &mut Counted<W, L>,
+    number: u8,
+    name: &str,
+    place: Option<u64>,
+) -> Result<(), Failed>
+    ensures bytes { Wrote (W.contents writer.old.inner) (W.contents writer.new.inner) result (refused_text number name.now place) }
+    ensures worked { OnOk result (writer.new.failures ≡ writer.old.failures) }
+    ensures failed { OnErr result (writer.new.failures ≡ writer.old.failures + 1) }
+{
+    let refused = Part::Text(b"refused ");
+    let number = Part::Number(number as u64);
+    let space = Part::Text(b" ");
+    let name = Part::Text(name.as_bytes());
+    let end = Part::Text(b"\n");
+    match place {
+        None => tell_parts(writer, &[refused, number, space, name, end]),
+        Some(place) => tell_parts(
+            writer,
+            &[
+                refused,
+                number,
+                space,
+                name,
+                space,
+                Part::Number(place),
+                end,
+            ],
+        ),
+    }
+}
+
+fn tell_shown<W: Write, L: Ledger>(
+    writer: &mut Counted<W, L>,
+    desk: &Desk,
+    id: u64,
+) -> Result<(), Failed>
+    ensures bytes { Wrote (W.contents writer.old.inner) (W.contents writer.new.inner) result (text_of desk.now (Reply.Shown id)) }
+    ensures worked { OnOk result (writer.new.failures ≡ writer.old.failures) }
+    ensures failed { OnErr result (writer.new.failures ≡ writer.old.failures + 1) }
+{
+    let (bookmark, number) = (Part::Text(b"bookmark "), Part::Number(id));
+    match desk.shown(id) {
+        Shown::NoSuch => {
+            let fault = EditFault::NoSuchBookmark;
+            tell_refused(writer, fault.number(), fault.name(), fault.place())
+        }
+        Shown::Pending => tell_parts(writer, &[bookmark, number, Part::Text(b" pending\n")]),
+        Shown::Current(text) => {
+            let size = Part::Number(text.len() as u64);
+            let (current, end) = (Part::Text(b" current "), Part::Text(b"\n"));
+            tell_parts(
+                writer,
+                &[bookmark, number, current, size, end, Part::Text(text)],
+            )
+        }
+    }
+}
+
+fn tell<W: Write, L: Ledger>(
+    writer: &mut Counted<W, L>,
+    desk: &Desk,
+    reply: Reply,
+) -> Result<(), Failed>
+    ensures bytes { Wrote (W.contents writer.old.inner) (W.contents writer.new.inner) result (text_of desk.now reply) }
+    ensures worked { OnOk result (writer.new.failures ≡ writer.old.failures) }
+    ensures failed { OnErr result (writer.new.failures ≡ writer.old.failures + 1) }
+{
+    match reply {
+        Reply::Accepted(edited) => tell_accepted(writer, edited),
+        Reply::Settled => writer.tell(b"settled\n"),
+        Reply::Unsettled { pending, cause } => {
+            let pending = Part::Number(pending as u64);
+            let cause = Part::Number(cause as u64);
+            let (unsettled, space, end) = (
+                Part::Text(b"unsettled "),
+                Part::Text(b" "),
+                Part::Text(b"\n"),
+            );
+            tell_parts(writer, &[unsettled, pending, space, cause, end])
+        }
+        Reply::Shown { id } => tell_shown(writer, desk, id),
+        Reply::Refused {
+            number,
+            name,
+            place,
+        } => tell_refused(writer, number, name, place),
+        Reply::Bye => writer.tell(b"bye\n"),
+    }
+}
+
+/// Writes a reply, and hands it on at once.
+pub(crate) fn send<W: Write, L: Ledger>(
+    writer: &mut Counted<W, L>,
+    desk: &Desk,
+    reply: Reply,
+) -> Result<(), Failed>
+    ensures bytes { Wrote (W.contents writer.old.inner) (W.contents writer.new.inner) result (text_of desk.now reply) }
+    ensures worked { OnOk result (writer.new.failures ≡ writer.old.failures) }
+    ensures failed { OnErr result (writer.new.failures ≡ writer.old.failures + 1) }
+    ensures flushed { OnOk result (writer.new.flushed ≡ true) }
+{
+    tell(writer, desk, reply)?;
+    writer.flush()
+}
