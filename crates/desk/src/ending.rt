@@ -1,0 +1,53 @@
+//! How the program ends.
+ghost use Rattle.std.specs.Prelude.{◌≡◌, MatchResult, option_map};
+ghost use Rattle.desk.specs.Ending.{status_of, text_of};
+
+use desk_server::RunFault;
+
+/// How the program ends.
+#[derive(Clone, Copy, Debug, PartialEq, Eq)]
+pub enum Ending {
+    /// The script ended or said `quit`, or help was asked for and written.
+    Done,
+    /// The command line was refused, which was told.
+    Refused,
+    /// A device failed, or there was no memory for the words or for a desk.
+    Failed(RunFault),
+}
+
+impl Ending {
+    /// The ending of a run.
+    pub fn of_run(answered: Result<(), RunFault>) -> Ending
+        ensures { MatchResult answered (λ _. result ≡ Ending.Done)
+            (λ fault. result ≡ Ending.Failed fault) }
+    {
+        match answered {
+            Ok(()) => Ending::Done,
+            Err(fault) => Ending::Failed(fault),
+        }
+    }
+
+    /// The exit status: 0 where all went well, 1 for a device, 2 for the command line, 3 for memory.
+    pub fn status(self) -> u8
+        ensures { result ≡ status_of self }
+    {
+        match self {
+            Ending::Done => 0,
+            Ending::Failed(RunFault::Read | RunFault::Write) => 1,
+            Ending::Refused => 2,
+            Ending::Failed(RunFault::NoMemory) => 3,
+        }
+    }
+
+    /// The line for standard error. A refused command line has a text of its own.
+    pub fn text(self) -> Option<&'static str>
+        ensures { option_map (λ text. text.now) result ≡ text_of self }
+    {
+        match self {
+            Ending::Done | Ending::Refused => None,
+            Ending::Failed(RunFault::Read) => Some("desk: reading failed"),
+            Ending::Failed(RunFault::Write) => Some("desk: writing failed"),
+            Ending::Failed(RunFault::NoMemory) => Some("desk: no memory"),
+        }
+    }
+}
