@@ -1,9 +1,8 @@
 //! The desk: a document and the texts of its bookmarks that are known.
 //!
-//! Whatever edits are made, accepted or refused, and however often the desk is settled, each
-//! bookmark that `shown` calls current holds exactly the text that starting over gives: the
-//! present rule applied cell by cell from the present start, with the present interventions at
-//! their generations. Every other bookmark is pending.
+//! A text that the desk shows as current is the one that a fresh computation of the document gives,
+//! as the document is now, whatever edits were made or refused before and however often the desk
+//! was settled. A bookmark whose text isn't known is shown as pending.
 //!
 //! An edit forgets all texts, and `settle` computes each anew from the start, so its cost grows
 //! with the generations and the live cells of each bookmark.

@@ -31,7 +31,7 @@ pub fn step_commutes_with_moving()
     ensures { StepCommutesWithMoving }
 {}
 
-/// Activity spreads at most one cell a generation.
+/// After a generation a cell is live only where one was live at it or beside it.
 pub fn spreads_one_cell()
     ensures { SpreadsOneCell }
 {}
