@@ -4,3 +4,4 @@ pub mod Hearing
 pub mod Replies
 pub mod Parts
 pub mod Rounds
+pub mod Plain

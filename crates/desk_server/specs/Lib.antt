@@ -4,6 +4,7 @@ pub mod Faults
 pub mod Reply
 pub mod Answer
 pub mod Script
+pub mod Wanted
 pub mod Told
 pub mod Heard
 pub mod Run

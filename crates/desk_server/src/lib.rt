@@ -13,10 +13,12 @@ mod asked;
 mod command;
 mod fault;
 mod heard;
+mod laws;
 mod reply;
 mod server;
 #[cfg(test)]
 mod tests;
 
+pub use laws::plain_without_wants;
 pub use script_lines::{Counted, Failures};
 pub use server::{RunFault, run};
