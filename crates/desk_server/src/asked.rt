@@ -1,8 +1,8 @@
 //! What the desk does when something is asked.
-ghost use Rattle.std.specs.Prelude.{◌≡◌, List};
+ghost use Rattle.std.specs.Prelude.{◌≡◌, ℕ, List};
 ghost use Rattle.schedule.specs.Change.{change};
 ghost use Rattle.rule_file.specs.Rule.{rule_of};
-ghost use Rattle.desk_core.specs.Rows.{bookmark_in};
+ghost use Rattle.desk_core.specs.Rows.{bookmark_in, pending_of};
 ghost use Rattle.desk_server.specs.Answer.{Ask, Want, unless_memory, edited, ruled, settled, shown, obeyed};
 ghost use Rattle.desk_server.specs.Heard.{Asked, Gives, Served};
 
@@ -39,7 +39,9 @@ fn take_rule(alloc: Global, desk: &mut Desk, text: &[u8]) -> Reply
 }
 
 fn settle(desk: &mut Desk) -> Reply
-    ensures { (want : Want) × Gives (settled want desk.old.plan) result desk.new }
+    ensures answer { (want : Want) × Gives (settled want desk.old.plan) result desk.new }
+    ensures settled { result ≡ Reply.Settled → pending_of desk.new ≡ 0 }
+    ensures pending { (n cause : ℕ) → result ≡ Reply.Unsettled n cause → n ≡ pending_of desk.new }
 {
     match desk.settle() {
         Settling::Settled => Reply::Settled,
@@ -63,7 +65,8 @@ fn show(desk: &mut Desk, id: u64) -> Reply
 }
 
 fn obey(desk: &mut Desk, command: Command, line: u64) -> Reply
-    ensures { (want : Want) × Gives (obeyed want desk.old.plan line command) result desk.new }
+    ensures answer { (want : Want) × Gives (obeyed want desk.old.plan line command) result desk.new }
+    ensures settled { command ≡ Command.Settle → result ≡ Reply.Settled → pending_of desk.new ≡ 0 }
 {
     match command {
         Command::Set(cells) => edit(desk, &Edit::SetCells { cells }),
