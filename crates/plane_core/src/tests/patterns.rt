@@ -12,64 +12,65 @@ struct Laid {
     after: &'static [Row],
 }
 
+const LAID: [Laid; 8] = [
+    Laid {
+        name: "nothing",
+        before: &[],
+        cells: &[],
+        after: &[],
+    },
+    Laid {
+        name: "the last mention wins",
+        before: &[],
+        cells: &[(1, 2, 3), (1, 2, 255)],
+        after: &[(1, 2, 255)],
+    },
+    Laid {
+        name: "0 takes away what the list laid",
+        before: &[],
+        cells: &[(1, 2, 3), (1, 2, 0)],
+        after: &[],
+    },
+    Laid {
+        name: "a state after 0 stays",
+        before: &[],
+        cells: &[(1, 2, 0), (1, 2, 3)],
+        after: &[(1, 2, 3)],
+    },
+    Laid {
+        name: "0 takes away what was there, and others stay",
+        before: &[(0, 0, 1), (5, 0, 2)],
+        cells: &[(0, 0, 0), (6, 0, 1)],
+        after: &[(5, 0, 2), (6, 0, 1)],
+    },
+    Laid {
+        name: "a state replaces another",
+        before: &[(0, 0, 1)],
+        cells: &[(0, 0, 2)],
+        after: &[(0, 0, 2)],
+    },
+    Laid {
+        name: "row by row from the top, each from the left",
+        before: &[],
+        cells: &[(0, 1, 1), (1, 0, 2), (-1, 1, 3), (0, 0, 4), (1, -1, 5)],
+        after: &[(1, -1, 5), (0, 0, 4), (1, 0, 2), (-1, 1, 3), (0, 1, 1)],
+    },
+    Laid {
+        name: "the corners of the plane",
+        before: &[],
+        cells: &[(LAST, LAST, 2), (-EDGE, -EDGE, 1), (LAST, -EDGE, 3)],
+        after: &[(-EDGE, -EDGE, 1), (LAST, -EDGE, 3), (LAST, LAST, 2)],
+    },
+];
+
 #[test]
 fn lays_cells(rt: HostRuntime) -> Result<(), Fail> {
-    let cases = [
-        Laid {
-            name: "nothing",
-            before: &[],
-            cells: &[],
-            after: &[],
-        },
-        Laid {
-            name: "the last mention wins",
-            before: &[],
-            cells: &[(1, 2, 3), (1, 2, 255)],
-            after: &[(1, 2, 255)],
-        },
-        Laid {
-            name: "0 takes away what the list laid",
-            before: &[],
-            cells: &[(1, 2, 3), (1, 2, 0)],
-            after: &[],
-        },
-        Laid {
-            name: "a state after 0 stays",
-            before: &[],
-            cells: &[(1, 2, 0), (1, 2, 3)],
-            after: &[(1, 2, 3)],
-        },
-        Laid {
-            name: "0 takes away what was there, and others stay",
-            before: &[(0, 0, 1), (5, 0, 2)],
-            cells: &[(0, 0, 0), (6, 0, 1)],
-            after: &[(5, 0, 2), (6, 0, 1)],
-        },
-        Laid {
-            name: "a state replaces another",
-            before: &[(0, 0, 1)],
-            cells: &[(0, 0, 2)],
-            after: &[(0, 0, 2)],
-        },
-        Laid {
-            name: "row by row from the top, each from the left",
-            before: &[],
-            cells: &[(0, 1, 1), (1, 0, 2), (-1, 1, 3), (0, 0, 4), (1, -1, 5)],
-            after: &[(1, -1, 5), (0, 0, 4), (1, 0, 2), (-1, 1, 3), (0, 1, 1)],
-        },
-        Laid {
-            name: "the corners of the plane",
-            before: &[],
-            cells: &[(LAST, LAST, 2), (-EDGE, -EDGE, 1), (LAST, -EDGE, 3)],
-            after: &[(-EDGE, -EDGE, 1), (LAST, -EDGE, 3), (LAST, LAST, 2)],
-        },
-    ];
     for Laid {
         name,
         before,
         cells,
         after,
-    } in &cases {
+    } in &LAID {
         let plane = plane_of(&rt, rt.alloc(), before)?;
         let later = laid(&rt, rt.alloc(), &plane, cells)?;
         expect_rows(&rt, rt.alloc(), &later, after, name)?;
@@ -130,54 +131,55 @@ struct Told {
     counts: &'static [(usize, u128)],
 }
 
+const TOLD: [Told; 4] = [
+    Told {
+        rows: &[],
+        population: 0,
+        greatest: 0,
+        bounds: None,
+        counts: &[(0, 0), (1, 0), (255, 0)],
+    },
+    Told {
+        rows: &[(-3, 7, 1)],
+        population: 1,
+        greatest: 1,
+        bounds: Some(Bounds {
+            left: -3,
+            top: 7,
+            right: -3,
+            bottom: 7,
+        }),
+        counts: &[(0, 0), (1, 1), (2, 0)],
+    },
+    Told {
+        rows: &[(0, -2, 4), (5, 0, 2), (-1, 1, 255), (2, 3, 2)],
+        population: 4,
+        greatest: 255,
+        bounds: Some(Bounds {
+            left: -1,
+            top: -2,
+            right: 5,
+            bottom: 3,
+        }),
+        counts: &[(0, 0), (1, 0), (2, 2), (4, 1), (255, 1)],
+    },
+    Told {
+        rows: &[(LAST, -EDGE, 3), (-EDGE, LAST, 2)],
+        population: 2,
+        greatest: 3,
+        bounds: Some(Bounds {
+            left: -EDGE,
+            top: -EDGE,
+            right: LAST,
+            bottom: LAST,
+        }),
+        counts: &[(1, 0), (2, 1), (3, 1)],
+    },
+];
+
 #[test]
 fn tells_of_a_plane(rt: HostRuntime) -> Result<(), Fail> {
-    let cases = [
-        Told {
-            rows: &[],
-            population: 0,
-            greatest: 0,
-            bounds: None,
-            counts: &[(0, 0), (1, 0), (255, 0)],
-        },
-        Told {
-            rows: &[(-3, 7, 1)],
-            population: 1,
-            greatest: 1,
-            bounds: Some(Bounds {
-                left: -3,
-                top: 7,
-                right: -3,
-                bottom: 7,
-            }),
-            counts: &[(0, 0), (1, 1), (2, 0)],
-        },
-        Told {
-            rows: &[(0, -2, 4), (5, 0, 2), (-1, 1, 255), (2, 3, 2)],
-            population: 4,
-            greatest: 255,
-            bounds: Some(Bounds {
-                left: -1,
-                top: -2,
-                right: 5,
-                bottom: 3,
-            }),
-            counts: &[(0, 0), (1, 0), (2, 2), (4, 1), (255, 1)],
-        },
-        Told {
-            rows: &[(LAST, -EDGE, 3), (-EDGE, LAST, 2)],
-            population: 2,
-            greatest: 3,
-            bounds: Some(Bounds {
-                left: -EDGE,
-                top: -EDGE,
-                right: LAST,
-                bottom: LAST,
-            }),
-            counts: &[(1, 0), (2, 1), (3, 1)],
-        },
-    ];
-    for told in &cases {
+    for told in &TOLD {
         let plane = plane_of(&rt, rt.alloc(), told.rows)?;
         assert_eq!(rt; plane.population(), told.population);
         assert_eq!(rt; plane.greatest(), told.greatest);
