@@ -1,2 +1,5 @@
 pub mod Counts
+pub mod Rle
 pub mod Text
+pub mod Window
+pub mod Within

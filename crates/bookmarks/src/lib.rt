@@ -5,10 +5,12 @@
 #![tactic(auto)]
 
 mod counts;
+mod pattern;
 #[cfg(test)]
 mod tests;
 mod text;
 mod view;
+mod window;
 
 pub use text::render;
 pub use view::View;

@@ -10,9 +10,10 @@ use Rattle.std.proofs.lemmas.List.Elements.{All-get_or, All-from_recursion}
 use Rattle.std.proofs.Math.ListN.{set}
 use Rattle.schedule.specs.declared.document.Bookmark.{Bookmark}
 use Rattle.schedule.specs.declared.edit.Edit.{Edit}
-use Rattle.schedule.specs.declared.edit.Edit.TheVariants.{SetCells, ReplaceRule, AddBookmark}
+use Rattle.schedule.specs.declared.edit.Edit.TheVariants.{SetCells, ReplaceStart, ReplaceRule, AddBookmark}
 use Rattle.schedule.specs.declared.edit.Edited.{Edited}
 use Rattle.schedule.specs.declared.fault.EditFault.{EditFault}
+use Rattle.bookmarks.specs.Within.{IsWithin}
 use Rattle.schedule.specs.Plan.{Plan}
 use Rattle.schedule.specs.Change.{Changed, change, changed, unless_refused, refusal}
 use Rattle.schedule.specs.Scratch.{scratch}
@@ -64,6 +65,7 @@ Keeps-set (t ∷ ts) (u ∷ us) (suc k) d text low none h = (h.0, Keeps-set ts u
 -- an edit adds one bookmark at most
 few_more : (p : Plan) (edit : Edit) → length (changed p edit).plan.bookmarks ≤ length p.bookmarks + 1
 few_more p (SetCells cells) = omega arith
+few_more p (ReplaceStart start) = omega arith
 few_more p (ReplaceRule rule) = omega arith
 few_more p (AddBookmark generation view) = let k = length-append p.bookmarks (record { id = p.last_bookmark + 1; generation = generation; view = view } ∷ []) in omega (arith, k)
 
@@ -130,6 +132,10 @@ none_found bs ts id k past h = sym h.bookmark ∙ ap (λ cs. bookmark_in cs id) 
 -- each bookmark of a document is near enough
 pub generation_at : (p : Plan) (k : ℕ) (b : Bookmark) → IsSound p → k < length p.bookmarks → (get_or p.bookmarks k b).generation ≤ 2 ^ 60
 generation_at p k b sound low = All-get_or (λ (c : Bookmark). c.generation ≤ 2 ^ 60) p.bookmarks k b low (All-from_recursion (λ (c : Bookmark). c.generation ≤ 2 ^ 60) p.bookmarks sound.bookmarks_near)
+
+-- and its view keeps the limits of windows
+pub view_at : (p : Plan) (k : ℕ) (b : Bookmark) → IsSound p → k < length p.bookmarks → IsWithin (get_or p.bookmarks k b).view
+view_at p k b sound low = All-get_or (λ (c : Bookmark). IsWithin c.view) p.bookmarks k b low (All-from_recursion (λ (c : Bookmark). IsWithin c.view) p.bookmarks sound.views_within)
 
 is_none_some : (o : Option (List ℕ)) → is_some o ≡ not true → o ≡ None
 is_none_some None h = refl

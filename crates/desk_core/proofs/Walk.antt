@@ -9,7 +9,7 @@ use Rattle.plane_core.specs.Step.{step}
 use Rattle.plane_core.specs.Iterate.{iterate}
 use Rattle.plane_core.specs.Arrival.{arrive-zero, arrive-gap}
 use Rattle.plane_core.specs.declared.cell.CellSet.{CellSet}
-use Rattle.rule_file.specs.Rule.{next_of}
+use Rattle.rule_tree.specs.Rule.{next_of}
 use Rattle.schedule.specs.declared.document.Intervention.{Intervention}
 use Rattle.schedule.specs.Plan.{Plan}
 use Rattle.schedule.specs.Scratch.{cells_at, arrival, after}

@@ -4,7 +4,8 @@ ghost use Rattle.plane_core.specs.Lay.{lay};
 ghost use Rattle.plane_core.specs.Iterate.{iterate};
 ghost use Rattle.plane_core.specs.Step.{step};
 ghost use Rattle.plane_core.specs.Range.{AllBelow, HasMargin};
-ghost use Rattle.rule_file.specs.Rule.{states_of, next_of};
+ghost use Rattle.rule_tree.specs.Rule.{states_of, next_of};
+ghost use Rattle.bookmarks.specs.Within.{IsWithin};
 ghost use Rattle.schedule.specs.Scratch.{cells_at, after, scratch};
 ghost use Rattle.desk_core.specs.Laid.{AllCanBeLaid};
 
@@ -19,7 +20,8 @@ pub(crate) fn text_of(
     document: &Document,
     bookmark: Bookmark,
 ) -> Result<Vec<u8>, EvolveFault>
-    requires { bookmark.generation ≤ 2 ^ 60 }
+    requires near { bookmark.generation ≤ 2 ^ 60 }
+    requires within { IsWithin bookmark.view }
     ensures text { IfOk result (λ text. text.items ≡ scratch document.now bookmark) }
     ensures memory { IfErr result (λ fault. fault ≡ EvolveFault.NoMemory) }
 {

@@ -126,6 +126,36 @@ fn one_cell_under_x(rt: HostRuntime) -> Result<(), Fail> {
 }
 
 #[test]
+fn views_of_x(rt: HostRuntime) -> Result<(), Fail> {
+    let mut desk = desk_of_x(rt.alloc())?;
+    let window = View::Window {
+        left: -2,
+        top: 0,
+        width: 5,
+        height: 1,
+    };
+    let wanted = [
+        (View::Counts, "1 2\n"),
+        (window, "1 0 0 0 1\n"),
+        (
+            View::Rle,
+            "#CXRLE Pos=-2,0 Gen=2\nx = 5, y = 1, rule = X\no3bo!\n",
+        ),
+    ];
+    for (view, _) in wanted {
+        desk.edit(&Edit::AddBookmark {
+            generation: 2,
+            view,
+        })?;
+    }
+    settle(&rt, &mut desk)?;
+    for (k, (_, text)) in wanted.iter().enumerate() {
+        expect_text(&rt, &desk, k as u64 + 1, text);
+    }
+    Ok(())
+}
+
+#[test]
 fn accepted_edits_forget(rt: HostRuntime) -> Result<(), Fail> {
     let mut desk = desk_of_x(rt.alloc())?;
     let rule = Arc::new(rt.alloc(), Rule::read(rt.alloc(), X)?)?;

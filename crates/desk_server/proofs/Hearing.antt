@@ -1,5 +1,5 @@
 -- What lines ask.
-use Rattle.std.proofs.Common.{◌≡◌, ℕ, ◌+◌, List, [], ◌∷◌, ◌++◌, length, Bool, true, false, sym, ◌∙◌, ap, refl, append_assoc, append-nil, arith, subst, Option, Result, Ok, Err, IfOk, OnErr}
+use Rattle.std.proofs.Common.{◌≡◌, ℕ, ◌+◌, List, [], ◌∷◌, ◌++◌, length, Bool, true, false, sym, ◌∙◌, ap, refl, append_assoc, append-nil, arith, subst, Option, None, Some, Result, Ok, Err, IfOk, OnErr}
 use Rattle.std.proofs.KnownBytes.{Consumes-trans}
 use Rattle.text_lines.specs.Lines.{End, Ended, Broken, Line, lines_until}
 use Rattle.script_lines.specs.ScriptLine.{NoneEnds, raw_bytes, is_end, is_passed_over}
@@ -8,38 +8,39 @@ use Rattle.script_lines.specs.declared.script.TextFound.{TextFound}
 use Rattle.script_lines.specs.declared.script.TextFound.TheVariants as found_text
 use Rattle.script_lines.specs.declared.kept_line.KeptLine.{KeptLine}
 use Rattle.std.specs.Io.KnownBytes.{IsAtEnd}
-use Rattle.desk_server.specs.Command.{command_of, takes_text}
+use Rattle.desk_server.specs.Command.{command_of, text_format}
 use Rattle.desk_server.specs.Answer.{Say, Tell, NoEnd}
 use Rattle.desk_server.specs.Script.{asks, Between, InText, without_end}
 use Rattle.desk_server.specs.Heard.{Asked, Hears, BreaksOff}
+use Rattle.desk_server.specs.declared.command.Format.{Format}
 use Rattle.desk_server.specs.declared.heard.What.{What}
 use Rattle.desk_server.specs.declared.heard.What.TheVariants as what
 
 -- lines up to one that is `end` are the text
-asks-text : (stop : End) (at : ℕ) (kept : List ℕ) (n : ℕ) (lines : List Line) (closing : Line) (rest : List Line) → NoneEnds lines → is_end closing.says ≡ true
-    → asks stop (InText at kept) n (lines ++ closing ∷ rest) ≡ Tell (kept ++ raw_bytes lines) ∷ asks stop Between (n + length lines + 1) rest
-asks-text stop at kept n [] closing rest inside ends = rw ends (ap (λ t. Tell t ∷ asks stop Between (n + 1) rest) (sym (append-nil kept)) ∙ ap (λ m. Tell (kept ++ []) ∷ asks stop Between m rest) (omega arith))
-asks-text stop at kept n (line ∷ lines) closing rest inside ends =
-    rw inside.0 (asks-text stop at (kept ++ line.raw) (n + 1) lines closing rest inside.1 ends
-    ∙ ap (λ t. Tell t ∷ asks stop Between (n + 1 + length lines + 1) rest) (append_assoc kept line.raw (raw_bytes lines))
-    ∙ ap (λ m. Tell (kept ++ (line.raw ++ raw_bytes lines)) ∷ asks stop Between m rest) (omega arith))
+asks-text : (stop : End) (at : ℕ) (f : Format) (kept : List ℕ) (n : ℕ) (lines : List Line) (closing : Line) (rest : List Line) → NoneEnds lines → is_end closing.says ≡ true
+    → asks stop (InText at f kept) n (lines ++ closing ∷ rest) ≡ Tell f (kept ++ raw_bytes lines) ∷ asks stop Between (n + length lines + 1) rest
+asks-text stop at f kept n [] closing rest inside ends = rw ends (ap (λ t. Tell f t ∷ asks stop Between (n + 1) rest) (sym (append-nil kept)) ∙ ap (λ m. Tell f (kept ++ []) ∷ asks stop Between m rest) (omega arith))
+asks-text stop at f kept n (line ∷ lines) closing rest inside ends =
+    rw inside.0 (asks-text stop at f (kept ++ line.raw) (n + 1) lines closing rest inside.1 ends
+    ∙ ap (λ t. Tell f t ∷ asks stop Between (n + 1 + length lines + 1) rest) (append_assoc kept line.raw (raw_bytes lines))
+    ∙ ap (λ m. Tell f (kept ++ (line.raw ++ raw_bytes lines)) ∷ asks stop Between m rest) (omega arith))
 
 -- where none is `end`, the text has no end
-asks-open_text : (stop : End) (at : ℕ) (kept : List ℕ) (n : ℕ) (lines : List Line) → NoneEnds lines → asks stop (InText at kept) n lines ≡ without_end stop at
-asks-open_text stop at kept n [] inside = refl
-asks-open_text stop at kept n (line ∷ lines) inside = rw inside.0 (asks-open_text stop at (kept ++ line.raw) (n + 1) lines inside.1)
+asks-open_text : (stop : End) (at : ℕ) (f : Format) (kept : List ℕ) (n : ℕ) (lines : List Line) → NoneEnds lines → asks stop (InText at f kept) n lines ≡ without_end stop at
+asks-open_text stop at f kept n [] inside = refl
+asks-open_text stop at f kept n (line ∷ lines) inside = rw inside.0 (asks-open_text stop at f (kept ++ line.raw) (n + 1) lines inside.1)
 
 -- one line, and what follows it
 asks-passed : (stop : End) (n : ℕ) (line : Line) (rest : List Line) → is_passed_over line.says ≡ true → asks stop Between n (line ∷ rest) ≡ asks stop Between (n + 1) rest
 asks-passed stop n line rest passed = rw passed refl
 
-asks-command : (stop : End) (n : ℕ) (line : Line) (rest : List Line) → is_passed_over line.says ≡ false → takes_text (command_of line.says) ≡ false
+asks-command : (stop : End) (n : ℕ) (line : Line) (rest : List Line) → is_passed_over line.says ≡ false → text_format (command_of line.says) ≡ None
     → asks stop Between n (line ∷ rest) ≡ Say n (command_of line.says) ∷ asks stop Between (n + 1) rest
 asks-command stop n line rest passed text = rw passed (rw text refl)
 
-asks-text_command : (stop : End) (n : ℕ) (line : Line) (rest : List Line) → is_passed_over line.says ≡ false → takes_text (command_of line.says) ≡ true
-    → asks stop Between n (line ∷ rest) ≡ asks stop (InText n []) (n + 1) rest
-asks-text_command stop n line rest passed text = rw passed (rw text refl)
+asks-text_command : (stop : End) (n : ℕ) (f : Format) (line : Line) (rest : List Line) → is_passed_over line.says ≡ false → text_format (command_of line.says) ≡ Some f
+    → asks stop Between n (line ∷ rest) ≡ asks stop (InText n f []) (n + 1) rest
+asks-text_command stop n f line rest passed text = rw passed (rw text refl)
 
 -- a line that begins no text
 pub hears-nothing : (old new : Option (List ℕ)) (kept : KeptLine) (last : Bool) (n : ℕ) → (t : LineTaken last old new kept) → is_passed_over t.line.says ≡ true → Hears old new Between what.Nothing last n n (n + 1)
@@ -52,7 +53,7 @@ hears-nothing old new kept last n t passed = record {
   at_end = t.at_end;
 }
 
-pub hears-command : (old new : Option (List ℕ)) (kept : KeptLine) (last : Bool) (what : What) (n : ℕ) → (t : LineTaken last old new kept) → is_passed_over t.line.says ≡ false → takes_text (command_of t.line.says) ≡ false
+pub hears-command : (old new : Option (List ℕ)) (kept : KeptLine) (last : Bool) (what : What) (n : ℕ) → (t : LineTaken last old new kept) → is_passed_over t.line.says ≡ false → text_format (command_of t.line.says) ≡ None
     → Asked what n (Say n (command_of t.line.says) ∷ []) → Hears old new Between what last n n (n + 1)
 hears-command old new kept last what n t passed text is = record {
   bytes = t.line.raw;
@@ -69,96 +70,96 @@ follows-any false stop more e = tt
 follows-any true stop more e = absurd (cc)
 
 -- the command of a text
-pub hears-text : (old mid new : Option (List ℕ)) (kept : KeptLine) (first : Bool) (what : What) (last : Bool) (line n m : ℕ) → first ≡ false → (t : LineTaken first old mid kept) → is_passed_over t.line.says ≡ false → takes_text (command_of t.line.says) ≡ true
-    → Hears mid new (InText n []) what last line (n + 1) m → Hears old new Between what last line n m
-hears-text old mid new kept first what last line n m e t passed text h = record {
+pub hears-text : (old mid new : Option (List ℕ)) (format : Format) (kept : KeptLine) (first : Bool) (what : What) (last : Bool) (line n m : ℕ) → first ≡ false → (t : LineTaken first old mid kept) → is_passed_over t.line.says ≡ false → text_format (command_of t.line.says) ≡ Some format
+    → Hears mid new (InText n format []) what last line (n + 1) m → Hears old new Between what last line n m
+hears-text old mid new format kept first what last line n m e t passed text h = record {
   bytes = t.line.raw ++ h.bytes;
   asked = h.asked;
   consumed = Consumes-trans old mid new t.line.raw h.bytes t.consumed h.consumed;
   law = λ stop more f.
       ap (λ v. asks stop Between n (lines_until stop v)) (append_assoc t.line.raw h.bytes more)
       ∙ ap (asks stop Between n) (t.law stop (h.bytes ++ more) (follows-any first stop (h.bytes ++ more) e))
-      ∙ asks-text_command stop n t.line (lines_until stop (h.bytes ++ more)) passed text
+      ∙ asks-text_command stop n format t.line (lines_until stop (h.bytes ++ more)) passed text
       ∙ h.law stop more f;
   is = h.is;
   at_end = h.at_end;
 }
 
-pub breaks-text : (old mid new : Option (List ℕ)) (kept : KeptLine) (first : Bool) (n : ℕ) → first ≡ false → (t : LineTaken first old mid kept) → is_passed_over t.line.says ≡ false → takes_text (command_of t.line.says) ≡ true
-    → BreaksOff mid new (InText n []) (n + 1) → BreaksOff old new Between n
-breaks-text old mid new kept first n e t passed text b = record {
+pub breaks-text : (old mid new : Option (List ℕ)) (format : Format) (kept : KeptLine) (first : Bool) (n : ℕ) → first ≡ false → (t : LineTaken first old mid kept) → is_passed_over t.line.says ≡ false → text_format (command_of t.line.says) ≡ Some format
+    → BreaksOff mid new (InText n format []) (n + 1) → BreaksOff old new Between n
+breaks-text old mid new format kept first n e t passed text b = record {
   bytes = t.line.raw ++ b.bytes;
   consumed = Consumes-trans old mid new t.line.raw b.bytes t.consumed b.consumed;
-  law = ap (asks Broken Between n) (t.law Broken b.bytes (follows-any first Broken b.bytes e)) ∙ asks-text_command Broken n t.line (lines_until Broken b.bytes) passed text ∙ b.law;
+  law = ap (asks Broken Between n) (t.law Broken b.bytes (follows-any first Broken b.bytes e)) ∙ asks-text_command Broken n format t.line (lines_until Broken b.bytes) passed text ∙ b.law;
 }
 
 -- nothing follows the command of a text
-nothing-follows : (stop : End) (n m : ℕ) (more : List ℕ) → Follows true stop more → asks stop (InText n []) m (lines_until stop more) ≡ NoEnd n ∷ asks stop Between m (lines_until stop more)
-nothing-follows stop n m more f =
-    ap (λ v. asks stop (InText n []) m (lines_until stop v)) f.1
-    ∙ ap (λ s. asks s (InText n []) m (lines_until s [])) f.0
+nothing-follows : (stop : End) (n m : ℕ) (format : Format) (more : List ℕ) → Follows true stop more → asks stop (InText n format []) m (lines_until stop more) ≡ NoEnd n ∷ asks stop Between m (lines_until stop more)
+nothing-follows stop n m format more f =
+    ap (λ v. asks stop (InText n format []) m (lines_until stop v)) f.1
+    ∙ ap (λ s. asks s (InText n format []) m (lines_until s [])) f.0
     ∙ sym (ap (λ s. NoEnd n ∷ asks s Between m (lines_until s [])) f.0)
     ∙ sym (ap (λ v. NoEnd n ∷ asks stop Between m (lines_until stop v)) f.1)
 
-pub hears-last_text : (old new : Option (List ℕ)) (kept : KeptLine) (n : ℕ) → (t : LineTaken true old new kept) → is_passed_over t.line.says ≡ false → takes_text (command_of t.line.says) ≡ true
+pub hears-last_text : (old new : Option (List ℕ)) (format : Format) (kept : KeptLine) (n : ℕ) → (t : LineTaken true old new kept) → is_passed_over t.line.says ≡ false → text_format (command_of t.line.says) ≡ Some format
     → Hears old new Between what.NoEnd true n n (n + 1)
-hears-last_text old new kept n t passed text = record {
+hears-last_text old new format kept n t passed text = record {
   bytes = t.line.raw;
   asked = NoEnd n ∷ [];
   consumed = t.consumed;
   law = λ stop more f.
-      ap (asks stop Between n) (t.law stop more f) ∙ asks-text_command stop n t.line (lines_until stop more) passed text
-      ∙ nothing-follows stop n (n + 1) more f;
+      ap (asks stop Between n) (t.law stop more f) ∙ asks-text_command stop n format t.line (lines_until stop more) passed text
+      ∙ nothing-follows stop n (n + 1) format more f;
   is = refl;
   at_end = t.at_end;
 }
 
 -- a text with its end
-hears-whole_text : (text : Option (List ℕ)) (old new : Option (List ℕ)) (last : Bool) (n m : ℕ) → TextTaken last text old new n m → Hears old new (InText n []) (what.Tells text) last n (n + 1) (m + 1)
-hears-whole_text text old new last n m t = record {
+hears-whole_text : (format : Format) (text : Option (List ℕ)) (old new : Option (List ℕ)) (last : Bool) (n m : ℕ) → TextTaken last text old new n m → Hears old new (InText n format []) (what.Tells format text) last n (n + 1) (m + 1)
+hears-whole_text format text old new last n m t = record {
   bytes = raw_bytes t.lines ++ t.closing.raw;
-  asked = Tell (raw_bytes t.lines) ∷ [];
+  asked = Tell format (raw_bytes t.lines) ∷ [];
   consumed = t.consumed;
   law = λ stop more f.
-      ap (asks stop (InText n []) (n + 1)) (t.law stop more f)
-      ∙ asks-text stop n [] (n + 1) t.lines t.closing (lines_until stop more) t.inside t.ends
-      ∙ ap (λ k. Tell (raw_bytes t.lines) ∷ asks stop Between k (lines_until stop more)) (omega (arith, t.number));
+      ap (asks stop (InText n format []) (n + 1)) (t.law stop more f)
+      ∙ asks-text stop n format [] (n + 1) t.lines t.closing (lines_until stop more) t.inside t.ends
+      ∙ ap (λ k. Tell format (raw_bytes t.lines) ∷ asks stop Between k (lines_until stop more)) (omega (arith, t.number));
   is = (raw_bytes t.lines, refl, t.is);
   at_end = t.at_end;
 }
 
 -- a text without one
-open-law : (stop : End) (n k m : ℕ) (bytes more : List ℕ) → NoneEnds (lines_until Ended bytes) → Follows true stop more
-    → asks stop (InText n []) k (lines_until stop (bytes ++ more)) ≡ NoEnd n ∷ asks stop Between m (lines_until stop more)
-open-law stop n k m bytes more inside f =
-    ap (λ v. asks stop (InText n []) k (lines_until stop (bytes ++ v))) f.1
-    ∙ ap (λ v. asks stop (InText n []) k (lines_until stop v)) (append-nil bytes)
-    ∙ ap (λ s. asks s (InText n []) k (lines_until s bytes)) f.0
-    ∙ asks-open_text Ended n [] k (lines_until Ended bytes) inside
+open-law : (stop : End) (format : Format) (n k m : ℕ) (bytes more : List ℕ) → NoneEnds (lines_until Ended bytes) → Follows true stop more
+    → asks stop (InText n format []) k (lines_until stop (bytes ++ more)) ≡ NoEnd n ∷ asks stop Between m (lines_until stop more)
+open-law stop format n k m bytes more inside f =
+    ap (λ v. asks stop (InText n format []) k (lines_until stop (bytes ++ v))) f.1
+    ∙ ap (λ v. asks stop (InText n format []) k (lines_until stop v)) (append-nil bytes)
+    ∙ ap (λ s. asks s (InText n format []) k (lines_until s bytes)) f.0
+    ∙ asks-open_text Ended n format [] k (lines_until Ended bytes) inside
     ∙ sym (ap (λ s. NoEnd n ∷ asks s Between m (lines_until s [])) f.0)
     ∙ sym (ap (λ v. NoEnd n ∷ asks stop Between m (lines_until stop v)) f.1)
 
-hears-open_text : (old new : Option (List ℕ)) (n m : ℕ) → NoEndAmong Ended old new → IsAtEnd new → Hears old new (InText n []) what.NoEnd true n (n + 1) m
-hears-open_text old new n m t end = record {
+hears-open_text : (format : Format) (old new : Option (List ℕ)) (n m : ℕ) → NoEndAmong Ended old new → IsAtEnd new → Hears old new (InText n format []) what.NoEnd true n (n + 1) m
+hears-open_text format old new n m t end = record {
   bytes = t.bytes;
   asked = NoEnd n ∷ [];
   consumed = t.consumed;
-  law = λ stop more f. open-law stop n (n + 1) m t.bytes more t.inside f;
+  law = λ stop more f. open-law stop format n (n + 1) m t.bytes more t.inside f;
   is = refl;
   at_end = λ _. end;
 }
 
-pub reads-ended : (found : TextFound) (text : Option (List ℕ)) (last : Bool) (old new : Option (List ℕ)) (n m : ℕ) → found ≡ found_text.Ended text last → ReadsText found old new n m → Hears old new (InText n []) (what.Tells text) last n (n + 1) (m + 1)
-reads-ended found text last old new n m e h = hears-whole_text text old new last n m (subst (λ f. ReadsText f old new n m) e h)
+pub reads-ended : (format : Format) (found : TextFound) (text : Option (List ℕ)) (last : Bool) (old new : Option (List ℕ)) (n m : ℕ) → found ≡ found_text.Ended text last → ReadsText found old new n m → Hears old new (InText n format []) (what.Tells format text) last n (n + 1) (m + 1)
+reads-ended format found text last old new n m e h = hears-whole_text format text old new last n m (subst (λ f. ReadsText f old new n m) e h)
 
-pub reads-open : (found : TextFound) (old new : Option (List ℕ)) (n m : ℕ) → found ≡ found_text.NoEnd → ReadsText found old new n m → Hears old new (InText n []) what.NoEnd true n (n + 1) (m + 1)
-reads-open found old new n m e h = let parts = subst (λ f. ReadsText f old new n m) e h in hears-open_text old new n (m + 1) parts.0 parts.1
+pub reads-open : (format : Format) (found : TextFound) (old new : Option (List ℕ)) (n m : ℕ) → found ≡ found_text.NoEnd → ReadsText found old new n m → Hears old new (InText n format []) what.NoEnd true n (n + 1) (m + 1)
+reads-open format found old new n m e h = let parts = subst (λ f. ReadsText f old new n m) e h in hears-open_text format old new n (m + 1) parts.0 parts.1
 
-pub breaks-open_text : (old new : Option (List ℕ)) (n : ℕ) → NoEndAmong Broken old new → BreaksOff old new (InText n []) (n + 1)
-breaks-open_text old new n t = record {
+pub breaks-open_text : (format : Format) (old new : Option (List ℕ)) (n : ℕ) → NoEndAmong Broken old new → BreaksOff old new (InText n format []) (n + 1)
+breaks-open_text format old new n t = record {
   bytes = t.bytes;
   consumed = t.consumed;
-  law = asks-open_text Broken n [] (n + 1) (lines_until Broken t.bytes) t.inside;
+  law = asks-open_text Broken n format [] (n + 1) (lines_until Broken t.bytes) t.inside;
 }
 
 -- the reading broke off within a line

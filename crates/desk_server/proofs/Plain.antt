@@ -8,7 +8,7 @@ use Rattle.desk_server.specs.Answer.{Ask, Say, Tell, NoEnd, Want, Enough, Memory
 use Rattle.desk_server.specs.Script.{first_want, later_wants, replies_to}
 use Rattle.desk_server.specs.Wanted.{ShowsWant, NoneShows}
 use Rattle.desk_server.specs.declared.command.Command.{Command}
-use Rattle.desk_server.specs.declared.command.Command.TheVariants.{Rule, Set, Mark, Settle, Show, Quit, Bad}
+use Rattle.desk_server.specs.declared.command.Command.TheVariants.{Take, Set, Mark, Settle, Show, Quit, Bad}
 
 -- an answer is the plain one, or its reply shows the want
 abbrev IsPlain : After → After → Type 0
@@ -38,7 +38,7 @@ shown-plain (Unsettled n cause) p id (Some b) = inl refl
 shown-plain Pending p id (Some b) = inr (inr (inr (id, refl)))
 
 obeyed-plain : (want : Want) (p : Plan) (line : ℕ) (command : Command) → IsPlain (obeyed want p line command) (obeyed Enough p line command)
-obeyed-plain want p line Rule = unless-plain want p (obeyed Enough p line Rule)
+obeyed-plain want p line (Take format) = unless-plain want p (obeyed Enough p line (Take format))
 obeyed-plain want p line (Set cells) = unless-plain want p (obeyed Enough p line (Set cells))
 obeyed-plain want p line (Mark generation view) = unless-plain want p (obeyed Enough p line (Mark generation view))
 obeyed-plain want p line Settle = settled-plain want p
@@ -48,7 +48,7 @@ obeyed-plain want p line Bad = unless-plain want p (obeyed Enough p line Bad)
 
 answer-plain : (want : Want) (p : Plan) (ask : Ask) → IsPlain (answer want p ask) (answer Enough p ask)
 answer-plain want p (Say line command) = obeyed-plain want p line command
-answer-plain want p (Tell text) = unless-plain want p (answer Enough p (Tell text))
+answer-plain want p (Tell format text) = unless-plain want p (answer Enough p (Tell format text))
 answer-plain want p (NoEnd line) = inl refl
 
 -- the plain answer was given, and what follows is plain where the script goes on

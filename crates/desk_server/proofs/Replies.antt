@@ -1,5 +1,5 @@
 -- What the desk's answers are by the definition of the replies.
-use Rattle.std.proofs.Common.{◌≡◌, ℕ, ◌≤◌, ◌<◌, Option, Some, None, length, Bool, true, false, cond, ◌&&◌, refl, sym, ap, ap₂, ◌∙◌, subst, arith, nat_le, ◌==◌}
+use Rattle.std.proofs.Common.{◌≡◌, ◌⊎◌, inl, inr, ℕ, List, Result, Err, ◌≤◌, ◌<◌, Option, Some, None, length, Bool, true, false, cond, codes, ◌&&◌, refl, sym, ap, ap₂, ◌∙◌, subst, arith, nat_le, ◌==◌}
 use Rattle.std.specs.Prelude.{IsSome}
 use Rattle.std.proofs.lemmas.Bool.Decides.{nat_tests}
 use Rattle.schedule.specs.Plan.{Plan}
@@ -8,11 +8,26 @@ use Rattle.desk_core.specs.Rows.{Known, bookmark_in, text_in}
 use Rattle.desk_core.specs.Shown.{Shows, IsPending}
 use Rattle.desk_core.specs.declared.shown.Shown.{Shown}
 use Rattle.desk_core.specs.declared.shown.Shown.TheVariants as found
-use Rattle.desk_server.specs.Answer.{Want, Enough, Unsettled, Pending, After, only, settled, shown}
-use Rattle.desk_server.specs.Reply.{current_text, pending_text, settled_text, unsettled_text}
-use Rattle.desk_server.specs.Told.{shown_text}
+use Rattle.desk_server.specs.Answer.{Want, Enough, Memory, Unsettled, Pending, After, only, unless_memory, settled, shown}
+use Rattle.desk_server.specs.Reply.{current_text, pending_text, refused_text, settled_text, unsettled_text}
+use Rattle.desk_server.specs.Told.{text_of, ends, shown_text}
 use Rattle.desk_server.specs.Heard.{Gives}
+use Rattle.desk_server.specs.declared.reply.Reply.{Reply}
 use Rattle.desk_server.specs.declared.reply.Reply.TheVariants as reply
+
+-- a reply that changes nothing
+gives-only : (p : Plan) (new : Known) (r : Reply) (told : List ℕ) → new.plan ≡ p → text_of new r ≡ told → ends r ≡ false → Gives (only p told) r new
+gives-only p new r told same is goes = ap (λ q. only q told) (sym same) ∙ sym (ap₂ (λ t e. after t e) is goes)
+  where
+    after : List ℕ → Bool → After
+    after t e = record { told = t; plan = new.plan; ends = e }
+
+-- what was refused, or what memory was wanted for
+pub gives-refused : {A E : Type 0} (p : Plan) (new : Known) (r : Reply) (fault none : E) (read : Result A E) (then : Result A E → After) (told : E → List ℕ)
+    → told none ≡ refused_text 70 (codes "NoMemory") None → then (Err fault) ≡ only p (told fault) → new.plan ≡ p → (fault ≡ none) ⊎ (read ≡ Err fault)
+    → ((k : Known) → text_of k r ≡ told fault) → ends r ≡ false → (want : Want) × Gives (unless_memory want p (then read)) r new
+gives-refused p new r fault none read then told law given same (inl memory) is goes = (Memory, ap (only p) (sym law ∙ sym (ap told memory)) ∙ gives-only p new r (told fault) same (is new) goes)
+gives-refused p new r fault none read then told law given same (inr refused) is goes = (Enough, ap then refused ∙ given ∙ gives-only p new r (told fault) same (is new) goes)
 
 -- settling that left bookmarks pending
 left : (a b c : Bool) (x y : After) → a ≡ true → b ≡ true → c ≡ true → cond (a && b && c) x y ≡ x

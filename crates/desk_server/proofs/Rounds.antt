@@ -20,6 +20,7 @@ use Rattle.desk_server.proofs.Hearing.{follows-any}
 
 pub ends-other : (r : Reply) → r ≢ reply.Bye → ends r ≡ false
 ends-other (reply.Accepted edited) h = refl
+ends-other (reply.Started revision generation) h = refl
 ends-other reply.Settled h = refl
 ends-other (reply.Unsettled pending cause) h = refl
 ends-other (reply.Shown id) h = refl

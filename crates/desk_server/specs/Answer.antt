@@ -1,26 +1,32 @@
 -- What each command does to a document, and what is replied.
 use Rattle.std.specs.Prelude.{◌≡◌, ℕ, ◌==◌, ◌&&◌, nat_le, List, length, Bool, true, false, if◌then◌else◌, codes, Option, None, Some, Result, Ok, Err}
-use Rattle.rule_file.specs.declared.rule.Rule.{Rule as FileRule}
+use Rattle.rule_tree.specs.declared.rule.Rule.{Rule as FileRule}
 use Rattle.rule_file.specs.declared.fault.RuleFault.{RuleFault}
-use Rattle.rule_file.specs.Rule.{rule_of}
+use Rattle.rule_tree.specs.Rule.{rule_of}
 use Rattle.rule_file.specs.Faults as rule_faults
+use Rattle.plane_core.specs.declared.loaded.Loaded.{Loaded}
+use Rattle.multistate_rle.specs.declared.fault.RleFault.{RleFault}
+use Rattle.multistate_rle.specs.Pattern.{pattern_of}
+use Rattle.multistate_rle.specs.Faults as pattern_faults
 use Rattle.schedule.specs.declared.fault.EditFault.{EditFault}
 use Rattle.schedule.specs.declared.document.Bookmark.{Bookmark}
 use Rattle.schedule.specs.Faults as edit_faults
 use Rattle.schedule.specs.Plan.{Plan}
 use Rattle.schedule.specs.declared.edit.Edit.TheVariants.{SetCells, AddBookmark}
-use Rattle.schedule.specs.Change.{Changed, change, first_refusal, for_rule, changed_rule, unless_refused}
+use Rattle.schedule.specs.Change.{Changed, change, first_refusal, for_start, for_rule, changed_start, changed_rule, unless_refused}
 use Rattle.schedule.specs.Scratch.{scratch}
 use Rattle.desk_core.specs.Rows.{bookmark_in}
+use Rattle.desk_server.specs.declared.command.Format.{Format}
+use Rattle.desk_server.specs.declared.command.Format.TheVariants as format
 use Rattle.desk_server.specs.declared.command.Command.{Command}
-use Rattle.desk_server.specs.declared.command.Command.TheVariants.{Rule, Set, Mark, Settle, Show, Quit, Bad}
-use Rattle.desk_server.specs.Command.{takes_text}
-use Rattle.desk_server.specs.Reply.{ok_text, settled_text, unsettled_text, current_text, pending_text, refused_text, bye_text}
+use Rattle.desk_server.specs.declared.command.Command.TheVariants.{Take, Set, Mark, Settle, Show, Quit, Bad}
+use Rattle.desk_server.specs.Command.{text_format}
+use Rattle.desk_server.specs.Reply.{ok_text, started_text, settled_text, unsettled_text, current_text, pending_text, refused_text, bye_text}
 
--- what is asked of the desk: a command on a line, a rule's text, or a text without its end
+-- what is asked of the desk: a command on a line, a text of a format, or a text without its end
 pub data Ask : Type 0 where
   Say : ℕ → Command → Ask
-  Tell : List ℕ → Ask
+  Tell : Format → List ℕ → Ask
   NoEnd : ℕ → Ask
 
 -- what a command met: enough of everything, want of memory, a settling that left so many bookmarks pending for this cause, or a bookmark that stayed pending
@@ -60,6 +66,21 @@ abbrev pub ruled : Plan → Result FileRule RuleFault → After
 ruled p (Ok rule) = edited p (unless_refused (first_refusal (for_rule p rule)) (changed_rule p rule))
 ruled p (Err fault) = only p (refused_text (rule_faults.fault_number fault) (rule_faults.fault_name fault) (rule_faults.fault_place fault))
 
+-- an edit that brings a start was made, whose file names this generation, or refused
+abbrev pub begun : Plan → ℕ → Result Changed EditFault → After
+begun p generation (Ok c) = record { told = started_text c.edited.revision generation; plan = c.plan; ends = false }
+begun p generation (Err fault) = only p (refused_text (edit_faults.fault_number fault) (edit_faults.fault_name fault) None)
+
+-- a pattern's text was read
+abbrev pub started : Plan → Result Loaded RleFault → After
+started p (Ok loaded) = begun p loaded.generation (unless_refused (first_refusal (for_start p loaded.plane)) (changed_start p loaded.plane))
+started p (Err fault) = only p (refused_text (pattern_faults.fault_number fault) (pattern_faults.fault_name fault) (pattern_faults.fault_place fault))
+
+-- a text of a format was read
+abbrev pub taken : Plan → Format → List ℕ → After
+taken p format.Rule text = ruled p (rule_of text)
+taken p format.Rle text = started p (pattern_of text)
+
 -- all texts were computed; a want leaves some bookmarks pending
 abbrev pub settled : Want → Plan → After
 settled Enough p = only p settled_text
@@ -85,7 +106,7 @@ bad p line = only p (refused_text 80 (codes "BadCommand") (Some line))
 
 -- a command on a line
 abbrev pub obeyed : Want → Plan → ℕ → Command → After
-obeyed want p line Rule = unless_memory want p (bad p line)
+obeyed want p line (Take format) = unless_memory want p (bad p line)
 obeyed want p line (Set cells) = unless_memory want p (edited p (change p (SetCells cells)))
 obeyed want p line (Mark generation view) = unless_memory want p (edited p (change p (AddBookmark generation view)))
 obeyed want p line Settle = settled want p
@@ -96,7 +117,7 @@ obeyed want p line Bad = unless_memory want p (bad p line)
 -- what is replied to what is asked; a want that it can't meet counts as none
 abbrev pub answer : Want → Plan → Ask → After
 answer want p (Say line command) = obeyed want p line command
-answer want p (Tell text) = unless_memory want p (ruled p (rule_of text))
+answer want p (Tell format text) = unless_memory want p (taken p format text)
 answer want p (NoEnd line) = only p (refused_text 81 (codes "NoEnd") (Some line))
 
 -- want of memory is replied to it, and nothing changes
@@ -105,4 +126,4 @@ CanWant ask = (p : Plan) → answer Memory p ask ≡ no_memory p
 
 -- a command without a text that can meet want of memory
 abbrev pub MayWant : Command → Type 0
-MayWant command = (takes_text command ≡ false) × ((line : ℕ) → CanWant (Say line command))
+MayWant command = (text_format command ≡ None) × ((line : ℕ) → CanWant (Say line command))

@@ -1,26 +1,17 @@
 -- What a line of a script asks for, by its words.
-use Rattle.std.specs.Prelude.{ℕ, ◌-◌, ◌^◌, min, ℤ, List, [], ◌∷◌, Option, Some, None, Bool, true, false, codes, if◌then◌else◌}
-use Rattle.std.specs.Option.{option_map}
+use Rattle.std.specs.Prelude.{ℕ, ◌-◌, ◌^◌, ℤ, List, [], ◌∷◌, Option, Some, None, codes, if◌then◌else◌}
 use Rattle.std.specs.Str.{bytes_eq}
-use Rattle.std.specs.Int.{saturate_signed, w64}
-use Rattle.text_lines.specs.Numbers.{number_of}
-use Rattle.script_lines.specs.Numbers.{integer_of}
 use Rattle.script_lines.specs.Words.{words}
 use Rattle.plane_core.specs.declared.cell.CellSet.{CellSet}
 use Rattle.bookmarks.specs.declared.view.View.{View}
-use Rattle.bookmarks.specs.declared.view.View.TheVariants.{Counts}
+use Rattle.desk_server.specs.Numbers.{up_to, coordinate}
+use Rattle.desk_server.specs.View.{view_of}
+use Rattle.desk_server.specs.declared.command.Format.{Format}
+use Rattle.desk_server.specs.declared.command.Format.TheVariants as format
 use Rattle.desk_server.specs.declared.command.Verb.{Verb}
 use Rattle.desk_server.specs.declared.command.Verb.TheVariants as verb
 use Rattle.desk_server.specs.declared.command.Command.{Command}
-use Rattle.desk_server.specs.declared.command.Command.TheVariants.{Rule, Set, Mark, Settle, Show, Quit, Bad}
-
--- a number up to `most`; one too large is `most`
-abbrev pub up_to : ℕ → List ℕ → Option ℕ
-up_to most word = option_map (λ n. min n most) (number_of word)
-
--- a coordinate; one too large or too small is the nearest there is
-abbrev pub coordinate : List ℕ → Option ℤ
-coordinate word = option_map (saturate_signed w64) (integer_of word)
+use Rattle.desk_server.specs.declared.command.Command.TheVariants.{Take, Set, Mark, Settle, Show, Quit, Bad}
 
 -- a cell, where all three of its words are numbers
 abbrev pub cell_by : Option ℤ → Option ℤ → Option ℕ → Option CellSet
@@ -52,17 +43,16 @@ set_of None = Bad
 set_of (Some []) = Bad
 set_of (Some (c ∷ cells)) = Set (c ∷ cells)
 
--- a bookmark at a generation
-abbrev pub mark_at : Option ℕ → View → Command
-mark_at None view = Bad
-mark_at (Some g) view = Mark g view
+-- a bookmark, where both its generation and its view are known
+abbrev pub mark_by : Option ℕ → Option View → Command
+mark_by (Some g) (Some view) = Mark g view
+mark_by (Some g) None = Bad
+mark_by None view = Bad
 
 -- the generation and the view of a bookmark
 abbrev pub mark_of : List (List ℕ) → Command
 mark_of [] = Bad
-mark_of (g ∷ []) = Bad
-mark_of (g ∷ view ∷ []) = if bytes_eq view (codes "counts") then mark_at (up_to (2 ^ 64 - 1) g) Counts else Bad
-mark_of (g ∷ view ∷ w ∷ rest) = Bad
+mark_of (g ∷ view) = mark_by (up_to (2 ^ 64 - 1) g) (view_of view)
 
 -- a bookmark is shown
 abbrev pub show_by : Option ℕ → Command
@@ -80,20 +70,27 @@ abbrev pub alone : Command → List (List ℕ) → Command
 alone command [] = command
 alone command (w ∷ rest) = Bad
 
+-- the format of a start
+abbrev pub start_of : List (List ℕ) → Command
+start_of [] = Bad
+start_of (name ∷ rest) = if bytes_eq name (codes "rle") then alone (Take format.Rle) rest else Bad
+
 -- what a command's first word is
 abbrev pub verb_of : List ℕ → Verb
 verb_of word =
     if bytes_eq word (codes "rule") then verb.Rule
+    else (if bytes_eq word (codes "start") then verb.Start
     else (if bytes_eq word (codes "set") then verb.Set
     else (if bytes_eq word (codes "mark") then verb.Mark
     else (if bytes_eq word (codes "settle") then verb.Settle
     else (if bytes_eq word (codes "show") then verb.Show
     else (if bytes_eq word (codes "quit") then verb.Quit
-    else verb.Other)))))
+    else verb.Other))))))
 
 -- the command of a first word and those behind it
 abbrev pub command_by : Verb → List (List ℕ) → Command
-command_by verb.Rule rest = alone Rule rest
+command_by verb.Rule rest = alone (Take format.Rule) rest
+command_by verb.Start rest = start_of rest
 command_by verb.Set rest = set_of (cells_of rest)
 command_by verb.Mark rest = mark_of rest
 command_by verb.Settle rest = alone Settle rest
@@ -109,12 +106,12 @@ command_of_words (word ∷ rest) = command_by (verb_of word) rest
 abbrev pub command_of : List ℕ → Command
 command_of says = command_of_words (words says)
 
--- whether a text follows the command's line
-abbrev pub takes_text : Command → Bool
-takes_text Rule = true
-takes_text (Set cells) = false
-takes_text (Mark g view) = false
-takes_text Settle = false
-takes_text (Show id) = false
-takes_text Quit = false
-takes_text Bad = false
+-- the format of the text that follows the command's line, if one does
+abbrev pub text_format : Command → Option Format
+text_format (Take format) = Some format
+text_format (Set cells) = None
+text_format (Mark g view) = None
+text_format Settle = None
+text_format (Show id) = None
+text_format Quit = None
+text_format Bad = None

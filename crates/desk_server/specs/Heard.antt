@@ -6,7 +6,7 @@ use Rattle.script_lines.specs.ScriptLine.{is_passed_over}
 use Rattle.script_lines.specs.Script.{Follows}
 use Rattle.script_lines.specs.Text.{IsText}
 use Rattle.desk_core.specs.Rows.{Known}
-use Rattle.desk_server.specs.Command.{command_of, takes_text}
+use Rattle.desk_server.specs.Command.{command_of, text_format}
 use Rattle.desk_server.specs.Answer.{Ask, Say, Tell, NoEnd, Want, After, answer, CanWant, MayWant}
 use Rattle.desk_server.specs.Script.{asks, Place, Between}
 use Rattle.desk_server.specs.Told.{text_of, ends}
@@ -19,15 +19,15 @@ use Rattle.desk_server.specs.declared.heard.Meaning.TheVariants as meaning
 -- what a line means
 abbrev pub Means : Meaning → List ℕ → Type 0
 Means meaning.Nothing says = is_passed_over says ≡ true
-Means (meaning.Says command) says = (is_passed_over says ≡ false) × (takes_text command ≡ false) × (command_of says ≡ command)
-Means meaning.AsksText says = (is_passed_over says ≡ false) × (takes_text (command_of says) ≡ true)
+Means (meaning.Says command) says = (is_passed_over says ≡ false) × (text_format command ≡ None) × (command_of says ≡ command)
+Means (meaning.AsksText format) says = (is_passed_over says ≡ false) × (text_format (command_of says) ≡ Some format)
 Means meaning.NoMemory says = (is_passed_over says ≡ false) × MayWant (command_of says)
 
 -- what was asked: nothing, or one thing
 abbrev pub Asked : What → ℕ → List Ask → Type 0
 Asked what.Nothing line asked = asked ≡ []
 Asked (what.Says command) line asked = asked ≡ Say line command ∷ []
-Asked (what.Tells text) line asked = (bytes : List ℕ) × (asked ≡ Tell bytes ∷ []) × IsText text bytes
+Asked (what.Tells format text) line asked = (bytes : List ℕ) × (asked ≡ Tell format bytes ∷ []) × IsText text bytes
 Asked what.NoMemory line asked = (ask : Ask) × (asked ≡ ask ∷ []) × CanWant ask
 Asked what.NoEnd line asked = asked ≡ NoEnd line ∷ []
 

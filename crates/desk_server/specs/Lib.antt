@@ -1,3 +1,5 @@
+pub mod Numbers
+pub mod View
 pub mod Command
 pub mod Cells
 pub mod Faults

@@ -11,6 +11,10 @@ with_number before (Some n) = before ++ (decimal n ++ codes "\n")
 abbrev pub ok_text : Edited → List ℕ
 ok_text edited = codes "ok " ++ (decimal edited.revision ++ with_number (codes " bookmark ") edited.id)
 
+-- a start was taken: the revision after it, and the generation that its file names
+abbrev pub started_text : ℕ → ℕ → List ℕ
+started_text revision generation = codes "ok " ++ (decimal revision ++ (codes " gen " ++ (decimal generation ++ codes "\n")))
+
 -- every bookmark is current
 abbrev pub settled_text : List ℕ
 settled_text = codes "settled\n"

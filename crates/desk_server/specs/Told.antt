@@ -6,7 +6,7 @@ use Rattle.desk_server.specs.declared.reply.Reply.{Reply}
 use Rattle.desk_server.specs.declared.reply.Reply.TheVariants as reply
 use Rattle.desk_server.specs.declared.reply.Part.{Part}
 use Rattle.desk_server.specs.declared.reply.Part.TheVariants as part
-use Rattle.desk_server.specs.Reply.{ok_text, settled_text, unsettled_text, current_text, pending_text, refused_text, bye_text}
+use Rattle.desk_server.specs.Reply.{ok_text, started_text, settled_text, unsettled_text, current_text, pending_text, refused_text, bye_text}
 
 -- a bookmark that is shown: no such one, or without or with its text
 abbrev pub shown_text : ℕ → Option Bookmark → Option (List ℕ) → List ℕ
@@ -16,6 +16,7 @@ shown_text id (Some b) (Some text) = current_text id text
 
 abbrev pub text_of : Known → Reply → List ℕ
 text_of known (reply.Accepted edited) = ok_text edited
+text_of known (reply.Started revision generation) = started_text revision generation
 text_of known reply.Settled = settled_text
 text_of known (reply.Unsettled pending cause) = unsettled_text pending cause
 text_of known (reply.Shown id) = shown_text id (bookmark_in known.plan.bookmarks id) (text_in known.plan.bookmarks known.texts id)
@@ -25,6 +26,7 @@ text_of known reply.Bye = bye_text
 -- whether the script ends with the reply
 abbrev pub ends : Reply → Bool
 ends (reply.Accepted edited) = false
+ends (reply.Started revision generation) = false
 ends reply.Settled = false
 ends (reply.Unsettled pending cause) = false
 ends (reply.Shown id) = false

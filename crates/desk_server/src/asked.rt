@@ -1,16 +1,19 @@
 //! What the desk does when something is asked.
 ghost use Rattle.std.specs.Prelude.{◌≡◌, ℕ, List};
 ghost use Rattle.schedule.specs.Change.{change};
-ghost use Rattle.rule_file.specs.Rule.{rule_of};
+ghost use Rattle.schedule.specs.declared.edit.Edit.TheVariants.{ReplaceStart};
+ghost use Rattle.rule_tree.specs.Rule.{rule_of};
+ghost use Rattle.multistate_rle.specs.Pattern.{pattern_of};
 ghost use Rattle.desk_core.specs.Rows.{bookmark_in, pending_of};
-ghost use Rattle.desk_server.specs.Answer.{Ask, Want, unless_memory, edited, ruled, settled, shown, obeyed};
+ghost use Rattle.desk_server.specs.Answer.{Ask, Want, unless_memory, edited, ruled, started, begun, taken, settled, shown, obeyed};
 ghost use Rattle.desk_server.specs.Heard.{Asked, Gives, Served};
 
-use crate::command::Command;
+use crate::command::{Command, Format};
 use crate::fault::ScriptFault;
 use crate::heard::What;
 use crate::reply::{Reply, refused};
-use desk_core::{Desk, Edit, EditFault, Rule, Settling, Shown};
+use desk_core::{Desk, Edit, EditFault, Plane, Rule, Settling, Shown};
+use multistate_rle::read_rle;
 use std::alloc::Global;
 use std::sync::Arc;
 
@@ -35,6 +38,44 @@ fn take_rule(alloc: Global, desk: &mut Desk, text: &[u8]) -> Reply
     match Arc::new(alloc, rule) {
         Ok(rule) => edit(desk, &Edit::ReplaceRule(rule)),
         Err(_) => refused(&EditFault::NoMemory),
+    }
+}
+
+// Takes a start whose file names this generation, or refuses it; the desk counts from 0 all the same.
+fn begin(desk: &mut Desk, start: Arc<Plane>, generation: u64) -> Reply
+    ensures { (want : Want) × Gives (unless_memory want desk.old.plan (begun desk.old.plan generation (change desk.old.plan (ReplaceStart start)))) result desk.new }
+{
+    let edited = match desk.edit(&Edit::ReplaceStart(start)) {
+        Ok(edited) => edited,
+        Err(fault) => return refused(&fault),
+    };
+    Reply::Started {
+        revision: edited.revision,
+        generation,
+    }
+}
+
+// Takes the start that a text means.
+fn take_start(alloc: Global, desk: &mut Desk, text: &[u8]) -> Reply
+    ensures { (want : Want) × Gives (unless_memory want desk.old.plan (started desk.old.plan (pattern_of text.now))) result desk.new }
+{
+    let pattern = match read_rle(alloc, text) {
+        Ok(pattern) => pattern,
+        Err(fault) => return refused(&fault),
+    };
+    match Arc::new(alloc, pattern.plane) {
+        Ok(start) => begin(desk, start, pattern.generation),
+        Err(_) => refused(&EditFault::NoMemory),
+    }
+}
+
+// Takes what a text of this format means.
+fn take(alloc: Global, desk: &mut Desk, format: Format, text: &[u8]) -> Reply
+    ensures { (want : Want) × Gives (unless_memory want desk.old.plan (taken desk.old.plan format text.now)) result desk.new }
+{
+    match format {
+        Format::Rule => take_rule(alloc, desk, text),
+        Format::Rle => take_start(alloc, desk, text),
     }
 }
 
@@ -74,7 +115,7 @@ fn obey(desk: &mut Desk, command: Command, line: u64) -> Reply
         Command::Settle => settle(desk),
         Command::Show { id } => show(desk, id),
         Command::Quit => Reply::Bye,
-        Command::Rule | Command::Bad => refused(&ScriptFault::BadCommand(line)),
+        Command::Take(_) | Command::Bad => refused(&ScriptFault::BadCommand(line)),
     }
 }
 
@@ -85,8 +126,8 @@ pub(crate) fn serve(alloc: Global, desk: &mut Desk, what: What, line: u64) -> Op
     match what {
         What::Nothing => None,
         What::Says(command) => Some(obey(desk, command, line)),
-        What::Tells(text) => match text.bytes() {
-            Some(bytes) => Some(take_rule(alloc, desk, bytes)),
+        What::Tells { format, text } => match text.bytes() {
+            Some(bytes) => Some(take(alloc, desk, format, bytes)),
             None => Some(refused(&EditFault::NoMemory)),
         },
         What::NoMemory => Some(refused(&EditFault::NoMemory)),

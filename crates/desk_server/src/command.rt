@@ -2,10 +2,11 @@
 ghost use Rattle.std.specs.Prelude.{◌≡◌, ◌<◌, ◌∷◌, [], None, Some, IfOk, OnErr, length};
 ghost use Rattle.std.specs.Option.{option_map};
 ghost use Rattle.script_lines.specs.Words.{words};
-ghost use Rattle.desk_server.specs.Command.{verb_of, command_by, command_of, alone, mark_of, show_of, cells_of, set_of};
+ghost use Rattle.desk_server.specs.Command.{verb_of, command_by, command_of, alone, start_of, mark_of, show_of, cells_of, set_of};
 ghost use Rattle.desk_server.specs.Cells.{NextCell};
 ghost use Rattle.desk_server.specs.Answer.{MayWant};
 
+use crate::view::read_view;
 use desk_core::{CellSet, Listing, View};
 use script_lines::{next_word, signed, unsigned};
 use std::alloc::{AllocError, Global};
@@ -14,6 +15,7 @@ use std::alloc::{AllocError, Global};
 #[derive(Clone, Copy, Debug, PartialEq, Eq)]
 pub enum Verb {
     Rule,
+    Start,
     Set,
     Mark,
     Settle,
@@ -22,11 +24,20 @@ pub enum Verb {
     Other,
 }
 
+/// The format of the text that follows a command, which tells what is taken from it.
+#[derive(Clone, Copy, Debug, PartialEq, Eq)]
+pub enum Format {
+    /// A rule file, for the document's rule.
+    Rule,
+    /// A pattern as run-length encoded text, for the start.
+    Rle,
+}
+
 /// A command, its text aside.
 #[derive(Debug, Drop)]
 pub enum Command {
-    /// The rule is to be the one that the text which follows means.
-    Rule,
+    /// What the text that follows means is to be taken.
+    Take(Format),
     /// These cells of the start are to be set, one at least.
     Set(Listing<CellSet>),
     /// A bookmark is to be added.
@@ -46,6 +57,8 @@ fn verb_of(word: &[u8]) -> Verb
 {
     if word == b"rule".as_slice() {
         Verb::Rule
+    } else if word == b"start".as_slice() {
+        Verb::Start
     } else if word == b"set".as_slice() {
         Verb::Set
     } else if word == b"mark".as_slice() {
@@ -78,7 +91,8 @@ fn read_by(alloc: Global, verb: Verb, rest: &[u8]) -> Result<Command, AllocError
     ensures err { OnErr result (MayWant (command_by verb (words rest.now))) }
 {
     match verb {
-        Verb::Rule => Ok(alone(Command::Rule, rest)),
+        Verb::Rule => Ok(alone(Command::Take(Format::Rule), rest)),
+        Verb::Start => Ok(read_start(rest)),
         Verb::Set => read_set(alloc, rest),
         Verb::Mark => Ok(read_mark(rest)),
         Verb::Settle => Ok(alone(Command::Settle, rest)),
@@ -99,25 +113,32 @@ fn alone(command: Command, rest: &[u8]) -> Command
     }
 }
 
+fn read_start(rest: &[u8]) -> Command
+    ensures { result ≡ start_of (words rest.now) }
+{
+    let Some((format, rest)) = next_word(rest) else {
+        return Command::Bad;
+    };
+    if format == b"rle".as_slice() {
+        alone(Command::Take(Format::Rle), rest)
+    } else {
+        Command::Bad
+    }
+}
+
 fn read_mark(rest: &[u8]) -> Command
     ensures { result ≡ mark_of (words rest.now) }
 {
-    let Some((generation, rest)) = next_word(rest) else {
+    let Some((generation, view)) = next_word(rest) else {
         return Command::Bad;
     };
-    let Some((view, rest)) = next_word(rest) else {
+    let Some(generation) = unsigned(generation, u64::MAX) else {
         return Command::Bad;
     };
-    if next_word(rest).is_some() || view != b"counts".as_slice() {
+    let Some(view) = read_view(view) else {
         return Command::Bad;
-    }
-    match unsigned(generation, u64::MAX) {
-        None => Command::Bad,
-        Some(generation) => Command::Mark {
-            generation,
-            view: View::Counts,
-        },
-    }
+    };
+    Command::Mark { generation, view }
 }
 
 fn read_show(rest: &[u8]) -> Command

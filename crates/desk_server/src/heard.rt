@@ -6,7 +6,7 @@ ghost use Rattle.script_lines.specs.Script.{unread, bytes_to_come, line_of, line
 ghost use Rattle.desk_server.specs.Script.{Between, InText};
 ghost use Rattle.desk_server.specs.Heard.{Means, Hears, BreaksOff};
 
-use crate::command::{Command, read_command};
+use crate::command::{Command, Format, read_command};
 use script_lines::{Counted, Failed, Found, KeptLine, Script, Text, TextFound};
 use std::alloc::Global;
 use std::io::Read;
@@ -19,8 +19,8 @@ pub enum Meaning {
     Nothing,
     /// A command.
     Says(Command),
-    /// A command whose text follows.
-    AsksText,
+    /// A command whose text follows, which has this format.
+    AsksText(Format),
     /// A command that memory was wanted for.
     NoMemory,
 }
@@ -32,8 +32,8 @@ pub enum What {
     Nothing,
     /// A command.
     Says(Command),
-    /// A rule's text.
-    Tells(Text),
+    /// A text of this format.
+    Tells { format: Format, text: Text },
     /// Something that memory was wanted for.
     NoMemory,
     /// A command whose text has no end.
@@ -59,23 +59,24 @@ fn meaning_of(alloc: Global, line: &KeptLine) -> Meaning
     };
     match read_command(alloc, bytes) {
         Err(_) => Meaning::NoMemory,
-        Ok(Command::Rule) => Meaning::AsksText,
+        Ok(Command::Take(format)) => Meaning::AsksText(format),
         Ok(command) => Meaning::Says(command),
     }
 }
 
-// What was heard of the text whose command stands on the line that was taken last.
+// What was heard of the text of this format whose command stands on the line that was taken last.
 fn listen_text<R: Read, L: Ledger>(
     alloc: Global,
     reader: &mut Counted<R, L>,
     script: &mut Script,
+    format: Format,
 ) -> Result<Heard, Failed>
     requires { HasRoom reader.old.given script.old }
-    ensures heard { IfOk result (λ heard. Hears (unread (R.remaining reader.old.inner) script.old) (unread (R.remaining reader.new.inner) script.new) (InText (line_number script.old) []) heard.what heard.last heard.line (line_number script.old + 1) (line_number script.new + 1)) }
+    ensures heard { IfOk result (λ heard. Hears (unread (R.remaining reader.old.inner) script.old) (unread (R.remaining reader.new.inner) script.new) (InText (line_number script.old) format []) heard.what heard.last heard.line (line_number script.old + 1) (line_number script.new + 1)) }
     ensures room { OnOk result (HasRoom reader.new.given script.new) }
     ensures same { OnOk result (bytes_to_come reader.new.given script.new ≤ bytes_to_come reader.old.given script.old) }
     ensures worked { OnOk result (reader.new.failures ≡ reader.old.failures) }
-    ensures err { OnErr result (BreaksOff (unread (R.remaining reader.old.inner) script.old) (R.remaining reader.new.inner) (InText (line_number script.old) []) (line_number script.old + 1)) }
+    ensures err { OnErr result (BreaksOff (unread (R.remaining reader.old.inner) script.old) (R.remaining reader.new.inner) (InText (line_number script.old) format []) (line_number script.old + 1)) }
     ensures failed { OnErr result (FailsOrFull reader.old.failures reader.new.failures reader.new.given) }
 {
     let line = script.line_number();
@@ -86,7 +87,7 @@ fn listen_text<R: Read, L: Ledger>(
             last: true,
         }),
         TextFound::Ended { text, last } => Ok(Heard {
-            what: What::Tells(text),
+            what: What::Tells { format, text },
             line,
             last,
         }),
@@ -125,7 +126,7 @@ fn listen_line<R: Read, L: Ledger>(
             line,
             last,
         }),
-        Meaning::AsksText => {
+        Meaning::AsksText(format) => {
             if last {
                 return Ok(Heard {
                     what: What::NoEnd,
@@ -133,7 +134,7 @@ fn listen_line<R: Read, L: Ledger>(
                     last,
                 });
             }
-            listen_text(alloc, reader, script)
+            listen_text(alloc, reader, script, format)
         }
     }
 }

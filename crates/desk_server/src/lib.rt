@@ -18,6 +18,7 @@ mod reply;
 mod server;
 #[cfg(test)]
 mod tests;
+mod view;
 
 pub use laws::plain_without_wants;
 pub use script_lines::{Counted, Failures};

@@ -2,7 +2,7 @@
 ghost use Rattle.std.specs.Prelude.{◌≡◌, ◌+◌, ℕ, OnOk, OnErr, codes, false, true};
 ghost use Rattle.script_lines.specs.Faults.{Wrote};
 ghost use Rattle.desk_core.specs.Rows.{Known, bookmark_in, text_in};
-ghost use Rattle.desk_server.specs.Reply.{ok_text, refused_text, current_text, pending_text};
+ghost use Rattle.desk_server.specs.Reply.{ok_text, started_text, refused_text, current_text, pending_text};
 ghost use Rattle.desk_server.specs.Told.{text_of, ends, part_text, parts_text};
 
 use desk_core::{Desk, EditFault, Edited, Refusal, Shown};
@@ -15,6 +15,11 @@ use std::sync::ledger::Ledger;
 pub enum Reply {
     /// The edit was made.
     Accepted(Edited),
+    /// A start was taken: the revision after it, and the generation that its file names.
+    Started {
+        revision: u64,
+        generation: u64,
+    },
     /// Every bookmark is current.
     Settled,
     /// So many bookmarks are pending, for the refusal of this number; 0 where none was met.
@@ -108,6 +113,27 @@ fn tell_accepted<W: Write, L: Ledger>(
     }
 }
 
+fn tell_started<W: Write, L: Ledger>(
+    writer: &mut Counted<W, L>,
+    revision: u64,
+    generation: u64,
+) -> Result<(), Failed>
+    ensures bytes { Wrote (W.contents writer.old.inner) (W.contents writer.new.inner) result (started_text revision generation) }
+    ensures worked { OnOk result (writer.new.failures ≡ writer.old.failures) }
+    ensures failed { OnErr result (writer.new.failures ≡ writer.old.failures + 1) }
+{
+    tell_parts(
+        writer,
+        &[
+            Part::Text(b"ok "),
+            Part::Number(revision),
+            Part::Text(b" gen "),
+            Part::Number(generation),
+            Part::Text(b"\n"),
+        ],
+    )
+}
+
 fn tell_refused<W: Write, L: Ledger>(
     writer: &mut Counted<W, L>,
     number: u8,
@@ -178,6 +204,10 @@ fn tell<W: Write, L: Ledger>(
 {
     match reply {
         Reply::Accepted(edited) => tell_accepted(writer, edited),
+        Reply::Started {
+            revision,
+            generation,
+        } => tell_started(writer, revision, generation),
         Reply::Settled => writer.tell(b"settled\n"),
         Reply::Unsettled { pending, cause } => {
             let pending = Part::Number(pending as u64);

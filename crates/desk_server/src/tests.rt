@@ -105,11 +105,11 @@ const SCRIPTS: &[(&[u8], &[u8])] = &[
     // What is no command, with its line.
     (b"paint 3", b"refused 80 BadCommand 1\n"),
     (
-        b"\nwork\nrule X\nquit now\nshow\nshow 1 2\nshow x\nsettle 1\nstart rle\n",
+        b"\nwork\nrule X\nquit now\nshow\nshow 1 2\nshow x\nsettle 1\nstart mc\n",
         b"refused 80 BadCommand 2\nrefused 80 BadCommand 3\nrefused 80 BadCommand 4\nrefused 80 BadCommand 5\nrefused 80 BadCommand 6\nrefused 80 BadCommand 7\nrefused 80 BadCommand 8\nrefused 80 BadCommand 9\n",
     ),
     (
-        b"set\nset 0\nset 0 0\nset 0 0 1 2\nset 0 0 -1\nset a 0 0\nmark 1\nmark counts\nmark -1 counts\nmark 1 rle\nmark 1 counts 2\n",
+        b"set\nset 0\nset 0 0\nset 0 0 1 2\nset 0 0 -1\nset a 0 0\nmark 1\nmark counts\nmark -1 counts\nmark 1 mc\nmark 1 counts 2\n",
         b"refused 80 BadCommand 1\nrefused 80 BadCommand 2\nrefused 80 BadCommand 3\nrefused 80 BadCommand 4\nrefused 80 BadCommand 5\nrefused 80 BadCommand 6\nrefused 80 BadCommand 7\nrefused 80 BadCommand 8\nrefused 80 BadCommand 9\nrefused 80 BadCommand 10\nrefused 80 BadCommand 11\n",
     ),
     // Texts without their end.
@@ -156,9 +156,95 @@ const SCRIPTS: &[(&[u8], &[u8])] = &[
     ),
 ];
 
+// The commands that begin with another start.
+const STARTS: &[(&[u8], &[u8])] = &[
+    // The generation that the file names is told, and the desk counts from 0.
+    (
+        b"start rle\n#CXRLE Pos=-3,2 Gen=7\nx = 2, y = 1\n2A!\nend\n",
+        b"ok 1 gen 7\n",
+    ),
+    (
+        b"rule\n@RULE F\n@TABLE\nn_states:4\nneighborhood:oneDimensional\nsymmetries:none\nend\n start   rle\t\r\n#CXRLE Pos=-3,2 Gen=7\r\nx = 3, y = 2, rule = other\n2A.$C!\nend\nmark 0 window -3 2 3 2\nmark 0 rle\nshow 1\nshow 2\n",
+        b"ok 1\nok 2 gen 7\nok 3 bookmark 1\nok 4 bookmark 2\nbookmark 1 current 12\n1 1 0\n3 0 0\nbookmark 2 current 51\n#CXRLE Pos=-3,2 Gen=0\nx = 2, y = 2, rule = F\n2A$C!\n",
+    ),
+    (
+        b"start rle\n#CXRLE Gen=99999999999999999999\nx = 0, y = 0\n!\nend\n",
+        b"ok 1 gen 18446744073709551615\n",
+    ),
+    // Another start takes the place of the one before.
+    (
+        b"set 0 0 1\nmark 0 counts\nshow 1\nstart rle\nx = 0, y = 0\nend\nshow 1\n",
+        b"ok 1\nok 2 bookmark 1\nbookmark 1 current 4\n1 1\nok 3 gen 0\nbookmark 1 current 6\nempty\n",
+    ),
+    // What is no pattern, with its offset within the text.
+    (
+        b"start rle\nx = 1, y = 1\nyP!\nend\nquit\n",
+        b"refused 22 BadRun 13\nbye\n",
+    ),
+    (
+        b"start rle\nend\nstart rle\nx = 1\nend\nstart rle\nx = 1, y = 1, rule = B3/S23:T9,9\nend\nsettle\n",
+        b"refused 20 NoHeader\nrefused 21 BadHeader\nrefused 23 BoundedGrid\nsettled\n",
+    ),
+    // A pattern and a rule file are read each by its own format.
+    (
+        b"start rle\n@RULE X\nend\nrule\nx = 1, y = 1\no!\nend\n",
+        b"refused 20 NoHeader\nrefused 1 NoRuleLine\n",
+    ),
+    // Patterns that are no start of the document change nothing: a cell in the plane but where no
+    // edit may name one, one out of the plane, and a state that the rule lacks.
+    (
+        b"set 0 0 1\nstart rle\n#CXRLE Pos=2305843009213693951,0\nx = 2, y = 1\no!\nend\nstart rle\n#CXRLE Pos=2305843009213693951,0\nx = 2, y = 1\n2o!\nend\nstart rle\nx = 1, y = 1\nC!\nend\nmark 0 counts\nshow 1\n",
+        b"ok 1\nrefused 41 CellOutOfRange\nrefused 41 CellOutOfRange\nrefused 42 CellStateTooHigh\nok 2 bookmark 1\nbookmark 1 current 4\n1 1\n",
+    ),
+    // Texts without their end.
+    (b"start rle\nx = 1, y = 1\no!\n", b"refused 81 NoEnd 1\n"),
+    (b"# one\nstart rle", b"refused 81 NoEnd 2\n"),
+    // Other words take no text: the next line is a command.
+    (
+        b"start\nsettle\nstart foo\nsettle\nstart rle x\nsettle\n",
+        b"refused 80 BadCommand 1\nsettled\nrefused 80 BadCommand 3\nsettled\nrefused 80 BadCommand 5\nsettled\n",
+    ),
+];
+
+// The commands that add bookmarks of each view.
+const VIEWS: &[(&[u8], &[u8])] = &[
+    (
+        b"mark 0 counts\nmark 0 rle\nmark 0 window 0 0 2 2\nshow 1\nshow 2\nshow 3\n",
+        b"ok 1 bookmark 1\nok 2 bookmark 2\nok 3 bookmark 3\nbookmark 1 current 6\nempty\nbookmark 2 current 50\n#CXRLE Pos=0,0 Gen=0\nx = 0, y = 0, rule = still\n!\nbookmark 3 current 8\n0 0\n0 0\n",
+    ),
+    (
+        b"rule\n@RULE X\n@TABLE\nn_states:2\nneighborhood:oneDimensional\nsymmetries:none\n0,1,0,1\n0,0,1,1\n1,0,0,0\n1,1,1,0\nend\nset 0 0 1\nmark 2 window -2 0 5 1\nshow 1\n",
+        b"ok 1\nok 2\nok 3 bookmark 1\nbookmark 1 current 10\n1 0 0 0 1\n",
+    ),
+    (
+        b"rule\n@RULE X\n@TABLE\nn_states:2\nneighborhood:oneDimensional\nsymmetries:none\n0,1,0,1\n0,0,1,1\n1,0,0,0\n1,1,1,0\nend\nset 0 0 1\nmark 2 rle\nshow 1\n",
+        b"ok 1\nok 2\nok 3 bookmark 1\nbookmark 1 current 51\n#CXRLE Pos=-2,0 Gen=2\nx = 5, y = 1, rule = X\no3bo!\n",
+    ),
+    // Columns come before rows, in the corner and in the size.
+    (
+        b"set 3 -4 1\nmark 0 window 3 -4 1 2\nmark 0 window 2 -4 2 1\nshow 1\nshow 2\n",
+        b"ok 1\nok 2 bookmark 1\nok 3 bookmark 2\nbookmark 1 current 4\n1\n0\nbookmark 2 current 4\n0 1\n",
+    ),
+    // Windows without cells or with too many, and such as leave the plane; numbers beyond their
+    // ranges are the nearest ends.
+    (
+        b"mark 0 window 0 0 0 1\nmark 0 window 0 0 1 0\nmark 0 window 0 0 256 257\nmark 0 window 0 0 4294967297 1\nmark 0 window 99999999999999999999 0 1 1\nmark 0 window 0 -99999999999999999999 1 1\nmark 0 window 2305843009213693951 0 1 1\n",
+        b"refused 48 BadWindow\nrefused 48 BadWindow\nrefused 48 BadWindow\nrefused 48 BadWindow\nrefused 41 CellOutOfRange\nrefused 41 CellOutOfRange\nok 1 bookmark 1\n",
+    ),
+    // Words that name no view.
+    (
+        b"mark 0\nmark 0 window\nmark 0 window 0 0 1\nmark 0 window 0 0 1 1 1\nmark 0 window 0 0 -1 1\nmark 0 window 0 0 1 x\nmark 0 window 0 y 1 1\nmark 0 window +1 0 1 1\n",
+        b"refused 80 BadCommand 1\nrefused 80 BadCommand 2\nrefused 80 BadCommand 3\nrefused 80 BadCommand 4\nrefused 80 BadCommand 5\nrefused 80 BadCommand 6\nrefused 80 BadCommand 7\nrefused 80 BadCommand 8\n",
+    ),
+    (
+        b"mark x rle\nmark 0 rle 1\nmark 0 Rle\nmark rle 0\nmark x window 0 0 1 1\n",
+        b"refused 80 BadCommand 1\nrefused 80 BadCommand 2\nrefused 80 BadCommand 3\nrefused 80 BadCommand 4\nrefused 80 BadCommand 5\n",
+    ),
+];
+
 #[test]
 fn scripts_are_answered(rt: HostRuntime) -> Result<(), Fail> {
-    for (script, wanted) in SCRIPTS {
+    for (script, wanted) in SCRIPTS.iter().chain(STARTS).chain(VIEWS) {
         let (answered, told) = answer(rt.alloc(), whole(script), usize::MAX);
         assert_eq!(rt; answered, Ok(()), "{script:?}");
         assert_eq!(rt; told.as_slice(), *wanted, "{script:?}");

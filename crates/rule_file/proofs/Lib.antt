@@ -1,5 +1,0 @@
-mod FirstOf
-mod KeptLines
-mod KeptResults
-mod KeptTables
-mod Splits

@@ -1,11 +1,3 @@
 pub mod Faults
-pub mod FirstResults
-pub mod Kept
-pub mod NextState
-pub mod PlainLines
 pub mod Results
-pub mod Rule
 pub mod RuleFile
-pub mod RuleLaws
-pub mod Table
-pub mod TableLines

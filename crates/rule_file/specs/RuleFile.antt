@@ -66,11 +66,6 @@ first_word line = before_first is_blank line
 abbrev pub section_kind : List ℕ → Option SectionKind
 section_kind line = if bytes_eq (first_word line) (codes "@TABLE") then Some Table else (if bytes_eq (first_word line) (codes "@TREE") then Some Tree else None)
 
--- trees aren't read yet, so their sections are passed over
-abbrev pub is_read : SectionKind → Bool
-is_read Table = true
-is_read Tree = false
-
 -- what stands before the first #
 abbrev pub without_comment : List ℕ → List ℕ
 without_comment line = before_first (λ b. b == 35) line
@@ -89,10 +84,10 @@ abbrev pub section_lines : List NumberedLine → List NumberedLine
 section_lines [] = []
 section_lines (line ∷ lines) = if opens_section line.text then [] else said line ++ section_lines lines
 
--- the first section that is read
+-- the first section that says what the rule does
 abbrev pub section_of : List NumberedLine → Result Section RuleFault
 section_of [] = Err NoTable
-section_of (line ∷ lines) = option_map_or (λ kind. if is_read kind then Ok (record { kind = kind; opened = line.number; lines = section_lines lines }) else section_of lines) (section_kind line.text) (section_of lines)
+section_of (line ∷ lines) = option_map_or (λ kind. Ok (record { kind = kind; opened = line.number; lines = section_lines lines })) (section_kind line.text) (section_of lines)
 
 -- what a file is, or why it is none
 abbrev pub file_of : List ℕ → Result RuleFile RuleFault

@@ -14,7 +14,7 @@ pub enum RuleFault {
     #[error("the first line is not `@RULE` and a name")]
     NoRuleLine,
     /// No section says what the rule does.
-    #[error("there is no table")]
+    #[error("there is no table or tree")]
     NoTable,
     /// One of the three descriptors is not there before the table's first line.
     #[error("n_states, neighborhood and symmetries are not all given before the table's lines")]

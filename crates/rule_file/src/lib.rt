@@ -1,30 +1,19 @@
-//! Rules of cellular automata, read from Golly's `.rule` files.
+//! Rule files: the name of a rule and the lines that say what the rule does.
 //!
-//! `Rule::read` takes the bytes of a file and gives exactly the rule that they mean, or the first
-//! fault that they have with its line. A rule answers the next state of a cell by the states at
-//! and around it. So far tables of the neighbourhood `oneDimensional` are read, without symmetries
-//! and without variables.
+//! `cut` takes the bytes of a file in Golly's `.rule` format and gives the name and the lines of
+//! the section that is used, with their numbers, or the first fault of the file. `RuleFault` is
+//! the one fault of a rule file, also of the sections, which other crates read.
 //!
-//! Reading goes over the file once, in time and memory in proportion to its length. A next state
-//! costs one look-up in a hash map, however many transitions there are.
+//! Cutting goes over the file once and copies none of it.
 #![tactic(auto)]
 
-mod descriptors;
 mod fault;
-mod fields;
 mod numbered_lines;
-mod rule;
 mod sections;
-mod table;
-mod table_reader;
 mod text;
-mod transition;
 
 pub use fault::RuleFault;
-pub use rule::Rule;
 pub use sections::cut;
-pub use table::{Neighborhood, Symmetry, TableRule};
-pub use table_reader::read_table;
 pub use text::{RuleLine, RuleText, SectionKind};
 
 #[cfg(test)]

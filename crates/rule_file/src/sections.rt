@@ -3,7 +3,7 @@ ghost use Rattle.std.specs.Option.{option_copied};
 ghost use Rattle.std.specs.List.{list_all};
 ghost use Rattle.text_lines.specs.Blanks.{is_blank};
 ghost use Rattle.std.specs.Prelude.{◌≡◌, position, IfOk};
-ghost use Rattle.rule_file.specs.RuleFile.{file_of, first_word, is_name, is_name_byte, named, opens_section, rule_name, section_kind, section_lines, section_of, without_comment, is_read};
+ghost use Rattle.rule_file.specs.RuleFile.{file_of, first_word, is_name, is_name_byte, named, opens_section, rule_name, section_kind, section_lines, section_of, without_comment};
 ghost use Rattle.rule_file.specs.Results.{Gives, Reads};
 
 use crate::fault::RuleFault;
@@ -12,11 +12,12 @@ use crate::text::{RuleLine, RuleText, SectionKind};
 use std::alloc::{AllocError, Global};
 use text_lines::{find_byte, is_blank, trim};
 
-/// Cuts a rule file: the name of the rule, and the lines of the first table.
+/// Cuts a rule file: the name of the rule, and the lines of the first table or tree, whichever
+/// stands first.
 ///
 /// The first line that isn't blank is `@RULE`, a space and the name, else the file is refused by
-/// NoRuleLine. Later lines that begin with `@` open sections; a file with no table is refused by
-/// NoTable. NoMemory comes only where memory was wanted.
+/// NoRuleLine. Later lines that begin with `@` open sections; a file with neither a table nor a
+/// tree is refused by NoTable. NoMemory comes only where memory was wanted.
 pub fn cut(alloc: Global, text: &[u8]) -> Result<RuleText<'_>, RuleFault>
     ensures { Gives result (file_of text.now) }
 {
@@ -38,16 +39,14 @@ fn find_name<'a>(lines: &mut NumberedLines<'a>) -> Result<&'a [u8], RuleFault>
     Err(RuleFault::NoRuleLine)
 }
 
-// Goes behind the line that opens the first section that is read.
+// Goes behind the line that opens the first table or tree.
 fn find_section(lines: &mut NumberedLines) -> Result<(SectionKind, u64), RuleFault>
     ensures { Reads
         (λ found. record { kind = found.0; opened = found.1; lines = section_lines lines.new })
         result (section_of lines.old) }
 {
     while let Some(line) = lines.next() {
-        if let Some(kind) = section_kind(line.text())
-            && is_read(kind)
-        {
+        if let Some(kind) = section_kind(line.text()) {
             return Ok((kind, line.number()));
         }
     }
@@ -118,16 +117,6 @@ fn section_kind(line: &[u8]) -> Option<SectionKind>
         Some(SectionKind::Tree)
     } else {
         None
-    }
-}
-
-// Whether sections of this kind are read; those of trees aren't yet.
-fn is_read(kind: SectionKind) -> bool
-    ensures { result ≡ is_read kind }
-{
-    match kind {
-        SectionKind::Table => true,
-        SectionKind::Tree => false,
     }
 }
 

@@ -1,17 +1,19 @@
 -- What the tests of edits say.
-use Rattle.std.proofs.Common.{◌≡◌, ℕ, zero, suc, ◌+◌, ◌<◌, ◌^◌, true, false, nat_lt, List, [], ◌∷◌, refl, sym, subst, arith, ℤ, pos, neg_ℤ, ◌≤ℤ◌, ◌<ℤ◌}
+use Rattle.std.proofs.Common.{◌≡◌, ℕ, zero, suc, ◌+◌, ◌<◌, ◌^◌, true, false, nat_lt, List, [], ◌∷◌, refl, sym, subst, arith, ℤ, pos, neg_ℤ, ◌≤ℤ◌, ◌<ℤ◌, ◌+ℤ◌, ◌-ℤ◌, ◌&&◌, Bool, ap, ◌∙◌, map}
 use Rattle.std.specs.Prelude.{int_le, int_lt}
-use Rattle.std.specs.List.{AllByRecursion}
+use Rattle.std.specs.List.{AllByRecursion, list_all}
 use Rattle.std.proofs.lemmas.Int.{ints}
 use Rattle.std.proofs.lemmas.Bool.{and_parts}
 use Rattle.std.proofs.lemmas.Bool.Decides.{nat_tests}
-use Rattle.plane_core.specs.World.{World, Place, cell}
-use Rattle.plane_core.specs.Live.{live, live-states, cell-state_at, by_place}
-use Rattle.plane_core.specs.Range.{IsInside, AllBelow, IsGreatest}
+use Rattle.plane_core.specs.World.{World, Place, cell, blank, entries-blank}
+use Rattle.plane_core.specs.Live.{live, live-states, live-entries, as_live, cell-state_at, by_place}
+use Rattle.plane_core.specs.Range.{IsInside, HasMargin, AllBelow, IsGreatest, IsInBox, IsBoundingBox}
+use Rattle.plane_core.specs.declared.cell.Bounds.{Bounds}
 use Rattle.plane_core.specs.declared.cell.CellSet.{CellSet}
-use Rattle.schedule.specs.Change.{is_in_range, may_be_named, stay_in_range, set_below, lies_below}
+use Rattle.schedule.specs.Change.{is_in_range, may_be_named, stay_in_range, set_below, lies_near, lies_below}
+use Rattle.schedule.specs.Near.{box_near}
 use Rattle.schedule.specs.Sound.{AreNamed, SetBelow}
-use Rattle.schedule.proofs.Each.{each_passes, all_pass}
+use Rattle.schedule.proofs.Each.{each_passes, all_pass, all_weaker}
 
 in_range : (z : ℤ) → is_in_range z ≡ true → (neg_ℤ (pos (2 ^ 60)) ≤ℤ z) × (z <ℤ pos (2 ^ 60))
 in_range z h = let parts = and_parts (int_le (neg_ℤ (pos (2 ^ 60))) z) (int_lt z (pos (2 ^ 60))) h in (
@@ -19,11 +21,11 @@ in_range z h = let parts = and_parts (int_le (neg_ℤ (pos (2 ^ 60))) z) (int_lt
   (let k = parts.1 in grind (arith, ints)),
 )
 
-named_inside : (c : CellSet) → may_be_named c ≡ true → IsInside (2 ^ 60) c.x c.y
-named_inside c h =
-    let parts = and_parts (is_in_range c.x) (is_in_range c.y) h in
-    let column = in_range c.x parts.0 in
-    let row = in_range c.y parts.1 in
+place_inside : (x y : ℤ) → (is_in_range x && is_in_range y) ≡ true → IsInside (2 ^ 60) x y
+place_inside x y h =
+    let parts = and_parts (is_in_range x) (is_in_range y) h in
+    let column = in_range x parts.0 in
+    let row = in_range y parts.1 in
     record {
       left = (let k = column.0 in omega (arith, ints));
       right = (let k = column.1 in omega (arith, ints));
@@ -32,7 +34,7 @@ named_inside c h =
     }
 
 pub AreNamed-stay : (cells : List CellSet) → stay_in_range cells ≡ true → AreNamed cells
-AreNamed-stay cells h = each_passes may_be_named _ cells named_inside h
+AreNamed-stay cells h = each_passes may_be_named _ cells (λ c k. place_inside c.x c.y k) h
 
 pub SetBelow-test : (n : ℕ) (cells : List CellSet) → set_below n cells ≡ true → SetBelow n cells
 SetBelow-test n cells h = each_passes (λ (c : CellSet). nat_lt c.state n) _ cells (λ c k. grind (arith, nat_tests)) h
@@ -63,3 +65,63 @@ lies_below_is w g n most some =
             | false ↦ λ k. refl
           ] refl
     ] refl
+
+-- the places of a world's live cells, by their list
+pub HasMargin-lies : (w : World) → lies_near w ≡ true → HasMargin (2 ^ 60) w
+HasMargin-lies w h x y alive =
+    let is = cell-state_at w x y in
+    by_place (live w) (λ x y _. IsInside (2 ^ 60) x y) (each_passes (λ (e : Place × ℕ). is_in_range e.0.1 && is_in_range e.0.0) _ (live w) (λ e k. place_inside e.0.1 e.0.0 k) h) x y (subst (λ s. 0 < s) is alive)
+
+both : (a b : Bool) → a ≡ true → b ≡ true → (a && b) ≡ true
+both a b h k = ap (λ t. t && b) h ∙ k
+
+passes_le : (y z : ℤ) → y ≤ℤ z → int_le y z ≡ true
+passes_le y z h = grind (arith, ints)
+
+passes_lt : (y z : ℤ) → y <ℤ z → int_lt y z ≡ true
+passes_lt y z h = grind (arith, ints)
+
+span_near : (low z high : ℤ) → int_le (neg_ℤ (pos (2 ^ 60))) low ≡ true → int_lt high (pos (2 ^ 60)) ≡ true → low ≤ℤ z → z ≤ℤ high → is_in_range z ≡ true
+span_near low z high h k l m = both (int_le (neg_ℤ (pos (2 ^ 60))) z) (int_lt z (pos (2 ^ 60))) (grind (arith, ints)) (grind (arith, ints))
+
+-- a place in such a box
+in_box_near : (b : Bounds) (x y : ℤ) → box_near b ≡ true → IsInBox b x y → (is_in_range x && is_in_range y) ≡ true
+in_box_near b x y h inside =
+    let parts = and_parts (int_le (neg_ℤ (pos (2 ^ 60))) b.left && int_lt b.right (pos (2 ^ 60))) (int_le (neg_ℤ (pos (2 ^ 60))) b.top && int_lt b.bottom (pos (2 ^ 60))) h in
+    let columns = and_parts (int_le (neg_ℤ (pos (2 ^ 60))) b.left) (int_lt b.right (pos (2 ^ 60))) parts.0 in
+    let rows = and_parts (int_le (neg_ℤ (pos (2 ^ 60))) b.top) (int_lt b.bottom (pos (2 ^ 60))) parts.1 in
+    both (is_in_range x) (is_in_range y) (span_near b.left x b.right columns.0 columns.1 inside.left inside.right) (span_near b.top y b.bottom rows.0 rows.1 inside.top inside.bottom)
+
+least_near : (z : ℤ) → neg_ℤ (pos (2 ^ 61)) ≤ℤ (z -ℤ pos (2 ^ 60)) → int_le (neg_ℤ (pos (2 ^ 60))) z ≡ true
+least_near z h = let k : neg_ℤ (pos (2 ^ 60)) ≤ℤ z = omega (arith, ints, h) in passes_le (neg_ℤ (pos (2 ^ 60))) z k
+
+most_near : (z : ℤ) → (z +ℤ pos (2 ^ 60)) <ℤ pos (2 ^ 61) → int_lt z (pos (2 ^ 60)) ≡ true
+most_near z h = let k : z <ℤ pos (2 ^ 60) = omega (arith, ints, h) in passes_lt z (pos (2 ^ 60)) k
+
+box_near-live : (w : World) (b : Bounds) → IsBoundingBox b w → HasMargin (2 ^ 60) w → box_near b ≡ true
+box_near-live w b box inside =
+    let left = (inside b.left box.touched_left.0 box.touched_left.1).left in
+    let right = (inside b.right box.touched_right.0 box.touched_right.1).right in
+    let top = (inside box.touched_top.0 b.top box.touched_top.1).top in
+    let bottom = (inside box.touched_bottom.0 b.bottom box.touched_bottom.1).bottom in
+    both (int_le (neg_ℤ (pos (2 ^ 60))) b.left && int_lt b.right (pos (2 ^ 60))) (int_le (neg_ℤ (pos (2 ^ 60))) b.top && int_lt b.bottom (pos (2 ^ 60)))
+    (both (int_le (neg_ℤ (pos (2 ^ 60))) b.left) (int_lt b.right (pos (2 ^ 60))) (least_near b.left left) (most_near b.right right))
+    (both (int_le (neg_ℤ (pos (2 ^ 60))) b.top) (int_lt b.bottom (pos (2 ^ 60))) (least_near b.top top) (most_near b.bottom bottom))
+
+-- by the bounding box
+pub lies_near_is : (w : World) (b : Bounds) → IsBoundingBox b w → box_near b ≡ lies_near w
+lies_near_is w b box =
+    elim (box_near b) as (λ t. box_near b ≡ t → t ≡ lies_near w) [
+      | true ↦ λ e.
+          sym (all_pass (λ (d : Place × ℕ). is_in_range d.0.1 && is_in_range d.0.0) (λ d. IsInBox b d.0.1 d.0.0) (live w) (λ d k. in_box_near b d.0.1 d.0.0 e k)
+          (all_weaker (λ (d : Place × ℕ). (cell w d.0.1 d.0.0 ≡ d.1) × (0 < d.1)) (λ d. IsInBox b d.0.1 d.0.0) (live w) (λ d k. box.holds d.0.1 d.0.0 (subst (λ s. 0 < s) (sym k.0) k.1)) (live-states w)))
+      | false ↦ λ e.
+          elim (lies_near w) as (λ t. lies_near w ≡ t → false ≡ t) [
+            | true ↦ λ k. sym e ∙ box_near-live w b box (HasMargin-lies w k)
+            | false ↦ λ k. refl
+          ] refl
+    ] refl
+
+-- where no cell is live
+pub lies_near-blank : (w : World) → w ≡ blank → lies_near w ≡ true
+lies_near-blank w is = ap lies_near is ∙ ap (λ es. list_all (λ (e : Place × ℕ). is_in_range e.0.1 && is_in_range e.0.0) es) (live-entries blank ∙ ap (map as_live) entries-blank)

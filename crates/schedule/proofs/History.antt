@@ -7,8 +7,8 @@ use Rattle.std.proofs.lemmas.List.Elements.{All-from_recursion}
 use Rattle.plane_core.specs.Range.{HasMargin, AllBelow, CanBeLaid}
 use Rattle.plane_core.specs.declared.cell.CellSet.{CellSet}
 use Rattle.plane_core.proofs.Keeps.{HasMargin-arrive, AllBelow-arrive, HasMargin-lay, AllBelow-lay, IsInside-less, AreInside-less}
-use Rattle.rule_file.specs.Rule.{states_of, next_of}
-use Rattle.rule_file.specs.RuleLaws.{next_of-quiet, next_of-below}
+use Rattle.rule_tree.specs.Rule.{states_of, next_of}
+use Rattle.rule_tree.specs.RuleLaws.{next_of-quiet, next_of-below}
 use Rattle.schedule.specs.declared.document.Intervention.{Intervention}
 use Rattle.schedule.specs.Plan.{Plan}
 use Rattle.schedule.specs.Scratch.{cells_at, arrival, after}

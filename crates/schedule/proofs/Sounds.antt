@@ -10,18 +10,19 @@ use Rattle.plane_core.specs.Lay.{lay}
 use Rattle.plane_core.specs.Range.{HasMargin, AllBelow, CanBeLaid}
 use Rattle.plane_core.specs.declared.cell.CellSet.{CellSet}
 use Rattle.plane_core.proofs.Keeps.{HasMargin-lay, AllBelow-lay}
-use Rattle.rule_file.specs.declared.rule.Rule.{Rule}
-use Rattle.rule_file.specs.Rule.{states_of, still, states_of-still}
+use Rattle.rule_tree.specs.declared.rule.Rule.{Rule}
+use Rattle.rule_tree.specs.Rule.{states_of, still, states_of-still}
 use Rattle.bookmarks.specs.declared.view.View.{View}
+use Rattle.bookmarks.specs.Within.{has_window_size, lies_in_range, IsWithin}
 use Rattle.schedule.specs.declared.document.Intervention.{Intervention}
 use Rattle.schedule.specs.declared.document.Bookmark.{Bookmark}
 use Rattle.schedule.specs.declared.fault.EditFault.{EditFault}
 use Rattle.schedule.specs.Plan.{Plan, opening}
 use Rattle.schedule.specs.Sound.{AreNamed, SetBelow, IsAllowed, IdsRise, IsSound}
-use Rattle.schedule.specs.Change.{first_refusal, for_cells, for_rule, for_bookmark, revised, stay_in_range, set_below, lies_below, all_set_below, is_too_far}
+use Rattle.schedule.specs.Change.{first_refusal, for_cells, for_start, for_rule, for_bookmark, revised, stay_in_range, set_below, lies_near, lies_below, all_set_below, is_too_far}
 use Rattle.schedule.proofs.History.{CanBeLaid-named}
 use Rattle.schedule.proofs.Each.{each_passes, all_append, all_weaker}
-use Rattle.schedule.proofs.Below.{AreNamed-stay, SetBelow-test, AllBelow-lies}
+use Rattle.schedule.proofs.Below.{AreNamed-stay, SetBelow-test, AllBelow-lies, HasMargin-lies}
 
 passed : (b : Bool) (fault : EditFault) (rest : Option EditFault) → (if b then Some fault else rest) ≡ None → (b ≡ false) × (rest ≡ None)
 passed true fault rest h = absurd cc
@@ -51,6 +52,25 @@ IsSound-cells p cells start sound free is =
       start_inside = subst (HasMargin (2 ^ 60)) (sym is) (HasMargin-lay (2 ^ 60) cells p.start fit.named sound.start_inside);
       interventions_allowed = sound.interventions_allowed;
       bookmarks_near = sound.bookmarks_near;
+      views_within = sound.views_within;
+      ids_rise = sound.ids_rise;
+      ids_given = sound.ids_given;
+      few_bookmarks = sound.few_bookmarks;
+      ids_within = (let k = sound.ids_within in omega (arith, k));
+    }
+
+-- a start that isn't refused
+pub IsSound-start : (p : Plan) (start : World) → IsSound p → first_refusal (for_start p start) ≡ None → 0 < states_of p.rule → IsSound (record (revised p) { start = start })
+IsSound-start p start sound free some =
+    let outside = passed (not (lies_near start)) _ _ free in
+    let high = passed (not (lies_below (states_of p.rule) start)) _ _ outside.1 in
+    record {
+      few_states = sound.few_states;
+      start_below = AllBelow-lies (states_of p.rule) start some (not-false (lies_below (states_of p.rule) start) high.0);
+      start_inside = HasMargin-lies start (not-false (lies_near start) outside.0);
+      interventions_allowed = sound.interventions_allowed;
+      bookmarks_near = sound.bookmarks_near;
+      views_within = sound.views_within;
       ids_rise = sound.ids_rise;
       ids_given = sound.ids_given;
       few_bookmarks = sound.few_bookmarks;
@@ -72,6 +92,7 @@ IsSound-rule p rule sound free some few =
       start_inside = sound.start_inside;
       interventions_allowed = still_allowed (states_of p.rule) n p.interventions sound.interventions_allowed (each_passes (λ (i : Intervention). set_below n i.cells) _ p.interventions (λ i k. k) parts.1);
       bookmarks_near = sound.bookmarks_near;
+      views_within = sound.views_within;
       ids_rise = sound.ids_rise;
       ids_given = sound.ids_given;
       few_bookmarks = sound.few_bookmarks;
@@ -83,13 +104,16 @@ rise_push [] b last rise given more = (tt, tt)
 rise_push (c ∷ bs) b last rise given more =
     (all_append (λ (d : Bookmark). c.id < d.id) bs (b ∷ []) rise.0 ((let k : c.id ≤ last = given.0 in omega (arith, k, more)), tt), rise_push bs b last rise.1 given.1 more)
 
-pub IsSound-bookmark : (p : Plan) (generation : ℕ) (view : View) (bs : List Bookmark) → IsSound p → first_refusal (for_bookmark p generation) ≡ None
+pub IsSound-bookmark : (p : Plan) (generation : ℕ) (view : View) (bs : List Bookmark) → IsSound p → first_refusal (for_bookmark p generation view) ≡ None
     → bs ≡ p.bookmarks ++ record { id = p.last_bookmark + 1; generation = generation; view = view } ∷ []
     → IsSound (record (revised p) { bookmarks = bs; last_bookmark = p.last_bookmark + 1 })
 IsSound-bookmark p generation view bs sound free is =
     let b : Bookmark = record { id = p.last_bookmark + 1; generation = generation; view = view } in
     let far = passed (is_too_far generation) _ _ free in
     let many = passed (nat_le 4096 (length p.bookmarks)) _ _ far.1 in
+    let small = passed (not (has_window_size view)) _ _ many.1 in
+    let outside = passed (not (lies_in_range view)) _ _ small.1 in
+    let within : IsWithin view = (not-false (has_window_size view) small.0, not-false (lies_in_range view) outside.0) in
     let near : generation ≤ 2 ^ 60 = (let k : nat_lt (2 ^ 60) generation ≡ false = far.0 in grind (arith, nat_tests)) in
     let few : length p.bookmarks < 4096 = (let k : nat_le 4096 (length p.bookmarks) ≡ false = many.0 in grind (arith, nat_tests)) in
     let long : length bs ≡ length p.bookmarks + 1 = ap length is ∙ length-append p.bookmarks (b ∷ []) in
@@ -99,6 +123,7 @@ IsSound-bookmark p generation view bs sound free is =
       start_inside = sound.start_inside;
       interventions_allowed = sound.interventions_allowed;
       bookmarks_near = subst (AllByRecursion (λ (c : Bookmark). c.generation ≤ 2 ^ 60)) (sym is) (all_append (λ (c : Bookmark). c.generation ≤ 2 ^ 60) p.bookmarks (b ∷ []) sound.bookmarks_near (near, tt));
+      views_within = subst (AllByRecursion (λ (c : Bookmark). IsWithin c.view)) (sym is) (all_append (λ (c : Bookmark). IsWithin c.view) p.bookmarks (b ∷ []) sound.views_within (within, tt));
       ids_rise = subst IdsRise (sym is) (rise_push p.bookmarks b p.last_bookmark sound.ids_rise sound.ids_given (omega arith));
       ids_given = subst (AllByRecursion (λ (c : Bookmark). c.id ≤ p.last_bookmark + 1)) (sym is) (all_append (λ (c : Bookmark). c.id ≤ p.last_bookmark + 1) p.bookmarks (b ∷ []) (all_weaker (λ (c : Bookmark). c.id ≤ p.last_bookmark) _ p.bookmarks (λ c k. omega (arith, k)) sound.ids_given) ((omega arith), tt));
       few_bookmarks = omega (arith, long, few);
@@ -112,6 +137,7 @@ sound_opening revision = record {
   start_inside = λ x y live. absurd (let k = cell-blank x y in omega (arith, k, live));
   interventions_allowed = tt;
   bookmarks_near = tt;
+  views_within = tt;
   ids_rise = tt;
   ids_given = tt;
   few_bookmarks = omega arith;

@@ -6,15 +6,16 @@ use Rattle.plane_core.specs.declared.cell.CellSet.{CellSet}
 use Rattle.plane_core.specs.World.{World}
 use Rattle.plane_core.specs.Lay.{lay}
 use Rattle.plane_core.specs.Live.{live}
-use Rattle.rule_file.specs.declared.rule.Rule.{Rule}
-use Rattle.rule_file.specs.Rule.{states_of}
+use Rattle.rule_tree.specs.declared.rule.Rule.{Rule}
+use Rattle.rule_tree.specs.Rule.{states_of}
 use Rattle.schedule.specs.declared.document.Intervention.{Intervention}
 use Rattle.schedule.specs.declared.edit.Edit.{Edit}
-use Rattle.schedule.specs.declared.edit.Edit.TheVariants.{SetCells, ReplaceRule, AddBookmark}
+use Rattle.schedule.specs.declared.edit.Edit.TheVariants.{SetCells, ReplaceStart, ReplaceRule, AddBookmark}
 use Rattle.schedule.specs.declared.edit.Edited.{Edited}
 use Rattle.schedule.specs.declared.fault.EditFault.{EditFault}
-use Rattle.schedule.specs.declared.fault.EditFault.TheVariants.{GenerationTooFar, CellOutOfRange, CellStateTooHigh, TooManyBookmarks, TooManyCells, RevisionSpent}
+use Rattle.schedule.specs.declared.fault.EditFault.TheVariants.{GenerationTooFar, CellOutOfRange, CellStateTooHigh, TooManyBookmarks, TooManyCells, BadWindow, RevisionSpent}
 use Rattle.bookmarks.specs.declared.view.View.{View}
+use Rattle.bookmarks.specs.Within.{has_window_size, lies_in_range}
 use Rattle.schedule.specs.Plan.{Plan}
 
 -- a generation beyond 2^60
@@ -37,6 +38,10 @@ stay_in_range cells = list_all may_be_named cells
 abbrev pub set_below : ℕ → List CellSet → Bool
 set_below n cells = list_all (λ (c : CellSet). nat_lt c.state n) cells
 
+-- every live cell lies where an edit may name it
+abbrev pub lies_near : World → Bool
+lies_near w = list_all (λ e. is_in_range e.0.1 && is_in_range e.0.0) (live w)
+
 -- every live cell's state is below n
 abbrev pub lies_below : ℕ → World → Bool
 lies_below n w = list_all (λ e. nat_lt e.1 n) (live w)
@@ -57,22 +62,32 @@ for_cells p cells =
     ∷ (not (set_below (states_of p.rule) cells), CellStateTooHigh)
     ∷ spent p
 
+-- those of taking another start
+abbrev pub for_start : Plan → World → List (Bool × EditFault)
+for_start p start =
+    (not (lies_near start), CellOutOfRange)
+    ∷ (not (lies_below (states_of p.rule) start), CellStateTooHigh)
+    ∷ spent p
+
 -- those of taking another rule
 abbrev pub for_rule : Plan → Rule → List (Bool × EditFault)
 for_rule p rule = (not (lies_below (states_of rule) p.start && all_set_below (states_of rule) p.interventions), CellStateTooHigh) ∷ spent p
 
 -- those of adding a bookmark
-abbrev pub for_bookmark : Plan → ℕ → List (Bool × EditFault)
-for_bookmark p generation =
+abbrev pub for_bookmark : Plan → ℕ → View → List (Bool × EditFault)
+for_bookmark p generation view =
     (is_too_far generation, GenerationTooFar)
     ∷ (nat_le 4096 (length p.bookmarks), TooManyBookmarks)
+    ∷ (not (has_window_size view), BadWindow)
+    ∷ (not (lies_in_range view), CellOutOfRange)
     ∷ spent p
 
 -- those of an edit
 abbrev pub refusals : Plan → Edit → List (Bool × EditFault)
 refusals p (SetCells cells) = for_cells p cells
+refusals p (ReplaceStart start) = for_start p (arc_value start)
 refusals p (ReplaceRule rule) = for_rule p (arc_value rule)
-refusals p (AddBookmark generation view) = for_bookmark p generation
+refusals p (AddBookmark generation view) = for_bookmark p generation view
 
 -- the first that applies
 abbrev pub first_refusal : List (Bool × EditFault) → Option EditFault
@@ -99,6 +114,13 @@ changed_cells p cells = record {
   edited = record { revision = p.revision + 1; id = None };
 }
 
+-- the document with this start
+abbrev pub changed_start : Plan → World → Changed
+changed_start p start = record {
+  plan = record (revised p) { start = start };
+  edited = record { revision = p.revision + 1; id = None };
+}
+
 -- the document with this rule
 abbrev pub changed_rule : Plan → Rule → Changed
 changed_rule p rule = record {
@@ -119,6 +141,7 @@ changed_bookmarks p generation view = record {
 -- what an edit makes of a document that it fits
 abbrev pub changed : Plan → Edit → Changed
 changed p (SetCells cells) = changed_cells p cells
+changed p (ReplaceStart start) = changed_start p (arc_value start)
 changed p (ReplaceRule rule) = changed_rule p (arc_value rule)
 changed p (AddBookmark generation view) = changed_bookmarks p generation view
 

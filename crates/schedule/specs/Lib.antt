@@ -4,3 +4,4 @@ pub mod Kept
 pub mod Sound
 pub mod Scratch
 pub mod Change
+pub mod Near

@@ -1,8 +1,8 @@
 -- What a document says.
 use Rattle.std.specs.Prelude.{ℕ, List, []}
 use Rattle.plane_core.specs.World.{World, blank}
-use Rattle.rule_file.specs.declared.rule.Rule.{Rule}
-use Rattle.rule_file.specs.Rule.{still}
+use Rattle.rule_tree.specs.declared.rule.Rule.{Rule}
+use Rattle.rule_tree.specs.Rule.{still}
 use Rattle.schedule.specs.declared.document.Intervention.{Intervention}
 use Rattle.schedule.specs.declared.document.Bookmark.{Bookmark}
 

@@ -3,7 +3,7 @@ use Rattle.std.specs.Prelude.{ℕ, List, map}
 use Rattle.plane_core.specs.declared.cell.CellSet.{CellSet}
 use Rattle.plane_core.specs.World.{World}
 use Rattle.plane_core.specs.Arrival as history
-use Rattle.rule_file.specs.Rule.{name_of, states_of, next_of}
+use Rattle.rule_tree.specs.Rule.{name_of, states_of, next_of}
 use Rattle.bookmarks.specs.Text.{text_of}
 use Rattle.schedule.specs.declared.document.Intervention.{Intervention}
 use Rattle.schedule.specs.declared.document.Bookmark.{Bookmark}

@@ -3,7 +3,8 @@ use Rattle.std.specs.Prelude.{ℕ, ◌<◌, ◌≤◌, ◌^◌, List, [], ◌∷
 use Rattle.std.specs.List.{AllByRecursion}
 use Rattle.plane_core.specs.Range.{IsInside, HasMargin, AllBelow}
 use Rattle.plane_core.specs.declared.cell.CellSet.{CellSet}
-use Rattle.rule_file.specs.Rule.{states_of}
+use Rattle.rule_tree.specs.Rule.{states_of}
+use Rattle.bookmarks.specs.Within.{IsWithin}
 use Rattle.schedule.specs.declared.document.Intervention.{Intervention}
 use Rattle.schedule.specs.declared.document.Bookmark.{Bookmark}
 use Rattle.schedule.specs.Plan.{Plan}
@@ -34,6 +35,7 @@ pub record IsSound (p : Plan) : Type 0 where
   pub start_inside : HasMargin (2 ^ 60) p.start
   pub interventions_allowed : AllByRecursion (IsAllowed (states_of p.rule)) p.interventions
   pub bookmarks_near : AllByRecursion (λ (b : Bookmark). b.generation ≤ 2 ^ 60) p.bookmarks
+  pub views_within : AllByRecursion (λ (b : Bookmark). IsWithin b.view) p.bookmarks
   pub ids_rise : IdsRise p.bookmarks
   pub ids_given : AllByRecursion (λ (b : Bookmark). b.id ≤ p.last_bookmark) p.bookmarks
   pub few_bookmarks : length p.bookmarks ≤ 4096

@@ -1,14 +1,14 @@
 //! How an edit changes a document.
 ghost use Rattle.std.specs.Prelude.{◌≡◌, ◌⊎◌, IfOk, IfErr, IfSome, OnErr};
 ghost use Rattle.std.specs.Arc.{arc_value};
-ghost use Rattle.schedule.specs.Change.{change, changed_cells, changed_rule, changed_bookmarks, refusal, first_refusal, for_cells, for_rule, for_bookmark};
+ghost use Rattle.schedule.specs.Change.{change, changed_cells, changed_start, changed_rule, changed_bookmarks, refusal, first_refusal, for_cells, for_start, for_rule, for_bookmark};
 
 use crate::document::{Bookmark, Document};
 use crate::edit::{Edit, Edited};
 use crate::fault::EditFault;
 use bookmarks::View;
-use plane_core::{CellSet, Next};
-use rule_file::Rule;
+use plane_core::{CellSet, Next, Plane};
+use rule_tree::Rule;
 use std::sync::Arc;
 
 impl Document {
@@ -23,6 +23,7 @@ impl Document {
         self.check(edit)?;
         match edit {
             Edit::SetCells { cells } => self.set_cells(cells.as_slice()),
+            Edit::ReplaceStart(start) => self.replace_start(start),
             Edit::ReplaceRule(rule) => self.replace_rule(rule),
             Edit::AddBookmark { generation, view } => self.add_bookmark(*generation, *view),
         }
@@ -37,6 +38,24 @@ impl Document {
     {
         let start = Arc::new(self.alloc, self.start.lay(cells)?)?;
         self.start = start;
+        self.revision += 1;
+        Ok(Edited {
+            revision: self.revision,
+            id: None,
+        })
+    }
+
+    // Takes another start.
+    fn replace_start(&mut self, start: &Arc<Plane>) -> Result<Edited, EditFault>
+        requires { first_refusal (for_start self.old (arc_value start.now)) ≡ None }
+        ensures ok { IfOk result (λ edited. changed_start self.old (arc_value start.now) ≡ record { plan = self.new; edited = edited }) }
+        ensures memory { IfErr result (λ fault. fault ≡ EditFault.NoMemory) }
+        ensures unchanged { OnErr result (self.new ≡ self.old) }
+    {
+        // The rule has at least 2 states.
+        let _states = self.rule.states();
+        let shared = Arc::try_clone(start)?;
+        self.start = shared;
         self.revision += 1;
         Ok(Edited {
             revision: self.revision,
@@ -64,7 +83,7 @@ impl Document {
 
     // Adds a bookmark.
     fn add_bookmark(&mut self, generation: u64, view: View) -> Result<Edited, EditFault>
-        requires { first_refusal (for_bookmark self.old generation) ≡ None }
+        requires { first_refusal (for_bookmark self.old generation view) ≡ None }
         ensures ok { IfOk result (λ edited. changed_bookmarks self.old generation view ≡ record { plan = self.new; edited = edited }) }
         ensures memory { IfErr result (λ fault. fault ≡ EditFault.NoMemory) }
         ensures unchanged { OnErr result (self.new ≡ self.old) }

@@ -1,12 +1,14 @@
 //! Whether an edit fits a document.
 ghost use Rattle.std.specs.Prelude.{◌≡◌, ◌<◌, MatchResult};
-ghost use Rattle.schedule.specs.Change.{refusal, may_be_named, stay_in_range, set_below, lies_below, all_set_below, first_refusal, spent, for_cells, for_rule, for_bookmark};
+ghost use Rattle.schedule.specs.Change.{refusal, may_be_named, stay_in_range, set_below, lies_near, lies_below, all_set_below, first_refusal, spent, for_cells, for_start, for_rule, for_bookmark};
+ghost use Rattle.schedule.specs.Near.{box_near};
 
 use crate::document::{Document, Intervention};
 use crate::edit::Edit;
 use crate::fault::EditFault;
-use plane_core::{CellSet, Next, Plane};
-use rule_file::Rule;
+use bookmarks::View;
+use plane_core::{Bounds, CellSet, Next, Plane};
+use rule_tree::Rule;
 
 /// The generation of an intervention or a bookmark is at most this.
 pub const FARTHEST_GENERATION: u64 = 1 << 60;
@@ -43,6 +45,23 @@ fn set_below(states: u16, cells: &[CellSet]) -> bool
     cells.iter().all(|cell| cell.state < states)
 }
 
+// Whether the box lies where edits may name cells.
+fn box_near(bounds: &Bounds) -> bool
+    ensures { result ≡ box_near bounds.now }
+{
+    LEAST <= bounds.left && bounds.right < BEYOND && (LEAST <= bounds.top && bounds.bottom < BEYOND)
+}
+
+// Whether each live cell lies where an edit may name it.
+fn lies_near(plane: &Plane) -> bool
+    ensures { result ≡ lies_near plane.now }
+{
+    match plane.bounds() {
+        None => true,
+        Some(bounds) => box_near(&bounds),
+    }
+}
+
 // Whether each state of the plane is below `states`.
 fn lies_below(states: u16, plane: &Plane) -> bool
     requires { 0 < states }
@@ -66,8 +85,9 @@ impl Document {
     {
         match edit {
             Edit::SetCells { cells } => self.check_cells(cells.as_slice()),
+            Edit::ReplaceStart(start) => self.check_start(start),
             Edit::ReplaceRule(rule) => self.check_rule(rule),
-            Edit::AddBookmark { generation, .. } => self.check_bookmark(*generation),
+            Edit::AddBookmark { generation, view } => self.check_bookmark(*generation, view),
         }
     }
 
@@ -97,6 +117,19 @@ impl Document {
         self.check_revision()
     }
 
+    // Whether the document may get this start.
+    fn check_start(&self, start: &Plane) -> Result<(), EditFault>
+        ensures { MatchResult result (λ _. first_refusal (for_start self.now start.now) ≡ None) (λ fault. first_refusal (for_start self.now start.now) ≡ Some fault) }
+    {
+        if !lies_near(start) {
+            return Err(EditFault::CellOutOfRange);
+        }
+        if !lies_below(self.rule.states(), start) {
+            return Err(EditFault::CellStateTooHigh);
+        }
+        self.check_revision()
+    }
+
     // Whether the document may get this rule.
     fn check_rule(&self, rule: &Rule) -> Result<(), EditFault>
         ensures { MatchResult result (λ _. first_refusal (for_rule self.now rule.now) ≡ None) (λ fault. first_refusal (for_rule self.now rule.now) ≡ Some fault) }
@@ -108,15 +141,21 @@ impl Document {
         self.check_revision()
     }
 
-    // Whether the document may get a bookmark at this generation.
-    fn check_bookmark(&self, generation: u64) -> Result<(), EditFault>
-        ensures { MatchResult result (λ _. first_refusal (for_bookmark self.now generation) ≡ None) (λ fault. first_refusal (for_bookmark self.now generation) ≡ Some fault) }
+    // Whether the document may get a bookmark with this view at this generation.
+    fn check_bookmark(&self, generation: u64, view: &View) -> Result<(), EditFault>
+        ensures { MatchResult result (λ _. first_refusal (for_bookmark self.now generation view.now) ≡ None) (λ fault. first_refusal (for_bookmark self.now generation view.now) ≡ Some fault) }
     {
         if generation > FARTHEST_GENERATION {
             return Err(EditFault::GenerationTooFar);
         }
         if self.bookmarks.len() >= MOST_BOOKMARKS {
             return Err(EditFault::TooManyBookmarks);
+        }
+        if !view.has_window_size() {
+            return Err(EditFault::BadWindow);
+        }
+        if !view.lies_in_range() {
+            return Err(EditFault::CellOutOfRange);
         }
         self.check_revision()
     }

@@ -6,7 +6,7 @@ ghost use Rattle.schedule.specs.Sound.{IsSound};
 
 use bookmarks::View;
 use plane_core::{CellSet, Listing, Plane};
-use rule_file::Rule;
+use rule_tree::Rule;
 use std::alloc::{AllocError, Global};
 use std::marker::Model;
 use std::sync::Arc;

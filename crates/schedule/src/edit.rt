@@ -1,8 +1,8 @@
 //! Edits of a document.
 
 use bookmarks::View;
-use plane_core::{CellSet, Listing};
-use rule_file::Rule;
+use plane_core::{CellSet, Listing, Plane};
+use rule_tree::Rule;
 use std::sync::Arc;
 
 /// A change that a user asks for.
@@ -11,9 +11,13 @@ pub enum Edit {
     /// Sets cells of the start, at most 10,000 in `-2^60 <= x, y < 2^60`; the last mention of a
     /// cell wins.
     SetCells { cells: Listing<CellSet> },
+    /// Takes another start, whose live cells lie in `-2^60 <= x, y < 2^60` and have states of the
+    /// rule.
+    ReplaceStart(Arc<Plane>),
     /// Takes another rule, whose states are enough for the start and for all interventions.
     ReplaceRule(Arc<Rule>),
-    /// Adds a bookmark at a generation of at most 2^60.
+    /// Adds a bookmark at a generation of at most 2^60. A window has 1 to 65,536 cells, all of them
+    /// in `-2^61 <= x, y < 2^61`.
     AddBookmark { generation: u64, view: View },
 }
 

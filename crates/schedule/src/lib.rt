@@ -24,4 +24,5 @@ pub use plane_core::{
     Bounds, Cell, CellSet, EvolveFault, Evolved, Listing, Next, NoStop, Plane, Refusal, Report,
     Stop, evolve_plain, fits,
 };
-pub use rule_file::{Rule, RuleFault};
+pub use rule_file::RuleFault;
+pub use rule_tree::Rule;

@@ -1,6 +1,9 @@
 //! Worked edits, with what they answer.
+ghost use Rattle.std.specs.Prelude.{◌<◌, All, IsTrue};
+ghost use Rattle.plane_core.specs.Range.{CanBeLaid};
+
 use crate::{
-    Bookmark, CellSet, Document, Edit, EditFault, Edited, Listing, Next, Refusal, Rule, View,
+    Bookmark, CellSet, Document, Edit, EditFault, Edited, Listing, Next, Plane, Refusal, Rule, View,
 };
 use std::alloc::{AllocError, AllocFailed, Global};
 use std::process::Abort;
@@ -60,6 +63,62 @@ fn mark(generation: u64) -> Edit {
     Edit::AddBookmark {
         generation,
         view: View::Counts,
+    }
+}
+
+const LEAST: i64 = -(1 << 61);
+
+const GREATEST: i64 = (1 << 61) - 1;
+
+fn can_be_laid(cell: &CellSet) -> bool
+    ensures { IsTrue result → CanBeLaid cell.now }
+{
+    if cell.x < LEAST {
+        return false;
+    }
+    if cell.x > GREATEST {
+        return false;
+    }
+    if cell.y < LEAST {
+        return false;
+    }
+    if cell.y > GREATEST {
+        return false;
+    }
+    cell.state < 256
+}
+
+fn all_can_be_laid(cells: &[CellSet]) -> bool
+    ensures { IsTrue result → All CanBeLaid cells.now }
+{
+    cells.iter().all(|cell| can_be_laid(cell))
+}
+
+/// The edit that takes the pattern of the rows as the start.
+fn start_of(rt: &impl Abort, alloc: Global, rows: &[Row]) -> Result<Edit, Fail> {
+    let mut cells = Vec::new(alloc);
+    for (x, y, state) in rows {
+        cells.push(CellSet {
+            x: *x,
+            y: *y,
+            state: *state,
+        })?;
+    }
+    assert!(rt; all_can_be_laid(&cells), "a row lies outside the plane");
+    let plane = Plane::empty(alloc).lay(&cells)?;
+    Ok(Edit::ReplaceStart(Arc::new(alloc, plane)?))
+}
+
+fn mark_window(generation: u64, window: (i64, i64, u32, u32)) -> Edit {
+    let (left, top, width, height) = window;
+    Edit::AddBookmark {
+        generation,
+        view: View::Window {
+            left,
+            top,
+            width,
+            height,
+        },
     }
 }
 
@@ -202,6 +261,93 @@ fn many_bookmarks(rt: HostRuntime) -> Result<(), Fail> {
         };
         assert_eq!(rt; *bookmark, wanted);
     }
+    Ok(())
+}
+
+#[test]
+fn windows(rt: HostRuntime) -> Result<(), Fail> {
+    let cases = [
+        (0, (0, 0, 1, 1), 0),
+        (0, (0, 0, 256, 256), 0),
+        (0, (0, 0, 65_536, 1), 0),
+        (0, (0, 0, 65_537, 1), 48),
+        (0, (0, 0, u32::MAX, u32::MAX), 48),
+        (0, (0, 0, 0, 1), 48),
+        (0, (0, 0, 1, 0), 48),
+        (0, (LEAST, LEAST, 1, 1), 0),
+        (0, (LEAST - 1, 0, 1, 1), 41),
+        (0, (0, LEAST - 1, 1, 1), 41),
+        (0, (GREATEST, GREATEST, 1, 1), 0),
+        (0, (GREATEST, 0, 2, 1), 41),
+        (0, (0, GREATEST, 1, 2), 41),
+        (0, (i64::MAX, i64::MAX, 1, 1), 41),
+        // The generation is looked at first, and the size before the place.
+        (FAR + 1, (0, 0, 0, 0), 40),
+        (FAR + 1, (i64::MIN, 0, 1, 1), 40),
+        (FAR, (i64::MIN, 0, 0, 1), 48),
+        (FAR, (i64::MIN, 0, 1, 1), 41),
+    ];
+    let mut document = Document::opening(rt.alloc(), 0)?;
+    for (row, (generation, window, wanted)) in cases.iter().enumerate() {
+        let edit = mark_window(*generation, *window);
+        assert_eq!(rt; number(&rt, &mut document, &edit)?, *wanted, "row {row}");
+    }
+    // A spent revision is looked at last, and a full document before the size.
+    let mut spent = Document::opening(rt.alloc(), u64::MAX)?;
+    assert_eq!(rt;
+        number(&rt, &mut spent, &mark_window(0, (i64::MIN, 0, 1, 1)))?,
+        41
+    );
+    assert_eq!(rt; number(&rt, &mut spent, &mark_window(0, (0, 0, 1, 1)))?, 49);
+    for k in 0..4091 {
+        document.apply(&mark(k))?;
+    }
+    assert_eq!(rt;
+        number(&rt, &mut document, &mark_window(0, (0, 0, 0, 0)))?,
+        46
+    );
+    Ok(())
+}
+
+#[test]
+fn starts(rt: HostRuntime) -> Result<(), Fail> {
+    let cases: [(&[Row], u8); 13] = [
+        (&[], 0),
+        (&[(0, 0, 1)], 0),
+        (&[(0, 0, 2)], 42),
+        (&[(0, 0, 255)], 42),
+        (&[(EDGE - 1, EDGE - 1, 1)], 0),
+        (&[(-EDGE, -EDGE, 1)], 0),
+        (&[(EDGE, 0, 1)], 41),
+        (&[(-EDGE - 1, 0, 1)], 41),
+        (&[(0, EDGE, 1)], 41),
+        (&[(0, -EDGE - 1, 1)], 41),
+        (&[(GREATEST, 0, 1)], 41),
+        // Every cell is looked at, and for its place before any for its state.
+        (&[(0, 0, 2), (0, LEAST, 1)], 41),
+        (&[(0, 0, 1), (1, 0, 2)], 42),
+    ];
+    for (row, (rows, wanted)) in cases.iter().enumerate() {
+        let edit = start_of(&rt, rt.alloc(), rows)?;
+        let mut document = Document::opening(rt.alloc(), 0)?;
+        assert_eq!(rt; number(&rt, &mut document, &edit)?, *wanted, "row {row}");
+        let mut spent = Document::opening(rt.alloc(), u64::MAX)?;
+        let last = if *wanted == 0 { 49 } else { *wanted };
+        assert_eq!(rt; number(&rt, &mut spent, &edit)?, last, "row {row}");
+    }
+    let mut document = Document::opening(rt.alloc(), 0)?;
+    document.apply(&set(rt.alloc(), &[(5, 5, 1)])?)?;
+    let edited = document.apply(&start_of(&rt, rt.alloc(), &[(0, 1, 1), (-2, 0, 1)])?)?;
+    assert_eq!(rt;
+        edited,
+        Edited {
+            revision: 2,
+            id: None
+        }
+    );
+    let start = document.start();
+    let found = [start.get(5, 5), start.get(0, 1), start.get(-2, 0)];
+    assert_eq!(rt; found, [0, 1, 1]);
     Ok(())
 }
 

@@ -1,3 +1,4 @@
 pub mod Blanks
 pub mod Lines
 pub mod Numbers
+pub mod Results

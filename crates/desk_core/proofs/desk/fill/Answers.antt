@@ -1,9 +1,10 @@
 use Rattle.std.proofs.Common.{◌+◌, ◌<◌, ◌≤◌, ◌^◌, ◌∙◌, List, get_or, ap, sym, subst, arith, length}
 use Rattle.std.specs.Prelude.{count_by, is_none}
 use Rattle.std.proofs.lemmas.Result.{err_from_is_err_and}
+use Rattle.bookmarks.specs.Within.{IsWithin}
 use Rattle.schedule.specs.Plan.{Plan}
 use Rattle.schedule.specs.declared.document.Bookmark.{Bookmark}
-use Rattle.desk_core.proofs.Texts.{Filled, Filled-none, Filled-known, Filled-set, right_length, generation_at, unknown_counts}
+use Rattle.desk_core.proofs.Texts.{Filled, Filled-none, Filled-known, Filled-set, right_length, generation_at, view_at, unknown_counts}
 use Rattle.desk_core.proofs.desk.fill.Goals as goal
 use Rattle.desk_core.proofs.desk.fill.Goals.{then-is_none+in_ok-text+in-Some-1, then-is_none+in_ok-text+in-None-1, else-is_none}
 
@@ -17,13 +18,21 @@ bounds-bookmarks-index c =
     let kept = c.loop-index.auto.texts in
     omega (arith, same, all, kept)
 
-pub text_of-requires : goal.text_of-requires
-text_of-requires c =
+pub text_of-requires-clause-near : goal.text_of-requires-clause-near
+text_of-requires-clause-near c =
     let p = c.args.document.now in
     let same = right_length p p.bookmarks c.loop-index.texts c.loop-index.invariant.right in
     let kept = c.loop-index.auto.texts in
     subst (λ (bs : List Bookmark). (get_or bs c.loop-index.index _).generation ≤ 2 ^ 60) (sym c.bookmarks-bookmarks.ensures.bookmarks)
     (generation_at p c.loop-index.index _ c.bookmarks-bookmarks.ensures.sound (omega (arith, same, kept)))
+
+pub text_of-requires-clause-within : goal.text_of-requires-clause-within
+text_of-requires-clause-within c =
+    let p = c.args.document.now in
+    let same = right_length p p.bookmarks c.loop-index.texts c.loop-index.invariant.right in
+    let kept = c.loop-index.auto.texts in
+    subst (λ (bs : List Bookmark). IsWithin (get_or bs c.loop-index.index _).view) (sym c.bookmarks-bookmarks.ensures.bookmarks)
+    (view_at p c.loop-index.index _ c.bookmarks-bookmarks.ensures.sound (omega (arith, same, kept)))
 
 pub returns-in_err-text-clause-err : goal.returns-in_err-text-clause-err
 returns-in_err-text-clause-err c =

@@ -4,8 +4,8 @@ use Rattle.plane_core.specs.Step.{step}
 use Rattle.plane_core.specs.Iterate.{iterate}
 use Rattle.plane_core.specs.Range.{HasMargin, AllBelow}
 use Rattle.plane_core.proofs.Stepped.{HasMargin-less}
-use Rattle.rule_file.specs.declared.rule.Rule.{Rule}
-use Rattle.rule_file.specs.Rule.{states_of, next_of}
+use Rattle.rule_tree.specs.declared.rule.Rule.{Rule}
+use Rattle.rule_tree.specs.Rule.{states_of, next_of}
 use Rattle.schedule.specs.Scratch.{cells_at, after}
 use Rattle.schedule.proofs.History.{AllBelow-after, HasMargin-after, CanBeLaid-interventions}
 use Rattle.desk_core.proofs.Walk.{IsQuiet, after-zero, after-gap}

@@ -17,10 +17,10 @@ pub returns-else-last-clause-heard : goal.returns-else-last-clause-heard
 returns-else-last-clause-heard g c =
     if_ok_map c.listen_text.result _ _ (λ heard h start t.
     let m = c.in-AsksText.ensures t.line.says (subst (λ k. Says k t.line.says) (sym c.line.ensures) t.says) in
-    hears-text start (unread (g.R.Read.remaining c.args.reader.now.inner) c.args.script.now) _ (line_of c.args.script.now) c.args.last heard.what heard.last heard.line (line_number c.args.script.now) _ c.if-last.false t m.0 m.1 h) c.listen_text.ensures.heard
+    hears-text start (unread (g.R.Read.remaining c.args.reader.now.inner) c.args.script.now) _ c.in-AsksText.format (line_of c.args.script.now) c.args.last heard.what heard.last heard.line (line_number c.args.script.now) _ c.if-last.false t m.0 m.1 h) c.listen_text.ensures.heard
 
 pub returns-else-last-clause-err : goal.returns-else-last-clause-err
 returns-else-last-clause-err g c =
     on_err_map c.listen_text.result _ _ (λ b start t.
     let m = c.in-AsksText.ensures t.line.says (subst (λ k. Says k t.line.says) (sym c.line.ensures) t.says) in
-    breaks-text start (unread (g.R.Read.remaining c.args.reader.now.inner) c.args.script.now) _ (line_of c.args.script.now) c.args.last (line_number c.args.script.now) c.if-last.false t m.0 m.1 b) c.listen_text.ensures.err
+    breaks-text start (unread (g.R.Read.remaining c.args.reader.now.inner) c.args.script.now) _ c.in-AsksText.format (line_of c.args.script.now) c.args.last (line_number c.args.script.now) c.if-last.false t m.0 m.1 b) c.listen_text.ensures.err

@@ -6,5 +6,5 @@ use Rattle.schedule.proofs.document.Document.add_bookmark.Goals as goal
 
 pub invariant_of-self-2 : goal.invariant_of-self-2
 invariant_of-self-2 c =
-    let free : first_refusal (for_bookmark (plan_of c.self.inside) c.args.generation) ≡ None = subst (λ p. first_refusal (for_bookmark p c.args.generation) ≡ None) (sym c.self.view_is) c.requires in
+    let free : first_refusal (for_bookmark (plan_of c.self.inside) c.args.generation c.args.view) ≡ None = subst (λ p. first_refusal (for_bookmark p c.args.generation c.args.view) ≡ None) (sym c.self.view_is) c.requires in
     IsSound-bookmark (plan_of c.self.inside) c.args.generation c.args.view _ c.self.invariant free c.in_ok-push.ensures.items

@@ -1,7 +1,7 @@
 use Rattle.std.proofs.Common.{◌≡◌, ◌≤◌, ◌∙◌, sym, ap, subst, None, arith}
 use Rattle.std.specs.Arc.{arc_value}
-use Rattle.rule_file.specs.declared.rule.Rule.{Rule}
-use Rattle.rule_file.specs.Rule.{states_of}
+use Rattle.rule_tree.specs.declared.rule.Rule.{Rule}
+use Rattle.rule_tree.specs.Rule.{states_of}
 use Rattle.schedule.specs.Kept.{plan_of}
 use Rattle.schedule.specs.Sound.{IsSound}
 use Rattle.schedule.specs.Change.{first_refusal, for_rule, revised}

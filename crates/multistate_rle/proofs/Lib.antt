@@ -1,0 +1,7 @@
+pub mod Boxes
+mod Capped
+mod FirstLines
+pub mod Listed
+pub mod Runs
+mod Settled
+mod Strips

@@ -1,0 +1,32 @@
+use Rattle.std.proofs.Common.{◌∙◌, ◌≡◌, sym, ap, ◌++◌, ◌∷◌, [], ℕ, List, map, rules, OnOk}
+use Rattle.std.proofs.lemmas.Result.{on_ok_weaker}
+use Rattle.plane_core.specs.World.{Place}
+use Rattle.plane_core.specs.Live.{of_cell, place_of}
+use Rattle.multistate_rle.specs.declared.token.Token.{Token}
+use Rattle.multistate_rle.specs.Token.{way, joined, tokens, behind}
+use Rattle.multistate_rle.specs.Writing.{finished, tokens_on}
+use Rattle.multistate_rle.proofs.Runs.{begins, first_cell, no_cells}
+use Rattle.multistate_rle.proofs.body.Body.push_cells.Goals as goal
+
+pub returns-in_default : goal.returns-in_default
+returns-in_default c =
+    on_ok_weaker c.push.result
+    (λ written. written [] ∙ ap (λ cells. finished c.args.self.now (tokens c.args.frame.now.left (c.args.frame.now.top, c.args.frame.now.left) cells)) (sym (no_cells c.args.cells.now (c.in_default.ensures.cases))))
+    c.push.ensures
+
+pub returns : goal.returns
+returns c =
+    let left = c.args.frame.now.left in
+    let top = c.args.frame.now.top in
+    let first = c.in-Some.first.now in
+    let cells : List (Place × ℕ) = map of_cell c.in-Some.rest.now in
+    let split : c.args.cells.now ≡ first ∷ c.in-Some.rest.now = search rules in
+    let way_written : (ts : List Token) → finished c.push_way.new.self ts ≡ finished c.args.self.now (way left (top, left) (place_of first) ++ ts) = search rules in
+    let rest_written : OnOk c.push_rest.result (finished c.push_rest.new.self [] ≡ finished c.push_way.new.self (tokens_on left c.of.result cells)) = search rules in
+    on_ok_weaker c.push_rest.result
+    (λ written.
+    written
+    ∙ ap (finished c.push_way.new.self) (begins left c.of.result first cells c.of.ensures.place c.of.ensures.cells)
+    ∙ way_written (joined 1 first.state (tokens left (behind (place_of first)) cells))
+    ∙ ap (λ cs. finished c.args.self.now (tokens left (top, left) cs)) (sym (first_cell c.args.cells.now first c.in-Some.rest.now split)))
+    rest_written

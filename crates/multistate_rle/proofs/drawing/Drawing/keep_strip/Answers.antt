@@ -1,0 +1,42 @@
+use Rattle.std.proofs.Common.{◌≡◌, ◌∙◌, ◌++◌, true, ap, arith, rules}
+use Rattle.std.proofs.lemmas.Int.{ints}
+use Rattle.std.proofs.lemmas.Result.{on_ok_weaker}
+use mir.Syntax.{w64}
+use mir.Val.{SFits}
+use Rattle.multistate_rle.specs.Pattern.{Strip, lies_inside}
+use Rattle.multistate_rle.proofs.Strips.{starts_inside, ends_inside, side_by_side-strip}
+use Rattle.multistate_rle.proofs.drawing.Drawing.keep_strip.Goals as goal
+
+pub push_strip-requires-clause-first : goal.push_strip-requires-clause-first
+push_strip-requires-clause-first c =
+    let d = c.self.inside in
+    let x : SFits w64 d.origin.x = search rules in
+    let y : SFits w64 d.origin.y = search rules in
+    let strip : Strip = record { row = d.row; column = d.column; count = c.args.count; state = c.args.state } in
+    let inside : lies_inside d.origin strip ≡ true = rw (← c.self.view_is) at c.requires.inside in
+    let start = starts_inside d.origin strip inside in
+    (record { left = omega (arith, ints); right = omega (arith, ints); top = omega (arith, ints); bottom = omega (arith, ints) }, omega arith)
+
+pub push_strip-requires-clause-last : goal.push_strip-requires-clause-last
+push_strip-requires-clause-last c =
+    let d = c.self.inside in
+    let x : SFits w64 d.origin.x = search rules in
+    let y : SFits w64 d.origin.y = search rules in
+    let strip : Strip = record { row = d.row; column = d.column; count = c.args.count; state = c.args.state } in
+    let inside : lies_inside d.origin strip ≡ true = rw (← c.self.view_is) at c.requires.inside in
+    let start = starts_inside d.origin strip inside in
+    let end = ends_inside d.origin strip inside in
+    omega (arith, ints)
+
+pub returns : goal.returns
+returns c =
+    let d = c.self.inside in
+    let x : SFits w64 d.origin.x = search rules in
+    let y : SFits w64 d.origin.y = search rules in
+    let strip : Strip = record { row = d.row; column = d.column; count = c.args.count; state = c.args.state } in
+    let inside : lies_inside d.origin strip ≡ true = rw (← c.self.view_is) at c.requires.inside in
+    let start = starts_inside d.origin strip inside in
+    rw (← c.self.view_is) (on_ok_weaker c.push_strip.result
+    (λ e. ap (λ cells. record { origin = d.origin; row = d.row; column = d.column; live = d.live; is_inside = d.is_inside; cells = cells })
+    (e ∙ ap (λ cells. d.cells.items ++ cells) (side_by_side-strip d.origin strip _ (omega (arith, ints)) (omega (arith, ints)) (omega arith))))
+    c.push_strip.ensures.cells)

@@ -1,0 +1,22 @@
+use Rattle.std.proofs.Common.{◌≡◌, ◌∙◌, sym, ap, ◌+◌, rules, to_z, of_z, w64}
+use Rattle.plane_core.specs.World.{blank}
+use Rattle.plane_core.specs.Range.{IsBoundingBox}
+use Rattle.multistate_rle.specs.Frame.{frame_of}
+use Rattle.multistate_rle.specs.Token.{distance}
+use Rattle.multistate_rle.proofs.Boxes.{box_of-blank, box_of-live, same_frame}
+use Rattle.multistate_rle.proofs.frame.Frame.around.Goals as goal
+
+pub returns-in_default-clause-frame : goal.returns-in_default-clause-frame
+returns-in_default-clause-frame c =
+    let empty : c.args.plane.now ≡ blank = search rules in
+    ap frame_of (sym (box_of-blank c.args.plane.now empty))
+
+pub returns-clause-frame : goal.returns-clause-frame
+returns-clause-frame c =
+    let box : IsBoundingBox c.in-Some.bounds c.args.plane.now = search rules in
+    let width : c.abs_diff.result ≡ distance c.in-Some.bounds.left c.in-Some.bounds.right = search rules in
+    let height : c.abs_diff-2.result ≡ distance c.in-Some.bounds.top c.in-Some.bounds.bottom = search rules in
+    let left : to_z w64 (of_z w64 c.in-Some.bounds.left) ≡ c.in-Some.bounds.left = search rules in
+    let top : to_z w64 (of_z w64 c.in-Some.bounds.top) ≡ c.in-Some.bounds.top = search rules in
+    same_frame left top (ap (λ n. n + 1) width) (ap (λ n. n + 1) height)
+    ∙ ap frame_of (sym (box_of-live c.args.plane.now c.in-Some.bounds box))

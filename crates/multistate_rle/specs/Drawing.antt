@@ -1,0 +1,54 @@
+-- A pattern that is being drawn run by run, with numbers that stand at 2^64 - 1 where they are greater.
+use Rattle.std.specs.Prelude.{ℕ, ◌+◌, ◌-◌, ◌^◌, ◌==◌, ◌&&◌, Bool, true, nat_le, nat_lt, min, map, pos, ◌+ℤ◌, List, [], ◌++◌, Result, Ok, Err, if◌then◌else◌}
+use Rattle.std.specs.List.{range_with_len}
+use Rattle.plane_core.specs.declared.cell.CellSet.{CellSet}
+use Rattle.plane_core.specs.Lay.{lay}
+use Rattle.plane_core.specs.World.{World, blank}
+use Rattle.multistate_rle.specs.declared.comment.Origin.{Origin}
+use Rattle.multistate_rle.specs.declared.fault.RleFault.{RleFault}
+use Rattle.multistate_rle.specs.declared.fault.RleFault.TheVariants.{TooManyLive, CellOutOfRange}
+use Rattle.multistate_rle.specs.Pattern.{Strip, lies_inside, cells_of}
+
+-- where the next run begins, how many live cells there were, whether all of them lie in the plane, and the cells that are kept
+pub record Drawn : Type 0 where
+  pub origin : Origin
+  pub row : ℕ
+  pub column : ℕ
+  pub live : ℕ
+  pub is_inside : Bool
+  pub cells : List CellSet
+
+-- nothing was drawn yet
+abbrev pub undrawn : Origin → Drawn
+undrawn origin = record { origin = origin; row = 0; column = 0; live = 0; is_inside = true; cells = [] }
+
+-- a number, or 2^64 - 1 if it is greater
+abbrev pub capped : ℕ → ℕ
+capped n = min n (2 ^ 64 - 1)
+
+-- so many cells of a state, from where the next run begins
+abbrev pub strip_at : Drawn → ℕ → ℕ → Strip
+strip_at d n s = record { row = d.row; column = d.column; count = n; state = s }
+
+-- after so many ends of rows
+abbrev pub after_rows : Drawn → ℕ → Drawn
+after_rows d n = record d { row = capped (d.row + n); column = 0 }
+
+-- so many cells side by side, of which this is the first
+abbrev pub side_by_side : CellSet → ℕ → List CellSet
+side_by_side first n = map (λ k. record { x = first.x +ℤ pos k; y = first.y; state = first.state }) (range_with_len 0 n)
+
+-- one strip more, which is kept where all that is drawn can be laid
+abbrev pub with_strip : Drawn → Strip → Drawn
+with_strip d strip =
+    let live = capped (d.live + strip.count) in
+    let is_inside = d.is_inside && lies_inside d.origin strip in
+    record d { live = live; is_inside = is_inside; cells = if nat_le live 16777216 && is_inside then d.cells ++ cells_of d.origin strip else d.cells }
+
+-- after so many cells of a state
+abbrev pub after_cells : Drawn → ℕ → ℕ → Drawn
+after_cells d n s = let e = if s == 0 then d else with_strip d (strip_at d n s) in record e { column = capped (d.column + n) }
+
+-- the world that was drawn, or why there is none
+abbrev pub world_drawn : Drawn → Result World RleFault
+world_drawn d = if nat_lt 16777216 d.live then Err TooManyLive else (if d.is_inside then Ok (lay d.cells blank) else Err CellOutOfRange)

@@ -1,0 +1,27 @@
+-- What stands before the body of a pattern file.
+use Rattle.std.specs.Prelude.{ℕ, ◌+◌, ◌==◌, ◌||◌, Bool, List, [], ◌∷◌, length, Result, Ok, Err, if◌then◌else◌}
+use Rattle.text_lines.specs.Lines.{Line}
+use Rattle.text_lines.specs.Results.{◌>>=◌}
+use Rattle.multistate_rle.specs.declared.comment.Origin.{Origin}
+use Rattle.multistate_rle.specs.declared.fault.RleFault.{RleFault}
+use Rattle.multistate_rle.specs.declared.fault.RleFault.TheVariants.{NoHeader}
+use Rattle.multistate_rle.specs.Comments.{after_comment}
+use Rattle.multistate_rle.specs.Cut.{begins_with}
+use Rattle.multistate_rle.specs.Header.{rule_name}
+
+-- the origin of the pattern, the rule's name, and how many bytes stand before the body
+pub record Head : Type 0 where
+  pub origin : Origin
+  pub name : List ℕ
+  pub len : ℕ
+
+-- a line that is blank or a comment is passed over
+abbrev pub is_passed : List ℕ → Bool
+is_passed line = (length line == 0) || begins_with 35 line
+
+-- the head that the lines of a file give, where an origin and so many bytes were read before them
+abbrev pub head_from : Origin → ℕ → List Line → Result Head RleFault
+head_from origin len [] = Err NoHeader
+head_from origin len (line ∷ lines) =
+    if is_passed line.says then head_from (after_comment origin line.says) (len + length line.raw) lines
+    else (rule_name line.says >>= λ name. Ok (record { origin = origin; name = name; len = len + length line.raw }))

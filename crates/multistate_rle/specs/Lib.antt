@@ -1,0 +1,13 @@
+pub mod Comments
+pub mod Cut
+pub mod Drawing
+pub mod Faults
+pub mod Frame
+pub mod Head
+pub mod Header
+pub mod Listed
+pub mod Pattern
+pub mod PatternText
+pub mod Symbols
+pub mod Token
+pub mod Writing

@@ -1,0 +1,180 @@
+//! Drawing a pattern, run by run.
+ghost use Rattle.std.specs.Prelude.{◌≡◌, ◌+◌, ◌<◌, ◌≤◌, ◌++◌, ◌&&◌, ◌^◌, All, IsTrue, OnOk, pos, ◌+ℤ◌, ◌≤ℤ◌};
+ghost use Rattle.text_lines.specs.Results.{Gives};
+ghost use Rattle.plane_core.specs.Range.{CanBeLaid};
+ghost use Rattle.multistate_rle.specs.Pattern.{cells_of, is_in_range, lies_inside};
+ghost use Rattle.multistate_rle.specs.Drawing.{after_cells, after_rows, side_by_side, strip_at, undrawn, with_strip, world_drawn};
+
+use crate::comment::Origin;
+use crate::fault::RleFault;
+use plane_core::{CellSet, Plane};
+use std::alloc::{AllocError, Global};
+use std::marker::Model;
+
+// The most live cells that a pattern may have.
+const LIVE_LIMIT: u64 = 16_777_216;
+
+/// A pattern that is being drawn from the top left.
+///
+/// Counts, rows and columns beyond 2^64 - 1 stand at that number: wherever the pattern begins, a
+/// cell there lies outside the plane, and so many live cells are too many.
+#[derive(Drop)]
+pub struct Drawing {
+    origin: Origin,
+    row: u64,
+    column: u64,
+    live: u64,
+    is_inside: bool,
+    cells: Vec<CellSet>,
+    alloc: Global,
+}
+
+impl Model for Drawing {
+    ghost use Rattle.std.specs.Prelude.{All};
+    ghost use Rattle.plane_core.specs.Range.{CanBeLaid};
+    ghost use Rattle.multistate_rle.specs.Drawing.{Drawn};
+
+    ghost Value = { Drawn };
+
+    ghost view = { λ d. record {
+      origin = d.origin;
+      row = d.row;
+      column = d.column;
+      live = d.live;
+      is_inside = d.is_inside;
+      cells = d.cells.items;
+    } };
+
+    ghost invariant = { λ d. All CanBeLaid d.cells.items };
+}
+
+impl Drawing {
+    /// Nothing yet; the pattern begins at this place.
+    pub fn new(alloc: Global, origin: Origin) -> Drawing
+        ensures { result ≡ undrawn origin }
+    {
+        Drawing {
+            origin,
+            row: 0,
+            column: 0,
+            live: 0,
+            is_inside: true,
+            cells: Vec::new(alloc),
+            alloc,
+        }
+    }
+
+    /// Ends so many rows.
+    pub fn end_rows(&mut self, count: u64)
+        ensures { self.new ≡ after_rows self.old count }
+    {
+        self.row = self.row.saturating_add(count);
+        self.column = 0;
+    }
+
+    /// Draws so many cells of this state.
+    pub fn draw(&mut self, count: u64, state: u8) -> Result<(), AllocError>
+        requires { 0 < count }
+        ensures { OnOk result (self.new ≡ after_cells self.old count state) }
+    {
+        if state != 0 {
+            self.draw_strip(count, state)?;
+        }
+        self.column = self.column.saturating_add(count);
+        Ok(())
+    }
+
+    // Notes so many live cells, and keeps them if all that is drawn can be laid.
+    fn draw_strip(&mut self, count: u64, state: u8) -> Result<(), AllocError>
+        requires { 0 < count }
+        ensures { OnOk result (self.new ≡ with_strip self.old (strip_at self.old count state)) }
+    {
+        self.live = self.live.saturating_add(count);
+        self.is_inside = self.is_inside && self.has_room(count);
+        if self.live <= LIVE_LIMIT && self.is_inside {
+            self.keep_strip(count, state)?;
+        }
+        Ok(())
+    }
+
+    // Whether so many cells from here on lie in the plane.
+    fn has_room(&self, count: u64) -> bool
+        requires { 0 < count }
+        ensures { result ≡ lies_inside self.now.origin (strip_at self.now count 1) }
+    {
+        let first = shifted(self.origin.x, self.column);
+        let last = first + i128::from(count) - 1;
+        let y = shifted(self.origin.y, self.row);
+        are_in_range(first, last, y)
+    }
+
+    // Keeps so many cells from here on.
+    fn keep_strip(&mut self, count: u64, state: u8) -> Result<(), AllocError>
+        requires few { count ≤ LIVE_LIMIT }
+        requires inside { IsTrue (lies_inside self.old.origin (strip_at self.old count state)) }
+        ensures { OnOk result (self.new ≡ record self.old {
+          cells = self.old.cells ++ cells_of self.old.origin (strip_at self.old count state);
+        }) }
+    {
+        let first = CellSet {
+            x: shifted(self.origin.x, self.column) as i64,
+            y: shifted(self.origin.y, self.row) as i64,
+            state: u16::from(state),
+        };
+        push_strip(&mut self.cells, first, count)
+    }
+
+    /// The plane with all that was drawn.
+    ///
+    /// TooManyLive comes where more than 16,777,216 cells are live, else CellOutOfRange where one
+    /// lies outside the plane. NoMemory comes only where memory was wanted.
+    pub fn plane(&self) -> Result<Plane, RleFault>
+        ensures { Gives RleFault.NoMemory result (world_drawn self.now) }
+    {
+        if self.live > LIVE_LIMIT {
+            return Err(RleFault::TooManyLive);
+        }
+        if !self.is_inside {
+            return Err(RleFault::CellOutOfRange);
+        }
+        Ok(Plane::empty(self.alloc).lay(&self.cells)?)
+    }
+}
+
+// Adds so many cells side by side, of which this is the first.
+fn push_strip(cells: &mut Vec<CellSet>, first: CellSet, count: u64) -> Result<(), AllocError>
+    requires few { count ≤ LIVE_LIMIT }
+    requires laid { All CanBeLaid cells.old.items }
+    requires first { CanBeLaid first }
+    requires last { (first.x +ℤ pos count) ≤ℤ pos (2 ^ 61) }
+    ensures laid { All CanBeLaid cells.new.items }
+    ensures cells { OnOk result (cells.new.items ≡ cells.old.items ++ side_by_side first count) }
+{
+    for k in 0..count {
+        cells.push(CellSet {
+            x: first.x + k as i64,
+            ..first
+        })?;
+    }
+    Ok(())
+}
+
+// The coordinate so many cells behind another.
+fn shifted(start: i64, by: u64) -> i128
+    ensures { result ≡ start +ℤ pos by }
+{
+    i128::from(start) + i128::from(by)
+}
+
+fn are_in_range(first: i128, last: i128, y: i128) -> bool
+    ensures { result ≡ (is_in_range first && (is_in_range last && is_in_range y)) }
+{
+    is_in_range(first) && is_in_range(last) && is_in_range(y)
+}
+
+// Whether planes have cells at this coordinate.
+fn is_in_range(coordinate: i128) -> bool
+    ensures { result ≡ is_in_range coordinate }
+{
+    -(1 << 61) <= coordinate && coordinate < 1 << 61
+}

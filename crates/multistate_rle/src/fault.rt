@@ -1,0 +1,91 @@
+//! Why a pattern file is refused.
+ghost use Rattle.std.specs.Prelude.{◌≡◌};
+ghost use Rattle.multistate_rle.specs.declared.fault.RleFault.TheVariants.{NoMemory};
+
+use plane_core::Refusal;
+use std::alloc::{AllocError, AllocFailed};
+use thiserror::Error;
+
+/// The one fault for which a pattern file is refused, with the offset in the file, counted from 0,
+/// where it shows at one.
+#[derive(Clone, Copy, Debug, PartialEq, Eq, Error)]
+pub enum RleFault {
+    /// The first line that is neither blank nor a comment doesn't begin with `x`.
+    #[error("there is no header line")]
+    NoHeader,
+    /// The header is not `x = m, y = n`, with or without `, rule = name` behind it.
+    #[error("the header is not `x = m, y = n, rule = name`")]
+    BadHeader,
+    /// A byte is no item of a pattern, or a prefix has no letter behind it.
+    #[error("offset {0}: this is no state and no end of a row")]
+    BadRun(u64),
+    /// The rule's name asks for a bounded grid.
+    #[error("the rule is one of a bounded grid")]
+    BoundedGrid,
+    /// More than 16,777,216 cells are live.
+    #[error("there are more than 16,777,216 live cells")]
+    TooManyLive,
+    /// A live cell lies outside `-2^61 <= x, y < 2^61`.
+    #[error("a cell lies outside the plane")]
+    CellOutOfRange,
+    /// Memory was wanted.
+    #[error("there is not enough memory")]
+    NoMemory,
+}
+
+impl From<AllocError> for RleFault {
+    ghost from_gives = { λ _ fault. fault ≡ NoMemory };
+
+    fn from(_error: AllocError) -> RleFault {
+        RleFault::NoMemory
+    }
+}
+
+impl<T: Drop> From<AllocFailed<T>> for RleFault {
+    ghost from_gives = { λ _ fault. fault ≡ NoMemory };
+
+    fn from(_error: AllocFailed<T>) -> RleFault {
+        RleFault::NoMemory
+    }
+}
+
+impl Refusal for RleFault {
+    ghost use Rattle.multistate_rle.specs.Faults.{fault_number, fault_name, fault_place};
+
+    ghost number_of = { fault_number };
+
+    ghost name_of = { fault_name };
+
+    ghost place_of = { fault_place };
+
+    fn number(&self) -> u8 {
+        match self {
+            RleFault::NoHeader => 20,
+            RleFault::BadHeader => 21,
+            RleFault::BadRun(_) => 22,
+            RleFault::BoundedGrid => 23,
+            RleFault::TooManyLive => 24,
+            RleFault::CellOutOfRange => 41,
+            RleFault::NoMemory => 70,
+        }
+    }
+
+    fn name(&self) -> &'static str {
+        match self {
+            RleFault::NoHeader => "NoHeader",
+            RleFault::BadHeader => "BadHeader",
+            RleFault::BadRun(_) => "BadRun",
+            RleFault::BoundedGrid => "BoundedGrid",
+            RleFault::TooManyLive => "TooManyLive",
+            RleFault::CellOutOfRange => "CellOutOfRange",
+            RleFault::NoMemory => "NoMemory",
+        }
+    }
+
+    fn place(&self) -> Option<u64> {
+        match self {
+            RleFault::BadRun(offset) => Some(*offset),
+            _ => None,
+        }
+    }
+}

@@ -1,0 +1,42 @@
+//! The first line of a text.
+ghost use Rattle.std.specs.Prelude.{◌≡◌, ◌≢◌, ◌<◌, ◌≤◌, ◌∷◌, [], length, take, drop};
+ghost use Rattle.text_lines.specs.Lines.{lines, strip_carriage_return};
+
+use text_lines::{find_byte, trim};
+
+/// The first line of a text: what it says, and how many bytes it has with its line end.
+#[derive(Clone, Copy, Debug)]
+pub struct FirstLine<'a> {
+    pub says: &'a [u8],
+    pub len: usize,
+}
+
+/// The first line of a text that has one.
+pub fn first_line(text: &[u8]) -> FirstLine<'_>
+    requires { text.now ≢ [] }
+    ensures line { lines text.now ≡ record { says = result.says.now; raw = take result.len text.now } ∷
+        lines (drop result.len text.now) }
+    ensures some { 0 < result.len }
+    ensures within { result.len ≤ length text.now }
+{
+    match find_byte(text, b'\n') {
+        Some(end) => FirstLine {
+            says: trim(strip_carriage_return(&text[..end])),
+            len: end + 1,
+        },
+        None => FirstLine {
+            says: trim(text),
+            len: text.len(),
+        },
+    }
+}
+
+// The bytes without one carriage return at their end.
+fn strip_carriage_return(bytes: &[u8]) -> &[u8]
+    ensures { result.now ≡ strip_carriage_return bytes.now }
+{
+    match bytes {
+        [before @ .., last] if *last == b'\r' => before,
+        _ => bytes,
+    }
+}

@@ -1,0 +1,7 @@
+mod Finishing
+mod Following
+mod Growing
+mod KeptNodes
+mod LastLine
+mod NextNode
+mod Pieces

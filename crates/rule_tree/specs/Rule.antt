@@ -1,0 +1,68 @@
+-- The rule that a file means, and the next state of a cell under a rule.
+use Rattle.std.specs.Prelude.{◌≡◌, ℕ, List, codes, slice_index, Result, Ok}
+use Rattle.std.proofs.Common.{refl}
+use Rattle.rule_file.specs.declared.fault.RuleFault.{RuleFault}
+use Rattle.rule_file.specs.declared.text.SectionKind.{SectionKind}
+use Rattle.rule_file.specs.declared.text.SectionKind.TheVariants as section
+use Rattle.rule_file.specs.Results.{◌>>=◌}
+use Rattle.rule_file.specs.RuleFile.{Section, file_of}
+use Rattle.table_symmetry.specs.NextState as table
+use Rattle.table_symmetry.specs.Rule as table_rule
+use Rattle.table_symmetry.specs.TableLines.{table_of}
+use Rattle.rule_tree.specs.declared.rule.Kind.{Kind}
+use Rattle.rule_tree.specs.declared.rule.Kind.TheVariants.{Table, Tree}
+use Rattle.rule_tree.specs.NamedRule.{NamedRule}
+use Rattle.rule_tree.specs.Tree as tree
+use Rattle.rule_tree.specs.TreeLines.{tree_of}
+
+abbrev pub name_of : NamedRule → List ℕ
+name_of rule = rule.name
+
+-- how many states the cells have
+abbrev pub states_of_kind : Kind → ℕ
+states_of_kind (Table t) = t.states
+states_of_kind (Tree t) = t.states
+
+abbrev pub states_of : NamedRule → ℕ
+states_of rule = states_of_kind rule.kind
+
+-- the next state of a cell, by the nine states at and around it
+abbrev pub plain_next : Kind → List ℕ → ℕ
+plain_next (Table t) around = table.next t around
+plain_next (Tree t) around = tree.next t around
+
+-- the same; of a table or tree that no file has it is 0
+abbrev pub next_under_kind : Kind → List ℕ → ℕ
+next_under_kind (Table t) around = table_rule.next_under t around
+next_under_kind (Tree t) around = tree.next_under t around
+
+abbrev pub next_of : NamedRule → List ℕ → ℕ
+next_of rule around = next_under_kind rule.kind around
+
+-- the table or the tree that a section says, or its one fault
+abbrev pub kind_by : SectionKind → Section → Result Kind RuleFault
+kind_by section.Table s = table_of s.lines >>= λ t. Ok (Table t)
+kind_by section.Tree s = tree_of s >>= λ t. Ok (Tree t)
+
+abbrev pub kind_of : Section → Result Kind RuleFault
+kind_of s = kind_by s.kind s
+
+-- the rule that a file means, or its one fault
+abbrev pub rule_of : List ℕ → Result NamedRule RuleFault
+rule_of bytes = do
+  file ← file_of bytes
+  kind ← kind_of file.section
+  Ok (record { name = file.name; kind = kind })
+
+-- the rule `still`, under which each cell keeps its state
+abbrev pub still : NamedRule
+still = record { name = codes "still"; kind = Table table_rule.still_table }
+
+pub name_of-still : name_of still ≡ codes "still"
+name_of-still = refl
+
+pub states_of-still : states_of still ≡ 2
+states_of-still = refl
+
+pub next_of-still : (states : List ℕ) → next_of still states ≡ slice_index states 0
+next_of-still states = refl

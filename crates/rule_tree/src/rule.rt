@@ -1,0 +1,109 @@
+//! Rules as files have them.
+ghost use Rattle.std.specs.Prelude.{◌≡◌, ◌<◌, ℕ, List, All, IfOk};
+ghost use Rattle.rule_file.specs.Results.{Gives};
+ghost use Rattle.rule_tree.specs.Rule.{kind_of, name_of, next_of, next_under_kind, plain_next, rule_of, still};
+
+use crate::tree::TreeRule;
+use crate::tree_reader::read_tree;
+use plane_core::{Around, Listing, Next};
+use rule_file::{RuleFault, RuleText, SectionKind, cut};
+use std::alloc::{AllocError, Global};
+use std::marker::Model;
+use table_symmetry::{TableRule, read_table};
+
+/// What says what a rule does.
+#[derive(Debug, Drop)]
+pub enum Kind {
+    Table(TableRule),
+    Tree(TreeRule),
+}
+
+/// A rule of a cellular automaton: a table or a tree with a name.
+#[derive(Debug, Drop)]
+pub struct Rule {
+    name: Listing<u8>,
+    kind: Kind,
+}
+
+impl Model for Rule {
+    ghost use Rattle.rule_tree.specs.NamedRule.{NamedRule};
+
+    ghost Value = { NamedRule };
+
+    ghost view = { λ rule. record { name = rule.name; kind = rule.kind } };
+}
+
+impl Rule {
+    /// Reads a `.rule` file: its first line that isn't blank names the rule, and its first table
+    /// or tree says what the rule does.
+    ///
+    /// A file that means no rule is refused by the one fault that it has. NoMemory comes only
+    /// where memory was wanted.
+    pub fn read(alloc: Global, text: &[u8]) -> Result<Rule, RuleFault>
+        ensures rule { Gives result (rule_of text.now) }
+        ensures straight { IfOk result
+            (λ rule. (around : List ℕ) → next_of rule around ≡ plain_next rule.kind around) }
+    {
+        let file = cut(alloc, text)?;
+        let kind = read_kind(alloc, &file)?;
+        let name = Listing::from_vec(file.name().to_vec(alloc)?);
+        Ok(Rule { name, kind })
+    }
+
+    /// The rule named `still`, of two states, under which each cell keeps its own.
+    pub fn still(alloc: Global) -> Result<Rule, AllocError>
+        ensures { IfOk result (λ rule. rule ≡ still) }
+    {
+        let name = Listing::from_vec(b"still".to_vec(alloc)?);
+        Ok(Rule {
+            name,
+            kind: Kind::Table(TableRule::still(alloc)),
+        })
+    }
+
+    /// The rule's name, of bytes from 33 to 126 without the colon.
+    pub fn name(&self) -> &[u8]
+        ensures { result.now ≡ name_of self.now }
+    {
+        self.name.as_slice()
+    }
+}
+
+// The table or the tree that a section says.
+fn read_kind(alloc: Global, file: &RuleText) -> Result<Kind, RuleFault>
+    ensures kind { Gives result (kind_of file.now.section) }
+    ensures straight { IfOk result
+        (λ kind. (around : List ℕ) → next_under_kind kind around ≡ plain_next kind around) }
+{
+    match file.kind() {
+        SectionKind::Table => Ok(Kind::Table(read_table(alloc, file)?)),
+        SectionKind::Tree => Ok(Kind::Tree(read_tree(alloc, file)?)),
+    }
+}
+
+impl Next for Rule {
+    ghost use Rattle.rule_tree.specs.Rule.{states_of, next_of};
+    ghost use Rattle.rule_tree.specs.RuleLaws.{next_of-quiet, next_of-below};
+
+    ghost state_count = { states_of };
+
+    ghost meaning = { next_of };
+
+    ghost quiet = { next_of-quiet };
+
+    ghost below = { next_of-below };
+
+    fn states(&self) -> u16 {
+        match &self.kind {
+            Kind::Table(table) => table.states(),
+            Kind::Tree(tree) => tree.states(),
+        }
+    }
+
+    fn next(&self, around: &Around) -> u8 {
+        match &self.kind {
+            Kind::Table(table) => table.next(around),
+            Kind::Tree(tree) => tree.next(around),
+        }
+    }
+}

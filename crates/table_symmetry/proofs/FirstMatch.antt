@@ -1,0 +1,87 @@
+-- The first expanded transition that matches gives the next state.
+use Rattle.std.specs.Prelude.{◌≡◌, ℕ, ◌&&◌, ◌||◌, Bool, true, false, cond, List, [], ◌∷◌, ◌++◌, length, map, take, drop, find, slice_index, unwrap_or, Option, Some, None}
+use Rattle.std.specs.List.{flat_map, list_any, take-map, drop-map}
+use Rattle.std.specs.Option.{option_map, option_or}
+use Rattle.std.proofs.Common.{refl, sym, ap, ◌∙◌}
+use Rattle.std.proofs.lemmas.List.{map-append}
+use Rattle.table_symmetry.specs.declared.expansion.Expanded.{Expanded}
+use Rattle.table_symmetry.specs.declared.transition.Entry.{Entry}
+use Rattle.table_symmetry.specs.declared.transition.Transition.{Transition}
+use Rattle.table_symmetry.specs.Circle.{arrangements}
+use Rattle.table_symmetry.specs.Expanded.{all_have, distinct, expanded, expanded_of, expanded_one, first_match, same_sets, sets_of}
+use Rattle.table_symmetry.specs.NextState.{admitted, all_admit, arranged, assignments, first_result, given, inputs_of, matches, next, result_of}
+use Rattle.table_symmetry.specs.Table.{Table}
+use Rattle.table_symmetry.specs.States.{has}
+use Rattle.table_symmetry.proofs.Arranged.{same_sets_decides}
+use Rattle.table_symmetry.proofs.Distinct.{any-distinct}
+use Rattle.table_symmetry.proofs.Naturality.{arrangements-map}
+
+any_both : {A B : Type 0} (p : B → Bool) (f : A → B) (q : A → Bool) → ((x : A) → p (f x) ≡ q x) → (xs : List A) → list_any p (map f xs) ≡ list_any q xs
+any_both p f q e [] = refl
+any_both p f q e (x ∷ xs) = λ i. e x i || any_both p f q e xs i
+
+all_admit-sets : (entries : List Entry) (states : List ℕ) → all_admit entries states ≡ all_have (map admitted entries) states
+all_admit-sets [] [] = refl
+all_admit-sets [] (s ∷ states) = refl
+all_admit-sets (e ∷ entries) [] = refl
+all_admit-sets (e ∷ entries) (s ∷ states) = ap (λ b. has (admitted e) s && b) (all_admit-sets entries states)
+
+-- a transition matches, if the sets of one of its expanded transitions have the states
+matches-sets : (table : Table) (around : List ℕ) (t : Transition) → matches table around t ≡ list_any (λ sets. all_have (take 1 (sets_of t) ++ sets) (inputs_of table.neighborhood around)) (distinct same_sets (arrangements table.symmetry (drop 1 (sets_of t))))
+matches-sets table around t =
+    let inputs = inputs_of table.neighborhood around in
+    let has_them : List (List ℕ) → Bool = λ sets. all_have (take 1 (sets_of t) ++ sets) inputs in
+    any_both (λ entries. all_admit entries inputs) (λ others. take 1 t.inputs ++ others) (λ others. has_them (map admitted others))
+    (λ others. all_admit-sets (take 1 t.inputs ++ others) inputs ∙ ap (λ sets. all_have sets inputs) (map-append admitted (take 1 t.inputs) others ∙ ap (λ front. front ++ map admitted others) (sym (take-map admitted 1 t.inputs))))
+    (arrangements table.symmetry (drop 1 t.inputs))
+    ∙ sym (any_both has_them (map admitted) (λ others. has_them (map admitted others)) (λ others. refl) (arrangements table.symmetry (drop 1 t.inputs)))
+    ∙ ap (list_any has_them) (sym (arrangements-map admitted table.symmetry (drop 1 t.inputs)) ∙ ap (arrangements table.symmetry) (sym (drop-map admitted 1 t.inputs)))
+    ∙ sym (any-distinct same_sets same_sets_decides has_them (arrangements table.symmetry (drop 1 (sets_of t))))
+
+-- rows of one result give it, if one of them matches
+one_result : (row : List (List ℕ) → Expanded) (result : ℕ) (inputs : List ℕ) → ((sets : List (List ℕ)) → (row sets).result ≡ result) → (lists : List (List (List ℕ))) → first_match (map row lists) inputs ≡ cond (list_any (λ sets. all_have (row sets).inputs inputs) lists) (Some result) None
+one_result row result inputs e [] = refl
+one_result row result inputs e (x ∷ lists) = by_first (all_have (row x).inputs inputs) (e x) (one_result row result inputs e lists)
+  where
+    by_first : (b : Bool) → (row x).result ≡ result → first_match (map row lists) inputs ≡ cond (list_any (λ sets. all_have (row sets).inputs inputs) lists) (Some result) None → option_map (λ (r : Expanded). r.result) (cond b (Some (row x)) (find (λ (r : Expanded). all_have r.inputs inputs) (map row lists))) ≡ cond (b || list_any (λ sets. all_have (row sets).inputs inputs) lists) (Some result) None
+    by_first true e rest = ap Some e
+    by_first false e rest = rest
+
+first_match-append : (xs ys : List Expanded) (inputs : List ℕ) → first_match (xs ++ ys) inputs ≡ option_or (first_match xs inputs) (first_match ys inputs)
+first_match-append [] ys inputs = refl
+first_match-append (x ∷ xs) ys inputs = by_first (all_have x.inputs inputs) (first_match-append xs ys inputs)
+  where
+    by_first : (b : Bool) → first_match (xs ++ ys) inputs ≡ option_or (first_match xs inputs) (first_match ys inputs) → option_map (λ (r : Expanded). r.result) (cond b (Some x) (find (λ (r : Expanded). all_have r.inputs inputs) (xs ++ ys))) ≡ option_or (option_map (λ (r : Expanded). r.result) (cond b (Some x) (find (λ (r : Expanded). all_have r.inputs inputs) xs))) (first_match ys inputs)
+    by_first true rest = refl
+    by_first false rest = rest
+
+first_match-one : (table : Table) (around : List ℕ) (t : Transition) → first_match (expanded_one table.symmetry t) (inputs_of table.neighborhood around) ≡ cond (matches table around t) (Some (given t.result)) None
+first_match-one table around t =
+    one_result (λ others. record { inputs = take 1 (sets_of t) ++ others; result = given t.result }) (given t.result) (inputs_of table.neighborhood around) (λ others. refl) (distinct same_sets (arrangements table.symmetry (drop 1 (sets_of t))))
+    ∙ ap (λ b. cond b (Some (given t.result)) None) (sym (matches-sets table around t))
+
+first_match-all : (table : Table) (around : List ℕ) (ts : List Transition) → first_match (flat_map (expanded_one table.symmetry) ts) (inputs_of table.neighborhood around) ≡ option_map (λ (u : Transition). given u.result) (find (matches table around) ts)
+first_match-all table around [] = refl
+first_match-all table around (t ∷ ts) =
+    first_match-append (expanded_one table.symmetry t) (flat_map (expanded_one table.symmetry) ts) (inputs_of table.neighborhood around)
+    ∙ (λ i. option_or (first_match-one table around t i) (first_match-all table around ts i))
+    ∙ by_first (matches table around t)
+  where
+    by_first : (b : Bool) → option_or (cond b (Some (given t.result)) None) (option_map (λ (u : Transition). given u.result) (find (matches table around) ts)) ≡ option_map (λ (u : Transition). given u.result) (cond b (Some t) (find (matches table around) ts))
+    by_first true = refl
+    by_first false = refl
+
+unwrap-option_or : (a b : Option ℕ) (d : ℕ) → unwrap_or (option_or a b) d ≡ unwrap_or a (unwrap_or b d)
+unwrap-option_or (Some x) b d = refl
+unwrap-option_or None b d = refl
+
+first_result-expanded : (table : Table) (around : List ℕ) (ts : List Transition) → unwrap_or (first_match (flat_map (expanded_of table.symmetry) ts) (inputs_of table.neighborhood around)) (slice_index around 0) ≡ first_result table around ts
+first_result-expanded table around [] = refl
+first_result-expanded table around (t ∷ ts) =
+    ap (λ o. unwrap_or o (slice_index around 0)) (first_match-append (expanded_of table.symmetry t) (flat_map (expanded_of table.symmetry) ts) (inputs_of table.neighborhood around))
+    ∙ unwrap-option_or (first_match (expanded_of table.symmetry t) (inputs_of table.neighborhood around)) (first_match (flat_map (expanded_of table.symmetry) ts) (inputs_of table.neighborhood around)) (slice_index around 0)
+    ∙ (λ i. unwrap_or (first_match-all table around (assignments t) i) (first_result-expanded table around ts i))
+
+-- the first expanded transition that matches gives the next state, and where none does the cell keeps its own
+pub next-expanded : (table : Table) (around : List ℕ) → unwrap_or (first_match (expanded table) (inputs_of table.neighborhood around)) (slice_index around 0) ≡ next table around
+next-expanded table around = first_result-expanded table around table.transitions

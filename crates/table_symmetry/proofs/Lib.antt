@@ -1,0 +1,20 @@
+mod Arranged
+mod Bound
+mod Columns
+mod Distinct
+mod Finds
+mod FirstMatch
+mod FullLines
+mod Growing
+mod Lengths
+mod Limits
+mod Matching
+mod Names
+mod Naturality
+mod Rising
+mod SameNames
+mod Search
+pub mod Sets
+mod SoundTables
+mod Splits
+mod Unions

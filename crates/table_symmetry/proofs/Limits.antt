@@ -1,0 +1,79 @@
+-- A table within the limits, and one that isn't.
+use Rattle.std.proofs.Common.{◌≡◌, ◌⊎◌, ℕ, zero, suc, unwrap_or, ◌<◌, ◌≤◌, ◌==◌, Bool, true, false, cond, nat_lt, List, length, Result, Ok, Err, refl, sym, ap, ◌∙◌, subst, inl, inr, arith}
+use Rattle.std.specs.Prelude.{slice_index_or}
+use Rattle.std.specs.List.{list_all}
+use Rattle.std.specs.Result.{IsErrAnd}
+use Rattle.std.proofs.lemmas.Bool.{eq-eqb, ne_eqb}
+use Rattle.plane_core.specs.Step.{nine_zeros, AreNineBelow}
+use Rattle.std.proofs.lemmas.Bool.Decides.{nat_tests}
+use Rattle.rule_file.specs.declared.fault.RuleFault.{RuleFault}
+use Rattle.rule_file.specs.declared.fault.RuleFault.TheVariants.{TooManyTransitions, NotQuiescent, NoMemory}
+use Rattle.rule_file.specs.Results.{Gives}
+use Rattle.table_symmetry.specs.Expanded.{expanded, transition_limit}
+use Rattle.table_symmetry.specs.Grown.{IsTooLong}
+use Rattle.table_symmetry.specs.declared.lookup.Lookup.{Lookup}
+use Rattle.table_symmetry.specs.Below.{admits_below}
+use Rattle.table_symmetry.specs.Kept.{IsKept}
+use Rattle.table_symmetry.specs.Lookup.{FindsFirst, found}
+use Rattle.table_symmetry.specs.NextState.{gives_states, is_quiescent, next}
+use Rattle.table_symmetry.specs.Table.{Table}
+use Rattle.table_symmetry.specs.TableLines.{within_limits}
+use Rattle.table_symmetry.proofs.FirstMatch.{next-expanded}
+use Rattle.table_symmetry.proofs.SoundTables.{and_of, all_give_states}
+
+within_limits-many : (table : Table) → transition_limit < length (expanded table) → within_limits table ≡ Err TooManyTransitions
+within_limits-many table h =
+    let many : nat_lt 1000000 (length (expanded table)) ≡ true = grind (arith, nat_tests, h) in
+    ap (λ b. cond b (Err TooManyTransitions) (cond (is_quiescent table) (Ok table) (Err NotQuiescent))) many
+
+few_pass : (table : Table) → length (expanded table) ≤ transition_limit → within_limits table ≡ cond (is_quiescent table) (Ok table) (Err NotQuiescent)
+few_pass table h =
+    let few : nat_lt 1000000 (length (expanded table)) ≡ false = grind (arith, nat_tests, h) in
+    ap (λ b. cond b (Err TooManyTransitions) (cond (is_quiescent table) (Ok table) (Err NotQuiescent))) few
+
+pub within_limits-restless : (table : Table) → length (expanded table) ≤ transition_limit → is_quiescent table ≡ false → within_limits table ≡ Err NotQuiescent
+within_limits-restless table h restless = few_pass table h ∙ ap (λ b. cond b (Ok table) (Err NotQuiescent)) restless
+
+pub within_limits-kept : (table : Table) → length (expanded table) ≤ transition_limit → is_quiescent table ≡ true → within_limits table ≡ Ok table
+within_limits-kept table h quiet = few_pass table h ∙ ap (λ b. cond b (Ok table) (Err NotQuiescent)) quiet
+
+-- a fault of the expansion, handed on
+pub Gives-too-long : (result : Result Table RuleFault) (table : Table) (e : RuleFault) → IsErrAnd result (λ f. f ≡ e) → IsTooLong e (length (expanded table)) → Gives result (within_limits table)
+Gives-too-long (Ok x) table e h k = absurd h
+Gives-too-long (Err f) table e h (inl wanted) = inl (h ∙ wanted)
+Gives-too-long (Err f) table e h (inr (many, beyond)) = inr (within_limits-many table beyond ∙ ap Err (sym many ∙ sym h))
+
+zeros_at : (k d : ℕ) → k < 9 → slice_index_or nine_zeros k d ≡ 0
+zeros_at zero d h = refl
+zeros_at (suc zero) d h = refl
+zeros_at (suc (suc zero)) d h = refl
+zeros_at (suc (suc (suc zero))) d h = refl
+zeros_at (suc (suc (suc (suc zero)))) d h = refl
+zeros_at (suc (suc (suc (suc (suc zero))))) d h = refl
+zeros_at (suc (suc (suc (suc (suc (suc zero)))))) d h = refl
+zeros_at (suc (suc (suc (suc (suc (suc (suc zero))))))) d h = refl
+zeros_at (suc (suc (suc (suc (suc (suc (suc (suc zero)))))))) d h = refl
+zeros_at (suc (suc (suc (suc (suc (suc (suc (suc (suc k))))))))) d h = absurd (omega (arith, h))
+
+zeros-below : (n : ℕ) → 0 < n → AreNineBelow n nine_zeros
+zeros-below n some = record { nine = refl; below = λ k d h. subst (λ s. s < n) (sym (zeros_at k d h)) some }
+
+-- what a look-up of the expanded transitions gives for nine zeros
+pub next_of_zeros : (table : Table) (lookup : Lookup) → FindsFirst lookup table.states table.neighborhood (expanded table) → 0 < table.states → unwrap_or (found lookup nine_zeros) 0 ≡ next table nine_zeros
+next_of_zeros table lookup finds some = ap (λ o. unwrap_or o 0) (finds nine_zeros (zeros-below table.states some)) ∙ next-expanded table nine_zeros
+
+-- a table of states that was read, of few expanded transitions that a look-up finds, and that is quiescent, is one that is kept
+pub is_kept : (table : Table) (lookup : Lookup) → 2 ≤ table.states → table.states ≤ 256 → list_all (admits_below table.states) table.transitions ≡ true → length (expanded table) ≤ transition_limit → FindsFirst lookup table.states table.neighborhood (expanded table) → unwrap_or (found lookup nine_zeros) 0 ≡ 0 → IsKept table lookup
+is_kept table lookup least most below few finds quiet =
+    let some : 0 < table.states = omega (arith, least) in
+    let still : is_quiescent table ≡ true = eq-eqb (next table nine_zeros) 0 (sym (next_of_zeros table lookup finds some) ∙ quiet) in
+    record {
+      at_least = least;
+      at_most = most;
+      sound = and_of (is_quiescent table) (list_all (gives_states table.states) table.transitions) still (all_give_states table.states table.transitions some below);
+      few = few;
+      finds = finds;
+    }
+
+pub is_restless : (table : Table) (lookup : Lookup) → 0 < table.states → FindsFirst lookup table.states table.neighborhood (expanded table) → (unwrap_or (found lookup nine_zeros) 0 ≡ 0 → ⊥) → is_quiescent table ≡ false
+is_restless table lookup some finds moves = ne_eqb (next table nine_zeros) 0 (λ e. moves (next_of_zeros table lookup finds some ∙ e))

@@ -1,0 +1,6 @@
+use Rattle.std.proofs.Common.{◌≡◌, ℕ, ◌*◌, ◌<◌, false}
+use Rattle.table_symmetry.specs.Lookup.{row_has}
+use Rattle.table_symmetry.proofs.lookup.Lookup.find.Given as goal
+
+abbrev pub invariant-loop-word : goal.invariant-loop-word
+invariant-loop-word l = (row : ℕ) → row < 64 * l.word → row_has l.self.columns l.inputs row ≡ false

@@ -1,0 +1,13 @@
+use Rattle.std.proofs.Common.{◌≡◌, [], drop, true}
+use Rattle.std.specs.List.{list_all}
+use Rattle.table_symmetry.specs.Below.{admits_below, variables_below}
+use Rattle.table_symmetry.specs.Entries.{behind}
+use Rattle.table_symmetry.specs.TableLines.{transitions_of}
+use Rattle.table_symmetry.proofs.transitions.read_transitions.Given as goal
+
+abbrev pub invariant-loop-line : goal.invariant-loop-line
+invariant-loop-line l = record {
+  read : behind l.transitions.items (transitions_of l.head l.variables (drop l.line-index l.lines)) ≡ transitions_of l.head [] l.lines;
+  below : list_all (admits_below l.head.states) l.transitions.items ≡ true;
+  variables : variables_below l.head.states l.variables ≡ true;
+}

@@ -1,0 +1,29 @@
+-- Lists of expanded transitions that grow up to the limit.
+use Rattle.std.specs.Prelude.{◌≡◌, ◌⊎◌, ℕ, ◌+◌, ◌<◌, ◌≤◌, List, [], ◌∷◌, ◌++◌, Bool, length, Result, Ok, Err, if◌then◌else◌}
+use Rattle.std.specs.List.{list_any}
+use Rattle.rule_file.specs.declared.fault.RuleFault.{RuleFault}
+use Rattle.rule_file.specs.declared.fault.RuleFault.TheVariants.{NoMemory, TooManyTransitions}
+use Rattle.table_symmetry.specs.declared.expansion.Expanded.{Expanded}
+use Rattle.table_symmetry.specs.Expanded.{transition_limit}
+
+-- why a list doesn't grow by so many: memory was wanted, or they are too many
+abbrev pub IsTooLong : RuleFault → ℕ → Type 0
+IsTooLong fault count = (fault ≡ NoMemory) ⊎ ((fault ≡ TooManyTransitions) × (transition_limit < count))
+
+-- a list grew by some more
+abbrev pub Grows : {U : Type 0} → Result U RuleFault → List Expanded → List Expanded → List Expanded → Type 0
+Grows (Ok u) old new more = (new ≡ old ++ more) × (length new ≤ transition_limit)
+Grows (Err fault) old new more = IsTooLong fault (length old + length more)
+
+-- an expanded transition of these sets for the cell and its neighbours
+abbrev pub row_of : List (List ℕ) → ℕ → List (List ℕ) → Expanded
+row_of centre given neighbours = record { inputs = centre ++ neighbours; result = given }
+
+-- a list with one more element, unless it has it
+abbrev pub with_one : {X : Type 0} → (X → X → Bool) → List X → X → List X
+with_one same xs x = if list_any (λ y. same y x) xs then xs else xs ++ x ∷ []
+
+-- the same with each of some more
+abbrev pub with_all : {X : Type 0} → (X → X → Bool) → List X → List X → List X
+with_all same xs [] = xs
+with_all same xs (y ∷ ys) = with_all same (with_one same xs y) ys

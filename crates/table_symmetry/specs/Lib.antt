@@ -1,0 +1,15 @@
+pub mod Below
+pub mod Circle
+pub mod Definitions
+pub mod Entries
+pub mod Expanded
+pub mod Grown
+pub mod Kept
+pub mod Lookup
+pub mod NextState
+pub mod Rule
+pub mod RuleLaws
+pub mod StateHalves
+pub mod States
+pub mod Table
+pub mod TableLines

@@ -1,0 +1,19 @@
+-- The next state under a table, whatever the table is.
+use Rattle.std.specs.Prelude.{ℕ, ◌&&◌, Bool, if◌then◌else◌, List, []}
+use Rattle.std.specs.List.{list_all}
+use Rattle.table_symmetry.specs.declared.table.Neighborhood.TheVariants.{OneDimensional}
+use Rattle.table_symmetry.specs.declared.table.Symmetry.TheVariants as symmetry
+use Rattle.table_symmetry.specs.Table.{Table}
+use Rattle.table_symmetry.specs.NextState.{next, is_quiescent, gives_states}
+
+-- a table that a file may have: it is quiescent, and whatever it gives is a state
+abbrev pub is_sound : Table → Bool
+is_sound table = is_quiescent table && list_all (gives_states table.states) table.transitions
+
+-- the next state under a table; of one that no file has it is 0
+abbrev pub next_under : Table → List ℕ → ℕ
+next_under table around = if is_sound table then next table around else 0
+
+-- the table in which each cell keeps its state
+abbrev pub still_table : Table
+still_table = record { states = 2; neighborhood = OneDimensional; symmetry = symmetry.None; transitions = [] }

@@ -1,0 +1,189 @@
+//! The arrangements in which the neighbours of a transition may stand.
+ghost use Rattle.std.specs.Prelude.{◌≡◌, ◌≤◌, ◌++◌, ◌∷◌, length, take, drop, IfOk, OnOk};
+ghost use Rattle.std.specs.List.{flat_map, list_any};
+ghost use Rattle.table_symmetry.specs.Circle as maps;
+ghost use Rattle.table_symmetry.specs.Expanded.{distinct, same_sets};
+ghost use Rattle.table_symmetry.specs.Grown.{with_all, with_one};
+
+use crate::state_set::StateSet;
+use crate::table::Symmetry;
+use plane_core::Listing;
+use std::alloc::{AllocError, Global};
+
+/// A list of sets of states, one for each neighbour.
+type Circle = Listing<StateSet>;
+
+/// The circle as the maps of the symmetry put it, each arrangement once.
+pub fn arrangements(
+    alloc: Global,
+    symmetry: Symmetry,
+    circle: &[StateSet],
+) -> Result<Vec<Circle>, AllocError>
+    ensures { IfOk result (λ lists. lists.items ≡ distinct same_sets (maps.arrangements symmetry circle.now)) }
+{
+    match symmetry {
+        Symmetry::None => turns(alloc, 1, circle),
+        Symmetry::Rotate2 => turns(alloc, 2, circle),
+        Symmetry::Rotate3 => turns(alloc, 3, circle),
+        Symmetry::Rotate4 => turns(alloc, 4, circle),
+        Symmetry::Rotate6 => turns(alloc, 6, circle),
+        Symmetry::Rotate8 => turns(alloc, 8, circle),
+        Symmetry::Rotate4Reflect => turns_and_reflections(alloc, 4, circle),
+        Symmetry::Rotate6Reflect => turns_and_reflections(alloc, 6, circle),
+        Symmetry::Rotate8Reflect => turns_and_reflections(alloc, 8, circle),
+        Symmetry::ReflectHorizontal => turns_and_reflections(alloc, 1, circle),
+        Symmetry::Reflect => turns(alloc, 2, circle),
+        Symmetry::Permute => orders(alloc, circle),
+    }
+}
+
+// The circle as equal turns put it.
+fn turns(alloc: Global, count: usize, circle: &[StateSet]) -> Result<Vec<Circle>, AllocError>
+    requires { 1 ≤ count }
+    ensures { IfOk result (λ lists. lists.items ≡ distinct same_sets (maps.turns count circle.now)) }
+{
+    let mut lists = Vec::new(alloc);
+    add_turns(alloc, &mut lists, count, circle)?;
+    Ok(lists)
+}
+
+// The circle as equal turns put it, and its mirror image as they put that.
+fn turns_and_reflections(
+    alloc: Global,
+    count: usize,
+    circle: &[StateSet],
+) -> Result<Vec<Circle>, AllocError>
+    requires { 1 ≤ count }
+    ensures { IfOk result (λ lists. lists.items
+        ≡ distinct same_sets (maps.turns count circle.now ++ maps.turns count (maps.mirrored circle.now))) }
+{
+    let mut lists = Vec::new(alloc);
+    add_turns(alloc, &mut lists, count, circle)?;
+    let image = mirrored(alloc, circle)?;
+    add_turns(alloc, &mut lists, count, &image)?;
+    Ok(lists)
+}
+
+// Adds what equal turns make of the circle and isn't there yet.
+fn add_turns(
+    alloc: Global,
+    lists: &mut Vec<Circle>,
+    count: usize,
+    circle: &[StateSet],
+) -> Result<(), AllocError>
+    requires { 1 ≤ count }
+    ensures { OnOk result (lists.new.items ≡ with_all same_sets lists.old.items (maps.turns count circle.now)) }
+{
+    for turn in 0..count {
+        let places = turn * (circle.len() / count);
+        add_new(lists, joined(alloc, &circle[places..], &circle[..places])?)?;
+    }
+    Ok(())
+}
+
+// Adds the list, unless it is there.
+fn add_new(lists: &mut Vec<Circle>, list: Circle) -> Result<(), AllocError>
+    ensures { OnOk result (lists.new.items ≡ with_one same_sets lists.old.items list) }
+{
+    if !has_list(lists, list.as_slice()) {
+        lists.push(list)?;
+    }
+    Ok(())
+}
+
+fn has_list(lists: &[Circle], list: &[StateSet]) -> bool
+    ensures { result ≡ list_any (λ other. same_sets other list.now) lists.now }
+{
+    lists.iter().any(|other| same_sets(other.as_slice(), list))
+}
+
+fn same_sets(sets: &[StateSet], others: &[StateSet]) -> bool
+    ensures { result ≡ same_sets sets.now others.now }
+{
+    match (sets, others) {
+        ([], []) => true,
+        ([set, sets @ ..], [other, others @ ..]) => set.equals(other) && same_sets(sets, others),
+        _ => false,
+    }
+}
+
+// The circle the other way round, from the same first place.
+fn mirrored(alloc: Global, circle: &[StateSet]) -> Result<Vec<StateSet>, AllocError>
+    ensures { IfOk result (λ image. image.items ≡ maps.mirrored circle.now) }
+{
+    let mut image = circle.to_vec(alloc)?;
+    if let [_, others @ ..] = image.as_mut_slice() {
+        others.reverse();
+    }
+    Ok(image)
+}
+
+// All orders of the circle, each once.
+fn orders(alloc: Global, circle: &[StateSet]) -> Result<Vec<Circle>, AllocError>
+    ensures { IfOk result (λ lists. lists.items ≡ distinct same_sets (maps.permutations circle.now)) }
+{
+    match circle {
+        [] => {
+            let mut lists = Vec::new(alloc);
+            lists.push(Listing::from_vec(Vec::new(alloc)))?;
+            Ok(lists)
+        }
+        [first, others @ ..] => {
+            let shorter = orders(alloc, others)?;
+            longer_orders(alloc, *first, &shorter)
+        }
+    }
+}
+
+// The orders with one more set, put in at each place, each once.
+fn longer_orders(alloc: Global, set: StateSet, orders: &[Circle]) -> Result<Vec<Circle>, AllocError>
+    ensures { IfOk result (λ lists. lists.items ≡ distinct same_sets (flat_map (maps.insertions set) orders.now)) }
+{
+    let mut lists = Vec::new(alloc);
+    for list in orders {
+        add_insertions(alloc, &mut lists, set, list.as_slice())?;
+    }
+    Ok(lists)
+}
+
+// Adds the list with one more set, put in at each place, where that isn't there yet.
+fn add_insertions(
+    alloc: Global,
+    lists: &mut Vec<Circle>,
+    set: StateSet,
+    list: &[StateSet],
+) -> Result<(), AllocError>
+    ensures { OnOk result (lists.new.items ≡ with_all same_sets lists.old.items (maps.insertions set list.now)) }
+{
+    for place in 0..list.len() + 1 {
+        add_new(lists, inserted(alloc, set, list, place)?)?;
+    }
+    Ok(())
+}
+
+// The list with one more set, put in at this place.
+fn inserted(
+    alloc: Global,
+    set: StateSet,
+    list: &[StateSet],
+    place: usize,
+) -> Result<Circle, AllocError>
+    requires { place ≤ length list.now }
+    ensures { IfOk result (λ longer. longer ≡ take place list.now ++ set ∷ drop place list.now) }
+{
+    let mut longer = Vec::with_capacity(alloc, list.len() + 1)?;
+    longer.extend_from_slice(&list[..place])?;
+    longer.push(set)?;
+    longer.extend_from_slice(&list[place..])?;
+    Ok(Listing::from_vec(longer))
+}
+
+/// One list and then the other.
+pub fn joined(alloc: Global, front: &[StateSet], back: &[StateSet]) -> Result<Circle, AllocError>
+    ensures { IfOk result (λ list. list ≡ front.now ++ back.now) }
+{
+    let mut list = Vec::with_capacity(alloc, front.len() + back.len())?;
+    list.extend_from_slice(front)?;
+    list.extend_from_slice(back)?;
+    Ok(Listing::from_vec(list))
+}

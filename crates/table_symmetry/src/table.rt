@@ -1,0 +1,163 @@
+//! Rules that are given by a table.
+ghost use Rattle.std.specs.Prelude.{◌≡◌, ◌<◌, ◌≤◌, ℕ, List, length, slice_index, unwrap_or, All, IfOk};
+ghost use Rattle.table_symmetry.specs.Expanded.{expanded, first_match, transition_limit};
+ghost use Rattle.table_symmetry.specs.NextState.{inputs_of, next};
+ghost use Rattle.table_symmetry.specs.Rule.{still_table};
+
+use crate::descriptors::Head;
+use crate::expansion::{Expanded, expand};
+use crate::lookup::Lookup;
+use crate::transition::Transition;
+use plane_core::{Around, Listing, Next};
+use std::alloc::{AllocError, Global};
+use std::marker::Model;
+
+/// Which cells are the neighbours of a cell. N lies at y - 1 and E at x + 1.
+#[derive(Clone, Copy, Debug, PartialEq, Eq)]
+pub enum Neighborhood {
+    /// N, E, S and W.
+    VonNeumann,
+    /// N, NE, E, SE, S, SW, W and NW.
+    Moore,
+    /// N, E, SE, S, W and NW: the hexagonal grid laid on the square one.
+    Hexagonal,
+    /// W and E.
+    OneDimensional,
+}
+
+/// In which other arrangements of the neighbours a transition matches too. The neighbours stand on
+/// a circle in the order of the neighbourhood.
+#[derive(Clone, Copy, Debug, PartialEq, Eq)]
+pub enum Symmetry {
+    /// In none.
+    None,
+    /// In both turns by a half.
+    Rotate2,
+    /// In all turns by a third.
+    Rotate3,
+    /// In all turns by a quarter.
+    Rotate4,
+    /// In all turns by a sixth.
+    Rotate6,
+    /// In all turns by an eighth.
+    Rotate8,
+    /// In all turns by a quarter, and mirrored.
+    Rotate4Reflect,
+    /// In all turns by a sixth, and mirrored.
+    Rotate6Reflect,
+    /// In all turns by an eighth, and mirrored.
+    Rotate8Reflect,
+    /// With east and west exchanged.
+    ReflectHorizontal,
+    /// With the two neighbours exchanged.
+    Reflect,
+    /// In all orders.
+    Permute,
+}
+
+/// A rule that is given by a table: the first transition that matches a cell and its neighbours
+/// gives the next state, and where none does the cell keeps its own.
+#[derive(Debug, Drop)]
+pub struct TableRule {
+    states: u16,
+    neighborhood: Neighborhood,
+    symmetry: Symmetry,
+    transitions: Listing<Transition>,
+    lookup: Lookup,
+    alloc: Global,
+}
+
+impl Model for TableRule {
+    ghost use Rattle.table_symmetry.specs.Table.{Table};
+    ghost use Rattle.table_symmetry.specs.Kept.{IsKept, table_of};
+
+    ghost Value = { Table };
+
+    ghost view = { λ rule. table_of rule.states rule.neighborhood rule.symmetry rule.transitions };
+
+    ghost invariant = { λ rule. IsKept (table_of rule.states rule.neighborhood rule.symmetry rule.transitions) rule.lookup };
+}
+
+impl TableRule {
+    ghost use Rattle.table_symmetry.specs.Kept.{IsKept, table_of};
+
+    pub(crate) fn new(
+        alloc: Global,
+        head: Head,
+        transitions: Vec<Transition>,
+        lookup: Lookup,
+    ) -> TableRule
+        requires { IsKept (table_of head.states head.neighborhood head.symmetry transitions.items) lookup }
+        ensures { result ≡ table_of head.states head.neighborhood head.symmetry transitions.items }
+    {
+        TableRule {
+            states: head.states,
+            neighborhood: head.neighborhood,
+            symmetry: head.symmetry,
+            transitions: Listing::from_vec(transitions),
+            lookup,
+            alloc,
+        }
+    }
+
+    /// The rule of two states under which each cell keeps its own.
+    pub fn still(alloc: Global) -> TableRule
+        ensures { result ≡ still_table }
+    {
+        TableRule {
+            states: 2,
+            neighborhood: Neighborhood::OneDimensional,
+            symmetry: Symmetry::None,
+            transitions: Listing::from_vec(Vec::new(alloc)),
+            lookup: Lookup::empty(alloc, Neighborhood::OneDimensional),
+            alloc,
+        }
+    }
+
+    /// Which cells are the neighbours of a cell.
+    pub fn neighborhood(&self) -> Neighborhood
+        ensures { result ≡ self.now.neighborhood }
+    {
+        self.neighborhood
+    }
+
+    /// The expanded transitions, in order: those of each transition, for each assignment of its
+    /// bound variables, each different list of sets that a map of the symmetry gives. They are at
+    /// most 1,000,000, and the first that matches gives the next state.
+    pub fn expand(&self) -> Result<Vec<Expanded>, AllocError>
+        ensures rows { IfOk result (λ rows. rows.items ≡ expanded self.now) }
+        ensures few { IfOk result (λ rows. length rows.items ≤ transition_limit) }
+        ensures first { IfOk result (λ rows. (around : List ℕ) →
+            unwrap_or (first_match rows.items (inputs_of self.now.neighborhood around)) (slice_index around 0) ≡ next self.now around) }
+    {
+        match expand(self.alloc, self.symmetry, self.transitions.as_slice()) {
+            Ok(rows) => Ok(rows),
+            Err(_) => Err(AllocError),
+        }
+    }
+}
+
+impl Next for TableRule {
+    ghost use Rattle.table_symmetry.specs.Rule.{next_under};
+    ghost use Rattle.table_symmetry.specs.RuleLaws.{next_under-quiet, next_under-below};
+
+    ghost state_count = { λ rule. rule.states };
+
+    ghost meaning = { next_under };
+
+    ghost quiet = { next_under-quiet };
+
+    ghost below = { next_under-below };
+
+    fn states(&self) -> u16 {
+        self.states
+    }
+
+    fn next(&self, around: &Around) -> u8
+        requires { All (λ s. s < self.now.states) around.now.0 }
+        ensures value { result ≡ next_under self.now around.now.0 }
+        ensures straight { result ≡ next self.now around.now.0 }
+    {
+        self.lookup.find(around).unwrap_or(around.0[0])
+    }
+}
