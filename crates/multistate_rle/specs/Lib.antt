@@ -5,6 +5,7 @@ pub mod Faults
 pub mod Frame
 pub mod Head
 pub mod Header
+pub mod Laws
 pub mod Listed
 pub mod Pattern
 pub mod PatternText

@@ -18,6 +18,7 @@ mod fault;
 mod frame;
 mod head;
 mod header;
+mod laws;
 mod line;
 mod numbers;
 mod open_run;
@@ -29,6 +30,7 @@ mod token;
 mod write;
 
 pub use fault::RleFault;
+pub use laws::written_means_the_same;
 pub use read::read_rle;
 pub use write::{MOST_WRITTEN, write_rle};
 

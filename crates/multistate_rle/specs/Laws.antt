@@ -1,0 +1,30 @@
+-- What the definitions are meant to say: each statement is proved by a function of the same name.
+use Rattle.std.specs.Prelude.{◌≡◌, ◌≢◌, ℕ, ◌<◌, ◌≤◌, ◌^◌, List, length, Ok}
+use Rattle.std.specs.List.{AllByRecursion}
+use Rattle.plane_core.specs.World.{World}
+use Rattle.plane_core.specs.Live.{population}
+use Rattle.plane_core.specs.Range.{HasMargin, AllBelow}
+use Rattle.multistate_rle.specs.Pattern.{pattern_of}
+use Rattle.multistate_rle.specs.PatternText.{rle_text}
+
+-- a byte that a rule's name may have: printable, and neither a blank nor a colon
+pub record IsNameByte (b : ℕ) : Type 0 where
+  pub low : 33 ≤ b
+  pub high : b ≤ 126
+  pub other : b ≢ 58
+
+-- one such byte or more
+pub record IsName (name : List ℕ) : Type 0 where
+  pub some : 0 < length name
+  pub bytes : AllByRecursion IsNameByte name
+
+-- a world that can be written under a rule of so many states: in the range of planes, of states below that number, and with at most 1,000,000 live cells
+pub record CanBeWritten (states : ℕ) (w : World) : Type 0 where
+  pub inside : HasMargin 0 w
+  pub below : AllBelow states w
+  pub few : population w ≤ 1000000
+
+-- what is written means the world, the name and the generation that were written
+abbrev pub WrittenMeansTheSame : Type 0
+WrittenMeansTheSame = (w : World) (name : List ℕ) (generation states : ℕ) → IsName name → generation < 2 ^ 64 → 2 ≤ states → states ≤ 256 → CanBeWritten states w
+    → pattern_of (rle_text w name generation states) ≡ Ok (record { plane = w; rule_name = name; generation = generation })
