@@ -1,5 +1,5 @@
 //! What the desk does when something is asked.
-ghost use Rattle.std.specs.Prelude.{◌≡◌, ℕ, List};
+ghost use Rattle.std.specs.Prelude.{◌≡◌, ℕ, List, Some};
 ghost use Rattle.schedule.specs.Change.{change};
 ghost use Rattle.schedule.specs.declared.edit.Edit.TheVariants.{ReplaceStart};
 ghost use Rattle.rule_tree.specs.Rule.{rule_of};
@@ -108,6 +108,7 @@ fn show(desk: &mut Desk, id: u64) -> Reply
 fn obey(desk: &mut Desk, command: Command, line: u64) -> Reply
     ensures answer { (want : Want) × Gives (obeyed want desk.old.plan line command) result desk.new }
     ensures settled { command ≡ Command.Settle → result ≡ Reply.Settled → pending_of desk.new ≡ 0 }
+    ensures pending { (n cause : ℕ) → command ≡ Command.Settle → result ≡ Reply.Unsettled n cause → n ≡ pending_of desk.new }
 {
     match command {
         Command::Set(cells) => edit(desk, &Edit::SetCells { cells }),
@@ -121,7 +122,9 @@ fn obey(desk: &mut Desk, command: Command, line: u64) -> Reply
 
 /// Does what was asked, and gives the reply to it, if anything was.
 pub(crate) fn serve(alloc: Global, desk: &mut Desk, what: What, line: u64) -> Option<Reply>
-    ensures { (asked : List Ask) → Asked what line asked → Served result asked desk.old desk.new }
+    ensures answer { (asked : List Ask) → Asked what line asked → Served result asked desk.old desk.new }
+    ensures settled { what ≡ What.Says Command.Settle → result ≡ Some Reply.Settled → pending_of desk.new ≡ 0 }
+    ensures pending { (n cause : ℕ) → what ≡ What.Says Command.Settle → result ≡ Some (Reply.Unsettled n cause) → n ≡ pending_of desk.new }
 {
     match what {
         What::Nothing => None,

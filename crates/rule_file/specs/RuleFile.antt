@@ -1,5 +1,5 @@
 -- How a rule file is cut: the name of the rule, and the lines that say what the rule does.
-use Rattle.std.specs.Prelude.{ℕ, ◌+◌, ◌==◌, ◌&&◌, Bool, true, false, not, nat_le, nat_eq, if◌then◌else◌, List, [], ◌∷◌, ◌++◌, length, drop, codes, Option, Some, None, option_and_then, Result, Ok, Err}
+use Rattle.std.specs.Prelude.{ℕ, ◌+◌, ◌==◌, ◌&&◌, Bool, false, not, nat_le, nat_eq, if◌then◌else◌, List, [], ◌∷◌, ◌++◌, length, drop, codes, Option, Some, None, option_and_then, Result, Ok, Err}
 use Rattle.std.specs.List.{before_first, list_all, starts_with}
 use Rattle.std.specs.Option.{option_map, option_map_or, ok_or}
 use Rattle.std.specs.Str.{bytes_eq}
@@ -9,7 +9,7 @@ use Rattle.rule_file.specs.declared.fault.RuleFault.{RuleFault}
 use Rattle.rule_file.specs.declared.fault.RuleFault.TheVariants.{NoRuleLine, NoTable}
 use Rattle.rule_file.specs.declared.text.SectionKind.{SectionKind}
 use Rattle.rule_file.specs.declared.text.SectionKind.TheVariants.{Table, Tree}
-use Rattle.rule_file.specs.Results.{◌>>=◌}
+use Rattle.text_lines.specs.Results.{◌>>=◌}
 
 -- a line and its number in the file, whose first line has the number 1
 pub record NumberedLine : Type 0 where

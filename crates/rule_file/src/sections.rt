@@ -4,7 +4,8 @@ ghost use Rattle.std.specs.List.{list_all};
 ghost use Rattle.text_lines.specs.Blanks.{is_blank};
 ghost use Rattle.std.specs.Prelude.{◌≡◌, position, IfOk};
 ghost use Rattle.rule_file.specs.RuleFile.{file_of, first_word, is_name, is_name_byte, named, opens_section, rule_name, section_kind, section_lines, section_of, without_comment};
-ghost use Rattle.rule_file.specs.Results.{Gives, Reads};
+ghost use Rattle.rule_file.specs.Results.{Gives};
+ghost use Rattle.text_lines.specs.Results.{Reads};
 
 use crate::fault::RuleFault;
 use crate::numbered_lines::NumberedLines;

@@ -1,5 +1,5 @@
 -- Lists of sets, compared.
-use Rattle.std.proofs.Common.{◌≡◌, ℕ, ◌-◌, ◌≤◌, Bool, true, List, [], ◌∷◌, length, take, drop, get_or, ap, arith}
+use Rattle.std.proofs.Common.{◌≡◌, ℕ, ◌-◌, ◌≤◌, true, List, [], ◌∷◌, length, take, drop, get_or, ap, arith}
 use Rattle.std.proofs.lemmas.List.{take_rest}
 use Rattle.table_symmetry.specs.States.{same_set}
 use Rattle.table_symmetry.specs.Expanded.{same_sets}

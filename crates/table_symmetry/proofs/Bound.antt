@@ -1,5 +1,5 @@
 -- Bound variables, from the last entry on.
-use Rattle.std.proofs.Common.{◌≡◌, Bool, true, false, cond, List, ◌∷◌, sym, ap, ◌∙◌}
+use Rattle.std.proofs.Common.{◌≡◌, true, false, cond, List, ◌∷◌, sym, ap, ◌∙◌}
 use Rattle.std.specs.List.{list_any}
 use Rattle.table_symmetry.specs.declared.transition.Variable.{Variable}
 use Rattle.table_symmetry.specs.declared.transition.Entry.{Entry}

@@ -1,5 +1,5 @@
 -- The first expanded transition that matches gives the next state.
-use Rattle.std.specs.Prelude.{◌≡◌, ℕ, ◌&&◌, ◌||◌, Bool, true, false, cond, List, [], ◌∷◌, ◌++◌, length, map, take, drop, find, slice_index, unwrap_or, Option, Some, None}
+use Rattle.std.specs.Prelude.{◌≡◌, ℕ, ◌&&◌, ◌||◌, Bool, true, false, cond, List, [], ◌∷◌, ◌++◌, map, take, drop, find, slice_index, unwrap_or, Option, Some, None}
 use Rattle.std.specs.List.{flat_map, list_any, take-map, drop-map}
 use Rattle.std.specs.Option.{option_map, option_or}
 use Rattle.std.proofs.Common.{refl, sym, ap, ◌∙◌}
@@ -9,7 +9,7 @@ use Rattle.table_symmetry.specs.declared.transition.Entry.{Entry}
 use Rattle.table_symmetry.specs.declared.transition.Transition.{Transition}
 use Rattle.table_symmetry.specs.Circle.{arrangements}
 use Rattle.table_symmetry.specs.Expanded.{all_have, distinct, expanded, expanded_of, expanded_one, first_match, same_sets, sets_of}
-use Rattle.table_symmetry.specs.NextState.{admitted, all_admit, arranged, assignments, first_result, given, inputs_of, matches, next, result_of}
+use Rattle.table_symmetry.specs.NextState.{admitted, all_admit, assignments, first_result, given, inputs_of, matches, next}
 use Rattle.table_symmetry.specs.Table.{Table}
 use Rattle.table_symmetry.specs.States.{has}
 use Rattle.table_symmetry.proofs.Arranged.{same_sets_decides}

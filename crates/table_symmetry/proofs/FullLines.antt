@@ -1,18 +1,17 @@
 -- A transition that was read has an input for the cell and each neighbour.
-use Rattle.std.proofs.Common.{◌≡◌, ℕ, zero, suc, ◌+◌, ◌-◌, ◌==◌, ◌&&◌, Bool, true, false, cond, List, [], ◌∷◌, length, take, Result, Ok, Err, is_some, refl, sym, ap, ◌∙◌, subst, arith}
+use Rattle.std.proofs.Common.{◌≡◌, ℕ, suc, ◌+◌, ◌-◌, ◌==◌, Bool, true, false, cond, List, [], ◌∷◌, length, take, Result, Ok, Err, is_some, refl, sym, ap, ◌∙◌, subst, arith}
 use Rattle.std.specs.List.{list_all}
-use Rattle.std.proofs.lemmas.Bool.{eqb-true, eq-eqb}
+use Rattle.std.proofs.lemmas.Bool.{and_from, eqb-true, eq-eqb}
 use Rattle.std.proofs.lemmas.List.{length-take-le}
 use Rattle.rule_file.specs.declared.fault.RuleFault.{RuleFault}
 use Rattle.rule_file.specs.declared.fault.RuleFault.TheVariants.{BadTransition, FreeResult}
-use Rattle.rule_file.specs.Results.{◌>>=◌}
+use Rattle.text_lines.specs.Results.{◌>>=◌}
 use Rattle.rule_file.specs.RuleFile.{NumberedLine}
 use Rattle.table_symmetry.specs.declared.descriptors.Head.{Head}
 use Rattle.table_symmetry.specs.declared.transition.Entry.{Entry}
 use Rattle.table_symmetry.specs.declared.transition.Transition.{Transition}
 use Rattle.table_symmetry.specs.NextState.{places_of}
 use Rattle.table_symmetry.specs.TableLines.{Variables, defines_variable, descriptor_of, each, entry_of, fields, is_free, transition_from, transition_of, transitions_of, unless_free, variables_after}
-use Rattle.table_symmetry.proofs.SoundTables.{and_of}
 
 abbrev value_or : {A : Type 0} → Result A RuleFault → A → A
 value_or (Ok x) d = x
@@ -60,7 +59,7 @@ full_lines head number ts true c more others r rs later one rest h = absurd cc
 full_lines head number ts false true (Ok v) others r rs later one rest h = later v ts h
 full_lines head number ts false true (Err e) others r rs later one rest h = absurd cc
 full_lines head number ts false false more others (Ok t) (Ok us) later one rest h =
-    subst (λ all. list_all (is_full head) all ≡ true) (same_value (t ∷ us) ts h) (and_of (is_full head t) (list_all (is_full head) us) (one t refl) (rest us refl))
+    subst (λ all. list_all (is_full head) all ≡ true) (same_value (t ∷ us) ts h) (and_from (is_full head t) (list_all (is_full head) us) (one t refl) (rest us refl))
 full_lines head number ts false false more others (Ok t) (Err e) later one rest h = absurd cc
 full_lines head number ts false false more others (Err e) rs later one rest h = absurd cc
 

@@ -1,5 +1,5 @@
 -- Lists of expanded transitions that grow by those of one more transition, or of one more value.
-use Rattle.std.proofs.Common.{◌≡◌, ℕ, zero, suc, min, drop, ◌+◌, ◌<◌, ◌≤◌, List, [], ◌∷◌, ◌++◌, length, take, get_or, map, refl, sym, ap, ◌∙◌, append_assoc, inl, inr, subst, arith, Result, Ok, Err}
+use Rattle.std.proofs.Common.{◌≡◌, ℕ, zero, suc, min, drop, ◌+◌, ◌<◌, ◌≤◌, List, [], ◌∷◌, ◌++◌, length, take, get_or, refl, sym, ap, ◌∙◌, append_assoc, inl, inr, subst, arith, Result, Ok, Err}
 use Rattle.std.specs.List.{flat_map}
 use Rattle.std.proofs.lemmas.Grind.{flat_map-append}
 use Rattle.std.proofs.lemmas.List.{append-nil, take_more, take_all, length-append}
@@ -10,7 +10,7 @@ use Rattle.std.specs.Result.{IsErrAnd, MatchResult}
 use Rattle.table_symmetry.specs.declared.table.Symmetry.{Symmetry}
 use Rattle.table_symmetry.specs.declared.transition.Variable.{Variable}
 use Rattle.table_symmetry.specs.declared.transition.Transition.{Transition}
-use Rattle.table_symmetry.specs.Expanded.{transition_limit, expanded_one}
+use Rattle.table_symmetry.specs.Expanded.{expanded_one}
 use Rattle.table_symmetry.specs.NextState.{assigned, valued}
 use Rattle.table_symmetry.specs.Grown.{IsTooLong, Grows}
 

@@ -1,8 +1,8 @@
 -- How many inputs expanded transitions have: as many as the transitions.
-use Rattle.std.proofs.Common.{◌≡◌, ℕ, zero, suc, ◌+◌, ◌-◌, ◌*◌, ◌/◌, ◌≤◌, min, ◌==◌, ◌&&◌, Bool, true, false, not, cond, nat_eq, List, [], ◌∷◌, ◌++◌, length, map, take, drop, reverse, refl, sym, ap, ◌∙◌, subst, arith, rules, tests}
+use Rattle.std.proofs.Common.{◌≡◌, ℕ, suc, ◌+◌, ◌*◌, ◌/◌, ◌==◌, Bool, true, not, List, [], ◌∷◌, ◌++◌, length, map, take, drop, refl, sym, ap, ◌∙◌, subst, arith}
 use Rattle.std.specs.Prelude.{All}
 use Rattle.std.specs.List.{filter, flat_map, list_all, range_with_len}
-use Rattle.std.proofs.lemmas.Bool.{eqb-true, eq-eqb}
+use Rattle.std.proofs.lemmas.Bool.{and_from, and_parts, eqb-true, eq-eqb}
 use Rattle.std.proofs.lemmas.List.Sums.{AllPass-from_list_all}
 use Rattle.std.proofs.lemmas.List.{length-append, length-map, length-reverse, take-append-drop}
 use Rattle.table_symmetry.specs.declared.expansion.Expanded.{Expanded}
@@ -13,7 +13,7 @@ use Rattle.table_symmetry.specs.declared.transition.Transition.{Transition}
 use Rattle.table_symmetry.specs.Circle.{turned, turns, mirrored, insertions, permutations, arrangements}
 use Rattle.table_symmetry.specs.Expanded.{distinct, expanded_of, expanded_one, same_sets, sets_of}
 use Rattle.table_symmetry.specs.NextState.{admitted, assigned, assignments, bound_in, given, valued, valued_entry}
-use Rattle.table_symmetry.proofs.SoundTables.{and_of, both_of, list_all-append, list_all-flat_map}
+use Rattle.table_symmetry.proofs.SoundTables.{list_all-append, list_all-filter, list_all-flat_map}
 
 -- whether a list has n elements
 abbrev has_length : {X : Type 0} → ℕ → List X → Bool
@@ -27,7 +27,7 @@ of_length n xs h = eqb-true (length xs) n h
 
 each_made : {A X : Type 0} (n : ℕ) (f : A → List X) (xs : List A) → ((x : A) → length (f x) ≡ n) → list_all (has_length n) (map f xs) ≡ true
 each_made n f [] h = refl
-each_made n f (x ∷ xs) h = and_of (has_length n (f x)) (list_all (has_length n) (map f xs)) (is_length n (f x) (h x)) (each_made n f xs h)
+each_made n f (x ∷ xs) h = and_from (has_length n (f x)) (list_all (has_length n) (map f xs)) (is_length n (f x) (h x)) (each_made n f xs h)
 
 module _ {X : Type 0} where
   split_length : (k : ℕ) (xs : List X) → length (take k xs) + length (drop k xs) ≡ length xs
@@ -70,19 +70,11 @@ module _ {X : Type 0} where
   arrangements-length Reflect xs = turns-length 2 xs
   arrangements-length Permute xs = permutations-length xs
 
-list_all-filtered : {X : Type 0} (p keep : X → Bool) (xs : List X) → list_all p xs ≡ true → list_all p (filter keep xs) ≡ true
-list_all-filtered p keep [] h = refl
-list_all-filtered p keep (x ∷ xs) h = by_first (keep x) (both_of (p x) (list_all p xs) h).0 (list_all-filtered p keep xs (both_of (p x) (list_all p xs) h).1)
-  where
-    by_first : (b : Bool) → p x ≡ true → list_all p (filter keep xs) ≡ true → list_all p (cond b (x ∷ filter keep xs) (filter keep xs)) ≡ true
-    by_first true e rest = and_of (p x) (list_all p (filter keep xs)) e rest
-    by_first false e rest = rest
-
 distinct-all : {X : Type 0} (E : X → X → Bool) (p : X → Bool) (xs : List X) → list_all p xs ≡ true → list_all p (distinct E xs) ≡ true
 distinct-all E p [] h = refl
 distinct-all E p (x ∷ xs) h =
-    let parts = both_of (p x) (list_all p xs) h in
-    and_of (p x) (list_all p (filter (λ y. not (E x y)) (distinct E xs))) parts.0 (list_all-filtered p (λ y. not (E x y)) (distinct E xs) (distinct-all E p xs parts.1))
+    let parts = and_parts (p x) (list_all p xs) h in
+    and_from (p x) (list_all p (filter (λ y. not (E x y)) (distinct E xs))) parts.0 (list_all-filter p (λ y. not (E x y)) (distinct E xs) (distinct-all E p xs parts.1))
 
 -- whether an expanded transition has n inputs
 abbrev row_length : ℕ → Expanded → Bool
@@ -91,8 +83,8 @@ row_length n row = has_length n row.inputs
 rows-length : (n : ℕ) (front : List (List ℕ)) (given : ℕ) (lists : List (List (List ℕ))) → list_all (has_length n) lists ≡ true → list_all (row_length (length front + n)) (map (λ others. record { inputs = front ++ others; result = given }) lists) ≡ true
 rows-length n front given [] h = refl
 rows-length n front given (x ∷ lists) h =
-    let parts = both_of (has_length n x) (list_all (has_length n) lists) h in
-    and_of (has_length (length front + n) (front ++ x)) (list_all (row_length (length front + n)) (map (λ others. record { inputs = front ++ others; result = given }) lists))
+    let parts = and_parts (has_length n x) (list_all (has_length n) lists) h in
+    and_from (has_length (length front + n) (front ++ x)) (list_all (row_length (length front + n)) (map (λ others. record { inputs = front ++ others; result = given }) lists))
     (is_length (length front + n) (front ++ x) (length-append front x ∙ ap (λ l. length front + l) (of_length n x parts.0)))
     (rows-length n front given lists parts.1)
 
@@ -105,7 +97,7 @@ one-length symmetry t =
     (rows-length (length (drop 1 sets)) (take 1 sets) (given t.result) (distinct same_sets lists) (distinct-all same_sets (has_length (length (drop 1 sets))) lists (arrangements-length symmetry (drop 1 sets))))
 
 assigned-length : (n : ℕ) (vs : List Variable) (t : Transition) → length t.inputs ≡ n → list_all (λ (u : Transition). has_length n u.inputs) (assigned vs t) ≡ true
-assigned-length n [] t h = and_of (has_length n t.inputs) true (is_length n t.inputs h) refl
+assigned-length n [] t h = and_from (has_length n t.inputs) true (is_length n t.inputs h) refl
 assigned-length n (v ∷ vs) t h =
     list_all-flat_map (λ (s : ℕ). true) (λ (u : Transition). has_length n u.inputs) (λ state. assigned vs (valued v state t)) v.states
     (λ state e. assigned-length n vs (valued v state t) (length-map t.inputs (valued_entry v state) ∙ h)) (all_true v.states)

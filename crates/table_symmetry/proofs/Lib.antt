@@ -11,7 +11,6 @@ mod Limits
 mod Matching
 mod Names
 mod Naturality
-mod Rising
 mod SameNames
 mod Search
 pub mod Sets

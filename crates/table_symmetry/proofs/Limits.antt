@@ -1,13 +1,13 @@
 -- A table within the limits, and one that isn't.
-use Rattle.std.proofs.Common.{◌≡◌, ◌⊎◌, ℕ, zero, suc, unwrap_or, ◌<◌, ◌≤◌, ◌==◌, Bool, true, false, cond, nat_lt, List, length, Result, Ok, Err, refl, sym, ap, ◌∙◌, subst, inl, inr, arith}
+use Rattle.std.proofs.Common.{◌≡◌, ℕ, zero, suc, unwrap_or, ◌<◌, ◌≤◌, true, false, cond, nat_lt, length, Result, Ok, Err, refl, sym, ap, ◌∙◌, subst, inl, inr, arith}
 use Rattle.std.specs.Prelude.{slice_index_or}
 use Rattle.std.specs.List.{list_all}
 use Rattle.std.specs.Result.{IsErrAnd}
-use Rattle.std.proofs.lemmas.Bool.{eq-eqb, ne_eqb}
+use Rattle.std.proofs.lemmas.Bool.{and_from, eq-eqb, ne_eqb}
 use Rattle.plane_core.specs.Step.{nine_zeros, AreNineBelow}
 use Rattle.std.proofs.lemmas.Bool.Decides.{nat_tests}
 use Rattle.rule_file.specs.declared.fault.RuleFault.{RuleFault}
-use Rattle.rule_file.specs.declared.fault.RuleFault.TheVariants.{TooManyTransitions, NotQuiescent, NoMemory}
+use Rattle.rule_file.specs.declared.fault.RuleFault.TheVariants.{TooManyTransitions, NotQuiescent}
 use Rattle.rule_file.specs.Results.{Gives}
 use Rattle.table_symmetry.specs.Expanded.{expanded, transition_limit}
 use Rattle.table_symmetry.specs.Grown.{IsTooLong}
@@ -19,7 +19,7 @@ use Rattle.table_symmetry.specs.NextState.{gives_states, is_quiescent, next}
 use Rattle.table_symmetry.specs.Table.{Table}
 use Rattle.table_symmetry.specs.TableLines.{within_limits}
 use Rattle.table_symmetry.proofs.FirstMatch.{next-expanded}
-use Rattle.table_symmetry.proofs.SoundTables.{and_of, all_give_states}
+use Rattle.table_symmetry.proofs.SoundTables.{all_give_states}
 
 within_limits-many : (table : Table) → transition_limit < length (expanded table) → within_limits table ≡ Err TooManyTransitions
 within_limits-many table h =
@@ -70,7 +70,7 @@ is_kept table lookup least most below few finds quiet =
     record {
       at_least = least;
       at_most = most;
-      sound = and_of (is_quiescent table) (list_all (gives_states table.states) table.transitions) still (all_give_states table.states table.transitions some below);
+      sound = and_from (is_quiescent table) (list_all (gives_states table.states) table.transitions) still (all_give_states table.states table.transitions some below);
       few = few;
       finds = finds;
     }

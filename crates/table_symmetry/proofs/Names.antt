@@ -4,11 +4,12 @@ use Rattle.std.specs.Map.{lookup}
 use Rattle.std.specs.Option.{option_map, ok_or}
 use Rattle.std.specs.Result.{IsErrAnd}
 use Rattle.std.specs.Str.{bytes_eq}
+use Rattle.std.proofs.lemmas.Bool.{and_parts}
 use Rattle.std.proofs.lemmas.Cmp.{nat_list_eq_equiv}
 use Rattle.indexmap.specs.IndexMap.{insert_entry}
 use Rattle.rule_file.specs.declared.fault.RuleFault.{RuleFault}
 use Rattle.rule_file.specs.declared.fault.RuleFault.TheVariants.{BadVariable, StateTooHigh}
-use Rattle.rule_file.specs.Results.{◌>>=◌}
+use Rattle.text_lines.specs.Results.{◌>>=◌}
 use Rattle.rule_file.specs.RuleFile.{NumberedLine}
 use Rattle.table_symmetry.specs.declared.descriptors.Head.{Head}
 use Rattle.table_symmetry.specs.declared.transition.Variable.{Variable}
@@ -38,10 +39,6 @@ same-inserted old new key v h name =
     ∙ ap (λ r. cond (bytes_eq key.now name) (Some v) r) (sym (variable_named-entries old name))
     ∙ sym (by_test (bytes_eq key.now name) (key.now, v) _ _ refl)
 
-both : (a b : Bool) → (a && b) ≡ true → (a ≡ true) × (b ≡ true)
-both true b h = (refl, h)
-both false b h = absurd cc
-
 below_test : (n : ℕ) (b : Bool) (e : Bor (List ℕ) × Variable) (v : Variable) (es more : List (Bor (List ℕ) × Variable)) → all_below n (e.1.states) ≡ true → variables_below n (definitions es) ≡ true → all_below n (v.states) ≡ true → variables_below n (definitions more) ≡ true → variables_below n (definitions (cond b ((e.0, v) ∷ es) (e ∷ more))) ≡ true
 below_test n true e v es more first later here there = (λ i. here i && later i)
 below_test n false e v es more first later here there = (λ i. first i && there i)
@@ -49,7 +46,7 @@ below_test n false e v es more first later here there = (λ i. first i && there 
 pub below-inserted : (n : ℕ) (es : List (Bor (List ℕ) × Variable)) (key : Bor (List ℕ)) (v : Variable) → variables_below n (definitions es) ≡ true → all_below n (v.states) ≡ true → variables_below n (definitions (insert_entry (λ a b. bytes_eq a.now b.now) es key v)) ≡ true
 below-inserted n [] key v h here = (λ i. here i && true)
 below-inserted n (e ∷ es) key v h here =
-    let parts = both (all_below n (e.1.states)) (variables_below n (definitions es)) h in
+    let parts = and_parts (all_below n (e.1.states)) (variables_below n (definitions es)) h in
     below_test n (bytes_eq key.now e.0.now) e v es (insert_entry (λ a b. bytes_eq a.now b.now) es key v) parts.0 parts.1 here (below-inserted n es key v parts.1 here)
 
 -- the reading of a line that defines a variable, by the set of its members

@@ -1,25 +1,21 @@
 -- The set of a definition, a member at a time.
 use Rattle.std.proofs.Common.{◌≡◌, ℕ, Bool, true, false, cond, ◌||◌, ◌&&◌, List, [], ◌∷◌, ◌++◌, nat_eq, Option, Some, None, Result, Ok, Err, refl, sym, ap, ◌∙◌, append_assoc, nat_lt, if◌then◌else◌}
-use Rattle.std.specs.List.{list_any}
+use Rattle.std.specs.List.{filter, list_all, list_any, range_with_len}
 use Rattle.std.specs.Option.{option_map}
 use Rattle.std.specs.Str.{bytes_eq}
 use Rattle.std.proofs.lemmas.List.Folds.{list_any-append, list_all-append}
-use Rattle.std.proofs.lemmas.Bool.{eqb-true}
+use Rattle.std.proofs.lemmas.Bool.{and_parts, eqb-true}
 use Rattle.text_lines.specs.Numbers.{number_of}
 use Rattle.rule_file.specs.declared.fault.RuleFault.{RuleFault}
 use Rattle.rule_file.specs.declared.fault.RuleFault.TheVariants.{StateTooHigh}
-use Rattle.rule_file.specs.Results.{◌>>=◌}
+use Rattle.text_lines.specs.Results.{◌>>=◌}
 use Rattle.table_symmetry.specs.declared.transition.Variable.{Variable}
 use Rattle.table_symmetry.specs.Below.{all_below, variables_below}
 use Rattle.table_symmetry.specs.Definitions.{member_set, set_of, states_or_fault, union, unless_too_high}
 use Rattle.table_symmetry.specs.Entries.{behind}
 use Rattle.table_symmetry.specs.States.{has, rising}
 use Rattle.table_symmetry.specs.TableLines.{Variables, are_below, each, variable_named}
-use Rattle.table_symmetry.proofs.Rising.{has-rising, rising-agree, rising-none, list_all-rising}
-
-both : (a b : Bool) → (a && b) ≡ true → (a ≡ true) × (b ≡ true)
-both true b h = (refl, h)
-both false b h = absurd cc
+use Rattle.table_symmetry.specs.StateHalves.{has-rising, rising-agree, rising_none}
 
 -- the states of a variable, by those of all
 found_below : (n : ℕ) (b : Bool) (d : List ℕ × Variable) (rest : Option (List ℕ × Variable)) (v : Variable) → option_map (λ e. e.1) (cond b (Some d) rest) ≡ Some v → all_below n (d.1.states) ≡ true → (option_map (λ e. e.1) rest ≡ Some v → all_below n (v.states) ≡ true) → all_below n (v.states) ≡ true
@@ -29,12 +25,26 @@ found_below n false d rest v is first later = later is
 pub variable_named-below : (n : ℕ) (variables : Variables) (name : List ℕ) (v : Variable) → variables_below n variables ≡ true → variable_named variables name ≡ Some v → all_below n (v.states) ≡ true
 variable_named-below n [] name v h is = absurd cc
 variable_named-below n (d ∷ ds) name v h is =
-    let parts = both (all_below n (d.1.states)) (variables_below n ds) h in
+    let parts = and_parts (all_below n (d.1.states)) (variables_below n ds) h in
     found_below n (bytes_eq d.0 name) d _ v is parts.0 (λ later. variable_named-below n ds name v parts.1 later)
 
 pub member_set-named : (n : ℕ) (variables : Variables) (number : ℕ) (member : List ℕ) (v : Variable) → number_of member ≡ None → variable_named variables member ≡ Some v → variables_below n variables ≡ true → member_set n variables number member ≡ Ok (Some (v.states))
 member_set-named n variables number member v none is h =
     rw (none, is, variable_named-below n variables member v h is) refl
+
+-- what passes a test passes another
+kept_one : (p q : ℕ → Bool) (b : Bool) (x : ℕ) (xs : List ℕ) → (b ≡ true → q x ≡ true) → list_all q xs ≡ true → list_all q (cond b (x ∷ xs) xs) ≡ true
+kept_one p q true x xs here later = (λ i. here refl i && later i)
+kept_one p q false x xs here later = later
+
+kept : (p q : ℕ → Bool) (xs : List ℕ) → ((s : ℕ) → p s ≡ true → q s ≡ true) → list_all q (filter p xs) ≡ true
+kept p q [] h = refl
+kept p q (x ∷ xs) h = kept_one p q (p x) x (filter p xs) (h x) (kept p q xs h)
+
+-- all of a rising list passes what follows from its test
+list_all-rising : (p q : ℕ → Bool) → ((s : ℕ) → p s ≡ true → q s ≡ true) → list_all q (rising p) ≡ true
+unfolding rising
+list_all-rising p q h = kept p q (range_with_len 0 256) h
 
 -- all states of a union are below, if those of each set are
 has-first : (n : ℕ) (b : Bool) (s x : ℕ) (more : Bool) → nat_eq s x ≡ b → (b || more) ≡ true → nat_lt x n ≡ true → (more ≡ true → nat_lt s n ≡ true) → nat_lt s n ≡ true
@@ -44,7 +54,7 @@ has-first n false s x more same h here later = later h
 has-below : (n : ℕ) (set : List ℕ) (s : ℕ) → all_below n set ≡ true → has set s ≡ true → nat_lt s n ≡ true
 has-below n [] s h is = absurd cc
 has-below n (x ∷ xs) s h is =
-    let parts = both (nat_lt x n) (all_below n xs) h in
+    let parts = and_parts (nat_lt x n) (all_below n xs) h in
     has-first n (nat_eq s x) s x (has xs s) refl is parts.0 (λ later. has-below n xs s parts.1 later)
 
 any-first : (b more : Bool) (goal : Type 0) → (b || more) ≡ true → (b ≡ true → goal) → (more ≡ true → goal) → goal
@@ -54,7 +64,7 @@ any-first false more goal h here later = later h
 any_below : (n : ℕ) (sets : List (List ℕ)) (s : ℕ) → are_below n sets ≡ true → list_any (λ set. has set s) sets ≡ true → nat_lt s n ≡ true
 any_below n [] s h is = absurd cc
 any_below n (x ∷ xs) s h is =
-    let parts = both (all_below n x) (are_below n xs) h in
+    let parts = and_parts (all_below n x) (are_below n xs) h in
     any-first (has x s) (list_any (λ set. has set s) xs) (nat_lt s n ≡ true) is (λ there. has-below n x s parts.0 there) (λ later. any_below n xs s parts.1 later)
 
 pub union-below : (n : ℕ) (sets : List (List ℕ)) → are_below n sets ≡ true → all_below n (union sets) ≡ true
@@ -89,7 +99,7 @@ pub record SoFar (n : ℕ) (variables : Variables) (number : ℕ) (members left 
 
 -- no member was read yet
 pub so_far-none : (n : ℕ) (variables : Variables) (number : ℕ) (members : List (List ℕ)) → SoFar n variables number members members [] true
-so_far-none n variables number members = record { sets = []; read = sym (behind-none _); below = refl; here = λ h. sym rising-none }
+so_far-none n variables number members = record { sets = []; read = sym (behind-none _); below = refl; here = λ h. sym (rising_none _ (λ s _. refl)) }
 
 -- the states of a member that was read
 of_member : (n : ℕ) (read : Result (List ℕ) RuleFault) (set : Option (List ℕ)) → (read >>= λ states. Ok (unless_too_high n states)) ≡ Ok set → (states : List ℕ) × (read ≡ Ok states) × (unless_too_high n states ≡ set)

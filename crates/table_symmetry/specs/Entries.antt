@@ -2,7 +2,7 @@
 use Rattle.std.specs.Prelude.{◌≡◌, ℕ, ◌⊎◌, List, ◌∷◌, ◌++◌, Result, Ok, Err}
 use Rattle.rule_file.specs.declared.fault.RuleFault.{RuleFault}
 use Rattle.rule_file.specs.declared.fault.RuleFault.TheVariants.{NoMemory}
-use Rattle.rule_file.specs.Results.{◌>>=◌}
+use Rattle.text_lines.specs.Results.{◌>>=◌}
 use Rattle.table_symmetry.specs.TableLines.{each}
 
 -- a list that is read, behind other values

@@ -1,5 +1,5 @@
 -- The expanded transitions of a table, in which no variables and no symmetry are left.
-use Rattle.std.specs.Prelude.{ℕ, ◌&&◌, Bool, true, false, not, nat_eq, List, [], ◌∷◌, ◌++◌, map, take, drop, find, Option}
+use Rattle.std.specs.Prelude.{ℕ, ◌&&◌, Bool, true, false, not, List, [], ◌∷◌, ◌++◌, map, take, drop, find, Option}
 use Rattle.std.specs.List.{filter, flat_map}
 use Rattle.std.specs.Cmp.Lexicographic.{pointwise}
 use Rattle.std.specs.Option.{option_map}

@@ -1,5 +1,5 @@
 -- What a table rule keeps.
-use Rattle.std.specs.Prelude.{◌≡◌, ℕ, ◌≤◌, Bool, true, List, length}
+use Rattle.std.specs.Prelude.{◌≡◌, ℕ, ◌≤◌, true, List, length}
 use Rattle.table_symmetry.specs.declared.lookup.Lookup.{Lookup}
 use Rattle.table_symmetry.specs.declared.table.Neighborhood.{Neighborhood}
 use Rattle.table_symmetry.specs.declared.table.Symmetry.{Symmetry}

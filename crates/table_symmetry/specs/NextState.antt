@@ -1,5 +1,5 @@
 -- The next state of a cell under a table, straight from the transition that matches.
-use Rattle.std.specs.Prelude.{ℕ, ◌==◌, ◌&&◌, ◌<◌, Bool, true, false, not, nat_lt, if◌then◌else◌, List, [], ◌∷◌, ◌++◌, length, map, take, drop, find, slice_index, slice_index_or, unwrap_or, Option, count_by}
+use Rattle.std.specs.Prelude.{ℕ, ◌==◌, ◌&&◌, Bool, true, false, not, nat_lt, if◌then◌else◌, List, [], ◌∷◌, ◌++◌, map, take, drop, find, slice_index, unwrap_or, Option}
 use Rattle.std.specs.List.{filter, list_any, list_all, flat_map}
 use Rattle.std.specs.Option.{option_map}
 use Rattle.plane_core.specs.Step.{nine_zeros}

@@ -3,6 +3,7 @@ use Rattle.std.specs.Prelude.{◌≡◌, ℕ, ◌<◌, ◌&&◌, Bool, true, fal
 use Rattle.std.specs.List.{list_all}
 use Rattle.std.specs.Option.{option_map}
 use Rattle.std.proofs.Common.{refl, cond, arith, rules, tests}
+use Rattle.std.proofs.lemmas.Bool.{and_parts}
 use Rattle.plane_core.specs.Step.{nine_zeros, AreNineBelow}
 use Rattle.table_symmetry.specs.declared.transition.Transition.{Transition}
 use Rattle.table_symmetry.specs.Table.{Table}
@@ -18,22 +19,17 @@ quiet_by false sound n h = refl
 pub next_under-quiet : (table : Table) → next_under table nine_zeros ≡ 0
 next_under-quiet table = quiet_by (is_quiescent table) (list_all (gives_states table.states) table.transitions) (next table nine_zeros) (λ h. search (rules, tests))
 
-both_of : (a b : Bool) → (a && b) ≡ true → (a ≡ true) × (b ≡ true)
-both_of true true h = (refl, refl)
-both_of true false h = absurd cc
-both_of false b h = absurd cc
-
 -- what holds of each of a list holds of what is found in it
 found_below : (p q : Transition → Bool) (f : Transition → ℕ) (n d : ℕ) (xs : List Transition) → ((s : Transition) → q s ≡ true → f s < n) → d < n → list_all q xs ≡ true → unwrap_or (option_map f (find p xs)) d < n
 found_below p q f n d [] each low h = low
 found_below p q f n d (x ∷ xs) each low h =
-    let parts = both_of (q x) (list_all q xs) h in
+    let parts = and_parts (q x) (list_all q xs) h in
     elim (p x) as (λ v. unwrap_or (option_map f (cond v (Some x) (find p xs))) d < n) [ true ↦ each x parts.0 | false ↦ found_below p q f n d xs each low parts.1 ]
 
 first_result-below : (table : Table) (around : List ℕ) (n : ℕ) (ts : List Transition) → slice_index around 0 < n → list_all (gives_states n) ts ≡ true → first_result table around ts < n
 first_result-below table around n [] low h = low
 first_result-below table around n (t ∷ ts) low h =
-    let parts = both_of (gives_states n t) (list_all (gives_states n) ts) h in
+    let parts = and_parts (gives_states n t) (list_all (gives_states n) ts) h in
     found_below (matches table around) (λ u. nat_lt (given u.result) n) (λ u. given u.result) n (first_result table around ts) (assignments t) (λ u k. search (rules, tests)) (first_result-below table around n ts low parts.1) parts.0
 
 below_by : (sound : Bool) (n m : ℕ) → 0 < n → (sound ≡ true → m < n) → (if sound then m else 0) < n
@@ -44,4 +40,4 @@ below_by false n m some h = some
 pub next_under-below : (table : Table) (states : List ℕ) → AreNineBelow table.states states → next_under table states < table.states
 next_under-below table states nine =
     let low : slice_index states 0 < table.states = nine.below 0 0 (omega (arith, nine.nine)) in
-    below_by (is_sound table) table.states (next table states) (omega (arith, low)) (λ h. first_result-below table states table.states table.transitions low (both_of (is_quiescent table) (list_all (gives_states table.states) table.transitions) h).1)
+    below_by (is_sound table) table.states (next table states) (omega (arith, low)) (λ h. first_result-below table states table.states table.transitions low (and_parts (is_quiescent table) (list_all (gives_states table.states) table.transitions) h).1)

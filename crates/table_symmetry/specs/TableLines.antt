@@ -7,7 +7,7 @@ use Rattle.text_lines.specs.Blanks.{is_blank, trim, trim_start, trim_end}
 use Rattle.text_lines.specs.Numbers.{number_of}
 use Rattle.rule_file.specs.declared.fault.RuleFault.{RuleFault}
 use Rattle.rule_file.specs.declared.fault.RuleFault.TheVariants.{MissingDescriptor, BadStates, BadNeighborhood, BadSymmetry, BadVariable, BadTransition, StateTooHigh, FreeResult, TooManyTransitions, NotQuiescent}
-use Rattle.rule_file.specs.Results.{◌>>=◌}
+use Rattle.text_lines.specs.Results.{◌>>=◌}
 use Rattle.rule_file.specs.RuleFile.{NumberedLine, after}
 use Rattle.table_symmetry.specs.declared.table.Neighborhood.{Neighborhood}
 use Rattle.table_symmetry.specs.declared.table.Neighborhood.TheVariants.{VonNeumann, Moore, Hexagonal, OneDimensional}

@@ -1,4 +1,8 @@
 //! The arrangements in which the neighbours of a transition may stand.
+//!
+//! Under `permute` each set is put in at each place of the orders of those after it. A list is kept
+//! where no equal one is there, so the cost grows with the square of the different lists: little
+//! for turns and mirrors, which give 16 at most, and seconds for the 40,320 orders of eight sets.
 ghost use Rattle.std.specs.Prelude.{◌≡◌, ◌≤◌, ◌++◌, ◌∷◌, length, take, drop, IfOk, OnOk};
 ghost use Rattle.std.specs.List.{flat_map, list_any};
 ghost use Rattle.table_symmetry.specs.Circle as maps;

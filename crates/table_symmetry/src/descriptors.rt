@@ -1,6 +1,6 @@
 //! The descriptors of a table: how many states, which neighbourhood, which symmetries.
 ghost use Rattle.std.specs.Prelude.{◌≡◌, ◌≤◌, IfOk};
-ghost use Rattle.rule_file.specs.Results.{Reads};
+ghost use Rattle.text_lines.specs.Results.{Reads};
 ghost use Rattle.std.specs.Option.{option_map};
 ghost use Rattle.table_symmetry.specs.TableLines.{descriptor_named, descriptor_of, head_from, head_of, neighborhood_named, states_in, symmetry_named, symmetries_of, name_of_symmetry, fitting, describe, undescribed};
 

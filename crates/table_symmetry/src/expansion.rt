@@ -1,9 +1,8 @@
 //! Expanded transitions, in which no variables and no symmetry are left.
 //!
 //! A transition is expanded by its assignments, which replace the bound variables in turn by their
-//! values, and each of these by the maps of the symmetry. Under `permute` elements are put into
-//! the orders of those before, only up to the first place where an equal one stands, which gives
-//! each order once. The cost is in proportion to what is expanded.
+//! values, and each of these by the maps of the symmetry. The cost is in proportion to what is
+//! expanded, and to the square of what one assignment gives (see `arrangement`).
 ghost use Rattle.std.specs.Prelude.{◌≡◌, ◌≤◌, ◌++◌, ◌∷◌, length, map, IfOk, OnOk, MatchResult};
 ghost use Rattle.std.specs.List.{flat_map, list_any};
 ghost use Rattle.table_symmetry.specs.Expanded.{expanded_of, expanded_one, transition_limit};

@@ -1,4 +1,12 @@
-//! Rule tables.
+//! Rule tables: what their lines mean, what they expand to, and the next state that they give.
+//!
+//! `read_table` takes the lines of a section and gives exactly the table that they mean, or the
+//! first fault that they have with its line. A `TableRule` answers the next state of a cell by the
+//! states at and around it: the result of the first transition that matches. `expand` lists its
+//! transitions without variables and symmetries, of which a table has at most 1,000,000.
+//!
+//! A table keeps a bit for each expanded transition, each of its inputs and each state. A next
+//! state costs one look at each input for 64 expanded transitions, up to the first that matches.
 #![tactic(auto)]
 
 mod arrangement;

@@ -2,7 +2,7 @@
 ghost use Rattle.std.specs.Prelude.{◌≡◌, ◌≤◌, [], IfOk, IsTrue, OnOk, OnErr};
 ghost use Rattle.std.specs.List.{list_all};
 ghost use Rattle.std.specs.Option.{option_copied, option_map};
-ghost use Rattle.rule_file.specs.Results.{Reads};
+ghost use Rattle.text_lines.specs.Results.{Reads};
 ghost use Rattle.table_symmetry.specs.Below.{all_below, variables_below};
 ghost use Rattle.table_symmetry.specs.Definitions.{Defines, member_set, set_of};
 ghost use Rattle.table_symmetry.specs.TableLines.{definition_in, is_variable_byte, is_variable_name, unbraced, variable_named, variables_after};

@@ -7,31 +7,31 @@ use Rattle.desk_server.proofs.server.round.Goals as goal
 pub returns-then-last-clause-done : goal.returns-then-last-clause-done
 returns-then-last-clause-done g c = λ _.
     let h = c.in-Ok.ensures.heard in
-    done_silent _ _ _ _ _ _ c.args.desk.now c.serve.new.desk _ _ c.if-last.true h (c.in_default-serve.ensures h.asked h.is)
+    done_silent _ _ _ _ _ _ c.args.desk.now c.serve.new.desk _ _ c.if-last.true h (c.in_default-serve.ensures.answer h.asked h.is)
 
 pub returns-else-last-clause-goes_on : goal.returns-else-last-clause-goes_on
 returns-else-last-clause-goes_on g c = λ _.
     let h = c.in-Ok.ensures.heard in
-    goes_on_silent _ _ _ _ _ _ c.args.desk.now c.serve.new.desk _ _ c.if-last.false h (c.in_default-serve.ensures h.asked h.is)
+    goes_on_silent _ _ _ _ _ _ c.args.desk.now c.serve.new.desk _ _ c.if-last.false h (c.in_default-serve.ensures.answer h.asked h.is)
 
 pub returns-then-is_err-clause-write : goal.returns-then-is_err-clause-write
 returns-then-is_err-clause-write g c = λ _.
     let h = c.in-Ok.ensures.heard in
-    stops_telling _ _ _ _ _ _ _ c.args.desk.now c.serve.new.desk _ _ c.in-Some.reply h (c.in-Some.ensures h.asked h.is) (wrote_is_err _ _ c.send.result _ (sym c.is_err.ensures.value ∙ c.if-is_err.true) c.send.ensures.bytes)
+    stops_telling _ _ _ _ _ _ _ c.args.desk.now c.serve.new.desk _ _ c.in-Some.reply h (c.in-Some.ensures.answer h.asked h.is) (wrote_is_err _ _ c.send.result _ (sym c.is_err.ensures.value ∙ c.if-is_err.true) c.send.ensures.bytes)
 
 pub returns-then-last-2-clause-done : goal.returns-then-last-2-clause-done
 returns-then-last-2-clause-done g c = λ _.
     let h = c.in-Ok.ensures.heard in
-    done_last _ _ _ _ _ _ _ c.args.desk.now c.serve.new.desk _ _ c.in-Some.reply c.if-last-2.true h (c.in-Some.ensures h.asked h.is) (wrote_is_ok _ _ c.send.result _ (sym c.is_err.ensures.value ∙ c.if-is_err.false) c.send.ensures.bytes)
+    done_last _ _ _ _ _ _ _ c.args.desk.now c.serve.new.desk _ _ c.in-Some.reply c.if-last-2.true h (c.in-Some.ensures.answer h.asked h.is) (wrote_is_ok _ _ c.send.result _ (sym c.is_err.ensures.value ∙ c.if-is_err.false) c.send.ensures.bytes)
 
 pub returns-then-eq-clause-done : goal.returns-then-eq-clause-done
 returns-then-eq-clause-done g c = λ _.
     let h = c.in-Ok.ensures.heard in
     let bye : c.in-Some.reply ≡ reply.Bye = search rules in
-    done_bye _ _ _ _ _ _ _ c.args.desk.now c.serve.new.desk _ _ c.in-Some.reply bye h (c.in-Some.ensures h.asked h.is) (wrote_is_ok _ _ c.send.result _ (sym c.is_err.ensures.value ∙ c.if-is_err.false) c.send.ensures.bytes)
+    done_bye _ _ _ _ _ _ _ c.args.desk.now c.serve.new.desk _ _ c.in-Some.reply bye h (c.in-Some.ensures.answer h.asked h.is) (wrote_is_ok _ _ c.send.result _ (sym c.is_err.ensures.value ∙ c.if-is_err.false) c.send.ensures.bytes)
 
 pub returns-else-eq-clause-goes_on : goal.returns-else-eq-clause-goes_on
 returns-else-eq-clause-goes_on g c = λ _.
     let h = c.in-Ok.ensures.heard in
     let other : c.in-Some.reply ≢ reply.Bye = search rules in
-    goes_on_told _ _ _ _ _ _ _ c.args.desk.now c.serve.new.desk _ _ c.in-Some.reply c.if-last-2.false other h (c.in-Some.ensures h.asked h.is) (wrote_is_ok _ _ c.send.result _ (sym c.is_err.ensures.value ∙ c.if-is_err.false) c.send.ensures.bytes)
+    goes_on_told _ _ _ _ _ _ _ c.args.desk.now c.serve.new.desk _ _ c.in-Some.reply c.if-last-2.false other h (c.in-Some.ensures.answer h.asked h.is) (wrote_is_ok _ _ c.send.result _ (sym c.is_err.ensures.value ∙ c.if-is_err.false) c.send.ensures.bytes)

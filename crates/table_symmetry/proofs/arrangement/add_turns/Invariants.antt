@@ -1,4 +1,4 @@
-use Rattle.std.proofs.Common.{◌≡◌, ◌≤◌, ◌*◌, ◌/◌, length, map}
+use Rattle.std.proofs.Common.{◌≡◌, ◌*◌, ◌/◌, length, map}
 use Rattle.std.specs.List.{range_with_len}
 use Rattle.table_symmetry.specs.Circle as maps
 use Rattle.table_symmetry.specs.Expanded.{same_sets}

@@ -1,6 +1,3 @@
-use Rattle.std.proofs.Common.{IfOk, subst}
-use Rattle.table_symmetry.specs.Circle as maps
-use Rattle.table_symmetry.specs.Expanded.{distinct, same_sets}
 use Rattle.table_symmetry.proofs.arrangement.arrangements.Goals as goal
 
 pub returns-in-Rotate6Reflect : goal.returns-in-Rotate6Reflect

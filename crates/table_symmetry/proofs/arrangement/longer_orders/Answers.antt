@@ -1,4 +1,4 @@
-use Rattle.std.proofs.Common.{◌≡◌, [], ap, sym, ◌∙◌, take}
+use Rattle.std.proofs.Common.{[], ap, sym, ◌∙◌, take}
 use Rattle.std.specs.List.{flat_map}
 use Rattle.std.proofs.lemmas.List.{take_all}
 use Rattle.table_symmetry.specs.Circle as maps

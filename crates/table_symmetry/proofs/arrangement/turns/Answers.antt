@@ -1,4 +1,4 @@
-use Rattle.std.proofs.Common.{◌≡◌, [], ap, ◌∙◌}
+use Rattle.std.proofs.Common.{[], ap, ◌∙◌}
 use Rattle.table_symmetry.specs.Circle as maps
 use Rattle.table_symmetry.specs.Expanded.{same_sets}
 use Rattle.table_symmetry.specs.Grown.{with_all}

@@ -1,4 +1,4 @@
-use Rattle.std.proofs.Common.{◌≡◌, ℕ, ◌+◌, ◌∷◌, ◌++◌, ◌-◌, ◌∙◌, List, sym, ap, subst, length, take, drop, get_or}
+use Rattle.std.proofs.Common.{ℕ, ◌+◌, ◌∷◌, ◌++◌, ◌-◌, ◌∙◌, List, ap, subst, length, take, drop, get_or}
 use Rattle.std.specs.List.{flat_map}
 use Rattle.table_symmetry.specs.declared.expansion.Expanded.{Expanded}
 use Rattle.table_symmetry.specs.Expanded.{expanded_one}

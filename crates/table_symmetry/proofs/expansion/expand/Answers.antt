@@ -1,4 +1,4 @@
-use Rattle.std.proofs.Common.{◌≡◌, [], ◌+◌, ◌∙◌, sym, ap, subst, length, get_or, arith}
+use Rattle.std.proofs.Common.{◌≡◌, [], ◌+◌, ◌∙◌, subst, length, arith}
 use Rattle.std.specs.List.{flat_map}
 use Rattle.table_symmetry.specs.declared.expansion.Expanded.{Expanded}
 use Rattle.table_symmetry.specs.Expanded.{expanded_of, expanded_one}

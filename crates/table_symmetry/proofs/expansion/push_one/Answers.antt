@@ -1,7 +1,7 @@
-use Rattle.std.proofs.Common.{◌≡◌, ◌≤◌, ◌+◌, ◌++◌, ◌∙◌, List, ℕ, length, map, min, take, drop, sym, ap, arith}
+use Rattle.std.proofs.Common.{◌≡◌, ◌+◌, ◌++◌, ◌∙◌, length, map, min, take, drop, ap, arith}
 use Rattle.std.proofs.lemmas.List.{length-append, length-map}
 use Rattle.table_symmetry.specs.Circle.{arrangements}
-use Rattle.table_symmetry.specs.Expanded.{distinct, expanded_one, same_sets, sets_of, transition_limit}
+use Rattle.table_symmetry.specs.Expanded.{distinct, same_sets, sets_of}
 use Rattle.table_symmetry.specs.Grown.{row_of}
 use Rattle.table_symmetry.specs.NextState as meaning
 use Rattle.table_symmetry.proofs.Growing.{front_one, back_one}

@@ -1,6 +1,5 @@
-use Rattle.std.proofs.Common.{◌≡◌, IfOk, ◌∷◌, ◌∙◌, sym, ap, subst}
-use Rattle.table_symmetry.specs.NextState as meaning
-use Rattle.table_symmetry.proofs.Bound.{bound-once, bound-again}
+use Rattle.std.proofs.Common.{◌∙◌, sym}
+use Rattle.table_symmetry.proofs.Bound.{bound-once}
 use Rattle.table_symmetry.proofs.expansion.with_entry.Goals as goal
 
 pub returns-then-not-stands_among : goal.returns-then-not-stands_among

@@ -1,4 +1,4 @@
-use Rattle.std.proofs.Common.{◌≡◌, ℕ, ◌+◌, ◌≤◌, length, List, [], ap, sym, subst, ◌∙◌, arith, inr, unwrap_or}
+use Rattle.std.proofs.Common.{◌≡◌, ◌+◌, ◌≤◌, length, [], ap, sym, subst, ◌∙◌, arith, inr, unwrap_or}
 use Rattle.std.specs.List.{flat_map}
 use Rattle.std.proofs.lemmas.List.{length-map}
 use Rattle.std.specs.Prelude.{All, slice_index}

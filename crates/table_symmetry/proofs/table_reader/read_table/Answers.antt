@@ -1,4 +1,4 @@
-use Rattle.std.proofs.Common.{◌≡◌, []}
+use Rattle.std.proofs.Common.{[]}
 use Rattle.table_symmetry.proofs.FullLines.{transitions_of-full}
 use Rattle.table_symmetry.proofs.table_reader.read_table.Goals as goal
 

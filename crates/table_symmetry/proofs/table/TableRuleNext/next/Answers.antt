@@ -1,4 +1,4 @@
-use Rattle.std.proofs.Common.{◌≡◌, ◌<◌, ℕ, List, true, cond, rules, ap, sym, subst, ◌∙◌, unwrap_or}
+use Rattle.std.proofs.Common.{◌≡◌, ◌<◌, true, cond, rules, ap, sym, subst, ◌∙◌, unwrap_or}
 use Rattle.std.specs.Prelude.{All, slice_index}
 use Rattle.plane_core.specs.Step.{AreNineBelow}
 use Rattle.table_symmetry.specs.Kept.{table_of}

@@ -1,5 +1,5 @@
 use Rattle.std.proofs.Common.{◌≡◌, ◌∷◌, ◌∙◌, Some, Ok, sym, ap, rules}
-use Rattle.rule_file.specs.Results.{◌>>=◌}
+use Rattle.text_lines.specs.Results.{◌>>=◌}
 use Rattle.table_symmetry.specs.Below.{variables_below}
 use Rattle.table_symmetry.specs.Definitions.{set_of}
 use Rattle.table_symmetry.specs.TableLines.{definition_in, variable_named}
