@@ -23,13 +23,13 @@ list_all-follows p q (x ∷ xs) h f =
     and_of (q x) (list_all q xs) (f x parts.0) (list_all-follows p q xs parts.1 f)
 
 -- a node of n entries leads on where each of them does
-leads-node : (n : ℕ) (nodes : List Entries) (number : ℕ) (node : List ℕ) (input : ℕ) (inputs : List ℕ) → node_at nodes number ≡ node → length node ≡ n → list_all (λ entry. leads n nodes entry inputs) node ≡ true → leads n nodes number (input ∷ inputs) ≡ true
+pub leads-node : (n : ℕ) (nodes : List Entries) (number : ℕ) (node : List ℕ) (input : ℕ) (inputs : List ℕ) → node_at nodes number ≡ node → length node ≡ n → list_all (λ entry. leads n nodes entry inputs) node ≡ true → leads n nodes number (input ∷ inputs) ≡ true
 leads-node n nodes number node input inputs at width all =
     let test : (length node == n) ≡ true = search (rules, tests) in
     ap (λ x. (length x == n) && list_all (λ entry. leads n nodes entry inputs) x) at ∙ and_of (length node == n) _ test all
 
 -- more nodes change nothing for those before
-leads-append : (n : ℕ) (nodes more : List Entries) (number : ℕ) (inputs : List ℕ) → 0 < n → leads n nodes number inputs ≡ true → leads n (nodes ++ more) number inputs ≡ true
+pub leads-append : (n : ℕ) (nodes more : List Entries) (number : ℕ) (inputs : List ℕ) → 0 < n → leads n nodes number inputs ≡ true → leads n (nodes ++ more) number inputs ≡ true
 leads-append n nodes more number [] some h = h
 leads-append n nodes more number (input ∷ inputs) some h =
     let node = node_at nodes number in

@@ -1,7 +1,13 @@
+mod Doing
 mod Finishing
 mod Following
 mod Growing
 mod KeptNodes
 mod LastLine
+mod Layering
 mod NextNode
+mod NodeLists
 mod Pieces
+mod SharedNodes
+mod TailsLeft
+mod Translating

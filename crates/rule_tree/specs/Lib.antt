@@ -1,7 +1,10 @@
 pub mod Kept
+pub mod Layers
 pub mod NamedRule
 pub mod Rule
 pub mod RuleLaws
+pub mod Translation
 pub mod Tree
+pub mod TreeFaults
 pub mod TreeLaws
 pub mod TreeLines

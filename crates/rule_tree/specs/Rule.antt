@@ -1,5 +1,5 @@
 -- The rule that a file means, and the next state of a cell under a rule.
-use Rattle.std.specs.Prelude.{◌≡◌, ℕ, List, codes, slice_index, Result, Ok}
+use Rattle.std.specs.Prelude.{◌≡◌, ℕ, ◌<◌, All, List, codes, slice_index, Option, Some, Result, Ok}
 use Rattle.std.proofs.Common.{refl}
 use Rattle.rule_file.specs.declared.fault.RuleFault.{RuleFault}
 use Rattle.rule_file.specs.declared.text.SectionKind.{SectionKind}
@@ -12,7 +12,7 @@ use Rattle.table_symmetry.specs.TableLines.{table_of}
 use Rattle.rule_tree.specs.declared.rule.Kind.{Kind}
 use Rattle.rule_tree.specs.declared.rule.Kind.TheVariants.{Table, Tree}
 use Rattle.rule_tree.specs.NamedRule.{NamedRule}
-use Rattle.rule_tree.specs.Tree as tree
+use Rattle.rule_tree.specs.Tree as tree_rule
 use Rattle.rule_tree.specs.TreeLines.{tree_of}
 
 abbrev pub name_of : NamedRule → List ℕ
@@ -29,12 +29,12 @@ states_of rule = states_of_kind rule.kind
 -- the next state of a cell, by the nine states at and around it
 abbrev pub plain_next : Kind → List ℕ → ℕ
 plain_next (Table t) around = table.next t around
-plain_next (Tree t) around = tree.next t around
+plain_next (Tree t) around = tree_rule.next t around
 
 -- the same; of a table or tree that no file has it is 0
 abbrev pub next_under_kind : Kind → List ℕ → ℕ
 next_under_kind (Table t) around = table_rule.next_under t around
-next_under_kind (Tree t) around = tree.next_under t around
+next_under_kind (Tree t) around = tree_rule.next_under t around
 
 abbrev pub next_of : NamedRule → List ℕ → ℕ
 next_of rule around = next_under_kind rule.kind around
@@ -53,6 +53,11 @@ rule_of bytes = do
   file ← file_of bytes
   kind ← kind_of file.section
   Ok (record { name = file.name; kind = kind })
+
+-- a tree that may be asked in place of a table or tree, if there is one
+pub record IsTranslation (kind : Kind) (tree : Option tree_rule.Tree) : Type 0 where
+  pub states : (t : tree_rule.Tree) → tree ≡ Some t → t.states ≡ states_of_kind kind
+  pub same : (t : tree_rule.Tree) → tree ≡ Some t → (around : List ℕ) → All (λ s. s < states_of_kind kind) around → tree_rule.next t around ≡ next_under_kind kind around
 
 -- the rule `still`, under which each cell keeps its state
 abbrev pub still : NamedRule

@@ -1,5 +1,5 @@
 -- What holds of every tree.
-use Rattle.std.specs.Prelude.{◌≡◌, ℕ, ◌==◌, ◌<◌, ◌&&◌, Bool, true, false, List, [], ◌∷◌, length, slice_index, if◌then◌else◌, nat_lt}
+use Rattle.std.specs.Prelude.{◌≡◌, ℕ, zero, suc, All, ◌==◌, ◌<◌, ◌&&◌, Bool, true, false, List, [], ◌∷◌, length, slice_index, if◌then◌else◌, nat_lt}
 use Rattle.std.specs.List.{list_all}
 use Rattle.std.proofs.Common.{refl, arith, rules, tests}
 use Rattle.std.proofs.lemmas.List.Sums.{AllPass-from_list_all}
@@ -58,14 +58,22 @@ pub leads-inputs : (n : ℕ) (nodes : List Entries) (number : ℕ) (neighbors : 
 leads-inputs n nodes number Four states h = h
 leads-inputs n nodes number Eight states h = h
 
--- the inputs are states where the nine states are
-inputs-below : (n : ℕ) (neighbors : Neighbors) (states : List ℕ) → AreNineBelow n states → list_all (λ s. nat_lt s n) (inputs_of neighbors states) ≡ true
-inputs-below n neighbors states nine =
-    let low : (k : ℕ) → k < 9 → slice_index states k < n = λ k h. nine.below k 0 (omega (arith, nine.nine)) in
+-- any of states below n is below n, and 0 where there is none
+state-below : (n : ℕ) (states : List ℕ) → 0 < n → All (λ s. s < n) states → (k : ℕ) → slice_index states k < n
+state-below n [] some low k = some
+state-below n (s ∷ states) some low zero = low 0 0 (omega arith)
+state-below n (s ∷ states) some low (suc k) = state-below n states some (λ i d l. low (suc i) d (omega (arith, l))) k
+
+inputs-low : (n : ℕ) (neighbors : Neighbors) (states : List ℕ) → ((k : ℕ) → slice_index states k < n) → list_all (λ s. nat_lt s n) (inputs_of neighbors states) ≡ true
+inputs-low n neighbors states low =
     elim neighbors as (λ m. list_all (λ s. nat_lt s n) (inputs_of m states) ≡ true) [
-      | Four ↦ low_by n _ _ (low 1 (omega arith)) (low_by n _ _ (low 7 (omega arith)) (low_by n _ _ (low 3 (omega arith)) (low_by n _ _ (low 5 (omega arith)) (low_by n _ _ (low 0 (omega arith)) refl))))
-      | Eight ↦ low_by n _ _ (low 8 (omega arith)) (low_by n _ _ (low 2 (omega arith)) (low_by n _ _ (low 6 (omega arith)) (low_by n _ _ (low 4 (omega arith)) (low_by n _ _ (low 1 (omega arith)) (low_by n _ _ (low 7 (omega arith)) (low_by n _ _ (low 3 (omega arith)) (low_by n _ _ (low 5 (omega arith)) (low_by n _ _ (low 0 (omega arith)) refl))))))))
+      | Four ↦ low_by n _ _ (low 1) (low_by n _ _ (low 7) (low_by n _ _ (low 3) (low_by n _ _ (low 5) (low_by n _ _ (low 0) refl))))
+      | Eight ↦ low_by n _ _ (low 8) (low_by n _ _ (low 2) (low_by n _ _ (low 6) (low_by n _ _ (low 4) (low_by n _ _ (low 1) (low_by n _ _ (low 7) (low_by n _ _ (low 3) (low_by n _ _ (low 5) (low_by n _ _ (low 0) refl))))))))
     ]
+
+-- the inputs are states where the states at and around the cell are
+pub inputs-below : (n : ℕ) (neighbors : Neighbors) (states : List ℕ) → 0 < n → All (λ s. s < n) states → list_all (λ s. nat_lt s n) (inputs_of neighbors states) ≡ true
+inputs-below n neighbors states some low = inputs-low n neighbors states (state-below n states some low)
 
 -- the next state is a state
 pub next_under-below : (tree : Tree) (states : List ℕ) → AreNineBelow tree.states states → next_under tree states < tree.states
@@ -74,4 +82,4 @@ next_under-below tree states nine =
     below_by (is_sound tree) tree.states (next tree states) (omega (arith, some))
     (λ h. follow-below tree.states tree.nodes (root_of tree) (inputs_of tree.neighbors states)
     (leads-inputs tree.states tree.nodes (root_of tree) tree.neighbors states (both_of (is_quiescent tree) (leads tree.states tree.nodes (root_of tree) (places_of tree.neighbors)) h).1)
-    (inputs-below tree.states tree.neighbors states nine))
+    (inputs-below tree.states tree.neighbors states (omega (arith, some)) nine.below))

@@ -14,17 +14,25 @@
 #![tactic(auto)]
 
 mod descriptors;
+mod layers;
 mod nodes;
 mod numbers;
 mod rule;
+mod sharing;
+mod translation;
 mod tree;
+mod tree_fault;
 mod tree_reader;
 
 pub use rule::Rule;
+pub use translation::from_table;
 pub use tree::{Neighbors, TreeRule};
+pub use tree_fault::TreeFault;
 pub use tree_reader::read_tree;
 
 #[cfg(test)]
 mod rule_tests;
 #[cfg(test)]
 mod tests;
+#[cfg(test)]
+mod translation_tests;

@@ -1,9 +1,11 @@
 //! Rules as files have them.
 ghost use Rattle.std.specs.Prelude.{◌≡◌, ◌<◌, ℕ, List, All, IfOk};
 ghost use Rattle.rule_file.specs.Results.{Gives};
-ghost use Rattle.rule_tree.specs.Rule.{kind_of, name_of, next_of, next_under_kind, plain_next, rule_of, still};
+ghost use Rattle.rule_tree.specs.Rule.{IsTranslation, kind_of, name_of, next_of, next_under_kind, plain_next, rule_of, still};
 
+use crate::translation::from_table;
 use crate::tree::TreeRule;
+use crate::tree_fault::TreeFault;
 use crate::tree_reader::read_tree;
 use plane_core::{Around, Listing, Next};
 use rule_file::{RuleFault, RuleText, SectionKind, cut};
@@ -19,10 +21,14 @@ pub enum Kind {
 }
 
 /// A rule of a cellular automaton: a table or a tree with a name.
+///
+/// A table is translated to a tree where that has at most 1,000,000 nodes, and then the tree is
+/// asked for the next states.
 #[derive(Debug, Drop)]
 pub struct Rule {
     name: Listing<u8>,
     kind: Kind,
+    translation: Option<TreeRule>,
 }
 
 impl Model for Rule {
@@ -30,7 +36,11 @@ impl Model for Rule {
 
     ghost Value = { NamedRule };
 
+    ghost use Rattle.rule_tree.specs.Rule.{IsTranslation};
+
     ghost view = { λ rule. record { name = rule.name; kind = rule.kind } };
+
+    ghost invariant = { λ rule. IsTranslation rule.kind rule.translation };
 }
 
 impl Rule {
@@ -46,8 +56,13 @@ impl Rule {
     {
         let file = cut(alloc, text)?;
         let kind = read_kind(alloc, &file)?;
+        let translation = translated(alloc, &kind)?;
         let name = Listing::from_vec(file.name().to_vec(alloc)?);
-        Ok(Rule { name, kind })
+        Ok(Rule {
+            name,
+            kind,
+            translation,
+        })
     }
 
     /// The rule named `still`, of two states, under which each cell keeps its own.
@@ -58,6 +73,7 @@ impl Rule {
         Ok(Rule {
             name,
             kind: Kind::Table(TableRule::still(alloc)),
+            translation: None,
         })
     }
 
@@ -81,6 +97,21 @@ fn read_kind(alloc: Global, file: &RuleText) -> Result<Kind, RuleFault>
     }
 }
 
+// The tree of a table, unless it is too large.
+fn translated(alloc: Global, kind: &Kind) -> Result<Option<TreeRule>, AllocError>
+    requires { (around : List ℕ) → next_under_kind kind.now around ≡ plain_next kind.now around }
+    ensures { IfOk result (λ tree. IsTranslation kind.now tree) }
+{
+    match kind {
+        Kind::Tree(_) => Ok(None),
+        Kind::Table(table) => match from_table(alloc, table) {
+            Ok(tree) => Ok(Some(tree)),
+            Err(TreeFault::TreeTooLarge) => Ok(None),
+            Err(TreeFault::NoMemory) => Err(AllocError),
+        },
+    }
+}
+
 impl Next for Rule {
     ghost use Rattle.rule_tree.specs.Rule.{states_of, next_of};
     ghost use Rattle.rule_tree.specs.RuleLaws.{next_of-quiet, next_of-below};
@@ -101,6 +132,9 @@ impl Next for Rule {
     }
 
     fn next(&self, around: &Around) -> u8 {
+        if let Some(tree) = &self.translation {
+            return tree.next(around);
+        }
         match &self.kind {
             Kind::Table(table) => table.next(around),
             Kind::Tree(tree) => tree.next(around),

@@ -13,9 +13,10 @@ use Rattle.table_symmetry.specs.Expanded.{expanded, transition_limit}
 use Rattle.table_symmetry.specs.Grown.{IsTooLong}
 use Rattle.table_symmetry.specs.declared.lookup.Lookup.{Lookup}
 use Rattle.table_symmetry.specs.Below.{admits_below}
-use Rattle.table_symmetry.specs.Kept.{IsKept}
+use Rattle.table_symmetry.specs.Kept.{IsKept, is_full}
 use Rattle.table_symmetry.specs.Lookup.{FindsFirst, found}
 use Rattle.table_symmetry.specs.NextState.{gives_states, is_quiescent, next}
+use Rattle.table_symmetry.specs.RuleLaws.{zeros-below}
 use Rattle.table_symmetry.specs.Table.{Table}
 use Rattle.table_symmetry.specs.TableLines.{within_limits}
 use Rattle.table_symmetry.proofs.FirstMatch.{next-expanded}
@@ -43,34 +44,20 @@ Gives-too-long (Ok x) table e h k = absurd h
 Gives-too-long (Err f) table e h (inl wanted) = inl (h ∙ wanted)
 Gives-too-long (Err f) table e h (inr (many, beyond)) = inr (within_limits-many table beyond ∙ ap Err (sym many ∙ sym h))
 
-zeros_at : (k d : ℕ) → k < 9 → slice_index_or nine_zeros k d ≡ 0
-zeros_at zero d h = refl
-zeros_at (suc zero) d h = refl
-zeros_at (suc (suc zero)) d h = refl
-zeros_at (suc (suc (suc zero))) d h = refl
-zeros_at (suc (suc (suc (suc zero)))) d h = refl
-zeros_at (suc (suc (suc (suc (suc zero))))) d h = refl
-zeros_at (suc (suc (suc (suc (suc (suc zero)))))) d h = refl
-zeros_at (suc (suc (suc (suc (suc (suc (suc zero))))))) d h = refl
-zeros_at (suc (suc (suc (suc (suc (suc (suc (suc zero)))))))) d h = refl
-zeros_at (suc (suc (suc (suc (suc (suc (suc (suc (suc k))))))))) d h = absurd (omega (arith, h))
-
-zeros-below : (n : ℕ) → 0 < n → AreNineBelow n nine_zeros
-zeros-below n some = record { nine = refl; below = λ k d h. subst (λ s. s < n) (sym (zeros_at k d h)) some }
-
 -- what a look-up of the expanded transitions gives for nine zeros
 pub next_of_zeros : (table : Table) (lookup : Lookup) → FindsFirst lookup table.states table.neighborhood (expanded table) → 0 < table.states → unwrap_or (found lookup nine_zeros) 0 ≡ next table nine_zeros
 next_of_zeros table lookup finds some = ap (λ o. unwrap_or o 0) (finds nine_zeros (zeros-below table.states some)) ∙ next-expanded table nine_zeros
 
 -- a table of states that was read, of few expanded transitions that a look-up finds, and that is quiescent, is one that is kept
-pub is_kept : (table : Table) (lookup : Lookup) → 2 ≤ table.states → table.states ≤ 256 → list_all (admits_below table.states) table.transitions ≡ true → length (expanded table) ≤ transition_limit → FindsFirst lookup table.states table.neighborhood (expanded table) → unwrap_or (found lookup nine_zeros) 0 ≡ 0 → IsKept table lookup
-is_kept table lookup least most below few finds quiet =
+pub is_kept : (table : Table) (lookup : Lookup) → 2 ≤ table.states → table.states ≤ 256 → list_all (admits_below table.states) table.transitions ≡ true → list_all (is_full table.neighborhood) table.transitions ≡ true → length (expanded table) ≤ transition_limit → FindsFirst lookup table.states table.neighborhood (expanded table) → unwrap_or (found lookup nine_zeros) 0 ≡ 0 → IsKept table lookup
+is_kept table lookup least most below full few finds quiet =
     let some : 0 < table.states = omega (arith, least) in
     let still : is_quiescent table ≡ true = eq-eqb (next table nine_zeros) 0 (sym (next_of_zeros table lookup finds some) ∙ quiet) in
     record {
       at_least = least;
       at_most = most;
       sound = and_from (is_quiescent table) (list_all (gives_states table.states) table.transitions) still (all_give_states table.states table.transitions some below);
+      full = full;
       few = few;
       finds = finds;
     }

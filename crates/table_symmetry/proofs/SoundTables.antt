@@ -1,13 +1,21 @@
 -- Whatever a transition that was read gives is a state.
-use Rattle.std.proofs.Common.{◌≡◌, ℕ, ◌<◌, Bool, true, false, cond, nat_lt, List, [], ◌∷◌, ◌++◌, refl, arith, rules, tests}
+use Rattle.std.proofs.Common.{◌≡◌, ℕ, ◌<◌, Bool, true, false, cond, nat_lt, List, [], ◌∷◌, ◌++◌, map, take, drop, refl, arith, rules, tests}
+use Rattle.std.specs.Prelude.{All, slice_index_or}
 use Rattle.std.specs.List.{filter, flat_map, list_all, list_any}
 use Rattle.std.proofs.lemmas.Bool.{and_from, and_parts}
+use Rattle.std.proofs.lemmas.List.Sums.{AllPass-from_list_all}
+use Rattle.table_symmetry.specs.declared.expansion.Expanded.{Expanded}
+use Rattle.table_symmetry.specs.declared.table.Symmetry.{Symmetry}
 use Rattle.table_symmetry.specs.declared.transition.Variable.{Variable}
 use Rattle.table_symmetry.specs.declared.transition.Entry.{Entry}
 use Rattle.table_symmetry.specs.declared.transition.Entry.TheVariants.{State, OneOf}
 use Rattle.table_symmetry.specs.declared.transition.Transition.{Transition}
 use Rattle.table_symmetry.specs.Below.{all_below, entry_below, admits_below}
-use Rattle.table_symmetry.specs.NextState.{assigned, bound_variables, gives_states, given, is_variable, valued, valued_entry, without}
+use Rattle.table_symmetry.specs.Circle.{arrangements}
+use Rattle.table_symmetry.specs.Expanded.{distinct, expanded, expanded_of, expanded_one, same_sets, sets_of}
+use Rattle.table_symmetry.specs.NextState.{assigned, assignments, bound_variables, gives_states, given, is_quiescent, is_variable, valued, valued_entry, without}
+use Rattle.table_symmetry.specs.Rule.{is_sound}
+use Rattle.table_symmetry.specs.Table.{Table}
 
 pub list_all-append : {X : Type 0} (p : X → Bool) (xs ys : List X) → list_all p xs ≡ true → list_all p ys ≡ true → list_all p (xs ++ ys) ≡ true
 list_all-append p [] ys h k = k
@@ -73,3 +81,17 @@ all_give_states n [] some h = refl
 all_give_states n (t ∷ ts) some h =
     let parts = and_parts (admits_below n t) (list_all (admits_below n) ts) h in
     and_from (gives_states n t) (list_all (gives_states n) ts) (gives_states-below n t some parts.0) (all_give_states n ts some parts.1)
+
+expanded_one-below : (n : ℕ) (symmetry : Symmetry) (t : Transition) (lists : List (List (List ℕ))) → nat_lt (given t.result) n ≡ true → list_all (λ (row : Expanded). nat_lt row.result n) (map (λ neighbours. record { inputs = take 1 (sets_of t) ++ neighbours; result = given t.result }) lists) ≡ true
+expanded_one-below n symmetry t [] h = refl
+expanded_one-below n symmetry t (l ∷ lists) h = and_from (nat_lt (given t.result) n) _ h (expanded_one-below n symmetry t lists h)
+
+-- the results of a sound table's expanded transitions are states
+pub expanded-below : (table : Table) → is_sound table ≡ true → All (λ (row : Expanded). row.result < table.states) (expanded table)
+expanded-below table sound =
+    let n = table.states in
+    let gives = (and_parts (is_quiescent table) (list_all (gives_states n) table.transitions) sound).1 in
+    let pass = list_all-flat_map (gives_states n) (λ (row : Expanded). nat_lt row.result n) (expanded_of table.symmetry) table.transitions
+    (λ t h. list_all-flat_map (λ u. nat_lt (given u.result) n) (λ (row : Expanded). nat_lt row.result n) (expanded_one table.symmetry) (assignments t)
+    (λ u k. expanded_one-below n table.symmetry u (distinct same_sets (arrangements table.symmetry (drop 1 (sets_of u)))) k) h) gives in
+    λ k d l. let low : nat_lt (slice_index_or (expanded table) k d).result n ≡ true = AllPass-from_list_all (λ (row : Expanded). nat_lt row.result n) (expanded table) pass k d l in search (rules, tests)

@@ -1,8 +1,8 @@
 -- What holds of every table.
-use Rattle.std.specs.Prelude.{◌≡◌, ℕ, ◌<◌, ◌&&◌, Bool, true, false, List, [], ◌∷◌, slice_index, find, unwrap_or, Some, if◌then◌else◌, nat_lt}
+use Rattle.std.specs.Prelude.{◌≡◌, ℕ, zero, suc, ◌<◌, ◌&&◌, Bool, true, false, List, [], ◌∷◌, slice_index, slice_index_or, find, unwrap_or, Some, if◌then◌else◌, nat_lt}
 use Rattle.std.specs.List.{list_all}
 use Rattle.std.specs.Option.{option_map}
-use Rattle.std.proofs.Common.{refl, cond, arith, rules, tests}
+use Rattle.std.proofs.Common.{refl, sym, subst, cond, arith, rules, tests}
 use Rattle.std.proofs.lemmas.Bool.{and_parts}
 use Rattle.plane_core.specs.Step.{nine_zeros, AreNineBelow}
 use Rattle.table_symmetry.specs.declared.transition.Transition.{Transition}
@@ -41,3 +41,19 @@ pub next_under-below : (table : Table) (states : List ℕ) → AreNineBelow tabl
 next_under-below table states nine =
     let low : slice_index states 0 < table.states = nine.below 0 0 (omega (arith, nine.nine)) in
     below_by (is_sound table) table.states (next table states) (omega (arith, low)) (λ h. first_result-below table states table.states table.transitions low (and_parts (is_quiescent table) (list_all (gives_states table.states) table.transitions) h).1)
+
+zeros_at : (k d : ℕ) → k < 9 → slice_index_or nine_zeros k d ≡ 0
+zeros_at zero d h = refl
+zeros_at (suc zero) d h = refl
+zeros_at (suc (suc zero)) d h = refl
+zeros_at (suc (suc (suc zero))) d h = refl
+zeros_at (suc (suc (suc (suc zero)))) d h = refl
+zeros_at (suc (suc (suc (suc (suc zero))))) d h = refl
+zeros_at (suc (suc (suc (suc (suc (suc zero)))))) d h = refl
+zeros_at (suc (suc (suc (suc (suc (suc (suc zero))))))) d h = refl
+zeros_at (suc (suc (suc (suc (suc (suc (suc (suc zero)))))))) d h = refl
+zeros_at (suc (suc (suc (suc (suc (suc (suc (suc (suc k))))))))) d h = absurd (omega (arith, h))
+
+-- nine zeros are states
+pub zeros-below : (n : ℕ) → 0 < n → AreNineBelow n nine_zeros
+zeros-below n some = record { nine = refl; below = λ k d h. subst (λ s. s < n) (sym (zeros_at k d h)) some }

@@ -76,7 +76,7 @@ impl StateSet {
     }
 
     /// Whether the other set has the same states.
-    pub(crate) fn equals(&self, other: &StateSet) -> bool
+    pub fn equals(&self, other: &StateSet) -> bool
         ensures { result ≡ same_set self.now other.now }
     {
         self.low == other.low && self.high == other.high

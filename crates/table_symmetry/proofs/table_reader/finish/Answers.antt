@@ -34,4 +34,4 @@ new-requires-2 c =
     let rows : c.in_ok-rows.rows.items ≡ expanded table = c.in_ok-rows.ensures.0 ∙ ap (flat_map (expanded_of c.args.head.symmetry)) c.deref.ensures.value in
     let few : length (expanded table) ≤ transition_limit = subst (λ rows. length rows ≤ transition_limit) rows c.in_ok-rows.ensures.1 in
     let finds : FindsFirst c.in_ok-lookup.lookup c.args.head.states c.args.head.neighborhood (expanded table) = subst (FindsFirst c.in_ok-lookup.lookup c.args.head.states c.args.head.neighborhood) (c.deref-2.ensures.value ∙ rows) c.in_ok-lookup.ensures in
-    is_kept table c.in_ok-lookup.lookup c.requires.at_least c.requires.at_most c.requires.below few finds (sym (c.unwrap_or.ensures ∙ ap (λ o. unwrap_or o 0) c.find.ensures) ∙ c.if-unwrap_or-ne0.false)
+    is_kept table c.in_ok-lookup.lookup c.requires.at_least c.requires.at_most c.requires.below c.requires.full few finds (sym (c.unwrap_or.ensures ∙ ap (λ o. unwrap_or o 0) c.find.ensures) ∙ c.if-unwrap_or-ne0.false)

@@ -1,0 +1,21 @@
+use Rattle.std.proofs.Common.{◌≡◌, ◌+◌, ◌<◌, ◌∙◌, ℕ, List, Option, length, sym, ap, subst, arith}
+use Rattle.std.specs.Prelude.{All}
+use Rattle.table_symmetry.specs.declared.expansion.Expanded.{Expanded}
+use Rattle.table_symmetry.specs.NextState.{places_of}
+use Rattle.rule_tree.specs.Translation.{DoesRows, entries_of, order_of}
+use Rattle.rule_tree.specs.Tree.{Entries}
+use Rattle.rule_tree.proofs.Translating.{next-rows}
+use Rattle.rule_tree.proofs.translation.from_table.Goals as goal
+
+pub finish-requires-clause-same : goal.finish-requires-clause-same
+finish-requires-clause-same c =
+    let table = c.args.table.now in
+    let rows = c.in_ok-rows.rows.items in
+    let nodes : List Entries = entries_of c.deref-2.result.now in
+    let order : c.order_of-order.result.now ≡ order_of table.neighborhood = c.order_of-order.ensures ∙ ap order_of c.neighborhood.ensures in
+    let does : DoesRows table.states (order_of table.neighborhood) rows nodes =
+    subst (λ n. DoesRows n (order_of table.neighborhood) rows nodes) c.states.ensures.count
+    (subst (λ (o : List (Option ℕ)). DoesRows c.states.result o rows nodes) order
+    (subst (λ (rs : List Expanded). DoesRows c.states.result c.order_of-order.result.now rs nodes) c.deref.ensures.value
+    (subst (λ ns. DoesRows c.states.result c.order_of-order.result.now c.deref.result.now (entries_of ns)) (sym c.deref-2.ensures.value) c.in_ok-nodes.ensures.does))) in
+    next-rows table rows nodes (omega (arith, c.states.ensures.count, c.states.ensures.at_least)) does c.in_ok-rows.ensures.full c.in_ok-rows.ensures.first
