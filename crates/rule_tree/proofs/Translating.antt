@@ -1,7 +1,6 @@
 -- A table's rows, and the inputs of its tree.
-use Rattle.std.proofs.Common.{◌≡◌, ℕ, zero, suc, ◌+◌, ◌*◌, ◌-◌, ◌<◌, ◌≤◌, ◌==◌, ◌&&◌, Bool, true, false, cond, nat_lt, List, [], ◌∷◌, length, map, slice_index, Option, Some, None, unwrap_or, refl, sym, ap, subst, ◌∙◌, arith}
+use Rattle.std.proofs.Common.{◌≡◌, ℕ, zero, suc, ◌+◌, ◌*◌, ◌-◌, ◌<◌, ◌≤◌, ◌&&◌, Bool, true, false, cond, List, [], ◌∷◌, length, slice_index, Option, Some, None, unwrap_or, refl, sym, ap, subst, ◌∙◌, arith}
 use Rattle.std.specs.Prelude.{All, slice_index_or, find}
-use Rattle.std.specs.List.{list_all}
 use Rattle.std.specs.Option.{option_map, option_or}
 use Rattle.std.proofs.lemmas.Bool.{eq-eqb}
 use Rattle.plane_core.specs.Step.{nine_zeros}
@@ -16,7 +15,7 @@ use Rattle.rule_tree.specs.declared.layers.Layer.{Layer}
 use Rattle.rule_tree.specs.Kept.{IsKeptTree, nodes_in, tree_of_kept}
 use Rattle.rule_tree.specs.Layers.{AreLayersOf, all_allow, asked, result_of}
 use Rattle.rule_tree.specs.Translation.{Does, DoesRows, Translates, first_some, last_of, neighbors_of, order_of}
-use Rattle.rule_tree.specs.Tree.{Entries, Tree, follow, inputs_of, is_quiescent, is_sound, leads, next, places_of}
+use Rattle.rule_tree.specs.Tree.{Entries, Tree, inputs_of, is_quiescent, is_sound, leads, next, places_of}
 use Rattle.rule_tree.specs.TreeLaws.{inputs-below, leads-width}
 use Rattle.rule_tree.proofs.Growing.{and_of}
 use Rattle.rule_tree.proofs.KeptNodes.{none-past}

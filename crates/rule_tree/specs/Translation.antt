@@ -11,7 +11,7 @@ use Rattle.rule_tree.specs.declared.layers.Layer.{Layer}
 use Rattle.rule_tree.specs.declared.tree.Neighbors.{Neighbors}
 use Rattle.rule_tree.specs.declared.tree.Neighbors.TheVariants.{Four, Eight}
 use Rattle.rule_tree.specs.Layers.{all_allow, asked, lets, rest_at, result_of}
-use Rattle.rule_tree.specs.Tree.{Entries, Tree, follow, leads, next, node_at}
+use Rattle.rule_tree.specs.Tree.{Entries, Tree, follow, leads, next}
 
 -- the neighbours of a tree for a table: the four or the eight that hold the table's
 abbrev pub neighbors_of : Neighborhood → Neighbors

@@ -1,9 +1,8 @@
-use Rattle.std.proofs.Common.{◌≡◌, ◌<◌, ◌≤◌, ◌-◌, ◌∷◌, ◌∙◌, ℕ, List, [], length, map, take, drop, slice_index, refl, sym, ap, subst, arith, rules}
+use Rattle.std.proofs.Common.{◌≡◌, ◌-◌, ◌∷◌, ◌∙◌, ℕ, List, [], length, map, take, drop, slice_index, sym, ap, subst, arith, rules}
 use Rattle.std.specs.Prelude.{All, slice_index_or}
 use Rattle.std.proofs.lemmas.List.{length-map, nil_from_length}
-use Rattle.rule_tree.specs.declared.layers.Layer.{Layer}
 use Rattle.rule_tree.specs.Layers.{Fit, IsLayer}
-use Rattle.rule_tree.specs.Translation.{AllInside, AreAllEdges, DoAll, Extends, entries_of}
+use Rattle.rule_tree.specs.Translation.{AllInside, AreAllEdges, DoAll, entries_of}
 use Rattle.rule_tree.proofs.Doing.{DoAll-leaves, DoAll-nodes, edges-inside, leaves-width, nodes-width, width-among}
 use Rattle.rule_tree.proofs.NodeLists.{first-and-others, length-entries}
 use Rattle.rule_tree.proofs.translation.+number_lists.Goals as goal

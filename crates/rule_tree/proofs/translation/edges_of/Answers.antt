@@ -1,7 +1,6 @@
 use Rattle.std.proofs.Common.{◌≡◌, ◌<◌, ◌+◌, ◌∷◌, ◌++◌, ◌∙◌, ℕ, List, [], length, slice_index, sym, ap, subst, arith, rules}
 use Rattle.std.specs.Prelude.{All, slice_index_or}
 use Rattle.std.proofs.lemmas.List.{get_or_append_left, length-append}
-use Rattle.rule_tree.specs.Layers.{IsGrownBy}
 use Rattle.rule_tree.specs.Translation.{AllInside, Extends, LeftOf, entries_of}
 use Rattle.rule_tree.proofs.Layering.{All-grown}
 use Rattle.rule_tree.proofs.NodeLists.{Extends-both, Extends-grown, each-push, length-entries}

@@ -1,6 +1,4 @@
-use Rattle.std.proofs.Common.{◌≡◌, ◌≤◌, ◌-◌, ◌*◌, ◌∙◌, ℕ, List, [], length, sym, ap, subst, arith, rules}
-use Rattle.std.specs.Prelude.{All, slice_index_or}
-use Rattle.table_symmetry.specs.NextState.{next}
+use Rattle.std.proofs.Common.{◌≡◌, ◌≤◌, ◌-◌, ◌*◌, ◌∙◌, [], length, sym, ap, subst, arith}
 use Rattle.table_symmetry.specs.RuleLaws.{zeros-below}
 use Rattle.rule_tree.specs.declared.tree.Neighbors.{Neighbors}
 use Rattle.rule_tree.specs.Kept.{IsKeptTree, nodes_in, tree_of_kept}

@@ -1,7 +1,5 @@
-use Rattle.std.proofs.Common.{◌≡◌, ◌+◌, ◌<◌, ◌∙◌, ℕ, List, Option, length, sym, ap, subst, arith}
-use Rattle.std.specs.Prelude.{All}
+use Rattle.std.proofs.Common.{◌≡◌, ◌∙◌, ℕ, List, Option, sym, ap, subst, arith}
 use Rattle.table_symmetry.specs.declared.expansion.Expanded.{Expanded}
-use Rattle.table_symmetry.specs.NextState.{places_of}
 use Rattle.rule_tree.specs.Translation.{DoesRows, entries_of, order_of}
 use Rattle.rule_tree.specs.Tree.{Entries}
 use Rattle.rule_tree.proofs.Translating.{next-rows}

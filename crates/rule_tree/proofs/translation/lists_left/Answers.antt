@@ -1,4 +1,4 @@
-use Rattle.std.proofs.Common.{◌≡◌, ◌<◌, ◌+◌, ◌∷◌, ◌++◌, ◌∙◌, ℕ, List, [], length, sym, ap, subst, arith, rules}
+use Rattle.std.proofs.Common.{◌≡◌, ◌<◌, ◌∷◌, ◌++◌, ◌∙◌, ℕ, List, [], length, sym, ap, subst, arith, rules}
 use Rattle.std.specs.Prelude.{All, slice_index_or}
 use Rattle.rule_tree.specs.Translation.{AllInside, AreEdges, entries_of}
 use Rattle.rule_tree.proofs.NodeLists.{AreEdges-append, each-push, entries-at, entries-push, length-entries}

@@ -1,5 +1,5 @@
-use Rattle.std.proofs.Common.{◌≡◌, ◌<◌, ◌≤◌, ◌-◌, ◌∷◌, ◌++◌, ◌∙◌, ℕ, List, [], length, take, drop, slice_index, refl, sym, ap, subst, arith, rules}
-use Rattle.std.specs.Prelude.{All, slice_index_or}
+use Rattle.std.proofs.Common.{◌≡◌, ◌<◌, ◌-◌, ◌∷◌, ◌++◌, ◌∙◌, List, [], length, take, drop, slice_index, sym, ap, subst, arith}
+use Rattle.std.specs.Prelude.{All}
 use Rattle.rule_tree.specs.declared.layers.Layer.{Layer}
 use Rattle.rule_tree.specs.Layers.{AreLayersOf, Fit, count_of}
 use Rattle.rule_tree.specs.Translation.{AllInside, Does, DoAll, entries_of}

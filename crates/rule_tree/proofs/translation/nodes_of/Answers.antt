@@ -1,8 +1,7 @@
-use Rattle.std.proofs.Common.{◌≡◌, ◌<◌, ◌∷◌, ◌++◌, ◌∙◌, [], length, map, take, slice_index, sym, ap, subst, arith}
+use Rattle.std.proofs.Common.{◌≡◌, ◌<◌, ◌∙◌, [], length, sym, ap, subst, arith}
 use Rattle.std.specs.Prelude.{All, slice_index_or}
-use Rattle.std.proofs.lemmas.List.{map_more}
 use Rattle.rule_tree.specs.Translation.{entries_of}
-use Rattle.rule_tree.proofs.NodeLists.{entries-at, entries-push, length-entries}
+use Rattle.rule_tree.proofs.NodeLists.{entries-at, length-entries}
 use Rattle.rule_tree.proofs.translation.nodes_of.Goals as goal
 
 pub node_of-requires : goal.node_of-requires
