@@ -1,5 +1,5 @@
 -- Nodes that do what lists of tails do.
-use Rattle.std.proofs.Common.{◌≡◌, ℕ, zero, suc, ◌<◌, ◌==◌, Bool, true, false, cond, nat_lt, List, [], ◌∷◌, ◌++◌, length, map, get_or, slice_index, Option, Some, None, unwrap_or, refl, sym, ap, subst, ◌∙◌, arith, rules, tests}
+use Rattle.std.proofs.Common.{◌≡◌, ℕ, suc, ◌<◌, ◌==◌, Bool, true, false, cond, nat_lt, List, [], ◌∷◌, ◌++◌, length, map, get_or, slice_index, Option, Some, None, unwrap_or, refl, sym, ap, subst, ◌∙◌, arith, rules, tests}
 use Rattle.std.specs.Prelude.{All, slice_index_or}
 use Rattle.std.specs.List.{AllPass, list_all}
 use Rattle.std.proofs.lemmas.Bool.{eqb-true, eq-eqb}
@@ -14,12 +14,7 @@ use Rattle.rule_tree.specs.Tree.{Entries, follow, leads, node_at}
 use Rattle.rule_tree.specs.TreeLaws.{both_of, leads-on, leads-width}
 use Rattle.rule_tree.proofs.Growing.{leads-append, leads-node}
 use Rattle.rule_tree.proofs.KeptNodes.{none-past}
-
--- an element that is there is found with any default
-other_default : {X : Type 0} (xs : List X) (i : ℕ) (a b : X) → i < length xs → slice_index_or xs i a ≡ slice_index_or xs i b
-other_default [] i a b h = absurd (omega (arith, h))
-other_default (x ∷ xs) zero a b h = refl
-other_default (x ∷ xs) (suc i) a b h = other_default xs i a b (omega (arith, h))
+use Rattle.rule_tree.proofs.NodeLists.{other_default}
 
 -- more nodes change nothing of what is followed from those before
 follow-append : (n : ℕ) (nodes more : List Entries) (number : ℕ) (inputs : List ℕ) → leads n nodes number inputs ≡ true → list_all (λ s. nat_lt s n) inputs ≡ true → follow (nodes ++ more) number inputs ≡ follow nodes number inputs

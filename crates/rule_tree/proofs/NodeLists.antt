@@ -1,5 +1,5 @@
 -- Lists of lists that grow at their ends.
-use Rattle.std.proofs.Common.{◌≡◌, ℕ, zero, suc, ◌+◌, ◌-◌, ◌<◌, ◌≤◌, List, [], ◌∷◌, ◌++◌, length, take, drop, append-nil, append_assoc, sym, ap, subst, ◌∙◌, inl, inr, arith}
+use Rattle.std.proofs.Common.{◌≡◌, ℕ, zero, suc, ◌+◌, ◌-◌, ◌<◌, ◌≤◌, List, [], ◌∷◌, ◌++◌, length, take, drop, append-nil, append_assoc, refl, sym, ap, subst, ◌∙◌, inl, inr, arith}
 use Rattle.std.specs.Prelude.{All, Vec, slice_index, slice_index_or}
 use Rattle.std.proofs.lemmas.Bool.{cases_eq}
 use Rattle.std.proofs.lemmas.List.{get_or-map, get_or_append_left, length-append, length-map, map-append, take_all}
@@ -8,6 +8,12 @@ use Rattle.rule_tree.specs.Translation.{AllInside, AreEdges, Extends, entries_of
 use Rattle.rule_tree.specs.Layers.{IsGrownBy}
 use Rattle.rule_tree.specs.Tree.{Entries}
 use Rattle.rule_tree.specs.declared.layers.Layer.{Layer}
+
+-- an element that is there is found with any default
+pub other_default : {X : Type 0} (xs : List X) (i : ℕ) (a b : X) → i < length xs → slice_index_or xs i a ≡ slice_index_or xs i b
+other_default [] i a b h = absurd (omega (arith, h))
+other_default (x ∷ xs) zero a b h = refl
+other_default (x ∷ xs) (suc i) a b h = other_default xs i a b (omega (arith, h))
 
 -- the entries of one node
 pub entries-at : {A : Type 0} (nodes : List (Vec ℕ A)) (k : ℕ) (d : Vec ℕ A) → k < length nodes → slice_index_or (entries_of nodes) k [] ≡ (slice_index_or nodes k d).items

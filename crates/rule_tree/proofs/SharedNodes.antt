@@ -3,19 +3,17 @@ use Rattle.std.proofs.Common.{◌≡◌, ◌∙◌, ◌⊎◌, inl, inr, ℕ, ze
 use Rattle.std.specs.List.{AllPass, list_any, position_or_len}
 use Rattle.std.proofs.Math.Seq.{get_or-append_seam}
 use Rattle.std.specs.Str.{bytes_eq}
-use Rattle.std.proofs.lemmas.List.{get_or-append-add, get_or_append_left, length-append, length-map, map-append}
+use Rattle.std.proofs.lemmas.List.{get_or-append-add, get_or_append_left, length-append, map-append}
 use Rattle.std.proofs.lemmas.List.Elements.{All-append, All-push}
 use Rattle.std.proofs.lemmas.Slice.Eq.{bytes_eq-Decides}
 use Rattle.indexmap.specs.IndexSet.{insert_key}
 use Rattle.rule_tree.specs.Translation.{AreAmong, entries_of, node_limit}
 use Rattle.rule_tree.specs.Tree.{Entries, node_at}
+use Rattle.rule_tree.proofs.NodeLists.{length-entries}
 
 -- two nodes have the same entries
 abbrev pub same_entries : Vec ℕ Global → Vec ℕ Global → Bool
 same_entries x y = bytes_eq x.items y.items
-
-pub length-entries_of : (nodes : List (Vec ℕ Global)) → length (entries_of nodes) ≡ length nodes
-length-entries_of nodes = length-map nodes (λ node. node.items)
 
 -- where no element passes a test, the place of the first that does is behind them all
 pub position-none : {X : Type 0} (p : X → Bool) (xs : List X) → list_any p xs ≡ false → position_or_len p xs ≡ length xs
@@ -125,11 +123,11 @@ pub numbered-inserted : (before : ℕ) (wanted : List Entries) (keys : List (Vec
 numbered-inserted before wanted keys numbers known node keys' index inserted place stored inside few = by (grown-by-inserting keys node)
   where
     within : index < length (entries_of keys')
-    within = omega (arith, inside, length-entries_of keys')
+    within = omega (arith, inside, length-entries keys')
 
     by : (insert_key same_entries keys node ≡ keys) ⊎ ((insert_key same_entries keys node ≡ keys ++ node ∷ []) × (position_or_len (same_entries node) keys ≡ length keys)) → AreNumbered before (wanted ++ node.items ∷ []) (entries_of keys') (numbers ++ (before + index) ∷ [])
     by (inl same) = numbered-again before wanted (entries_of keys) numbers known node.items index (entries_of keys') (ap entries_of (inserted ∙ same)) stored within
-    by (inr (more, last)) = numbered-fresh before wanted (entries_of keys) numbers known node.items index (entries_of keys') (ap entries_of (inserted ∙ more) ∙ map-append (λ (x : Vec ℕ Global). x.items) keys (node ∷ [])) (place ∙ last ∙ sym (length-entries_of keys)) few stored within
+    by (inr (more, last)) = numbered-fresh before wanted (entries_of keys) numbers known node.items index (entries_of keys') (ap entries_of (inserted ∙ more) ∙ map-append (λ (x : Vec ℕ Global). x.items) keys (node ∷ [])) (place ∙ last ∙ sym (length-entries keys)) few stored within
 
 -- where nodes were moved behind others until none was left, all of them stand there
 pub entries-moved : (before nodes fresh all left : List (Vec ℕ Global)) → nodes ++ left ≡ before ++ all → left ≡ [] → all ≡ fresh → entries_of nodes ≡ entries_of before ++ entries_of fresh

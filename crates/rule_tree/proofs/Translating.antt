@@ -1,5 +1,5 @@
 -- A table's rows, and the inputs of its tree.
-use Rattle.std.proofs.Common.{◌≡◌, ℕ, zero, suc, ◌+◌, ◌*◌, ◌-◌, ◌<◌, ◌≤◌, ◌&&◌, Bool, true, false, cond, List, [], ◌∷◌, length, slice_index, Option, Some, None, unwrap_or, refl, sym, ap, subst, ◌∙◌, arith}
+use Rattle.std.proofs.Common.{◌≡◌, ℕ, suc, ◌+◌, ◌*◌, ◌-◌, ◌<◌, ◌≤◌, ◌&&◌, Bool, true, false, cond, List, [], ◌∷◌, length, slice_index, Option, Some, None, unwrap_or, refl, sym, ap, subst, ◌∙◌, arith}
 use Rattle.std.specs.Prelude.{All, slice_index_or, find}
 use Rattle.std.specs.Option.{option_map, option_or}
 use Rattle.std.proofs.lemmas.Bool.{eq-eqb}
@@ -19,6 +19,7 @@ use Rattle.rule_tree.specs.Tree.{Entries, Tree, inputs_of, is_quiescent, is_soun
 use Rattle.rule_tree.specs.TreeLaws.{inputs-below, leads-width}
 use Rattle.rule_tree.proofs.Growing.{and_of}
 use Rattle.rule_tree.proofs.KeptNodes.{none-past}
+use Rattle.rule_tree.proofs.NodeLists.{other_default}
 
 -- functions that agree place by place give the same first answer
 first_some-pairs : {X Y : Type 0} (f : X → Option ℕ) (g : Y → Option ℕ) (xs : List X) (ys : List Y) → length xs ≡ length ys → ((k : ℕ) (d : X) (e : Y) → k < length ys → f (slice_index_or xs k d) ≡ g (slice_index_or ys k e)) → first_some f xs ≡ first_some g ys
@@ -28,11 +29,6 @@ first_some-pairs f g (x ∷ xs) [] count each = absurd (omega (arith, count))
 first_some-pairs f g (x ∷ xs) (y ∷ ys) count each =
     λ i. option_or (each 0 x y (omega arith) i) (first_some-pairs f g xs ys (omega (arith, count)) (λ k d e l. each (suc k) d e (omega (arith, l))) i)
 
-same_place : (xs : List ℕ) (k d : ℕ) → k < length xs → slice_index_or xs k d ≡ slice_index xs k
-same_place [] k d l = absurd (omega (arith, l))
-same_place (x ∷ xs) zero d l = refl
-same_place (x ∷ xs) (suc k) d l = same_place xs k d (omega (arith, l))
-
 -- what the root does, the rows do
 pub DoesRows-root : (states : ℕ) (order : List (Option ℕ)) (rows : List Expanded) (layers : List Layer) (numbers : List ℕ) (nodes : List Entries) → AreLayersOf states order rows layers numbers → Does states layers nodes numbers (length nodes - 1) → DoesRows states order rows nodes
 DoesRows-root states order rows layers numbers nodes are does = record {
@@ -40,7 +36,7 @@ DoesRows-root states order rows layers numbers nodes are does = record {
   follows = λ inputs long low.
       does.follows inputs (long ∙ sym are.depth) low
       ∙ ap (λ o. unwrap_or o (last_of inputs)) (first_some-pairs (λ n. result_of layers n inputs) (λ (row : Expanded). cond (all_allow (asked order row.inputs) inputs) (Some row.result) None) numbers rows are.count
-      (λ k d e l. ap (λ n. result_of layers n inputs) (same_place numbers k d (omega (arith, l, are.count))) ∙ are.stand k e l inputs long));
+      (λ k d e l. ap (λ n. result_of layers n inputs) (other_default numbers k d 0 (omega (arith, l, are.count))) ∙ are.stand k e l inputs long));
 }
 
 -- the first row that has the inputs gives the first answer
@@ -183,14 +179,9 @@ next-rows table rows nodes some does full first around low =
     let others = table_rule.inputs_of table.neighborhood around in
     does.follows inputs (as_many table.neighborhood around) (inputs-below table.states (neighbors_of table.neighborhood) around some low)
     ∙ (λ i. unwrap_or (first_some-pairs (λ (row : Expanded). cond (all_allow (asked (order_of table.neighborhood) row.inputs) inputs) (Some row.result) None) (λ (row : Expanded). cond (all_have row.inputs others) (Some row.result) None) rows rows refl
-    (λ k d e l. same_row rows k d e l ∙ ap (λ b. cond b (Some (slice_index_or rows k e).result) None) (asked-have table.neighborhood (slice_index_or rows k e).inputs around (full k e l))) i) (last-input table.neighborhood around i))
+    (λ k d e l. ap (λ (row : Expanded). cond (all_allow (asked (order_of table.neighborhood) row.inputs) inputs) (Some row.result) None) (other_default rows k d e l) ∙ ap (λ b. cond b (Some (slice_index_or rows k e).result) None) (asked-have table.neighborhood (slice_index_or rows k e).inputs around (full k e l))) i) (last-input table.neighborhood around i))
     ∙ ap (λ o. unwrap_or o (slice_index around 0)) (first_some-match rows others)
     ∙ first around
-  where
-    same_row : (rows : List Expanded) (k : ℕ) (d e : Expanded) → k < length rows → cond (all_allow (asked (order_of table.neighborhood) (slice_index_or rows k d).inputs) (inputs_of (neighbors_of table.neighborhood) around)) (Some (slice_index_or rows k d).result) None ≡ cond (all_allow (asked (order_of table.neighborhood) (slice_index_or rows k e).inputs) (inputs_of (neighbors_of table.neighborhood) around)) (Some (slice_index_or rows k e).result) None
-    same_row [] k d e l = absurd (omega (arith, l))
-    same_row (row ∷ rows) zero d e l = refl
-    same_row (row ∷ rows) (suc k) d e l = same_row rows k d e (omega (arith, l))
 
 -- such a tree is quiescent as its table is, and leads to states
 pub sound-tree : (table : Table) (nodes : List Entries) → All (λ s. s < table.states) nine_zeros → ((inputs : List ℕ) → length inputs ≡ length (order_of table.neighborhood) → leads table.states nodes (length nodes - 1) inputs ≡ true) → ((around : List ℕ) → All (λ s. s < table.states) around → next (tree_for table nodes) around ≡ table_rule.next table around) → table_rule.next table nine_zeros ≡ 0 → is_sound (tree_for table nodes) ≡ true

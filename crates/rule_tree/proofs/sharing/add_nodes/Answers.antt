@@ -3,13 +3,14 @@ use Rattle.std.specs.List.{AllPass}
 use Rattle.std.proofs.lemmas.Grind.{common_steps}
 use Rattle.rule_tree.specs.Translation.{entries_of}
 use Rattle.rule_tree.specs.Tree.{node_at}
-use Rattle.rule_tree.proofs.SharedNodes.{entries-moved, length-entries_of, pass-joined}
+use Rattle.rule_tree.proofs.NodeLists.{length-entries}
+use Rattle.rule_tree.proofs.SharedNodes.{entries-moved, pass-joined}
 use Rattle.rule_tree.proofs.sharing.add_nodes.Goals as goal
 
 pub returns-clause-each : goal.returns-clause-each
 returns-clause-each c =
     let before = c.args.nodes.now.items in
-    let count : length (entries_of before) ≡ c.len.result = length-entries_of before ∙ grind (arith, common_steps) in
+    let count : length (entries_of before) ≡ c.len.result = length-entries before ∙ grind (arith, common_steps) in
     let moved = entries-moved before c.loop-node.nodes.items c.in_ok-fresh.fresh.keys c.into_iter-node-iterator.result c.loop-node.node-iterator c.loop-node.invariant c.in-None.ensures.steps.0 c.into_iter-node-iterator.ensures.into_iter_gives.0 in
     ap (λ nodes. map (node_at nodes) c.in_ok-fresh.numbers.items) moved ∙ c.in_ok-fresh.ensures.each (entries_of before) count
 
