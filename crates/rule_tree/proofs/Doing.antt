@@ -2,7 +2,7 @@
 use Rattle.std.proofs.Common.{◌≡◌, ℕ, suc, ◌<◌, ◌==◌, Bool, true, false, cond, nat_lt, List, [], ◌∷◌, ◌++◌, length, map, get_or, slice_index, Option, Some, None, unwrap_or, refl, sym, ap, subst, ◌∙◌, arith, rules, tests}
 use Rattle.std.specs.Prelude.{All, slice_index_or}
 use Rattle.std.specs.List.{AllPass, list_all}
-use Rattle.std.proofs.lemmas.Bool.{eqb-true, eq-eqb}
+use Rattle.std.proofs.lemmas.Bool.{and_parts, eq-eqb, eqb-true}
 use Rattle.std.specs.Option.{option_or}
 use Rattle.std.proofs.lemmas.Bool.Decides.{nat_tests}
 use Rattle.std.proofs.lemmas.List.{get_or_append_left, get_or-map, length-map}
@@ -11,7 +11,7 @@ use Rattle.rule_tree.specs.declared.layers.Layer.{Layer}
 use Rattle.rule_tree.specs.Layers.{IsLayer, lets, rest_at, result_of}
 use Rattle.rule_tree.specs.Translation.{AllInside, AreAllEdges, AreEdges, AreLeaves, Does, DoAll, Extends, first_some, last_of, outcome}
 use Rattle.rule_tree.specs.Tree.{Entries, follow, leads, node_at}
-use Rattle.rule_tree.specs.TreeLaws.{both_of, leads-on, leads-width}
+use Rattle.rule_tree.specs.TreeLaws.{leads-on, leads-width}
 use Rattle.rule_tree.proofs.Growing.{leads-append, leads-node}
 use Rattle.rule_tree.proofs.KeptNodes.{none-past}
 use Rattle.rule_tree.proofs.NodeLists.{other_default}
@@ -20,7 +20,7 @@ use Rattle.rule_tree.proofs.NodeLists.{other_default}
 follow-append : (n : ℕ) (nodes more : List Entries) (number : ℕ) (inputs : List ℕ) → leads n nodes number inputs ≡ true → list_all (λ s. nat_lt s n) inputs ≡ true → follow (nodes ++ more) number inputs ≡ follow nodes number inputs
 follow-append n nodes more number [] h low = refl
 follow-append n nodes more number (input ∷ inputs) h low =
-    let parts = both_of (nat_lt input n) (list_all (λ s. nat_lt s n) inputs) low in
+    let parts = and_parts (nat_lt input n) (list_all (λ s. nat_lt s n) inputs) low in
     let first : nat_lt input n ≡ true = parts.0 in
     let under : input < n = search (rules, tests) in
     let inside : number < length nodes = none-past nodes number n (omega (arith, under)) (leads-width n nodes number input inputs h) in
@@ -65,13 +65,13 @@ Does-leaf states layer nodes list leaf number fits inside leaves at = record { l
     follows : (inputs : List ℕ) → length inputs ≡ 1 → list_all (λ s. nat_lt s states) inputs ≡ true → follow nodes number inputs ≡ outcome (layer ∷ []) list inputs
     follows [] long low = absurd (omega (arith, long))
     follows (input ∷ []) long low =
-        let first : nat_lt input states ≡ true = (both_of (nat_lt input states) true low).0 in
+        let first : nat_lt input states ≡ true = (and_parts (nat_lt input states) true low).0 in
         let under : input < states = search (rules, tests) in
         ap (λ node. slice_index node input) at ∙ leaves.each input under
     follows (input ∷ second ∷ inputs) long low = absurd (omega (arith, long))
 
 -- behind an input the tails that are left have the outcome
-outcome-left : (layer next : Layer) (deeper : List Layer) (list left : List ℕ) (state : ℕ) (inputs : List ℕ) → length inputs ≡ suc (length deeper) → ((f : ℕ → Option ℕ) → first_some f left ≡ first_some (λ number. cond (lets layer number state) (f (rest_at layer number)) None) list) → outcome (next ∷ deeper) left inputs ≡ outcome (layer ∷ next ∷ deeper) list (state ∷ inputs)
+pub outcome-left : (layer next : Layer) (deeper : List Layer) (list left : List ℕ) (state : ℕ) (inputs : List ℕ) → length inputs ≡ suc (length deeper) → ((f : ℕ → Option ℕ) → first_some f left ≡ first_some (λ number. cond (lets layer number state) (f (rest_at layer number)) None) list) → outcome (next ∷ deeper) left inputs ≡ outcome (layer ∷ next ∷ deeper) list (state ∷ inputs)
 outcome-left layer next deeper list left state [] long same = absurd (omega (arith, long))
 outcome-left layer next deeper list left state (input ∷ inputs) long same =
     ap (λ o. unwrap_or o (last_of (input ∷ inputs))) (same (λ number. result_of (next ∷ deeper) number (input ∷ inputs)))
@@ -98,7 +98,7 @@ Does-node states layer next deeper nodes list left edges numbers number are all 
     follows : (inputs : List ℕ) → length inputs ≡ suc (suc (length deeper)) → list_all (λ s. nat_lt s states) inputs ≡ true → follow nodes number inputs ≡ outcome (layer ∷ next ∷ deeper) list inputs
     follows [] long low = absurd (omega (arith, long))
     follows (input ∷ inputs) long low =
-        let parts = both_of (nat_lt input states) (list_all (λ s. nat_lt s states) inputs) low in
+        let parts = and_parts (nat_lt input states) (list_all (λ s. nat_lt s states) inputs) low in
         let first : nat_lt input states ≡ true = parts.0 in
         let under : input < states = search (rules, tests) in
         let rest : length inputs ≡ suc (length deeper) = omega (arith, long) in

@@ -1,5 +1,6 @@
 -- The tree of nodes that were read.
 use Rattle.std.proofs.Common.{◌≡◌, ◌≢◌, ℕ, ◌+◌, ◌*◌, ◌-◌, ◌==◌, true, false, cond, List, length, slice_index, Ok, Err, refl, sym, ap, ◌∙◌, arith, rules, tests}
+use Rattle.std.proofs.lemmas.Bool.{and_from}
 use Rattle.plane_core.specs.Step.{nine_zeros}
 use Rattle.rule_file.specs.declared.fault.RuleFault.TheVariants.{NotQuiescent}
 use Rattle.rule_tree.specs.declared.descriptors.TreeHead.{TreeHead}
@@ -9,7 +10,6 @@ use Rattle.rule_tree.specs.Kept.{AreKept, IsKeptTree, IsTreeHead, nodes_in, node
 use Rattle.rule_tree.specs.Tree.{Tree, is_quiescent, leads, next, places_of, root_of}
 use Rattle.rule_tree.specs.TreeLines.{depth_of_root, if_quiescent, tree_from}
 use Rattle.rule_tree.proofs.Following.{root-kept}
-use Rattle.rule_tree.proofs.Growing.{and_of}
 use Rattle.rule_tree.proofs.KeptNodes.{entries-nodes_of}
 
 pub tree-kept : (head : TreeHead) (depths entries : List ℕ) (root : ℕ) → length depths ≡ root + 1 → tree_from head (nodes_of head.states depths entries) ≡ tree_of_kept head.states head.neighbors root entries
@@ -50,6 +50,6 @@ kept-tree head depths entries root limits kept whole last still =
       at_least = limits.at_least;
       at_most = limits.at_most;
       filled = kept.filled ∙ ap (λ k. k * head.states) (whole ∙ last);
-      sound = and_of (is_quiescent tree) (leads head.states tree.nodes (root_of tree) (places_of head.neighbors)) quiet
+      sound = and_from (is_quiescent tree) (leads head.states tree.nodes (root_of tree) (places_of head.neighbors)) quiet
           (ap (λ r. leads head.states tree.nodes r (places_of head.neighbors)) (root-kept head.states head.neighbors root entries) ∙ root-leads head depths entries root kept whole last);
     }

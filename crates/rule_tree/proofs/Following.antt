@@ -1,11 +1,12 @@
 -- Following inputs through entries that are kept one after another.
 use Rattle.std.proofs.Common.{◌≡◌, ℕ, ◌+◌, ◌*◌, ◌<◌, true, cond, List, ◌∷◌, length, drop, get_or, slice_index, sym, ap, ◌∙◌, arith}
+use Rattle.std.proofs.lemmas.Bool.{and_parts}
 use Rattle.std.proofs.lemmas.List.{drop_more}
 use Rattle.std.proofs.lemmas.Nat.{mul-add-lt}
 use Rattle.rule_tree.specs.declared.tree.Neighbors.{Neighbors}
 use Rattle.rule_tree.specs.Kept.{nodes_in, tree_of_kept, IsKeptTree, Stores}
 use Rattle.rule_tree.specs.Tree.{Tree, node_at, leads, follow, next, next_under, is_sound, is_quiescent, root_of, places_of, inputs_of}
-use Rattle.rule_tree.specs.TreeLaws.{both_of, leads-on, leads-width}
+use Rattle.rule_tree.specs.TreeLaws.{leads-on, leads-width}
 use Rattle.rule_tree.proofs.KeptNodes.{entry-in, length-nodes_in, none-past}
 
 -- what one input does, where the entry that it chooses stands at `place`
@@ -44,7 +45,7 @@ next-kept n neighbors root entries around =
 pub stores-kept : (n : ℕ) (neighbors : Neighbors) (root : ℕ) (entries : List ℕ) → IsKeptTree n neighbors root entries → Stores n (places_of neighbors) root entries
 stores-kept n neighbors root entries kept =
     let tree = tree_of_kept n neighbors root entries in
-    let leading : leads n tree.nodes (root_of tree) (places_of neighbors) ≡ true = (both_of (is_quiescent tree) (leads n tree.nodes (root_of tree) (places_of neighbors)) kept.sound).1 in
+    let leading : leads n tree.nodes (root_of tree) (places_of neighbors) ≡ true = (and_parts (is_quiescent tree) (leads n tree.nodes (root_of tree) (places_of neighbors)) kept.sound).1 in
     record {
       at_most = kept.at_most;
       filled = kept.filled;

@@ -1,5 +1,6 @@
 -- Nodes stay what they are where one more comes behind them.
 use Rattle.std.proofs.Common.{◌≡◌, ◌≢◌, ℕ, ◌+◌, ◌*◌, ◌-◌, ◌<◌, ◌≤◌, ◌==◌, ◌&&◌, ◌||◌, Bool, true, false, cond, List, [], ◌∷◌, ◌++◌, length, slice_index, nat_lt, EachIndex, below_more, refl, sym, ap, ◌∙◌, arith, rules, tests, length-append}
+use Rattle.std.proofs.lemmas.Bool.{and_parts, and_from}
 use Rattle.std.specs.List.{list_all}
 use Rattle.std.proofs.lemmas.List.{get_or_append_left}
 use Rattle.std.proofs.Math.Seq.{get_or-append_seam}
@@ -7,26 +8,22 @@ use Rattle.std.proofs.lemmas.List.Sums.{AllPass-from_list_all}
 use Rattle.rule_tree.specs.declared.descriptors.TreeHead.{TreeHead}
 use Rattle.rule_tree.specs.Kept.{AreKept, IsTreeHead, nodes_in}
 use Rattle.rule_tree.specs.Tree.{Entries, node_at, leads}
-use Rattle.rule_tree.specs.TreeLaws.{both_of, leads-width}
+use Rattle.rule_tree.specs.TreeLaws.{leads-width}
 use Rattle.rule_tree.specs.TreeLines.{depth_of_root, do_entries_fit, is_next}
 use Rattle.rule_tree.proofs.KeptNodes.{length-nodes_in, none-past, nodes_in-push}
-
-pub and_of : (a b : Bool) → a ≡ true → b ≡ true → (a && b) ≡ true
-and_of true b h k = k
-and_of false b h k = absurd cc
 
 -- what holds of each, holds of each what follows from it
 list_all-follows : (p q : ℕ → Bool) (xs : List ℕ) → list_all p xs ≡ true → ((x : ℕ) → p x ≡ true → q x ≡ true) → list_all q xs ≡ true
 list_all-follows p q [] h f = refl
 list_all-follows p q (x ∷ xs) h f =
-    let parts = both_of (p x) (list_all p xs) h in
-    and_of (q x) (list_all q xs) (f x parts.0) (list_all-follows p q xs parts.1 f)
+    let parts = and_parts (p x) (list_all p xs) h in
+    and_from (q x) (list_all q xs) (f x parts.0) (list_all-follows p q xs parts.1 f)
 
 -- a node of n entries leads on where each of them does
 pub leads-node : (n : ℕ) (nodes : List Entries) (number : ℕ) (node : List ℕ) (input : ℕ) (inputs : List ℕ) → node_at nodes number ≡ node → length node ≡ n → list_all (λ entry. leads n nodes entry inputs) node ≡ true → leads n nodes number (input ∷ inputs) ≡ true
 leads-node n nodes number node input inputs at width all =
     let test : (length node == n) ≡ true = search (rules, tests) in
-    ap (λ x. (length x == n) && list_all (λ entry. leads n nodes entry inputs) x) at ∙ and_of (length node == n) _ test all
+    ap (λ x. (length x == n) && list_all (λ entry. leads n nodes entry inputs) x) at ∙ and_from (length node == n) _ test all
 
 -- more nodes change nothing for those before
 pub leads-append : (n : ℕ) (nodes more : List Entries) (number : ℕ) (inputs : List ℕ) → 0 < n → leads n nodes number inputs ≡ true → leads n (nodes ++ more) number inputs ≡ true
@@ -35,7 +32,7 @@ leads-append n nodes more number (input ∷ inputs) some h =
     let node = node_at nodes number in
     let width : length node ≡ n = leads-width n nodes number input inputs h in
     let inside : number < length nodes = none-past nodes number n some width in
-    let all : list_all (λ entry. leads n nodes entry inputs) node ≡ true = (both_of (length node == n) (list_all (λ entry. leads n nodes entry inputs) node) h).1 in
+    let all : list_all (λ entry. leads n nodes entry inputs) node ≡ true = (and_parts (length node == n) (list_all (λ entry. leads n nodes entry inputs) node) h).1 in
     leads-node n (nodes ++ more) number node input inputs (get_or_append_left nodes more [] number inside) width
     (list_all-follows (λ entry. leads n nodes entry inputs) (λ entry. leads n (nodes ++ more) entry inputs) node all (λ entry k. leads-append n nodes more entry inputs some k))
 
@@ -60,7 +57,7 @@ pub record IsBelow (depths : List ℕ) (depth k : ℕ) : Type 0 where
 
 is-below : (depths : List ℕ) (depth k : ℕ) → (nat_lt k (length depths) && (slice_index depths k + 1 == depth)) ≡ true → IsBelow depths depth k
 is-below depths depth k h =
-    let parts = both_of (nat_lt k (length depths)) (slice_index depths k + 1 == depth) h in
+    let parts = and_parts (nat_lt k (length depths)) (slice_index depths k + 1 == depth) h in
     let first : nat_lt k (length depths) ≡ true = parts.0 in
     let second : (slice_index depths k + 1 == depth) ≡ true = parts.1 in
     record { earlier = search (rules, tests); less = search (rules, tests) }
@@ -106,9 +103,9 @@ rooted_by false last h e = h
 
 pub is_next-node : (head : TreeHead) (depths : List ℕ) (depth : ℕ) (node : List ℕ) → is_next head depths (record { depth = depth; entries = node }) ≡ true → IsNextNode head depths depth node
 is_next-node head depths depth node h =
-    let a = both_of (nat_lt (length depths) head.node_count) _ h in
-    let b = both_of (length node == head.states) _ a.1 in
-    let c = both_of (do_entries_fit head.states depths (record { depth = depth; entries = node })) _ b.1 in
+    let a = and_parts (nat_lt (length depths) head.node_count) _ h in
+    let b = and_parts (length node == head.states) _ a.1 in
+    let c = and_parts (do_entries_fit head.states depths (record { depth = depth; entries = node })) _ b.1 in
     let room : nat_lt (length depths) head.node_count ≡ true = a.0 in
     let width : (length node == head.states) ≡ true = b.0 in
     record {
@@ -142,7 +139,7 @@ entries-low head depths depth node limits next =
       | false ↦ λ h.
           let more : depth ≢ 1 = search (rules, tests) in
           list_all-follows _ (λ n. nat_lt n 4294967295) node (fits-high head.states depths node depth more next.fits)
-          (λ s k. small-of s (length depths) (both_of (nat_lt s (length depths)) (slice_index depths s + 1 == depth) k).0 (omega (arith, next.room, limits.few)))
+          (λ s k. small-of s (length depths) (and_parts (nat_lt s (length depths)) (slice_index depths s + 1 == depth) k).0 (omega (arith, next.room, limits.few)))
     ] refl
 
 -- the nodes with the next one

@@ -1,5 +1,6 @@
 -- Layers of rows: one grows row by row, and then comes before the others.
 use Rattle.std.proofs.Common.{◌≡◌, ℕ, suc, ◌+◌, ◌<◌, ◌≤◌, ◌==◌, ◌&&◌, Bool, true, false, List, [], ◌∷◌, ◌++◌, All, length, get_or, slice_get, Option, Some, None, if◌then◌else◌, below_more, refl, sym, ap, subst, ◌∙◌, inl, inr, arith, rules, tests}
+use Rattle.std.proofs.lemmas.Bool.{and_parts}
 use Rattle.std.proofs.lemmas.List.{get_or_append_left, get_or_push, length_push}
 use Rattle.std.proofs.lemmas.List.Elements.{All-from_get_or, All-nil, All-push, All-same, All-weaker}
 use Rattle.std.proofs.lemmas.Option.{get_or_from_slice_get}
@@ -8,7 +9,6 @@ use Rattle.indexmap.specs.IndexSet.{insert_key}
 use Rattle.table_symmetry.specs.declared.expansion.Expanded.{Expanded}
 use Rattle.rule_tree.specs.declared.layers.Layer.{Layer}
 use Rattle.rule_tree.specs.declared.layers.Tail.{Tail}
-use Rattle.rule_tree.specs.TreeLaws.{both_of}
 use Rattle.rule_tree.specs.Layers.{AreLayersOf, IsGrownBy, IsLayer, IsLayerOf, StandsFor, all_allow, allows, asked, asked_at, count_of, rest_at, result_of, tail_at}
 
 -- what was there stays where it is, where one more may come behind it
@@ -37,7 +37,7 @@ same_tail a b = (a.set == b.set) && (a.rest == b.rest)
 
 pub same_from_tail : (a b : Tail) → same_tail a b ≡ true → b ≡ a
 same_from_tail a b h =
-    let parts = both_of (a.set == b.set) (a.rest == b.rest) h in
+    let parts = and_parts (a.set == b.set) (a.rest == b.rest) h in
     let first : (a.set == b.set) ≡ true = parts.0 in
     let second : (a.rest == b.rest) ≡ true = parts.1 in
     let sets : b.set ≡ a.set = search (rules, tests) in

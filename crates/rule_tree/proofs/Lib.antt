@@ -1,3 +1,6 @@
+mod Apart
+mod Beginnings
+mod Different
 mod Doing
 mod Finishing
 mod Following
@@ -7,7 +10,9 @@ mod LastLine
 mod Layering
 mod NextNode
 mod NodeLists
+mod NodesHad
 mod Pieces
+mod SaidNodes
 mod SharedNodes
 mod TailsLeft
 mod Translating

@@ -1,14 +1,13 @@
 -- Numbers that are kept up to 2^32 - 1, and the node that a line says.
-use Rattle.std.proofs.Common.{◌≡◌, ◌≢◌, ℕ, ◌-◌, ◌<◌, ◌≤◌, ◌==◌, Bool, true, false, cond, List, [], ◌∷◌, ◌++◌, length, map, take, drop, get_or, nat_lt, Option, Some, None, option_and_then, Result, Ok, Err, refl, sym, ap, ◌∙◌, arith, rules, tests}
+use Rattle.std.proofs.Common.{◌≡◌, ◌≢◌, ℕ, ◌<◌, ◌==◌, Bool, true, false, cond, List, [], ◌∷◌, ◌++◌, length, map, nat_lt, Option, Some, None, option_and_then, Result, Ok, Err, refl, sym, ap, ◌∙◌, arith, rules, tests}
+use Rattle.std.proofs.lemmas.Bool.{and_parts}
 use Rattle.std.specs.List.{list_all}
-use Rattle.std.proofs.lemmas.List.{take_all}
 use Rattle.std.specs.Option.{option_map, ok_or}
 use Rattle.rule_file.specs.declared.fault.RuleFault.{RuleFault}
 use Rattle.rule_file.specs.declared.fault.RuleFault.TheVariants.{BadTree}
 use Rattle.rule_file.specs.RuleFile.{NumberedLine}
 use Rattle.rule_tree.specs.declared.descriptors.TreeHead.{TreeHead}
 use Rattle.rule_tree.specs.Kept.{AreKept, IsTreeHead, nodes_of, saturated}
-use Rattle.rule_tree.specs.TreeLaws.{both_of}
 use Rattle.rule_tree.specs.TreeLines.{Node, is_next, node_from, nodes_from, numbers_in, with_line, words}
 use Rattle.rule_tree.proofs.Growing.{is_next-node, depth-low, entries-low}
 use Rattle.rule_tree.proofs.KeptNodes.{depths-nodes_of, length-nodes_of}
@@ -23,7 +22,7 @@ saturated-below n h = omega arith
 all-small : (ns : List ℕ) → list_all (λ n. nat_lt n 4294967295) ns ≡ true → map saturated ns ≡ ns
 all-small [] h = refl
 all-small (n ∷ ns) h =
-    let parts = both_of (nat_lt n 4294967295) (list_all (λ n. nat_lt n 4294967295) ns) h in
+    let parts = and_parts (nat_lt n 4294967295) (list_all (λ n. nat_lt n 4294967295) ns) h in
     let first : nat_lt n 4294967295 ≡ true = parts.0 in
     let small : n < 4294967295 = search (rules, tests) in
     ap (λ m. m ∷ map saturated ns) (saturated-small n small) ∙ ap (λ ms. n ∷ ms) (all-small ns parts.1)
@@ -31,7 +30,7 @@ all-small (n ∷ ns) h =
 all-below : (ns : List ℕ) → list_all (λ n. nat_lt n 4294967295) (map saturated ns) ≡ true → map saturated ns ≡ ns
 all-below [] h = refl
 all-below (n ∷ ns) h =
-    let parts = both_of (nat_lt (saturated n) 4294967295) (list_all (λ n. nat_lt n 4294967295) (map saturated ns)) h in
+    let parts = and_parts (nat_lt (saturated n) 4294967295) (list_all (λ n. nat_lt n 4294967295) (map saturated ns)) h in
     let first : nat_lt (saturated n) 4294967295 ≡ true = parts.0 in
     let small : saturated n < 4294967295 = search (rules, tests) in
     ap (λ m. m ∷ map saturated ns) (saturated-below n small) ∙ ap (λ ms. n ∷ ms) (all-below ns parts.1)
@@ -124,8 +123,3 @@ nodes_from-short last head depths entries short =
     let test : (length depths == head.node_count) ≡ false = search (rules, tests) in
     ap (λ k. cond (k == head.node_count) (Ok (nodes_of head.states depths entries)) (Err (BadTree last))) (length-nodes_of head.states depths entries)
     ∙ ap (λ b. cond b (Ok (nodes_of head.states depths entries)) (Err (BadTree last))) test
-
--- a list by its first and the rest
-pub first-and-rest : (xs : List ℕ) → 1 ≤ length xs → get_or xs 0 0 ∷ take (length xs - 1) (drop 1 xs) ≡ xs
-first-and-rest [] some = absurd (omega arith)
-first-and-rest (x ∷ xs) some = ap (λ ys. x ∷ ys) (take_all (length (x ∷ xs) - 1) xs (omega arith))

@@ -2,8 +2,9 @@
 use Rattle.std.proofs.Common.{◌≡◌, ℕ, zero, suc, ◌+◌, ◌-◌, ◌<◌, ◌≤◌, List, [], ◌∷◌, ◌++◌, length, take, drop, append-nil, append_assoc, refl, sym, ap, subst, ◌∙◌, inl, inr, arith}
 use Rattle.std.specs.Prelude.{All, Vec, slice_index, slice_index_or}
 use Rattle.std.proofs.lemmas.Bool.{cases_eq}
-use Rattle.std.proofs.lemmas.List.{get_or-map, get_or_append_left, length-append, length-map, map-append, take_all}
+use Rattle.std.proofs.lemmas.List.{get_or-append-add, get_or-map, get_or_append_left, get_or_push, length-append, length-map, map-append, take_all}
 use Rattle.std.proofs.Math.Seq.{get_or-append_seam}
+use Rattle.rule_tree.specs.Starts.{IsReached}
 use Rattle.rule_tree.specs.Translation.{AllInside, AreEdges, Extends, entries_of, first_some}
 use Rattle.rule_tree.specs.Layers.{IsGrownBy}
 use Rattle.rule_tree.specs.Tree.{Entries}
@@ -55,6 +56,48 @@ AreEdges-append states layer list left more edges are = record {
   width = are.width;
   inside = λ s l. let before : slice_index edges s < length left = are.inside s l in omega (arith, before, length-append left more);
   each = λ s l f. ap (first_some f) (get_or_append_left left more [] (slice_index edges s) (are.inside s l)) ∙ are.each s l f;
+}
+
+-- what the edges of a list reach stays reached when one more edge comes behind them
+pub IsReached-before : (states : ℕ) (edges : List ℕ) (edge number : ℕ) → length edges ≡ states → IsReached states (edges ∷ []) number → IsReached (states + 1) ((edges ++ edge ∷ []) ∷ []) number
+IsReached-before states edges edge number width reached =
+    let first : 0 ≡ reached.list = omega (arith, reached.there) in
+    record {
+      list = 0;
+      state = reached.state;
+      there = omega arith;
+      below = omega (arith, reached.below);
+      leads = get_or_append_left edges (edge ∷ []) 0 reached.state (omega (arith, reached.below, width)) ∙ ap (λ k. slice_index (slice_index_or (edges ∷ []) k []) reached.state) first ∙ reached.leads;
+    }
+
+-- the edge that comes behind the others reaches its number
+pub IsReached-last : (states : ℕ) (edges : List ℕ) (edge : ℕ) → length edges ≡ states → IsReached (states + 1) ((edges ++ edge ∷ []) ∷ []) edge
+IsReached-last states edges edge width = record {
+  list = 0;
+  state = states;
+  there = omega arith;
+  below = omega arith;
+  leads = get_or_push edges edge 0 states width;
+}
+
+-- what lists of edges reach stays reached when more lists come behind them
+pub IsReached-append : (states : ℕ) (edges more : List (List ℕ)) (number : ℕ) → IsReached states edges number → IsReached states (edges ++ more) number
+IsReached-append states edges more number reached = record {
+  list = reached.list;
+  state = reached.state;
+  there = omega (arith, reached.there, length-append edges more);
+  below = reached.below;
+  leads = ap (λ list. slice_index list reached.state) (get_or_append_left edges more [] reached.list reached.there) ∙ reached.leads;
+}
+
+-- what lists of edges reach, they reach behind other lists too
+pub IsReached-behind : (states : ℕ) (edges more : List (List ℕ)) (number : ℕ) → IsReached states more number → IsReached states (edges ++ more) number
+IsReached-behind states edges more number reached = record {
+  list = length edges + reached.list;
+  state = reached.state;
+  there = omega (arith, reached.there, length-append edges more);
+  below = reached.below;
+  leads = ap (λ list. slice_index list reached.state) (get_or-append-add edges more reached.list []) ∙ reached.leads;
 }
 
 -- the first element and those behind it

@@ -2,7 +2,7 @@
 use Rattle.std.proofs.Common.{◌≡◌, ℕ, suc, ◌+◌, ◌*◌, ◌-◌, ◌<◌, ◌≤◌, ◌&&◌, Bool, true, false, cond, List, [], ◌∷◌, length, slice_index, Option, Some, None, unwrap_or, refl, sym, ap, subst, ◌∙◌, arith}
 use Rattle.std.specs.Prelude.{All, slice_index_or, find}
 use Rattle.std.specs.Option.{option_map, option_or}
-use Rattle.std.proofs.lemmas.Bool.{eq-eqb}
+use Rattle.std.proofs.lemmas.Bool.{and_from, eq-eqb}
 use Rattle.plane_core.specs.Step.{nine_zeros}
 use Rattle.table_symmetry.specs.declared.expansion.Expanded.{Expanded}
 use Rattle.table_symmetry.specs.declared.table.Neighborhood.{Neighborhood}
@@ -14,10 +14,9 @@ use Rattle.table_symmetry.specs.Table.{Table}
 use Rattle.rule_tree.specs.declared.layers.Layer.{Layer}
 use Rattle.rule_tree.specs.Kept.{IsKeptTree, nodes_in, tree_of_kept}
 use Rattle.rule_tree.specs.Layers.{AreLayersOf, all_allow, asked, result_of}
-use Rattle.rule_tree.specs.Translation.{Does, DoesRows, Translates, first_some, last_of, neighbors_of, order_of}
+use Rattle.rule_tree.specs.Translation.{Does, DoesRows, Translates, first_some, last_of, neighbors_of, order_of, outcome, rows_give}
 use Rattle.rule_tree.specs.Tree.{Entries, Tree, inputs_of, is_quiescent, is_sound, leads, next, places_of}
 use Rattle.rule_tree.specs.TreeLaws.{inputs-below, leads-width}
-use Rattle.rule_tree.proofs.Growing.{and_of}
 use Rattle.rule_tree.proofs.KeptNodes.{none-past}
 use Rattle.rule_tree.proofs.NodeLists.{other_default}
 
@@ -29,14 +28,17 @@ first_some-pairs f g (x ∷ xs) [] count each = absurd (omega (arith, count))
 first_some-pairs f g (x ∷ xs) (y ∷ ys) count each =
     λ i. option_or (each 0 x y (omega arith) i) (first_some-pairs f g xs ys (omega (arith, count)) (λ k d e l. each (suc k) d e (omega (arith, l))) i)
 
+-- what the tails of rows do, the rows do
+pub rows-outcome : (states : ℕ) (order : List (Option ℕ)) (rows : List Expanded) (layers : List Layer) (numbers inputs : List ℕ) → AreLayersOf states order rows layers numbers → length inputs ≡ length order → outcome layers numbers inputs ≡ rows_give order rows inputs
+rows-outcome states order rows layers numbers inputs are long =
+    ap (λ o. unwrap_or o (last_of inputs)) (first_some-pairs (λ n. result_of layers n inputs) (λ (row : Expanded). cond (all_allow (asked order row.inputs) inputs) (Some row.result) None) numbers rows are.count
+    (λ k d e l. ap (λ n. result_of layers n inputs) (other_default numbers k d 0 (omega (arith, l, are.count))) ∙ are.stand k e l inputs long))
+
 -- what the root does, the rows do
 pub DoesRows-root : (states : ℕ) (order : List (Option ℕ)) (rows : List Expanded) (layers : List Layer) (numbers : List ℕ) (nodes : List Entries) → AreLayersOf states order rows layers numbers → Does states layers nodes numbers (length nodes - 1) → DoesRows states order rows nodes
 DoesRows-root states order rows layers numbers nodes are does = record {
   leading = λ inputs long. does.leading inputs (long ∙ sym are.depth);
-  follows = λ inputs long low.
-      does.follows inputs (long ∙ sym are.depth) low
-      ∙ ap (λ o. unwrap_or o (last_of inputs)) (first_some-pairs (λ n. result_of layers n inputs) (λ (row : Expanded). cond (all_allow (asked order row.inputs) inputs) (Some row.result) None) numbers rows are.count
-      (λ k d e l. ap (λ n. result_of layers n inputs) (other_default numbers k d 0 (omega (arith, l, are.count))) ∙ are.stand k e l inputs long));
+  follows = λ inputs long low. does.follows inputs (long ∙ sym are.depth) low ∙ rows-outcome states order rows layers numbers inputs are long;
 }
 
 -- the first row that has the inputs gives the first answer
@@ -162,7 +164,7 @@ as_many Moore around = refl
 as_many Hexagonal around = refl
 as_many OneDimensional around = refl
 
-places-many : (neighborhood : Neighborhood) → length (places_of (neighbors_of neighborhood)) ≡ length (order_of neighborhood)
+pub places-many : (neighborhood : Neighborhood) → length (places_of (neighbors_of neighborhood)) ≡ length (order_of neighborhood)
 places-many VonNeumann = refl
 places-many Moore = refl
 places-many Hexagonal = refl
@@ -173,20 +175,25 @@ abbrev tree_for : Table → List Entries → Tree
 tree_for table nodes = record { states = table.states; neighbors = neighbors_of table.neighborhood; nodes = nodes }
 
 -- what the rows of a table give is its next state
-pub next-rows : (table : Table) (rows : List Expanded) (nodes : List Entries) → 0 < table.states → DoesRows table.states (order_of table.neighborhood) rows nodes → All (λ (row : Expanded). length row.inputs ≡ length (table_rule.places_of table.neighborhood) + 1) rows → ((around : List ℕ) → unwrap_or (first_match rows (table_rule.inputs_of table.neighborhood around)) (slice_index around 0) ≡ table_rule.next table around) → (around : List ℕ) → All (λ s. s < table.states) around → next (tree_for table nodes) around ≡ table_rule.next table around
-next-rows table rows nodes some does full first around low =
+pub rows-next : (table : Table) (rows : List Expanded) → All (λ (row : Expanded). length row.inputs ≡ length (table_rule.places_of table.neighborhood) + 1) rows → ((around : List ℕ) → unwrap_or (first_match rows (table_rule.inputs_of table.neighborhood around)) (slice_index around 0) ≡ table_rule.next table around) → (around : List ℕ) → rows_give (order_of table.neighborhood) rows (inputs_of (neighbors_of table.neighborhood) around) ≡ table_rule.next table around
+rows-next table rows full first around =
     let inputs = inputs_of (neighbors_of table.neighborhood) around in
     let others = table_rule.inputs_of table.neighborhood around in
-    does.follows inputs (as_many table.neighborhood around) (inputs-below table.states (neighbors_of table.neighborhood) around some low)
-    ∙ (λ i. unwrap_or (first_some-pairs (λ (row : Expanded). cond (all_allow (asked (order_of table.neighborhood) row.inputs) inputs) (Some row.result) None) (λ (row : Expanded). cond (all_have row.inputs others) (Some row.result) None) rows rows refl
+    (λ i. unwrap_or (first_some-pairs (λ (row : Expanded). cond (all_allow (asked (order_of table.neighborhood) row.inputs) inputs) (Some row.result) None) (λ (row : Expanded). cond (all_have row.inputs others) (Some row.result) None) rows rows refl
     (λ k d e l. ap (λ (row : Expanded). cond (all_allow (asked (order_of table.neighborhood) row.inputs) inputs) (Some row.result) None) (other_default rows k d e l) ∙ ap (λ b. cond b (Some (slice_index_or rows k e).result) None) (asked-have table.neighborhood (slice_index_or rows k e).inputs around (full k e l))) i) (last-input table.neighborhood around i))
     ∙ ap (λ o. unwrap_or o (slice_index around 0)) (first_some-match rows others)
     ∙ first around
 
+-- so it is what nodes give that do what the rows do
+pub next-rows : (table : Table) (rows : List Expanded) (nodes : List Entries) → 0 < table.states → DoesRows table.states (order_of table.neighborhood) rows nodes → All (λ (row : Expanded). length row.inputs ≡ length (table_rule.places_of table.neighborhood) + 1) rows → ((around : List ℕ) → unwrap_or (first_match rows (table_rule.inputs_of table.neighborhood around)) (slice_index around 0) ≡ table_rule.next table around) → (around : List ℕ) → All (λ s. s < table.states) around → next (tree_for table nodes) around ≡ table_rule.next table around
+next-rows table rows nodes some does full first around low =
+    does.follows (inputs_of (neighbors_of table.neighborhood) around) (as_many table.neighborhood around) (inputs-below table.states (neighbors_of table.neighborhood) around some low)
+    ∙ rows-next table rows full first around
+
 -- such a tree is quiescent as its table is, and leads to states
 pub sound-tree : (table : Table) (nodes : List Entries) → All (λ s. s < table.states) nine_zeros → ((inputs : List ℕ) → length inputs ≡ length (order_of table.neighborhood) → leads table.states nodes (length nodes - 1) inputs ≡ true) → ((around : List ℕ) → All (λ s. s < table.states) around → next (tree_for table nodes) around ≡ table_rule.next table around) → table_rule.next table nine_zeros ≡ 0 → is_sound (tree_for table nodes) ≡ true
 sound-tree table nodes zeros leading same quiet =
-    and_of (is_quiescent (tree_for table nodes)) (leads table.states nodes (length nodes - 1) (places_of (neighbors_of table.neighborhood)))
+    and_from (is_quiescent (tree_for table nodes)) (leads table.states nodes (length nodes - 1) (places_of (neighbors_of table.neighborhood)))
     (eq-eqb (next (tree_for table nodes) nine_zeros) 0 (same nine_zeros zeros ∙ quiet))
     (leading (places_of (neighbors_of table.neighborhood)) (places-many table.neighborhood))
 

@@ -1,8 +1,11 @@
 pub mod Kept
+pub mod Laws
 pub mod Layers
 pub mod NamedRule
+pub mod NodesNeeded
 pub mod Rule
 pub mod RuleLaws
+pub mod Starts
 pub mod Translation
 pub mod Tree
 pub mod TreeFaults

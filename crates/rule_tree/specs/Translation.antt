@@ -78,10 +78,14 @@ pub record DoAll (states : ℕ) (layers : List Layer) (nodes : List Entries) (li
   pub count : length numbers ≡ length lists
   pub each : (k : ℕ) → k < length lists → Does states layers nodes (slice_index_or lists k []) (slice_index numbers k)
 
--- nodes of which the last does what the rows do: the first whose sets, in this order, allow the inputs gives its result, else the cell keeps its state, which is the last input
+-- what rows do, whose inputs are asked in this order: the first that allows the inputs gives its result, else the cell keeps its state, which is the last input
+abbrev pub rows_give : List (Option ℕ) → List Expanded → List ℕ → ℕ
+rows_give order rows inputs = unwrap_or (first_some (λ (row : Expanded). if all_allow (asked order row.inputs) inputs then Some row.result else None) rows) (last_of inputs)
+
+-- nodes of which the last does what the rows do
 pub record DoesRows (states : ℕ) (order : List (Option ℕ)) (rows : List Expanded) (nodes : List Entries) : Type 0 where
   pub leading : (inputs : List ℕ) → length inputs ≡ length order → leads states nodes (length nodes - 1) inputs ≡ true
-  pub follows : (inputs : List ℕ) → length inputs ≡ length order → list_all (λ s. nat_lt s states) inputs ≡ true → follow nodes (length nodes - 1) inputs ≡ unwrap_or (first_some (λ (row : Expanded). if all_allow (asked order row.inputs) inputs then Some row.result else None) rows) (last_of inputs)
+  pub follows : (inputs : List ℕ) → length inputs ≡ length order → list_all (λ s. nat_lt s states) inputs ≡ true → follow nodes (length nodes - 1) inputs ≡ rows_give order rows inputs
 
 -- for each state of the last input the first result that is left, or the state
 pub record AreLeaves (states : ℕ) (layer : Layer) (list leaf : List ℕ) : Type 0 where

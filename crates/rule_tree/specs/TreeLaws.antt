@@ -2,6 +2,7 @@
 use Rattle.std.specs.Prelude.{◌≡◌, ℕ, zero, suc, All, ◌==◌, ◌<◌, ◌&&◌, Bool, true, false, List, [], ◌∷◌, length, slice_index, if◌then◌else◌, nat_lt}
 use Rattle.std.specs.List.{list_all}
 use Rattle.std.proofs.Common.{refl, arith, rules, tests}
+use Rattle.std.proofs.lemmas.Bool.{and_parts}
 use Rattle.std.proofs.lemmas.List.Sums.{AllPass-from_list_all}
 use Rattle.plane_core.specs.Step.{nine_zeros, AreNineBelow}
 use Rattle.rule_tree.specs.declared.tree.Neighbors.{Neighbors}
@@ -17,22 +18,17 @@ quiet_by false leading n h = refl
 pub next_under-quiet : (tree : Tree) → next_under tree nine_zeros ≡ 0
 next_under-quiet tree = quiet_by (is_quiescent tree) (leads tree.states tree.nodes (root_of tree) (places_of tree.neighbors)) (next tree nine_zeros) (λ h. search (rules, tests))
 
-pub both_of : (a b : Bool) → (a && b) ≡ true → (a ≡ true) × (b ≡ true)
-both_of true true h = (refl, refl)
-both_of true false h = absurd cc
-both_of false b h = absurd cc
-
 -- a node that leads on has n entries
 pub leads-width : (n : ℕ) (nodes : List Entries) (number input : ℕ) (inputs : List ℕ) → leads n nodes number (input ∷ inputs) ≡ true → length (node_at nodes number) ≡ n
 leads-width n nodes number input inputs h =
-    let width : (length (node_at nodes number) == n) ≡ true = (both_of (length (node_at nodes number) == n) (list_all (λ entry. leads n nodes entry inputs) (node_at nodes number)) h).0 in
+    let width : (length (node_at nodes number) == n) ≡ true = (and_parts (length (node_at nodes number) == n) (list_all (λ entry. leads n nodes entry inputs) (node_at nodes number)) h).0 in
     search (rules, tests)
 
 -- the entry that an input chooses leads on
 pub leads-on : (n : ℕ) (nodes : List Entries) (number input : ℕ) (inputs : List ℕ) → leads n nodes number (input ∷ inputs) ≡ true → input < n → leads n nodes (slice_index (node_at nodes number) input) inputs ≡ true
 leads-on n nodes number input inputs h low =
     let node = node_at nodes number in
-    let all : list_all (λ entry. leads n nodes entry inputs) node ≡ true = (both_of (length node == n) (list_all (λ entry. leads n nodes entry inputs) node) h).1 in
+    let all : list_all (λ entry. leads n nodes entry inputs) node ≡ true = (and_parts (length node == n) (list_all (λ entry. leads n nodes entry inputs) node) h).1 in
     let width : length node ≡ n = leads-width n nodes number input inputs h in
     AllPass-from_list_all (λ entry. leads n nodes entry inputs) node all input 0 (omega arith)
 
@@ -40,7 +36,7 @@ leads-on n nodes number input inputs h low =
 pub follow-below : (n : ℕ) (nodes : List Entries) (number : ℕ) (inputs : List ℕ) → leads n nodes number inputs ≡ true → list_all (λ s. nat_lt s n) inputs ≡ true → follow nodes number inputs < n
 follow-below n nodes number [] h low = search (rules, tests)
 follow-below n nodes number (input ∷ inputs) h low =
-    let parts = both_of (nat_lt input n) (list_all (λ s. nat_lt s n) inputs) low in
+    let parts = and_parts (nat_lt input n) (list_all (λ s. nat_lt s n) inputs) low in
     let first : nat_lt input n ≡ true = parts.0 in
     follow-below n nodes (slice_index (node_at nodes number) input) inputs (leads-on n nodes number input inputs h (search (rules, tests))) parts.1
 
@@ -59,7 +55,7 @@ leads-inputs n nodes number Four states h = h
 leads-inputs n nodes number Eight states h = h
 
 -- any of states below n is below n, and 0 where there is none
-state-below : (n : ℕ) (states : List ℕ) → 0 < n → All (λ s. s < n) states → (k : ℕ) → slice_index states k < n
+pub state-below : (n : ℕ) (states : List ℕ) → 0 < n → All (λ s. s < n) states → (k : ℕ) → slice_index states k < n
 state-below n [] some low k = some
 state-below n (s ∷ states) some low zero = low 0 0 (omega arith)
 state-below n (s ∷ states) some low (suc k) = state-below n states some (λ i d l. low (suc i) d (omega (arith, l))) k
@@ -81,5 +77,5 @@ next_under-below tree states nine =
     let some : slice_index states 0 < tree.states = nine.below 0 0 (omega (arith, nine.nine)) in
     below_by (is_sound tree) tree.states (next tree states) (omega (arith, some))
     (λ h. follow-below tree.states tree.nodes (root_of tree) (inputs_of tree.neighbors states)
-    (leads-inputs tree.states tree.nodes (root_of tree) tree.neighbors states (both_of (is_quiescent tree) (leads tree.states tree.nodes (root_of tree) (places_of tree.neighbors)) h).1)
+    (leads-inputs tree.states tree.nodes (root_of tree) tree.neighbors states (and_parts (is_quiescent tree) (leads tree.states tree.nodes (root_of tree) (places_of tree.neighbors)) h).1)
     (inputs-below tree.states tree.neighbors states (omega (arith, some)) nine.below))

@@ -14,6 +14,7 @@
 #![tactic(auto)]
 
 mod descriptors;
+mod laws;
 mod layers;
 mod nodes;
 mod numbers;
@@ -24,6 +25,7 @@ mod tree;
 mod tree_fault;
 mod tree_reader;
 
+pub use laws::trees_have_the_nodes_needed;
 pub use rule::Rule;
 pub use translation::from_table;
 pub use tree::{Neighbors, TreeRule};

@@ -1,7 +1,9 @@
 //! Nodes of a tree that share what is equal.
-ghost use Rattle.std.specs.Prelude.{◌≡◌, ◌≤◌, ◌+◌, ◌-◌, ◌*◌, ◌∷◌, ◌++◌, [], Bool, List, length, map, All, IfOk, OnOk};
+ghost use Rattle.std.specs.Prelude.{◌≡◌, ◌≤◌, ◌+◌, ◌-◌, ◌*◌, ◌∷◌, ◌++◌, [], Bool, List, length, map, All, IfErr, IfOk, OnOk};
 ghost use Rattle.std.specs.List.{AllPass};
+ghost use Rattle.rule_tree.specs.declared.tree_fault.TreeFault.TheVariants.{TreeTooLarge};
 ghost use Rattle.rule_tree.specs.Kept.{nodes_in};
+ghost use Rattle.rule_tree.specs.Starts.{AreShared, HasDifferent};
 ghost use Rattle.rule_tree.specs.Translation.{AreAmong, Extends, entries_of, node_limit};
 ghost use Rattle.rule_tree.specs.Tree.{Entries, node_at};
 
@@ -27,6 +29,9 @@ pub fn add_nodes(
     ensures grown { OnOk result (Extends (entries_of nodes.old.items) (entries_of nodes.new.items)) }
     ensures few { OnOk result (length nodes.new.items ≤ node_limit) }
     ensures among { OnOk result ((p : Entries → Bool) → AllPass p (entries_of nodes.old.items) → AllPass p (entries_of wanted.items) → AllPass p (entries_of nodes.new.items)) }
+    ensures shared { IfOk result (λ numbers. AreShared (entries_of wanted.items) numbers.items) }
+    ensures different { OnOk result (HasDifferent (entries_of wanted.items) (length nodes.new.items - length nodes.old.items)) }
+    ensures large { IfErr result (λ fault. fault ≡ TreeTooLarge → HasDifferent (entries_of wanted.items) (node_limit + 1 - length nodes.old.items)) }
 {
     let (fresh, numbers) = numbered(alloc, wanted, nodes.len())?;
     for node in fresh {
@@ -46,6 +51,9 @@ fn numbered(
     ensures each { IfOk result (λ r. (others : List Entries) → length others ≡ before → map (node_at (others ++ entries_of r.0.keys)) r.1.items ≡ entries_of wanted.items) }
     ensures one { IfOk result (λ r. length wanted.items ≡ 1 → (length r.0.keys ≡ 1) × (r.1.items ≡ before ∷ [])) }
     ensures among { IfOk result (λ r. AreAmong (entries_of r.0.keys) (entries_of wanted.items)) }
+    ensures shared { IfOk result (λ r. AreShared (entries_of wanted.items) r.1.items) }
+    ensures different { IfOk result (λ r. HasDifferent (entries_of wanted.items) (length r.0.keys)) }
+    ensures large { IfErr result (λ fault. fault ≡ TreeTooLarge → HasDifferent (entries_of wanted.items) (node_limit + 1 - before)) }
 {
     let mut fresh = IndexSet::new(alloc);
     let mut numbers = Vec::with_capacity(alloc, wanted.len())?;

@@ -6,12 +6,15 @@
 //! different list once, and then made nodes from the leaves up, where equal nodes are shared. It is
 //! the subset construction of automata, and the sharing of decision diagrams (Bryant 1986). It costs
 //! for each different list one pass over its tails for each state.
-ghost use Rattle.std.specs.Prelude.{◌≡◌, ◌≤◌, ◌<◌, ◌-◌, ◌∷◌, [], length, map, slice_index, slice_index_or, unwrap_or, ℕ, List, false, true, All, IfOk, OnOk, Some, None, if◌then◌else◌};
+ghost use Rattle.std.specs.Prelude.{◌≡◌, ◌≤◌, ◌<◌, ◌+◌, ◌-◌, ◌∷◌, [], length, map, slice_index, slice_index_or, unwrap_or, ℕ, List, false, true, All, IfErr, IfOk, OnOk, Some, None, if◌then◌else◌};
+ghost use Rattle.rule_tree.specs.declared.tree_fault.TreeFault.TheVariants.{NoMemory, TreeTooLarge};
 ghost use Rattle.rule_tree.specs.Layers.{Fit, IsGrownBy, IsLayer, lets, rest_at};
+ghost use Rattle.rule_tree.specs.NodesNeeded.{NeedsNodes};
+ghost use Rattle.rule_tree.specs.Starts.{AreReached, AreToldApart, IsReached, NeedStarts, lists_give};
 ghost use Rattle.plane_core.specs.Step.{nine_zeros};
 ghost use Rattle.table_symmetry.specs.NextState.{next};
 ghost use Rattle.rule_tree.specs.Tree.{follow, inputs_of, leads};
-ghost use Rattle.rule_tree.specs.Translation.{AllInside, AreAllEdges, AreEdges, AreLeaves, DoAll, DoesRows, Extends, LeftOf, Translates, entries_of, first_some, neighbors_of, node_limit, order_of};
+ghost use Rattle.rule_tree.specs.Translation.{AllInside, AreAllEdges, AreEdges, AreLeaves, DoAll, DoesRows, Extends, LeftOf, Translates, entries_of, first_some, neighbors_of, node_limit, order_of, rows_give};
 
 use crate::layers::{Layer, layers_of};
 use crate::sharing::{add_nodes, joined};
@@ -28,7 +31,8 @@ use table_symmetry::{Expanded, Neighborhood, TableRule};
 /// which don't look at the neighbours that the table doesn't have. TreeTooLarge comes where the
 /// tree would have more than 1,000,000 nodes, NoMemory only where memory was wanted.
 pub fn from_table(alloc: Global, table: &TableRule) -> Result<TreeRule, TreeFault>
-    ensures { IfOk result (λ tree. Translates table.now tree) }
+    ensures translates { IfOk result (λ tree. Translates table.now tree) }
+    ensures large { IfErr result (λ fault. fault ≡ TreeTooLarge → NeedsNodes table.now (node_limit + 1)) }
 {
     let rows = table.expand()?;
     let order = order_of(table.neighborhood());
@@ -51,6 +55,7 @@ fn nodes_for(
     ensures does { IfOk result (λ nodes. DoesRows states order.now rows.now (entries_of nodes.items)) }
     ensures few { IfOk result (λ nodes. length nodes.items ≤ node_limit) }
     ensures width { IfOk result (λ nodes. All (λ node. length node ≡ states) (entries_of nodes.items)) }
+    ensures large { IfErr result (λ fault. fault ≡ TreeTooLarge → NeedStarts states (length order.now) (λ k inputs. rows_give order.now rows.now inputs) 1 (node_limit + 1)) }
 {
     let (layers, numbers) = layers_of(alloc, order, rows)?;
     let mut lists = Vec::new(alloc);
@@ -118,13 +123,14 @@ fn number_lists(
     requires at_most { states ≤ 256 }
     requires fit { Fit states (layer.now ∷ others.now) }
     requires inside { AllInside (length layer.now.tails.items) (entries_of lists.now) }
-    requires few { length nodes.old.items ≤ node_limit }
-    requires width { All (λ node. length node ≡ states) (entries_of nodes.old.items) }
+    requires none { nodes.old.items ≡ [] }
     ensures does { IfOk result (λ numbers. DoAll states (layer.now ∷ others.now) (entries_of nodes.new.items) (entries_of lists.now) numbers.items) }
     ensures last { IfOk result (λ numbers. length lists.now ≡ 1 → numbers.items ≡ (length nodes.new.items - 1) ∷ []) }
-    ensures grown { OnOk result (Extends (entries_of nodes.old.items) (entries_of nodes.new.items)) }
     ensures few { OnOk result (length nodes.new.items ≤ node_limit) }
     ensures width { OnOk result (All (λ node. length node ≡ states) (entries_of nodes.new.items)) }
+    ensures apart { IfOk result (λ numbers. AreToldApart states (layer.now ∷ others.now) (entries_of lists.now) numbers.items) }
+    ensures needed { OnOk result (NeedStarts states (length (layer.now ∷ others.now)) (lists_give (layer.now ∷ others.now) (entries_of lists.now)) (length (entries_of lists.now)) (length nodes.new.items)) }
+    ensures large { IfErr result (λ fault. fault ≡ TreeTooLarge → NeedStarts states (length (layer.now ∷ others.now)) (lists_give (layer.now ∷ others.now) (entries_of lists.now)) (length (entries_of lists.now)) (node_limit + 1)) }
 {
     match others {
         [] => {
@@ -204,6 +210,7 @@ fn lists_left(
     requires inside { AllInside (length layer.now.tails.items) (entries_of lists.now) }
     ensures inside { IfOk result (λ r. AllInside count (entries_of r.0.keys)) }
     ensures edges { IfOk result (λ r. AreAllEdges states layer.now (entries_of lists.now) (entries_of r.0.keys) (entries_of r.1.items)) }
+    ensures reached { IfOk result (λ r. AreReached states (entries_of r.1.items) (length r.0.keys)) }
 {
     let mut left = IndexSet::new(alloc);
     let mut edges = Vec::with_capacity(alloc, lists.len())?;
@@ -233,6 +240,7 @@ fn edges_of(
     ensures grown { OnOk result (Extends (entries_of left.old.keys) (entries_of left.new.keys)) }
     ensures clear { OnOk result (All (λ b. b ≡ false) is_there.new) }
     ensures left { OnOk result (AllInside (length is_there.old) (entries_of left.new.keys)) }
+    ensures reached { IfOk result (λ edges. (n : ℕ) → length left.old.keys ≤ n → n < length left.new.keys → IsReached states (edges.items ∷ []) n) }
 {
     let mut edges = Vec::with_capacity(alloc, usize::from(states))?;
     let mut found = Vec::new(alloc);
@@ -286,6 +294,7 @@ fn number_in(
     ensures inside { IfOk result (λ number. number < length lists.new.keys) }
     ensures list { IfOk result (λ number. slice_index_or (entries_of lists.new.keys) number [] ≡ list.now) }
     ensures grown { OnOk result (IsGrownBy (entries_of lists.old.keys) list.now (entries_of lists.new.keys)) }
+    ensures last { IfOk result (λ number. (n : ℕ) → length lists.old.keys ≤ n → n < length lists.new.keys → n ≡ number) }
 {
     if let Some(other) = lists.get_index(latest as usize)
         && other.as_slice() == list
@@ -328,7 +337,8 @@ fn finish(alloc: Global, table: &TableRule, nodes: &[Vec<u32>]) -> Result<TreeRu
     requires leading { (inputs : List ℕ) → length inputs ≡ length (order_of table.now.neighborhood) → leads table.now.states (entries_of nodes.now) (length (entries_of nodes.now) - 1) inputs ≡ true }
     requires same { (around : List ℕ) → All (λ s. s < table.now.states) around → follow (entries_of nodes.now) (length (entries_of nodes.now) - 1) (inputs_of (neighbors_of table.now.neighborhood) around) ≡ next table.now around }
     requires quiet { next table.now nine_zeros ≡ 0 }
-    ensures { IfOk result (λ tree. Translates table.now tree) }
+    ensures translates { IfOk result (λ tree. Translates table.now tree) }
+    ensures memory { IfErr result (λ fault. fault ≡ NoMemory) }
 {
     let entries = joined(alloc, table.states(), nodes)?;
     Ok(TreeRule::new(

@@ -5,7 +5,8 @@ use Rattle.rule_tree.specs.Kept.{AreKept, nodes_of, saturated}
 use Rattle.rule_tree.specs.TreeLines.{is_next, numbers_in, words}
 use Rattle.rule_tree.proofs.Growing.{is_next-node, kept-push}
 use Rattle.rule_tree.proofs.KeptNodes.{nodes_of-push}
-use Rattle.rule_tree.proofs.NextNode.{first-and-rest, line-refused, line-taken}
+use Rattle.rule_tree.proofs.NextNode.{line-refused, line-taken}
+use Rattle.rule_tree.proofs.NodeLists.{first-and-others}
 use Rattle.rule_tree.proofs.nodes.read_node.Goals as goal
 
 pub returns-then-not-is_next-clause-read : goal.returns-then-not-is_next-clause-read
@@ -17,7 +18,7 @@ returns-then-not-is_next-clause-read c =
     let entries = c.args.nodes.now.entries.items in
     let line = c.args.line.now in
     let kept : Some c.in-Some.numbers.items ≡ option_map (map saturated) (numbers_in (words c.text.result.now)) = rw c.in-Some.is at c.in_ok-numbers.ensures in
-    let said : Some (depth ∷ node) ≡ option_map (map saturated) (numbers_in (words line.text)) = ap Some (first-and-rest xs c.in-len1-up.len_at_least ∙ c.as_slice.ensures.value) ∙ kept ∙ ap (λ text. option_map (map saturated) (numbers_in (words text))) c.text.ensures in
+    let said : Some (depth ∷ node) ≡ option_map (map saturated) (numbers_in (words line.text)) = ap Some (sym (first-and-others xs 0 c.in-len1-up.len_at_least) ∙ c.as_slice.ensures.value) ∙ kept ∙ ap (λ text. option_map (map saturated) (numbers_in (words text))) c.text.ensures in
     let test : is_next c.args.head depths (record { depth = depth; entries = node }) ≡ false = ap (λ ds. is_next c.args.head ds (record { depth = depth; entries = node })) (sym c.deref.ensures.value) ∙ sym c.is_next.ensures ∙ c.if-not-is_next.true in
     inr (line-refused c.args.head depths entries line depth node c.requires.head c.requires.kept said test ∙ ap (λ n. Err (BadTree n)) (sym c.number.ensures))
 
@@ -31,7 +32,7 @@ returns-clause-read c =
     let entries = c.args.nodes.now.entries.items in
     let line = c.args.line.now in
     let kept : Some c.in-Some.numbers.items ≡ option_map (map saturated) (numbers_in (words c.text.result.now)) = rw c.in-Some.is at c.in_ok-numbers.ensures in
-    let said : Some (depth ∷ node) ≡ option_map (map saturated) (numbers_in (words line.text)) = ap Some (first-and-rest xs c.in-len1-up.len_at_least ∙ c.as_slice.ensures.value) ∙ kept ∙ ap (λ text. option_map (map saturated) (numbers_in (words text))) c.text.ensures in
+    let said : Some (depth ∷ node) ≡ option_map (map saturated) (numbers_in (words line.text)) = ap Some (sym (first-and-others xs 0 c.in-len1-up.len_at_least) ∙ c.as_slice.ensures.value) ∙ kept ∙ ap (λ text. option_map (map saturated) (numbers_in (words text))) c.text.ensures in
     let test : is_next c.args.head depths (record { depth = depth; entries = node }) ≡ true = ap (λ ds. is_next c.args.head ds (record { depth = depth; entries = node })) (sym c.deref.ensures.value) ∙ sym c.is_next.ensures ∙ c.if-not-is_next.false in
     let next = is_next-node c.args.head depths depth node test in
     line-taken c.args.head depths entries line depth node c.requires.head c.requires.kept said test

@@ -1,6 +1,7 @@
-use Rattle.std.proofs.Common.{◌∙◌, ◌≡◌, length, ap, map, subst, sym, arith}
+use Rattle.std.proofs.Common.{◌∙◌, ◌≡◌, ◌-◌, length, ap, map, subst, sym, arith}
 use Rattle.std.specs.List.{AllPass}
 use Rattle.std.proofs.lemmas.Grind.{common_steps}
+use Rattle.rule_tree.specs.Starts.{HasDifferent}
 use Rattle.rule_tree.specs.Translation.{entries_of}
 use Rattle.rule_tree.specs.Tree.{node_at}
 use Rattle.rule_tree.proofs.NodeLists.{length-entries}
@@ -25,3 +26,8 @@ returns-clause-among c =
     let before = c.args.nodes.now.items in
     let moved = entries-moved before c.loop-node.nodes.items c.in_ok-fresh.fresh.keys c.into_iter-node-iterator.result c.loop-node.node-iterator c.loop-node.invariant c.in-None.ensures.steps.0 c.into_iter-node-iterator.ensures.into_iter_gives.0 in
     λ p old more. subst (AllPass p) (sym moved) (pass-joined p (entries_of before) (entries_of c.in_ok-fresh.fresh.keys) old (c.in_ok-fresh.ensures.among.pass p more))
+
+pub returns-clause-different : goal.returns-clause-different
+returns-clause-different c =
+    let count : length c.in_ok-fresh.fresh.keys ≡ length c.loop-node.nodes.items - length c.args.nodes.now.items = grind (arith, common_steps) in
+    subst (HasDifferent (entries_of c.args.wanted.items)) count c.in_ok-fresh.ensures.different

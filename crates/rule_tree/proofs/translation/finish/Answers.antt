@@ -34,8 +34,8 @@ new-requires c =
     subst (λ s. IsKeptTree s c.neighbors_of.result (count - 1) entries) (sym c.states-2.ensures.count)
     (subst (λ (n : Neighbors). IsKeptTree table.states n (count - 1) entries) (ap neighbors_of (sym c.neighborhood.ensures) ∙ sym c.neighbors_of.ensures) kept)
 
-pub returns : goal.returns
-returns c =
+pub returns-clause-translates : goal.returns-clause-translates
+returns-clause-translates c =
     let table = c.args.table.now in
     let nodes = entries_of c.args.nodes.now in
     let entries = c.in_ok-entries.entries.items in

@@ -1,7 +1,9 @@
-use Rattle.std.proofs.Common.{◌≡◌, ◌<◌, ◌∷◌, ◌++◌, ◌∙◌, ℕ, List, [], length, sym, ap, subst, arith, rules}
+use Rattle.std.proofs.Common.{◌≡◌, ◌<◌, ◌∷◌, ◌++◌, ◌∙◌, ℕ, List, [], length, sym, ap, subst, inl, inr, arith, rules}
+use Rattle.std.proofs.lemmas.Bool.{cases_lt}
 use Rattle.std.specs.Prelude.{All, slice_index_or}
+use Rattle.rule_tree.specs.Starts.{AreReached}
 use Rattle.rule_tree.specs.Translation.{AllInside, AreEdges, entries_of}
-use Rattle.rule_tree.proofs.NodeLists.{AreEdges-append, each-push, entries-at, entries-push, length-entries}
+use Rattle.rule_tree.proofs.NodeLists.{AreEdges-append, IsReached-append, IsReached-behind, each-push, entries-at, entries-push, length-entries}
 use Rattle.rule_tree.proofs.translation.lists_left.Goals as goal
 
 pub edges_of-requires-clause-inside : goal.edges_of-requires-clause-inside
@@ -19,14 +21,22 @@ loop-list-preserved c =
     let more = c.in_ok-edges_of.ensures.grown.more in
     let grown : c.push.new.self.items ≡ edges ++ edge ∷ [] = c.in_ok-push.ensures.items in
     let count : length (entries_of edges) ≡ c.loop-list.list-index = length-entries edges ∙ c.loop-list.invariant.count in
+    let all : entries_of c.push.new.self.items ≡ entries_of edges ++ edge.items ∷ [] = ap entries_of grown ∙ entries-push edges edge in
+    let reached : AreReached c.args.states (entries_of edges ++ edge.items ∷ []) (length c.edges_of.new.left.keys) = λ n below.
+    elim (cases_lt n (length c.loop-list.left.keys)) [
+      | inl before ↦ IsReached-append c.args.states (entries_of edges) (edge.items ∷ []) n (c.loop-list.invariant.reached n before)
+      | inr fresh ↦ IsReached-behind c.args.states (entries_of edges) (edge.items ∷ []) n (c.in_ok-edges_of.ensures.reached n fresh below)
+    ]
+    in
     let P : ℕ → List ℕ → Type 0 = λ k entries. AreEdges c.args.states c.args.layer.now (slice_index_or (entries_of c.args.lists.now) k []) new entries in
     record {
       count = search (rules);
-      each = λ k l. subst (λ (nodes : List (List ℕ)). P k (slice_index_or nodes k [])) (sym (ap entries_of grown ∙ entries-push edges edge))
+      each = λ k l. subst (λ (nodes : List (List ℕ)). P k (slice_index_or nodes k [])) (sym all)
           (each-push [] P (entries_of edges) edge.items c.loop-list.list-index count
           (λ m h. subst (λ left. AreEdges c.args.states c.args.layer.now (slice_index_or (entries_of c.args.lists.now) m []) left (slice_index_or (entries_of edges) m [])) (sym c.in_ok-edges_of.ensures.grown.joined)
           (AreEdges-append c.args.states c.args.layer.now (slice_index_or (entries_of c.args.lists.now) m []) old more (slice_index_or (entries_of edges) m []) (c.loop-list.invariant.each m h)))
           (subst (λ list. AreEdges c.args.states c.args.layer.now list new edge.items) (sym here) c.in_ok-edges_of.ensures.edges) k l);
+      reached = subst (λ nodes. AreReached c.args.states nodes (length c.edges_of.new.left.keys)) (sym all) reached;
       room = search (rules);
       clear = search (rules);
       left = subst (λ n. AllInside n new) c.loop-list.invariant.room c.in_ok-edges_of.ensures.left;

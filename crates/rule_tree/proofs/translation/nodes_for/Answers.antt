@@ -1,10 +1,13 @@
-use Rattle.std.proofs.Common.{◌≡◌, ◌<◌, ◌-◌, ◌∷◌, ◌++◌, ◌∙◌, List, [], length, take, drop, slice_index, sym, ap, subst, arith}
-use Rattle.std.specs.Prelude.{All}
+use Rattle.std.proofs.Common.{ℕ, ◌≡◌, ◌<◌, ◌+◌, ◌-◌, ◌∷◌, ◌++◌, ◌∙◌, List, [], length, take, drop, slice_index, sym, ap, subst, arith}
+use Rattle.std.specs.Prelude.{All, slice_index_or}
 use Rattle.rule_tree.specs.declared.layers.Layer.{Layer}
 use Rattle.rule_tree.specs.Layers.{AreLayersOf, Fit, count_of}
-use Rattle.rule_tree.specs.Translation.{AllInside, Does, DoAll, entries_of}
+use Rattle.rule_tree.specs.Starts.{NeedStarts, lists_give}
+use Rattle.rule_tree.specs.Translation.{AllInside, Does, DoAll, entries_of, node_limit, outcome, rows_give}
+use Rattle.rule_tree.proofs.Apart.{passed-on}
+use Rattle.rule_tree.proofs.Beginnings.{same-needed}
 use Rattle.rule_tree.proofs.NodeLists.{first-and-others, one-inside, length-entries}
-use Rattle.rule_tree.proofs.Translating.{DoesRows-root}
+use Rattle.rule_tree.proofs.Translating.{DoesRows-root, rows-outcome}
 use Rattle.rule_tree.proofs.translation.nodes_for.Goals as goal
 
 pub unreachable-requires : goal.unreachable-requires
@@ -44,3 +47,26 @@ returns-clause-does c =
     let last : slice_index ends 0 ≡ length nodes - 1 = ap (λ ns. slice_index ns 0) root ∙ ap (λ n. n - 1) (sym (length-entries c.number_lists.new.nodes.items)) in
     DoesRows-root c.args.states c.args.order.now c.args.rows.now c.in_ok-layers.layers.items numbers.items nodes are
     (subst (Does c.args.states c.in_ok-layers.layers.items nodes numbers.items) last (all.each 0 (omega arith)))
+
+pub returns-in_err-number_lists-clause-large : goal.returns-in_err-number_lists-clause-large
+returns-in_err-number_lists-clause-large c =
+    let states = c.args.states in
+    let order = c.args.order.now in
+    let rows = c.args.rows.now in
+    let layers = c.in_ok-layers.layers.items in
+    let numbers = c.in_ok-layers.numbers in
+    let slice = c.as_slice.result.now in
+    let others = take (length slice - 1) (drop 1 slice) in
+    let are : AreLayersOf states order rows layers numbers.items = c.in_ok-layers.ensures.layers states c.requires.below in
+    let parts : slice ≡ c.layer-item.result ∷ others = first-and-others slice c.layer-item.result c.in-len1-up.len_at_least ∙ ap (λ x. x ∷ others) (sym c.layer-item.is) in
+    let lists : c.deref.result.now ≡ numbers ∷ [] = c.deref.ensures.value ∙ c.in_ok-push.ensures.items ∙ ap (λ xs. xs ++ numbers ∷ []) c.new-lists.ensures.items in
+    let give : ℕ → List ℕ → ℕ = λ k inputs. rows_give order rows inputs in
+    let same : (k : ℕ) (inputs : List ℕ) → k < 1 → length inputs ≡ length layers → lists_give layers (numbers.items ∷ []) k inputs ≡ give k inputs = λ k inputs l long.
+    let first : k ≡ 0 = omega (arith, l) in
+    ap (λ n. outcome layers (slice_index_or (numbers.items ∷ []) n []) inputs) first ∙ rows-outcome states order rows layers numbers.items inputs are (long ∙ are.depth)
+    in
+    passed-on c.from_residual-in_err-number_lists.result c.in_err-number_lists.field-0.0 _ c.from_residual-in_err-number_lists.ensures.1
+    (λ is.
+    let listed : NeedStarts states (length (c.layer-item.result ∷ others)) (lists_give (c.layer-item.result ∷ others) (numbers.items ∷ [])) 1 (node_limit + 1) = subst (λ ls. NeedStarts states (length (c.layer-item.result ∷ others)) (lists_give (c.layer-item.result ∷ others) (entries_of ls)) (length (entries_of ls)) (node_limit + 1)) lists (c.in_err-number_lists.ensures.large is) in
+    let needed : NeedStarts states (length layers) (lists_give layers (numbers.items ∷ [])) 1 (node_limit + 1) = subst (λ (ls : List Layer). NeedStarts states (length ls) (lists_give ls (numbers.items ∷ [])) 1 (node_limit + 1)) (sym parts ∙ c.as_slice.ensures.value) listed in
+    subst (λ depth. NeedStarts states depth give 1 (node_limit + 1)) are.depth (same-needed states (length layers) (lists_give layers (numbers.items ∷ [])) give 1 (node_limit + 1) same needed))
