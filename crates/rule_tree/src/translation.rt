@@ -25,13 +25,14 @@ use plane_core::Next;
 use std::alloc::{AllocError, Global};
 use table_symmetry::{Expanded, Neighborhood, TableRule};
 
-/// Translates a table to a tree with the same next states.
+/// Translates a table to the smallest tree with the same next states.
 ///
 /// A hexagonal table becomes a tree of eight neighbours and a one-dimensional one a tree of four,
-/// which don't look at the neighbours that the table doesn't have. TreeTooLarge comes where the
-/// tree would have more than 1,000,000 nodes, NoMemory only where memory was wanted.
+/// which don't look at the neighbours that the table doesn't have. TreeTooLarge comes where even
+/// the smallest tree has more than 1,000,000 nodes, NoMemory only where memory was wanted.
 pub fn from_table(alloc: Global, table: &TableRule) -> Result<TreeRule, TreeFault>
     ensures translates { IfOk result (λ tree. Translates table.now tree) }
+    ensures smallest { IfOk result (λ tree. NeedsNodes table.now (length tree.nodes)) }
     ensures large { IfErr result (λ fault. fault ≡ TreeTooLarge → NeedsNodes table.now (node_limit + 1)) }
 {
     let rows = table.expand()?;
@@ -55,6 +56,7 @@ fn nodes_for(
     ensures does { IfOk result (λ nodes. DoesRows states order.now rows.now (entries_of nodes.items)) }
     ensures few { IfOk result (λ nodes. length nodes.items ≤ node_limit) }
     ensures width { IfOk result (λ nodes. All (λ node. length node ≡ states) (entries_of nodes.items)) }
+    ensures needed { IfOk result (λ nodes. NeedStarts states (length order.now) (λ k inputs. rows_give order.now rows.now inputs) 1 (length nodes.items)) }
     ensures large { IfErr result (λ fault. fault ≡ TreeTooLarge → NeedStarts states (length order.now) (λ k inputs. rows_give order.now rows.now inputs) 1 (node_limit + 1)) }
 {
     let (layers, numbers) = layers_of(alloc, order, rows)?;
@@ -338,6 +340,7 @@ fn finish(alloc: Global, table: &TableRule, nodes: &[Vec<u32>]) -> Result<TreeRu
     requires same { (around : List ℕ) → All (λ s. s < table.now.states) around → follow (entries_of nodes.now) (length (entries_of nodes.now) - 1) (inputs_of (neighbors_of table.now.neighborhood) around) ≡ next table.now around }
     requires quiet { next table.now nine_zeros ≡ 0 }
     ensures translates { IfOk result (λ tree. Translates table.now tree) }
+    ensures nodes { IfOk result (λ tree. length tree.nodes ≡ length nodes.now) }
     ensures memory { IfErr result (λ fault. fault ≡ NoMemory) }
 {
     let entries = joined(alloc, table.states(), nodes)?;

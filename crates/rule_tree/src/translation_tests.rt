@@ -98,6 +98,20 @@ fn bare(mut around: [u8; 9], places: [bool; 9]) -> [u8; 9] {
     around
 }
 
+// For how many of the first so many nine states up to the last a table and a tree differ, and the
+// nine states that come next.
+fn differences(table: &TableRule, tree: &TreeRule, last: u8, count: u16) -> (u16, [u8; 9]) {
+    let mut found: u16 = 0;
+    let mut around = [0; 9];
+    for _ in 0..count {
+        if next(table, around) != next(tree, around) {
+            found = found.saturating_add(1);
+        }
+        count_up(&mut around, last);
+    }
+    (found, around)
+}
+
 #[test]
 fn every_nine_states(rt: HostRuntime) -> Result<(), Fail> {
     for (name, lines, last, count) in [
@@ -111,13 +125,9 @@ fn every_nine_states(rt: HostRuntime) -> Result<(), Fail> {
         let table = table(rt.alloc(), lines)?;
         let tree = from_table(rt.alloc(), &table)?;
         assert_eq!(rt; tree.states(), u16::from(last) + 1, "{name}");
-        let mut around = [0; 9];
-        for _ in 0..count {
-            let wanted = next(&table, around);
-            assert_eq!(rt; next(&tree, around), wanted, "{name}, {around:?}");
-            count_up(&mut around, last);
-        }
-        assert_eq!(rt; around, [0; 9], "{name}: not all have come");
+        let (found, next) = differences(&table, &tree, last, count);
+        assert_eq!(rt; found, 0, "{name}");
+        assert_eq!(rt; next, [0; 9], "{name}: not all have come");
     }
     Ok(())
 }

@@ -1,8 +1,10 @@
-use Rattle.std.proofs.Common.{◌≡◌, ◌≤◌, ◌-◌, ◌*◌, ◌∙◌, [], length, sym, ap, subst, arith}
+use Rattle.std.proofs.Common.{◌≡◌, ◌≤◌, ◌+◌, ◌-◌, ◌*◌, ◌∙◌, [], length, sym, ap, subst, arith}
 use Rattle.table_symmetry.specs.RuleLaws.{zeros-below}
 use Rattle.rule_tree.specs.declared.tree.Neighbors.{Neighbors}
 use Rattle.rule_tree.specs.Kept.{IsKeptTree, nodes_in, tree_of_kept}
 use Rattle.rule_tree.specs.Translation.{Translates, entries_of, neighbors_of}
+use Rattle.rule_tree.specs.Tree.{Tree}
+use Rattle.rule_tree.proofs.KeptNodes.{length-nodes_in}
 use Rattle.rule_tree.proofs.NodeLists.{entries-at, length-entries}
 use Rattle.rule_tree.proofs.Translating.{may-keep, some-nodes, sound-tree, translates-kept}
 use Rattle.rule_tree.proofs.translation.finish.Goals as goal
@@ -46,3 +48,11 @@ returns-clause-translates c =
     c.new.ensures ∙ ap (λ s. tree_of_kept s c.neighbors_of.result (count - 1) entries) c.states-2.ensures.count
     ∙ ap (λ (n : Neighbors). tree_of_kept table.states n (count - 1) entries) (c.neighbors_of.ensures ∙ ap neighbors_of c.neighborhood.ensures) in
     subst (Translates table) (sym tree) (translates-kept table nodes count entries some same c.requires.same)
+
+pub returns-clause-nodes : goal.returns-clause-nodes
+returns-clause-nodes c =
+    let table = c.args.table.now in
+    let count = length c.args.nodes.now in
+    let some : 1 ≤ count = omega (arith, some-nodes table.neighborhood table.states (entries_of c.args.nodes.now) (omega (arith, c.states.ensures.count, c.states.ensures.at_least)) c.requires.leading, length-entries c.args.nodes.now) in
+    let again : count - 1 + 1 ≡ count = omega (arith, some) in
+    ap (λ (tree : Tree). length tree.nodes) c.new.ensures ∙ length-nodes_in c.states-2.result (count - 1 + 1) c.in_ok-entries.entries.items ∙ again

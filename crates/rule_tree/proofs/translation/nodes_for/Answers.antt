@@ -1,5 +1,6 @@
-use Rattle.std.proofs.Common.{ℕ, ◌≡◌, ◌<◌, ◌+◌, ◌-◌, ◌∷◌, ◌++◌, ◌∙◌, List, [], length, take, drop, slice_index, sym, ap, subst, arith}
+use Rattle.std.proofs.Common.{ℕ, Option, Vec, Global, ◌≡◌, ◌<◌, ◌+◌, ◌-◌, ◌∷◌, ◌++◌, ◌∙◌, List, [], length, take, drop, slice_index, sym, ap, subst, arith}
 use Rattle.std.specs.Prelude.{All, slice_index_or}
+use Rattle.table_symmetry.specs.declared.expansion.Expanded.{Expanded}
 use Rattle.rule_tree.specs.declared.layers.Layer.{Layer}
 use Rattle.rule_tree.specs.Layers.{AreLayersOf, Fit, count_of}
 use Rattle.rule_tree.specs.Starts.{NeedStarts, lists_give}
@@ -48,25 +49,37 @@ returns-clause-does c =
     DoesRows-root c.args.states c.args.order.now c.args.rows.now c.in_ok-layers.layers.items numbers.items nodes are
     (subst (Does c.args.states c.in_ok-layers.layers.items nodes numbers.items) last (all.each 0 (omega arith)))
 
+-- what the list of all rows' tails needs, the rows need
+rows-need : (states : ℕ) (order : List (Option ℕ)) (rows : List Expanded) (layers : List Layer) (numbers : Vec ℕ Global) (count : ℕ) → AreLayersOf states order rows layers numbers.items → NeedStarts states (length layers) (lists_give layers (numbers.items ∷ [])) 1 count → NeedStarts states (length order) (λ k inputs. rows_give order rows inputs) 1 count
+rows-need states order rows layers numbers count are needed =
+    let give : ℕ → List ℕ → ℕ = λ k inputs. rows_give order rows inputs in
+    subst (λ depth. NeedStarts states depth give 1 count) are.depth
+    (same-needed states (length layers) (lists_give layers (numbers.items ∷ [])) give 1 count (λ k inputs l long.
+    let first : k ≡ 0 = omega (arith, l) in
+    ap (λ n. outcome layers (slice_index_or (numbers.items ∷ []) n []) inputs) first ∙ rows-outcome states order rows layers numbers.items inputs are (long ∙ are.depth)) needed)
+
+-- the same by the slices in which the layers and the lists are handed on
+slices-need : (states : ℕ) (order : List (Option ℕ)) (rows : List Expanded) (layers slice : List Layer) (numbers : Vec ℕ Global) (lists : List (Vec ℕ Global)) (count : ℕ) → AreLayersOf states order rows layers numbers.items → slice ≡ layers → lists ≡ numbers ∷ [] → NeedStarts states (length slice) (lists_give slice (entries_of lists)) (length (entries_of lists)) count → NeedStarts states (length order) (λ k inputs. rows_give order rows inputs) 1 count
+slices-need states order rows layers slice numbers lists count are same listed needed =
+    rows-need states order rows layers numbers count are
+    (subst (λ (ls : List Layer). NeedStarts states (length ls) (lists_give ls (numbers.items ∷ [])) 1 count) same
+    (subst (λ ls. NeedStarts states (length slice) (lists_give slice (entries_of ls)) (length (entries_of ls)) count) listed needed))
+
 pub returns-in_err-number_lists-clause-large : goal.returns-in_err-number_lists-clause-large
 returns-in_err-number_lists-clause-large c =
-    let states = c.args.states in
-    let order = c.args.order.now in
-    let rows = c.args.rows.now in
-    let layers = c.in_ok-layers.layers.items in
-    let numbers = c.in_ok-layers.numbers in
     let slice = c.as_slice.result.now in
+    let numbers = c.in_ok-layers.numbers in
     let others = take (length slice - 1) (drop 1 slice) in
-    let are : AreLayersOf states order rows layers numbers.items = c.in_ok-layers.ensures.layers states c.requires.below in
     let parts : slice ≡ c.layer-item.result ∷ others = first-and-others slice c.layer-item.result c.in-len1-up.len_at_least ∙ ap (λ x. x ∷ others) (sym c.layer-item.is) in
     let lists : c.deref.result.now ≡ numbers ∷ [] = c.deref.ensures.value ∙ c.in_ok-push.ensures.items ∙ ap (λ xs. xs ++ numbers ∷ []) c.new-lists.ensures.items in
-    let give : ℕ → List ℕ → ℕ = λ k inputs. rows_give order rows inputs in
-    let same : (k : ℕ) (inputs : List ℕ) → k < 1 → length inputs ≡ length layers → lists_give layers (numbers.items ∷ []) k inputs ≡ give k inputs = λ k inputs l long.
-    let first : k ≡ 0 = omega (arith, l) in
-    ap (λ n. outcome layers (slice_index_or (numbers.items ∷ []) n []) inputs) first ∙ rows-outcome states order rows layers numbers.items inputs are (long ∙ are.depth)
-    in
     passed-on c.from_residual-in_err-number_lists.result c.in_err-number_lists.field-0.0 _ c.from_residual-in_err-number_lists.ensures.1
-    (λ is.
-    let listed : NeedStarts states (length (c.layer-item.result ∷ others)) (lists_give (c.layer-item.result ∷ others) (numbers.items ∷ [])) 1 (node_limit + 1) = subst (λ ls. NeedStarts states (length (c.layer-item.result ∷ others)) (lists_give (c.layer-item.result ∷ others) (entries_of ls)) (length (entries_of ls)) (node_limit + 1)) lists (c.in_err-number_lists.ensures.large is) in
-    let needed : NeedStarts states (length layers) (lists_give layers (numbers.items ∷ [])) 1 (node_limit + 1) = subst (λ (ls : List Layer). NeedStarts states (length ls) (lists_give ls (numbers.items ∷ [])) 1 (node_limit + 1)) (sym parts ∙ c.as_slice.ensures.value) listed in
-    subst (λ depth. NeedStarts states depth give 1 (node_limit + 1)) are.depth (same-needed states (length layers) (lists_give layers (numbers.items ∷ [])) give 1 (node_limit + 1) same needed))
+    (λ is. slices-need c.args.states c.args.order.now c.args.rows.now c.in_ok-layers.layers.items (c.layer-item.result ∷ others) numbers c.deref.result.now (node_limit + 1) (c.in_ok-layers.ensures.layers c.args.states c.requires.below) (sym parts ∙ c.as_slice.ensures.value) lists (c.in_err-number_lists.ensures.large is))
+
+pub returns-clause-needed : goal.returns-clause-needed
+returns-clause-needed c =
+    let slice = c.as_slice.result.now in
+    let numbers = c.in_ok-layers.numbers in
+    let others = take (length slice - 1) (drop 1 slice) in
+    let parts : slice ≡ c.layer-item.result ∷ others = first-and-others slice c.layer-item.result c.in-len1-up.len_at_least ∙ ap (λ x. x ∷ others) (sym c.layer-item.is) in
+    let lists : c.deref.result.now ≡ numbers ∷ [] = c.deref.ensures.value ∙ c.in_ok-push.ensures.items ∙ ap (λ xs. xs ++ numbers ∷ []) c.new-lists.ensures.items in
+    slices-need c.args.states c.args.order.now c.args.rows.now c.in_ok-layers.layers.items (c.layer-item.result ∷ others) numbers c.deref.result.now (length c.number_lists.new.nodes.items) (c.in_ok-layers.ensures.layers c.args.states c.requires.below) (sym parts ∙ c.as_slice.ensures.value) lists c.in_ok-number_lists.ensures.needed
