@@ -33,8 +33,3 @@ pub use fault::RleFault;
 pub use laws::written_means_the_same;
 pub use read::read_rle;
 pub use write::{MOST_WRITTEN, write_rle};
-
-#[cfg(test)]
-mod tests;
-#[cfg(test)]
-mod write_tests;

@@ -17,8 +17,6 @@ mod plane;
 mod refusal;
 mod step;
 mod stop;
-#[cfg(test)]
-mod tests;
 
 pub use cell::{Bounds, Cell, CellSet};
 pub use evolve::{EvolveFault, Evolved, Report, evolve_plain, fits};

@@ -15,6 +15,3 @@ mod text;
 pub use fault::RuleFault;
 pub use sections::cut;
 pub use text::{RuleLine, RuleText, SectionKind};
-
-#[cfg(test)]
-mod tests;

@@ -14,6 +14,3 @@ pub use blanks::{is_blank, trim, trim_end, trim_start};
 pub use bytes::find_byte;
 pub use lines::Lines;
 pub use numbers::number;
-
-#[cfg(test)]
-mod tests;

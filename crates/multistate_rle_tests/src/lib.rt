@@ -1,0 +1,5 @@
+//! The tests of `multistate_rle`.
+#![tactic(auto)]
+
+#[cfg(test)]
+mod tests;

@@ -1,0 +1,230 @@
+use super::{EDGE, Row, expect_rows, laid, plane_of, same};
+use plane_core::{Bounds, Plane};
+use std::alloc::Global;
+use std::process::Abort;
+
+const LAST: i64 = EDGE - 1;
+
+/// Stops the test where these cells, laid on a plane with the rows before, don't give those after.
+fn expect_laid(
+    rt: &impl Abort,
+    alloc: Global,
+    name: &str,
+    before: &[Row],
+    cells: &[Row],
+    after: &[Row],
+) {
+    let plane = plane_of(rt, alloc, before);
+    let later = laid(rt, alloc, &plane, cells);
+    let copy = later.copy().expect(rt, "memory");
+    expect_rows(rt, alloc, &later, after, name);
+    expect_rows(rt, alloc, &plane, before, name);
+    expect_rows(rt, alloc, &copy, after, name);
+}
+
+#[test]
+fn lays_cells(rt: HostRuntime) {
+    let alloc = rt.alloc();
+    expect_laid(&rt, alloc, "nothing", &[], &[], &[]);
+    expect_laid(
+        &rt,
+        alloc,
+        "the last mention wins",
+        &[],
+        &[(1, 2, 3), (1, 2, 255)],
+        &[(1, 2, 255)],
+    );
+    expect_laid(
+        &rt,
+        alloc,
+        "0 takes away what the list laid",
+        &[],
+        &[(1, 2, 3), (1, 2, 0)],
+        &[],
+    );
+    expect_laid(
+        &rt,
+        alloc,
+        "a state after 0 stays",
+        &[],
+        &[(1, 2, 0), (1, 2, 3)],
+        &[(1, 2, 3)],
+    );
+    expect_laid(
+        &rt,
+        alloc,
+        "0 takes away what was there, and others stay",
+        &[(0, 0, 1), (5, 0, 2)],
+        &[(0, 0, 0), (6, 0, 1)],
+        &[(5, 0, 2), (6, 0, 1)],
+    );
+    expect_laid(
+        &rt,
+        alloc,
+        "a state replaces another",
+        &[(0, 0, 1)],
+        &[(0, 0, 2)],
+        &[(0, 0, 2)],
+    );
+    expect_laid(
+        &rt,
+        alloc,
+        "row by row from the top, each from the left",
+        &[],
+        &[(0, 1, 1), (1, 0, 2), (-1, 1, 3), (0, 0, 4), (1, -1, 5)],
+        &[(1, -1, 5), (0, 0, 4), (1, 0, 2), (-1, 1, 3), (0, 1, 1)],
+    );
+    expect_laid(
+        &rt,
+        alloc,
+        "the corners of the plane",
+        &[],
+        &[(LAST, LAST, 2), (-EDGE, -EDGE, 1), (LAST, -EDGE, 3)],
+        &[(-EDGE, -EDGE, 1), (LAST, -EDGE, 3), (LAST, LAST, 2)],
+    );
+}
+
+fn expect_state(rt: &impl Abort, plane: &Plane, x: i64, y: i64, state: u8) {
+    same(rt, &plane.get(x, y), &state, &(x, y));
+}
+
+#[test]
+fn finds_the_state_of_each_cell(rt: HostRuntime) {
+    let rows = [(-EDGE, LAST, 7), (LAST, -EDGE, 8), (3, -4, 255)];
+    let plane = plane_of(&rt, rt.alloc(), &rows);
+    expect_state(&rt, &plane, -EDGE, LAST, 7);
+    expect_state(&rt, &plane, LAST, -EDGE, 8);
+    expect_state(&rt, &plane, 3, -4, 255);
+    expect_state(&rt, &plane, -4, 3, 0);
+    expect_state(&rt, &plane, 0, 0, 0);
+    expect_state(&rt, &plane, -EDGE, -EDGE, 0);
+    expect_state(&rt, &plane, EDGE, -EDGE, 0);
+    expect_state(&rt, &plane, -EDGE - 1, LAST, 0);
+    expect_state(&rt, &plane, i64::MIN, i64::MIN, 0);
+    expect_state(&rt, &plane, i64::MAX, i64::MAX, 0);
+    expect_state(&rt, &plane, i64::MIN, i64::MAX, 0);
+}
+
+fn expect_live(rt: &impl Abort, alloc: Global, rows: &[Row], limit: u32, wanted: Option<usize>) {
+    let found = plane_of(rt, alloc, rows).live(limit).expect(rt, "memory");
+    same(rt, &found.map(|cells| cells.len()), &wanted, &limit);
+}
+
+#[test]
+fn lists_live_cells_up_to_a_limit(rt: HostRuntime) {
+    let alloc = rt.alloc();
+    let three = [(0, 0, 1), (1, 0, 1), (0, 9, 2)];
+    expect_live(&rt, alloc, &[], 0, Some(0));
+    expect_live(&rt, alloc, &three, 0, None);
+    expect_live(&rt, alloc, &three, 2, None);
+    expect_live(&rt, alloc, &three, 3, Some(3));
+    expect_live(&rt, alloc, &three, u32::MAX, Some(3));
+}
+
+/// Stops the test where the plane tells other numbers or another box of itself.
+fn expect_told(
+    rt: &impl Abort,
+    plane: &Plane,
+    population: u128,
+    greatest: u8,
+    bounds: Option<Bounds>,
+) {
+    same(rt, &plane.population(), &population, &"population");
+    same(rt, &plane.greatest(), &greatest, &"greatest");
+    same(rt, &plane.bounds(), &bounds, &"bounds");
+}
+
+fn expect_count(rt: &impl Abort, counts: &[u128], state: usize, count: u128) {
+    same(rt, &counts.get(state).copied(), &Some(count), &state);
+}
+
+#[test]
+fn tells_of_an_empty_plane(rt: HostRuntime) {
+    let plane = Plane::empty(rt.alloc());
+    expect_told(&rt, &plane, 0, 0, None);
+    let counts = plane.counts().expect(&rt, "memory");
+    expect_count(&rt, &counts, 0, 0);
+    expect_count(&rt, &counts, 1, 0);
+    expect_count(&rt, &counts, 255, 0);
+}
+
+#[test]
+fn tells_of_a_cell(rt: HostRuntime) {
+    let plane = plane_of(&rt, rt.alloc(), &[(-3, 7, 1)]);
+    let bounds = Bounds {
+        left: -3,
+        top: 7,
+        right: -3,
+        bottom: 7,
+    };
+    expect_told(&rt, &plane, 1, 1, Some(bounds));
+    let counts = plane.counts().expect(&rt, "memory");
+    expect_count(&rt, &counts, 0, 0);
+    expect_count(&rt, &counts, 1, 1);
+    expect_count(&rt, &counts, 2, 0);
+}
+
+#[test]
+fn tells_of_a_plane(rt: HostRuntime) {
+    let rows = [(0, -2, 4), (5, 0, 2), (-1, 1, 255), (2, 3, 2)];
+    let plane = plane_of(&rt, rt.alloc(), &rows);
+    let bounds = Bounds {
+        left: -1,
+        top: -2,
+        right: 5,
+        bottom: 3,
+    };
+    expect_told(&rt, &plane, 4, 255, Some(bounds));
+    let counts = plane.counts().expect(&rt, "memory");
+    expect_count(&rt, &counts, 0, 0);
+    expect_count(&rt, &counts, 1, 0);
+    expect_count(&rt, &counts, 2, 2);
+    expect_count(&rt, &counts, 4, 1);
+    expect_count(&rt, &counts, 255, 1);
+}
+
+#[test]
+fn tells_of_a_plane_to_its_corners(rt: HostRuntime) {
+    let plane = plane_of(&rt, rt.alloc(), &[(LAST, -EDGE, 3), (-EDGE, LAST, 2)]);
+    let bounds = Bounds {
+        left: -EDGE,
+        top: -EDGE,
+        right: LAST,
+        bottom: LAST,
+    };
+    expect_told(&rt, &plane, 2, 3, Some(bounds));
+    let counts = plane.counts().expect(&rt, "memory");
+    expect_count(&rt, &counts, 1, 0);
+    expect_count(&rt, &counts, 2, 1);
+    expect_count(&rt, &counts, 3, 1);
+}
+
+/// Stops the test where two planes aren't equal, or unequal, in both orders.
+fn expect_compared(rt: &impl Abort, alloc: Global, rows: &[Row], others: &[Row], wanted: bool) {
+    let plane = plane_of(rt, alloc, rows);
+    let other = plane_of(rt, alloc, others);
+    let copy = plane.copy().expect(rt, "memory");
+    same(rt, &plane.equals(&other), &wanted, &(rows, others));
+    same(rt, &other.equals(&plane), &wanted, &(others, rows));
+    same(rt, &plane.equals(&copy), &true, &rows);
+}
+
+#[test]
+fn compares_planes(rt: HostRuntime) {
+    let alloc = rt.alloc();
+    let one = [(0, 0, 1)];
+    let two = [(0, 0, 1), (2, 3, 4)];
+    expect_compared(&rt, alloc, &[], &[], true);
+    expect_compared(&rt, alloc, &[], &one, false);
+    expect_compared(&rt, alloc, &[], &[(0, 0, 1), (0, 0, 0)], true);
+    expect_compared(&rt, alloc, &one, &[(1, 0, 1)], false);
+    expect_compared(&rt, alloc, &one, &[(0, 0, 2)], false);
+    expect_compared(&rt, alloc, &two, &[(2, 3, 4), (0, 0, 1)], true);
+    expect_compared(&rt, alloc, &two, &[(0, 0, 4), (2, 3, 1)], false);
+}
+
+#[test]
+fn starts_empty(rt: HostRuntime) {
+    let plane = Plane::empty(rt.alloc());
+    expect_rows(&rt, rt.alloc(), &plane, &[], "the empty plane");
+}

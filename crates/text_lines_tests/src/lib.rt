@@ -1,0 +1,5 @@
+//! The tests of `text_lines`.
+#![tactic(auto)]
+
+#[cfg(test)]
+mod tests;
