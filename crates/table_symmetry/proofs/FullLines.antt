@@ -11,7 +11,7 @@ use Rattle.table_symmetry.specs.declared.descriptors.Head.{Head}
 use Rattle.table_symmetry.specs.declared.transition.Entry.{Entry}
 use Rattle.table_symmetry.specs.declared.transition.Transition.{Transition}
 use Rattle.table_symmetry.specs.NextState.{places_of}
-use Rattle.table_symmetry.specs.TableLines.{Variables, defines_variable, descriptor_of, each, entry_of, fields, is_free, transition_from, transition_of, transitions_of, unless_free, variables_after}
+use Rattle.table_symmetry.specs.TableLines.{Variables, defines_variable, descriptor_of, each, entry_of, fields, is_free, is_full, transition_from, transition_of, transitions_of, unless_free, variables_after}
 
 abbrev value_or : {A : Type 0} → Result A RuleFault → A → A
 value_or (Ok x) d = x
@@ -50,21 +50,17 @@ transition_of-full head variables line t h =
     (eqb-true (length parts) (length (places_of head.neighborhood) + 2))
     (λ es e. each-length (entry_of head.states variables line.number) parts es e) h
 
--- whether a transition has an input for the cell and each neighbour
-abbrev pub is_full : Head → Transition → Bool
-is_full head t = length t.inputs == length (places_of head.neighborhood) + 1
-
-full_lines : (head : Head) (number : ℕ) (ts : List Transition) (b c : Bool) (more : Result Variables RuleFault) (others : Variables → Result (List Transition) RuleFault) (r : Result Transition RuleFault) (rs : Result (List Transition) RuleFault) → ((v : Variables) (us : List Transition) → others v ≡ Ok us → list_all (is_full head) us ≡ true) → ((t : Transition) → r ≡ Ok t → is_full head t ≡ true) → ((us : List Transition) → rs ≡ Ok us → list_all (is_full head) us ≡ true) → cond b (Err (BadTransition number)) (cond c (more >>= others) (r >>= λ t. rs >>= λ us. Ok (t ∷ us))) ≡ Ok ts → list_all (is_full head) ts ≡ true
+full_lines : (head : Head) (number : ℕ) (ts : List Transition) (b c : Bool) (more : Result Variables RuleFault) (others : Variables → Result (List Transition) RuleFault) (r : Result Transition RuleFault) (rs : Result (List Transition) RuleFault) → ((v : Variables) (us : List Transition) → others v ≡ Ok us → list_all (is_full head.neighborhood) us ≡ true) → ((t : Transition) → r ≡ Ok t → is_full head.neighborhood t ≡ true) → ((us : List Transition) → rs ≡ Ok us → list_all (is_full head.neighborhood) us ≡ true) → cond b (Err (BadTransition number)) (cond c (more >>= others) (r >>= λ t. rs >>= λ us. Ok (t ∷ us))) ≡ Ok ts → list_all (is_full head.neighborhood) ts ≡ true
 full_lines head number ts true c more others r rs later one rest h = absurd cc
 full_lines head number ts false true (Ok v) others r rs later one rest h = later v ts h
 full_lines head number ts false true (Err e) others r rs later one rest h = absurd cc
 full_lines head number ts false false more others (Ok t) (Ok us) later one rest h =
-    subst (λ all. list_all (is_full head) all ≡ true) (same_value (t ∷ us) ts h) (and_from (is_full head t) (list_all (is_full head) us) (one t refl) (rest us refl))
+    subst (λ all. list_all (is_full head.neighborhood) all ≡ true) (same_value (t ∷ us) ts h) (and_from (is_full head.neighborhood t) (list_all (is_full head.neighborhood) us) (one t refl) (rest us refl))
 full_lines head number ts false false more others (Ok t) (Err e) later one rest h = absurd cc
 full_lines head number ts false false more others (Err e) rs later one rest h = absurd cc
 
-pub transitions_of-full : (head : Head) (variables : Variables) (lines : List NumberedLine) (ts : List Transition) → transitions_of head variables lines ≡ Ok ts → list_all (is_full head) ts ≡ true
-transitions_of-full head variables [] ts h = subst (λ all. list_all (is_full head) all ≡ true) (same_value [] ts h) refl
+pub transitions_of-full : (head : Head) (variables : Variables) (lines : List NumberedLine) (ts : List Transition) → transitions_of head variables lines ≡ Ok ts → list_all (is_full head.neighborhood) ts ≡ true
+transitions_of-full head variables [] ts h = subst (λ all. list_all (is_full head.neighborhood) all ≡ true) (same_value [] ts h) refl
 transitions_of-full head variables (line ∷ lines) ts h =
     full_lines head line.number ts (is_some (descriptor_of line.text)) (defines_variable line.text) (variables_after head variables line) (λ more. transitions_of head more lines) (transition_of head variables line) (transitions_of head variables lines)
     (λ more us e. transitions_of-full head more lines us e)

@@ -13,12 +13,13 @@ use Rattle.table_symmetry.specs.Expanded.{expanded, transition_limit}
 use Rattle.table_symmetry.specs.Grown.{IsTooLong}
 use Rattle.table_symmetry.specs.declared.lookup.Lookup.{Lookup}
 use Rattle.table_symmetry.specs.Below.{admits_below}
-use Rattle.table_symmetry.specs.Kept.{IsKept, is_full}
+use Rattle.table_symmetry.specs.Kept.{IsKept, LooksUp}
 use Rattle.table_symmetry.specs.Lookup.{FindsFirst, found}
 use Rattle.table_symmetry.specs.NextState.{gives_states, is_quiescent, next}
 use Rattle.table_symmetry.specs.RuleLaws.{zeros-below}
+use Rattle.table_symmetry.specs.Read.{IsRead}
 use Rattle.table_symmetry.specs.Table.{Table}
-use Rattle.table_symmetry.specs.TableLines.{within_limits}
+use Rattle.table_symmetry.specs.TableLines.{is_full, within_limits}
 use Rattle.table_symmetry.proofs.FirstMatch.{next-expanded}
 use Rattle.table_symmetry.proofs.SoundTables.{all_give_states}
 
@@ -48,18 +49,18 @@ Gives-too-long (Err f) table e h (inr (many, beyond)) = inr (within_limits-many 
 pub next_of_zeros : (table : Table) (lookup : Lookup) → FindsFirst lookup table.states table.neighborhood (expanded table) → 0 < table.states → unwrap_or (found lookup nine_zeros) 0 ≡ next table nine_zeros
 next_of_zeros table lookup finds some = ap (λ o. unwrap_or o 0) (finds nine_zeros (zeros-below table.states some)) ∙ next-expanded table nine_zeros
 
--- a table of states that was read, of few expanded transitions that a look-up finds, and that is quiescent, is one that is kept
-pub is_kept : (table : Table) (lookup : Lookup) → 2 ≤ table.states → table.states ≤ 256 → list_all (admits_below table.states) table.transitions ≡ true → list_all (is_full table.neighborhood) table.transitions ≡ true → length (expanded table) ≤ transition_limit → FindsFirst lookup table.states table.neighborhood (expanded table) → unwrap_or (found lookup nine_zeros) 0 ≡ 0 → IsKept table lookup
-is_kept table lookup least most below full few finds quiet =
-    let some : 0 < table.states = omega (arith, least) in
-    let still : is_quiescent table ≡ true = eq-eqb (next table nine_zeros) 0 (sym (next_of_zeros table lookup finds some) ∙ quiet) in
+-- a table that was read, whose few expanded transitions a look-up finds, and that is quiescent, is one that is kept
+pub is_kept : (table : Table) (lookup : Lookup) → IsRead table → LooksUp table lookup → unwrap_or (found lookup nine_zeros) 0 ≡ 0 → IsKept table lookup
+is_kept table lookup read looked quiet =
+    let some : 0 < table.states = omega (arith, read.at_least) in
+    let still : is_quiescent table ≡ true = eq-eqb (next table nine_zeros) 0 (sym (next_of_zeros table lookup looked.finds some) ∙ quiet) in
     record {
-      at_least = least;
-      at_most = most;
-      sound = and_from (is_quiescent table) (list_all (gives_states table.states) table.transitions) still (all_give_states table.states table.transitions some below);
-      full = full;
-      few = few;
-      finds = finds;
+      at_least = read.at_least;
+      at_most = read.at_most;
+      sound = and_from (is_quiescent table) (list_all (gives_states table.states) table.transitions) still (all_give_states table.states table.transitions some read.below);
+      full = read.full;
+      few = looked.few;
+      finds = looked.finds;
     }
 
 pub is_restless : (table : Table) (lookup : Lookup) → 0 < table.states → FindsFirst lookup table.states table.neighborhood (expanded table) → (unwrap_or (found lookup nine_zeros) 0 ≡ 0 → ⊥) → is_quiescent table ≡ false

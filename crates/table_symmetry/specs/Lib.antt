@@ -7,6 +7,7 @@ pub mod Grown
 pub mod Kept
 pub mod Lookup
 pub mod NextState
+pub mod Read
 pub mod Rule
 pub mod RuleLaws
 pub mod StateHalves

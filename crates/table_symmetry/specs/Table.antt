@@ -1,5 +1,6 @@
 -- A rule table.
 use Rattle.std.specs.Prelude.{ℕ, List}
+use Rattle.table_symmetry.specs.declared.descriptors.Head.{Head}
 use Rattle.table_symmetry.specs.declared.table.Neighborhood.{Neighborhood}
 use Rattle.table_symmetry.specs.declared.table.Symmetry.{Symmetry}
 use Rattle.table_symmetry.specs.declared.transition.Transition.{Transition}
@@ -10,3 +11,7 @@ pub record Table : Type 0 where
   pub neighborhood : Neighborhood
   pub symmetry : Symmetry
   pub transitions : List Transition
+
+-- the table of this head and these transitions
+abbrev pub headed : Head → List Transition → Table
+headed head transitions = record { states = head.states; neighborhood = head.neighborhood; symmetry = head.symmetry; transitions = transitions }

@@ -23,7 +23,7 @@ use Rattle.table_symmetry.specs.declared.transition.Transition.{Transition}
 use Rattle.table_symmetry.specs.Expanded.{expanded}
 use Rattle.table_symmetry.specs.NextState.{places_of, is_variable, is_quiescent}
 use Rattle.table_symmetry.specs.States.{has, rising}
-use Rattle.table_symmetry.specs.Table.{Table}
+use Rattle.table_symmetry.specs.Table.{Table, headed}
 
 -- the descriptor of this word
 abbrev pub descriptor_named : List ℕ → Option Descriptor
@@ -224,6 +224,17 @@ transitions_of head variables (line ∷ lines) =
       ts ← transitions_of head variables lines
       Ok (t ∷ ts)))
 
+-- whether a transition has an input for the cell and each neighbour
+abbrev pub is_full : Neighborhood → Transition → Bool
+is_full neighborhood t = length t.inputs == length (places_of neighborhood) + 1
+
+-- the table that the lines say, whatever its limits
+abbrev pub lines_of : List NumberedLine → Result Table RuleFault
+lines_of lines = do
+  found ← head_from undescribed lines
+  transitions ← transitions_of found.0 [] found.1
+  Ok (headed found.0 transitions)
+
 -- a table of at most 1,000,000 expanded transitions that is quiescent
 abbrev pub within_limits : Table → Result Table RuleFault
 within_limits table =
@@ -232,7 +243,4 @@ within_limits table =
 
 -- what the lines of a table mean
 abbrev pub table_of : List NumberedLine → Result Table RuleFault
-table_of lines = do
-  found ← head_from undescribed lines
-  transitions ← transitions_of found.0 [] found.1
-  within_limits (record { states = found.0.states; neighborhood = found.0.neighborhood; symmetry = found.0.symmetry; transitions = transitions })
+table_of lines = lines_of lines >>= within_limits

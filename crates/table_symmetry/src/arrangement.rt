@@ -175,10 +175,8 @@ fn inserted(
     requires { place ≤ length list.now }
     ensures { IfOk result (λ longer. longer ≡ take place list.now ++ set ∷ drop place list.now) }
 {
-    let mut longer = Vec::with_capacity(alloc, list.len() + 1)?;
-    longer.extend_from_slice(&list[..place])?;
-    longer.push(set)?;
-    longer.extend_from_slice(&list[place..])?;
+    let mut longer = list.to_vec(alloc)?;
+    longer.insert(place, set)?;
     Ok(Listing::from_vec(longer))
 }
 
@@ -186,8 +184,6 @@ fn inserted(
 pub fn joined(alloc: Global, front: &[StateSet], back: &[StateSet]) -> Result<Circle, AllocError>
     ensures { IfOk result (λ list. list ≡ front.now ++ back.now) }
 {
-    let mut list = Vec::with_capacity(alloc, front.len() + back.len())?;
-    list.extend_from_slice(front)?;
-    list.extend_from_slice(back)?;
+    let list = front.iter().chain(back).copied().collect(alloc)?;
     Ok(Listing::from_vec(list))
 }

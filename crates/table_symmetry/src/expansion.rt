@@ -232,15 +232,23 @@ fn with_first(
 ) -> Result<Vec<Variable>, AllocError>
     ensures { IfOk result (λ all. all.items ≡ variable.now ∷ meaning.without variable.now variables.now) }
 {
-    let mut all = Vec::with_capacity(alloc, variables.len() + 1)?;
-    all.push(*variable)?;
-    for other in variables {
-        if variable.line == other.line {
-            continue;
-        }
-        all.push(*other)?;
-    }
+    let mut all = without(alloc, variable, variables)?;
+    all.insert(0, *variable)?;
     Ok(all)
+}
+
+fn without(
+    alloc: Global,
+    variable: &Variable,
+    variables: &[Variable],
+) -> Result<Vec<Variable>, AllocError>
+    ensures { IfOk result (λ others. others.items ≡ meaning.without variable.now variables.now) }
+{
+    variables
+        .iter()
+        .filter(|other| variable.line != other.line)
+        .copied()
+        .collect(alloc)
 }
 
 fn stands_among(variable: &Variable, entries: &[Entry]) -> bool

@@ -16,22 +16,16 @@ mod fields;
 mod lookup;
 mod state_set;
 mod table;
+mod table_lines;
 mod table_reader;
 mod transition;
 mod transitions;
 mod variables;
 
+pub use descriptors::Head;
 pub use expansion::Expanded;
 pub use state_set::StateSet;
 pub use table::{Neighborhood, Symmetry, TableRule};
+pub use table_lines::{TableLines, read_lines};
 pub use table_reader::read_table;
 pub use transition::{Entry, Transition, Variable};
-
-#[cfg(test)]
-mod lookup_tests;
-#[cfg(test)]
-mod reading_tests;
-#[cfg(test)]
-mod state_set_tests;
-#[cfg(test)]
-mod tests;

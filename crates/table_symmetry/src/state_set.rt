@@ -30,14 +30,14 @@ impl Model for StateSet {
 
 impl StateSet {
     /// The set without states.
-    pub(crate) fn empty() -> StateSet
+    pub fn empty() -> StateSet
         ensures { result ≡ [] }
     {
         StateSet { low: 0, high: 0 }
     }
 
     /// The set of one state.
-    pub(crate) fn of(state: u8) -> StateSet
+    pub fn of(state: u8) -> StateSet
         ensures { result ≡ state ∷ [] }
     {
         let mut set = StateSet::empty();
@@ -57,7 +57,7 @@ impl StateSet {
     }
 
     /// Puts one more state into the set.
-    pub(crate) fn insert(&mut self, state: u8)
+    pub fn insert(&mut self, state: u8)
         ensures { self.new ≡ rising (λ s. (s == state) || has self.old s) }
     {
         if state < 128 {
@@ -68,7 +68,7 @@ impl StateSet {
     }
 
     /// Puts the states of another set into this one.
-    pub(crate) fn unite(&mut self, other: StateSet)
+    pub fn unite(&mut self, other: StateSet)
         ensures { self.new ≡ rising (λ s. has self.old s || has other s) }
     {
         self.low |= other.low;
@@ -83,7 +83,7 @@ impl StateSet {
     }
 
     /// The states, rising. Fails if memory runs out.
-    pub(crate) fn to_vec(&self, alloc: Global) -> Result<Vec<u8>, AllocError>
+    pub fn to_vec(&self, alloc: Global) -> Result<Vec<u8>, AllocError>
         ensures { IfOk result (λ states. states.items ≡ self.now) }
     {
         // A field is read so that the proof knows what holds of the halves.
@@ -94,7 +94,7 @@ impl StateSet {
     }
 
     /// The bits of 64 states, the first in the lowest bit: the word of this number, from 0 to 3.
-    pub(crate) fn word(&self, number: usize) -> u64
+    pub fn word(&self, number: usize) -> u64
         requires { number < 4 }
         ensures { result ≡ word_of self.now number }
     {

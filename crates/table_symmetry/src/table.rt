@@ -7,8 +7,8 @@ ghost use Rattle.table_symmetry.specs.Rule.{next_under, still_table};
 use crate::descriptors::Head;
 use crate::expansion::{Expanded, expand};
 use crate::lookup::Lookup;
-use crate::transition::Transition;
-use plane_core::{Around, Listing, Next};
+use crate::table_lines::TableLines;
+use plane_core::{Around, Next};
 use std::alloc::{AllocError, Global};
 use std::marker::Model;
 
@@ -59,42 +59,31 @@ pub enum Symmetry {
 /// gives the next state, and where none does the cell keeps its own.
 #[derive(Debug, Drop)]
 pub struct TableRule {
-    states: u16,
-    neighborhood: Neighborhood,
-    symmetry: Symmetry,
-    transitions: Listing<Transition>,
+    lines: TableLines,
     lookup: Lookup,
     alloc: Global,
 }
 
 impl Model for TableRule {
     ghost use Rattle.table_symmetry.specs.Table.{Table};
-    ghost use Rattle.table_symmetry.specs.Kept.{IsKept, table_of};
+    ghost use Rattle.table_symmetry.specs.Kept.{IsKept};
 
     ghost Value = { Table };
 
-    ghost view = { λ rule. table_of rule.states rule.neighborhood rule.symmetry rule.transitions };
+    ghost view = { λ rule. rule.lines };
 
-    ghost invariant = { λ rule. IsKept (table_of rule.states rule.neighborhood rule.symmetry rule.transitions) rule.lookup };
+    ghost invariant = { λ rule. IsKept rule.lines rule.lookup };
 }
 
 impl TableRule {
-    ghost use Rattle.table_symmetry.specs.Kept.{IsKept, table_of};
+    ghost use Rattle.table_symmetry.specs.Kept.{IsKept};
 
-    pub(crate) fn new(
-        alloc: Global,
-        head: Head,
-        transitions: Vec<Transition>,
-        lookup: Lookup,
-    ) -> TableRule
-        requires { IsKept (table_of head.states head.neighborhood head.symmetry transitions.items) lookup }
-        ensures { result ≡ table_of head.states head.neighborhood head.symmetry transitions.items }
+    pub(crate) fn new(alloc: Global, lines: TableLines, lookup: Lookup) -> TableRule
+        requires { IsKept lines lookup }
+        ensures { result ≡ lines }
     {
         TableRule {
-            states: head.states,
-            neighborhood: head.neighborhood,
-            symmetry: head.symmetry,
-            transitions: Listing::from_vec(transitions),
+            lines,
             lookup,
             alloc,
         }
@@ -104,11 +93,13 @@ impl TableRule {
     pub fn still(alloc: Global) -> TableRule
         ensures { result ≡ still_table }
     {
-        TableRule {
+        let head = Head {
             states: 2,
             neighborhood: Neighborhood::OneDimensional,
             symmetry: Symmetry::None,
-            transitions: Listing::from_vec(Vec::new(alloc)),
+        };
+        TableRule {
+            lines: TableLines::of_head(alloc, head),
             lookup: Lookup::empty(alloc, Neighborhood::OneDimensional),
             alloc,
         }
@@ -118,7 +109,7 @@ impl TableRule {
     pub fn neighborhood(&self) -> Neighborhood
         ensures { result ≡ self.now.neighborhood }
     {
-        self.neighborhood
+        self.lines.neighborhood()
     }
 
     /// The expanded transitions, in order: those of each transition, for each assignment of its
@@ -133,7 +124,7 @@ impl TableRule {
             unwrap_or (first_match rows.items (inputs_of self.now.neighborhood around)) (slice_index around 0) ≡ next self.now around) }
         ensures straight { IfOk result (λ rows. (around : List ℕ) → next_under self.now around ≡ next self.now around) }
     {
-        match expand(self.alloc, self.symmetry, self.transitions.as_slice()) {
+        match expand(self.alloc, self.lines.symmetry(), self.lines.transitions()) {
             Ok(rows) => Ok(rows),
             Err(_) => Err(AllocError),
         }
@@ -153,7 +144,7 @@ impl Next for TableRule {
     ghost below = { next_under-below };
 
     fn states(&self) -> u16 {
-        self.states
+        self.lines.states()
     }
 
     fn next(&self, around: &Around) -> u8

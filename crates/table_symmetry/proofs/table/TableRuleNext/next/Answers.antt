@@ -1,7 +1,6 @@
 use Rattle.std.proofs.Common.{◌≡◌, ◌<◌, true, cond, rules, ap, sym, subst, ◌∙◌, unwrap_or}
 use Rattle.std.specs.Prelude.{All, slice_index}
 use Rattle.plane_core.specs.Step.{AreNineBelow}
-use Rattle.table_symmetry.specs.Kept.{table_of}
 use Rattle.table_symmetry.specs.NextState.{next}
 use Rattle.table_symmetry.specs.Rule.{is_sound}
 use Rattle.table_symmetry.specs.Table.{Table}
@@ -12,8 +11,8 @@ pub returns-clause-straight : goal.returns-clause-straight
 returns-clause-straight c =
     let rule = c.self.inside in
     let around = c.args.around.now.0 in
-    let table = table_of rule.states rule.neighborhood rule.symmetry rule.transitions in
-    let nine : AreNineBelow rule.states around = record { nine = search (rules); below = subst (λ (t : Table). All (λ s. s < t.states) around) (sym c.self.view_is) c.requires } in
+    let table = rule.lines in
+    let nine : AreNineBelow table.states around = record { nine = search (rules); below = subst (λ (t : Table). All (λ s. s < t.states) around) (sym c.self.view_is) c.requires } in
     c.unwrap_or.ensures
     ∙ ap (λ o. unwrap_or o (slice_index around 0)) (c.find.ensures ∙ c.self.invariant.finds around nine)
     ∙ next-expanded table around

@@ -1,0 +1,5 @@
+//! The tests of `table_symmetry`.
+#![tactic(auto)]
+
+#[cfg(test)]
+mod tests;
