@@ -1,15 +1,15 @@
 -- What laying cells and letting generations pass keep of a world: room to the edges, and states below the rule's.
-use Rattle.std.proofs.Common.{◌≡◌, ℕ, zero, suc, ◌+◌, ◌-◌, ◌<◌, ◌≤◌, ◌^◌, Bool, true, false, cond, List, [], ◌∷◌, ap, ◌∙◌, sym, subst, arith, refl, ℤ}
+use Rattle.std.proofs.Common.{◌≡◌, ℕ, zero, suc, ◌+◌, ◌-◌, ◌<◌, ◌≤◌, Bool, true, false, cond, List, [], ◌∷◌, sym, subst, arith, refl, ℤ}
 use Rattle.std.specs.List.{AllByRecursion}
 use Rattle.std.proofs.lemmas.Int.{ints}
 use Rattle.plane_core.specs.declared.cell.CellSet.{CellSet}
 use Rattle.plane_core.specs.World.{World, Place, cell, same_place}
 use Rattle.plane_core.specs.Fill.{same_is}
 use Rattle.plane_core.specs.Lay.{lay, last_mention, cell-lay}
-use Rattle.plane_core.specs.Step.{step, nine_zeros, AreNineBelow}
+use Rattle.plane_core.specs.Step.{nine_zeros, AreNineBelow}
 use Rattle.plane_core.specs.Range.{IsInside, HasMargin, AllBelow}
 use Rattle.plane_core.specs.Arrival.{arrive, after, arrive-zero, arrive-one_more}
-use Rattle.plane_core.proofs.Stepped.{AllBelow-step, HasMargin-step, HasMargin-less}
+use Rattle.plane_core.proofs.Stepped.{AllBelow-step, HasMargin-step}
 
 chosen : (b : Bool) (s t : ℕ) (P : ℕ → Type 0) → (b ≡ true → P s) → P t → P (cond b s t)
 chosen true s t P here there = here refl

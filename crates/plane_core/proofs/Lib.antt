@@ -1,4 +1,5 @@
 pub mod Cells
+pub mod Offsets
 pub mod Local
 pub mod Steps
 pub mod Turns

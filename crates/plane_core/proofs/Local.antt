@@ -1,11 +1,12 @@
 -- After n generations a cell depends on the cells at most n away, wherever the pattern lies.
-use Rattle.std.proofs.Common.{◌≡◌, ℕ, zero, suc, ◌+◌, List, ap, ◌∙◌, sym, subst, arith, negsuc, ℤ, pos, ◌+ℤ◌, ◌-ℤ◌}
+use Rattle.std.proofs.Common.{◌≡◌, ℕ, zero, suc, ◌+◌, List, [], ◌∷◌, map, ap, ap₂, ◌∙◌, refl, sym, subst, arith, ℤ, pos, ◌+ℤ◌}
+use Rattle.std.specs.List.{AllByRecursion}
 use Rattle.std.proofs.lemmas.Int.{ints}
-use Rattle.plane_core.specs.World.{World, cell, blank, cell-blank}
-use Rattle.plane_core.specs.Step.{around, step, nine_zeros, cell-step}
+use Rattle.plane_core.specs.World.{World, cell}
+use Rattle.plane_core.specs.Step.{around, offsets, step, nine_zeros, cell-step}
 use Rattle.plane_core.specs.Iterate.{iterate, iterate-zero, iterate-one_more}
 use Rattle.plane_core.specs.Near.{IsNear, AgreeNear, NoneNear}
-use Rattle.plane_core.proofs.Cells.{nine, same_cell}
+use Rattle.plane_core.proofs.Cells.{same_cell}
 
 -- the same one cell further on
 closer : (n : ℕ) (v : World) (x y : ℤ) (w : World) (a b : ℤ) (ex ey : ℤ) → IsNear 1 ex ey → AgreeNear (n + 1) v x y w a b → AgreeNear n v (x +ℤ ex) (y +ℤ ey) w (a +ℤ ex) (b +ℤ ey)
@@ -14,23 +15,44 @@ closer n v x y w a b ex ey near h dx dy far =
     ∙ h (ex +ℤ dx) (ey +ℤ dy) (record { left = omega (arith, ints); right = omega (arith, ints); top = omega (arith, ints); bottom = omega (arith, ints) })
     ∙ same_cell w _ _ _ _ (omega (arith, ints)) (omega (arith, ints))
 
--- two cells that lie alike
-alike : (v : World) (x y : ℤ) (w : World) (a b dx dy p q r s : ℤ) → AgreeNear 1 v x y w a b → IsNear 1 dx dy → p ≡ x +ℤ dx → q ≡ y +ℤ dy → r ≡ a +ℤ dx → s ≡ b +ℤ dy → cell v p q ≡ cell w r s
-alike v x y w a b dx dy p q r s h near ep eq er es = same_cell v p q _ _ ep eq ∙ h dx dy near ∙ sym (same_cell w r s _ _ er es)
+-- each offset is near
+near_offsets : AllByRecursion (λ (o : ℤ × ℤ). IsNear 1 o.0 o.1) offsets
+near_offsets = (
+  record { left = omega (arith, ints); right = omega (arith, ints); top = omega (arith, ints); bottom = omega (arith, ints) },
+  (
+    record { left = omega (arith, ints); right = omega (arith, ints); top = omega (arith, ints); bottom = omega (arith, ints) },
+    (
+      record { left = omega (arith, ints); right = omega (arith, ints); top = omega (arith, ints); bottom = omega (arith, ints) },
+      (
+        record { left = omega (arith, ints); right = omega (arith, ints); top = omega (arith, ints); bottom = omega (arith, ints) },
+        (
+          record { left = omega (arith, ints); right = omega (arith, ints); top = omega (arith, ints); bottom = omega (arith, ints) },
+          (
+            record { left = omega (arith, ints); right = omega (arith, ints); top = omega (arith, ints); bottom = omega (arith, ints) },
+            (
+              record { left = omega (arith, ints); right = omega (arith, ints); top = omega (arith, ints); bottom = omega (arith, ints) },
+              (
+                record { left = omega (arith, ints); right = omega (arith, ints); top = omega (arith, ints); bottom = omega (arith, ints) },
+                (
+                  record { left = omega (arith, ints); right = omega (arith, ints); top = omega (arith, ints); bottom = omega (arith, ints) },
+                  tt,
+                ),
+              ),
+            ),
+          ),
+        ),
+      ),
+    ),
+  ),
+)
 
 -- the states around agree where the nine agree
 around-agree : (v : World) (x y : ℤ) (w : World) (a b : ℤ) → AgreeNear 1 v x y w a b → around v x y ≡ around w a b
-around-agree v x y w a b h =
-    nine w a b
-    (alike v x y w a b (pos 0) (pos 0) x y a b h (record { left = omega (arith, ints); right = omega (arith, ints); top = omega (arith, ints); bottom = omega (arith, ints) }) (omega (arith, ints)) (omega (arith, ints)) (omega (arith, ints)) (omega (arith, ints)))
-    (alike v x y w a b (pos 0) (negsuc 0) x (y -ℤ pos 1) a (b -ℤ pos 1) h (record { left = omega (arith, ints); right = omega (arith, ints); top = omega (arith, ints); bottom = omega (arith, ints) }) (omega (arith, ints)) (omega (arith, ints)) (omega (arith, ints)) (omega (arith, ints)))
-    (alike v x y w a b (pos 1) (negsuc 0) (x +ℤ pos 1) (y -ℤ pos 1) (a +ℤ pos 1) (b -ℤ pos 1) h (record { left = omega (arith, ints); right = omega (arith, ints); top = omega (arith, ints); bottom = omega (arith, ints) }) (omega (arith, ints)) (omega (arith, ints)) (omega (arith, ints)) (omega (arith, ints)))
-    (alike v x y w a b (pos 1) (pos 0) (x +ℤ pos 1) y (a +ℤ pos 1) b h (record { left = omega (arith, ints); right = omega (arith, ints); top = omega (arith, ints); bottom = omega (arith, ints) }) (omega (arith, ints)) (omega (arith, ints)) (omega (arith, ints)) (omega (arith, ints)))
-    (alike v x y w a b (pos 1) (pos 1) (x +ℤ pos 1) (y +ℤ pos 1) (a +ℤ pos 1) (b +ℤ pos 1) h (record { left = omega (arith, ints); right = omega (arith, ints); top = omega (arith, ints); bottom = omega (arith, ints) }) (omega (arith, ints)) (omega (arith, ints)) (omega (arith, ints)) (omega (arith, ints)))
-    (alike v x y w a b (pos 0) (pos 1) x (y +ℤ pos 1) a (b +ℤ pos 1) h (record { left = omega (arith, ints); right = omega (arith, ints); top = omega (arith, ints); bottom = omega (arith, ints) }) (omega (arith, ints)) (omega (arith, ints)) (omega (arith, ints)) (omega (arith, ints)))
-    (alike v x y w a b (negsuc 0) (pos 1) (x -ℤ pos 1) (y +ℤ pos 1) (a -ℤ pos 1) (b +ℤ pos 1) h (record { left = omega (arith, ints); right = omega (arith, ints); top = omega (arith, ints); bottom = omega (arith, ints) }) (omega (arith, ints)) (omega (arith, ints)) (omega (arith, ints)) (omega (arith, ints)))
-    (alike v x y w a b (negsuc 0) (pos 0) (x -ℤ pos 1) y (a -ℤ pos 1) b h (record { left = omega (arith, ints); right = omega (arith, ints); top = omega (arith, ints); bottom = omega (arith, ints) }) (omega (arith, ints)) (omega (arith, ints)) (omega (arith, ints)) (omega (arith, ints)))
-    (alike v x y w a b (negsuc 0) (negsuc 0) (x -ℤ pos 1) (y -ℤ pos 1) (a -ℤ pos 1) (b -ℤ pos 1) h (record { left = omega (arith, ints); right = omega (arith, ints); top = omega (arith, ints); bottom = omega (arith, ints) }) (omega (arith, ints)) (omega (arith, ints)) (omega (arith, ints)) (omega (arith, ints)))
+around-agree v x y w a b h = all_agree offsets near_offsets
+  where
+    all_agree : (os : List (ℤ × ℤ)) → AllByRecursion (λ (o : ℤ × ℤ). IsNear 1 o.0 o.1) os → map (λ (o : ℤ × ℤ). cell v (x +ℤ o.0) (y +ℤ o.1)) os ≡ map (λ (o : ℤ × ℤ). cell w (a +ℤ o.0) (b +ℤ o.1)) os
+    all_agree [] near = refl
+    all_agree (o ∷ os) near = ap₂ (λ s ss. s ∷ ss) (h o.0 o.1 near.0) (all_agree os near.1)
 
 -- what HashLife rests on: a cell n generations on, by the cells at most n away
 pub cell-iterate : (next : List ℕ → ℕ) → next nine_zeros ≡ 0 → (n : ℕ) (v : World) (x y : ℤ) (w : World) (a b : ℤ) → AgreeNear n v x y w a b
@@ -55,9 +77,11 @@ cell-iterate next quiet (suc n) v x y w a b h =
 
 -- the states around a place with no live cell near it
 around-none : (w : World) (x y : ℤ) → NoneNear 1 w x y → around w x y ≡ nine_zeros
-around-none w x y h =
-    around-agree w x y blank x y (λ dx dy near. h dx dy near ∙ sym (cell-blank (x +ℤ dx) (y +ℤ dy)))
-    ∙ sym (nine blank x y (sym (cell-blank _ _)) (sym (cell-blank _ _)) (sym (cell-blank _ _)) (sym (cell-blank _ _)) (sym (cell-blank _ _)) (sym (cell-blank _ _)) (sym (cell-blank _ _)) (sym (cell-blank _ _)) (sym (cell-blank _ _)))
+around-none w x y h = all_dead offsets near_offsets
+  where
+    all_dead : (os : List (ℤ × ℤ)) → AllByRecursion (λ (o : ℤ × ℤ). IsNear 1 o.0 o.1) os → map (λ (o : ℤ × ℤ). cell w (x +ℤ o.0) (y +ℤ o.1)) os ≡ map (λ _. 0) os
+    all_dead [] near = refl
+    all_dead (o ∷ os) near = ap₂ (λ s ss. s ∷ ss) (h o.0 o.1 near.0) (all_dead os near.1)
 
 -- activity spreads at most one cell a generation
 pub cell-step-none : (next : List ℕ → ℕ) → next nine_zeros ≡ 0 → (w : World) (x y : ℤ) → NoneNear 1 w x y → cell (step next w) x y ≡ 0

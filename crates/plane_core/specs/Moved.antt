@@ -1,5 +1,5 @@
 -- A world moved over the plane.
-use Rattle.std.specs.Prelude.{◌≡◌, ℕ, ◌<◌, true, false, List, [], ◌∷◌, map, ℤ, pos, ◌+ℤ◌, ◌-ℤ◌}
+use Rattle.std.specs.Prelude.{◌≡◌, ℕ, ◌<◌, true, false, List, [], ◌∷◌, map, ℤ, ◌+ℤ◌, ◌-ℤ◌}
 use Rattle.std.proofs.Common.{refl, sym, ap, ap₂, ◌∙◌, arith, inl, inr}
 use Rattle.std.proofs.lemmas.Bool.{or_cases, or_left, or_right}
 use Rattle.std.proofs.lemmas.Int.{ints}
@@ -7,7 +7,7 @@ use Rattle.std.specs.List.{list_any}
 use Rattle.std.specs.FinMap as finite
 use Rattle.plane_core.specs.World.{World, Place, cell, same_place, cell-dead, same_world}
 use Rattle.plane_core.specs.Fill.{gather, cell-gather, same_is, is_same}
-use Rattle.plane_core.specs.Step.{step, around, nine_zeros, cell-step}
+use Rattle.plane_core.specs.Step.{step, around, offsets, nine_zeros, cell-step}
 
 -- the world in which each cell lies dx further right and dy further down
 pub moved : ℤ → ℤ → World → World
@@ -39,21 +39,12 @@ unfolding moved
 cell-moved dx dy w x y =
     cell-gather _ (λ x y. cell w (x -ℤ dx) (y -ℤ dy)) (λ x y h. moved_listed dx dy x y (finite.keys w) (live_listed w (x -ℤ dx) (y -ℤ dy) h)) x y
 
-came : (dx dy : ℤ) (w : World) (x y a b : ℤ) → x -ℤ dx ≡ a → y -ℤ dy ≡ b → cell (moved dx dy w) x y ≡ cell w a b
-came dx dy w x y a b e f = cell-moved dx dy w x y ∙ ap₂ (cell w) e f
-
 around-moved : (dx dy : ℤ) (w : World) (x y : ℤ) → around (moved dx dy w) x y ≡ around w (x -ℤ dx) (y -ℤ dy)
-around-moved dx dy w x y =
-    let c = came dx dy w x y (x -ℤ dx) (y -ℤ dy) refl refl in
-    let n = came dx dy w x (y -ℤ pos 1) (x -ℤ dx) ((y -ℤ dy) -ℤ pos 1) refl (omega (arith, ints)) in
-    let ne = came dx dy w (x +ℤ pos 1) (y -ℤ pos 1) ((x -ℤ dx) +ℤ pos 1) ((y -ℤ dy) -ℤ pos 1) (omega (arith, ints)) (omega (arith, ints)) in
-    let e = came dx dy w (x +ℤ pos 1) y ((x -ℤ dx) +ℤ pos 1) (y -ℤ dy) (omega (arith, ints)) refl in
-    let se = came dx dy w (x +ℤ pos 1) (y +ℤ pos 1) ((x -ℤ dx) +ℤ pos 1) ((y -ℤ dy) +ℤ pos 1) (omega (arith, ints)) (omega (arith, ints)) in
-    let s = came dx dy w x (y +ℤ pos 1) (x -ℤ dx) ((y -ℤ dy) +ℤ pos 1) refl (omega (arith, ints)) in
-    let sw = came dx dy w (x -ℤ pos 1) (y +ℤ pos 1) ((x -ℤ dx) -ℤ pos 1) ((y -ℤ dy) +ℤ pos 1) (omega (arith, ints)) (omega (arith, ints)) in
-    let v = came dx dy w (x -ℤ pos 1) y ((x -ℤ dx) -ℤ pos 1) (y -ℤ dy) (omega (arith, ints)) refl in
-    let nw = came dx dy w (x -ℤ pos 1) (y -ℤ pos 1) ((x -ℤ dx) -ℤ pos 1) ((y -ℤ dy) -ℤ pos 1) (omega (arith, ints)) (omega (arith, ints)) in
-    λ i. c i ∷ n i ∷ ne i ∷ e i ∷ se i ∷ s i ∷ sw i ∷ v i ∷ nw i ∷ []
+around-moved dx dy w x y = all_moved offsets
+  where
+    all_moved : (os : List (ℤ × ℤ)) → map (λ (o : ℤ × ℤ). cell (moved dx dy w) (x +ℤ o.0) (y +ℤ o.1)) os ≡ map (λ (o : ℤ × ℤ). cell w ((x -ℤ dx) +ℤ o.0) ((y -ℤ dy) +ℤ o.1)) os
+    all_moved [] = refl
+    all_moved (o ∷ os) = ap₂ (λ s ss. s ∷ ss) (cell-moved dx dy w (x +ℤ o.0) (y +ℤ o.1) ∙ ap₂ (cell w) (omega (arith, ints)) (omega (arith, ints))) (all_moved os)
 
 -- a step commutes with a move
 pub step-moved : (next : List ℕ → ℕ) → next nine_zeros ≡ 0 → (dx dy : ℤ) (w : World) → step next (moved dx dy w) ≡ moved dx dy (step next w)

@@ -1,28 +1,32 @@
 -- One generation: each cell's next state is a function of the nine states at and around it.
-use Rattle.std.specs.Prelude.{◌≡◌, ℕ, Bool, true, false, cond, ◌<◌, List, [], ◌∷◌, length, All, ℤ, pos, ◌+ℤ◌, ◌-ℤ◌, get_or}
+use Rattle.std.specs.Prelude.{◌≡◌, ℕ, Bool, true, false, cond, ◌<◌, List, [], ◌∷◌, length, map, All, ℤ, pos, negsuc, ◌+ℤ◌, get_or}
 use Rattle.std.proofs.Common.{refl, sym, ap, ◌∙◌, subst, arith, lit<, inl, inr}
 use Rattle.std.proofs.lemmas.Bool.{or_cases, or_left, or_right}
 use Rattle.std.proofs.lemmas.Int.{ints}
 use Rattle.std.specs.List.{list_any, flat_map}
-use Rattle.std.specs.FinMap as map
+use Rattle.std.specs.FinMap as finite
 use Rattle.std.specs.Map.{keys_of}
 use Rattle.std.proofs.lemmas.List.Folds.{list_any-append, list_any_at}
 use Rattle.plane_core.specs.World.{World, Place, cell, blank, cell-blank, cell-dead, same_place, entries-blank}
 use Rattle.plane_core.specs.Fill.{fill, fill-none, cell-fill, same_is, is_same}
 
--- the states at and around (x, y), in the order C, N, NE, E, SE, S, SW, W, NW; y grows downwards
-abbrev pub around : World → ℤ → ℤ → List ℕ
-around w x y =
-    cell w x y
-    ∷ cell w x (y -ℤ pos 1)
-    ∷ cell w (x +ℤ pos 1) (y -ℤ pos 1)
-    ∷ cell w (x +ℤ pos 1) y
-    ∷ cell w (x +ℤ pos 1) (y +ℤ pos 1)
-    ∷ cell w x (y +ℤ pos 1)
-    ∷ cell w (x -ℤ pos 1) (y +ℤ pos 1)
-    ∷ cell w (x -ℤ pos 1) y
-    ∷ cell w (x -ℤ pos 1) (y -ℤ pos 1)
+-- how far the places at and around one lie to the right of it and below it, in the order C, N, NE, E, SE, S, SW, W, NW
+abbrev pub offsets : List (ℤ × ℤ)
+offsets =
+    (pos 0, pos 0)
+    ∷ (pos 0, negsuc 0)
+    ∷ (pos 1, negsuc 0)
+    ∷ (pos 1, pos 0)
+    ∷ (pos 1, pos 1)
+    ∷ (pos 0, pos 1)
+    ∷ (negsuc 0, pos 1)
+    ∷ (negsuc 0, pos 0)
+    ∷ (negsuc 0, negsuc 0)
     ∷ []
+
+-- the states at and around (x, y), in that order
+abbrev pub around : World → ℤ → ℤ → List ℕ
+around w x y = map (λ (o : ℤ × ℤ). cell w (x +ℤ o.0) (y +ℤ o.1)) offsets
 
 -- the states around a cell in an empty part of the plane
 abbrev pub nine_zeros : List ℕ
@@ -35,21 +39,11 @@ pub record AreNineBelow (n : ℕ) (states : List ℕ) : Type 0 where
 
 -- the places at and around one
 abbrev pub places_around : Place → List Place
-places_around p =
-    (p.0, p.1)
-    ∷ (p.0 -ℤ pos 1, p.1)
-    ∷ (p.0 -ℤ pos 1, p.1 +ℤ pos 1)
-    ∷ (p.0, p.1 +ℤ pos 1)
-    ∷ (p.0 +ℤ pos 1, p.1 +ℤ pos 1)
-    ∷ (p.0 +ℤ pos 1, p.1)
-    ∷ (p.0 +ℤ pos 1, p.1 -ℤ pos 1)
-    ∷ (p.0, p.1 -ℤ pos 1)
-    ∷ (p.0 -ℤ pos 1, p.1 -ℤ pos 1)
-    ∷ []
+places_around p = map (λ (o : ℤ × ℤ). (p.0 +ℤ o.1, p.1 +ℤ o.0)) offsets
 
 -- the places that have a live cell at or around them
 pub near_live : World → List Place
-near_live w = flat_map places_around (map.keys w)
+near_live w = flat_map places_around (finite.keys w)
 
 -- the next generation: at each place near a live cell the next of the nine states, 0 elsewhere
 pub step : (List ℕ → ℕ) → World → World
@@ -69,8 +63,8 @@ around_listed p q (k ∷ ks) h t =
 far : (w : World) (p q : Place) → list_any (same_place p) (near_live w) ≡ false → list_any (same_place p) (places_around q) ≡ true → cell w q.1 q.0 ≡ 0
 unfolding near_live
 far w p q h t =
-    elim (list_any (same_place q) (map.keys w)) as (λ b. list_any (same_place q) (map.keys w) ≡ b → cell w q.1 q.0 ≡ 0) [
-      | true ↦ λ e. let near = around_listed p q (map.keys w) e t in cc
+    elim (list_any (same_place q) (finite.keys w)) as (λ b. list_any (same_place q) (finite.keys w) ≡ b → cell w q.1 q.0 ≡ 0) [
+      | true ↦ λ e. let near = around_listed p q (finite.keys w) e t in cc
       | false ↦ λ e. cell-dead w q.1 q.0 e
     ] refl
 
@@ -78,19 +72,23 @@ far w p q h t =
 far_at : (w : World) (p q : Place) (i : ℕ) → list_any (same_place p) (near_live w) ≡ false → i < 9 → p.0 ≡ (get_or (places_around q) i p).0 → p.1 ≡ (get_or (places_around q) i p).1 → cell w q.1 q.0 ≡ 0
 far_at w p q i h l e f = far w p q h (list_any_at (same_place p) (places_around q) i p l (is_same p _ e f))
 
+-- the cell at an offset from a place that isn't near a live cell, where the offset's opposite is the i-th
+far_off : (w : World) (x y : ℤ) (i : ℕ) (o : ℤ × ℤ) → list_any (same_place (y, x)) (near_live w) ≡ false → i < 9 → y ≡ (get_or (places_around (y +ℤ o.1, x +ℤ o.0)) i (y, x)).0 → x ≡ (get_or (places_around (y +ℤ o.1, x +ℤ o.0)) i (y, x)).1
+    → cell w (x +ℤ o.0) (y +ℤ o.1) ≡ 0
+far_off w x y i o h l e f = far_at w (y, x) (y +ℤ o.1, x +ℤ o.0) i h l e f
+
 far_around : (w : World) (x y : ℤ) → list_any (same_place (y, x)) (near_live w) ≡ false → around w x y ≡ nine_zeros
 far_around w x y h =
-    let p : Place = (y, x) in
-    let c : cell w x y ≡ 0 = far_at w p (y, x) 0 h (lit< tt) refl refl in
-    let n : cell w x (y -ℤ pos 1) ≡ 0 = far_at w p (y -ℤ pos 1, x) 5 h (lit< tt) (omega (arith, ints)) refl in
-    let ne : cell w (x +ℤ pos 1) (y -ℤ pos 1) ≡ 0 = far_at w p (y -ℤ pos 1, x +ℤ pos 1) 6 h (lit< tt) (omega (arith, ints)) (omega (arith, ints)) in
-    let e : cell w (x +ℤ pos 1) y ≡ 0 = far_at w p (y, x +ℤ pos 1) 7 h (lit< tt) refl (omega (arith, ints)) in
-    let se : cell w (x +ℤ pos 1) (y +ℤ pos 1) ≡ 0 = far_at w p (y +ℤ pos 1, x +ℤ pos 1) 8 h (lit< tt) (omega (arith, ints)) (omega (arith, ints)) in
-    let s : cell w x (y +ℤ pos 1) ≡ 0 = far_at w p (y +ℤ pos 1, x) 1 h (lit< tt) (omega (arith, ints)) refl in
-    let sw : cell w (x -ℤ pos 1) (y +ℤ pos 1) ≡ 0 = far_at w p (y +ℤ pos 1, x -ℤ pos 1) 2 h (lit< tt) (omega (arith, ints)) (omega (arith, ints)) in
-    let v : cell w (x -ℤ pos 1) y ≡ 0 = far_at w p (y, x -ℤ pos 1) 3 h (lit< tt) refl (omega (arith, ints)) in
-    let nw : cell w (x -ℤ pos 1) (y -ℤ pos 1) ≡ 0 = far_at w p (y -ℤ pos 1, x -ℤ pos 1) 4 h (lit< tt) (omega (arith, ints)) (omega (arith, ints)) in
-    cc
+    let c = far_off w x y 0 (pos 0, pos 0) h (lit< tt) (omega (arith, ints)) (omega (arith, ints)) in
+    let n = far_off w x y 5 (pos 0, negsuc 0) h (lit< tt) (omega (arith, ints)) (omega (arith, ints)) in
+    let ne = far_off w x y 6 (pos 1, negsuc 0) h (lit< tt) (omega (arith, ints)) (omega (arith, ints)) in
+    let e = far_off w x y 7 (pos 1, pos 0) h (lit< tt) (omega (arith, ints)) (omega (arith, ints)) in
+    let se = far_off w x y 8 (pos 1, pos 1) h (lit< tt) (omega (arith, ints)) (omega (arith, ints)) in
+    let s = far_off w x y 1 (pos 0, pos 1) h (lit< tt) (omega (arith, ints)) (omega (arith, ints)) in
+    let sw = far_off w x y 2 (negsuc 0, pos 1) h (lit< tt) (omega (arith, ints)) (omega (arith, ints)) in
+    let v = far_off w x y 3 (negsuc 0, pos 0) h (lit< tt) (omega (arith, ints)) (omega (arith, ints)) in
+    let nw = far_off w x y 4 (negsuc 0, negsuc 0) h (lit< tt) (omega (arith, ints)) (omega (arith, ints)) in
+    λ i. c i ∷ n i ∷ ne i ∷ e i ∷ se i ∷ s i ∷ sw i ∷ v i ∷ nw i ∷ []
 
 by_listed : (b : Bool) (s : ℕ) → (b ≡ false → s ≡ 0) → cond b s 0 ≡ s
 by_listed true s h = refl
@@ -105,7 +103,7 @@ cell-step next quiet w x y =
     ∙ by_listed _ _ (λ far_off. ap next (far_around w x y far_off) ∙ quiet)
 
 -- `step`, by the places of the live cells
-pub step-fill : (next : List ℕ → ℕ) (w : World) → step next w ≡ fill (flat_map places_around (map.keys w)) (λ x y. next (around w x y)) blank
+pub step-fill : (next : List ℕ → ℕ) (w : World) → step next w ≡ fill (flat_map places_around (finite.keys w)) (λ x y. next (around w x y)) blank
 unfolding step near_live
 step-fill next w = refl
 

@@ -10,30 +10,36 @@ use crate::next::{Around, Next};
 use crate::plane::Plane;
 use std::alloc::{AllocError, Global};
 
-// The place of a cell.
+// The place of a cell, or how far one lies from another.
 #[derive(Clone, Copy, Debug)]
 struct Spot {
     x: i64,
     y: i64,
 }
 
+// How far the places at and around one lie from it, in the order of `Around`.
+const OFFSETS: [Spot; 9] = [
+    Spot { x: 0, y: 0 },
+    Spot { x: 0, y: -1 },
+    Spot { x: 1, y: -1 },
+    Spot { x: 1, y: 0 },
+    Spot { x: 1, y: 1 },
+    Spot { x: 0, y: 1 },
+    Spot { x: -1, y: 1 },
+    Spot { x: -1, y: 0 },
+    Spot { x: -1, y: -1 },
+];
+
 // The nine states at and around a place.
 fn states_around(plane: &Plane, spot: Spot) -> Around
     requires { IsInside 0 spot.x spot.y }
     ensures { result.0 ≡ around plane.now spot.x spot.y }
 {
-    let Spot { x, y } = spot;
-    Around([
-        plane.get(x, y),
-        plane.get(x, y - 1),
-        plane.get(x + 1, y - 1),
-        plane.get(x + 1, y),
-        plane.get(x + 1, y + 1),
-        plane.get(x, y + 1),
-        plane.get(x - 1, y + 1),
-        plane.get(x - 1, y),
-        plane.get(x - 1, y - 1),
-    ])
+    let mut states = [0; 9];
+    for (i, offset) in OFFSETS.iter().enumerate() {
+        states[i] = plane.get(spot.x + offset.x, spot.y + offset.y);
+    }
+    Around(states)
 }
 
 // Sets one cell of `later` to what follows from `plane`.
@@ -62,16 +68,13 @@ fn set_around<R: Next>(
     requires inside { IsInside 1 cell.x cell.y }
     ensures { OnOk result (later.new ≡ fill (places_around (cell.y, cell.x)) (λ x y. R.meaning rule.now (around plane.now x y)) later.old) }
 {
-    let Cell { x, y, .. } = cell;
-    set_next(rule, plane, later, Spot { x, y })?;
-    set_next(rule, plane, later, Spot { x, y: y - 1 })?;
-    set_next(rule, plane, later, Spot { x: x + 1, y: y - 1 })?;
-    set_next(rule, plane, later, Spot { x: x + 1, y })?;
-    set_next(rule, plane, later, Spot { x: x + 1, y: y + 1 })?;
-    set_next(rule, plane, later, Spot { x, y: y + 1 })?;
-    set_next(rule, plane, later, Spot { x: x - 1, y: y + 1 })?;
-    set_next(rule, plane, later, Spot { x: x - 1, y })?;
-    set_next(rule, plane, later, Spot { x: x - 1, y: y - 1 })?;
+    for offset in &OFFSETS {
+        let spot = Spot {
+            x: cell.x + offset.x,
+            y: cell.y + offset.y,
+        };
+        set_next(rule, plane, later, spot)?;
+    }
     Ok(())
 }
 

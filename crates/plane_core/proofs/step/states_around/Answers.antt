@@ -1,20 +1,30 @@
-use Rattle.std.proofs.Common.{◌∙◌, arith}
+use Rattle.std.proofs.Common.{◌≡◌, ◌∙◌, sym, ap₂, arith, ◌<◌, ◌++◌, ◌≤◌, [], ◌∷◌, get_or, length, ℕ, List, pos}
 use Rattle.std.proofs.lemmas.Int.{ints}
-use Rattle.plane_core.proofs.Cells.{same_cell, nine}
+use Rattle.std.proofs.lemmas.List.{take_more, take_more_set, take_all, length-set}
+use Rattle.plane_core.specs.Step.{around}
+use Rattle.plane_core.proofs.Cells.{same_cell}
+use Rattle.plane_core.proofs.Offsets.{near_at, state_at}
 use Rattle.plane_core.proofs.step.states_around.Goals as goal
 
-pub returns : goal.returns
-returns c =
+pub loop-i-preserved : goal.loop-i-preserved
+loop-i-preserved c =
     let w = c.args.plane.now in
     let x = c.args.spot.x in
     let y = c.args.spot.y in
-    nine w x y
-    (c.get.ensures.state ∙ same_cell w _ _ _ _ (omega (arith, ints)) (omega (arith, ints)))
-    (c.get-2.ensures.state ∙ same_cell w _ _ _ _ (omega (arith, ints)) (omega (arith, ints)))
-    (c.get-3.ensures.state ∙ same_cell w _ _ _ _ (omega (arith, ints)) (omega (arith, ints)))
-    (c.get-4.ensures.state ∙ same_cell w _ _ _ _ (omega (arith, ints)) (omega (arith, ints)))
-    (c.get-5.ensures.state ∙ same_cell w _ _ _ _ (omega (arith, ints)) (omega (arith, ints)))
-    (c.get-6.ensures.state ∙ same_cell w _ _ _ _ (omega (arith, ints)) (omega (arith, ints)))
-    (c.get-7.ensures.state ∙ same_cell w _ _ _ _ (omega (arith, ints)) (omega (arith, ints)))
-    (c.get-8.ensures.state ∙ same_cell w _ _ _ _ (omega (arith, ints)) (omega (arith, ints)))
-    (c.get-9.ensures.state ∙ same_cell w _ _ _ _ (omega (arith, ints)) (omega (arith, ints)))
+    let i = c.loop-i.i in
+    let below : i < 9 = omega arith in
+    let within : i < length c.loop-i.states = omega (arith, c.loop-i.invariant.nine) in
+    let near = near_at i (record { x = pos 0; y = pos 0 }) below in
+    let state : c.get.result ≡ get_or (around w x y) i 0 =
+    c.get.ensures.state ∙ same_cell w _ _ _ _ (omega (arith, ints)) (omega (arith, ints)) ∙ sym (state_at w x y i (record { x = pos 0; y = pos 0 }) below) in
+    record {
+      states = take_more_set c.loop-i.states i c.get.result within ∙ ap₂ (λ (ss : List ℕ) (s : ℕ). ss ++ s ∷ []) c.loop-i.invariant.states state ∙ sym (take_more (around w x y) i 0 below);
+      nine = length-set c.loop-i.states i c.get.result ∙ c.loop-i.invariant.nine;
+    }
+
+pub returns : goal.returns
+returns c =
+    let all : 9 ≤ c.loop-i.i = omega arith in
+    sym (take_all c.loop-i.i c.loop-i.states (omega (arith, c.loop-i.invariant.nine)))
+    ∙ c.loop-i.invariant.states
+    ∙ take_all c.loop-i.i (around c.args.plane.now c.args.spot.x c.args.spot.y) all
