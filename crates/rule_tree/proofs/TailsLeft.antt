@@ -9,11 +9,8 @@ use Rattle.std.proofs.lemmas.List.Elements.{All-push}
 use Rattle.std.proofs.lemmas.List.Folds.{list_any-append}
 use Rattle.rule_tree.specs.declared.layers.Layer.{Layer}
 use Rattle.rule_tree.specs.Layers.{lets, rest_at}
+use Rattle.rule_tree.specs.TailsFound.{AreMarked, IsFound, is_in}
 use Rattle.rule_tree.specs.Translation.{LeftOf, first_some}
-
--- whether a number is among these
-abbrev pub is_in : ℕ → List ℕ → Bool
-is_in n xs = list_any (nat_eq n) xs
 
 option_or-none : (a : Option ℕ) → option_or a None ≡ a
 option_or-none None = refl
@@ -41,11 +38,6 @@ first_some-again f (y ∷ xs) x there = by (nat_eq x y) refl (λ e. first_some-a
     by true e rest = ap (λ z. option_or (first_some f (y ∷ xs)) (f z)) (eqb-true x y e) ∙ option_or-again (f y) (first_some f xs)
     by false e rest = option_or-assoc (f y) (first_some f xs) (f x) ∙ ap (option_or (f y)) (rest e)
 
--- each number is below the count of marks, and a mark that is true stands for one of the numbers
-pub record AreMarked (marks : List Bool) (found : List ℕ) : Type 0 where
-  pub marked : (k : ℕ) → k < length marks → slice_index_or marks k false ≡ true → is_in k found ≡ true
-  pub inside : All (λ n. n < length marks) found
-
 -- no mark is true where there is no number
 pub none-marked : (marks : List Bool) → AreMarked marks [] → All (λ b. b ≡ false) marks
 none-marked marks known k d less = by (slice_index_or marks k d) refl
@@ -69,11 +61,6 @@ marked-push marks found known n inside = record {
     by : (k : ℕ) → ((nat_eq k n ≡ true) × (k ≡ n)) ⊎ ((nat_eq k n ≡ false) × (k ≢ n)) → k < length marks → slice_index_or (set marks n true) k false ≡ true → is_in k (found ++ n ∷ []) ≡ true
     by k (inl (e, same)) less h = list_any-append (nat_eq k) found (n ∷ []) ∙ either (is_in k found) (nat_eq k n || false) (inr (ap (λ b. b || false) e))
     by k (inr (e, other)) less h = list_any-append (nat_eq k) found (n ∷ []) ∙ either (is_in k found) (nat_eq k n || false) (inl (known.marked k less (sym (get_or-set_other marks n k true false other) ∙ h)))
-
--- what was found of what tails leave, with its marks
-pub record IsFound (layer : Layer) (state : ℕ) (passed : List ℕ) (marks : List Bool) (found : List ℕ) : Type 0 where
-  pub left : LeftOf layer state passed found
-  pub marked : AreMarked marks found
 
 -- what is asked of what a tail leaves
 abbrev asked : Layer → ℕ → (ℕ → Option ℕ) → ℕ → Option ℕ

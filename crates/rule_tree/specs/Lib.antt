@@ -6,6 +6,7 @@ pub mod NodesNeeded
 pub mod Rule
 pub mod RuleLaws
 pub mod Starts
+pub mod TailsFound
 pub mod Translation
 pub mod Tree
 pub mod TreeFaults

@@ -31,10 +31,3 @@ pub use translation::from_table;
 pub use tree::{Neighbors, TreeRule};
 pub use tree_fault::TreeFault;
 pub use tree_reader::read_tree;
-
-#[cfg(test)]
-mod rule_tests;
-#[cfg(test)]
-mod tests;
-#[cfg(test)]
-mod translation_tests;

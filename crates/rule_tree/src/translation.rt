@@ -6,10 +6,11 @@
 //! different list once, and then made nodes from the leaves up, where equal nodes are shared. It is
 //! the subset construction of automata, and the sharing of decision diagrams (Bryant 1986). It costs
 //! for each different list one pass over its tails for each state.
-ghost use Rattle.std.specs.Prelude.{◌≡◌, ◌≤◌, ◌<◌, ◌+◌, ◌-◌, ◌∷◌, [], length, map, slice_index, slice_index_or, unwrap_or, ℕ, List, false, true, All, IfErr, IfOk, OnOk, Some, None, if◌then◌else◌};
+ghost use Rattle.std.specs.Prelude.{◌≡◌, ◌≤◌, ◌<◌, ◌+◌, ◌-◌, ◌∷◌, ◌++◌, [], length, map, slice_index, slice_index_or, unwrap_or, ℕ, List, false, true, All, IfErr, IfOk, OnOk, Some, None, if◌then◌else◌};
 ghost use Rattle.rule_tree.specs.declared.tree_fault.TreeFault.TheVariants.{NoMemory, TreeTooLarge};
 ghost use Rattle.rule_tree.specs.Layers.{Fit, IsGrownBy, IsLayer, lets, rest_at};
 ghost use Rattle.rule_tree.specs.NodesNeeded.{NeedsNodes};
+ghost use Rattle.rule_tree.specs.TailsFound.{AreMarked, IsFound};
 ghost use Rattle.rule_tree.specs.Starts.{AreReached, AreToldApart, IsReached, NeedStarts, lists_give};
 ghost use Rattle.plane_core.specs.Step.{nine_zeros};
 ghost use Rattle.table_symmetry.specs.NextState.{next};
@@ -273,16 +274,44 @@ fn tails_left(
 {
     found.clear();
     for number in list {
-        let rest = layer.tails[*number as usize].rest;
-        if !is_there[rest as usize] && layer.lets(*number, state) {
-            is_there[rest as usize] = true;
-            found.push(rest)?;
-        }
+        add_rest(layer, state, *number, is_there, found)?;
     }
-    for rest in found.iter() {
+    unmark(is_there, found);
+    Ok(())
+}
+
+// Adds what is left of one more tail behind an input of this state, where it isn't there already.
+fn add_rest(
+    layer: &Layer,
+    state: u8,
+    number: u32,
+    is_there: &mut [bool],
+    found: &mut Vec<u32>,
+) -> Result<(), AllocError>
+    requires layer { IsLayer layer.now (length is_there.old) }
+    requires inside { number < length layer.now.tails.items }
+    ensures { OnOk result ((passed : List ℕ) → IsFound layer.now state passed is_there.old found.old.items → IsFound layer.now state (passed ++ number ∷ []) is_there.new found.new.items) }
+{
+    let rest = layer.tails[number as usize].rest;
+    if is_there[rest as usize] {
+        return Ok(());
+    }
+    if !layer.lets(number, state) {
+        return Ok(());
+    }
+    is_there[rest as usize] = true;
+    found.push(rest)?;
+    Ok(())
+}
+
+// Takes away the marks of these.
+fn unmark(is_there: &mut [bool], found: &[u32])
+    requires { AreMarked is_there.old found.now }
+    ensures { All (λ b. b ≡ false) is_there.new }
+{
+    for rest in found {
         is_there[*rest as usize] = false;
     }
-    Ok(())
 }
 
 // The number of a list among these, of which it becomes the last where it isn't there. It is
