@@ -1,7 +1,8 @@
 //! Rules as files have them.
 ghost use Rattle.std.specs.Prelude.{◌≡◌, ◌<◌, ℕ, List, All, IfOk};
+ghost use Rattle.std.specs.Option.{option_map};
 ghost use Rattle.rule_file.specs.Results.{Gives};
-ghost use Rattle.rule_tree.specs.Rule.{IsTranslation, kind_of, name_of, next_of, next_under_kind, plain_next, rule_of, still};
+ghost use Rattle.rule_tree.specs.Rule.{IsAsked, IsTranslated, kind_of, name_of, next_of, next_under_kind, plain_next, rule_of, states_of, still};
 
 use crate::translation::from_table;
 use crate::tree::TreeRule;
@@ -36,11 +37,11 @@ impl Model for Rule {
 
     ghost Value = { NamedRule };
 
-    ghost use Rattle.rule_tree.specs.Rule.{IsTranslation};
+    ghost use Rattle.rule_tree.specs.Rule.{IsKeptRule};
 
     ghost view = { λ rule. record { name = rule.name; kind = rule.kind } };
 
-    ghost invariant = { λ rule. IsTranslation rule.kind rule.translation };
+    ghost invariant = { λ rule. IsKeptRule rule.kind rule.translation };
 }
 
 impl Rule {
@@ -70,10 +71,12 @@ impl Rule {
         ensures { IfOk result (λ rule. rule ≡ still) }
     {
         let name = Listing::from_vec(b"still".to_vec(alloc)?);
+        let kind = Kind::Table(TableRule::still(alloc));
+        let translation = translated(alloc, &kind)?;
         Ok(Rule {
             name,
-            kind: Kind::Table(TableRule::still(alloc)),
-            translation: None,
+            kind,
+            translation,
         })
     }
 
@@ -82,6 +85,17 @@ impl Rule {
         ensures { result.now ≡ name_of self.now }
     {
         self.name.as_slice()
+    }
+
+    /// The tree that is asked for the next states: the rule's own, or the translation of its table.
+    /// None where each tree that does what the table does has more than 1,000,000 nodes.
+    pub fn tree(&self) -> Option<&TreeRule>
+        ensures { IsAsked self.now.kind (option_map (λ tree. tree.now) result) }
+    {
+        match &self.kind {
+            Kind::Table(_) => self.translation.as_ref(),
+            Kind::Tree(tree) => Some(tree),
+        }
     }
 }
 
@@ -99,8 +113,7 @@ fn read_kind(alloc: Global, file: &RuleText) -> Result<Kind, RuleFault>
 
 // The tree of a table, unless it is too large.
 fn translated(alloc: Global, kind: &Kind) -> Result<Option<TreeRule>, AllocError>
-    requires { (around : List ℕ) → next_under_kind kind.now around ≡ plain_next kind.now around }
-    ensures { IfOk result (λ tree. IsTranslation kind.now tree) }
+    ensures { IfOk result (λ tree. IsTranslated kind.now tree) }
 {
     match kind {
         Kind::Tree(_) => Ok(None),
@@ -131,7 +144,11 @@ impl Next for Rule {
         }
     }
 
-    fn next(&self, around: &Around) -> u8 {
+    fn next(&self, around: &Around) -> u8
+        requires { All (λ s. s < states_of self.now) around.now.0 }
+        ensures value { result ≡ next_of self.now around.now.0 }
+        ensures plain { result ≡ plain_next self.now.kind around.now.0 }
+    {
         if let Some(tree) = &self.translation {
             return tree.next(around);
         }

@@ -33,6 +33,7 @@ use table_symmetry::{Expanded, Neighborhood, TableRule};
 /// the smallest tree has more than 1,000,000 nodes, NoMemory only where memory was wanted.
 pub fn from_table(alloc: Global, table: &TableRule) -> Result<TreeRule, TreeFault>
     ensures translates { IfOk result (λ tree. Translates table.now tree) }
+    ensures few { IfOk result (λ tree. length tree.nodes ≤ node_limit) }
     ensures smallest { IfOk result (λ tree. NeedsNodes table.now (length tree.nodes)) }
     ensures large { IfErr result (λ fault. fault ≡ TreeTooLarge → NeedsNodes table.now (node_limit + 1)) }
 {
