@@ -1,6 +1,8 @@
 -- What the program answers and says at its end.
-use Rattle.std.specs.Prelude.{ℕ, List, Option, Some, None, codes}
+use Rattle.std.specs.Prelude.{◌≡◌, ◌⊎◌, ℕ, List, Option, Some, None, codes}
 use Rattle.desk_server.specs.declared.server.RunFault.TheVariants.{Read, Write, NoMemory}
+use Rattle.desk_words.specs.declared.words.WordsFault.{WordsFault}
+use Rattle.desk_words.specs.declared.words.WordsFault.TheVariants as words
 use Rattle.desk.specs.declared.ending.Ending.{Ending}
 use Rattle.desk.specs.declared.ending.Ending.TheVariants.{Done, Refused, Failed}
 
@@ -19,3 +21,9 @@ text_of Refused = None
 text_of (Failed Read) = Some (codes "desk: reading failed")
 text_of (Failed Write) = Some (codes "desk: writing failed")
 text_of (Failed NoMemory) = Some (codes "desk: no memory")
+
+-- words that start no run end the program so: where help can't be written, that is a fault of the writer
+abbrev pub EndsBy : WordsFault → Ending → Type 0
+EndsBy (words.Help text) ending = (ending ≡ Done) ⊎ (ending ≡ Failed Write)
+EndsBy (words.Refused text) ending = ending ≡ Refused
+EndsBy words.NoMemory ending = ending ≡ Failed NoMemory

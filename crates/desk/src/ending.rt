@@ -1,8 +1,9 @@
 //! How the program ends.
 ghost use Rattle.std.specs.Prelude.{◌≡◌, MatchResult, option_map};
-ghost use Rattle.desk.specs.Ending.{status_of, text_of};
+ghost use Rattle.desk.specs.Ending.{EndsBy, status_of, text_of};
 
 use desk_server::RunFault;
+use desk_words::WordsFault;
 
 /// How the program ends.
 #[derive(Clone, Copy, Debug, PartialEq, Eq)]
@@ -49,5 +50,27 @@ impl Ending {
             Ending::Failed(RunFault::Write) => Some("desk: writing failed"),
             Ending::Failed(RunFault::NoMemory) => Some("desk: no memory"),
         }
+    }
+}
+
+/// Writes the help that was asked for to standard output, or says on standard error why the words
+/// were refused. Want of memory is told with the program's ending.
+pub fn report<R: Print + Eprint>(rt: &R, fault: &WordsFault) -> Ending
+    ensures { EndsBy fault.now result }
+{
+    match fault {
+        WordsFault::Help(text) => {
+            if rt.print(text.as_str()).is_ok() {
+                Ending::Done
+            } else {
+                Ending::Failed(RunFault::Write)
+            }
+        }
+        WordsFault::Refused(text) => {
+            // Where standard error takes nothing, the status alone tells.
+            let _ = rt.eprint(text.as_str());
+            Ending::Refused
+        }
+        WordsFault::NoMemory => Ending::Failed(RunFault::NoMemory),
     }
 }

@@ -11,18 +11,19 @@ ghost use Rattle.desk_server.specs.Run.{AnswersAll, AnswersFront, AnswersWhole};
 ghost use Rattle.desk.specs.Ending.{status_of};
 
 mod ending;
-mod words;
 
 use desk_server::{Counted, RunFault, run};
-use ending::Ending;
+use desk_words::check_words;
+use ending::{Ending, report};
 use std::alloc::Global;
+use std::env;
 use std::io::{Read, Write};
 use std::marker::Brand;
 use std::process::ExitCode;
 use std::sync::ledger::{Blank, Ledger};
 
 fn main(rt: HostRuntime) -> ExitCode {
-    let ending = match words::check(&rt) {
+    let ending = match check_words(rt.alloc(), env::args(&rt)) {
         Ok(()) => {
             let (answered, _, _) = answer::<_, _, Brand, Brand>(
                 rt.alloc(),
@@ -33,7 +34,7 @@ fn main(rt: HostRuntime) -> ExitCode {
             );
             Ending::of_run(answered)
         }
-        Err(error) => words::report(&rt, &error),
+        Err(fault) => report(&rt, &fault),
     };
     end(&rt, ending)
 }

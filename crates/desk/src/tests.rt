@@ -1,20 +1,20 @@
-//! The words, what is written where, and the endings.
-use crate::ending::Ending;
-use crate::{answer, end, words};
-use clap::Error;
-use clap::error::ErrorKind;
+//! What is written where, and the endings.
+use crate::ending::{Ending, report};
+use crate::{answer, end};
 use desk_server::RunFault;
+use desk_words::WordsFault;
 use std::alloc::Global;
 use std::cell::Cell;
-use std::env::FillError;
-use std::fmt::Display;
+use std::fmt::{Debug, Display};
 use std::io;
 use std::io::{Read, Write};
 use std::marker::Brand;
-use std::process::ExitCode;
-use std::rt::Env;
+use std::process::{Abort, ExitCode};
 use std::sync::ledger::Blank;
-use std::test::Fail;
+
+fn same<T: PartialEq + Debug, A: Debug>(rt: &impl Abort, found: &T, wanted: &T, at: &A) {
+    assert_eq!(rt; *found, *wanted, "at {at:?}");
+}
 
 // Standard output and standard error that count what they are given, and take it or not.
 #[derive(Drop)]
@@ -66,33 +66,6 @@ impl Eprint for Outputs {
     }
 }
 
-// The words that a program is started with, as bytes.
-#[derive(Drop)]
-struct Started<'a> {
-    words: &'a [&'a [u8]],
-}
-
-impl Env for Started<'_> {
-    fn arg(&self, i: usize, buf: &mut [u8]) -> Result<usize, FillError> {
-        let Some(word) = self.words.get(i) else {
-            return Err(FillError::NotPresent);
-        };
-        if word.len() > buf.len() {
-            return Err(FillError::TooLong);
-        }
-        buf[..word.len()].copy_from_slice(word);
-        Ok(word.len())
-    }
-
-    fn var(&self, _name: &str, _buf: &mut [u8]) -> Result<usize, FillError> {
-        Err(FillError::NotPresent)
-    }
-
-    fn var_at(&self, _i: usize, _buf: &mut [u8]) -> Result<usize, FillError> {
-        Err(FillError::NotPresent)
-    }
-}
-
 // A device that fails at once.
 #[derive(Drop)]
 struct Broken;
@@ -113,97 +86,49 @@ impl Write for Broken {
     }
 }
 
-// The kind of the error, if there is one.
-fn kind(answer: Result<(), Error>) -> Option<ErrorKind> {
-    answer.err().map(|error| error.kind())
+// How a fault of the words is told: the ending, and how often each device is given something.
+fn is_told(rt: &impl Abort, fault: &WordsFault, fails: bool, ending: Ending, out: u8, err: u8) {
+    let outputs = Outputs::new(fails);
+    same(rt, &report(&outputs, fault), &ending, &fails);
+    same(rt, &outputs.out.get(), &out, &fails);
+    same(rt, &outputs.err.get(), &err, &fails);
 }
 
-#[test]
-fn words_are_read(rt: HostRuntime) {
-    let help = Some(ErrorKind::DisplayHelp);
-    let unknown = Some(ErrorKind::UnknownArgument);
-    let rows: [(&[&str], Option<ErrorKind>); 11] = [
-        (&[], None),
-        (&["desk"], None),
-        (&["desk", "--"], None),
-        (&["desk", "-h"], help),
-        (&["./desk", "--help"], help),
-        (&["desk", "-h", "work"], help),
-        (&["desk", "work", "-h"], unknown),
-        (&["desk", "help"], unknown),
-        (&["desk", ""], unknown),
-        (&["desk", "--version"], unknown),
-        (&["desk", "--help=all"], Some(ErrorKind::TooManyValues)),
-    ];
-    for (words, wanted) in rows {
-        assert_eq!(rt; kind(words::read(rt.alloc(), words)), wanted, "{words:?}");
-    }
-}
-
-#[test]
-fn words_come_from_the_start(rt: HostRuntime) {
-    let rows: [(&[&[u8]], Option<ErrorKind>); 4] = [
-        (&[b"desk"], None),
-        (&[b"desk", b"-h"], Some(ErrorKind::DisplayHelp)),
-        (&[b"desk", b"work"], Some(ErrorKind::UnknownArgument)),
-        (&[b"desk", b"\xff"], Some(ErrorKind::UnknownArgument)),
-    ];
-    for (words, wanted) in rows {
-        let started = (Started { words }, rt.alloc());
-        assert_eq!(rt; kind(words::check(&started)), wanted, "{words:?}");
-    }
+fn text(rt: &impl Abort, alloc: Global) -> String {
+    String::from_str(alloc, "text\n").expect(rt, "memory")
 }
 
 #[test]
 fn texts_are_written_where_they_belong(rt: HostRuntime) {
-    let written = Ending::Done;
-    let refused = Ending::Refused;
-    let unwritten = Ending::Failed(RunFault::Write);
-    for (word, fails, ending, out, err) in [
-        ("-h", false, written, 1, 0),
-        ("-h", true, unwritten, 1, 0),
-        ("work", false, refused, 0, 1),
-        ("work", true, refused, 0, 1),
-    ] {
-        let outputs = Outputs::new(fails);
-        let words = ["desk", word];
-        let error = words::read(rt.alloc(), &words).expect_err(&rt, "an error");
-        assert_eq!(rt; words::report(&outputs, &error), ending, "{word} {fails}");
-        assert_eq!(rt;
-            (outputs.out.get(), outputs.err.get()),
-            (out, err),
-            "{word} {fails}"
-        );
-    }
+    let help = WordsFault::Help(text(&rt, rt.alloc()));
+    is_told(&rt, &help, false, Ending::Done, 1, 0);
+    is_told(&rt, &help, true, Ending::Failed(RunFault::Write), 1, 0);
+    let refused = WordsFault::Refused(text(&rt, rt.alloc()));
+    is_told(&rt, &refused, false, Ending::Refused, 0, 1);
+    is_told(&rt, &refused, true, Ending::Refused, 0, 1);
+    let want = WordsFault::NoMemory;
+    is_told(&rt, &want, false, Ending::Failed(RunFault::NoMemory), 0, 0);
 }
 
-#[test]
-fn help_names_the_program(rt: HostRuntime) -> Result<(), Fail> {
-    let error = words::read(rt.alloc(), &["./desk", "-h"]).expect_err(&rt, "help");
-    let text = format!(in rt.alloc(); "{error}")?;
-    assert!(rt;
-        text.as_str()
-            .ends_with("\n\nUsage: desk\n\nOptions:\n  -h, --help  Print help\n"),
-        "{text}"
-    );
-    Ok(())
+fn ends_with(rt: &impl Abort, ending: Ending, status: u8, lines: u8, fails: bool) {
+    let outputs = Outputs::new(fails);
+    same(rt, &end(&outputs, ending), &ExitCode::from(status), &ending);
+    same(rt, &outputs.out.get(), &0, &ending);
+    same(rt, &outputs.err.get(), &lines, &ending);
+}
+
+fn ends_once(rt: &impl Abort, ending: Ending, status: u8, lines: u8) {
+    ends_with(rt, ending, status, lines, false);
+    ends_with(rt, ending, status, lines, true);
 }
 
 #[test]
 fn an_ending_is_told_once(rt: HostRuntime) {
-    for (ending, status, lines) in [
-        (Ending::Done, 0, 0),
-        (Ending::Failed(RunFault::Read), 1, 1),
-        (Ending::Failed(RunFault::Write), 1, 1),
-        (Ending::Refused, 2, 0),
-        (Ending::Failed(RunFault::NoMemory), 3, 1),
-    ] {
-        for fails in [false, true] {
-            let outputs = Outputs::new(fails);
-            assert_eq!(rt; end(&outputs, ending), ExitCode::from(status));
-            assert_eq!(rt; (outputs.out.get(), outputs.err.get()), (0, lines));
-        }
-    }
+    ends_once(&rt, Ending::Done, 0, 0);
+    ends_once(&rt, Ending::Failed(RunFault::Read), 1, 1);
+    ends_once(&rt, Ending::Failed(RunFault::Write), 1, 1);
+    ends_once(&rt, Ending::Refused, 2, 0);
+    ends_once(&rt, Ending::Failed(RunFault::NoMemory), 3, 1);
 }
 
 // The ending of a script, and what the writer then holds.
@@ -222,16 +147,16 @@ fn answer_counted<R: Read + Drop, W: Write>(alloc: Global, reader: R, writer: W)
 fn a_script_is_answered(rt: HostRuntime) {
     let alloc = rt.alloc();
     let (ending, written) = answer_counted(alloc, b"quit\n".as_slice(), Vec::new(alloc));
-    assert_eq!(rt; ending, Ending::Done);
-    assert_eq!(rt; written.as_slice(), b"bye\n".as_slice());
+    same(&rt, &ending, &Ending::Done, &"script");
+    same(&rt, &written.as_slice(), &b"bye\n".as_slice(), &"script");
 }
 
 #[test]
 fn devices_fail(rt: HostRuntime) {
     let alloc = rt.alloc();
     let (unread, written) = answer_counted(alloc, Broken, Vec::new(alloc));
-    assert_eq!(rt; unread, Ending::Failed(RunFault::Read));
-    assert_eq!(rt; written.as_slice(), b"".as_slice());
+    same(&rt, &unread, &Ending::Failed(RunFault::Read), &"reader");
+    same(&rt, &written.as_slice(), &b"".as_slice(), &"reader");
     let (unwritten, _) = answer_counted(alloc, b"quit\n".as_slice(), Broken);
-    assert_eq!(rt; unwritten, Ending::Failed(RunFault::Write));
+    same(&rt, &unwritten, &Ending::Failed(RunFault::Write), &"writer");
 }

@@ -16,8 +16,6 @@ mod heard;
 mod laws;
 mod reply;
 mod server;
-#[cfg(test)]
-mod tests;
 mod view;
 
 pub use laws::plain_without_wants;

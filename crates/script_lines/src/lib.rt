@@ -26,5 +26,3 @@ pub use script::{Script, TextFound};
 pub use text::Text;
 pub use words::next_word;
 
-#[cfg(test)]
-mod tests;

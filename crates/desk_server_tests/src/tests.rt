@@ -1,0 +1,68 @@
+//! Scripts, their replies, and devices that fail.
+ghost use Rattle.std.specs.Prelude.{◌≡◌, ◌<◌};
+
+mod devices;
+mod faults;
+mod first;
+mod scripts;
+mod starts;
+mod views;
+
+use crate::tests::devices::{Narrow, Pieces};
+use desk_server::{Counted, RunFault, run};
+use std::alloc::Global;
+use std::fmt::Debug;
+use std::marker::Brand;
+use std::process::Abort;
+use std::sync::ledger::{Blank, Ledger};
+
+// A script and the replies to it.
+pub struct Row {
+    pub script: &'static [u8],
+    pub replies: &'static [u8],
+}
+
+pub fn same<T: PartialEq + Debug, A: Debug>(rt: &impl Abort, found: &T, wanted: &T, at: &A) {
+    assert_eq!(rt; *found, *wanted, "at {at:?}");
+}
+
+fn answer_counted<L: Ledger, M: Ledger>(
+    alloc: Global,
+    pieces: Pieces<'_>,
+    narrow: Narrow,
+    reader_blank: Blank,
+    writer_blank: Blank,
+) -> (Result<(), RunFault>, Vec<u8>)
+    requires reader_name { reader_blank.name ≡ L.name }
+    requires reader_parts { reader_blank.parts ≡ L.parts }
+    requires reader_some { 0 < reader_blank.parts }
+    requires writer_name { writer_blank.name ≡ M.name }
+    requires writer_parts { writer_blank.parts ≡ M.parts }
+    requires writer_some { 0 < writer_blank.parts }
+{
+    let mut reader = Counted::<_, L>::new(pieces, reader_blank);
+    let mut writer = Counted::<_, M>::new(narrow, writer_blank);
+    let answered = run(alloc, &mut reader, &mut writer);
+    (answered, writer.inner.taken)
+}
+
+// How a run ended, and what was written where so many bytes may be.
+pub fn answer(alloc: Global, pieces: Pieces<'_>, limit: usize) -> (Result<(), RunFault>, Vec<u8>) {
+    let narrow = Narrow {
+        taken: Vec::new(alloc),
+        limit,
+    };
+    answer_counted::<Brand, Brand>(alloc, pieces, narrow, Blank::new(1), Blank::new(1))
+}
+
+// The whole script is answered by these replies.
+pub fn answers(rt: &impl Abort, alloc: Global, pieces: Pieces<'_>, replies: &[u8]) {
+    let at = (pieces.bytes, pieces.size);
+    let (answered, told) = answer(alloc, pieces, usize::MAX);
+    same(rt, &answered, &Ok(()), &at);
+    same(rt, &told.as_slice(), &replies, &at);
+}
+
+pub fn row_is_answered(rt: &impl Abort, alloc: Global, row: &Row) {
+    answers(rt, alloc, Pieces::whole(row.script), row.replies);
+}

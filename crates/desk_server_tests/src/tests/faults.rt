@@ -1,0 +1,98 @@
+//! Devices that fail at each place of the first script.
+use crate::tests::devices::Pieces;
+use crate::tests::first::{FIRST, FIRST_REPLIES};
+use crate::tests::{answer, same};
+use desk_server::RunFault;
+use std::alloc::Global;
+use std::process::Abort;
+
+// How many bytes of the first script were read where reading fails, and what is written.
+struct Break {
+    count: usize,
+    replies: &'static [u8],
+}
+
+const BREAKS: &[Break] = &[
+    Break {
+        count: 0,
+        replies: b"",
+    },
+    Break {
+        count: 4,
+        replies: b"",
+    },
+    Break {
+        count: 5,
+        replies: b"",
+    },
+    Break {
+        count: 100,
+        replies: b"",
+    },
+    Break {
+        count: 110,
+        replies: b"",
+    },
+    Break {
+        count: 111,
+        replies: b"ok 1\n",
+    },
+    Break {
+        count: 120,
+        replies: b"ok 1\n",
+    },
+    Break {
+        count: 121,
+        replies: b"ok 1\nok 2\n",
+    },
+    Break {
+        count: 135,
+        replies: b"ok 1\nok 2\nok 3 bookmark 1\n",
+    },
+    Break {
+        count: 142,
+        replies: b"ok 1\nok 2\nok 3 bookmark 1\nsettled\n",
+    },
+    Break {
+        count: 149,
+        replies: b"ok 1\nok 2\nok 3 bookmark 1\nsettled\nbookmark 1 current 4\n1 2\n",
+    },
+    Break {
+        count: 153,
+        replies: b"ok 1\nok 2\nok 3 bookmark 1\nsettled\nbookmark 1 current 4\n1 2\n",
+    },
+];
+
+fn reading_fails(rt: &impl Abort, alloc: Global, row: &Break) {
+    let pieces = Pieces {
+        bytes: &FIRST[..row.count.min(FIRST.len())],
+        size: 6,
+        fails: true,
+    };
+    let (answered, told) = answer(alloc, pieces, usize::MAX);
+    same(rt, &answered, &Err(RunFault::Read), &row.count);
+    same(rt, &told.as_slice(), &row.replies, &row.count);
+}
+
+#[test]
+fn a_read_fails_at_each_place(rt: HostRuntime) {
+    let alloc = rt.alloc();
+    for row in BREAKS {
+        reading_fails(&rt, alloc, row);
+    }
+}
+
+fn writing_fails(rt: &impl Abort, alloc: Global, limit: usize) {
+    let (answered, told) = answer(alloc, Pieces::whole(FIRST), limit);
+    same(rt, &answered, &Err(RunFault::Write), &limit);
+    same(rt, &told.len(), &limit, &limit);
+    same(rt, &FIRST_REPLIES.starts_with(&told), &true, &limit);
+}
+
+#[test]
+fn a_write_fails_at_each_place(rt: HostRuntime) {
+    let alloc = rt.alloc();
+    for limit in 0..FIRST_REPLIES.len() {
+        writing_fails(&rt, alloc, limit);
+    }
+}

@@ -1,0 +1,140 @@
+//! Scripts of every command.
+use crate::tests::devices::Pieces;
+use crate::tests::first::{FIRST, FIRST_REPLIES};
+use crate::tests::{Row, answers, row_is_answered};
+use std::alloc::Global;
+use std::process::Abort;
+
+const SCRIPTS: &[Row] = &[
+    Row {
+        script: FIRST,
+        replies: FIRST_REPLIES,
+    },
+    Row {
+        script: b"",
+        replies: b"",
+    },
+    Row {
+        script: b"quit",
+        replies: b"bye\n",
+    },
+    Row {
+        script: b"quit\nsettle\n",
+        replies: b"bye\n",
+    },
+    Row {
+        script: b"\n# quit\n \t\n  settle \t\r\n",
+        replies: b"settled\n",
+    },
+    // What is no command, with its line.
+    Row {
+        script: b"paint 3",
+        replies: b"refused 80 BadCommand 1\n",
+    },
+    Row {
+        script: b"\nwork\nrule X\nquit now\nshow\nshow 1 2\nshow x\nsettle 1\nstart mc\n",
+        replies: b"refused 80 BadCommand 2\nrefused 80 BadCommand 3\nrefused 80 BadCommand 4\nrefused 80 BadCommand 5\nrefused 80 BadCommand 6\nrefused 80 BadCommand 7\nrefused 80 BadCommand 8\nrefused 80 BadCommand 9\n",
+    },
+    Row {
+        script: b"set\nset 0\nset 0 0\nset 0 0 1 2\nset 0 0 -1\nset a 0 0\nmark 1\nmark counts\nmark -1 counts\nmark 1 mc\nmark 1 counts 2\n",
+        replies: b"refused 80 BadCommand 1\nrefused 80 BadCommand 2\nrefused 80 BadCommand 3\nrefused 80 BadCommand 4\nrefused 80 BadCommand 5\nrefused 80 BadCommand 6\nrefused 80 BadCommand 7\nrefused 80 BadCommand 8\nrefused 80 BadCommand 9\nrefused 80 BadCommand 10\nrefused 80 BadCommand 11\n",
+    },
+    // Texts without their end.
+    Row {
+        script: b"rule\n@RULE X\n",
+        replies: b"refused 81 NoEnd 1\n",
+    },
+    Row {
+        script: b"# one\nrule",
+        replies: b"refused 81 NoEnd 2\n",
+    },
+    Row {
+        script: b"rule\nend\nquit",
+        replies: b"refused 1 NoRuleLine\nbye\n",
+    },
+    // The empty pattern.
+    Row {
+        script: b"mark 0 counts\nshow 1\nshow 2\nshow 0\n",
+        replies: b"ok 1 bookmark 1\nbookmark 1 current 6\nempty\nrefused 44 NoSuchBookmark\nrefused 44 NoSuchBookmark\n",
+    },
+    // The ends of the ranges, and numbers beyond them.
+    Row {
+        script: b"set 1152921504606846975 0 1\nset 1152921504606846976 0 1\nset 0 -1152921504606846976 1\nset 0 -1152921504606846977 1\n",
+        replies: b"ok 1\nrefused 41 CellOutOfRange\nok 2\nrefused 41 CellOutOfRange\n",
+    },
+    Row {
+        script: b"mark 1152921504606846976 counts\nmark 1152921504606846977 counts\nmark 99999999999999999999999999 counts\n",
+        replies: b"ok 1 bookmark 1\nrefused 40 GenerationTooFar\nrefused 40 GenerationTooFar\n",
+    },
+    Row {
+        script: b"set 99999999999999999999 0 1\nset 0 -99999999999999999999 1\nset 0 0 65536\nset 0 0 2\nset 0 0 1\nshow 99999999999999999999\n",
+        replies: b"refused 41 CellOutOfRange\nrefused 41 CellOutOfRange\nrefused 42 CellStateTooHigh\nrefused 42 CellStateTooHigh\nok 1\nrefused 44 NoSuchBookmark\n",
+    },
+    // The last mention of a cell wins.
+    Row {
+        script: b"set 0 0 1 3 -4 1 0 0 0\nmark 0 counts\nshow 1\n",
+        replies: b"ok 1\nok 2 bookmark 1\nbookmark 1 current 4\n1 1\n",
+    },
+    // A result that is not state 0 where all around is.
+    Row {
+        script: b"rule\n@RULE Q\n@TABLE\nn_states:2\nneighborhood:oneDimensional\nsymmetries:none\n0,0,0,1\nend\nmark 0 counts\n",
+        replies: b"refused 13 NotQuiescent\nok 1 bookmark 1\n",
+    },
+    // A rule with too few states for the start.
+    Row {
+        script: b"rule\n@RULE F\n@TABLE\nn_states:4\nneighborhood:oneDimensional\nsymmetries:none\nend\nset 0 0 3\nrule\n@RULE X\n@TABLE\nn_states:2\nneighborhood:oneDimensional\nsymmetries:none\nend\nmark 7 counts\nshow 1\n",
+        replies: b"ok 1\nok 2\nrefused 42 CellStateTooHigh\nok 3 bookmark 1\nbookmark 1 current 4\n3 1\n",
+    },
+    // A rule's refusal tells its line within the text.
+    Row {
+        script: b"mark 0 counts\nrule\n@RULE Y\n@TABLE\nn_states:2\nneighborhood:oneDimensional\nsymmetries:none\n0,1,0\nend\nquit\n",
+        replies: b"ok 1 bookmark 1\nrefused 8 BadTransition 6\nbye\n",
+    },
+];
+
+#[test]
+fn scripts_are_answered(rt: HostRuntime) {
+    let alloc = rt.alloc();
+    for row in SCRIPTS {
+        row_is_answered(&rt, alloc, row);
+    }
+}
+
+fn first_by(rt: &impl Abort, alloc: Global, size: usize) {
+    let pieces = Pieces {
+        bytes: FIRST,
+        size,
+        fails: false,
+    };
+    answers(rt, alloc, pieces, FIRST_REPLIES);
+}
+
+#[test]
+fn scripts_come_in_any_pieces(rt: HostRuntime) {
+    let alloc = rt.alloc();
+    first_by(&rt, alloc, 1);
+    first_by(&rt, alloc, 2);
+    first_by(&rt, alloc, 7);
+}
+
+// A command that sets so many cells.
+fn cells(rt: &impl Abort, alloc: Global, count: usize) -> Vec<u8> {
+    let mut script = Vec::new(alloc);
+    script.extend_from_slice(b"set").expect(rt, "memory");
+    for _ in 0..count {
+        script.extend_from_slice(b" 5 6 1").expect(rt, "memory");
+    }
+    script
+}
+
+fn sets_many(rt: &impl Abort, alloc: Global, count: usize, replies: &[u8]) {
+    let script = cells(rt, alloc, count);
+    answers(rt, alloc, Pieces::whole(&script), replies);
+}
+
+#[test]
+fn many_cells_are_set_at_once(rt: HostRuntime) {
+    let alloc = rt.alloc();
+    sets_many(&rt, alloc, 10_000, b"ok 1\n");
+    sets_many(&rt, alloc, 10_001, b"refused 47 TooManyCells\n");
+}

@@ -1,0 +1,56 @@
+-- What is read where no word follows the program's name, or one word for help does.
+use Rattle.std.proofs.Common.{◌≡◌, ◌≤◌, inl, inr, refl, arith, ap, ◌∙◌, List, [], ◌∷◌, Result, Ok, Err, IfErr, IsErrAnd, codes, length, map}
+use Rattle.std.proofs.Math.Path.{subst}
+use Rattle.clap.specs.Words.{FailsBy, HasKind, Text, kind_of}
+use Rattle.clap.specs.declared.error.Error.{Error}
+use Rattle.clap.specs.declared.error.kind.ErrorKind.TheVariants.{DisplayHelp, OutOfMemory}
+use Rattle.clap.proofs.OnLiterals.{clap_on_literals}
+use Rattle.desk_words.specs.Words.{AsksForHelp}
+use Rattle.desk_words.specs.Command.{IsHelpOrMemory, faults}
+
+faults-none : faults [] ≡ []
+unfolding clap_on_literals
+faults-none = refl
+
+faults-name : (name : Text) → faults (name ∷ []) ≡ []
+unfolding clap_on_literals
+faults-name name = refl
+
+faults-short : (name : Text) → faults (name ∷ codes "-h" ∷ []) ≡ DisplayHelp ∷ []
+unfolding clap_on_literals
+faults-short name = refl
+
+faults-long : (name : Text) → faults (name ∷ codes "--help" ∷ []) ≡ DisplayHelp ∷ []
+unfolding clap_on_literals
+faults-long name = refl
+
+-- no word follows the name
+faults-alone : {S : Type 0} (f : S → Text) (words : List S) → length words ≤ 1 → faults (map f words) ≡ []
+faults-alone f [] few = faults-none
+faults-alone f (name ∷ []) few = faults-name (f name)
+faults-alone f (name ∷ word ∷ words) few = absurd (omega (arith, few))
+
+-- help is asked for
+faults-help : (words : List Text) → AsksForHelp words → faults words ≡ DisplayHelp ∷ []
+faults-help [] asks = absurd asks
+faults-help (name ∷ words) (inl short) = ap (λ rest. faults (name ∷ rest)) short ∙ faults-short name
+faults-help (name ∷ words) (inr long) = ap (λ rest. faults (name ∷ rest)) long ∙ faults-long name
+
+only_memory : (error : Error) → HasKind [] error → kind_of error ≡ OutOfMemory
+only_memory error (inl memory) = memory
+only_memory error (inr none) = absurd none
+
+help_or_memory : (error : Error) → HasKind (DisplayHelp ∷ []) error → IsHelpOrMemory error
+help_or_memory error (inl memory) = inr memory
+help_or_memory error (inr (inl help)) = inl help
+help_or_memory error (inr (inr none)) = absurd none
+
+-- with no word an error is want of memory
+pub alone_fails : {S T : Type 0} (f : S → Text) (words : List S) (r : Result T Error) → FailsBy (faults (map f words)) r → length words ≤ 1 → IfErr r (λ error. kind_of error ≡ OutOfMemory)
+alone_fails f words (Ok x) fails few = tt
+alone_fails f words (Err e) fails few = only_memory e (subst (λ kinds. HasKind kinds e) (faults-alone f words few) fails)
+
+-- a word for help is answered by the help
+pub help_answers : {T : Type 0} (words : List Text) (r : Result T Error) → FailsBy (faults words) r → AsksForHelp words → IsErrAnd r IsHelpOrMemory
+help_answers words (Ok x) fails asks = let bad : DisplayHelp ∷ [] ≡ [] = rw (← faults-help words asks) fails in absurd (cc bad)
+help_answers words (Err e) fails asks = help_or_memory e (subst (λ kinds. HasKind kinds e) (faults-help words asks) fails)

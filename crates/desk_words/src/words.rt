@@ -1,0 +1,81 @@
+//! What the words of the command line come to.
+ghost use Rattle.std.specs.Prelude.{◌≡◌, ◌≢◌, ◌≤◌, IfErr, IsErrAnd, length, map};
+ghost use Rattle.clap.specs.Words.{kind_of};
+ghost use Rattle.desk_words.specs.Words.{AsksForHelp};
+ghost use Rattle.desk_words.specs.Fault.{IsHelp, IsRefusal};
+
+use crate::command::{no_text, read};
+use clap::Error;
+use clap::error::ErrorKind;
+use std::alloc::Global;
+use std::convert::AsStr;
+use std::env::Args;
+use std::io;
+
+/// Why the words start no run.
+#[derive(Debug, Drop)]
+pub enum WordsFault {
+    /// Help was asked for: its text.
+    Help(String),
+    /// The words are refused: the text for the user.
+    Refused(String),
+    /// There was no memory for the words, or for a text about them.
+    NoMemory,
+}
+
+// What an error of `clap` says to the user.
+fn fault_of(alloc: Global, error: &Error) -> WordsFault
+    ensures memory { kind_of error.now ≡ ErrorKind.OutOfMemory → result ≡ WordsFault.NoMemory }
+    ensures help { kind_of error.now ≡ ErrorKind.DisplayHelp → IsHelp result }
+    ensures refused { kind_of error.now ≢ ErrorKind.OutOfMemory
+        → kind_of error.now ≢ ErrorKind.DisplayHelp → IsRefusal result }
+{
+    if error.kind() == ErrorKind::OutOfMemory {
+        return WordsFault::NoMemory;
+    }
+    let Ok(text) = format!(in alloc; "{error}") else {
+        return WordsFault::NoMemory;
+    };
+    if error.kind() == ErrorKind::DisplayHelp {
+        WordsFault::Help(text)
+    } else {
+        WordsFault::Refused(text)
+    }
+}
+
+/// Reads the words of the command line, of which the first is the program's name.
+pub fn read_words<S: AsStr>(alloc: Global, words: &[S]) -> Result<(), WordsFault>
+    ensures alone { length words.now ≤ 1 → IfErr result (λ fault. fault ≡ WordsFault.NoMemory) }
+    ensures help { AsksForHelp (map S.text words.now) → IsErrAnd result IsHelp }
+{
+    match read(alloc, words) {
+        Ok(()) => Ok(()),
+        Err(error) => Err(fault_of(alloc, &error)),
+    }
+}
+
+// What is said of a word that is no UTF-8.
+fn refused(alloc: Global) -> WordsFault
+    ensures { IsRefusal result }
+{
+    match no_text(alloc) {
+        Ok(error) => fault_of(alloc, &error),
+        Err(_) => WordsFault::NoMemory,
+    }
+}
+
+/// Reads the words that a program was started with, or refuses them where one is no UTF-8.
+pub fn check_words(alloc: Global, given: io::Result<Args>) -> Result<(), WordsFault> {
+    let words = match given {
+        Ok(words) => words,
+        Err(error) if error.kind() == io::ErrorKind::OutOfMemory => {
+            return Err(WordsFault::NoMemory);
+        }
+        Err(_) => return Err(refused(alloc)),
+    };
+    let words: Vec<String> = match words.collect(alloc) {
+        Ok(words) => words,
+        Err(_) => return Err(WordsFault::NoMemory),
+    };
+    read_words(alloc, words.as_slice())
+}

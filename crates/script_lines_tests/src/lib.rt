@@ -1,0 +1,5 @@
+//! The tests of `script_lines`: lines, texts, numbers and faults, as tables.
+#![tactic(auto)]
+
+#[cfg(test)]
+mod tests;
