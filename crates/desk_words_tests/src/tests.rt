@@ -48,12 +48,12 @@ enum Verdict {
     Other,
 }
 
-const USAGE: &str = "\n\nUsage: desk\n\nFor more information, try '--help'.\n";
+const END: &str = "\n\nFor more information, try '--help'.\n";
 
 const HELP: &str = "\n\nUsage: desk\n\nOptions:\n  -h, --help  Print help\n";
 
 fn refusal(text: &str) -> Verdict {
-    if !text.ends_with(USAGE) {
+    if !text.ends_with(END) {
         Verdict::Other
     } else if text.starts_with("error: unexpected argument '") {
         Verdict::Unknown
