@@ -6,8 +6,6 @@
 
 mod counts;
 mod pattern;
-#[cfg(test)]
-mod tests;
 mod text;
 mod view;
 mod window;

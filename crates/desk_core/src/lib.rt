@@ -11,8 +11,6 @@
 mod desk;
 mod history;
 mod shown;
-#[cfg(test)]
-mod tests;
 
 pub use desk::Desk;
 pub use schedule::{

@@ -13,8 +13,6 @@ mod check;
 mod document;
 mod edit;
 mod fault;
-#[cfg(test)]
-mod tests;
 
 pub use bookmarks::{View, render};
 pub use document::{Bookmark, Document, Intervention};

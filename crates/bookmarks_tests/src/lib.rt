@@ -1,0 +1,5 @@
+//! Worked texts of views.
+#![tactic(auto)]
+
+#[cfg(test)]
+mod tests;

@@ -1,0 +1,5 @@
+//! Worked desks, with what they show.
+#![tactic(auto)]
+
+#[cfg(test)]
+mod tests;

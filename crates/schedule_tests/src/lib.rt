@@ -1,0 +1,5 @@
+//! Worked edits of documents.
+#![tactic(auto)]
+
+#[cfg(test)]
+mod tests;
