@@ -13,10 +13,7 @@ use Rattle.rule_tree.specs.Rule.{next_of}
 use Rattle.schedule.specs.declared.document.Intervention.{Intervention}
 use Rattle.schedule.specs.Plan.{Plan}
 use Rattle.schedule.specs.Scratch.{cells_at, arrival, after}
-
--- the cells of one intervention, where it acts at g
-abbrev pub own_cells : Intervention → ℕ → List CellSet
-own_cells i g = if i.generation == g then i.cells else []
+use Rattle.desk_core.specs.Laid.{own_cells}
 
 joined : (b : Bool) (cs ds es : List CellSet) → (if b then cs ++ (ds ++ es) else (ds ++ es)) ≡ (if b then cs ++ ds else ds) ++ es
 joined true cs ds es = sym (append_assoc cs ds es)
@@ -36,8 +33,11 @@ cells_at-push (j ∷ is) i g =
 pub cells_at-more : (is : List Intervention) (k : ℕ) (d : Intervention) (g : ℕ) → k < length is → cells_at (take (k + 1) is) g ≡ cells_at (take k is) g ++ own_cells (get_or is k d) g
 cells_at-more is k d g h = ap (λ js. cells_at js g) (take_more is k d h) ∙ cells_at-push (take k is) (get_or is k d) g
 
-other : (i : Intervention) (g : ℕ) → (i.generation ≡ g → ⊥) → own_cells i g ≡ []
-other i g apart =
+pub own_cells-acts : (i : Intervention) (g : ℕ) → i.generation ≡ g → own_cells i g ≡ i.cells
+own_cells-acts i g same = ap (λ b. if b then i.cells else []) (let t : (i.generation == g) ≡ true = grind (arith, nat_tests) in t)
+
+pub own_cells-passes : (i : Intervention) (g : ℕ) → (i.generation ≡ g → ⊥) → own_cells i g ≡ []
+own_cells-passes i g apart =
     elim (i.generation == g) as (λ b. (i.generation == g) ≡ b → (if b then i.cells else []) ≡ []) [
       | true ↦ λ same. absurd (apart (grind (arith, nat_tests)))
       | false ↦ λ _. refl
@@ -56,25 +56,16 @@ IsQuiet-more is k d at next sooner h quiet less own = record {
   none = λ g a b.
       cells_at-more is k d g h
       ∙ ap (λ cs. cs ++ own_cells (get_or is k d) g) (quiet.none g a (omega arith))
-      ∙ other (get_or is k d) g (λ same. let later : at < (get_or is k d).generation = omega arith in let s = own later in omega arith);
+      ∙ own_cells-passes (get_or is k d) g (λ same. let later : at < (get_or is k d).generation = omega arith in let s = own later in omega arith);
 }
 
-pub lay-laid : (is : List Intervention) (k : ℕ) (d : Intervention) (g : ℕ) (w v : World) → k < length is → (get_or is k d).generation ≡ g → v ≡ lay (cells_at (take k is) g) w
-    → lay (get_or is k d).cells v ≡ lay (cells_at (take (k + 1) is) g) w
-lay-laid is k d g w v h acts before =
-    let i = get_or is k d in
-    let own : own_cells i g ≡ i.cells = ap (λ b. if b then i.cells else []) (let t : (i.generation == g) ≡ true = grind (arith, nat_tests) in t) in
-    ap (lay i.cells) before
-    ∙ sym (lay-append (cells_at (take k is) g) i.cells w)
-    ∙ ap (λ cs. lay (cells_at (take k is) g ++ cs) w) (sym own)
-    ∙ ap (λ cs. lay cs w) (sym (cells_at-more is k d g h))
-
-pub lay-passed : (is : List Intervention) (k : ℕ) (d : Intervention) (g : ℕ) (w v : World) → k < length is → ((get_or is k d).generation ≡ g → ⊥) → v ≡ lay (cells_at (take k is) g) w
-    → v ≡ lay (cells_at (take (k + 1) is) g) w
-lay-passed is k d g w v h passes before =
-    before
-    ∙ ap (λ cs. lay cs w) (sym (append-nil (cells_at (take k is) g)))
-    ∙ ap (λ cs. lay (cells_at (take k is) g ++ cs) w) (sym (other (get_or is k d) g passes))
+-- the cells of one more intervention are laid
+pub lay-more : (is : List Intervention) (k : ℕ) (d : Intervention) (g : ℕ) (w v : World) → k < length is → v ≡ lay (cells_at (take k is) g) w
+    → lay (own_cells (get_or is k d) g) v ≡ lay (cells_at (take (k + 1) is) g) w
+lay-more is k d g w v h before =
+    let own = own_cells (get_or is k d) g in
+    ap (lay own) before
+    ∙ sym (lay-append (cells_at (take k is) g) own w)
     ∙ ap (λ cs. lay cs w) (sym (cells_at-more is k d g h))
 
 -- the start, with the cells of generation 0

@@ -1,13 +1,13 @@
 //! The pattern of a document after a generation.
-ghost use Rattle.std.specs.Prelude.{◌≡◌, ◌<◌, ◌≤◌, ◌^◌, ℕ, [], IfOk, IfErr};
+ghost use Rattle.std.specs.Prelude.{◌≡◌, ◌<◌, ◌≤◌, ◌^◌, ℕ, [], All, IfOk, IfErr};
 ghost use Rattle.plane_core.specs.Lay.{lay};
 ghost use Rattle.plane_core.specs.Iterate.{iterate};
 ghost use Rattle.plane_core.specs.Step.{step};
-ghost use Rattle.plane_core.specs.Range.{AllBelow, HasMargin};
+ghost use Rattle.plane_core.specs.Range.{AllBelow, CanBeLaid, HasMargin};
 ghost use Rattle.rule_tree.specs.Rule.{states_of, next_of};
 ghost use Rattle.bookmarks.specs.Within.{IsWithin};
 ghost use Rattle.schedule.specs.Scratch.{cells_at, after, scratch};
-ghost use Rattle.desk_core.specs.Laid.{AllCanBeLaid};
+ghost use Rattle.desk_core.specs.Laid.{AllCanBeLaid, own_cells};
 
 use schedule::{
     Bookmark, Document, EvolveFault, Intervention, Next, NoStop, Plane, Rule, evolve_plain, render,
@@ -86,11 +86,20 @@ fn laid_at(
 {
     let mut laid = plane;
     for intervention in interventions {
-        if intervention.generation == generation {
-            laid = laid.lay(intervention.cells.as_slice())?;
-        }
+        laid = laid_by(intervention, laid, generation)?;
     }
     Ok(laid)
+}
+
+// The plane after an intervention, if it is one of the generation.
+fn laid_by(intervention: &Intervention, plane: Plane, generation: u64) -> Result<Plane, AllocError>
+    requires { All CanBeLaid intervention.now.cells }
+    ensures { IfOk result (λ laid. laid ≡ lay (own_cells intervention.now generation) plane) }
+{
+    if intervention.generation != generation {
+        return Ok(plane);
+    }
+    plane.lay(intervention.cells.as_slice())
 }
 
 // The first generation after `at` that has interventions, or `last` where there is none before.

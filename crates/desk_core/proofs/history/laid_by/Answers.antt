@@ -1,0 +1,13 @@
+use Rattle.std.proofs.Common.{◌≡◌, ◌∙◌, List, IfOk, ap, subst, sym}
+use Rattle.plane_core.specs.declared.cell.CellSet.{CellSet}
+use Rattle.plane_core.specs.Lay.{lay}
+use Rattle.desk_core.proofs.Walk.{own_cells-acts, own_cells-passes}
+use Rattle.desk_core.proofs.history.laid_by.Goals as goal
+
+pub returns-then-intervention-generation : goal.returns-then-intervention-generation
+returns-then-intervention-generation c = ap (λ cells. lay cells c.args.plane) (sym (own_cells-passes c.args.intervention.now c.args.generation c.if-intervention-generation.true))
+
+pub returns : goal.returns
+returns c =
+    subst (λ (cells : List CellSet). IfOk c.lay.result (λ laid. laid ≡ lay cells c.args.plane))
+    (c.as_slice.ensures ∙ sym (own_cells-acts c.args.intervention.now c.args.generation c.if-intervention-generation.false)) c.lay.ensures
