@@ -1,6 +1,7 @@
 -- What is known of the texts.
-use Rattle.std.proofs.Common.{◌≡◌, ℕ, zero, suc, ◌+◌, ◌<◌, ◌≤◌, ◌≢◌, true, false, List, [], ◌∷◌, ◌++◌, length, take, drop, get_or, refl, sym, ap, ◌∙◌, subst, arith, Option, None, Some, Ok, length-append, add-one, ◌^◌, not, take_all}
-use Rattle.std.specs.Prelude.{IfSome, is_none, is_some, count_by, ◌==◌}
+use Rattle.std.proofs.Common.{◌≡◌, ℕ, zero, suc, ◌+◌, ◌<◌, ◌≤◌, ◌≢◌, true, false, List, [], ◌∷◌, ◌++◌, length, take, drop, get_or, refl, sym, ap, ◌∙◌, subst, arith, Option, None, Some, Ok, length-append, add-one, ◌^◌, take_all}
+use Rattle.std.specs.Prelude.{Bool, IfSome, is_none, is_some, count_by, if◌then◌else◌, ◌==◌}
+use Rattle.std.specs.Option.{unwrap_or}
 use Rattle.schedule.specs.Sound.{IsSound}
 use Rattle.std.proofs.lemmas.Bool.Decides.{nat_tests}
 use Rattle.std.proofs.lemmas.List.Sums.{count_by_more_no, count_by_more_yes, sum_by-append}
@@ -9,61 +10,70 @@ use Rattle.std.proofs.lemmas.List.{take-append-drop, take-set, get_or-set_same, 
 use Rattle.std.proofs.lemmas.List.Elements.{All-get_or, All-from_recursion}
 use Rattle.std.proofs.Math.ListN.{set}
 use Rattle.schedule.specs.declared.document.Bookmark.{Bookmark}
-use Rattle.schedule.specs.declared.edit.Edit.{Edit}
-use Rattle.schedule.specs.declared.edit.Edit.TheVariants.{SetCells, ReplaceStart, ReplaceRule, AddBookmark}
 use Rattle.schedule.specs.declared.edit.Edited.{Edited}
 use Rattle.schedule.specs.declared.fault.EditFault.{EditFault}
 use Rattle.bookmarks.specs.Within.{IsWithin}
 use Rattle.schedule.specs.Plan.{Plan}
-use Rattle.schedule.specs.Change.{Changed, change, changed, unless_refused, refusal}
+use Rattle.schedule.specs.Asked.{Asked, SetCells, ReplaceStart, ReplaceRule, AddBookmark}
+use Rattle.schedule.specs.Change.{Changed, made, change, changed, unless_refused, refusal}
 use Rattle.schedule.specs.Scratch.{scratch}
-use Rattle.desk_core.specs.Rows.{Known, AreRight, none_known, Keeps, bookmark_in, text_in}
+use Rattle.desk_core.specs.Rows.{value_at, Keeps, is_unknown, TextRow, IsRight, AreRight, none_known, filled, Known, bookmark_in}
 use Rattle.desk_core.specs.Shown.{IsCurrent, IsPending}
 
-pub right_length : (p : Plan) (bs : List Bookmark) (ts : List (Option (List ℕ))) → AreRight p bs ts → length bs ≡ length ts
+pub right_length : (p : Plan) (bs : List Bookmark) (rs : List TextRow) → AreRight p bs rs → length bs ≡ length rs
 right_length p [] [] h = refl
-right_length p [] (t ∷ ts) h = absurd h
+right_length p [] (r ∷ rs) h = absurd h
 right_length p (b ∷ bs) [] h = absurd h
-right_length p (b ∷ bs) (t ∷ ts) h = ap suc (right_length p bs ts h.1)
+right_length p (b ∷ bs) (r ∷ rs) h = ap suc (right_length p bs rs h.1)
 
-pub right_at : (p : Plan) (bs : List Bookmark) (ts : List (Option (List ℕ))) (k : ℕ) (b : Bookmark) (t : Option (List ℕ)) → AreRight p bs ts → k < length bs → IfSome (get_or ts k t) (λ text. text ≡ scratch p (get_or bs k b))
-right_at p [] ts k b t h low = absurd (omega (arith, low))
-right_at p (c ∷ bs) [] k b t h low = absurd h
-right_at p (c ∷ bs) (u ∷ ts) zero b t h low = h.0
-right_at p (c ∷ bs) (u ∷ ts) (suc k) b t h low = right_at p bs ts k b t h.1 (omega (arith, low))
+right_set : (p : Plan) (bs : List Bookmark) (rs : List TextRow) (k : ℕ) (b : Bookmark) (r : TextRow) → AreRight p bs rs → k < length rs → AreRight p bs (set rs k (filled p (get_or bs k b) (get_or rs k r)))
+right_set p [] [] k b r h low = absurd (omega (arith, low))
+right_set p [] (s ∷ rs) k b r h low = absurd h
+right_set p (c ∷ bs) [] k b r h low = absurd h
+right_set p (c ∷ bs) (s ∷ rs) zero b r h low = (right_filled p c s h.0, h.1)
+  where
+    known : (o : Option (List ℕ)) (text : List ℕ) → IfSome o (λ t. t ≡ text) → unwrap_or o text ≡ text
+    known None text h = refl
+    known (Some t) text h = h
 
-pub right_set : (p : Plan) (bs : List Bookmark) (ts : List (Option (List ℕ))) (k : ℕ) (b : Bookmark) (text : List ℕ) → AreRight p bs ts → k < length ts → text ≡ scratch p (get_or bs k b) → AreRight p bs (set ts k (Some text))
-right_set p [] [] k b text h low is = absurd (omega (arith, low))
-right_set p [] (u ∷ ts) k b text h low is = absurd h
-right_set p (c ∷ bs) [] k b text h low is = absurd h
-right_set p (c ∷ bs) (u ∷ ts) zero b text h low is = (is, h.1)
-right_set p (c ∷ bs) (u ∷ ts) (suc k) b text h low is = (h.0, right_set p bs ts k b text h.1 (omega (arith, low)) is)
+    right_filled : (p : Plan) (b : Bookmark) (r : TextRow) → IsRight p b r → IsRight p b (filled p b r)
+    right_filled p b r h = record { key = h.key; text = known r.value (scratch p b) h.text }
+right_set p (c ∷ bs) (s ∷ rs) (suc k) b r h low = (h.0, right_set p bs rs k b r h.1 (omega (arith, low)))
 
-pub right_none : (p : Plan) (bs : List Bookmark) → AreRight p bs (none_known (length bs))
+pub right_none : (p : Plan) (bs : List Bookmark) → AreRight p bs (none_known bs)
 right_none p [] = tt
-right_none p (b ∷ bs) = (tt, right_none p bs)
+right_none p (b ∷ bs) = (record { key = refl; text = tt }, right_none p bs)
 
-kept_one : (t : Option (List ℕ)) → IfSome t (λ text. t ≡ Some text)
+kept_one : (o : Option (List ℕ)) → IfSome o (λ text. o ≡ Some text)
 kept_one None = tt
 kept_one (Some text) = refl
 
-pub Keeps-same : (ts : List (Option (List ℕ))) → Keeps ts ts
-Keeps-same [] = tt
-Keeps-same (t ∷ ts) = (kept_one t, Keeps-same ts)
+Keeps-same : (rs : List TextRow) → Keeps ◌==◌ rs rs
+Keeps-same rs key = kept_one (value_at ◌==◌ rs key)
 
-was_unknown : (t u : Option (List ℕ)) (v : Option (List ℕ)) → u ≡ None → IfSome t (λ text. u ≡ Some text) → IfSome t (λ text. v ≡ Some text)
-was_unknown None u v none h = tt
-was_unknown (Some text) u v none h = absurd (let e : None ≡ Some text = sym none ∙ h in cc)
+kept_on : (o p q : Option (List ℕ)) → IfSome o (λ text. p ≡ Some text) → IfSome p (λ text. q ≡ Some text) → IfSome o (λ text. q ≡ Some text)
+kept_on None p q h k = tt
+kept_on (Some text) p q h k = subst (λ o. IfSome o (λ t. q ≡ Some t)) h k
 
-pub Keeps-set : (ts us : List (Option (List ℕ))) (k : ℕ) (d : Option (List ℕ)) (text : List ℕ) → k < length us → get_or us k d ≡ None → Keeps ts us → Keeps ts (set us k (Some text))
-Keeps-set [] [] k d text low none h = tt
-Keeps-set [] (u ∷ us) k d text low none h = absurd h
-Keeps-set (t ∷ ts) [] k d text low none h = absurd h
-Keeps-set (t ∷ ts) (u ∷ us) zero d text low none h = (was_unknown t u (Some text) none h.0, h.1)
-Keeps-set (t ∷ ts) (u ∷ us) (suc k) d text low none h = (h.0, Keeps-set ts us k d text (omega (arith, low)) none h.1)
+kept_filled : (r : TextRow) (text : List ℕ) → IfSome r.value (λ t. Some (unwrap_or r.value text) ≡ Some t)
+kept_filled r text = kept r.value
+  where
+    kept : (o : Option (List ℕ)) → IfSome o (λ t. Some (unwrap_or o text) ≡ Some t)
+    kept None = tt
+    kept (Some t) = refl
+
+kept_or : (t : Bool) (o p u v : Option (List ℕ)) → IfSome o (λ text. u ≡ Some text) → IfSome p (λ text. v ≡ Some text) → IfSome (if t then o else p) (λ text. (if t then u else v) ≡ Some text)
+kept_or true o p u v h k = h
+kept_or false o p u v h k = k
+
+Keeps-filled : (p : Plan) (b : Bookmark) (rs : List TextRow) (k : ℕ) (r : TextRow) → k < length rs → Keeps ◌==◌ rs (set rs k (filled p b (get_or rs k r)))
+Keeps-filled p b [] k r low key = absurd (omega (arith, low))
+Keeps-filled p b (s ∷ rs) zero r low key = kept_or (s.key == key) s.value (value_at ◌==◌ rs key) (Some (unwrap_or s.value (scratch p b))) (value_at ◌==◌ rs key) (kept_filled s (scratch p b)) (Keeps-same rs key)
+Keeps-filled p b (s ∷ rs) (suc k) r low key =
+    kept_or (s.key == key) s.value (value_at ◌==◌ rs key) s.value (value_at ◌==◌ (set rs k (filled p b (get_or rs k r))) key) (kept_one s.value) (Keeps-filled p b rs k r (omega (arith, low)) key)
 
 -- an edit adds one bookmark at most
-few_more : (p : Plan) (edit : Edit) → length (changed p edit).plan.bookmarks ≤ length p.bookmarks + 1
+few_more : (p : Plan) (asked : Asked) → length (changed p asked).plan.bookmarks ≤ length p.bookmarks + 1
 few_more p (SetCells cells) = omega arith
 few_more p (ReplaceStart start) = omega arith
 few_more p (ReplaceRule rule) = omega arith
@@ -73,61 +83,64 @@ fits : (o : Option EditFault) (c d : Changed) → unless_refused o c ≡ Ok d �
 fits None c d h = cc
 fits (Some fault) c d h = cc
 
-pub length-change : (p q : Plan) (edit : Edit) (edited : Edited) → change p edit ≡ Ok (record { plan = q; edited = edited }) → length q.bookmarks ≤ length p.bookmarks + 1
-length-change p q edit edited h =
-    let is : record { plan = q; edited = edited } ≡ changed p edit = fits (refusal p edit) (changed p edit) (record { plan = q; edited = edited }) h in
-    subst (λ (c : Changed). length c.plan.bookmarks ≤ length p.bookmarks + 1) (sym is) (few_more p edit)
+pub length-change : (p q : Plan) (asked : Asked) (edited : Edited) → change p asked ≡ Ok (made q edited) → length q.bookmarks ≤ length p.bookmarks + 1
+length-change p q asked edited h =
+    let is : made q edited ≡ changed p asked = fits (refusal p asked) (changed p asked) (made q edited) h in
+    subst (λ (c : Changed). length c.plan.bookmarks ≤ length p.bookmarks + 1) (sym is) (few_more p asked)
 
--- the first k bookmarks have other ids
-pub record Passed (bs : List Bookmark) (ts : List (Option (List ℕ))) (id k : ℕ) : Type 0 where
+-- the first k rows have other ids
+pub record Passed (bs : List Bookmark) (rs : List TextRow) (id k : ℕ) : Type 0 where
   pub bookmark : bookmark_in (drop k bs) id ≡ bookmark_in bs id
-  pub text : text_in (drop k bs) (drop k ts) id ≡ text_in bs ts id
+  pub text : value_at ◌==◌ (drop k rs) id ≡ value_at ◌==◌ rs id
 
-pub Passed-none : (bs : List Bookmark) (ts : List (Option (List ℕ))) (id : ℕ) → Passed bs ts id 0
-Passed-none bs ts id = record { bookmark = refl; text = refl }
+pub Passed-none : (bs : List Bookmark) (rs : List TextRow) (id : ℕ) → Passed bs rs id 0
+Passed-none bs rs id = record { bookmark = refl; text = refl }
 
-next_bookmark : (bs : List Bookmark) (k id : ℕ) (d : Bookmark) → k < length bs → (get_or bs k d).id ≢ id → bookmark_in (drop (suc k) bs) id ≡ bookmark_in (drop k bs) id
-next_bookmark [] k id d low apart = absurd (omega (arith, low))
-next_bookmark (b ∷ bs) zero id d low apart = sym (cond-false (b.id == id) (Some b) (bookmark_in bs id) (grind (arith, nat_tests)))
-next_bookmark (b ∷ bs) (suc k) id d low apart = next_bookmark bs k id d (omega (arith, low)) apart
+next_bookmark : (p : Plan) (bs : List Bookmark) (rs : List TextRow) (k id : ℕ) (d : TextRow) → AreRight p bs rs → k < length rs → (get_or rs k d).key ≢ id → bookmark_in (drop (suc k) bs) id ≡ bookmark_in (drop k bs) id
+next_bookmark p [] [] k id d h low apart = absurd (omega (arith, low))
+next_bookmark p [] (r ∷ rs) k id d h low apart = absurd h
+next_bookmark p (b ∷ bs) [] k id d h low apart = absurd h
+next_bookmark p (b ∷ bs) (r ∷ rs) zero id d h low apart = sym (cond-false (b.id == id) (Some b) (bookmark_in bs id) (let same = h.0.key in grind (arith, nat_tests)))
+next_bookmark p (b ∷ bs) (r ∷ rs) (suc k) id d h low apart = next_bookmark p bs rs k id d h.1 (omega (arith, low)) apart
 
-next_text : (bs : List Bookmark) (ts : List (Option (List ℕ))) (k id : ℕ) (d : Bookmark) → k < length bs → k < length ts → (get_or bs k d).id ≢ id → text_in (drop (suc k) bs) (drop (suc k) ts) id ≡ text_in (drop k bs) (drop k ts) id
-next_text [] ts k id d low small apart = absurd (omega (arith, low))
-next_text (b ∷ bs) [] k id d low small apart = absurd (omega (arith, small))
-next_text (b ∷ bs) (t ∷ ts) zero id d low small apart = sym (cond-false (b.id == id) t (text_in bs ts id) (grind (arith, nat_tests)))
-next_text (b ∷ bs) (t ∷ ts) (suc k) id d low small apart = next_text bs ts k id d (omega (arith, low)) (omega (arith, small)) apart
+next_text : (rs : List TextRow) (k id : ℕ) (d : TextRow) → k < length rs → (get_or rs k d).key ≢ id → value_at ◌==◌ (drop (suc k) rs) id ≡ value_at ◌==◌ (drop k rs) id
+next_text [] k id d low apart = absurd (omega (arith, low))
+next_text (r ∷ rs) zero id d low apart = sym (cond-false (r.key == id) r.value (value_at ◌==◌ rs id) (grind (arith, nat_tests)))
+next_text (r ∷ rs) (suc k) id d low apart = next_text rs k id d (omega (arith, low)) apart
 
-pub Passed-more : (bs : List Bookmark) (ts : List (Option (List ℕ))) (id k : ℕ) (d : Bookmark) → k < length bs → length bs ≡ length ts → (get_or bs k d).id ≢ id → Passed bs ts id k → Passed bs ts id (k + 1)
-Passed-more bs ts id k d low same apart h =
-    subst (Passed bs ts id) (sym (add-one k)) (record {
-      bookmark = next_bookmark bs k id d low apart ∙ h.bookmark;
-      text = next_text bs ts k id d low (omega (arith, low, same)) apart ∙ h.text;
+pub Passed-more : (p : Plan) (bs : List Bookmark) (rs : List TextRow) (id k : ℕ) (d : TextRow) → AreRight p bs rs → k < length rs → (get_or rs k d).key ≢ id → Passed bs rs id k → Passed bs rs id (k + 1)
+Passed-more p bs rs id k d right low apart h =
+    subst (Passed bs rs id) (sym (add-one k)) (record {
+      bookmark = next_bookmark p bs rs k id d right low apart ∙ h.bookmark;
+      text = next_text rs k id d low apart ∙ h.text;
     })
 
-first_bookmark : (bs : List Bookmark) (k id : ℕ) (d : Bookmark) → k < length bs → (get_or bs k d).id ≡ id → bookmark_in (drop k bs) id ≡ Some (get_or bs k d)
-first_bookmark [] k id d low same = absurd (omega (arith, low))
-first_bookmark (b ∷ bs) zero id d low same = cond-true (b.id == id) (Some b) (bookmark_in bs id) (grind (arith, nat_tests))
-first_bookmark (b ∷ bs) (suc k) id d low same = first_bookmark bs k id d (omega (arith, low)) same
+-- the bookmark of the row that is found
+record Found (p : Plan) (bs : List Bookmark) (r : TextRow) (id : ℕ) : Type 0 where
+  bookmark : Bookmark
+  there : bookmark_in bs id ≡ Some bookmark
+  right : IsRight p bookmark r
 
-first_text : (bs : List Bookmark) (ts : List (Option (List ℕ))) (k id : ℕ) (d : Bookmark) (u : Option (List ℕ)) → k < length bs → k < length ts → (get_or bs k d).id ≡ id → text_in (drop k bs) (drop k ts) id ≡ get_or ts k u
-first_text [] ts k id d u low small same = absurd (omega (arith, low))
-first_text (b ∷ bs) [] k id d u low small same = absurd (omega (arith, small))
-first_text (b ∷ bs) (t ∷ ts) zero id d u low small same = cond-true (b.id == id) t (text_in bs ts id) (grind (arith, nat_tests))
-first_text (b ∷ bs) (t ∷ ts) (suc k) id d u low small same = first_text bs ts k id d u (omega (arith, low)) (omega (arith, small)) same
-
--- the bookmark and the text of the id that is found at k
-pub record Found (bs : List Bookmark) (ts : List (Option (List ℕ))) (id : ℕ) (b : Bookmark) (t : Option (List ℕ)) : Type 0 where
-  pub bookmark : bookmark_in bs id ≡ Some b
-  pub text : text_in bs ts id ≡ t
-
-pub Found-at : (bs : List Bookmark) (ts : List (Option (List ℕ))) (id k : ℕ) (d : Bookmark) (u : Option (List ℕ)) → k < length bs → length bs ≡ length ts → (get_or bs k d).id ≡ id → Passed bs ts id k → Found bs ts id (get_or bs k d) (get_or ts k u)
-Found-at bs ts id k d u low same here h = record {
-  bookmark = sym h.bookmark ∙ first_bookmark bs k id d low here;
-  text = sym h.text ∙ first_text bs ts k id d u low (omega (arith, low, same)) here;
+first_bookmark : (p : Plan) (bs : List Bookmark) (rs : List TextRow) (k id : ℕ) (d : TextRow) → AreRight p bs rs → k < length rs → (get_or rs k d).key ≡ id → Found p (drop k bs) (get_or rs k d) id
+first_bookmark p [] [] k id d h low same = absurd (omega (arith, low))
+first_bookmark p [] (r ∷ rs) k id d h low same = absurd h
+first_bookmark p (b ∷ bs) [] k id d h low same = absurd h
+first_bookmark p (b ∷ bs) (r ∷ rs) zero id d h low same = record {
+  bookmark = b;
+  there = cond-true (b.id == id) (Some b) (bookmark_in bs id) (let is = h.0.key in grind (arith, nat_tests));
+  right = h.0;
 }
+first_bookmark p (b ∷ bs) (r ∷ rs) (suc k) id d h low same = first_bookmark p bs rs k id d h.1 (omega (arith, low)) same
 
-pub none_found : (bs : List Bookmark) (ts : List (Option (List ℕ))) (id k : ℕ) → length bs ≤ k → Passed bs ts id k → bookmark_in bs id ≡ None
-none_found bs ts id k past h = sym h.bookmark ∙ ap (λ cs. bookmark_in cs id) (drop_all k bs past)
+first_text : (rs : List TextRow) (k id : ℕ) (d : TextRow) → k < length rs → (get_or rs k d).key ≡ id → value_at ◌==◌ (drop k rs) id ≡ (get_or rs k d).value
+first_text [] k id d low same = absurd (omega (arith, low))
+first_text (r ∷ rs) zero id d low same = cond-true (r.key == id) r.value (value_at ◌==◌ rs id) (grind (arith, nat_tests))
+first_text (r ∷ rs) (suc k) id d low same = first_text rs k id d (omega (arith, low)) same
+
+pub none_found : (p : Plan) (bs : List Bookmark) (rs : List TextRow) (id k : ℕ) → AreRight p bs rs → length rs ≤ k → Passed bs rs id k → bookmark_in bs id ≡ None
+none_found p bs rs id k right past h =
+    let same = right_length p bs rs right in
+    sym h.bookmark ∙ ap (λ cs. bookmark_in cs id) (drop_all k bs (omega (arith, same, past)))
 
 -- each bookmark of a document is near enough
 pub generation_at : (p : Plan) (k : ℕ) (b : Bookmark) → IsSound p → k < length p.bookmarks → (get_or p.bookmarks k b).generation ≤ 2 ^ 60
@@ -137,78 +150,61 @@ generation_at p k b sound low = All-get_or (λ (c : Bookmark). c.generation ≤ 
 pub view_at : (p : Plan) (k : ℕ) (b : Bookmark) → IsSound p → k < length p.bookmarks → IsWithin (get_or p.bookmarks k b).view
 view_at p k b sound low = All-get_or (λ (c : Bookmark). IsWithin c.view) p.bookmarks k b low (All-from_recursion (λ (c : Bookmark). IsWithin c.view) p.bookmarks sound.views_within)
 
-is_none_some : (o : Option (List ℕ)) → is_some o ≡ not true → o ≡ None
-is_none_some None h = refl
-is_none_some (Some x) h = cc
-
-pub unknown_at : (ts : List (Option (List ℕ))) (k : ℕ) (d : Option (List ℕ)) → is_some (get_or ts k d) ≡ not true → get_or ts k d ≡ None
-unknown_at ts k d h = is_none_some (get_or ts k d) h
-
-known_test : (o : Option (List ℕ)) → is_some o ≡ not false → is_none o ≡ false
-known_test None h = cc
-known_test (Some x) h = refl
-
 -- what filling the texts in order keeps
-pub record Filled (p : Plan) (old new : List (Option (List ℕ))) (k : ℕ) : Type 0 where
+pub record Filled (p : Plan) (old new : List TextRow) (k : ℕ) : Type 0 where
   pub right : AreRight p p.bookmarks new
-  pub keeps : Keeps old new
-  pub known : count_by is_none (take k new) ≡ 0
+  pub keeps : Keeps ◌==◌ old new
+  pub known : count_by is_unknown (take k new) ≡ 0
 
-pub Filled-none : (p : Plan) (ts : List (Option (List ℕ))) → AreRight p p.bookmarks ts → Filled p ts ts 0
-Filled-none p ts right = record { right = right; keeps = Keeps-same ts; known = refl }
+pub Filled-none : (p : Plan) (rs : List TextRow) → AreRight p p.bookmarks rs → Filled p rs rs 0
+Filled-none p rs right = record { right = right; keeps = Keeps-same rs; known = refl }
 
--- a text that was known
-pub Filled-known : (p : Plan) (old new : List (Option (List ℕ))) (k : ℕ) (d : Option (List ℕ)) → k < length new → is_some (get_or new k d) ≡ not false → Filled p old new k → Filled p old new (k + 1)
-Filled-known p old new k d low there h = record {
-  right = h.right;
-  keeps = h.keeps;
-  known = count_by_more_no is_none new k d low (known_test (get_or new k d) there) ∙ h.known;
-}
-
--- one that wasn't
-pub Filled-set : (p : Plan) (old new : List (Option (List ℕ))) (k : ℕ) (d : Option (List ℕ)) (bs : List Bookmark) (b : Bookmark) (text : List ℕ) → k < length new → is_some (get_or new k d) ≡ not true
-    → bs ≡ p.bookmarks → text ≡ scratch p (get_or bs k b) → Filled p old new k → Filled p old (set new k (Some text)) (k + 1)
-Filled-set p old new k d bs b text low missing same is h =
-    let after = set new k (Some text) in
-    let long : k < length after = subst (λ n. k < n) (sym (length-set new k (Some text))) low in
-    let found : is_none (get_or after k None) ≡ false = ap is_none (get_or-set_same new k (Some text) None low) in
+pub Filled-more : (p : Plan) (old new : List TextRow) (k : ℕ) (b : Bookmark) (r : TextRow) → k < length new → Filled p old new k → Filled p old (set new k (filled p (get_or p.bookmarks k b) (get_or new k r))) (k + 1)
+Filled-more p old new k b r low h =
+    let row = filled p (get_or p.bookmarks k b) (get_or new k r) in
+    let after = set new k row in
+    let long : k < length after = subst (λ n. k < n) (sym (length-set new k row)) low in
+    let found : is_unknown (get_or after k r) ≡ false = ap is_unknown (get_or-set_same new k row r low) in
     record {
-      right = right_set p p.bookmarks new k b text h.right low (is ∙ ap (λ (cs : List Bookmark). scratch p (get_or cs k b)) same);
-      keeps = Keeps-set old new k d text low (unknown_at new k d missing) h.keeps;
-      known = count_by_more_no is_none after k None long found ∙ ap (count_by is_none) (take-set new k (Some text)) ∙ h.known;
+      right = right_set p p.bookmarks new k b r h.right low;
+      keeps = λ key. kept_on (value_at ◌==◌ old key) (value_at ◌==◌ new key) (value_at ◌==◌ after key) (h.keeps key) (Keeps-filled p (get_or p.bookmarks k b) new k r low key);
+      known = count_by_more_no is_unknown after k r long found ∙ ap (count_by is_unknown) (take-set new k row) ∙ h.known;
     }
 
-take_count : (ts : List (Option (List ℕ))) (k : ℕ) → count_by is_none (take k ts) ≤ count_by is_none ts
-take_count ts k =
-    let parts : count_by is_none (take k ts ++ drop k ts) ≡ count_by is_none (take k ts) + count_by is_none (drop k ts) = sum_by-append _ (take k ts) (drop k ts) in
-    let whole : count_by is_none (take k ts ++ drop k ts) ≡ count_by is_none ts = ap (count_by is_none) (take-append-drop k ts) in
+take_count : (rs : List TextRow) (k : ℕ) → count_by is_unknown (take k rs) ≤ count_by is_unknown rs
+take_count rs k =
+    let parts : count_by is_unknown (take k rs ++ drop k rs) ≡ count_by is_unknown (take k rs) + count_by is_unknown (drop k rs) = sum_by-append _ (take k rs) (drop k rs) in
+    let whole : count_by is_unknown (take k rs ++ drop k rs) ≡ count_by is_unknown rs = ap (count_by is_unknown) (take-append-drop k rs) in
     omega (arith, parts, whole)
 
 -- a text that isn't known counts
-pub unknown_counts : (ts : List (Option (List ℕ))) (k : ℕ) (d : Option (List ℕ)) → k < length ts → is_some (get_or ts k d) ≡ not true → 0 < count_by is_none ts
-unknown_counts ts k d low missing =
-    let one : count_by is_none (take (k + 1) ts) ≡ count_by is_none (take k ts) + 1 = count_by_more_yes is_none ts k d low (ap is_none (unknown_at ts k d missing)) in
-    let most = take_count ts (k + 1) in
+pub unknown_counts : (rs : List TextRow) (k : ℕ) (d : TextRow) → k < length rs → (get_or rs k d).value ≡ None → 0 < count_by is_unknown rs
+unknown_counts rs k d low missing =
+    let one : count_by is_unknown (take (k + 1) rs) ≡ count_by is_unknown (take k rs) + 1 = count_by_more_yes is_unknown rs k d low (ap is_none missing) in
+    let most = take_count rs (k + 1) in
     omega (arith, one, most)
 
 -- all texts are known at the end
-pub all_filled : (p : Plan) (old new : List (Option (List ℕ))) (k : ℕ) → length new ≤ k → Filled p old new k → count_by is_none new ≡ 0
-all_filled p old new k past h = ap (count_by is_none) (sym (take_all k new past)) ∙ h.known
+pub all_filled : (p : Plan) (old new : List TextRow) (k : ℕ) → length new ≤ k → Filled p old new k → count_by is_unknown new ≡ 0
+all_filled p old new k past h = ap (count_by is_unknown) (sym (take_all k new past)) ∙ h.known
 
 -- what is shown of the id that is found at k
-pub IsCurrent-found : (d : Known) (id k : ℕ) (b : Bookmark) (t : Option (List ℕ)) (text : List ℕ) → AreRight d.plan d.plan.bookmarks d.texts → k < length d.plan.bookmarks → (get_or d.plan.bookmarks k b).id ≡ id
-    → Passed d.plan.bookmarks d.texts id k → get_or d.texts k t ≡ Some text → IsCurrent d id text
-IsCurrent-found d id k b t text right low here passed there =
-    let found = Found-at d.plan.bookmarks d.texts id k b t low (right_length d.plan d.plan.bookmarks d.texts right) here passed in
+pub IsCurrent-found : (d : Known) (id k : ℕ) (r : TextRow) (text : List ℕ) → AreRight d.plan d.plan.bookmarks d.texts → k < length d.texts → (get_or d.texts k r).key ≡ id
+    → Passed d.plan.bookmarks d.texts id k → (get_or d.texts k r).value ≡ Some text → IsCurrent d id text
+IsCurrent-found d id k r text right low here passed there =
+    let found = first_bookmark d.plan d.plan.bookmarks d.texts k id r right low here in
     record {
-      bookmark = get_or d.plan.bookmarks k b;
-      there = found.bookmark;
-      known = found.text ∙ there;
-      scratch_text = subst (λ o. IfSome o (λ u. u ≡ scratch d.plan (get_or d.plan.bookmarks k b))) there (right_at d.plan d.plan.bookmarks d.texts k b t right low);
+      bookmark = found.bookmark;
+      there = sym passed.bookmark ∙ found.there;
+      known = sym passed.text ∙ first_text d.texts k id r low here ∙ there;
+      scratch_text = subst (λ o. IfSome o (λ u. u ≡ scratch d.plan found.bookmark)) there found.right.text;
     }
 
-pub IsPending-found : (d : Known) (id k : ℕ) (b : Bookmark) (t : Option (List ℕ)) → AreRight d.plan d.plan.bookmarks d.texts → k < length d.plan.bookmarks → (get_or d.plan.bookmarks k b).id ≡ id
-    → Passed d.plan.bookmarks d.texts id k → get_or d.texts k t ≡ None → IsPending d id
-IsPending-found d id k b t right low here passed none =
-    let found = Found-at d.plan.bookmarks d.texts id k b t low (right_length d.plan d.plan.bookmarks d.texts right) here passed in
-    record { there = ap is_some found.bookmark; unknown = found.text ∙ none }
+pub IsPending-found : (d : Known) (id k : ℕ) (r : TextRow) → AreRight d.plan d.plan.bookmarks d.texts → k < length d.texts → (get_or d.texts k r).key ≡ id
+    → Passed d.plan.bookmarks d.texts id k → (get_or d.texts k r).value ≡ None → IsPending d id
+IsPending-found d id k r right low here passed none =
+    let found = first_bookmark d.plan d.plan.bookmarks d.texts k id r right low here in
+    record {
+      there = ap is_some (sym passed.bookmark ∙ found.there);
+      unknown = sym passed.text ∙ first_text d.texts k id r low here ∙ none;
+    }

@@ -1,44 +1,36 @@
 -- Steps of the way from the start to a generation.
-use Rattle.std.proofs.Common.{◌≡◌, ℕ, suc, ◌+◌, ◌-◌, ◌<◌, ◌≤◌, Bool, true, false, List, [], ◌∷◌, ◌++◌, length, take, get_or, refl, sym, ap, ◌∙◌, arith, append_assoc, append-nil}
-use Rattle.std.specs.Prelude.{◌==◌, if◌then◌else◌}
+use Rattle.std.proofs.Common.{◌≡◌, ℕ, suc, ◌+◌, ◌-◌, ◌<◌, ◌≤◌, true, false, List, [], ◌∷◌, ◌++◌, length, take, get_or, refl, sym, ap, ◌∙◌, arith, append-nil}
+use Rattle.std.specs.Prelude.{if◌then◌else◌}
 use Rattle.std.proofs.lemmas.Bool.Decides.{nat_tests}
 use Rattle.std.proofs.lemmas.List.{take_more}
+use Rattle.std.proofs.lemmas.Grind.{flat_map-append}
 use Rattle.plane_core.specs.World.{World}
 use Rattle.plane_core.specs.Lay.{lay, lay-append}
 use Rattle.plane_core.specs.Step.{step}
 use Rattle.plane_core.specs.Iterate.{iterate}
 use Rattle.plane_core.specs.Arrival.{arrive-zero, arrive-gap}
-use Rattle.plane_core.specs.declared.cell.CellSet.{CellSet}
 use Rattle.rule_tree.specs.Rule.{next_of}
 use Rattle.schedule.specs.declared.document.Intervention.{Intervention}
 use Rattle.schedule.specs.Plan.{Plan}
-use Rattle.schedule.specs.Scratch.{cells_at, arrival, after}
-use Rattle.desk_core.specs.Laid.{own_cells}
-
-joined : (b : Bool) (cs ds es : List CellSet) → (if b then cs ++ (ds ++ es) else (ds ++ es)) ≡ (if b then cs ++ ds else ds) ++ es
-joined true cs ds es = sym (append_assoc cs ds es)
-joined false cs ds es = refl
-
-alone : (b : Bool) (cs : List CellSet) → (if b then cs ++ [] else []) ≡ (if b then cs else [])
-alone true cs = append-nil cs
-alone false cs = refl
+use Rattle.schedule.specs.Scratch.{acts_at, own_cells, cells_at, arrival, after}
 
 -- one more intervention
-pub cells_at-push : (is : List Intervention) (i : Intervention) (g : ℕ) → cells_at (is ++ i ∷ []) g ≡ cells_at is g ++ own_cells i g
-cells_at-push [] i g = alone (i.generation == g) i.cells
-cells_at-push (j ∷ is) i g =
-    ap (λ cs. if j.generation == g then j.cells ++ cs else cs) (cells_at-push is i g)
-    ∙ joined (j.generation == g) j.cells (cells_at is g) (own_cells i g)
-
 pub cells_at-more : (is : List Intervention) (k : ℕ) (d : Intervention) (g : ℕ) → k < length is → cells_at (take (k + 1) is) g ≡ cells_at (take k is) g ++ own_cells (get_or is k d) g
-cells_at-more is k d g h = ap (λ js. cells_at js g) (take_more is k d h) ∙ cells_at-push (take k is) (get_or is k d) g
+cells_at-more is k d g h =
+    let i = get_or is k d in
+    ap (λ js. cells_at js g) (take_more is k d h)
+    ∙ flat_map-append (λ j. own_cells j g) (take k is) (i ∷ [])
+    ∙ ap (λ cs. cells_at (take k is) g ++ cs) (append-nil (own_cells i g))
 
-pub own_cells-acts : (i : Intervention) (g : ℕ) → i.generation ≡ g → own_cells i g ≡ i.cells
-own_cells-acts i g same = ap (λ b. if b then i.cells else []) (let t : (i.generation == g) ≡ true = grind (arith, nat_tests) in t)
+pub own_cells-acts : (i : Intervention) (g : ℕ) → acts_at i g ≡ true → own_cells i g ≡ i.cells
+own_cells-acts i g acts = ap (λ b. if b then i.cells else []) acts
 
-pub own_cells-passes : (i : Intervention) (g : ℕ) → (i.generation ≡ g → ⊥) → own_cells i g ≡ []
-own_cells-passes i g apart =
-    elim (i.generation == g) as (λ b. (i.generation == g) ≡ b → (if b then i.cells else []) ≡ []) [
+pub own_cells-passes : (i : Intervention) (g : ℕ) → acts_at i g ≡ false → own_cells i g ≡ []
+own_cells-passes i g passes = ap (λ b. if b then i.cells else []) passes
+
+other : (i : Intervention) (g : ℕ) → (i.generation ≡ g → ⊥) → own_cells i g ≡ []
+other i g apart =
+    elim (acts_at i g) as (λ b. acts_at i g ≡ b → (if b then i.cells else []) ≡ []) [
       | true ↦ λ same. absurd (apart (grind (arith, nat_tests)))
       | false ↦ λ _. refl
     ] refl
@@ -56,7 +48,7 @@ IsQuiet-more is k d at next sooner h quiet less own = record {
   none = λ g a b.
       cells_at-more is k d g h
       ∙ ap (λ cs. cs ++ own_cells (get_or is k d) g) (quiet.none g a (omega arith))
-      ∙ own_cells-passes (get_or is k d) g (λ same. let later : at < (get_or is k d).generation = omega arith in let s = own later in omega arith);
+      ∙ other (get_or is k d) g (λ same. let later : at < (get_or is k d).generation = omega arith in let s = own later in omega arith);
 }
 
 -- the cells of one more intervention are laid

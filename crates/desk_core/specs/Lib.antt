@@ -1,3 +1,4 @@
+pub mod Cause
 pub mod Rows
 pub mod Shown
 pub mod Laid

@@ -1,21 +1,29 @@
 //! The desk.
-ghost use Rattle.std.specs.Prelude.{◌≡◌, ◌⊎◌, ◌<◌, ◌≤◌, IfOk, IfErr, IfSome, OnErr, OnOk, length, count_by, is_none};
+ghost use Rattle.std.specs.Prelude.{◌≡◌, ◌⊎◌, ◌<◌, ◌≤◌, ◌^◌, ◌==◌, IfOk, IfErr, IfSome, OnErr, OnOk};
+ghost use Rattle.std.specs.Prelude.{length, count_by, vec_capacity, None, []};
 ghost use Rattle.schedule.specs.Plan.{opening};
-ghost use Rattle.schedule.specs.Change.{change, refusal};
-ghost use Rattle.desk_core.specs.Rows.{pending_of, none_known, Keeps, AreRight};
+ghost use Rattle.schedule.specs.Asked.{asked_of};
+ghost use Rattle.schedule.specs.Change.{change, made, refusal};
+ghost use Rattle.desk_core.specs.Rows.{pending_of, is_unknown, none_known, filled, Keeps, AreRight};
 ghost use Rattle.desk_core.specs.Shown.{Shows, Ends};
+ghost use Rattle.bookmarks.specs.Within.{IsWithin};
 
+use crate::cause::Cause;
 use crate::history::text_of;
+use crate::row::Row;
 use crate::shown::{Settling, Shown};
-use schedule::{Document, Edit, EditFault, Edited, EvolveFault, Listing, Refusal};
+use schedule::{Bookmark, Document, Edit, EditFault, Edited, EvolveFault, Listing};
 use std::alloc::{AllocError, Global};
 use std::marker::Model;
+
+/// The text of a bookmark by its id, if it is known.
+type TextRow = Row<u64, Listing<u8>>;
 
 /// A document, and the texts of its bookmarks that are known.
 #[derive(Drop)]
 pub struct Desk {
     document: Document,
-    texts: Vec<Option<Listing<u8>>>,
+    texts: Vec<TextRow>,
     alloc: Global,
 }
 
@@ -36,7 +44,7 @@ impl Model for Desk {
 impl Desk {
     /// A desk with the opening document of revision 0.
     pub fn open(alloc: Global) -> Result<Desk, AllocError>
-        ensures { IfOk result (λ desk. desk ≡ record { plan = opening 0; texts = none_known 0 }) }
+        ensures { IfOk result (λ desk. desk ≡ record { plan = opening 0; texts = [] }) }
     {
         Ok(Desk {
             document: Document::opening(alloc, 0)?,
@@ -55,17 +63,19 @@ impl Desk {
     /// Makes the change that the edit asks for and forgets all texts, or refuses it and changes
     /// nothing.
     pub fn edit(&mut self, edit: &Edit) -> Result<Edited, EditFault>
-        ensures ok { IfOk result (λ edited. change self.old.plan edit.now ≡ Ok (record { plan = self.new.plan; edited = edited })) }
-        ensures forgets { OnOk result (self.new.texts ≡ none_known (length self.new.plan.bookmarks)) }
-        ensures refused { IfErr result (λ fault. (fault ≡ EditFault.NoMemory) ⊎ (change self.old.plan edit.now ≡ Err fault)) }
-        ensures first { IfSome (refusal self.old.plan edit.now) (λ fault. result ≡ Err fault) }
+        ensures ok { IfOk result (λ edited.
+            change self.old.plan (asked_of edit.now) ≡ Ok (made self.new.plan edited)) }
+        ensures forgets { OnOk result (self.new.texts ≡ none_known self.new.plan.bookmarks) }
+        ensures refused { IfErr result (λ fault.
+            (fault ≡ EditFault.NoMemory) ⊎ (change self.old.plan (asked_of edit.now) ≡ Err fault)) }
+        ensures first { IfSome (refusal self.old.plan (asked_of edit.now)) (λ fault. result ≡ Err fault) }
         ensures unchanged { OnErr result (self.new ≡ self.old) }
     {
         self.document.check(edit)?;
-        let texts = unknown(self.alloc, self.document.bookmarks().len() + 1)?;
+        // The room for one more row is made before anything changes.
+        self.texts.reserve(1)?;
         let edited = self.document.apply(edit)?;
-        self.texts = texts;
-        self.texts.truncate(self.document.bookmarks().len());
+        forget(&mut self.texts, self.document.bookmarks());
         Ok(edited)
     }
 
@@ -74,10 +84,9 @@ impl Desk {
     pub fn shown(&self, id: u64) -> Shown<'_>
         ensures { Shows self.now id result }
     {
-        let bookmarks = self.document.bookmarks();
-        for index in 0..bookmarks.len() {
-            if bookmarks[index].id == id {
-                return match &self.texts[index] {
+        for row in &self.texts {
+            if row.key == id {
+                return match &row.value {
                     Some(text) => Shown::Current(text.as_slice()),
                     None => Shown::Pending,
                 };
@@ -95,60 +104,78 @@ impl Desk {
         let _bookmarks = self.document.bookmarks();
         unknown_count(&self.texts) as u32
     }
+}
 
-    /// Computes the texts that aren't known, each anew from the start, until all are or memory is
-    /// wanted. What was known stays.
-    pub fn settle(&mut self) -> Settling
-        ensures ends { Ends self.new result }
-        ensures document { self.new.plan ≡ self.old.plan }
-        ensures keeps { Keeps self.old.texts self.new.texts }
-    {
-        let Err(fault) = fill(self.alloc, &self.document, &mut self.texts) else {
-            return Settling::Settled;
-        };
-        Settling::Unsettled {
-            pending: self.pending(),
-            cause: Some(fault.number()),
-        }
+/// Computes the texts that aren't known, each anew from the start, until all are or memory is
+/// wanted. What was known stays.
+pub fn settle(desk: &mut Desk) -> Settling
+    ensures ends { Ends desk.new result }
+    ensures document { desk.new.plan ≡ desk.old.plan }
+    ensures keeps { Keeps ◌==◌ desk.old.texts desk.new.texts }
+{
+    match fill(desk.alloc, &desk.document, &mut desk.texts) {
+        Ok(()) => Settling::Settled,
+        Err(_) => Settling::Unsettled {
+            pending: desk.pending(),
+            cause: Some(Cause::NoMemory),
+        },
     }
 }
 
 // How many of the texts aren't known.
-fn unknown_count(texts: &[Option<Listing<u8>>]) -> usize
-    ensures { result ≡ count_by is_none texts.now }
+fn unknown_count(texts: &[TextRow]) -> usize
+    ensures { result ≡ count_by is_unknown texts.now }
 {
-    texts.iter().filter(|text| text.is_none()).count()
+    texts.iter().filter(|row| row.value.is_none()).count()
+}
+
+// Leaves a row for each bookmark, and nothing known. There is room for them.
+fn forget(texts: &mut Vec<TextRow>, bookmarks: &[Bookmark])
+    requires { length bookmarks.now ≤ vec_capacity texts.old }
+    ensures { texts.new.items ≡ none_known bookmarks.now }
+{
+    texts.clear();
+    for bookmark in bookmarks {
+        texts.push_reserved(Row {
+            key: bookmark.id,
+            value: None,
+        });
+    }
 }
 
 // Computes the texts that aren't known, in order.
-fn fill(
-    alloc: Global,
-    document: &Document,
-    texts: &mut [Option<Listing<u8>>],
-) -> Result<(), EvolveFault>
+fn fill(alloc: Global, document: &Document, texts: &mut [TextRow]) -> Result<(), EvolveFault>
     requires { AreRight document.now document.now.bookmarks texts.old }
     ensures right { AreRight document.now document.now.bookmarks texts.new }
-    ensures keeps { Keeps texts.old texts.new }
-    ensures ok { OnOk result (count_by is_none texts.new ≡ 0) }
-    ensures err { IfErr result (λ fault. (fault ≡ EvolveFault.NoMemory) × (0 < count_by is_none texts.new)) }
+    ensures keeps { Keeps ◌==◌ texts.old texts.new }
+    ensures ok { OnOk result (count_by is_unknown texts.new ≡ 0) }
+    ensures memory { IfErr result (λ fault. fault ≡ EvolveFault.NoMemory) }
+    ensures left { OnErr result (0 < count_by is_unknown texts.new) }
 {
     let bookmarks = document.bookmarks();
     for index in 0..texts.len() {
-        if texts[index].is_none() {
-            let text = text_of(alloc, document, bookmarks[index])?;
-            texts[index] = Some(Listing::from_vec(text));
-        }
+        fill_row(alloc, document, bookmarks[index], &mut texts[index])?;
     }
     Ok(())
 }
 
-// So many texts, none of them known.
-fn unknown(alloc: Global, count: usize) -> Result<Vec<Option<Listing<u8>>>, AllocError>
-    ensures { IfOk result (λ texts. texts.items ≡ none_known count) }
+// Computes the text of a bookmark's row, if it isn't known.
+fn fill_row(
+    alloc: Global,
+    document: &Document,
+    bookmark: Bookmark,
+    row: &mut TextRow,
+) -> Result<(), EvolveFault>
+    requires near { bookmark.generation ≤ 2 ^ 60 }
+    requires within { IsWithin bookmark.view }
+    ensures ok { OnOk result (row.new ≡ filled document.now bookmark row.old) }
+    ensures memory { IfErr result (λ fault. fault ≡ EvolveFault.NoMemory) }
+    ensures unchanged { OnErr result (row.new ≡ row.old) }
+    ensures unknown { OnErr result (row.old.value ≡ None) }
 {
-    let mut texts = Vec::with_capacity(alloc, count)?;
-    for _ in 0..count {
-        texts.push(None)?;
+    if row.value.is_none() {
+        let text = text_of(alloc, document, bookmark)?;
+        row.value = Some(Listing::from_vec(text));
     }
-    Ok(texts)
+    Ok(())
 }

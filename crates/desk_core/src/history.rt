@@ -6,8 +6,8 @@ ghost use Rattle.plane_core.specs.Step.{step};
 ghost use Rattle.plane_core.specs.Range.{AllBelow, CanBeLaid, HasMargin};
 ghost use Rattle.rule_tree.specs.Rule.{states_of, next_of};
 ghost use Rattle.bookmarks.specs.Within.{IsWithin};
-ghost use Rattle.schedule.specs.Scratch.{cells_at, after, scratch};
-ghost use Rattle.desk_core.specs.Laid.{AllCanBeLaid, own_cells};
+ghost use Rattle.schedule.specs.Scratch.{own_cells, cells_at, after, scratch};
+ghost use Rattle.desk_core.specs.Laid.{AllCanBeLaid};
 
 use schedule::{
     Bookmark, Document, EvolveFault, Intervention, Next, NoStop, Plane, Rule, evolve_plain, render,
@@ -96,7 +96,7 @@ fn laid_by(intervention: &Intervention, plane: Plane, generation: u64) -> Result
     requires { All CanBeLaid intervention.now.cells }
     ensures { IfOk result (λ laid. laid ≡ lay (own_cells intervention.now generation) plane) }
 {
-    if intervention.generation != generation {
+    if !intervention.acts_at(generation) {
         return Ok(plane);
     }
     plane.lay(intervention.cells.as_slice())

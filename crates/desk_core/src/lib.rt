@@ -8,11 +8,14 @@
 //! with the generations and the live cells of each bookmark.
 #![tactic(auto)]
 
+mod cause;
 mod desk;
 mod history;
+mod row;
 mod shown;
 
-pub use desk::Desk;
+pub use cause::Cause;
+pub use desk::{Desk, settle};
 pub use schedule::{
     Bookmark, CellSet, Document, Edit, EditFault, Edited, Listing, Plane, Refusal, Rule, RuleFault,
     View,

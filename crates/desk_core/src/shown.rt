@@ -1,5 +1,7 @@
 //! What a desk answers.
 
+use crate::cause::Cause;
+
 /// What a desk shows of a bookmark.
 #[derive(Clone, Copy, Debug, PartialEq, Eq)]
 pub enum Shown<'a> {
@@ -16,7 +18,7 @@ pub enum Shown<'a> {
 pub enum Settling {
     /// Every bookmark is current.
     Settled,
-    /// So many bookmarks are pending, at least one; the cause is the number of the refusal that
-    /// stopped the settling, if one did.
-    Unsettled { pending: u32, cause: Option<u8> },
+    /// So many bookmarks are pending, at least one, for the cause that stopped the settling, if one
+    /// did.
+    Unsettled { pending: u32, cause: Option<Cause> },
 }

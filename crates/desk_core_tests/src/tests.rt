@@ -1,5 +1,7 @@
 //! Worked desks, with what they show.
-use desk_core::{CellSet, Desk, Edit, EditFault, Edited, Listing, Rule, Settling, Shown, View};
+use desk_core::{
+    Cause, CellSet, Desk, Edit, EditFault, Edited, Listing, Rule, Settling, Shown, View,
+};
 use std::alloc::Global;
 use std::fmt::Debug;
 use std::process::Abort;
@@ -68,17 +70,22 @@ fn desk_of_x(rt: &impl Abort, alloc: Global) -> Desk {
 
 /// Stops the test where a settling that wanted memory doesn't say so, or where the next one doesn't
 /// compute what it left.
-fn check_unsettled(rt: &impl Abort, desk: &mut Desk, pending: u32, cause: Option<u8>) {
+fn check_unsettled(rt: &impl Abort, desk: &mut Desk, pending: u32, cause: Option<Cause>) {
     assert!(rt; pending > 0);
     same(rt, &desk.pending(), &pending, &"unsettled");
-    same(rt, &cause, &Some(70), &"unsettled");
-    same(rt, &desk.settle(), &Settling::Settled, &"settled again");
+    same(rt, &cause, &Some(Cause::NoMemory), &"unsettled");
+    same(
+        rt,
+        &desk_core::settle(desk),
+        &Settling::Settled,
+        &"settled again",
+    );
 }
 
 /// Settles the desk, with memory for all. Where a growth is refused some bookmarks are pending, and
 /// the next settling computes those.
 fn settle(rt: &impl Abort, desk: &mut Desk) {
-    match desk.settle() {
+    match desk_core::settle(desk) {
         Settling::Settled => same(rt, &desk.pending(), &0, &"settled"),
         Settling::Unsettled { pending, cause } => {
             check_unsettled(rt, desk, pending, cause);
@@ -244,4 +251,9 @@ fn refused_edits_change_nothing(rt: HostRuntime) {
     settle_both(&rt, &mut desk);
     check_all_refused(&rt, alloc, &mut desk, 0);
     settle_both(&rt, &mut desk);
+}
+
+#[test]
+fn causes(rt: HostRuntime) {
+    same(&rt, &Cause::NoMemory.number(), &70, &"number");
 }

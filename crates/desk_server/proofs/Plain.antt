@@ -1,7 +1,8 @@
 -- Answers without a want.
-use Rattle.std.proofs.Common.{◌≡◌, ◌⊎◌, inl, inr, ℕ, ◌==◌, ◌&&◌, nat_le, List, [], ◌∷◌, ◌++◌, length, Bool, true, false, cond, refl, ap, ◌∙◌, Option, Some, None}
+use Rattle.std.proofs.Common.{◌≡◌, ◌⊎◌, inl, inr, ℕ, ◌&&◌, nat_le, List, [], ◌∷◌, ◌++◌, length, Bool, true, false, cond, refl, ap, ◌∙◌, Option, Some, None}
 use Rattle.schedule.specs.Plan.{Plan}
 use Rattle.schedule.specs.declared.document.Bookmark.{Bookmark}
+use Rattle.desk_core.specs.Cause.{is_cause}
 use Rattle.desk_core.specs.Rows.{bookmark_in}
 use Rattle.desk_server.specs.Reply.{unsettled_text, settled_text}
 use Rattle.desk_server.specs.Answer.{Ask, Say, Tell, NoEnd, Want, Enough, Memory, Unsettled, Pending, After, answer, only, unless_memory, settled, shown, obeyed}
@@ -27,7 +28,7 @@ left-plain false p n cause = inl refl
 settled-plain : (want : Want) (p : Plan) → IsPlain (settled want p) (settled Enough p)
 settled-plain Enough p = inl refl
 settled-plain Memory p = inl refl
-settled-plain (Unsettled n cause) p = left-plain (nat_le 1 n && nat_le n (length p.bookmarks) && (cause == 70)) p n cause
+settled-plain (Unsettled n cause) p = left-plain (nat_le 1 n && nat_le n (length p.bookmarks) && is_cause cause) p n cause
 settled-plain Pending p = inl refl
 
 shown-plain : (want : Want) (p : Plan) (id : ℕ) (b : Option Bookmark) → IsPlain (shown want p id b) (shown Enough p id b)

@@ -1,10 +1,11 @@
 -- What the desk's answers are by the definition of the replies.
-use Rattle.std.proofs.Common.{◌≡◌, ◌⊎◌, inl, inr, ℕ, List, Result, Err, ◌≤◌, ◌<◌, Option, Some, None, length, Bool, true, false, cond, codes, ◌&&◌, refl, sym, ap, ap₂, ◌∙◌, subst, arith, nat_le, ◌==◌}
+use Rattle.std.proofs.Common.{◌≡◌, ◌⊎◌, inl, inr, ℕ, List, Result, Err, ◌≤◌, ◌<◌, Option, Some, None, length, Bool, true, false, cond, codes, ◌&&◌, refl, sym, ap, ap₂, ◌∙◌, subst, arith, nat_le}
 use Rattle.std.specs.Prelude.{IsSome}
 use Rattle.std.proofs.lemmas.Bool.Decides.{nat_tests}
 use Rattle.schedule.specs.Plan.{Plan}
 use Rattle.schedule.specs.declared.document.Bookmark.{Bookmark}
-use Rattle.desk_core.specs.Rows.{Known, bookmark_in, text_in}
+use Rattle.desk_core.specs.Rows.{Known, bookmark_in, text_known}
+use Rattle.desk_core.specs.Cause.{is_cause}
 use Rattle.desk_core.specs.Shown.{Shows, IsPending}
 use Rattle.desk_core.specs.declared.shown.Shown.{Shown}
 use Rattle.desk_core.specs.declared.shown.Shown.TheVariants as found
@@ -36,11 +37,11 @@ left true true false x y h k l = absurd (cc)
 left true false c x y h k l = absurd (cc)
 left false b c x y h k l = absurd (cc)
 
-pub gives-unsettled : (p : Plan) (new : Known) (n cause : ℕ) → new.plan ≡ p → 0 < n → n ≤ length new.plan.bookmarks → cause ≡ 70 → (want : Want) × Gives (settled want p) (reply.Unsettled n cause) new
+pub gives-unsettled : (p : Plan) (new : Known) (n cause : ℕ) → new.plan ≡ p → 0 < n → n ≤ length new.plan.bookmarks → is_cause cause ≡ true → (want : Want) × Gives (settled want p) (reply.Unsettled n cause) new
 gives-unsettled p new n cause same some few is = (
   Unsettled n cause,
   subst (λ q. Gives (settled (Unsettled n cause) q) (reply.Unsettled n cause) new) same
-      (left (nat_le 1 n) (nat_le n (length new.plan.bookmarks)) (cause == 70) (only new.plan (unsettled_text n cause)) (only new.plan settled_text) (grind (arith, nat_tests)) (grind (arith, nat_tests)) (grind (arith, nat_tests))),
+      (left (nat_le 1 n) (nat_le n (length new.plan.bookmarks)) (is_cause cause) (only new.plan (unsettled_text n cause)) (only new.plan settled_text) (grind (arith, nat_tests)) (grind (arith, nat_tests)) is),
 )
 
 some_of : (o : Option Bookmark) → IsSome o → (b : Bookmark) × (o ≡ Some b)
@@ -58,7 +59,7 @@ shown-here new id found.Pending h =
     (Pending, ap (shown Pending new.plan id) b.1 ∙ ap (only new.plan) (sym (ap₂ (shown_text id) b.1 h.unknown)))
 shown-here new id found.NoSuch h = (
   Enough,
-  ap (shown Enough new.plan id) h ∙ ap (only new.plan) (sym (ap (λ o. shown_text id o (text_in new.plan.bookmarks new.texts id)) h)),
+  ap (shown Enough new.plan id) h ∙ ap (only new.plan) (sym (ap (λ o. shown_text id o (text_known new id)) h)),
 )
 
 -- a bookmark that is shown
@@ -66,5 +67,5 @@ pub gives-shown : (p : Plan) (new : Known) (id : ℕ) (s : Shown) → new.plan �
 gives-shown p new id s same h = let here = shown-here new id s h in (here.0, subst (λ q. Gives (shown here.0 q id (bookmark_in q.bookmarks id)) (reply.Shown id) new) same here.1)
 
 -- what is written of a pending one
-pub pending-shown : (known : Known) (id : ℕ) → IsPending known id → shown_text id (bookmark_in known.plan.bookmarks id) (text_in known.plan.bookmarks known.texts id) ≡ pending_text id
+pub pending-shown : (known : Known) (id : ℕ) → IsPending known id → shown_text id (bookmark_in known.plan.bookmarks id) (text_known known id) ≡ pending_text id
 pending-shown known id h = let b = some_of (bookmark_in known.plan.bookmarks id) h.there in ap₂ (shown_text id) b.1 h.unknown

@@ -1,5 +1,5 @@
 -- What each command does to a document, and what is replied.
-use Rattle.std.specs.Prelude.{◌≡◌, ℕ, ◌==◌, ◌&&◌, nat_le, List, length, Bool, true, false, if◌then◌else◌, codes, Option, None, Some, Result, Ok, Err}
+use Rattle.std.specs.Prelude.{◌≡◌, ℕ, ◌&&◌, nat_le, List, length, Bool, true, false, if◌then◌else◌, codes, Option, None, Some, Result, Ok, Err}
 use Rattle.rule_tree.specs.declared.rule.Rule.{Rule as FileRule}
 use Rattle.rule_file.specs.declared.fault.RuleFault.{RuleFault}
 use Rattle.rule_tree.specs.Rule.{rule_of}
@@ -12,9 +12,10 @@ use Rattle.schedule.specs.declared.fault.EditFault.{EditFault}
 use Rattle.schedule.specs.declared.document.Bookmark.{Bookmark}
 use Rattle.schedule.specs.Faults as edit_faults
 use Rattle.schedule.specs.Plan.{Plan}
-use Rattle.schedule.specs.declared.edit.Edit.TheVariants.{SetCells, AddBookmark}
-use Rattle.schedule.specs.Change.{Changed, change, first_refusal, for_start, for_rule, changed_start, changed_rule, unless_refused}
+use Rattle.schedule.specs.Asked.{SetCells, ReplaceStart, ReplaceRule, AddBookmark}
+use Rattle.schedule.specs.Change.{Changed, change}
 use Rattle.schedule.specs.Scratch.{scratch}
+use Rattle.desk_core.specs.Cause.{is_cause}
 use Rattle.desk_core.specs.Rows.{bookmark_in}
 use Rattle.desk_server.specs.declared.command.Format.{Format}
 use Rattle.desk_server.specs.declared.command.Format.TheVariants as format
@@ -63,7 +64,7 @@ edited p (Err fault) = only p (refused_text (edit_faults.fault_number fault) (ed
 
 -- a rule's text was read
 abbrev pub ruled : Plan → Result FileRule RuleFault → After
-ruled p (Ok rule) = edited p (unless_refused (first_refusal (for_rule p rule)) (changed_rule p rule))
+ruled p (Ok rule) = edited p (change p (ReplaceRule rule))
 ruled p (Err fault) = only p (refused_text (rule_faults.fault_number fault) (rule_faults.fault_name fault) (rule_faults.fault_place fault))
 
 -- an edit that brings a start was made, whose file names this generation, or refused
@@ -73,7 +74,7 @@ begun p generation (Err fault) = only p (refused_text (edit_faults.fault_number 
 
 -- a pattern's text was read
 abbrev pub started : Plan → Result Loaded RleFault → After
-started p (Ok loaded) = begun p loaded.generation (unless_refused (first_refusal (for_start p loaded.plane)) (changed_start p loaded.plane))
+started p (Ok loaded) = begun p loaded.generation (change p (ReplaceStart loaded.plane))
 started p (Err fault) = only p (refused_text (pattern_faults.fault_number fault) (pattern_faults.fault_name fault) (pattern_faults.fault_place fault))
 
 -- a text of a format was read
@@ -85,7 +86,7 @@ taken p format.Rle text = started p (pattern_of text)
 abbrev pub settled : Want → Plan → After
 settled Enough p = only p settled_text
 settled Memory p = only p settled_text
-settled (Unsettled n cause) p = if nat_le 1 n && nat_le n (length p.bookmarks) && (cause == 70) then only p (unsettled_text n cause) else only p settled_text
+settled (Unsettled n cause) p = if nat_le 1 n && nat_le n (length p.bookmarks) && is_cause cause then only p (unsettled_text n cause) else only p settled_text
 settled Pending p = only p settled_text
 
 -- a bookmark of the document is shown with the text that starting over gives, unless a want left it pending

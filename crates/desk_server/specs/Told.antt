@@ -1,7 +1,7 @@
 -- How a reply reads, with the texts that the desk knows.
 use Rattle.std.specs.Prelude.{ℕ, List, [], ◌∷◌, ◌++◌, Bool, true, false, Option, None, Some, codes, decimal}
 use Rattle.schedule.specs.declared.document.Bookmark.{Bookmark}
-use Rattle.desk_core.specs.Rows.{Known, bookmark_in, text_in}
+use Rattle.desk_core.specs.Rows.{Known, bookmark_in, text_known}
 use Rattle.desk_server.specs.declared.reply.Reply.{Reply}
 use Rattle.desk_server.specs.declared.reply.Reply.TheVariants as reply
 use Rattle.desk_server.specs.declared.reply.Part.{Part}
@@ -19,7 +19,7 @@ text_of known (reply.Accepted edited) = ok_text edited
 text_of known (reply.Started revision generation) = started_text revision generation
 text_of known reply.Settled = settled_text
 text_of known (reply.Unsettled pending cause) = unsettled_text pending cause
-text_of known (reply.Shown id) = shown_text id (bookmark_in known.plan.bookmarks id) (text_in known.plan.bookmarks known.texts id)
+text_of known (reply.Shown id) = shown_text id (bookmark_in known.plan.bookmarks id) (text_known known id)
 text_of known (reply.Refused number name place) = refused_text number name.now place
 text_of known reply.Bye = bye_text
 

@@ -1,9 +1,12 @@
 //! What the desk does when something is asked.
 ghost use Rattle.std.specs.Prelude.{◌≡◌, ℕ, List, Some};
 ghost use Rattle.schedule.specs.Change.{change};
-ghost use Rattle.schedule.specs.declared.edit.Edit.TheVariants.{ReplaceStart};
+ghost use Rattle.std.specs.Arc.{arc_value};
+ghost use Rattle.schedule.specs.Asked.{asked_of, ReplaceStart};
 ghost use Rattle.rule_tree.specs.Rule.{rule_of};
 ghost use Rattle.multistate_rle.specs.Pattern.{pattern_of};
+ghost use Rattle.std.specs.Option.{option_map_or};
+ghost use Rattle.desk_core.specs.Cause.{cause_number};
 ghost use Rattle.desk_core.specs.Rows.{bookmark_in, pending_of};
 ghost use Rattle.desk_server.specs.Answer.{Ask, Want, unless_memory, edited, ruled, started, begun, taken, settled, shown, obeyed};
 ghost use Rattle.desk_server.specs.Heard.{Asked, Gives, Served};
@@ -12,14 +15,14 @@ use crate::command::{Command, Format};
 use crate::fault::ScriptFault;
 use crate::heard::What;
 use crate::reply::{Reply, refused};
-use desk_core::{Desk, Edit, EditFault, Plane, Rule, Settling, Shown};
+use desk_core::{Cause, Desk, Edit, EditFault, Plane, Rule, Settling, Shown};
 use multistate_rle::read_rle;
 use std::alloc::Global;
 use std::sync::Arc;
 
 // Makes an edit, or refuses it.
 fn edit(desk: &mut Desk, edit: &Edit) -> Reply
-    ensures { (want : Want) × Gives (unless_memory want desk.old.plan (edited desk.old.plan (change desk.old.plan edit.now))) result desk.new }
+    ensures { (want : Want) × Gives (unless_memory want desk.old.plan (edited desk.old.plan (change desk.old.plan (asked_of edit.now)))) result desk.new }
 {
     match desk.edit(edit) {
         Ok(edited) => Reply::Accepted(edited),
@@ -43,7 +46,7 @@ fn take_rule(alloc: Global, desk: &mut Desk, text: &[u8]) -> Reply
 
 // Takes a start whose file names this generation, or refuses it; the desk counts from 0 all the same.
 fn begin(desk: &mut Desk, start: Arc<Plane>, generation: u64) -> Reply
-    ensures { (want : Want) × Gives (unless_memory want desk.old.plan (begun desk.old.plan generation (change desk.old.plan (ReplaceStart start)))) result desk.new }
+    ensures { (want : Want) × Gives (unless_memory want desk.old.plan (begun desk.old.plan generation (change desk.old.plan (ReplaceStart (arc_value start))))) result desk.new }
 {
     let edited = match desk.edit(&Edit::ReplaceStart(start)) {
         Ok(edited) => edited,
@@ -79,16 +82,26 @@ fn take(alloc: Global, desk: &mut Desk, format: Format, text: &[u8]) -> Reply
     }
 }
 
+// The number of a cause, or 0 where there is none.
+fn number(cause: Option<Cause>) -> u8
+    ensures { result ≡ option_map_or cause_number cause 0 }
+{
+    match cause {
+        Some(cause) => cause.number(),
+        None => 0,
+    }
+}
+
 fn settle(desk: &mut Desk) -> Reply
     ensures answer { (want : Want) × Gives (settled want desk.old.plan) result desk.new }
     ensures settled { result ≡ Reply.Settled → pending_of desk.new ≡ 0 }
     ensures pending { (n cause : ℕ) → result ≡ Reply.Unsettled n cause → n ≡ pending_of desk.new }
 {
-    match desk.settle() {
+    match desk_core::settle(desk) {
         Settling::Settled => Reply::Settled,
         Settling::Unsettled { pending, cause } => Reply::Unsettled {
             pending,
-            cause: cause.unwrap_or(0),
+            cause: number(cause),
         },
     }
 }
@@ -98,7 +111,7 @@ fn show(desk: &mut Desk, id: u64) -> Reply
     ensures { (want : Want) × Gives (shown want desk.old.plan id (bookmark_in desk.old.plan.bookmarks id)) result desk.new }
 {
     if desk.shown(id) != Shown::NoSuch {
-        desk.settle();
+        desk_core::settle(desk);
     }
     // Whatever the desk kept, what it shows is what starting over gives.
     let _shown = desk.shown(id);

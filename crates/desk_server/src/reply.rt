@@ -1,7 +1,7 @@
 //! Replies, and how they are written.
 ghost use Rattle.std.specs.Prelude.{◌≡◌, ◌+◌, ℕ, OnOk, OnErr, codes, false, true};
 ghost use Rattle.script_lines.specs.Faults.{Wrote};
-ghost use Rattle.desk_core.specs.Rows.{Known, bookmark_in, text_in};
+ghost use Rattle.desk_core.specs.Rows.{Known};
 ghost use Rattle.desk_server.specs.Reply.{ok_text, started_text, refused_text, current_text, pending_text};
 ghost use Rattle.desk_server.specs.Told.{text_of, ends, part_text, parts_text};
 

@@ -1,6 +1,6 @@
 -- What the limits of documents say of the worlds on the way from the start.
-use Rattle.std.proofs.Common.{ℕ, ◌-◌, ◌<◌, ◌≤◌, ◌^◌, Bool, true, false, List, [], ◌∷◌, ◌++◌, arith}
-use Rattle.std.specs.Prelude.{◌==◌, if◌then◌else◌}
+use Rattle.std.proofs.Common.{ℕ, ◌-◌, ◌<◌, ◌≤◌, ◌^◌, Bool, true, false, List, [], ◌∷◌, arith}
+use Rattle.std.specs.Prelude.{if◌then◌else◌}
 use Rattle.std.specs.Prelude.{All}
 use Rattle.std.specs.List.{AllByRecursion}
 use Rattle.std.proofs.lemmas.List.Elements.{All-from_recursion}
@@ -11,17 +11,17 @@ use Rattle.rule_tree.specs.Rule.{states_of, next_of}
 use Rattle.rule_tree.specs.RuleLaws.{next_of-quiet, next_of-below}
 use Rattle.schedule.specs.declared.document.Intervention.{Intervention}
 use Rattle.schedule.specs.Plan.{Plan}
-use Rattle.schedule.specs.Scratch.{cells_at, arrival, after}
+use Rattle.schedule.specs.Scratch.{acts_at, own_cells, cells_at, arrival, after}
 use Rattle.schedule.specs.Sound.{AreNamed, SetBelow, IsAllowed, IsSound}
 use Rattle.schedule.proofs.Each.{all_append}
 
-at_test : (b : Bool) (cs ds : List CellSet) (P : CellSet → Type 0) → AllByRecursion P cs → AllByRecursion P ds → AllByRecursion P (if b then cs ++ ds else ds)
-at_test true cs ds P h k = all_append P cs ds h k
-at_test false cs ds P h k = k
+own : (P : CellSet → Type 0) (b : Bool) (cs : List CellSet) → AllByRecursion P cs → AllByRecursion P (if b then cs else [])
+own P true cs h = h
+own P false cs h = tt
 
 each_at : (P : CellSet → Type 0) (n : ℕ) (is : List Intervention) (g : ℕ) → ((i : Intervention) → IsAllowed n i → AllByRecursion P i.cells) → AllByRecursion (IsAllowed n) is → AllByRecursion P (cells_at is g)
 each_at P n [] g f h = tt
-each_at P n (i ∷ is) g f h = at_test (i.generation == g) i.cells (cells_at is g) P (f i h.0) (each_at P n is g f h.1)
+each_at P n (i ∷ is) g f h = all_append P (own_cells i g) (cells_at is g) (own P (acts_at i g) i.cells (f i h.0)) (each_at P n is g f h.1)
 
 pub AreNamed-at : (p : Plan) (g : ℕ) → IsSound p → AreNamed (cells_at p.interventions g)
 AreNamed-at p g sound = each_at _ (states_of p.rule) p.interventions g (λ i k. k.named) sound.interventions_allowed

@@ -43,6 +43,9 @@ fit_cells p cells h =
       below = SetBelow-test (states_of p.rule) cells (not-false (set_below (states_of p.rule) cells) high.0);
     }
 
+more : (last revision : ℕ) → last ≤ revision → last ≤ revision + 1
+more last revision h = omega arith
+
 pub IsSound-cells : (p : Plan) (cells : List CellSet) (start : World) → IsSound p → first_refusal (for_cells p cells) ≡ None → start ≡ lay cells p.start → IsSound (record (revised p) { start = start })
 IsSound-cells p cells start sound free is =
     let fit = fit_cells p cells free in
@@ -51,12 +54,16 @@ IsSound-cells p cells start sound free is =
       start_below = subst (AllBelow (states_of p.rule)) (sym is) (AllBelow-lay (states_of p.rule) cells p.start fit.below sound.start_below);
       start_inside = subst (HasMargin (2 ^ 60)) (sym is) (HasMargin-lay (2 ^ 60) cells p.start fit.named sound.start_inside);
       interventions_allowed = sound.interventions_allowed;
+      interventions_rise = sound.interventions_rise;
+      interventions_given = sound.interventions_given;
+      few_interventions = sound.few_interventions;
+      interventions_within = more p.last_intervention p.revision sound.interventions_within;
       bookmarks_near = sound.bookmarks_near;
       views_within = sound.views_within;
-      ids_rise = sound.ids_rise;
-      ids_given = sound.ids_given;
+      bookmarks_rise = sound.bookmarks_rise;
+      bookmarks_given = sound.bookmarks_given;
       few_bookmarks = sound.few_bookmarks;
-      ids_within = (let k = sound.ids_within in omega (arith, k));
+      bookmarks_within = more p.last_bookmark p.revision sound.bookmarks_within;
     }
 
 -- a start that isn't refused
@@ -69,12 +76,16 @@ IsSound-start p start sound free some =
       start_below = AllBelow-lies (states_of p.rule) start some (not-false (lies_below (states_of p.rule) start) high.0);
       start_inside = HasMargin-lies start (not-false (lies_near start) outside.0);
       interventions_allowed = sound.interventions_allowed;
+      interventions_rise = sound.interventions_rise;
+      interventions_given = sound.interventions_given;
+      few_interventions = sound.few_interventions;
+      interventions_within = more p.last_intervention p.revision sound.interventions_within;
       bookmarks_near = sound.bookmarks_near;
       views_within = sound.views_within;
-      ids_rise = sound.ids_rise;
-      ids_given = sound.ids_given;
+      bookmarks_rise = sound.bookmarks_rise;
+      bookmarks_given = sound.bookmarks_given;
       few_bookmarks = sound.few_bookmarks;
-      ids_within = (let k = sound.ids_within in omega (arith, k));
+      bookmarks_within = more p.last_bookmark p.revision sound.bookmarks_within;
     }
 
 still_allowed : (m n : ℕ) (is : List Intervention) → AllByRecursion (IsAllowed m) is → AllByRecursion (λ (i : Intervention). set_below n i.cells ≡ true) is → AllByRecursion (IsAllowed n) is
@@ -91,18 +102,22 @@ IsSound-rule p rule sound free some few =
       start_below = AllBelow-lies n p.start some parts.0;
       start_inside = sound.start_inside;
       interventions_allowed = still_allowed (states_of p.rule) n p.interventions sound.interventions_allowed (each_passes (λ (i : Intervention). set_below n i.cells) _ p.interventions (λ i k. k) parts.1);
+      interventions_rise = sound.interventions_rise;
+      interventions_given = sound.interventions_given;
+      few_interventions = sound.few_interventions;
+      interventions_within = more p.last_intervention p.revision sound.interventions_within;
       bookmarks_near = sound.bookmarks_near;
       views_within = sound.views_within;
-      ids_rise = sound.ids_rise;
-      ids_given = sound.ids_given;
+      bookmarks_rise = sound.bookmarks_rise;
+      bookmarks_given = sound.bookmarks_given;
       few_bookmarks = sound.few_bookmarks;
-      ids_within = (let k = sound.ids_within in omega (arith, k));
+      bookmarks_within = more p.last_bookmark p.revision sound.bookmarks_within;
     }
 
-rise_push : (bs : List Bookmark) (b : Bookmark) (last : ℕ) → IdsRise bs → AllByRecursion (λ (c : Bookmark). c.id ≤ last) bs → last < b.id → IdsRise (bs ++ b ∷ [])
-rise_push [] b last rise given more = (tt, tt)
-rise_push (c ∷ bs) b last rise given more =
-    (all_append (λ (d : Bookmark). c.id < d.id) bs (b ∷ []) rise.0 ((let k : c.id ≤ last = given.0 in omega (arith, k, more)), tt), rise_push bs b last rise.1 given.1 more)
+rise_push : {X : Type 0} (id : X → ℕ) (xs : List X) (x : X) (last : ℕ) → IdsRise id xs → AllByRecursion (λ y. id y ≤ last) xs → last < id x → IdsRise id (xs ++ x ∷ [])
+rise_push id [] x last rise given above = (tt, tt)
+rise_push id (y ∷ xs) x last rise given above =
+    (all_append (λ z. id y < id z) xs (x ∷ []) rise.0 ((let k : id y ≤ last = given.0 in omega (arith, k, above)), tt), rise_push id xs x last rise.1 given.1 above)
 
 pub IsSound-bookmark : (p : Plan) (generation : ℕ) (view : View) (bs : List Bookmark) → IsSound p → first_refusal (for_bookmark p generation view) ≡ None
     → bs ≡ p.bookmarks ++ record { id = p.last_bookmark + 1; generation = generation; view = view } ∷ []
@@ -122,12 +137,16 @@ IsSound-bookmark p generation view bs sound free is =
       start_below = sound.start_below;
       start_inside = sound.start_inside;
       interventions_allowed = sound.interventions_allowed;
+      interventions_rise = sound.interventions_rise;
+      interventions_given = sound.interventions_given;
+      few_interventions = sound.few_interventions;
+      interventions_within = more p.last_intervention p.revision sound.interventions_within;
       bookmarks_near = subst (AllByRecursion (λ (c : Bookmark). c.generation ≤ 2 ^ 60)) (sym is) (all_append (λ (c : Bookmark). c.generation ≤ 2 ^ 60) p.bookmarks (b ∷ []) sound.bookmarks_near (near, tt));
       views_within = subst (AllByRecursion (λ (c : Bookmark). IsWithin c.view)) (sym is) (all_append (λ (c : Bookmark). IsWithin c.view) p.bookmarks (b ∷ []) sound.views_within (within, tt));
-      ids_rise = subst IdsRise (sym is) (rise_push p.bookmarks b p.last_bookmark sound.ids_rise sound.ids_given (omega arith));
-      ids_given = subst (AllByRecursion (λ (c : Bookmark). c.id ≤ p.last_bookmark + 1)) (sym is) (all_append (λ (c : Bookmark). c.id ≤ p.last_bookmark + 1) p.bookmarks (b ∷ []) (all_weaker (λ (c : Bookmark). c.id ≤ p.last_bookmark) _ p.bookmarks (λ c k. omega (arith, k)) sound.ids_given) ((omega arith), tt));
+      bookmarks_rise = subst (IdsRise (λ (c : Bookmark). c.id)) (sym is) (rise_push (λ (c : Bookmark). c.id) p.bookmarks b p.last_bookmark sound.bookmarks_rise sound.bookmarks_given (omega arith));
+      bookmarks_given = subst (AllByRecursion (λ (c : Bookmark). c.id ≤ p.last_bookmark + 1)) (sym is) (all_append (λ (c : Bookmark). c.id ≤ p.last_bookmark + 1) p.bookmarks (b ∷ []) (all_weaker (λ (c : Bookmark). c.id ≤ p.last_bookmark) _ p.bookmarks (λ c k. omega (arith, k)) sound.bookmarks_given) ((omega arith), tt));
       few_bookmarks = omega (arith, long, few);
-      ids_within = (let k = sound.ids_within in omega (arith, k));
+      bookmarks_within = (let k = sound.bookmarks_within in omega (arith, k));
     }
 
 sound_opening : (revision : ℕ) → IsSound (opening revision)
@@ -136,12 +155,16 @@ sound_opening revision = record {
   start_below = λ x y. (let k = cell-blank x y in let n = states_of-still in omega (arith, k, n));
   start_inside = λ x y live. absurd (let k = cell-blank x y in omega (arith, k, live));
   interventions_allowed = tt;
+  interventions_rise = tt;
+  interventions_given = tt;
+  few_interventions = omega arith;
+  interventions_within = omega arith;
   bookmarks_near = tt;
   views_within = tt;
-  ids_rise = tt;
-  ids_given = tt;
+  bookmarks_rise = tt;
+  bookmarks_given = tt;
   few_bookmarks = omega arith;
-  ids_within = omega arith;
+  bookmarks_within = omega arith;
 }
 
 pub IsSound-opening : (rule : Rule) (start : World) (is : List Intervention) (bs : List Bookmark) (revision : ℕ) → rule ≡ still → start ≡ blank → is ≡ [] → bs ≡ []

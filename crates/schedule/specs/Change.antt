@@ -1,7 +1,6 @@
 -- What an edit makes of a document, and why it is refused.
-use Rattle.std.specs.Prelude.{ℕ, ◌+◌, ◌-◌, ◌^◌, ◌&&◌, Bool, not, nat_lt, nat_le, int_le, int_lt, List, [], ◌∷◌, ◌++◌, length, ℤ, pos, neg_ℤ, Option, None, Some, Result, Ok, Err, if◌then◌else◌}
+use Rattle.std.specs.Prelude.{◌≡◌, ℕ, ◌+◌, ◌-◌, ◌^◌, ◌&&◌, Bool, not, nat_lt, nat_le, int_le, int_lt, List, [], ◌∷◌, ◌++◌, length, ℤ, pos, neg_ℤ, Option, None, Some, Result, Ok, Err, MatchResult, if◌then◌else◌}
 use Rattle.std.specs.List.{list_all}
-use Rattle.std.specs.Arc.{arc_value}
 use Rattle.plane_core.specs.declared.cell.CellSet.{CellSet}
 use Rattle.plane_core.specs.World.{World}
 use Rattle.plane_core.specs.Lay.{lay}
@@ -9,14 +8,13 @@ use Rattle.plane_core.specs.Live.{live}
 use Rattle.rule_tree.specs.declared.rule.Rule.{Rule}
 use Rattle.rule_tree.specs.Rule.{states_of}
 use Rattle.schedule.specs.declared.document.Intervention.{Intervention}
-use Rattle.schedule.specs.declared.edit.Edit.{Edit}
-use Rattle.schedule.specs.declared.edit.Edit.TheVariants.{SetCells, ReplaceStart, ReplaceRule, AddBookmark}
 use Rattle.schedule.specs.declared.edit.Edited.{Edited}
 use Rattle.schedule.specs.declared.fault.EditFault.{EditFault}
 use Rattle.schedule.specs.declared.fault.EditFault.TheVariants.{GenerationTooFar, CellOutOfRange, CellStateTooHigh, TooManyBookmarks, TooManyCells, BadWindow, RevisionSpent}
 use Rattle.bookmarks.specs.declared.view.View.{View}
 use Rattle.bookmarks.specs.Within.{has_window_size, lies_in_range}
 use Rattle.schedule.specs.Plan.{Plan}
+use Rattle.schedule.specs.Asked.{Asked, SetCells, ReplaceStart, ReplaceRule, AddBookmark}
 
 -- a generation beyond 2^60
 abbrev pub is_too_far : ℕ → Bool
@@ -83,10 +81,10 @@ for_bookmark p generation view =
     ∷ spent p
 
 -- those of an edit
-abbrev pub refusals : Plan → Edit → List (Bool × EditFault)
+abbrev pub refusals : Plan → Asked → List (Bool × EditFault)
 refusals p (SetCells cells) = for_cells p cells
-refusals p (ReplaceStart start) = for_start p (arc_value start)
-refusals p (ReplaceRule rule) = for_rule p (arc_value rule)
+refusals p (ReplaceStart start) = for_start p start
+refusals p (ReplaceRule rule) = for_rule p rule
 refusals p (AddBookmark generation view) = for_bookmark p generation view
 
 -- the first that applies
@@ -94,14 +92,21 @@ abbrev pub first_refusal : List (Bool × EditFault) → Option EditFault
 first_refusal [] = None
 first_refusal (r ∷ rest) = if r.0 then Some r.1 else first_refusal rest
 
+-- whether something fits is answered by them
+abbrev pub Checks : {A : Type 0} → Result A EditFault → List (Bool × EditFault) → Type 0
+Checks result refusals = MatchResult result (λ _. first_refusal refusals ≡ None) (λ fault. first_refusal refusals ≡ Some fault)
+
 -- why an edit of a document is refused, if it is; want of memory aside
-abbrev pub refusal : Plan → Edit → Option EditFault
-refusal p edit = first_refusal (refusals p edit)
+abbrev pub refusal : Plan → Asked → Option EditFault
+refusal p asked = first_refusal (refusals p asked)
 
 -- the document after an edit, and what the edit answers
 pub record Changed : Type 0 where
   pub plan : Plan
   pub edited : Edited
+
+abbrev pub made : Plan → Edited → Changed
+made plan edited = record { plan = plan; edited = edited }
 
 -- the document with one more revision
 abbrev pub revised : Plan → Plan
@@ -139,10 +144,10 @@ changed_bookmarks p generation view = record {
 }
 
 -- what an edit makes of a document that it fits
-abbrev pub changed : Plan → Edit → Changed
+abbrev pub changed : Plan → Asked → Changed
 changed p (SetCells cells) = changed_cells p cells
-changed p (ReplaceStart start) = changed_start p (arc_value start)
-changed p (ReplaceRule rule) = changed_rule p (arc_value rule)
+changed p (ReplaceStart start) = changed_start p start
+changed p (ReplaceRule rule) = changed_rule p rule
 changed p (AddBookmark generation view) = changed_bookmarks p generation view
 
 -- the refusal, if there is one, or else the document
@@ -151,5 +156,5 @@ unless_refused None c = Ok c
 unless_refused (Some fault) c = Err fault
 
 -- the changed document with what the edit answers, or the first refusal
-abbrev pub change : Plan → Edit → Result Changed EditFault
-change p edit = unless_refused (refusal p edit) (changed p edit)
+abbrev pub change : Plan → Asked → Result Changed EditFault
+change p asked = unless_refused (refusal p asked) (changed p asked)

@@ -1,5 +1,5 @@
 -- What a bookmark shows by definition: the pattern computed anew from the start, one generation after another.
-use Rattle.std.specs.Prelude.{ℕ, List, map}
+use Rattle.std.specs.Prelude.{ℕ, Bool, List, [], flat_map, if◌then◌else◌, ◌==◌}
 use Rattle.plane_core.specs.declared.cell.CellSet.{CellSet}
 use Rattle.plane_core.specs.World.{World}
 use Rattle.plane_core.specs.Arrival as history
@@ -9,9 +9,17 @@ use Rattle.schedule.specs.declared.document.Intervention.{Intervention}
 use Rattle.schedule.specs.declared.document.Bookmark.{Bookmark}
 use Rattle.schedule.specs.Plan.{Plan}
 
+-- whether an intervention acts at generation g
+abbrev pub acts_at : Intervention → ℕ → Bool
+acts_at i g = i.generation == g
+
+-- the cells that it sets there
+abbrev pub own_cells : Intervention → ℕ → List CellSet
+own_cells i g = if acts_at i g then i.cells else []
+
 -- the cells that the interventions of generation g set, by rising id
 abbrev pub cells_at : List Intervention → ℕ → List CellSet
-cells_at interventions g = history.cells_at (map (λ (i : Intervention). (i.generation, i.cells)) interventions) g
+cells_at interventions g = flat_map (λ i. own_cells i g) interventions
 
 -- the world that arrives at generation g
 abbrev pub arrival : Plan → ℕ → World

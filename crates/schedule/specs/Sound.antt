@@ -23,10 +23,10 @@ pub record IsAllowed (n : ℕ) (i : Intervention) : Type 0 where
   pub named : AreNamed i.cells
   pub below : SetBelow n i.cells
 
--- each bookmark's id is below those of all later ones
-abbrev pub IdsRise : List Bookmark → Type 0
-IdsRise [] = Unit {0}
-IdsRise (b ∷ bs) = AllByRecursion (λ (c : Bookmark). b.id < c.id) bs × IdsRise bs
+-- each element's id is below those of all later ones
+abbrev pub IdsRise : {X : Type 0} → (X → ℕ) → List X → Type 0
+IdsRise id [] = Unit {0}
+IdsRise id (x ∷ xs) = AllByRecursion (λ y. id x < id y) xs × IdsRise id xs
 
 -- the limits that every edit keeps
 pub record IsSound (p : Plan) : Type 0 where
@@ -34,9 +34,13 @@ pub record IsSound (p : Plan) : Type 0 where
   pub start_below : AllBelow (states_of p.rule) p.start
   pub start_inside : HasMargin (2 ^ 60) p.start
   pub interventions_allowed : AllByRecursion (IsAllowed (states_of p.rule)) p.interventions
+  pub interventions_rise : IdsRise (λ (i : Intervention). i.id) p.interventions
+  pub interventions_given : AllByRecursion (λ (i : Intervention). i.id ≤ p.last_intervention) p.interventions
+  pub few_interventions : length p.interventions ≤ 4096
+  pub interventions_within : p.last_intervention ≤ p.revision
   pub bookmarks_near : AllByRecursion (λ (b : Bookmark). b.generation ≤ 2 ^ 60) p.bookmarks
   pub views_within : AllByRecursion (λ (b : Bookmark). IsWithin b.view) p.bookmarks
-  pub ids_rise : IdsRise p.bookmarks
-  pub ids_given : AllByRecursion (λ (b : Bookmark). b.id ≤ p.last_bookmark) p.bookmarks
+  pub bookmarks_rise : IdsRise (λ (b : Bookmark). b.id) p.bookmarks
+  pub bookmarks_given : AllByRecursion (λ (b : Bookmark). b.id ≤ p.last_bookmark) p.bookmarks
   pub few_bookmarks : length p.bookmarks ≤ 4096
-  pub ids_within : p.last_bookmark ≤ p.revision
+  pub bookmarks_within : p.last_bookmark ≤ p.revision

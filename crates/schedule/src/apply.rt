@@ -1,7 +1,11 @@
 //! How an edit changes a document.
 ghost use Rattle.std.specs.Prelude.{◌≡◌, ◌⊎◌, IfOk, IfErr, IfSome, OnErr};
 ghost use Rattle.std.specs.Arc.{arc_value};
-ghost use Rattle.schedule.specs.Change.{change, changed_cells, changed_start, changed_rule, changed_bookmarks, refusal, first_refusal, for_cells, for_start, for_rule, for_bookmark};
+ghost use Rattle.schedule.specs.Asked.{asked_of};
+ghost use Rattle.schedule.specs.Change.{change, made, refusal, first_refusal};
+ghost use Rattle.schedule.specs.Change.{changed_cells, changed_start, changed_rule};
+ghost use Rattle.schedule.specs.Change.{changed_bookmarks};
+ghost use Rattle.schedule.specs.Change.{for_cells, for_start, for_rule, for_bookmark};
 
 use crate::document::{Bookmark, Document};
 use crate::edit::{Edit, Edited};
@@ -15,9 +19,10 @@ impl Document {
     /// Makes the change that the edit asks for, or refuses it by its first refusal and changes
     /// nothing. NoMemory comes only where memory was wanted, and after all other refusals.
     pub fn apply(&mut self, edit: &Edit) -> Result<Edited, EditFault>
-        ensures ok { IfOk result (λ edited. change self.old edit.now ≡ Ok (record { plan = self.new; edited = edited })) }
-        ensures refused { IfErr result (λ fault. (fault ≡ EditFault.NoMemory) ⊎ (change self.old edit.now ≡ Err fault)) }
-        ensures first { IfSome (refusal self.old edit.now) (λ fault. result ≡ Err fault) }
+        ensures ok { IfOk result (λ edited. change self.old (asked_of edit.now) ≡ Ok (made self.new edited)) }
+        ensures refused { IfErr result (λ fault.
+            (fault ≡ EditFault.NoMemory) ⊎ (change self.old (asked_of edit.now) ≡ Err fault)) }
+        ensures first { IfSome (refusal self.old (asked_of edit.now)) (λ fault. result ≡ Err fault) }
         ensures unchanged { OnErr result (self.new ≡ self.old) }
     {
         self.check(edit)?;
@@ -32,7 +37,7 @@ impl Document {
     // Sets cells of the start.
     fn set_cells(&mut self, cells: &[CellSet]) -> Result<Edited, EditFault>
         requires { first_refusal (for_cells self.old cells.now) ≡ None }
-        ensures ok { IfOk result (λ edited. changed_cells self.old cells.now ≡ record { plan = self.new; edited = edited }) }
+        ensures ok { IfOk result (λ edited. changed_cells self.old cells.now ≡ made self.new edited) }
         ensures memory { IfErr result (λ fault. fault ≡ EditFault.NoMemory) }
         ensures unchanged { OnErr result (self.new ≡ self.old) }
     {
@@ -48,7 +53,7 @@ impl Document {
     // Takes another start.
     fn replace_start(&mut self, start: &Arc<Plane>) -> Result<Edited, EditFault>
         requires { first_refusal (for_start self.old (arc_value start.now)) ≡ None }
-        ensures ok { IfOk result (λ edited. changed_start self.old (arc_value start.now) ≡ record { plan = self.new; edited = edited }) }
+        ensures ok { IfOk result (λ edited. changed_start self.old (arc_value start.now) ≡ made self.new edited) }
         ensures memory { IfErr result (λ fault. fault ≡ EditFault.NoMemory) }
         ensures unchanged { OnErr result (self.new ≡ self.old) }
     {
@@ -66,7 +71,7 @@ impl Document {
     // Takes another rule.
     fn replace_rule(&mut self, rule: &Arc<Rule>) -> Result<Edited, EditFault>
         requires { first_refusal (for_rule self.old (arc_value rule.now)) ≡ None }
-        ensures ok { IfOk result (λ edited. changed_rule self.old (arc_value rule.now) ≡ record { plan = self.new; edited = edited }) }
+        ensures ok { IfOk result (λ edited. changed_rule self.old (arc_value rule.now) ≡ made self.new edited) }
         ensures memory { IfErr result (λ fault. fault ≡ EditFault.NoMemory) }
         ensures unchanged { OnErr result (self.new ≡ self.old) }
     {
@@ -84,7 +89,7 @@ impl Document {
     // Adds a bookmark.
     fn add_bookmark(&mut self, generation: u64, view: View) -> Result<Edited, EditFault>
         requires { first_refusal (for_bookmark self.old generation view) ≡ None }
-        ensures ok { IfOk result (λ edited. changed_bookmarks self.old generation view ≡ record { plan = self.new; edited = edited }) }
+        ensures ok { IfOk result (λ edited. changed_bookmarks self.old generation view ≡ made self.new edited) }
         ensures memory { IfErr result (λ fault. fault ≡ EditFault.NoMemory) }
         ensures unchanged { OnErr result (self.new ≡ self.old) }
     {

@@ -1,6 +1,9 @@
 //! Whether an edit fits a document.
-ghost use Rattle.std.specs.Prelude.{◌≡◌, ◌<◌, MatchResult};
-ghost use Rattle.schedule.specs.Change.{refusal, may_be_named, stay_in_range, set_below, lies_near, lies_below, all_set_below, first_refusal, spent, for_cells, for_start, for_rule, for_bookmark};
+ghost use Rattle.std.specs.Prelude.{◌≡◌, ◌<◌};
+ghost use Rattle.schedule.specs.Asked.{asked_of};
+ghost use Rattle.schedule.specs.Change.{may_be_named, stay_in_range, set_below, lies_near};
+ghost use Rattle.schedule.specs.Change.{lies_below, all_set_below, refusals, Checks, spent};
+ghost use Rattle.schedule.specs.Change.{for_cells, for_start, for_rule, for_bookmark};
 ghost use Rattle.schedule.specs.Near.{box_near};
 
 use crate::document::{Document, Intervention};
@@ -81,7 +84,7 @@ impl Document {
     /// Whether the edit fits the document: Ok, or the first refusal of its kind. It takes no
     /// memory, and NoMemory isn't among its answers.
     pub fn check(&self, edit: &Edit) -> Result<(), EditFault>
-        ensures { MatchResult result (λ _. refusal self.now edit.now ≡ None) (λ fault. refusal self.now edit.now ≡ Some fault) }
+        ensures { Checks result (refusals self.now (asked_of edit.now)) }
     {
         match edit {
             Edit::SetCells { cells } => self.check_cells(cells.as_slice()),
@@ -93,7 +96,7 @@ impl Document {
 
     // Whether one more revision fits.
     fn check_revision(&self) -> Result<(), EditFault>
-        ensures { MatchResult result (λ _. first_refusal (spent self.now) ≡ None) (λ fault. first_refusal (spent self.now) ≡ Some fault) }
+        ensures { Checks result (spent self.now) }
     {
         if self.revision == u64::MAX {
             return Err(EditFault::RevisionSpent);
@@ -103,7 +106,7 @@ impl Document {
 
     // Whether the start may get these cells.
     fn check_cells(&self, cells: &[CellSet]) -> Result<(), EditFault>
-        ensures { MatchResult result (λ _. first_refusal (for_cells self.now cells.now) ≡ None) (λ fault. first_refusal (for_cells self.now cells.now) ≡ Some fault) }
+        ensures { Checks result (for_cells self.now cells.now) }
     {
         if cells.len() > MOST_CELLS {
             return Err(EditFault::TooManyCells);
@@ -119,7 +122,7 @@ impl Document {
 
     // Whether the document may get this start.
     fn check_start(&self, start: &Plane) -> Result<(), EditFault>
-        ensures { MatchResult result (λ _. first_refusal (for_start self.now start.now) ≡ None) (λ fault. first_refusal (for_start self.now start.now) ≡ Some fault) }
+        ensures { Checks result (for_start self.now start.now) }
     {
         if !lies_near(start) {
             return Err(EditFault::CellOutOfRange);
@@ -132,7 +135,7 @@ impl Document {
 
     // Whether the document may get this rule.
     fn check_rule(&self, rule: &Rule) -> Result<(), EditFault>
-        ensures { MatchResult result (λ _. first_refusal (for_rule self.now rule.now) ≡ None) (λ fault. first_refusal (for_rule self.now rule.now) ≡ Some fault) }
+        ensures { Checks result (for_rule self.now rule.now) }
     {
         let states = rule.states();
         if !lies_below(states, &self.start) || !all_set_below(states, &self.interventions) {
@@ -143,7 +146,7 @@ impl Document {
 
     // Whether the document may get a bookmark with this view at this generation.
     fn check_bookmark(&self, generation: u64, view: &View) -> Result<(), EditFault>
-        ensures { MatchResult result (λ _. first_refusal (for_bookmark self.now generation view.now) ≡ None) (λ fault. first_refusal (for_bookmark self.now generation view.now) ≡ Some fault) }
+        ensures { Checks result (for_bookmark self.now generation view.now) }
     {
         if generation > FARTHEST_GENERATION {
             return Err(EditFault::GenerationTooFar);

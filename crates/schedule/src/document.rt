@@ -44,6 +44,17 @@ pub struct Document {
     pub(crate) alloc: Global,
 }
 
+impl Intervention {
+    ghost use Rattle.schedule.specs.Scratch.{acts_at};
+
+    /// Whether it acts at this generation.
+    pub fn acts_at(&self, generation: u64) -> bool
+        ensures { result ≡ acts_at self.now generation }
+    {
+        self.generation == generation
+    }
+}
+
 impl Model for Document {
     ghost use Rattle.std.specs.Coded.{codes};
     ghost use Rattle.plane_core.specs.World.{coded_world};
@@ -115,5 +126,19 @@ impl Document {
         ensures { result ≡ self.now.revision }
     {
         self.revision
+    }
+
+    /// The id that was given to an intervention last, or 0 before any.
+    pub fn last_intervention(&self) -> u64
+        ensures { result ≡ self.now.last_intervention }
+    {
+        self.last_intervention
+    }
+
+    /// The id that was given to a bookmark last, or 0 before any.
+    pub fn last_bookmark(&self) -> u64
+        ensures { result ≡ self.now.last_bookmark }
+    {
+        self.last_bookmark
     }
 }

@@ -1,7 +1,7 @@
 use Rattle.std.proofs.Common.{◌<◌, ◌∙◌, ap, length, arith}
 use Rattle.plane_core.specs.Lay.{lay}
 use Rattle.schedule.specs.declared.document.Intervention.{Intervention}
-use Rattle.desk_core.specs.Laid.{own_cells}
+use Rattle.schedule.specs.Scratch.{own_cells}
 use Rattle.desk_core.proofs.Walk.{lay-more}
 use Rattle.desk_core.proofs.history.laid_at.Goals as goal
 

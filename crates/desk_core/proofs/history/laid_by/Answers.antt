@@ -4,10 +4,10 @@ use Rattle.plane_core.specs.Lay.{lay}
 use Rattle.desk_core.proofs.Walk.{own_cells-acts, own_cells-passes}
 use Rattle.desk_core.proofs.history.laid_by.Goals as goal
 
-pub returns-then-intervention-generation : goal.returns-then-intervention-generation
-returns-then-intervention-generation c = ap (λ cells. lay cells c.args.plane) (sym (own_cells-passes c.args.intervention.now c.args.generation c.if-intervention-generation.true))
+pub returns-then-not-acts_at : goal.returns-then-not-acts_at
+returns-then-not-acts_at c = ap (λ cells. lay cells c.args.plane) (sym (own_cells-passes c.args.intervention.now c.args.generation (sym c.acts_at.ensures ∙ c.if-not-acts_at.true)))
 
 pub returns : goal.returns
 returns c =
     subst (λ (cells : List CellSet). IfOk c.lay.result (λ laid. laid ≡ lay cells c.args.plane))
-    (c.as_slice.ensures ∙ sym (own_cells-acts c.args.intervention.now c.args.generation c.if-intervention-generation.false)) c.lay.ensures
+    (c.as_slice.ensures ∙ sym (own_cells-acts c.args.intervention.now c.args.generation (sym c.acts_at.ensures ∙ c.if-not-acts_at.false))) c.lay.ensures

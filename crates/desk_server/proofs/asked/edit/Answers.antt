@@ -1,4 +1,5 @@
 use Rattle.std.proofs.Common.{None, refl, ap}
+use Rattle.schedule.specs.Asked.{asked_of}
 use Rattle.schedule.specs.Change.{change}
 use Rattle.schedule.specs.Faults.{fault_number, fault_name}
 use Rattle.schedule.specs.declared.fault.EditFault.TheVariants.{NoMemory}
@@ -11,5 +12,5 @@ use Rattle.desk_server.proofs.asked.edit.Goals as goal
 pub returns-in-Err : goal.returns-in-Err
 returns-in-Err c =
     let p = c.args.desk.now.plan in
-    gives-refused p c.edit.new.self c.refused.result c.in-Err.fault NoMemory (change p c.args.edit.now) (edited p) (λ f. refused_text (fault_number f) (fault_name f) None)
+    gives-refused p c.edit.new.self c.refused.result c.in-Err.fault NoMemory (change p (asked_of c.args.edit.now)) (edited p) (λ f. refused_text (fault_number f) (fault_name f) None)
     refl refl (ap (λ (k : Known). k.plan) c.in-Err.ensures.unchanged) c.in-Err.ensures.refused c.refused.ensures.text c.refused.ensures.goes_on

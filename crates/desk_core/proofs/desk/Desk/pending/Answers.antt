@@ -1,7 +1,8 @@
 use Rattle.std.proofs.Common.{◌≡◌, ◌≤◌, ◌∙◌, ap, arith, length, rules}
-use Rattle.std.specs.Prelude.{count_by, is_none}
+use Rattle.std.specs.Prelude.{count_by}
 use Rattle.std.proofs.lemmas.List.Sums.{count_by-le-length}
 use Rattle.schedule.specs.Plan.{Plan}
+use Rattle.desk_core.specs.Rows.{is_unknown}
 use Rattle.desk_core.proofs.Texts.{right_length}
 use Rattle.desk_core.proofs.desk.Desk.pending.Goals as goal
 
@@ -11,8 +12,8 @@ overflow_cast-result c =
     let texts = c.self.inside.texts.items in
     let same = right_length p p.bookmarks texts c.self.invariant in
     let few = c.bookmarks-bookmarks.ensures.sound.few_bookmarks in
-    let most : count_by is_none texts ≤ length texts = count_by-le-length is_none texts in
-    let is : c.unknown_count.result ≡ count_by is_none texts = c.unknown_count.ensures ∙ ap (count_by is_none) c.deref.ensures.value in
+    let most : count_by is_unknown texts ≤ length texts = count_by-le-length is_unknown texts in
+    let is : c.unknown_count.result ≡ count_by is_unknown texts = c.unknown_count.ensures ∙ ap (count_by is_unknown) c.deref.ensures.value in
     let small : c.unknown_count.result ≤ 4096 = omega (arith, same, few, most, is) in
     search rules
 
@@ -21,7 +22,7 @@ returns-clause-bound c =
     let p : Plan = c.self.inside.document in
     let texts = c.self.inside.texts.items in
     let same = right_length p p.bookmarks texts c.self.invariant in
-    let most : count_by is_none texts ≤ length texts = count_by-le-length is_none texts in
-    let is : c.unknown_count.result ≡ count_by is_none texts = c.unknown_count.ensures ∙ ap (count_by is_none) c.deref.ensures.value in
+    let most : count_by is_unknown texts ≤ length texts = count_by-le-length is_unknown texts in
+    let is : c.unknown_count.result ≡ count_by is_unknown texts = c.unknown_count.ensures ∙ ap (count_by is_unknown) c.deref.ensures.value in
     let few : c.unknown_count.result ≤ length p.bookmarks = omega (arith, same, most, is) in
     search rules

@@ -1,5 +1,5 @@
 use Rattle.desk_core.proofs.Texts.{Passed}
 use Rattle.desk_core.proofs.desk.Desk.shown.Given as goal
 
-abbrev pub invariant-loop-index : goal.invariant-loop-index
-invariant-loop-index l = Passed l.self-inside.document.bookmarks l.self-inside.texts.items l.id l.index
+abbrev pub invariant-loop-row : goal.invariant-loop-row
+invariant-loop-row l = Passed l.self.plan.bookmarks l.self.texts l.id l.row-index

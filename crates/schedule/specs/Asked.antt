@@ -1,0 +1,23 @@
+-- An edit by what it says: the rule or the world itself, whoever shares it.
+use Rattle.std.specs.Prelude.{ℕ, List}
+use Rattle.std.specs.Arc.{arc_value}
+use Rattle.plane_core.specs.declared.cell.CellSet.{CellSet}
+use Rattle.plane_core.specs.World.{World}
+use Rattle.rule_tree.specs.declared.rule.Rule.{Rule}
+use Rattle.bookmarks.specs.declared.view.View.{View}
+use Rattle.schedule.specs.declared.edit.Edit.{Edit}
+use Rattle.schedule.specs.declared.edit.Edit.TheVariants as edit
+
+-- set cells of the start, take a start or a rule, add a bookmark
+pub data Asked : Type 0 where
+  SetCells : List CellSet → Asked
+  ReplaceStart : World → Asked
+  ReplaceRule : Rule → Asked
+  AddBookmark : ℕ → View → Asked
+
+-- what an edit asks for
+abbrev pub asked_of : Edit → Asked
+asked_of (edit.SetCells cells) = SetCells cells
+asked_of (edit.ReplaceStart start) = ReplaceStart (arc_value start)
+asked_of (edit.ReplaceRule rule) = ReplaceRule (arc_value rule)
+asked_of (edit.AddBookmark generation view) = AddBookmark generation view
