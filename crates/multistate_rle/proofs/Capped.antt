@@ -54,7 +54,8 @@ capped-in_range z n fits inside = ⊎_elim
 far_strip : (d : Drawn) (strip : Strip) → 2 ^ 64 - 1 ≤ strip.count → with_strip d strip ≡ record d { live = 2 ^ 64 - 1; is_inside = d.is_inside && lies_inside d.origin strip }
 far_strip d strip long =
     let most : capped (d.live + strip.count) ≡ 2 ^ 64 - 1 = omega arith in
-    ap (λ live. record d { live = live; is_inside = d.is_inside && lies_inside d.origin strip; cells = cond (nat_le live 16777216 && (d.is_inside && lies_inside d.origin strip)) (d.cells ++ cells_of d.origin strip) d.cells }) most
+    ap (λ live. record d { live = live; is_inside = d.is_inside && lies_inside d.origin strip; cells = cond (d.is_whole && (nat_le live 16777216 && (d.is_inside && lies_inside d.origin strip))) (d.cells ++ cells_of d.origin strip) d.cells }) most
+    ∙ ap (λ b. record d { live = 2 ^ 64 - 1; is_inside = d.is_inside && lies_inside d.origin strip; cells = cond b (d.cells ++ cells_of d.origin strip) d.cells }) (and_false d.is_whole)
 
 with_strip-capped : (d : Drawn) (n s : ℕ) → IsPlaced d.origin → 2 ^ 64 - 1 ≤ n → with_strip d (strip_at d n s) ≡ with_strip d (strip_at d (capped n) s)
 with_strip-capped d n s placed long =

@@ -5,6 +5,7 @@ mod Capped
 pub mod Cuts
 pub mod Decimals
 mod FirstLines
+mod GivenUp
 pub mod HeadReads
 pub mod Listed
 pub mod LiveCells

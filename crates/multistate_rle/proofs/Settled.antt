@@ -9,7 +9,7 @@ use Rattle.plane_core.specs.World.{World, blank}
 use Rattle.text_lines.specs.Results.{◌>>=◌}
 use Rattle.multistate_rle.specs.declared.comment.Origin.{Origin}
 use Rattle.multistate_rle.specs.declared.fault.RleFault.{RleFault}
-use Rattle.multistate_rle.specs.declared.fault.RleFault.TheVariants.{TooManyLive, CellOutOfRange}
+use Rattle.multistate_rle.specs.declared.fault.RleFault.TheVariants.{TooManyLive, CellOutOfRange, NoMemory}
 use Rattle.multistate_rle.specs.declared.symbol.Symbol.{Symbol}
 use Rattle.multistate_rle.specs.declared.symbol.Symbol.TheVariants.{Digit, Cell, RowEnd, End, Unknown}
 use Rattle.multistate_rle.specs.Pattern.{Run, Strip, onto, runs_from, strips_from, live_count, lies_inside, cells_of, world_of, drawn_by}
@@ -57,6 +57,7 @@ record Follows (d : Drawn) (r c : ℕ) (strips : List Strip) : Type 0 where
   column : d.column ≡ capped c
   live : d.live ≡ capped (live_count strips)
   inside : d.is_inside ≡ list_all (lies_inside d.origin) strips
+  whole : d.is_whole ≡ true
   cells : live_count strips ≤ 16777216 → list_all (lies_inside d.origin) strips ≡ true → d.cells ≡ flat_map (cells_of d.origin) strips
 
 and_true : (b : Bool) → (b && true) ≡ b
@@ -99,11 +100,13 @@ follows_strip d row column n s strips placed h =
       column = omega arith;
       live = live;
       inside = inside;
+      whole = h.whole;
       cells = λ few all.
           let both = sym (inside-push d.origin strips strip) ∙ all in
           let fits : nat_le (capped (d.live + n)) 16777216 ≡ true = few_enough (capped (d.live + n)) (live_count (strips ++ strip ∷ [])) live few in
           let old : live_count strips ≤ 16777216 = omega (arith, live_count-push strips strip) in
-          ap (λ b. cond (b && (d.is_inside && lies_inside d.origin (strip_at d n s))) (d.cells ++ cells_of d.origin (strip_at d n s)) d.cells) fits
+          ap (λ b. cond (b && (nat_le (capped (d.live + n)) 16777216 && (d.is_inside && lies_inside d.origin (strip_at d n s)))) (d.cells ++ cells_of d.origin (strip_at d n s)) d.cells) h.whole
+          ∙ ap (λ b. cond (b && (d.is_inside && lies_inside d.origin (strip_at d n s))) (d.cells ++ cells_of d.origin (strip_at d n s)) d.cells) fits
           ∙ ap (λ b. cond b (d.cells ++ cells_of d.origin (strip_at d n s)) d.cells) (inside ∙ all)
           ∙ ap (λ cells. cells ++ cells_of d.origin (strip_at d n s)) (h.cells old (and_first _ _ both))
           ∙ ap (λ cells. flat_map (cells_of d.origin) strips ++ cells) (placed_same d row column n s strips placed h (and_second _ _ both) ∙ sym (append-nil (cells_of d.origin strip)))
@@ -126,7 +129,8 @@ at_end : (d : Drawn) (row column : ℕ) (strips : List Strip) → Follows d row 
 at_end d row column strips h =
     let worlds : nat_lt 16777216 (live_count strips) ≡ false → list_all (lies_inside d.origin) strips ≡ true → lay d.cells blank ≡ lay (flat_map (cells_of d.origin) strips) blank =
     λ few inside. ap (λ cells. lay cells blank) (h.cells (let m : live_count strips ≤ 16777216 = search (rules, tests) in m) inside) in
-    ap (λ b. outcome b d.is_inside (lay d.cells blank)) (ap (nat_lt 16777216) h.live ∙ too_many-capped (live_count strips))
+    ap (λ b. cond (nat_lt 16777216 d.live) (Err TooManyLive) (cond d.is_inside (cond b (Ok (lay d.cells blank)) (Err NoMemory)) (Err CellOutOfRange))) h.whole
+    ∙ ap (λ b. outcome b d.is_inside (lay d.cells blank)) (ap (nat_lt 16777216) h.live ∙ too_many-capped (live_count strips))
     ∙ ap (λ b. outcome (nat_lt 16777216 (live_count strips)) b (lay d.cells blank)) h.inside
     ∙ settled (nat_lt 16777216 (live_count strips)) (list_all (lies_inside d.origin) strips) (lay d.cells blank) (lay (flat_map (cells_of d.origin) strips) blank) worlds
 
@@ -135,18 +139,18 @@ settle-strips : (runs : List Run) (d : Drawn) (row column : ℕ) (strips : List 
 settle-strips [] d row column strips placed h = at_end d row column strips h ∙ ap (world_of d.origin) (sym (append-nil strips))
 settle-strips (RowEnds n ∷ runs) d row column strips placed h =
     let down : d.row ≡ capped row = h.row in
-    settle-strips runs (after_rows d n) (row + n) 0 strips placed (record { row = omega arith; column = refl; live = h.live; inside = h.inside; cells = h.cells })
+    settle-strips runs (after_rows d n) (row + n) 0 strips placed (record { row = omega arith; column = refl; live = h.live; inside = h.inside; whole = h.whole; cells = h.cells })
 settle-strips (Cells n s ∷ runs) d row column strips placed h =
     let at : d.column ≡ capped column = h.column in
     let strip : Strip = record { row = row; column = column; count = n; state = s } in
     elim (s == 0) as (λ b. settle (record (cond b d (with_strip d (strip_at d n s))) { column = capped (d.column + n) }) runs ≡ world_of d.origin (strips ++ cond b (strips_from row (column + n) runs) (strip ∷ strips_from row (column + n) runs))) [
-      | true ↦ settle-strips runs (record d { column = capped (d.column + n) }) row (column + n) strips placed (record { row = h.row; column = omega arith; live = h.live; inside = h.inside; cells = h.cells })
+      | true ↦ settle-strips runs (record d { column = capped (d.column + n) }) row (column + n) strips placed (record { row = h.row; column = omega arith; live = h.live; inside = h.inside; whole = h.whole; cells = h.cells })
       | false ↦ settle-strips runs (record (with_strip d (strip_at d n s)) { column = capped (d.column + n) }) row (column + n) (strips ++ strip ∷ []) placed (follows_strip d row column n s strips placed h)
           ∙ ap (world_of d.origin) (append_assoc strips (strip ∷ []) (strips_from row (column + n) runs))
     ]
 
 begun : (origin : Origin) → Follows (undrawn origin) 0 0 []
-begun origin = record { row = refl; column = refl; live = refl; inside = refl; cells = λ few all. refl }
+begun origin = record { row = refl; column = refl; live = refl; inside = refl; whole = refl; cells = λ few all. refl }
 
 by_runs : (origin : Origin) → IsPlaced origin → (read : Result (List Run) RleFault) → (read >>= settle (undrawn origin)) ≡ (read >>= λ runs. world_of origin (strips_from 0 0 runs))
 by_runs origin placed (Ok runs) = settle-strips runs (undrawn origin) 0 0 [] placed (begun origin)

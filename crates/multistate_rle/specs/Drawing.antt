@@ -1,26 +1,27 @@
 -- A pattern that is being drawn run by run, with numbers that stand at 2^64 - 1 where they are greater.
-use Rattle.std.specs.Prelude.{ℕ, ◌+◌, ◌-◌, ◌^◌, ◌==◌, ◌&&◌, Bool, true, nat_le, nat_lt, min, map, pos, ◌+ℤ◌, List, [], ◌++◌, Result, Ok, Err, if◌then◌else◌}
+use Rattle.std.specs.Prelude.{◌≡◌, ℕ, ◌+◌, ◌-◌, ◌^◌, ◌==◌, ◌&&◌, Bool, true, false, nat_le, nat_lt, min, map, pos, ◌+ℤ◌, List, [], ◌++◌, Result, Ok, Err, if◌then◌else◌}
 use Rattle.std.specs.List.{range_with_len}
 use Rattle.plane_core.specs.declared.cell.CellSet.{CellSet}
 use Rattle.plane_core.specs.Lay.{lay}
 use Rattle.plane_core.specs.World.{World, blank}
 use Rattle.multistate_rle.specs.declared.comment.Origin.{Origin}
 use Rattle.multistate_rle.specs.declared.fault.RleFault.{RleFault}
-use Rattle.multistate_rle.specs.declared.fault.RleFault.TheVariants.{TooManyLive, CellOutOfRange}
+use Rattle.multistate_rle.specs.declared.fault.RleFault.TheVariants.{TooManyLive, CellOutOfRange, NoMemory}
 use Rattle.multistate_rle.specs.Pattern.{Strip, lies_inside, cells_of}
 
--- where the next run begins, how many live cells there were, whether all of them lie in the plane, and the cells that are kept
+-- where the next run begins, how many live cells there were, whether all of them lie in the plane, whether no growth was refused, and the cells that are kept
 pub record Drawn : Type 0 where
   pub origin : Origin
   pub row : ℕ
   pub column : ℕ
   pub live : ℕ
   pub is_inside : Bool
+  pub is_whole : Bool
   pub cells : List CellSet
 
 -- nothing was drawn yet
 abbrev pub undrawn : Origin → Drawn
-undrawn origin = record { origin = origin; row = 0; column = 0; live = 0; is_inside = true; cells = [] }
+undrawn origin = record { origin = origin; row = 0; column = 0; live = 0; is_inside = true; is_whole = true; cells = [] }
 
 -- a number, or 2^64 - 1 if it is greater
 abbrev pub capped : ℕ → ℕ
@@ -43,7 +44,11 @@ abbrev pub with_strip : Drawn → Strip → Drawn
 with_strip d strip =
     let live = capped (d.live + strip.count) in
     let is_inside = d.is_inside && lies_inside d.origin strip in
-    record d { live = live; is_inside = is_inside; cells = if nat_le live 16777216 && is_inside then d.cells ++ cells_of d.origin strip else d.cells }
+    record d { live = live; is_inside = is_inside; cells = if d.is_whole && (nat_le live 16777216 && is_inside) then d.cells ++ cells_of d.origin strip else d.cells }
+
+-- the same without its cells, since a growth was refused
+abbrev pub given_up : Drawn → Drawn
+given_up d = record d { is_whole = false; cells = [] }
 
 -- after so many cells of a state
 abbrev pub after_cells : Drawn → ℕ → ℕ → Drawn
@@ -51,4 +56,11 @@ after_cells d n s = let e = if s == 0 then d else with_strip d (strip_at d n s) 
 
 -- the world that was drawn, or why there is none
 abbrev pub world_drawn : Drawn → Result World RleFault
-world_drawn d = if nat_lt 16777216 d.live then Err TooManyLive else (if d.is_inside then Ok (lay d.cells blank) else Err CellOutOfRange)
+world_drawn d =
+    if nat_lt 16777216 d.live then Err TooManyLive else
+    (if d.is_inside then (if d.is_whole then Ok (lay d.cells blank) else Err NoMemory) else Err CellOutOfRange)
+
+-- it has no fault but want of memory
+abbrev pub WantsAlone : Result World RleFault → Type 0
+WantsAlone (Ok w) = Unit {0}
+WantsAlone (Err e) = e ≡ NoMemory

@@ -1,12 +1,12 @@
 -- What stands before the body of a pattern file.
-use Rattle.std.specs.Prelude.{ℕ, ◌+◌, ◌==◌, ◌||◌, Bool, List, [], ◌∷◌, length, Result, Ok, Err, if◌then◌else◌}
+use Rattle.std.specs.Prelude.{ℕ, ◌+◌, ◌==◌, ◌||◌, ◌&&◌, Bool, false, List, [], ◌∷◌, codes, length, is_some, Result, Ok, Err, if◌then◌else◌}
 use Rattle.text_lines.specs.Lines.{Line}
 use Rattle.text_lines.specs.Results.{◌>>=◌}
 use Rattle.multistate_rle.specs.declared.comment.Origin.{Origin}
 use Rattle.multistate_rle.specs.declared.fault.RleFault.{RleFault}
 use Rattle.multistate_rle.specs.declared.fault.RleFault.TheVariants.{NoHeader}
 use Rattle.multistate_rle.specs.Comments.{after_comment}
-use Rattle.multistate_rle.specs.Cut.{begins_with}
+use Rattle.multistate_rle.specs.Cut.{after, begins_with}
 use Rattle.multistate_rle.specs.Header.{rule_name}
 
 -- the origin of the pattern, the rule's name, and how many bytes stand before the body
@@ -25,3 +25,8 @@ head_from origin len [] = Err NoHeader
 head_from origin len (line ∷ lines) =
     if is_passed line.says then head_from (after_comment origin line.says) (len + length line.raw) lines
     else (rule_name line.says >>= λ name. Ok (record { origin = origin; name = name; len = len + length line.raw }))
+
+-- one of the comments before the header may place the pattern: to read it memory is wanted
+abbrev pub is_placed : List Line → Bool
+is_placed [] = false
+is_placed (line ∷ lines) = is_passed line.says && (is_some (after (codes "#CXRLE") line.says) || is_placed lines)

@@ -1,7 +1,8 @@
 //! Comments that say where a pattern lies and which generation it is.
-ghost use Rattle.std.specs.Prelude.{◌≡◌, IfOk, fold, true};
+ghost use Rattle.std.specs.Prelude.{◌≡◌, IfOk, IsOk, codes, fold, true, None};
 ghost use Rattle.std.specs.List.{slice_split};
 ghost use Rattle.text_lines.specs.Blanks.{is_blank};
+ghost use Rattle.multistate_rle.specs.Cut.{after};
 ghost use Rattle.multistate_rle.specs.Comments.{after_comment, after_part, coordinate_of, generation_in, is_sign, place_in, plain_origin, starts_loose, tight};
 
 use crate::cut::{after, cut_at};
@@ -27,9 +28,11 @@ pub fn plain_origin() -> Origin
     }
 }
 
-/// The origin after one more comment line, which changes it only if it begins with `#CXRLE`.
+/// The origin after one more comment line, which changes it, and wants memory, only if it begins
+/// with `#CXRLE`.
 pub fn after_comment(alloc: Global, origin: Origin, line: &[u8]) -> Result<Origin, AllocError>
-    ensures { IfOk result (λ next. next ≡ after_comment origin line.now) }
+    ensures origin { IfOk result (λ next. next ≡ after_comment origin line.now) }
+    ensures other { after (codes "#CXRLE") line.now ≡ None → IsOk result }
 {
     match after(b"#CXRLE", line) {
         Some(bytes) => Ok(after_parts(origin, &tight(alloc, bytes)?)),

@@ -1,9 +1,9 @@
 //! Drawing a pattern, run by run.
-ghost use Rattle.std.specs.Prelude.{◌≡◌, ◌+◌, ◌<◌, ◌≤◌, ◌++◌, ◌&&◌, ◌^◌, All, IsTrue, OnOk, pos, ◌+ℤ◌, ◌≤ℤ◌};
+ghost use Rattle.std.specs.Prelude.{◌≡◌, ◌+◌, ◌<◌, ◌≤◌, ◌++◌, ◌&&◌, ◌^◌, ◌⊎◌, All, IsTrue, OnOk, Err, pos, ◌+ℤ◌, ◌≤ℤ◌};
 ghost use Rattle.text_lines.specs.Results.{Gives};
 ghost use Rattle.plane_core.specs.Range.{CanBeLaid};
 ghost use Rattle.multistate_rle.specs.Pattern.{cells_of, is_in_range, lies_inside};
-ghost use Rattle.multistate_rle.specs.Drawing.{after_cells, after_rows, side_by_side, strip_at, undrawn, with_strip, world_drawn};
+ghost use Rattle.multistate_rle.specs.Drawing.{WantsAlone, after_cells, after_rows, given_up, side_by_side, strip_at, undrawn, with_strip, world_drawn};
 
 use crate::comment::Origin;
 use crate::fault::RleFault;
@@ -16,6 +16,9 @@ const LIVE_LIMIT: u64 = 16_777_216;
 
 /// A pattern that is being drawn from the top left.
 ///
+/// Where a growth is refused the cells are given up, and from then on only faults are looked for,
+/// since a fault of the file comes before want of memory.
+///
 /// Counts, rows and columns beyond 2^64 - 1 stand at that number: wherever the pattern begins, a
 /// cell there lies outside the plane, and so many live cells are too many.
 #[derive(Drop)]
@@ -25,6 +28,7 @@ pub struct Drawing {
     column: u64,
     live: u64,
     is_inside: bool,
+    is_whole: bool,
     cells: Vec<CellSet>,
     alloc: Global,
 }
@@ -42,6 +46,7 @@ impl Model for Drawing {
       column = d.column;
       live = d.live;
       is_inside = d.is_inside;
+      is_whole = d.is_whole;
       cells = d.cells.items;
     } };
 
@@ -59,6 +64,7 @@ impl Drawing {
             column: 0,
             live: 0,
             is_inside: true,
+            is_whole: true,
             cells: Vec::new(alloc),
             alloc,
         }
@@ -73,28 +79,34 @@ impl Drawing {
     }
 
     /// Draws so many cells of this state.
-    pub fn draw(&mut self, count: u64, state: u8) -> Result<(), AllocError>
+    pub fn draw(&mut self, count: u64, state: u8)
         requires { 0 < count }
-        ensures { OnOk result (self.new ≡ after_cells self.old count state) }
+        ensures { (self.new ≡ after_cells self.old count state) ⊎ (self.new ≡ given_up (after_cells self.old count state)) }
     {
         if state != 0 {
-            self.draw_strip(count, state)?;
+            self.draw_strip(count, state);
         }
         self.column = self.column.saturating_add(count);
-        Ok(())
     }
 
     // Notes so many live cells, and keeps them if all that is drawn can be laid.
-    fn draw_strip(&mut self, count: u64, state: u8) -> Result<(), AllocError>
+    fn draw_strip(&mut self, count: u64, state: u8)
         requires { 0 < count }
-        ensures { OnOk result (self.new ≡ with_strip self.old (strip_at self.old count state)) }
+        ensures { let drawn = with_strip self.old (strip_at self.old count state) in (self.new ≡ drawn) ⊎ (self.new ≡ given_up drawn) }
     {
         self.live = self.live.saturating_add(count);
         self.is_inside = self.is_inside && self.has_room(count);
-        if self.live <= LIVE_LIMIT && self.is_inside {
-            self.keep_strip(count, state)?;
+        if self.is_whole && self.live <= LIVE_LIMIT && self.is_inside {
+            self.keep_strip(count, state);
         }
-        Ok(())
+    }
+
+    // Gives the cells up.
+    fn give_up(&mut self)
+        ensures { self.new ≡ given_up self.old }
+    {
+        self.is_whole = false;
+        self.cells = Vec::new(self.alloc);
     }
 
     // Whether so many cells from here on lie in the plane.
@@ -108,20 +120,21 @@ impl Drawing {
         are_in_range(first, last, y)
     }
 
-    // Keeps so many cells from here on.
-    fn keep_strip(&mut self, count: u64, state: u8) -> Result<(), AllocError>
+    // Keeps so many cells from here on, or gives all of them up.
+    fn keep_strip(&mut self, count: u64, state: u8)
         requires few { count ≤ LIVE_LIMIT }
         requires inside { IsTrue (lies_inside self.old.origin (strip_at self.old count state)) }
-        ensures { OnOk result (self.new ≡ record self.old {
-          cells = self.old.cells ++ cells_of self.old.origin (strip_at self.old count state);
-        }) }
+        ensures { let cells = self.old.cells ++ cells_of self.old.origin (strip_at self.old count state) in
+            (self.new ≡ record self.old { cells = cells }) ⊎ (self.new ≡ given_up self.old) }
     {
         let first = CellSet {
             x: shifted(self.origin.x, self.column) as i64,
             y: shifted(self.origin.y, self.row) as i64,
             state: u16::from(state),
         };
-        push_strip(&mut self.cells, first, count)
+        if push_strip(&mut self.cells, first, count).is_err() {
+            self.give_up();
+        }
     }
 
     /// The plane with all that was drawn.
@@ -129,13 +142,17 @@ impl Drawing {
     /// TooManyLive comes where more than 16,777,216 cells are live, else CellOutOfRange where one
     /// lies outside the plane. NoMemory comes only where memory was wanted.
     pub fn plane(&self) -> Result<Plane, RleFault>
-        ensures { Gives RleFault.NoMemory result (world_drawn self.now) }
+        ensures plane { Gives RleFault.NoMemory result (world_drawn self.now) }
+        ensures no_memory { result ≡ Err RleFault.NoMemory → WantsAlone (world_drawn self.now) }
     {
         if self.live > LIVE_LIMIT {
             return Err(RleFault::TooManyLive);
         }
         if !self.is_inside {
             return Err(RleFault::CellOutOfRange);
+        }
+        if !self.is_whole {
+            return Err(RleFault::NoMemory);
         }
         Ok(Plane::empty(self.alloc).lay(&self.cells)?)
     }

@@ -1,9 +1,9 @@
 //! What stands before the body of a pattern file: comments, and the header line.
-ghost use Rattle.std.specs.Prelude.{◌≡◌, ◌≤◌, IfOk, length};
+ghost use Rattle.std.specs.Prelude.{◌≡◌, ◌≤◌, Err, IfOk, IsTrue, length};
 ghost use Rattle.text_lines.specs.Lines.{lines};
 ghost use Rattle.text_lines.specs.Results.{GivesBy};
 ghost use Rattle.multistate_rle.specs.Comments.{plain_origin};
-ghost use Rattle.multistate_rle.specs.Head.{head_from, is_passed};
+ghost use Rattle.multistate_rle.specs.Head.{head_from, is_passed, is_placed};
 
 use crate::comment::{Origin, after_comment, plain_origin};
 use crate::cut::begins_with;
@@ -27,6 +27,7 @@ pub fn read_head(alloc: Global, text: &[u8]) -> Result<Head<'_>, RleFault>
         (λ head. record { origin = head.origin; name = head.name.now; len = head.len })
         result (head_from plain_origin 0 (lines text.now)) }
     ensures within { IfOk result (λ head. head.len ≤ length text.now) }
+    ensures no_memory { result ≡ Err RleFault.NoMemory → IsTrue (is_placed (lines text.now)) }
 {
     let mut origin = plain_origin();
     let mut len = 0;

@@ -1,5 +1,5 @@
 //! The header line `x = m, y = n, rule = name`.
-ghost use Rattle.std.specs.Prelude.{◌≡◌, is_some, ◌^◌, ◌-◌, min};
+ghost use Rattle.std.specs.Prelude.{◌≡◌, ◌≢◌, Err, is_some, ◌^◌, ◌-◌, min};
 ghost use Rattle.std.specs.Option.{option_copied, option_map};
 ghost use Rattle.text_lines.specs.Results.{Reads};
 ghost use Rattle.multistate_rle.specs.Header.{name_after_width, name_in, rule_name, size_in, value_in};
@@ -13,7 +13,8 @@ use text_lines::{number, trim};
 /// A line that doesn't begin with `x` is refused by NoHeader, any other that is no header by
 /// BadHeader, and one whose rule's name has a colon by BoundedGrid. The sizes bound nothing.
 pub fn rule_name(line: &[u8]) -> Result<&[u8], RleFault>
-    ensures { Reads (λ name. name.now) result (rule_name line.now) }
+    ensures name { Reads (λ name. name.now) result (rule_name line.now) }
+    ensures fault { result ≢ Err RleFault.NoMemory }
 {
     if !begins_with(line, b'x') {
         return Err(RleFault::NoHeader);

@@ -1,5 +1,8 @@
 //! Reading a pattern file.
+ghost use Rattle.std.specs.Prelude.{◌≡◌, ◌⊎◌, Err, IsOk, IsTrue};
+ghost use Rattle.text_lines.specs.Lines.{lines};
 ghost use Rattle.text_lines.specs.Results.{Gives};
+ghost use Rattle.multistate_rle.specs.Head.{is_placed};
 ghost use Rattle.multistate_rle.specs.Pattern.{drawn_by, pattern_of};
 
 use crate::comment::Origin;
@@ -17,9 +20,11 @@ use std::alloc::Global;
 /// `, rule = name`, else the file is refused by NoHeader or BadHeader, and by BoundedGrid where
 /// the name has a colon. A byte of the body that is no item is refused by BadRun, more than
 /// 16,777,216 live cells by TooManyLive, and a cell outside `-2^61 <= x, y < 2^61` by
-/// CellOutOfRange, in this order. NoMemory comes only where memory was wanted.
+/// CellOutOfRange, in this order. NoMemory comes only where memory was wanted, and last: a fault of
+/// the file is the answer where it has one, unless a `#CXRLE` comment before it found no memory.
 pub fn read_rle(alloc: Global, text: &[u8]) -> Result<Loaded, RleFault>
-    ensures { Gives RleFault.NoMemory result (pattern_of text.now) }
+    ensures pattern { Gives RleFault.NoMemory result (pattern_of text.now) }
+    ensures no_memory { result ≡ Err RleFault.NoMemory → IsTrue (is_placed (lines text.now)) ⊎ IsOk (pattern_of text.now) }
 {
     let head = read_head(alloc, text)?;
     let plane = read_body(alloc, head.origin, Symbols::new(text, head.len))?;
@@ -34,7 +39,8 @@ pub fn read_rle(alloc: Global, text: &[u8]) -> Result<Loaded, RleFault>
 
 // The plane that the symbols of a body draw.
 fn read_body(alloc: Global, origin: Origin, symbols: Symbols) -> Result<Plane, RleFault>
-    ensures { Gives RleFault.NoMemory result (drawn_by origin symbols.entry) }
+    ensures plane { Gives RleFault.NoMemory result (drawn_by origin symbols.entry) }
+    ensures no_memory { result ≡ Err RleFault.NoMemory → IsOk (drawn_by origin symbols.entry) }
 {
     let mut symbols = symbols;
     let mut drawing = Drawing::new(alloc, origin);
@@ -45,7 +51,7 @@ fn read_body(alloc: Global, origin: Origin, symbols: Symbols) -> Result<Plane, R
                 count = count.saturating_mul(10).saturating_add(u64::from(digit));
             }
             Symbol::Cell(state) => {
-                drawing.draw(count.max(1), state)?;
+                drawing.draw(count.max(1), state);
                 count = 0;
             }
             Symbol::RowEnd => {

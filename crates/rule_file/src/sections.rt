@@ -2,7 +2,7 @@
 ghost use Rattle.std.specs.Option.{option_copied};
 ghost use Rattle.std.specs.List.{list_all};
 ghost use Rattle.text_lines.specs.Blanks.{is_blank};
-ghost use Rattle.std.specs.Prelude.{◌≡◌, position, IfOk};
+ghost use Rattle.std.specs.Prelude.{◌≡◌, ◌≢◌, position, IfOk, IsOk, Err};
 ghost use Rattle.rule_file.specs.RuleFile.{file_of, first_word, is_name, is_name_byte, named, opens_section, rule_name, section_kind, section_lines, section_of, without_comment};
 ghost use Rattle.rule_file.specs.Results.{Gives};
 ghost use Rattle.text_lines.specs.Results.{Reads};
@@ -18,9 +18,11 @@ use text_lines::{find_byte, is_blank, trim};
 ///
 /// The first line that isn't blank is `@RULE`, a space and the name, else the file is refused by
 /// NoRuleLine. Later lines that begin with `@` open sections; a file with neither a table nor a
-/// tree is refused by NoTable. NoMemory comes only where memory was wanted.
+/// tree is refused by NoTable. NoMemory comes only where memory was wanted, and last: where the
+/// file has a fault, that fault is the answer.
 pub fn cut(alloc: Global, text: &[u8]) -> Result<RuleText<'_>, RuleFault>
-    ensures { Gives result (file_of text.now) }
+    ensures file { Gives result (file_of text.now) }
+    ensures no_memory { result ≡ Err RuleFault.NoMemory → IsOk (file_of text.now) }
 {
     let mut lines = NumberedLines::new(text);
     let name = find_name(&mut lines)?;
@@ -30,7 +32,8 @@ pub fn cut(alloc: Global, text: &[u8]) -> Result<RuleText<'_>, RuleFault>
 
 // The name that the first line that isn't blank gives to the rule.
 fn find_name<'a>(lines: &mut NumberedLines<'a>) -> Result<&'a [u8], RuleFault>
-    ensures { Reads (λ name. (name.now, lines.new)) result (named lines.old) }
+    ensures name { Reads (λ name. (name.now, lines.new)) result (named lines.old) }
+    ensures fault { result ≢ Err RuleFault.NoMemory }
 {
     while let Some(line) = lines.next() {
         if !line.text().is_empty() {
@@ -42,9 +45,10 @@ fn find_name<'a>(lines: &mut NumberedLines<'a>) -> Result<&'a [u8], RuleFault>
 
 // Goes behind the line that opens the first table or tree.
 fn find_section(lines: &mut NumberedLines) -> Result<(SectionKind, u64), RuleFault>
-    ensures { Reads
+    ensures section { Reads
         (λ found. record { kind = found.0; opened = found.1; lines = section_lines lines.new })
         result (section_of lines.old) }
+    ensures fault { result ≢ Err RuleFault.NoMemory }
 {
     while let Some(line) = lines.next() {
         if let Some(kind) = section_kind(line.text()) {

@@ -1,4 +1,5 @@
-use Rattle.std.proofs.Common.{◌≡◌, ◌∙◌, ◌++◌, true, ap, arith, rules}
+use Rattle.std.proofs.Common.{◌≡◌, ◌∙◌, ◌++◌, true, false, inl, sym, ap, arith, rules, Result, Ok, Err, OnOk}
+use Rattle.std.specs.Result.{is_err}
 use Rattle.std.proofs.lemmas.Int.{ints}
 use Rattle.std.proofs.lemmas.Result.{on_ok_weaker}
 use mir.Syntax.{w64}
@@ -28,15 +29,20 @@ push_strip-requires-clause-last c =
     let end = ends_inside d.origin strip inside in
     omega (arith, ints)
 
-pub returns : goal.returns
-returns c =
+of_ok : {T E P : Type 0} (r : Result T E) → is_err r ≡ false → OnOk r P → P
+of_ok (Ok x) h p = p
+of_ok (Err e) h p = absurd cc
+
+pub returns-else-is_err : goal.returns-else-is_err
+returns-else-is_err c =
     let d = c.self.inside in
     let x : SFits w64 d.origin.x = search rules in
     let y : SFits w64 d.origin.y = search rules in
     let strip : Strip = record { row = d.row; column = d.column; count = c.args.count; state = c.args.state } in
     let inside : lies_inside d.origin strip ≡ true = rw (← c.self.view_is) at c.requires.inside in
     let start = starts_inside d.origin strip inside in
-    rw (← c.self.view_is) (on_ok_weaker c.push_strip.result
-    (λ e. ap (λ cells. record { origin = d.origin; row = d.row; column = d.column; live = d.live; is_inside = d.is_inside; cells = cells })
+    let kept = on_ok_weaker c.push_strip.result
+    (λ e. ap (λ cells. record { origin = d.origin; row = d.row; column = d.column; live = d.live; is_inside = d.is_inside; is_whole = d.is_whole; cells = cells })
     (e ∙ ap (λ cells. d.cells.items ++ cells) (side_by_side-strip d.origin strip _ (omega (arith, ints)) (omega (arith, ints)) (omega arith))))
-    c.push_strip.ensures.cells)
+    c.push_strip.ensures.cells in
+    rw (← c.self.view_is) (inl (of_ok c.push_strip.result (sym c.is_err.ensures.value ∙ c.if-is_err.false) kept))
