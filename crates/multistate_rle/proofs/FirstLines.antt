@@ -1,7 +1,8 @@
 -- The first line of a text, by the place of its line feed.
-use Rattle.std.proofs.Common.{◌≡◌, ◌≢◌, ℕ, suc, ◌+◌, ◌<◌, ◌≤◌, ◌==◌, Bool, true, false, not, cond, List, [], ◌∷◌, ◌++◌, length, take, drop, Some, None, position, nat_lt, sym, ap, ◌∙◌, refl, arith, rules, tests, add-one}
+use Rattle.std.proofs.Common.{◌≡◌, ◌≢◌, ℕ, suc, ◌+◌, ◌<◌, ◌≤◌, ◌==◌, true, false, not, cond, List, [], ◌∷◌, ◌++◌, length, take, drop, Some, None, position, nat_lt, sym, ap, ◌∙◌, refl, arith, rules, tests, add-one}
 use Rattle.std.specs.List.{position_or_len}
-use Rattle.std.proofs.Math.Seq.{take-length}
+use Rattle.std.proofs.Math.Seq.{take-length, drop-length}
+use Rattle.basics.proofs.Tests.{some_place, no_place}
 use Rattle.text_lines.specs.Blanks.{trim}
 use Rattle.text_lines.specs.Lines.{lines, line_len, strip_carriage_return}
 use Rattle.text_lines.specs.Lines.End.{Ended}
@@ -10,14 +11,6 @@ use Rattle.text_lines.proofs.FirstLine.{line_len-le, lines_from-full, lines_from
 at_feed : (bs : List ℕ) → line_len bs ≡ position_or_len (λ b. b == 10) bs
 at_feed [] = refl
 at_feed (b ∷ bs) = elim (b == 10) as (λ v. cond v 0 (line_len bs + 1) ≡ cond (not v) (1 + position_or_len (λ b. b == 10) bs) 0) [ true ↦ refl | false ↦ omega (arith, at_feed bs) ]
-
-some_place : (b : Bool) (k n : ℕ) → cond b (Some k) None ≡ Some n → (b ≡ true) × (k ≡ n)
-some_place true k n h = (refl, cc)
-some_place false k n h = absurd cc
-
-no_place : (b : Bool) (k : ℕ) → cond b (Some k) None ≡ None → b ≡ false
-no_place true k h = absurd cc
-no_place false k h = refl
 
 take-line : (bs : List ℕ) → line_len bs < length bs → take (line_len bs + 1) bs ≡ take (line_len bs) bs ++ 10 ∷ []
 take-line [] h = absurd (omega arith)
@@ -41,10 +34,6 @@ last_is : (bs : List ℕ) → bs ≢ [] → line_len bs ≡ length bs → lines 
 last_is [] some h = absurd (some refl)
 last_is (b ∷ bs) some h = lines_from-last Ended [] (b ∷ bs) h
 
-drop-all : (bs : List ℕ) → drop (length bs) bs ≡ []
-drop-all [] = refl
-drop-all (b ∷ bs) = drop-all bs
-
 -- the last line, which none ends
 pub lines-last : (bs : List ℕ) → bs ≢ [] → position (λ b. b == 10) bs ≡ None → lines bs ≡ record { says = trim bs; raw = take (length bs) bs } ∷ lines (drop (length bs) bs)
 lines-last bs some h =
@@ -53,4 +42,4 @@ lines-last bs some h =
     let is : line_len bs ≡ length bs = omega (arith, at_feed bs, line_len-le bs) in
     last_is bs some is
     ∙ ap (λ (raw : List ℕ). record { says = trim bs; raw = raw } ∷ []) (sym (take-length bs))
-    ∙ ap (λ (left : List ℕ). record { says = trim bs; raw = take (length bs) bs } ∷ lines left) (sym (drop-all bs))
+    ∙ ap (λ (left : List ℕ). record { says = trim bs; raw = take (length bs) bs } ∷ lines left) (sym (drop-length bs))

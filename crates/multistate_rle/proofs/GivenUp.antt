@@ -3,7 +3,7 @@ use Rattle.std.proofs.Common.{◌≡◌, ◌≢◌, ℕ, ◌+◌, ◌==◌, ◌�
 use Rattle.std.specs.Prelude.{IsOk}
 use Rattle.plane_core.specs.Lay.{lay}
 use Rattle.plane_core.specs.World.{World, blank}
-use Rattle.text_lines.specs.Results.{◌>>=◌, Gives}
+use Rattle.basics.specs.Results.{◌>>=◌, Gives}
 use Rattle.multistate_rle.specs.declared.fault.RleFault.{RleFault}
 use Rattle.multistate_rle.specs.declared.fault.RleFault.TheVariants.{TooManyLive, CellOutOfRange, NoMemory}
 use Rattle.multistate_rle.specs.declared.comment.Origin.{Origin}
@@ -11,7 +11,7 @@ use Rattle.multistate_rle.specs.declared.symbol.Symbol.{Symbol}
 use Rattle.multistate_rle.specs.declared.symbol.Symbol.TheVariants.{Digit, Cell, RowEnd, End, Unknown}
 use Rattle.multistate_rle.specs.Pattern.{Run, onto, runs_from, strips_from, world_of, drawn_by}
 use Rattle.multistate_rle.specs.Pattern.Run.{Cells, RowEnds}
-use Rattle.multistate_rle.specs.Drawing.{Drawn, given_up, strip_at, with_strip, after_cells, after_rows, capped, WantsAlone}
+use Rattle.multistate_rle.specs.Drawing.{Drawn, given_up, IsLike, strip_at, with_strip, after_cells, after_rows, capped, WantsAlone}
 use Rattle.multistate_rle.proofs.Settled.{settle, drawn_on, first_run}
 
 -- the same without the world, for want of memory
@@ -113,10 +113,6 @@ sound_drawn now (Err f) alone (inr same) sound = absurd (sound (ap Err (subst Wa
 pub drawn_by-sound : (now : Result World RleFault) (origin : Origin) (ss : List Symbol) → WantsAlone now → IsDrawn now (drawn_by origin ss) → IsOk (drawn_by origin ss)
 drawn_by-sound now origin ss alone is = sound_drawn now (drawn_by origin ss) alone is (drawn_by-no_want origin ss)
 
--- cells, drawn with or without a refused growth
-abbrev pub AfterCells : Drawn → Drawn → ℕ → ℕ → Type 0
-AfterCells d e n s = (e ≡ after_cells d n s) ⊎ (e ≡ given_up (after_cells d n s))
-
 cells-now : (d : Drawn) (count n s : ℕ) (rest ss : List Symbol) → n ≡ max count 1 → ss ≡ Cell s ∷ rest → drawn_on (after_cells d n s) 0 rest ≡ drawn_on d count ss
 cells-now d count n s rest ss some is =
     ap (λ m. drawn_on (after_cells d m s) 0 rest) some
@@ -124,7 +120,7 @@ cells-now d count n s rest ss some is =
     ∙ ap (drawn_on d count) (sym is)
 
 -- one symbol later, where it draws cells
-pub IsDrawn-cells : (d e : Drawn) (count n s : ℕ) (rest ss : List Symbol) (all : Result World RleFault) → n ≡ max count 1 → ss ≡ Cell s ∷ rest → AfterCells d e n s → IsDrawn (drawn_on d count ss) all → IsDrawn (drawn_on e 0 rest) all
+pub IsDrawn-cells : (d e : Drawn) (count n s : ℕ) (rest ss : List Symbol) (all : Result World RleFault) → n ≡ max count 1 → ss ≡ Cell s ∷ rest → IsLike (after_cells d n s) e → IsDrawn (drawn_on d count ss) all → IsDrawn (drawn_on e 0 rest) all
 IsDrawn-cells d e count n s rest ss all some is (inl same) drawn =
     IsDrawn-on (drawn_on d count ss) (drawn_on e 0 rest) all (ap (λ v. drawn_on v 0 rest) same ∙ cells-now d count n s rest ss some is) drawn
 IsDrawn-cells d e count n s rest ss all some is (inr same) drawn =
@@ -135,9 +131,9 @@ after_cells-origin : (d : Drawn) (n s : ℕ) → (after_cells d n s).origin ≡ 
 after_cells-origin d n s = elim (s == 0) as (λ b. (cond b d (with_strip d (strip_at d n s))).origin ≡ d.origin) [ true ↦ refl | false ↦ refl ]
 
 -- which stays where it begins
-pub AfterCells-origin : (d e : Drawn) (n s : ℕ) → AfterCells d e n s → e.origin ≡ d.origin
-AfterCells-origin d e n s (inl same) = ap (λ (v : Drawn). v.origin) same ∙ after_cells-origin d n s
-AfterCells-origin d e n s (inr same) = ap (λ (v : Drawn). v.origin) same ∙ after_cells-origin d n s
+pub IsLike-origin : (d e : Drawn) (n s : ℕ) → IsLike (after_cells d n s) e → e.origin ≡ d.origin
+IsLike-origin d e n s (inl same) = ap (λ (v : Drawn). v.origin) same ∙ after_cells-origin d n s
+IsLike-origin d e n s (inr same) = ap (λ (v : Drawn). v.origin) same ∙ after_cells-origin d n s
 
 -- what the end of a body gives
 pub Gives-drawn : (r now all : Result World RleFault) → Gives NoMemory r now → IsDrawn now all → Gives NoMemory r all

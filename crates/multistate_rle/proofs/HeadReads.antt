@@ -15,7 +15,8 @@ use Rattle.multistate_rle.specs.Header.{value_in, size_in, name_after_width, nam
 use Rattle.multistate_rle.proofs.Bytes.{IsVisible, differs, visible-solid}
 use Rattle.multistate_rle.proofs.Cuts.{IsPrinted, IsOther, printed, visible, others, cut-first, cut-none, trim-blank}
 use Rattle.multistate_rle.proofs.Decimals.{IsDigit, decimal-bytes, decimal-some, number_of-decimal}
-use Rattle.multistate_rle.proofs.LiveCells.{all_so, all_append}
+use Rattle.basics.proofs.Lists.{all_append}
+use Rattle.multistate_rle.proofs.LiveCells.{all_so}
 
 digit-visible : (b : ℕ) → IsDigit b → IsVisible b
 digit-visible b h = let low : 48 ≤ b = h.0 in let high : b ≤ 57 = h.1 in (omega arith, omega arith)

@@ -1,5 +1,5 @@
 -- The live cells of a world: their order, their tokens, and the world that they make.
-use Rattle.std.proofs.Common.{◌≡◌, ◌∙◌, sym, ap, subst, refl, ℕ, zero, suc, ◌+◌, ◌-◌, ◌<◌, ◌≤◌, ◌^◌, ◌==◌, ◌&&◌, Bool, true, false, cond, ℤ, pos, List, [], ◌∷◌, ◌++◌, length, map, arith, Option, None, Some, T, inl, inr}
+use Rattle.std.proofs.Common.{◌≡◌, ◌∙◌, sym, ap, subst, refl, ℕ, zero, suc, ◌+◌, ◌-◌, ◌<◌, ◌≤◌, ◌^◌, ◌==◌, ◌&&◌, Bool, true, false, cond, ℤ, pos, List, [], ◌∷◌, length, map, arith, Option, None, Some, T, inl, inr}
 use Rattle.std.specs.Prelude.{◌⊎◌, neg_ℤ, ◌≤ℤ◌, ◌<ℤ◌, unwrap_or}
 use Rattle.std.specs.declared.cmp.Ordering.{Ordering}
 use Rattle.std.specs.declared.cmp.Ordering.TheVariants.{Less, Equal, Greater}
@@ -11,6 +11,8 @@ use Rattle.std.specs.Map.{lookup}
 use Rattle.std.specs.FinMap as map
 use Rattle.std.specs.FinMap.Entries.{below_all, is_sorted}
 use Rattle.std.proofs.lemmas.Int.{ints, by_lt_z}
+use Rattle.basics.proofs.Lists.{all_append}
+use Rattle.basics.proofs.Tests.{first, second}
 use Rattle.plane_core.specs.World.{World, Place, place_cmp, same_place, cell, blank, cell-blank, same_world}
 use Rattle.plane_core.specs.Live.{live, live-entries, as_live, cell-state_at, live-states}
 use Rattle.plane_core.specs.Lay.{lay, last_mention, cell-lay}
@@ -77,14 +79,6 @@ next_ahead : (left : ℤ) (p q : Place) → left ≤ℤ q.1 → (p.0 <ℤ q.0) �
 next_ahead left p q edge (inl h) = (edge, inl h)
 next_ahead left p q edge (inr h) = (edge, inr (h.0, (let k : p.1 <ℤ q.1 = h.1 in omega (arith, ints, k))))
 
-first : (a b : Bool) → T (a && b) → T a
-first true b p = tt
-first false b p = p
-
-second : (a b : Bool) → T (a && b) → T b
-second true b p = p
-second false b p = absurd p
-
 -- right of the left edge, not above the top, and live
 abbrev pub IsFramed : ℤ → ℤ → Place × ℕ → Type 0
 IsFramed left top e = (left ≤ℤ e.0.1) × (top ≤ℤ e.0.0) × (0 < e.1)
@@ -127,10 +121,6 @@ live-sorted w = subst (λ es. T (is_sorted place_cmp es)) (sym (live-entries w))
 pub all_so : {X : Type 0} (P Q : X → Type 0) (xs : List X) → ((x : X) → P x → Q x) → AllByRecursion P xs → AllByRecursion Q xs
 all_so P Q [] f h = tt
 all_so P Q (x ∷ xs) f h = (f x h.0, all_so P Q xs f h.1)
-
-pub all_append : {X : Type 0} (P : X → Type 0) (xs ys : List X) → AllByRecursion P xs → AllByRecursion P ys → AllByRecursion P (xs ++ ys)
-all_append P [] ys h k = k
-all_append P (x ∷ xs) ys h k = (h.0, all_append P xs ys h.1 k)
 
 -- a frame that holds the live cells and lies in the range of planes
 pub record FrameFits (w : World) (f : Frame) : Type 0 where

@@ -15,7 +15,7 @@ use Rattle.plane_core.specs.Range.{IsInside, HasMargin, AllBelow}
 use Rattle.text_lines.specs.Blanks.{trim_start, trim_end, trim}
 use Rattle.text_lines.specs.Lines.{Line, lines, lines_from, full_line, strip_carriage_return}
 use Rattle.text_lines.specs.Lines.End.{Ended}
-use Rattle.text_lines.specs.Results.{◌>>=◌}
+use Rattle.basics.specs.Results.{◌>>=◌}
 use Rattle.multistate_rle.specs.declared.comment.Origin.{Origin}
 use Rattle.multistate_rle.specs.declared.fault.RleFault.{RleFault}
 use Rattle.multistate_rle.specs.declared.fault.RleFault.TheVariants.{TooManyLive, CellOutOfRange}

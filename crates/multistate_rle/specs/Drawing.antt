@@ -1,5 +1,5 @@
 -- A pattern that is being drawn run by run, with numbers that stand at 2^64 - 1 where they are greater.
-use Rattle.std.specs.Prelude.{◌≡◌, ℕ, ◌+◌, ◌-◌, ◌^◌, ◌==◌, ◌&&◌, Bool, true, false, nat_le, nat_lt, min, map, pos, ◌+ℤ◌, List, [], ◌++◌, Result, Ok, Err, if◌then◌else◌}
+use Rattle.std.specs.Prelude.{◌≡◌, ◌⊎◌, ℕ, ◌+◌, ◌-◌, ◌^◌, ◌==◌, ◌&&◌, Bool, true, false, nat_le, nat_lt, min, map, pos, ◌+ℤ◌, List, [], ◌++◌, Result, Ok, Err, if◌then◌else◌}
 use Rattle.std.specs.List.{range_with_len}
 use Rattle.plane_core.specs.declared.cell.CellSet.{CellSet}
 use Rattle.plane_core.specs.Lay.{lay}
@@ -49,6 +49,10 @@ with_strip d strip =
 -- the same without its cells, since a growth was refused
 abbrev pub given_up : Drawn → Drawn
 given_up d = record d { is_whole = false; cells = [] }
+
+-- this drawing, with its cells or without them
+abbrev pub IsLike : Drawn → Drawn → Type 0
+IsLike d e = (e ≡ d) ⊎ (e ≡ given_up d)
 
 -- after so many cells of a state
 abbrev pub after_cells : Drawn → ℕ → ℕ → Drawn

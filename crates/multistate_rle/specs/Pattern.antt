@@ -1,8 +1,8 @@
 -- Which pattern a file means, or the first fault that it has.
-use Rattle.std.specs.Prelude.{ℕ, ◌+◌, ◌-◌, ◌*◌, ◌^◌, ◌==◌, ◌&&◌, Bool, nat_lt, max, ℤ, pos, neg_ℤ, ◌+ℤ◌, int_le, int_lt, List, [], ◌∷◌, map, drop, sum_by, Result, Ok, Err, if◌then◌else◌}
+use Rattle.std.specs.Prelude.{◌⊎◌, IsTrue, IsOk, ℕ, ◌+◌, ◌-◌, ◌*◌, ◌^◌, ◌==◌, ◌&&◌, Bool, nat_lt, max, ℤ, pos, neg_ℤ, ◌+ℤ◌, int_le, int_lt, List, [], ◌∷◌, map, drop, sum_by, Result, Ok, Err, if◌then◌else◌}
 use Rattle.std.specs.List.{flat_map, list_all, range_with_len}
 use Rattle.text_lines.specs.Lines.{lines}
-use Rattle.text_lines.specs.Results.{◌>>=◌}
+use Rattle.basics.specs.Results.{◌>>=◌}
 use Rattle.plane_core.specs.declared.cell.CellSet.{CellSet}
 use Rattle.plane_core.specs.declared.loaded.Loaded.{Loaded}
 use Rattle.plane_core.specs.Lay.{lay}
@@ -13,7 +13,7 @@ use Rattle.multistate_rle.specs.declared.fault.RleFault.TheVariants.{BadRun, Too
 use Rattle.multistate_rle.specs.declared.symbol.Symbol.{Symbol}
 use Rattle.multistate_rle.specs.declared.symbol.Symbol.TheVariants.{Digit, Cell, RowEnd, End, Unknown}
 use Rattle.multistate_rle.specs.Comments.{plain_origin}
-use Rattle.multistate_rle.specs.Head.{head_from}
+use Rattle.multistate_rle.specs.Head.{head_from, is_placed}
 use Rattle.multistate_rle.specs.Symbols.{solid_from, symbols}
 
 -- so many cells of a state side by side, or so many ends of rows
@@ -86,3 +86,7 @@ pattern_of text = do
   head ← head_from plain_origin 0 (lines text)
   world ← drawn_by head.origin (symbols (solid_from head.len (drop head.len text)))
   Ok (record { plane = world; rule_name = head.name; generation = head.origin.generation })
+
+-- memory may be wanted: the file has no fault, or a comment before it places the pattern
+abbrev pub MayWant : List ℕ → Type 0
+MayWant text = IsTrue (is_placed (lines text)) ⊎ IsOk (pattern_of text)

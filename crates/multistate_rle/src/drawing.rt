@@ -1,9 +1,9 @@
 //! Drawing a pattern, run by run.
-ghost use Rattle.std.specs.Prelude.{◌≡◌, ◌+◌, ◌<◌, ◌≤◌, ◌++◌, ◌&&◌, ◌^◌, ◌⊎◌, All, IsTrue, OnOk, Err, pos, ◌+ℤ◌, ◌≤ℤ◌};
-ghost use Rattle.text_lines.specs.Results.{Gives};
+ghost use Rattle.std.specs.Prelude.{◌≡◌, ◌+◌, ◌<◌, ◌≤◌, ◌++◌, ◌&&◌, ◌^◌, All, IsTrue, OnOk, Err, pos, ◌+ℤ◌, ◌≤ℤ◌};
+ghost use Rattle.basics.specs.Results.{Gives};
 ghost use Rattle.plane_core.specs.Range.{CanBeLaid};
 ghost use Rattle.multistate_rle.specs.Pattern.{cells_of, is_in_range, lies_inside};
-ghost use Rattle.multistate_rle.specs.Drawing.{WantsAlone, after_cells, after_rows, given_up, side_by_side, strip_at, undrawn, with_strip, world_drawn};
+ghost use Rattle.multistate_rle.specs.Drawing.{IsLike, WantsAlone, after_cells, after_rows, given_up, side_by_side, strip_at, undrawn, with_strip, world_drawn};
 
 use crate::comment::Origin;
 use crate::fault::RleFault;
@@ -81,7 +81,7 @@ impl Drawing {
     /// Draws so many cells of this state.
     pub fn draw(&mut self, count: u64, state: u8)
         requires { 0 < count }
-        ensures { (self.new ≡ after_cells self.old count state) ⊎ (self.new ≡ given_up (after_cells self.old count state)) }
+        ensures { IsLike (after_cells self.old count state) self.new }
     {
         if state != 0 {
             self.draw_strip(count, state);
@@ -92,7 +92,7 @@ impl Drawing {
     // Notes so many live cells, and keeps them if all that is drawn can be laid.
     fn draw_strip(&mut self, count: u64, state: u8)
         requires { 0 < count }
-        ensures { let drawn = with_strip self.old (strip_at self.old count state) in (self.new ≡ drawn) ⊎ (self.new ≡ given_up drawn) }
+        ensures { IsLike (with_strip self.old (strip_at self.old count state)) self.new }
     {
         self.live = self.live.saturating_add(count);
         self.is_inside = self.is_inside && self.has_room(count);
@@ -125,7 +125,7 @@ impl Drawing {
         requires few { count ≤ LIVE_LIMIT }
         requires inside { IsTrue (lies_inside self.old.origin (strip_at self.old count state)) }
         ensures { let cells = self.old.cells ++ cells_of self.old.origin (strip_at self.old count state) in
-            (self.new ≡ record self.old { cells = cells }) ⊎ (self.new ≡ given_up self.old) }
+            IsLike (record self.old { cells = cells }) self.new }
     {
         let first = CellSet {
             x: shifted(self.origin.x, self.column) as i64,

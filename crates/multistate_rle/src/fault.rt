@@ -2,7 +2,7 @@
 ghost use Rattle.std.specs.Prelude.{◌≡◌};
 ghost use Rattle.multistate_rle.specs.declared.fault.RleFault.TheVariants.{NoMemory};
 
-use plane_core::Refusal;
+use basics::Refusal;
 use std::alloc::{AllocError, AllocFailed};
 use thiserror::Error;
 

@@ -1,7 +1,7 @@
 //! What stands before the body of a pattern file: comments, and the header line.
 ghost use Rattle.std.specs.Prelude.{◌≡◌, ◌≤◌, Err, IfOk, IsTrue, length};
 ghost use Rattle.text_lines.specs.Lines.{lines};
-ghost use Rattle.text_lines.specs.Results.{GivesBy};
+ghost use Rattle.basics.specs.Results.{GivesBy};
 ghost use Rattle.multistate_rle.specs.Comments.{plain_origin};
 ghost use Rattle.multistate_rle.specs.Head.{head_from, is_passed, is_placed};
 

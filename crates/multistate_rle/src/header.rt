@@ -1,7 +1,7 @@
 //! The header line `x = m, y = n, rule = name`.
 ghost use Rattle.std.specs.Prelude.{◌≡◌, ◌≢◌, Err, is_some, ◌^◌, ◌-◌, min};
 ghost use Rattle.std.specs.Option.{option_copied, option_map};
-ghost use Rattle.text_lines.specs.Results.{Reads};
+ghost use Rattle.basics.specs.Results.{Reads};
 ghost use Rattle.multistate_rle.specs.Header.{name_after_width, name_in, rule_name, size_in, value_in};
 
 use crate::cut::{begins_with, cut_at};

@@ -1,8 +1,8 @@
 //! The first line of a text.
 ghost use Rattle.std.specs.Prelude.{◌≡◌, ◌≢◌, ◌<◌, ◌≤◌, ◌∷◌, [], length, take, drop};
-ghost use Rattle.text_lines.specs.Lines.{lines, strip_carriage_return};
+ghost use Rattle.text_lines.specs.Lines.{lines};
 
-use text_lines::{find_byte, trim};
+use text_lines::{find_byte, strip_carriage_return, trim};
 
 /// The first line of a text: what it says, and how many bytes it has with its line end.
 #[derive(Clone, Copy, Debug)]
@@ -28,15 +28,5 @@ pub fn first_line(text: &[u8]) -> FirstLine<'_>
             says: trim(text),
             len: text.len(),
         },
-    }
-}
-
-// The bytes without one carriage return at their end.
-fn strip_carriage_return(bytes: &[u8]) -> &[u8]
-    ensures { result.now ≡ strip_carriage_return bytes.now }
-{
-    match bytes {
-        [before @ .., last] if *last == b'\r' => before,
-        _ => bytes,
     }
 }

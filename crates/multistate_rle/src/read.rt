@@ -1,16 +1,15 @@
 //! Reading a pattern file.
-ghost use Rattle.std.specs.Prelude.{◌≡◌, ◌⊎◌, Err, IsOk, IsTrue};
-ghost use Rattle.text_lines.specs.Lines.{lines};
-ghost use Rattle.text_lines.specs.Results.{Gives};
-ghost use Rattle.multistate_rle.specs.Head.{is_placed};
-ghost use Rattle.multistate_rle.specs.Pattern.{drawn_by, pattern_of};
+ghost use Rattle.std.specs.Prelude.{◌≡◌, Err, IsOk};
+ghost use Rattle.basics.specs.Results.{Gives};
+ghost use Rattle.multistate_rle.specs.Pattern.{MayWant, drawn_by, pattern_of};
 
 use crate::comment::Origin;
 use crate::drawing::Drawing;
 use crate::fault::RleFault;
 use crate::head::read_head;
 use crate::symbol::{Symbol, Symbols};
-use plane_core::{Listing, Loaded, Plane};
+use basics::Listing;
+use plane_core::{Loaded, Plane};
 use std::alloc::Global;
 
 /// Reads a pattern in multi-state run length encoded text, as Golly writes it.
@@ -24,7 +23,7 @@ use std::alloc::Global;
 /// the file is the answer where it has one, unless a `#CXRLE` comment before it found no memory.
 pub fn read_rle(alloc: Global, text: &[u8]) -> Result<Loaded, RleFault>
     ensures pattern { Gives RleFault.NoMemory result (pattern_of text.now) }
-    ensures no_memory { result ≡ Err RleFault.NoMemory → IsTrue (is_placed (lines text.now)) ⊎ IsOk (pattern_of text.now) }
+    ensures no_memory { result ≡ Err RleFault.NoMemory → MayWant text.now }
 {
     let head = read_head(alloc, text)?;
     let plane = read_body(alloc, head.origin, Symbols::new(text, head.len))?;

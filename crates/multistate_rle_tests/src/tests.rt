@@ -5,8 +5,9 @@ mod heads;
 mod whole;
 mod writing;
 
+use basics::Refusal;
 use multistate_rle::{RleFault, read_rle};
-use plane_core::{Cell, Loaded, Plane, Refusal};
+use plane_core::{Cell, Loaded, Plane};
 use std::alloc::Global;
 use std::fmt::Debug;
 use std::process::Abort;

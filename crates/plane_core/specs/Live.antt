@@ -1,5 +1,5 @@
 -- The live cells of a world, row by row, and how many there are.
-use Rattle.std.specs.Prelude.{◌≡◌, ℕ, suc, ◌<◌, Bool, true, false, cond, List, [], ◌∷◌, map, length, ℤ, ◌==◌, count_by, Option, Some, unwrap_or, T, ◌&&◌}
+use Rattle.std.specs.Prelude.{◌≡◌, ℕ, suc, ◌<◌, Bool, true, false, cond, List, [], ◌∷◌, map, length, ℤ, ◌==◌, count_by, Option, Some, unwrap_or, T}
 use Rattle.std.proofs.Common.{refl, sym, ap, ◌∙◌, subst, arith}
 use Rattle.std.specs.declared.cmp.Ordering.{Ordering}
 use Rattle.std.specs.declared.cmp.Ordering.TheVariants.{Less, Equal, Greater}
@@ -10,6 +10,7 @@ use Rattle.std.specs.Map.{keys_of, lookup}
 use Rattle.std.specs.FinMap as map
 use Rattle.std.specs.FinMap.Entries.{find, below_all, is_sorted}
 use Rattle.plane_core.specs.World.{World, Place, place_cmp, same_place, same_place-itself, cell, cell-get, places_total, state_of}
+use Rattle.basics.proofs.Tests.{first, second}
 use Rattle.plane_core.specs.Fill.{same_is}
 use Rattle.plane_core.specs.declared.cell.Cell.{Cell}
 
@@ -79,14 +80,6 @@ by_place (e ∷ es) P h x y live =
       | true ↦ λ same l. subst (λ (p : Place). P p.1 p.0 e.1) (sym (same_is (y, x) e.0 same)) h.0
       | false ↦ λ same l. by_place es P h.1 x y l
     ] refl live
-
-first : (a b : Bool) → T (a && b) → T a
-first true b p = tt
-first false b p = p
-
-second : (a b : Bool) → T (a && b) → T b
-second true b p = p
-second false b p = absurd p
 
 apart : (o : Ordering) → T (is_lt o) → is_eq o ≡ false
 apart Less h = refl

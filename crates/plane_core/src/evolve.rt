@@ -9,9 +9,9 @@ ghost use Rattle.plane_core.specs.Evolved.{nothing_shared};
 use crate::cell::Bounds;
 use crate::next::Next;
 use crate::plane::Plane;
-use crate::refusal::Refusal;
 use crate::step::step_plane;
 use crate::stop::Stop;
+use basics::Refusal;
 use std::alloc::{AllocError, Global};
 use thiserror::Error;
 

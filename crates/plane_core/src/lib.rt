@@ -10,14 +10,13 @@
 mod cell;
 mod evolve;
 mod laws;
-mod listing;
 mod loaded;
 mod next;
 mod plane;
-mod refusal;
 mod step;
 mod stop;
 
+pub use basics::{Listing, Refusal};
 pub use cell::{Bounds, Cell, CellSet};
 pub use evolve::{EvolveFault, Evolved, Report, evolve_plain, fits};
 pub use laws::{
@@ -25,10 +24,8 @@ pub use laws::{
     same_states_same_world, spreads_one_cell, state_after_lay, state_after_moving,
     state_after_step, step_commutes_with_moving, steps_add,
 };
-pub use listing::Listing;
 pub use loaded::Loaded;
 pub use next::{Around, Next};
 pub use plane::Plane;
-pub use refusal::Refusal;
 pub use step::step_plane;
 pub use stop::{NoStop, Stop};

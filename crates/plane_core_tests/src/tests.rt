@@ -1,6 +1,5 @@
 mod engine;
 mod faults;
-mod listings;
 mod patterns;
 mod rules;
 

@@ -1,6 +1,6 @@
 -- Readings of a rule file, where a call may want memory.
 use Rattle.std.specs.Prelude.{Result}
-use Rattle.text_lines.specs.Results as readings
+use Rattle.basics.specs.Results as readings
 use Rattle.rule_file.specs.declared.fault.RuleFault.{RuleFault}
 use Rattle.rule_file.specs.declared.fault.RuleFault.TheVariants.{NoMemory}
 

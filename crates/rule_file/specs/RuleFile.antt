@@ -9,7 +9,7 @@ use Rattle.rule_file.specs.declared.fault.RuleFault.{RuleFault}
 use Rattle.rule_file.specs.declared.fault.RuleFault.TheVariants.{NoRuleLine, NoTable}
 use Rattle.rule_file.specs.declared.text.SectionKind.{SectionKind}
 use Rattle.rule_file.specs.declared.text.SectionKind.TheVariants.{Table, Tree}
-use Rattle.text_lines.specs.Results.{◌>>=◌}
+use Rattle.basics.specs.Results.{◌>>=◌}
 
 -- a line and its number in the file, whose first line has the number 1
 pub record NumberedLine : Type 0 where

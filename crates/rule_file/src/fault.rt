@@ -2,7 +2,7 @@
 ghost use Rattle.std.specs.Prelude.{◌≡◌};
 ghost use Rattle.rule_file.specs.declared.fault.RuleFault.TheVariants.{NoMemory};
 
-use plane_core::Refusal;
+use basics::Refusal;
 use std::alloc::{AllocError, AllocFailed};
 use thiserror::Error;
 

@@ -5,7 +5,7 @@ ghost use Rattle.text_lines.specs.Blanks.{is_blank};
 ghost use Rattle.std.specs.Prelude.{◌≡◌, ◌≢◌, position, IfOk, IsOk, Err};
 ghost use Rattle.rule_file.specs.RuleFile.{file_of, first_word, is_name, is_name_byte, named, opens_section, rule_name, section_kind, section_lines, section_of, without_comment};
 ghost use Rattle.rule_file.specs.Results.{Gives};
-ghost use Rattle.text_lines.specs.Results.{Reads};
+ghost use Rattle.basics.specs.Results.{Reads};
 
 use crate::fault::RuleFault;
 use crate::numbered_lines::NumberedLines;

@@ -1,7 +1,7 @@
 //! The part of a rule file that says what the rule does.
 ghost use Rattle.std.specs.Prelude.{◌≡◌};
 
-use plane_core::Listing;
+use basics::Listing;
 use std::marker::Model;
 
 /// The kinds of sections that say what a rule does.

@@ -1,5 +1,5 @@
 //! Files as they are cut, worked out by hand.
-use plane_core::Refusal;
+use basics::Refusal;
 use rule_file::{RuleFault, RuleLine, RuleText, SectionKind, cut};
 use std::alloc::Global;
 use std::fmt::Debug;

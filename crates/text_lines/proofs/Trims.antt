@@ -2,12 +2,9 @@
 use Rattle.std.proofs.Common.{◌≡◌, ◌≢◌, ℕ, ◌-◌, ◌<◌, ◌≤◌, ◌==◌, List, [], ◌∷◌, ◌++◌, length, take, get_or, true, false, cond, sym, ◌∙◌, ap, refl, arith}
 use Rattle.std.proofs.lemmas.List.{take_more}
 use Rattle.std.proofs.Math.Seq.{take-length}
+use Rattle.basics.proofs.Lists.{push_not_nil}
 use Rattle.text_lines.specs.Blanks.{is_blank, before_end, trim_end}
 use Rattle.text_lines.specs.Lines.{strip_carriage_return}
-
-push_not_nil : (xs : List ℕ) (b : ℕ) → xs ++ b ∷ [] ≢ []
-push_not_nil [] b e = cc
-push_not_nil (x ∷ xs) b e = cc
 
 pub before_end-more : (x : ℕ) (ys : List ℕ) → ys ≢ [] → before_end x ys ≡ x ∷ ys
 before_end-more x [] h = absurd (h refl)

@@ -1,4 +1,4 @@
 pub mod Blanks
 pub mod Lines
 pub mod Numbers
-pub mod Results
+pub use Rattle.basics.specs.Results

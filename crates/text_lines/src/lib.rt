@@ -12,5 +12,5 @@ mod numbers;
 
 pub use blanks::{is_blank, trim, trim_end, trim_start};
 pub use bytes::find_byte;
-pub use lines::Lines;
+pub use lines::{Lines, strip_carriage_return};
 pub use numbers::number;

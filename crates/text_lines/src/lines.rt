@@ -63,8 +63,8 @@ fn line_len(text: &[u8]) -> usize
     text.len()
 }
 
-// The bytes without one carriage return at their end.
-fn strip_carriage_return(bytes: &[u8]) -> &[u8]
+/// The bytes without one carriage return at their end.
+pub fn strip_carriage_return(bytes: &[u8]) -> &[u8]
     ensures { result.now ≡ strip_carriage_return bytes.now }
 {
     match bytes {

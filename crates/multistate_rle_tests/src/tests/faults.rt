@@ -1,7 +1,7 @@
 //! What faults say of themselves.
 use super::same;
+use basics::Refusal;
 use multistate_rle::RleFault;
-use plane_core::Refusal;
 use std::alloc::Global;
 use std::process::Abort;
 

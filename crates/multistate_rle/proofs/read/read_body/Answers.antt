@@ -3,7 +3,7 @@ use Rattle.multistate_rle.specs.Drawing.{capped, world_drawn}
 use Rattle.multistate_rle.specs.Pattern.{drawn_by}
 use Rattle.multistate_rle.proofs.Capped.{IsPlaced}
 use Rattle.multistate_rle.proofs.Settled.{drawn_on, drawn_on-capped, drawn_on-all}
-use Rattle.multistate_rle.proofs.GivenUp.{IsDrawn, IsDrawn-on, IsDrawn-cells, AfterCells-origin, Gives-drawn, drawn_by-sound, fault_drawn}
+use Rattle.multistate_rle.proofs.GivenUp.{IsDrawn, IsDrawn-on, IsDrawn-cells, IsLike-origin, Gives-drawn, drawn_by-sound, fault_drawn}
 use Rattle.multistate_rle.proofs.read.read_body.Goals as goal
 use Rattle.multistate_rle.proofs.read.read_body.Goals.{in-Some+in-End, in_default}
 
@@ -26,7 +26,7 @@ loop-symbol-preserved-in-Cell c =
     let left = c.in-Some.ensures ∙ ap (λ s. s ∷ c.next.new.self) c.in-Cell.is in
     record {
       drawn = IsDrawn-cells d c.draw.new.self c.loop-symbol.count c.max.result c.in-Cell.state c.next.new.self c.loop-symbol.symbols _ c.max.ensures left c.draw.ensures c.loop-symbol.invariant.drawn;
-      origin = AfterCells-origin d c.draw.new.self c.max.result c.in-Cell.state c.draw.ensures ∙ c.loop-symbol.invariant.origin;
+      origin = IsLike-origin d c.draw.new.self c.max.result c.in-Cell.state c.draw.ensures ∙ c.loop-symbol.invariant.origin;
     }
 
 pub returns-in-Unknown-clause-plane : goal.returns-in-Unknown-clause-plane

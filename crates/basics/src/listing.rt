@@ -1,6 +1,7 @@
 //! Lists that contracts see as lists.
-ghost use Rattle.std.specs.Prelude.{◌≡◌, length};
+ghost use Rattle.std.specs.Prelude.{◌≡◌, IfOk};
 
+use std::alloc::{AllocError, Global};
 use std::marker::Model;
 
 /// The items of a `Vec`, which contracts see as the list alone.
@@ -37,5 +38,18 @@ impl<T> Listing<T> {
         ensures { result.now ≡ self.now }
     {
         &self.items
+    }
+}
+
+impl<T: Copy> Listing<T> {
+    /// An equal list.
+    pub fn copy(&self, alloc: Global) -> Result<Listing<T>, AllocError>
+        ensures { IfOk result (λ list. list ≡ self.now) }
+    {
+        let mut items = Vec::with_capacity(alloc, self.items.len())?;
+        for item in &self.items {
+            items.push(*item)?;
+        }
+        Ok(Listing { items })
     }
 }

@@ -1,0 +1,5 @@
+//! The tests of `basics`.
+#![tactic(auto)]
+
+#[cfg(test)]
+mod tests;
