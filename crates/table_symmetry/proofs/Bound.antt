@@ -1,9 +1,9 @@
 -- Bound variables, from the last entry on.
 use Rattle.std.proofs.Common.{◌≡◌, true, false, cond, List, ◌∷◌, sym, ap, ◌∙◌}
 use Rattle.std.specs.List.{list_any}
-use Rattle.table_symmetry.specs.declared.transition.Variable.{Variable}
-use Rattle.table_symmetry.specs.declared.transition.Entry.{Entry}
-use Rattle.table_symmetry.specs.declared.transition.Entry.TheVariants.{OneOf}
+use Rattle.table_lines.specs.declared.transition.Variable.{Variable}
+use Rattle.table_lines.specs.declared.transition.Entry.{Entry}
+use Rattle.table_lines.specs.declared.transition.Entry.TheVariants.{OneOf}
 use Rattle.table_symmetry.specs.NextState.{bound_variables, is_variable, without}
 
 -- a variable that stands once

@@ -8,14 +8,14 @@ use Rattle.std.proofs.lemmas.List.{length-append, length-map, get_or-map, get_or
 use Rattle.std.proofs.lemmas.List.Elements.{All-get_or}
 use Rattle.plane_core.specs.Step.{AreNineBelow}
 use Rattle.table_symmetry.specs.declared.expansion.Expanded.{Expanded}
-use Rattle.table_symmetry.specs.declared.table.Neighborhood.{Neighborhood}
-use Rattle.table_symmetry.specs.declared.table.Neighborhood.TheVariants.{VonNeumann, Moore, Hexagonal, OneDimensional}
+use Rattle.table_lines.specs.declared.neighborhood.Neighborhood.{Neighborhood}
+use Rattle.table_lines.specs.declared.neighborhood.Neighborhood.TheVariants.{VonNeumann, Moore, Hexagonal, OneDimensional}
 use Rattle.table_symmetry.specs.Expanded.{all_have, first_match}
 use Rattle.table_symmetry.specs.Lookup.{row_has, is_bit_set, HasColumns}
 use Rattle.table_symmetry.specs.NextState.{inputs_of, places_of}
 use Rattle.table_symmetry.specs.States.{has}
 use Rattle.table_symmetry.proofs.Search.{find_numbered}
-use Rattle.table_symmetry.proofs.Sets.{has-words}
+use Rattle.table_symmetry.proofs.Words.{has-words}
 
 -- the columns of the first places
 pub record ArePlaces (rows : List Expanded) (states : ℕ) (columns : List (List (List ℕ))) (place : ℕ) : Type 0 where

@@ -5,8 +5,8 @@ use Rattle.std.specs.Option.{option_map, option_or}
 use Rattle.std.proofs.Common.{refl, sym, ap, ◌∙◌}
 use Rattle.std.proofs.lemmas.List.{map-append}
 use Rattle.table_symmetry.specs.declared.expansion.Expanded.{Expanded}
-use Rattle.table_symmetry.specs.declared.transition.Entry.{Entry}
-use Rattle.table_symmetry.specs.declared.transition.Transition.{Transition}
+use Rattle.table_lines.specs.declared.transition.Entry.{Entry}
+use Rattle.table_lines.specs.declared.transition.Transition.{Transition}
 use Rattle.table_symmetry.specs.Circle.{arrangements}
 use Rattle.table_symmetry.specs.Expanded.{all_have, distinct, expanded, expanded_of, expanded_one, first_match, same_sets, sets_of}
 use Rattle.table_symmetry.specs.NextState.{admitted, all_admit, assignments, first_result, given, inputs_of, matches, next}

@@ -7,9 +7,9 @@ use Rattle.std.proofs.lemmas.List.Folds.{length-flat_map-take}
 use Rattle.rule_file.specs.declared.fault.RuleFault.{RuleFault}
 use Rattle.table_symmetry.specs.declared.expansion.Expanded.{Expanded}
 use Rattle.std.specs.Result.{IsErrAnd, MatchResult}
-use Rattle.table_symmetry.specs.declared.table.Symmetry.{Symmetry}
-use Rattle.table_symmetry.specs.declared.transition.Variable.{Variable}
-use Rattle.table_symmetry.specs.declared.transition.Transition.{Transition}
+use Rattle.table_lines.specs.declared.symmetry.Symmetry.{Symmetry}
+use Rattle.table_lines.specs.declared.transition.Variable.{Variable}
+use Rattle.table_lines.specs.declared.transition.Transition.{Transition}
 use Rattle.table_symmetry.specs.Expanded.{expanded_one}
 use Rattle.table_symmetry.specs.NextState.{assigned, valued}
 use Rattle.table_symmetry.specs.Grown.{IsTooLong, Grows}

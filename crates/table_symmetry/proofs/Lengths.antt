@@ -6,10 +6,10 @@ use Rattle.std.proofs.lemmas.Bool.{and_from, and_parts, eqb-true, eq-eqb}
 use Rattle.std.proofs.lemmas.List.Sums.{AllPass-from_list_all}
 use Rattle.std.proofs.lemmas.List.{length-append, length-map, length-reverse, take-append-drop}
 use Rattle.table_symmetry.specs.declared.expansion.Expanded.{Expanded}
-use Rattle.table_symmetry.specs.declared.table.Symmetry.{Symmetry}
-use Rattle.table_symmetry.specs.declared.table.Symmetry.TheVariants.{None, Rotate2, Rotate3, Rotate4, Rotate6, Rotate8, Rotate4Reflect, Rotate6Reflect, Rotate8Reflect, ReflectHorizontal, Reflect, Permute}
-use Rattle.table_symmetry.specs.declared.transition.Variable.{Variable}
-use Rattle.table_symmetry.specs.declared.transition.Transition.{Transition}
+use Rattle.table_lines.specs.declared.symmetry.Symmetry.{Symmetry}
+use Rattle.table_lines.specs.declared.symmetry.Symmetry.TheVariants.{None, Rotate2, Rotate3, Rotate4, Rotate6, Rotate8, Rotate4Reflect, Rotate6Reflect, Rotate8Reflect, ReflectHorizontal, Reflect, Permute}
+use Rattle.table_lines.specs.declared.transition.Variable.{Variable}
+use Rattle.table_lines.specs.declared.transition.Transition.{Transition}
 use Rattle.table_symmetry.specs.Circle.{turned, turns, mirrored, insertions, permutations, arrangements}
 use Rattle.table_symmetry.specs.Expanded.{distinct, expanded_of, expanded_one, same_sets, sets_of}
 use Rattle.table_symmetry.specs.NextState.{admitted, assigned, assignments, bound_in, given, valued, valued_entry}

@@ -4,16 +4,13 @@ mod Columns
 mod Distinct
 mod Finds
 mod FirstMatch
-mod FullLines
 mod Growing
 mod Lengths
 mod Limits
 mod Matching
-mod Names
 mod Naturality
-mod SameNames
 mod Search
-pub mod Sets
 mod SoundTables
-mod Splits
-mod Unions
+mod Words
+mod Compositions
+mod Orders

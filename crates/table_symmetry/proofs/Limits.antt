@@ -12,14 +12,15 @@ use Rattle.rule_file.specs.Results.{Gives}
 use Rattle.table_symmetry.specs.Expanded.{expanded, transition_limit}
 use Rattle.table_symmetry.specs.Grown.{IsTooLong}
 use Rattle.table_symmetry.specs.declared.lookup.Lookup.{Lookup}
-use Rattle.table_symmetry.specs.Below.{admits_below}
+use Rattle.table_lines.specs.Below.{admits_below}
 use Rattle.table_symmetry.specs.Kept.{IsKept, LooksUp}
 use Rattle.table_symmetry.specs.Lookup.{FindsFirst, found}
 use Rattle.table_symmetry.specs.NextState.{gives_states, is_quiescent, next}
 use Rattle.table_symmetry.specs.RuleLaws.{zeros-below}
-use Rattle.table_symmetry.specs.Read.{IsRead}
+use Rattle.table_lines.specs.Read.{IsRead}
 use Rattle.table_symmetry.specs.Table.{Table}
-use Rattle.table_symmetry.specs.TableLines.{is_full, within_limits}
+use Rattle.table_lines.specs.Transitions.{is_full}
+use Rattle.table_symmetry.specs.TableLines.{within_limits}
 use Rattle.table_symmetry.proofs.FirstMatch.{next-expanded}
 use Rattle.table_symmetry.proofs.SoundTables.{all_give_states}
 

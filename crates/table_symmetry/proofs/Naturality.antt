@@ -3,8 +3,8 @@ use Rattle.std.proofs.Common.{◌≡◌, ℕ, ◌+◌, ◌*◌, ◌/◌, List, [
 use Rattle.std.specs.List.{flat_map, range_with_len, take-map, drop-map}
 use Rattle.indexmap.proofs.ReorderLemmas.{map-reverse}
 use Rattle.std.proofs.lemmas.List.{map-append, length-map}
-use Rattle.table_symmetry.specs.declared.table.Symmetry.{Symmetry}
-use Rattle.table_symmetry.specs.declared.table.Symmetry.TheVariants.{None, Rotate2, Rotate3, Rotate4, Rotate6, Rotate8, Rotate4Reflect, Rotate6Reflect, Rotate8Reflect, ReflectHorizontal, Reflect, Permute}
+use Rattle.table_lines.specs.declared.symmetry.Symmetry.{Symmetry}
+use Rattle.table_lines.specs.declared.symmetry.Symmetry.TheVariants.{None, Rotate2, Rotate3, Rotate4, Rotate6, Rotate8, Rotate4Reflect, Rotate6Reflect, Rotate8Reflect, ReflectHorizontal, Reflect, Permute}
 use Rattle.table_symmetry.specs.Circle.{turned, turns, mirrored, insertions, permutations, arrangements}
 
 map_both : {A B C : Type 0} (g : A → C) (f : B → C) (h : A → B) → ((x : A) → g x ≡ f (h x)) → (xs : List A) → map g xs ≡ map f (map h xs)

@@ -5,12 +5,12 @@ use Rattle.std.specs.List.{filter, flat_map, list_all, list_any}
 use Rattle.std.proofs.lemmas.Bool.{and_from, and_parts}
 use Rattle.std.proofs.lemmas.List.Sums.{AllPass-from_list_all}
 use Rattle.table_symmetry.specs.declared.expansion.Expanded.{Expanded}
-use Rattle.table_symmetry.specs.declared.table.Symmetry.{Symmetry}
-use Rattle.table_symmetry.specs.declared.transition.Variable.{Variable}
-use Rattle.table_symmetry.specs.declared.transition.Entry.{Entry}
-use Rattle.table_symmetry.specs.declared.transition.Entry.TheVariants.{State, OneOf}
-use Rattle.table_symmetry.specs.declared.transition.Transition.{Transition}
-use Rattle.table_symmetry.specs.Below.{all_below, entry_below, admits_below}
+use Rattle.table_lines.specs.declared.symmetry.Symmetry.{Symmetry}
+use Rattle.table_lines.specs.declared.transition.Variable.{Variable}
+use Rattle.table_lines.specs.declared.transition.Entry.{Entry}
+use Rattle.table_lines.specs.declared.transition.Entry.TheVariants.{State, OneOf}
+use Rattle.table_lines.specs.declared.transition.Transition.{Transition}
+use Rattle.table_lines.specs.Below.{all_below, entry_below, admits_below}
 use Rattle.table_symmetry.specs.Circle.{arrangements}
 use Rattle.table_symmetry.specs.Expanded.{distinct, expanded, expanded_of, expanded_one, same_sets, sets_of}
 use Rattle.table_symmetry.specs.NextState.{assigned, assignments, bound_variables, gives_states, given, is_quiescent, is_variable, valued, valued_entry, without}

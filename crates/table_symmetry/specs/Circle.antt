@@ -1,8 +1,8 @@
 -- The maps of a symmetry: where they put the neighbours that a transition lists, taken as a circle.
 use Rattle.std.specs.Prelude.{ℕ, ◌+◌, ◌*◌, ◌/◌, List, [], ◌∷◌, ◌++◌, length, map, take, drop, reverse}
 use Rattle.std.specs.List.{flat_map, range_with_len}
-use Rattle.table_symmetry.specs.declared.table.Symmetry.{Symmetry}
-use Rattle.table_symmetry.specs.declared.table.Symmetry.TheVariants.{None, Rotate2, Rotate3, Rotate4, Rotate6, Rotate8, Rotate4Reflect, Rotate6Reflect, Rotate8Reflect, ReflectHorizontal, Reflect, Permute}
+use Rattle.table_lines.specs.declared.symmetry.Symmetry.{Symmetry}
+use Rattle.table_lines.specs.declared.symmetry.Symmetry.TheVariants.{None, Rotate2, Rotate3, Rotate4, Rotate6, Rotate8, Rotate4Reflect, Rotate6Reflect, Rotate8Reflect, ReflectHorizontal, Reflect, Permute}
 
 -- a circle, turned by k places
 abbrev pub turned : {X : Type 0} → ℕ → List X → List X

@@ -6,7 +6,7 @@ use Rattle.table_symmetry.specs.Expanded.{expanded, transition_limit}
 use Rattle.table_symmetry.specs.Lookup.{FindsFirst}
 use Rattle.table_symmetry.specs.Rule.{is_sound}
 use Rattle.table_symmetry.specs.Table.{Table}
-use Rattle.table_symmetry.specs.TableLines.{is_full}
+use Rattle.table_lines.specs.Transitions.{is_full}
 
 -- a table of few expanded transitions, which a look-up finds
 pub record LooksUp (table : Table) (lookup : Lookup) : Type 0 where

@@ -1,16 +1,12 @@
-pub mod Below
 pub mod Circle
-pub mod Definitions
-pub mod Entries
 pub mod Expanded
+pub mod Generators
 pub mod Grown
 pub mod Kept
 pub mod Lookup
 pub mod NextState
-pub mod Read
 pub mod Rule
 pub mod RuleLaws
-pub mod StateHalves
 pub mod States
 pub mod Table
 pub mod TableLines

@@ -6,7 +6,7 @@ use Rattle.std.specs.Option.{option_map}
 use Rattle.plane_core.specs.Step.{AreNineBelow}
 use Rattle.table_symmetry.specs.declared.expansion.Expanded.{Expanded}
 use Rattle.table_symmetry.specs.declared.lookup.Lookup.{Lookup}
-use Rattle.table_symmetry.specs.declared.table.Neighborhood.{Neighborhood}
+use Rattle.table_lines.specs.declared.neighborhood.Neighborhood.{Neighborhood}
 use Rattle.table_symmetry.specs.Expanded.{first_match}
 use Rattle.table_symmetry.specs.NextState.{inputs_of}
 use Rattle.table_symmetry.specs.States.{words_of}

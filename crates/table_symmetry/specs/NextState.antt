@@ -3,35 +3,24 @@ use Rattle.std.specs.Prelude.{ℕ, ◌==◌, ◌&&◌, Bool, true, false, not, n
 use Rattle.std.specs.List.{filter, list_any, list_all, flat_map}
 use Rattle.std.specs.Option.{option_map}
 use Rattle.plane_core.specs.Step.{nine_zeros}
-use Rattle.table_symmetry.specs.declared.table.Neighborhood.{Neighborhood}
-use Rattle.table_symmetry.specs.declared.table.Neighborhood.TheVariants.{VonNeumann, Moore, Hexagonal, OneDimensional}
-use Rattle.table_symmetry.specs.declared.transition.Variable.{Variable}
-use Rattle.table_symmetry.specs.declared.transition.Entry.{Entry}
-use Rattle.table_symmetry.specs.declared.transition.Entry.TheVariants.{State, OneOf}
-use Rattle.table_symmetry.specs.declared.transition.Transition.{Transition}
+pub use Rattle.table_lines.specs.Neighborhood.{places_of}
+pub use Rattle.table_lines.specs.Transitions.{admitted, is_variable}
+use Rattle.table_lines.specs.declared.neighborhood.Neighborhood.{Neighborhood}
+use Rattle.table_lines.specs.declared.transition.Variable.{Variable}
+use Rattle.table_lines.specs.declared.transition.Entry.{Entry}
+use Rattle.table_lines.specs.declared.transition.Entry.TheVariants.{State, OneOf}
+use Rattle.table_lines.specs.declared.transition.Transition.{Transition}
 use Rattle.table_symmetry.specs.Circle.{arrangements}
 use Rattle.table_symmetry.specs.States.{has}
 use Rattle.table_symmetry.specs.Table.{Table}
-
--- the places of a cell's neighbours in the order C, N, NE, E, SE, S, SW, W, NW, as a transition lists them
-abbrev pub places_of : Neighborhood → List ℕ
-places_of VonNeumann = 1 ∷ 3 ∷ 5 ∷ 7 ∷ []
-places_of Moore = 1 ∷ 2 ∷ 3 ∷ 4 ∷ 5 ∷ 6 ∷ 7 ∷ 8 ∷ []
-places_of Hexagonal = 1 ∷ 3 ∷ 4 ∷ 5 ∷ 7 ∷ 8 ∷ []
-places_of OneDimensional = 7 ∷ 3 ∷ []
 
 -- the cell and its neighbours, among the nine states at and around it
 abbrev pub inputs_of : Neighborhood → List ℕ → List ℕ
 inputs_of neighborhood around = map (λ place. slice_index around place) (0 ∷ places_of neighborhood)
 
--- whether an entry is this variable
-abbrev pub is_variable : Variable → Entry → Bool
-is_variable v (State s) = false
-is_variable v (OneOf w) = v.line == w.line
-
 -- the variables without this one
 abbrev pub without : Variable → List Variable → List Variable
-without v vs = filter (λ w. not (v.line == w.line)) vs
+without v vs = filter (λ w. not (v.number == w.number)) vs
 
 -- the bound variables, which stand more than once among the entries, in order of first appearance
 abbrev pub bound_variables : List Entry → List Variable
@@ -59,11 +48,6 @@ assigned (v ∷ vs) t = flat_map (λ state. assigned vs (valued v state t)) (v.s
 -- a transition under each assignment of its bound variables, in order
 abbrev pub assignments : Transition → List Transition
 assignments t = assigned (bound_in t) t
-
--- the states that an entry admits
-abbrev pub admitted : Entry → List ℕ
-admitted (State a) = a ∷ []
-admitted (OneOf v) = v.states
 
 -- each entry admits the state at its place
 abbrev pub all_admit : List Entry → List ℕ → Bool

@@ -1,8 +1,8 @@
 -- The next state under a table, whatever the table is.
 use Rattle.std.specs.Prelude.{ℕ, ◌&&◌, Bool, if◌then◌else◌, List, []}
 use Rattle.std.specs.List.{list_all}
-use Rattle.table_symmetry.specs.declared.table.Neighborhood.TheVariants.{OneDimensional}
-use Rattle.table_symmetry.specs.declared.table.Symmetry.TheVariants as symmetry
+use Rattle.table_lines.specs.declared.neighborhood.Neighborhood.TheVariants.{OneDimensional}
+use Rattle.table_lines.specs.declared.symmetry.Symmetry.TheVariants as symmetry
 use Rattle.table_symmetry.specs.Table.{Table}
 use Rattle.table_symmetry.specs.NextState.{next, is_quiescent, gives_states}
 

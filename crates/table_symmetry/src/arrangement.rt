@@ -9,10 +9,9 @@ ghost use Rattle.table_symmetry.specs.Circle as maps;
 ghost use Rattle.table_symmetry.specs.Expanded.{distinct, same_sets};
 ghost use Rattle.table_symmetry.specs.Grown.{with_all, with_one};
 
-use crate::state_set::StateSet;
-use crate::table::Symmetry;
 use plane_core::Listing;
 use std::alloc::{AllocError, Global};
+use table_lines::{StateSet, Symmetry};
 
 /// A list of sets of states, one for each neighbour.
 type Circle = Listing<StateSet>;

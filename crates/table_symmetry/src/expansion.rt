@@ -4,18 +4,16 @@
 //! values, and each of these by the maps of the symmetry. The cost is in proportion to what is
 //! expanded, and to the square of what one assignment gives (see `arrangement`).
 ghost use Rattle.std.specs.Prelude.{◌≡◌, ◌≤◌, ◌++◌, ◌∷◌, length, map, IfOk, OnOk, MatchResult};
-ghost use Rattle.std.specs.List.{flat_map, list_any};
+ghost use Rattle.std.specs.List.{flat_map};
 ghost use Rattle.table_symmetry.specs.Expanded.{expanded_of, expanded_one, transition_limit};
 ghost use Rattle.table_symmetry.specs.Grown.{Grows, IsTooLong, row_of};
 ghost use Rattle.table_symmetry.specs.NextState as meaning;
 
 use crate::arrangement::{arrangements, joined};
-use crate::state_set::StateSet;
-use crate::table::Symmetry;
-use crate::transition::{Entry, Transition, Variable};
 use plane_core::Listing;
 use rule_file::RuleFault;
 use std::alloc::{AllocError, Global};
+use table_lines::{Entry, StateSet, Symmetry, Transition, Variable};
 
 /// The most expanded transitions that a table may have.
 const TRANSITION_LIMIT: usize = 1_000_000;
@@ -165,19 +163,10 @@ fn valued(
 fn valued_entry(variable: &Variable, state: u8, entry: &Entry) -> Entry
     ensures { result ≡ meaning.valued_entry variable.now state entry.now }
 {
-    if is_variable(variable, entry) {
+    if variable.stands_at(entry) {
         Entry::State(state)
     } else {
         *entry
-    }
-}
-
-fn is_variable(variable: &Variable, entry: &Entry) -> bool
-    ensures { result ≡ meaning.is_variable variable.now entry.now }
-{
-    match entry {
-        Entry::State(_) => false,
-        Entry::OneOf(other) => variable.line == other.line,
     }
 }
 
@@ -216,7 +205,7 @@ fn with_entry(
     match entry {
         Entry::State(_) => Ok(variables),
         Entry::OneOf(variable) => {
-            if !stands_among(variable, later) {
+            if !variable.stands_among(later) {
                 return Ok(variables);
             }
             with_first(alloc, variable, &variables)
@@ -246,13 +235,7 @@ fn without(
 {
     variables
         .iter()
-        .filter(|other| variable.line != other.line)
+        .filter(|other| variable.number != other.number)
         .copied()
         .collect(alloc)
-}
-
-fn stands_among(variable: &Variable, entries: &[Entry]) -> bool
-    ensures { result ≡ list_any (meaning.is_variable variable.now) entries.now }
-{
-    entries.iter().any(|entry| is_variable(variable, entry))
 }

@@ -10,22 +10,16 @@
 #![tactic(auto)]
 
 mod arrangement;
-mod descriptors;
 mod expansion;
-mod fields;
+mod laws;
 mod lookup;
-mod state_set;
 mod table;
-mod table_lines;
 mod table_reader;
-mod transition;
-mod transitions;
-mod variables;
 
-pub use descriptors::Head;
 pub use expansion::Expanded;
-pub use state_set::StateSet;
-pub use table::{Neighborhood, Symmetry, TableRule};
-pub use table_lines::{TableLines, read_lines};
+pub use laws::{permute_takes_all_orders, symmetries_are_generated};
+pub use table::TableRule;
+pub use table_lines::{
+    Entry, Head, Neighborhood, StateSet, Symmetry, TableLines, Transition, Variable, read_lines,
+};
 pub use table_reader::read_table;
-pub use transition::{Entry, Transition, Variable};

@@ -5,9 +5,9 @@ ghost use Rattle.table_symmetry.specs.NextState.{inputs_of, places_of};
 ghost use Rattle.table_symmetry.specs.Lookup.{row_has, found, words_at, HasColumns, FindsFirst};
 
 use crate::expansion::Expanded;
-use crate::table::Neighborhood;
 use plane_core::{Around, Listing};
 use std::alloc::{AllocError, Global};
+use table_lines::Neighborhood;
 
 /// Expanded transitions, laid out for the search of the first that matches: for each place, the
 /// cell's first, and each state a column of bits, a bit a row, 64 in a word. The rows that match

@@ -4,56 +4,12 @@ ghost use Rattle.table_symmetry.specs.Expanded.{expanded, first_match, transitio
 ghost use Rattle.table_symmetry.specs.NextState.{inputs_of, next, places_of};
 ghost use Rattle.table_symmetry.specs.Rule.{next_under, still_table};
 
-use crate::descriptors::Head;
 use crate::expansion::{Expanded, expand};
 use crate::lookup::Lookup;
-use crate::table_lines::TableLines;
 use plane_core::{Around, Next};
 use std::alloc::{AllocError, Global};
 use std::marker::Model;
-
-/// Which cells are the neighbours of a cell. N lies at y - 1 and E at x + 1.
-#[derive(Clone, Copy, Debug, PartialEq, Eq)]
-pub enum Neighborhood {
-    /// N, E, S and W.
-    VonNeumann,
-    /// N, NE, E, SE, S, SW, W and NW.
-    Moore,
-    /// N, E, SE, S, W and NW: the hexagonal grid laid on the square one.
-    Hexagonal,
-    /// W and E.
-    OneDimensional,
-}
-
-/// In which other arrangements of the neighbours a transition matches too. The neighbours stand on
-/// a circle in the order of the neighbourhood.
-#[derive(Clone, Copy, Debug, PartialEq, Eq)]
-pub enum Symmetry {
-    /// In none.
-    None,
-    /// In both turns by a half.
-    Rotate2,
-    /// In all turns by a third.
-    Rotate3,
-    /// In all turns by a quarter.
-    Rotate4,
-    /// In all turns by a sixth.
-    Rotate6,
-    /// In all turns by an eighth.
-    Rotate8,
-    /// In all turns by a quarter, and mirrored.
-    Rotate4Reflect,
-    /// In all turns by a sixth, and mirrored.
-    Rotate6Reflect,
-    /// In all turns by an eighth, and mirrored.
-    Rotate8Reflect,
-    /// With east and west exchanged.
-    ReflectHorizontal,
-    /// With the two neighbours exchanged.
-    Reflect,
-    /// In all orders.
-    Permute,
-}
+use table_lines::{Head, Neighborhood, Symmetry, TableLines};
 
 /// A rule that is given by a table: the first transition that matches a cell and its neighbours
 /// gives the next state, and where none does the cell keeps its own.

@@ -11,10 +11,10 @@ ghost use Rattle.table_symmetry.specs.TableLines.{table_of, within_limits};
 use crate::expansion::expand;
 use crate::lookup::Lookup;
 use crate::table::TableRule;
-use crate::table_lines::{TableLines, read_lines};
 use plane_core::Around;
 use rule_file::{RuleFault, RuleText};
 use std::alloc::Global;
+use table_lines::{TableLines, read_lines};
 
 /// Reads the lines of a section as those of a table.
 ///

@@ -5,7 +5,7 @@ use std::process::Abort;
 use table_symmetry::{Entry, TableLines, Transition, Variable};
 
 // Lines after the head, of a table of so many states, and their entries: a state as itself, a
-// variable as the line that defines it and its states in braces.
+// variable as the number of its definition and its states in braces.
 struct Written {
     states: u16,
     lines: &'static str,
@@ -54,129 +54,135 @@ const TRANSITIONS: [Written; 12] = [
     Written {
         states: 3,
         lines: "var a={1,2}\n0a12",
-        wanted: "0 6{1 2 } 1 2 \n",
+        wanted: "0 0{1 2 } 1 2 \n",
     },
     Written {
         states: 3,
         lines: "var -1=1\nvar 1.0 = {0,-1}\nvar +1={2}\n-1,+1,1.0,2",
-        wanted: "6{1 } 8{2 } 7{0 1 } 2 \n",
+        wanted: "0{1 } 2{2 } 1{0 1 } 2 \n",
     },
     // A result may be a variable of an input.
     Written {
         states: 3,
         lines: "var a={1,2}\na,0,0,a",
-        wanted: "6{1 2 } 0 0 6{1 2 } \n",
+        wanted: "0{1 2 } 0 0 0{1 2 } \n",
     },
     Written {
         states: 3,
         lines: "var a={1,2}\n0,0,a,a",
-        wanted: "0 0 6{1 2 } 6{1 2 } \n",
+        wanted: "0 0 0{1 2 } 0{1 2 } \n",
     },
     // A word that isn't followed by a blank is no definition.
     Written {
         states: 3,
         lines: "var var=1\nvar,0,0,0",
-        wanted: "6{1 } 0 0 0 \n",
+        wanted: "0{1 } 0 0 0 \n",
     },
     Written {
         states: 3,
         lines: "var variable=1\nvariable,0,0,0",
-        wanted: "6{1 } 0 0 0 \n",
+        wanted: "0{1 } 0 0 0 \n",
     },
 ];
 
-const VARIABLES: [Written; 17] = [
+const VARIABLES: [Written; 18] = [
     Written {
         states: 3,
         lines: "var a={1}\na,0,0,0",
-        wanted: "6{1 } 0 0 0 \n",
+        wanted: "0{1 } 0 0 0 \n",
     },
     Written {
         states: 3,
         lines: "var a={0,1,2}\na,0,0,0",
-        wanted: "6{0 1 2 } 0 0 0 \n",
+        wanted: "0{0 1 2 } 0 0 0 \n",
     },
     // Blanks around the signs.
     Written {
         states: 3,
         lines: "var\ta\t= {\t0 , 2\t} \na,0,0,0",
-        wanted: "6{0 2 } 0 0 0 \n",
+        wanted: "0{0 2 } 0 0 0 \n",
     },
     Written {
         states: 3,
         lines: "  var   a  =  0\t,\t1 # so\na,0,0,0",
-        wanted: "6{0 1 } 0 0 0 \n",
+        wanted: "0{0 1 } 0 0 0 \n",
     },
     // No braces.
     Written {
         states: 3,
         lines: "var a=1\na,0,0,0",
-        wanted: "6{1 } 0 0 0 \n",
+        wanted: "0{1 } 0 0 0 \n",
     },
     Written {
         states: 3,
         lines: "var a=0,1\na,0,0,0",
-        wanted: "6{0 1 } 0 0 0 \n",
+        wanted: "0{0 1 } 0 0 0 \n",
     },
     // In any order, and more than once.
     Written {
         states: 4,
         lines: "var a={3,1,3,001}\na,0,0,0",
-        wanted: "6{1 3 } 0 0 0 \n",
+        wanted: "0{1 3 } 0 0 0 \n",
     },
     // Of other variables.
     Written {
         states: 5,
         lines: "var a={1,2}\nvar b={4,a}\na,b,b,0",
-        wanted: "6{1 2 } 7{1 2 4 } 7{1 2 4 } 0 \n",
+        wanted: "0{1 2 } 1{1 2 4 } 1{1 2 4 } 0 \n",
     },
     Written {
         states: 5,
         lines: "var a={1,2}\nvar b=a\nb,a,0,0",
-        wanted: "7{1 2 } 6{1 2 } 0 0 \n",
+        wanted: "1{1 2 } 0{1 2 } 0 0 \n",
     },
     Written {
         states: 5,
         lines: "var a={1,2}\nvar b={a,2,a}\nb,0,0,0",
-        wanted: "7{1 2 } 0 0 0 \n",
+        wanted: "1{1 2 } 0 0 0 \n",
     },
     // The latest of a name counts in the lines after it.
     Written {
         states: 5,
         lines: "var a={1}\na,0,0,0\nvar a={2}\na,0,0,0",
-        wanted: "6{1 } 0 0 0 \n8{2 } 0 0 0 \n",
+        wanted: "0{1 } 0 0 0 \n1{2 } 0 0 0 \n",
     },
     Written {
         states: 5,
         lines: "var a={1}\nvar b={a}\nvar a={2}\na,b,0,0",
-        wanted: "8{2 } 7{1 } 0 0 \n",
+        wanted: "2{2 } 1{1 } 0 0 \n",
     },
     Written {
         states: 5,
         lines: "var a={1}\nvar a={a,2}\na,0,0,0",
-        wanted: "7{1 2 } 0 0 0 \n",
+        wanted: "1{1 2 } 0 0 0 \n",
+    },
+    // Blank lines, comments and transitions are no definitions.
+    Written {
+        states: 3,
+        lines: "\n# one\nvar a={1}\n\n0,0,0,0\nvar b={2}\nb,a,0,0",
+        wanted: "0 0 0 0 \n1{2 } 0{1 } 0 0 \n",
     },
     // States beyond a word of 64.
     Written {
         states: 256,
         lines: "var a={255,64,63,0,128}\na,0,0,0",
-        wanted: "6{0 63 64 128 255 } 0 0 0 \n",
+        wanted: "0{0 63 64 128 255 } 0 0 0 \n",
     },
     // Any printable byte but the signs may stand in a name, digits among others.
     Written {
         states: 3,
         lines: "var !\"$%&'()*+-./;<>?@[\\]^_`|~=1\n!\"$%&'()*+-./;<>?@[\\]^_`|~,0,0,0",
-        wanted: "6{1 } 0 0 0 \n",
+        wanted: "0{1 } 0 0 0 \n",
     },
     Written {
         states: 3,
         lines: "var 12a={1}\n12a,0,0,0",
-        wanted: "6{1 } 0 0 0 \n",
+        wanted: "0{1 } 0 0 0 \n",
     },
     Written {
         states: 3,
         lines: "var var={1}\nvar,0,0,0",
-        wanted: "6{1 } 0 0 0 \n",
+        wanted: "0{1 } 0 0 0 \n",
     },
 ];
 
@@ -210,7 +216,7 @@ fn write_member(rt: &impl Abort, text: &mut String, variable: &Variable, state: 
 }
 
 fn write_variable(rt: &impl Abort, text: &mut String, variable: &Variable) {
-    write!(text, "{}{{", variable.line).expect(rt, "memory");
+    write!(text, "{}{{", variable.number).expect(rt, "memory");
     for state in 0..=255 {
         write_member(rt, text, variable, state);
     }

@@ -1,0 +1,7 @@
+mod FullLines
+mod Names
+mod Renumbered
+mod SameNames
+pub mod Sets
+mod Splits
+mod Unions

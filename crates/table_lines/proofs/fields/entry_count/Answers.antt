@@ -1,0 +1,11 @@
+use Rattle.std.proofs.Common.{◌≡◌, ap, sym, ◌+◌, ◌∙◌, ◌&&◌, ◌==◌, nat_le, not, false, if◌then◌else◌, length}
+use Rattle.std.specs.List.{list_any}
+use Rattle.table_lines.specs.Fields.{parts, single_bytes}
+use Rattle.table_lines.proofs.Splits.{length-parts}
+use Rattle.table_lines.proofs.fields.entry_count.Goals as goal
+
+pub returns : goal.returns
+returns c =
+    let line = c.args.line.now in
+    let parted : (nat_le c.args.states 10 && not (list_any (λ b. b == 44) line)) ≡ false = sym c.is_compact.ensures ∙ c.if-is_compact.false in
+    ap (λ n. n + 1) c.comma_count.ensures.value ∙ sym (length-parts line) ∙ ap (λ b. length (if b then single_bytes line else parts line)) (sym parted)

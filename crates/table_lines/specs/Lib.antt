@@ -1,0 +1,15 @@
+pub mod Below
+pub mod Definitions
+pub mod Descriptors
+pub mod Entries
+pub mod Fields
+pub mod LineLaws
+pub mod Lines
+pub mod Neighborhood
+pub mod Read
+pub mod StateWords
+pub mod States
+pub mod Symmetry
+pub mod Table
+pub mod Transitions
+pub mod Variables

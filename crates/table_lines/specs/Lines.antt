@@ -1,0 +1,16 @@
+-- What the lines of a table say: the table, or the first fault that they have.
+use Rattle.std.specs.Prelude.{List, [], Result, Ok}
+use Rattle.table_lines.specs.Table.{Table, headed}
+use Rattle.rule_file.specs.declared.fault.RuleFault.{RuleFault}
+use Rattle.text_lines.specs.Results.{◌>>=◌}
+use Rattle.rule_file.specs.RuleFile.{NumberedLine}
+use Rattle.table_lines.specs.Descriptors.{undescribed, head_from}
+use Rattle.table_lines.specs.Transitions.{transitions_of}
+use Rattle.table_lines.specs.Variables.{no_variables}
+
+-- the table that the lines say, whatever its limits
+abbrev pub lines_of : List NumberedLine → Result Table RuleFault
+lines_of lines = do
+  found ← head_from undescribed lines
+  transitions ← transitions_of found.0 no_variables found.1
+  Ok (headed found.0 transitions)

@@ -1,0 +1,48 @@
+//! The transitions of a table, as its lines say them.
+ghost use Rattle.std.specs.Prelude.{◌≡◌};
+ghost use Rattle.std.specs.List.{list_any};
+ghost use Rattle.table_lines.specs.Transitions.{is_variable};
+
+use crate::state_set::StateSet;
+use plane_core::Listing;
+
+/// A variable: the number of its definition among those of the table, by which it is told from
+/// others, and the states that it stands for.
+#[derive(Clone, Copy, Debug)]
+pub struct Variable {
+    pub number: u64,
+    pub states: StateSet,
+}
+
+impl Variable {
+    /// Whether the entry is this variable.
+    pub fn stands_at(&self, entry: &Entry) -> bool
+        ensures { result ≡ is_variable self.now entry.now }
+    {
+        match entry {
+            Entry::State(_) => false,
+            Entry::OneOf(other) => self.number == other.number,
+        }
+    }
+
+    /// Whether one of the entries is this variable.
+    pub fn stands_among(&self, entries: &[Entry]) -> bool
+        ensures { result ≡ list_any (is_variable self.now) entries.now }
+    {
+        entries.iter().any(|entry| self.stands_at(entry))
+    }
+}
+
+/// What stands at one place of a transition: a state, or a variable.
+#[derive(Clone, Copy, Debug)]
+pub enum Entry {
+    State(u8),
+    OneOf(Variable),
+}
+
+/// A transition: what the cell and its neighbours are to be, and what the cell becomes then.
+#[derive(Debug, Drop)]
+pub struct Transition {
+    pub inputs: Listing<Entry>,
+    pub result: Entry,
+}

@@ -1,0 +1,173 @@
+//! The variables of a table, and the lines that define them.
+ghost use Rattle.std.specs.Prelude.{◌≡◌, ◌≤◌, ◌<◌, ◌+◌, ◌^◌, IfOk, IsTrue, OnOk, OnErr};
+ghost use Rattle.std.specs.List.{list_all};
+ghost use Rattle.std.specs.Option.{option_copied, option_map};
+ghost use Rattle.text_lines.specs.Results.{Reads};
+ghost use Rattle.table_lines.specs.Below.{all_below, variables_below};
+ghost use Rattle.table_lines.specs.Definitions.{Defines, member_set, set_of};
+ghost use Rattle.table_lines.specs.Variables.{definition_in, is_variable_byte, is_variable_name, no_variables, unbraced, variable_named, variables_after};
+
+use crate::descriptors::Head;
+use crate::fields::Fields;
+use crate::state_set::StateSet;
+use crate::transition::Variable;
+use indexmap::IndexMap;
+use rule_file::{RuleFault, RuleLine};
+use std::alloc::Global;
+use std::marker::Model;
+use text_lines::{find_byte, number, trim};
+
+/// The variables of a table by their names, which stand in the text.
+#[derive(Debug, Drop)]
+pub struct Variables<'a> {
+    defined: u64,
+    by_name: IndexMap<&'a [u8], Variable>,
+}
+
+impl<'a> Model for Variables<'a> {
+    ghost use Rattle.std.specs.Prelude.{map};
+    ghost use Rattle.table_lines.specs.Variables.{Variables};
+
+    ghost Value = { Variables };
+
+    ghost view = { λ v. record { defined = v.defined; by_name = map (λ d. (d.0.now, d.1)) v.by_name.entries } };
+}
+
+impl<'a> Variables<'a> {
+    /// No variables yet.
+    pub fn new(alloc: Global) -> Variables<'a>
+        ensures { result ≡ no_variables }
+    {
+        Variables {
+            defined: 0,
+            by_name: IndexMap::new(alloc),
+        }
+    }
+
+    /// The latest variable of this name.
+    pub fn named(&self, name: &[u8]) -> Option<Variable>
+        ensures { result ≡ variable_named self.now name.now }
+    {
+        self.by_name.get(name).copied()
+    }
+
+    /// Takes the variable that a line defines, in place of an earlier one of its name.
+    ///
+    /// BadVariable is answered for a line that isn't well formed or names an unknown variable, and
+    /// only then StateTooHigh. NoMemory comes only where memory was wanted.
+    pub fn define(&mut self, head: Head, line: &RuleLine<'a>) -> Result<(), RuleFault>
+        requires at_most { head.states ≤ 256 }
+        requires below { IsTrue (variables_below head.states self.old) }
+        requires room { self.old.defined + 1 < 2 ^ 64 }
+        ensures read { Defines result self.new (variables_after head self.old line.now) }
+        ensures below { OnOk result (IsTrue (variables_below head.states self.new)) }
+        ensures count { self.new.defined ≤ self.old.defined + 1 }
+        ensures err { OnErr result (self.new ≡ self.old) }
+    {
+        let Some((name, members)) = definition_in(line.text()) else {
+            return Err(RuleFault::BadVariable(line.number()));
+        };
+        let set = self.set_of(head.states, line.number(), members)?;
+        let variable = Variable {
+            number: self.defined,
+            states: set,
+        };
+        let Ok(_) = self.by_name.insert(name, variable) else {
+            return Err(RuleFault::NoMemory);
+        };
+        self.defined += 1;
+        Ok(())
+    }
+
+    // The states that the members of a set stand for.
+    fn set_of(&self, states: u16, line: u64, mut members: Fields) -> Result<StateSet, RuleFault>
+        requires at_most { states ≤ 256 }
+        requires below { IsTrue (variables_below states self.now) }
+        ensures read { Reads (λ set. set) result (set_of states self.now line members.entry) }
+        ensures below { IfOk result (λ set. IsTrue (all_below states set)) }
+    {
+        let mut set = StateSet::empty();
+        let mut are_below = true;
+        while let Some(member) = members.next() {
+            match self.member_set(states, line, member)? {
+                Some(more) => set.unite(more),
+                None => are_below = false,
+            }
+        }
+        if are_below {
+            Ok(set)
+        } else {
+            Err(RuleFault::StateTooHigh(line))
+        }
+    }
+
+    // The states that a member stands for, unless it is one that is too high.
+    fn member_set(
+        &self,
+        states: u16,
+        line: u64,
+        member: &[u8],
+    ) -> Result<Option<StateSet>, RuleFault>
+        requires at_most { states ≤ 256 }
+        requires below { IsTrue (variables_below states self.now) }
+        ensures { Reads (λ set. set) result (member_set states self.now line member.now) }
+    {
+        match number(member) {
+            Some(state) if state < u64::from(states) => Ok(Some(StateSet::of(state as u8))),
+            Some(_) => Ok(None),
+            None => {
+                let Some(variable) = self.named(member) else {
+                    return Err(RuleFault::BadVariable(line));
+                };
+                Ok(Some(variable.states))
+            }
+        }
+    }
+}
+
+// The name that a line defines, and the members of its set.
+fn definition_in(line: &[u8]) -> Option<(&[u8], Fields)>
+    ensures { option_map (λ found. (found.0.now, found.1)) result ≡ definition_in line.now }
+{
+    let sign = find_byte(line, b'=')?;
+    let set = unbraced(trim(&line[sign + 1..]))?;
+    // The word `var` stands first.
+    let name = trim(line[..sign].get(3..)?);
+    if is_variable_name(name) {
+        Some((name, Fields::of_parts(set)))
+    } else {
+        None
+    }
+}
+
+// What stands between a brace at either end, or the text itself, if it has a brace at neither end.
+fn unbraced(text: &[u8]) -> Option<&[u8]>
+    ensures { option_copied result ≡ unbraced text.now }
+{
+    match text {
+        [b'{', set @ .., b'}'] => Some(set),
+        [b'{', ..] | [.., b'}'] => None,
+        _ => Some(text),
+    }
+}
+
+fn is_variable_name(name: &[u8]) -> bool
+    ensures { result ≡ is_variable_name name.now }
+{
+    if name.is_empty() || number(name).is_some() {
+        return false;
+    }
+    are_variable_bytes(name)
+}
+
+fn are_variable_bytes(name: &[u8]) -> bool
+    ensures { result ≡ list_all is_variable_byte name.now }
+{
+    name.iter().all(|b| is_variable_byte(*b))
+}
+
+fn is_variable_byte(byte: u8) -> bool
+    ensures { result ≡ is_variable_byte byte }
+{
+    matches!(byte, b'!'..=b'~') && !matches!(byte, b',' | b'{' | b'}' | b'=' | b'#' | b':')
+}

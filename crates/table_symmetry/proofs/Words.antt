@@ -1,0 +1,48 @@
+-- The words of a set tell which states it has.
+use Rattle.std.proofs.Common.{◌≡◌, ℕ, zero, suc, ◌+◌, ◌*◌, ◌/◌, ◌%◌, ◌<◌, Bool, true, false, cond, List, map, refl, ap, ◌∙◌, arith}
+use Rattle.std.specs.Prelude.{◌==◌, slice_index}
+use Rattle.std.specs.Int.{bit_at}
+use Rattle.std.specs.List.{range_with_len}
+use Rattle.std.proofs.lemmas.Nat.Bits.{bit_at-suc, bit_at_lowest}
+use Rattle.table_lines.specs.States.{has, is_bit_set, number_of_bits, word_of, words_of}
+
+lowest_digit : (b : Bool) (n : ℕ) → (cond b 1 0 + 2 * n) % 2 ≡ cond b 1 0
+lowest_digit true n = omega arith
+lowest_digit false n = omega arith
+
+other_digits : (b : Bool) (n : ℕ) → (cond b 1 0 + 2 * n) / 2 ≡ n
+other_digits true n = omega arith
+other_digits false n = omega arith
+
+digit_is_set : (b : Bool) → (cond b 1 0 == 1) ≡ b
+digit_is_set true = refl
+digit_is_set false = refl
+
+-- the bits of a number are the digits that it was made of
+bit-number : (f : ℕ → Bool) (a n i : ℕ) → i < n → (bit_at (number_of_bits (map f (range_with_len a n))) i == 1) ≡ f (a + i)
+unfolding number_of_bits
+bit-number f a zero i h = absurd (omega arith)
+bit-number f a (suc n) zero h =
+    let here : a ≡ a + 0 = omega arith in
+    ap (λ d. d == 1) (bit_at_lowest _ ∙ lowest_digit (f a) _) ∙ digit_is_set (f a) ∙ ap f here
+bit-number f a (suc n) (suc i) h =
+    let there : a + 1 + i ≡ a + suc i = omega arith in
+    ap (λ d. d == 1) (bit_at-suc _ i ∙ ap (λ m. bit_at m i) (other_digits (f a) _)) ∙ bit-number f (a + 1) n i (omega arith) ∙ ap f there
+
+-- a word tells which of 64 states a set has
+bit-word : (states : List ℕ) (q i : ℕ) → i < 64 → (bit_at (word_of states q) i == 1) ≡ has states (64 * q + i)
+unfolding word_of
+bit-word states q i h = bit-number (has states) (64 * q) 64 i h
+
+word_at_number : (states : List ℕ) (q : ℕ) → q < 4 → slice_index (words_of states) q ≡ word_of states q
+word_at_number states zero h = refl
+word_at_number states (suc zero) h = refl
+word_at_number states (suc (suc zero)) h = refl
+word_at_number states (suc (suc (suc zero))) h = refl
+word_at_number states (suc (suc (suc (suc q)))) h = absurd (omega arith)
+
+-- the bits of the words tell which states a set has
+pub has-words : (states : List ℕ) (s : ℕ) → s < 256 → is_bit_set (words_of states) s ≡ has states s
+has-words states s h =
+    let state : 64 * (s / 64) + s % 64 ≡ s = omega arith in
+    ap (λ w. bit_at w (s % 64) == 1) (word_at_number states (s / 64) (omega arith)) ∙ bit-word states (s / 64) (s % 64) (omega arith) ∙ ap (has states) state
