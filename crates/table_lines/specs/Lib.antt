@@ -7,6 +7,7 @@ pub mod LineLaws
 pub mod Lines
 pub mod Neighborhood
 pub mod Read
+pub mod StateHashes
 pub mod StateWords
 pub mod States
 pub mod Symmetry

@@ -3,10 +3,11 @@ ghost use Rattle.std.specs.Prelude.{◌≡◌, ◌∷◌, [], ◌==◌, ◌||◌
 ghost use Rattle.table_lines.specs.States.{has, rising, same_set, word_of};
 
 use std::alloc::{AllocError, Global};
+use std::hash::{Hash, Hasher};
 use std::marker::Model;
 
 /// A set of states, a bit each, 64 in a word. Contracts see the list of its states, rising.
-#[derive(Clone, Copy, Debug, PartialEq, Eq)]
+#[derive(Clone, Copy, Debug)]
 pub struct StateSet {
     words: [u64; 4],
 }
@@ -95,5 +96,40 @@ impl StateSet {
         ensures { result ≡ word_of self.now number }
     {
         self.words[number]
+    }
+}
+
+impl PartialEq for StateSet {
+    ghost use Rattle.std.specs.Cmp.{partial_equiv_from_equiv};
+    ghost use Rattle.std.specs.Cmp.Lexicographic.{nat_list_eq_equiv};
+    ghost use Rattle.table_lines.specs.States.{same_set};
+
+    ghost eq = { same_set };
+
+    ghost laws = { partial_equiv_from_equiv nat_list_eq_equiv };
+
+    fn eq(&self, other: &StateSet) -> bool {
+        self.equals(other)
+    }
+}
+
+impl Eq for StateSet {
+    ghost use Rattle.std.specs.Cmp.Lexicographic.{nat_list_eq_equiv};
+
+    ghost laws = { nat_list_eq_equiv };
+}
+
+impl Hash for StateSet {
+    ghost use Rattle.table_lines.specs.StateHashes.{hash_input_of, same_input};
+
+    ghost hash_input = { hash_input_of };
+
+    ghost respects_eq = { same_input };
+
+    fn hash<H: Hasher>(&self, state: &mut H) {
+        state.write_u64(self.word(0));
+        state.write_u64(self.word(1));
+        state.write_u64(self.word(2));
+        state.write_u64(self.word(3));
     }
 }

@@ -1,5 +1,5 @@
 -- Lists of expanded transitions that grow up to the limit.
-use Rattle.std.specs.Prelude.{◌≡◌, ◌⊎◌, ℕ, ◌+◌, ◌<◌, ◌≤◌, List, [], ◌∷◌, ◌++◌, Bool, length, Result, Ok, Err, if◌then◌else◌}
+use Rattle.std.specs.Prelude.{◌≡◌, ◌⊎◌, ℕ, ◌+◌, ◌<◌, ◌≤◌, List, [], ◌∷◌, ◌++◌, Bool, length, map, Vec, Result, Ok, Err, if◌then◌else◌}
 use Rattle.std.specs.List.{list_any}
 use Rattle.rule_file.specs.declared.fault.RuleFault.{RuleFault}
 use Rattle.rule_file.specs.declared.fault.RuleFault.TheVariants.{NoMemory, TooManyTransitions}
@@ -18,6 +18,10 @@ Grows (Err fault) old new more = IsTooLong fault (length old + length more)
 -- an expanded transition of these sets for the cell and its neighbours
 abbrev pub row_of : List (List ℕ) → ℕ → List (List ℕ) → Expanded
 row_of centre given neighbours = record { inputs = centre ++ neighbours; result = given }
+
+-- the lists that stand in these
+abbrev pub lists_in : {X A : Type 0} → List (Vec X A) → List (List X)
+lists_in vecs = map (λ v. v.items) vecs
 
 -- a list with one more element, unless it has it
 abbrev pub with_one : {X : Type 0} → (X → X → Bool) → List X → X → List X

@@ -1,28 +1,28 @@
 //! The arrangements in which the neighbours of a transition may stand.
 //!
 //! Under `permute` each set is put in at each place of the orders of those after it. A list is kept
-//! where no equal one is there, so the cost grows with the square of the different lists: little
-//! for turns and mirrors, which give 16 at most, and seconds for the 40,320 orders of eight sets.
+//! once, where it came first; whether it is there is seen by its hash, so the cost is in proportion
+//! to the lists that are looked at.
 ghost use Rattle.std.specs.Prelude.{◌≡◌, ◌≤◌, ◌++◌, ◌∷◌, length, take, drop, IfOk, OnOk};
-ghost use Rattle.std.specs.List.{flat_map, list_any};
+ghost use Rattle.std.specs.List.{flat_map};
 ghost use Rattle.table_symmetry.specs.Circle as maps;
 ghost use Rattle.table_symmetry.specs.Expanded.{distinct, same_sets};
-ghost use Rattle.table_symmetry.specs.Grown.{with_all, with_one};
+ghost use Rattle.table_symmetry.specs.Grown.{lists_in, with_all, with_one};
 
-use plane_core::Listing;
+use indexmap::IndexSet;
 use std::alloc::{AllocError, Global};
 use table_lines::{StateSet, Symmetry};
 
-/// A list of sets of states, one for each neighbour.
-type Circle = Listing<StateSet>;
+/// Lists of sets of states, one for each neighbour, each list once.
+pub type Circles = IndexSet<Vec<StateSet>>;
 
 /// The circle as the maps of the symmetry put it, each arrangement once.
 pub fn arrangements(
     alloc: Global,
     symmetry: Symmetry,
     circle: &[StateSet],
-) -> Result<Vec<Circle>, AllocError>
-    ensures { IfOk result (λ lists. lists.items ≡ distinct same_sets (maps.arrangements symmetry circle.now)) }
+) -> Result<Circles, AllocError>
+    ensures { IfOk result (λ lists. lists_in lists.keys ≡ distinct same_sets (maps.arrangements symmetry circle.now)) }
 {
     match symmetry {
         Symmetry::None => turns(alloc, 1, circle),
@@ -41,11 +41,11 @@ pub fn arrangements(
 }
 
 // The circle as equal turns put it.
-fn turns(alloc: Global, count: usize, circle: &[StateSet]) -> Result<Vec<Circle>, AllocError>
+fn turns(alloc: Global, count: usize, circle: &[StateSet]) -> Result<Circles, AllocError>
     requires { 1 ≤ count }
-    ensures { IfOk result (λ lists. lists.items ≡ distinct same_sets (maps.turns count circle.now)) }
+    ensures { IfOk result (λ lists. lists_in lists.keys ≡ distinct same_sets (maps.turns count circle.now)) }
 {
-    let mut lists = Vec::new(alloc);
+    let mut lists = IndexSet::new(alloc);
     add_turns(alloc, &mut lists, count, circle)?;
     Ok(lists)
 }
@@ -55,12 +55,12 @@ fn turns_and_reflections(
     alloc: Global,
     count: usize,
     circle: &[StateSet],
-) -> Result<Vec<Circle>, AllocError>
+) -> Result<Circles, AllocError>
     requires { 1 ≤ count }
-    ensures { IfOk result (λ lists. lists.items
+    ensures { IfOk result (λ lists. lists_in lists.keys
         ≡ distinct same_sets (maps.turns count circle.now ++ maps.turns count (maps.mirrored circle.now))) }
 {
-    let mut lists = Vec::new(alloc);
+    let mut lists = IndexSet::new(alloc);
     add_turns(alloc, &mut lists, count, circle)?;
     let image = mirrored(alloc, circle)?;
     add_turns(alloc, &mut lists, count, &image)?;
@@ -70,12 +70,12 @@ fn turns_and_reflections(
 // Adds what equal turns make of the circle and isn't there yet.
 fn add_turns(
     alloc: Global,
-    lists: &mut Vec<Circle>,
+    lists: &mut Circles,
     count: usize,
     circle: &[StateSet],
 ) -> Result<(), AllocError>
     requires { 1 ≤ count }
-    ensures { OnOk result (lists.new.items ≡ with_all same_sets lists.old.items (maps.turns count circle.now)) }
+    ensures { OnOk result (lists_in lists.new.keys ≡ with_all same_sets (lists_in lists.old.keys) (maps.turns count circle.now)) }
 {
     for turn in 0..count {
         let places = turn * (circle.len() / count);
@@ -85,29 +85,11 @@ fn add_turns(
 }
 
 // Adds the list, unless it is there.
-fn add_new(lists: &mut Vec<Circle>, list: Circle) -> Result<(), AllocError>
-    ensures { OnOk result (lists.new.items ≡ with_one same_sets lists.old.items list) }
+fn add_new(lists: &mut Circles, list: Vec<StateSet>) -> Result<(), AllocError>
+    ensures { OnOk result (lists_in lists.new.keys ≡ with_one same_sets (lists_in lists.old.keys) list.items) }
 {
-    if !has_list(lists, list.as_slice()) {
-        lists.push(list)?;
-    }
+    lists.insert(list)?;
     Ok(())
-}
-
-fn has_list(lists: &[Circle], list: &[StateSet]) -> bool
-    ensures { result ≡ list_any (λ other. same_sets other list.now) lists.now }
-{
-    lists.iter().any(|other| same_sets(other.as_slice(), list))
-}
-
-fn same_sets(sets: &[StateSet], others: &[StateSet]) -> bool
-    ensures { result ≡ same_sets sets.now others.now }
-{
-    match (sets, others) {
-        ([], []) => true,
-        ([set, sets @ ..], [other, others @ ..]) => set.equals(other) && same_sets(sets, others),
-        _ => false,
-    }
 }
 
 // The circle the other way round, from the same first place.
@@ -122,13 +104,13 @@ fn mirrored(alloc: Global, circle: &[StateSet]) -> Result<Vec<StateSet>, AllocEr
 }
 
 // All orders of the circle, each once.
-fn orders(alloc: Global, circle: &[StateSet]) -> Result<Vec<Circle>, AllocError>
-    ensures { IfOk result (λ lists. lists.items ≡ distinct same_sets (maps.permutations circle.now)) }
+fn orders(alloc: Global, circle: &[StateSet]) -> Result<Circles, AllocError>
+    ensures { IfOk result (λ lists. lists_in lists.keys ≡ distinct same_sets (maps.permutations circle.now)) }
 {
     match circle {
         [] => {
-            let mut lists = Vec::new(alloc);
-            lists.push(Listing::from_vec(Vec::new(alloc)))?;
+            let mut lists = IndexSet::new(alloc);
+            lists.insert(Vec::new(alloc))?;
             Ok(lists)
         }
         [first, others @ ..] => {
@@ -139,12 +121,12 @@ fn orders(alloc: Global, circle: &[StateSet]) -> Result<Vec<Circle>, AllocError>
 }
 
 // The orders with one more set, put in at each place, each once.
-fn longer_orders(alloc: Global, set: StateSet, orders: &[Circle]) -> Result<Vec<Circle>, AllocError>
-    ensures { IfOk result (λ lists. lists.items ≡ distinct same_sets (flat_map (maps.insertions set) orders.now)) }
+fn longer_orders(alloc: Global, set: StateSet, orders: &Circles) -> Result<Circles, AllocError>
+    ensures { IfOk result (λ lists. lists_in lists.keys ≡ distinct same_sets (flat_map (maps.insertions set) (lists_in orders.now.keys))) }
 {
-    let mut lists = Vec::new(alloc);
-    for list in orders {
-        add_insertions(alloc, &mut lists, set, list.as_slice())?;
+    let mut lists = IndexSet::new(alloc);
+    for list in orders.as_slice() {
+        add_insertions(alloc, &mut lists, set, list)?;
     }
     Ok(lists)
 }
@@ -152,11 +134,11 @@ fn longer_orders(alloc: Global, set: StateSet, orders: &[Circle]) -> Result<Vec<
 // Adds the list with one more set, put in at each place, where that isn't there yet.
 fn add_insertions(
     alloc: Global,
-    lists: &mut Vec<Circle>,
+    lists: &mut Circles,
     set: StateSet,
     list: &[StateSet],
 ) -> Result<(), AllocError>
-    ensures { OnOk result (lists.new.items ≡ with_all same_sets lists.old.items (maps.insertions set list.now)) }
+    ensures { OnOk result (lists_in lists.new.keys ≡ with_all same_sets (lists_in lists.old.keys) (maps.insertions set list.now)) }
 {
     for place in 0..list.len() + 1 {
         add_new(lists, inserted(alloc, set, list, place)?)?;
@@ -170,19 +152,22 @@ fn inserted(
     set: StateSet,
     list: &[StateSet],
     place: usize,
-) -> Result<Circle, AllocError>
+) -> Result<Vec<StateSet>, AllocError>
     requires { place ≤ length list.now }
-    ensures { IfOk result (λ longer. longer ≡ take place list.now ++ set ∷ drop place list.now) }
+    ensures { IfOk result (λ longer. longer.items ≡ take place list.now ++ set ∷ drop place list.now) }
 {
     let mut longer = list.to_vec(alloc)?;
     longer.insert(place, set)?;
-    Ok(Listing::from_vec(longer))
+    Ok(longer)
 }
 
 /// One list and then the other.
-pub fn joined(alloc: Global, front: &[StateSet], back: &[StateSet]) -> Result<Circle, AllocError>
-    ensures { IfOk result (λ list. list ≡ front.now ++ back.now) }
+pub fn joined(
+    alloc: Global,
+    front: &[StateSet],
+    back: &[StateSet],
+) -> Result<Vec<StateSet>, AllocError>
+    ensures { IfOk result (λ list. list.items ≡ front.now ++ back.now) }
 {
-    let list = front.iter().chain(back).copied().collect(alloc)?;
-    Ok(Listing::from_vec(list))
+    front.iter().chain(back).copied().collect(alloc)
 }

@@ -2,14 +2,14 @@
 //!
 //! A transition is expanded by its assignments, which replace the bound variables in turn by their
 //! values, and each of these by the maps of the symmetry. The cost is in proportion to what is
-//! expanded, and to the square of what one assignment gives (see `arrangement`).
+//! expanded, and to the arrangements that are looked at (see `arrangement`).
 ghost use Rattle.std.specs.Prelude.{◌≡◌, ◌≤◌, ◌++◌, ◌∷◌, length, map, IfOk, OnOk, MatchResult};
 ghost use Rattle.std.specs.List.{flat_map};
 ghost use Rattle.table_symmetry.specs.Expanded.{expanded_of, expanded_one, transition_limit};
-ghost use Rattle.table_symmetry.specs.Grown.{Grows, IsTooLong, row_of};
+ghost use Rattle.table_symmetry.specs.Grown.{Grows, IsTooLong, lists_in, row_of};
 ghost use Rattle.table_symmetry.specs.NextState as meaning;
 
-use crate::arrangement::{arrangements, joined};
+use crate::arrangement::{Circles, arrangements, joined};
 use plane_core::Listing;
 use rule_file::RuleFault;
 use std::alloc::{AllocError, Global};
@@ -96,15 +96,15 @@ fn push_lists(
     alloc: Global,
     rows: &mut Vec<Expanded>,
     centre: &[StateSet],
-    lists: &[Listing<StateSet>],
+    lists: &Circles,
     given: u8,
 ) -> Result<(), AllocError>
-    ensures { OnOk result (rows.new.items ≡ rows.old.items ++ map (row_of centre.now given) lists.now) }
+    ensures { OnOk result (rows.new.items ≡ rows.old.items ++ map (row_of centre.now given) (lists_in lists.now.keys)) }
 {
-    for list in lists {
-        let inputs = joined(alloc, centre, list.as_slice())?;
+    for list in lists.as_slice() {
+        let inputs = joined(alloc, centre, list)?;
         rows.push(Expanded {
-            inputs,
+            inputs: Listing::from_vec(inputs),
             result: given,
         })?;
     }

@@ -294,6 +294,12 @@ fn arrangements_are_counted(rt: HostRuntime) {
 }
 
 #[test]
+fn eight_different_neighbours_stand_in_all_orders(rt: HostRuntime) {
+    let lines = "n_states:9\nneighborhood:Moore\nsymmetries:permute\n0123456781\n";
+    expands_to(&rt, rt.alloc(), lines, 40_320);
+}
+
+#[test]
 fn neighbours_stand_where_the_line_says(rt: HostRuntime) {
     for case in &LONE {
         stands_alone(&rt, rt.alloc(), case);

@@ -2,7 +2,7 @@ use Rattle.std.proofs.Common.{◌≡◌, ℕ, ◌+◌, List, [], ◌∷◌, ◌+
 use Rattle.std.specs.List.{range_with_len}
 use Rattle.std.proofs.lemmas.List.FromFn.{map-range_with_len_more}
 use Rattle.table_symmetry.specs.Expanded.{same_sets}
-use Rattle.table_symmetry.specs.Grown.{with_one, with_all}
+use Rattle.table_symmetry.specs.Grown.{lists_in, with_one, with_all}
 use Rattle.table_symmetry.proofs.Arranged.{same_sets_decides}
 use Rattle.table_symmetry.proofs.Distinct.{with_all-append}
 use Rattle.table_symmetry.proofs.arrangement.add_insertions.Goals as goal
@@ -14,7 +14,7 @@ loop-place-preserved c =
     let before = map at (range_with_len 0 place) in
     let here : 0 + place ≡ place = omega arith in
     c.in_ok-add_new.ensures
-    ∙ ap (λ xs. with_one same_sets xs c.in_ok-inserted.field-0) c.loop-place.invariant
-    ∙ ap (with_one same_sets (with_all same_sets c.args.lists.now.items before)) c.in_ok-inserted.ensures
-    ∙ sym (ap (with_all same_sets c.args.lists.now.items) (map-range_with_len_more at 0 place place here)
-    ∙ with_all-append same_sets same_sets_decides c.args.lists.now.items before (at place ∷ []))
+    ∙ ap (λ xs. with_one same_sets xs c.in_ok-inserted.field-0.items) c.loop-place.invariant
+    ∙ ap (with_one same_sets (with_all same_sets (lists_in c.args.lists.now.keys) before)) c.in_ok-inserted.ensures
+    ∙ sym (ap (with_all same_sets (lists_in c.args.lists.now.keys)) (map-range_with_len_more at 0 place place here)
+    ∙ with_all-append same_sets same_sets_decides (lists_in c.args.lists.now.keys) before (at place ∷ []))

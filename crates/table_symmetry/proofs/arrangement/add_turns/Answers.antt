@@ -4,7 +4,7 @@ use Rattle.std.proofs.lemmas.List.{take_rest}
 use Rattle.std.proofs.lemmas.List.FromFn.{map-range_with_len_more}
 use Rattle.table_symmetry.specs.Circle as maps
 use Rattle.table_symmetry.specs.Expanded.{same_sets}
-use Rattle.table_symmetry.specs.Grown.{with_one, with_all}
+use Rattle.table_symmetry.specs.Grown.{lists_in, with_one, with_all}
 use Rattle.table_symmetry.proofs.Arranged.{same_sets_decides}
 use Rattle.table_symmetry.proofs.Distinct.{with_all-append}
 use Rattle.table_symmetry.proofs.arrangement.add_turns.Goals as goal
@@ -17,7 +17,7 @@ loop-turn-preserved c =
     let before = map at (range_with_len 0 turn) in
     let here : 0 + turn ≡ turn = omega arith in
     c.in_ok-add_new.ensures
-    ∙ ap (λ xs. with_one same_sets xs c.in_ok-joined.field-0) c.loop-turn.invariant
-    ∙ ap (with_one same_sets (with_all same_sets c.args.lists.now.items before)) (c.in_ok-joined.ensures ∙ ap (λ xs. xs ++ take places c.args.circle.now) (take_rest c.args.circle.now places))
-    ∙ sym (ap (with_all same_sets c.args.lists.now.items) (map-range_with_len_more at 0 turn turn here)
-    ∙ with_all-append same_sets same_sets_decides c.args.lists.now.items before (at turn ∷ []))
+    ∙ ap (λ xs. with_one same_sets xs c.in_ok-joined.field-0.items) c.loop-turn.invariant
+    ∙ ap (with_one same_sets (with_all same_sets (lists_in c.args.lists.now.keys) before)) (c.in_ok-joined.ensures ∙ ap (λ xs. xs ++ take places c.args.circle.now) (take_rest c.args.circle.now places))
+    ∙ sym (ap (with_all same_sets (lists_in c.args.lists.now.keys)) (map-range_with_len_more at 0 turn turn here)
+    ∙ with_all-append same_sets same_sets_decides (lists_in c.args.lists.now.keys) before (at turn ∷ []))

@@ -2,8 +2,8 @@ use Rattle.std.proofs.Common.{◌≡◌, [], take}
 use Rattle.std.specs.List.{flat_map}
 use Rattle.table_symmetry.specs.Circle as maps
 use Rattle.table_symmetry.specs.Expanded.{same_sets}
-use Rattle.table_symmetry.specs.Grown.{with_all}
+use Rattle.table_symmetry.specs.Grown.{lists_in, with_all}
 use Rattle.table_symmetry.proofs.arrangement.longer_orders.Given as goal
 
 abbrev pub invariant-loop-list : goal.invariant-loop-list
-invariant-loop-list l = l.lists.items ≡ with_all same_sets [] (flat_map (maps.insertions l.set) (take l.list-index l.orders))
+invariant-loop-list l = lists_in l.lists.keys ≡ with_all same_sets [] (flat_map (maps.insertions l.set) (take l.list-index (lists_in l.list-items)))

@@ -1,6 +1,6 @@
 use Rattle.std.proofs.Common.{◌≡◌, ◌++◌, map, take}
-use Rattle.table_symmetry.specs.Grown.{row_of}
+use Rattle.table_symmetry.specs.Grown.{lists_in, row_of}
 use Rattle.table_symmetry.proofs.expansion.push_lists.Given as goal
 
 abbrev pub invariant-loop-list : goal.invariant-loop-list
-invariant-loop-list l = l.rows.items ≡ l.initial.rows.items ++ map (row_of l.centre l.given) (take l.list-index l.lists)
+invariant-loop-list l = l.rows.items ≡ l.initial.rows.items ++ map (row_of l.centre l.given) (take l.list-index (lists_in l.list-items))

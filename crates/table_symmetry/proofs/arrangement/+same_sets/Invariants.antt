@@ -1,5 +1,0 @@
-use Rattle.std.proofs.Common.{length}
-use Rattle.table_symmetry.proofs.arrangement.+same_sets.Given as goal
-
-abbrev pub decreases-same_sets : goal.decreases-same_sets
-decreases-same_sets l = length l.sets.now
