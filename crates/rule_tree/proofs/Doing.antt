@@ -9,7 +9,7 @@ use Rattle.std.proofs.lemmas.List.{get_or_append_left, get_or-map, length-map}
 use Rattle.std.proofs.lemmas.List.Sums.{list_all-from_AllPass}
 use Rattle.rule_tree.specs.declared.layers.Layer.{Layer}
 use Rattle.rule_tree.specs.Layers.{IsLayer, lets, rest_at, result_of}
-use Rattle.rule_tree.specs.Translation.{AllInside, AreAllEdges, AreEdges, AreLeaves, Does, DoAll, Extends, first_some, last_of, outcome}
+use Rattle.rule_tree.specs.Translation.{AreLeaves, Does, LeftOf, first_some, last_of, outcome}
 use Rattle.rule_tree.specs.Tree.{Entries, follow, leads, node_at}
 use Rattle.rule_tree.specs.TreeLaws.{leads-on, leads-width}
 use Rattle.rule_tree.proofs.Growing.{leads-append, leads-node}
@@ -76,24 +76,22 @@ outcome-left layer next deeper list left state [] long same = absurd (omega (ari
 outcome-left layer next deeper list left state (input ∷ inputs) long same =
     ap (λ o. unwrap_or o (last_of (input ∷ inputs))) (same (λ number. result_of (next ∷ deeper) number (input ∷ inputs)))
 
--- a node whose entries are the numbers of nodes that do what is left does what the list does
-pub Does-node : (states : ℕ) (layer next : Layer) (deeper : List Layer) (nodes : List Entries) (list : List ℕ) (left : List (List ℕ)) (edges numbers : List ℕ) (number : ℕ) → AreEdges states layer list left edges → DoAll states (next ∷ deeper) nodes left numbers → node_at nodes number ≡ map (slice_index numbers) edges → Does states (layer ∷ next ∷ deeper) nodes list number
-Does-node states layer next deeper nodes list left edges numbers number are all at = record { leading = leading; follows = follows }
+-- what an entry of a node leads to does what is left behind its state
+pub record BranchAt (states : ℕ) (layer next : Layer) (deeper : List Layer) (nodes : List Entries) (list : List ℕ) (state number : ℕ) : Type 0 where
+  pub left : List ℕ
+  pub is : LeftOf layer state list left
+  pub does : Does states (next ∷ deeper) nodes left number
+
+-- then the node does what the list does
+pub Does-branch : (states : ℕ) (layer next : Layer) (deeper : List Layer) (nodes : List Entries) (list entries : List ℕ) (number : ℕ) → length entries ≡ states → ((s : ℕ) → s < states → BranchAt states layer next deeper nodes list s (slice_index entries s)) → node_at nodes number ≡ entries → Does states (layer ∷ next ∷ deeper) nodes list number
+Does-branch states layer next deeper nodes list entries number wide each at = record { leading = leading; follows = follows }
   where
-    entry : (s : ℕ) → s < states → slice_index (map (slice_index numbers) edges) s ≡ slice_index numbers (slice_index edges s)
-    entry s under = get_or-map (slice_index numbers) edges s 0 0 (omega (arith, under, are.width))
-
-    wide : length (map (slice_index numbers) edges) ≡ states
-    wide = length-map edges (slice_index numbers) ∙ are.width
-
     leading : (inputs : List ℕ) → length inputs ≡ suc (suc (length deeper)) → leads states nodes number inputs ≡ true
     leading [] long = absurd (omega (arith, long))
     leading (input ∷ inputs) long =
-        leads-node states nodes number (map (slice_index numbers) edges) input inputs at wide
-        (list_all-from_AllPass (λ entry. leads states nodes entry inputs) (map (slice_index numbers) edges) (λ k d l.
-        let under : k < states = omega (arith, l, wide) in
-        let there : get_or (map (slice_index numbers) edges) k d ≡ slice_index numbers (slice_index edges k) = get_or-map (slice_index numbers) edges k 0 d (omega (arith, under, are.width)) in
-        ap (λ e. leads states nodes e inputs) there ∙ (all.each (slice_index edges k) (are.inside k under)).leading inputs (omega (arith, long))))
+        leads-node states nodes number entries input inputs at wide
+        (list_all-from_AllPass (λ entry. leads states nodes entry inputs) entries (λ k d l.
+        ap (λ e. leads states nodes e inputs) (other_default entries k d 0 l) ∙ (each k (omega (arith, l, wide))).does.leading inputs (omega (arith, long))))
 
     follows : (inputs : List ℕ) → length inputs ≡ suc (suc (length deeper)) → list_all (λ s. nat_lt s states) inputs ≡ true → follow nodes number inputs ≡ outcome (layer ∷ next ∷ deeper) list inputs
     follows [] long low = absurd (omega (arith, long))
@@ -103,68 +101,5 @@ Does-node states layer next deeper nodes list left edges numbers number are all 
         let under : input < states = search (rules, tests) in
         let rest : length inputs ≡ suc (length deeper) = omega (arith, long) in
         ap (λ node. follow nodes (slice_index node input) inputs) at
-        ∙ ap (λ e. follow nodes e inputs) (entry input under)
-        ∙ (all.each (slice_index edges input) (are.inside input under)).follows inputs rest parts.1
-        ∙ outcome-left layer next deeper list _ input inputs rest (are.each input under)
-
--- what nodes do, they do with more nodes behind them
-pub DoAll-append : (states : ℕ) (layers : List Layer) (nodes more : List Entries) (lists : List (List ℕ)) (numbers : List ℕ) → 0 < states → DoAll states layers nodes lists numbers → DoAll states layers (nodes ++ more) lists numbers
-DoAll-append states layers nodes more lists numbers some all = record {
-  count = all.count;
-  each = λ k l. Does-append states layers nodes more (slice_index_or lists k []) (slice_index numbers k) some (all.each k l);
-}
-
--- a node that is one of those wanted
-wanted-at : (nodes wanted : List Entries) (numbers : List ℕ) (k : ℕ) → map (node_at nodes) numbers ≡ wanted → k < length numbers → node_at nodes (slice_index numbers k) ≡ slice_index_or wanted k []
-wanted-at nodes wanted numbers k made l =
-    sym (get_or-map (node_at nodes) numbers k 0 [] l) ∙ ap (λ xs. slice_index_or xs k []) made
-
-made-count : (nodes wanted : List Entries) (numbers : List ℕ) → map (node_at nodes) numbers ≡ wanted → length numbers ≡ length wanted
-made-count nodes wanted numbers made = sym (length-map numbers (node_at nodes)) ∙ ap length made
-
--- nodes of the leaves do what the lists do at the last input
-pub DoAll-leaves : (states : ℕ) (layer : Layer) (nodes lists leaves : List (List ℕ)) (numbers : List ℕ) → IsLayer layer states → AllInside (length layer.tails.items) lists → length leaves ≡ length lists → ((k : ℕ) → k < length lists → AreLeaves states layer (slice_index_or lists k []) (slice_index_or leaves k [])) → map (node_at nodes) numbers ≡ leaves → DoAll states (layer ∷ []) nodes lists numbers
-DoAll-leaves states layer nodes lists leaves numbers fits inside same each made =
-    let count : length numbers ≡ length lists = made-count nodes leaves numbers made ∙ same in
-    record {
-      count = count;
-      each = λ k l. Does-leaf states layer nodes (slice_index_or lists k []) (slice_index_or leaves k []) (slice_index numbers k) fits (inside k [] l) (each k l) (wanted-at nodes leaves numbers k made (omega (arith, l, count)));
-    }
-
--- nodes of which each leads to nodes that do what is left do what the lists do
-pub DoAll-nodes : (states : ℕ) (layer next : Layer) (deeper : List Layer) (before nodes lists left edges : List (List ℕ)) (numbers made : List ℕ) → 0 < states → AreAllEdges states layer lists left edges → DoAll states (next ∷ deeper) before left numbers → Extends before nodes → map (node_at nodes) made ≡ map (map (slice_index numbers)) edges → DoAll states (layer ∷ next ∷ deeper) nodes lists made
-DoAll-nodes states layer next deeper before nodes lists left edges numbers made some are all grown is =
-    let later : DoAll states (next ∷ deeper) nodes left numbers = subst (λ ns. DoAll states (next ∷ deeper) ns left numbers) (sym grown.joined) (DoAll-append states (next ∷ deeper) before grown.more left numbers some all) in
-    let count : length made ≡ length lists = made-count nodes (map (map (slice_index numbers)) edges) made is ∙ length-map edges (map (slice_index numbers)) ∙ are.count in
-    record {
-      count = count;
-      each = λ k l.
-          let there : k < length edges = omega (arith, l, are.count) in
-          Does-node states layer next deeper nodes (slice_index_or lists k []) left (slice_index_or edges k []) numbers (slice_index made k) (are.each k l) later
-          (wanted-at nodes (map (map (slice_index numbers)) edges) made k is (omega (arith, l, count)) ∙ get_or-map (map (slice_index numbers)) edges k [] [] there);
-    }
-
--- the edges are numbers of the lists that are left
-pub edges-inside : (states : ℕ) (layer : Layer) (lists left edges : List (List ℕ)) → AreAllEdges states layer lists left edges → AllInside (length left) edges
-edges-inside states layer lists left edges are k d l e f m =
-    let there : k < length lists = omega (arith, l, are.count) in
-    let one = are.each k there in
-    let same : slice_index_or edges k d ≡ slice_index_or edges k [] = other_default edges k d [] l in
-    let under : e < states = omega (arith, subst (λ xs. e < length xs) same m, one.width) in
-    subst (λ s. s < length left) (sym (ap (λ xs. slice_index_or xs e f) same ∙ other_default (slice_index_or edges k []) e f 0 (omega (arith, under, one.width)))) (one.inside e under)
-
--- nodes made of edges are as wide
-pub nodes-width : (states : ℕ) (layer : Layer) (lists left edges : List (List ℕ)) (numbers : List ℕ) → AreAllEdges states layer lists left edges → All (λ (node : List ℕ). length node ≡ states) (map (map (slice_index numbers)) edges)
-nodes-width states layer lists left edges numbers are k d l =
-    let there : k < length edges = omega (arith, l, length-map edges (map (slice_index numbers))) in
-    ap length (get_or-map (map (slice_index numbers)) edges k [] d there) ∙ length-map (slice_index_or edges k []) (slice_index numbers) ∙ (are.each k (omega (arith, there, are.count))).width
-
-pub leaves-width : (states : ℕ) (layer : Layer) (lists leaves : List (List ℕ)) → length leaves ≡ length lists → ((k : ℕ) → k < length lists → AreLeaves states layer (slice_index_or lists k []) (slice_index_or leaves k [])) → All (λ (node : List ℕ). length node ≡ states) leaves
-leaves-width states layer lists leaves same each k d l =
-    ap length (other_default leaves k d [] l) ∙ (each k (omega (arith, l, same))).width
-
--- nodes that came from those of a width and from more of that width have it
-pub width-among : (states : ℕ) (old wanted new : List Entries) → ((p : List ℕ → Bool) → AllPass p old → AllPass p wanted → AllPass p new) → All (λ (node : List ℕ). length node ≡ states) old → All (λ (node : List ℕ). length node ≡ states) wanted → All (λ (node : List ℕ). length node ≡ states) new
-width-among states old wanted new among before more k d l =
-    eqb-true (length (slice_index_or new k d)) states
-    (among (λ node. length node == states) (λ i e h. eq-eqb (length (slice_index_or old i e)) states (before i e h)) (λ i e h. eq-eqb (length (slice_index_or wanted i e)) states (more i e h)) k d l)
+        ∙ (each input under).does.follows inputs rest parts.1
+        ∙ outcome-left layer next deeper list (each input under).left input inputs rest (each input under).is

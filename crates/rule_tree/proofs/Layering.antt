@@ -2,7 +2,7 @@
 use Rattle.std.proofs.Common.{◌≡◌, ℕ, suc, ◌+◌, ◌<◌, ◌≤◌, ◌==◌, ◌&&◌, Bool, true, false, List, [], ◌∷◌, ◌++◌, All, length, get_or, slice_get, Option, Some, None, if◌then◌else◌, below_more, refl, sym, ap, subst, ◌∙◌, inl, inr, arith, rules, tests}
 use Rattle.std.proofs.lemmas.Bool.{and_parts}
 use Rattle.std.proofs.lemmas.List.{get_or_append_left, get_or_push, length_push}
-use Rattle.std.proofs.lemmas.List.Elements.{All-from_get_or, All-nil, All-push, All-same, All-weaker}
+use Rattle.std.proofs.lemmas.List.Elements.{All-cons, All-from_get_or, All-nil, All-push, All-same, All-weaker}
 use Rattle.std.proofs.lemmas.Option.{get_or_from_slice_get}
 use Rattle.std.specs.List.{list_any}
 use Rattle.indexmap.specs.IndexSet.{insert_key}
@@ -142,7 +142,7 @@ IsLayerOf-all place rows lasts layer tails numbers n same all h =
     subst (AreTails place rows lasts layer.sets.items layer.tails.items numbers) all
     (subst (λ (ts : List Tail). AreTails place rows lasts layer.sets.items ts numbers n) (sym same) h)
     in
-    record { count = whole.count; inside = whole.inside; asks = whole.asks; leaves = whole.leaves }
+    record { count = whole.count; inside = whole.inside; few = whole.few_tails; asks = whole.asks; leaves = whole.leaves }
 
 -- behind the last input a tail is the result
 stands-none : (row : Expanded) (number : ℕ) (inputs : List ℕ) → number ≡ row.result → length inputs ≡ 0 → result_of [] number inputs ≡ (if all_allow (asked [] row.inputs) inputs then Some row.result else None)
@@ -158,6 +158,7 @@ AreLayersOf-none states rows numbers count each below = record {
   depth = refl;
   fit = tt;
   count = count;
+  few = All-nil (λ (layer : Layer). length layer.tails.items ≤ length rows);
   inside = All-from_get_or (λ n. n < states) numbers 0 (λ k h. let l : k < length rows = omega (arith, h, count) in subst (λ n. n < states) (sym (each k none_row l)) (below k none_row l));
   stand = λ k d h inputs long. stands-none (get_or rows k d) (get_or numbers k 0) inputs (each k d h) long;
 }
@@ -185,5 +186,6 @@ AreLayersOf-more states place order rows layer layers lasts numbers old fits of 
   fit = (fits (count_of states layers) old.inside, old.fit);
   count = of.count;
   inside = of.inside;
+  few = All-cons (λ (l : Layer). length l.tails.items ≤ length rows) layer layers of.few old.few;
   stand = λ k d h. stands-more place order (get_or rows k d) layer layers (get_or numbers k 0) (get_or lasts k 0) (of.asks k d h) (of.leaves k h) (old.stand k d h);
 }

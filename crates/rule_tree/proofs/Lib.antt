@@ -1,12 +1,12 @@
 mod Apart
 mod Beginnings
-mod Different
 mod Doing
 mod Finishing
 mod Following
 mod Growing
 mod KeptNodes
 mod LastLine
+mod MadeNodes
 mod Layering
 mod NextNode
 mod NodeLists

@@ -71,6 +71,7 @@ module _ (layer : Layer) (state : ℕ) (passed : List ℕ) (marks : List Bool) (
   pub found-passed : lets layer number state ≡ false → IsFound layer state (passed ++ number ∷ []) marks found
   found-passed e = record {
     left = λ f. known.left f ∙ sym (option_or-none (first_some (asked layer state f) passed)) ∙ ap (λ b. option_or (first_some (asked layer state f) passed) (if b then f (rest_at layer number) else None)) (sym e) ∙ sym (first_some-push (asked layer state f) passed number);
+    rests = known.rests;
     marked = known.marked;
   }
 
@@ -81,14 +82,16 @@ module _ (layer : Layer) (state : ℕ) (passed : List ℕ) (marks : List Bool) (
       by : (b : Bool) → lets layer number state ≡ b → IsFound layer state (passed ++ number ∷ []) marks found
       by true e = record {
         left = λ f. sym (first_some-again f found (rest_at layer number) there) ∙ ap (λ o. option_or o (f (rest_at layer number))) (known.left f) ∙ ap (λ b. option_or (first_some (asked layer state f) passed) (if b then f (rest_at layer number) else None)) (sym e) ∙ sym (first_some-push (asked layer state f) passed number);
+        rests = known.rests;
         marked = known.marked;
       }
       by false e = found-passed e
 
   -- a tail of which something else is left
-  pub found-more : lets layer number state ≡ true → rest_at layer number < length marks → IsFound layer state (passed ++ number ∷ []) (set marks (rest_at layer number) true) (found ++ rest_at layer number ∷ [])
-  found-more e inside = record {
+  pub found-more : number < length layer.tails.items → lets layer number state ≡ true → rest_at layer number < length marks → IsFound layer state (passed ++ number ∷ []) (set marks (rest_at layer number) true) (found ++ rest_at layer number ∷ [])
+  found-more there e inside = record {
     left = λ f. first_some-push f found (rest_at layer number) ∙ ap (λ o. option_or o (f (rest_at layer number))) (known.left f) ∙ ap (λ b. option_or (first_some (asked layer state f) passed) (if b then f (rest_at layer number) else None)) (sym e) ∙ sym (first_some-push (asked layer state f) passed number);
+    rests = λ count fits. All-push (λ n. n < count) found (rest_at layer number) (known.rests count fits) (fits.rests number (record { set = 0; rest = 0 }) there);
     marked = marked-push marks found known.marked (rest_at layer number) inside;
   }
 

@@ -1,5 +1,5 @@
 -- What is left of a table's rows, input by input.
-use Rattle.std.specs.Prelude.{◌≡◌, ◌⊎◌, ⊤, ℕ, ◌<◌, ◌&&◌, Bool, true, false, All, List, [], ◌∷◌, ◌++◌, length, map, slice_get, slice_index, slice_index_or, Option, None, Some, if◌then◌else◌}
+use Rattle.std.specs.Prelude.{◌≡◌, ◌⊎◌, ⊤, ℕ, ◌<◌, ◌≤◌, ◌&&◌, Bool, true, false, All, List, [], ◌∷◌, ◌++◌, length, map, slice_get, slice_index, slice_index_or, Option, None, Some, if◌then◌else◌}
 use Rattle.table_symmetry.specs.declared.expansion.Expanded.{Expanded}
 use Rattle.table_symmetry.specs.States.{has}
 use Rattle.rule_tree.specs.declared.layers.Layer.{Layer}
@@ -68,12 +68,14 @@ pub record AreLayersOf (states : ℕ) (order : List (Option ℕ)) (rows : List E
   pub fit : Fit states layers
   pub count : length numbers ≡ length rows
   pub inside : All (λ n. n < count_of states layers) numbers
+  pub few : All (λ (layer : Layer). length layer.tails.items ≤ length rows) layers
   pub stand : (k : ℕ) (d : Expanded) → k < length rows → StandsFor layers order (slice_index_or rows k d) (slice_index numbers k)
 
 -- one more layer before those, by what was left of each row
 pub record IsLayerOf (place : Option ℕ) (rows : List Expanded) (rests : List ℕ) (layer : Layer) (numbers : List ℕ) : Type 0 where
   pub count : length numbers ≡ length rows
   pub inside : All (λ n. n < length layer.tails.items) numbers
+  pub few : length layer.tails.items ≤ length rows
   pub asks : (k : ℕ) (d : Expanded) → k < length rows → slice_index_or layer.sets.items (tail_at layer (slice_index numbers k)).set None ≡ asked_at place (slice_index_or rows k d).inputs
   pub leaves : (k : ℕ) → k < length rows → rest_at layer (slice_index numbers k) ≡ slice_index rests k
 

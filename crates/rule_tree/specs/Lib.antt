@@ -3,6 +3,7 @@ pub mod Laws
 pub mod Layers
 pub mod NamedRule
 pub mod NodesNeeded
+pub mod Numbering
 pub mod Rule
 pub mod RuleLaws
 pub mod Starts

@@ -2,6 +2,7 @@
 use Rattle.std.specs.Prelude.{◌≡◌, ℕ, ◌<◌, Bool, true, false, nat_eq, List, All, length, slice_index_or}
 use Rattle.std.specs.List.{list_any}
 use Rattle.rule_tree.specs.declared.layers.Layer.{Layer}
+use Rattle.rule_tree.specs.Layers.{IsLayer}
 use Rattle.rule_tree.specs.Translation.{LeftOf}
 
 -- whether a number is among these
@@ -16,4 +17,5 @@ pub record AreMarked (marks : List Bool) (found : List ℕ) : Type 0 where
 -- what was found of what tails leave, with its marks
 pub record IsFound (layer : Layer) (state : ℕ) (passed : List ℕ) (marks : List Bool) (found : List ℕ) : Type 0 where
   pub left : LeftOf layer state passed found
+  pub rests : (count : ℕ) → IsLayer layer count → All (λ n. n < count) found
   pub marked : AreMarked marks found

@@ -16,7 +16,9 @@
 mod descriptors;
 mod laws;
 mod layers;
+mod listed;
 mod nodes;
+mod numbering;
 mod numbers;
 mod rule;
 mod sharing;

@@ -1,8 +1,10 @@
-use Rattle.std.proofs.Common.{ℕ, Vec, Global, ◌≡◌, ◌∙◌, ◌+◌, ◌++◌, ◌∷◌, [], length, get_or, take, sym, ap, arith}
+use Rattle.std.proofs.Common.{◌≡◌, ◌∙◌, ◌+◌, ◌++◌, ◌∷◌, [], length, get_or, take, sym, ap, arith}
 use Rattle.std.proofs.lemmas.List.{length-append, map_more}
 use Rattle.rule_tree.specs.Kept.{nodes_in}
-use Rattle.rule_tree.specs.Translation.{entries_of}
+use Rattle.rule_tree.specs.declared.listed.Listed.{Listed}
+use Rattle.rule_tree.specs.Numbering.{entries_in}
 use Rattle.rule_tree.proofs.KeptNodes.{nodes_in-push}
+use Rattle.rule_tree.proofs.MadeNodes.{length-listed, listed-at}
 use Rattle.rule_tree.proofs.sharing.joined.Goals as goal
 
 pub loop-node-preserved : goal.loop-node-preserved
@@ -11,13 +13,13 @@ loop-node-preserved c =
     let old = c.loop-node.entries.items in
     let node = c.node-item.result in
     let read : get_or c.args.nodes.now i node ≡ node = sym c.node-item.is in
-    let width : length node.items ≡ c.args.states = ap (λ x. length x.items) (sym read) ∙ c.requires.width i node c.loop-node-test.true in
-    let more : c.extend_from_slice.new.self.items ≡ old ++ node.items = c.in_ok-extend_from_slice.ensures.items ∙ ap (λ xs. old ++ xs) c.deref.ensures.value in
-    let kept = entries_of (take i c.args.nodes.now) in
+    let width : length node.numbers.items ≡ c.args.states = sym (ap length (listed-at c.args.nodes.now i node c.loop-node-test.true ∙ ap (λ (x : Listed). x.numbers.items) read)) ∙ c.requires.width i [] (omega (arith, c.loop-node-test.true, length-listed c.args.nodes.now)) in
+    let more : c.extend_from_slice.new.self.items ≡ old ++ node.numbers.items = c.in_ok-extend_from_slice.ensures.items ∙ ap (λ xs. old ++ xs) c.deref.ensures.value in
+    let kept = entries_in (take i c.args.nodes.now) in
     record {
-      filled = ap length more ∙ length-append old node.items ∙ omega (arith, width, c.loop-node.invariant.filled);
+      filled = ap length more ∙ length-append old node.numbers.items ∙ omega (arith, width, c.loop-node.invariant.filled);
       nodes = ap (nodes_in c.args.states (i + 1)) more
-          ∙ nodes_in-push c.args.states i old node.items c.loop-node.invariant.filled width
-          ∙ ap (λ nodes. nodes ++ node.items ∷ []) c.loop-node.invariant.nodes
-          ∙ sym (map_more (λ x. x.items) c.args.nodes.now i node c.loop-node-test.true ∙ ap (λ (x : Vec ℕ Global). kept ++ x.items ∷ []) read);
+          ∙ nodes_in-push c.args.states i old node.numbers.items c.loop-node.invariant.filled width
+          ∙ ap (λ nodes. nodes ++ node.numbers.items ∷ []) c.loop-node.invariant.nodes
+          ∙ sym (map_more (λ (x : Listed). x.numbers.items) c.args.nodes.now i node c.loop-node-test.true ∙ ap (λ (x : Listed). kept ++ x.numbers.items ∷ []) read);
     }

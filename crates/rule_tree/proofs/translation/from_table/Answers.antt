@@ -6,7 +6,8 @@ use Rattle.table_symmetry.specs.NextState as table_rule
 use Rattle.table_symmetry.specs.Table.{Table}
 use Rattle.rule_tree.specs.NodesNeeded.{NeedsNodes}
 use Rattle.rule_tree.specs.Starts.{NeedStarts}
-use Rattle.rule_tree.specs.Translation.{DoesRows, entries_of, node_limit, order_of, rows_give}
+use Rattle.rule_tree.specs.Numbering.{entries_in}
+use Rattle.rule_tree.specs.Translation.{DoesRows, node_limit, order_of, rows_give}
 use Rattle.rule_tree.specs.Tree.{Entries, Tree}
 use Rattle.rule_tree.proofs.Apart.{passed-on}
 use Rattle.rule_tree.proofs.Beginnings.{needs-nodes}
@@ -17,13 +18,13 @@ pub finish-requires-clause-same : goal.finish-requires-clause-same
 finish-requires-clause-same c =
     let table = c.args.table.now in
     let rows = c.in_ok-rows.rows.items in
-    let nodes : List Entries = entries_of c.deref-2.result.now in
+    let nodes : List Entries = entries_in c.as_slice.result.now in
     let order : c.order_of-order.result.now ≡ order_of table.neighborhood = c.order_of-order.ensures ∙ ap order_of c.neighborhood.ensures in
     let does : DoesRows table.states (order_of table.neighborhood) rows nodes =
     subst (λ n. DoesRows n (order_of table.neighborhood) rows nodes) c.states.ensures.count
     (subst (λ (o : List (Option ℕ)). DoesRows c.states.result o rows nodes) order
     (subst (λ (rs : List Expanded). DoesRows c.states.result c.order_of-order.result.now rs nodes) c.deref.ensures.value
-    (subst (λ ns. DoesRows c.states.result c.order_of-order.result.now c.deref.result.now (entries_of ns)) (sym c.deref-2.ensures.value) c.in_ok-nodes.ensures.does))) in
+    (subst (λ ns. DoesRows c.states.result c.order_of-order.result.now c.deref.result.now (entries_in ns)) (sym c.as_slice.ensures.keys) c.in_ok-nodes.ensures.does))) in
     next-rows table rows nodes (omega (arith, c.states.ensures.count, c.states.ensures.at_least)) does c.in_ok-rows.ensures.full c.in_ok-rows.ensures.first
 
 -- what a table's rows need, in whatever form they are handed on, the table needs
@@ -38,9 +39,9 @@ pub returns-clause-smallest : goal.returns-clause-smallest
 returns-clause-smallest c =
     let table = c.args.table.now in
     let order : c.order_of-order.result.now ≡ order_of table.neighborhood = c.order_of-order.ensures ∙ ap order_of c.neighborhood.ensures in
-    let count = length c.in_ok-nodes.nodes.items in
+    let count = length c.in_ok-nodes.nodes.keys in
     let needs : NeedsNodes table count = table-needs table c.states.result c.order_of-order.result.now c.in_ok-rows.rows.items c.deref.result.now count (omega (arith, c.states.ensures.at_least)) c.states.ensures.count order c.deref.ensures.value c.in_ok-rows.ensures.full c.in_ok-rows.ensures.first c.in_ok-nodes.ensures.needed in
-    IfOk-weaker c.finish.result (λ (tree : Tree). length tree.nodes ≡ length c.deref-2.result.now) (λ (tree : Tree). NeedsNodes table (length tree.nodes)) (λ tree same. subst (NeedsNodes table) (ap length (sym c.deref-2.ensures.value) ∙ sym same) needs) c.finish.ensures.nodes
+    IfOk-weaker c.finish.result (λ (tree : Tree). length tree.nodes ≡ length c.as_slice.result.now) (λ (tree : Tree). NeedsNodes table (length tree.nodes)) (λ tree same. subst (NeedsNodes table) (ap length (sym c.as_slice.ensures.keys) ∙ sym same) needs) c.finish.ensures.nodes
 
 pub returns-in_err-nodes-clause-large : goal.returns-in_err-nodes-clause-large
 returns-in_err-nodes-clause-large c =

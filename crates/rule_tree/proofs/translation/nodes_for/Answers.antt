@@ -1,85 +1,72 @@
-use Rattle.std.proofs.Common.{ℕ, Option, Vec, Global, ◌≡◌, ◌<◌, ◌+◌, ◌-◌, ◌∷◌, ◌++◌, ◌∙◌, List, [], length, take, drop, slice_index, sym, ap, subst, arith}
-use Rattle.std.specs.Prelude.{All, slice_index_or}
+use Rattle.std.proofs.Common.{Option, ◌≡◌, ◌<◌, ◌≤◌, ◌+◌, ◌-◌, ◌∙◌, List, [], ℕ, All, length, refl, sym, ap, subst, arith, rules}
+use Rattle.std.proofs.lemmas.List.Elements.{All-nil}
 use Rattle.table_symmetry.specs.declared.expansion.Expanded.{Expanded}
 use Rattle.rule_tree.specs.declared.layers.Layer.{Layer}
-use Rattle.rule_tree.specs.Layers.{AreLayersOf, Fit, count_of}
-use Rattle.rule_tree.specs.Starts.{NeedStarts, lists_give}
-use Rattle.rule_tree.specs.Translation.{AllInside, Does, DoAll, entries_of, node_limit, outcome, rows_give}
+use Rattle.rule_tree.specs.declared.listed.Listed.{Listed}
+use Rattle.rule_tree.specs.Layers.{AreLayersOf}
+use Rattle.rule_tree.specs.Numbering.{AreFit, AreTailsAt, IsLeft, entries_in}
+use Rattle.rule_tree.specs.Starts.{NeedStarts}
+use Rattle.rule_tree.specs.Translation.{Does, node_limit, rows_give}
 use Rattle.rule_tree.proofs.Apart.{passed-on}
-use Rattle.rule_tree.proofs.Beginnings.{same-needed}
-use Rattle.rule_tree.proofs.NodeLists.{first-and-others, one-inside, length-entries}
+use Rattle.rule_tree.proofs.MadeNodes.{AreBegun-none, IsLeft-first, length-listed, nodes-needed, nodes-wide, tails-first}
 use Rattle.rule_tree.proofs.Translating.{DoesRows-root, rows-outcome}
 use Rattle.rule_tree.proofs.translation.nodes_for.Goals as goal
 
-pub unreachable-requires : goal.unreachable-requires
-unreachable-requires c =
+pub number_of-requires-clause-fit : goal.number_of-requires-clause-fit
+number_of-requires-clause-fit c =
     let are : AreLayersOf c.args.states c.args.order.now c.args.rows.now c.in_ok-layers.layers.items c.in_ok-layers.numbers.items = c.in_ok-layers.ensures.layers c.args.states c.requires.below in
-    let depth : length c.as_slice.result.now ≡ length c.args.order.now = ap length c.as_slice.ensures.value ∙ are.depth in
-    absurd (omega (arith, depth, c.requires.order, c.in_default.len_below))
+    let room : length c.args.rows.now ≡ length c.as_mut_slice.result.now = search (rules) in
+    subst (λ (ls : List Layer). AreFit c.args.states ls (length c.as_mut_slice.result.now)) (sym c.deref.ensures.value)
+    (subst (AreFit c.args.states c.in_ok-layers.layers.items) room (record { some = c.requires.some; at_most = c.requires.at_most; fit = are.fit; few = are.few }))
 
-pub number_lists-requires-clause-fit : goal.number_lists-requires-clause-fit
-number_lists-requires-clause-fit c =
-    let layers = c.as_slice.result.now in
+pub number_of-requires-clause-tails : goal.number_of-requires-clause-tails
+number_of-requires-clause-tails c =
     let are : AreLayersOf c.args.states c.args.order.now c.args.rows.now c.in_ok-layers.layers.items c.in_ok-layers.numbers.items = c.in_ok-layers.ensures.layers c.args.states c.requires.below in
-    let parts : layers ≡ c.layer-item.result ∷ take (length layers - 1) (drop 1 layers) = first-and-others layers c.layer-item.result c.in-len1-up.len_at_least ∙ ap (λ x. x ∷ take (length layers - 1) (drop 1 layers)) (sym c.layer-item.is) in
-    subst (Fit c.args.states) (sym c.as_slice.ensures.value ∙ parts) are.fit
+    subst (λ (ls : List Layer). AreTailsAt ls 0 c.deref-2.result.now) (sym c.deref.ensures.value)
+    (subst (AreTailsAt c.in_ok-layers.layers.items 0) (sym c.deref-2.ensures.value) (tails-first c.args.states c.in_ok-layers.layers.items c.in_ok-layers.numbers.items (omega (arith, are.depth, c.requires.order)) are.inside))
 
-pub number_lists-requires-clause-inside : goal.number_lists-requires-clause-inside
-number_lists-requires-clause-inside c =
-    let layers = c.as_slice.result.now in
-    let numbers = c.in_ok-layers.numbers in
-    let are : AreLayersOf c.args.states c.args.order.now c.args.rows.now c.in_ok-layers.layers.items numbers.items = c.in_ok-layers.ensures.layers c.args.states c.requires.below in
-    let parts : layers ≡ c.layer-item.result ∷ take (length layers - 1) (drop 1 layers) = first-and-others layers c.layer-item.result c.in-len1-up.len_at_least ∙ ap (λ x. x ∷ take (length layers - 1) (drop 1 layers)) (sym c.layer-item.is) in
-    let inside : All (λ n. n < length c.layer-item.result.tails.items) numbers.items = subst (λ (ls : List Layer). All (λ n. n < count_of c.args.states ls) numbers.items) (sym c.as_slice.ensures.value ∙ parts) are.inside in
-    let lists : c.deref.result.now ≡ numbers ∷ [] = c.deref.ensures.value ∙ c.in_ok-push.ensures.items ∙ ap (λ xs. xs ++ numbers ∷ []) c.new-lists.ensures.items in
-    subst (λ ls. AllInside (length c.layer-item.result.tails.items) (entries_of ls)) (sym lists) (one-inside (length c.layer-item.result.tails.items) numbers.items inside)
+-- the tails of all rows give what the rows give
+rows-left : (states : ℕ) (order : List (Option ℕ)) (rows : List Expanded) (layers slice : List Layer) (numbers list : List ℕ) → AreLayersOf states order rows layers numbers → slice ≡ layers → list ≡ numbers → IsLeft states slice (rows_give order rows) 0 list
+rows-left states order rows layers slice numbers list are same listed =
+    subst (λ (ls : List Layer). IsLeft states ls (rows_give order rows) 0 list) (sym same)
+    (subst (IsLeft states layers (rows_give order rows) 0) (sym listed)
+    (IsLeft-first states layers (rows_give order rows) numbers (λ rest long. sym (rows-outcome states order rows layers numbers rest are (long ∙ are.depth)))))
+
+pub returns-in_err-number_of-clause-large : goal.returns-in_err-number_of-clause-large
+returns-in_err-number_of-clause-large c =
+    let layers = c.in_ok-layers.layers.items in
+    let are : AreLayersOf c.args.states c.args.order.now c.args.rows.now layers c.in_ok-layers.numbers.items = c.in_ok-layers.ensures.layers c.args.states c.requires.below in
+    let give = rows_give c.args.order.now c.args.rows.now in
+    passed-on c.from_residual-in_err-number_of.result c.in_err-number_of.field-0.0 _ c.from_residual-in_err-number_of.ensures.1
+    (λ e. subst (λ depth. NeedStarts c.args.states depth (λ k inputs. give inputs) 1 (node_limit + 1)) (ap length c.deref.ensures.value ∙ are.depth)
+    (c.in_err-number_of.ensures.large e give (AreBegun-none c.args.states (length c.deref.result.now) give c.new-2.result.keys (search (rules)))
+    (rows-left c.args.states c.args.order.now c.args.rows.now layers c.deref.result.now c.in_ok-layers.numbers.items c.deref-2.result.now are c.deref.ensures.value c.deref-2.ensures.value)))
 
 pub returns-clause-does : goal.returns-clause-does
 returns-clause-does c =
-    let layers = c.as_slice.result.now in
-    let numbers = c.in_ok-layers.numbers in
-    let nodes = entries_of c.number_lists.new.nodes.items in
-    let are : AreLayersOf c.args.states c.args.order.now c.args.rows.now c.in_ok-layers.layers.items numbers.items = c.in_ok-layers.ensures.layers c.args.states c.requires.below in
-    let parts : layers ≡ c.layer-item.result ∷ take (length layers - 1) (drop 1 layers) = first-and-others layers c.layer-item.result c.in-len1-up.len_at_least ∙ ap (λ x. x ∷ take (length layers - 1) (drop 1 layers)) (sym c.layer-item.is) in
-    let lists : c.deref.result.now ≡ numbers ∷ [] = c.deref.ensures.value ∙ c.in_ok-push.ensures.items ∙ ap (λ xs. xs ++ numbers ∷ []) c.new-lists.ensures.items in
-    let ends = c.in_ok-number_lists.field-0.items in
-    let all : DoAll c.args.states c.in_ok-layers.layers.items nodes (numbers.items ∷ []) ends = subst (λ (ls : List Layer). DoAll c.args.states ls nodes (numbers.items ∷ []) ends) (sym parts ∙ c.as_slice.ensures.value) (subst (λ xs. DoAll c.args.states (c.layer-item.result ∷ take (length layers - 1) (drop 1 layers)) nodes (entries_of xs) ends) lists c.in_ok-number_lists.ensures.does) in
-    let root = c.in_ok-number_lists.ensures.last (ap length lists) in
-    let last : slice_index ends 0 ≡ length nodes - 1 = ap (λ ns. slice_index ns 0) root ∙ ap (λ n. n - 1) (sym (length-entries c.number_lists.new.nodes.items)) in
-    DoesRows-root c.args.states c.args.order.now c.args.rows.now c.in_ok-layers.layers.items numbers.items nodes are
-    (subst (Does c.args.states c.in_ok-layers.layers.items nodes numbers.items) last (all.each 0 (omega arith)))
+    let layers = c.in_ok-layers.layers.items in
+    let are : AreLayersOf c.args.states c.args.order.now c.args.rows.now layers c.in_ok-layers.numbers.items = c.in_ok-layers.ensures.layers c.args.states c.requires.below in
+    let keys : List Listed = c.number_of.new.found.nodes.keys in
+    let number = c.in_ok-number_of.ensures.number in
+    let none : c.new-2.result.keys ≡ [] = search (rules) in
+    let last : c.in_ok-number_of.field-0 + 1 ≡ length keys = c.in_ok-number_of.ensures.last (subst (All (λ (x : Listed). 0 < x.input)) (sym none) (All-nil (λ (x : Listed). 0 < x.input))) in
+    let root : c.in_ok-number_of.field-0 ≡ length (entries_in keys) - 1 = omega (arith, last, length-listed keys) in
+    DoesRows-root c.args.states c.args.order.now c.args.rows.now layers c.in_ok-layers.numbers.items (entries_in keys) are
+    (subst (Does c.args.states layers (entries_in keys) c.in_ok-layers.numbers.items) root
+    (subst (λ ls. Does c.args.states ls (entries_in keys) c.in_ok-layers.numbers.items c.in_ok-number_of.field-0) c.deref.ensures.value
+    (subst (λ xs. Does c.args.states c.deref.result.now (entries_in keys) xs c.in_ok-number_of.field-0) c.deref-2.ensures.value number.does)))
 
--- what the list of all rows' tails needs, the rows need
-rows-need : (states : ℕ) (order : List (Option ℕ)) (rows : List Expanded) (layers : List Layer) (numbers : Vec ℕ Global) (count : ℕ) → AreLayersOf states order rows layers numbers.items → NeedStarts states (length layers) (lists_give layers (numbers.items ∷ [])) 1 count → NeedStarts states (length order) (λ k inputs. rows_give order rows inputs) 1 count
-rows-need states order rows layers numbers count are needed =
-    let give : ℕ → List ℕ → ℕ = λ k inputs. rows_give order rows inputs in
-    subst (λ depth. NeedStarts states depth give 1 count) are.depth
-    (same-needed states (length layers) (lists_give layers (numbers.items ∷ [])) give 1 count (λ k inputs l long.
-    let first : k ≡ 0 = omega (arith, l) in
-    ap (λ n. outcome layers (slice_index_or (numbers.items ∷ []) n []) inputs) first ∙ rows-outcome states order rows layers numbers.items inputs are (long ∙ are.depth)) needed)
-
--- the same by the slices in which the layers and the lists are handed on
-slices-need : (states : ℕ) (order : List (Option ℕ)) (rows : List Expanded) (layers slice : List Layer) (numbers : Vec ℕ Global) (lists : List (Vec ℕ Global)) (count : ℕ) → AreLayersOf states order rows layers numbers.items → slice ≡ layers → lists ≡ numbers ∷ [] → NeedStarts states (length slice) (lists_give slice (entries_of lists)) (length (entries_of lists)) count → NeedStarts states (length order) (λ k inputs. rows_give order rows inputs) 1 count
-slices-need states order rows layers slice numbers lists count are same listed needed =
-    rows-need states order rows layers numbers count are
-    (subst (λ (ls : List Layer). NeedStarts states (length ls) (lists_give ls (numbers.items ∷ [])) 1 count) same
-    (subst (λ ls. NeedStarts states (length slice) (lists_give slice (entries_of ls)) (length (entries_of ls)) count) listed needed))
-
-pub returns-in_err-number_lists-clause-large : goal.returns-in_err-number_lists-clause-large
-returns-in_err-number_lists-clause-large c =
-    let slice = c.as_slice.result.now in
-    let numbers = c.in_ok-layers.numbers in
-    let others = take (length slice - 1) (drop 1 slice) in
-    let parts : slice ≡ c.layer-item.result ∷ others = first-and-others slice c.layer-item.result c.in-len1-up.len_at_least ∙ ap (λ x. x ∷ others) (sym c.layer-item.is) in
-    let lists : c.deref.result.now ≡ numbers ∷ [] = c.deref.ensures.value ∙ c.in_ok-push.ensures.items ∙ ap (λ xs. xs ++ numbers ∷ []) c.new-lists.ensures.items in
-    passed-on c.from_residual-in_err-number_lists.result c.in_err-number_lists.field-0.0 _ c.from_residual-in_err-number_lists.ensures.1
-    (λ is. slices-need c.args.states c.args.order.now c.args.rows.now c.in_ok-layers.layers.items (c.layer-item.result ∷ others) numbers c.deref.result.now (node_limit + 1) (c.in_ok-layers.ensures.layers c.args.states c.requires.below) (sym parts ∙ c.as_slice.ensures.value) lists (c.in_err-number_lists.ensures.large is))
+pub returns-clause-width : goal.returns-clause-width
+returns-clause-width c = nodes-wide c.args.states (length c.deref.result.now) c.number_of.new.found.nodes.keys c.in_ok-number_of.ensures.grows.known.nodes
 
 pub returns-clause-needed : goal.returns-clause-needed
 returns-clause-needed c =
-    let slice = c.as_slice.result.now in
-    let numbers = c.in_ok-layers.numbers in
-    let others = take (length slice - 1) (drop 1 slice) in
-    let parts : slice ≡ c.layer-item.result ∷ others = first-and-others slice c.layer-item.result c.in-len1-up.len_at_least ∙ ap (λ x. x ∷ others) (sym c.layer-item.is) in
-    let lists : c.deref.result.now ≡ numbers ∷ [] = c.deref.ensures.value ∙ c.in_ok-push.ensures.items ∙ ap (λ xs. xs ++ numbers ∷ []) c.new-lists.ensures.items in
-    slices-need c.args.states c.args.order.now c.args.rows.now c.in_ok-layers.layers.items (c.layer-item.result ∷ others) numbers c.deref.result.now (length c.number_lists.new.nodes.items) (c.in_ok-layers.ensures.layers c.args.states c.requires.below) (sym parts ∙ c.as_slice.ensures.value) lists c.in_ok-number_lists.ensures.needed
+    let layers = c.in_ok-layers.layers.items in
+    let are : AreLayersOf c.args.states c.args.order.now c.args.rows.now layers c.in_ok-layers.numbers.items = c.in_ok-layers.ensures.layers c.args.states c.requires.below in
+    let give = rows_give c.args.order.now c.args.rows.now in
+    let grows = c.in_ok-number_of.ensures.grows in
+    let keys : List Listed = c.number_of.new.found.nodes.keys in
+    subst (λ depth. NeedStarts c.args.states depth (λ k inputs. give inputs) 1 (length keys)) (ap length c.deref.ensures.value ∙ are.depth)
+    (nodes-needed c.args.states (length c.deref.result.now) give keys grows.known.nodes
+    (grows.begun give (AreBegun-none c.args.states (length c.deref.result.now) give c.new-2.result.keys (search (rules)))
+    (rows-left c.args.states c.args.order.now c.args.rows.now layers c.deref.result.now c.in_ok-layers.numbers.items c.deref-2.result.now are c.deref.ensures.value c.deref-2.ensures.value)))

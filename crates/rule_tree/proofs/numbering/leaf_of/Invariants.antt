@@ -2,7 +2,7 @@ use Rattle.std.proofs.Common.{◌≡◌, ℕ, ◌<◌, length, slice_index, unwr
 use Rattle.std.specs.Prelude.{if◌then◌else◌}
 use Rattle.rule_tree.specs.Layers.{lets, rest_at}
 use Rattle.rule_tree.specs.Translation.{first_some}
-use Rattle.rule_tree.proofs.translation.leaf_of.Given as goal
+use Rattle.rule_tree.proofs.numbering.leaf_of.Given as goal
 
 abbrev pub invariant-loop-state : goal.invariant-loop-state
 invariant-loop-state l = record {

@@ -1,7 +1,7 @@
 use Rattle.std.proofs.Common.{take, sym, subst}
 use Rattle.std.proofs.lemmas.List.{take_more}
 use Rattle.rule_tree.specs.TailsFound.{IsFound}
-use Rattle.rule_tree.proofs.translation.tails_left.Goals as goal
+use Rattle.rule_tree.proofs.numbering.tails_left.Goals as goal
 
 pub loop-number-preserved : goal.loop-number-preserved
 loop-number-preserved c =

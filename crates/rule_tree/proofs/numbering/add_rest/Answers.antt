@@ -5,7 +5,7 @@ use Rattle.rule_tree.specs.declared.layers.Tail.{Tail}
 use Rattle.rule_tree.specs.Layers.{IsLayer, rest_at}
 use Rattle.rule_tree.specs.TailsFound.{IsFound}
 use Rattle.rule_tree.proofs.TailsLeft.{found-again, found-more, found-passed, found-same}
-use Rattle.rule_tree.proofs.translation.add_rest.Goals as goal
+use Rattle.rule_tree.proofs.numbering.add_rest.Goals as goal
 
 pub returns-then-is_there-rest : goal.returns-then-is_there-rest
 returns-then-is_there-rest c = λ passed known.
@@ -29,4 +29,4 @@ returns c = λ passed known.
     found-same (set marks (rest_at layer c.args.number) true) (set marks c.index.result.now.rest true) (found ++ rest_at layer c.args.number ∷ []) c.push.new.self.items
     (ap (λ n. set marks n true) read)
     (c.in_ok-push.ensures.items ∙ ap (λ n. found ++ n ∷ []) read)
-    (found-more layer c.args.state passed marks found known c.args.number (sym c.if-not-lets.ensures) low)
+    (found-more layer c.args.state passed marks found known c.args.number c.requires.inside (sym c.if-not-lets.ensures) low)
