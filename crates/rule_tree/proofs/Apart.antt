@@ -1,14 +1,7 @@
--- Starts that need nodes of their own, from the last input to the first.
-use Rattle.std.proofs.Common.{◌≡◌, ◌≢◌, ◌⊎◌, inl, inr, ℕ, zero, suc, ◌+◌, ◌-◌, ◌<◌, ◌≤◌, List, [], ◌∷◌, ◌++◌, All, length, map, slice_index, slice_index_or, refl, sym, ap, subst, ◌∙◌, arith}
-use Rattle.std.proofs.lemmas.Bool.{cases_eq, cases_lt}
-use Rattle.std.proofs.lemmas.List.{get_or_append_left, get_or-append-add, get_or-map, length-append, length-map}
-use Rattle.std.proofs.lemmas.List.Elements.{All-cons, All-nil}
+-- Lists that differ at a place, and faults that are passed on.
+use Rattle.std.proofs.Common.{◌≡◌, ◌≢◌, ◌⊎◌, inl, inr, ℕ, suc, ◌<◌, List, [], ◌∷◌, length, slice_index, refl, sym, ap, subst, ◌∙◌, arith}
+use Rattle.std.proofs.lemmas.Bool.{cases_eq}
 use Rattle.std.specs.Prelude.{Result, Ok, Err, IfErr, IsErrAnd}
-use Rattle.rule_tree.specs.declared.layers.Layer.{Layer}
-use Rattle.rule_tree.specs.Starts.{AreReached, AreShared, AreToldApart, HasDifferent, IsReached, IsStart, NeedStarts, Start, StartsApart, StartsDiffer, lists_give, start_at}
-use Rattle.rule_tree.specs.Translation.{AreAllEdges, AreLeaves}
-use Rattle.rule_tree.specs.Tree.{Entries}
-use Rattle.rule_tree.proofs.Doing.{outcome-left}
 
 -- where two lists have different elements
 pub record DifferAt (xs ys : List ℕ) : Type 0 where

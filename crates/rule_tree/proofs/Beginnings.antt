@@ -16,28 +16,6 @@ use Rattle.rule_tree.specs.Tree.{inputs_of, places_of}
 use Rattle.rule_tree.specs.TreeLaws.{state-below}
 use Rattle.rule_tree.proofs.Translating.{places-many, rows-next}
 
--- functions that give the same need the same starts
-pub same-needed : (states depth : ℕ) (give other : ℕ → List ℕ → ℕ) (functions count : ℕ) → ((k : ℕ) (inputs : List ℕ) → k < functions → length inputs ≡ depth → give k inputs ≡ other k inputs) → NeedStarts states depth give functions count → NeedStarts states depth other functions count
-same-needed states depth give other functions count same needed = record {
-  starts = needed.starts;
-  many = needed.many;
-  are = needed.are;
-  apart = λ i j less l. by i j (omega (arith, less, l)) l (needed.apart i j less l);
-}
-  where
-    by : (i j : ℕ) → i < count → j < count → StartsApart states depth give (start_at needed.starts i) (start_at needed.starts j) → StartsApart states depth other (start_at needed.starts i) (start_at needed.starts j)
-    by i j li lj (inl longer) = inl longer
-    by i j li lj (inr differ) =
-        let one = start_at needed.starts i in
-        let two = start_at needed.starts j in
-        inr (record {
-          rest = differ.rest;
-          below = differ.below;
-          long = differ.long;
-          other_long = differ.other_long;
-          differ = λ e. differ.differ (same one.number (one.inputs ++ differ.rest) (needed.are i li).there differ.long ∙ e ∙ sym (same two.number (two.inputs ++ differ.rest) (needed.are j lj).there differ.other_long));
-        })
-
 -- states at and around a cell, of which these are a tree's inputs
 abbrev around_of : Neighbors → List ℕ → List ℕ
 around_of Four inputs = slice_index inputs 4 ∷ slice_index inputs 0 ∷ 0 ∷ slice_index inputs 2 ∷ 0 ∷ slice_index inputs 3 ∷ 0 ∷ slice_index inputs 1 ∷ 0 ∷ []

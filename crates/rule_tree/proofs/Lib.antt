@@ -13,6 +13,5 @@ mod NodeLists
 mod NodesHad
 mod Pieces
 mod SaidNodes
-mod SharedNodes
 mod TailsLeft
 mod Translating

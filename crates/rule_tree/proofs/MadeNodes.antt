@@ -1,5 +1,5 @@
 -- Lists of tails and the nodes that do what they do.
-use Rattle.std.proofs.Common.{◌≡◌, ◌≢◌, ◌∙◌, ◌⊎◌, inl, inr, ℕ, zero, suc, ◌+◌, ◌-◌, ◌<◌, ◌≤◌, ◌==◌, Bool, true, false, cond, true≢false, nat_lt, List, [], ◌∷◌, ◌++◌, All, Vec, Global, Option, None, Some, length, map, drop, slice_index, slice_index_or, append-nil, append_assoc, below_more, if◌then◌else◌, refl, sym, ap, subst, arith}
+use Rattle.std.proofs.Common.{◌≡◌, ◌≢◌, ◌∙◌, ◌⊎◌, inl, inr, ℕ, zero, suc, ◌+◌, ◌-◌, ◌<◌, ◌≤◌, ◌==◌, ◌||◌, not, Bool, true, false, cond, true≢false, nat_lt, List, [], ◌∷◌, ◌++◌, All, Some, length, drop, slice_index, slice_index_or, append-nil, append_assoc, below_more, if◌then◌else◌, refl, sym, ap, subst, arith}
 use Rattle.std.specs.List.{IsDistinct, list_all, list_any, position_or_len, slice_get}
 use Rattle.std.specs.Str.{bytes_eq}
 use Rattle.std.specs.HashMap.{get}
@@ -16,13 +16,12 @@ use Rattle.rule_tree.specs.declared.layers.Tail.{Tail}
 use Rattle.rule_tree.specs.declared.listed.Listed.{Listed}
 use Rattle.rule_tree.specs.declared.numbering.Found.{Found}
 use Rattle.rule_tree.specs.Layers.{Fit, IsGrownBy, IsLayer, count_of}
-use Rattle.rule_tree.specs.Numbering.{AreBegun, AreEntries, AreFit, AreNodes, AreTailsAt, Grows, IsBegun, IsEntry, IsFull, IsLeft, IsNode, IsNumberOf, IsStored, Knows, NeedsTooMany, entries_in, input_at, inputs_in, same_listed}
-use Rattle.rule_tree.specs.Starts.{IsStart, NeedStarts, Start, StartsApart, start_at}
-use Rattle.rule_tree.specs.Translation.{AreLeaves, Does, LeftOf, node_limit, outcome}
-use Rattle.rule_tree.specs.Tree.{Entries, follow, leads, node_at}
+use Rattle.rule_tree.specs.Numbering.{AreBegun, AreEntries, AreFit, AreNodes, AreTailsAt, Grows, IsBegun, IsEntry, IsFull, IsLeft, IsNode, IsNumberOf, IsStored, NeedsTooMany, entries_in, input_at, inputs_in, same_listed}
+use Rattle.rule_tree.specs.Starts.{NeedStarts, Start, StartsApart, start_at}
+use Rattle.rule_tree.specs.Translation.{Does, LeftOf, node_limit, outcome}
+use Rattle.rule_tree.specs.Tree.{Entries, follow, node_at}
 use Rattle.rule_tree.proofs.Apart.{DifferAt, different-at}
 use Rattle.rule_tree.proofs.NodeLists.{other_default}
-use Rattle.rule_tree.proofs.SharedNodes.{position-none}
 use Rattle.rule_tree.proofs.Doing.{Does-append, Does-branch, Does-leaf, outcome-left}
 
 -- nodes that differ in their numbers differ in their inputs or entries
@@ -305,16 +304,6 @@ number-made states layers nodes node input list number fit tails same are stored
   does = does-made states layers nodes input list node.numbers.items number fit tails are stored.entries;
 }
 
--- nothing came
-pub Grows-none : (states : ℕ) (layers : List Layer) (input from : ℕ) (list : List ℕ) (found : Found) → Knows states layers found → Grows states layers input from list found found
-Grows-none states layers input from list found known = record {
-  known = known;
-  more = [];
-  joined = sym (append-nil found.nodes.keys);
-  late = All-nil (λ (node : Listed). from ≤ node.input);
-  begun = λ give begun left. begun;
-}
-
 -- behind a state a list of tails is left
 IsLeft-behind : (states : ℕ) (layers : List Layer) (give : List ℕ → ℕ) (input : ℕ) (list left : List ℕ) (s : ℕ) → input + 1 < length layers → s < states → ((d : Layer) → LeftOf (slice_index_or layers input d) s list left) → IsLeft states layers give input list → IsLeft states layers give (input + 1) left
 IsLeft-behind states layers give input list left s more under is before = record {
@@ -497,6 +486,17 @@ stored-listed keys number node key at same =
       input = get_or-map (λ (n : Listed). n.input) keys number key 0 inside ∙ ap (λ (n : Listed). n.input) is ∙ sym (eqb-true node.input key.input parts.0);
       entries = get_or-map (λ (n : Listed). n.numbers.items) keys number key [] inside ∙ ap (λ (n : Listed). n.numbers.items) is ∙ sym ((bytes_eq-Decides node.numbers.items key.numbers.items).0 parts.1);
     }
+
+-- where no element passes a test, the place of the first that does is behind them all
+position-none : {X : Type 0} (p : X → Bool) (xs : List X) → list_any p xs ≡ false → position_or_len p xs ≡ length xs
+position-none p [] none = refl
+position-none p (x ∷ xs) none = by (p x) refl (λ e. position-none p xs (sym (ap (λ b. b || list_any p xs) e) ∙ none))
+  where
+    by : (b : Bool) → p x ≡ b → (p x ≡ false → position_or_len p xs ≡ length xs) → position_or_len p (x ∷ xs) ≡ length (x ∷ xs)
+    by true e rest = absurd (true≢false (sym (ap (λ b. b || list_any p xs) e) ∙ none))
+    by false e rest =
+        let some : 1 + position_or_len p xs ≡ suc (length xs) = omega (arith, rest e) in
+        ap (λ b. cond (not b) (1 + position_or_len p xs) 0) e ∙ some
 
 -- a node whose number is in the limit leaves them in the limit
 pub few-inserted : (keys keys' : List Listed) (node : Listed) (index : ℕ) → keys' ≡ insert_key same_listed keys node → index ≡ position_or_len (same_listed node) keys → length keys ≤ node_limit → index < node_limit → length keys' ≤ node_limit

@@ -1,6 +1,5 @@
 -- What tails leave behind an input, and the marks of what was found of it.
 use Rattle.std.proofs.Common.{◌≡◌, ◌≢◌, ◌∙◌, ◌⊎◌, inl, inr, ℕ, ◌<◌, Bool, true, false, ◌||◌, true≢false, nat_eq, List, [], ◌∷◌, ◌++◌, All, Option, None, Some, length, set, slice_index_or, refl, sym, ap, subst, if◌then◌else◌, arith}
-use Rattle.std.specs.List.{list_any}
 use Rattle.std.specs.Option.{option_or}
 use Rattle.std.proofs.lemmas.Bool.{eqb-true}
 use Rattle.std.proofs.lemmas.Bool.Decides.{eqb_tells}
@@ -10,7 +9,7 @@ use Rattle.std.proofs.lemmas.List.Folds.{list_any-append}
 use Rattle.rule_tree.specs.declared.layers.Layer.{Layer}
 use Rattle.rule_tree.specs.Layers.{lets, rest_at}
 use Rattle.rule_tree.specs.TailsFound.{AreMarked, IsFound, is_in}
-use Rattle.rule_tree.specs.Translation.{LeftOf, first_some}
+use Rattle.rule_tree.specs.Translation.{first_some}
 
 option_or-none : (a : Option ℕ) → option_or a None ≡ a
 option_or-none None = refl

@@ -1,6 +1,6 @@
 -- A tree that does what a table does.
-use Rattle.std.specs.Prelude.{◌≡◌, ℕ, ◌-◌, ◌<◌, Bool, All, List, [], ◌∷◌, ◌++◌, length, map, nat_lt, slice_index, slice_index_or, Option, None, Some, Vec, true, if◌then◌else◌, unwrap_or}
-use Rattle.std.specs.List.{AllPass, list_all}
+use Rattle.std.specs.Prelude.{◌≡◌, ℕ, ◌-◌, ◌<◌, All, List, [], ◌∷◌, length, nat_lt, slice_index, Option, None, Some, true, if◌then◌else◌, unwrap_or}
+use Rattle.std.specs.List.{list_all}
 use Rattle.std.specs.Option.{option_or}
 use Rattle.table_symmetry.specs.declared.expansion.Expanded.{Expanded}
 use Rattle.table_symmetry.specs.declared.table.Neighborhood.{Neighborhood}
@@ -55,28 +55,10 @@ outcome layers list inputs = unwrap_or (first_some (λ number. result_of layers 
 abbrev pub LeftOf : Layer → ℕ → List ℕ → List ℕ → Type 0
 LeftOf layer state list left = (f : ℕ → Option ℕ) → first_some f left ≡ first_some (λ number. if lets layer number state then f (rest_at layer number) else None) list
 
--- the entries of nodes, each in a `Vec`
-abbrev pub entries_of : {A : Type 0} → List (Vec ℕ A) → List Entries
-entries_of nodes = map (λ node. node.items) nodes
-
--- more came behind what was there
-pub record Extends (old new : List Entries) : Type 0 where
-  pub more : List Entries
-  pub joined : new ≡ old ++ more
-
--- whatever test all of the latter nodes pass, all of the former do
-pub record AreAmong (nodes wanted : List Entries) : Type 0 where
-  pub pass : (p : Entries → Bool) → AllPass p wanted → AllPass p nodes
-
 -- a node that does what a list of tails does
 pub record Does (states : ℕ) (layers : List Layer) (nodes : List Entries) (list : List ℕ) (number : ℕ) : Type 0 where
   pub leading : (inputs : List ℕ) → length inputs ≡ length layers → leads states nodes number inputs ≡ true
   pub follows : (inputs : List ℕ) → length inputs ≡ length layers → list_all (λ s. nat_lt s states) inputs ≡ true → follow nodes number inputs ≡ outcome layers list inputs
-
--- nodes that do what lists do, one each
-pub record DoAll (states : ℕ) (layers : List Layer) (nodes : List Entries) (lists : List (List ℕ)) (numbers : List ℕ) : Type 0 where
-  pub count : length numbers ≡ length lists
-  pub each : (k : ℕ) → k < length lists → Does states layers nodes (slice_index_or lists k []) (slice_index numbers k)
 
 -- what rows do, whose inputs are asked in this order: the first that allows the inputs gives its result, else the cell keeps its state, which is the last input
 abbrev pub rows_give : List (Option ℕ) → List Expanded → List ℕ → ℕ
@@ -91,17 +73,6 @@ pub record DoesRows (states : ℕ) (order : List (Option ℕ)) (rows : List Expa
 pub record AreLeaves (states : ℕ) (layer : Layer) (list leaf : List ℕ) : Type 0 where
   pub width : length leaf ≡ states
   pub each : (s : ℕ) → s < states → slice_index leaf s ≡ unwrap_or (first_some (λ number. if lets layer number s then Some (rest_at layer number) else None) list) s
-
--- for each state of an input which of the lists that are left it is
-pub record AreEdges (states : ℕ) (layer : Layer) (list : List ℕ) (left : List (List ℕ)) (edges : List ℕ) : Type 0 where
-  pub width : length edges ≡ states
-  pub inside : (s : ℕ) → s < states → slice_index edges s < length left
-  pub each : (s : ℕ) → s < states → LeftOf layer s list (slice_index_or left (slice_index edges s) [])
-
--- the same of each list
-pub record AreAllEdges (states : ℕ) (layer : Layer) (lists left edges : List (List ℕ)) : Type 0 where
-  pub count : length edges ≡ length lists
-  pub each : (k : ℕ) → k < length lists → AreEdges states layer (slice_index_or lists k []) left (slice_index_or edges k [])
 
 -- lists of numbers below a count
 abbrev pub AllInside : ℕ → List (List ℕ) → Type 0

@@ -101,6 +101,8 @@ fn missing_descriptors(rt: HostRuntime) {
             "num_states=2\nnum_nodes=5\n1 0 1",
             "num_nodes=5\nnum_neighbors=4\n1 0 1",
             "num_neighbors=4\n\nnum_neighbors=8",
+            // 4 GB of nodes that aren't there.
+            "num_states=256\nnum_neighbors=8\nnum_nodes=4194304",
         ],
     );
 }

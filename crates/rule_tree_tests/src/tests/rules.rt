@@ -66,6 +66,7 @@ fn expect_between(rt: &impl Abort, rule: &Rule, centre: u8, west: u8, east: u8, 
 fn expect_rule_x(rt: &impl Abort, alloc: Global, text: &[u8]) {
     let rule = rule_of(rt, alloc, text);
     expect_name(rt, &rule, b"X", 2);
+    same(rt, &rule.tree().is_some(), &true, &"a tree");
     expect_between(rt, &rule, 0, 0, 0, 0);
     expect_between(rt, &rule, 0, 0, 1, 1);
     expect_between(rt, &rule, 0, 1, 0, 1);
@@ -214,6 +215,7 @@ fn still_rules(rt: HostRuntime) {
 fn trees_are_rules(rt: HostRuntime) {
     let rule = rule_of(&rt, rt.alloc(), W);
     expect_name(&rt, &rule, b"W", 2);
+    same(&rt, &rule.tree().is_some(), &true, &"a tree");
     expect_between(&rt, &rule, 0, 0, 1, 0);
     expect_between(&rt, &rule, 0, 1, 0, 1);
     expect_between(&rt, &rule, 1, 0, 0, 0);

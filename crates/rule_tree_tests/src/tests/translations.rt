@@ -206,8 +206,7 @@ fn expect_tree(rt: &impl Abort, alloc: Global, lines: &str, wanted: &str) {
     same(rt, &said.as_str(), &wanted, &lines);
 }
 
-// The nodes stand from the cell's own up to the root, at each input in the order in which states
-// lead to them.
+// The nodes stand in the order in which states lead to them, each behind those to which it leads.
 #[test]
 fn nodes_are_shared(rt: HostRuntime) {
     let alloc = rt.alloc();
@@ -223,29 +222,29 @@ fn nodes_are_shared(rt: HostRuntime) {
         alloc,
         LONE,
         "TreeRule { states: 2, neighbors: Four, root: 10, entries: [0, 1, 1, 1, \
-        0, 1, 1, 0, 0, 0, 2, 3, 3, 4, 4, 4, 5, 6, 6, 7, 8, 9] }",
+        0, 1, 1, 0, 2, 3, 0, 0, 3, 5, 4, 6, 5, 5, 6, 8, 7, 9] }",
     );
     expect_tree(
         &rt,
         alloc,
         SOUTH_WEST,
-        "TreeRule { states: 2, neighbors: Eight, root: 16, entries: [0, 1, 1, 1, \
-        0, 0, 1, 0, 2, 2, 3, 2, 4, 4, 5, 4, 6, 6, 7, 6, 8, 8, 9, 8, \
-        10, 11, 10, 10, 12, 13, 13, 13, 14, 15] }",
+        "TreeRule { states: 2, neighbors: Eight, root: 16, entries: [0, 1, 0, 0, \
+        1, 1, 2, 2, 3, 3, 4, 4, 1, 1, 6, 0, 7, 1, 8, 2, 9, 3, 10, 4, \
+        5, 11, 5, 5, 12, 13, 13, 13, 14, 15] }",
     );
     expect_tree(
         &rt,
         alloc,
         ONE_OF_TWO,
-        "TreeRule { states: 2, neighbors: Four, root: 7, entries: [0, 0, 1, 1, \
-        0, 0, 1, 1, 2, 3, 3, 2, 4, 5, 6, 6] }",
+        "TreeRule { states: 2, neighbors: Four, root: 7, entries: [0, 0, 0, 0, \
+        1, 1, 2, 2, 1, 3, 3, 1, 4, 5, 6, 6] }",
     );
     expect_tree(
         &rt,
         alloc,
         NEEDLESS,
-        "TreeRule { states: 2, neighbors: Four, root: 7, entries: [0, 1, 1, 1, \
-        0, 0, 1, 1, 2, 3, 3, 2, 4, 5, 6, 6] }",
+        "TreeRule { states: 2, neighbors: Four, root: 7, entries: [0, 1, 0, 0, \
+        1, 1, 2, 2, 1, 3, 3, 1, 4, 5, 6, 6] }",
     );
 }
 
@@ -337,6 +336,12 @@ fn trees_of_a_million_nodes_are_too_large(rt: HostRuntime) {
     expect_too_large(&rt, rt.alloc(), 32);
 }
 
+// With 64 states more than a million of them are left soon.
+#[test]
+fn trees_of_more_nodes_are_too_large_as_soon(rt: HostRuntime) {
+    expect_too_large(&rt, rt.alloc(), 64);
+}
+
 // The nine states are C, N, NE, E, SE, S, SW, W, NW.
 #[test]
 fn rules_keep_tables_whose_trees_are_too_large(rt: HostRuntime) {
@@ -345,6 +350,7 @@ fn rules_keep_tables_whose_trees_are_too_large(rt: HostRuntime) {
     let text = file_of(&rt, alloc, &lines);
     let rule = Rule::read(alloc, text.as_bytes()).expect(&rt, "a rule");
     same(&rt, &rule.states(), &32, &"states");
+    same(&rt, &rule.tree().is_some(), &false, &"a tree");
     expect_next(&rt, &rule, [0, 0, 0, 0, 0, 31, 0, 0, 31], 1);
     expect_next(&rt, &rule, [0, 0, 0, 0, 0, 31, 0, 0, 30], 0);
     expect_next(&rt, &rule, [0, 9, 1, 2, 9, 3, 4, 5, 6], 1);

@@ -1,5 +1,5 @@
-use Rattle.std.proofs.Common.{◌≡◌, ◌<◌, ◌+◌, ◌∷◌, ◌++◌, ◌∙◌, [], List, ℕ, Option, Some, None, length, slice_index, slice_index_or, refl, sym, ap, subst, arith, rules}
-use Rattle.std.specs.Prelude.{All, IfSome}
+use Rattle.std.proofs.Common.{◌≡◌, ◌<◌, ◌+◌, ◌∙◌, List, ℕ, Some, length, slice_index, slice_index_or, refl, sym, subst, arith, rules}
+use Rattle.std.specs.Prelude.{All}
 use Rattle.std.specs.HashMap.{get}
 use Rattle.rule_tree.specs.declared.layers.Layer.{Layer}
 use Rattle.rule_tree.specs.declared.listed.Listed.{Listed}

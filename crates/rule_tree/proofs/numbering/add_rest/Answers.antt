@@ -1,9 +1,7 @@
-use Rattle.std.proofs.Common.{◌≡◌, ◌∙◌, ◌∷◌, ◌++◌, ◌<◌, [], ℕ, List, Bool, length, set, ap, sym, subst, true, false, slice_index_or, arith}
+use Rattle.std.proofs.Common.{◌≡◌, ◌∙◌, ◌∷◌, ◌++◌, ◌<◌, [], length, set, ap, sym, true, false, slice_index_or, arith}
 use Rattle.std.proofs.lemmas.List.{get_or_read}
-use Rattle.rule_tree.specs.declared.layers.Layer.{Layer}
 use Rattle.rule_tree.specs.declared.layers.Tail.{Tail}
-use Rattle.rule_tree.specs.Layers.{IsLayer, rest_at}
-use Rattle.rule_tree.specs.TailsFound.{IsFound}
+use Rattle.rule_tree.specs.Layers.{rest_at}
 use Rattle.rule_tree.proofs.TailsLeft.{found-again, found-more, found-passed, found-same}
 use Rattle.rule_tree.proofs.numbering.add_rest.Goals as goal
 
