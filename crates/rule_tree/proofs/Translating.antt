@@ -5,8 +5,8 @@ use Rattle.std.specs.Option.{option_map, option_or}
 use Rattle.std.proofs.lemmas.Bool.{and_from, eq-eqb}
 use Rattle.plane_core.specs.Step.{nine_zeros}
 use Rattle.table_symmetry.specs.declared.expansion.Expanded.{Expanded}
-use Rattle.table_symmetry.specs.declared.table.Neighborhood.{Neighborhood}
-use Rattle.table_symmetry.specs.declared.table.Neighborhood.TheVariants.{VonNeumann, Moore, Hexagonal, OneDimensional}
+use Rattle.table_lines.specs.declared.neighborhood.Neighborhood.{Neighborhood}
+use Rattle.table_lines.specs.declared.neighborhood.Neighborhood.TheVariants.{VonNeumann, Moore, Hexagonal, OneDimensional}
 use Rattle.table_symmetry.specs.Expanded.{all_have, first_match}
 use Rattle.table_symmetry.specs.NextState as table_rule
 use Rattle.table_symmetry.specs.States.{has}

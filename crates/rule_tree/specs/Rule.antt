@@ -4,7 +4,7 @@ use Rattle.std.proofs.Common.{refl}
 use Rattle.rule_file.specs.declared.fault.RuleFault.{RuleFault}
 use Rattle.rule_file.specs.declared.text.SectionKind.{SectionKind}
 use Rattle.rule_file.specs.declared.text.SectionKind.TheVariants as section
-use Rattle.text_lines.specs.Results.{◌>>=◌}
+use Rattle.basics.specs.Results.{◌>>=◌}
 use Rattle.rule_file.specs.RuleFile.{Section, file_of}
 use Rattle.table_symmetry.specs.NextState as table
 use Rattle.table_symmetry.specs.Rule as table_rule

@@ -3,8 +3,8 @@ use Rattle.std.specs.Prelude.{◌≡◌, ℕ, ◌-◌, ◌<◌, All, List, [], �
 use Rattle.std.specs.List.{list_all}
 use Rattle.std.specs.Option.{option_or}
 use Rattle.table_symmetry.specs.declared.expansion.Expanded.{Expanded}
-use Rattle.table_symmetry.specs.declared.table.Neighborhood.{Neighborhood}
-use Rattle.table_symmetry.specs.declared.table.Neighborhood.TheVariants.{VonNeumann, Moore, Hexagonal, OneDimensional}
+use Rattle.table_lines.specs.declared.neighborhood.Neighborhood.{Neighborhood}
+use Rattle.table_lines.specs.declared.neighborhood.Neighborhood.TheVariants.{VonNeumann, Moore, Hexagonal, OneDimensional}
 use Rattle.table_symmetry.specs.NextState as table_rule
 use Rattle.table_symmetry.specs.Table.{Table}
 use Rattle.rule_tree.specs.declared.layers.Layer.{Layer}

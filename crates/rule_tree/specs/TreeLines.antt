@@ -7,7 +7,7 @@ use Rattle.text_lines.specs.Blanks.{is_blank, trim_start, trim_end}
 use Rattle.text_lines.specs.Numbers.{number_of}
 use Rattle.rule_file.specs.declared.fault.RuleFault.{RuleFault}
 use Rattle.rule_file.specs.declared.fault.RuleFault.TheVariants.{BadTree, NotQuiescent}
-use Rattle.text_lines.specs.Results.{◌>>=◌}
+use Rattle.basics.specs.Results.{◌>>=◌}
 use Rattle.rule_file.specs.RuleFile.{NumberedLine, Section}
 use Rattle.rule_tree.specs.declared.tree.Neighbors.{Neighbors}
 use Rattle.rule_tree.specs.declared.tree.Neighbors.TheVariants.{Four, Eight}

@@ -1,7 +1,7 @@
 //! The descriptors of a tree: how many states, neighbours and nodes.
 ghost use Rattle.std.specs.Prelude.{◌≡◌, IfOk, IfSome};
 ghost use Rattle.std.specs.Option.{option_map};
-ghost use Rattle.text_lines.specs.Results.{Reads};
+ghost use Rattle.basics.specs.Results.{Reads};
 ghost use Rattle.rule_tree.specs.Kept.{IsTreeHead};
 ghost use Rattle.rule_tree.specs.TreeLines.{describe, descriptor_named, descriptor_of, head_from, head_of, neighbors_in, node_count_in, states_in, undescribed};
 

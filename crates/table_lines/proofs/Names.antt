@@ -10,7 +10,7 @@ use Rattle.std.proofs.lemmas.Cmp.{nat_list_eq_equiv}
 use Rattle.indexmap.specs.IndexMap.{insert_entry}
 use Rattle.rule_file.specs.declared.fault.RuleFault.{RuleFault}
 use Rattle.rule_file.specs.declared.fault.RuleFault.TheVariants.{BadVariable, StateTooHigh}
-use Rattle.text_lines.specs.Results.{◌>>=◌}
+use Rattle.basics.specs.Results.{◌>>=◌}
 use Rattle.rule_file.specs.RuleFile.{NumberedLine}
 use Rattle.table_lines.specs.declared.descriptors.Head.{Head}
 use Rattle.table_lines.specs.declared.transition.Variable.{Variable}

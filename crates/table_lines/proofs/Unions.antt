@@ -8,7 +8,7 @@ use Rattle.std.proofs.lemmas.Bool.{and_parts, eqb-true}
 use Rattle.text_lines.specs.Numbers.{number_of}
 use Rattle.rule_file.specs.declared.fault.RuleFault.{RuleFault}
 use Rattle.rule_file.specs.declared.fault.RuleFault.TheVariants.{StateTooHigh}
-use Rattle.text_lines.specs.Results.{◌>>=◌}
+use Rattle.basics.specs.Results.{◌>>=◌}
 use Rattle.table_lines.specs.declared.transition.Variable.{Variable}
 use Rattle.table_lines.specs.Below.{all_below, variables_below}
 use Rattle.table_lines.specs.Definitions.{member_set, set_of, states_or_fault, union, unless_too_high}

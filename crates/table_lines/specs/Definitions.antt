@@ -4,7 +4,7 @@ use Rattle.std.specs.List.{list_any}
 use Rattle.std.specs.Option.{ok_or}
 use Rattle.rule_file.specs.declared.fault.RuleFault.{RuleFault}
 use Rattle.rule_file.specs.declared.fault.RuleFault.TheVariants.{BadVariable, NoMemory, StateTooHigh}
-use Rattle.text_lines.specs.Results.{◌>>=◌}
+use Rattle.basics.specs.Results.{◌>>=◌}
 use Rattle.table_lines.specs.Below.{all_below}
 use Rattle.table_lines.specs.States.{has, rising}
 use Rattle.table_lines.specs.Variables.{Variables, are_below, each, member_states, variable_named}

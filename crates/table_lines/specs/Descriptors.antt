@@ -7,7 +7,7 @@ use Rattle.text_lines.specs.Blanks.{trim_start, trim_end}
 use Rattle.text_lines.specs.Numbers.{number_of}
 use Rattle.rule_file.specs.declared.fault.RuleFault.{RuleFault}
 use Rattle.rule_file.specs.declared.fault.RuleFault.TheVariants.{MissingDescriptor, BadStates, BadNeighborhood, BadSymmetry, BadTransition}
-use Rattle.text_lines.specs.Results.{◌>>=◌}
+use Rattle.basics.specs.Results.{◌>>=◌}
 use Rattle.rule_file.specs.RuleFile.{NumberedLine}
 use Rattle.table_lines.specs.declared.descriptors.Head.{Head}
 use Rattle.table_lines.specs.declared.descriptors.Descriptor.{Descriptor}

@@ -2,7 +2,7 @@
 use Rattle.std.specs.Prelude.{List, [], Result, Ok}
 use Rattle.table_lines.specs.Table.{Table, headed}
 use Rattle.rule_file.specs.declared.fault.RuleFault.{RuleFault}
-use Rattle.text_lines.specs.Results.{◌>>=◌}
+use Rattle.basics.specs.Results.{◌>>=◌}
 use Rattle.rule_file.specs.RuleFile.{NumberedLine}
 use Rattle.table_lines.specs.Descriptors.{undescribed, head_from}
 use Rattle.table_lines.specs.Transitions.{transitions_of}

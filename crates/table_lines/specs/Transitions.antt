@@ -10,7 +10,7 @@ use Rattle.table_lines.specs.declared.transition.Transition.{Transition}
 use Rattle.text_lines.specs.Numbers.{number_of}
 use Rattle.rule_file.specs.declared.fault.RuleFault.{RuleFault}
 use Rattle.rule_file.specs.declared.fault.RuleFault.TheVariants.{BadTransition, StateTooHigh, FreeResult}
-use Rattle.text_lines.specs.Results.{◌>>=◌}
+use Rattle.basics.specs.Results.{◌>>=◌}
 use Rattle.rule_file.specs.RuleFile.{NumberedLine}
 use Rattle.table_lines.specs.declared.descriptors.Head.{Head}
 use Rattle.table_lines.specs.Neighborhood.{places_of}

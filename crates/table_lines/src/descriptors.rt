@@ -1,6 +1,6 @@
 //! The descriptors of a table: how many states, which neighbourhood, which symmetries.
 ghost use Rattle.std.specs.Prelude.{◌≡◌, ◌≤◌, IfOk};
-ghost use Rattle.text_lines.specs.Results.{Reads};
+ghost use Rattle.basics.specs.Results.{Reads};
 ghost use Rattle.std.specs.Option.{option_map};
 ghost use Rattle.table_lines.specs.Descriptors.{descriptor_named, descriptor_of, head_from, head_of, states_in, fitting, describe, undescribed};
 

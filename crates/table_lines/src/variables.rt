@@ -2,7 +2,7 @@
 ghost use Rattle.std.specs.Prelude.{◌≡◌, ◌≤◌, ◌<◌, ◌+◌, ◌^◌, IfOk, IsTrue, OnOk, OnErr};
 ghost use Rattle.std.specs.List.{list_all};
 ghost use Rattle.std.specs.Option.{option_copied, option_map};
-ghost use Rattle.text_lines.specs.Results.{Reads};
+ghost use Rattle.basics.specs.Results.{Reads};
 ghost use Rattle.table_lines.specs.Below.{all_below, variables_below};
 ghost use Rattle.table_lines.specs.Definitions.{Defines, member_set, set_of};
 ghost use Rattle.table_lines.specs.Variables.{definition_in, is_variable_byte, is_variable_name, no_variables, unbraced, variable_named, variables_after};

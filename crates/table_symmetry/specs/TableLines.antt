@@ -1,6 +1,6 @@
 -- What the lines of a table mean: the table, or the first fault that they have.
 use Rattle.std.specs.Prelude.{nat_lt, if◌then◌else◌, List, length, Result, Ok, Err}
-use Rattle.text_lines.specs.Results.{◌>>=◌}
+use Rattle.basics.specs.Results.{◌>>=◌}
 use Rattle.rule_file.specs.declared.fault.RuleFault.{RuleFault}
 use Rattle.rule_file.specs.declared.fault.RuleFault.TheVariants.{TooManyTransitions, NotQuiescent}
 use Rattle.rule_file.specs.RuleFile.{NumberedLine}

@@ -1,5 +1,5 @@
 use Rattle.std.proofs.Common.{◌≡◌, ◌+◌, ◌∷◌, ◌∙◌, Some, Ok, List, ℕ, sym, ap, rules}
-use Rattle.text_lines.specs.Results.{◌>>=◌}
+use Rattle.basics.specs.Results.{◌>>=◌}
 use Rattle.std.specs.List.{list_all}
 use Rattle.table_lines.specs.declared.transition.Variable.{Variable}
 use Rattle.table_lines.specs.Below.{all_below, variables_below}
