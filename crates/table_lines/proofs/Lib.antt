@@ -1,6 +1,7 @@
 mod FullLines
 mod Names
 mod Renumbered
+mod Reordered
 mod SameNames
 pub mod Sets
 mod Splits

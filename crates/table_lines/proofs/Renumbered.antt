@@ -24,11 +24,11 @@ use Rattle.table_lines.proofs.FullLines.{same_value}
 use Rattle.table_lines.specs.Variables.{Variables, are_below, definition_in, defines_variable, each, member_states, no_variables, variable_named, variables_after, with_definition}
 
 -- the second gives what the first gives, where that gives something
-abbrev GivesToo : {A : Type 0} → Result A RuleFault → Result A RuleFault → Type 0
+abbrev pub GivesToo : {A : Type 0} → Result A RuleFault → Result A RuleFault → Type 0
 GivesToo {A} r q = (x : A) → r ≡ Ok x → q ≡ Ok x
 
 -- steps one after another
-then_too : {A B : Type 0} (r q : Result A RuleFault) (f g : A → Result B RuleFault) → GivesToo r q → ((x : A) → GivesToo (f x) (g x)) → GivesToo (r >>= f) (q >>= g)
+pub then_too : {A B : Type 0} (r q : Result A RuleFault) (f g : A → Result B RuleFault) → GivesToo r q → ((x : A) → GivesToo (f x) (g x)) → GivesToo (r >>= f) (q >>= g)
 then_too (Ok x) q f g first later y h = ap (λ p. p >>= g) (first x refl) ∙ later x y h
 then_too (Err e) q f g first later y h = absurd cc
 

@@ -1,9 +1,19 @@
 -- What holds of the lines of all tables.
-use Rattle.std.specs.Prelude.{◌≡◌, List, map, Ok}
+use Rattle.std.specs.Prelude.{◌≡◌, Bool, true, List, ◌∷◌, ◌++◌, is_some, map, Ok}
+use Rattle.std.specs.List.{list_all}
 use Rattle.rule_file.specs.RuleFile.{NumberedLine}
+use Rattle.table_lines.specs.Descriptors.{descriptor_of}
 use Rattle.table_lines.specs.Lines.{lines_of}
 use Rattle.table_lines.specs.Table.{Table}
 
 -- lines that say a table say it under other numbers too: blank lines and comments between them change nothing
 abbrev pub NumbersDoNotMatter : Type 0
 NumbersDoNotMatter = (lines others : List NumberedLine) (table : Table) → map (λ line. line.text) lines ≡ map (λ line. line.text) others → lines_of lines ≡ Ok table → lines_of others ≡ Ok table
+
+-- whether a line is a descriptor
+abbrev pub is_descriptor : NumberedLine → Bool
+is_descriptor line = is_some (descriptor_of line.text)
+
+-- two descriptors, one after the other, may stand in the other order, and so all three in any
+abbrev pub DescriptorsInAnyOrder : Type 0
+DescriptorsInAnyOrder = (front : List NumberedLine) (line next : NumberedLine) (rest : List NumberedLine) (table : Table) → list_all is_descriptor front ≡ true → is_descriptor line ≡ true → is_descriptor next ≡ true → lines_of (front ++ line ∷ next ∷ rest) ≡ Ok table → lines_of (front ++ next ∷ line ∷ rest) ≡ Ok table
