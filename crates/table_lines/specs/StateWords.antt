@@ -1,12 +1,11 @@
 -- What holds of sets of states, and of the words in which they are kept.
 use Rattle.std.proofs.Common.{◌≡◌, ℕ, zero, suc, ◌+◌, ◌-◌, ◌*◌, ◌/◌, ◌%◌, ◌^◌, ◌<◌, ◌≤◌, Bool, true, false, cond, ◌&&◌, List, [], ◌∷◌, length, get_or, map, refl, sym, ap, ◌∙◌, inl, inr, arith}
-use Rattle.std.specs.Prelude.{ℕ, All, nat_eq, nat_lt, ◌==◌}
+use Rattle.std.specs.Prelude.{nat_eq, ◌==◌}
 use Rattle.std.specs.Int.{bit_at}
 use Rattle.std.specs.List.{filter, range_with_len}
 use native.Mathlib.Nat.{pow-suc}
-use Rattle.std.proofs.Math.Bool.{and-true, and-false}
+use Rattle.std.proofs.Math.Bool.{and-true}
 use Rattle.std.proofs.lemmas.Bool.{eqb-true, eq-eqb, ne_eqb, cases_eq}
-use Rattle.std.proofs.lemmas.List.Elements.{filter_passes, All-filter, All-from_get_or}
 use Rattle.std.proofs.lemmas.List.Folds.{list_any_at}
 use Rattle.std.proofs.lemmas.List.FromFn.{get_or-range_with_len, length-range_with_len}
 use Rattle.std.proofs.lemmas.Map.Views.{any-filter_same}
@@ -23,10 +22,6 @@ has_range : (a n s : ℕ) → a ≤ s → s < a + n → has (range_with_len a n)
 has_range a n s low high =
     let e : get_or (range_with_len a n) (s - a) 0 ≡ a + (s - a) = get_or-range_with_len a n (s - a) 0 (omega arith) in
     list_any_at (nat_eq s) (range_with_len a n) (s - a) 0 (rw length-range_with_len (omega arith)) (eq-eqb s _ (omega arith))
-
-has_range-above : (a n s : ℕ) → a + n ≤ s → has (range_with_len a n) s ≡ false
-has_range-above a zero s h = refl
-has_range-above a (suc n) s h = rw (ne_eqb s a (omega arith)) (has_range-above (a + 1) n s (omega arith))
 
 passing-agree : (p q : ℕ → Bool) (a n : ℕ) → ((s : ℕ) → a ≤ s → s < a + n → p s ≡ q s) → filter p (range_with_len a n) ≡ filter q (range_with_len a n)
 passing-agree p q a zero h = refl
@@ -45,20 +40,12 @@ passing_one t a (suc n) l h =
       | inr ne ↦ rw (ne_eqb a t ne) (passing_one t (a + 1) n (omega arith) (omega arith))
     ]
 
-All-range : (a n m : ℕ) → a + n ≤ m → All (λ s. s < m) (range_with_len a n)
-All-range a n m h = All-from_get_or (λ s. s < m) (range_with_len a n) 0 (λ i l. let k : i < n = simp length-range_with_len at l in rw (get_or-range_with_len a n i 0 k) (omega arith))
-
 -- what `rising` has
 
 -- a rising list has the states that pass its test
 pub has-rising : (p : ℕ → Bool) (s : ℕ) → s < 256 → has (rising p) s ≡ p s
 unfolding rising
 has-rising p s h = has_passing p s (range_with_len 0 256) ∙ ap (λ (b : Bool). p s && b) (has_range 0 256 s (omega arith) (omega arith)) ∙ and-true (p s)
-
--- and no number from 256 on
-pub has_rising-above : (p : ℕ → Bool) (s : ℕ) → 256 ≤ s → has (rising p) s ≡ false
-unfolding rising
-has_rising-above p s h = has_passing p s (range_with_len 0 256) ∙ ap (λ (b : Bool). p s && b) (has_range-above 0 256 s (omega arith)) ∙ and-false (p s)
 
 -- tests that agree on the states have the same members
 pub rising-agree : (p q : ℕ → Bool) → ((s : ℕ) → s < 256 → p s ≡ q s) → rising p ≡ rising q
@@ -72,16 +59,6 @@ rising_none p h = passing-agree p (λ s. false) 0 256 (λ s _ k. h s (omega arit
 pub rising_one : (t : ℕ) → t < 256 → rising (λ s. s == t) ≡ t ∷ []
 unfolding rising
 rising_one t h = passing_one t 0 256 (omega arith) (omega arith)
-
--- the members pass the test
-pub rising_passes : (p : ℕ → Bool) → All (λ s. p s ≡ true) (rising p)
-unfolding rising
-rising_passes p = filter_passes p (range_with_len 0 256)
-
--- the members are states
-pub rising_below : (p : ℕ → Bool) → All (λ s. s < 256) (rising p)
-unfolding rising
-rising_below p = All-filter p (λ s. s < 256) (range_with_len 0 256) (All-range 0 256 256 (omega arith))
 
 -- the words
 
