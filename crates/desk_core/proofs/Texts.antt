@@ -1,12 +1,12 @@
 -- What is known of the texts.
 use Rattle.std.proofs.Common.{◌≡◌, ℕ, zero, suc, ◌+◌, ◌<◌, ◌≤◌, ◌≢◌, true, false, List, [], ◌∷◌, ◌++◌, length, take, drop, get_or, refl, sym, ap, ◌∙◌, subst, arith, Option, None, Some, Ok, length-append, add-one, ◌^◌, take_all}
-use Rattle.std.specs.Prelude.{Bool, IfSome, is_none, is_some, count_by, if◌then◌else◌, ◌==◌}
+use Rattle.std.specs.Prelude.{Bool, not, IfSome, is_none, is_some, count_by, if◌then◌else◌, ◌==◌}
 use Rattle.std.specs.Option.{unwrap_or}
 use Rattle.schedule.specs.Sound.{IsSound}
 use Rattle.std.proofs.lemmas.Bool.Decides.{nat_tests}
 use Rattle.std.proofs.lemmas.List.Sums.{count_by_more_no, count_by_more_yes, sum_by-append}
 use Rattle.std.proofs.lemmas.Bool.{cond-true, cond-false}
-use Rattle.std.proofs.lemmas.List.{take-append-drop, take-set, get_or-set_same, length-set, drop_all}
+use Rattle.std.proofs.lemmas.List.{length-map, take-append-drop, take-set, get_or-set_same, length-set, drop_all}
 use Rattle.std.proofs.lemmas.List.Elements.{All-get_or, All-from_recursion}
 use Rattle.std.proofs.Math.ListN.{set}
 use Rattle.schedule.specs.declared.document.Bookmark.{Bookmark}
@@ -14,9 +14,10 @@ use Rattle.schedule.specs.declared.edit.Edited.{Edited}
 use Rattle.schedule.specs.declared.fault.EditFault.{EditFault}
 use Rattle.bookmarks.specs.Within.{IsWithin}
 use Rattle.schedule.specs.Plan.{Plan}
-use Rattle.schedule.specs.Asked.{Asked, SetCells, ReplaceStart, ReplaceRule, AddBookmark}
-use Rattle.schedule.specs.Change.{Changed, made, change, changed, unless_refused, refusal}
+use Rattle.schedule.specs.Asked.{Asked, InsertIntervention, ChangeIntervention, RemoveIntervention, SetCells, ReplaceStart, ReplaceRule, AddBookmark, MoveBookmark, RemoveBookmark}
+use Rattle.schedule.specs.Change.{Changed, marking, made, change, changed, unless_refused, refusal}
 use Rattle.schedule.specs.Scratch.{scratch}
+use Rattle.schedule.proofs.Ids.{length-filter_le}
 use Rattle.desk_core.specs.Rows.{value_at, Keeps, is_unknown, TextRow, IsRight, AreRight, none_known, filled, Known, bookmark_in}
 use Rattle.desk_core.specs.Shown.{IsCurrent, IsPending}
 
@@ -74,10 +75,15 @@ Keeps-filled p b (s ∷ rs) (suc k) r low key =
 
 -- an edit adds one bookmark at most
 few_more : (p : Plan) (asked : Asked) → length (changed p asked).plan.bookmarks ≤ length p.bookmarks + 1
+few_more p (InsertIntervention generation cells) = omega arith
+few_more p (ChangeIntervention id generation cells) = omega arith
+few_more p (RemoveIntervention id) = omega arith
 few_more p (SetCells cells) = omega arith
 few_more p (ReplaceStart start) = omega arith
 few_more p (ReplaceRule rule) = omega arith
 few_more p (AddBookmark generation view) = let k = length-append p.bookmarks (record { id = p.last_bookmark + 1; generation = generation; view = view } ∷ []) in omega (arith, k)
+few_more p (MoveBookmark id generation) = let k = length-map p.bookmarks (λ (b : Bookmark). if b.id == id then marking generation b else b) in omega (arith, k)
+few_more p (RemoveBookmark id) = let k = length-filter_le (λ (b : Bookmark). not (b.id == id)) p.bookmarks in omega (arith, k)
 
 fits : (o : Option EditFault) (c d : Changed) → unless_refused o c ≡ Ok d → d ≡ c
 fits None c d h = cc

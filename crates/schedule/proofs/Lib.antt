@@ -1,4 +1,5 @@
 pub mod Each
+pub mod Ids
 pub mod Below
 pub mod Sounds
 pub mod History

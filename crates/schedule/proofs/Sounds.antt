@@ -1,6 +1,6 @@
 -- Every edit that isn't refused keeps the limits of documents.
 use Rattle.std.proofs.Common.{◌≡◌, ℕ, ◌+◌, ◌<◌, ◌≤◌, ◌^◌, Bool, true, false, ◌&&◌, not, nat_lt, nat_le, List, [], ◌∷◌, ◌++◌, length, refl, sym, ap, ◌∙◌, subst, arith, Option, None, Some, length-append}
-use Rattle.std.specs.Prelude.{if◌then◌else◌}
+use Rattle.std.specs.Prelude.{if◌then◌else◌, ◌==◌}
 use Rattle.std.specs.List.{AllByRecursion}
 use Rattle.std.specs.Prelude.{All}
 use Rattle.std.proofs.lemmas.Bool.{and_parts, not-false}
@@ -18,10 +18,13 @@ use Rattle.schedule.specs.declared.document.Intervention.{Intervention}
 use Rattle.schedule.specs.declared.document.Bookmark.{Bookmark}
 use Rattle.schedule.specs.declared.fault.EditFault.{EditFault}
 use Rattle.schedule.specs.Plan.{Plan, opening}
-use Rattle.schedule.specs.Sound.{AreNamed, SetBelow, IsAllowed, IdsRise, IsSound}
-use Rattle.schedule.specs.Change.{first_refusal, for_cells, for_start, for_rule, for_bookmark, revised, stay_in_range, set_below, lies_near, lies_below, all_set_below, is_too_far}
+use Rattle.schedule.specs.Sound.{AreNamed, SetBelow, IsAllowed, IsSound}
+use Rattle.schedule.specs.Ids.{IdsRise, intervention_id, bookmark_id, has_id, changed_at, without}
+use Rattle.schedule.specs.Change.{first_refusal, for_cells, for_intervention, for_changed_intervention, for_start, for_rule, for_bookmark, for_moved_bookmark, acting, marking, revised, stay_in_range, set_below, lies_near, lies_below, all_set_below, is_too_far}
 use Rattle.schedule.proofs.History.{CanBeLaid-named}
 use Rattle.schedule.proofs.Each.{each_passes, all_append, all_weaker}
+use Rattle.schedule.proofs.Ids.{rise_push, each_map, rise_map, each_filter, rise_filter, length-filter_le}
+use Rattle.std.proofs.lemmas.List.{length-map}
 use Rattle.schedule.proofs.Below.{AreNamed-stay, SetBelow-test, AllBelow-lies, HasMargin-lies}
 
 passed : (b : Bool) (fault : EditFault) (rest : Option EditFault) → (if b then Some fault else rest) ≡ None → (b ≡ false) × (rest ≡ None)
@@ -114,10 +117,96 @@ IsSound-rule p rule sound free some few =
       bookmarks_within = more p.last_bookmark p.revision sound.bookmarks_within;
     }
 
-rise_push : {X : Type 0} (id : X → ℕ) (xs : List X) (x : X) (last : ℕ) → IdsRise id xs → AllByRecursion (λ y. id y ≤ last) xs → last < id x → IdsRise id (xs ++ x ∷ [])
-rise_push id [] x last rise given above = (tt, tt)
-rise_push id (y ∷ xs) x last rise given above =
-    (all_append (λ z. id y < id z) xs (x ∷ []) rise.0 ((let k : id y ≤ last = given.0 in omega (arith, k, above)), tt), rise_push id xs x last rise.1 given.1 above)
+-- other interventions that keep the limits
+IsSound-interventions : (p : Plan) (is : List Intervention) (last : ℕ) → IsSound p → AllByRecursion (IsAllowed (states_of p.rule)) is → IdsRise intervention_id is
+    → AllByRecursion (λ (i : Intervention). i.id ≤ last) is → length is ≤ 4096 → last ≤ p.revision + 1 → IsSound (record (revised p) { interventions = is; last_intervention = last })
+IsSound-interventions p is last sound allowed rise given few within = record {
+  few_states = sound.few_states;
+  start_below = sound.start_below;
+  start_inside = sound.start_inside;
+  interventions_allowed = allowed;
+  interventions_rise = rise;
+  interventions_given = given;
+  few_interventions = few;
+  interventions_within = within;
+  bookmarks_near = sound.bookmarks_near;
+  views_within = sound.views_within;
+  bookmarks_rise = sound.bookmarks_rise;
+  bookmarks_given = sound.bookmarks_given;
+  few_bookmarks = sound.few_bookmarks;
+  bookmarks_within = more p.last_bookmark p.revision sound.bookmarks_within;
+}
+
+-- an intervention that isn't refused
+allowed : (p : Plan) (i : Intervention) (cells : List CellSet) → is_too_far i.generation ≡ false → i.cells ≡ cells → first_refusal (for_cells p cells) ≡ None → IsAllowed (states_of p.rule) i
+allowed p i cells far is free =
+    let fit = fit_cells p cells free in
+    record {
+      near = (let k : nat_lt (2 ^ 60) i.generation ≡ false = far in grind (arith, nat_tests));
+      named = subst AreNamed (sym is) fit.named;
+      below = subst (SetBelow (states_of p.rule)) (sym is) fit.below;
+    }
+
+given_more : {X : Type 0} (id : X → ℕ) (xs : List X) (last : ℕ) → AllByRecursion (λ x. id x ≤ last) xs → AllByRecursion (λ x. id x ≤ last + 1) xs
+given_more id xs last h = all_weaker (λ x. id x ≤ last) (λ x. id x ≤ last + 1) xs (λ x k. omega (arith, k)) h
+
+pub IsSound-intervention : (p : Plan) (generation : ℕ) (cells : List CellSet) (i : Intervention) (is : List Intervention) → IsSound p → first_refusal (for_intervention p generation cells) ≡ None
+    → is ≡ p.interventions ++ i ∷ [] → i.id ≡ p.last_intervention + 1 → i.generation ≡ generation → i.cells ≡ cells → IsSound (record (revised p) { interventions = is; last_intervention = p.last_intervention + 1 })
+IsSound-intervention p generation cells i is sound free same id at with_cells =
+    let far = passed (is_too_far generation) _ _ free in
+    let many = passed (nat_le 4096 (length p.interventions)) _ _ far.1 in
+    let few : length p.interventions < 4096 = (let k : nat_le 4096 (length p.interventions) ≡ false = many.0 in grind (arith, nat_tests)) in
+    let long : length is ≡ length p.interventions + 1 = ap length same ∙ length-append p.interventions (i ∷ []) in
+    let fits = allowed p i cells (ap is_too_far at ∙ far.0) with_cells many.1 in
+    IsSound-interventions p is (p.last_intervention + 1) sound
+    (subst (AllByRecursion (IsAllowed (states_of p.rule))) (sym same) (all_append (IsAllowed (states_of p.rule)) p.interventions (i ∷ []) sound.interventions_allowed (fits, tt)))
+    (subst (IdsRise intervention_id) (sym same) (rise_push intervention_id p.interventions i p.last_intervention sound.interventions_rise sound.interventions_given (omega (arith, id))))
+    (subst (AllByRecursion (λ (j : Intervention). j.id ≤ p.last_intervention + 1)) (sym same) (all_append (λ (j : Intervention). j.id ≤ p.last_intervention + 1) p.interventions (i ∷ []) (given_more intervention_id p.interventions p.last_intervention sound.interventions_given) ((omega (arith, id)), tt)))
+    (omega (arith, long, few)) (let k = sound.interventions_within in omega (arith, k))
+
+pub IsSound-changed_intervention : (p : Plan) (id generation : ℕ) (cells : List CellSet) (is : List Intervention) → IsSound p → first_refusal (for_changed_intervention p id generation cells) ≡ None
+    → is ≡ changed_at intervention_id (acting generation cells) p.interventions id → IsSound (record (revised p) { interventions = is; last_intervention = p.last_intervention })
+IsSound-changed_intervention p id generation cells is sound free same =
+    let there = passed (not (has_id intervention_id p.interventions id)) _ _ free in
+    let far = passed (is_too_far generation) _ _ there.1 in
+    let f = acting generation cells in
+    let c : Intervention → Bool = λ i. i.id == id in
+    let long : length is ≡ length p.interventions = ap length same ∙ length-map p.interventions (λ i. if c i then f i else i) in
+    IsSound-interventions p is p.last_intervention sound
+    (subst (AllByRecursion (IsAllowed (states_of p.rule))) (sym same) (each_map (IsAllowed (states_of p.rule)) c f p.interventions (λ i _. allowed p (f i) cells far.0 refl far.1) sound.interventions_allowed))
+    (subst (IdsRise intervention_id) (sym same) (rise_map intervention_id c f p.interventions (λ i. refl) sound.interventions_rise))
+    (subst (AllByRecursion (λ (i : Intervention). i.id ≤ p.last_intervention)) (sym same) (each_map (λ (i : Intervention). i.id ≤ p.last_intervention) c f p.interventions (λ i k. k) sound.interventions_given))
+    (let few = sound.few_interventions in omega (arith, long, few)) (more p.last_intervention p.revision sound.interventions_within)
+
+pub IsSound-removed_intervention : (p : Plan) (id : ℕ) (is : List Intervention) → IsSound p → is ≡ without intervention_id p.interventions id → IsSound (record (revised p) { interventions = is; last_intervention = p.last_intervention })
+IsSound-removed_intervention p id is sound same =
+    let c : Intervention → Bool = λ i. not (i.id == id) in
+    let long : length is ≤ length p.interventions = subst (λ (js : List Intervention). length js ≤ length p.interventions) (sym same) (length-filter_le c p.interventions) in
+    IsSound-interventions p is p.last_intervention sound
+    (subst (AllByRecursion (IsAllowed (states_of p.rule))) (sym same) (each_filter (IsAllowed (states_of p.rule)) c p.interventions sound.interventions_allowed))
+    (subst (IdsRise intervention_id) (sym same) (rise_filter intervention_id c p.interventions sound.interventions_rise))
+    (subst (AllByRecursion (λ (i : Intervention). i.id ≤ p.last_intervention)) (sym same) (each_filter (λ (i : Intervention). i.id ≤ p.last_intervention) c p.interventions sound.interventions_given))
+    (let few = sound.few_interventions in omega (arith, long, few)) (more p.last_intervention p.revision sound.interventions_within)
+
+-- other bookmarks that keep the limits
+IsSound-bookmarks : (p : Plan) (bs : List Bookmark) (last : ℕ) → IsSound p → AllByRecursion (λ (b : Bookmark). b.generation ≤ 2 ^ 60) bs → AllByRecursion (λ (b : Bookmark). IsWithin b.view) bs → IdsRise bookmark_id bs
+    → AllByRecursion (λ (b : Bookmark). b.id ≤ last) bs → length bs ≤ 4096 → last ≤ p.revision + 1 → IsSound (record (revised p) { bookmarks = bs; last_bookmark = last })
+IsSound-bookmarks p bs last sound near views rise given few within = record {
+  few_states = sound.few_states;
+  start_below = sound.start_below;
+  start_inside = sound.start_inside;
+  interventions_allowed = sound.interventions_allowed;
+  interventions_rise = sound.interventions_rise;
+  interventions_given = sound.interventions_given;
+  few_interventions = sound.few_interventions;
+  interventions_within = more p.last_intervention p.revision sound.interventions_within;
+  bookmarks_near = near;
+  views_within = views;
+  bookmarks_rise = rise;
+  bookmarks_given = given;
+  few_bookmarks = few;
+  bookmarks_within = within;
+}
 
 pub IsSound-bookmark : (p : Plan) (generation : ℕ) (view : View) (bs : List Bookmark) → IsSound p → first_refusal (for_bookmark p generation view) ≡ None
     → bs ≡ p.bookmarks ++ record { id = p.last_bookmark + 1; generation = generation; view = view } ∷ []
@@ -132,22 +221,39 @@ IsSound-bookmark p generation view bs sound free is =
     let near : generation ≤ 2 ^ 60 = (let k : nat_lt (2 ^ 60) generation ≡ false = far.0 in grind (arith, nat_tests)) in
     let few : length p.bookmarks < 4096 = (let k : nat_le 4096 (length p.bookmarks) ≡ false = many.0 in grind (arith, nat_tests)) in
     let long : length bs ≡ length p.bookmarks + 1 = ap length is ∙ length-append p.bookmarks (b ∷ []) in
-    record {
-      few_states = sound.few_states;
-      start_below = sound.start_below;
-      start_inside = sound.start_inside;
-      interventions_allowed = sound.interventions_allowed;
-      interventions_rise = sound.interventions_rise;
-      interventions_given = sound.interventions_given;
-      few_interventions = sound.few_interventions;
-      interventions_within = more p.last_intervention p.revision sound.interventions_within;
-      bookmarks_near = subst (AllByRecursion (λ (c : Bookmark). c.generation ≤ 2 ^ 60)) (sym is) (all_append (λ (c : Bookmark). c.generation ≤ 2 ^ 60) p.bookmarks (b ∷ []) sound.bookmarks_near (near, tt));
-      views_within = subst (AllByRecursion (λ (c : Bookmark). IsWithin c.view)) (sym is) (all_append (λ (c : Bookmark). IsWithin c.view) p.bookmarks (b ∷ []) sound.views_within (within, tt));
-      bookmarks_rise = subst (IdsRise (λ (c : Bookmark). c.id)) (sym is) (rise_push (λ (c : Bookmark). c.id) p.bookmarks b p.last_bookmark sound.bookmarks_rise sound.bookmarks_given (omega arith));
-      bookmarks_given = subst (AllByRecursion (λ (c : Bookmark). c.id ≤ p.last_bookmark + 1)) (sym is) (all_append (λ (c : Bookmark). c.id ≤ p.last_bookmark + 1) p.bookmarks (b ∷ []) (all_weaker (λ (c : Bookmark). c.id ≤ p.last_bookmark) _ p.bookmarks (λ c k. omega (arith, k)) sound.bookmarks_given) ((omega arith), tt));
-      few_bookmarks = omega (arith, long, few);
-      bookmarks_within = (let k = sound.bookmarks_within in omega (arith, k));
-    }
+    IsSound-bookmarks p bs (p.last_bookmark + 1) sound
+    (subst (AllByRecursion (λ (c : Bookmark). c.generation ≤ 2 ^ 60)) (sym is) (all_append (λ (c : Bookmark). c.generation ≤ 2 ^ 60) p.bookmarks (b ∷ []) sound.bookmarks_near (near, tt)))
+    (subst (AllByRecursion (λ (c : Bookmark). IsWithin c.view)) (sym is) (all_append (λ (c : Bookmark). IsWithin c.view) p.bookmarks (b ∷ []) sound.views_within (within, tt)))
+    (subst (IdsRise bookmark_id) (sym is) (rise_push bookmark_id p.bookmarks b p.last_bookmark sound.bookmarks_rise sound.bookmarks_given (omega arith)))
+    (subst (AllByRecursion (λ (c : Bookmark). c.id ≤ p.last_bookmark + 1)) (sym is) (all_append (λ (c : Bookmark). c.id ≤ p.last_bookmark + 1) p.bookmarks (b ∷ []) (given_more bookmark_id p.bookmarks p.last_bookmark sound.bookmarks_given) ((omega arith), tt)))
+    (omega (arith, long, few)) (let k = sound.bookmarks_within in omega (arith, k))
+
+pub IsSound-moved_bookmark : (p : Plan) (id generation : ℕ) (bs : List Bookmark) → IsSound p → first_refusal (for_moved_bookmark p id generation) ≡ None
+    → bs ≡ changed_at bookmark_id (marking generation) p.bookmarks id → IsSound (record (revised p) { bookmarks = bs; last_bookmark = p.last_bookmark })
+IsSound-moved_bookmark p id generation bs sound free same =
+    let there = passed (not (has_id bookmark_id p.bookmarks id)) _ _ free in
+    let far = passed (is_too_far generation) _ _ there.1 in
+    let near : generation ≤ 2 ^ 60 = (let k : nat_lt (2 ^ 60) generation ≡ false = far.0 in grind (arith, nat_tests)) in
+    let f = marking generation in
+    let c : Bookmark → Bool = λ b. b.id == id in
+    let long : length bs ≡ length p.bookmarks = ap length same ∙ length-map p.bookmarks (λ b. if c b then f b else b) in
+    IsSound-bookmarks p bs p.last_bookmark sound
+    (subst (AllByRecursion (λ (b : Bookmark). b.generation ≤ 2 ^ 60)) (sym same) (each_map (λ (b : Bookmark). b.generation ≤ 2 ^ 60) c f p.bookmarks (λ b _. near) sound.bookmarks_near))
+    (subst (AllByRecursion (λ (b : Bookmark). IsWithin b.view)) (sym same) (each_map (λ (b : Bookmark). IsWithin b.view) c f p.bookmarks (λ b k. k) sound.views_within))
+    (subst (IdsRise bookmark_id) (sym same) (rise_map bookmark_id c f p.bookmarks (λ b. refl) sound.bookmarks_rise))
+    (subst (AllByRecursion (λ (b : Bookmark). b.id ≤ p.last_bookmark)) (sym same) (each_map (λ (b : Bookmark). b.id ≤ p.last_bookmark) c f p.bookmarks (λ b k. k) sound.bookmarks_given))
+    (let few = sound.few_bookmarks in omega (arith, long, few)) (more p.last_bookmark p.revision sound.bookmarks_within)
+
+pub IsSound-removed_bookmark : (p : Plan) (id : ℕ) (bs : List Bookmark) → IsSound p → bs ≡ without bookmark_id p.bookmarks id → IsSound (record (revised p) { bookmarks = bs; last_bookmark = p.last_bookmark })
+IsSound-removed_bookmark p id bs sound same =
+    let c : Bookmark → Bool = λ b. not (b.id == id) in
+    let long : length bs ≤ length p.bookmarks = subst (λ (cs : List Bookmark). length cs ≤ length p.bookmarks) (sym same) (length-filter_le c p.bookmarks) in
+    IsSound-bookmarks p bs p.last_bookmark sound
+    (subst (AllByRecursion (λ (b : Bookmark). b.generation ≤ 2 ^ 60)) (sym same) (each_filter (λ (b : Bookmark). b.generation ≤ 2 ^ 60) c p.bookmarks sound.bookmarks_near))
+    (subst (AllByRecursion (λ (b : Bookmark). IsWithin b.view)) (sym same) (each_filter (λ (b : Bookmark). IsWithin b.view) c p.bookmarks sound.views_within))
+    (subst (IdsRise bookmark_id) (sym same) (rise_filter bookmark_id c p.bookmarks sound.bookmarks_rise))
+    (subst (AllByRecursion (λ (b : Bookmark). b.id ≤ p.last_bookmark)) (sym same) (each_filter (λ (b : Bookmark). b.id ≤ p.last_bookmark) c p.bookmarks sound.bookmarks_given))
+    (let few = sound.few_bookmarks in omega (arith, long, few)) (more p.last_bookmark p.revision sound.bookmarks_within)
 
 sound_opening : (revision : ℕ) → IsSound (opening revision)
 sound_opening revision = record {

@@ -8,16 +8,26 @@ use Rattle.bookmarks.specs.declared.view.View.{View}
 use Rattle.schedule.specs.declared.edit.Edit.{Edit}
 use Rattle.schedule.specs.declared.edit.Edit.TheVariants as edit
 
--- set cells of the start, take a start or a rule, add a bookmark
+-- an intervention is inserted, changed or removed by its id; cells of the start are set; another start or rule is taken; a bookmark is added, or moved or removed by its id
 pub data Asked : Type 0 where
+  InsertIntervention : ℕ → List CellSet → Asked
+  ChangeIntervention : ℕ → ℕ → List CellSet → Asked
+  RemoveIntervention : ℕ → Asked
   SetCells : List CellSet → Asked
   ReplaceStart : World → Asked
   ReplaceRule : Rule → Asked
   AddBookmark : ℕ → View → Asked
+  MoveBookmark : ℕ → ℕ → Asked
+  RemoveBookmark : ℕ → Asked
 
 -- what an edit asks for
 abbrev pub asked_of : Edit → Asked
+asked_of (edit.InsertIntervention generation cells) = InsertIntervention generation cells
+asked_of (edit.ChangeIntervention id generation cells) = ChangeIntervention id generation cells
+asked_of (edit.RemoveIntervention id) = RemoveIntervention id
 asked_of (edit.SetCells cells) = SetCells cells
 asked_of (edit.ReplaceStart start) = ReplaceStart (arc_value start)
 asked_of (edit.ReplaceRule rule) = ReplaceRule (arc_value rule)
 asked_of (edit.AddBookmark generation view) = AddBookmark generation view
+asked_of (edit.MoveBookmark id generation) = MoveBookmark id generation
+asked_of (edit.RemoveBookmark id) = RemoveBookmark id

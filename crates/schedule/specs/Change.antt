@@ -10,11 +10,13 @@ use Rattle.rule_tree.specs.Rule.{states_of}
 use Rattle.schedule.specs.declared.document.Intervention.{Intervention}
 use Rattle.schedule.specs.declared.edit.Edited.{Edited}
 use Rattle.schedule.specs.declared.fault.EditFault.{EditFault}
-use Rattle.schedule.specs.declared.fault.EditFault.TheVariants.{GenerationTooFar, CellOutOfRange, CellStateTooHigh, TooManyBookmarks, TooManyCells, BadWindow, RevisionSpent}
+use Rattle.schedule.specs.declared.fault.EditFault.TheVariants.{GenerationTooFar, CellOutOfRange, CellStateTooHigh, NoSuchIntervention, NoSuchBookmark, TooManyInterventions, TooManyBookmarks, TooManyCells, BadWindow, RevisionSpent}
 use Rattle.bookmarks.specs.declared.view.View.{View}
 use Rattle.bookmarks.specs.Within.{has_window_size, lies_in_range}
 use Rattle.schedule.specs.Plan.{Plan}
-use Rattle.schedule.specs.Asked.{Asked, SetCells, ReplaceStart, ReplaceRule, AddBookmark}
+use Rattle.schedule.specs.Asked.{Asked, InsertIntervention, ChangeIntervention, RemoveIntervention, SetCells, ReplaceStart, ReplaceRule, AddBookmark, MoveBookmark, RemoveBookmark}
+use Rattle.schedule.specs.Ids.{intervention_id, bookmark_id, has_id, changed_at, without}
+use Rattle.schedule.specs.declared.document.Bookmark.{Bookmark}
 
 -- a generation beyond 2^60
 abbrev pub is_too_far : ℕ → Bool
@@ -60,6 +62,24 @@ for_cells p cells =
     ∷ (not (set_below (states_of p.rule) cells), CellStateTooHigh)
     ∷ spent p
 
+-- those of inserting an intervention
+abbrev pub for_intervention : Plan → ℕ → List CellSet → List (Bool × EditFault)
+for_intervention p generation cells =
+    (is_too_far generation, GenerationTooFar)
+    ∷ (nat_le 4096 (length p.interventions), TooManyInterventions)
+    ∷ for_cells p cells
+
+-- those of changing the intervention of an id
+abbrev pub for_changed_intervention : Plan → ℕ → ℕ → List CellSet → List (Bool × EditFault)
+for_changed_intervention p id generation cells =
+    (not (has_id intervention_id p.interventions id), NoSuchIntervention)
+    ∷ (is_too_far generation, GenerationTooFar)
+    ∷ for_cells p cells
+
+-- those of removing it
+abbrev pub for_removed_intervention : Plan → ℕ → List (Bool × EditFault)
+for_removed_intervention p id = (not (has_id intervention_id p.interventions id), NoSuchIntervention) ∷ spent p
+
 -- those of taking another start
 abbrev pub for_start : Plan → World → List (Bool × EditFault)
 for_start p start =
@@ -80,12 +100,28 @@ for_bookmark p generation view =
     ∷ (not (lies_in_range view), CellOutOfRange)
     ∷ spent p
 
+-- those of moving the bookmark of an id
+abbrev pub for_moved_bookmark : Plan → ℕ → ℕ → List (Bool × EditFault)
+for_moved_bookmark p id generation =
+    (not (has_id bookmark_id p.bookmarks id), NoSuchBookmark)
+    ∷ (is_too_far generation, GenerationTooFar)
+    ∷ spent p
+
+-- those of removing it
+abbrev pub for_removed_bookmark : Plan → ℕ → List (Bool × EditFault)
+for_removed_bookmark p id = (not (has_id bookmark_id p.bookmarks id), NoSuchBookmark) ∷ spent p
+
 -- those of an edit
 abbrev pub refusals : Plan → Asked → List (Bool × EditFault)
+refusals p (InsertIntervention generation cells) = for_intervention p generation cells
+refusals p (ChangeIntervention id generation cells) = for_changed_intervention p id generation cells
+refusals p (RemoveIntervention id) = for_removed_intervention p id
 refusals p (SetCells cells) = for_cells p cells
 refusals p (ReplaceStart start) = for_start p start
 refusals p (ReplaceRule rule) = for_rule p rule
 refusals p (AddBookmark generation view) = for_bookmark p generation view
+refusals p (MoveBookmark id generation) = for_moved_bookmark p id generation
+refusals p (RemoveBookmark id) = for_removed_bookmark p id
 
 -- the first that applies
 abbrev pub first_refusal : List (Bool × EditFault) → Option EditFault
@@ -112,25 +148,57 @@ made plan edited = record { plan = plan; edited = edited }
 abbrev pub revised : Plan → Plan
 revised p = record p { revision = p.revision + 1 }
 
+-- what an edit answers that gives no id
+abbrev pub answered : Plan → Edited
+answered p = record { revision = p.revision + 1; id = None }
+
+-- the document with one more intervention, whose id is the next
+abbrev pub with_intervention : Plan → ℕ → List CellSet → Changed
+with_intervention p generation cells = record {
+  plan = record (revised p) {
+    interventions = p.interventions ++ record { id = p.last_intervention + 1; generation = generation; cells = cells } ∷ [];
+    last_intervention = p.last_intervention + 1;
+  };
+  edited = record { revision = p.revision + 1; id = Some (p.last_intervention + 1) };
+}
+
+-- an intervention that acts at this generation, with these cells
+abbrev pub acting : ℕ → List CellSet → Intervention → Intervention
+acting generation cells i = record i { generation = generation; cells = cells }
+
+-- the document with the intervention of an id at this generation, with these cells
+abbrev pub with_changed_intervention : Plan → ℕ → ℕ → List CellSet → Changed
+with_changed_intervention p id generation cells = record {
+  plan = record (revised p) { interventions = changed_at intervention_id (acting generation cells) p.interventions id };
+  edited = answered p;
+}
+
+-- the document without the intervention of an id
+abbrev pub without_intervention : Plan → ℕ → Changed
+without_intervention p id = record {
+  plan = record (revised p) { interventions = without intervention_id p.interventions id };
+  edited = answered p;
+}
+
 -- the document with these cells of the start set
 abbrev pub changed_cells : Plan → List CellSet → Changed
 changed_cells p cells = record {
   plan = record (revised p) { start = lay cells p.start };
-  edited = record { revision = p.revision + 1; id = None };
+  edited = answered p;
 }
 
 -- the document with this start
 abbrev pub changed_start : Plan → World → Changed
 changed_start p start = record {
   plan = record (revised p) { start = start };
-  edited = record { revision = p.revision + 1; id = None };
+  edited = answered p;
 }
 
 -- the document with this rule
 abbrev pub changed_rule : Plan → Rule → Changed
 changed_rule p rule = record {
   plan = record (revised p) { rule = rule };
-  edited = record { revision = p.revision + 1; id = None };
+  edited = answered p;
 }
 
 -- the document with one more bookmark, whose id is the next
@@ -143,12 +211,35 @@ changed_bookmarks p generation view = record {
   edited = record { revision = p.revision + 1; id = Some (p.last_bookmark + 1) };
 }
 
+-- a bookmark at this generation
+abbrev pub marking : ℕ → Bookmark → Bookmark
+marking generation b = record b { generation = generation }
+
+-- the document with the bookmark of an id at this generation
+abbrev pub with_moved_bookmark : Plan → ℕ → ℕ → Changed
+with_moved_bookmark p id generation = record {
+  plan = record (revised p) { bookmarks = changed_at bookmark_id (marking generation) p.bookmarks id };
+  edited = answered p;
+}
+
+-- the document without the bookmark of an id
+abbrev pub without_bookmark : Plan → ℕ → Changed
+without_bookmark p id = record {
+  plan = record (revised p) { bookmarks = without bookmark_id p.bookmarks id };
+  edited = answered p;
+}
+
 -- what an edit makes of a document that it fits
 abbrev pub changed : Plan → Asked → Changed
+changed p (InsertIntervention generation cells) = with_intervention p generation cells
+changed p (ChangeIntervention id generation cells) = with_changed_intervention p id generation cells
+changed p (RemoveIntervention id) = without_intervention p id
 changed p (SetCells cells) = changed_cells p cells
 changed p (ReplaceStart start) = changed_start p start
 changed p (ReplaceRule rule) = changed_rule p rule
 changed p (AddBookmark generation view) = changed_bookmarks p generation view
+changed p (MoveBookmark id generation) = with_moved_bookmark p id generation
+changed p (RemoveBookmark id) = without_bookmark p id
 
 -- the refusal, if there is one, or else the document
 abbrev pub unless_refused : Option EditFault → Changed → Result Changed EditFault

@@ -3,6 +3,7 @@ pub mod Plan
 pub mod Kept
 pub mod Sound
 pub mod Scratch
+pub mod Ids
 pub mod Asked
 pub mod Change
 pub mod Near

@@ -1,5 +1,5 @@
 -- What holds of every document.
-use Rattle.std.specs.Prelude.{ℕ, ◌<◌, ◌≤◌, ◌^◌, List, [], ◌∷◌, length}
+use Rattle.std.specs.Prelude.{ℕ, ◌<◌, ◌≤◌, ◌^◌, List, length}
 use Rattle.std.specs.List.{AllByRecursion}
 use Rattle.plane_core.specs.Range.{IsInside, HasMargin, AllBelow}
 use Rattle.plane_core.specs.declared.cell.CellSet.{CellSet}
@@ -8,6 +8,7 @@ use Rattle.bookmarks.specs.Within.{IsWithin}
 use Rattle.schedule.specs.declared.document.Intervention.{Intervention}
 use Rattle.schedule.specs.declared.document.Bookmark.{Bookmark}
 use Rattle.schedule.specs.Plan.{Plan}
+use Rattle.schedule.specs.Ids.{IdsRise, intervention_id, bookmark_id}
 
 -- the cells lie where an edit may name them: in -2^60 <= x, y < 2^60, which is 2^60 from the edges of the range of planes
 abbrev pub AreNamed : List CellSet → Type 0
@@ -23,24 +24,19 @@ pub record IsAllowed (n : ℕ) (i : Intervention) : Type 0 where
   pub named : AreNamed i.cells
   pub below : SetBelow n i.cells
 
--- each element's id is below those of all later ones
-abbrev pub IdsRise : {X : Type 0} → (X → ℕ) → List X → Type 0
-IdsRise id [] = Unit {0}
-IdsRise id (x ∷ xs) = AllByRecursion (λ y. id x < id y) xs × IdsRise id xs
-
 -- the limits that every edit keeps
 pub record IsSound (p : Plan) : Type 0 where
   pub few_states : states_of p.rule ≤ 256
   pub start_below : AllBelow (states_of p.rule) p.start
   pub start_inside : HasMargin (2 ^ 60) p.start
   pub interventions_allowed : AllByRecursion (IsAllowed (states_of p.rule)) p.interventions
-  pub interventions_rise : IdsRise (λ (i : Intervention). i.id) p.interventions
+  pub interventions_rise : IdsRise intervention_id p.interventions
   pub interventions_given : AllByRecursion (λ (i : Intervention). i.id ≤ p.last_intervention) p.interventions
   pub few_interventions : length p.interventions ≤ 4096
   pub interventions_within : p.last_intervention ≤ p.revision
   pub bookmarks_near : AllByRecursion (λ (b : Bookmark). b.generation ≤ 2 ^ 60) p.bookmarks
   pub views_within : AllByRecursion (λ (b : Bookmark). IsWithin b.view) p.bookmarks
-  pub bookmarks_rise : IdsRise (λ (b : Bookmark). b.id) p.bookmarks
+  pub bookmarks_rise : IdsRise bookmark_id p.bookmarks
   pub bookmarks_given : AllByRecursion (λ (b : Bookmark). b.id ≤ p.last_bookmark) p.bookmarks
   pub few_bookmarks : length p.bookmarks ≤ 4096
   pub bookmarks_within : p.last_bookmark ≤ p.revision

@@ -1,17 +1,23 @@
 //! How an edit changes a document.
-ghost use Rattle.std.specs.Prelude.{◌≡◌, ◌⊎◌, IfOk, IfErr, IfSome, OnErr};
+ghost use Rattle.std.specs.Prelude.{◌≡◌, ◌⊎◌, ◌==◌, IfOk, IfErr, IfSome, OnErr, position};
+ghost use Rattle.schedule.specs.Ids.{IdsRise, intervention_id, bookmark_id, changed_at, without};
 ghost use Rattle.std.specs.Arc.{arc_value};
 ghost use Rattle.schedule.specs.Asked.{asked_of};
 ghost use Rattle.schedule.specs.Change.{change, made, refusal, first_refusal};
 ghost use Rattle.schedule.specs.Change.{changed_cells, changed_start, changed_rule};
-ghost use Rattle.schedule.specs.Change.{changed_bookmarks};
+ghost use Rattle.schedule.specs.Change.{changed_bookmarks, with_intervention};
+ghost use Rattle.schedule.specs.Change.{with_changed_intervention, without_intervention, acting};
+ghost use Rattle.schedule.specs.Change.{with_moved_bookmark, without_bookmark, marking};
 ghost use Rattle.schedule.specs.Change.{for_cells, for_start, for_rule, for_bookmark};
+ghost use Rattle.schedule.specs.Change.{for_intervention, for_changed_intervention};
+ghost use Rattle.schedule.specs.Change.{for_removed_intervention};
+ghost use Rattle.schedule.specs.Change.{for_moved_bookmark, for_removed_bookmark};
 
-use crate::document::{Bookmark, Document};
+use crate::document::{Bookmark, Document, Intervention};
 use crate::edit::{Edit, Edited};
 use crate::fault::EditFault;
 use bookmarks::View;
-use plane_core::{CellSet, Next, Plane};
+use plane_core::{CellSet, Listing, Next, Plane};
 use rule_tree::Rule;
 use std::sync::Arc;
 
@@ -27,10 +33,83 @@ impl Document {
     {
         self.check(edit)?;
         match edit {
+            Edit::InsertIntervention { generation, cells } => {
+                self.insert_intervention(*generation, cells.as_slice())
+            }
+            Edit::ChangeIntervention {
+                id,
+                generation,
+                cells,
+            } => self.change_intervention(*id, *generation, cells.as_slice()),
+            Edit::RemoveIntervention { id } => Ok(self.remove_intervention(*id)),
             Edit::SetCells { cells } => self.set_cells(cells.as_slice()),
             Edit::ReplaceStart(start) => self.replace_start(start),
             Edit::ReplaceRule(rule) => self.replace_rule(rule),
             Edit::AddBookmark { generation, view } => self.add_bookmark(*generation, *view),
+            Edit::MoveBookmark { id, generation } => Ok(self.move_bookmark(*id, *generation)),
+            Edit::RemoveBookmark { id } => Ok(self.remove_bookmark(*id)),
+        }
+    }
+
+    // Adds an intervention.
+    fn insert_intervention(
+        &mut self,
+        generation: u64,
+        cells: &[CellSet],
+    ) -> Result<Edited, EditFault>
+        requires { first_refusal (for_intervention self.old generation cells.now) ≡ None }
+        ensures ok { IfOk result (λ edited.
+            with_intervention self.old generation cells.now ≡ made self.new edited) }
+        ensures memory { IfErr result (λ fault. fault ≡ EditFault.NoMemory) }
+        ensures unchanged { OnErr result (self.new ≡ self.old) }
+    {
+        let id = self.last_intervention + 1;
+        let cells = Listing::from_vec(Vec::from_slice(self.alloc, cells)?);
+        self.interventions.push(Intervention {
+            id,
+            generation,
+            cells,
+        })?;
+        self.last_intervention = id;
+        self.revision += 1;
+        Ok(Edited {
+            revision: self.revision,
+            id: Some(id),
+        })
+    }
+
+    // Gives the intervention of an id another generation and other cells.
+    fn change_intervention(
+        &mut self,
+        id: u64,
+        generation: u64,
+        cells: &[CellSet],
+    ) -> Result<Edited, EditFault>
+        requires { first_refusal (for_changed_intervention self.old id generation cells.now) ≡ None }
+        ensures ok { IfOk result (λ edited.
+            with_changed_intervention self.old id generation cells.now ≡ made self.new edited) }
+        ensures memory { IfErr result (λ fault. fault ≡ EditFault.NoMemory) }
+        ensures unchanged { OnErr result (self.new ≡ self.old) }
+    {
+        let cells = Listing::from_vec(Vec::from_slice(self.alloc, cells)?);
+        change_in(&mut self.interventions, id, generation, cells);
+        self.revision += 1;
+        Ok(Edited {
+            revision: self.revision,
+            id: None,
+        })
+    }
+
+    // Removes the intervention of an id.
+    fn remove_intervention(&mut self, id: u64) -> Edited
+        requires { first_refusal (for_removed_intervention self.old id) ≡ None }
+        ensures { without_intervention self.old id ≡ made self.new result }
+    {
+        remove_intervention_in(&mut self.interventions, id);
+        self.revision += 1;
+        Edited {
+            revision: self.revision,
+            id: None,
         }
     }
 
@@ -106,4 +185,83 @@ impl Document {
             id: Some(id),
         })
     }
+
+    // Moves the bookmark of an id to another generation.
+    fn move_bookmark(&mut self, id: u64, generation: u64) -> Edited
+        requires { first_refusal (for_moved_bookmark self.old id generation) ≡ None }
+        ensures { with_moved_bookmark self.old id generation ≡ made self.new result }
+    {
+        move_in(&mut self.bookmarks, id, generation);
+        self.revision += 1;
+        Edited {
+            revision: self.revision,
+            id: None,
+        }
+    }
+
+    // Removes the bookmark of an id.
+    fn remove_bookmark(&mut self, id: u64) -> Edited
+        requires { first_refusal (for_removed_bookmark self.old id) ≡ None }
+        ensures { without_bookmark self.old id ≡ made self.new result }
+    {
+        remove_bookmark_in(&mut self.bookmarks, id);
+        self.revision += 1;
+        Edited {
+            revision: self.revision,
+            id: None,
+        }
+    }
+}
+
+// Where the intervention of an id stands, if there is one.
+fn intervention_place(interventions: &[Intervention], id: u64) -> Option<usize>
+    ensures { result ≡ position (λ i. i.id == id) interventions.now }
+{
+    interventions
+        .iter()
+        .position(|intervention| intervention.id == id)
+}
+
+// Where the bookmark of an id stands, if there is one.
+fn bookmark_place(bookmarks: &[Bookmark], id: u64) -> Option<usize>
+    ensures { result ≡ position (λ b. b.id == id) bookmarks.now }
+{
+    bookmarks.iter().position(|bookmark| bookmark.id == id)
+}
+
+// Gives the intervention of an id, if there is one, another generation and other cells.
+fn change_in(interventions: &mut [Intervention], id: u64, generation: u64, cells: Listing<CellSet>)
+    requires { IdsRise intervention_id interventions.old }
+    ensures { interventions.new
+        ≡ changed_at intervention_id (acting generation cells) interventions.old id }
+{
+    if let Some(place) = intervention_place(interventions, id) {
+        let intervention = &mut interventions[place];
+        intervention.generation = generation;
+        intervention.cells = cells;
+    }
+}
+
+// Moves the bookmark of an id, if there is one, to another generation.
+fn move_in(bookmarks: &mut [Bookmark], id: u64, generation: u64)
+    requires { IdsRise bookmark_id bookmarks.old }
+    ensures { bookmarks.new ≡ changed_at bookmark_id (marking generation) bookmarks.old id }
+{
+    if let Some(place) = bookmark_place(bookmarks, id) {
+        bookmarks[place].generation = generation;
+    }
+}
+
+// Takes the intervention of an id out, if there is one.
+fn remove_intervention_in(interventions: &mut Vec<Intervention>, id: u64)
+    ensures { interventions.new.items ≡ without intervention_id interventions.old.items id }
+{
+    interventions.retain(|intervention| intervention.id != id);
+}
+
+// Takes the bookmark of an id out, if there is one.
+fn remove_bookmark_in(bookmarks: &mut Vec<Bookmark>, id: u64)
+    ensures { bookmarks.new.items ≡ without bookmark_id bookmarks.old.items id }
+{
+    bookmarks.retain(|bookmark| bookmark.id != id);
 }

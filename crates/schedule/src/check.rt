@@ -4,6 +4,10 @@ ghost use Rattle.schedule.specs.Asked.{asked_of};
 ghost use Rattle.schedule.specs.Change.{may_be_named, stay_in_range, set_below, lies_near};
 ghost use Rattle.schedule.specs.Change.{lies_below, all_set_below, refusals, Checks, spent};
 ghost use Rattle.schedule.specs.Change.{for_cells, for_start, for_rule, for_bookmark};
+ghost use Rattle.schedule.specs.Change.{for_intervention, for_changed_intervention};
+ghost use Rattle.schedule.specs.Change.{for_removed_intervention};
+ghost use Rattle.schedule.specs.Change.{for_moved_bookmark, for_removed_bookmark};
+ghost use Rattle.schedule.specs.Ids.{has_id, intervention_id, bookmark_id};
 ghost use Rattle.schedule.specs.Near.{box_near};
 
 use crate::document::{Document, Intervention};
@@ -15,6 +19,9 @@ use rule_tree::Rule;
 
 /// The generation of an intervention or a bookmark is at most this.
 pub const FARTHEST_GENERATION: u64 = 1 << 60;
+
+/// There are at most this many interventions.
+pub const MOST_INTERVENTIONS: usize = 4096;
 
 /// There are at most this many bookmarks.
 pub const MOST_BOOKMARKS: usize = 4096;
@@ -87,11 +94,102 @@ impl Document {
         ensures { Checks result (refusals self.now (asked_of edit.now)) }
     {
         match edit {
+            Edit::InsertIntervention { generation, cells } => {
+                self.check_intervention(*generation, cells.as_slice())
+            }
+            Edit::ChangeIntervention {
+                id,
+                generation,
+                cells,
+            } => self.check_changed_intervention(*id, *generation, cells.as_slice()),
+            Edit::RemoveIntervention { id } => self.check_removed_intervention(*id),
             Edit::SetCells { cells } => self.check_cells(cells.as_slice()),
             Edit::ReplaceStart(start) => self.check_start(start),
             Edit::ReplaceRule(rule) => self.check_rule(rule),
             Edit::AddBookmark { generation, view } => self.check_bookmark(*generation, view),
+            Edit::MoveBookmark { id, generation } => self.check_moved_bookmark(*id, *generation),
+            Edit::RemoveBookmark { id } => self.check_removed_bookmark(*id),
         }
+    }
+
+    // Whether there is an intervention of this id.
+    fn has_intervention(&self, id: u64) -> bool
+        ensures { result ≡ has_id intervention_id self.now.interventions id }
+    {
+        self.interventions
+            .iter()
+            .any(|intervention| intervention.id == id)
+    }
+
+    // Whether there is a bookmark of this id.
+    fn has_bookmark(&self, id: u64) -> bool
+        ensures { result ≡ has_id bookmark_id self.now.bookmarks id }
+    {
+        self.bookmarks.iter().any(|bookmark| bookmark.id == id)
+    }
+
+    // Whether the document may get an intervention with these cells at this generation.
+    fn check_intervention(&self, generation: u64, cells: &[CellSet]) -> Result<(), EditFault>
+        ensures { Checks result (for_intervention self.now generation cells.now) }
+    {
+        if generation > FARTHEST_GENERATION {
+            return Err(EditFault::GenerationTooFar);
+        }
+        if self.interventions.len() >= MOST_INTERVENTIONS {
+            return Err(EditFault::TooManyInterventions);
+        }
+        self.check_cells(cells)
+    }
+
+    // Whether the intervention of this id may get this generation and these cells.
+    fn check_changed_intervention(
+        &self,
+        id: u64,
+        generation: u64,
+        cells: &[CellSet],
+    ) -> Result<(), EditFault>
+        ensures { Checks result (for_changed_intervention self.now id generation cells.now) }
+    {
+        if !self.has_intervention(id) {
+            return Err(EditFault::NoSuchIntervention);
+        }
+        if generation > FARTHEST_GENERATION {
+            return Err(EditFault::GenerationTooFar);
+        }
+        self.check_cells(cells)
+    }
+
+    // Whether the intervention of this id may be removed.
+    fn check_removed_intervention(&self, id: u64) -> Result<(), EditFault>
+        ensures { Checks result (for_removed_intervention self.now id) }
+    {
+        if !self.has_intervention(id) {
+            return Err(EditFault::NoSuchIntervention);
+        }
+        self.check_revision()
+    }
+
+    // Whether the bookmark of this id may move to this generation.
+    fn check_moved_bookmark(&self, id: u64, generation: u64) -> Result<(), EditFault>
+        ensures { Checks result (for_moved_bookmark self.now id generation) }
+    {
+        if !self.has_bookmark(id) {
+            return Err(EditFault::NoSuchBookmark);
+        }
+        if generation > FARTHEST_GENERATION {
+            return Err(EditFault::GenerationTooFar);
+        }
+        self.check_revision()
+    }
+
+    // Whether the bookmark of this id may be removed.
+    fn check_removed_bookmark(&self, id: u64) -> Result<(), EditFault>
+        ensures { Checks result (for_removed_bookmark self.now id) }
+    {
+        if !self.has_bookmark(id) {
+            return Err(EditFault::NoSuchBookmark);
+        }
+        self.check_revision()
     }
 
     // Whether one more revision fits.

@@ -8,9 +8,27 @@ use std::sync::Arc;
 /// A change that a user asks for.
 #[derive(Drop)]
 pub enum Edit {
+    /// Adds an intervention at a generation of at most 2^60. It sets at most 10,000 cells in
+    /// `-2^60 <= x, y < 2^60`; the last mention of a cell wins.
+    InsertIntervention {
+        generation: u64,
+        cells: Listing<CellSet>,
+    },
+    /// Gives the intervention of this id another generation and other cells, with the same limits.
+    ChangeIntervention {
+        id: u64,
+        generation: u64,
+        cells: Listing<CellSet>,
+    },
+    /// Removes the intervention of this id, which isn't given again.
+    RemoveIntervention {
+        id: u64,
+    },
     /// Sets cells of the start, at most 10,000 in `-2^60 <= x, y < 2^60`; the last mention of a
     /// cell wins.
-    SetCells { cells: Listing<CellSet> },
+    SetCells {
+        cells: Listing<CellSet>,
+    },
     /// Takes another start, whose live cells lie in `-2^60 <= x, y < 2^60` and have states of the
     /// rule.
     ReplaceStart(Arc<Plane>),
@@ -18,7 +36,19 @@ pub enum Edit {
     ReplaceRule(Arc<Rule>),
     /// Adds a bookmark at a generation of at most 2^60. A window has 1 to 65,536 cells, all of them
     /// in `-2^61 <= x, y < 2^61`.
-    AddBookmark { generation: u64, view: View },
+    AddBookmark {
+        generation: u64,
+        view: View,
+    },
+    /// Moves the bookmark of this id to a generation of at most 2^60.
+    MoveBookmark {
+        id: u64,
+        generation: u64,
+    },
+    /// Removes the bookmark of this id, which isn't given again.
+    RemoveBookmark {
+        id: u64,
+    },
 }
 
 /// What an accepted edit answers.
