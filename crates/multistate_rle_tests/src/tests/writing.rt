@@ -4,7 +4,7 @@ ghost use Rattle.plane_core.specs.Live.{population};
 ghost use Rattle.plane_core.specs.Range.{AllBelow, CanBeLaid};
 
 use super::{Row, same};
-use multistate_rle::{MOST_WRITTEN, write_rle};
+use multistate_rle::{MOST_WRITTEN, read_rle, write_rle};
 use plane_core::{CellSet, Plane};
 use std::alloc::Global;
 use std::process::Abort;
@@ -345,5 +345,22 @@ fn lines_have_at_most_70_bytes(rt: HostRuntime) {
         (69, 0, 2),
         3,
         "#CXRLE Pos=0,0 Gen=0\nx = 70, y = 1, rule = X\nA.A.A.A.A.A.A.A.A.A.A.A.A.A.A.A.A.A.A.A.A.A.A.A.A.A.A.A.A.A.A.A.A.A.AB\n!\n",
+    );
+}
+
+/// Stops the test where a pattern isn't written as the text from which it was read.
+fn expect_written_again(rt: &impl Abort, alloc: Global, text: &str) {
+    let loaded = read_rle(alloc, text.as_bytes()).expect(rt, "a pattern");
+    let found = written(rt, alloc, &loaded.plane, "X", 0, 2);
+    same(rt, &found.as_slice(), &text.as_bytes(), &text);
+}
+
+#[test]
+fn more_than_a_hundred_thousand_cells(rt: HostRuntime) {
+    let alloc = rt.alloc();
+    expect_written_again(
+        &rt,
+        alloc,
+        "#CXRLE Pos=0,0 Gen=0\nx = 100001, y = 1, rule = X\n100001o!\n",
     );
 }
