@@ -1,15 +1,3 @@
-pub mod Kept
-pub mod Laws
-pub mod Layers
 pub mod NamedRule
-pub mod NodesNeeded
-pub mod Numbering
 pub mod Rule
 pub mod RuleLaws
-pub mod Starts
-pub mod TailsFound
-pub mod Translation
-pub mod Tree
-pub mod TreeFaults
-pub mod TreeLaws
-pub mod TreeLines

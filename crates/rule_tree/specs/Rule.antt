@@ -13,9 +13,9 @@ use Rattle.table_symmetry.specs.TableLines.{table_of}
 use Rattle.rule_tree.specs.declared.rule.Kind.{Kind}
 use Rattle.rule_tree.specs.declared.rule.Kind.TheVariants.{Table, Tree}
 use Rattle.rule_tree.specs.NamedRule.{NamedRule}
-use Rattle.rule_tree.specs.Translation.{Translates, node_limit}
-use Rattle.rule_tree.specs.Tree as tree_rule
-use Rattle.rule_tree.specs.TreeLines.{tree_of}
+use Rattle.tree_translation.specs.Translation.{Translates, node_limit}
+use Rattle.decision_tree.specs.Tree as tree_rule
+use Rattle.decision_tree.specs.TreeLines.{tree_of}
 
 abbrev pub name_of : NamedRule → List ℕ
 name_of rule = rule.name

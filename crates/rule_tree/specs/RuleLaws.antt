@@ -6,7 +6,7 @@ use Rattle.rule_tree.specs.declared.rule.Kind.{Kind}
 use Rattle.rule_tree.specs.declared.rule.Kind.TheVariants.{Table, Tree}
 use Rattle.rule_tree.specs.NamedRule.{NamedRule}
 use Rattle.rule_tree.specs.Rule.{next_of, next_under_kind, states_of, states_of_kind}
-use Rattle.rule_tree.specs.TreeLaws as tree
+use Rattle.decision_tree.specs.TreeLaws as tree
 
 quiet_kind : (kind : Kind) → next_under_kind kind nine_zeros ≡ 0
 quiet_kind (Table t) = table.next_under-quiet t

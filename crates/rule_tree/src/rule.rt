@@ -4,15 +4,13 @@ ghost use Rattle.std.specs.Option.{option_map};
 ghost use Rattle.rule_file.specs.Results.{Gives};
 ghost use Rattle.rule_tree.specs.Rule.{IsAsked, IsTranslated, kind_of, name_of, next_of, next_under_kind, plain_next, rule_of, states_of, still};
 
-use crate::translation::from_table;
-use crate::tree::TreeRule;
-use crate::tree_fault::TreeFault;
-use crate::tree_reader::read_tree;
+use decision_tree::{TreeRule, read_tree};
 use plane_core::{Around, Listing, Next};
 use rule_file::{RuleFault, RuleText, SectionKind, cut};
 use std::alloc::{AllocError, Global};
 use std::marker::Model;
 use table_symmetry::{TableRule, read_table};
+use tree_translation::{TreeFault, from_table};
 
 /// What says what a rule does.
 #[derive(Debug, Drop)]

@@ -1,8 +1,8 @@
 use Rattle.std.proofs.Common.{◌≤◌, ◌+◌, None, length, sym, subst, arith}
 use Rattle.rule_tree.specs.declared.rule.Kind.{Kind}
 use Rattle.rule_tree.specs.Rule.{IsTooLarge, IsTranslated}
-use Rattle.rule_tree.specs.Translation.{node_limit}
-use Rattle.rule_tree.proofs.NodesHad.{nodes-had}
+use Rattle.tree_translation.specs.Translation.{node_limit}
+use Rattle.tree_translation.proofs.NodesHad.{nodes-had}
 use Rattle.rule_tree.proofs.rule.translated.Goals as goal
 
 pub returns-in-Err-TreeTooLarge : goal.returns-in-Err-TreeTooLarge

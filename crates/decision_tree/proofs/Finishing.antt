@@ -1,0 +1,55 @@
+-- The tree of nodes that were read.
+use Rattle.std.proofs.Common.{◌≡◌, ◌≢◌, ℕ, ◌+◌, ◌*◌, ◌-◌, ◌==◌, true, false, cond, List, length, slice_index, Ok, Err, refl, sym, ap, ◌∙◌, arith, rules, tests}
+use Rattle.std.proofs.lemmas.Bool.{and_from}
+use Rattle.plane_core.specs.Step.{nine_zeros}
+use Rattle.rule_file.specs.declared.fault.RuleFault.TheVariants.{NotQuiescent}
+use Rattle.decision_tree.specs.declared.descriptors.TreeHead.{TreeHead}
+use Rattle.decision_tree.specs.declared.tree.Neighbors.{Neighbors}
+use Rattle.decision_tree.specs.declared.tree.Neighbors.TheVariants.{Four, Eight}
+use Rattle.decision_tree.specs.Kept.{AreKept, IsKeptTree, IsTreeHead, nodes_in, nodes_of, tree_of_kept}
+use Rattle.decision_tree.specs.Tree.{Tree, is_quiescent, leads, next, places_of, root_of}
+use Rattle.decision_tree.specs.TreeLines.{depth_of_root, if_quiescent, tree_from}
+use Rattle.decision_tree.proofs.Following.{root-kept}
+use Rattle.decision_tree.proofs.KeptNodes.{entries-nodes_of}
+
+pub tree-kept : (head : TreeHead) (depths entries : List ℕ) (root : ℕ) → length depths ≡ root + 1 → tree_from head (nodes_of head.states depths entries) ≡ tree_of_kept head.states head.neighbors root entries
+tree-kept head depths entries root whole =
+    ap (λ nodes. tree_with head nodes) (entries-nodes_of head.states depths entries ∙ ap (λ k. nodes_in head.states k entries) whole)
+  where
+    tree_with : TreeHead → List (List ℕ) → Tree
+    tree_with head nodes = record { states = head.states; neighbors = head.neighbors; nodes = nodes }
+
+pub if_quiescent-no : (tree : Tree) → next tree nine_zeros ≢ 0 → if_quiescent tree ≡ Err NotQuiescent
+if_quiescent-no tree restless =
+    let test : (next tree nine_zeros == 0) ≡ false = search (rules, tests) in
+    ap (λ b. cond b (Ok tree) (Err NotQuiescent)) test
+
+pub if_quiescent-yes : (tree : Tree) → next tree nine_zeros ≡ 0 → if_quiescent tree ≡ Ok tree
+if_quiescent-yes tree still =
+    let test : (next tree nine_zeros == 0) ≡ true = search (rules, tests) in
+    ap (λ b. cond b (Ok tree) (Err NotQuiescent)) test
+
+-- there is an input for each level
+levels : (neighbors : Neighbors) → length (places_of neighbors) ≡ depth_of_root neighbors
+levels Four = refl
+levels Eight = refl
+
+-- the root leads to a state
+pub root-leads : (head : TreeHead) (depths entries : List ℕ) (root : ℕ) → AreKept head depths entries → length depths ≡ head.node_count → head.node_count ≡ root + 1 → leads head.states (nodes_in head.states (root + 1) entries) root (places_of head.neighbors) ≡ true
+root-leads head depths entries root kept whole last =
+    let at : head.node_count - 1 ≡ root = omega arith in
+    let deep : length (places_of head.neighbors) ≡ slice_index depths root = levels head.neighbors ∙ sym (kept.rooted whole) ∙ ap (slice_index depths) at in
+    ap (λ k. leads head.states (nodes_in head.states k entries) root (places_of head.neighbors)) (sym last ∙ sym whole) ∙ kept.leading root (places_of head.neighbors) (omega (arith, whole, last)) deep
+
+-- such a tree is one that a file may have
+pub kept-tree : (head : TreeHead) (depths entries : List ℕ) (root : ℕ) → IsTreeHead head → AreKept head depths entries → length depths ≡ head.node_count → head.node_count ≡ root + 1 → next (tree_of_kept head.states head.neighbors root entries) nine_zeros ≡ 0 → IsKeptTree head.states head.neighbors root entries
+kept-tree head depths entries root limits kept whole last still =
+    let tree = tree_of_kept head.states head.neighbors root entries in
+    let quiet : (next tree nine_zeros == 0) ≡ true = search (rules, tests) in
+    record {
+      at_least = limits.at_least;
+      at_most = limits.at_most;
+      filled = kept.filled ∙ ap (λ k. k * head.states) (whole ∙ last);
+      sound = and_from (is_quiescent tree) (leads head.states tree.nodes (root_of tree) (places_of head.neighbors)) quiet
+          (ap (λ r. leads head.states tree.nodes r (places_of head.neighbors)) (root-kept head.states head.neighbors root entries) ∙ root-leads head depths entries root kept whole last);
+    }

@@ -1,0 +1,57 @@
+-- Following inputs through entries that are kept one after another.
+use Rattle.std.proofs.Common.{◌≡◌, ℕ, ◌+◌, ◌*◌, ◌<◌, true, cond, List, ◌∷◌, length, drop, get_or, slice_index, sym, ap, ◌∙◌, arith}
+use Rattle.std.proofs.lemmas.Bool.{and_parts}
+use Rattle.std.proofs.lemmas.List.{drop_more}
+use Rattle.std.proofs.lemmas.Nat.{mul-add-lt}
+use Rattle.decision_tree.specs.declared.tree.Neighbors.{Neighbors}
+use Rattle.decision_tree.specs.Kept.{nodes_in, tree_of_kept, IsKeptTree, Stores}
+use Rattle.decision_tree.specs.Tree.{Tree, node_at, leads, follow, next, next_under, is_sound, is_quiescent, root_of, places_of, inputs_of}
+use Rattle.decision_tree.specs.TreeLaws.{leads-on, leads-width}
+use Rattle.decision_tree.proofs.KeptNodes.{entry-in, length-nodes_in, none-past}
+
+-- what one input does, where the entry that it chooses stands at `place`
+pub record Step (n count : ℕ) (entries : List ℕ) (number : ℕ) (inputs : List ℕ) (k place : ℕ) : Type 0 where
+  pub inside : place < length entries
+  pub leading : leads n (nodes_in n count entries) (slice_index entries place) (drop (k + 1) inputs) ≡ true
+  pub found : follow (nodes_in n count entries) (slice_index entries place) (drop (k + 1) inputs) ≡ follow (nodes_in n count entries) number (drop k inputs)
+
+pub one_step : (n count : ℕ) (entries : List ℕ) (number : ℕ) (inputs : List ℕ) (k place : ℕ) → length entries ≡ count * n → leads n (nodes_in n count entries) number (drop k inputs) ≡ true → k < length inputs → get_or inputs k 0 < n → place ≡ number * n + get_or inputs k 0 → Step n count entries number inputs k place
+one_step n count entries number inputs k place filled leading more low at =
+    let nodes = nodes_in n count entries in
+    let input = get_or inputs k 0 in
+    let later = drop (k + 1) inputs in
+    let split : drop k inputs ≡ input ∷ later = drop_more inputs k 0 more in
+    let on : leads n nodes number (input ∷ later) ≡ true = ap (leads n nodes number) (sym split) ∙ leading in
+    let width : length (node_at nodes number) ≡ n = leads-width n nodes number input later on in
+    let count_is : length nodes ≡ count = length-nodes_in n count entries in
+    let among : number < length nodes = none-past nodes number n (omega arith) width in
+    let there : number < count = omega arith in
+    let chosen : slice_index (node_at nodes number) input ≡ slice_index entries place = entry-in n count entries number input there low ∙ ap (slice_index entries) (sym at) in
+    let bound : number * n + input < n * count = mul-add-lt number n input count there low in
+    record {
+      inside = omega arith;
+      leading = ap (λ e. leads n nodes e later) (sym chosen) ∙ leads-on n nodes number input later on low;
+      found = ap (λ e. follow nodes e later) (sym chosen) ∙ ap (follow nodes number) (sym split);
+    }
+
+-- the root of a kept tree is its last node
+pub root-kept : (n : ℕ) (neighbors : Neighbors) (root : ℕ) (entries : List ℕ) → root_of (tree_of_kept n neighbors root entries) ≡ root
+root-kept n neighbors root entries = omega (arith, length-nodes_in n (root + 1) entries)
+
+pub next-kept : (n : ℕ) (neighbors : Neighbors) (root : ℕ) (entries around : List ℕ) → follow (nodes_in n (root + 1) entries) root (inputs_of neighbors around) ≡ next (tree_of_kept n neighbors root entries) around
+next-kept n neighbors root entries around =
+    ap (λ r. follow (nodes_in n (root + 1) entries) r (inputs_of neighbors around)) (sym (root-kept n neighbors root entries))
+
+pub stores-kept : (n : ℕ) (neighbors : Neighbors) (root : ℕ) (entries : List ℕ) → IsKeptTree n neighbors root entries → Stores n (places_of neighbors) root entries
+stores-kept n neighbors root entries kept =
+    let tree = tree_of_kept n neighbors root entries in
+    let leading : leads n tree.nodes (root_of tree) (places_of neighbors) ≡ true = (and_parts (is_quiescent tree) (leads n tree.nodes (root_of tree) (places_of neighbors)) kept.sound).1 in
+    record {
+      at_most = kept.at_most;
+      filled = kept.filled;
+      leading = ap (λ r. leads n tree.nodes r (places_of neighbors)) (sym (root-kept n neighbors root entries)) ∙ leading;
+    }
+
+-- a sound tree
+pub next_under-sound : (tree : Tree) (around : List ℕ) → is_sound tree ≡ true → next tree around ≡ next_under tree around
+next_under-sound tree around h = sym (ap (λ b. cond b (next tree around) 0) h)

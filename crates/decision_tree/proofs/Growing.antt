@@ -1,0 +1,168 @@
+-- Nodes stay what they are where one more comes behind them.
+use Rattle.std.proofs.Common.{◌≡◌, ◌≢◌, ℕ, ◌+◌, ◌*◌, ◌-◌, ◌<◌, ◌≤◌, ◌==◌, ◌&&◌, ◌||◌, Bool, true, false, cond, List, [], ◌∷◌, ◌++◌, length, slice_index, nat_lt, EachIndex, below_more, refl, sym, ap, ◌∙◌, arith, rules, tests, length-append}
+use Rattle.std.proofs.lemmas.Bool.{and_parts, and_from}
+use Rattle.std.specs.List.{list_all}
+use Rattle.std.proofs.lemmas.List.{get_or_append_left}
+use Rattle.std.proofs.Math.Seq.{get_or-append_seam}
+use Rattle.std.proofs.lemmas.List.Sums.{AllPass-from_list_all}
+use Rattle.decision_tree.specs.declared.descriptors.TreeHead.{TreeHead}
+use Rattle.decision_tree.specs.Kept.{AreKept, IsTreeHead, nodes_in}
+use Rattle.decision_tree.specs.Tree.{Entries, node_at, leads}
+use Rattle.decision_tree.specs.TreeLaws.{leads-width}
+use Rattle.decision_tree.specs.TreeLines.{depth_of_root, do_entries_fit, is_next}
+use Rattle.decision_tree.proofs.KeptNodes.{length-nodes_in, none-past, nodes_in-push}
+
+-- what holds of each, holds of each what follows from it
+list_all-follows : (p q : ℕ → Bool) (xs : List ℕ) → list_all p xs ≡ true → ((x : ℕ) → p x ≡ true → q x ≡ true) → list_all q xs ≡ true
+list_all-follows p q [] h f = refl
+list_all-follows p q (x ∷ xs) h f =
+    let parts = and_parts (p x) (list_all p xs) h in
+    and_from (q x) (list_all q xs) (f x parts.0) (list_all-follows p q xs parts.1 f)
+
+-- a node of n entries leads on where each of them does
+pub leads-node : (n : ℕ) (nodes : List Entries) (number : ℕ) (node : List ℕ) (input : ℕ) (inputs : List ℕ) → node_at nodes number ≡ node → length node ≡ n → list_all (λ entry. leads n nodes entry inputs) node ≡ true → leads n nodes number (input ∷ inputs) ≡ true
+leads-node n nodes number node input inputs at width all =
+    let test : (length node == n) ≡ true = search (rules, tests) in
+    ap (λ x. (length x == n) && list_all (λ entry. leads n nodes entry inputs) x) at ∙ and_from (length node == n) _ test all
+
+-- more nodes change nothing for those before
+pub leads-append : (n : ℕ) (nodes more : List Entries) (number : ℕ) (inputs : List ℕ) → 0 < n → leads n nodes number inputs ≡ true → leads n (nodes ++ more) number inputs ≡ true
+leads-append n nodes more number [] some h = h
+leads-append n nodes more number (input ∷ inputs) some h =
+    let node = node_at nodes number in
+    let width : length node ≡ n = leads-width n nodes number input inputs h in
+    let inside : number < length nodes = none-past nodes number n some width in
+    let all : list_all (λ entry. leads n nodes entry inputs) node ≡ true = (and_parts (length node == n) (list_all (λ entry. leads n nodes entry inputs) node) h).1 in
+    leads-node n (nodes ++ more) number node input inputs (get_or_append_left nodes more [] number inside) width
+    (list_all-follows (λ entry. leads n nodes entry inputs) (λ entry. leads n (nodes ++ more) entry inputs) node all (λ entry k. leads-append n nodes more entry inputs some k))
+
+-- each of these nodes leads to states through as many nodes as it is deep
+abbrev Leading : ℕ → List ℕ → List Entries → Type 0
+Leading n depths nodes = (number : ℕ) (inputs : List ℕ) → number < length depths → length inputs ≡ slice_index depths number → leads n nodes number inputs ≡ true
+
+-- the entries of a node of depth 1 are states
+fits-low : (n : ℕ) (depths node : List ℕ) (depth : ℕ) → 1 ≡ depth → do_entries_fit n depths (record { depth = depth; entries = node }) ≡ true → list_all (λ s. nat_lt s n) node ≡ true
+fits-low n depths node depth one h = ap (λ d. do_entries_fit n depths (record { depth = d; entries = node })) one ∙ h
+
+-- those of a deeper node are the numbers of nodes one less deep
+fits-high : (n : ℕ) (depths node : List ℕ) (depth : ℕ) → depth ≢ 1 → do_entries_fit n depths (record { depth = depth; entries = node }) ≡ true → list_all (λ k. nat_lt k (length depths) && (slice_index depths k + 1 == depth)) node ≡ true
+fits-high n depths node depth more h =
+    let test : (depth == 1) ≡ false = search (rules, tests) in
+    ap (λ b. cond b (list_all (λ s. nat_lt s n) node) (list_all (λ k. nat_lt k (length depths) && (slice_index depths k + 1 == depth)) node)) (sym test) ∙ h
+
+-- a number of a node one less deep
+pub record IsBelow (depths : List ℕ) (depth k : ℕ) : Type 0 where
+  pub earlier : k < length depths
+  pub less : slice_index depths k + 1 ≡ depth
+
+is-below : (depths : List ℕ) (depth k : ℕ) → (nat_lt k (length depths) && (slice_index depths k + 1 == depth)) ≡ true → IsBelow depths depth k
+is-below depths depth k h =
+    let parts = and_parts (nat_lt k (length depths)) (slice_index depths k + 1 == depth) h in
+    let first : nat_lt k (length depths) ≡ true = parts.0 in
+    let second : (slice_index depths k + 1 == depth) ≡ true = parts.1 in
+    record { earlier = search (rules, tests); less = search (rules, tests) }
+
+-- a node that has entries and isn't of depth 1 is one deeper than another
+first-below : (n : ℕ) (depths node : List ℕ) (depth : ℕ) → 0 < length node → depth ≢ 1 → do_entries_fit n depths (record { depth = depth; entries = node }) ≡ true → IsBelow depths depth (slice_index node 0)
+first-below n depths node depth some more h =
+    is-below depths depth (slice_index node 0) (AllPass-from_list_all _ node (fits-high n depths node depth more h) 0 0 some)
+
+-- the same of one more node, whose entries fit
+leads-fitting : (n : ℕ) (depths : List ℕ) (nodes : List Entries) (depth : ℕ) (node inputs : List ℕ) → 0 < n → length nodes ≡ length depths → Leading n depths nodes → length node ≡ n → do_entries_fit n depths (record { depth = depth; entries = node }) ≡ true → length inputs ≡ depth → leads n (nodes ++ node ∷ []) (length depths) inputs ≡ true
+leads-fitting n depths nodes depth node [] some count leading width fits long =
+    let more : depth ≢ 1 = λ one. absurd (omega (arith, one, long)) in
+    let below : IsBelow depths depth (slice_index node 0) = first-below n depths node depth (omega arith) more fits in
+    absurd (omega (arith, below.less, long))
+leads-fitting n depths nodes depth node (input ∷ []) some count leading width fits long =
+    let at : node_at (nodes ++ node ∷ []) (length depths) ≡ node = ap (node_at (nodes ++ node ∷ [])) (sym count) ∙ get_or-append_seam nodes node [] [] in
+    leads-node n (nodes ++ node ∷ []) (length depths) node input [] at width (fits-low n depths node depth long fits)
+leads-fitting n depths nodes depth node (input ∷ second ∷ inputs) some count leading width fits long =
+    let at : node_at (nodes ++ node ∷ []) (length depths) ≡ node = ap (node_at (nodes ++ node ∷ [])) (sym count) ∙ get_or-append_seam nodes node [] [] in
+    let more : depth ≢ 1 = λ one. absurd (omega (arith, one, long)) in
+    leads-node n (nodes ++ node ∷ []) (length depths) node input (second ∷ inputs) at width
+    (list_all-follows _ (λ k. leads n (nodes ++ node ∷ []) k (second ∷ inputs)) node (fits-high n depths node depth more fits)
+    (λ k h. let below = is-below depths depth k h in
+    leads-append n nodes (node ∷ []) k (second ∷ inputs) some (leading k (second ∷ inputs) below.earlier (omega (arith, below.less, long)))))
+
+small-of : (s n : ℕ) → nat_lt s n ≡ true → n < 4294967295 → nat_lt s 4294967295 ≡ true
+small-of s n h few =
+    let low : s < n = search (rules, tests) in
+    let small : s < 4294967295 = omega arith in
+    search (rules, tests)
+
+-- what makes a node the next one
+pub record IsNextNode (head : TreeHead) (depths : List ℕ) (depth : ℕ) (node : List ℕ) : Type 0 where
+  pub room : length depths < head.node_count
+  pub width : length node ≡ head.states
+  pub fits : do_entries_fit head.states depths (record { depth = depth; entries = node }) ≡ true
+  pub rooted : length depths + 1 ≡ head.node_count → depth ≡ depth_of_root head.neighbors
+
+rooted_by : (early last : Bool) → (early || last) ≡ true → early ≡ false → last ≡ true
+rooted_by true last h e = absurd cc
+rooted_by false last h e = h
+
+pub is_next-node : (head : TreeHead) (depths : List ℕ) (depth : ℕ) (node : List ℕ) → is_next head depths (record { depth = depth; entries = node }) ≡ true → IsNextNode head depths depth node
+is_next-node head depths depth node h =
+    let a = and_parts (nat_lt (length depths) head.node_count) _ h in
+    let b = and_parts (length node == head.states) _ a.1 in
+    let c = and_parts (do_entries_fit head.states depths (record { depth = depth; entries = node })) _ b.1 in
+    let room : nat_lt (length depths) head.node_count ≡ true = a.0 in
+    let width : (length node == head.states) ≡ true = b.0 in
+    record {
+      room = search (rules, tests);
+      width = search (rules, tests);
+      fits = c.0;
+      rooted = λ whole.
+          let early : nat_lt (length depths + 1) head.node_count ≡ false = search (rules, tests) in
+          let last : (depth == depth_of_root head.neighbors) ≡ true = rooted_by (nat_lt (length depths + 1) head.node_count) (depth == depth_of_root head.neighbors) c.1 early in
+          search (rules, tests);
+    }
+
+-- the next node isn't deeper than there are nodes then
+pub depth-low : (head : TreeHead) (depths : List ℕ) (depth : ℕ) (node : List ℕ) → 2 ≤ head.states → EachIndex depths (λ k. slice_index depths k ≤ length depths) → IsNextNode head depths depth node → depth ≤ length depths + 1
+depth-low head depths depth node some low next =
+    elim (depth == 1) as (λ b. (depth == 1) ≡ b → depth ≤ length depths + 1) [
+      | true ↦ λ h. let one : depth ≡ 1 = search (rules, tests) in omega arith
+      | false ↦ λ h.
+          let more : depth ≢ 1 = search (rules, tests) in
+          let below = first-below head.states depths node depth (omega (arith, next.width)) more next.fits in
+          omega (arith, below.less, low (slice_index node 0) below.earlier)
+    ] refl
+
+-- its entries are small numbers
+pub entries-low : (head : TreeHead) (depths : List ℕ) (depth : ℕ) (node : List ℕ) → IsTreeHead head → IsNextNode head depths depth node → list_all (λ n. nat_lt n 4294967295) node ≡ true
+entries-low head depths depth node limits next =
+    elim (depth == 1) as (λ b. (depth == 1) ≡ b → list_all (λ n. nat_lt n 4294967295) node ≡ true) [
+      | true ↦ λ h.
+          let one : depth ≡ 1 = search (rules, tests) in
+          list_all-follows _ (λ n. nat_lt n 4294967295) node (fits-low head.states depths node depth (sym one) next.fits) (λ s k. small-of s head.states k (omega (arith, limits.at_most)))
+      | false ↦ λ h.
+          let more : depth ≢ 1 = search (rules, tests) in
+          list_all-follows _ (λ n. nat_lt n 4294967295) node (fits-high head.states depths node depth more next.fits)
+          (λ s k. small-of s (length depths) (and_parts (nat_lt s (length depths)) (slice_index depths s + 1 == depth) k).0 (omega (arith, next.room, limits.few)))
+    ] refl
+
+-- the nodes with the next one
+pub kept-push : (head : TreeHead) (depths entries : List ℕ) (depth : ℕ) (node : List ℕ) → IsTreeHead head → AreKept head depths entries → IsNextNode head depths depth node → AreKept head (depths ++ depth ∷ []) (entries ++ node)
+kept-push head depths entries depth node limits kept next =
+    let n = head.states in
+    let longer : length (depths ++ depth ∷ []) ≡ length depths + 1 = length-append depths (depth ∷ []) in
+    let last : slice_index (depths ++ depth ∷ []) (length depths) ≡ depth = get_or-append_seam depths depth [] 0 in
+    let before : (k : ℕ) → k < length depths → slice_index (depths ++ depth ∷ []) k ≡ slice_index depths k = λ k h. get_or_append_left depths (depth ∷ []) 0 k h in
+    let nodes = nodes_in n (length depths) entries in
+    let more : nodes_in n (length (depths ++ depth ∷ [])) (entries ++ node) ≡ nodes ++ node ∷ [] = ap (λ k. nodes_in n k (entries ++ node)) longer ∙ nodes_in-push n (length depths) entries node kept.filled next.width in
+    let low : depth ≤ length depths + 1 = depth-low head depths depth node limits.at_least kept.low next in
+    record {
+      filled = omega (arith, length-append entries node, longer, kept.filled, next.width, ap (λ k. k * n) longer);
+      few = omega (arith, longer, next.room);
+      low = λ k h. below_more (λ k. slice_index (depths ++ depth ∷ []) k ≤ length (depths ++ depth ∷ [])) (length depths)
+          (λ k h. omega (arith, before k h, kept.low k h, longer)) (omega (arith, last, low, longer)) k (omega (arith, h, longer));
+      leading = λ number inputs h long. ap (λ ns. leads n ns number inputs) more
+          ∙ below_more (λ k. length inputs ≡ slice_index (depths ++ depth ∷ []) k → leads n (nodes ++ node ∷ []) k inputs ≡ true) (length depths)
+          (λ k h e. leads-append n nodes (node ∷ []) k inputs (omega (arith, limits.at_least)) (kept.leading k inputs h (e ∙ before k h)))
+          (λ e. leads-fitting n depths nodes depth node inputs (omega (arith, limits.at_least)) (length-nodes_in n (length depths) entries) kept.leading next.width next.fits (e ∙ last))
+          number (omega (arith, h, longer)) long;
+      rooted = λ whole.
+          let at : head.node_count - 1 ≡ length depths = omega (arith, whole, longer) in
+          ap (slice_index (depths ++ depth ∷ [])) at ∙ last ∙ next.rooted (sym longer ∙ whole);
+    }

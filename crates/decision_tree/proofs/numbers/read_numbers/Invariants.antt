@@ -1,0 +1,12 @@
+use Rattle.std.proofs.Common.{◌≡◌, length, map, filter}
+use Rattle.std.specs.Option.{option_map}
+use Rattle.decision_tree.specs.Kept.{saturated}
+use Rattle.decision_tree.specs.TreeLines.{is_word, numbers_in, words}
+use Rattle.decision_tree.proofs.Pieces.{with_front}
+use Rattle.decision_tree.proofs.numbers.read_numbers.Given as goal
+
+abbrev pub invariant-loop-piece : goal.invariant-loop-piece
+invariant-loop-piece l = with_front l.numbers.items (numbers_in (filter is_word l.pieces)) ≡ option_map (map saturated) (numbers_in (words l.line))
+
+abbrev pub decreases-loop-piece : goal.decreases-loop-piece
+decreases-loop-piece l = length l.pieces

@@ -1,0 +1,4 @@
+pub mod Kept
+pub mod Tree
+pub mod TreeLaws
+pub mod TreeLines

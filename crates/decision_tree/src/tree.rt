@@ -1,0 +1,122 @@
+//! Rules that are given by a tree.
+ghost use Rattle.std.specs.Prelude.{◌≡◌, ◌<◌, ◌+◌, All};
+ghost use Rattle.decision_tree.specs.Kept.{nodes_in, Stores};
+ghost use Rattle.decision_tree.specs.Tree.{follow, inputs_of, next, places_of};
+
+use plane_core::{Around, Next};
+use std::marker::Model;
+
+/// Which cells around a cell are its neighbours.
+#[derive(Clone, Copy, Debug, PartialEq, Eq)]
+pub enum Neighbors {
+    /// The cells to the north, west, east and south.
+    Four,
+    /// These and the cells at the four corners.
+    Eight,
+}
+
+/// A rule that is given by a tree: from the root on, each neighbour's state and at last the cell's
+/// own choose an entry, the number of the next node, and the last entry is the next state.
+#[derive(Debug, Drop)]
+pub struct TreeRule {
+    states: u16,
+    neighbors: Neighbors,
+    // The number of the last node, counted from 0.
+    root: u32,
+    // The entries of all nodes in order, one for each state.
+    entries: Vec<u32>,
+}
+
+impl Model for TreeRule {
+    ghost use Rattle.decision_tree.specs.Tree.{Tree};
+
+    ghost Value = { Tree };
+
+    ghost use Rattle.decision_tree.specs.Kept.{IsKeptTree, tree_of_kept};
+
+    ghost view = { λ rule. tree_of_kept rule.states rule.neighbors rule.root rule.entries.items };
+
+    ghost invariant = { λ rule. IsKeptTree rule.states rule.neighbors rule.root rule.entries.items };
+}
+
+impl TreeRule {
+    ghost use Rattle.decision_tree.specs.Kept.{IsKeptTree, tree_of_kept};
+
+    /// The tree of these entries, which stand one node after another up to the root.
+    pub fn new(states: u16, neighbors: Neighbors, root: u32, entries: Vec<u32>) -> TreeRule
+        requires { IsKeptTree states neighbors root entries.items }
+        ensures { result ≡ tree_of_kept states neighbors root entries.items }
+    {
+        TreeRule {
+            states,
+            neighbors,
+            root,
+            entries,
+        }
+    }
+}
+
+impl Next for TreeRule {
+    ghost use Rattle.decision_tree.specs.Tree.{next, next_under};
+    ghost use Rattle.decision_tree.specs.TreeLaws.{next_under-quiet, next_under-below};
+
+    ghost state_count = { λ rule. rule.states };
+
+    ghost meaning = { next_under };
+
+    ghost quiet = { next_under-quiet };
+
+    ghost below = { next_under-below };
+
+    fn states(&self) -> u16 {
+        self.states
+    }
+
+    fn next(&self, around: &Around) -> u8
+        requires { All (λ s. s < self.now.states) around.now.0 }
+        ensures value { result ≡ next_under self.now around.now.0 }
+        ensures straight { result ≡ next self.now around.now.0 }
+    {
+        next_in(
+            self.states,
+            self.neighbors,
+            self.root,
+            &self.entries,
+            around,
+        )
+    }
+}
+
+/// The next state under the tree of these entries.
+pub(crate) fn next_in(
+    states: u16,
+    neighbors: Neighbors,
+    root: u32,
+    entries: &[u32],
+    around: &Around,
+) -> u8
+    requires stores { Stores states (places_of neighbors) root entries.now }
+    requires below { All (λ s. s < states) around.now.0 }
+    ensures { result ≡ follow (nodes_in states (root + 1) entries.now) root
+        (inputs_of neighbors around.now.0) }
+{
+    let [c, n, ne, e, se, s, sw, w, nw] = around.0;
+    match neighbors {
+        Neighbors::Four => follow(states, root, entries, &[n, w, e, s, c]),
+        Neighbors::Eight => follow(states, root, entries, &[nw, ne, sw, se, n, w, e, s, c]),
+    }
+}
+
+// The state to which these inputs lead from the root, where each node has an entry for each state.
+fn follow(states: u16, root: u32, entries: &[u32], inputs: &[u8]) -> u8
+    requires stores { Stores states inputs.now root entries.now }
+    requires below { All (λ s. s < states) inputs.now }
+    ensures { result ≡ follow (nodes_in states (root + 1) entries.now) root inputs.now }
+{
+    let width = usize::from(states);
+    let mut number = root as usize;
+    for input in inputs {
+        number = entries[number * width + usize::from(*input)] as usize;
+    }
+    number as u8
+}

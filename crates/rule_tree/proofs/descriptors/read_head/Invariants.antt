@@ -1,9 +1,0 @@
-use Rattle.std.proofs.Common.{◌≡◌, length}
-use Rattle.rule_tree.specs.TreeLines.{head_from, undescribed}
-use Rattle.rule_tree.proofs.descriptors.read_head.Given as goal
-
-abbrev pub invariant-loop-left : goal.invariant-loop-left
-invariant-loop-left l = head_from l.fn.last l.described l.left ≡ head_from l.fn.last undescribed l.fn.lines
-
-abbrev pub decreases-loop-left : goal.decreases-loop-left
-decreases-loop-left l = length l.left

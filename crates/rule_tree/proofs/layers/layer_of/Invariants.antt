@@ -1,6 +1,0 @@
-use Rattle.std.proofs.Common.{length}
-use Rattle.rule_tree.proofs.Layering.{AreTails}
-use Rattle.rule_tree.proofs.layers.layer_of.Given as goal
-
-abbrev pub invariant-loop-row : goal.invariant-loop-row
-invariant-loop-row l = AreTails l.place l.rows l.rests l.sets.items l.tails.keys l.numbers.items (length l.yielded)

@@ -1,6 +1,0 @@
-use Rattle.std.proofs.Common.{take}
-use Rattle.rule_tree.specs.TailsFound.{IsFound}
-use Rattle.rule_tree.proofs.numbering.tails_left.Given as goal
-
-abbrev pub invariant-loop-number : goal.invariant-loop-number
-invariant-loop-number l = IsFound l.layer l.state (take l.number-index l.list) l.is_there l.found.items

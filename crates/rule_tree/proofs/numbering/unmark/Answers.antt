@@ -1,8 +1,0 @@
-use Rattle.std.proofs.Common.{subst}
-use Rattle.std.proofs.Math.ListN.{drop_of_length-le}
-use Rattle.rule_tree.specs.TailsFound.{AreMarked}
-use Rattle.rule_tree.proofs.TailsLeft.{none-marked}
-use Rattle.rule_tree.proofs.numbering.unmark.Goals as goal
-
-pub returns : goal.returns
-returns c = none-marked c.loop-rest.is_there (subst (AreMarked c.loop-rest.is_there) (drop_of_length-le c.args.found.now c.loop-rest-test.false) c.loop-rest.invariant)

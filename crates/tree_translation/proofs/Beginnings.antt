@@ -1,0 +1,102 @@
+-- Beginnings of a table's inputs, by those of its rows.
+use Rattle.std.proofs.Common.{◌≡◌, inl, inr, ℕ, ◌+◌, ◌<◌, List, [], ◌∷◌, ◌++◌, All, length, map, slice_index, slice_index_or, unwrap_or, refl, sym, ap, subst, ◌∙◌, arith}
+use Rattle.std.proofs.lemmas.List.{get_or-map, length-map}
+use Rattle.std.proofs.lemmas.List.Elements.{All-append, All-from_get_or, All-from_recursion, All-map}
+use Rattle.plane_core.specs.Step.{AreNineBelow}
+use Rattle.table_symmetry.specs.declared.expansion.Expanded.{Expanded}
+use Rattle.table_symmetry.specs.Expanded.{first_match}
+use Rattle.table_symmetry.specs.NextState as table_rule
+use Rattle.table_symmetry.specs.Table.{Table}
+use Rattle.decision_tree.specs.declared.tree.Neighbors.{Neighbors}
+use Rattle.decision_tree.specs.declared.tree.Neighbors.TheVariants.{Four, Eight}
+use Rattle.tree_translation.specs.NodesNeeded.{NeedTwoNodes, NeedsNodes}
+use Rattle.tree_translation.specs.Starts.{NeedStarts, Start, StartsApart, start_at}
+use Rattle.tree_translation.specs.Translation.{neighbors_of, order_of, rows_give}
+use Rattle.decision_tree.specs.Tree.{inputs_of, places_of}
+use Rattle.decision_tree.specs.TreeLaws.{state-below}
+use Rattle.tree_translation.proofs.Translating.{places-many, rows-next}
+
+-- states at and around a cell, of which these are a tree's inputs
+abbrev around_of : Neighbors → List ℕ → List ℕ
+around_of Four inputs = slice_index inputs 4 ∷ slice_index inputs 0 ∷ 0 ∷ slice_index inputs 2 ∷ 0 ∷ slice_index inputs 3 ∷ 0 ∷ slice_index inputs 1 ∷ 0 ∷ []
+around_of Eight inputs = slice_index inputs 8 ∷ slice_index inputs 4 ∷ slice_index inputs 1 ∷ slice_index inputs 6 ∷ slice_index inputs 3 ∷ slice_index inputs 7 ∷ slice_index inputs 2 ∷ slice_index inputs 5 ∷ slice_index inputs 0 ∷ []
+
+inputs-around : (neighbors : Neighbors) (inputs : List ℕ) → length inputs ≡ length (places_of neighbors) → inputs_of neighbors (around_of neighbors inputs) ≡ inputs
+inputs-around Four (n ∷ w ∷ e ∷ s ∷ c ∷ []) long = refl
+inputs-around Four [] long = absurd (omega (arith, long))
+inputs-around Four (n ∷ []) long = absurd (omega (arith, long))
+inputs-around Four (n ∷ w ∷ []) long = absurd (omega (arith, long))
+inputs-around Four (n ∷ w ∷ e ∷ []) long = absurd (omega (arith, long))
+inputs-around Four (n ∷ w ∷ e ∷ s ∷ []) long = absurd (omega (arith, long))
+inputs-around Four (n ∷ w ∷ e ∷ s ∷ c ∷ more ∷ others) long = absurd (omega (arith, long))
+inputs-around Eight (nw ∷ ne ∷ sw ∷ se ∷ n ∷ w ∷ e ∷ s ∷ c ∷ []) long = refl
+inputs-around Eight [] long = absurd (omega (arith, long))
+inputs-around Eight (nw ∷ []) long = absurd (omega (arith, long))
+inputs-around Eight (nw ∷ ne ∷ []) long = absurd (omega (arith, long))
+inputs-around Eight (nw ∷ ne ∷ sw ∷ []) long = absurd (omega (arith, long))
+inputs-around Eight (nw ∷ ne ∷ sw ∷ se ∷ []) long = absurd (omega (arith, long))
+inputs-around Eight (nw ∷ ne ∷ sw ∷ se ∷ n ∷ []) long = absurd (omega (arith, long))
+inputs-around Eight (nw ∷ ne ∷ sw ∷ se ∷ n ∷ w ∷ []) long = absurd (omega (arith, long))
+inputs-around Eight (nw ∷ ne ∷ sw ∷ se ∷ n ∷ w ∷ e ∷ []) long = absurd (omega (arith, long))
+inputs-around Eight (nw ∷ ne ∷ sw ∷ se ∷ n ∷ w ∷ e ∷ s ∷ []) long = absurd (omega (arith, long))
+inputs-around Eight (nw ∷ ne ∷ sw ∷ se ∷ n ∷ w ∷ e ∷ s ∷ c ∷ more ∷ others) long = absurd (omega (arith, long))
+
+-- they are nine states where the inputs are states
+around-below : (n : ℕ) (neighbors : Neighbors) (inputs : List ℕ) → 0 < n → All (λ s. s < n) inputs → AreNineBelow n (around_of neighbors inputs)
+around-below n neighbors inputs some low = by neighbors (state-below n inputs some low)
+  where
+    by : (neighbors : Neighbors) → ((k : ℕ) → slice_index inputs k < n) → AreNineBelow n (around_of neighbors inputs)
+    by Four at = record {
+      nine = refl;
+      below = All-from_recursion (λ (s : ℕ). s < n) (around_of Four inputs) (at 4, (at 0, (some, (at 2, (some, (at 3, (some, (at 1, (some, tt)))))))));
+    }
+    by Eight at = record {
+      nine = refl;
+      below = All-from_recursion (λ (s : ℕ). s < n) (around_of Eight inputs) (at 8, (at 4, (at 1, (at 6, (at 3, (at 7, (at 2, (at 5, (at 0, tt)))))))));
+    }
+
+module _ (table : Table) (rows : List Expanded) (count : ℕ) (some : 0 < table.states) (full : All (λ (row : Expanded). length row.inputs ≡ length (table_rule.places_of table.neighborhood) + 1) rows) (first : (around : List ℕ) → unwrap_or (first_match rows (table_rule.inputs_of table.neighborhood around)) (slice_index around 0) ≡ table_rule.next table around) (needed : NeedStarts table.states (length (order_of table.neighborhood)) (λ k inputs. rows_give (order_of table.neighborhood) rows inputs) 1 count) where
+  abbrev depth : ℕ
+  depth = length (order_of table.neighborhood)
+
+  -- states with these inputs
+  abbrev states_for : List ℕ → List ℕ
+  states_for inputs = around_of (neighbors_of table.neighborhood) inputs
+
+  inputs-for : (inputs : List ℕ) → length inputs ≡ depth → inputs_of (neighbors_of table.neighborhood) (states_for inputs) ≡ inputs
+  inputs-for inputs long = inputs-around (neighbors_of table.neighborhood) inputs (long ∙ sym (places-many table.neighborhood))
+
+  -- what the rows give for inputs is the next state of such states
+  rows-for : (inputs : List ℕ) → length inputs ≡ depth → rows_give (order_of table.neighborhood) rows inputs ≡ table_rule.next table (states_for inputs)
+  rows-for inputs long = ap (rows_give (order_of table.neighborhood) rows) (sym (inputs-for inputs long)) ∙ rows-next table rows full first (states_for inputs)
+
+  two-nodes : (i j : ℕ) → i < count → j < count → StartsApart table.states depth (λ k inputs. rows_give (order_of table.neighborhood) rows inputs) (start_at needed.starts i) (start_at needed.starts j) → NeedTwoNodes table (start_at needed.starts i).inputs (start_at needed.starts j).inputs
+  two-nodes i j li lj (inl longer) = inl longer
+  two-nodes i j li lj (inr differ) =
+      let one = (start_at needed.starts i).inputs ++ differ.rest in
+      let two = (start_at needed.starts j).inputs ++ differ.rest in
+      inr (record {
+        rest = differ.rest;
+        around = states_for one;
+        other = states_for two;
+        nine = around-below table.states (neighbors_of table.neighborhood) one some (All-append (λ s. s < table.states) (start_at needed.starts i).inputs differ.rest (needed.are i li).below differ.below);
+        other_nine = around-below table.states (neighbors_of table.neighborhood) two some (All-append (λ s. s < table.states) (start_at needed.starts j).inputs differ.rest (needed.are j lj).below differ.below);
+        inputs = inputs-for one differ.long;
+        other_inputs = inputs-for two differ.other_long;
+        differ = λ same. differ.differ (rows-for one differ.long ∙ same ∙ sym (rows-for two differ.other_long));
+      })
+
+  -- so many starts of its rows' inputs are so many beginnings of the table's
+  pub needs-nodes : NeedsNodes table count
+  needs-nodes =
+      let beginnings = map (λ (start : Start). start.inputs) needed.starts in
+      let at : (k : ℕ) → k < count → slice_index_or beginnings k [] ≡ (start_at needed.starts k).inputs = λ k l. get_or-map (λ (start : Start). start.inputs) needed.starts k (record { number = 0; inputs = [] }) [] (omega (arith, l, needed.many)) in
+      record {
+        beginnings = beginnings;
+        many = length-map needed.starts (λ (start : Start). start.inputs) ∙ needed.many;
+        below = All-map (All (λ s. s < table.states)) (λ (start : Start). start.inputs) needed.starts (All-from_get_or (λ (start : Start). All (λ s. s < table.states) start.inputs) needed.starts (record { number = 0; inputs = [] }) (λ k l. (needed.are k (omega (arith, l, needed.many))).below));
+        short = All-map (λ (b : List ℕ). length b < length (places_of (neighbors_of table.neighborhood))) (λ (start : Start). start.inputs) needed.starts (All-from_get_or (λ (start : Start). length start.inputs < length (places_of (neighbors_of table.neighborhood))) needed.starts (record { number = 0; inputs = [] }) (λ k l. omega (arith, (needed.are k (omega (arith, l, needed.many))).short, places-many table.neighborhood)));
+        apart = λ i j less l.
+            let under : i < count = omega (arith, less, l) in
+            subst (NeedTwoNodes table (slice_index_or beginnings i [])) (sym (at j l)) (subst (λ b. NeedTwoNodes table b (start_at needed.starts j).inputs) (sym (at i under)) (two-nodes i j under l (needed.apart i j less l)));
+      }

@@ -1,0 +1,9 @@
+mod Apart
+mod Beginnings
+mod Doing
+mod Layering
+mod MadeNodes
+mod NodeLists
+pub mod NodesHad
+mod TailsLeft
+mod Translating

@@ -1,0 +1,22 @@
+use Rattle.std.proofs.Common.{◌≡◌, ℕ, ◌+◌, ◌-◌, ◌*◌, ◌<◌, length, slice_index, false}
+use Rattle.std.specs.Prelude.{All, IfSome}
+use Rattle.tree_translation.specs.Numbering.{Grows, IsEntry, IsNumberOf}
+use Rattle.tree_translation.proofs.numbering.+numbering.Given as goal
+
+abbrev pub decreases-number_again : goal.decreases-number_again
+decreases-number_again l = 3 * (length l.layers.now - l.input) + 2
+
+abbrev pub decreases-number_of : goal.decreases-number_of
+decreases-number_of l = 3 * (length l.layers.now - l.input) + 1
+
+abbrev pub decreases-entries_of : goal.decreases-entries_of
+decreases-entries_of l = 3 * (length l.layers.now - l.input)
+
+abbrev pub invariant-entries_of-loop-state : goal.invariant-entries_of-loop-state
+invariant-entries_of-loop-state l = record {
+  width : length l.entries.items ≡ l.state;
+  each : (s : ℕ) → s < l.state → IsEntry l.states l.layers l.found.nodes.keys l.input l.list s (slice_index l.entries.items s);
+  grows : Grows l.states l.layers l.input (l.input + 1) l.list l.fn.found l.found;
+  clear : All (λ b. b ≡ false) l.marks;
+  latest : IfSome l.latest (λ x. IsNumberOf l.states l.layers l.found.nodes.keys (l.input + 1) x.list.items x.number);
+}

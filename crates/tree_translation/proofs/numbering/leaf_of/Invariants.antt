@@ -1,0 +1,11 @@
+use Rattle.std.proofs.Common.{◌≡◌, ℕ, ◌<◌, length, slice_index, unwrap_or, Some, None}
+use Rattle.std.specs.Prelude.{if◌then◌else◌}
+use Rattle.tree_translation.specs.Layers.{lets, rest_at}
+use Rattle.tree_translation.specs.Translation.{first_some}
+use Rattle.tree_translation.proofs.numbering.leaf_of.Given as goal
+
+abbrev pub invariant-loop-state : goal.invariant-loop-state
+invariant-loop-state l = record {
+  width : length l.leaf.items ≡ l.state;
+  each : (s : ℕ) → s < l.state → slice_index l.leaf.items s ≡ unwrap_or (first_some (λ number. if lets l.layer number s then Some (rest_at l.layer number) else None) l.list) s;
+}

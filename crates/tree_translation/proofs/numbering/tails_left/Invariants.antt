@@ -1,0 +1,6 @@
+use Rattle.std.proofs.Common.{take}
+use Rattle.tree_translation.specs.TailsFound.{IsFound}
+use Rattle.tree_translation.proofs.numbering.tails_left.Given as goal
+
+abbrev pub invariant-loop-number : goal.invariant-loop-number
+invariant-loop-number l = IsFound l.layer l.state (take l.number-index l.list) l.is_there l.found.items

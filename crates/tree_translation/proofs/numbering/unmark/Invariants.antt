@@ -1,0 +1,6 @@
+use Rattle.std.proofs.Common.{drop}
+use Rattle.tree_translation.specs.TailsFound.{AreMarked}
+use Rattle.tree_translation.proofs.numbering.unmark.Given as goal
+
+abbrev pub invariant-loop-rest : goal.invariant-loop-rest
+invariant-loop-rest l = AreMarked l.is_there (drop l.rest-index l.found)
