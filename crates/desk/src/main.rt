@@ -12,7 +12,7 @@ ghost use Rattle.desk.specs.Ending.{status_of};
 
 mod ending;
 
-use desk_server::{Counted, RunFault, run};
+use desk_server::{CountedReader, CountedWriter, RunFault, run};
 use desk_words::check_words;
 use ending::{Ending, report};
 use std::alloc::Global;
@@ -65,10 +65,10 @@ fn answer<R: Read, W: Write, L: Ledger, M: Ledger>(
         (AnswersFront (W.contents writer) (W.contents result.2)) }
     ensures memory { result.0 ≡ Err RunFault.NoMemory → (result.1 ≡ reader) × (result.2 ≡ writer) }
 {
-    let mut reader = Counted::<_, L>::new(reader, reader_blank);
-    let mut writer = Counted::<_, M>::new(writer, writer_blank);
+    let mut reader = CountedReader::<_, L>::new(reader, reader_blank);
+    let mut writer = CountedWriter::<_, M>::new(writer, writer_blank);
     let answered = run(alloc, &mut reader, &mut writer);
-    (answered, reader.inner, writer.inner)
+    (answered, reader.into_inner(), writer.into_inner())
 }
 
 // Says why the program ends, where there is a fault, and gives its status.

@@ -7,7 +7,7 @@ ghost use Rattle.desk_server.specs.Script.{Between, InText};
 ghost use Rattle.desk_server.specs.Heard.{Means, Hears, BreaksOff};
 
 use crate::command::{Command, Format, read_command};
-use script_lines::{Counted, Failed, Found, KeptLine, Script, Text, TextFound};
+use script_lines::{CountedReader, Failed, Found, KeptLine, Script, Text, TextFound};
 use std::alloc::Global;
 use std::io::Read;
 use std::sync::ledger::Ledger;
@@ -67,7 +67,7 @@ fn meaning_of(alloc: Global, line: &KeptLine) -> Meaning
 // What was heard of the text of this format whose command stands on the line that was taken last.
 fn listen_text<R: Read, L: Ledger>(
     alloc: Global,
-    reader: &mut Counted<R, L>,
+    reader: &mut CountedReader<R, L>,
     script: &mut Script,
     format: Format,
 ) -> Result<Heard, Failed>
@@ -97,7 +97,7 @@ fn listen_text<R: Read, L: Ledger>(
 // What was heard of the line that was taken last, with its text.
 fn listen_line<R: Read, L: Ledger>(
     alloc: Global,
-    reader: &mut Counted<R, L>,
+    reader: &mut CountedReader<R, L>,
     script: &mut Script,
     last: bool,
 ) -> Result<Heard, Failed>
@@ -142,7 +142,7 @@ fn listen_line<R: Read, L: Ledger>(
 /// What stands on the next line, with its text. At the end of the script nothing is asked.
 pub(crate) fn listen<R: Read, L: Ledger>(
     alloc: Global,
-    reader: &mut Counted<R, L>,
+    reader: &mut CountedReader<R, L>,
     script: &mut Script,
 ) -> Result<Heard, Failed>
     requires { HasRoom reader.old.given script.old }

@@ -19,5 +19,5 @@ mod server;
 mod view;
 
 pub use laws::plain_without_wants;
-pub use script_lines::{Counted, Failures};
+pub use script_lines::{CountedReader, CountedWriter};
 pub use server::{RunFault, run};

@@ -6,7 +6,7 @@ ghost use Rattle.desk_server.specs.Reply.{ok_text, started_text, refused_text, c
 ghost use Rattle.desk_server.specs.Told.{text_of, ends, part_text, parts_text};
 
 use desk_core::{Desk, EditFault, Edited, Refusal, Shown};
-use script_lines::{Counted, Failed};
+use script_lines::{CountedWriter, Failed};
 use std::io::Write;
 use std::sync::ledger::Ledger;
 
@@ -60,7 +60,10 @@ pub(crate) fn refused<F: Refusal>(fault: &F) -> Reply
     }
 }
 
-fn tell_part<W: Write, L: Ledger>(writer: &mut Counted<W, L>, part: Part<'_>) -> Result<(), Failed>
+fn tell_part<W: Write, L: Ledger>(
+    writer: &mut CountedWriter<W, L>,
+    part: Part<'_>,
+) -> Result<(), Failed>
     ensures bytes { Wrote (W.contents writer.old.inner) (W.contents writer.new.inner) result (part_text part.entry) }
     ensures worked { OnOk result (writer.new.failures ≡ writer.old.failures) }
     ensures failed { OnErr result (writer.new.failures ≡ writer.old.failures + 1) }
@@ -72,7 +75,7 @@ fn tell_part<W: Write, L: Ledger>(writer: &mut Counted<W, L>, part: Part<'_>) ->
 }
 
 fn tell_parts<W: Write, L: Ledger>(
-    writer: &mut Counted<W, L>,
+    writer: &mut CountedWriter<W, L>,
     parts: &[Part<'_>],
 ) -> Result<(), Failed>
     ensures bytes { Wrote (W.contents writer.old.inner) (W.contents writer.new.inner) result (parts_text parts.now) }
@@ -86,7 +89,7 @@ fn tell_parts<W: Write, L: Ledger>(
 }
 
 fn tell_accepted<W: Write, L: Ledger>(
-    writer: &mut Counted<W, L>,
+    writer: &mut CountedWriter<W, L>,
     edited: Edited,
 ) -> Result<(), Failed>
     ensures bytes { Wrote (W.contents writer.old.inner) (W.contents writer.new.inner) result (ok_text edited) }
@@ -114,7 +117,7 @@ fn tell_accepted<W: Write, L: Ledger>(
 }
 
 fn tell_started<W: Write, L: Ledger>(
-    writer: &mut Counted<W, L>,
+    writer: &mut CountedWriter<W, L>,
     revision: u64,
     generation: u64,
 ) -> Result<(), Failed>
@@ -135,7 +138,7 @@ fn tell_started<W: Write, L: Ledger>(
 }
 
 fn tell_refused<W: Write, L: Ledger>(
-    writer: &mut Counted<W, L>,
+    writer: &mut CountedWriter<W, L>,
     number: u8,
     name: &str,
     place: Option<u64>,
@@ -167,7 +170,7 @@ fn tell_refused<W: Write, L: Ledger>(
 }
 
 fn tell_shown<W: Write, L: Ledger>(
-    writer: &mut Counted<W, L>,
+    writer: &mut CountedWriter<W, L>,
     desk: &Desk,
     id: u64,
 ) -> Result<(), Failed>
@@ -194,7 +197,7 @@ fn tell_shown<W: Write, L: Ledger>(
 }
 
 fn tell<W: Write, L: Ledger>(
-    writer: &mut Counted<W, L>,
+    writer: &mut CountedWriter<W, L>,
     desk: &Desk,
     reply: Reply,
 ) -> Result<(), Failed>
@@ -231,7 +234,7 @@ fn tell<W: Write, L: Ledger>(
 
 /// Writes a reply, and hands it on at once.
 pub(crate) fn send<W: Write, L: Ledger>(
-    writer: &mut Counted<W, L>,
+    writer: &mut CountedWriter<W, L>,
     desk: &Desk,
     reply: Reply,
 ) -> Result<(), Failed>

@@ -10,7 +10,7 @@ use crate::asked::serve;
 use crate::heard::{Heard, listen};
 use crate::reply::{Reply, send};
 use desk_core::Desk;
-use script_lines::{Counted, Script};
+use script_lines::{CountedReader, CountedWriter, Script};
 use std::alloc::Global;
 use std::io::{Read, Write};
 use std::sync::ledger::Ledger;
@@ -36,8 +36,8 @@ enum Next {
 // Hears one command, and answers it.
 fn round<R: Read, W: Write, L: Ledger, M: Ledger>(
     alloc: Global,
-    reader: &mut Counted<R, L>,
-    writer: &mut Counted<W, M>,
+    reader: &mut CountedReader<R, L>,
+    writer: &mut CountedWriter<W, M>,
     script: &mut Script,
     desk: &mut Desk,
 ) -> Result<Next, RunFault>
@@ -79,8 +79,8 @@ fn round<R: Read, W: Write, L: Ledger, M: Ledger>(
 /// Reads a script, and writes and hands on the reply to each command before it reads the next.
 pub fn run<R: Read, W: Write, L: Ledger, M: Ledger>(
     alloc: Global,
-    reader: &mut Counted<R, L>,
-    writer: &mut Counted<W, M>,
+    reader: &mut CountedReader<R, L>,
+    writer: &mut CountedWriter<W, M>,
 ) -> Result<(), RunFault>
     // The replies to the script were written, for some wants.
     ensures done { OnOk result (IfSome (R.remaining reader.old.inner) (AnswersAll (W.contents writer.old.inner) (W.contents writer.new.inner))) }

@@ -9,7 +9,7 @@ mod starts;
 mod views;
 
 use crate::tests::devices::{Narrow, Pieces};
-use desk_server::{Counted, RunFault, run};
+use desk_server::{CountedReader, CountedWriter, RunFault, run};
 use std::alloc::Global;
 use std::fmt::Debug;
 use std::marker::Brand;
@@ -40,10 +40,10 @@ fn answer_counted<L: Ledger, M: Ledger>(
     requires writer_parts { writer_blank.parts ≡ M.parts }
     requires writer_some { 0 < writer_blank.parts }
 {
-    let mut reader = Counted::<_, L>::new(pieces, reader_blank);
-    let mut writer = Counted::<_, M>::new(narrow, writer_blank);
+    let mut reader = CountedReader::<_, L>::new(pieces, reader_blank);
+    let mut writer = CountedWriter::<_, M>::new(narrow, writer_blank);
     let answered = run(alloc, &mut reader, &mut writer);
-    (answered, writer.inner.taken)
+    (answered, writer.into_inner().taken)
 }
 
 // How a run ended, and what was written where so many bytes may be.

@@ -6,7 +6,7 @@ use std::sync::ledger::{Blank, Book, Ledger, Share};
 
 /// How often something failed. It takes no bytes and has no last value; only `count` changes it.
 #[derive(Drop)]
-pub struct Failures<L: Ledger> {
+pub(crate) struct Failures<L: Ledger> {
     book: Book<L>,
     share: Share<L>,
 }
@@ -23,7 +23,7 @@ impl<L: Ledger> Model for Failures<L> {
 
 impl<L: Ledger> Failures<L> {
     /// No failure so far, counted in a ledger that is new.
-    pub fn none(blank: Blank) -> Failures<L>
+    pub(crate) fn none(blank: Blank) -> Failures<L>
         requires name { blank.name ≡ L.name }
         requires parts { blank.parts ≡ L.parts }
         requires some { 0 < blank.parts }
@@ -34,7 +34,7 @@ impl<L: Ledger> Failures<L> {
     }
 
     /// One more failure.
-    pub fn count(&mut self)
+    pub(crate) fn count(&mut self)
         ensures { self.new ≡ self.old + 1 }
     {
         self.book.add(&mut self.share, 1);

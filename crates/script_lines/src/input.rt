@@ -2,7 +2,7 @@
 ghost use Rattle.std.specs.Prelude.{◌≡◌, ◌+◌, ◌-◌, ◌^◌, ◌<◌, ◌≤◌, IfOk, OnOk, OnErr, MatchOption, slice_range, Ok, true, false, ◌∷◌};
 ghost use Rattle.std.specs.Io.KnownBytes.{IsAtEnd, Keeps};
 
-use crate::counted::{Counted, Failed};
+use crate::reader::{CountedReader, Failed};
 use std::io::Read;
 use std::sync::ledger::Ledger;
 
@@ -39,7 +39,7 @@ impl Input {
     }
 
     // Reads once, where all that was read before was taken.
-    fn fill<R: Read, L: Ledger>(&mut self, reader: &mut Counted<R, L>) -> Result<(), Failed>
+    fn fill<R: Read, L: Ledger>(&mut self, reader: &mut CountedReader<R, L>) -> Result<(), Failed>
         requires { self.old.unread.at ≡ self.old.unread.end }
         ensures begins { OnOk result (self.new.unread.at ≡ 0) }
         ensures bytes { OnOk result (Keeps (left (R.remaining reader.old.inner) self.old) (left (R.remaining reader.new.inner) self.new)) }
@@ -50,7 +50,7 @@ impl Input {
         ensures err { OnErr result (Keeps (left (R.remaining reader.old.inner) self.old) (R.remaining reader.new.inner)) }
         ensures failed { OnErr result (FailsOrFull reader.old.failures reader.new.failures reader.new.given) }
     {
-        let most = u64::MAX - reader.given;
+        let most = u64::MAX - reader.given();
         if most == 0 {
             return Err(Failed);
         }
@@ -61,7 +61,10 @@ impl Input {
     }
 
     // Whether there is a byte to take; if not, the reader is at its end.
-    fn ready<R: Read, L: Ledger>(&mut self, reader: &mut Counted<R, L>) -> Result<bool, Failed>
+    fn ready<R: Read, L: Ledger>(
+        &mut self,
+        reader: &mut CountedReader<R, L>,
+    ) -> Result<bool, Failed>
         ensures bytes { OnOk result (Keeps (left (R.remaining reader.old.inner) self.old) (left (R.remaining reader.new.inner) self.new)) }
         ensures some { result ≡ Ok true → self.new.unread.at < self.new.unread.end }
         ensures none { result ≡ Ok false → IsAtEnd (left (R.remaining reader.new.inner) self.new) }
@@ -95,7 +98,7 @@ impl Input {
     /// or 2^64 - 1 bytes were read.
     pub fn next<R: Read, L: Ledger>(
         &mut self,
-        reader: &mut Counted<R, L>,
+        reader: &mut CountedReader<R, L>,
     ) -> Result<Option<u8>, Failed>
         ensures bytes { IfOk result (λ b. GivesByte b (left (R.remaining reader.old.inner) self.old) (left (R.remaining reader.new.inner) self.new)) }
         ensures falls { IfOk result (λ b. MatchOption b (bytes_left reader.new.given self.new ≡ bytes_left reader.old.given self.old) (λ _. bytes_left reader.new.given self.new + 1 ≡ bytes_left reader.old.given self.old)) }

@@ -7,8 +7,8 @@ ghost use Rattle.script_lines.specs.Input.{left, bytes_left, FailsOrFull};
 ghost use Rattle.script_lines.specs.Text.{Grows};
 ghost use Rattle.script_lines.specs.Words.{words, squashed};
 
-use crate::counted::{Counted, Failed};
 use crate::input::Input;
+use crate::reader::{CountedReader, Failed};
 use crate::text::Text;
 use std::alloc::{AllocError, Global};
 use std::io::Read;
@@ -195,7 +195,7 @@ impl KeptLine {
     /// Reads the next line, and puts its bytes with its end into the text too.
     pub(crate) fn read<R: Read, L: Ledger>(
         &mut self,
-        reader: &mut Counted<R, L>,
+        reader: &mut CountedReader<R, L>,
         input: &mut Input,
         text: &mut Text,
     ) -> Result<Found, Failed>

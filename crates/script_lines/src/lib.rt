@@ -9,20 +9,20 @@
 //! read or written by then named exactly.
 #![tactic(auto)]
 
-mod counted;
 mod failures;
 mod input;
 mod kept_line;
 mod numbers;
+mod reader;
 mod script;
 mod text;
 mod words;
+mod writer;
 
-pub use counted::{Counted, Failed};
-pub use failures::Failures;
 pub use kept_line::{Found, KeptLine};
 pub use numbers::{signed, unsigned};
+pub use reader::{CountedReader, Failed};
 pub use script::{Script, TextFound};
 pub use text::Text;
 pub use words::next_word;
-
+pub use writer::CountedWriter;

@@ -4,9 +4,9 @@ ghost use Rattle.script_lines.specs.Input.{FailsOrFull};
 ghost use Rattle.text_lines.specs.Lines.{Broken};
 ghost use Rattle.script_lines.specs.Script.{unread, bytes_to_come, line_of, line_number, HasRoom, IsFresh, Finds, next_number, StopsInLine, NoEndAmong, ReadsText, TakesInto};
 
-use crate::counted::{Counted, Failed};
 use crate::input::Input;
 use crate::kept_line::{Found, KeptLine};
+use crate::reader::{CountedReader, Failed};
 use crate::text::Text;
 use std::alloc::{AllocError, Global};
 use std::io::Read;
@@ -59,7 +59,7 @@ impl Script {
     // Takes the next line, and puts its bytes into the text too.
     fn take_line<R: Read, L: Ledger>(
         &mut self,
-        reader: &mut Counted<R, L>,
+        reader: &mut CountedReader<R, L>,
         text: &mut Text,
     ) -> Result<Found, Failed>
         requires { HasRoom reader.old.given self.old }
@@ -82,7 +82,7 @@ impl Script {
     /// Takes the next line, if there is one. It fails where a read failed or 2^64 - 1 bytes came.
     pub fn next_line<R: Read, L: Ledger>(
         &mut self,
-        reader: &mut Counted<R, L>,
+        reader: &mut CountedReader<R, L>,
     ) -> Result<Found, Failed>
         requires { HasRoom reader.old.given self.old }
         ensures found { IfOk result (λ found. Finds found (unread (R.remaining reader.old.inner) self.old) (unread (R.remaining reader.new.inner) self.new) (line_of self.new)) }
@@ -104,7 +104,7 @@ impl Script {
     pub fn read_text<R: Read, L: Ledger>(
         &mut self,
         alloc: Global,
-        reader: &mut Counted<R, L>,
+        reader: &mut CountedReader<R, L>,
     ) -> Result<TextFound, Failed>
         requires { HasRoom reader.old.given self.old }
         ensures text { IfOk result (λ found. ReadsText found (unread (R.remaining reader.old.inner) self.old) (unread (R.remaining reader.new.inner) self.new) (line_number self.old) (line_number self.new)) }

@@ -4,7 +4,7 @@ ghost use Rattle.script_lines.specs.Script.{HasRoom};
 
 use crate::tests::devices::Pieces;
 use crate::tests::same;
-use script_lines::{Counted, Found, KeptLine, Script, next_word};
+use script_lines::{CountedReader, Found, KeptLine, Script, next_word};
 use std::alloc::Global;
 use std::io::Read;
 use std::marker::Brand;
@@ -49,7 +49,7 @@ pub fn put_lines<R: Read, L: Ledger>(
     rt: &impl Abort,
     shown: &mut Vec<u8>,
     script: &mut Script,
-    reader: &mut Counted<R, L>,
+    reader: &mut CountedReader<R, L>,
 )
     requires { HasRoom reader.old.given script.old }
 {
@@ -77,7 +77,7 @@ fn show_counted<L: Ledger>(
     requires parts { blank.parts ≡ L.parts }
     requires some { 0 < blank.parts }
 {
-    let mut reader = Counted::<_, L>::new(pieces, blank);
+    let mut reader = CountedReader::<_, L>::new(pieces, blank);
     let mut script = Script::open(alloc).expect(rt, "memory");
     let mut shown = Vec::new(alloc);
     put_lines(rt, &mut shown, &mut script, &mut reader);
@@ -334,7 +334,7 @@ fn is_read<L: Ledger>(alloc: Global, blank: Blank, row: &Long) -> bool
     requires parts { blank.parts ≡ L.parts }
     requires some { 0 < blank.parts }
 {
-    let mut reader = Counted::<_, L>::new(Pieces::new(row.line, 7), blank);
+    let mut reader = CountedReader::<_, L>::new(Pieces::new(row.line, 7), blank);
     let Ok(mut script) = Script::open(alloc) else {
         // Where the room for every line is refused, nothing was read.
         return true;

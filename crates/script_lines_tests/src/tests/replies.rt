@@ -3,14 +3,14 @@ ghost use Rattle.std.specs.Prelude.{◌≡◌, ◌<◌};
 
 use crate::tests::devices::Narrow;
 use crate::tests::same;
-use script_lines::{Counted, Failed};
+use script_lines::{CountedWriter, Failed};
 use std::alloc::Global;
 use std::io::Write;
 use std::marker::Brand;
 use std::process::Abort;
 use std::sync::ledger::{Blank, Ledger};
 
-fn tell_all<W: Write, L: Ledger>(writer: &mut Counted<W, L>) -> Result<(), Failed> {
+fn tell_all<W: Write, L: Ledger>(writer: &mut CountedWriter<W, L>) -> Result<(), Failed> {
     writer.tell(b"ok ")?;
     writer.tell_number(18446744073709551615)?;
     writer.tell(b"")?;
@@ -23,9 +23,9 @@ fn tell_counted<L: Ledger>(blank: Blank, narrow: Narrow) -> (Result<(), Failed>,
     requires parts { blank.parts ≡ L.parts }
     requires some { 0 < blank.parts }
 {
-    let mut writer = Counted::<_, L>::new(narrow, blank);
+    let mut writer = CountedWriter::<_, L>::new(narrow, blank);
     let told = tell_all(&mut writer);
-    (told, writer.inner.taken)
+    (told, writer.into_inner().taken)
 }
 
 // How telling the greatest number ended, and what was written.

@@ -4,7 +4,7 @@ ghost use Rattle.std.specs.Prelude.{◌≡◌, ◌<◌};
 use crate::tests::devices::Pieces;
 use crate::tests::lines::{Row, put, put_lines};
 use crate::tests::same;
-use script_lines::{Counted, Script, TextFound};
+use script_lines::{CountedReader, Script, TextFound};
 use std::alloc::Global;
 use std::marker::Brand;
 use std::process::Abort;
@@ -31,7 +31,7 @@ fn show_counted<L: Ledger>(
     requires parts { blank.parts ≡ L.parts }
     requires some { 0 < blank.parts }
 {
-    let mut reader = Counted::<_, L>::new(pieces, blank);
+    let mut reader = CountedReader::<_, L>::new(pieces, blank);
     let mut script = Script::open(alloc).expect(rt, "memory");
     let mut shown = Vec::new(alloc);
     let Ok(found) = script.read_text(alloc, &mut reader) else {
