@@ -1,6 +1,7 @@
 //! What is written where, and the endings.
+use crate::end;
 use crate::ending::{Ending, report};
-use crate::{answer, end};
+use crate::start::start;
 use desk_server::RunFault;
 use desk_words::WordsFault;
 use std::alloc::Global;
@@ -131,32 +132,93 @@ fn an_ending_is_told_once(rt: HostRuntime) {
     ends_once(&rt, Ending::Failed(RunFault::NoMemory), 3, 1);
 }
 
-// The ending of a script, and what the writer then holds.
-fn answer_counted<R: Read + Drop, W: Write>(alloc: Global, reader: R, writer: W) -> (Ending, W) {
-    let (answered, _, written) = answer::<_, _, Brand, Brand>(
+fn words_of(rt: &impl Abort, alloc: Global, word: &str) -> Vec<String> {
+    let mut words = Vec::new(alloc);
+    words.push(text(rt, alloc)).expect(rt, "memory");
+    if !word.is_empty() {
+        words
+            .push(String::from_str(alloc, word).expect(rt, "memory"))
+            .expect(rt, "memory");
+    }
+    words
+}
+
+// How the program ends with this word, and what the writer then holds.
+fn started<R: Read + Drop, W: Write>(
+    rt: &impl Abort,
+    alloc: Global,
+    word: &str,
+    reader: R,
+    writer: W,
+) -> (Ending, W) {
+    let words = Ok(words_of(rt, alloc, word));
+    let (ending, _, written) = start::<_, _, _, Brand, Brand>(
+        &Outputs::new(false),
         alloc,
+        &words,
         reader,
         writer,
         Blank::new(1),
         Blank::new(1),
     );
-    (Ending::of_run(answered), written)
+    (ending, written)
+}
+
+fn writes(rt: &impl Abort, alloc: Global, word: &str, ending: Ending, wanted: &[u8]) {
+    let script = b"quit\n".as_slice();
+    let (found, written) = started(rt, alloc, word, script, Vec::new(alloc));
+    same(rt, &found, &ending, &word);
+    same(rt, &written.as_slice(), &wanted, &word);
 }
 
 #[test]
-fn a_script_is_answered(rt: HostRuntime) {
+fn words_come_before_the_script(rt: HostRuntime) {
     let alloc = rt.alloc();
-    let (ending, written) = answer_counted(alloc, b"quit\n".as_slice(), Vec::new(alloc));
-    same(&rt, &ending, &Ending::Done, &"script");
-    same(&rt, &written.as_slice(), &b"bye\n".as_slice(), &"script");
+    writes(&rt, alloc, "", Ending::Done, b"bye\n");
+    writes(&rt, alloc, "--help", Ending::Done, b"");
+    writes(&rt, alloc, "work", Ending::Refused, b"");
+}
+
+#[test]
+fn words_come_before_the_devices(rt: HostRuntime) {
+    let alloc = rt.alloc();
+    let (refused, _) = started(&rt, alloc, "work", Broken, Broken);
+    same(&rt, &refused, &Ending::Refused, &"refused");
+    let (helped, _) = started(&rt, alloc, "-h", Broken, Broken);
+    same(&rt, &helped, &Ending::Done, &"help");
 }
 
 #[test]
 fn devices_fail(rt: HostRuntime) {
     let alloc = rt.alloc();
-    let (unread, written) = answer_counted(alloc, Broken, Vec::new(alloc));
+    let (unread, written) = started(&rt, alloc, "", Broken, Vec::new(alloc));
     same(&rt, &unread, &Ending::Failed(RunFault::Read), &"reader");
     same(&rt, &written.as_slice(), &b"".as_slice(), &"reader");
-    let (unwritten, _) = answer_counted(alloc, b"quit\n".as_slice(), Broken);
+    let (unwritten, _) = started(&rt, alloc, "", b"quit\n".as_slice(), Broken);
     same(&rt, &unwritten, &Ending::Failed(RunFault::Write), &"writer");
+}
+
+fn says(rt: &impl Abort, ending: Ending, wanted: Option<&'static str>) {
+    same(rt, &ending.text(), &wanted, &ending);
+}
+
+#[test]
+fn each_ending_has_its_message(rt: HostRuntime) {
+    says(&rt, Ending::Done, None);
+    says(&rt, Ending::Refused, None);
+    says(
+        &rt,
+        Ending::Failed(RunFault::Read),
+        Some("desk: reading failed"),
+    );
+    says(
+        &rt,
+        Ending::Failed(RunFault::Write),
+        Some("desk: writing failed"),
+    );
+    says(
+        &rt,
+        Ending::Failed(RunFault::NoMemory),
+        Some("desk: no memory"),
+    );
 }

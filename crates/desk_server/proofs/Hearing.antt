@@ -1,11 +1,13 @@
 -- What lines ask.
-use Rattle.std.proofs.Common.{◌≡◌, ℕ, ◌+◌, List, [], ◌∷◌, ◌++◌, length, Bool, true, false, sym, ◌∙◌, ap, refl, append_assoc, append-nil, arith, subst, Option, None, Some, Result, Ok, Err, IfOk, OnErr}
-use Rattle.std.proofs.KnownBytes.{Consumes-trans}
+use Rattle.std.proofs.Common.{◌≡◌, ℕ, ◌+◌, List, [], ◌∷◌, ◌++◌, length, Bool, true, false, sym, ◌∙◌, ap, refl, append_assoc, append-nil, arith, subst, ◌<◌, ◌≤◌, OnOk, Option, None, Some, Result, Ok, Err, IfOk, OnErr}
+use Rattle.script_lines.specs.Ahead.{Ahead}
+use Rattle.script_lines.proofs.Ahead.{takes_then}
+use Rattle.script_lines.proofs.Taking.{line_falls}
 use Rattle.text_lines.specs.Lines.{End, Ended, Broken, Line, lines_until}
 use Rattle.script_lines.specs.ScriptLine.{NoneEnds, raw_bytes, is_end, is_passed_over}
 use Rattle.script_lines.specs.Script.{Follows, LineTaken, EndsHere, StopsInLine, TextTaken, NoEndAmong, ReadsText}
-use Rattle.script_lines.specs.declared.script.TextFound.{TextFound}
-use Rattle.script_lines.specs.declared.script.TextFound.TheVariants as found_text
+use Rattle.script_lines.specs.declared.reader.TextFound.{TextFound}
+use Rattle.script_lines.specs.declared.reader.TextFound.TheVariants as found_text
 use Rattle.script_lines.specs.declared.kept_line.KeptLine.{KeptLine}
 use Rattle.std.specs.Io.KnownBytes.{IsAtEnd}
 use Rattle.desk_server.specs.Command.{command_of, text_format}
@@ -43,22 +45,22 @@ asks-text_command : (stop : End) (n : ℕ) (f : Format) (line : Line) (rest : Li
 asks-text_command stop n f line rest passed text = rw passed (rw text refl)
 
 -- a line that begins no text
-pub hears-nothing : (old new : Option (List ℕ)) (kept : KeptLine) (last : Bool) (n : ℕ) → (t : LineTaken last old new kept) → is_passed_over t.line.says ≡ true → Hears old new Between what.Nothing last n n (n + 1)
+pub hears-nothing : (old new : Ahead) (kept : KeptLine) (last : Bool) (n : ℕ) → (t : LineTaken last old new kept) → is_passed_over t.line.says ≡ true → Hears old new Between what.Nothing last n n (n + 1)
 hears-nothing old new kept last n t passed = record {
   bytes = t.line.raw;
   asked = [];
-  consumed = t.consumed;
+  taken = t.taken;
   law = λ stop more f. ap (asks stop Between n) (t.law stop more f) ∙ asks-passed stop n t.line (lines_until stop more) passed;
   is = refl;
   at_end = t.at_end;
 }
 
-pub hears-command : (old new : Option (List ℕ)) (kept : KeptLine) (last : Bool) (what : What) (n : ℕ) → (t : LineTaken last old new kept) → is_passed_over t.line.says ≡ false → text_format (command_of t.line.says) ≡ None
+pub hears-command : (old new : Ahead) (kept : KeptLine) (last : Bool) (what : What) (n : ℕ) → (t : LineTaken last old new kept) → is_passed_over t.line.says ≡ false → text_format (command_of t.line.says) ≡ None
     → Asked what n (Say n (command_of t.line.says) ∷ []) → Hears old new Between what last n n (n + 1)
 hears-command old new kept last what n t passed text is = record {
   bytes = t.line.raw;
   asked = Say n (command_of t.line.says) ∷ [];
-  consumed = t.consumed;
+  taken = t.taken;
   law = λ stop more f. ap (asks stop Between n) (t.law stop more f) ∙ asks-command stop n t.line (lines_until stop more) passed text;
   is = is;
   at_end = t.at_end;
@@ -70,12 +72,12 @@ follows-any false stop more e = tt
 follows-any true stop more e = absurd (cc)
 
 -- the command of a text
-pub hears-text : (old mid new : Option (List ℕ)) (format : Format) (kept : KeptLine) (first : Bool) (what : What) (last : Bool) (line n m : ℕ) → first ≡ false → (t : LineTaken first old mid kept) → is_passed_over t.line.says ≡ false → text_format (command_of t.line.says) ≡ Some format
+pub hears-text : (old mid new : Ahead) (format : Format) (kept : KeptLine) (first : Bool) (what : What) (last : Bool) (line n m : ℕ) → first ≡ false → (t : LineTaken first old mid kept) → is_passed_over t.line.says ≡ false → text_format (command_of t.line.says) ≡ Some format
     → Hears mid new (InText n format []) what last line (n + 1) m → Hears old new Between what last line n m
 hears-text old mid new format kept first what last line n m e t passed text h = record {
   bytes = t.line.raw ++ h.bytes;
   asked = h.asked;
-  consumed = Consumes-trans old mid new t.line.raw h.bytes t.consumed h.consumed;
+  taken = takes_then old mid new t.line.raw h.bytes t.taken h.taken;
   law = λ stop more f.
       ap (λ v. asks stop Between n (lines_until stop v)) (append_assoc t.line.raw h.bytes more)
       ∙ ap (asks stop Between n) (t.law stop (h.bytes ++ more) (follows-any first stop (h.bytes ++ more) e))
@@ -85,11 +87,11 @@ hears-text old mid new format kept first what last line n m e t passed text h = 
   at_end = h.at_end;
 }
 
-pub breaks-text : (old mid new : Option (List ℕ)) (format : Format) (kept : KeptLine) (first : Bool) (n : ℕ) → first ≡ false → (t : LineTaken first old mid kept) → is_passed_over t.line.says ≡ false → text_format (command_of t.line.says) ≡ Some format
+pub breaks-text : (old mid new : Ahead) (format : Format) (kept : KeptLine) (first : Bool) (n : ℕ) → first ≡ false → (t : LineTaken first old mid kept) → is_passed_over t.line.says ≡ false → text_format (command_of t.line.says) ≡ Some format
     → BreaksOff mid new (InText n format []) (n + 1) → BreaksOff old new Between n
 breaks-text old mid new format kept first n e t passed text b = record {
   bytes = t.line.raw ++ b.bytes;
-  consumed = Consumes-trans old mid new t.line.raw b.bytes t.consumed b.consumed;
+  taken = takes_then old mid new t.line.raw b.bytes t.taken b.taken;
   law = ap (asks Broken Between n) (t.law Broken b.bytes (follows-any first Broken b.bytes e)) ∙ asks-text_command Broken n format t.line (lines_until Broken b.bytes) passed text ∙ b.law;
 }
 
@@ -101,12 +103,12 @@ nothing-follows stop n m format more f =
     ∙ sym (ap (λ s. NoEnd n ∷ asks s Between m (lines_until s [])) f.0)
     ∙ sym (ap (λ v. NoEnd n ∷ asks stop Between m (lines_until stop v)) f.1)
 
-pub hears-last_text : (old new : Option (List ℕ)) (format : Format) (kept : KeptLine) (n : ℕ) → (t : LineTaken true old new kept) → is_passed_over t.line.says ≡ false → text_format (command_of t.line.says) ≡ Some format
+pub hears-last_text : (old new : Ahead) (format : Format) (kept : KeptLine) (n : ℕ) → (t : LineTaken true old new kept) → is_passed_over t.line.says ≡ false → text_format (command_of t.line.says) ≡ Some format
     → Hears old new Between what.NoEnd true n n (n + 1)
 hears-last_text old new format kept n t passed text = record {
   bytes = t.line.raw;
   asked = NoEnd n ∷ [];
-  consumed = t.consumed;
+  taken = t.taken;
   law = λ stop more f.
       ap (asks stop Between n) (t.law stop more f) ∙ asks-text_command stop n format t.line (lines_until stop more) passed text
       ∙ nothing-follows stop n (n + 1) format more f;
@@ -115,11 +117,11 @@ hears-last_text old new format kept n t passed text = record {
 }
 
 -- a text with its end
-hears-whole_text : (format : Format) (text : Option (List ℕ)) (old new : Option (List ℕ)) (last : Bool) (n m : ℕ) → TextTaken last text old new n m → Hears old new (InText n format []) (what.Tells format text) last n (n + 1) (m + 1)
+hears-whole_text : (format : Format) (text : Option (List ℕ)) (old new : Ahead) (last : Bool) (n m : ℕ) → TextTaken last text old new n m → Hears old new (InText n format []) (what.Tells format text) last n (n + 1) (m + 1)
 hears-whole_text format text old new last n m t = record {
   bytes = raw_bytes t.lines ++ t.closing.raw;
   asked = Tell format (raw_bytes t.lines) ∷ [];
-  consumed = t.consumed;
+  taken = t.taken;
   law = λ stop more f.
       ap (asks stop (InText n format []) (n + 1)) (t.law stop more f)
       ∙ asks-text stop n format [] (n + 1) t.lines t.closing (lines_until stop more) t.inside t.ends
@@ -139,39 +141,39 @@ open-law stop format n k m bytes more inside f =
     ∙ sym (ap (λ s. NoEnd n ∷ asks s Between m (lines_until s [])) f.0)
     ∙ sym (ap (λ v. NoEnd n ∷ asks stop Between m (lines_until stop v)) f.1)
 
-hears-open_text : (format : Format) (old new : Option (List ℕ)) (n m : ℕ) → NoEndAmong Ended old new → IsAtEnd new → Hears old new (InText n format []) what.NoEnd true n (n + 1) m
+hears-open_text : (format : Format) (old new : Ahead) (n m : ℕ) → NoEndAmong Ended old new → IsAtEnd new.bytes → Hears old new (InText n format []) what.NoEnd true n (n + 1) m
 hears-open_text format old new n m t end = record {
   bytes = t.bytes;
   asked = NoEnd n ∷ [];
-  consumed = t.consumed;
+  taken = t.taken;
   law = λ stop more f. open-law stop format n (n + 1) m t.bytes more t.inside f;
   is = refl;
   at_end = λ _. end;
 }
 
-pub reads-ended : (format : Format) (found : TextFound) (text : Option (List ℕ)) (last : Bool) (old new : Option (List ℕ)) (n m : ℕ) → found ≡ found_text.Ended text last → ReadsText found old new n m → Hears old new (InText n format []) (what.Tells format text) last n (n + 1) (m + 1)
+pub reads-ended : (format : Format) (found : TextFound) (text : Option (List ℕ)) (last : Bool) (old new : Ahead) (n m : ℕ) → found ≡ found_text.Ended text last → ReadsText found old new n m → Hears old new (InText n format []) (what.Tells format text) last n (n + 1) (m + 1)
 reads-ended format found text last old new n m e h = hears-whole_text format text old new last n m (subst (λ f. ReadsText f old new n m) e h)
 
-pub reads-open : (format : Format) (found : TextFound) (old new : Option (List ℕ)) (n m : ℕ) → found ≡ found_text.NoEnd → ReadsText found old new n m → Hears old new (InText n format []) what.NoEnd true n (n + 1) (m + 1)
+pub reads-open : (format : Format) (found : TextFound) (old new : Ahead) (n m : ℕ) → found ≡ found_text.NoEnd → ReadsText found old new n m → Hears old new (InText n format []) what.NoEnd true n (n + 1) (m + 1)
 reads-open format found old new n m e h = let parts = subst (λ f. ReadsText f old new n m) e h in hears-open_text format old new n (m + 1) parts.0 parts.1
 
-pub breaks-open_text : (format : Format) (old new : Option (List ℕ)) (n : ℕ) → NoEndAmong Broken old new → BreaksOff old new (InText n format []) (n + 1)
+pub breaks-open_text : (format : Format) (old new : Ahead) (n : ℕ) → NoEndAmong Broken old new → BreaksOff old new (InText n format []) (n + 1)
 breaks-open_text format old new n t = record {
   bytes = t.bytes;
-  consumed = t.consumed;
+  taken = t.taken;
   law = asks-open_text Broken n format [] (n + 1) (lines_until Broken t.bytes) t.inside;
 }
 
 -- the reading broke off within a line
-pub breaks-line : (old new : Option (List ℕ)) (n : ℕ) → StopsInLine old new → BreaksOff old new Between n
-breaks-line old new n s = record { bytes = s.seen; consumed = s.consumed; law = ap (asks Broken Between n) s.none }
+pub breaks-line : (old new : Ahead) (n : ℕ) → StopsInLine old new → BreaksOff old new Between n
+breaks-line old new n s = record { bytes = s.seen; taken = s.taken; law = ap (asks Broken Between n) s.none }
 
 -- the script is at its end
-pub hears-end : (old new : Option (List ℕ)) (line n m : ℕ) → EndsHere old new → Hears old new Between what.Nothing true line n m
+pub hears-end : (old new : Ahead) (line n m : ℕ) → EndsHere old new → Hears old new Between what.Nothing true line n m
 hears-end old new line n m e = record {
   bytes = [];
   asked = [];
-  consumed = e.0;
+  taken = e.0;
   law = λ stop more f.
       ap (λ v. asks stop Between n (lines_until stop v)) f.1
       ∙ ap (λ s. asks s Between n (lines_until s [])) f.0
@@ -189,3 +191,13 @@ if_ok_map (Err e) P Q f h = tt
 pub on_err_map : {T E : Type 0} (r : Result T E) (P Q : Type 0) → (P → Q) → OnErr r P → OnErr r Q
 on_err_map (Ok x) P Q f h = tt
 on_err_map (Err e) P Q f h = f h
+
+-- a text takes no room back
+pub reads-most : (found : TextFound) (old new : Ahead) (n m : ℕ) → ReadsText found old new n m → new.room ≤ old.room
+reads-most (found_text.Ended text last) old new n m h = omega (arith, h.taken.counted)
+reads-most found_text.NoEnd old new n m h = omega (arith, h.0.taken.counted)
+
+-- behind a line less can come
+pub falls-behind : {T E : Type 0} (r : Result T E) (P : T → Type 0) (last : Bool) (old mid new : Ahead) (kept : KeptLine) → LineTaken last old mid kept → OnOk r (new.room ≤ mid.room) → IfOk r (λ h. P h → new.room < old.room)
+falls-behind (Ok x) P last old mid new kept t most = λ _. let less = line_falls last old mid kept t in omega (arith, less, most)
+falls-behind (Err e) P last old mid new kept t most = tt

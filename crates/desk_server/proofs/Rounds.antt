@@ -1,6 +1,8 @@
 -- One command after another.
 use Rattle.std.proofs.Common.{◌≡◌, ◌≢◌, ℕ, List, [], ◌∷◌, ◌++◌, Bool, true, false, cond, sym, ◌∙◌, ap, refl, append_assoc, append-nil, subst, Option, Some, None, IfSome}
-use Rattle.std.proofs.KnownBytes.{Appends-nil, Appends-trans, Consumes-nil, Consumes-trans}
+use Rattle.std.proofs.KnownBytes.{Appends-nil, Appends-trans}
+use Rattle.script_lines.specs.Ahead.{Ahead, Takes}
+use Rattle.script_lines.proofs.Ahead.{takes_none, takes_then}
 use Rattle.std.specs.Io.KnownBytes.{Consumes, Appends, IsAtEnd}
 use Rattle.text_lines.specs.Lines.{End, Ended, Broken, lines_until}
 use Rattle.script_lines.specs.Faults.{AppendsFront}
@@ -42,44 +44,44 @@ after_is : (want : Want) (p : Plan) (ask : Ask) (r : Reply) (k : Known) → answ
 after_is want p ask r k e rest later = ap (λ (a : After). a.told ++ cond a.ends [] (replies_to a.plan rest later)) e
 
 -- nothing was asked
-pub goes_on_silent : (old new told : Option (List ℕ)) (what : What) (last : Bool) (line : ℕ) (j k : Known) (n m : ℕ) → last ≡ false
+pub goes_on_silent : (old new : Ahead) (told : Option (List ℕ)) (what : What) (last : Bool) (line : ℕ) (j k : Known) (n m : ℕ) → last ≡ false
     → (h : Hears old new Between what last line n m) → Served None h.asked j k → Answers old new told told j.plan k.plan n m
 goes_on_silent old new told what last line j k n m e h s = record {
   bytes = h.bytes;
   wants = [];
   told = [];
-  consumed = h.consumed;
+  taken = h.taken;
   wrote = Appends-nil told;
   law = λ stop more later. ap (λ v. replies_to j.plan v later) (h.law stop more (follows-any last stop more e) ∙ ap (λ v. v ++ asks stop Between m (lines_until stop more)) s.0)
       ∙ ap (λ q. replies_to q (asks stop Between m (lines_until stop more)) later) (sym s.1);
 }
 
-pub done_silent : (old new told : Option (List ℕ)) (what : What) (last : Bool) (line : ℕ) (j k : Known) (n m : ℕ) → last ≡ true
+pub done_silent : (old new : Ahead) (told : Option (List ℕ)) (what : What) (last : Bool) (line : ℕ) (j k : Known) (n m : ℕ) → last ≡ true
     → (h : Hears old new Between what last line n m) → Served None h.asked j k → Finishes old new told told j.plan n
 done_silent old new told what last line j k n m e h s = record {
   bytes = h.bytes;
   wants = [];
-  consumed = h.consumed;
+  taken = h.taken;
   told = [];
   wrote = Appends-nil told;
-  law = λ rest x. ap (λ v. replies_to j.plan v []) (h.law Ended rest (follows_nothing last new rest h.at_end x) ∙ ap (λ v. v ++ asks Ended Between m (lines_until Ended rest)) s.0
-      ∙ ap (λ v. asks Ended Between m (lines_until Ended v)) (at_end_nil new rest (h.at_end e) x));
+  law = λ rest x. ap (λ v. replies_to j.plan v []) (h.law Ended rest (follows_nothing last new.bytes rest h.at_end x) ∙ ap (λ v. v ++ asks Ended Between m (lines_until Ended rest)) s.0
+      ∙ ap (λ v. asks Ended Between m (lines_until Ended v)) (at_end_nil new.bytes rest (h.at_end e) x));
 }
 
 -- the replies from here on, where a reply was found
-replies_from : (old new : Option (List ℕ)) (what : What) (last : Bool) (line : ℕ) (j k : Known) (n m : ℕ) (r : Reply)
+replies_from : (old new : Ahead) (what : What) (last : Bool) (line : ℕ) (j k : Known) (n m : ℕ) (r : Reply)
     → (h : Hears old new Between what last line n m) → (s : Served (Some r) h.asked j k) → (stop : End) (more : List ℕ) (later : List Want) → Follows last stop more
     → replies_to j.plan (asks stop Between n (lines_until stop (h.bytes ++ more))) (s.1 ∷ later) ≡ text_of k r ++ cond (ends r) [] (replies_to k.plan (asks stop Between m (lines_until stop more)) later)
 replies_from old new what last line j k n m r h s stop more later f =
     ap (λ v. replies_to j.plan v (s.1 ∷ later)) (h.law stop more f ∙ ap (λ v. v ++ asks stop Between m (lines_until stop more)) s.2) ∙ after_is s.1 j.plan s.0 r k s.3 (asks stop Between m (lines_until stop more)) later
 
-pub goes_on_told : (old new before after : Option (List ℕ)) (what : What) (last : Bool) (line : ℕ) (j k : Known) (n m : ℕ) (r : Reply) → last ≡ false → r ≢ reply.Bye
+pub goes_on_told : (old new : Ahead) (before after : Option (List ℕ)) (what : What) (last : Bool) (line : ℕ) (j k : Known) (n m : ℕ) (r : Reply) → last ≡ false → r ≢ reply.Bye
     → (h : Hears old new Between what last line n m) → Served (Some r) h.asked j k → Appends before after (text_of k r) → Answers old new before after j.plan k.plan n m
 goes_on_told old new before after what last line j k n m r e b h s w = record {
   bytes = h.bytes;
   wants = s.1 ∷ [];
   told = text_of k r;
-  consumed = h.consumed;
+  taken = h.taken;
   wrote = w;
   law = λ stop more later. replies_from old new what last line j k n m r h s stop more later (follows-any last stop more e)
       ∙ ap (λ v. text_of k r ++ cond v [] (replies_to k.plan (asks stop Between m (lines_until stop more)) later)) (ends-other r b);
@@ -89,47 +91,47 @@ nothing_more : (v : Bool) (t : List ℕ) → t ++ cond v [] [] ≡ t
 nothing_more true t = append-nil t
 nothing_more false t = append-nil t
 
-pub done_last : (old new before after : Option (List ℕ)) (what : What) (last : Bool) (line : ℕ) (j k : Known) (n m : ℕ) (r : Reply) → last ≡ true
+pub done_last : (old new : Ahead) (before after : Option (List ℕ)) (what : What) (last : Bool) (line : ℕ) (j k : Known) (n m : ℕ) (r : Reply) → last ≡ true
     → (h : Hears old new Between what last line n m) → Served (Some r) h.asked j k → Appends before after (text_of k r) → Finishes old new before after j.plan n
 done_last old new before after what last line j k n m r e h s w = record {
   bytes = h.bytes;
   wants = s.1 ∷ [];
-  consumed = h.consumed;
+  taken = h.taken;
   told = text_of k r;
   wrote = w;
-  law = λ rest x. replies_from old new what last line j k n m r h s Ended rest [] (follows_nothing last new rest h.at_end x)
-      ∙ ap (λ v. text_of k r ++ cond (ends r) [] (replies_to k.plan (asks Ended Between m (lines_until Ended v)) [])) (at_end_nil new rest (h.at_end e) x) ∙ nothing_more (ends r) (text_of k r);
+  law = λ rest x. replies_from old new what last line j k n m r h s Ended rest [] (follows_nothing last new.bytes rest h.at_end x)
+      ∙ ap (λ v. text_of k r ++ cond (ends r) [] (replies_to k.plan (asks Ended Between m (lines_until Ended v)) [])) (at_end_nil new.bytes rest (h.at_end e) x) ∙ nothing_more (ends r) (text_of k r);
 }
 
-pub done_bye : (old new before after : Option (List ℕ)) (what : What) (last : Bool) (line : ℕ) (j k : Known) (n m : ℕ) (r : Reply) → r ≡ reply.Bye
+pub done_bye : (old new : Ahead) (before after : Option (List ℕ)) (what : What) (last : Bool) (line : ℕ) (j k : Known) (n m : ℕ) (r : Reply) → r ≡ reply.Bye
     → (h : Hears old new Between what last line n m) → Served (Some r) h.asked j k → Appends before after (text_of k r) → Finishes old new before after j.plan n
 done_bye old new before after what last line j k n m r b h s w = record {
   bytes = h.bytes;
   wants = s.1 ∷ [];
-  consumed = h.consumed;
+  taken = h.taken;
   told = text_of k r;
   wrote = w;
-  law = λ rest x. replies_from old new what last line j k n m r h s Ended rest [] (follows_nothing last new rest h.at_end x)
+  law = λ rest x. replies_from old new what last line j k n m r h s Ended rest [] (follows_nothing last new.bytes rest h.at_end x)
       ∙ ap (λ v. text_of k r ++ cond (ends v) [] (replies_to k.plan (asks Ended Between m (lines_until Ended rest)) [])) b ∙ append-nil (text_of k r);
 }
 
-pub stops_telling : (old new before after : Option (List ℕ)) (what : What) (last : Bool) (line : ℕ) (j k : Known) (n m : ℕ) (r : Reply)
+pub stops_telling : (old new : Ahead) (before after : Option (List ℕ)) (what : What) (last : Bool) (line : ℕ) (j k : Known) (n m : ℕ) (r : Reply)
     → (h : Hears old new Between what last line n m) → Served (Some r) h.asked j k → AppendsFront before after (text_of k r) → StopsTelling old new before after j.plan n
 stops_telling old new before after what last line j k n m r h s w = record {
   bytes = h.bytes;
   wants = s.1 ∷ [];
-  consumed = h.consumed;
-  law = λ rest x. subst (AppendsFront before after) (sym (replies_from old new what last line j k n m r h s Ended rest [] (follows_nothing last new rest h.at_end x)))
+  taken = h.taken;
+  law = λ rest x. subst (AppendsFront before after) (sym (replies_from old new what last line j k n m r h s Ended rest [] (follows_nothing last new.bytes rest h.at_end x)))
       (front_first before after (text_of k r) (cond (ends r) [] (replies_to k.plan (asks Ended Between m (lines_until Ended rest)) [])) w);
 }
 
 -- what was answered, and then what was answered next
-pub answers_answers : (a b c x y z : Option (List ℕ)) (p q s : Plan) (n m k : ℕ) → Answers a b x y p q n m → Answers b c y z q s m k → Answers a c x z p s n k
+pub answers_answers : (a b c : Ahead) (x y z : Option (List ℕ)) (p q s : Plan) (n m k : ℕ) → Answers a b x y p q n m → Answers b c y z q s m k → Answers a c x z p s n k
 answers_answers a b c x y z p q s n m k f g = record {
   bytes = f.bytes ++ g.bytes;
   wants = f.wants ++ g.wants;
   told = f.told ++ g.told;
-  consumed = Consumes-trans a b c f.bytes g.bytes f.consumed g.consumed;
+  taken = takes_then a b c f.bytes g.bytes f.taken g.taken;
   wrote = Appends-trans x y z f.told g.told f.wrote g.wrote;
   law = λ stop more later.
       ap (λ v. replies_to p (asks stop Between n (lines_until stop v)) ((f.wants ++ g.wants) ++ later)) (append_assoc f.bytes g.bytes more)
@@ -137,11 +139,11 @@ answers_answers a b c x y z p q s n m k f g = record {
       ∙ f.law stop (g.bytes ++ more) (g.wants ++ later) ∙ ap (λ v. f.told ++ v) (g.law stop more later) ∙ sym (append_assoc f.told g.told (replies_to s (asks stop Between k (lines_until stop more)) later));
 }
 
-pub answers_finishes : (a b c x y z : Option (List ℕ)) (p q : Plan) (n m : ℕ) → Answers a b x y p q n m → Finishes b c y z q m → Finishes a c x z p n
+pub answers_finishes : (a b c : Ahead) (x y z : Option (List ℕ)) (p q : Plan) (n m : ℕ) → Answers a b x y p q n m → Finishes b c y z q m → Finishes a c x z p n
 answers_finishes a b c x y z p q n m f g = record {
   bytes = f.bytes ++ g.bytes;
   wants = f.wants ++ g.wants;
-  consumed = Consumes-trans a b c f.bytes g.bytes f.consumed g.consumed;
+  taken = takes_then a b c f.bytes g.bytes f.taken g.taken;
   told = f.told ++ g.told;
   wrote = Appends-trans x y z f.told g.told f.wrote g.wrote;
   law = λ rest e.
@@ -149,51 +151,57 @@ answers_finishes a b c x y z p q n m f g = record {
       ∙ f.law Ended (g.bytes ++ rest) g.wants ∙ ap (λ v. f.told ++ v) (g.law rest e);
 }
 
-pub answers_stops : (a b c x y z : Option (List ℕ)) (p q : Plan) (n m : ℕ) → Answers a b x y p q n m → StopsTelling b c y z q m → StopsTelling a c x z p n
+pub answers_stops : (a b c : Ahead) (x y z : Option (List ℕ)) (p q : Plan) (n m : ℕ) → Answers a b x y p q n m → StopsTelling b c y z q m → StopsTelling a c x z p n
 answers_stops a b c x y z p q n m f g = record {
   bytes = f.bytes ++ g.bytes;
   wants = f.wants ++ g.wants;
-  consumed = Consumes-trans a b c f.bytes g.bytes f.consumed g.consumed;
+  taken = takes_then a b c f.bytes g.bytes f.taken g.taken;
   law = λ rest e.
       let same = ap (λ v. replies_to p (asks Ended Between n (lines_until Ended v)) (f.wants ++ g.wants)) (append_assoc f.bytes g.bytes rest) ∙ f.law Ended (g.bytes ++ rest) g.wants in
       subst (AppendsFront x z) (sym same) (front_then x y z f.told (replies_to q (asks Ended Between m (lines_until Ended (g.bytes ++ rest))) g.wants) f.wrote (g.law rest e));
 }
 
-pub answers_breaks : (a b c x y : Option (List ℕ)) (q : Plan) (m : ℕ) → Answers a b x y (opening 0) q 1 m → BreaksOff b c Between m → AnswersWhole a c x y
+pub answers_breaks : (a b c : Ahead) (x y : Option (List ℕ)) (q : Plan) (m : ℕ) → Answers a b x y (opening 0) q 1 m → BreaksOff b c Between m → AnswersWhole a c x y
 answers_breaks a b c x y q m f g =
     let all : replies_by Broken (f.bytes ++ g.bytes) (f.wants ++ []) ≡ f.told
     = f.law Broken g.bytes [] ∙ ap (λ v. f.told ++ replies_to q v []) g.law ∙ append-nil f.told in
     record {
       read = f.bytes ++ g.bytes;
       wants = f.wants ++ [];
-      consumed = Consumes-trans a b c f.bytes g.bytes f.consumed g.consumed;
+      taken = takes_then a b c f.bytes g.bytes f.taken g.taken;
       wrote = subst (Appends x y) (sym all) f.wrote;
     }
 
 -- at the beginning
-pub answers_none : (a b x : Option (List ℕ)) (p q : Plan) (n : ℕ) → b ≡ a → q ≡ p → Answers a b x x p q n n
+pub answers_none : (a b : Ahead) (x : Option (List ℕ)) (p q : Plan) (n : ℕ) → b ≡ a → q ≡ p → Answers a b x x p q n n
 answers_none a b x p q n e same = record {
   bytes = [];
   wants = [];
   told = [];
-  consumed = subst (λ o. Consumes a o []) (sym e) (Consumes-nil a);
+  taken = subst (λ o. Takes a o []) (sym e) (takes_none a);
   wrote = Appends-nil x;
   law = λ stop more later. ap (λ r. replies_to r (asks stop Between n (lines_until stop more)) later) (sym same);
 }
 
 -- at the end
-pub finishes_all : (a c x z : Option (List ℕ)) → Finishes a c x z (opening 0) 1 → IfSome a (AnswersAll x z)
-finishes_all None c x z f = tt
-finishes_all (Some script) None x z f = absurd f.consumed
-finishes_all (Some script) (Some rest) x z f = record {
-  wants = f.wants;
-  wrote = subst (Appends x z) (sym (ap (λ v. replies_with v f.wants) f.consumed ∙ f.law rest refl)) f.wrote;
+all_finished : (a c x z : Option (List ℕ)) (bytes told : List ℕ) (wants : List Want) → Consumes a c bytes → Appends x z told → ((rest : List ℕ) → c ≡ Some rest → replies_with (bytes ++ rest) wants ≡ told) → IfSome a (AnswersAll x z)
+all_finished None c x z bytes told wants taken wrote law = tt
+all_finished (Some script) None x z bytes told wants taken wrote law = absurd taken
+all_finished (Some script) (Some rest) x z bytes told wants taken wrote law = record {
+  wants = wants;
+  wrote = subst (Appends x z) (sym (ap (λ v. replies_with v wants) taken ∙ law rest refl)) wrote;
 }
 
-pub stops_front : (a c x z : Option (List ℕ)) → StopsTelling a c x z (opening 0) 1 → IfSome a (AnswersFront x z)
-stops_front None c x z f = tt
-stops_front (Some script) None x z f = absurd f.consumed
-stops_front (Some script) (Some rest) x z f = record {
-  wants = f.wants;
-  wrote = subst (λ v. AppendsFront x z (replies_with v f.wants)) (sym f.consumed) (f.law rest refl);
+pub finishes_all : (a c : Ahead) (x z : Option (List ℕ)) → Finishes a c x z (opening 0) 1 → IfSome a.bytes (AnswersAll x z)
+finishes_all a c x z f = all_finished a.bytes c.bytes x z f.bytes f.told f.wants f.taken.consumed f.wrote f.law
+
+front_stopped : (a c x z : Option (List ℕ)) (bytes : List ℕ) (wants : List Want) → Consumes a c bytes → ((rest : List ℕ) → c ≡ Some rest → AppendsFront x z (replies_with (bytes ++ rest) wants)) → IfSome a (AnswersFront x z)
+front_stopped None c x z bytes wants taken law = tt
+front_stopped (Some script) None x z bytes wants taken law = absurd taken
+front_stopped (Some script) (Some rest) x z bytes wants taken law = record {
+  wants = wants;
+  wrote = subst (λ v. AppendsFront x z (replies_with v wants)) (sym taken) (law rest refl);
 }
+
+pub stops_front : (a c : Ahead) (x z : Option (List ℕ)) → StopsTelling a c x z (opening 0) 1 → IfSome a.bytes (AnswersFront x z)
+stops_front a c x z f = front_stopped a.bytes c.bytes x z f.bytes f.wants f.taken.consumed f.law

@@ -1,6 +1,8 @@
 -- What was heard of a script: the next thing that is asked, if there is one, and the reply to it.
 use Rattle.std.specs.Prelude.{◌≡◌, ℕ, List, [], ◌∷◌, ◌++◌, Bool, true, false, Option, None, Some}
-use Rattle.std.specs.Io.KnownBytes.{Consumes, IsAtEnd}
+use Rattle.std.specs.Io.KnownBytes.{IsAtEnd}
+use Rattle.script_lines.specs.Ahead.{Ahead, Takes, LineReading, IsDrawn}
+use Rattle.script_lines.specs.Input.{FailsOrFull}
 use Rattle.text_lines.specs.Lines.{End, Broken, lines_until}
 use Rattle.script_lines.specs.ScriptLine.{is_passed_over}
 use Rattle.script_lines.specs.Script.{Follows}
@@ -32,19 +34,23 @@ Asked what.NoMemory line asked = (ask : Ask) × (asked ≡ ask ∷ []) × CanWan
 Asked what.NoEnd line asked = asked ≡ NoEnd line ∷ []
 
 -- bytes were taken that ask for `asked` from this place on, whatever may follow them; they begin on line n, and what follows begins on line m
-pub record Hears (old new : Option (List ℕ)) (place : Place) (what : What) (last : Bool) (line : ℕ) (n m : ℕ) : Type 0 where
+pub record Hears (old new : Ahead) (place : Place) (what : What) (last : Bool) (line : ℕ) (n m : ℕ) : Type 0 where
   pub bytes : List ℕ
   pub asked : List Ask
-  pub consumed : Consumes old new bytes
+  pub taken : Takes old new bytes
   pub law : (stop : End) (more : List ℕ) → Follows last stop more → asks stop place n (lines_until stop (bytes ++ more)) ≡ asked ++ asks stop Between m (lines_until stop more)
   pub is : Asked what line asked
-  pub at_end : last ≡ true → IsAtEnd new
+  pub at_end : last ≡ true → IsAtEnd new.bytes
 
 -- the reading broke off before anything more was asked
-pub record BreaksOff (old new : Option (List ℕ)) (place : Place) (n : ℕ) : Type 0 where
+pub record BreaksOff (old new : Ahead) (place : Place) (n : ℕ) : Type 0 where
   pub bytes : List ℕ
-  pub consumed : Consumes old new bytes
+  pub taken : Takes old new bytes
   pub law : asks Broken place n (lines_until Broken bytes) ≡ []
+
+-- a read failed, or 2^64 - 1 bytes came, and all that was read was taken
+abbrev pub ReadFails : {R : Type 0} → (R → Option (List ℕ)) → LineReading R → LineReading R → Type 0
+ReadFails remaining old new = FailsOrFull old.failures new.failures new.given × IsDrawn remaining new
 
 -- the desk that is left, the reply and whether the script ends are those of an answer
 abbrev pub Gives : After → Reply → Known → Type 0

@@ -10,3 +10,4 @@ pub mod Wanted
 pub mod Told
 pub mod Heard
 pub mod Run
+pub mod Round

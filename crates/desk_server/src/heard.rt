@@ -1,13 +1,13 @@
 //! The next thing that a script asks.
-ghost use Rattle.std.specs.Prelude.{◌≡◌, ◌+◌, ◌<◌, ◌≤◌, ℕ, List, [], Option, IfOk, OnOk, OnErr, false};
-ghost use Rattle.script_lines.specs.Input.{FailsOrFull};
+ghost use Rattle.std.specs.Prelude.{◌≡◌, ◌+◌, ◌<◌, ◌≤◌, ℕ, List, [], IfOk, OnOk, OnErr, false};
+ghost use Rattle.script_lines.specs.Ahead.{Ahead};
 ghost use Rattle.script_lines.specs.KeptLine.{Says};
-ghost use Rattle.script_lines.specs.Script.{unread, bytes_to_come, line_of, line_number, HasRoom, LineTaken};
+ghost use Rattle.script_lines.specs.Script.{LineTaken};
 ghost use Rattle.desk_server.specs.Script.{Between, InText};
-ghost use Rattle.desk_server.specs.Heard.{Means, Hears, BreaksOff};
+ghost use Rattle.desk_server.specs.Heard.{Means, Hears, BreaksOff, ReadFails};
 
 use crate::command::{Command, Format, read_command};
-use script_lines::{CountedReader, Failed, Found, KeptLine, Script, Text, TextFound};
+use script_lines::{CountedReader, Failed, Found, KeptLine, Text, TextFound};
 use std::alloc::Global;
 use std::io::Read;
 use std::sync::ledger::Ledger;
@@ -68,27 +68,28 @@ fn meaning_of(alloc: Global, line: &KeptLine) -> Meaning
 fn listen_text<R: Read, L: Ledger>(
     alloc: Global,
     reader: &mut CountedReader<R, L>,
-    script: &mut Script,
+    line: &mut KeptLine,
     format: Format,
 ) -> Result<Heard, Failed>
-    requires { HasRoom reader.old.given script.old }
-    ensures heard { IfOk result (λ heard. Hears (unread (R.remaining reader.old.inner) script.old) (unread (R.remaining reader.new.inner) script.new) (InText (line_number script.old) format []) heard.what heard.last heard.line (line_number script.old + 1) (line_number script.new + 1)) }
-    ensures room { OnOk result (HasRoom reader.new.given script.new) }
-    ensures same { OnOk result (bytes_to_come reader.new.given script.new ≤ bytes_to_come reader.old.given script.old) }
+    ensures heard { IfOk result (λ heard. Hears reader.old.ahead reader.new.ahead
+        (InText reader.old.lines format []) heard.what heard.last heard.line
+        (reader.old.lines + 1) (reader.new.lines + 1)) }
+    ensures same { OnOk result (reader.new.ahead.room ≤ reader.old.ahead.room) }
     ensures worked { OnOk result (reader.new.failures ≡ reader.old.failures) }
-    ensures err { OnErr result (BreaksOff (unread (R.remaining reader.old.inner) script.old) (R.remaining reader.new.inner) (InText (line_number script.old) format []) (line_number script.old + 1)) }
-    ensures failed { OnErr result (FailsOrFull reader.old.failures reader.new.failures reader.new.given) }
+    ensures err { OnErr result (BreaksOff reader.old.ahead reader.new.ahead
+        (InText reader.old.lines format []) (reader.old.lines + 1)) }
+    ensures failed { OnErr result (ReadFails R.remaining reader.old reader.new) }
 {
-    let line = script.line_number();
-    match script.read_text(alloc, reader)? {
+    let number = reader.line_number();
+    match reader.read_text(alloc, line)? {
         TextFound::NoEnd => Ok(Heard {
             what: What::NoEnd,
-            line,
+            line: number,
             last: true,
         }),
         TextFound::Ended { text, last } => Ok(Heard {
             what: What::Tells { format, text },
-            line,
+            line: number,
             last,
         }),
     }
@@ -98,43 +99,45 @@ fn listen_text<R: Read, L: Ledger>(
 fn listen_line<R: Read, L: Ledger>(
     alloc: Global,
     reader: &mut CountedReader<R, L>,
-    script: &mut Script,
+    line: &mut KeptLine,
     last: bool,
 ) -> Result<Heard, Failed>
-    requires { HasRoom reader.old.given script.old }
-    ensures heard { IfOk result (λ heard. (start : Option (List ℕ)) → LineTaken last start (unread (R.remaining reader.old.inner) script.old) (line_of script.old) → Hears start (unread (R.remaining reader.new.inner) script.new) Between heard.what heard.last heard.line (line_number script.old) (line_number script.new + 1)) }
-    ensures room { OnOk result (HasRoom reader.new.given script.new) }
-    ensures same { OnOk result (bytes_to_come reader.new.given script.new ≤ bytes_to_come reader.old.given script.old) }
+    ensures heard { IfOk result (λ heard. (start : Ahead)
+        → LineTaken last start reader.old.ahead line.old
+        → Hears start reader.new.ahead Between heard.what heard.last heard.line
+        reader.old.lines (reader.new.lines + 1)) }
+    ensures same { OnOk result (reader.new.ahead.room ≤ reader.old.ahead.room) }
     ensures worked { OnOk result (reader.new.failures ≡ reader.old.failures) }
-    ensures err { OnErr result ((start : Option (List ℕ)) → LineTaken last start (unread (R.remaining reader.old.inner) script.old) (line_of script.old) → BreaksOff start (R.remaining reader.new.inner) Between (line_number script.old)) }
-    ensures failed { OnErr result (FailsOrFull reader.old.failures reader.new.failures reader.new.given) }
+    ensures err { OnErr result ((start : Ahead) → LineTaken last start reader.old.ahead line.old
+        → BreaksOff start reader.new.ahead Between reader.old.lines) }
+    ensures failed { OnErr result (ReadFails R.remaining reader.old reader.new) }
 {
-    let line = script.line_number();
-    match meaning_of(alloc, script.line()) {
+    let number = reader.line_number();
+    match meaning_of(alloc, line) {
         Meaning::Nothing => Ok(Heard {
             what: What::Nothing,
-            line,
+            line: number,
             last,
         }),
         Meaning::NoMemory => Ok(Heard {
             what: What::NoMemory,
-            line,
+            line: number,
             last,
         }),
         Meaning::Says(command) => Ok(Heard {
             what: What::Says(command),
-            line,
+            line: number,
             last,
         }),
         Meaning::AsksText(format) => {
             if last {
                 return Ok(Heard {
                     what: What::NoEnd,
-                    line,
+                    line: number,
                     last,
                 });
             }
-            listen_text(alloc, reader, script, format)
+            listen_text(alloc, reader, line, format)
         }
     }
 }
@@ -143,22 +146,23 @@ fn listen_line<R: Read, L: Ledger>(
 pub(crate) fn listen<R: Read, L: Ledger>(
     alloc: Global,
     reader: &mut CountedReader<R, L>,
-    script: &mut Script,
+    line: &mut KeptLine,
 ) -> Result<Heard, Failed>
-    requires { HasRoom reader.old.given script.old }
-    ensures heard { IfOk result (λ heard. Hears (unread (R.remaining reader.old.inner) script.old) (unread (R.remaining reader.new.inner) script.new) Between heard.what heard.last heard.line (line_number script.old + 1) (line_number script.new + 1)) }
-    ensures room { OnOk result (HasRoom reader.new.given script.new) }
-    ensures falls { IfOk result (λ heard. heard.last ≡ false → bytes_to_come reader.new.given script.new < bytes_to_come reader.old.given script.old) }
+    ensures heard { IfOk result (λ heard. Hears reader.old.ahead reader.new.ahead Between
+        heard.what heard.last heard.line (reader.old.lines + 1) (reader.new.lines + 1)) }
+    ensures falls { IfOk result (λ heard. heard.last ≡ false
+        → reader.new.ahead.room < reader.old.ahead.room) }
     ensures worked { OnOk result (reader.new.failures ≡ reader.old.failures) }
-    ensures err { OnErr result (BreaksOff (unread (R.remaining reader.old.inner) script.old) (R.remaining reader.new.inner) Between (line_number script.old + 1)) }
-    ensures failed { OnErr result (FailsOrFull reader.old.failures reader.new.failures reader.new.given) }
+    ensures err { OnErr result
+        (BreaksOff reader.old.ahead reader.new.ahead Between (reader.old.lines + 1)) }
+    ensures failed { OnErr result (ReadFails R.remaining reader.old reader.new) }
 {
-    match script.next_line(reader)? {
-        Found::Line => listen_line(alloc, reader, script, false),
-        Found::Last => listen_line(alloc, reader, script, true),
+    match reader.next_line(line)? {
+        Found::Line => listen_line(alloc, reader, line, false),
+        Found::Last => listen_line(alloc, reader, line, true),
         Found::End => Ok(Heard {
             what: What::Nothing,
-            line: script.line_number(),
+            line: reader.line_number(),
             last: true,
         }),
     }

@@ -64,7 +64,7 @@ fn tell_part<W: Write, L: Ledger>(
     writer: &mut CountedWriter<W, L>,
     part: Part<'_>,
 ) -> Result<(), Failed>
-    ensures bytes { Wrote (W.contents writer.old.inner) (W.contents writer.new.inner) result (part_text part.entry) }
+    ensures bytes { Wrote writer.old.contents writer.new.contents result (part_text part.entry) }
     ensures worked { OnOk result (writer.new.failures ≡ writer.old.failures) }
     ensures failed { OnErr result (writer.new.failures ≡ writer.old.failures + 1) }
 {
@@ -78,7 +78,7 @@ fn tell_parts<W: Write, L: Ledger>(
     writer: &mut CountedWriter<W, L>,
     parts: &[Part<'_>],
 ) -> Result<(), Failed>
-    ensures bytes { Wrote (W.contents writer.old.inner) (W.contents writer.new.inner) result (parts_text parts.now) }
+    ensures bytes { Wrote writer.old.contents writer.new.contents result (parts_text parts.now) }
     ensures worked { OnOk result (writer.new.failures ≡ writer.old.failures) }
     ensures failed { OnErr result (writer.new.failures ≡ writer.old.failures + 1) }
 {
@@ -92,7 +92,7 @@ fn tell_accepted<W: Write, L: Ledger>(
     writer: &mut CountedWriter<W, L>,
     edited: Edited,
 ) -> Result<(), Failed>
-    ensures bytes { Wrote (W.contents writer.old.inner) (W.contents writer.new.inner) result (ok_text edited) }
+    ensures bytes { Wrote writer.old.contents writer.new.contents result (ok_text edited) }
     ensures worked { OnOk result (writer.new.failures ≡ writer.old.failures) }
     ensures failed { OnErr result (writer.new.failures ≡ writer.old.failures + 1) }
 {
@@ -121,7 +121,7 @@ fn tell_started<W: Write, L: Ledger>(
     revision: u64,
     generation: u64,
 ) -> Result<(), Failed>
-    ensures bytes { Wrote (W.contents writer.old.inner) (W.contents writer.new.inner) result (started_text revision generation) }
+    ensures bytes { Wrote writer.old.contents writer.new.contents result (started_text revision generation) }
     ensures worked { OnOk result (writer.new.failures ≡ writer.old.failures) }
     ensures failed { OnErr result (writer.new.failures ≡ writer.old.failures + 1) }
 {
@@ -143,7 +143,7 @@ fn tell_refused<W: Write, L: Ledger>(
     name: &str,
     place: Option<u64>,
 ) -> Result<(), Failed>
-    ensures bytes { Wrote (W.contents writer.old.inner) (W.contents writer.new.inner) result (refused_text number name.now place) }
+    ensures bytes { Wrote writer.old.contents writer.new.contents result (refused_text number name.now place) }
     ensures worked { OnOk result (writer.new.failures ≡ writer.old.failures) }
     ensures failed { OnErr result (writer.new.failures ≡ writer.old.failures + 1) }
 {
@@ -174,7 +174,7 @@ fn tell_shown<W: Write, L: Ledger>(
     desk: &Desk,
     id: u64,
 ) -> Result<(), Failed>
-    ensures bytes { Wrote (W.contents writer.old.inner) (W.contents writer.new.inner) result (text_of desk.now (Reply.Shown id)) }
+    ensures bytes { Wrote writer.old.contents writer.new.contents result (text_of desk.now (Reply.Shown id)) }
     ensures worked { OnOk result (writer.new.failures ≡ writer.old.failures) }
     ensures failed { OnErr result (writer.new.failures ≡ writer.old.failures + 1) }
 {
@@ -201,7 +201,7 @@ fn tell<W: Write, L: Ledger>(
     desk: &Desk,
     reply: Reply,
 ) -> Result<(), Failed>
-    ensures bytes { Wrote (W.contents writer.old.inner) (W.contents writer.new.inner) result (text_of desk.now reply) }
+    ensures bytes { Wrote writer.old.contents writer.new.contents result (text_of desk.now reply) }
     ensures worked { OnOk result (writer.new.failures ≡ writer.old.failures) }
     ensures failed { OnErr result (writer.new.failures ≡ writer.old.failures + 1) }
 {
@@ -238,7 +238,7 @@ pub(crate) fn send<W: Write, L: Ledger>(
     desk: &Desk,
     reply: Reply,
 ) -> Result<(), Failed>
-    ensures bytes { Wrote (W.contents writer.old.inner) (W.contents writer.new.inner) result (text_of desk.now reply) }
+    ensures bytes { Wrote writer.old.contents writer.new.contents result (text_of desk.now reply) }
     ensures worked { OnOk result (writer.new.failures ≡ writer.old.failures) }
     ensures failed { OnErr result (writer.new.failures ≡ writer.old.failures + 1) }
     ensures flushed { OnOk result (writer.new.flushed ≡ true) }

@@ -1,16 +1,13 @@
 //! A script, answered while it is read.
-ghost use Rattle.std.specs.Prelude.{◌≡◌, ◌≢◌, ◌+◌, ◌<◌, ℕ, IfOk, IfSome, OnOk, OnErr, Ok, Err, true, false};
-ghost use Rattle.script_lines.specs.Input.{FailsOrFull};
-ghost use Rattle.script_lines.specs.Script.{unread, bytes_to_come, line_number, HasRoom};
-ghost use Rattle.desk_server.specs.Script.{Between};
-ghost use Rattle.desk_server.specs.Heard.{BreaksOff};
-ghost use Rattle.desk_server.specs.Run.{Answers, Finishes, StopsTelling, AnswersWhole, AnswersAll, AnswersFront};
+ghost use Rattle.std.specs.Prelude.{◌≡◌, ◌≢◌, ◌+◌, IfSome, OnOk, Ok, Err};
+ghost use Rattle.desk_server.specs.Run.{Finishes, AnswersAll, AnswersWhole};
+ghost use Rattle.desk_server.specs.Round.{GoesOn, Works, ReadBreaks, WriteBreaks, ReadStops, WriteStops};
 
 use crate::asked::serve;
 use crate::heard::{Heard, listen};
 use crate::reply::{Reply, send};
 use desk_core::Desk;
-use script_lines::{CountedReader, CountedWriter, Script};
+use script_lines::{CountedReader, CountedWriter, KeptLine};
 use std::alloc::Global;
 use std::io::{Read, Write};
 use std::sync::ledger::Ledger;
@@ -38,25 +35,21 @@ fn round<R: Read, W: Write, L: Ledger, M: Ledger>(
     alloc: Global,
     reader: &mut CountedReader<R, L>,
     writer: &mut CountedWriter<W, M>,
-    script: &mut Script,
+    line: &mut KeptLine,
     desk: &mut Desk,
 ) -> Result<Next, RunFault>
-    requires { HasRoom reader.old.given script.old }
-    ensures goes_on { result ≡ Ok Next.GoOn → Answers (unread (R.remaining reader.old.inner) script.old) (unread (R.remaining reader.new.inner) script.new) (W.contents writer.old.inner) (W.contents writer.new.inner) desk.old.plan desk.new.plan (line_number script.old + 1) (line_number script.new + 1) }
-    ensures done { result ≡ Ok Next.Done → Finishes (unread (R.remaining reader.old.inner) script.old) (unread (R.remaining reader.new.inner) script.new) (W.contents writer.old.inner) (W.contents writer.new.inner) desk.old.plan (line_number script.old + 1) }
-    ensures room { OnOk result (HasRoom reader.new.given script.new) }
-    ensures falls { result ≡ Ok Next.GoOn → bytes_to_come reader.new.given script.new < bytes_to_come reader.old.given script.old }
-    ensures reads { OnOk result (reader.new.failures ≡ reader.old.failures) }
-    ensures writes { OnOk result (writer.new.failures ≡ writer.old.failures) }
-    ensures read { result ≡ Err RunFault.Read → BreaksOff (unread (R.remaining reader.old.inner) script.old) (R.remaining reader.new.inner) Between (line_number script.old + 1) }
-    ensures read_silent { result ≡ Err RunFault.Read → writer.new ≡ writer.old }
-    ensures read_failed { result ≡ Err RunFault.Read → FailsOrFull reader.old.failures reader.new.failures reader.new.given }
-    ensures write { result ≡ Err RunFault.Write → StopsTelling (unread (R.remaining reader.old.inner) script.old) (unread (R.remaining reader.new.inner) script.new) (W.contents writer.old.inner) (W.contents writer.new.inner) desk.old.plan (line_number script.old + 1) }
-    ensures write_failed { result ≡ Err RunFault.Write → writer.new.failures ≡ writer.old.failures + 1 }
-    ensures flushed { OnOk result (writer.old.flushed ≡ true → writer.new.flushed ≡ true) }
+    ensures goes_on { result ≡ Ok Next.GoOn
+        → GoesOn reader.old reader.new writer.old writer.new desk.old desk.new }
+    ensures done { result ≡ Ok Next.Done → Finishes reader.old.ahead reader.new.ahead
+        writer.old.contents writer.new.contents desk.old.plan (reader.old.lines + 1) }
+    ensures works { OnOk result (Works reader.old reader.new writer.old writer.new) }
+    ensures read { result ≡ Err RunFault.Read
+        → ReadBreaks R.remaining reader.old reader.new writer.old writer.new }
+    ensures write { result ≡ Err RunFault.Write
+        → WriteBreaks reader.old reader.new writer.old writer.new desk.old }
     ensures memory { result ≢ Err RunFault.NoMemory }
 {
-    let Ok(heard) = listen(alloc, reader, script) else {
+    let Ok(heard) = listen(alloc, reader, line) else {
         return Err(RunFault::Read);
     };
     let Heard { what, line, last } = heard;
@@ -83,32 +76,37 @@ pub fn run<R: Read, W: Write, L: Ledger, M: Ledger>(
     writer: &mut CountedWriter<W, M>,
 ) -> Result<(), RunFault>
     // The replies to the script were written, for some wants.
-    ensures done { OnOk result (IfSome (R.remaining reader.old.inner) (AnswersAll (W.contents writer.old.inner) (W.contents writer.new.inner))) }
-    ensures no_failure { OnOk result ((reader.new.failures ≡ reader.old.failures) × (writer.new.failures ≡ writer.old.failures)) }
+    ensures done { OnOk result (IfSome reader.old.ahead.bytes
+        (AnswersAll writer.old.contents writer.new.contents)) }
+
+    // No failure was counted, and what was written was handed on.
+    ensures works { OnOk result (Works reader.old reader.new writer.old writer.new) }
 
     // Where a read failed, or 2^64 - 1 bytes came, the commands that were read whole were answered.
-    ensures read { result ≡ Err RunFault.Read → AnswersWhole (R.remaining reader.old.inner) (R.remaining reader.new.inner) (W.contents writer.old.inner) (W.contents writer.new.inner) }
-    ensures read_failed { result ≡ Err RunFault.Read → FailsOrFull reader.old.failures reader.new.failures reader.new.given }
+    ensures read { result ≡ Err RunFault.Read → AnswersWhole reader.old.ahead reader.new.ahead
+        writer.old.contents writer.new.contents }
 
-    // At each of these moments, and so before each read, what was written was handed on.
-    ensures flushed { OnOk result (writer.old.flushed ≡ true → writer.new.flushed ≡ true) }
-    ensures read_flushed { result ≡ Err RunFault.Read → writer.old.flushed ≡ true → writer.new.flushed ≡ true }
+    // All that was read was taken then, and what was written was handed on.
+    ensures read_failed { result ≡ Err RunFault.Read
+        → ReadStops R.remaining reader.old reader.new writer.old writer.new }
 
     // Where a write failed, a beginning of the replies was written.
-    ensures write { result ≡ Err RunFault.Write → IfSome (R.remaining reader.old.inner) (AnswersFront (W.contents writer.old.inner) (W.contents writer.new.inner)) }
-    ensures write_failed { result ≡ Err RunFault.Write → writer.new.failures ≡ writer.old.failures + 1 }
+    ensures write { result ≡ Err RunFault.Write
+        → WriteStops reader.old writer.old writer.new }
 
     // Where there was no memory to begin with, nothing was read or written.
-    ensures no_memory { result ≡ Err RunFault.NoMemory → (reader.new ≡ reader.old) × (writer.new ≡ writer.old) }
+    ensures no_memory { result ≡ Err RunFault.NoMemory
+        → (reader.new ≡ reader.old) × (writer.new ≡ writer.old) }
 {
     let Ok(mut desk) = Desk::open(alloc) else {
         return Err(RunFault::NoMemory);
     };
-    let Ok(mut script) = Script::open(alloc) else {
+    let Ok(mut line) = KeptLine::new(alloc) else {
         return Err(RunFault::NoMemory);
     };
+    reader.begin();
     'script: loop {
-        match round(alloc, reader, writer, &mut script, &mut desk) {
+        match round(alloc, reader, writer, &mut line, &mut desk) {
             Ok(Next::GoOn) => {}
             Ok(Next::Done) => return Ok(()),
             Err(fault) => return Err(fault),

@@ -1,7 +1,8 @@
 //! What the words of the command line come to.
-ghost use Rattle.std.specs.Prelude.{◌≡◌, ◌≢◌, ◌≤◌, IfErr, IsErrAnd, length, map};
+ghost use Rattle.std.specs.Prelude.{◌≡◌, ◌≢◌, [], OnOk, map, string_bytes};
 ghost use Rattle.clap.specs.Words.{kind_of};
-ghost use Rattle.desk_words.specs.Words.{AsksForHelp};
+ghost use Rattle.desk_words.specs.Words.{Checks, ReadsWords};
+ghost use Rattle.desk_words.specs.Command.{faults};
 ghost use Rattle.desk_words.specs.Fault.{IsHelp, IsRefusal};
 
 use crate::command::{no_text, read};
@@ -9,7 +10,6 @@ use clap::Error;
 use clap::error::ErrorKind;
 use std::alloc::Global;
 use std::convert::AsStr;
-use std::env::Args;
 use std::io;
 
 /// Why the words start no run.
@@ -45,8 +45,8 @@ fn fault_of(alloc: Global, error: &Error) -> WordsFault
 
 /// Reads the words of the command line, of which the first is the program's name.
 pub fn read_words<S: AsStr>(alloc: Global, words: &[S]) -> Result<(), WordsFault>
-    ensures alone { length words.now ≤ 1 → IfErr result (λ fault. fault ≡ WordsFault.NoMemory) }
-    ensures help { AsksForHelp (map S.text words.now) → IsErrAnd result IsHelp }
+    ensures reads { ReadsWords (map S.text words.now) result }
+    ensures taken { OnOk result (faults (map S.text words.now) ≡ []) }
 {
     match read(alloc, words) {
         Ok(()) => Ok(()),
@@ -65,17 +65,12 @@ fn refused(alloc: Global) -> WordsFault
 }
 
 /// Reads the words that a program was started with, or refuses them where one is no UTF-8.
-pub fn check_words(alloc: Global, given: io::Result<Args>) -> Result<(), WordsFault> {
-    let words = match given {
-        Ok(words) => words,
-        Err(error) if error.kind() == io::ErrorKind::OutOfMemory => {
-            return Err(WordsFault::NoMemory);
-        }
-        Err(_) => return Err(refused(alloc)),
-    };
-    let words: Vec<String> = match words.collect(alloc) {
-        Ok(words) => words,
-        Err(_) => return Err(WordsFault::NoMemory),
-    };
-    read_words(alloc, words.as_slice())
+pub fn check_words(alloc: Global, given: &io::Result<Vec<String>>) -> Result<(), WordsFault>
+    ensures { Checks (λ words. map string_bytes words.items) given.now result }
+{
+    match given {
+        Ok(words) => read_words(alloc, words.as_slice()),
+        Err(error) if error.kind() == io::ErrorKind::OutOfMemory => Err(WordsFault::NoMemory),
+        Err(_) => Err(refused(alloc)),
+    }
 }

@@ -1,3 +1,4 @@
+pub mod Ahead
 pub mod Keeping
 pub mod Known
 pub mod Reading

@@ -1,7 +1,7 @@
 -- A line that is being read.
 use Rattle.std.proofs.Common.{◌≡◌, ◌≢◌, ℕ, ◌==◌, List, [], ◌∷◌, ◌++◌, true, false, Bool, sym, ◌∙◌, ap, refl, append_assoc, append-nil, Option, Some, None}
-use Rattle.std.specs.Io.KnownBytes.{Consumes}
-use Rattle.std.proofs.KnownBytes.{Consumes-trans}
+use Rattle.script_lines.specs.Ahead.{Ahead, Takes}
+use Rattle.script_lines.proofs.Ahead.{takes_none, takes_then}
 use Rattle.text_lines.specs.Lines.{NoLineFeed, strip_carriage_return}
 use Rattle.script_lines.specs.KeptLine.{Took, Saw, waiting}
 use Rattle.script_lines.specs.Text.{Grows}
@@ -9,10 +9,10 @@ use Rattle.script_lines.specs.declared.kept_line.KeptLine.{KeptLine}
 use Rattle.script_lines.proofs.Trims.{push_not_nil}
 
 -- these bytes of the line were seen
-pub record IsReading (old new : Option (List ℕ)) (before after : Option (List ℕ)) (line : KeptLine) (empty : Bool) : Type 0 where
+pub record IsReading (old new : Ahead) (before after : Option (List ℕ)) (line : KeptLine) (empty : Bool) : Type 0 where
   pub seen : List ℕ
   pub no_line_feed : NoLineFeed seen
-  pub consumed : Consumes old new seen
+  pub taken : Takes old new seen
   pub grows : Grows before after seen
   pub saw : Saw line seen
   pub nothing : empty ≡ true → seen ≡ []
@@ -43,12 +43,12 @@ grows-refl None = tt
 grows-refl (Some x) = sym (append-nil x)
 
 -- one more byte
-pub reads_on : (old mid new before between after : Option (List ℕ)) (line next : KeptLine) (empty : Bool) (b : ℕ) → (b == 10) ≡ false → Consumes mid new (b ∷ []) → Grows between after (b ∷ [])
+pub reads_on : (old mid new : Ahead) (before between after : Option (List ℕ)) (line next : KeptLine) (empty : Bool) (b : ℕ) → (b == 10) ≡ false → Takes mid new (b ∷ []) → Grows between after (b ∷ [])
     → ((seen : List ℕ) → Saw line seen → Saw next (seen ++ b ∷ [])) → IsReading old mid before between line empty → IsReading old new before after next false
 reads_on old mid new before between after line next empty b k c g s r = record {
   seen = r.seen ++ b ∷ [];
   no_line_feed = no_line_feed-push r.seen b r.no_line_feed k;
-  consumed = Consumes-trans old mid new r.seen (b ∷ []) r.consumed c;
+  taken = takes_then old mid new r.seen (b ∷ []) r.taken c;
   grows = grows-trans before between after r.seen (b ∷ []) r.grows g;
   saw = s r.seen r.saw;
   nothing = λ e. absurd (cc);

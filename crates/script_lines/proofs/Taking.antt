@@ -1,14 +1,15 @@
 -- Lines that are taken one after another.
-use Rattle.std.proofs.Common.{◌≡◌, ◌≢◌, ℕ, ◌+◌, ◌≤◌, List, [], ◌∷◌, ◌++◌, length, take, Bool, true, false, sym, ◌∙◌, ap, refl, append_assoc, append-nil, subst, Option, Some, None, arith, length-append}
+use Rattle.std.proofs.Common.{◌≡◌, ◌≢◌, ℕ, ◌+◌, ◌^◌, ◌<◌, ◌≤◌, List, [], ◌∷◌, ◌++◌, length, take, Bool, true, false, sym, ◌∙◌, ap, refl, append_assoc, append-nil, subst, Option, Some, None, arith, length-append}
 use Rattle.std.proofs.Math.Seq.{take-length}
 use Rattle.std.proofs.lemmas.List.{take-append-le}
 use Rattle.std.specs.Option.{option_map}
-use Rattle.std.specs.Io.KnownBytes.{Consumes, IsAtEnd}
-use Rattle.std.proofs.KnownBytes.{Consumes-trans, Consumes-nil}
+use Rattle.std.specs.Io.KnownBytes.{IsAtEnd}
+use Rattle.script_lines.specs.Ahead.{Ahead, Takes}
+use Rattle.script_lines.proofs.Ahead.{takes_none, takes_then}
 use Rattle.text_lines.specs.Blanks.{trim}
 use Rattle.text_lines.specs.Lines.{End, Ended, Broken, Line, NoLineFeed, full_line, last_line, lines_from, lines_until}
 use Rattle.script_lines.specs.KeptLine.{TakesLine, raw_of, Says}
-use Rattle.script_lines.specs.Script.{LineTaken, EndsHere, TakesInto, Finds, StopsInLine, TextTaken, NoEndAmong, next_number}
+use Rattle.script_lines.specs.Script.{Follows, LineTaken, EndsHere, TakesInto, Finds, StopsInLine, TextTaken, NoEndAmong, next_number}
 use Rattle.script_lines.specs.ScriptLine.{NoneEnds, raw_bytes, is_end}
 use Rattle.script_lines.specs.Text.{Grows, IsText, len_of}
 use Rattle.script_lines.specs.declared.kept_line.KeptLine.{KeptLine}
@@ -29,11 +30,11 @@ last_line-ended : (seen : List ℕ) → seen ≢ [] → last_line Ended seen ≡
 last_line-ended [] n = absurd (n refl)
 last_line-ended (b ∷ bs) n = refl
 
-taken_line : (old new before after : Option (List ℕ)) (kept : KeptLine) (seen : List ℕ) → NoLineFeed seen → Grows before after (raw_of found.Line seen) → TakesLine found.Line old new seen kept → TakesInto found.Line old new kept before after
+taken_line : (old new : Ahead) (before after : Option (List ℕ)) (kept : KeptLine) (seen : List ℕ) → NoLineFeed seen → Grows before after (raw_of found.Line seen) → TakesLine found.Line old new seen kept → TakesInto found.Line old new kept before after
 taken_line old new before after kept seen h g t = (
   record {
     line = full_line seen;
-    consumed = t.0;
+    taken = t.0;
     law = λ stop more f. ap (lines_until stop) (append_assoc seen (10 ∷ []) more) ∙ lines_from-line stop [] seen more h;
     says = t.1;
     at_end = λ e. absurd (cc);
@@ -41,11 +42,11 @@ taken_line old new before after kept seen h g t = (
   g,
 )
 
-taken_last : (old new before after : Option (List ℕ)) (kept : KeptLine) (seen : List ℕ) → NoLineFeed seen → Grows before after (raw_of found.Last seen) → TakesLine found.Last old new seen kept → TakesInto found.Last old new kept before after
+taken_last : (old new : Ahead) (before after : Option (List ℕ)) (kept : KeptLine) (seen : List ℕ) → NoLineFeed seen → Grows before after (raw_of found.Last seen) → TakesLine found.Last old new seen kept → TakesInto found.Last old new kept before after
 taken_last old new before after kept seen h g t = (
   record {
     line = record { says = trim seen; raw = seen };
-    consumed = t.0;
+    taken = t.0;
     law = λ stop more f. ended stop more f.0 f.1;
     says = t.3;
     at_end = λ e. t.1;
@@ -59,17 +60,46 @@ taken_last old new before after kept seen h g t = (
         ∙ ap (λ m. record { says = trim seen; raw = seen } ∷ lines_until Ended m) (sym f) ∙ ap (λ s. record { says = trim seen; raw = seen } ∷ lines_until s more) (sym e)
 
 -- what was read of a line is a line of the script
-pub takes_into : (found : Found) (old new before after : Option (List ℕ)) (kept : KeptLine) (seen : List ℕ) → NoLineFeed seen → Grows before after (raw_of found seen) → TakesLine found old new seen kept → TakesInto found old new kept before after
+pub takes_into : (found : Found) (old new : Ahead) (before after : Option (List ℕ)) (kept : KeptLine) (seen : List ℕ) → NoLineFeed seen → Grows before after (raw_of found seen) → TakesLine found old new seen kept → TakesInto found old new kept before after
 takes_into found.Line old new before after kept seen h g t = taken_line old new before after kept seen h g t
 takes_into found.Last old new before after kept seen h g t = taken_last old new before after kept seen h g t
 takes_into found.End old new before after kept seen h g t = (t.1, t.2)
 
 -- what was read of a line that was broken off is no line
-pub stops_in_line : (old new : Option (List ℕ)) (seen : List ℕ) → NoLineFeed seen → Consumes old new seen → StopsInLine old new
-stops_in_line old new seen h c = record { seen = seen; consumed = c; none = lines_from-rest Broken [] seen h }
+pub stops_in_line : (old new : Ahead) (seen : List ℕ) → NoLineFeed seen → Takes old new seen → StopsInLine old new
+stops_in_line old new seen h c = record { seen = seen; taken = c; none = lines_from-rest Broken [] seen h }
+
+-- a line has a byte at least
+some_raw : (raw : List ℕ) (line : Line) → lines_until Ended (raw ++ []) ≡ line ∷ lines_until Ended [] → 0 < length raw
+some_raw [] line e = absurd (cc)
+some_raw (b ∷ bs) line e = omega arith
+
+follows_none : (last : Bool) → Follows last Ended []
+follows_none true = (refl, refl)
+follows_none false = tt
+
+pub line_falls : (last : Bool) (old new : Ahead) (kept : KeptLine) → LineTaken last old new kept → new.room < old.room
+line_falls last old new kept t =
+    let some : 0 < length t.line.raw = some_raw t.line.raw t.line (t.law Ended [] (follows_none last)) in
+    omega (arith, t.taken.counted, some)
+
+pub found_falls : (it : Found) (old new : Ahead) (before after : Option (List ℕ)) (kept : KeptLine) → it ≢ found.End → TakesInto it old new kept before after → new.room < old.room
+found_falls found.Line old new before after kept x t = line_falls false old new kept t.0
+found_falls found.Last old new before after kept x t = line_falls true old new kept t.0
+found_falls found.End old new before after kept x t = absurd (x refl)
+
+-- every line that can come has a number
+some_seen : (seen : List ℕ) → seen ≢ [] → 0 < length seen
+some_seen [] n = absurd (n refl)
+some_seen (b ∷ bs) n = omega arith
+
+pub numbers_line : (it : Found) (old new : Ahead) (seen : List ℕ) (kept : KeptLine) (n : ℕ) → TakesLine it old new seen kept → n + old.room < 2 ^ 64 → next_number it n + new.room < 2 ^ 64
+numbers_line found.Line old new seen kept n t h = omega (arith, t.0.counted, length-append seen (10 ∷ []), h)
+numbers_line found.Last old new seen kept n t h = let some = some_seen seen t.2 in omega (arith, t.0.counted, some, h)
+numbers_line found.End old new seen kept n t h = omega (arith, t.1.counted, h)
 
 -- the text aside
-pub finds_only : (found : Found) (old new before after : Option (List ℕ)) (kept : KeptLine) → TakesInto found old new kept before after → Finds found old new kept
+pub finds_only : (found : Found) (old new : Ahead) (before after : Option (List ℕ)) (kept : KeptLine) → TakesInto found old new kept before after → Finds found old new kept
 finds_only found.Line old new before after kept t = t.0
 finds_only found.Last old new before after kept t = t.0
 finds_only found.End old new before after kept t = t
@@ -77,16 +107,16 @@ finds_only found.End old new before after kept t = t
 -- ---- the lines of a text
 
 -- the lines of a text so far
-pub record TextSoFar (old new : Option (List ℕ)) (text : Option (List ℕ)) (n m : ℕ) : Type 0 where
+pub record TextSoFar (old new : Ahead) (text : Option (List ℕ)) (n m : ℕ) : Type 0 where
   pub lines : List Line
-  pub consumed : Consumes old new (raw_bytes lines)
+  pub taken : Takes old new (raw_bytes lines)
   pub law : (stop : End) (more : List ℕ) → lines_until stop (raw_bytes lines ++ more) ≡ lines ++ lines_until stop more
   pub inside : NoneEnds lines
   pub is : IsText text (raw_bytes lines)
   pub number : m ≡ n + length lines
 
-pub text_starts : (old : Option (List ℕ)) (n : ℕ) → TextSoFar old old (Some []) n n
-text_starts old n = record { lines = []; consumed = Consumes-nil old; law = λ stop more. refl; inside = tt; is = refl; number = omega arith }
+pub text_starts : (old : Ahead) (n : ℕ) → TextSoFar old old (Some []) n n
+text_starts old n = record { lines = []; taken = takes_none old; law = λ stop more. refl; inside = tt; is = refl; number = omega arith }
 
 raw_bytes-push : (lines : List Line) (line : Line) → raw_bytes (lines ++ line ∷ []) ≡ raw_bytes lines ++ line.raw
 raw_bytes-push [] line = append-nil line.raw
@@ -113,10 +143,10 @@ is_text-cut (Some xs) (Some ys) bs raw g i =
     ap (take (length xs)) g ∙ take-append-le (length xs) xs raw short ∙ take-length xs ∙ i
 
 -- a line that does not end the text is the text's
-pub text_goes_on : (old mid new before after : Option (List ℕ)) (kept : KeptLine) (n m k : ℕ) → (t : LineTaken false mid new kept) → Grows before after t.line.raw → is_end t.line.says ≡ false → k ≡ m + 1 → TextSoFar old mid before n m → TextSoFar old new after n k
+pub text_goes_on : (old mid new : Ahead) (before after : Option (List ℕ)) (kept : KeptLine) (n m k : ℕ) → (t : LineTaken false mid new kept) → Grows before after t.line.raw → is_end t.line.says ≡ false → k ≡ m + 1 → TextSoFar old mid before n m → TextSoFar old new after n k
 text_goes_on old mid new before after kept n m k t g other e so = record {
   lines = so.lines ++ t.line ∷ [];
-  consumed = subst (Consumes old new) (sym (raw_bytes-push so.lines t.line)) (Consumes-trans old mid new (raw_bytes so.lines) t.line.raw so.consumed t.consumed);
+  taken = subst (Takes old new) (sym (raw_bytes-push so.lines t.line)) (takes_then old mid new (raw_bytes so.lines) t.line.raw so.taken t.taken);
   law = λ stop more. ap (λ v. lines_until stop (v ++ more)) (raw_bytes-push so.lines t.line) ∙ ap (lines_until stop) (append_assoc (raw_bytes so.lines) t.line.raw more) ∙ so.law stop (t.line.raw ++ more)
       ∙ ap (λ ls. so.lines ++ ls) (t.law stop more tt) ∙ sym (append_assoc so.lines (t.line ∷ []) (lines_until stop more));
   inside = none_ends-push so.lines t.line so.inside other;
@@ -125,12 +155,12 @@ text_goes_on old mid new before after kept n m k t g other e so = record {
 }
 
 -- the line that ends the text
-pub text_ends : (last : Bool) (old mid new before after : Option (List ℕ)) (kept : KeptLine) (n m k : ℕ) → (t : LineTaken last mid new kept) → Grows before after t.line.raw → is_end t.line.says ≡ true → k ≡ m + 1 → TextSoFar old mid before n m
+pub text_ends : (last : Bool) (old mid new : Ahead) (before after : Option (List ℕ)) (kept : KeptLine) (n m k : ℕ) → (t : LineTaken last mid new kept) → Grows before after t.line.raw → is_end t.line.says ≡ true → k ≡ m + 1 → TextSoFar old mid before n m
     → TextTaken last (option_map (take (len_of before)) after) old new n k
 text_ends last old mid new before after kept n m k t g ends e so = record {
   lines = so.lines;
   closing = t.line;
-  consumed = Consumes-trans old mid new (raw_bytes so.lines) t.line.raw so.consumed t.consumed;
+  taken = takes_then old mid new (raw_bytes so.lines) t.line.raw so.taken t.taken;
   law = λ stop more f. ap (lines_until stop) (append_assoc (raw_bytes so.lines) t.line.raw more) ∙ so.law stop (t.line.raw ++ more) ∙ ap (λ ls. so.lines ++ ls) (t.law stop more f);
   inside = so.inside;
   ends = ends;
@@ -140,52 +170,52 @@ text_ends last old mid new before after kept n m k t g ends e so = record {
 }
 
 -- the script ends behind a line of the text
-pub text_stops : (old mid new text : Option (List ℕ)) (n m : ℕ) → TextSoFar old mid text n m → EndsHere mid new → NoEndAmong Ended old new × IsAtEnd new
+pub text_stops : (old mid new : Ahead) (text : Option (List ℕ)) (n m : ℕ) → TextSoFar old mid text n m → EndsHere mid new → NoEndAmong Ended old new × IsAtEnd new.bytes
 text_stops old mid new text n m so e = (
   record {
     bytes = raw_bytes so.lines ++ [];
-    consumed = Consumes-trans old mid new (raw_bytes so.lines) [] so.consumed e.0;
+    taken = takes_then old mid new (raw_bytes so.lines) [] so.taken e.0;
     inside = subst NoneEnds (sym (so.law Ended [] ∙ append-nil so.lines)) so.inside;
   },
   e.1,
 )
 
 -- the script's last line does not end the text
-pub text_stops_last : (old mid new before : Option (List ℕ)) (kept : KeptLine) (n m : ℕ) → (t : LineTaken true mid new kept) → is_end t.line.says ≡ false → TextSoFar old mid before n m → NoEndAmong Ended old new × IsAtEnd new
+pub text_stops_last : (old mid new : Ahead) (before : Option (List ℕ)) (kept : KeptLine) (n m : ℕ) → (t : LineTaken true mid new kept) → is_end t.line.says ≡ false → TextSoFar old mid before n m → NoEndAmong Ended old new × IsAtEnd new.bytes
 text_stops_last old mid new before kept n m t other so = (
   record {
     bytes = raw_bytes so.lines ++ t.line.raw;
-    consumed = Consumes-trans old mid new (raw_bytes so.lines) t.line.raw so.consumed t.consumed;
+    taken = takes_then old mid new (raw_bytes so.lines) t.line.raw so.taken t.taken;
     inside = subst NoneEnds (sym (so.law Ended t.line.raw ∙ ap (λ v. so.lines ++ lines_until Ended v) (sym (append-nil t.line.raw)) ∙ ap (λ ls. so.lines ++ ls) (t.law Ended [] (refl, refl)))) (none_ends-push so.lines t.line so.inside other);
   },
   t.at_end refl,
 )
 
 -- the reading breaks off in the text
-pub text_breaks : (old mid new text : Option (List ℕ)) (n m : ℕ) → TextSoFar old mid text n m → StopsInLine mid new → NoEndAmong Broken old new
+pub text_breaks : (old mid new : Ahead) (text : Option (List ℕ)) (n m : ℕ) → TextSoFar old mid text n m → StopsInLine mid new → NoEndAmong Broken old new
 text_breaks old mid new text n m so s = record {
   bytes = raw_bytes so.lines ++ s.seen;
-  consumed = Consumes-trans old mid new (raw_bytes so.lines) s.seen so.consumed s.consumed;
+  taken = takes_then old mid new (raw_bytes so.lines) s.seen so.taken s.taken;
   inside = subst NoneEnds (sym (so.law Broken s.seen ∙ ap (λ ls. so.lines ++ ls) s.none ∙ append-nil so.lines)) so.inside;
 }
 
 -- ---- the same by what was found
 
-pub text_goes_on_at : (it : Found) (old mid new before after : Option (List ℕ)) (kept : KeptLine) (n m k : ℕ) → it ≢ found.End → it ≢ found.Last → TakesInto it mid new kept before after → ((says : List ℕ) → Says kept says → false ≡ is_end says) → k ≡ next_number it m → TextSoFar old mid before n m → TextSoFar old new after n k
+pub text_goes_on_at : (it : Found) (old mid new : Ahead) (before after : Option (List ℕ)) (kept : KeptLine) (n m k : ℕ) → it ≢ found.End → it ≢ found.Last → TakesInto it mid new kept before after → ((says : List ℕ) → Says kept says → false ≡ is_end says) → k ≡ next_number it m → TextSoFar old mid before n m → TextSoFar old new after n k
 text_goes_on_at found.Line old mid new before after kept n m k x y t other e so = text_goes_on old mid new before after kept n m k t.0 t.1 (sym (other t.0.line.says t.0.says)) e so
 text_goes_on_at found.Last old mid new before after kept n m k x y t other e so = absurd (y refl)
 text_goes_on_at found.End old mid new before after kept n m k x y t other e so = absurd (x refl)
 
-pub text_ends_at : (it : Found) (last : Bool) (old mid new before after final : Option (List ℕ)) (kept : KeptLine) (n m k : ℕ) → it ≢ found.End → (it ≡ found.Last → last ≡ true) → (it ≡ found.Line → last ≡ false) → final ≡ option_map (take (len_of before)) after → TakesInto it mid new kept before after
+pub text_ends_at : (it : Found) (last : Bool) (old mid new : Ahead) (before after final : Option (List ℕ)) (kept : KeptLine) (n m k : ℕ) → it ≢ found.End → (it ≡ found.Last → last ≡ true) → (it ≡ found.Line → last ≡ false) → final ≡ option_map (take (len_of before)) after → TakesInto it mid new kept before after
     → ((says : List ℕ) → Says kept says → true ≡ is_end says) → k ≡ next_number it m → TextSoFar old mid before n m → TextTaken last final old new n k
 text_ends_at found.Line last old mid new before after final kept n m k x y z f t ends e so = subst (λ v. TextTaken v final old new n k) (sym (z refl)) (subst (λ v. TextTaken false v old new n k) (sym f) (text_ends false old mid new before after kept n m k t.0 t.1 (sym (ends t.0.line.says t.0.says)) e so))
 text_ends_at found.Last last old mid new before after final kept n m k x y z f t ends e so = subst (λ v. TextTaken v final old new n k) (sym (y refl)) (subst (λ v. TextTaken true v old new n k) (sym f) (text_ends true old mid new before after kept n m k t.0 t.1 (sym (ends t.0.line.says t.0.says)) e so))
 text_ends_at found.End last old mid new before after final kept n m k x y z f t ends e so = absurd (x refl)
 
-pub text_stops_at : (it : Found) (old mid new before after : Option (List ℕ)) (kept : KeptLine) (n m : ℕ) → it ≡ found.End → TakesInto it mid new kept before after → TextSoFar old mid before n m → NoEndAmong Ended old new × IsAtEnd new
+pub text_stops_at : (it : Found) (old mid new : Ahead) (before after : Option (List ℕ)) (kept : KeptLine) (n m : ℕ) → it ≡ found.End → TakesInto it mid new kept before after → TextSoFar old mid before n m → NoEndAmong Ended old new × IsAtEnd new.bytes
 text_stops_at it old mid new before after kept n m e t so = text_stops old mid new before n m so (subst (λ v. TakesInto v mid new kept before after) e t)
 
-pub text_stops_last_at : (it : Found) (old mid new before after : Option (List ℕ)) (kept : KeptLine) (n m : ℕ) → it ≡ found.Last → TakesInto it mid new kept before after → ((says : List ℕ) → Says kept says → false ≡ is_end says) → TextSoFar old mid before n m → NoEndAmong Ended old new × IsAtEnd new
+pub text_stops_last_at : (it : Found) (old mid new : Ahead) (before after : Option (List ℕ)) (kept : KeptLine) (n m : ℕ) → it ≡ found.Last → TakesInto it mid new kept before after → ((says : List ℕ) → Says kept says → false ≡ is_end says) → TextSoFar old mid before n m → NoEndAmong Ended old new × IsAtEnd new.bytes
 text_stops_last_at it old mid new before after kept n m e t other so =
     let u : TakesInto found.Last mid new kept before after = subst (λ v. TakesInto v mid new kept before after) e t in
     text_stops_last old mid new before kept n m u.0 (sym (other u.0.line.says u.0.says)) so

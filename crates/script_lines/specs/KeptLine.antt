@@ -1,8 +1,9 @@
 -- What a line keeps of the bytes that went in.
-use Rattle.std.specs.Prelude.{◌≡◌, ◌≢◌, ℕ, ◌≤◌, ◌==◌, List, [], ◌∷◌, ◌++◌, Option, length, Bool, true, false, if◌then◌else◌}
-use Rattle.std.specs.Io.KnownBytes.{Consumes, IsAtEnd}
+use Rattle.std.specs.Prelude.{◌≡◌, ◌≢◌, ℕ, ◌≤◌, ◌==◌, List, [], ◌∷◌, ◌++◌, length, Bool, true, false, if◌then◌else◌}
+use Rattle.std.specs.Io.KnownBytes.{IsAtEnd}
 use Rattle.text_lines.specs.Blanks.{trim_start, trim_end, trim, IsTrimmed}
 use Rattle.text_lines.specs.Lines.{strip_carriage_return}
+use Rattle.script_lines.specs.Ahead.{Ahead, Takes}
 use Rattle.script_lines.specs.Words.{squashed}
 use Rattle.script_lines.specs.declared.kept_line.Tail.{Tail}
 use Rattle.script_lines.specs.declared.kept_line.Tail.TheVariants.{Whole, Blank, Cut}
@@ -72,10 +73,10 @@ pub record Says (line : KeptLine) (says : List ℕ) : Type 0 where
   pub keeps : KeepsBy line.tail line.kept.items (squashed says)
 
 -- a line with its end was taken, or the last line, or there was none
-abbrev pub TakesLine : Found → Option (List ℕ) → Option (List ℕ) → List ℕ → KeptLine → Type 0
-TakesLine found.Line old new seen line = Consumes old new (seen ++ 10 ∷ []) × Says line (trim (strip_carriage_return seen))
-TakesLine found.Last old new seen line = Consumes old new seen × IsAtEnd new × (seen ≢ []) × Says line (trim seen)
-TakesLine found.End old new seen line = (seen ≡ []) × Consumes old new [] × IsAtEnd new
+abbrev pub TakesLine : Found → Ahead → Ahead → List ℕ → KeptLine → Type 0
+TakesLine found.Line old new seen line = Takes old new (seen ++ 10 ∷ []) × Says line (trim (strip_carriage_return seen))
+TakesLine found.Last old new seen line = Takes old new seen × IsAtEnd new.bytes × (seen ≢ []) × Says line (trim seen)
+TakesLine found.End old new seen line = (seen ≡ []) × Takes old new [] × IsAtEnd new.bytes
 
 -- the bytes of the line with its end
 abbrev pub raw_of : Found → List ℕ → List ℕ

@@ -1,3 +1,4 @@
+pub mod Ahead
 pub mod Counted
 pub mod Faults
 pub mod Input

@@ -1,43 +1,16 @@
 -- A script that is read a line at a time.
 use Rattle.std.specs.Prelude.{◌≡◌, ℕ, ◌+◌, ◌^◌, ◌<◌, List, [], ◌∷◌, ◌++◌, Bool, true, false, Option, length}
-use Rattle.std.specs.Io.KnownBytes.{Consumes, IsAtEnd}
+use Rattle.std.specs.Io.KnownBytes.{IsAtEnd}
 use Rattle.text_lines.specs.Lines.{End, Ended, Broken, Line, lines_until}
-use Rattle.script_lines.specs.Input.{left, bytes_left}
+use Rattle.script_lines.specs.Ahead.{Ahead, Takes}
 use Rattle.script_lines.specs.KeptLine.{Says}
 use Rattle.script_lines.specs.ScriptLine.{NoneEnds, raw_bytes, is_end}
 use Rattle.script_lines.specs.Text.{IsText, Grows}
 use Rattle.script_lines.specs.declared.kept_line.KeptLine.{KeptLine}
 use Rattle.script_lines.specs.declared.kept_line.Found.{Found}
 use Rattle.script_lines.specs.declared.kept_line.Found.TheVariants as found
-use Rattle.script_lines.specs.declared.script.Script.{Script}
-use Rattle.script_lines.specs.declared.script.TextFound.{TextFound}
-use Rattle.script_lines.specs.declared.script.TextFound.TheVariants as text
-
--- the bytes that the script holds unread, and then those that the reader gives
-abbrev pub unread : Option (List ℕ) → Script → Option (List ℕ)
-unread remaining script = left remaining script.input
-
--- how many bytes can still be taken, of a reader that gave so many
-abbrev pub bytes_to_come : ℕ → Script → ℕ
-bytes_to_come given script = bytes_left given script.input
-
--- the line that was taken last
-abbrev pub line_of : Script → KeptLine
-line_of script = script.line
-
--- how many lines were taken
-abbrev pub line_number : Script → ℕ
-line_number script = script.number
-
--- every line that can come has a number below 2^64
-abbrev pub HasRoom : ℕ → Script → Type 0
-HasRoom given script = line_number script + bytes_to_come given script < 2 ^ 64
-
--- nothing was read
-pub record IsFresh (script : Script) : Type 0 where
-  pub nothing : (remaining : Option (List ℕ)) → unread remaining script ≡ remaining
-  pub number : line_number script ≡ 0
-  pub room : (given : ℕ) → HasRoom given script
+use Rattle.script_lines.specs.declared.reader.TextFound.{TextFound}
+use Rattle.script_lines.specs.declared.reader.TextFound.TheVariants as text
 
 -- what may follow: after the last line nothing does
 abbrev pub Follows : Bool → End → List ℕ → Type 0
@@ -45,25 +18,25 @@ Follows false stop more = Unit {0}
 Follows true stop more = (stop ≡ Ended) × (more ≡ [])
 
 -- a line was taken: it is the first of the lines, whatever may follow it
-pub record LineTaken (last : Bool) (old new : Option (List ℕ)) (kept : KeptLine) : Type 0 where
+pub record LineTaken (last : Bool) (old new : Ahead) (kept : KeptLine) : Type 0 where
   pub line : Line
-  pub consumed : Consumes old new line.raw
+  pub taken : Takes old new line.raw
   pub law : (stop : End) (more : List ℕ) → Follows last stop more → lines_until stop (line.raw ++ more) ≡ line ∷ lines_until stop more
   pub says : Says kept line.says
-  pub at_end : last ≡ true → IsAtEnd new
+  pub at_end : last ≡ true → IsAtEnd new.bytes
 
 -- there was no line
-abbrev pub EndsHere : Option (List ℕ) → Option (List ℕ) → Type 0
-EndsHere old new = Consumes old new [] × IsAtEnd new
+abbrev pub EndsHere : Ahead → Ahead → Type 0
+EndsHere old new = Takes old new [] × IsAtEnd new.bytes
 
 -- what was found where a line could begin
-abbrev pub Finds : Found → Option (List ℕ) → Option (List ℕ) → KeptLine → Type 0
+abbrev pub Finds : Found → Ahead → Ahead → KeptLine → Type 0
 Finds found.Line old new kept = LineTaken false old new kept
 Finds found.Last old new kept = LineTaken true old new kept
 Finds found.End old new kept = EndsHere old new
 
 -- the same, where the line's bytes went into a text
-abbrev pub TakesInto : Found → Option (List ℕ) → Option (List ℕ) → KeptLine → Option (List ℕ) → Option (List ℕ) → Type 0
+abbrev pub TakesInto : Found → Ahead → Ahead → KeptLine → Option (List ℕ) → Option (List ℕ) → Type 0
 TakesInto found.Line old new kept before after = (t : LineTaken false old new kept) × Grows before after t.line.raw
 TakesInto found.Last old new kept before after = (t : LineTaken true old new kept) × Grows before after t.line.raw
 TakesInto found.End old new kept before after = EndsHere old new
@@ -75,30 +48,30 @@ next_number found.Last n = n + 1
 next_number found.End n = n
 
 -- the reading stopped within a line
-pub record StopsInLine (old new : Option (List ℕ)) : Type 0 where
+pub record StopsInLine (old new : Ahead) : Type 0 where
   pub seen : List ℕ
-  pub consumed : Consumes old new seen
+  pub taken : Takes old new seen
   pub none : lines_until Broken seen ≡ []
 
 -- a text was taken, and the line that ends it: they are the first of the lines, whatever may follow
-pub record TextTaken (last : Bool) (text : Option (List ℕ)) (old new : Option (List ℕ)) (n m : ℕ) : Type 0 where
+pub record TextTaken (last : Bool) (text : Option (List ℕ)) (old new : Ahead) (n m : ℕ) : Type 0 where
   pub lines : List Line
   pub closing : Line
-  pub consumed : Consumes old new (raw_bytes lines ++ closing.raw)
+  pub taken : Takes old new (raw_bytes lines ++ closing.raw)
   pub law : (stop : End) (more : List ℕ) → Follows last stop more → lines_until stop ((raw_bytes lines ++ closing.raw) ++ more) ≡ lines ++ closing ∷ lines_until stop more
   pub inside : NoneEnds lines
   pub ends : is_end closing.says ≡ true
   pub is : IsText text (raw_bytes lines)
   pub number : m ≡ n + length lines + 1
-  pub at_end : last ≡ true → IsAtEnd new
+  pub at_end : last ≡ true → IsAtEnd new.bytes
 
 -- these lines came, none of which ends a text, until reading stopped in this way
-pub record NoEndAmong (stop : End) (old new : Option (List ℕ)) : Type 0 where
+pub record NoEndAmong (stop : End) (old new : Ahead) : Type 0 where
   pub bytes : List ℕ
-  pub consumed : Consumes old new bytes
+  pub taken : Takes old new bytes
   pub inside : NoneEnds (lines_until stop bytes)
 
 -- a text was read, or the script ended in it
-abbrev pub ReadsText : TextFound → Option (List ℕ) → Option (List ℕ) → ℕ → ℕ → Type 0
+abbrev pub ReadsText : TextFound → Ahead → Ahead → ℕ → ℕ → Type 0
 ReadsText (text.Ended kept last) old new n m = TextTaken last kept old new n m
-ReadsText text.NoEnd old new n m = NoEndAmong Ended old new × IsAtEnd new
+ReadsText text.NoEnd old new n m = NoEndAmong Ended old new × IsAtEnd new.bytes

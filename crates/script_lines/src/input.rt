@@ -2,7 +2,7 @@
 ghost use Rattle.std.specs.Prelude.{◌≡◌, ◌+◌, ◌-◌, ◌^◌, ◌<◌, ◌≤◌, IfOk, OnOk, OnErr, MatchOption, slice_range, Ok, true, false, ◌∷◌};
 ghost use Rattle.std.specs.Io.KnownBytes.{IsAtEnd, Keeps};
 
-use crate::reader::{CountedReader, Failed};
+use crate::source::{Failed, Source};
 use std::io::Read;
 use std::sync::ledger::Ledger;
 
@@ -25,7 +25,7 @@ pub struct Input {
 }
 
 impl Input {
-    ghost use Rattle.script_lines.specs.Input.{left, bytes_left, GivesByte, FailsOrFull};
+    ghost use Rattle.script_lines.specs.Input.{left, bytes_left, GivesByte, FailsOrFull, IsDrained};
 
     /// Nothing is in the buffer yet.
     pub fn new() -> Input
@@ -39,18 +39,19 @@ impl Input {
     }
 
     // Reads once, where all that was read before was taken.
-    fn fill<R: Read, L: Ledger>(&mut self, reader: &mut CountedReader<R, L>) -> Result<(), Failed>
-        requires { self.old.unread.at ≡ self.old.unread.end }
-        ensures begins { OnOk result (self.new.unread.at ≡ 0) }
-        ensures bytes { OnOk result (Keeps (left (R.remaining reader.old.inner) self.old) (left (R.remaining reader.new.inner) self.new)) }
-        ensures end { OnOk result (self.new.unread.end ≡ 0 → IsAtEnd (left (R.remaining reader.new.inner) self.new)) }
-        ensures given { OnOk result (reader.new.given ≡ reader.old.given + self.new.unread.end) }
-        ensures fits { OnOk result (reader.new.given < 2 ^ 64) }
+    fn fill<R: Read, L: Ledger>(&mut self, reader: &mut Source<R, L>) -> Result<(), Failed>
+        requires { IsDrained self.old.unread }
+        ensures bytes { Keeps (left (R.remaining reader.old.inner) self.old)
+            (left (R.remaining reader.new.inner) self.new) }
+        ensures same { bytes_left reader.new.given self.new ≡ bytes_left reader.old.given self.old }
+        ensures starts { OnOk result (self.new.unread.at ≡ 0) }
+        ensures end { OnOk result (self.new.unread.end ≡ 0
+            → IsAtEnd (left (R.remaining reader.new.inner) self.new)) }
         ensures worked { OnOk result (reader.new.failures ≡ reader.old.failures) }
-        ensures err { OnErr result (Keeps (left (R.remaining reader.old.inner) self.old) (R.remaining reader.new.inner)) }
-        ensures failed { OnErr result (FailsOrFull reader.old.failures reader.new.failures reader.new.given) }
+        ensures failed { OnErr result (IsDrained self.new.unread
+            × FailsOrFull reader.old.failures reader.new.failures reader.new.given) }
     {
-        let most = u64::MAX - reader.given();
+        let most = u64::MAX - reader.given;
         if most == 0 {
             return Err(Failed);
         }
@@ -61,17 +62,15 @@ impl Input {
     }
 
     // Whether there is a byte to take; if not, the reader is at its end.
-    fn ready<R: Read, L: Ledger>(
-        &mut self,
-        reader: &mut CountedReader<R, L>,
-    ) -> Result<bool, Failed>
-        ensures bytes { OnOk result (Keeps (left (R.remaining reader.old.inner) self.old) (left (R.remaining reader.new.inner) self.new)) }
+    fn ready<R: Read, L: Ledger>(&mut self, reader: &mut Source<R, L>) -> Result<bool, Failed>
+        ensures bytes { Keeps (left (R.remaining reader.old.inner) self.old)
+            (left (R.remaining reader.new.inner) self.new) }
+        ensures same { bytes_left reader.new.given self.new ≡ bytes_left reader.old.given self.old }
         ensures some { result ≡ Ok true → self.new.unread.at < self.new.unread.end }
         ensures none { result ≡ Ok false → IsAtEnd (left (R.remaining reader.new.inner) self.new) }
-        ensures same { OnOk result (bytes_left reader.new.given self.new ≡ bytes_left reader.old.given self.old) }
         ensures worked { OnOk result (reader.new.failures ≡ reader.old.failures) }
-        ensures err { OnErr result (Keeps (left (R.remaining reader.old.inner) self.old) (R.remaining reader.new.inner)) }
-        ensures failed { OnErr result (FailsOrFull reader.old.failures reader.new.failures reader.new.given) }
+        ensures failed { OnErr result (IsDrained self.new.unread
+            × FailsOrFull reader.old.failures reader.new.failures reader.new.given) }
     {
         if self.unread.at < self.unread.end {
             return Ok(true);
@@ -83,8 +82,10 @@ impl Input {
     // Takes the byte that is there.
     fn take(&mut self) -> u8
         requires { self.old.unread.at < self.old.unread.end }
-        ensures byte { slice_range self.old.bytes self.old.unread.at self.old.unread.end ≡ result ∷ slice_range self.new.bytes self.new.unread.at self.new.unread.end }
-        ensures less { self.new.unread.end - self.new.unread.at + 1 ≡ self.old.unread.end - self.old.unread.at }
+        ensures byte { slice_range self.old.bytes self.old.unread.at self.old.unread.end
+            ≡ result ∷ slice_range self.new.bytes self.new.unread.at self.new.unread.end }
+        ensures less { self.new.unread.end - self.new.unread.at + 1
+            ≡ self.old.unread.end - self.old.unread.at }
     {
         let unread = self.unread;
         self.unread = Unread {
@@ -98,13 +99,20 @@ impl Input {
     /// or 2^64 - 1 bytes were read.
     pub fn next<R: Read, L: Ledger>(
         &mut self,
-        reader: &mut CountedReader<R, L>,
+        reader: &mut Source<R, L>,
     ) -> Result<Option<u8>, Failed>
-        ensures bytes { IfOk result (λ b. GivesByte b (left (R.remaining reader.old.inner) self.old) (left (R.remaining reader.new.inner) self.new)) }
-        ensures falls { IfOk result (λ b. MatchOption b (bytes_left reader.new.given self.new ≡ bytes_left reader.old.given self.old) (λ _. bytes_left reader.new.given self.new + 1 ≡ bytes_left reader.old.given self.old)) }
+        ensures bytes { IfOk result (λ b. GivesByte b (left (R.remaining reader.old.inner) self.old)
+            (left (R.remaining reader.new.inner) self.new)) }
+        ensures falls { IfOk result (λ b. MatchOption b
+            (bytes_left reader.new.given self.new ≡ bytes_left reader.old.given self.old)
+            (λ _. bytes_left reader.new.given self.new + 1 ≡ bytes_left reader.old.given self.old)) }
         ensures worked { OnOk result (reader.new.failures ≡ reader.old.failures) }
-        ensures err { OnErr result (Keeps (left (R.remaining reader.old.inner) self.old) (R.remaining reader.new.inner)) }
-        ensures failed { OnErr result (FailsOrFull reader.old.failures reader.new.failures reader.new.given) }
+        ensures err { OnErr result (Keeps (left (R.remaining reader.old.inner) self.old)
+            (left (R.remaining reader.new.inner) self.new)) }
+        ensures same { OnErr result
+            (bytes_left reader.new.given self.new ≡ bytes_left reader.old.given self.old) }
+        ensures failed { OnErr result (IsDrained self.new.unread
+            × FailsOrFull reader.old.failures reader.new.failures reader.new.given) }
     {
         if !self.ready(reader)? {
             return Ok(None);

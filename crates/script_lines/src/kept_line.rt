@@ -1,14 +1,14 @@
 //! A line of a script, of which memory may be wanted to keep all.
 ghost use Rattle.std.specs.Prelude.{◌≡◌, ◌≢◌, ℕ, ◌+◌, ◌<◌, ◌≤◌, ◌++◌, ◌∷◌, [], List, length, IfOk, OnOk, OnErr, MatchOption, vec_capacity};
-ghost use Rattle.std.specs.Io.KnownBytes.{Consumes};
+ghost use Rattle.script_lines.specs.Ahead.{Takes};
 ghost use Rattle.text_lines.specs.Blanks.{trim};
 ghost use Rattle.text_lines.specs.Lines.{NoLineFeed, strip_carriage_return};
-ghost use Rattle.script_lines.specs.Input.{left, bytes_left, FailsOrFull};
+ghost use Rattle.script_lines.specs.Input.{ahead, FailsOrFull, IsDrained};
 ghost use Rattle.script_lines.specs.Text.{Grows};
 ghost use Rattle.script_lines.specs.Words.{words, squashed};
 
 use crate::input::Input;
-use crate::reader::{CountedReader, Failed};
+use crate::source::{Failed, Source};
 use crate::text::Text;
 use std::alloc::{AllocError, Global};
 use std::io::Read;
@@ -58,7 +58,7 @@ impl KeptLine {
     ghost use Rattle.script_lines.specs.ScriptLine.{is_passed_over, is_end};
 
     /// The empty line, with room for the lines whose words are fixed.
-    pub(crate) fn new(alloc: Global) -> Result<KeptLine, AllocError> {
+    pub fn new(alloc: Global) -> Result<KeptLine, AllocError> {
         Ok(KeptLine {
             kept: Vec::with_capacity(alloc, ROOM)?,
             tail: Tail::Whole,
@@ -195,17 +195,20 @@ impl KeptLine {
     /// Reads the next line, and puts its bytes with its end into the text too.
     pub(crate) fn read<R: Read, L: Ledger>(
         &mut self,
-        reader: &mut CountedReader<R, L>,
+        reader: &mut Source<R, L>,
         input: &mut Input,
         text: &mut Text,
     ) -> Result<Found, Failed>
-        ensures line { IfOk result (λ found. (seen : List ℕ) × NoLineFeed seen × Grows text.old text.new (raw_of found seen)
-            × TakesLine found (left (R.remaining reader.old.inner) input.old) (left (R.remaining reader.new.inner) input.new) seen self.new) }
-        ensures falls { IfOk result (λ found. found ≢ Found.End → bytes_left reader.new.given input.new < bytes_left reader.old.given input.old) }
-        ensures same { OnOk result (bytes_left reader.new.given input.new ≤ bytes_left reader.old.given input.old) }
+        ensures line { IfOk result (λ found. (seen : List ℕ) × NoLineFeed seen
+            × Grows text.old text.new (raw_of found seen)
+            × TakesLine found (ahead (R.remaining reader.old.inner) reader.old.given input.old)
+            (ahead (R.remaining reader.new.inner) reader.new.given input.new) seen self.new) }
         ensures worked { OnOk result (reader.new.failures ≡ reader.old.failures) }
-        ensures err { OnErr result ((seen : List ℕ) × NoLineFeed seen × Consumes (left (R.remaining reader.old.inner) input.old) (R.remaining reader.new.inner) seen) }
-        ensures failed { OnErr result (FailsOrFull reader.old.failures reader.new.failures reader.new.given) }
+        ensures err { OnErr result ((seen : List ℕ) × NoLineFeed seen
+            × Takes (ahead (R.remaining reader.old.inner) reader.old.given input.old)
+            (ahead (R.remaining reader.new.inner) reader.new.given input.new) seen) }
+        ensures failed { OnErr result (IsDrained input.new.unread
+            × FailsOrFull reader.old.failures reader.new.failures reader.new.given) }
     {
         self.clear();
         let mut empty = true;

@@ -14,15 +14,15 @@ mod input;
 mod kept_line;
 mod numbers;
 mod reader;
-mod script;
+mod source;
 mod text;
 mod words;
 mod writer;
 
 pub use kept_line::{Found, KeptLine};
 pub use numbers::{signed, unsigned};
-pub use reader::{CountedReader, Failed};
-pub use script::{Script, TextFound};
+pub use reader::{CountedReader, TextFound};
+pub use source::Failed;
 pub use text::Text;
 pub use words::next_word;
 pub use writer::CountedWriter;

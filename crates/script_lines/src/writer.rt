@@ -5,7 +5,7 @@ ghost use Rattle.script_lines.specs.Faults.{Wrote};
 ghost use Rattle.script_lines.specs.Counted.{fresh_writer};
 
 use crate::failures::Failures;
-use crate::reader::Failed;
+use crate::source::Failed;
 use itoa::Buffer;
 use std::io::{ErrorKind, Write};
 use std::marker::Model;
@@ -14,28 +14,33 @@ use std::sync::ledger::{Blank, Ledger};
 /// A writer with the count of its failures, which are the calls that answered an error and the
 /// writes that took nothing. A call that a signal interrupted is made again, and is no failure.
 #[derive(Drop)]
-pub struct CountedWriter<W, L: Ledger> {
+pub struct CountedWriter<W: Write, L: Ledger> {
     inner: W,
     failures: Failures<L>,
     // Whether all that was written was handed on.
     flushed: bool,
 }
 
-impl<W, L: Ledger> Model for CountedWriter<W, L> {
+impl<W: Write, L: Ledger> Model for CountedWriter<W, L> {
     ghost use Rattle.script_lines.specs.Counted.{CountedWriting};
 
     ghost Value = { CountedWriting W };
 
-    ghost view = { λ w. record { inner = w.inner; failures = w.failures; flushed = w.flushed } };
+    ghost view = { λ w. record {
+      inner = w.inner;
+      contents = W.contents w.inner;
+      failures = w.failures;
+      flushed = w.flushed;
+    } };
 }
 
-impl<W, L: Ledger> CountedWriter<W, L> {
+impl<W: Write, L: Ledger> CountedWriter<W, L> {
     /// Counts in a ledger that is new.
     pub fn new(inner: W, blank: Blank) -> CountedWriter<W, L>
         requires name { blank.name ≡ L.name }
         requires parts { blank.parts ≡ L.parts }
         requires some { 0 < blank.parts }
-        ensures { result ≡ fresh_writer inner }
+        ensures { result ≡ fresh_writer W.contents inner }
     {
         CountedWriter {
             inner,
@@ -46,7 +51,8 @@ impl<W, L: Ledger> CountedWriter<W, L> {
 
     /// The writer, as it is after all that was written.
     pub fn into_inner(self) -> W
-        ensures { result ≡ self.inner }
+        ensures inner { result ≡ self.inner }
+        ensures contents { W.contents result ≡ self.contents }
     {
         let CountedWriter {
             inner,
@@ -60,7 +66,7 @@ impl<W, L: Ledger> CountedWriter<W, L> {
 impl<W: Write, L: Ledger> CountedWriter<W, L> {
     /// Writes all of the bytes, or a beginning of them and fails.
     pub fn tell(&mut self, bytes: &[u8]) -> Result<(), Failed>
-        ensures bytes { Wrote (W.contents self.old.inner) (W.contents self.new.inner) result bytes.now }
+        ensures bytes { Wrote self.old.contents self.new.contents result bytes.now }
         ensures worked { OnOk result (self.new.failures ≡ self.old.failures) }
         ensures failed { OnErr result (self.new.failures ≡ self.old.failures + 1) }
         ensures flushed { self.new.flushed ≡ false }
@@ -87,7 +93,7 @@ impl<W: Write, L: Ledger> CountedWriter<W, L> {
 
     /// Writes the number in decimal, or a beginning of it and fails.
     pub fn tell_number(&mut self, number: u64) -> Result<(), Failed>
-        ensures bytes { Wrote (W.contents self.old.inner) (W.contents self.new.inner) result
+        ensures bytes { Wrote self.old.contents self.new.contents result
             (decimal number) }
         ensures worked { OnOk result (self.new.failures ≡ self.old.failures) }
         ensures failed { OnErr result (self.new.failures ≡ self.old.failures + 1) }
@@ -99,7 +105,7 @@ impl<W: Write, L: Ledger> CountedWriter<W, L> {
 
     /// Hands on what was written.
     pub fn flush(&mut self) -> Result<(), Failed>
-        ensures bytes { Keeps (W.contents self.old.inner) (W.contents self.new.inner) }
+        ensures bytes { Keeps self.old.contents self.new.contents }
         ensures flushed { OnOk result (self.new.flushed ≡ true) }
         ensures unflushed { OnErr result (self.new.flushed ≡ self.old.flushed) }
         ensures worked { OnOk result (self.new.failures ≡ self.old.failures) }

@@ -1,10 +1,9 @@
 //! The lines of scripts.
 ghost use Rattle.std.specs.Prelude.{◌≡◌, ◌<◌};
-ghost use Rattle.script_lines.specs.Script.{HasRoom};
 
 use crate::tests::devices::Pieces;
 use crate::tests::same;
-use script_lines::{CountedReader, Found, KeptLine, Script, next_word};
+use script_lines::{CountedReader, Found, KeptLine, next_word};
 use std::alloc::Global;
 use std::io::Read;
 use std::marker::Brand;
@@ -48,19 +47,17 @@ fn put_line(rt: &impl Abort, shown: &mut Vec<u8>, line: &KeptLine) {
 pub fn put_lines<R: Read, L: Ledger>(
     rt: &impl Abort,
     shown: &mut Vec<u8>,
-    script: &mut Script,
     reader: &mut CountedReader<R, L>,
-)
-    requires { HasRoom reader.old.given script.old }
-{
+    line: &mut KeptLine,
+) {
     loop {
-        let Ok(found) = script.next_line(reader) else {
+        let Ok(found) = reader.next_line(line) else {
             return put(rt, shown, b"failed");
         };
         if found == Found::End {
             return put(rt, shown, b"end");
         }
-        put_line(rt, shown, script.line());
+        put_line(rt, shown, line);
         if found == Found::Last {
             return put(rt, shown, b"last");
         }
@@ -78,9 +75,9 @@ fn show_counted<L: Ledger>(
     requires some { 0 < blank.parts }
 {
     let mut reader = CountedReader::<_, L>::new(pieces, blank);
-    let mut script = Script::open(alloc).expect(rt, "memory");
+    let mut line = KeptLine::new(alloc).expect(rt, "memory");
     let mut shown = Vec::new(alloc);
-    put_lines(rt, &mut shown, &mut script, &mut reader);
+    put_lines(rt, &mut shown, &mut reader, &mut line);
     shown
 }
 
@@ -335,14 +332,14 @@ fn is_read<L: Ledger>(alloc: Global, blank: Blank, row: &Long) -> bool
     requires some { 0 < blank.parts }
 {
     let mut reader = CountedReader::<_, L>::new(Pieces::new(row.line, 7), blank);
-    let Ok(mut script) = Script::open(alloc) else {
+    let Ok(mut line) = KeptLine::new(alloc) else {
         // Where the room for every line is refused, nothing was read.
         return true;
     };
-    if script.next_line(&mut reader) != Ok(Found::Last) {
+    if reader.next_line(&mut line) != Ok(Found::Last) {
         return false;
     }
-    match script.line().words() {
+    match line.words() {
         None => row.wants,
         Some(words) => word_count(words) == row.words,
     }

@@ -4,7 +4,7 @@ ghost use Rattle.std.specs.Prelude.{◌≡◌, ◌<◌};
 use crate::tests::devices::Pieces;
 use crate::tests::lines::{Row, put, put_lines};
 use crate::tests::same;
-use script_lines::{CountedReader, Script, TextFound};
+use script_lines::{CountedReader, KeptLine, TextFound};
 use std::alloc::Global;
 use std::marker::Brand;
 use std::process::Abort;
@@ -32,16 +32,16 @@ fn show_counted<L: Ledger>(
     requires some { 0 < blank.parts }
 {
     let mut reader = CountedReader::<_, L>::new(pieces, blank);
-    let mut script = Script::open(alloc).expect(rt, "memory");
+    let mut line = KeptLine::new(alloc).expect(rt, "memory");
     let mut shown = Vec::new(alloc);
-    let Ok(found) = script.read_text(alloc, &mut reader) else {
+    let Ok(found) = reader.read_text(alloc, &mut line) else {
         put(rt, &mut shown, b"failed");
         return shown;
     };
     put_text(rt, &mut shown, &found);
-    let at_4 = script.line_number() == 4;
+    let at_4 = reader.line_number() == 4;
     put(rt, &mut shown, if at_4 { b"4 " } else { b"- " });
-    put_lines(rt, &mut shown, &mut script, &mut reader);
+    put_lines(rt, &mut shown, &mut reader, &mut line);
     shown
 }
 

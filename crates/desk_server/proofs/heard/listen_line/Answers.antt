@@ -1,6 +1,4 @@
-use Rattle.std.proofs.Common.{refl, sym, subst}
-use Rattle.script_lines.specs.KeptLine.{Says}
-use Rattle.script_lines.specs.Script.{line_of, line_number, unread}
+use Rattle.std.proofs.Common.{refl}
 use Rattle.desk_server.specs.Answer.{Say}
 use Rattle.desk_server.specs.Command.{command_of}
 use Rattle.desk_server.specs.declared.heard.What.TheVariants as what
@@ -9,18 +7,18 @@ use Rattle.desk_server.proofs.heard.listen_line.Goals as goal
 
 pub returns-in-NoMemory-clause-heard : goal.returns-in-NoMemory-clause-heard
 returns-in-NoMemory-clause-heard g c = λ start t.
-    let m = c.in-NoMemory.ensures t.line.says (subst (λ k. Says k t.line.says) (sym c.line.ensures) t.says) in
-    let n = line_number c.args.script.now in
-    rw c.line_number-line.ensures (hears-command start _ _ c.args.last what.NoMemory n t m.0 m.1.0 (Say n (command_of t.line.says), refl, m.1.1 n))
+    let m = c.in-NoMemory.ensures t.line.says t.says in
+    let n = c.args.reader.now.lines in
+    rw c.line_number-number.ensures (hears-command start _ _ c.args.last what.NoMemory n t m.0 m.1.0 (Say n (command_of t.line.says), refl, m.1.1 n))
 
 pub returns-else-last-clause-heard : goal.returns-else-last-clause-heard
 returns-else-last-clause-heard g c =
     if_ok_map c.listen_text.result _ _ (λ heard h start t.
-    let m = c.in-AsksText.ensures t.line.says (subst (λ k. Says k t.line.says) (sym c.line.ensures) t.says) in
-    hears-text start (unread (g.R.Read.remaining c.args.reader.now.inner) c.args.script.now) _ c.in-AsksText.format (line_of c.args.script.now) c.args.last heard.what heard.last heard.line (line_number c.args.script.now) _ c.if-last.false t m.0 m.1 h) c.listen_text.ensures.heard
+    let m = c.in-AsksText.ensures t.line.says t.says in
+    hears-text start c.args.reader.now.ahead c.listen_text.new.reader.ahead c.in-AsksText.format c.args.line.now c.args.last heard.what heard.last heard.line c.args.reader.now.lines _ c.if-last.false t m.0 m.1 h) c.listen_text.ensures.heard
 
 pub returns-else-last-clause-err : goal.returns-else-last-clause-err
 returns-else-last-clause-err g c =
     on_err_map c.listen_text.result _ _ (λ b start t.
-    let m = c.in-AsksText.ensures t.line.says (subst (λ k. Says k t.line.says) (sym c.line.ensures) t.says) in
-    breaks-text start (unread (g.R.Read.remaining c.args.reader.now.inner) c.args.script.now) _ c.in-AsksText.format (line_of c.args.script.now) c.args.last (line_number c.args.script.now) c.if-last.false t m.0 m.1 b) c.listen_text.ensures.err
+    let m = c.in-AsksText.ensures t.line.says t.says in
+    breaks-text start c.args.reader.now.ahead c.listen_text.new.reader.ahead c.in-AsksText.format c.args.line.now c.args.last c.args.reader.now.lines c.if-last.false t m.0 m.1 b) c.listen_text.ensures.err

@@ -1,5 +1,6 @@
-use Rattle.std.proofs.Common.{arith, rules, ◌∙◌, ◌≡◌, ◌==◌, false}
-use Rattle.std.proofs.KnownBytes.{Consumes-kept}
+use Rattle.std.proofs.Common.{rules, ◌∙◌, ◌≡◌, ◌==◌, false}
+use Rattle.script_lines.specs.Input.{ahead}
+use Rattle.script_lines.proofs.Ahead.{takes_byte, takes_kept}
 use Rattle.script_lines.proofs.Reading.{reads_on}
 use Rattle.script_lines.proofs.kept_line.KeptLine.read.Goals as goal
 
@@ -8,10 +9,10 @@ loop-byte-preserved g c =
     let gives = rw c.in-Some.is at c.in_ok-byte.ensures.bytes in
     let falls = rw c.in-Some.is at c.in_ok-byte.ensures.falls in
     let other : (c.in-Some.byte == 10) ≡ false = search rules in
+    let mid = ahead (g.R.Read.remaining c.loop-byte.reader.inner) c.loop-byte.reader.given c.loop-byte.input in
+    let new = ahead (g.R.Read.remaining c.next.new.reader.inner) c.next.new.reader.given c.next.new.self in
     record {
-      reading = reads_on _ _ _ _ _ _ _ _ _ c.in-Some.byte other gives c.push.ensures c.feed.ensures c.loop-byte.invariant.reading;
-      fewer = omega (arith, falls, c.loop-byte.invariant.fewer);
-      strict = λ e. omega (arith, falls, c.loop-byte.invariant.fewer);
+      reading = reads_on _ _ _ _ _ _ _ _ _ c.in-Some.byte other (takes_byte mid new c.in-Some.byte gives falls) c.push.ensures c.feed.ensures c.loop-byte.invariant.reading;
       worked = c.in_ok-byte.ensures.worked ∙ c.loop-byte.invariant.worked;
     }
 
@@ -19,4 +20,8 @@ pub returns-else-empty-clause-line : goal.returns-else-empty-clause-line
 returns-else-empty-clause-line g c =
     let reading = c.loop-byte.invariant.reading in
     let gives = rw c.in_default.is at c.in_ok-byte.ensures.bytes in
-    (reading.seen, reading.no_line_feed, reading.grows, (Consumes-kept _ _ _ reading.seen reading.consumed gives.1, gives.0, reading.some c.if-empty.false, c.end_input.ensures reading.seen reading.saw))
+    let falls = rw c.in_default.is at c.in_ok-byte.ensures.falls in
+    let old = ahead (g.R.Read.remaining c.args.reader.now.inner) c.args.reader.now.given c.args.input.now in
+    let mid = ahead (g.R.Read.remaining c.loop-byte.reader.inner) c.loop-byte.reader.given c.loop-byte.input in
+    let new = ahead (g.R.Read.remaining c.next.new.reader.inner) c.next.new.reader.given c.next.new.self in
+    (reading.seen, reading.no_line_feed, reading.grows, (takes_kept old mid new reading.seen reading.taken gives.1 falls, gives.0, reading.some c.if-empty.false, c.end_input.ensures reading.seen reading.saw))
