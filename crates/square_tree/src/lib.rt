@@ -1,0 +1,6 @@
+//! Patches: trees of squares that say of some places which state they have, and keep the rest.
+#![tactic(auto)]
+
+mod tree;
+
+pub use tree::{Four, PatchTree};
