@@ -1,6 +1,8 @@
 //! Patches: trees of squares that say of some places which state they have, and keep the rest.
 #![tactic(auto)]
 
+mod copy;
+mod lay;
 mod tree;
 
 pub use tree::{Four, PatchTree};
