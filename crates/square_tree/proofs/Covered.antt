@@ -1,5 +1,5 @@
 -- What one quadtree laid on another says, and what it says after a part of the way.
-use Rattle.std.proofs.Common.{◌≡◌, ◌⊎◌, ℕ, ◌-◌, ◌^◌, nat_lt, Bool, true, false, cond, Result, Ok, Err, OnErr, refl, sym, subst, inl, inr}
+use Rattle.std.proofs.Common.{◌≡◌, ◌⊎◌, ℕ, ◌-◌, ◌^◌, nat_lt, Bool, true, false, cond, Result, Ok, Err, OnOk, OnErr, refl, sym, subst, inl, inr}
 use Rattle.square_tree.specs.Quadtree.{Quadtree, keep, cell, quad, HasLevel, at}
 use Rattle.square_tree.specs.Over.{over, IsPartlyOver}
 
@@ -43,3 +43,8 @@ on_any_err (Err e) p = p
 pub on_err : {T E : Type 0} (r : Result T E) {P Q : Type 0} → OnErr r P → (P → Q) → OnErr r Q
 on_err (Ok v) h f = tt
 on_err (Err e) h f = f h
+
+-- what follows on an Ok
+pub on_ok : {T E : Type 0} (r : Result T E) {P Q : Type 0} → OnOk r P → (P → Q) → OnOk r Q
+on_ok (Ok v) h f = f h
+on_ok (Err e) h f = tt

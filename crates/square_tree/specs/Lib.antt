@@ -1,3 +1,4 @@
 pub mod Change
+pub mod Laid
 pub mod Over
 pub mod Quadtree

@@ -1,9 +1,10 @@
 //! One tree laid on another.
-ghost use Rattle.std.specs.Prelude.{◌≡◌, OnOk, OnErr};
-ghost use Rattle.square_tree.specs.Quadtree.{quadtree, quadtree_of_four};
+ghost use Rattle.std.specs.Prelude.{◌≡◌, ◌<◌, ◌≤◌, OnOk, OnErr};
+ghost use Rattle.square_tree.specs.Quadtree.{quadtree, quadtree_of_four, HasLevel};
 ghost use Rattle.square_tree.specs.Over.{over, IsPartlyOver};
+ghost use Rattle.square_tree.specs.Laid.{IsAligned, IsLaid, IsPartlyLaid};
 
-use crate::tree::{Four, PatchTree};
+use crate::tree::{Four, PatchTree, half};
 use std::alloc::{AllocError, Allocator};
 
 impl<A: Allocator + Clone> PatchTree<A> {
@@ -41,5 +42,74 @@ impl<A: Allocator + Clone> Four<A> {
         self.ne.cover(alloc, &other.ne)?;
         self.sw.cover(alloc, &other.sw)?;
         self.se.cover(alloc, &other.se)
+    }
+}
+
+impl<A: Allocator + Clone> PatchTree<A> {
+    // Lays the tree of a smaller square, whose corner in the north-west lies in the column and the
+    // row, on that of a square of the level.
+    #[cycle(lay)]
+    pub(crate) fn lay_at<B: Allocator>(
+        &mut self,
+        alloc: &A,
+        level: u8,
+        column: u64,
+        row: u64,
+        other: &PatchTree<B>,
+        other_level: u8,
+    ) -> Result<(), AllocError>
+        requires level { HasLevel level (quadtree self.old) × (level ≤ 62) }
+        requires other { HasLevel other_level (quadtree other.now) }
+        requires place { IsAligned level other_level column × IsAligned level other_level row }
+        ensures ok { OnOk result (IsLaid level column row other_level (quadtree other.now) (quadtree self.old) (quadtree self.new)) }
+        ensures err { OnErr result (IsPartlyLaid level column row other_level (quadtree other.now) (quadtree self.old) (quadtree self.new)) }
+    {
+        if level == other_level {
+            return self.cover(alloc, other);
+        }
+        match self {
+            PatchTree::Keep => {
+                let mut four = Box::new(alloc.clone()?, Four::keeping())?;
+                four.lay_at(alloc, level, column, row, other, other_level)?;
+                *self = PatchTree::Quad(four);
+                Ok(())
+            }
+            PatchTree::Cell(_) => unreachable!("a square above another is no cell"),
+            PatchTree::Quad(four) => four.lay_at(alloc, level, column, row, other, other_level),
+        }
+    }
+}
+
+impl<A: Allocator + Clone> Four<A> {
+    // Lays the tree of a smaller square on the square of the level that these divide.
+    #[cycle(lay)]
+    fn lay_at<B: Allocator>(
+        &mut self,
+        alloc: &A,
+        level: u8,
+        column: u64,
+        row: u64,
+        other: &PatchTree<B>,
+        other_level: u8,
+    ) -> Result<(), AllocError>
+        requires level { HasLevel level (quadtree_of_four self.old) × (level ≤ 62) }
+        requires other { HasLevel other_level (quadtree other.now) × (other_level < level) }
+        requires place { IsAligned level other_level column × IsAligned level other_level row }
+        ensures ok { OnOk result (IsLaid level column row other_level (quadtree other.now) (quadtree_of_four self.old) (quadtree_of_four self.new)) }
+        ensures err { OnErr result (IsPartlyLaid level column row other_level (quadtree other.now) (quadtree_of_four self.old) (quadtree_of_four self.new)) }
+    {
+        let half = half(level);
+        let below = level - 1;
+        if row < half {
+            if column < half {
+                self.nw.lay_at(alloc, below, column, row, other, other_level)
+            } else {
+                self.ne.lay_at(alloc, below, column - half, row, other, other_level)
+            }
+        } else if column < half {
+            self.sw.lay_at(alloc, below, column, row - half, other, other_level)
+        } else {
+            self.se.lay_at(alloc, below, column - half, row - half, other, other_level)
+        }
     }
 }

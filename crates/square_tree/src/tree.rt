@@ -66,7 +66,7 @@ impl<A: Allocator> PatchTree<A> {
 
 impl<A: Allocator> Four<A> {
     // The quadrants that say nothing.
-    fn keeping() -> Four<A>
+    pub(crate) fn keeping() -> Four<A>
         ensures { quadtree_of_four result ≡ quad keep keep keep keep }
     {
         Four {
