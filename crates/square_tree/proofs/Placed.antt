@@ -142,10 +142,10 @@ aligned_east {l} {k} {x} a less east =
     let d : 2 ^ l ≡ 2 * 2 ^ (l - 1) = double l (omega (arith, less)) in
     record { smaller = omega (arith, less); before = a.before - n; is = omega (arith, spread, p); inside = omega (arith, inside, d, east) }
 
-split : (a b : ℕ) (P : Bool → Type 0) → (a < b → P true) → (b ≤ a → P false) → P (nat_lt a b)
+pub split : (a b : ℕ) (P : Bool → Type 0) → (a < b → P true) → (b ≤ a → P false) → P (nat_lt a b)
 split a b P f g = elim (nat_lt a b) as (λ t. nat_lt a b ≡ t → P t) [ true ↦ λ e. f (grind (arith, nat_tests, e)) | false ↦ λ e. g (grind (arith, nat_tests, e)) ] refl
 
-none_or : {w z : Option ℕ} → w ≡ None → z ≡ option_or w z
+pub none_or : {w z : Option ℕ} → w ≡ None → z ≡ option_or w z
 none_or {w} {z} e = sym (ap (λ o. option_or o z) e)
 
 -- what is laid in the north-west quadrant is laid on the square
