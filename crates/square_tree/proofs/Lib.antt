@@ -1,3 +1,5 @@
 pub mod Covered
 pub mod Placed
 pub mod Shown
+pub mod Mapped
+pub mod Quarters

@@ -58,7 +58,7 @@ four : (p : Place) (a b c d : List (Place × ℕ)) → find place_cmp p ((a ++ b
 four p a b c d = find-append p (a ++ b) (c ++ d) ∙ ap₂ option_or (find-append p a b) (find-append p c d)
 
 -- no entry lies to the west of the corner
-find_west : (t : Quadtree) (l : ℕ) (x y a b : ℤ) → a <ℤ x → find place_cmp (b, a) (entries t l x y) ≡ None
+pub find_west : (t : Quadtree) (l : ℕ) (x y a b : ℤ) → a <ℤ x → find place_cmp (b, a) (entries t l x y) ≡ None
 unfolding entries
 find_west keep l x y a b h = refl
 find_west (cell s) l x y a b h = apart (b, a) (y, x) s (λ e. let f : a ≡ x = ap (λ (p : Place). p.1) e in absurd (omega (arith, ints, h, f)))
@@ -70,7 +70,7 @@ find_west (quad nw ne sw se) l x y a b h =
     ∙ four_none (find_west nw v x y a b h) (find_west ne v (x +ℤ m) y a b far) (find_west sw v x (y +ℤ m) a b h) (find_west se v (x +ℤ m) (y +ℤ m) a b far)
 
 -- nor to the north
-find_north : (t : Quadtree) (l : ℕ) (x y a b : ℤ) → b <ℤ y → find place_cmp (b, a) (entries t l x y) ≡ None
+pub find_north : (t : Quadtree) (l : ℕ) (x y a b : ℤ) → b <ℤ y → find place_cmp (b, a) (entries t l x y) ≡ None
 unfolding entries
 find_north keep l x y a b h = refl
 find_north (cell s) l x y a b h = apart (b, a) (y, x) s (λ e. let f : b ≡ y = ap (λ (p : Place). p.0) e in absurd (omega (arith, ints, h, f)))
@@ -113,7 +113,7 @@ fourth : {a b c d w : Option ℕ} → a ≡ None → b ≡ None → c ≡ None �
 fourth p q r s = ap₂ option_or (ap₂ option_or p q) (ap₂ option_or r s)
 
 -- the entry of the cell in column u and row v
-find_at : (t : Quadtree) (l : ℕ) (x y : ℤ) (u v : ℕ) → HasLevel l t → find place_cmp (y +ℤ pos v, x +ℤ pos u) (entries t l x y) ≡ at t l u v
+pub find_at : (t : Quadtree) (l : ℕ) (x y : ℤ) (u v : ℕ) → HasLevel l t → find place_cmp (y +ℤ pos v, x +ℤ pos u) (entries t l x y) ≡ at t l u v
 unfolding entries
 find_at keep l x y u v h = refl
 find_at (cell s) l x y u v h = one_place s u v x y

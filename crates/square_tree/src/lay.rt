@@ -1,10 +1,11 @@
 //! One tree laid on another.
-ghost use Rattle.std.specs.Prelude.{◌≡◌, ◌<◌, ◌≤◌, OnOk, OnErr};
+ghost use Rattle.std.specs.Prelude.{◌≡◌, ◌-◌, ◌<◌, ◌≤◌, OnOk, OnErr};
 ghost use Rattle.square_tree.specs.Quadtree.{quadtree, quadtree_of_four, HasLevel};
 ghost use Rattle.square_tree.specs.Over.{over, IsPartlyOver};
+ghost use Rattle.square_tree.specs.Cells.{reach};
 ghost use Rattle.square_tree.specs.Laid.{IsAligned, IsLaid, IsPartlyLaid};
 
-use crate::tree::{Four, PatchTree, half};
+use crate::tree::{Four, PatchTree, half, side};
 use std::alloc::{AllocError, Allocator};
 
 impl<A: Allocator + Clone> PatchTree<A> {
@@ -111,5 +112,52 @@ impl<A: Allocator + Clone> Four<A> {
         } else {
             self.se.lay_at(alloc, below, column - half, row - half, other, other_level)
         }
+    }
+}
+
+impl<A: Allocator + Clone> PatchTree<A> {
+    // Lays the tree of a square around (0, 0) on that of one that is not smaller.
+    pub(crate) fn lay<B: Allocator>(
+        &mut self,
+        alloc: &A,
+        level: u8,
+        other: &PatchTree<B>,
+        other_level: u8,
+    ) -> Result<(), AllocError>
+        requires level { HasLevel level (quadtree self.old) × (level ≤ 62) }
+        requires other { HasLevel other_level (quadtree other.now) × (other_level ≤ level) }
+        ensures ok { OnOk result (let inset = reach level - reach other_level in IsLaid level inset inset other_level (quadtree other.now) (quadtree self.old) (quadtree self.new)) }
+        ensures err { OnErr result (let inset = reach level - reach other_level in IsPartlyLaid level inset inset other_level (quadtree other.now) (quadtree self.old) (quadtree self.new)) }
+    {
+        match other {
+            PatchTree::Keep => Ok(()),
+            PatchTree::Cell(_) => {
+                let centre = side(level) / 2;
+                self.lay_at(alloc, level, centre, centre, other, other_level)
+            }
+            PatchTree::Quad(four) => self.lay_quadrants(alloc, level, four, other_level),
+        }
+    }
+
+    // Lays the quadrants of a square around (0, 0) on the tree of one that is not smaller.
+    fn lay_quadrants<B: Allocator>(
+        &mut self,
+        alloc: &A,
+        level: u8,
+        other: &Four<B>,
+        other_level: u8,
+    ) -> Result<(), AllocError>
+        requires level { HasLevel level (quadtree self.old) × (level ≤ 62) }
+        requires other { HasLevel other_level (quadtree_of_four other.now) × (other_level ≤ level) }
+        ensures ok { OnOk result (let inset = reach level - reach other_level in IsLaid level inset inset other_level (quadtree_of_four other.now) (quadtree self.old) (quadtree self.new)) }
+        ensures err { OnErr result (let inset = reach level - reach other_level in IsPartlyLaid level inset inset other_level (quadtree_of_four other.now) (quadtree self.old) (quadtree self.new)) }
+    {
+        let centre = half(level);
+        let near = centre - half(other_level);
+        let below = other_level - 1;
+        self.lay_at(alloc, level, near, near, &other.nw, below)?;
+        self.lay_at(alloc, level, centre, near, &other.ne, below)?;
+        self.lay_at(alloc, level, near, centre, &other.sw, below)?;
+        self.lay_at(alloc, level, centre, centre, &other.se, below)
     }
 }

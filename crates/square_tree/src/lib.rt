@@ -3,6 +3,8 @@
 
 mod copy;
 mod lay;
+mod patch;
 mod tree;
 
+pub use patch::Patch;
 pub use tree::{Four, PatchTree};

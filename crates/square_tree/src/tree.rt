@@ -27,6 +27,15 @@ pub struct Four<A: Allocator> {
     pub se: PatchTree<A>,
 }
 
+// The side of a square.
+pub(crate) fn side(level: u8) -> u64
+    requires { level ≤ 62 }
+    ensures value { result ≡ 2 ^ level }
+    ensures fits { result ≤ 2 ^ 62 }
+{
+    1 << level
+}
+
 // The side of the quadrants of a square.
 pub(crate) fn half(level: u8) -> u64
     requires { (0 < level) × (level ≤ 62) }

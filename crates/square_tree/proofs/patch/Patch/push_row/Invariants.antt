@@ -1,0 +1,6 @@
+use Rattle.std.proofs.Common.{◌≡◌, ◌++◌}
+use Rattle.square_tree.specs.Cells.{row_states}
+use Rattle.square_tree.proofs.patch.Patch.push_row.Given as goal
+
+abbrev pub invariant-loop-column : goal.invariant-loop-column
+invariant-loop-column g l = l.states.items ≡ l.fn.states.items ++ row_states l.self l.left l.y l.column

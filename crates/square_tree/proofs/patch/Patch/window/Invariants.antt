@@ -1,0 +1,6 @@
+use Rattle.std.proofs.Common.{◌≡◌}
+use Rattle.square_tree.specs.Cells.{window_states}
+use Rattle.square_tree.proofs.patch.Patch.window.Given as goal
+
+abbrev pub invariant-loop-row : goal.invariant-loop-row
+invariant-loop-row g l = l.states.items ≡ window_states l.self l.left l.top l.width l.row

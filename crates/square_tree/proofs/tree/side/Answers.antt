@@ -1,0 +1,6 @@
+use Rattle.std.proofs.Common.{◌≤◌, ◌^◌, arith}
+use Rattle.std.proofs.Math.Pow.{pow_mono}
+use Rattle.square_tree.proofs.tree.side.Goals as goal
+
+pub returns-clause-fits : goal.returns-clause-fits
+returns-clause-fits c = let mono : 2 ^ c.args.level ≤ 2 ^ 62 = pow_mono c.requires in omega (arith, mono)
