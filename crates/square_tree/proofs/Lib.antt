@@ -3,3 +3,4 @@ pub mod Placed
 pub mod Shown
 pub mod Mapped
 pub mod Quarters
+pub mod Windows

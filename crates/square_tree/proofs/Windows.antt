@@ -1,0 +1,38 @@
+-- Steps of the states of a window.
+use Rattle.std.proofs.Common.{◌≡◌, ◌∙◌, sym, ap, refl, ℕ, ◌+◌, ◌^◌, ◌<◌, ◌≤◌, List, [], ◌∷◌, ◌++◌, ℤ, pos, ◌+ℤ◌, map, unwrap_or, append_assoc, append-nil, arith, SFits, w64}
+use Rattle.std.proofs.lemmas.Int.{ints}
+use Rattle.std.specs.List.{range_with_len, concat}
+use Rattle.std.proofs.lemmas.List.FromFn.{map-range_with_len_more}
+use Rattle.std.proofs.Math.Pow.{pow_mono}
+use Rattle.square_tree.specs.Cells.{Cells, SpansSquare, state_at, row_states, window_states}
+
+-- one more state
+pub row-more : (c : Cells) (x y : ℤ) (k s : ℕ) → s ≡ unwrap_or (state_at c (x +ℤ pos k) y) 0 → row_states c x y k ++ s ∷ [] ≡ row_states c x y (k + 1)
+row-more c x y k s is =
+    ap (λ n. row_states c x y k ++ n ∷ []) is
+    ∙ sym (map-range_with_len_more (λ k. unwrap_or (state_at c (x +ℤ pos k) y) 0) 0 k k (omega arith))
+
+concat-push : (ps : List (List ℕ)) (p : List ℕ) → concat (ps ++ p ∷ []) ≡ concat ps ++ p
+concat-push [] p = append-nil p
+concat-push (q ∷ ps) p = ap (λ t. q ++ t) (concat-push ps p) ∙ sym (append_assoc q (concat ps) p)
+
+-- one more row
+pub window-more : (c : Cells) (left top : ℤ) (width k : ℕ) → window_states c left top width k ++ row_states c left (top +ℤ pos k) width ≡ window_states c left top width (k + 1)
+window-more c left top width k =
+    sym (concat-push (map (λ k. row_states c left (top +ℤ pos k) width) (range_with_len 0 k)) (row_states c left (top +ℤ pos k) width))
+    ∙ ap concat (sym (map-range_with_len_more (λ k. row_states c left (top +ℤ pos k) width) 0 k k (omega arith)))
+
+-- a coordinate of a span lies in the square
+pub spanned : {l n : ℕ} {z : ℤ} (k : ℕ) → SpansSquare l z n → k < n → SpansSquare l (z +ℤ pos k) 1
+spanned k spans below =
+    let from = spans.from in
+    let to = spans.to in
+    record { from = omega (arith, ints, from); to = omega (arith, ints, to, below) }
+
+-- and fits
+pub spanned_fits : {l n : ℕ} {z : ℤ} (k : ℕ) → l ≤ 62 → SpansSquare l z n → k < n → SFits w64 (z +ℤ pos k)
+spanned_fits {l} k few spans below =
+    let from = spans.from in
+    let to = spans.to in
+    let mono : 2 ^ l ≤ 2 ^ 62 = pow_mono few in
+    record { sfits = grind (arith, ints) }
