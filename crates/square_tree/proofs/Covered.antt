@@ -31,7 +31,7 @@ partly_quad p q r s = record {
   level = λ l j k. (j.0, p.level (l - 1) j.1 k.1, q.level (l - 1) j.2 k.2, r.level (l - 1) j.3 k.3, s.level (l - 1) j.4 k.4);
   says = λ l x y.
       let m = 2 ^ (l - 1) in
-      either (nat_lt y m) (either (nat_lt x m) (p.says (l - 1) x y) (q.says (l - 1) (x - m) y)) (either (nat_lt x m) (r.says (l - 1) x (y - m)) (s.says (l - 1) (x - m) (y - m)))
+      either (nat_lt y m) (either (nat_lt x m) (p.says (l - 1) x y) (q.says (l - 1) (x - m) y)) (either (nat_lt x m) (r.says (l - 1) x (y - m)) (s.says (l - 1) (x - m) (y - m)));
 }
 
 -- a fact that holds on every way holds on an Err

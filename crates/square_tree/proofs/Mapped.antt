@@ -50,9 +50,9 @@ is_states_of l t m h inside west north =
     elim (place_of (least l) q.1) [
       | inl left ↦ get_west l t q.1 q.0 left ∙ sym (west q.1 q.0 left)
       | inr a ↦ elim (place_of (least l) q.0) [
-          | inl above ↦ get_north l t q.1 q.0 above ∙ sym (north q.1 q.0 above)
-          | inr b ↦ get_at l t q.1 q.0 a.0 b.0 h a.1 b.1 ∙ inside q.1 q.0 a.0 b.0 a.1 b.1
-        ]
+        | inl above ↦ get_north l t q.1 q.0 above ∙ sym (north q.1 q.0 above)
+        | inr b ↦ get_at l t q.1 q.0 a.0 b.0 h a.1 b.1 ∙ inside q.1 q.0 a.0 b.0 a.1 b.1
+      ]
     ])
 
 -- a quadtree that says nothing
@@ -68,30 +68,30 @@ states_of-set {l} {u} {v} {s} {old} {new} x y set h p q =
     let m = states_of l old in
     is_states_of l new (finite.insert m (y, x) s) set.level
     (λ x' y' u' v' p' q'.
-        elim (same_place (y', x') (y, x)) as (λ b. same_place (y', x') (y, x) ≡ b → at new l u' v' ≡ cond b (Some s) (finite.get m (y', x'))) [
-          | true ↦ λ e.
-              let is = same_is (y', x') (y, x) e in
-              let row : y' ≡ y = ap (λ (k : Place). k.0) is in
-              let column : x' ≡ x = ap (λ (k : Place). k.1) is in
-              let a : u' ≡ u = omega (arith, ints, column, p, p') in
-              let b : v' ≡ v = omega (arith, ints, row, q, q') in
-              ap₂ (λ c r. at new l c r) a b ∙ set.here
-          | false ↦ λ e.
-              let out : u' ≡ u → v' ≡ v → ⊥ = λ a b.
-                  let row : y' ≡ y = q' ∙ ap (λ n. least l +ℤ pos n) b ∙ sym q in
-                  let column : x' ≡ x = p' ∙ ap (λ n. least l +ℤ pos n) a ∙ sym p in
-                  let same = is_same (y', x') (y, x) (λ i. (row i, column i)) in
-                  cc (e, same) in
-              set.others u' v' out ∙ sym (get_at l old x' y' u' v' h p' q')
-        ] refl ∙ sym (finite.get-insert places_total m (y, x) s (y', x')))
+    elim (same_place (y', x') (y, x)) as (λ b. same_place (y', x') (y, x) ≡ b → at new l u' v' ≡ cond b (Some s) (finite.get m (y', x'))) [
+      | true ↦ λ e.
+          let is = same_is (y', x') (y, x) e in
+          let row : y' ≡ y = ap (λ (k : Place). k.0) is in
+          let column : x' ≡ x = ap (λ (k : Place). k.1) is in
+          let a : u' ≡ u = omega (arith, ints, column, p, p') in
+          let b : v' ≡ v = omega (arith, ints, row, q, q') in
+          ap₂ (λ c r. at new l c r) a b ∙ set.here
+      | false ↦ λ e.
+          let out : u' ≡ u → v' ≡ v → ⊥ = λ a b.
+          let row : y' ≡ y = q' ∙ ap (λ n. least l +ℤ pos n) b ∙ sym q in
+          let column : x' ≡ x = p' ∙ ap (λ n. least l +ℤ pos n) a ∙ sym p in
+          let same = is_same (y', x') (y, x) (λ i. (row i, column i)) in
+          cc (e, same) in
+          set.others u' v' out ∙ sym (get_at l old x' y' u' v' h p' q')
+    ] refl ∙ sym (finite.get-insert places_total m (y, x) s (y', x')))
     (λ x' y' left.
-        finite.get-insert places_total m (y, x) s (y', x')
-        ∙ elsewhere (y', x') (y, x) s _ (λ e. let f : x' ≡ x = ap (λ (k : Place). k.1) e in omega (arith, ints, left, p, f))
-        ∙ get_west l old x' y' left)
+    finite.get-insert places_total m (y, x) s (y', x')
+    ∙ elsewhere (y', x') (y, x) s _ (λ e. let f : x' ≡ x = ap (λ (k : Place). k.1) e in omega (arith, ints, left, p, f))
+    ∙ get_west l old x' y' left)
     (λ x' y' above.
-        finite.get-insert places_total m (y, x) s (y', x')
-        ∙ elsewhere (y', x') (y, x) s _ (λ e. let f : y' ≡ y = ap (λ (k : Place). k.0) e in omega (arith, ints, above, q, f))
-        ∙ get_north l old x' y' above)
+    finite.get-insert places_total m (y, x) s (y', x')
+    ∙ elsewhere (y', x') (y, x) s _ (λ e. let f : y' ≡ y = ap (λ (k : Place). k.0) e in omega (arith, ints, above, q, f))
+    ∙ get_north l old x' y' above)
 
 -- what is said once one map is laid on another
 pub get-overlaid : (c d : Cells) (p : Place) → finite.get (overlaid c d).states p ≡ option_or (finite.get c.states p) (finite.get d.states p)
@@ -108,8 +108,8 @@ get_from l k t x y u v h less p q =
     split u d (λ b. finite.get (states_of k t) (y, x) ≡ cond (b || nat_lt v d) None (at t k (u - d) (v - d)))
     (λ left. get_west k t x y (omega (arith, ints, p, less, left)))
     (λ right. split v d (λ b. finite.get (states_of k t) (y, x) ≡ cond b None (at t k (u - d) (v - d)))
-        (λ above. get_north k t x y (omega (arith, ints, q, less, above)))
-        (λ below. get_at k t x y (u - d) (v - d) h (omega (arith, ints, p, less, right)) (omega (arith, ints, q, less, below))))
+    (λ above. get_north k t x y (omega (arith, ints, q, less, above)))
+    (λ below. get_at k t x y (u - d) (v - d) h (omega (arith, ints, p, less, right)) (omega (arith, ints, q, less, below))))
 
 -- a place to the west of a square is to the west of each smaller one
 get_far_west : (l k : ℕ) (t : Quadtree) (x y : ℤ) → reach k ≤ reach l → x <ℤ least l → finite.get (states_of k t) (y, x) ≡ None
@@ -141,14 +141,14 @@ partly_overlaid {l} {k} {other} {old} {new} partly h j less =
           elim (place_of (least l) x) [
             | inl left ↦ inl (get_west l new x y left ∙ sym (get_west l old x y left))
             | inr a ↦ elim (place_of (least l) y) [
-                | inl above ↦ inl (get_north l new x y above ∙ sym (get_north l old x y above))
-                | inr b ↦
-                    let now = get_at l new x y a.0 b.0 partly.level a.1 b.1 in
-                    let before = get_at l old x y a.0 b.0 j a.1 b.1 in
-                    elim (partly.says a.0 b.0) [
-                      | inl e ↦ inl (now ∙ e ∙ sym before)
-                      | inr e ↦ inr (now ∙ e ∙ sym (get-overlaid c d (y, x) ∙ ap₂ option_or (get_from l k other x y a.0 b.0 h less a.1 b.1) before))
-                    ]
-              ]
-          ]
+              | inl above ↦ inl (get_north l new x y above ∙ sym (get_north l old x y above))
+              | inr b ↦
+                  let now = get_at l new x y a.0 b.0 partly.level a.1 b.1 in
+                  let before = get_at l old x y a.0 b.0 j a.1 b.1 in
+                  elim (partly.says a.0 b.0) [
+                    | inl e ↦ inl (now ∙ e ∙ sym before)
+                    | inr e ↦ inr (now ∙ e ∙ sym (get-overlaid c d (y, x) ∙ ap₂ option_or (get_from l k other x y a.0 b.0 h less a.1 b.1) before))
+                  ]
+            ]
+          ];
     }

@@ -159,9 +159,9 @@ laid_nw {l} {x} {y} {k} {other} {nw} {ne} {sw} {se} {nw'} h q px py laid = recor
       let w = at_from x y k other x' y' in
       split y' m (λ s. cond s (cond (nat_lt x' m) (at nw' v x' y') (at ne v (x' - m) y')) (cond (nat_lt x' m) (at sw v x' (y' - m)) (at se v (x' - m) (y' - m))) ≡ option_or w (cond s (cond (nat_lt x' m) (at nw v x' y') (at ne v (x' - m) y')) (cond (nat_lt x' m) (at sw v x' (y' - m)) (at se v (x' - m) (y' - m)))))
       (λ below. split x' m (λ b. cond b (at nw' v x' y') (at ne v (x' - m) y') ≡ option_or w (cond b (at nw v x' y') (at ne v (x' - m) y')))
-          (λ left. laid.says x' y')
-          (λ right. none_or (at_from_east other k x y x' y' h (omega (arith, px, right)))))
-      (λ above. none_or (at_from_south other k x y x' y' h (omega (arith, py, above))))
+      (λ left. laid.says x' y')
+      (λ right. none_or (at_from_east other k x y x' y' h (omega (arith, px, right)))))
+      (λ above. none_or (at_from_south other k x y x' y' h (omega (arith, py, above))));
 }
 
 -- in the north-east one
@@ -175,9 +175,9 @@ laid_ne {l} {x} {y} {k} {other} {nw} {ne} {sw} {se} {ne'} h q px py laid = recor
       let w = at_from x y k other x' y' in
       split y' m (λ s. cond s (cond (nat_lt x' m) (at nw v x' y') (at ne' v (x' - m) y')) (cond (nat_lt x' m) (at sw v x' (y' - m)) (at se v (x' - m) (y' - m))) ≡ option_or w (cond s (cond (nat_lt x' m) (at nw v x' y') (at ne v (x' - m) y')) (cond (nat_lt x' m) (at sw v x' (y' - m)) (at se v (x' - m) (y' - m)))))
       (λ below. split x' m (λ b. cond b (at nw v x' y') (at ne' v (x' - m) y') ≡ option_or w (cond b (at nw v x' y') (at ne v (x' - m) y')))
-          (λ left. none_or (at_from_west other k x y x' y' (omega (arith, px, left))))
-          (λ right. laid.says (x' - m) y' ∙ ap (λ o. option_or o (at ne v (x' - m) y')) (at_from_move_x other k x y x' y' m px right)))
-      (λ above. none_or (at_from_south other k x y x' y' h (omega (arith, py, above))))
+      (λ left. none_or (at_from_west other k x y x' y' (omega (arith, px, left))))
+      (λ right. laid.says (x' - m) y' ∙ ap (λ o. option_or o (at ne v (x' - m) y')) (at_from_move_x other k x y x' y' m px right)))
+      (λ above. none_or (at_from_south other k x y x' y' h (omega (arith, py, above))));
 }
 
 -- in the south-west one
@@ -192,8 +192,8 @@ laid_sw {l} {x} {y} {k} {other} {nw} {ne} {sw} {se} {sw'} h q px py laid = recor
       split y' m (λ s. cond s (cond (nat_lt x' m) (at nw v x' y') (at ne v (x' - m) y')) (cond (nat_lt x' m) (at sw' v x' (y' - m)) (at se v (x' - m) (y' - m))) ≡ option_or w (cond s (cond (nat_lt x' m) (at nw v x' y') (at ne v (x' - m) y')) (cond (nat_lt x' m) (at sw v x' (y' - m)) (at se v (x' - m) (y' - m)))))
       (λ below. none_or (at_from_north other k x y x' y' (omega (arith, py, below))))
       (λ above. split x' m (λ b. cond b (at sw' v x' (y' - m)) (at se v (x' - m) (y' - m)) ≡ option_or w (cond b (at sw v x' (y' - m)) (at se v (x' - m) (y' - m))))
-          (λ left. laid.says x' (y' - m) ∙ ap (λ o. option_or o (at sw v x' (y' - m))) (at_from_move_y other k x y x' y' m py above))
-          (λ right. none_or (at_from_east other k x y x' y' h (omega (arith, px, right)))))
+      (λ left. laid.says x' (y' - m) ∙ ap (λ o. option_or o (at sw v x' (y' - m))) (at_from_move_y other k x y x' y' m py above))
+      (λ right. none_or (at_from_east other k x y x' y' h (omega (arith, px, right)))));
 }
 
 -- on all of the square
@@ -202,7 +202,7 @@ laid_corner {l} {x} {y} t u v h k a b is = record {
   level = subst (HasLevel l) (sym is) (HasLevel-over l t u h k);
   says = λ x' y'.
       ap (λ w. at w l x' y') is ∙ at-over t u l x' y' h k
-      ∙ sym (ap (λ o. option_or o (at u l x' y')) (ap₂ (λ p q. at_from p q l t x' y') (aligned_corner a) (aligned_corner b) ∙ at_from_corner t l x' y'))
+      ∙ sym (ap (λ o. option_or o (at u l x' y')) (ap₂ (λ p q. at_from p q l t x' y') (aligned_corner a) (aligned_corner b) ∙ at_from_corner t l x' y'));
 }
 
 -- on a part of it
@@ -211,7 +211,7 @@ partly_laid_corner {l} {x} {y} t u v h k a b p = record {
   level = p.level l h k;
   says = λ x' y'.
       let e = at-over t u l x' y' h k ∙ sym (ap (λ o. option_or o (at u l x' y')) (ap₂ (λ p q. at_from p q l t x' y') (aligned_corner a) (aligned_corner b) ∙ at_from_corner t l x' y')) in
-      subst (λ o. (at v l x' y' ≡ at u l x' y') ⊎ (at v l x' y' ≡ o)) e (p.says l x' y')
+      subst (λ o. (at v l x' y' ≡ at u l x' y') ⊎ (at v l x' y' ≡ o)) e (p.says l x' y');
 }
 
 -- what is laid on a square of the same level is laid on all of it

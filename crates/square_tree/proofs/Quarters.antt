@@ -27,26 +27,26 @@ quarter_of k nw ne sw se d x y h =
     let n = k - 1 in
     let m = 2 ^ n in
     let pick : (s e : Bool) → nat_lt (y - d) m ≡ s → nat_lt (x - d) m ≡ e → at (quad nw ne sw se) k (x - d) (y - d) ≡ cond s (cond e (at nw n (x - d) (y - d)) (at ne n (x - d - m) (y - d))) (cond e (at sw n (x - d) (y - d - m)) (at se n (x - d - m) (y - d - m))) =
-        λ s e p q. ap₂ (λ a b. cond a (cond b (at nw n (x - d) (y - d)) (at ne n (x - d - m) (y - d))) (cond b (at sw n (x - d) (y - d - m)) (at se n (x - d - m) (y - d - m)))) p q in
+    λ s e p q. ap₂ (λ a b. cond a (cond b (at nw n (x - d) (y - d)) (at ne n (x - d - m) (y - d))) (cond b (at sw n (x - d) (y - d - m)) (at se n (x - d - m) (y - d - m)))) p q in
     let same_x : d + m ≤ x → x - d - m ≡ x - (d + m) = λ p. omega (arith, p) in
     let same_y : d + m ≤ y → y - d - m ≡ y - (d + m) = λ p. omega (arith, p) in
     split y (d + m) (λ t. Quarter (at_from d d k (quad nw ne sw se) x y) (at_from d d n nw x y) (at_from (d + m) d n ne x y) (at_from d (d + m) n sw x y) (at_from (d + m) (d + m) n se x y))
     (λ above. split x (d + m) (λ t. Quarter (at_from d d k (quad nw ne sw se) x y) (at_from d d n nw x y) (at_from (d + m) d n ne x y) (at_from d (d + m) n sw x y) (at_from (d + m) (d + m) n se x y))
-        (λ left. in_nw
-            (guarded _ (nat_lt x d || nat_lt y d) _ _ (λ off. sym (pick true true (grind (arith, nat_tests, above, off)) (grind (arith, nat_tests, left, off)))) refl)
-            (at_from_west ne n (d + m) d x y left) (at_from_north sw n d (d + m) x y above) (at_from_north se n (d + m) (d + m) x y above))
-        (λ right. in_ne
-            (at_from_east nw n d d x y h.1 right)
-            (guarded _ (nat_lt x d || nat_lt y d) _ _ (λ off. ap (λ c. at ne n c (y - d)) (sym (same_x right)) ∙ sym (pick true false (grind (arith, nat_tests, above, off)) (grind (arith, nat_tests, right, off)))) (grind (arith, nat_tests, right)))
-            (at_from_north sw n d (d + m) x y above) (at_from_north se n (d + m) (d + m) x y above)))
+    (λ left. in_nw
+    (guarded _ (nat_lt x d || nat_lt y d) _ _ (λ off. sym (pick true true (grind (arith, nat_tests, above, off)) (grind (arith, nat_tests, left, off)))) refl)
+    (at_from_west ne n (d + m) d x y left) (at_from_north sw n d (d + m) x y above) (at_from_north se n (d + m) (d + m) x y above))
+    (λ right. in_ne
+    (at_from_east nw n d d x y h.1 right)
+    (guarded _ (nat_lt x d || nat_lt y d) _ _ (λ off. ap (λ c. at ne n c (y - d)) (sym (same_x right)) ∙ sym (pick true false (grind (arith, nat_tests, above, off)) (grind (arith, nat_tests, right, off)))) (grind (arith, nat_tests, right)))
+    (at_from_north sw n d (d + m) x y above) (at_from_north se n (d + m) (d + m) x y above)))
     (λ below. split x (d + m) (λ t. Quarter (at_from d d k (quad nw ne sw se) x y) (at_from d d n nw x y) (at_from (d + m) d n ne x y) (at_from d (d + m) n sw x y) (at_from (d + m) (d + m) n se x y))
-        (λ left. in_sw
-            (at_from_south nw n d d x y h.1 below) (at_from_west ne n (d + m) d x y left)
-            (guarded _ (nat_lt x d || nat_lt y d) _ _ (λ off. ap (λ r. at sw n (x - d) r) (sym (same_y below)) ∙ sym (pick false true (grind (arith, nat_tests, below, off)) (grind (arith, nat_tests, left, off)))) (grind (arith, nat_tests, below)))
-            (at_from_west se n (d + m) (d + m) x y left))
-        (λ right. in_se
-            (at_from_south nw n d d x y h.1 below) (at_from_south ne n (d + m) d x y h.2 below) (at_from_east sw n d (d + m) x y h.3 right)
-            (guarded _ (nat_lt x d || nat_lt y d) _ _ (λ off. ap₂ (λ c r. at se n c r) (sym (same_x right)) (sym (same_y below)) ∙ sym (pick false false (grind (arith, nat_tests, below, off)) (grind (arith, nat_tests, right, off)))) (grind (arith, nat_tests, right, below)))))
+    (λ left. in_sw
+    (at_from_south nw n d d x y h.1 below) (at_from_west ne n (d + m) d x y left)
+    (guarded _ (nat_lt x d || nat_lt y d) _ _ (λ off. ap (λ r. at sw n (x - d) r) (sym (same_y below)) ∙ sym (pick false true (grind (arith, nat_tests, below, off)) (grind (arith, nat_tests, left, off)))) (grind (arith, nat_tests, below)))
+    (at_from_west se n (d + m) (d + m) x y left))
+    (λ right. in_se
+    (at_from_south nw n d d x y h.1 below) (at_from_south ne n (d + m) d x y h.2 below) (at_from_east sw n d (d + m) x y h.3 right)
+    (guarded _ (nat_lt x d || nat_lt y d) _ _ (λ off. ap₂ (λ c r. at se n c r) (sym (same_x right)) (sym (same_y below)) ∙ sym (pick false false (grind (arith, nat_tests, below, off)) (grind (arith, nat_tests, right, off)))) (grind (arith, nat_tests, right, below)))))
 
 none : {n a b : Option ℕ} → n ≡ None → a ≡ option_or n b → a ≡ b
 none {n} {a} {b} e p = p ∙ ap (λ o. option_or o b) e
@@ -67,7 +67,7 @@ pub laid_quadrants : {l k d : ℕ} {nw ne sw se t u v w new : Quadtree} → HasL
     → IsLaid l d d k (quad nw ne sw se) t new
 laid_quadrants {l} {k} {d} {nw} {ne} {sw} {se} {t} h p q r s = record {
   level = s.level;
-  says = λ x y. four_laid (at t l x y) (quarter_of k nw ne sw se d x y h) (p.says x y) (q.says x y) (r.says x y) (s.says x y)
+  says = λ x y. four_laid (at t l x y) (quarter_of k nw ne sw se d x y h) (p.says x y) (q.says x y) (r.says x y) (s.says x y);
 }
 
 -- each cell after a part of a quadrant is laid

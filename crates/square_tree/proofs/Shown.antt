@@ -93,10 +93,10 @@ one_place s u v x y =
           rw (a, b) refl
       | false ↦ λ e.
           let out : u ≡ 0 → v ≡ 0 → ⊥ = λ a b.
-              let row : (y +ℤ pos v) ≡ y = omega (arith, ints, b) in
-              let column : (x +ℤ pos u) ≡ x = omega (arith, ints, a) in
-              let same = is_same (y +ℤ pos v, x +ℤ pos u) (y, x) (λ i. (row i, column i)) in
-              cc (e, same) in
+          let row : (y +ℤ pos v) ≡ y = omega (arith, ints, b) in
+          let column : (x +ℤ pos u) ≡ x = omega (arith, ints, a) in
+          let same = is_same (y +ℤ pos v, x +ℤ pos u) (y, x) (λ i. (row i, column i)) in
+          cc (e, same) in
           grind (arith, nat_tests, out)
     ] refl
 
@@ -131,12 +131,12 @@ find_at (quad nw ne sw se) l x y u v h =
     let in_se = λ (q : m ≤ u) (r : m ≤ v). ap₂ (λ z w. find place_cmp (z, w) (entries se n (x +ℤ pos m) (y +ℤ pos m))) (sym (down r)) (sym (right q)) ∙ find_at se n (x +ℤ pos m) (y +ℤ pos m) (u - m) (v - m) h.4 in
     four p (entries nw n x y) (entries ne n (x +ℤ pos m) y) (entries sw n x (y +ℤ pos m)) (entries se n (x +ℤ pos m) (y +ℤ pos m))
     ∙ split v m (λ s. option_or (option_or (find place_cmp p (entries nw n x y)) (find place_cmp p (entries ne n (x +ℤ pos m) y))) (option_or (find place_cmp p (entries sw n x (y +ℤ pos m))) (find place_cmp p (entries se n (x +ℤ pos m) (y +ℤ pos m))))
-        ≡ cond s (cond (nat_lt u m) (at nw n u v) (at ne n (u - m) v)) (cond (nat_lt u m) (at sw n u (v - m)) (at se n (u - m) (v - m))))
+    ≡ cond s (cond (nat_lt u m) (at nw n u v) (at ne n (u - m) v)) (cond (nat_lt u m) (at sw n u (v - m)) (at se n (u - m) (v - m))))
     (λ above. split u m (λ s. option_or (option_or (find place_cmp p (entries nw n x y)) (find place_cmp p (entries ne n (x +ℤ pos m) y))) (option_or (find place_cmp p (entries sw n x (y +ℤ pos m))) (find place_cmp p (entries se n (x +ℤ pos m) (y +ℤ pos m))))
-        ≡ cond s (at nw n u v) (at ne n (u - m) v))
-        (λ left. first in_nw (find_west ne n (x +ℤ pos m) y _ _ (west left)) (find_north sw n x (y +ℤ pos m) _ _ (north above)) (find_north se n (x +ℤ pos m) (y +ℤ pos m) _ _ (north above)))
-        (λ far. second (in_nw ∙ at_east nw n u v h.1 far) (in_ne far) (find_north sw n x (y +ℤ pos m) _ _ (north above)) (find_north se n (x +ℤ pos m) (y +ℤ pos m) _ _ (north above))))
+    ≡ cond s (at nw n u v) (at ne n (u - m) v))
+    (λ left. first in_nw (find_west ne n (x +ℤ pos m) y _ _ (west left)) (find_north sw n x (y +ℤ pos m) _ _ (north above)) (find_north se n (x +ℤ pos m) (y +ℤ pos m) _ _ (north above)))
+    (λ far. second (in_nw ∙ at_east nw n u v h.1 far) (in_ne far) (find_north sw n x (y +ℤ pos m) _ _ (north above)) (find_north se n (x +ℤ pos m) (y +ℤ pos m) _ _ (north above))))
     (λ below. split u m (λ s. option_or (option_or (find place_cmp p (entries nw n x y)) (find place_cmp p (entries ne n (x +ℤ pos m) y))) (option_or (find place_cmp p (entries sw n x (y +ℤ pos m))) (find place_cmp p (entries se n (x +ℤ pos m) (y +ℤ pos m))))
-        ≡ cond s (at sw n u (v - m)) (at se n (u - m) (v - m)))
-        (λ left. third (in_nw ∙ at_south nw n u v h.1 below) (find_west ne n (x +ℤ pos m) y _ _ (west left)) (in_sw below) (find_west se n (x +ℤ pos m) (y +ℤ pos m) _ _ (west left)))
-        (λ far. fourth (in_nw ∙ at_east nw n u v h.1 far) (in_ne far ∙ at_south ne n (u - m) v h.2 below) (in_sw below ∙ at_east sw n u (v - m) h.3 far) (in_se far below)))
+    ≡ cond s (at sw n u (v - m)) (at se n (u - m) (v - m)))
+    (λ left. third (in_nw ∙ at_south nw n u v h.1 below) (find_west ne n (x +ℤ pos m) y _ _ (west left)) (in_sw below) (find_west se n (x +ℤ pos m) (y +ℤ pos m) _ _ (west left)))
+    (λ far. fourth (in_nw ∙ at_east nw n u v h.1 far) (in_ne far ∙ at_south ne n (u - m) v h.2 below) (in_sw below ∙ at_east sw n u (v - m) h.3 far) (in_se far below)))

@@ -2,6 +2,7 @@
 use Rattle.std.specs.Prelude.{◌≡◌, ◌⊎◌, ℕ, ◌+◌, ◌-◌, ◌*◌, ◌^◌, ◌≤◌, nat_lt, ◌||◌, if◌then◌else◌, Option, None}
 use Rattle.std.specs.Option.{option_or}
 use Rattle.square_tree.specs.Quadtree.{Quadtree, HasLevel, at}
+use Rattle.square_tree.specs.Cells.{reach}
 
 -- from column or row x on, a square of the level k is one of those into which a square of the level l divides
 pub record IsAligned (l k x : ℕ) : Type 0 where
@@ -23,3 +24,11 @@ pub record IsLaid (l x y k : ℕ) (other old new : Quadtree) : Type 0 where
 pub record IsPartlyLaid (l x y k : ℕ) (other old new : Quadtree) : Type 0 where
   pub level : HasLevel l new
   pub says : (x' y' : ℕ) → (at new l x' y' ≡ at old l x' y') ⊎ (at new l x' y' ≡ option_or (at_from x y k other x' y') (at old l x' y'))
+
+-- the same, where both squares lie around (0, 0)
+abbrev pub IsLaidAround : ℕ → ℕ → Quadtree → Quadtree → Quadtree → Type 0
+IsLaidAround l k = let inset = reach l - reach k in IsLaid l inset inset k
+
+-- a part of it
+abbrev pub IsPartlyLaidAround : ℕ → ℕ → Quadtree → Quadtree → Quadtree → Type 0
+IsPartlyLaidAround l k = let inset = reach l - reach k in IsPartlyLaid l inset inset k

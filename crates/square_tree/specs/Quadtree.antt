@@ -32,5 +32,5 @@ at (cell s) l x y = if x == 0 && y == 0 then Some s else None
 at (quad nw ne sw se) l x y =
     let h = 2 ^ (l - 1) in
     if nat_lt y h
-      then (if nat_lt x h then at nw (l - 1) x y else at ne (l - 1) (x - h) y)
-      else (if nat_lt x h then at sw (l - 1) x (y - h) else at se (l - 1) (x - h) (y - h))
+    then (if nat_lt x h then at nw (l - 1) x y else at ne (l - 1) (x - h) y)
+    else (if nat_lt x h then at sw (l - 1) x (y - h) else at se (l - 1) (x - h) (y - h))

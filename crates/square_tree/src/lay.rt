@@ -1,9 +1,8 @@
 //! One tree laid on another.
-ghost use Rattle.std.specs.Prelude.{◌≡◌, ◌-◌, ◌<◌, ◌≤◌, OnOk, OnErr};
+ghost use Rattle.std.specs.Prelude.{◌≡◌, ◌<◌, ◌≤◌, OnOk, OnErr};
 ghost use Rattle.square_tree.specs.Quadtree.{quadtree, quadtree_of_four, HasLevel};
 ghost use Rattle.square_tree.specs.Over.{over, IsPartlyOver};
-ghost use Rattle.square_tree.specs.Cells.{reach};
-ghost use Rattle.square_tree.specs.Laid.{IsAligned, IsLaid, IsPartlyLaid};
+ghost use Rattle.square_tree.specs.Laid.{IsAligned, IsLaid, IsPartlyLaid, IsLaidAround, IsPartlyLaidAround};
 
 use crate::tree::{Four, PatchTree, half, side};
 use std::alloc::{AllocError, Allocator};
@@ -36,8 +35,10 @@ impl<A: Allocator + Clone> Four<A> {
     // Lays the quadrants of an equal square on these.
     #[cycle(cover)]
     fn cover<B: Allocator>(&mut self, alloc: &A, other: &Four<B>) -> Result<(), AllocError>
-        ensures ok { OnOk result (quadtree_of_four self.new ≡ over (quadtree_of_four other.now) (quadtree_of_four self.old)) }
-        ensures err { OnErr result (IsPartlyOver (quadtree_of_four other.now) (quadtree_of_four self.old) (quadtree_of_four self.new)) }
+        ensures ok { OnOk result
+            (quadtree_of_four self.new ≡ over (quadtree_of_four other.now) (quadtree_of_four self.old)) }
+        ensures err { OnErr result (IsPartlyOver
+            (quadtree_of_four other.now) (quadtree_of_four self.old) (quadtree_of_four self.new)) }
     {
         self.nw.cover(alloc, &other.nw)?;
         self.ne.cover(alloc, &other.ne)?;
@@ -62,8 +63,10 @@ impl<A: Allocator + Clone> PatchTree<A> {
         requires level { HasLevel level (quadtree self.old) × (level ≤ 62) }
         requires other { HasLevel other_level (quadtree other.now) }
         requires place { IsAligned level other_level column × IsAligned level other_level row }
-        ensures ok { OnOk result (IsLaid level column row other_level (quadtree other.now) (quadtree self.old) (quadtree self.new)) }
-        ensures err { OnErr result (IsPartlyLaid level column row other_level (quadtree other.now) (quadtree self.old) (quadtree self.new)) }
+        ensures ok { OnOk result (IsLaid level column row other_level
+            (quadtree other.now) (quadtree self.old) (quadtree self.new)) }
+        ensures err { OnErr result (IsPartlyLaid level column row other_level
+            (quadtree other.now) (quadtree self.old) (quadtree self.new)) }
     {
         if level == other_level {
             return self.cover(alloc, other);
@@ -96,19 +99,24 @@ impl<A: Allocator + Clone> Four<A> {
         requires level { HasLevel level (quadtree_of_four self.old) × (level ≤ 62) }
         requires other { HasLevel other_level (quadtree other.now) × (other_level < level) }
         requires place { IsAligned level other_level column × IsAligned level other_level row }
-        ensures ok { OnOk result (IsLaid level column row other_level (quadtree other.now) (quadtree_of_four self.old) (quadtree_of_four self.new)) }
-        ensures err { OnErr result (IsPartlyLaid level column row other_level (quadtree other.now) (quadtree_of_four self.old) (quadtree_of_four self.new)) }
+        ensures ok { OnOk result (IsLaid level column row other_level
+            (quadtree other.now) (quadtree_of_four self.old) (quadtree_of_four self.new)) }
+        ensures err { OnErr result (IsPartlyLaid level column row other_level
+            (quadtree other.now) (quadtree_of_four self.old) (quadtree_of_four self.new)) }
     {
         let half = half(level);
         let below = level - 1;
         if row < half {
             if column < half {
-                self.nw.lay_at(alloc, below, column, row, other, other_level)
+                self.nw
+                    .lay_at(alloc, below, column, row, other, other_level)
             } else {
-                self.ne.lay_at(alloc, below, column - half, row, other, other_level)
+                self.ne
+                    .lay_at(alloc, below, column - half, row, other, other_level)
             }
         } else if column < half {
-            self.sw.lay_at(alloc, below, column, row - half, other, other_level)
+            self.sw
+                .lay_at(alloc, below, column, row - half, other, other_level)
         } else {
             self.se.lay_at(alloc, below, column - half, row - half, other, other_level)
         }
@@ -126,8 +134,10 @@ impl<A: Allocator + Clone> PatchTree<A> {
     ) -> Result<(), AllocError>
         requires level { HasLevel level (quadtree self.old) × (level ≤ 62) }
         requires other { HasLevel other_level (quadtree other.now) × (other_level ≤ level) }
-        ensures ok { OnOk result (let inset = reach level - reach other_level in IsLaid level inset inset other_level (quadtree other.now) (quadtree self.old) (quadtree self.new)) }
-        ensures err { OnErr result (let inset = reach level - reach other_level in IsPartlyLaid level inset inset other_level (quadtree other.now) (quadtree self.old) (quadtree self.new)) }
+        ensures ok { OnOk result (IsLaidAround level other_level
+            (quadtree other.now) (quadtree self.old) (quadtree self.new)) }
+        ensures err { OnErr result (IsPartlyLaidAround level other_level
+            (quadtree other.now) (quadtree self.old) (quadtree self.new)) }
     {
         match other {
             PatchTree::Keep => Ok(()),
@@ -149,8 +159,10 @@ impl<A: Allocator + Clone> PatchTree<A> {
     ) -> Result<(), AllocError>
         requires level { HasLevel level (quadtree self.old) × (level ≤ 62) }
         requires other { HasLevel other_level (quadtree_of_four other.now) × (other_level ≤ level) }
-        ensures ok { OnOk result (let inset = reach level - reach other_level in IsLaid level inset inset other_level (quadtree_of_four other.now) (quadtree self.old) (quadtree self.new)) }
-        ensures err { OnErr result (let inset = reach level - reach other_level in IsPartlyLaid level inset inset other_level (quadtree_of_four other.now) (quadtree self.old) (quadtree self.new)) }
+        ensures ok { OnOk result (IsLaidAround level other_level
+            (quadtree_of_four other.now) (quadtree self.old) (quadtree self.new)) }
+        ensures err { OnErr result (IsPartlyLaidAround level other_level
+            (quadtree_of_four other.now) (quadtree self.old) (quadtree self.new)) }
     {
         let centre = half(level);
         let near = centre - half(other_level);

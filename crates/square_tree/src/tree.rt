@@ -146,7 +146,8 @@ impl<A: Allocator + Clone> Four<A> {
     ) -> Result<(), AllocError>
         requires level { HasLevel level (quadtree_of_four self.old) × (level ≤ 62) }
         requires inside { (column < 2 ^ level) × (row < 2 ^ level) }
-        ensures ok { OnOk result (IsSet level column row state (quadtree_of_four self.old) (quadtree_of_four self.new)) }
+        ensures ok { OnOk result (IsSet level column row state
+            (quadtree_of_four self.old) (quadtree_of_four self.new)) }
         ensures err { OnErr result (quadtree_of_four self.new ≡ quadtree_of_four self.old) }
     {
         let half = half(level);
@@ -159,7 +160,8 @@ impl<A: Allocator + Clone> Four<A> {
         } else if column < half {
             self.sw.set(alloc, level - 1, column, row - half, state)
         } else {
-            self.se.set(alloc, level - 1, column - half, row - half, state)
+            self.se
+                .set(alloc, level - 1, column - half, row - half, state)
         }
     }
 }
