@@ -1,0 +1,17 @@
+//! Macrocell texts: the quadtree that a file in Golly's macrocell format says, node by node.
+//!
+//! `read_macrocell` takes the bytes of a file and gives exactly what they say, the rule's name, the
+//! generation and the nodes in file order, or the first fault that they have with its line. A node
+//! names its quadrants by their numbers, so a square that many others share is kept once, and
+//! nothing is made of its cells.
+//!
+//! Reading goes over the file once, and keeps about twenty bytes for each node.
+#![tactic(auto)]
+
+mod bitmap;
+mod fault;
+mod node;
+
+pub use bitmap::Bitmap;
+pub use fault::McFault;
+pub use node::Node;
