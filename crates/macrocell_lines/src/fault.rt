@@ -3,7 +3,7 @@ ghost use Rattle.std.specs.Prelude.{◌≡◌};
 ghost use Rattle.macrocell_lines.specs.declared.fault.McFault.TheVariants.{NoMemory};
 
 use plane_core::Refusal;
-use std::alloc::AllocError;
+use std::alloc::{AllocError, AllocFailed};
 use thiserror::Error;
 
 /// The one fault for which a macrocell file is refused, with the line, counted from 1, where it
@@ -40,6 +40,14 @@ impl From<AllocError> for McFault {
     ghost from_gives = { λ _ fault. fault ≡ NoMemory };
 
     fn from(_error: AllocError) -> McFault {
+        McFault::NoMemory
+    }
+}
+
+impl<T: Drop> From<AllocFailed<T>> for McFault {
+    ghost from_gives = { λ _ fault. fault ≡ NoMemory };
+
+    fn from(_error: AllocFailed<T>) -> McFault {
         McFault::NoMemory
     }
 }

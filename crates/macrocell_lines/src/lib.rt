@@ -10,8 +10,17 @@
 
 mod bitmap;
 mod fault;
+mod heading;
+mod macrocell;
 mod node;
+mod node_line;
+mod numbers;
+mod pieces;
+mod quadrants;
+mod read;
 
 pub use bitmap::Bitmap;
 pub use fault::McFault;
+pub use macrocell::Macrocell;
 pub use node::Node;
+pub use read::read_macrocell;

@@ -11,7 +11,12 @@ use crate::bitmap::Bitmap;
 #[derive(Clone, Copy, Debug, PartialEq, Eq)]
 pub enum Node {
     /// A square of level 1, by the states of its four cells.
-    Cells { nw: u8, ne: u8, sw: u8, se: u8 },
+    Cells {
+        nw: u8,
+        ne: u8,
+        sw: u8,
+        se: u8,
+    },
     /// A square of a level from 2 to 62, by the numbers of its quadrants.
     Square {
         level: u8,

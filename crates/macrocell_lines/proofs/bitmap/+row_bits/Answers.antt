@@ -1,0 +1,21 @@
+use Rattle.std.proofs.Common.{◌≡◌, ◌<◌, ◌≤◌, ◌-◌, length, take, drop, arith}
+use Rattle.std.proofs.lemmas.Grind.{common_steps}
+use Rattle.macrocell_lines.specs.Bitmaps.{row_bits}
+use Rattle.macrocell_lines.proofs.Rows.{byte-below, row_bits-small}
+use Rattle.macrocell_lines.proofs.bitmap.+row_bits.Goals as goal
+
+pub overflow_mul-result : goal.overflow_mul-result
+overflow_mul-result t c =
+    let cells = c.args.cells.now in
+    let rest = take (length cells - 1) (drop 1 cells) in
+    let short : length rest ≤ 7 = grind (arith, common_steps) in
+    let small = row_bits-small rest short in
+    omega (arith, small, c.row_bits.ensures)
+
+pub overflow_add-result : goal.overflow_add-result
+overflow_add-result t c =
+    let cells = c.args.cells.now in
+    let rest = take (length cells - 1) (drop 1 cells) in
+    let short : length rest ≤ 7 = grind (arith, common_steps) in
+    let small = row_bits-small rest short in
+    omega (arith, small, c.row_bits.ensures, c.from.ensures, byte-below)
