@@ -1,0 +1,5 @@
+//! Tests of `macrocell_lines`.
+#![tactic(auto)]
+
+#[cfg(test)]
+mod tests;
