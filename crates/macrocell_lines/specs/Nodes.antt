@@ -1,5 +1,5 @@
 -- The nodes of a quadtree, of which each names its quadrants by the numbers of earlier ones.
-use Rattle.std.specs.Prelude.{ℕ, ◌+◌, ◌-◌, ◌==◌, Bool, true, false, if◌then◌else◌, List, slice_get}
+use Rattle.std.specs.Prelude.{ℕ, ◌+◌, ◌-◌, ◌==◌, ◌<◌, ◌≤◌, Bool, true, false, IsTrue, if◌then◌else◌, List, [], ◌∷◌, ◌++◌, length, slice_get}
 use Rattle.std.specs.Option.{option_map_or}
 use Rattle.macrocell_lines.specs.declared.node.Node.{Node}
 use Rattle.macrocell_lines.specs.declared.node.Node.TheVariants.{Cells, Square, Bitmap}
@@ -13,3 +13,35 @@ level_of (Bitmap cells) = 3
 -- a square of a level may have this number as a quadrant: 0, or that of one of these nodes, counted from 1, of one level less
 abbrev pub is_child : List Node → ℕ → ℕ → Bool
 is_child nodes level n = if n == 0 then true else option_map_or (λ node. level_of node + 1 == level) (slice_get nodes (n - 1)) false
+
+-- the states of four cells
+pub record AreStates (nw ne sw se : ℕ) : Type 0 where
+  pub nw_state : nw < 256
+  pub ne_state : ne < 256
+  pub sw_state : sw < 256
+  pub se_state : se < 256
+
+-- a level above 1, and its four quadrants among these nodes
+pub record AreQuadrants (nodes : List Node) (level nw ne sw se : ℕ) : Type 0 where
+  pub low : 2 ≤ level
+  pub high : level ≤ 62
+  pub nw_child : IsTrue (is_child nodes level nw)
+  pub ne_child : IsTrue (is_child nodes level ne)
+  pub sw_child : IsTrue (is_child nodes level sw)
+  pub se_child : IsTrue (is_child nodes level se)
+
+-- a node that may stand behind these
+abbrev pub Follows : List Node → Node → Type 0
+Follows nodes (Cells nw ne sw se) = AreStates nw ne sw se
+Follows nodes (Square level nw ne sw se) = AreQuadrants nodes level nw ne sw se
+Follows nodes (Bitmap cells) = Unit {0}
+
+-- each of some nodes may stand behind these and those before it
+abbrev pub EachFollows : List Node → List Node → Type 0
+EachFollows nodes [] = Unit {0}
+EachFollows nodes (node ∷ others) = Follows nodes node × EachFollows (nodes ++ node ∷ []) others
+
+-- the nodes of a quadtree in order, of which each follows those before it
+pub record AreNodes (nodes : List Node) : Type 0 where
+  pub few : length nodes ≤ 16777216
+  pub each : EachFollows [] nodes

@@ -1,6 +1,7 @@
 //! Lines that say nodes.
-ghost use Rattle.std.specs.Prelude.{◌≡◌, ◌≤◌, length, IfOk};
+ghost use Rattle.std.specs.Prelude.{◌≡◌, ◌<◌, length, IfOk};
 ghost use Rattle.macrocell_lines.specs.NodeLines.{check_room, node_of, quartered};
+ghost use Rattle.macrocell_lines.specs.Nodes.{Follows};
 
 use crate::bitmap::read_bitmap;
 use crate::fault::McFault;
@@ -20,7 +21,9 @@ const HIGHEST_LEVEL: u64 = 62;
 /// beyond 16,777,216 by NoRoom, and then a quadrant that is no earlier node of one level less by
 /// BadChild.
 pub fn node_of(line: u64, nodes: &[Node], text: &[u8]) -> Result<Node, McFault>
-    ensures { result ≡ node_of line nodes.now text.now }
+    ensures node { result ≡ node_of line nodes.now text.now }
+    ensures follows { IfOk result (λ node. Follows nodes.now node) }
+    ensures room { IfOk result (λ _. length nodes.now < MOST_NODES) }
 {
     match text {
         [b'0'..=b'9', ..] => {
@@ -38,7 +41,9 @@ pub fn node_of(line: u64, nodes: &[Node], text: &[u8]) -> Result<Node, McFault>
 
 // The node of this level and these quadrants.
 fn quartered(line: u64, nodes: &[Node], said: FiveNumbers) -> Result<Node, McFault>
-    ensures { result ≡ quartered line nodes.now said }
+    ensures node { result ≡ quartered line nodes.now said }
+    ensures follows { IfOk result (λ node. Follows nodes.now node) }
+    ensures room { IfOk result (λ _. length nodes.now < MOST_NODES) }
 {
     match said.level {
         0 => Err(McFault::BadRow(line)),
@@ -57,8 +62,8 @@ fn quartered(line: u64, nodes: &[Node], said: FiveNumbers) -> Result<Node, McFau
 
 // Whether there is room for one more node.
 fn check_room(nodes: &[Node]) -> Result<(), McFault>
-    ensures room { result ≡ check_room nodes.now }
-    ensures few { IfOk result (λ _. length nodes.now ≤ MOST_NODES) }
+    ensures checked { result ≡ check_room nodes.now }
+    ensures room { IfOk result (λ _. length nodes.now < MOST_NODES) }
 {
     if nodes.len() < MOST_NODES {
         Ok(())

@@ -1,5 +1,7 @@
 //! Squares that a line says by their quadrants.
-ghost use Rattle.std.specs.Prelude.{◌≡◌, ◌≤◌, length};
+ghost use Rattle.std.specs.Prelude.{◌≡◌, ◌≤◌, List, length, IfSome, IsTrue};
+ghost use Rattle.macrocell_lines.specs.declared.node.Node.{Node};
+ghost use Rattle.macrocell_lines.specs.Nodes.{Follows, is_child};
 ghost use Rattle.macrocell_lines.specs.Quadrants.{cells_of, child_of, square_of, state_of};
 
 use crate::node::Node;
@@ -7,7 +9,8 @@ use crate::numbers::FiveNumbers;
 
 /// The square of level 1 whose quadrants are these states.
 pub fn cells_of(said: FiveNumbers) -> Option<Node>
-    ensures { result ≡ cells_of said }
+    ensures cells { result ≡ cells_of said }
+    ensures follows { IfSome result (λ node. (nodes : List Node) → Follows nodes node) }
 {
     Some(Node::Cells {
         nw: state_of(said.nw)?,
@@ -29,8 +32,11 @@ fn state_of(number: u64) -> Option<u8>
 
 /// The square of this level whose quadrants are these nodes.
 pub fn square_of(nodes: &[Node], level: u8, said: FiveNumbers) -> Option<Node>
-    requires { length nodes.now ≤ 16777216 }
-    ensures { result ≡ square_of nodes.now level said }
+    requires few { length nodes.now ≤ 16777216 }
+    requires low { 2 ≤ level }
+    requires high { level ≤ 62 }
+    ensures square { result ≡ square_of nodes.now level said }
+    ensures follows { IfSome result (λ node. Follows nodes.now node) }
 {
     Some(Node::Square {
         level,
@@ -44,7 +50,8 @@ pub fn square_of(nodes: &[Node], level: u8, said: FiveNumbers) -> Option<Node>
 // The number as that of a quadrant: 0, or an earlier node of one level less.
 fn child_of(nodes: &[Node], level: u8, number: u64) -> Option<u32>
     requires { length nodes.now ≤ 16777216 }
-    ensures { result ≡ child_of nodes.now level number }
+    ensures child { result ≡ child_of nodes.now level number }
+    ensures is { IfSome result (λ child. IsTrue (is_child nodes.now level child)) }
 {
     if number == 0 {
         return Some(0);

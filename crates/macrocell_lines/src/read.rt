@@ -1,7 +1,8 @@
 //! Reading a macrocell text.
-ghost use Rattle.std.specs.Prelude.{◌≡◌, ◌+◌, ◌<◌, ◌^◌, length};
+ghost use Rattle.std.specs.Prelude.{◌≡◌, ◌+◌, ◌<◌, ◌^◌, length, IfOk};
 ghost use Rattle.text_lines.specs.Results.{Gives};
 ghost use Rattle.macrocell_lines.specs.MacrocellText.{after_lines, macrocell_of, nothing_said};
+ghost use Rattle.macrocell_lines.specs.Nodes.{AreNodes};
 
 use crate::fault::McFault;
 use crate::heading::{Heading, after_comment};
@@ -18,7 +19,8 @@ use text_lines::Lines;
 /// `.`, `*` and `$`. The first faulty line is answered. NoMemory comes only where memory was
 /// wanted.
 pub fn read_macrocell(alloc: Global, text: &[u8]) -> Result<Macrocell<'_>, McFault>
-    ensures { Gives McFault.NoMemory result (macrocell_of text.now) }
+    ensures read { Gives McFault.NoMemory result (macrocell_of text.now) }
+    ensures nodes { IfOk result (λ said. AreNodes said.nodes) }
 {
     let mut lines = Lines::new(text);
     match lines.next() {
@@ -30,7 +32,8 @@ pub fn read_macrocell(alloc: Global, text: &[u8]) -> Result<Macrocell<'_>, McFau
 // What the lines behind the first say.
 fn read_lines<'a>(alloc: Global, lines: Lines<'a>) -> Result<Macrocell<'a>, McFault>
     requires { 1 + length lines < 2 ^ 64 }
-    ensures { Gives McFault.NoMemory result (after_lines 2 nothing_said lines.entry) }
+    ensures read { Gives McFault.NoMemory result (after_lines 2 nothing_said lines.entry) }
+    ensures nodes { IfOk result (λ said. AreNodes said.nodes) }
 {
     let mut lines = lines;
     let mut number = 1u64;
