@@ -1,8 +1,10 @@
 pub mod Bitmaps
 pub mod Faults
 pub mod Headings
+pub mod Laws
 pub mod MacrocellText
 pub mod NodeLines
 pub mod Nodes
 pub mod Pieces
 pub mod Quadrants
+pub mod WrittenText

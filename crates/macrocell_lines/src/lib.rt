@@ -11,6 +11,7 @@
 mod bitmap;
 mod fault;
 mod heading;
+mod laws;
 mod macrocell;
 mod node;
 mod node_line;
@@ -21,6 +22,7 @@ mod read;
 
 pub use bitmap::Bitmap;
 pub use fault::McFault;
+pub use laws::written_says_the_same;
 pub use macrocell::Macrocell;
 pub use node::Node;
 pub use read::read_macrocell;

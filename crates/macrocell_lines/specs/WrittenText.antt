@@ -1,0 +1,28 @@
+-- The text of a quadtree whose nodes are named by their quadrants.
+use Rattle.std.specs.Prelude.{ℕ, List, [], ◌∷◌, ◌++◌, map, codes, decimal}
+use Rattle.std.specs.List.{flat_map, join_with_byte}
+use Rattle.macrocell_lines.specs.declared.node.Node.{Node}
+use Rattle.macrocell_lines.specs.declared.node.Node.TheVariants.{Cells, Square, Bitmap}
+
+-- numbers in decimal, with a space between each two
+abbrev pub numbers_line : List ℕ → List ℕ
+numbers_line numbers = join_with_byte 32 (map decimal numbers)
+
+-- the line of a node: its level, and its quadrants
+abbrev pub node_line : Node → List ℕ
+node_line (Cells nw ne sw se) = numbers_line (1 ∷ nw ∷ ne ∷ sw ∷ se ∷ [])
+node_line (Square level nw ne sw se) = numbers_line (level ∷ nw ∷ ne ∷ sw ∷ se ∷ [])
+node_line (Bitmap cells) = []
+
+-- the lines of a text: the first, those of the rule's name and the generation, and one for each node
+abbrev pub written_lines : List ℕ → ℕ → List Node → List (List ℕ)
+written_lines name generation nodes =
+    codes "[M2] (experiment desk)" ∷ (codes "#R " ++ name) ∷ (codes "#G " ++ decimal generation) ∷ map node_line nodes
+
+-- lines, of which a line feed ends each
+abbrev pub text_of_lines : List (List ℕ) → List ℕ
+text_of_lines lines = flat_map (λ line. line ++ 10 ∷ []) lines
+
+-- the text of a rule's name, a generation and the nodes in order
+abbrev pub written_text : List ℕ → ℕ → List Node → List ℕ
+written_text name generation nodes = text_of_lines (written_lines name generation nodes)
