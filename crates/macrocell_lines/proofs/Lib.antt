@@ -4,5 +4,6 @@ pub mod NumberLines
 pub mod Rows
 pub mod Splits
 pub mod TextLines
+pub mod WrittenBitmaps
 pub mod WrittenNodes
 pub mod WrittenTexts

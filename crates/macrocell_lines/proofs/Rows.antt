@@ -1,6 +1,7 @@
 -- The rows of a square, one after another, and how large their bits are.
 use Rattle.std.proofs.Common.{◌≡◌, ℕ, zero, suc, ◌+◌, ◌-◌, ◌*◌, ◌^◌, ◌==◌, ◌<◌, ◌≤◌, Bool, true, false, cond, List, [], ◌∷◌, ◌++◌, length, take, drop, set, replicate, Option, Some, None, refl, sym, ap, ◌∙◌, append_assoc, arith}
 use mir.Val.{bool_byte}
+use Rattle.std.specs.Prelude.{slice_index}
 use Rattle.std.specs.Option.{option_map}
 use Rattle.std.proofs.Math.Nat.{pow-suc}
 use Rattle.std.proofs.Math.Pow.{pow_mono}
@@ -33,6 +34,19 @@ rows-taken (suc due) text texts row some is =
     let less : due ≡ suc due - 1 = omega arith in
     ap (λ read. read >>= λ row. option_map (λ rows. row ∷ rows) (rows_of due texts)) is
     ∙ ap (λ n. option_map (λ rows. row ∷ rows) (rows_of n texts)) less
+
+-- bits of rows stay below 256
+pub small-set : (rows : List ℕ) (y row : ℕ) → ((k : ℕ) → slice_index rows k < 256) → row < 256 → (k : ℕ) → slice_index (set rows y row) k < 256
+small-set [] y row h small k = h k
+small-set (r ∷ rows) zero row h small zero = small
+small-set (r ∷ rows) zero row h small (suc k) = h (suc k)
+small-set (r ∷ rows) (suc y) row h small zero = h 0
+small-set (r ∷ rows) (suc y) row h small (suc k) = small-set rows y row (λ k. h (suc k)) small k
+
+pub small-dead : (n k : ℕ) → slice_index (replicate n 0) k < 256
+small-dead zero k = omega arith
+small-dead (suc n) zero = omega arith
+small-dead (suc n) (suc k) = small-dead n k
 
 -- rows that are read, with others before them
 abbrev pub with_front : List ℕ → Option (List ℕ) → Option (List ℕ)

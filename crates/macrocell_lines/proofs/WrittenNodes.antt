@@ -11,7 +11,6 @@ use Rattle.macrocell_lines.specs.declared.node.Node.{Node}
 use Rattle.macrocell_lines.specs.declared.node.Node.TheVariants.{Cells, Square, Bitmap}
 use Rattle.macrocell_lines.specs.declared.numbers.FiveNumbers.{FiveNumbers}
 use Rattle.macrocell_lines.specs.Headings.{Heading}
-use Rattle.macrocell_lines.specs.Laws.{IsQuartered}
 use Rattle.macrocell_lines.specs.MacrocellText.{MacrocellText, after_line, after_lines}
 use Rattle.macrocell_lines.specs.NodeLines.{check_room, node_of, quartered}
 use Rattle.macrocell_lines.specs.Nodes.{AreQuadrants, AreStates, EachFollows, Follows, is_child, level_of}
@@ -21,6 +20,7 @@ use Rattle.macrocell_lines.specs.WrittenText.{node_line, numbers_line}
 use Rattle.macrocell_lines.proofs.Bytes.{IsDigit, differs, digit-test}
 use Rattle.macrocell_lines.proofs.NumberLines.{IsNumberLine, IsWide, five-written, numbers-line, numbers-start}
 use Rattle.macrocell_lines.proofs.TextLines.{IsLine}
+use Rattle.macrocell_lines.proofs.WrittenBitmaps.{bitmap-taken, rows-line}
 
 node_of-digit : (number : ℕ) (nodes : List Node) (b : ℕ) (bs : List ℕ) → IsDigit b → node_of number nodes (b ∷ bs) ≡ (ok_or (five_numbers (b ∷ bs)) (BadRow number) >>= λ said. quartered number nodes said)
 node_of-digit number nodes b bs h = rw (digit-test b h) refl
@@ -103,36 +103,36 @@ square-wide nodes level nw ne sw se few h =
     (omega arith, (child-wide nodes level nw few h.nw_child, (child-wide nodes level ne few h.ne_child, (child-wide nodes level sw few h.sw_child, (child-wide nodes level se few h.se_child, tt)))))
 
 -- a node that is written reads back
-node-taken : (number : ℕ) (said : MacrocellText) (node : Node) → length said.nodes < 16777216 → Follows said.nodes node → IsQuartered node → after_line number said (node_line node) ≡ Ok (record said { nodes = said.nodes ++ node ∷ [] })
-node-taken number said (Cells nw ne sw se) room h k =
+node-taken : (number : ℕ) (said : MacrocellText) (node : Node) → length said.nodes < 16777216 → Follows said.nodes node → after_line number said (node_line node) ≡ Ok (record said { nodes = said.nodes ++ node ∷ [] })
+node-taken number said (Cells nw ne sw se) room h =
     let wide = cells-wide nw ne sw se h in
     line-taken number said (numbers_line (1 ∷ nw ∷ ne ∷ sw ∷ se ∷ [])) (record { level = 1; nw = nw; ne = ne; sw = sw; se = se }) (Cells nw ne sw se)
     (numbers-start 1 (nw ∷ ne ∷ sw ∷ se ∷ []) wide)
     (five-written 1 nw ne sw se wide)
     (quartered-cells number said.nodes nw ne sw se h room)
-node-taken number said (Square level nw ne sw se) room h k =
+node-taken number said (Square level nw ne sw se) room h =
     let wide = square-wide said.nodes level nw ne sw se (omega arith) h in
     line-taken number said (numbers_line (level ∷ nw ∷ ne ∷ sw ∷ se ∷ [])) (record { level = level; nw = nw; ne = ne; sw = sw; se = se }) (Square level nw ne sw se)
     (numbers-start level (nw ∷ ne ∷ sw ∷ se ∷ []) wide)
     (five-written level nw ne sw se wide)
     (quartered-square number said.nodes level nw ne sw se h room)
-node-taken number said (Bitmap cells) room h k = absurd k
+node-taken number said (Bitmap bitmap) room h = bitmap-taken number said bitmap room h
 
 -- so do all
-pub nodes-taken : (number : ℕ) (heading : Heading) (nodes others : List Node) → length nodes + length others ≤ 16777216 → EachFollows nodes others → AllByRecursion IsQuartered others → after_lines number (record { heading = heading; nodes = nodes }) (map node_line others) ≡ Ok (record { heading = heading; nodes = nodes ++ others })
-nodes-taken number heading nodes [] few h k = ap (λ nodes. Ok (record { heading = heading; nodes = nodes })) (sym (append-nil nodes))
-nodes-taken number heading nodes (node ∷ others) few h k =
-    ap (λ read. read >>= λ more. after_lines (number + 1) more (map node_line others)) (node-taken number (record { heading = heading; nodes = nodes }) node (omega arith) h.0 k.0)
-    ∙ nodes-taken (number + 1) heading (nodes ++ node ∷ []) others (omega (arith, length-append nodes (node ∷ []))) h.1 k.1
+pub nodes-taken : (number : ℕ) (heading : Heading) (nodes others : List Node) → length nodes + length others ≤ 16777216 → EachFollows nodes others → after_lines number (record { heading = heading; nodes = nodes }) (map node_line others) ≡ Ok (record { heading = heading; nodes = nodes ++ others })
+nodes-taken number heading nodes [] few h = ap (λ nodes. Ok (record { heading = heading; nodes = nodes })) (sym (append-nil nodes))
+nodes-taken number heading nodes (node ∷ others) few h =
+    ap (λ read. read >>= λ more. after_lines (number + 1) more (map node_line others)) (node-taken number (record { heading = heading; nodes = nodes }) node (omega arith) h.0)
+    ∙ nodes-taken (number + 1) heading (nodes ++ node ∷ []) others (omega (arith, length-append nodes (node ∷ []))) h.1
     ∙ ap (λ nodes. Ok (record { heading = heading; nodes = nodes })) (append_assoc nodes (node ∷ []) others)
 
-node-line : (nodes : List Node) (node : Node) → length nodes ≤ 16777216 → Follows nodes node → IsQuartered node → IsLine (node_line node)
-node-line nodes (Cells nw ne sw se) few h k = numbers-line 1 (nw ∷ ne ∷ sw ∷ se ∷ []) (cells-wide nw ne sw se h)
-node-line nodes (Square level nw ne sw se) few h k = numbers-line level (nw ∷ ne ∷ sw ∷ se ∷ []) (square-wide nodes level nw ne sw se few h)
-node-line nodes (Bitmap cells) few h k = absurd k
+node-line : (nodes : List Node) (node : Node) → length nodes ≤ 16777216 → Follows nodes node → IsLine (node_line node)
+node-line nodes (Cells nw ne sw se) few h = numbers-line 1 (nw ∷ ne ∷ sw ∷ se ∷ []) (cells-wide nw ne sw se h)
+node-line nodes (Square level nw ne sw se) few h = numbers-line level (nw ∷ ne ∷ sw ∷ se ∷ []) (square-wide nodes level nw ne sw se few h)
+node-line nodes (Bitmap bitmap) few h = rows-line bitmap.rows h
 
 -- each node is written as a line
-pub node-lines : (nodes others : List Node) → length nodes + length others ≤ 16777216 → EachFollows nodes others → AllByRecursion IsQuartered others → AllByRecursion IsLine (map node_line others)
-node-lines nodes [] few h k = tt
-node-lines nodes (node ∷ others) few h k =
-    (node-line nodes node (omega arith) h.0 k.0, node-lines (nodes ++ node ∷ []) others (omega (arith, length-append nodes (node ∷ []))) h.1 k.1)
+pub node-lines : (nodes others : List Node) → length nodes + length others ≤ 16777216 → EachFollows nodes others → AllByRecursion IsLine (map node_line others)
+node-lines nodes [] few h = tt
+node-lines nodes (node ∷ others) few h =
+    (node-line nodes node (omega arith) h.0, node-lines (nodes ++ node ∷ []) others (omega (arith, length-append nodes (node ∷ []))) h.1)

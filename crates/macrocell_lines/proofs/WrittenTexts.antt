@@ -6,7 +6,7 @@ use Rattle.std.proofs.lemmas.Bool.Decides.{nat_tests}
 use Rattle.text_lines.specs.Results.{◌>>=◌}
 use Rattle.macrocell_lines.specs.declared.node.Node.{Node}
 use Rattle.macrocell_lines.specs.Headings.{Heading}
-use Rattle.macrocell_lines.specs.Laws.{IsName, IsNameByte, IsQuartered, WrittenSaysTheSame}
+use Rattle.macrocell_lines.specs.Laws.{IsName, IsNameByte, WrittenSaysTheSame}
 use Rattle.macrocell_lines.specs.MacrocellText.{after_line, after_lines, nothing_said, said_by}
 use Rattle.macrocell_lines.specs.Nodes.{AreNodes}
 use Rattle.macrocell_lines.specs.WrittenText.{node_line, written_lines}
@@ -49,8 +49,8 @@ mark-line letter bs h some visible =
 first-line : IsLine (codes "[M2] (experiment desk)")
 first-line = record { printed = printed-tested (codes "[M2] (experiment desk)") refl; trimmed = refl }
 
-written-lines : (name : List ℕ) (generation : ℕ) (nodes : List Node) → IsName name → generation < 2 ^ 64 → AreNodes nodes → AllByRecursion IsQuartered nodes → AllByRecursion IsLine (written_lines name generation nodes)
-written-lines name generation nodes h small are k =
+written-lines : (name : List ℕ) (generation : ℕ) (nodes : List Node) → IsName name → generation < 2 ^ 64 → AreNodes nodes → AllByRecursion IsLine (written_lines name generation nodes)
+written-lines name generation nodes h small are =
     let numeral = decimal-numeral generation small in
     let few = are.few in (
       first-line,
@@ -58,20 +58,20 @@ written-lines name generation nodes h small are k =
         mark-line 82 name (omega arith, omega arith) h.some (name-visible name h.bytes),
         (
           mark-line 71 (decimal generation) (omega arith, omega arith) numeral.some (digits-visible generation small),
-          node-lines [] nodes (omega arith) are.each k,
+          node-lines [] nodes (omega arith) are.each,
         ),
       ),
     )
 
-lines-taken : (name : List ℕ) (generation : ℕ) (nodes : List Node) → IsName name → generation < 2 ^ 64 → AreNodes nodes → AllByRecursion IsQuartered nodes → said_by (written_lines name generation nodes) ≡ Ok (record { heading = record { rule_name = name; generation = generation }; nodes = nodes })
-lines-taken name generation nodes h small are k =
+lines-taken : (name : List ℕ) (generation : ℕ) (nodes : List Node) → IsName name → generation < 2 ^ 64 → AreNodes nodes → said_by (written_lines name generation nodes) ≡ Ok (record { heading = record { rule_name = name; generation = generation }; nodes = nodes })
+lines-taken name generation nodes h small are =
     let few = are.few in
     ap (λ read. read >>= λ said. after_lines 3 said ((codes "#G " ++ decimal generation) ∷ map node_line nodes)) (name-taken name h)
     ∙ ap (λ read. read >>= λ said. after_lines 4 said (map node_line nodes)) (generation-taken name generation small)
-    ∙ nodes-taken 4 (record { rule_name = name; generation = generation }) [] nodes (omega arith) are.each k
+    ∙ nodes-taken 4 (record { rule_name = name; generation = generation }) [] nodes (omega arith) are.each
 
 -- what is written says the same
 pub written-says : WrittenSaysTheSame
-written-says name generation nodes h small are k =
-    ap said_by (says-lines (written_lines name generation nodes) (written-lines name generation nodes h small are k))
-    ∙ lines-taken name generation nodes h small are k
+written-says name generation nodes h small are =
+    ap said_by (says-lines (written_lines name generation nodes) (written-lines name generation nodes h small are))
+    ∙ lines-taken name generation nodes h small are

@@ -2,7 +2,6 @@
 use Rattle.std.specs.Prelude.{◌≡◌, ◌≢◌, ℕ, ◌<◌, ◌≤◌, ◌^◌, List, length, Ok}
 use Rattle.std.specs.List.{AllByRecursion}
 use Rattle.macrocell_lines.specs.declared.node.Node.{Node}
-use Rattle.macrocell_lines.specs.declared.node.Node.TheVariants.{Cells, Square, Bitmap}
 use Rattle.macrocell_lines.specs.MacrocellText.{macrocell_of}
 use Rattle.macrocell_lines.specs.Nodes.{AreNodes}
 use Rattle.macrocell_lines.specs.WrittenText.{written_text}
@@ -18,13 +17,7 @@ pub record IsName (name : List ℕ) : Type 0 where
   pub some : 0 < length name
   pub bytes : AllByRecursion IsNameByte name
 
--- a node that its quadrants tell, and no bitmap
-abbrev pub IsQuartered : Node → Type 0
-IsQuartered (Cells nw ne sw se) = Unit {0}
-IsQuartered (Square level nw ne sw se) = Unit {0}
-IsQuartered (Bitmap cells) = ⊥
-
 -- what is written says the name, the generation and the nodes that were written
 abbrev pub WrittenSaysTheSame : Type 0
-WrittenSaysTheSame = (name : List ℕ) (generation : ℕ) (nodes : List Node) → IsName name → generation < 2 ^ 64 → AreNodes nodes → AllByRecursion IsQuartered nodes
+WrittenSaysTheSame = (name : List ℕ) (generation : ℕ) (nodes : List Node) → IsName name → generation < 2 ^ 64 → AreNodes nodes
     → macrocell_of (written_text name generation nodes) ≡ Ok (record { heading = record { rule_name = name; generation = generation }; nodes = nodes })

@@ -1,5 +1,5 @@
 -- The nodes of a quadtree, of which each names its quadrants by the numbers of earlier ones.
-use Rattle.std.specs.Prelude.{ℕ, ◌+◌, ◌-◌, ◌==◌, ◌<◌, ◌≤◌, Bool, true, false, IsTrue, if◌then◌else◌, List, [], ◌∷◌, ◌++◌, length, slice_get}
+use Rattle.std.specs.Prelude.{◌≡◌, ℕ, ◌+◌, ◌-◌, ◌==◌, ◌<◌, ◌≤◌, Bool, true, false, IsTrue, if◌then◌else◌, List, [], ◌∷◌, ◌++◌, length, slice_get, slice_index}
 use Rattle.std.specs.Option.{option_map_or}
 use Rattle.macrocell_lines.specs.declared.node.Node.{Node}
 use Rattle.macrocell_lines.specs.declared.node.Node.TheVariants.{Cells, Square, Bitmap}
@@ -8,7 +8,7 @@ use Rattle.macrocell_lines.specs.declared.node.Node.TheVariants.{Cells, Square, 
 abbrev pub level_of : Node → ℕ
 level_of (Cells nw ne sw se) = 1
 level_of (Square level nw ne sw se) = level
-level_of (Bitmap cells) = 3
+level_of (Bitmap bitmap) = 3
 
 -- a square of a level may have this number as a quadrant: 0, or that of one of these nodes, counted from 1, of one level less
 abbrev pub is_child : List Node → ℕ → ℕ → Bool
@@ -30,11 +30,16 @@ pub record AreQuadrants (nodes : List Node) (level nw ne sw se : ℕ) : Type 0 w
   pub sw_child : IsTrue (is_child nodes level sw)
   pub se_child : IsTrue (is_child nodes level se)
 
+-- eight rows of eight bits
+pub record IsBitmap (rows : List ℕ) : Type 0 where
+  pub long : length rows ≡ 8
+  pub each : (y : ℕ) → slice_index rows y < 256
+
 -- a node that may stand behind these
 abbrev pub Follows : List Node → Node → Type 0
 Follows nodes (Cells nw ne sw se) = AreStates nw ne sw se
 Follows nodes (Square level nw ne sw se) = AreQuadrants nodes level nw ne sw se
-Follows nodes (Bitmap cells) = Unit {0}
+Follows nodes (Bitmap bitmap) = IsBitmap bitmap.rows
 
 -- each of some nodes may stand behind these and those before it
 abbrev pub EachFollows : List Node → List Node → Type 0

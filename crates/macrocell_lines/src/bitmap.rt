@@ -1,7 +1,8 @@
 //! Squares of 8 by 8 cells of two states.
-ghost use Rattle.std.specs.Prelude.{◌≡◌, ◌<◌, ◌≤◌, length};
+ghost use Rattle.std.specs.Prelude.{◌≡◌, ◌<◌, ◌≤◌, length, IfSome};
 ghost use Rattle.std.specs.List.{list_all};
 ghost use Rattle.macrocell_lines.specs.Bitmaps.{bitmap_of, is_cell, is_live, row_bits, row_of};
+ghost use Rattle.macrocell_lines.specs.Nodes.{IsBitmap};
 
 use crate::pieces::Pieces;
 
@@ -25,7 +26,8 @@ impl Bitmap {
 
 /// The square that a line of `.`, `*` and `$` draws.
 pub fn read_bitmap(line: &[u8]) -> Option<Bitmap>
-    ensures { result ≡ bitmap_of line.now }
+    ensures bitmap { result ≡ bitmap_of line.now }
+    ensures whole { IfSome result (λ bitmap. IsBitmap bitmap.rows) }
 {
     let mut texts = Pieces::new(b'$', line);
     let mut rows = [0u8; 8];
@@ -44,7 +46,8 @@ pub fn read_bitmap(line: &[u8]) -> Option<Bitmap>
 
 // The bits of a row of at most eight cells.
 fn row_of(text: &[u8]) -> Option<u8>
-    ensures { result ≡ row_of text.now }
+    ensures row { result ≡ row_of text.now }
+    ensures below { IfSome result (λ row. row < 256) }
 {
     if text.len() > 8 || !are_cells(text) {
         return None;

@@ -1,4 +1,5 @@
-use Rattle.std.proofs.Common.{◌≡◌, ◌-◌, ◌≤◌, length, take, drop, replicate}
+use Rattle.std.proofs.Common.{◌≡◌, ℕ, ◌<◌, ◌-◌, ◌≤◌, length, take, drop, replicate}
+use Rattle.std.specs.Prelude.{slice_index}
 use Rattle.macrocell_lines.specs.Bitmaps.{rows_of}
 use Rattle.macrocell_lines.specs.Pieces.{pieces}
 use Rattle.macrocell_lines.proofs.Rows.{with_front}
@@ -8,6 +9,7 @@ abbrev pub invariant-loop-text : goal.invariant-loop-text
 invariant-loop-text l = record {
   drawn : with_front (take l.y l.rows) (rows_of (8 - l.y) l.texts) ≡ rows_of 8 (pieces 36 l.line);
   dead : drop l.y l.rows ≡ replicate (8 - l.y) 0;
+  small : (y : ℕ) → slice_index l.rows y < 256;
   long : length l.rows ≡ 8;
   within : l.y ≤ 8;
 }
