@@ -1,5 +1,5 @@
 -- Nodes that follow those before them, with one more.
-use Rattle.std.proofs.Common.{◌≡◌, ℕ, ◌+◌, ◌<◌, ◌≤◌, List, [], ◌∷◌, ◌++◌, length, refl, sym, ap, subst, arith, append-nil, append_assoc, length-append}
+use Rattle.std.proofs.Common.{◌<◌, List, [], ◌∷◌, ◌++◌, length, sym, subst, arith, append-nil, append_assoc, length-append}
 use Rattle.macrocell_lines.specs.declared.node.Node.{Node}
 use Rattle.macrocell_lines.specs.Nodes.{AreNodes, EachFollows, Follows}
 

@@ -1,3 +1,4 @@
+pub mod BitmapCells
 pub mod Bytes
 pub mod Growing
 pub mod NumberLines

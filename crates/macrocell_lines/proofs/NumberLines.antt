@@ -1,9 +1,9 @@
 -- Lines of numbers in decimal.
-use Rattle.std.proofs.Common.{◌≡◌, ◌∙◌, ap, refl, subst, ℕ, ◌^◌, ◌<◌, ◌≤◌, ◌==◌, false, List, [], ◌∷◌, ◌++◌, length, map, filter, Some, decimal, arith}
+use Rattle.std.proofs.Common.{◌≡◌, ◌∙◌, ap, refl, subst, ℕ, ◌^◌, ◌<◌, ◌≤◌, ◌==◌, false, List, [], ◌∷◌, ◌++◌, map, filter, Some, decimal, arith}
 use Rattle.std.specs.List.{All, AllByRecursion, join_with_byte}
 use Rattle.std.proofs.lemmas.List.Elements.{All-from_recursion}
 use Rattle.std.proofs.lemmas.List.Splits.{slice_split_at, slice_split_none}
-use Rattle.macrocell_lines.specs.Pieces.{five_in, five_numbers, is_word, number_in, pieces, words}
+use Rattle.macrocell_lines.specs.Pieces.{five_in, five_numbers, is_word, pieces, words}
 use Rattle.macrocell_lines.specs.WrittenText.{numbers_line}
 use Rattle.macrocell_lines.proofs.Bytes.{IsDigit, IsNumeral, IsPrinted, IsVisible, all_append, all_so, decimal-numeral, differs, digit-visible, number_in-decimal, visible-printed}
 use Rattle.macrocell_lines.proofs.TextLines.{EndsSolid, IsLine, ends-append, ends-behind, ends-visible, line-between}

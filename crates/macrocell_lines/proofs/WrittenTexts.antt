@@ -1,16 +1,15 @@
 -- Texts that are written read back.
-use Rattle.std.proofs.Common.{◌≡◌, ◌≢◌, ◌∙◌, ap, refl, ℕ, ◌+◌, ◌^◌, ◌<◌, ◌≤◌, ◌==◌, Bool, true, false, not, cond, List, [], ◌∷◌, ◌++◌, length, map, Some, None, Ok, position, nat_lt, arith, decimal}
+use Rattle.std.proofs.Common.{◌≡◌, ◌∙◌, ap, refl, ℕ, ◌+◌, ◌^◌, ◌<◌, ◌==◌, false, not, cond, List, [], ◌∷◌, ◌++◌, length, map, Some, None, Ok, position, nat_lt, arith, decimal}
 use Rattle.std.specs.Prelude.{codes}
 use Rattle.std.specs.List.{AllByRecursion, position_or_len}
 use Rattle.std.proofs.lemmas.Bool.Decides.{nat_tests}
 use Rattle.text_lines.specs.Results.{◌>>=◌}
 use Rattle.macrocell_lines.specs.declared.node.Node.{Node}
-use Rattle.macrocell_lines.specs.Headings.{Heading}
 use Rattle.macrocell_lines.specs.Laws.{IsName, IsNameByte, WrittenSaysTheSame}
 use Rattle.macrocell_lines.specs.MacrocellText.{after_line, after_lines, nothing_said, said_by}
 use Rattle.macrocell_lines.specs.Nodes.{AreNodes}
 use Rattle.macrocell_lines.specs.WrittenText.{node_line, written_lines}
-use Rattle.macrocell_lines.proofs.Bytes.{IsDigit, IsPrinted, IsVisible, all_append, all_so, decimal-numeral, differs, digit-visible, number_in-decimal, printed-tested, visible-printed}
+use Rattle.macrocell_lines.proofs.Bytes.{IsDigit, IsPrinted, IsVisible, all_so, decimal-numeral, differs, digit-visible, number_in-decimal, printed-tested, visible-printed}
 use Rattle.macrocell_lines.proofs.TextLines.{IsLine, ends-append, ends-visible, line-between, says-lines, trim-blank}
 use Rattle.macrocell_lines.proofs.WrittenNodes.{node-lines, nodes-taken}
 

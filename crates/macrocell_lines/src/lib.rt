@@ -22,7 +22,7 @@ mod read;
 
 pub use bitmap::Bitmap;
 pub use fault::McFault;
-pub use laws::written_says_the_same;
+pub use laws::{bitmaps_show_their_lines, written_says_the_same};
 pub use macrocell::Macrocell;
 pub use node::Node;
 pub use read::read_macrocell;

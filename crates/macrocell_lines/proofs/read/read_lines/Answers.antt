@@ -1,4 +1,4 @@
-use Rattle.std.proofs.Common.{◌≡◌, ◌<◌, ◌∷◌, ◌++◌, [], length, sym, ap, subst, arith, rules}
+use Rattle.std.proofs.Common.{◌<◌, length, sym, ap, subst, arith, rules}
 use Rattle.std.proofs.lemmas.Grind.{common_steps}
 use Rattle.macrocell_lines.specs.Nodes.{AreNodes, Follows}
 use Rattle.macrocell_lines.proofs.Growing.{nodes-push}
