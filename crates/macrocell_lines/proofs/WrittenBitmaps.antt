@@ -8,7 +8,7 @@ use Rattle.std.proofs.lemmas.Bool.Decides.{nat_tests}
 use Rattle.std.proofs.lemmas.List.Elements.{All-from_recursion}
 use Rattle.std.proofs.lemmas.List.Splits.{slice_split_at}
 use Rattle.std.proofs.lemmas.Nat.{div_below}
-use Rattle.text_lines.specs.Results.{◌>>=◌}
+use Rattle.basics.specs.Results.{◌>>=◌}
 use Rattle.macrocell_lines.specs.declared.bitmap.Bitmap as bitmaps
 use Rattle.macrocell_lines.specs.declared.fault.McFault.TheVariants.{BadRow}
 use Rattle.macrocell_lines.specs.declared.node.Node.{Node}

@@ -2,7 +2,7 @@
 use Rattle.std.specs.Prelude.{ℕ, ◌+◌, ◌==◌, nat_eq, if◌then◌else◌, List, [], ◌∷◌, ◌++◌, codes, Result, Ok, Err}
 use Rattle.std.specs.List.{starts_with}
 use Rattle.text_lines.specs.Lines.{says}
-use Rattle.text_lines.specs.Results.{◌>>=◌}
+use Rattle.basics.specs.Results.{◌>>=◌}
 use Rattle.macrocell_lines.specs.declared.fault.McFault.{McFault}
 use Rattle.macrocell_lines.specs.declared.fault.McFault.TheVariants.{NoM2}
 use Rattle.macrocell_lines.specs.declared.node.Node.{Node}

@@ -1,7 +1,7 @@
 -- Lines that say nodes.
 use Rattle.std.specs.Prelude.{ℕ, ◌==◌, ◌||◌, nat_lt, nat_le, if◌then◌else◌, List, [], ◌∷◌, length, Result, Ok, Err, ok_or}
 use Rattle.std.specs.Char.{is_ascii_digit}
-use Rattle.text_lines.specs.Results.{◌>>=◌}
+use Rattle.basics.specs.Results.{◌>>=◌}
 use Rattle.macrocell_lines.specs.declared.fault.McFault.{McFault}
 use Rattle.macrocell_lines.specs.declared.fault.McFault.TheVariants.{BadRow, BadChild, TooDeep, NoRoom}
 use Rattle.macrocell_lines.specs.declared.node.Node.{Node}

@@ -1,7 +1,7 @@
 //! Lines that begin with `#`: the rule's name, the generation, and comments.
 ghost use Rattle.std.specs.Prelude.{◌≡◌};
 ghost use Rattle.std.specs.Option.{option_copied};
-ghost use Rattle.text_lines.specs.Results.{Reads};
+ghost use Rattle.basics.specs.Results.{Reads};
 ghost use Rattle.macrocell_lines.specs.Headings.{after_comment, generation_in, value_behind, value_in};
 
 use crate::fault::McFault;

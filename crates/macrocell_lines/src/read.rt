@@ -1,6 +1,6 @@
 //! Reading a macrocell text.
 ghost use Rattle.std.specs.Prelude.{◌≡◌, ◌+◌, ◌<◌, ◌^◌, length, IfOk};
-ghost use Rattle.text_lines.specs.Results.{Gives};
+ghost use Rattle.basics.specs.Results.{Gives};
 ghost use Rattle.macrocell_lines.specs.MacrocellText.{after_lines, macrocell_of, nothing_said};
 ghost use Rattle.macrocell_lines.specs.Nodes.{AreNodes};
 

@@ -6,7 +6,7 @@ mod headings;
 mod nodes;
 
 use macrocell_lines::{Bitmap, McFault, Node, read_macrocell};
-use plane_core::Refusal;
+use basics::Refusal;
 use std::alloc::Global;
 use std::fmt::Debug;
 use std::process::Abort;

@@ -16,7 +16,6 @@ mod plane;
 mod step;
 mod stop;
 
-pub use basics::{Listing, Refusal};
 pub use cell::{Bounds, Cell, CellSet};
 pub use evolve::{EvolveFault, Evolved, Report, evolve_plain, fits};
 pub use laws::{

@@ -17,7 +17,8 @@ use crate::document::{Bookmark, Document, Intervention};
 use crate::edit::{Edit, Edited};
 use crate::fault::EditFault;
 use bookmarks::View;
-use plane_core::{CellSet, Listing, Next, Plane};
+use basics::Listing;
+use plane_core::{CellSet, Next, Plane};
 use rule_tree::Rule;
 use std::sync::Arc;
 

@@ -5,7 +5,8 @@ ghost use Rattle.schedule.specs.Plan.{opening};
 ghost use Rattle.schedule.specs.Sound.{IsSound};
 
 use bookmarks::View;
-use plane_core::{CellSet, Listing, Plane};
+use basics::Listing;
+use plane_core::{CellSet, Plane};
 use rule_tree::Rule;
 use std::alloc::{AllocError, Global};
 use std::marker::Model;

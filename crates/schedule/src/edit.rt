@@ -1,7 +1,8 @@
 //! Edits of a document.
 
 use bookmarks::View;
-use plane_core::{CellSet, Listing, Plane};
+use basics::Listing;
+use plane_core::{CellSet, Plane};
 use rule_tree::Rule;
 use std::sync::Arc;
 

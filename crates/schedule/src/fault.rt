@@ -2,7 +2,7 @@
 ghost use Rattle.std.specs.Prelude.{◌≡◌};
 ghost use Rattle.schedule.specs.declared.fault.EditFault.TheVariants.{NoMemory};
 
-use plane_core::Refusal;
+use basics::Refusal;
 use std::alloc::{AllocError, AllocFailed};
 use thiserror::Error;
 

@@ -18,9 +18,7 @@ pub use bookmarks::{View, render};
 pub use document::{Bookmark, Document, Intervention};
 pub use edit::{Edit, Edited};
 pub use fault::EditFault;
-pub use plane_core::{
-    Bounds, Cell, CellSet, EvolveFault, Evolved, Listing, Next, NoStop, Plane, Refusal, Report,
-    Stop, evolve_plain, fits,
-};
+pub use basics::{Listing, Refusal};
+pub use plane_core::{Bounds, Cell, CellSet, EvolveFault, Evolved, Next, NoStop, Plane, Report, Stop, evolve_plain, fits};
 pub use rule_file::RuleFault;
 pub use rule_tree::Rule;

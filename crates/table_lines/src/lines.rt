@@ -12,7 +12,7 @@ use crate::neighborhood::Neighborhood;
 use crate::symmetry::Symmetry;
 use crate::transition::Transition;
 use crate::transitions::read_transitions;
-use plane_core::Listing;
+use basics::Listing;
 use rule_file::{RuleFault, RuleText};
 use std::alloc::Global;
 use std::marker::Model;

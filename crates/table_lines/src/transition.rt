@@ -4,7 +4,7 @@ ghost use Rattle.std.specs.List.{list_any};
 ghost use Rattle.table_lines.specs.Transitions.{is_variable};
 
 use crate::state_set::StateSet;
-use plane_core::Listing;
+use basics::Listing;
 
 /// A variable: the number of its definition among those of the table, by which it is told from
 /// others, and the states that it stands for.

@@ -12,7 +12,7 @@ use crate::descriptors::{Head, descriptor_of};
 use crate::fields::{Fields, entry_count};
 use crate::transition::{Entry, Transition};
 use crate::variables::Variables;
-use plane_core::Listing;
+use basics::Listing;
 use rule_file::{RuleFault, RuleLine};
 use std::alloc::Global;
 use text_lines::{is_blank, number};

@@ -10,7 +10,7 @@ ghost use Rattle.table_symmetry.specs.Grown.{Grows, IsTooLong, lists_in, row_of}
 ghost use Rattle.table_symmetry.specs.NextState as meaning;
 
 use crate::arrangement::{Circles, arrangements, joined};
-use plane_core::Listing;
+use basics::Listing;
 use rule_file::RuleFault;
 use std::alloc::{AllocError, Global};
 use table_lines::{Entry, StateSet, Symmetry, Transition, Variable};

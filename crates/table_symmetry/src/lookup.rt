@@ -5,7 +5,8 @@ ghost use Rattle.table_symmetry.specs.NextState.{inputs_of, places_of};
 ghost use Rattle.table_symmetry.specs.Lookup.{row_has, found, words_at, HasColumns, FindsFirst};
 
 use crate::expansion::Expanded;
-use plane_core::{Around, Listing};
+use basics::Listing;
+use plane_core::Around;
 use std::alloc::{AllocError, Global};
 use table_lines::Neighborhood;
 

@@ -2,7 +2,7 @@
 ghost use Rattle.std.specs.Prelude.{◌≡◌};
 ghost use Rattle.tree_translation.specs.declared.tree_fault.TreeFault.TheVariants.{NoMemory};
 
-use plane_core::Refusal;
+use basics::Refusal;
 use std::alloc::{AllocError, AllocFailed};
 use thiserror::Error;
 

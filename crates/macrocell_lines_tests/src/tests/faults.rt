@@ -1,7 +1,7 @@
 //! Texts that are refused, with the number of the fault and its line.
 use super::{expect_fault, expect_outcome, same};
 use macrocell_lines::McFault;
-use plane_core::Refusal;
+use basics::Refusal;
 use std::process::Abort;
 
 #[test]

@@ -1,5 +1,6 @@
 use super::same;
-use plane_core::{EvolveFault, Refusal};
+use basics::Refusal;
+use plane_core::EvolveFault;
 use std::alloc::{AllocError, Global};
 use std::process::Abort;
 

@@ -1,7 +1,7 @@
 //! The faults of a tree's lines.
 use super::same;
 use super::trees::{STILL, W, read};
-use plane_core::Refusal;
+use basics::Refusal;
 use std::alloc::Global;
 use std::process::Abort;
 

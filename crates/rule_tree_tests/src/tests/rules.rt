@@ -1,7 +1,8 @@
 //! Rules, by tables and by trees.
 use super::trees::W;
 use super::{expect_next, same};
-use plane_core::{Next, Refusal};
+use basics::Refusal;
+use plane_core::Next;
 use rule_tree::Rule;
 use std::alloc::Global;
 use std::process::Abort;

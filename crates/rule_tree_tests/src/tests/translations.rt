@@ -1,7 +1,8 @@
 //! Tables with the trees to which they are translated. Next states are worked out by hand, or are
 //! those of the table itself.
 use super::{expect_next, next, nine_bits, same};
-use plane_core::{Next, Refusal};
+use basics::Refusal;
+use plane_core::Next;
 use rule_file::cut;
 use rule_tree::{Rule, TreeFault, TreeRule, from_table};
 use std::alloc::{AllocError, Global};

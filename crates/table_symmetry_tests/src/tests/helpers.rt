@@ -1,5 +1,6 @@
 //! Tables that are read, and what is found compared with what is wanted.
-use plane_core::{Around, Next, Refusal};
+use basics::Refusal;
+use plane_core::{Around, Next};
 use rule_file::{RuleFault, cut};
 use std::alloc::Global;
 use std::fmt::Debug;
