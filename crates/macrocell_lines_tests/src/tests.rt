@@ -5,8 +5,8 @@ mod faults;
 mod headings;
 mod nodes;
 
-use macrocell_lines::{Bitmap, McFault, Node, read_macrocell};
 use basics::Refusal;
+use macrocell_lines::{Bitmap, McFault, Node, read_macrocell};
 use std::alloc::Global;
 use std::fmt::Debug;
 use std::process::Abort;

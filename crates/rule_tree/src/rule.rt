@@ -4,8 +4,8 @@ ghost use Rattle.std.specs.Option.{option_map};
 ghost use Rattle.rule_file.specs.Results.{Gives};
 ghost use Rattle.rule_tree.specs.Rule.{IsAsked, IsTranslated, kind_of, name_of, next_of, next_under_kind, plain_next, rule_of, states_of, still};
 
-use decision_tree::{TreeRule, read_tree};
 use basics::Listing;
+use decision_tree::{TreeRule, read_tree};
 use plane_core::{Around, Next};
 use rule_file::{RuleFault, RuleText, SectionKind, cut};
 use std::alloc::{AllocError, Global};

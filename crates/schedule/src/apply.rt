@@ -16,8 +16,8 @@ ghost use Rattle.schedule.specs.Change.{for_moved_bookmark, for_removed_bookmark
 use crate::document::{Bookmark, Document, Intervention};
 use crate::edit::{Edit, Edited};
 use crate::fault::EditFault;
-use bookmarks::View;
 use basics::Listing;
+use bookmarks::View;
 use plane_core::{CellSet, Next, Plane};
 use rule_tree::Rule;
 use std::sync::Arc;

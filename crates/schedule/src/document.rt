@@ -4,8 +4,8 @@ ghost use Rattle.std.specs.Arc.{arc_value};
 ghost use Rattle.schedule.specs.Plan.{opening};
 ghost use Rattle.schedule.specs.Sound.{IsSound};
 
-use bookmarks::View;
 use basics::Listing;
+use bookmarks::View;
 use plane_core::{CellSet, Plane};
 use rule_tree::Rule;
 use std::alloc::{AllocError, Global};

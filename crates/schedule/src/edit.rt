@@ -1,7 +1,7 @@
 //! Edits of a document.
 
-use bookmarks::View;
 use basics::Listing;
+use bookmarks::View;
 use plane_core::{CellSet, Plane};
 use rule_tree::Rule;
 use std::sync::Arc;

@@ -14,11 +14,14 @@ mod document;
 mod edit;
 mod fault;
 
+pub use basics::{Listing, Refusal};
 pub use bookmarks::{View, render};
 pub use document::{Bookmark, Document, Intervention};
 pub use edit::{Edit, Edited};
 pub use fault::EditFault;
-pub use basics::{Listing, Refusal};
-pub use plane_core::{Bounds, Cell, CellSet, EvolveFault, Evolved, Next, NoStop, Plane, Report, Stop, evolve_plain, fits};
+pub use plane_core::{
+    Bounds, Cell, CellSet, EvolveFault, Evolved, Next, NoStop, Plane, Report, Stop, evolve_plain,
+    fits,
+};
 pub use rule_file::RuleFault;
 pub use rule_tree::Rule;

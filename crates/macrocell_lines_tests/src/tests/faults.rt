@@ -1,7 +1,7 @@
 //! Texts that are refused, with the number of the fault and its line.
 use super::{expect_fault, expect_outcome, same};
-use macrocell_lines::McFault;
 use basics::Refusal;
+use macrocell_lines::McFault;
 use std::process::Abort;
 
 #[test]
