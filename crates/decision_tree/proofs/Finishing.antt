@@ -30,7 +30,7 @@ if_quiescent-yes tree still =
     ap (λ b. cond b (Ok tree) (Err NotQuiescent)) test
 
 -- there is an input for each level
-levels : (neighbors : Neighbors) → length (places_of neighbors) ≡ depth_of_root neighbors
+pub levels : (neighbors : Neighbors) → length (places_of neighbors) ≡ depth_of_root neighbors
 levels Four = refl
 levels Eight = refl
 

@@ -37,7 +37,7 @@ leads-append n nodes more number (input ∷ inputs) some h =
     (list_all-follows (λ entry. leads n nodes entry inputs) (λ entry. leads n (nodes ++ more) entry inputs) node all (λ entry k. leads-append n nodes more entry inputs some k))
 
 -- each of these nodes leads to states through as many nodes as it is deep
-abbrev Leading : ℕ → List ℕ → List Entries → Type 0
+abbrev pub Leading : ℕ → List ℕ → List Entries → Type 0
 Leading n depths nodes = (number : ℕ) (inputs : List ℕ) → number < length depths → length inputs ≡ slice_index depths number → leads n nodes number inputs ≡ true
 
 -- the entries of a node of depth 1 are states
@@ -83,6 +83,14 @@ leads-fitting n depths nodes depth node (input ∷ second ∷ inputs) some count
     (list_all-follows _ (λ k. leads n (nodes ++ node ∷ []) k (second ∷ inputs)) node (fits-high n depths node depth more fits)
     (λ k h. let below = is-below depths depth k h in
     leads-append n nodes (node ∷ []) k (second ∷ inputs) some (leading k (second ∷ inputs) below.earlier (omega (arith, below.less, long)))))
+
+-- the same of all, with one more node whose entries fit
+pub leading-push : (n : ℕ) (depths : List ℕ) (nodes : List Entries) (depth : ℕ) (node : List ℕ) → 0 < n → length nodes ≡ length depths → Leading n depths nodes → length node ≡ n → do_entries_fit n depths (record { depth = depth; entries = node }) ≡ true → Leading n (depths ++ depth ∷ []) (nodes ++ node ∷ [])
+leading-push n depths nodes depth node some count leading width fits number inputs l long =
+    below_more (λ k. length inputs ≡ slice_index (depths ++ depth ∷ []) k → leads n (nodes ++ node ∷ []) k inputs ≡ true) (length depths)
+    (λ k h e. leads-append n nodes (node ∷ []) k inputs some (leading k inputs h (e ∙ get_or_append_left depths (depth ∷ []) 0 k h)))
+    (λ e. leads-fitting n depths nodes depth node inputs some count leading width fits (e ∙ get_or-append_seam depths depth [] 0))
+    number (omega (arith, l, length-append depths (depth ∷ []))) long
 
 small-of : (s n : ℕ) → nat_lt s n ≡ true → n < 4294967295 → nat_lt s 4294967295 ≡ true
 small-of s n h few =

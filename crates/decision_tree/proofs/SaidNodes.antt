@@ -3,7 +3,7 @@ use Rattle.std.proofs.Common.{◌≡◌, ◌⊎◌, ◌∙◌, ℕ, ◌+◌, ◌
 use Rattle.std.specs.Prelude.{option_and_then}
 use Rattle.std.specs.List.{list_all}
 use Rattle.std.specs.Option.{option_map, option_map_or, ok_or}
-use Rattle.std.proofs.lemmas.Bool.{and_parts, cases_lt, eqb-true}
+use Rattle.std.proofs.lemmas.Bool.{and_from, and_parts, cases_lt, eqb-true}
 use Rattle.std.proofs.lemmas.List.{get_or_append_left, get_or_push, length-append, length-map, map-append}
 use Rattle.std.proofs.lemmas.List.Sums.{AllPass-from_list_all}
 use Rattle.text_lines.specs.Numbers.{number_of}
@@ -13,8 +13,10 @@ use Rattle.rule_file.specs.RuleFile.{NumberedLine, Section}
 use Rattle.decision_tree.specs.declared.descriptors.Descriptor.{Descriptor}
 use Rattle.decision_tree.specs.declared.descriptors.Descriptor.TheVariants as descriptor
 use Rattle.decision_tree.specs.declared.descriptors.TreeHead.{TreeHead}
-use Rattle.decision_tree.specs.Tree.{Entries, Tree, is_quiescent, node_at}
+use Rattle.decision_tree.specs.Tree.{Entries, Tree, is_quiescent, is_sound, leads, next, next_under, node_at, places_of, root_of}
 use Rattle.decision_tree.specs.TreeLines.{Described, Node, depth_of_root, describe, descriptor_of, do_entries_fit, head_from, head_of, if_quiescent, is_next, last_number, neighbors_in, node_count_in, node_from, node_of, nodes_from, numbers_in, once, states_in, tree_from, tree_of, undescribed, with_line, words}
+use Rattle.decision_tree.proofs.Finishing.{levels}
+use Rattle.decision_tree.proofs.Growing.{Leading, leading-push}
 
 -- where an entry of a node leads
 abbrev pub led : List Entries → ℕ → ℕ → ℕ
@@ -81,6 +83,7 @@ entries_in nodes = map (λ node. node.entries) nodes
 -- nodes that lines say behind a head
 pub record AreSaid (head : TreeHead) (nodes : List Node) : Type 0 where
   pub graded : AreGraded head.states (depths_of nodes) (entries_in nodes)
+  pub leading : 2 ≤ head.states → Leading head.states (depths_of nodes) (entries_in nodes)
   pub rooted : 0 < length nodes → length nodes ≡ head.node_count → slice_index (depths_of nodes) (length nodes - 1) ≡ depth_of_root head.neighbors
 
 -- the entries of a node deeper than the leaves fit
@@ -109,6 +112,8 @@ said-push head nodes node said next =
     record {
       graded = subst (λ ds. AreGraded head.states ds (entries_in (nodes ++ node ∷ []))) (sym more) (subst (AreGraded head.states (depths ++ node.depth ∷ [])) (sym entries)
           (graded-push head.states depths (entries_in nodes) said.graded node.depth node.entries wide (entries-fit head.states depths node wide third.0)));
+      leading = λ least. subst (λ ds. Leading head.states ds (entries_in (nodes ++ node ∷ []))) (sym more) (subst (Leading head.states (depths ++ node.depth ∷ [])) (sym entries)
+          (leading-push head.states depths (entries_in nodes) node.depth node.entries (omega (arith, least)) said.graded.same (said.leading least) wide third.0));
       rooted = λ some all. rooted more all (nat_lt (length depths + 1) head.node_count) refl third.1;
     }
   where
@@ -214,6 +219,51 @@ some-found last d (line ∷ lines) found some h = by (descriptor_of line.text) h
         let e = then-ok (ok_or (describe d x.0 x.1) (BadTree line.number)) (λ e. head_from last e lines) found ok in
         rest e.0 (some-described d x.0 x.1 e.0 some (ok-some (describe d x.0 x.1) (BadTree line.number) e.0 e.1)) e.2
 
+-- states that are described are two at least
+abbrev TwoStates : Described → Type 0
+TwoStates d = (n : ℕ) → d.states ≡ Some n → 2 ≤ n
+
+two-counted : (value : List ℕ) (n : ℕ) → states_in value ≡ Some n → 2 ≤ n
+two-counted value n h =
+    let read = then-some (λ m. if nat_le 2 m && nat_le m 256 then Some m else None) (number_of value) n h in
+    let is = if-some (nat_le 2 read.0 && nat_le read.0 256) read.0 n read.2 in
+    let least : nat_le 2 read.0 ≡ true = (and_parts (nat_le 2 read.0) (nat_le read.0 256) is.0).0 in
+    let some : 2 ≤ read.0 = search (rules, tests) in
+    subst (λ m. 2 ≤ m) is.1 some
+
+two-described : (d : Described) (x : Descriptor) (value : List ℕ) (e : Described) → TwoStates d → describe d x value ≡ Some e → TwoStates e
+two-described d descriptor.States value e two h n at =
+    let made = map-some (λ m. record d { states = Some m }) (states_in value) e (once-some d.states (option_map (λ m. record d { states = Some m }) (states_in value)) e h) in
+    let is : Some made.0 ≡ Some n = ap (λ (f : Described). f.states) made.2 ∙ at in
+    two-counted value n (made.1 ∙ is)
+two-described d descriptor.Neighbors value e two h n at =
+    let made = map-some (λ m. record d { neighbors = Some m }) (neighbors_in value) e (once-some d.neighbors (option_map (λ m. record d { neighbors = Some m }) (neighbors_in value)) e h) in
+    two n (ap (λ (f : Described). f.states) made.2 ∙ at)
+two-described d descriptor.Nodes value e two h n at =
+    let made = map-some (λ m. record d { node_count = Some m }) (node_count_in value) e (once-some d.node_count (option_map (λ m. record d { node_count = Some m }) (node_count_in value)) e h) in
+    two n (ap (λ (f : Described). f.states) made.2 ∙ at)
+
+two-head : (d : Described) (head : TreeHead) → TwoStates d → head_of d ≡ Some head → 2 ≤ head.states
+two-head d head two h =
+    let one = then-some (λ states. option_and_then (λ neighbors. option_map (λ count. record { states = states; neighbors = neighbors; node_count = count }) d.node_count) d.neighbors) d.states head h in
+    let second = then-some (λ neighbors. option_map (λ count. record { states = one.0; neighbors = neighbors; node_count = count }) d.node_count) d.neighbors head one.2 in
+    let three = map-some (λ count. record { states = one.0; neighbors = second.0; node_count = count }) d.node_count head second.2 in
+    subst (λ n. 2 ≤ n) (ap (λ (t : TreeHead). t.states) three.2) (two one.0 one.1)
+
+-- the head of a section has two too
+two-found : (last : ℕ) (d : Described) (lines : List NumberedLine) (found : TreeHead × List NumberedLine) → TwoStates d → head_from last d lines ≡ Ok found → 2 ≤ found.0.states
+two-found last d [] found two h = absurd cc
+two-found last d (line ∷ lines) found two h = by (descriptor_of line.text) h (λ e. two-found last e lines found)
+  where
+    by : (o : Option (Descriptor × List ℕ)) → option_map_or (λ x. ok_or (describe d x.0 x.1) (BadTree line.number) >>= λ e. head_from last e lines) o (ok_or (head_of d) (BadTree line.number) >>= λ head. Ok (head, line ∷ lines)) ≡ Ok found → ((e : Described) → TwoStates e → head_from last e lines ≡ Ok found → 2 ≤ found.0.states) → 2 ≤ found.0.states
+    by None ok rest =
+        let head = then-ok (ok_or (head_of d) (BadTree line.number)) (λ (head : TreeHead). Ok (head, line ∷ lines)) found ok in
+        let is : (head.0, line ∷ lines) ≡ found = cc in
+        subst (λ (x : TreeHead × List NumberedLine). 2 ≤ x.0.states) is (two-head d head.0 two (ok-some (head_of d) (BadTree line.number) head.0 head.1))
+    by (Some x) ok rest =
+        let e = then-ok (ok_or (describe d x.0 x.1) (BadTree line.number)) (λ e. head_from last e lines) found ok in
+        rest e.0 (two-described d x.0 x.1 e.0 two (ok-some (describe d x.0 x.1) (BadTree line.number) e.0 e.1)) e.2
+
 -- a tree that a section says, by its head and its nodes
 pub record IsSaid (tree : Tree) : Type 0 where
   pub head : TreeHead
@@ -222,23 +272,49 @@ pub record IsSaid (tree : Tree) : Type 0 where
   pub said : AreSaid head nodes
   pub all : length nodes ≡ head.node_count
   pub some : 1 ≤ head.node_count
+  pub two : 2 ≤ head.states
+  pub quiet : is_quiescent tree ≡ true
 
 pub section-says : (section : Section) (tree : Tree) → tree_of section ≡ Ok tree → IsSaid tree
 section-says section tree h =
     let last = last_number section.opened section.lines in
     let found = then-ok (head_from last undescribed section.lines) (λ f. nodes_from last f.0 [] f.1 >>= λ ns. if_quiescent (tree_from f.0 ns)) tree h in
     let nodes = then-ok (nodes_from last found.0.0 [] found.0.1) (λ ns. if_quiescent (tree_from found.0.0 ns)) tree found.2 in
-    let none : AreSaid found.0.0 [] = record { graded = record { same = refl; inside = λ number input l. absurd (omega (arith, l)); down = λ number input l. absurd (omega (arith, l)) }; rooted = λ some. absurd (omega (arith, some)) } in
+    let none : AreSaid found.0.0 [] = record { graded = record { same = refl; inside = λ number input l. absurd (omega (arith, l)); down = λ number input l. absurd (omega (arith, l)) }; leading = λ least number inputs l. absurd (omega (arith, l)); rooted = λ some. absurd (omega (arith, some)) } in
     let said = said-from last found.0.0 [] found.0.1 nodes.0 none nodes.1 in
     record {
       head = found.0.0;
       nodes = nodes.0;
-      is = quiet (is_quiescent (tree_from found.0.0 nodes.0)) (tree_from found.0.0 nodes.0) tree nodes.2;
+      is = (quiet (tree_from found.0.0 nodes.0) tree nodes.2).0;
       said = said.0;
       all = said.1;
       some = some-found last undescribed section.lines found.0 (λ n e. absurd cc) found.1;
+      two = two-found last undescribed section.lines found.0 (λ n e. absurd cc) found.1;
+      quiet = (quiet (tree_from found.0.0 nodes.0) tree nodes.2).1;
     }
   where
-    quiet : (b : Bool) (x y : Tree) → (if b then Ok x else Err NotQuiescent) ≡ Ok y → x ≡ y
-    quiet true x y ok = cc
-    quiet false x y ok = absurd cc
+    quiet : (x y : Tree) → if_quiescent x ≡ Ok y → (x ≡ y) × (is_quiescent y ≡ true)
+    quiet x y = by (is_quiescent x) refl
+      where
+        by : (b : Bool) → is_quiescent x ≡ b → (if b then Ok x else Err NotQuiescent) ≡ Ok y → (x ≡ y) × (is_quiescent y ≡ true)
+        by true e ok =
+            let is : x ≡ y = cc in
+            (is, subst (λ t. is_quiescent t ≡ true) is e)
+        by false e ok = absurd cc
+
+-- a tree that a section says is one that a file may have
+pub section-sound : (section : Section) (tree : Tree) → tree_of section ≡ Ok tree → is_sound tree ≡ true
+section-sound section tree h =
+    let said : IsSaid tree = section-says section tree h in
+    let many : length said.nodes ≡ length (entries_in said.nodes) = sym (length-map said.nodes (λ node. node.entries)) in
+    let root : length (entries_in said.nodes) - 1 ≡ length said.nodes - 1 = omega (arith, many) in
+    let deep : length (places_of said.head.neighbors) ≡ slice_index (depths_of said.nodes) (length (entries_in said.nodes) - 1) =
+    levels said.head.neighbors ∙ sym (said.said.rooted (omega (arith, said.all, said.some)) said.all) ∙ ap (slice_index (depths_of said.nodes)) (sym root) in
+    let leading : leads said.head.states (entries_in said.nodes) (length (entries_in said.nodes) - 1) (places_of said.head.neighbors) ≡ true =
+    said.said.leading said.two (length (entries_in said.nodes) - 1) (places_of said.head.neighbors) (omega (arith, root, said.all, said.some, length-map said.nodes (λ node. node.depth))) deep in
+    and_from (is_quiescent tree) (leads tree.states tree.nodes (root_of tree) (places_of tree.neighbors)) said.quiet
+    (subst (λ (t : Tree). leads t.states t.nodes (root_of t) (places_of t.neighbors) ≡ true) said.is leading)
+
+-- so its next states are plain
+pub section-plain : (section : Section) (tree : Tree) (around : List ℕ) → tree_of section ≡ Ok tree → next_under tree around ≡ next tree around
+section-plain section tree around h = ap (λ b. if b then next tree around else 0) (section-sound section tree h)

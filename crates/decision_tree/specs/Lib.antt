@@ -1,4 +1,5 @@
 pub mod Kept
+pub mod Laws
 pub mod Tree
 pub mod TreeLaws
 pub mod TreeLines

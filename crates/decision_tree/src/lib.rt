@@ -11,10 +11,12 @@
 #![tactic(auto)]
 
 mod descriptors;
+mod laws;
 mod nodes;
 mod numbers;
 mod tree;
 mod tree_reader;
 
+pub use laws::trees_of_files_are_plain;
 pub use tree::{Neighbors, TreeRule};
 pub use tree_reader::read_tree;

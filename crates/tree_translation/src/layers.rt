@@ -82,7 +82,8 @@ fn layer_of(
 ) -> Result<(Layer, Vec<u32>), AllocError>
     requires few { length rows.now ≤ 1000000 }
     requires rests { length rests.now ≡ length rows.now }
-    ensures layer { IfOk result (λ r. (count : ℕ) → All (λ rest. rest < count) rests.now → IsLayer r.0 count) }
+    ensures layer { IfOk result (λ r. (count : ℕ) → All (λ rest. rest < count) rests.now →
+        IsLayer r.0 count) }
     ensures rows { IfOk result (λ r. IsLayerOf place rows.now rests.now r.0 r.1.items) }
 {
     let mut sets = Vec::new(alloc);

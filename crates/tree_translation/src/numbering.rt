@@ -49,11 +49,14 @@ pub fn number_of(
     requires tails { AreTailsAt layers.now input list.now }
     requires clear { All (λ b. b ≡ false) marks.old }
     requires known { Knows states layers.now found.old }
-    ensures number { IfOk result (λ n. IsNumberOf states layers.now found.new.nodes.keys input list.now n) }
+    ensures number { IfOk result
+        (λ n. IsNumberOf states layers.now found.new.nodes.keys input list.now n) }
     ensures grows { OnOk result (Grows states layers.now input input list.now found.old found.new) }
-    ensures last { IfOk result (λ n. All (λ node. input < node.input) found.old.nodes.keys → n + 1 ≡ length found.new.nodes.keys) }
+    ensures last { IfOk result (λ n. All (λ node. input < node.input) found.old.nodes.keys →
+        n + 1 ≡ length found.new.nodes.keys) }
     ensures clear { OnOk result (All (λ b. b ≡ false) marks.new) }
-    ensures large { IfErr result (λ fault. fault ≡ TreeTooLarge → NeedsTooMany states layers.now input list.now found.old) }
+    ensures large { IfErr result (λ fault. fault ≡ TreeTooLarge →
+        NeedsTooMany states layers.now input list.now found.old) }
 {
     let key = Listed {
         input,
@@ -87,10 +90,13 @@ fn entries_of(
     requires tails { AreTailsAt layers.now input list.now }
     requires clear { All (λ b. b ≡ false) marks.old }
     requires known { Knows states layers.now found.old }
-    ensures entries { IfOk result (λ entries. AreEntries states layers.now found.new.nodes.keys input list.now entries.items) }
-    ensures grows { OnOk result (Grows states layers.now input (input + 1) list.now found.old found.new) }
+    ensures entries { IfOk result
+        (λ entries. AreEntries states layers.now found.new.nodes.keys input list.now entries.items) }
+    ensures grows { OnOk result (Grows states layers.now input
+        (input + 1) list.now found.old found.new) }
     ensures clear { OnOk result (All (λ b. b ≡ false) marks.new) }
-    ensures large { IfErr result (λ fault. fault ≡ TreeTooLarge → NeedsTooMany states layers.now input list.now found.old) }
+    ensures large { IfErr result (λ fault. fault ≡ TreeTooLarge →
+        NeedsTooMany states layers.now input list.now found.old) }
 {
     let layer = &layers[input];
     if input + 1 == layers.len() {
@@ -133,11 +139,14 @@ fn number_again(
     requires tails { AreTailsAt layers.now input list.now }
     requires clear { All (λ b. b ≡ false) marks.old }
     requires known { Knows states layers.now found.old }
-    requires latest { IfSome latest (λ l. IsNumberOf states layers.now found.old.nodes.keys input l.now.list.items l.now.number) }
-    ensures number { IfOk result (λ n. IsNumberOf states layers.now found.new.nodes.keys input list.now n) }
+    requires latest { IfSome latest
+        (λ l. IsNumberOf states layers.now found.old.nodes.keys input l.now.list.items l.now.number) }
+    ensures number { IfOk result
+        (λ n. IsNumberOf states layers.now found.new.nodes.keys input list.now n) }
     ensures grows { OnOk result (Grows states layers.now input input list.now found.old found.new) }
     ensures clear { OnOk result (All (λ b. b ≡ false) marks.new) }
-    ensures large { IfErr result (λ fault. fault ≡ TreeTooLarge → NeedsTooMany states layers.now input list.now found.old) }
+    ensures large { IfErr result (λ fault. fault ≡ TreeTooLarge →
+        NeedsTooMany states layers.now input list.now found.old) }
 {
     if let Some(latest) = latest
         && latest.list.as_slice() == list
@@ -165,7 +174,8 @@ fn leaf_of(alloc: Global, states: u16, layer: &Layer, list: &[u32]) -> Result<Ve
 fn first_result(layer: &Layer, state: u8, list: &[u32]) -> u32
     requires sets { All (λ tail. tail.set < length layer.now.sets.items) layer.now.tails.items }
     requires inside { All (λ n. n < length layer.now.tails.items) list.now }
-    ensures { result ≡ unwrap_or (first_some (λ number. if lets layer.now number state then Some (rest_at layer.now number) else None) list.now) state }
+    ensures { result ≡ unwrap_or (first_some (λ number. if lets layer.now number state then Some
+        (rest_at layer.now number) else None) list.now) state }
 {
     for number in list {
         if layer.lets(*number, state) {
@@ -188,7 +198,8 @@ fn tails_left(
     requires inside { All (λ n. n < length layer.now.tails.items) list.now }
     requires clear { All (λ b. b ≡ false) is_there.old }
     ensures left { IfOk result (λ left. LeftOf layer.now state list.now left.items) }
-    ensures inside { IfOk result (λ left. (count : ℕ) → IsLayer layer.now count → All (λ n. n < count) left.items) }
+    ensures inside { IfOk result (λ left. (count : ℕ) → IsLayer layer.now count → All
+        (λ n. n < count) left.items) }
     ensures clear { OnOk result (All (λ b. b ≡ false) is_there.new) }
 {
     let mut found = Vec::new(alloc);
@@ -209,7 +220,9 @@ fn add_rest(
 ) -> Result<(), AllocError>
     requires layer { IsLayer layer.now (length is_there.old) }
     requires inside { number < length layer.now.tails.items }
-    ensures { OnOk result ((passed : List ℕ) → IsFound layer.now state passed is_there.old found.old.items → IsFound layer.now state (passed ++ number ∷ []) is_there.new found.new.items) }
+    ensures { OnOk result ((passed : List ℕ) →
+        IsFound layer.now state passed is_there.old found.old.items →
+        IsFound layer.now state (passed ++ number ∷ []) is_there.new found.new.items) }
 {
     let rest = layer.tails[number as usize].rest;
     if is_there[rest as usize] {

@@ -38,7 +38,8 @@ pub fn add_node(nodes: &mut IndexSet<Listed>, node: Listed) -> Result<u32, TreeF
 pub fn joined(alloc: Global, states: u16, nodes: &[Listed]) -> Result<Vec<u32>, AllocError>
     requires width { All (λ node. length node ≡ states) (entries_in nodes.now) }
     ensures filled { IfOk result (λ entries. length entries.items ≡ length nodes.now * states) }
-    ensures nodes { IfOk result (λ entries. nodes_in states (length nodes.now) entries.items ≡ entries_in nodes.now) }
+    ensures nodes { IfOk result (λ entries. nodes_in states
+        (length nodes.now) entries.items ≡ entries_in nodes.now) }
 {
     let mut entries = Vec::new(alloc);
     for node in nodes {

@@ -36,7 +36,8 @@ pub fn from_table(alloc: Global, table: &TableRule) -> Result<TreeRule, TreeFaul
     ensures translates { IfOk result (λ tree. Translates table.now tree) }
     ensures few { IfOk result (λ tree. length tree.nodes ≤ node_limit) }
     ensures smallest { IfOk result (λ tree. NeedsNodes table.now (length tree.nodes)) }
-    ensures large { IfErr result (λ fault. fault ≡ TreeTooLarge → NeedsNodes table.now (node_limit + 1)) }
+    ensures large { IfErr result (λ fault. fault ≡ TreeTooLarge →
+        NeedsNodes table.now (node_limit + 1)) }
 {
     let rows = table.expand()?;
     let order = order_of(table.neighborhood());
@@ -56,11 +57,16 @@ fn nodes_for(
     requires order { 1 ≤ length order.now }
     requires few { length rows.now ≤ 1000000 }
     requires below { All (λ row. row.result < states) rows.now }
-    ensures does { IfOk result (λ nodes. DoesRows states order.now rows.now (entries_in nodes.keys)) }
+    ensures does { IfOk result (λ nodes. DoesRows states order.now rows.now
+        (entries_in nodes.keys)) }
     ensures few { IfOk result (λ nodes. length nodes.keys ≤ node_limit) }
-    ensures width { IfOk result (λ nodes. All (λ node. length node ≡ states) (entries_in nodes.keys)) }
-    ensures needed { IfOk result (λ nodes. NeedStarts states (length order.now) (λ k inputs. rows_give order.now rows.now inputs) 1 (length nodes.keys)) }
-    ensures large { IfErr result (λ fault. fault ≡ TreeTooLarge → NeedStarts states (length order.now) (λ k inputs. rows_give order.now rows.now inputs) 1 (node_limit + 1)) }
+    ensures width { IfOk result (λ nodes. All
+        (λ node. length node ≡ states) (entries_in nodes.keys)) }
+    ensures needed { IfOk result (λ nodes. NeedStarts states (length order.now)
+        (λ k inputs. rows_give order.now rows.now inputs) 1 (length nodes.keys)) }
+    ensures large { IfErr result (λ fault. fault ≡ TreeTooLarge →
+        NeedStarts states (length order.now) (λ k inputs. rows_give order.now rows.now inputs) 1
+        (node_limit + 1)) }
 {
     let (layers, numbers) = layers_of(alloc, order, rows)?;
     let mut marks = Vec::from_elem(alloc, false, rows.len())?;
@@ -125,8 +131,12 @@ fn order_of(neighborhood: Neighborhood) -> &'static [Option<usize>]
 fn finish(alloc: Global, table: &TableRule, nodes: &[Listed]) -> Result<TreeRule, TreeFault>
     requires few { length nodes.now ≤ node_limit }
     requires width { All (λ node. length node ≡ table.now.states) (entries_in nodes.now) }
-    requires leading { (inputs : List ℕ) → length inputs ≡ length (order_of table.now.neighborhood) → leads table.now.states (entries_in nodes.now) (length (entries_in nodes.now) - 1) inputs ≡ true }
-    requires same { (around : List ℕ) → All (λ s. s < table.now.states) around → follow (entries_in nodes.now) (length (entries_in nodes.now) - 1) (inputs_of (neighbors_of table.now.neighborhood) around) ≡ next table.now around }
+    requires leading { (inputs : List ℕ) → length inputs ≡ length (order_of table.now.neighborhood) →
+        leads table.now.states (entries_in nodes.now) (length (entries_in nodes.now) - 1) inputs
+        ≡ true }
+    requires same { (around : List ℕ) → All (λ s. s < table.now.states) around →
+        follow (entries_in nodes.now) (length (entries_in nodes.now) - 1)
+        (inputs_of (neighbors_of table.now.neighborhood) around) ≡ next table.now around }
     requires quiet { next table.now nine_zeros ≡ 0 }
     ensures translates { IfOk result (λ tree. Translates table.now tree) }
     ensures nodes { IfOk result (λ tree. length tree.nodes ≡ length nodes.now) }
