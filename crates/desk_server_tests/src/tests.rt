@@ -12,6 +12,7 @@ use crate::tests::devices::{Narrow, Pieces};
 use desk_server::{CountedReader, CountedWriter, RunFault, run};
 use std::alloc::Global;
 use std::fmt::Debug;
+use std::io::Write;
 use std::marker::Brand;
 use std::process::Abort;
 use std::sync::ledger::{Blank, Ledger};
@@ -26,13 +27,13 @@ pub fn same<T: PartialEq + Debug, A: Debug>(rt: &impl Abort, found: &T, wanted: 
     assert_eq!(rt; *found, *wanted, "at {at:?}");
 }
 
-fn answer_counted<L: Ledger, M: Ledger>(
+fn answer_counted<W: Write, L: Ledger, M: Ledger>(
     alloc: Global,
     pieces: Pieces<'_>,
-    narrow: Narrow,
+    writer: W,
     reader_blank: Blank,
     writer_blank: Blank,
-) -> (Result<(), RunFault>, Vec<u8>)
+) -> (Result<(), RunFault>, W)
     requires reader_name { reader_blank.name ≡ L.name }
     requires reader_parts { reader_blank.parts ≡ L.parts }
     requires reader_some { 0 < reader_blank.parts }
@@ -41,9 +42,18 @@ fn answer_counted<L: Ledger, M: Ledger>(
     requires writer_some { 0 < writer_blank.parts }
 {
     let mut reader = CountedReader::<_, L>::new(pieces, reader_blank);
-    let mut writer = CountedWriter::<_, M>::new(narrow, writer_blank);
+    let mut writer = CountedWriter::<_, M>::new(writer, writer_blank);
     let answered = run(alloc, &mut reader, &mut writer);
-    (answered, writer.into_inner().taken)
+    (answered, writer.into_inner())
+}
+
+// How a run over this writer ended, and the writer after it.
+pub fn answer_to<W: Write>(
+    alloc: Global,
+    pieces: Pieces<'_>,
+    writer: W,
+) -> (Result<(), RunFault>, W) {
+    answer_counted::<_, Brand, Brand>(alloc, pieces, writer, Blank::new(1), Blank::new(1))
 }
 
 // How a run ended, and what was written where so many bytes may be.
@@ -52,7 +62,8 @@ pub fn answer(alloc: Global, pieces: Pieces<'_>, limit: usize) -> (Result<(), Ru
         taken: Vec::new(alloc),
         limit,
     };
-    answer_counted::<Brand, Brand>(alloc, pieces, narrow, Blank::new(1), Blank::new(1))
+    let (answered, narrow) = answer_to(alloc, pieces, narrow);
+    (answered, narrow.taken)
 }
 
 // The whole script is answered by these replies.

@@ -55,3 +55,24 @@ impl Write for Narrow {
         Ok(())
     }
 }
+
+// Takes all that is written, and counts how often it is handed on, up to a limit.
+#[derive(Drop)]
+pub struct Flushes {
+    pub count: usize,
+    pub limit: usize,
+}
+
+impl Write for Flushes {
+    fn write(&mut self, buf: &[u8]) -> io::Result<usize> {
+        Ok(buf.len())
+    }
+
+    fn flush(&mut self) -> io::Result<()> {
+        if self.count >= self.limit {
+            return Err(Error::from(ErrorKind::BrokenPipe));
+        }
+        self.count += 1;
+        Ok(())
+    }
+}

@@ -1,7 +1,7 @@
 //! Devices that fail at each place of the first script.
-use crate::tests::devices::Pieces;
+use crate::tests::devices::{Flushes, Pieces};
 use crate::tests::first::{FIRST, FIRST_REPLIES};
-use crate::tests::{answer, same};
+use crate::tests::{answer, answer_to, same};
 use desk_server::RunFault;
 use std::alloc::Global;
 use std::process::Abort;
@@ -95,4 +95,28 @@ fn a_write_fails_at_each_place(rt: HostRuntime) {
     for limit in 0..FIRST_REPLIES.len() {
         writing_fails(&rt, alloc, limit);
     }
+}
+
+// Each of the six replies to the first script is handed on, and where that fails the run does.
+fn flushing_fails(
+    rt: &impl Abort,
+    alloc: Global,
+    limit: usize,
+    wanted: Result<(), RunFault>,
+    count: usize,
+) {
+    let flushes = Flushes { count: 0, limit };
+    let (answered, flushes) = answer_to(alloc, Pieces::whole(FIRST), flushes);
+    same(rt, &answered, &wanted, &limit);
+    same(rt, &flushes.count, &count, &limit);
+}
+
+#[test]
+fn a_flush_fails_at_each_reply(rt: HostRuntime) {
+    let alloc = rt.alloc();
+    for limit in 0..6 {
+        flushing_fails(&rt, alloc, limit, Err(RunFault::Write), limit);
+    }
+    flushing_fails(&rt, alloc, 6, Ok(()), 6);
+    flushing_fails(&rt, alloc, 7, Ok(()), 6);
 }

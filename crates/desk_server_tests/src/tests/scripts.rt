@@ -135,6 +135,44 @@ fn sets_many(rt: &impl Abort, alloc: Global, count: usize, replies: &[u8]) {
 #[test]
 fn many_cells_are_set_at_once(rt: HostRuntime) {
     let alloc = rt.alloc();
+    // A line of more than 4 KB.
+    sets_many(&rt, alloc, 700, b"ok 1\n");
     sets_many(&rt, alloc, 10_000, b"ok 1\n");
     sets_many(&rt, alloc, 10_001, b"refused 47 TooManyCells\n");
+}
+
+// A rule whose text has so many bytes in comments, and a command with so many spaces.
+fn long_script(rt: &impl Abort, alloc: Global, count: usize) -> Vec<u8> {
+    let mut script = Vec::new(alloc);
+    script
+        .extend_from_slice(b"rule\n@RULE X\n@TABLE\n#")
+        .expect(rt, "memory");
+    let comment = b"x".repeat(alloc, count).expect(rt, "memory");
+    script.extend_from_slice(&comment).expect(rt, "memory");
+    script.extend_from_slice(RULE).expect(rt, "memory");
+    let spaces = b" ".repeat(alloc, count).expect(rt, "memory");
+    script.extend_from_slice(&spaces).expect(rt, "memory");
+    script.extend_from_slice(b"0 counts\n").expect(rt, "memory");
+    script
+}
+
+const RULE: &[u8] =
+    b"\nn_states:2\nneighborhood:oneDimensional\nsymmetries:none\n0,1,0,1\nend\nmark ";
+
+fn long_is_answered(rt: &impl Abort, alloc: Global, count: usize) {
+    let script = long_script(rt, alloc, count);
+    answers(
+        rt,
+        alloc,
+        Pieces::whole(&script),
+        b"ok 1\nok 2 bookmark 1\n",
+    );
+}
+
+#[test]
+fn texts_and_lines_may_be_long(rt: HostRuntime) {
+    let alloc = rt.alloc();
+    long_is_answered(&rt, alloc, 4_000);
+    long_is_answered(&rt, alloc, 5_000);
+    long_is_answered(&rt, alloc, 100_000);
 }
