@@ -257,3 +257,50 @@ fn refused_edits_change_nothing(rt: HostRuntime) {
 fn causes(rt: HostRuntime) {
     same(&rt, &Cause::NoMemory.number(), &70, &"number");
 }
+
+/// The edit that sets (0, 0) to 1 in what arrives at a generation.
+fn insert(rt: &impl Abort, alloc: Global, generation: u64) -> Edit {
+    let mut cells = Vec::new(alloc);
+    push_cell(rt, &mut cells, &(0, 0, 1));
+    Edit::InsertIntervention {
+        generation,
+        cells: Listing::from_vec(cells),
+    }
+}
+
+// At generation 1 the cells (-1, 0) and (1, 0) are live; with (0, 0) they are three.
+#[test]
+fn bookmark_shows_after_its_interventions(rt: HostRuntime) {
+    let alloc = rt.alloc();
+    let mut desk = desk_of_x(&rt, alloc);
+    edit(&rt, &mut desk, &mark(1));
+    edit(&rt, &mut desk, &mark(0));
+    settle(&rt, &mut desk);
+    expect_text(&rt, &desk, 1, "1 2\n");
+    edit(&rt, &mut desk, &insert(&rt, alloc, 1));
+    settle(&rt, &mut desk);
+    expect_text(&rt, &desk, 1, "1 3\n");
+    expect_text(&rt, &desk, 2, "1 1\n");
+    edit(&rt, &mut desk, &Edit::RemoveIntervention { id: 1 });
+    settle(&rt, &mut desk);
+    expect_text(&rt, &desk, 1, "1 2\n");
+}
+
+#[test]
+fn bookmark_is_moved_and_removed(rt: HostRuntime) {
+    let mut desk = desk_of_x(&rt, rt.alloc());
+    edit(&rt, &mut desk, &mark(0));
+    edit(&rt, &mut desk, &mark(2));
+    let moved = Edit::MoveBookmark {
+        id: 1,
+        generation: 3,
+    };
+    edit(&rt, &mut desk, &moved);
+    settle(&rt, &mut desk);
+    expect_text(&rt, &desk, 1, "1 4\n");
+    edit(&rt, &mut desk, &Edit::RemoveBookmark { id: 1 });
+    expect_none(&rt, &desk, 1);
+    expect_pending(&rt, &desk, 1);
+    settle(&rt, &mut desk);
+    expect_text(&rt, &desk, 2, "1 2\n");
+}
