@@ -1,27 +1,24 @@
 -- Lines that say a table say it under other numbers too.
-use Rattle.std.proofs.Common.{◌≡◌, ℕ, ◌+◌, ◌==◌, Bool, true, false, cond, nat_lt, if◌then◌else◌, List, [], ◌∷◌, length, map, Option, Some, None, Result, Ok, Err, is_some, refl, sym, ap, ◌∙◌, subst}
+use Rattle.std.proofs.Common.{◌≡◌, ℕ, ◌+◌, ◌==◌, Bool, true, false, nat_lt, if◌then◌else◌, List, [], ◌∷◌, length, map, Option, Some, None, Result, Ok, Err, is_some, refl, sym, ap, ◌∙◌, subst}
 use Rattle.std.specs.Option.{option_map, option_map_or, ok_or}
 use Rattle.text_lines.specs.Numbers.{number_of}
 use Rattle.basics.specs.Results.{◌>>=◌}
 use Rattle.rule_file.specs.declared.fault.RuleFault.{RuleFault}
-use Rattle.rule_file.specs.declared.fault.RuleFault.TheVariants.{BadNeighborhood, BadStates, BadTransition, BadVariable, FreeResult, StateTooHigh}
+use Rattle.rule_file.specs.declared.fault.RuleFault.TheVariants.{BadTransition, BadVariable, FreeResult, StateTooHigh}
 use Rattle.rule_file.specs.RuleFile.{NumberedLine}
 use Rattle.table_lines.specs.declared.descriptors.Descriptor.{Descriptor}
 use Rattle.table_lines.specs.declared.descriptors.Descriptor.TheVariants as descriptor
 use Rattle.table_lines.specs.declared.descriptors.Head.{Head}
-use Rattle.table_lines.specs.declared.transition.Entry.{Entry}
 use Rattle.table_lines.specs.declared.transition.Entry.TheVariants.{State, OneOf}
 use Rattle.table_lines.specs.declared.transition.Transition.{Transition}
 use Rattle.table_lines.specs.Descriptors.{Described, describe, descriptor_of, head_from, head_of, once, undescribed}
 use Rattle.table_lines.specs.Fields.{fields}
 use Rattle.table_lines.specs.LineLaws.{NumbersDoNotMatter}
-use Rattle.table_lines.specs.Lines.{lines_of}
 use Rattle.table_lines.specs.Neighborhood.{places_of}
-use Rattle.table_lines.specs.States.{has, rising}
 use Rattle.table_lines.specs.Table.{Table, headed}
 use Rattle.table_lines.specs.Transitions.{entry_of, is_free, transition_from, transition_of, transitions_of, unless_free}
 use Rattle.table_lines.proofs.FullLines.{same_value}
-use Rattle.table_lines.specs.Variables.{Variables, are_below, definition_in, defines_variable, each, member_states, no_variables, variable_named, variables_after, with_definition}
+use Rattle.table_lines.specs.Variables.{Variables, are_below, definition_in, defines_variable, each, member_states, no_variables, variable_named, variables_after}
 
 -- the second gives what the first gives, where that gives something
 abbrev pub GivesToo : {A : Type 0} → Result A RuleFault → Result A RuleFault → Type 0

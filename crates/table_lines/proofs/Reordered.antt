@@ -1,5 +1,5 @@
 -- Two descriptors, one after the other, may stand in the other order.
-use Rattle.std.proofs.Common.{◌≡◌, ℕ, Bool, true, false, if◌then◌else◌, List, [], ◌∷◌, ◌++◌, Option, Some, None, Result, Ok, Err, is_some, sym, ap, ◌∙◌, subst}
+use Rattle.std.proofs.Common.{◌≡◌, ℕ, Bool, true, false, if◌then◌else◌, List, [], ◌∷◌, ◌++◌, Option, Some, None, Result, Ok, Err, is_some}
 use Rattle.std.specs.List.{list_all}
 use Rattle.std.specs.Option.{ok_or, option_map_or}
 use Rattle.std.proofs.lemmas.Bool.{and_parts}
@@ -13,11 +13,7 @@ use Rattle.table_lines.specs.declared.descriptors.Head.{Head}
 use Rattle.table_lines.specs.declared.neighborhood.Neighborhood.{Neighborhood}
 use Rattle.table_lines.specs.Descriptors.{Described, are_unfit, describe, descriptor_of, fitting, head_from, head_of, once, states_in, undescribed}
 use Rattle.table_lines.specs.LineLaws.{DescriptorsInAnyOrder, is_descriptor}
-use Rattle.table_lines.specs.Lines.{lines_of}
 use Rattle.table_lines.specs.Neighborhood.{neighborhood_named}
-use Rattle.table_lines.specs.Table.{Table, headed}
-use Rattle.table_lines.specs.Transitions.{transitions_of}
-use Rattle.table_lines.specs.Variables.{no_variables}
 use Rattle.table_lines.proofs.Renumbered.{GivesToo, then_too}
 
 abbrev of_parts : Option ℕ → Option Neighborhood → Option (List ℕ) → Described

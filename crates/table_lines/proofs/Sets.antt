@@ -1,6 +1,6 @@
 -- What a change of its words does to a set.
-use Rattle.std.proofs.Common.{◌≡◌, ℕ, zero, suc, ◌+◌, ◌*◌, ◌/◌, ◌%◌, ◌^◌, ◌<◌, ◌≤◌, ◌≢◌, Bool, true, false, ◌||◌, ◌&&◌, ◌++◌, cond, List, [], ◌∷◌, length, get_or, refl, sym, ap, subst, nat_eq, ◌∙◌, inl, inr, arith, max}
-use Rattle.std.specs.Prelude.{◌==◌, All, slice_index}
+use Rattle.std.proofs.Common.{◌≡◌, ℕ, zero, suc, ◌+◌, ◌*◌, ◌/◌, ◌%◌, ◌^◌, ◌<◌, ◌≢◌, Bool, true, false, ◌||◌, ◌++◌, cond, List, [], ◌∷◌, length, get_or, refl, sym, ap, subst, nat_eq, ◌∙◌, inl, inr, arith, max}
+use Rattle.std.specs.Prelude.{◌==◌}
 use Rattle.std.specs.Int.{bit_at}
 use Rattle.std.specs.Int.RustNames.{bit_or}
 use Rattle.std.specs.List.{filter, range_with_len}

@@ -1,5 +1,5 @@
 -- What the lines of a table say: the table, or the first fault that they have.
-use Rattle.std.specs.Prelude.{List, [], Result, Ok}
+use Rattle.std.specs.Prelude.{List, Result, Ok}
 use Rattle.table_lines.specs.Table.{Table, headed}
 use Rattle.rule_file.specs.declared.fault.RuleFault.{RuleFault}
 use Rattle.basics.specs.Results.{◌>>=◌}

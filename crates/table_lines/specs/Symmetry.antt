@@ -1,5 +1,5 @@
 -- The symmetries that each neighbourhood has.
-use Rattle.std.specs.Prelude.{ℕ, List, [], ◌∷◌, find, Option, codes, None}
+use Rattle.std.specs.Prelude.{ℕ, List, [], ◌∷◌, find, Option, codes}
 use Rattle.table_lines.specs.declared.neighborhood.Neighborhood.{Neighborhood}
 use Rattle.table_lines.specs.declared.neighborhood.Neighborhood.TheVariants.{VonNeumann, Moore, Hexagonal, OneDimensional}
 use Rattle.std.specs.Str.{bytes_eq}

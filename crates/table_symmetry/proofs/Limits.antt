@@ -1,10 +1,9 @@
 -- A table within the limits, and one that isn't.
-use Rattle.std.proofs.Common.{◌≡◌, ℕ, zero, suc, unwrap_or, ◌<◌, ◌≤◌, true, false, cond, nat_lt, length, Result, Ok, Err, refl, sym, ap, ◌∙◌, subst, inl, inr, arith}
-use Rattle.std.specs.Prelude.{slice_index_or}
+use Rattle.std.proofs.Common.{◌≡◌, unwrap_or, ◌<◌, ◌≤◌, true, false, cond, nat_lt, length, Result, Ok, Err, sym, ap, ◌∙◌, inl, inr, arith}
 use Rattle.std.specs.List.{list_all}
 use Rattle.std.specs.Result.{IsErrAnd}
 use Rattle.std.proofs.lemmas.Bool.{and_from, eq-eqb, ne_eqb}
-use Rattle.plane_core.specs.Step.{nine_zeros, AreNineBelow}
+use Rattle.plane_core.specs.Step.{nine_zeros}
 use Rattle.std.proofs.lemmas.Bool.Decides.{nat_tests}
 use Rattle.rule_file.specs.declared.fault.RuleFault.{RuleFault}
 use Rattle.rule_file.specs.declared.fault.RuleFault.TheVariants.{TooManyTransitions, NotQuiescent}
@@ -12,14 +11,12 @@ use Rattle.rule_file.specs.Results.{Gives}
 use Rattle.table_symmetry.specs.Expanded.{expanded, transition_limit}
 use Rattle.table_symmetry.specs.Grown.{IsTooLong}
 use Rattle.table_symmetry.specs.declared.lookup.Lookup.{Lookup}
-use Rattle.table_lines.specs.Below.{admits_below}
 use Rattle.table_symmetry.specs.Kept.{IsKept, LooksUp}
 use Rattle.table_symmetry.specs.Lookup.{FindsFirst, found}
 use Rattle.table_symmetry.specs.NextState.{gives_states, is_quiescent, next}
 use Rattle.table_symmetry.specs.RuleLaws.{zeros-below}
 use Rattle.table_lines.specs.Read.{IsRead}
 use Rattle.table_symmetry.specs.Table.{Table}
-use Rattle.table_lines.specs.Transitions.{is_full}
 use Rattle.table_symmetry.specs.TableLines.{within_limits}
 use Rattle.table_symmetry.proofs.FirstMatch.{next-expanded}
 use Rattle.table_symmetry.proofs.SoundTables.{all_give_states}

@@ -1,4 +1,4 @@
-use Rattle.std.proofs.Common.{◌≡◌, ap, true, ◌∙◌}
+use Rattle.std.proofs.Common.{ap, ◌∙◌}
 use Rattle.std.specs.List.{list_all}
 use Rattle.table_lines.specs.Below.{admits_below}
 use Rattle.table_lines.specs.Transitions.{is_full}

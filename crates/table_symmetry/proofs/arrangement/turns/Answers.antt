@@ -1,7 +1,7 @@
 use Rattle.std.proofs.Common.{[], ap, ◌∙◌}
 use Rattle.table_symmetry.specs.Circle as maps
 use Rattle.table_symmetry.specs.Expanded.{same_sets}
-use Rattle.table_symmetry.specs.Grown.{lists_in, with_all}
+use Rattle.table_symmetry.specs.Grown.{with_all}
 use Rattle.table_symmetry.proofs.Arranged.{no_lists, same_sets_decides}
 use Rattle.table_symmetry.proofs.Distinct.{with_all-distinct}
 use Rattle.table_symmetry.proofs.arrangement.turns.Goals as goal

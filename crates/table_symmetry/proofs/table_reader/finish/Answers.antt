@@ -1,4 +1,4 @@
-use Rattle.std.proofs.Common.{◌≡◌, ap, sym, subst, ◌∙◌, arith, inr, unwrap_or}
+use Rattle.std.proofs.Common.{ap, sym, subst, ◌∙◌, arith, inr, unwrap_or}
 use Rattle.table_lines.specs.Read.{IsRead}
 use Rattle.table_symmetry.proofs.Limits.{is_kept, is_restless, within_limits-restless}
 use Rattle.table_symmetry.proofs.table_reader.finish.Goals as goal

@@ -1,10 +1,10 @@
-use Rattle.std.proofs.Common.{◌≡◌, ◌+◌, ◌∷◌, ◌∙◌, Some, Ok, List, ℕ, sym, ap, rules}
+use Rattle.std.proofs.Common.{◌≡◌, ◌+◌, ◌∙◌, Some, Ok, List, ℕ, sym, ap, rules}
 use Rattle.basics.specs.Results.{◌>>=◌}
 use Rattle.std.specs.List.{list_all}
 use Rattle.table_lines.specs.declared.transition.Variable.{Variable}
 use Rattle.table_lines.specs.Below.{all_below, variables_below}
 use Rattle.table_lines.specs.Definitions.{set_of}
-use Rattle.table_lines.specs.Variables.{definition_in, named_in, variable_named, with_definition}
+use Rattle.table_lines.specs.Variables.{definition_in, variable_named, with_definition}
 use Rattle.table_lines.proofs.Names.{definitions, same-inserted, below-inserted, variables_after-set, Defines-fault}
 use Rattle.table_lines.proofs.variables.Variables.define.Goals as goal
 

@@ -5,7 +5,6 @@ use Rattle.table_symmetry.specs.Expanded.{expanded, first_match}
 use Rattle.table_symmetry.specs.Kept.{IsKept}
 use Rattle.table_symmetry.specs.NextState.{inputs_of, next, places_of}
 use Rattle.table_symmetry.specs.Rule.{is_sound}
-use Rattle.table_symmetry.specs.Table.{Table}
 use Rattle.table_symmetry.proofs.FirstMatch.{next-expanded}
 use Rattle.table_symmetry.proofs.Lengths.{expanded-length}
 use Rattle.table_symmetry.proofs.SoundTables.{expanded-below}
