@@ -1,6 +1,6 @@
 -- What one quadtree laid on another says, and what it says after a part of the way.
 use Rattle.std.proofs.Common.{◌≡◌, ◌⊎◌, ℕ, ◌-◌, ◌^◌, nat_lt, Bool, true, false, cond, Result, Ok, Err, OnOk, OnErr, refl, sym, subst, inl, inr}
-use Rattle.square_tree.specs.Quadtree.{Quadtree, keep, cell, quad, HasLevel, at}
+use Rattle.square_tree.specs.Quadtree.{Quadtree, keep, cell, quad, HasLevel}
 use Rattle.square_tree.specs.Over.{over, IsPartlyOver}
 
 -- it has the level of both

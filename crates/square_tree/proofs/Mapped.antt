@@ -1,5 +1,5 @@
 -- What a change of a quadtree does to the map that contracts see.
-use Rattle.std.proofs.Common.{◌≡◌, ◌⊎◌, ℕ, zero, suc, ◌+◌, ◌-◌, ◌*◌, ◌^◌, ◌/◌, ◌<◌, ◌≤◌, nat_lt, ◌||◌, Bool, true, false, cond, Option, None, Some, ℤ, pos, negsuc, neg_ℤ, ◌+ℤ◌, ◌-ℤ◌, ◌<ℤ◌, ◌≤ℤ◌, ◌++◌, refl, sym, ap, ap₂, subst, ◌∙◌, inl, inr, arith}
+use Rattle.std.proofs.Common.{◌≡◌, ◌⊎◌, ℕ, ◌-◌, ◌≤◌, nat_lt, ◌||◌, true, false, cond, Option, None, Some, ℤ, pos, negsuc, ◌+ℤ◌, ◌-ℤ◌, ◌<ℤ◌, ◌++◌, refl, sym, ap, ap₂, ◌∙◌, inl, inr, arith}
 use Rattle.std.specs.Option.{option_or}
 use Rattle.std.specs.FinMap as finite
 use Rattle.std.specs.FinMap.Entries.{find}
@@ -8,9 +8,9 @@ use Rattle.square_tree.specs.Place.{Place, place_cmp, same_place}
 use Rattle.square_tree.specs.Quadtree.{Quadtree, keep, HasLevel, at}
 use Rattle.square_tree.specs.Change.{IsSet}
 use Rattle.square_tree.specs.Laid.{IsLaid, IsPartlyLaid, at_from}
-use Rattle.square_tree.specs.Cells.{Cells, least, reach, put, overlaid, blank, state_at, IsPartlyOverlaid}
+use Rattle.square_tree.specs.Cells.{Cells, least, reach, overlaid, IsPartlyOverlaid}
 use Rattle.square_tree.specs.Entries.{entries, states_of, cells_of}
-use Rattle.square_tree.proofs.Placed.{at_from_west, at_from_north, split}
+use Rattle.square_tree.proofs.Placed.{split}
 use Rattle.square_tree.proofs.Shown.{places_total, places_exact, same_is, is_same, find-append, find_west, find_north, find_at}
 
 -- the state of the cell in column u and row v

@@ -1,10 +1,9 @@
 -- What the map of a quadtree has at each place.
-use Rattle.std.proofs.Common.{◌≡◌, ◌⊎◌, ℕ, zero, suc, ◌+◌, ◌-◌, ◌*◌, ◌^◌, ◌/◌, ◌<◌, ◌≤◌, nat_lt, ◌||◌, Bool, true, false, cond, Option, None, Some, ℤ, pos, negsuc, neg_ℤ, ◌+ℤ◌, ◌-ℤ◌, ◌<ℤ◌, ◌≤ℤ◌, List, [], ◌∷◌, ◌++◌, refl, sym, ap, ap₂, subst, ◌∙◌, inl, inr, arith, Less, Equal, Greater}
+use Rattle.std.proofs.Common.{◌≡◌, ℕ, ◌-◌, ◌^◌, ◌<◌, ◌≤◌, nat_lt, Bool, true, false, cond, Option, None, Some, ℤ, pos, ◌+ℤ◌, ◌<ℤ◌, List, [], ◌∷◌, ◌++◌, refl, sym, ap, ap₂, ◌∙◌, arith, Less, Equal, Greater}
 use Rattle.std.specs.declared.cmp.Ordering.{Ordering}
 use Rattle.std.specs.Option.{option_or}
 use Rattle.std.specs.Ordering.{int_cmp, is_eq}
 use Rattle.std.specs.Cmp.{IsTotalOrder, int_cmp_total}
-use Rattle.std.specs.FinMap as finite
 use Rattle.std.specs.FinMap.Entries.{find}
 use Rattle.std.proofs.lemmas.Int.{ints}
 use Rattle.std.proofs.lemmas.Bool.Decides.{nat_tests}
@@ -12,11 +11,8 @@ use Rattle.std.proofs.lemmas.Cmp.{on_total, then_total, tied_itself}
 use Rattle.std.proofs.lemmas.Map.Lookups.{CmpEqualImpliesEq, exact_pairs, exact_signed}
 use Rattle.square_tree.specs.Place.{Place, place_cmp, same_place}
 use Rattle.square_tree.specs.Quadtree.{Quadtree, keep, cell, quad, HasLevel, at}
-use Rattle.square_tree.specs.Change.{IsSet}
-use Rattle.square_tree.specs.Laid.{IsLaid, IsPartlyLaid, at_from}
-use Rattle.square_tree.specs.Cells.{Cells, least, reach, put, overlaid, blank, state_at, IsPartlyOverlaid}
-use Rattle.square_tree.specs.Entries.{entries, states_of, cells_of}
-use Rattle.square_tree.proofs.Placed.{double, at_east, at_south, at_from_west, at_from_north, none_or, or_none, split}
+use Rattle.square_tree.specs.Entries.{entries}
+use Rattle.square_tree.proofs.Placed.{at_east, at_south, or_none, split}
 
 -- the order of places is a total order
 pub places_total : IsTotalOrder place_cmp

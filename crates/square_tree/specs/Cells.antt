@@ -1,5 +1,5 @@
 -- What contracts see of a patch: a level, and the states that it says of places.
-use Rattle.std.specs.Prelude.{◌≡◌, ◌⊎◌, ℕ, ◌+◌, ◌^◌, ◌/◌, List, ◌++◌, map, ℤ, pos, neg_ℤ, ◌+ℤ◌, ◌≤ℤ◌, ◌<ℤ◌, Option, unwrap_or, refl}
+use Rattle.std.specs.Prelude.{◌≡◌, ◌⊎◌, ℕ, ◌^◌, ◌/◌, List, ◌++◌, map, ℤ, pos, neg_ℤ, ◌+ℤ◌, ◌≤ℤ◌, Option, unwrap_or, refl}
 use Rattle.std.specs.List.{range_with_len, concat}
 use Rattle.std.specs.Coded.{Coded, code_by, coded_ℕ, coded_ℤ, coded×}
 use Rattle.std.specs.FinMap as finite

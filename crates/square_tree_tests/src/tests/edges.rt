@@ -1,4 +1,4 @@
-ghost use Rattle.std.specs.Prelude.{◌≡◌, ◌≤◌};
+ghost use Rattle.std.specs.Prelude.{◌≡◌, ◌≤◌, ◌^◌};
 
 use super::same;
 use square_tree::Patch;
@@ -67,8 +67,8 @@ fn a_window_goes_row_by_row(rt: HostRuntime) {
 
 // Lays the block on an empty patch of the level, and stops the test where it isn't in its middle.
 fn lays_block(rt: &impl Abort, alloc: Global, level: u8)
-    requires levels { 2 ≤ level }
-    requires few { level ≤ 62 }
+    requires level { (1 ≤ level) × (level ≤ 62) }
+    requires room { 4 ≤ 2 ^ level }
 {
     let mut patch = Patch::new(alloc, level);
     patch.lay(&block(rt, alloc)).expect(rt, "memory");

@@ -1,5 +1,4 @@
-use Rattle.std.proofs.Common.{rules, arith, ◌<◌, ◌≤◌, ◌-◌, ◌^◌, subst, sym}
-use Rattle.square_tree.specs.Laid.{IsLaid}
+use Rattle.std.proofs.Common.{rules, arith, ◌<◌, ◌≤◌, ◌-◌, ◌^◌}
 use Rattle.square_tree.proofs.Covered.{on_ok, on_err}
 use Rattle.square_tree.proofs.Placed.{aligned_east, aligned_west, laid_nw, laid_ne, laid_sw, laid_all, partly_laid_all}
 use Rattle.square_tree.proofs.tree.+lay.Goals as goal

@@ -1,4 +1,4 @@
-use Rattle.std.proofs.Common.{◌≡◌, ◌<◌, ◌∙◌, sym, ap, ◌+◌, ◌++◌, ◌∷◌, [], pos, ◌+ℤ◌, unwrap_or, rules, append_assoc, to_z, of_z, w64, SFits, arith}
+use Rattle.std.proofs.Common.{◌≡◌, ◌∙◌, sym, ap, ◌+◌, ◌++◌, ◌∷◌, [], pos, ◌+ℤ◌, unwrap_or, rules, append_assoc, to_z, of_z, w64, SFits}
 use Rattle.std.proofs.lemmas.Int.{to_z-of_z}
 use Rattle.square_tree.specs.Cells.{state_at, row_states}
 use Rattle.square_tree.proofs.Windows.{row-more, spanned_fits}

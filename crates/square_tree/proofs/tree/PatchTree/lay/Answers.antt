@@ -1,4 +1,3 @@
-use Rattle.std.proofs.Common.{◌≡◌}
 use Rattle.square_tree.proofs.Quarters.{aligned_cell}
 use Rattle.square_tree.proofs.tree.PatchTree.lay.Goals as goal
 
