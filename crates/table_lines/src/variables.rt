@@ -30,7 +30,10 @@ impl<'a> Model for Variables<'a> {
 
     ghost Value = { Variables };
 
-    ghost view = { λ v. record { defined = v.defined; by_name = map (λ d. (d.0.now, d.1)) v.by_name.entries } };
+    ghost view = { λ v. record {
+      defined = v.defined;
+      by_name = map (λ d. (d.0.now, d.1)) v.by_name.entries;
+    } };
 }
 
 impl<'a> Variables<'a> {

@@ -22,7 +22,8 @@ pub fn arrangements(
     symmetry: Symmetry,
     circle: &[StateSet],
 ) -> Result<Circles, AllocError>
-    ensures { IfOk result (λ lists. lists_in lists.keys ≡ distinct same_sets (maps.arrangements symmetry circle.now)) }
+    ensures { IfOk result (λ lists. lists_in lists.keys
+        ≡ distinct same_sets (maps.arrangements symmetry circle.now)) }
 {
     match symmetry {
         Symmetry::None => turns(alloc, 1, circle),
@@ -43,7 +44,8 @@ pub fn arrangements(
 // The circle as equal turns put it.
 fn turns(alloc: Global, count: usize, circle: &[StateSet]) -> Result<Circles, AllocError>
     requires { 1 ≤ count }
-    ensures { IfOk result (λ lists. lists_in lists.keys ≡ distinct same_sets (maps.turns count circle.now)) }
+    ensures { IfOk result (λ lists. lists_in lists.keys
+        ≡ distinct same_sets (maps.turns count circle.now)) }
 {
     let mut lists = IndexSet::new(alloc);
     add_turns(alloc, &mut lists, count, circle)?;
@@ -58,7 +60,8 @@ fn turns_and_reflections(
 ) -> Result<Circles, AllocError>
     requires { 1 ≤ count }
     ensures { IfOk result (λ lists. lists_in lists.keys
-        ≡ distinct same_sets (maps.turns count circle.now ++ maps.turns count (maps.mirrored circle.now))) }
+        ≡ distinct same_sets
+        (maps.turns count circle.now ++ maps.turns count (maps.mirrored circle.now))) }
 {
     let mut lists = IndexSet::new(alloc);
     add_turns(alloc, &mut lists, count, circle)?;
@@ -75,7 +78,8 @@ fn add_turns(
     circle: &[StateSet],
 ) -> Result<(), AllocError>
     requires { 1 ≤ count }
-    ensures { OnOk result (lists_in lists.new.keys ≡ with_all same_sets (lists_in lists.old.keys) (maps.turns count circle.now)) }
+    ensures { OnOk result (lists_in lists.new.keys
+        ≡ with_all same_sets (lists_in lists.old.keys) (maps.turns count circle.now)) }
 {
     for turn in 0..count {
         let places = turn * (circle.len() / count);
@@ -86,7 +90,8 @@ fn add_turns(
 
 // Adds the list, unless it is there.
 fn add_new(lists: &mut Circles, list: Vec<StateSet>) -> Result<(), AllocError>
-    ensures { OnOk result (lists_in lists.new.keys ≡ with_one same_sets (lists_in lists.old.keys) list.items) }
+    ensures { OnOk result (lists_in lists.new.keys
+        ≡ with_one same_sets (lists_in lists.old.keys) list.items) }
 {
     lists.insert(list)?;
     Ok(())
@@ -105,7 +110,8 @@ fn mirrored(alloc: Global, circle: &[StateSet]) -> Result<Vec<StateSet>, AllocEr
 
 // All orders of the circle, each once.
 fn orders(alloc: Global, circle: &[StateSet]) -> Result<Circles, AllocError>
-    ensures { IfOk result (λ lists. lists_in lists.keys ≡ distinct same_sets (maps.permutations circle.now)) }
+    ensures { IfOk result (λ lists. lists_in lists.keys
+        ≡ distinct same_sets (maps.permutations circle.now)) }
 {
     match circle {
         [] => {
@@ -122,7 +128,8 @@ fn orders(alloc: Global, circle: &[StateSet]) -> Result<Circles, AllocError>
 
 // The orders with one more set, put in at each place, each once.
 fn longer_orders(alloc: Global, set: StateSet, orders: &Circles) -> Result<Circles, AllocError>
-    ensures { IfOk result (λ lists. lists_in lists.keys ≡ distinct same_sets (flat_map (maps.insertions set) (lists_in orders.now.keys))) }
+    ensures { IfOk result (λ lists. lists_in lists.keys
+        ≡ distinct same_sets (flat_map (maps.insertions set) (lists_in orders.now.keys))) }
 {
     let mut lists = IndexSet::new(alloc);
     for list in orders.as_slice() {
@@ -138,7 +145,8 @@ fn add_insertions(
     set: StateSet,
     list: &[StateSet],
 ) -> Result<(), AllocError>
-    ensures { OnOk result (lists_in lists.new.keys ≡ with_all same_sets (lists_in lists.old.keys) (maps.insertions set list.now)) }
+    ensures { OnOk result (lists_in lists.new.keys
+        ≡ with_all same_sets (lists_in lists.old.keys) (maps.insertions set list.now)) }
 {
     for place in 0..list.len() + 1 {
         add_new(lists, inserted(alloc, set, list, place)?)?;

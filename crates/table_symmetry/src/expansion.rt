@@ -99,7 +99,8 @@ fn push_lists(
     lists: &Circles,
     given: u8,
 ) -> Result<(), AllocError>
-    ensures { OnOk result (rows.new.items ≡ rows.old.items ++ map (row_of centre.now given) (lists_in lists.now.keys)) }
+    ensures { OnOk result (rows.new.items
+        ≡ rows.old.items ++ map (row_of centre.now given) (lists_in lists.now.keys)) }
 {
     for list in lists.as_slice() {
         let inputs = joined(alloc, centre, list)?;

@@ -44,7 +44,8 @@ fn finish(alloc: Global, lines: TableLines) -> Result<TableRule, RuleFault>
 
 // The look-up of what a table expands to, unless that is too much.
 fn lookup_of(alloc: Global, lines: &TableLines) -> Result<Lookup, RuleFault>
-    ensures { MatchResult result (LooksUp lines.now) (λ fault. IsTooLong fault (length (expanded lines.now))) }
+    ensures { MatchResult result (LooksUp lines.now)
+        (λ fault. IsTooLong fault (length (expanded lines.now))) }
 {
     let rows = expand(alloc, lines.symmetry(), lines.transitions())?;
     let lookup = Lookup::new(alloc, lines.states(), lines.neighborhood(), &rows)?;
