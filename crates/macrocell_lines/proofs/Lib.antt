@@ -2,6 +2,7 @@ pub mod BitmapCells
 pub mod Bytes
 pub mod Growing
 pub mod NumberLines
+pub mod PassedLines
 pub mod Rows
 pub mod Splits
 pub mod TextLines

@@ -1,6 +1,7 @@
 pub mod Bitmaps
 pub mod Faults
 pub mod Headings
+pub mod Kept
 pub mod Laws
 pub mod MacrocellText
 pub mod NodeLines

@@ -1,5 +1,5 @@
 -- What a macrocell text says, or the first fault that it has.
-use Rattle.std.specs.Prelude.{ℕ, ◌+◌, ◌==◌, nat_eq, if◌then◌else◌, List, [], ◌∷◌, ◌++◌, codes, Result, Ok, Err}
+use Rattle.std.specs.Prelude.{◌≡◌, ℕ, ◌+◌, ◌==◌, ◌<◌, nat_eq, if◌then◌else◌, List, [], ◌∷◌, ◌++◌, length, take, codes, Result, Ok, Err}
 use Rattle.std.specs.List.{starts_with}
 use Rattle.text_lines.specs.Lines.{says}
 use Rattle.basics.specs.Results.{◌>>=◌}
@@ -38,3 +38,10 @@ said_by (first ∷ lines) = if starts_with nat_eq first (codes "[M2]") then afte
 -- what a macrocell text says
 abbrev pub macrocell_of : List ℕ → Result MacrocellText McFault
 macrocell_of text = said_by (says text)
+
+-- some first lines are read without a fault, and say a node at least
+pub record BeginsWithNodes (reading : List (List ℕ) → Result MacrocellText McFault) (lines : List (List ℕ)) : Type 0 where
+  pub count : ℕ
+  pub said : MacrocellText
+  pub read : reading (take count lines) ≡ Ok said
+  pub some : 0 < length said.nodes

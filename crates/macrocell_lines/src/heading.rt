@@ -3,6 +3,7 @@ ghost use Rattle.std.specs.Prelude.{◌≡◌};
 ghost use Rattle.std.specs.Option.{option_copied};
 ghost use Rattle.basics.specs.Results.{Reads};
 ghost use Rattle.macrocell_lines.specs.Headings.{after_comment, generation_in, value_behind, value_in};
+ghost use Rattle.macrocell_lines.specs.Kept.{heading_of};
 
 use crate::fault::McFault;
 use text_lines::{find_byte, is_blank, number, trim};
@@ -20,11 +21,7 @@ pub struct Heading<'a> {
 /// anything but a number, like any other line, is a comment. A name with a colon is refused by
 /// BoundedGrid, and a line that begins with `#FRAME` by Timeline.
 pub fn after_comment<'a>(heading: Heading<'a>, line: &'a [u8]) -> Result<Heading<'a>, McFault>
-    ensures { Reads (λ h. record { rule_name = h.rule_name.now; generation = h.generation }) result
-        (after_comment (record {
-          rule_name = heading.entry.rule_name.now;
-          generation = heading.entry.generation;
-        }) line.now) }
+    ensures { Reads heading_of result (after_comment (heading_of heading.entry) line.now) }
 {
     if line.starts_with(b"#FRAME") {
         return Err(McFault::Timeline);

@@ -1,5 +1,5 @@
 //! Lines that say nodes.
-ghost use Rattle.std.specs.Prelude.{◌≡◌, ◌<◌, length, IfOk};
+ghost use Rattle.std.specs.Prelude.{◌≡◌, ◌≢◌, ◌<◌, length, IfOk};
 ghost use Rattle.macrocell_lines.specs.NodeLines.{check_room, node_of, quartered};
 ghost use Rattle.macrocell_lines.specs.Nodes.{Follows};
 
@@ -22,6 +22,7 @@ const HIGHEST_LEVEL: u64 = 62;
 /// BadChild.
 pub fn node_of(line: u64, nodes: &[Node], text: &[u8]) -> Result<Node, McFault>
     ensures node { result ≡ node_of line nodes.now text.now }
+    ensures fault { result ≢ Err McFault.NoMemory }
     ensures follows { IfOk result (λ node. Follows nodes.now node) }
     ensures room { IfOk result (λ _. length nodes.now < MOST_NODES) }
 {
@@ -42,6 +43,7 @@ pub fn node_of(line: u64, nodes: &[Node], text: &[u8]) -> Result<Node, McFault>
 // The node of this level and these quadrants.
 fn quartered(line: u64, nodes: &[Node], said: FiveNumbers) -> Result<Node, McFault>
     ensures node { result ≡ quartered line nodes.now said }
+    ensures fault { result ≢ Err McFault.NoMemory }
     ensures follows { IfOk result (λ node. Follows nodes.now node) }
     ensures room { IfOk result (λ _. length nodes.now < MOST_NODES) }
 {
@@ -63,6 +65,7 @@ fn quartered(line: u64, nodes: &[Node], said: FiveNumbers) -> Result<Node, McFau
 // Whether there is room for one more node.
 fn check_room(nodes: &[Node]) -> Result<(), McFault>
     ensures checked { result ≡ check_room nodes.now }
+    ensures fault { result ≢ Err McFault.NoMemory }
     ensures room { IfOk result (λ _. length nodes.now < MOST_NODES) }
 {
     if nodes.len() < MOST_NODES {

@@ -11,4 +11,4 @@ pub returns-in-Err : goal.returns-in-Err
 returns-in-Err c =
     let p = c.args.desk.now.plan in
     gives-refused p c.args.desk.now c.refused.result c.in-Err.fault NoMemory (pattern_of c.args.text.now) (started p) (λ f. refused_text (fault_number f) (fault_name f) (fault_place f))
-    refl refl refl c.in-Err.ensures c.refused.ensures.text c.refused.ensures.goes_on
+    refl refl refl c.in-Err.ensures.pattern c.refused.ensures.text c.refused.ensures.goes_on
