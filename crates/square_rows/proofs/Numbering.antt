@@ -56,7 +56,7 @@ found_kept p (x ∷ xs) zs h =
     ] h
 
 -- a row that isn't there has the place behind all
-not_found : (p : SquareRow → Bool) (xs : List SquareRow) → list_any p xs ≡ false → position_or_len p xs ≡ length xs
+pub not_found : (p : SquareRow → Bool) (xs : List SquareRow) → list_any p xs ≡ false → position_or_len p xs ≡ length xs
 not_found p [] h = refl
 not_found p (x ∷ xs) h =
     elim (p x) as (λ b. ((b || list_any p xs) ≡ false) → cond (not b) (1 + position_or_len p xs) 0 ≡ length (x ∷ xs)) [
