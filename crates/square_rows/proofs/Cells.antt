@@ -1,0 +1,195 @@
+-- The cells of squares: where a square is put on a world, and that squares with the same cells are equal.
+use Rattle.std.proofs.Common.{◌≡◌, ℕ, zero, suc, ◌+◌, ◌-◌, ◌<◌, ◌≤◌, ◌^◌, ◌⊎◌, Bool, true, false, cond, refl, sym, ap, ap₂, ◌∙◌, subst, arith, inl, inr, pow-suc, ℤ, pos, neg_ℤ, ◌+ℤ◌, ◌-ℤ◌, ◌≤ℤ◌, ◌<ℤ◌}
+use Rattle.std.specs.Prelude.{unsigned_abs}
+use Rattle.std.proofs.lemmas.Bool.{cases_lt, cases_Bool, cond-true, cond-false, lt-leb, le-leb, false_from_ne_true}
+use Rattle.std.proofs.lemmas.Int.{ints, by_lt_z}
+use Rattle.plane_core.specs.World.{World, Place, cell, put, blank, cell-put, cell-blank, same_place}
+use Rattle.plane_core.specs.Fill.{same_is, is_same}
+use Rattle.square_rows.specs.Square.{Square, one, four, empty_square, IsSquare, cell_in, put_square, IsIn}
+
+-- a side is twice that of the quadrants
+pub double : (k : ℕ) → 2 ^ suc k ≡ 2 ^ k + 2 ^ k
+double k = omega (arith, pow-suc 2 k)
+
+-- the cells of each quadrant
+module _ (k : ℕ) (nw ne sw se : Square) (i j : ℕ) where
+  pub cell_in-nw : i < 2 ^ k → j < 2 ^ k → cell_in (suc k) (four nw ne sw se) i j ≡ cell_in k nw i j
+  unfolding cell_in
+  cell_in-nw x y = cond-false _ _ _ (lt-leb (2 ^ k) j y) ∙ cond-false _ _ _ (lt-leb (2 ^ k) i x)
+
+  pub cell_in-ne : 2 ^ k ≤ i → j < 2 ^ k → cell_in (suc k) (four nw ne sw se) i j ≡ cell_in k ne (i - 2 ^ k) j
+  unfolding cell_in
+  cell_in-ne x y = cond-false _ _ _ (lt-leb (2 ^ k) j y) ∙ cond-true _ _ _ (le-leb (2 ^ k) i x)
+
+  pub cell_in-sw : i < 2 ^ k → 2 ^ k ≤ j → cell_in (suc k) (four nw ne sw se) i j ≡ cell_in k sw i (j - 2 ^ k)
+  unfolding cell_in
+  cell_in-sw x y = cond-true _ _ _ (le-leb (2 ^ k) j y) ∙ cond-false _ _ _ (lt-leb (2 ^ k) i x)
+
+  pub cell_in-se : 2 ^ k ≤ i → 2 ^ k ≤ j → cell_in (suc k) (four nw ne sw se) i j ≡ cell_in k se (i - 2 ^ k) (j - 2 ^ k)
+  unfolding cell_in
+  cell_in-se x y = cond-true _ _ _ (le-leb (2 ^ k) j y) ∙ cond-true _ _ _ (le-leb (2 ^ k) i x)
+
+pub cell_in-one : (k s i j : ℕ) → cell_in k (one s) i j ≡ s
+unfolding cell_in
+cell_in-one k s i j = refl
+
+-- the parts of squares
+pub IsSquare-four : (k : ℕ) (nw ne sw se : Square) → IsSquare (suc k) (four nw ne sw se) → IsSquare k nw × IsSquare k ne × IsSquare k sw × IsSquare k se
+unfolding IsSquare
+IsSquare-four k nw ne sw se h = h
+
+pub IsSquare-parts : (k : ℕ) (nw ne sw se : Square) → IsSquare k nw → IsSquare k ne → IsSquare k sw → IsSquare k se → IsSquare (suc k) (four nw ne sw se)
+unfolding IsSquare
+IsSquare-parts k nw ne sw se a b c d = (a, b, c, d)
+
+pub IsSquare-one : (s : ℕ) → s < 256 → IsSquare 0 (one s)
+unfolding IsSquare
+IsSquare-one s h = h
+
+pub one-below : (s : ℕ) → IsSquare 0 (one s) → s < 256
+unfolding IsSquare
+one-below s h = h
+
+pub IsSquare-empty : (k : ℕ) → IsSquare k (empty_square k)
+unfolding empty_square IsSquare
+IsSquare-empty zero = omega arith
+IsSquare-empty (suc k) = let e = IsSquare-empty k in (e, e, e, e)
+
+-- no cell of an empty square is live
+pub cell_in-empty : (k i j : ℕ) → i < 2 ^ k → j < 2 ^ k → cell_in k (empty_square k) i j ≡ 0
+unfolding empty_square
+cell_in-empty zero i j hi hj = cell_in-one 0 0 i j
+cell_in-empty (suc k) i j hi hj =
+    let e = empty_square k in
+    let twice = double k in
+    elim (cases_lt i (2 ^ k)) [
+      | inl x ↦ elim (cases_lt j (2 ^ k)) [
+        | inl y ↦ cell_in-nw k e e e e i j x y ∙ cell_in-empty k i j x y
+        | inr y ↦ cell_in-sw k e e e e i j x y ∙ cell_in-empty k i (j - 2 ^ k) x (omega arith)
+      ]
+      | inr x ↦ elim (cases_lt j (2 ^ k)) [
+        | inl y ↦ cell_in-ne k e e e e i j x y ∙ cell_in-empty k (i - 2 ^ k) j (omega arith) y
+        | inr y ↦ cell_in-se k e e e e i j x y ∙ cell_in-empty k (i - 2 ^ k) (j - 2 ^ k) (omega arith) (omega arith)
+      ]
+    ]
+
+-- two squares have the same cells
+abbrev pub SameCells : ℕ → Square → Square → Type 0
+SameCells k t u = (i j : ℕ) → i < 2 ^ k → j < 2 ^ k → cell_in k t i j ≡ cell_in k u i j
+
+-- squares with the same cells are equal
+pub same_square : (k : ℕ) (t u : Square) → IsSquare k t → IsSquare k u → SameCells k t u → t ≡ u
+unfolding IsSquare
+same_square zero (one s) (one r) ht hu same =
+    let is : s ≡ r = sym (cell_in-one 0 s 0 0) ∙ same 0 0 (omega arith) (omega arith) ∙ cell_in-one 0 r 0 0 in
+    λ i. one (is i)
+same_square zero (one s) (four a b c d) ht hu same = absurd hu
+same_square zero (four a b c d) u ht hu same = absurd ht
+same_square (suc k) (one s) u ht hu same = absurd ht
+same_square (suc k) (four a b c d) (one s) ht hu same = absurd hu
+same_square (suc k) (four a b c d) (four e f g h) ht hu same =
+    let n = 2 ^ k in
+    let twice = double k in
+    let back = λ (i : ℕ). let is : (n + i) - n ≡ i = omega arith in is in
+    let nw = same_square k a e ht.0 hu.0 (λ i j x y. sym (cell_in-nw k a b c d i j x y) ∙ same i j (omega arith) (omega arith) ∙ cell_in-nw k e f g h i j x y) in
+    let ne = same_square k b f ht.1 hu.1 (λ i j x y.
+        ap (λ m. cell_in k b m j) (sym (back i)) ∙ sym (cell_in-ne k a b c d (n + i) j (omega arith) y) ∙ same (n + i) j (omega arith) (omega arith)
+        ∙ cell_in-ne k e f g h (n + i) j (omega arith) y ∙ ap (λ m. cell_in k f m j) (back i)) in
+    let sw = same_square k c g ht.2 hu.2 (λ i j x y.
+        ap (λ m. cell_in k c i m) (sym (back j)) ∙ sym (cell_in-sw k a b c d i (n + j) x (omega arith)) ∙ same i (n + j) (omega arith) (omega arith)
+        ∙ cell_in-sw k e f g h i (n + j) x (omega arith) ∙ ap (λ m. cell_in k g i m) (back j)) in
+    let se = same_square k d h ht.3 hu.3 (λ i j x y.
+        ap₂ (cell_in k d) (sym (back i)) (sym (back j)) ∙ sym (cell_in-se k a b c d (n + i) (n + j) (omega arith) (omega arith)) ∙ same (n + i) (n + j) (omega arith) (omega arith)
+        ∙ cell_in-se k e f g h (n + i) (n + j) (omega arith) (omega arith) ∙ ap₂ (cell_in k h) (back i) (back j)) in
+    λ i. four (nw i) (ne i) (sw i) (se i)
+
+-- a quadrant lies in its square
+in_part : (n m : ℕ) (l t l' t' x y : ℤ) → m ≡ n + n → l ≤ℤ l' → l' ≤ℤ (l +ℤ pos n) → t ≤ℤ t' → t' ≤ℤ (t +ℤ pos n) → IsIn n l' t' x y → IsIn m l t x y
+in_part n m l t l' t' x y twice a b c d h =
+    let left = h.left in let right = h.right in let top = h.top in let bottom = h.bottom in
+    record { left = omega (arith, ints); right = omega (arith, ints); top = omega (arith, ints); bottom = omega (arith, ints) }
+
+-- a place lies in a square, or it doesn't
+pub in_or_out : (n : ℕ) (l t x y : ℤ) → IsIn n l t x y ⊎ (IsIn n l t x y → ⊥)
+in_or_out n l t x y =
+    by_lt_z x l (λ k. inr (λ h. let g = h.left in absurd (omega (arith, ints)))) (λ a.
+    by_lt_z x (l +ℤ pos n) (λ b.
+    by_lt_z y t (λ k. inr (λ h. let g = h.top in absurd (omega (arith, ints)))) (λ c.
+    by_lt_z y (t +ℤ pos n) (λ d. inl (record { left = a; right = b; top = c; bottom = d }))
+    (λ k. inr (λ h. let g = h.bottom in absurd (omega (arith, ints))))))
+    (λ k. inr (λ h. let g = h.right in absurd (omega (arith, ints)))))
+
+put_square-four : (k : ℕ) (nw ne sw se : Square) (l t : ℤ) (w : World)
+    → put_square (suc k) (four nw ne sw se) l t w ≡ put_square k se (l +ℤ pos (2 ^ k)) (t +ℤ pos (2 ^ k)) (put_square k sw l (t +ℤ pos (2 ^ k)) (put_square k ne (l +ℤ pos (2 ^ k)) t (put_square k nw l t w)))
+unfolding put_square
+put_square-four k nw ne sw se l t w = refl
+
+put_square-one : (k s : ℕ) (l t : ℤ) (w : World) → put_square k (one s) l t w ≡ put w l t s
+unfolding put_square
+put_square-one k s l t w = refl
+
+-- outside a square that is put the world stays
+pub put_square-outside : (k : ℕ) (s : Square) (l t : ℤ) (w : World) (x y : ℤ) → IsSquare k s → (IsIn (2 ^ k) l t x y → ⊥) → cell (put_square k s l t w) x y ≡ cell w x y
+unfolding IsSquare
+put_square-outside zero (one s) l t w x y is out =
+    ap (λ v. cell v x y) (put_square-one 0 s l t w)
+    ∙ cell-put w l t s x y
+    ∙ cond-false (same_place (y, x) (t, l)) s (cell w x y) (false_from_ne_true (same_place (y, x) (t, l)) (λ same.
+    let e : (y, x) ≡ (t, l) = same_is (y, x) (t, l) same in
+    let ey : y ≡ t = ap (λ (p : Place). p.0) e in
+    let ex : x ≡ l = ap (λ (p : Place). p.1) e in
+    out (record { left = omega (arith, ints); right = omega (arith, ints); top = omega (arith, ints); bottom = omega (arith, ints) })))
+put_square-outside (suc k) (one s) l t w x y is out = absurd is
+put_square-outside zero (four nw ne sw se) l t w x y is out = absurd is
+put_square-outside (suc k) (four nw ne sw se) l t w x y is out =
+    let n = 2 ^ k in
+    let twice = double k in
+    ap (λ v. cell v x y) (put_square-four k nw ne sw se l t w)
+    ∙ put_square-outside k se _ _ _ x y is.3 (λ h. out (in_part n (2 ^ suc k) l t (l +ℤ pos n) (t +ℤ pos n) x y twice (omega (arith, ints)) (omega (arith, ints)) (omega (arith, ints)) (omega (arith, ints)) h))
+    ∙ put_square-outside k sw _ _ _ x y is.2 (λ h. out (in_part n (2 ^ suc k) l t l (t +ℤ pos n) x y twice (omega (arith, ints)) (omega (arith, ints)) (omega (arith, ints)) (omega (arith, ints)) h))
+    ∙ put_square-outside k ne _ _ _ x y is.1 (λ h. out (in_part n (2 ^ suc k) l t (l +ℤ pos n) t x y twice (omega (arith, ints)) (omega (arith, ints)) (omega (arith, ints)) (omega (arith, ints)) h))
+    ∙ put_square-outside k nw l t w x y is.0 (λ h. out (in_part n (2 ^ suc k) l t l t x y twice (omega (arith, ints)) (omega (arith, ints)) (omega (arith, ints)) (omega (arith, ints)) h))
+
+-- inside it the cells are those of the square
+pub put_square-inside : (k : ℕ) (s : Square) (l t : ℤ) (w : World) (x y : ℤ) (i j : ℕ) → IsSquare k s → x ≡ l +ℤ pos i → y ≡ t +ℤ pos j → i < 2 ^ k → j < 2 ^ k
+    → cell (put_square k s l t w) x y ≡ cell_in k s i j
+unfolding IsSquare
+put_square-inside zero (one s) l t w x y i j is ex ey hi hj =
+    ap (λ v. cell v x y) (put_square-one 0 s l t w)
+    ∙ cell-put w l t s x y
+    ∙ cond-true (same_place (y, x) (t, l)) s (cell w x y) (is_same (y, x) (t, l) (let hj' : j ≡ 0 = omega arith in omega (arith, ints)) (let hi' : i ≡ 0 = omega arith in omega (arith, ints)))
+    ∙ sym (cell_in-one 0 s i j)
+put_square-inside (suc k) (one s) l t w x y i j is ex ey hi hj = absurd is
+put_square-inside zero (four nw ne sw se) l t w x y i j is ex ey hi hj = absurd is
+put_square-inside (suc k) (four nw ne sw se) l t w x y i j is ex ey hi hj =
+    let n = 2 ^ k in
+    let twice = double k in
+    ap (λ v. cell v x y) (put_square-four k nw ne sw se l t w)
+    ∙ elim (cases_lt i n) [
+      | inl lx ↦ elim (cases_lt j n) [
+        | inl ly ↦
+          put_square-outside k se _ _ _ x y is.3 (λ h. let g = h.left in absurd (omega (arith, ints)))
+          ∙ put_square-outside k sw _ _ _ x y is.2 (λ h. let g = h.top in absurd (omega (arith, ints)))
+          ∙ put_square-outside k ne _ _ _ x y is.1 (λ h. let g = h.left in absurd (omega (arith, ints)))
+          ∙ put_square-inside k nw l t w x y i j is.0 ex ey lx ly
+          ∙ sym (cell_in-nw k nw ne sw se i j lx ly)
+        | inr ly ↦
+          put_square-outside k se _ _ _ x y is.3 (λ h. let g = h.left in absurd (omega (arith, ints)))
+          ∙ put_square-inside k sw l (t +ℤ pos n) _ x y i (j - n) is.2 ex (omega (arith, ints)) lx (omega arith)
+          ∙ sym (cell_in-sw k nw ne sw se i j lx ly)
+      ]
+      | inr lx ↦ elim (cases_lt j n) [
+        | inl ly ↦
+          put_square-outside k se _ _ _ x y is.3 (λ h. let g = h.top in absurd (omega (arith, ints)))
+          ∙ put_square-outside k sw _ _ _ x y is.2 (λ h. let g = h.right in absurd (omega (arith, ints)))
+          ∙ put_square-inside k ne (l +ℤ pos n) t _ x y (i - n) j is.1 (omega (arith, ints)) ey (omega arith) ly
+          ∙ sym (cell_in-ne k nw ne sw se i j lx ly)
+        | inr ly ↦
+          put_square-inside k se (l +ℤ pos n) (t +ℤ pos n) _ x y (i - n) (j - n) is.3 (omega (arith, ints)) (omega (arith, ints)) (omega arith) (omega arith)
+          ∙ sym (cell_in-se k nw ne sw se i j lx ly)
+      ]
+    ]
+
+-- how far a coordinate lies from an edge
+pub offset : (l x : ℤ) → l ≤ℤ x → (i : ℕ) × (x ≡ l +ℤ pos i)
+offset l x h = (unsigned_abs (x -ℤ l), omega (arith, ints))
