@@ -56,20 +56,19 @@ IsSquare-empty zero = omega arith
 IsSquare-empty (suc k) = let e = IsSquare-empty k in (e, e, e, e)
 
 -- no cell of an empty square is live
-pub cell_in-empty : (k i j : ℕ) → i < 2 ^ k → j < 2 ^ k → cell_in k (empty_square k) i j ≡ 0
+pub cell_in-empty : (k i j : ℕ) → cell_in k (empty_square k) i j ≡ 0
 unfolding empty_square
-cell_in-empty zero i j hi hj = cell_in-one 0 0 i j
-cell_in-empty (suc k) i j hi hj =
+cell_in-empty zero i j = cell_in-one 0 0 i j
+cell_in-empty (suc k) i j =
     let e = empty_square k in
-    let twice = double k in
     elim (cases_lt i (2 ^ k)) [
       | inl x ↦ elim (cases_lt j (2 ^ k)) [
-        | inl y ↦ cell_in-nw k e e e e i j x y ∙ cell_in-empty k i j x y
-        | inr y ↦ cell_in-sw k e e e e i j x y ∙ cell_in-empty k i (j - 2 ^ k) x (omega arith)
+        | inl y ↦ cell_in-nw k e e e e i j x y ∙ cell_in-empty k i j
+        | inr y ↦ cell_in-sw k e e e e i j x y ∙ cell_in-empty k i (j - 2 ^ k)
       ]
       | inr x ↦ elim (cases_lt j (2 ^ k)) [
-        | inl y ↦ cell_in-ne k e e e e i j x y ∙ cell_in-empty k (i - 2 ^ k) j (omega arith) y
-        | inr y ↦ cell_in-se k e e e e i j x y ∙ cell_in-empty k (i - 2 ^ k) (j - 2 ^ k) (omega arith) (omega arith)
+        | inl y ↦ cell_in-ne k e e e e i j x y ∙ cell_in-empty k (i - 2 ^ k) j
+        | inr y ↦ cell_in-se k e e e e i j x y ∙ cell_in-empty k (i - 2 ^ k) (j - 2 ^ k)
       ]
     ]
 

@@ -7,8 +7,10 @@ use Rattle.std.proofs.lemmas.Bool.{or_left, or_right}
 use Rattle.std.proofs.lemmas.Slice.Eq.{bytes_eq-Decides}
 use Rattle.std.proofs.lemmas.Bool.{eqb-true, eq-eqb}
 use Rattle.std.specs.List.{list_any, position_or_len}
+use Rattle.std.specs.Bool.{Decides}
 use Rattle.square_rows.specs.declared.row.SquareRow.{SquareRow}
 use Rattle.square_rows.specs.Square.{Square, one, four, empty_square}
+use Rattle.square_rows.specs.Walks.{Has}
 use Rattle.square_rows.specs.Rows.{Numbered, numbered, number_row, number_square, same_row, same_kids}
 
 -- rows with others behind them
@@ -82,10 +84,6 @@ there_last row rows = list_any_at (same_row row) (rows ++ row ∷ []) (length ro
 -- the number of a row is n, and it adds nothing
 abbrev pub RowHas : SquareRow → List SquareRow → ℕ → Type 0
 RowHas row rows n = number_row row rows ≡ record { rows = rows; number = n }
-
--- the number of a square is n, and it adds nothing
-abbrev pub Has : ℕ → Square → List SquareRow → ℕ → Type 0
-Has k t rows n = number_square k t rows ≡ record { rows = rows; number = n }
 
 numbered-grows : (b c : Bool) (row : SquareRow) (rows : List SquareRow) (n : ℕ) → Grows rows (numbered b c row rows n).rows
 numbered-grows true c row rows n = Grows-none rows
@@ -237,3 +235,31 @@ Has-empty (suc k) rows =
 -- a square has one number
 pub Has-one : (k : ℕ) (t : Square) (rows : List SquareRow) (m n : ℕ) → Has k t rows m → Has k t rows n → m ≡ n
 Has-one k t rows m n e f = ap (λ (r : Numbered). r.number) (sym e ∙ f)
+
+-- the test says whether two rows are equal
+pub same_row-decides : (a b : SquareRow) → Decides (same_row a b) (a ≡ b)
+same_row-decides a b = (same_row-is a b, λ e. ap (same_row a) (sym e) ∙ same_row-itself a)
+
+-- an empty row has the number 0
+pub number_row-empty : (row : SquareRow) (rows : List SquareRow) → same_kids row.kids (0 ∷ 0 ∷ 0 ∷ 0 ∷ []) ≡ true → RowHas row rows 0
+number_row-empty row rows e = number_row-is row rows ∙ ap (λ b. numbered b (list_any (same_row row) rows) row rows (position_or_len (same_row row) rows + 1)) e
+
+by_there : (b : Bool) (row : SquareRow) (rows : List SquareRow) (n : ℕ) → numbered false b row rows n ≡ record { rows = cond b rows (rows ++ row ∷ []); number = n }
+by_there true row rows n = refl
+by_there false row rows n = refl
+
+-- any other goes where an insertion puts it
+pub number_row-insert : (row : SquareRow) (rows : List SquareRow) → same_kids row.kids (0 ∷ 0 ∷ 0 ∷ 0 ∷ []) ≡ false
+    → number_row row rows ≡ record { rows = cond (list_any (same_row row) rows) rows (rows ++ row ∷ []); number = position_or_len (same_row row) rows + 1 }
+number_row-insert row rows e =
+    number_row-is row rows
+    ∙ ap (λ b. numbered b (list_any (same_row row) rows) row rows (position_or_len (same_row row) rows + 1)) e
+    ∙ by_there (list_any (same_row row) rows) row rows (position_or_len (same_row row) rows + 1)
+
+few_by : (b : Bool) (row : SquareRow) (rows : List SquareRow) (n : ℕ) → length rows < n → (b ≡ false → length rows + 1 < n) → length (cond b rows (rows ++ row ∷ [])) < n
+few_by true row rows n h g = h
+few_by false row rows n h g = let k = g refl in omega (arith, length_push rows row)
+
+-- after an insertion there are as many rows as before, or as the place that it gave
+pub few_more : (row : SquareRow) (rows : List SquareRow) (n : ℕ) → length rows < n → position_or_len (same_row row) rows + 1 < n → length (cond (list_any (same_row row) rows) rows (rows ++ row ∷ [])) < n
+few_more row rows n h g = few_by (list_any (same_row row) rows) row rows n h (λ none. let k = not_found (same_row row) rows none in omega arith)

@@ -8,18 +8,19 @@ use Rattle.std.specs.List.{list_any, position_or_len}
 use Rattle.square_rows.specs.declared.row.SquareRow.{SquareRow}
 use Rattle.square_rows.specs.Square.{Square, one, four, empty_square, IsSquare}
 use Rattle.square_rows.specs.Rows.{Numbered, numbered, number_row, number_square, same_row, same_kids, no_row, row_at, kid, IsNumber, IsRow, AreRows, square_in}
-use Rattle.square_rows.proofs.Numbering.{Grows, Grows-none, Grows-more, Grows-then, Has, RowHas, Has-kept, Has-grown, Has-four, Has-empty, RowHas-again, number_row-is, number_row-grows, number_square-grows, same_row-is, not_found}
+use Rattle.square_rows.specs.Walks.{Has}
+use Rattle.square_rows.proofs.Numbering.{Grows, Grows-none, Grows-more, Grows-then, RowHas, Has-kept, Has-grown, Has-four, Has-empty, RowHas-again, number_row-is, number_row-grows, number_square-grows, same_row-is, not_found}
 
 -- the row of a number of a level above 0
-IsNumber-level : (rows : List SquareRow) (k n : ℕ) → IsNumber rows (suc k) n → 0 < n → (n ≤ length rows) × ((row_at rows n).level ≡ suc k)
+pub IsNumber-level : (rows : List SquareRow) (k n : ℕ) → IsNumber rows (suc k) n → 0 < n → (n ≤ length rows) × ((row_at rows n).level ≡ suc k)
 unfolding IsNumber
 IsNumber-level rows k n h live = h live
 
-IsNumber-from : (rows : List SquareRow) (k n : ℕ) → (0 < n → (n ≤ length rows) × ((row_at rows n).level ≡ suc k)) → IsNumber rows (suc k) n
+pub IsNumber-from : (rows : List SquareRow) (k n : ℕ) → (0 < n → (n ≤ length rows) × ((row_at rows n).level ≡ suc k)) → IsNumber rows (suc k) n
 unfolding IsNumber
 IsNumber-from rows k n h = h
 
-IsNumber-state : (rows : List SquareRow) (s : ℕ) → s < 256 → IsNumber rows 0 s
+pub IsNumber-state : (rows : List SquareRow) (s : ℕ) → s < 256 → IsNumber rows 0 s
 unfolding IsNumber
 IsNumber-state rows s h = h
 
@@ -114,12 +115,12 @@ AreRows-push rows row valid next i h =
 abbrev pub row_of : ℕ → ℕ → ℕ → ℕ → ℕ → SquareRow
 row_of k a b c d = record { level = k; kids = a ∷ b ∷ c ∷ d ∷ [] }
 
-Has-state : (rows : List SquareRow) (s : ℕ) → Has 0 (square_in rows 0 s) rows s
+pub Has-state : (rows done : List SquareRow) (s : ℕ) → Has 0 (square_in rows 0 s) done s
 unfolding number_square square_in
-Has-state rows s = refl
+Has-state rows done s = refl
 
-Has-none : (rows : List SquareRow) (k : ℕ) → Has k (square_in rows k 0) rows 0
-Has-none rows k = subst (λ (t : Square). Has k t rows 0) (sym (square_in-none rows k)) (Has-empty k rows)
+pub Has-none : (rows done : List SquareRow) (k : ℕ) → Has k (square_in rows k 0) done 0
+Has-none rows done k = subst (λ (t : Square). Has k t done 0) (sym (square_in-none rows k)) (Has-empty k done)
 
 -- four numbers of a level, each the number of its square
 record AreKids (rows : List SquareRow) (k a b c d : ℕ) : Type 0 where
@@ -197,8 +198,8 @@ module _ (rows : List SquareRow) (k a b c d : ℕ) (kids : AreKids rows k a b c 
       subst (λ m. Has (suc m) (square_in all (suc m) (suc i)) all (suc i)) same has
 
   has_all : (j n : ℕ) → IsNumber (rows ++ row_of (suc k) a b c d ∷ []) j n → Has j (square_in (rows ++ row_of (suc k) a b c d ∷ []) j n) (rows ++ row_of (suc k) a b c d ∷ []) n
-  has_all zero n h = Has-state (rows ++ row_of (suc k) a b c d ∷ []) n
-  has_all (suc j) zero h = Has-none (rows ++ row_of (suc k) a b c d ∷ []) (suc j)
+  has_all zero n h = Has-state (rows ++ row_of (suc k) a b c d ∷ []) (rows ++ row_of (suc k) a b c d ∷ []) n
+  has_all (suc j) zero h = Has-none (rows ++ row_of (suc k) a b c d ∷ []) (rows ++ row_of (suc k) a b c d ∷ []) (suc j)
   has_all (suc j) (suc i) h =
       let at = IsNumber-level (rows ++ row_of (suc k) a b c d ∷ []) j (suc i) h (omega arith) in
       elim (cases_lt i (length rows)) [
@@ -206,13 +207,17 @@ module _ (rows : List SquareRow) (k a b c d : ℕ) (kids : AreKids rows k a b c 
         | inr ge ↦ has_last j i (omega (arith, at.0, length_push rows (row_of (suc k) a b c d))) h
       ]
 
-found_within : (p : SquareRow → Bool) (xs : List SquareRow) → list_any p xs ≡ true → position_or_len p xs < length xs
+pub found_within : (p : SquareRow → Bool) (xs : List SquareRow) → list_any p xs ≡ true → position_or_len p xs < length xs
 found_within p [] h = cc
 found_within p (x ∷ xs) h =
     elim (p x) as (λ b. ((b || list_any p xs) ≡ true) → cond (not b) (1 + position_or_len p xs) 0 < length (x ∷ xs)) [
       | true ↦ λ e. omega arith
       | false ↦ λ e. let k = found_within p xs e in omega arith
     ] h
+
+-- the row that is found is the one that was sought
+pub found_at : (row : SquareRow) (rows : List SquareRow) → list_any (same_row row) rows ≡ true → get_or rows (position_or_len (same_row row) rows) no_row ≡ row
+found_at row rows e = sym (same_row-is row (get_or rows (position_or_len (same_row row) rows) no_row) (passes_at_first (same_row row) rows no_row (found_within (same_row row) rows e)))
 
 -- the row of sound kids, numbered
 numbered-sound : (x y : Bool) (rows : List SquareRow) (k a b c d : ℕ) → AreKids rows k a b c d → k < 62
@@ -234,7 +239,7 @@ numbered-sound false true rows k a b c d kids high ex ey is =
     let row = row_of (suc k) a b c d in
     let i = position_or_len (same_row row) rows in
     let within : i < length rows = found_within (same_row row) rows ey in
-    let at : get_or rows i no_row ≡ row = sym (same_row-is row (get_or rows i no_row) (passes_at_first (same_row row) rows no_row within)) in
+    let at : get_or rows i no_row ≡ row = found_at row rows ey in
     let next : i + 1 ≡ suc i = omega arith in
     let one_less : (i + 1) - 1 ≡ i = omega arith in
     record {
@@ -316,6 +321,6 @@ pub EachHas-none : EachHas []
 EachHas-none = record { has = has }
   where
     has : (k n : ℕ) → IsNumber [] k n → Has k (square_in [] k n) [] n
-    has zero n h = Has-state [] n
-    has (suc k) zero h = Has-none [] (suc k)
+    has zero n h = Has-state [] [] n
+    has (suc k) zero h = Has-none [] [] (suc k)
     has (suc k) (suc i) h = let at = IsNumber-level [] k (suc i) h (omega arith) in absurd (omega (arith, at.0))

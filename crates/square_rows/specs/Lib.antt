@@ -1,2 +1,3 @@
 pub mod Square
 pub mod Rows
+pub mod Walks

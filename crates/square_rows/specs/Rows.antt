@@ -105,3 +105,8 @@ pub record AreCanonical (rows : List SquareRow) : Type 0 where
   pub valid : AreRows rows
   pub walked : (number_square (root_level rows) (root_of rows) []).rows ≡ rows
   pub least : IsLeastLevel (root_level rows) (world_of_rows rows)
+
+-- these rows are those of the world
+pub record AreSquaresOf (w : World) (rows : List SquareRow) : Type 0 where
+  pub canonical : AreCanonical rows
+  pub world : world_of_rows rows ≡ w

@@ -28,6 +28,14 @@ cell_in (suc k) (four nw ne sw se) x y =
     (cond (nat_le (2 ^ k) x) (cell_in k se (x - 2 ^ k) (y - 2 ^ k)) (cell_in k sw x (y - 2 ^ k)))
     (cond (nat_le (2 ^ k) x) (cell_in k ne (x - 2 ^ k) y) (cell_in k nw x y))
 
+-- the quadrant that holds (x, y), of those with this side: 0 to 3 for nw, ne, sw and se
+abbrev pub quadrant_at : ℕ → ℕ → ℕ → ℕ
+quadrant_at half x y = cond (nat_le half y) (cond (nat_le half x) 3 2) (cond (nat_le half x) 1 0)
+
+-- how far it lies from the edge of that quadrant
+abbrev pub within : ℕ → ℕ → ℕ
+within half x = cond (nat_le half x) (x - half) x
+
 -- the world with a square of level k whose upper left cell is at (x, y), and as w elsewhere
 unfoldable pub put_square : ℕ → Square → ℤ → ℤ → World → World
 put_square k (one s) x y w = put w x y s

@@ -1,0 +1,10 @@
+use Rattle.std.proofs.Common.{arith, length, [], ap, sym, subst, ◌∙◌, lit<, ◌<◌, ◌≡◌}
+use Rattle.square_rows.specs.Rows.{AreCanonical, world_of_rows}
+use Rattle.square_rows.proofs.Roots.{canonical-none, world-none}
+use Rattle.square_rows.proofs.plane.SquarePlane.empty.Goals as goal
+
+pub invariant_of-result : goal.invariant_of-result
+invariant_of-result c = (subst AreCanonical (sym c.new.ensures.items) canonical-none, omega (arith, ap length c.new.ensures.items))
+
+pub returns : goal.returns
+returns c = ap world_of_rows c.new.ensures.items ∙ world-none
