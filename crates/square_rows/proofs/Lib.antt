@@ -5,3 +5,4 @@ pub mod Roots
 pub mod Descents
 pub mod Walking
 pub mod Tidy
+pub mod Centring

@@ -1,3 +1,4 @@
 pub mod Square
 pub mod Rows
 pub mod Walks
+pub mod Centre

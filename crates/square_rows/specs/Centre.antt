@@ -1,0 +1,27 @@
+-- Squares whose live cells all lie in the square of half the side in the middle.
+use Rattle.std.specs.Prelude.{◌≡◌, ℕ, suc, ◌<◌, cond, ◌==◌, List, get_or}
+use Rattle.square_rows.specs.Square.{Square, four, empty_square}
+use Rattle.square_rows.specs.declared.row.SquareRow.{SquareRow}
+use Rattle.square_rows.specs.Rows.{IsNumber, square_in}
+
+-- the square of level k + 1 with one quadrant, of these four, and else empty
+abbrev pub cornered : ℕ → ℕ → Square → Square
+cornered k corner s =
+    four (cond (corner == 0) s (empty_square k)) (cond (corner == 1) s (empty_square k)) (cond (corner == 2) s (empty_square k)) (cond (corner == 3) s (empty_square k))
+
+-- the square of level k + 2 in whose middle these four squares of level k meet, and else empty
+abbrev pub centred : ℕ → Square → Square → Square → Square → Square
+centred k nw ne sw se = four (cornered k 3 nw) (cornered k 2 ne) (cornered k 1 sw) (cornered k 0 se)
+
+-- each of the kids but that at the corner is 0
+abbrev pub IsAlone : ℕ → List ℕ → Type 0
+IsAlone corner kids = (q : ℕ) → q < 4 → (q ≡ corner → ⊥) → get_or kids q 0 ≡ 0
+
+-- no number above 0 names an empty square
+abbrev pub NoneEmpty : List SquareRow → Type 0
+NoneEmpty rows = (k n : ℕ) → IsNumber rows k n → square_in rows k n ≡ empty_square k → n ≡ 0
+
+-- the square of level k + 1 that a number names has live cells in this quadrant alone, and inner names that quadrant
+pub record IsCorner (rows : List SquareRow) (k number corner inner : ℕ) : Type 0 where
+  pub names : IsNumber rows k inner
+  pub square : square_in rows (suc k) number ≡ cornered k corner (square_in rows k inner)
