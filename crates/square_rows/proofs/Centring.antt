@@ -221,3 +221,88 @@ module _ (k : ℕ) (t : Square) (is : IsSquare (suc (suc k)) t) (fits : Fits (su
   block_away u p q iu hp hq cells out =
       same_square k u (empty_square k) iu (IsSquare-empty k) (λ i j hi hj.
       sym (cells i j hi hj) ∙ cell_away (p + i) (q + j) (omega arith) (omega arith) (out i j hi hj) ∙ sym (cell_in-empty k i j))
+
+-- the sixteen squares of level k of a square of level k + 2
+module _ (k : ℕ) (a0 a1 a2 a3 b0 b1 b2 b3 c0 c1 c2 c3 d0 d1 d2 d3 : Square) where
+  whole : Square
+  whole = four (four a0 a1 a2 a3) (four b0 b1 b2 b3) (four c0 c1 c2 c3) (four d0 d1 d2 d3)
+
+  -- where the live cells fit the middle, the square is centred
+  whole-centred : IsSquare (suc (suc k)) whole → Fits (suc k) (root_world (suc (suc k)) whole) → whole ≡ centred k a3 b2 c1 d0
+  unfolding whole
+  whole-centred is fits =
+      let t = whole in
+      let n = 2 ^ k in
+      let m = 2 ^ suc k in
+      let twice : m ≡ n + n = double k in
+      let twice_m : 2 ^ suc (suc k) ≡ m + m = double (suc k) in
+      let a = four a0 a1 a2 a3 in let b = four b0 b1 b2 b3 in let c = four c0 c1 c2 c3 in let d = four d0 d1 d2 d3 in
+      let parts = IsSquare-four (suc k) a b c d is in
+      let ia = IsSquare-four k a0 a1 a2 a3 parts.0 in
+      let ib = IsSquare-four k b0 b1 b2 b3 parts.1 in
+      let ic = IsSquare-four k c0 c1 c2 c3 parts.2 in
+      let id = IsSquare-four k d0 d1 d2 d3 parts.3 in
+      let at = λ (x y x' y' : ℕ) (ex : x ≡ x') (ey : y ≡ y'). ap₂ (cell_in (suc (suc k)) t) ex ey in
+      let ea0 = block_away k t is fits a0 0 0 ia.0 (omega arith) (omega arith)
+          (λ i j x y. at (0 + i) (0 + j) i j (omega arith) (omega arith) ∙ nw_at (suc k) a b c d i j (omega arith) (omega arith) ∙ nw_at k a0 a1 a2 a3 i j x y) (λ i j x y p q r s. omega arith) in
+      let ea1 = block_away k t is fits a1 n 0 ia.1 (omega arith) (omega arith)
+          (λ i j x y. at (n + i) (0 + j) (n + i) j refl (omega arith) ∙ nw_at (suc k) a b c d (n + i) j (omega arith) (omega arith) ∙ ne_at k a0 a1 a2 a3 i j x y) (λ i j x y p q r s. omega arith) in
+      let ea2 = block_away k t is fits a2 0 n ia.2 (omega arith) (omega arith)
+          (λ i j x y. at (0 + i) (n + j) i (n + j) (omega arith) refl ∙ nw_at (suc k) a b c d i (n + j) (omega arith) (omega arith) ∙ sw_at k a0 a1 a2 a3 i j x y) (λ i j x y p q r s. omega arith) in
+      let eb0 = block_away k t is fits b0 m 0 ib.0 (omega arith) (omega arith)
+          (λ i j x y. at (m + i) (0 + j) (m + i) j refl (omega arith) ∙ ne_at (suc k) a b c d i j (omega arith) (omega arith) ∙ nw_at k b0 b1 b2 b3 i j x y) (λ i j x y p q r s. omega arith) in
+      let eb1 = block_away k t is fits b1 (m + n) 0 ib.1 (omega arith) (omega arith)
+          (λ i j x y. at ((m + n) + i) (0 + j) (m + (n + i)) j (omega arith) (omega arith) ∙ ne_at (suc k) a b c d (n + i) j (omega arith) (omega arith) ∙ ne_at k b0 b1 b2 b3 i j x y) (λ i j x y p q r s. omega arith) in
+      let eb3 = block_away k t is fits b3 (m + n) n ib.3 (omega arith) (omega arith)
+          (λ i j x y. at ((m + n) + i) (n + j) (m + (n + i)) (n + j) (omega arith) refl ∙ ne_at (suc k) a b c d (n + i) (n + j) (omega arith) (omega arith) ∙ se_at k b0 b1 b2 b3 i j x y) (λ i j x y p q r s. omega arith) in
+      let ec0 = block_away k t is fits c0 0 m ic.0 (omega arith) (omega arith)
+          (λ i j x y. at (0 + i) (m + j) i (m + j) (omega arith) refl ∙ sw_at (suc k) a b c d i j (omega arith) (omega arith) ∙ nw_at k c0 c1 c2 c3 i j x y) (λ i j x y p q r s. omega arith) in
+      let ec2 = block_away k t is fits c2 0 (m + n) ic.2 (omega arith) (omega arith)
+          (λ i j x y. at (0 + i) ((m + n) + j) i (m + (n + j)) (omega arith) (omega arith) ∙ sw_at (suc k) a b c d i (n + j) (omega arith) (omega arith) ∙ sw_at k c0 c1 c2 c3 i j x y) (λ i j x y p q r s. omega arith) in
+      let ec3 = block_away k t is fits c3 n (m + n) ic.3 (omega arith) (omega arith)
+          (λ i j x y. at (n + i) ((m + n) + j) (n + i) (m + (n + j)) refl (omega arith) ∙ sw_at (suc k) a b c d (n + i) (n + j) (omega arith) (omega arith) ∙ se_at k c0 c1 c2 c3 i j x y) (λ i j x y p q r s. omega arith) in
+      let ed1 = block_away k t is fits d1 (m + n) m id.1 (omega arith) (omega arith)
+          (λ i j x y. at ((m + n) + i) (m + j) (m + (n + i)) (m + j) (omega arith) refl ∙ se_at (suc k) a b c d (n + i) j (omega arith) (omega arith) ∙ ne_at k d0 d1 d2 d3 i j x y) (λ i j x y p q r s. omega arith) in
+      let ed2 = block_away k t is fits d2 m (m + n) id.2 (omega arith) (omega arith)
+          (λ i j x y. at (m + i) ((m + n) + j) (m + i) (m + (n + j)) refl (omega arith) ∙ se_at (suc k) a b c d i (n + j) (omega arith) (omega arith) ∙ sw_at k d0 d1 d2 d3 i j x y) (λ i j x y p q r s. omega arith) in
+      let ed3 = block_away k t is fits d3 (m + n) (m + n) id.3 (omega arith) (omega arith)
+          (λ i j x y. at ((m + n) + i) ((m + n) + j) (m + (n + i)) (m + (n + j)) (omega arith) (omega arith) ∙ se_at (suc k) a b c d (n + i) (n + j) (omega arith) (omega arith) ∙ se_at k d0 d1 d2 d3 i j x y) (λ i j x y p q r s. omega arith) in
+      λ i. four (four (ea0 i) (ea1 i) (ea2 i) a3) (four (eb0 i) (eb1 i) b2 (eb3 i)) (four (ec0 i) c1 (ec2 i) (ec3 i)) (four d0 (ed1 i) (ed2 i) (ed3 i))
+
+-- the quadrants of a centred square
+pub record HasCorners (k : ℕ) (nw ne sw se : Square) : Type 0 where
+  pub a : Square
+  pub b : Square
+  pub c : Square
+  pub d : Square
+  pub nw_is : nw ≡ cornered k 3 a
+  pub ne_is : ne ≡ cornered k 2 b
+  pub sw_is : sw ≡ cornered k 1 c
+  pub se_is : se ≡ cornered k 0 d
+
+part_nw : Square → Square
+part_nw (one s) = one s
+part_nw (four a b c d) = a
+
+part_ne : Square → Square
+part_ne (one s) = one s
+part_ne (four a b c d) = b
+
+part_sw : Square → Square
+part_sw (one s) = one s
+part_sw (four a b c d) = c
+
+part_se : Square → Square
+part_se (one s) = one s
+part_se (four a b c d) = d
+
+-- where the live cells fit the middle, each quadrant has them at its corner
+pub fits-corners : (k : ℕ) (nw ne sw se : Square) → IsSquare (suc (suc k)) (four nw ne sw se) → Fits (suc k) (root_world (suc (suc k)) (four nw ne sw se)) → HasCorners k nw ne sw se
+unfolding IsSquare whole part_nw part_ne part_sw part_se
+fits-corners k (one s) ne sw se is fits = absurd is.0
+fits-corners k (four a0 a1 a2 a3) (one s) sw se is fits = absurd is.1
+fits-corners k (four a0 a1 a2 a3) (four b0 b1 b2 b3) (one s) se is fits = absurd is.2
+fits-corners k (four a0 a1 a2 a3) (four b0 b1 b2 b3) (four c0 c1 c2 c3) (one s) is fits = absurd is.3
+fits-corners k (four a0 a1 a2 a3) (four b0 b1 b2 b3) (four c0 c1 c2 c3) (four d0 d1 d2 d3) is fits =
+    let e = whole-centred k a0 a1 a2 a3 b0 b1 b2 b3 c0 c1 c2 c3 d0 d1 d2 d3 is fits in
+    record { a = a3; b = b2; c = c1; d = d0; nw_is = ap part_nw e; ne_is = ap part_ne e; sw_is = ap part_sw e; se_is = ap part_se e }

@@ -1,8 +1,8 @@
 -- Squares whose live cells all lie in the square of half the side in the middle.
-use Rattle.std.specs.Prelude.{◌≡◌, ℕ, suc, ◌<◌, cond, ◌==◌, List, get_or}
+use Rattle.std.specs.Prelude.{◌≡◌, ℕ, suc, ◌<◌, cond, ◌==◌, List, [], ◌∷◌, ◌++◌, get_or}
 use Rattle.square_rows.specs.Square.{Square, four, empty_square}
 use Rattle.square_rows.specs.declared.row.SquareRow.{SquareRow}
-use Rattle.square_rows.specs.Rows.{IsNumber, square_in}
+use Rattle.square_rows.specs.Rows.{IsNumber, AreRows, square_in, root_level, world_of_rows}
 
 -- the square of level k + 1 with one quadrant, of these four, and else empty
 abbrev pub cornered : ℕ → ℕ → Square → Square
@@ -25,3 +25,11 @@ NoneEmpty rows = (k n : ℕ) → IsNumber rows k n → square_in rows k n ≡ em
 pub record IsCorner (rows : List SquareRow) (k number corner inner : ℕ) : Type 0 where
   pub names : IsNumber rows k inner
   pub square : square_in rows (suc k) number ≡ cornered k corner (square_in rows k inner)
+
+-- the row of a smaller root of the same world
+pub record IsCentre (rows : List SquareRow) (row : SquareRow) : Type 0 where
+  pub fits : AreRows (rows ++ row ∷ [])
+  pub level : suc row.level ≡ root_level rows
+  pub root : root_level (rows ++ row ∷ []) ≡ row.level
+  pub world : world_of_rows (rows ++ row ∷ []) ≡ world_of_rows rows
+  pub none_empty : NoneEmpty (rows ++ row ∷ [])

@@ -1,6 +1,7 @@
 //! Planes as square rows: a pattern as the list of its distinct squares.
 #![tactic(auto)]
 
+mod centre;
 mod descent;
 mod plane;
 mod row;
