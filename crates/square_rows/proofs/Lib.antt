@@ -6,3 +6,5 @@ pub mod Descents
 pub mod Walking
 pub mod Tidy
 pub mod Centring
+pub mod Centres
+pub mod Validity

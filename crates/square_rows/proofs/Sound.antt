@@ -96,7 +96,7 @@ pub record IsSound (k : ℕ) (t : Square) (r : Numbered) : Type 0 where
   pub square : square_in r.rows k r.number ≡ t
 
 -- rows with one more
-AreRows-push : (rows : List SquareRow) (row : SquareRow) → AreRows rows → IsRow rows row → AreRows (rows ++ row ∷ [])
+pub AreRows-push : (rows : List SquareRow) (row : SquareRow) → AreRows rows → IsRow rows row → AreRows (rows ++ row ∷ [])
 AreRows-push rows row valid next i h =
     elim (cases_lt i (length rows)) [
       | inl lt ↦

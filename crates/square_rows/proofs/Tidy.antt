@@ -4,11 +4,11 @@ use Rattle.std.proofs.lemmas.Bool.{cases_lt}
 use Rattle.std.proofs.lemmas.Int.{ints}
 use Rattle.std.proofs.lemmas.List.{length_push, get_or_append_left, get_or_push}
 use Rattle.std.specs.List.{list_any, position_or_len}
-use Rattle.std.specs.Prelude.{ℤ, pos, ◌+ℤ◌, ◌≤ℤ◌, ◌<ℤ◌}
+use Rattle.std.specs.Prelude.{ℤ, pos, ◌+ℤ◌, ◌≤ℤ◌, ◌<ℤ◌, Result, Ok, Err, IfOk}
 use Rattle.plane_core.specs.World.{World, cell, blank, cell-blank, same_world}
 use Rattle.square_rows.specs.declared.row.SquareRow.{SquareRow}
 use Rattle.square_rows.specs.Square.{Square, one, four, empty_square, IsSquare, cell_in, put_square, IsIn}
-use Rattle.square_rows.specs.Rows.{Numbered, numbered, number_row, number_square, same_row, same_kids, no_row, row_at, IsNumber, AreRows, square_in, root_level, root_of, edge_of, world_of_rows}
+use Rattle.square_rows.specs.Rows.{Numbered, numbered, number_row, number_square, same_row, same_kids, no_row, row_at, IsNumber, AreRows, square_in, root_level, root_of, edge_of, world_of_rows, IsLeastLevel, AreCanonical}
 use Rattle.square_rows.specs.Walks.{Has, AreWalked}
 use Rattle.square_rows.proofs.Numbering.{Has-empty, number_row-is, not_found}
 use Rattle.square_rows.proofs.Sound.{IsSound, EachHas, EachHas-none, AreRows-none, number_square-sound, IsNumber-level, square_in-none, found_within, found_at, row_of}
@@ -99,11 +99,12 @@ world-empty rows valid e =
 pub record IsTidied (rows done : List SquareRow) : Type 0 where
   pub walked : AreWalked done
   pub world : world_of_rows done ≡ world_of_rows rows
+  pub level : (root_level done ≡ root_level rows) ⊎ (done ≡ [])
 
 walked-none : AreWalked []
 walked-none = record { valid = AreRows-none; each = EachHas-none.has; walked = canonical-none.walked }
 
-world-put : (rows : List SquareRow) (k : ℕ) (t : Square) → root_level rows ≡ k → square_in rows k (length rows) ≡ t → world_of_rows rows ≡ put_square k t (edge_of k) (edge_of k) blank
+pub world-put : (rows : List SquareRow) (k : ℕ) (t : Square) → root_level rows ≡ k → square_in rows k (length rows) ≡ t → world_of_rows rows ≡ put_square k t (edge_of k) (edge_of k) blank
 world-put rows k t ek et = world-root rows ∙ ap (λ m. put_square m (square_in rows m (length rows)) (edge_of m) (edge_of m) blank) ek ∙ ap (λ (s : Square). put_square k s (edge_of k) (edge_of k) blank) et
 
 tidied_by : (rows : List SquareRow) (k : ℕ) → AreRows rows → root_level rows ≡ suc k → IsTidied rows (number_square (suc k) (square_in rows (suc k) (length rows)) []).rows
@@ -130,6 +131,7 @@ tidied_by rows k valid ek =
                 ∙ ap (λ (s : Square). (number_square (suc k) s []).rows) square;
           };
           world = world-put r.rows (suc k) t level square ∙ sym (world-put rows (suc k) t ek refl);
+          level = inl (level ∙ sym ek);
         }
       | inr none ↦
         let zero_is : r.number ≡ 0 = omega arith in
@@ -137,7 +139,7 @@ tidied_by rows k valid ek =
         let nothing : r.rows ≡ [] = ap (λ (s : Square). (number_square (suc k) s []).rows) t_empty ∙ ap (λ (q : Numbered). q.rows) (Has-empty (suc k) []) in
         let root_empty : root_of rows ≡ empty_square (root_level rows) = subst (λ m. square_in rows m (length rows) ≡ empty_square m) (sym ek) t_empty in
         let world_none : world_of_rows [] ≡ blank = world-empty [] AreRows-none (square_in-none [] (root_level [])) in
-        subst (IsTidied rows) (sym nothing) (record { walked = walked-none; world = world_none ∙ sym (world-empty rows valid root_empty) })
+        subst (IsTidied rows) (sym nothing) (record { walked = walked-none; world = world_none ∙ sym (world-empty rows valid root_empty); level = inr refl })
     ]
 
 pub tidied : (rows done : List SquareRow) → AreRows rows → (number_square (root_level rows) (root_of rows) []).rows ≡ done → IsTidied rows done
@@ -147,3 +149,20 @@ tidied rows done valid e =
     let k = root_level rows - 1 in
     let is : root_level rows ≡ suc k = omega arith in
     subst (IsTidied rows) (subst (λ m. (number_square m (square_in rows m (length rows)) []).rows ≡ done) is e) (tidied_by rows k valid is)
+
+-- walked from the least root, rows are canonical
+pub canonical-walked : (rows done : List SquareRow) → IsTidied rows done → IsLeastLevel (root_level rows) (world_of_rows rows) → AreCanonical done
+canonical-walked rows done t least =
+    elim t.level [
+      | inl level ↦ record {
+          valid = t.walked.valid;
+          walked = t.walked.walked;
+          least = subst (λ k. IsLeastLevel k (world_of_rows done)) (sym level) (subst (IsLeastLevel (root_level rows)) (sym t.world) least);
+        }
+      | inr none ↦ subst AreCanonical (sym none) canonical-none
+    ]
+
+-- what follows from what a clause says of the value in an `Ok`
+pub IfOk_then : {A E : Type 0} (r : Result A E) {P Q : A → Type 0} → IfOk r P → ((x : A) → P x → Q x) → IfOk r Q
+IfOk_then (Ok x) h f = f x h
+IfOk_then (Err e) h f = tt

@@ -1,5 +1,5 @@
 -- Squares whose live cells all lie in the square of half the side in the middle.
-use Rattle.std.specs.Prelude.{◌≡◌, ℕ, suc, ◌<◌, cond, ◌==◌, List, [], ◌∷◌, ◌++◌, get_or}
+use Rattle.std.specs.Prelude.{◌≡◌, ℕ, suc, ◌<◌, cond, ◌==◌, Bool, ◌||◌, ◌&&◌, List, [], ◌∷◌, ◌++◌, get_or}
 use Rattle.square_rows.specs.Square.{Square, four, empty_square}
 use Rattle.square_rows.specs.declared.row.SquareRow.{SquareRow}
 use Rattle.square_rows.specs.Rows.{IsNumber, AreRows, square_in, root_level, world_of_rows}
@@ -13,9 +13,13 @@ cornered k corner s =
 abbrev pub centred : ℕ → Square → Square → Square → Square → Square
 centred k nw ne sw se = four (cornered k 3 nw) (cornered k 2 ne) (cornered k 1 sw) (cornered k 0 se)
 
--- each of the kids but that at the corner is 0
-abbrev pub IsAlone : ℕ → List ℕ → Type 0
-IsAlone corner kids = (q : ℕ) → q < 4 → (q ≡ corner → ⊥) → get_or kids q 0 ≡ 0
+-- whether a kid is 0, or stands at the corner
+abbrev pub is_passed : ℕ → ℕ → ℕ → Bool
+is_passed corner place kid = (corner == place) || (kid == 0)
+
+-- whether each of the kids but that at the corner is 0
+abbrev pub is_alone : ℕ → List ℕ → Bool
+is_alone corner kids = is_passed corner 0 (get_or kids 0 0) && (is_passed corner 1 (get_or kids 1 0) && (is_passed corner 2 (get_or kids 2 0) && is_passed corner 3 (get_or kids 3 0)))
 
 -- no number above 0 names an empty square
 abbrev pub NoneEmpty : List SquareRow → Type 0

@@ -22,11 +22,15 @@ unfoldable pub IsNumber : List SquareRow → ℕ → ℕ → Type 0
 IsNumber rows zero n = n < 256
 IsNumber rows (suc k) n = 0 < n → (n ≤ length rows) × ((row_at rows n).level ≡ suc k)
 
+-- the kids of a row name squares of one level less
+abbrev pub AreKidsOf : List SquareRow → SquareRow → Type 0
+AreKidsOf rows row = (q : ℕ) → q < 4 → IsNumber rows (row.level - 1) (kid row q)
+
 -- a row that may stand after these
 pub record IsRow (rows : List SquareRow) (row : SquareRow) : Type 0 where
   pub low : 1 ≤ row.level
   pub high : row.level ≤ 62
-  pub kids : (q : ℕ) → q < 4 → IsNumber rows (row.level - 1) (kid row q)
+  pub kids : AreKidsOf rows row
 
 -- each row may stand after those before it
 abbrev pub AreRows : List SquareRow → Type 0

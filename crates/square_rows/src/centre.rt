@@ -1,21 +1,28 @@
 //! A root that is larger than its pattern needs, and the smaller one in its middle.
-ghost use Rattle.std.specs.Prelude.{◌≡◌, ◌↔◌, ◌+◌, ◌-◌, ◌<◌, ◌≤◌, ◌^◌, suc, length, IsTrue, IfSome, IfNone, OnOk, OnErr};
+ghost use Rattle.std.specs.Prelude.{◌≡◌, ◌-◌, ◌<◌, ◌≤◌, ◌^◌, suc, length, IfSome, IfNone, OnOk};
 ghost use Rattle.square_rows.specs.Square.{Square};
 ghost use Rattle.square_rows.specs.Rows.{AreRows, IsNumber, IsLeastLevel, square_in, root_level, world_of_rows};
-ghost use Rattle.square_rows.specs.Centre.{IsAlone, IsCorner, IsCentre, NoneEmpty, cornered};
+ghost use Rattle.square_rows.specs.Centre.{is_passed, is_alone, IsCorner, IsCentre, NoneEmpty, cornered};
 
 use crate::descent::root_level;
 use crate::row::SquareRow;
 use std::alloc::AllocError;
 
+// Whether a kid is 0, or stands at the corner.
+fn is_passed(corner: usize, place: usize, kid: u32) -> bool
+    ensures { result ≡ is_passed corner place kid }
+{
+    corner == place || kid == 0
+}
+
 // Whether each of the kids but that at the corner is 0.
 fn is_alone(kids: [u32; 4], corner: usize) -> bool
-    requires { corner < 4 }
-    ensures { IsTrue result ↔ IsAlone corner kids }
+    ensures { result ≡ is_alone corner kids }
 {
-    let mut alone = [0; 4];
-    alone[corner] = kids[corner];
-    kids == alone
+    is_passed(corner, 0, kids[0])
+        && is_passed(corner, 1, kids[1])
+        && is_passed(corner, 2, kids[2])
+        && is_passed(corner, 3, kids[3])
 }
 
 // The number of the quadrant at the corner of a square, if the others are empty.

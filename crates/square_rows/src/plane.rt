@@ -2,8 +2,9 @@
 ghost use Rattle.std.specs.Prelude.{◌≡◌, ◌↔◌, ◌<◌, IfOk, IsTrue};
 ghost use Rattle.plane_core.specs.World.{cell, blank};
 ghost use Rattle.plane_core.specs.Range.{IsInside};
-ghost use Rattle.square_rows.specs.Rows.{AreSquaresOf};
+ghost use Rattle.square_rows.specs.Rows.{AreRows, AreSquaresOf, world_of_rows};
 
+use crate::canonical::canonical;
 use crate::descent::{Spot, state_at};
 use crate::row::SquareRow;
 use std::alloc::{AllocError, Global};
@@ -41,6 +42,20 @@ impl SquarePlane {
             rows: Vec::new(alloc),
             alloc,
         }
+    }
+
+    /// The plane that rows stand for, in which equal rows may stand twice and rows may be empty.
+    pub fn from_squares(alloc: Global, rows: &[SquareRow]) -> Result<SquarePlane, AllocError>
+        requires { AreRows rows.now }
+        ensures { IfOk result (λ plane. plane ≡ world_of_rows rows.now) }
+    {
+        if rows.len() > u32::MAX as usize {
+            return Err(AllocError);
+        }
+        Ok(SquarePlane {
+            rows: canonical(alloc, rows)?,
+            alloc,
+        })
     }
 
     /// The state of the cell at (x, y), 0 outside the range of planes.

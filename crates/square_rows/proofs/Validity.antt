@@ -1,0 +1,27 @@
+-- Which rows may stand in a list.
+use Rattle.std.proofs.Common.{◌≡◌, ℕ, zero, suc, ◌+◌, ◌-◌, ◌<◌, ◌≤◌, List, length, take, get_or, refl, sym, ap, ◌∙◌, subst, arith, inl, inr}
+use Rattle.std.proofs.lemmas.Bool.{cases_lt}
+use Rattle.square_rows.specs.declared.row.SquareRow.{SquareRow}
+use Rattle.square_rows.specs.Rows.{no_row, row_at, kid, IsNumber, IsRow, AreKidsOf, AreRows}
+use Rattle.square_rows.proofs.Sound.{IsNumber-level, IsNumber-from, IsNumber-state, state-IsNumber}
+
+-- a number of a level above 0, by its row
+pub number-listed : (rows : List SquareRow) (k n : ℕ) → 0 < k → 0 < n → IsNumber rows k n → (n ≤ length rows) × ((row_at rows n).level ≡ k)
+number-listed rows zero n hk hn h = absurd (omega (arith, hk))
+number-listed rows (suc k) n hk hn h = IsNumber-level rows k n h hn
+
+pub listed-number : (rows : List SquareRow) (k n : ℕ) → 0 < k → n ≤ length rows → (row_at rows n).level ≡ k → IsNumber rows k n
+listed-number rows zero n hk le e = absurd (omega (arith, hk))
+listed-number rows (suc k) n hk le e = IsNumber-from rows k n (λ live. (le, e))
+
+pub zero-number : (rows : List SquareRow) (k : ℕ) → 0 < k → IsNumber rows k 0
+zero-number rows zero h = absurd (omega (arith, h))
+zero-number rows (suc k) h = IsNumber-from rows k 0 (λ live. absurd (omega (arith, live)))
+
+-- four kids, one by one
+pub kids-from : (rows : List SquareRow) (row : SquareRow) → IsNumber rows (row.level - 1) (kid row 0) → IsNumber rows (row.level - 1) (kid row 1) → IsNumber rows (row.level - 1) (kid row 2) → IsNumber rows (row.level - 1) (kid row 3) → AreKidsOf rows row
+kids-from rows row a b c d zero h = a
+kids-from rows row a b c d (suc zero) h = b
+kids-from rows row a b c d (suc (suc zero)) h = c
+kids-from rows row a b c d (suc (suc (suc zero))) h = d
+kids-from rows row a b c d (suc (suc (suc (suc q)))) h = absurd (omega (arith, h))
