@@ -92,14 +92,14 @@ same_square (suc k) (four a b c d) (four e f g h) ht hu same =
     let back = λ (i : ℕ). let is : (n + i) - n ≡ i = omega arith in is in
     let nw = same_square k a e ht.0 hu.0 (λ i j x y. sym (cell_in-nw k a b c d i j x y) ∙ same i j (omega arith) (omega arith) ∙ cell_in-nw k e f g h i j x y) in
     let ne = same_square k b f ht.1 hu.1 (λ i j x y.
-        ap (λ m. cell_in k b m j) (sym (back i)) ∙ sym (cell_in-ne k a b c d (n + i) j (omega arith) y) ∙ same (n + i) j (omega arith) (omega arith)
-        ∙ cell_in-ne k e f g h (n + i) j (omega arith) y ∙ ap (λ m. cell_in k f m j) (back i)) in
+    ap (λ m. cell_in k b m j) (sym (back i)) ∙ sym (cell_in-ne k a b c d (n + i) j (omega arith) y) ∙ same (n + i) j (omega arith) (omega arith)
+    ∙ cell_in-ne k e f g h (n + i) j (omega arith) y ∙ ap (λ m. cell_in k f m j) (back i)) in
     let sw = same_square k c g ht.2 hu.2 (λ i j x y.
-        ap (λ m. cell_in k c i m) (sym (back j)) ∙ sym (cell_in-sw k a b c d i (n + j) x (omega arith)) ∙ same i (n + j) (omega arith) (omega arith)
-        ∙ cell_in-sw k e f g h i (n + j) x (omega arith) ∙ ap (λ m. cell_in k g i m) (back j)) in
+    ap (λ m. cell_in k c i m) (sym (back j)) ∙ sym (cell_in-sw k a b c d i (n + j) x (omega arith)) ∙ same i (n + j) (omega arith) (omega arith)
+    ∙ cell_in-sw k e f g h i (n + j) x (omega arith) ∙ ap (λ m. cell_in k g i m) (back j)) in
     let se = same_square k d h ht.3 hu.3 (λ i j x y.
-        ap₂ (cell_in k d) (sym (back i)) (sym (back j)) ∙ sym (cell_in-se k a b c d (n + i) (n + j) (omega arith) (omega arith)) ∙ same (n + i) (n + j) (omega arith) (omega arith)
-        ∙ cell_in-se k e f g h (n + i) (n + j) (omega arith) (omega arith) ∙ ap₂ (cell_in k h) (back i) (back j)) in
+    ap₂ (cell_in k d) (sym (back i)) (sym (back j)) ∙ sym (cell_in-se k a b c d (n + i) (n + j) (omega arith) (omega arith)) ∙ same (n + i) (n + j) (omega arith) (omega arith)
+    ∙ cell_in-se k e f g h (n + i) (n + j) (omega arith) (omega arith) ∙ ap₂ (cell_in k h) (back i) (back j)) in
     λ i. four (nw i) (ne i) (sw i) (se i)
 
 -- a quadrant lies in its square
@@ -167,25 +167,25 @@ put_square-inside (suc k) (four nw ne sw se) l t w x y i j is ex ey hi hj =
     ∙ elim (cases_lt i n) [
       | inl lx ↦ elim (cases_lt j n) [
         | inl ly ↦
-          put_square-outside k se _ _ _ x y is.3 (λ h. let g = h.left in absurd (omega (arith, ints)))
-          ∙ put_square-outside k sw _ _ _ x y is.2 (λ h. let g = h.top in absurd (omega (arith, ints)))
-          ∙ put_square-outside k ne _ _ _ x y is.1 (λ h. let g = h.left in absurd (omega (arith, ints)))
-          ∙ put_square-inside k nw l t w x y i j is.0 ex ey lx ly
-          ∙ sym (cell_in-nw k nw ne sw se i j lx ly)
+            put_square-outside k se _ _ _ x y is.3 (λ h. let g = h.left in absurd (omega (arith, ints)))
+            ∙ put_square-outside k sw _ _ _ x y is.2 (λ h. let g = h.top in absurd (omega (arith, ints)))
+            ∙ put_square-outside k ne _ _ _ x y is.1 (λ h. let g = h.left in absurd (omega (arith, ints)))
+            ∙ put_square-inside k nw l t w x y i j is.0 ex ey lx ly
+            ∙ sym (cell_in-nw k nw ne sw se i j lx ly)
         | inr ly ↦
-          put_square-outside k se _ _ _ x y is.3 (λ h. let g = h.left in absurd (omega (arith, ints)))
-          ∙ put_square-inside k sw l (t +ℤ pos n) _ x y i (j - n) is.2 ex (omega (arith, ints)) lx (omega arith)
-          ∙ sym (cell_in-sw k nw ne sw se i j lx ly)
+            put_square-outside k se _ _ _ x y is.3 (λ h. let g = h.left in absurd (omega (arith, ints)))
+            ∙ put_square-inside k sw l (t +ℤ pos n) _ x y i (j - n) is.2 ex (omega (arith, ints)) lx (omega arith)
+            ∙ sym (cell_in-sw k nw ne sw se i j lx ly)
       ]
       | inr lx ↦ elim (cases_lt j n) [
         | inl ly ↦
-          put_square-outside k se _ _ _ x y is.3 (λ h. let g = h.top in absurd (omega (arith, ints)))
-          ∙ put_square-outside k sw _ _ _ x y is.2 (λ h. let g = h.right in absurd (omega (arith, ints)))
-          ∙ put_square-inside k ne (l +ℤ pos n) t _ x y (i - n) j is.1 (omega (arith, ints)) ey (omega arith) ly
-          ∙ sym (cell_in-ne k nw ne sw se i j lx ly)
+            put_square-outside k se _ _ _ x y is.3 (λ h. let g = h.top in absurd (omega (arith, ints)))
+            ∙ put_square-outside k sw _ _ _ x y is.2 (λ h. let g = h.right in absurd (omega (arith, ints)))
+            ∙ put_square-inside k ne (l +ℤ pos n) t _ x y (i - n) j is.1 (omega (arith, ints)) ey (omega arith) ly
+            ∙ sym (cell_in-ne k nw ne sw se i j lx ly)
         | inr ly ↦
-          put_square-inside k se (l +ℤ pos n) (t +ℤ pos n) _ x y (i - n) (j - n) is.3 (omega (arith, ints)) (omega (arith, ints)) (omega arith) (omega arith)
-          ∙ sym (cell_in-se k nw ne sw se i j lx ly)
+            put_square-inside k se (l +ℤ pos n) (t +ℤ pos n) _ x y (i - n) (j - n) is.3 (omega (arith, ints)) (omega (arith, ints)) (omega arith) (omega arith)
+            ∙ sym (cell_in-se k nw ne sw se i j lx ly)
       ]
     ]
 

@@ -58,10 +58,10 @@ passed_square rows k corner q inner n same h =
     elim (cases_eq corner q) [
       | inl e ↦ ap (square_in rows k) (sym (same e)) ∙ sym (cond-true (corner == q) (square_in rows k inner) (empty_square k) (eq-eqb corner q e))
       | inr ne ↦
-        elim (or_cases (corner == q) (n == 0) h) [
-          | inl e ↦ absurd (ne (eqb-true corner q e))
-          | inr e ↦ ap (square_in rows k) (eqb-true n 0 e) ∙ square_in-none rows k ∙ sym (cond-false (corner == q) (square_in rows k inner) (empty_square k) (ne_eqb corner q ne))
-        ]
+          elim (or_cases (corner == q) (n == 0) h) [
+            | inl e ↦ absurd (ne (eqb-true corner q e))
+            | inr e ↦ ap (square_in rows k) (eqb-true n 0 e) ∙ square_in-none rows k ∙ sym (cond-false (corner == q) (square_in rows k inner) (empty_square k) (ne_eqb corner q ne))
+          ]
     ]
 
 -- where the other kids are 0 the square has its live cells at the corner
@@ -120,7 +120,7 @@ corner-only rows (suc k) n corner valid none hk hn h other s e =
     let less : suc k - 1 ≡ k = omega arith in
     let number = λ (q : ℕ) (hq : q < 4). subst (λ j. IsNumber rows j (kid row q)) less (number-kid rows (suc k) n q valid hk hn h hq) in
     let is : four (square_in rows k (kid row 0)) (square_in rows k (kid row 1)) (square_in rows k (kid row 2)) (square_in rows k (kid row 3)) ≡ cornered k corner s =
-        sym (square_in-number rows k n hn) ∙ subst (λ j. square_in rows (suc j) n ≡ cornered j corner s) less e in
+    sym (square_in-number rows k n hn) ∙ subst (λ j. square_in rows (suc j) n ≡ cornered j corner s) less e in
     let p0 = passed_from rows k corner 0 (kid row 0) s none (number 0 (lit< tt)) (ap (part 0) is) in
     let p1 = passed_from rows k corner 1 (kid row 1) s none (number 1 (lit< tt)) (ap (part 1) is) in
     let p2 = passed_from rows k corner 2 (kid row 2) s none (number 2 (lit< tt)) (ap (part 2) is) in
@@ -250,7 +250,7 @@ module _ (rows : List SquareRow) (k a b c d : ℕ) (valid : AreRows rows) (none 
       let count : length all ≡ suc (length rows) = omega (arith, length_push rows row) in
       world-put all (suc k) (four (s a) (s b) (s c) (s d)) middle_level (ap (square_in all (suc k)) count ∙ middle_square)
       ∙ sym (centred-world k (s a) (s b) (s c) (s d)
-        (square_in-IsSquare rows k a valid middle.nw.names) (square_in-IsSquare rows k b valid middle.ne.names) (square_in-IsSquare rows k c valid middle.sw.names) (square_in-IsSquare rows k d valid middle.se.names))
+      (square_in-IsSquare rows k a valid middle.nw.names) (square_in-IsSquare rows k b valid middle.ne.names) (square_in-IsSquare rows k c valid middle.sw.names) (square_in-IsSquare rows k d valid middle.se.names))
       ∙ sym (world-put rows (suc (suc k)) (centred k (s a) (s b) (s c) (s d)) ek root-centred)
 
   root_number : IsNumber rows (suc (suc k)) (length rows)

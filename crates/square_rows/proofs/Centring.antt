@@ -100,20 +100,20 @@ module _ (k : ℕ) (a b c d : Square) where
         | inl x ↦ elim (cases_lt j n) [
           | inl y ↦ nw_at (suc k) nw ne sw se (n + i) (n + j) (omega arith) (omega arith) ∙ se_at k e e e a i j x y ∙ sym (nw_at k a b c d i j x y)
           | inr y ↦
-            let over : n + j ≡ m + (j - n) = omega arith in
-            ap (cell_in (suc (suc k)) (centred k a b c d) (n + i)) over
-            ∙ sw_at (suc k) nw ne sw se (n + i) (j - n) (omega arith) (omega arith) ∙ ne_at k e c e e i (j - n) x (omega arith) ∙ sym (cell_in-sw k a b c d i j x y)
+              let over : n + j ≡ m + (j - n) = omega arith in
+              ap (cell_in (suc (suc k)) (centred k a b c d) (n + i)) over
+              ∙ sw_at (suc k) nw ne sw se (n + i) (j - n) (omega arith) (omega arith) ∙ ne_at k e c e e i (j - n) x (omega arith) ∙ sym (cell_in-sw k a b c d i j x y)
         ]
         | inr x ↦
-          let over_i : n + i ≡ m + (i - n) = omega arith in
-          ap (λ p. cell_in (suc (suc k)) (centred k a b c d) p (n + j)) over_i
-          ∙ elim (cases_lt j n) [
-            | inl y ↦ ne_at (suc k) nw ne sw se (i - n) (n + j) (omega arith) (omega arith) ∙ sw_at k e e b e (i - n) j (omega arith) y ∙ sym (cell_in-ne k a b c d i j x y)
-            | inr y ↦
-              let over : n + j ≡ m + (j - n) = omega arith in
-              ap (cell_in (suc (suc k)) (centred k a b c d) (m + (i - n))) over
-              ∙ se_at (suc k) nw ne sw se (i - n) (j - n) (omega arith) (omega arith) ∙ nw_at k d e e e (i - n) (j - n) (omega arith) (omega arith) ∙ sym (cell_in-se k a b c d i j x y)
-          ]
+            let over_i : n + i ≡ m + (i - n) = omega arith in
+            ap (λ p. cell_in (suc (suc k)) (centred k a b c d) p (n + j)) over_i
+            ∙ elim (cases_lt j n) [
+              | inl y ↦ ne_at (suc k) nw ne sw se (i - n) (n + j) (omega arith) (omega arith) ∙ sw_at k e e b e (i - n) j (omega arith) y ∙ sym (cell_in-ne k a b c d i j x y)
+              | inr y ↦
+                  let over : n + j ≡ m + (j - n) = omega arith in
+                  ap (cell_in (suc (suc k)) (centred k a b c d) (m + (i - n))) over
+                  ∙ se_at (suc k) nw ne sw se (i - n) (j - n) (omega arith) (omega arith) ∙ nw_at k d e e e (i - n) (j - n) (omega arith) (omega arith) ∙ sym (cell_in-se k a b c d i j x y)
+            ]
       ]
 
   -- and those around it
@@ -155,36 +155,36 @@ centred_cells k a b c d ia ib ic id x y =
     let twice : m ≡ n + n = double k in
     let twice_m : 2 ^ suc (suc k) ≡ m + m = double (suc k) in
     let big : IsSquare (suc (suc k)) (centred k a b c d) =
-        IsSquare-parts (suc k) _ _ _ _ (IsSquare-parts k _ _ _ _ e e e ia) (IsSquare-parts k _ _ _ _ e e ib e) (IsSquare-parts k _ _ _ _ e ic e e) (IsSquare-parts k _ _ _ _ id e e e) in
+    IsSquare-parts (suc k) _ _ _ _ (IsSquare-parts k _ _ _ _ e e e ia) (IsSquare-parts k _ _ _ _ e e ib e) (IsSquare-parts k _ _ _ _ e ic e e) (IsSquare-parts k _ _ _ _ id e e e) in
     let small : IsSquare (suc k) (four a b c d) = IsSquare-parts k a b c d ia ib ic id in
     elim (in_or_out m (neg_ℤ (pos n)) (neg_ℤ (pos n)) x y) [
       | inl h ↦
-        let at_x = offset (neg_ℤ (pos n)) x h.left in
-        let at_y = offset (neg_ℤ (pos n)) y h.top in
-        let right = h.right in let bottom = h.bottom in
-        let ex = at_x.1 in let ey = at_y.1 in
-        let i = at_x.0 in let j = at_y.0 in
-        let hi : i < m = omega (arith, ints) in
-        let hj : j < m = omega (arith, ints) in
-        put_square-inside (suc (suc k)) (centred k a b c d) (neg_ℤ (pos m)) (neg_ℤ (pos m)) blank x y (n + i) (n + j) big (omega (arith, ints)) (omega (arith, ints)) (omega arith) (omega arith)
-        ∙ centre_cells k a b c d i j hi hj
-        ∙ sym (put_square-inside (suc k) (four a b c d) (neg_ℤ (pos n)) (neg_ℤ (pos n)) blank x y i j small ex ey hi hj)
+          let at_x = offset (neg_ℤ (pos n)) x h.left in
+          let at_y = offset (neg_ℤ (pos n)) y h.top in
+          let right = h.right in let bottom = h.bottom in
+          let ex = at_x.1 in let ey = at_y.1 in
+          let i = at_x.0 in let j = at_y.0 in
+          let hi : i < m = omega (arith, ints) in
+          let hj : j < m = omega (arith, ints) in
+          put_square-inside (suc (suc k)) (centred k a b c d) (neg_ℤ (pos m)) (neg_ℤ (pos m)) blank x y (n + i) (n + j) big (omega (arith, ints)) (omega (arith, ints)) (omega arith) (omega arith)
+          ∙ centre_cells k a b c d i j hi hj
+          ∙ sym (put_square-inside (suc k) (four a b c d) (neg_ℤ (pos n)) (neg_ℤ (pos n)) blank x y i j small ex ey hi hj)
       | inr out ↦
-        elim (in_or_out (2 ^ suc (suc k)) (neg_ℤ (pos m)) (neg_ℤ (pos m)) x y) [
-          | inl h ↦
-            let at_x = offset (neg_ℤ (pos m)) x h.left in
-            let at_y = offset (neg_ℤ (pos m)) y h.top in
-            let right = h.right in let bottom = h.bottom in
-            let ex = at_x.1 in let ey = at_y.1 in
-            let i = at_x.0 in let j = at_y.0 in
-            let hi : i < 2 ^ suc (suc k) = omega (arith, ints) in
-            let hj : j < 2 ^ suc (suc k) = omega (arith, ints) in
-            put_square-inside (suc (suc k)) (centred k a b c d) (neg_ℤ (pos m)) (neg_ℤ (pos m)) blank x y i j big ex ey hi hj
-            ∙ around_centre k a b c d i j hi hj (λ p q r s. out (record { left = omega (arith, ints); right = omega (arith, ints); top = omega (arith, ints); bottom = omega (arith, ints) }))
-            ∙ sym (cell-blank x y)
-          | inr far ↦ put_square-outside (suc (suc k)) (centred k a b c d) (neg_ℤ (pos m)) (neg_ℤ (pos m)) blank x y big far
-        ]
-        ∙ sym (put_square-outside (suc k) (four a b c d) (neg_ℤ (pos n)) (neg_ℤ (pos n)) blank x y small out)
+          elim (in_or_out (2 ^ suc (suc k)) (neg_ℤ (pos m)) (neg_ℤ (pos m)) x y) [
+            | inl h ↦
+                let at_x = offset (neg_ℤ (pos m)) x h.left in
+                let at_y = offset (neg_ℤ (pos m)) y h.top in
+                let right = h.right in let bottom = h.bottom in
+                let ex = at_x.1 in let ey = at_y.1 in
+                let i = at_x.0 in let j = at_y.0 in
+                let hi : i < 2 ^ suc (suc k) = omega (arith, ints) in
+                let hj : j < 2 ^ suc (suc k) = omega (arith, ints) in
+                put_square-inside (suc (suc k)) (centred k a b c d) (neg_ℤ (pos m)) (neg_ℤ (pos m)) blank x y i j big ex ey hi hj
+                ∙ around_centre k a b c d i j hi hj (λ p q r s. out (record { left = omega (arith, ints); right = omega (arith, ints); top = omega (arith, ints); bottom = omega (arith, ints) }))
+                ∙ sym (cell-blank x y)
+            | inr far ↦ put_square-outside (suc (suc k)) (centred k a b c d) (neg_ℤ (pos m)) (neg_ℤ (pos m)) blank x y big far
+          ]
+          ∙ sym (put_square-outside (suc k) (four a b c d) (neg_ℤ (pos n)) (neg_ℤ (pos n)) blank x y small out)
     ]
 
 -- the square in the middle stands for the same world
@@ -205,12 +205,12 @@ module _ (k : ℕ) (t : Square) (is : IsSquare (suc (suc k)) t) (fits : Fits (su
       let y = neg_ℤ (pos m) +ℤ pos j in
       let edge : edge_of (suc (suc k)) ≡ neg_ℤ (pos m) = edge-suc (suc k) in
       let found : cell (root_world (suc (suc k)) t) x y ≡ cell_in (suc (suc k)) t i j =
-          ap (λ z. cell (put_square (suc (suc k)) t z z blank) x y) edge ∙ put_square-inside (suc (suc k)) t (neg_ℤ (pos m)) (neg_ℤ (pos m)) blank x y i j is refl refl hi hj in
+      ap (λ z. cell (put_square (suc (suc k)) t z z blank) x y) edge ∙ put_square-inside (suc (suc k)) t (neg_ℤ (pos m)) (neg_ℤ (pos m)) blank x y i j is refl refl hi hj in
       elim (cases_lt 0 (cell_in (suc (suc k)) t i j)) [
         | inl live ↦
-          let here : IsIn m (neg_ℤ (pos n)) (neg_ℤ (pos n)) x y = subst (λ z. IsIn m z z x y) (edge-suc k) (fits x y (omega (arith, found))) in
-          let left = here.left in let right = here.right in let top = here.top in let bottom = here.bottom in
-          absurd (out (omega (arith, ints)) (omega (arith, ints)) (omega (arith, ints)) (omega (arith, ints)))
+            let here : IsIn m (neg_ℤ (pos n)) (neg_ℤ (pos n)) x y = subst (λ z. IsIn m z z x y) (edge-suc k) (fits x y (omega (arith, found))) in
+            let left = here.left in let right = here.right in let top = here.top in let bottom = here.bottom in
+            absurd (out (omega (arith, ints)) (omega (arith, ints)) (omega (arith, ints)) (omega (arith, ints)))
         | inr none ↦ omega arith
       ]
 
@@ -244,29 +244,29 @@ module _ (k : ℕ) (a0 a1 a2 a3 b0 b1 b2 b3 c0 c1 c2 c3 d0 d1 d2 d3 : Square) wh
       let id = IsSquare-four k d0 d1 d2 d3 parts.3 in
       let at = λ (x y x' y' : ℕ) (ex : x ≡ x') (ey : y ≡ y'). ap₂ (cell_in (suc (suc k)) t) ex ey in
       let ea0 = block_away k t is fits a0 0 0 ia.0 (omega arith) (omega arith)
-          (λ i j x y. at (0 + i) (0 + j) i j (omega arith) (omega arith) ∙ nw_at (suc k) a b c d i j (omega arith) (omega arith) ∙ nw_at k a0 a1 a2 a3 i j x y) (λ i j x y p q r s. omega arith) in
+      (λ i j x y. at (0 + i) (0 + j) i j (omega arith) (omega arith) ∙ nw_at (suc k) a b c d i j (omega arith) (omega arith) ∙ nw_at k a0 a1 a2 a3 i j x y) (λ i j x y p q r s. omega arith) in
       let ea1 = block_away k t is fits a1 n 0 ia.1 (omega arith) (omega arith)
-          (λ i j x y. at (n + i) (0 + j) (n + i) j refl (omega arith) ∙ nw_at (suc k) a b c d (n + i) j (omega arith) (omega arith) ∙ ne_at k a0 a1 a2 a3 i j x y) (λ i j x y p q r s. omega arith) in
+      (λ i j x y. at (n + i) (0 + j) (n + i) j refl (omega arith) ∙ nw_at (suc k) a b c d (n + i) j (omega arith) (omega arith) ∙ ne_at k a0 a1 a2 a3 i j x y) (λ i j x y p q r s. omega arith) in
       let ea2 = block_away k t is fits a2 0 n ia.2 (omega arith) (omega arith)
-          (λ i j x y. at (0 + i) (n + j) i (n + j) (omega arith) refl ∙ nw_at (suc k) a b c d i (n + j) (omega arith) (omega arith) ∙ sw_at k a0 a1 a2 a3 i j x y) (λ i j x y p q r s. omega arith) in
+      (λ i j x y. at (0 + i) (n + j) i (n + j) (omega arith) refl ∙ nw_at (suc k) a b c d i (n + j) (omega arith) (omega arith) ∙ sw_at k a0 a1 a2 a3 i j x y) (λ i j x y p q r s. omega arith) in
       let eb0 = block_away k t is fits b0 m 0 ib.0 (omega arith) (omega arith)
-          (λ i j x y. at (m + i) (0 + j) (m + i) j refl (omega arith) ∙ ne_at (suc k) a b c d i j (omega arith) (omega arith) ∙ nw_at k b0 b1 b2 b3 i j x y) (λ i j x y p q r s. omega arith) in
+      (λ i j x y. at (m + i) (0 + j) (m + i) j refl (omega arith) ∙ ne_at (suc k) a b c d i j (omega arith) (omega arith) ∙ nw_at k b0 b1 b2 b3 i j x y) (λ i j x y p q r s. omega arith) in
       let eb1 = block_away k t is fits b1 (m + n) 0 ib.1 (omega arith) (omega arith)
-          (λ i j x y. at ((m + n) + i) (0 + j) (m + (n + i)) j (omega arith) (omega arith) ∙ ne_at (suc k) a b c d (n + i) j (omega arith) (omega arith) ∙ ne_at k b0 b1 b2 b3 i j x y) (λ i j x y p q r s. omega arith) in
+      (λ i j x y. at ((m + n) + i) (0 + j) (m + (n + i)) j (omega arith) (omega arith) ∙ ne_at (suc k) a b c d (n + i) j (omega arith) (omega arith) ∙ ne_at k b0 b1 b2 b3 i j x y) (λ i j x y p q r s. omega arith) in
       let eb3 = block_away k t is fits b3 (m + n) n ib.3 (omega arith) (omega arith)
-          (λ i j x y. at ((m + n) + i) (n + j) (m + (n + i)) (n + j) (omega arith) refl ∙ ne_at (suc k) a b c d (n + i) (n + j) (omega arith) (omega arith) ∙ se_at k b0 b1 b2 b3 i j x y) (λ i j x y p q r s. omega arith) in
+      (λ i j x y. at ((m + n) + i) (n + j) (m + (n + i)) (n + j) (omega arith) refl ∙ ne_at (suc k) a b c d (n + i) (n + j) (omega arith) (omega arith) ∙ se_at k b0 b1 b2 b3 i j x y) (λ i j x y p q r s. omega arith) in
       let ec0 = block_away k t is fits c0 0 m ic.0 (omega arith) (omega arith)
-          (λ i j x y. at (0 + i) (m + j) i (m + j) (omega arith) refl ∙ sw_at (suc k) a b c d i j (omega arith) (omega arith) ∙ nw_at k c0 c1 c2 c3 i j x y) (λ i j x y p q r s. omega arith) in
+      (λ i j x y. at (0 + i) (m + j) i (m + j) (omega arith) refl ∙ sw_at (suc k) a b c d i j (omega arith) (omega arith) ∙ nw_at k c0 c1 c2 c3 i j x y) (λ i j x y p q r s. omega arith) in
       let ec2 = block_away k t is fits c2 0 (m + n) ic.2 (omega arith) (omega arith)
-          (λ i j x y. at (0 + i) ((m + n) + j) i (m + (n + j)) (omega arith) (omega arith) ∙ sw_at (suc k) a b c d i (n + j) (omega arith) (omega arith) ∙ sw_at k c0 c1 c2 c3 i j x y) (λ i j x y p q r s. omega arith) in
+      (λ i j x y. at (0 + i) ((m + n) + j) i (m + (n + j)) (omega arith) (omega arith) ∙ sw_at (suc k) a b c d i (n + j) (omega arith) (omega arith) ∙ sw_at k c0 c1 c2 c3 i j x y) (λ i j x y p q r s. omega arith) in
       let ec3 = block_away k t is fits c3 n (m + n) ic.3 (omega arith) (omega arith)
-          (λ i j x y. at (n + i) ((m + n) + j) (n + i) (m + (n + j)) refl (omega arith) ∙ sw_at (suc k) a b c d (n + i) (n + j) (omega arith) (omega arith) ∙ se_at k c0 c1 c2 c3 i j x y) (λ i j x y p q r s. omega arith) in
+      (λ i j x y. at (n + i) ((m + n) + j) (n + i) (m + (n + j)) refl (omega arith) ∙ sw_at (suc k) a b c d (n + i) (n + j) (omega arith) (omega arith) ∙ se_at k c0 c1 c2 c3 i j x y) (λ i j x y p q r s. omega arith) in
       let ed1 = block_away k t is fits d1 (m + n) m id.1 (omega arith) (omega arith)
-          (λ i j x y. at ((m + n) + i) (m + j) (m + (n + i)) (m + j) (omega arith) refl ∙ se_at (suc k) a b c d (n + i) j (omega arith) (omega arith) ∙ ne_at k d0 d1 d2 d3 i j x y) (λ i j x y p q r s. omega arith) in
+      (λ i j x y. at ((m + n) + i) (m + j) (m + (n + i)) (m + j) (omega arith) refl ∙ se_at (suc k) a b c d (n + i) j (omega arith) (omega arith) ∙ ne_at k d0 d1 d2 d3 i j x y) (λ i j x y p q r s. omega arith) in
       let ed2 = block_away k t is fits d2 m (m + n) id.2 (omega arith) (omega arith)
-          (λ i j x y. at (m + i) ((m + n) + j) (m + i) (m + (n + j)) refl (omega arith) ∙ se_at (suc k) a b c d i (n + j) (omega arith) (omega arith) ∙ sw_at k d0 d1 d2 d3 i j x y) (λ i j x y p q r s. omega arith) in
+      (λ i j x y. at (m + i) ((m + n) + j) (m + i) (m + (n + j)) refl (omega arith) ∙ se_at (suc k) a b c d i (n + j) (omega arith) (omega arith) ∙ sw_at k d0 d1 d2 d3 i j x y) (λ i j x y p q r s. omega arith) in
       let ed3 = block_away k t is fits d3 (m + n) (m + n) id.3 (omega arith) (omega arith)
-          (λ i j x y. at ((m + n) + i) ((m + n) + j) (m + (n + i)) (m + (n + j)) (omega arith) (omega arith) ∙ se_at (suc k) a b c d (n + i) (n + j) (omega arith) (omega arith) ∙ se_at k d0 d1 d2 d3 i j x y) (λ i j x y p q r s. omega arith) in
+      (λ i j x y. at ((m + n) + i) ((m + n) + j) (m + (n + i)) (m + (n + j)) (omega arith) (omega arith) ∙ se_at (suc k) a b c d (n + i) (n + j) (omega arith) (omega arith) ∙ se_at k d0 d1 d2 d3 i j x y) (λ i j x y p q r s. omega arith) in
       λ i. four (four (ea0 i) (ea1 i) (ea2 i) a3) (four (eb0 i) (eb1 i) b2 (eb3 i)) (four (ec0 i) c1 (ec2 i) (ec3 i)) (four d0 (ed1 i) (ed2 i) (ed3 i))
 
 -- the quadrants of a centred square

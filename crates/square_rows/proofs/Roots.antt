@@ -105,10 +105,10 @@ canonical-unique a b ca cb same =
     let level : root_level b ≡ k = omega arith in
     let is_b : IsSquare k (square_in b k (length b)) = subst (λ m. IsSquare m (square_in b m (length b))) level (root-IsSquare b cb.valid) in
     let square : root_of a ≡ square_in b k (length b) =
-        same_square k (root_of a) (square_in b k (length b)) (root-IsSquare a ca.valid) is_b (λ i j hi hj.
-        root-cells a k i j ca.valid refl hi hj
-        ∙ ap (λ w. cell w (edge_of k +ℤ pos i) (edge_of k +ℤ pos j)) same
-        ∙ sym (root-cells b k i j cb.valid level hi hj)) in
+    same_square k (root_of a) (square_in b k (length b)) (root-IsSquare a ca.valid) is_b (λ i j hi hj.
+    root-cells a k i j ca.valid refl hi hj
+    ∙ ap (λ w. cell w (edge_of k +ℤ pos i) (edge_of k +ℤ pos j)) same
+    ∙ sym (root-cells b k i j cb.valid level hi hj)) in
     sym ca.walked
     ∙ ap (λ (t : Square). (number_square k t []).rows) square
     ∙ ap (λ m. (number_square m (square_in b m (length b)) []).rows) (sym level)
@@ -120,14 +120,14 @@ world-none =
     same_world (world_of_rows []) blank (λ x y.
     elim (in_or_out (2 ^ root_level []) (edge_of (root_level [])) (edge_of (root_level [])) x y) [
       | inl h ↦
-        let at_x = offset (edge_of (root_level [])) x h.left in
-        let at_y = offset (edge_of (root_level [])) y h.top in
-        let right = h.right in let bottom = h.bottom in
-        let ex = at_x.1 in let ey = at_y.1 in
-        world-inside [] x y at_x.0 at_y.0 AreRows-none at_x.1 at_y.1 (omega (arith, ints)) (omega (arith, ints))
-        ∙ ap (λ (t : Square). cell_in (root_level []) t at_x.0 at_y.0) (square_in-none [] (root_level []))
-        ∙ cell_in-empty (root_level []) at_x.0 at_y.0
-        ∙ sym (cell-blank x y)
+          let at_x = offset (edge_of (root_level [])) x h.left in
+          let at_y = offset (edge_of (root_level [])) y h.top in
+          let right = h.right in let bottom = h.bottom in
+          let ex = at_x.1 in let ey = at_y.1 in
+          world-inside [] x y at_x.0 at_y.0 AreRows-none at_x.1 at_y.1 (omega (arith, ints)) (omega (arith, ints))
+          ∙ ap (λ (t : Square). cell_in (root_level []) t at_x.0 at_y.0) (square_in-none [] (root_level []))
+          ∙ cell_in-empty (root_level []) at_x.0 at_y.0
+          ∙ sym (cell-blank x y)
       | inr out ↦ world-outside [] x y AreRows-none out ∙ sym (cell-blank x y)
     ])
 

@@ -100,15 +100,15 @@ pub AreRows-push : (rows : List SquareRow) (row : SquareRow) → AreRows rows �
 AreRows-push rows row valid next i h =
     elim (cases_lt i (length rows)) [
       | inl lt ↦
-        let le : i ≤ length rows = omega arith in
-        let front : take i (rows ++ row ∷ []) ≡ take i rows = take-append-le i rows (row ∷ []) le in
-        let at : get_or (rows ++ row ∷ []) i no_row ≡ get_or rows i no_row = get_or_append_left rows (row ∷ []) no_row i lt in
-        subst (λ (r : SquareRow). IsRow (take i (rows ++ row ∷ [])) r) (sym at) (subst (λ (rs : List SquareRow). IsRow rs (get_or rows i no_row)) (sym front) (valid i lt))
+          let le : i ≤ length rows = omega arith in
+          let front : take i (rows ++ row ∷ []) ≡ take i rows = take-append-le i rows (row ∷ []) le in
+          let at : get_or (rows ++ row ∷ []) i no_row ≡ get_or rows i no_row = get_or_append_left rows (row ∷ []) no_row i lt in
+          subst (λ (r : SquareRow). IsRow (take i (rows ++ row ∷ [])) r) (sym at) (subst (λ (rs : List SquareRow). IsRow rs (get_or rows i no_row)) (sym front) (valid i lt))
       | inr ge ↦
-        let last : length rows ≡ i = omega (arith, h, length_push rows row) in
-        let front : take i (rows ++ row ∷ []) ≡ rows = take_at rows (row ∷ []) i last in
-        let at : get_or (rows ++ row ∷ []) i no_row ≡ row = get_or_push rows row no_row i last in
-        subst (λ (r : SquareRow). IsRow (take i (rows ++ row ∷ [])) r) (sym at) (subst (λ (rs : List SquareRow). IsRow rs row) (sym front) next)
+          let last : length rows ≡ i = omega (arith, h, length_push rows row) in
+          let front : take i (rows ++ row ∷ []) ≡ rows = take_at rows (row ∷ []) i last in
+          let at : get_or (rows ++ row ∷ []) i no_row ≡ row = get_or_push rows row no_row i last in
+          subst (λ (r : SquareRow). IsRow (take i (rows ++ row ∷ [])) r) (sym at) (subst (λ (rs : List SquareRow). IsRow rs row) (sym front) next)
     ]
 
 -- the row of four numbers

@@ -84,14 +84,14 @@ world-empty rows valid e =
     same_world (world_of_rows rows) blank (λ x y.
     elim (in_or_out (2 ^ root_level rows) (edge_of (root_level rows)) (edge_of (root_level rows)) x y) [
       | inl h ↦
-        let at_x = offset (edge_of (root_level rows)) x h.left in
-        let at_y = offset (edge_of (root_level rows)) y h.top in
-        let right = h.right in let bottom = h.bottom in
-        let ex = at_x.1 in let ey = at_y.1 in
-        world-inside rows x y at_x.0 at_y.0 valid at_x.1 at_y.1 (omega (arith, ints)) (omega (arith, ints))
-        ∙ ap (λ (t : Square). cell_in (root_level rows) t at_x.0 at_y.0) e
-        ∙ cell_in-empty (root_level rows) at_x.0 at_y.0
-        ∙ sym (cell-blank x y)
+          let at_x = offset (edge_of (root_level rows)) x h.left in
+          let at_y = offset (edge_of (root_level rows)) y h.top in
+          let right = h.right in let bottom = h.bottom in
+          let ex = at_x.1 in let ey = at_y.1 in
+          world-inside rows x y at_x.0 at_y.0 valid at_x.1 at_y.1 (omega (arith, ints)) (omega (arith, ints))
+          ∙ ap (λ (t : Square). cell_in (root_level rows) t at_x.0 at_y.0) e
+          ∙ cell_in-empty (root_level rows) at_x.0 at_y.0
+          ∙ sym (cell-blank x y)
       | inr out ↦ world-outside rows x y valid out ∙ sym (cell-blank x y)
     ])
 
@@ -117,29 +117,29 @@ tidied_by rows k valid ek =
     let sound : IsSound (suc k) t r = number_square-sound (suc k) t [] AreRows-none EachHas-none is (omega arith) in
     elim (cases_lt 0 r.number) [
       | inl live ↦
-        let last : r.number ≡ length r.rows = number_square-last k t live is in
-        let at = IsNumber-level r.rows k r.number sound.number live in
-        let some : 0 < length r.rows = omega arith in
-        let level : root_level r.rows ≡ suc k = root_level-some r.rows some ∙ ap (λ n. (row_at r.rows n).level) (sym last) ∙ at.1 in
-        let square : square_in r.rows (suc k) (length r.rows) ≡ t = ap (square_in r.rows (suc k)) (sym last) ∙ sound.square in
-        record {
-          walked = record {
-            valid = sound.valid;
-            each = sound.each.has;
-            walked =
-                ap (λ m. (number_square m (square_in r.rows m (length r.rows)) []).rows) level
-                ∙ ap (λ (s : Square). (number_square (suc k) s []).rows) square;
-          };
-          world = world-put r.rows (suc k) t level square ∙ sym (world-put rows (suc k) t ek refl);
-          level = inl (level ∙ sym ek);
-        }
+          let last : r.number ≡ length r.rows = number_square-last k t live is in
+          let at = IsNumber-level r.rows k r.number sound.number live in
+          let some : 0 < length r.rows = omega arith in
+          let level : root_level r.rows ≡ suc k = root_level-some r.rows some ∙ ap (λ n. (row_at r.rows n).level) (sym last) ∙ at.1 in
+          let square : square_in r.rows (suc k) (length r.rows) ≡ t = ap (square_in r.rows (suc k)) (sym last) ∙ sound.square in
+          record {
+            walked = record {
+              valid = sound.valid;
+              each = sound.each.has;
+              walked =
+                  ap (λ m. (number_square m (square_in r.rows m (length r.rows)) []).rows) level
+                  ∙ ap (λ (s : Square). (number_square (suc k) s []).rows) square;
+            };
+            world = world-put r.rows (suc k) t level square ∙ sym (world-put rows (suc k) t ek refl);
+            level = inl (level ∙ sym ek);
+          }
       | inr none ↦
-        let zero_is : r.number ≡ 0 = omega arith in
-        let t_empty : t ≡ empty_square (suc k) = sym sound.square ∙ ap (square_in r.rows (suc k)) zero_is ∙ square_in-none r.rows (suc k) in
-        let nothing : r.rows ≡ [] = ap (λ (s : Square). (number_square (suc k) s []).rows) t_empty ∙ ap (λ (q : Numbered). q.rows) (Has-empty (suc k) []) in
-        let root_empty : root_of rows ≡ empty_square (root_level rows) = subst (λ m. square_in rows m (length rows) ≡ empty_square m) (sym ek) t_empty in
-        let world_none : world_of_rows [] ≡ blank = world-empty [] AreRows-none (square_in-none [] (root_level [])) in
-        subst (IsTidied rows) (sym nothing) (record { walked = walked-none; world = world_none ∙ sym (world-empty rows valid root_empty); level = inr refl })
+          let zero_is : r.number ≡ 0 = omega arith in
+          let t_empty : t ≡ empty_square (suc k) = sym sound.square ∙ ap (square_in r.rows (suc k)) zero_is ∙ square_in-none r.rows (suc k) in
+          let nothing : r.rows ≡ [] = ap (λ (s : Square). (number_square (suc k) s []).rows) t_empty ∙ ap (λ (q : Numbered). q.rows) (Has-empty (suc k) []) in
+          let root_empty : root_of rows ≡ empty_square (root_level rows) = subst (λ m. square_in rows m (length rows) ≡ empty_square m) (sym ek) t_empty in
+          let world_none : world_of_rows [] ≡ blank = world-empty [] AreRows-none (square_in-none [] (root_level [])) in
+          subst (IsTidied rows) (sym nothing) (record { walked = walked-none; world = world_none ∙ sym (world-empty rows valid root_empty); level = inr refl })
     ]
 
 pub tidied : (rows done : List SquareRow) → AreRows rows → (number_square (root_level rows) (root_of rows) []).rows ≡ done → IsTidied rows done
@@ -155,10 +155,10 @@ pub canonical-walked : (rows done : List SquareRow) → IsTidied rows done → I
 canonical-walked rows done t least =
     elim t.level [
       | inl level ↦ record {
-          valid = t.walked.valid;
-          walked = t.walked.walked;
-          least = subst (λ k. IsLeastLevel k (world_of_rows done)) (sym level) (subst (IsLeastLevel (root_level rows)) (sym t.world) least);
-        }
+        valid = t.walked.valid;
+        walked = t.walked.walked;
+        least = subst (λ k. IsLeastLevel k (world_of_rows done)) (sym level) (subst (IsLeastLevel (root_level rows)) (sym t.world) least);
+      }
       | inr none ↦ subst AreCanonical (sym none) canonical-none
     ]
 

@@ -45,11 +45,11 @@ walks-four rows d0 d1 d2 d3 d4 d5 (suc k) (suc i) a b c d m hk hn =
     let less : k ≡ suc k - 1 = omega arith in
     let one_less : i ≡ suc i - 1 = omega arith in
     let P : ℕ → ℕ → Type 0 = λ j p.
-      Walks j (square_in rows j (kid (get_or rows p no_row) 0)) d0 d1 a
-      → Walks j (square_in rows j (kid (get_or rows p no_row) 1)) d1 d2 b
-      → Walks j (square_in rows j (kid (get_or rows p no_row) 2)) d2 d3 c
-      → Walks j (square_in rows j (kid (get_or rows p no_row) 3)) d3 d4 d
-      → (number_row (row_of (suc k) a b c d) d4).rows ≡ d5 → (number_row (row_of (suc k) a b c d) d4).number ≡ m → Walks (suc k) (square_in rows (suc k) (suc i)) d0 d5 m in
+    Walks j (square_in rows j (kid (get_or rows p no_row) 0)) d0 d1 a
+    → Walks j (square_in rows j (kid (get_or rows p no_row) 1)) d1 d2 b
+    → Walks j (square_in rows j (kid (get_or rows p no_row) 2)) d2 d3 c
+    → Walks j (square_in rows j (kid (get_or rows p no_row) 3)) d3 d4 d
+    → (number_row (row_of (suc k) a b c d) d4).rows ≡ d5 → (number_row (row_of (suc k) a b c d) d4).number ≡ m → Walks (suc k) (square_in rows (suc k) (suc i)) d0 d5 m in
     let here : P k i = λ ha hb hc hd hr hm. subst (λ (t : Square). Walks (suc k) t d0 d5 m) (sym (square_in-row rows k i)) (walks-quadrants k _ _ _ _ d0 d1 d2 d3 d4 d5 a b c d m ha hb hc hd hr hm) in
     subst (λ p. P (suc k - 1) p) one_less (subst (λ j. P j i) less here)
 
@@ -65,13 +65,13 @@ remembers-more rows d0 d4 d5 numbers (suc k) n m hk hn h r g walks =
       count = length-set numbers (n - 1) (Some m) ∙ r.count;
       each = λ i p lt e. elim (cases_eq i (n - 1)) [
         | inl same ↦
-          let there : n - 1 < length numbers = omega (arith, r.count) in
-          let is : m ≡ p = same_Some m p (sym (get_or-set_same numbers (n - 1) (Some m) None there) ∙ ap (λ q. get_or (set numbers (n - 1) (Some m)) q None) (sym same) ∙ e) in
-          let next : n ≡ suc i = omega (arith, same) in
-          let level : suc k ≡ (get_or rows i no_row).level = sym at.1 ∙ ap (λ q. (get_or rows q no_row).level) (sym same) in
-          subst (λ j. Has j (square_in rows j (suc i)) d5 p) level (subst (λ q. Has (suc k) (square_in rows (suc k) q) d5 p) next (subst (λ q. Has (suc k) (square_in rows (suc k) n) d5 q) is has))
+            let there : n - 1 < length numbers = omega (arith, r.count) in
+            let is : m ≡ p = same_Some m p (sym (get_or-set_same numbers (n - 1) (Some m) None there) ∙ ap (λ q. get_or (set numbers (n - 1) (Some m)) q None) (sym same) ∙ e) in
+            let next : n ≡ suc i = omega (arith, same) in
+            let level : suc k ≡ (get_or rows i no_row).level = sym at.1 ∙ ap (λ q. (get_or rows q no_row).level) (sym same) in
+            subst (λ j. Has j (square_in rows j (suc i)) d5 p) level (subst (λ q. Has (suc k) (square_in rows (suc k) q) d5 p) next (subst (λ q. Has (suc k) (square_in rows (suc k) n) d5 q) is has))
         | inr other ↦
-          Has-grown (get_or rows i no_row).level (square_in rows (get_or rows i no_row).level (suc i)) d4 d5 p g (r.each i p lt (sym (get_or-set_other numbers (n - 1) i (Some m) None other) ∙ e))
+            Has-grown (get_or rows i no_row).level (square_in rows (get_or rows i no_row).level (suc i)) d4 d5 p g (r.each i p lt (sym (get_or-set_other numbers (n - 1) i (Some m) None other) ∙ e))
       ];
     }
 

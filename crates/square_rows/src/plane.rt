@@ -81,7 +81,7 @@ impl SquarePlane {
     pub fn squares(&self) -> Result<Vec<SquareRow>, AllocError>
         ensures { IfOk result (λ rows. AreSquaresOf self.now rows.items) }
     {
-        self.rows.to_vec(self.alloc)
+        self.rows.as_slice().to_vec(self.alloc)
     }
 
     /// Whether the cells are the same.

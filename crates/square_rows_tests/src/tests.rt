@@ -10,7 +10,10 @@ fn row(level: u8, kids: [u32; 4]) -> SquareRow {
 }
 
 fn same<T: PartialEq + Debug, A: Debug>(rt: &impl Abort, found: &T, wanted: &T, at: &A) {
-    assert!(rt; found == wanted, "at {at:?}: {found:?} in place of {wanted:?}");
+    assert!(rt;
+        found == wanted,
+        "at {at:?}: {found:?} in place of {wanted:?}"
+    );
 }
 
 fn plane_of(rt: &impl Abort, alloc: Global, rows: &[SquareRow]) -> SquarePlane {
@@ -43,17 +46,29 @@ fn canonical_rows_stay(rt: HostRuntime) {
     let alloc = rt.alloc();
     let cell = [row(1, [0, 0, 0, 5])];
     becomes(&rt, alloc, &cell, &cell);
-    let two = [row(1, [1, 0, 0, 0]), row(1, [2, 0, 0, 0]), row(2, [1, 2, 0, 0])];
+    let two = [
+        row(1, [1, 0, 0, 0]),
+        row(1, [2, 0, 0, 0]),
+        row(2, [1, 2, 0, 0]),
+    ];
     becomes(&rt, alloc, &two, &two);
 }
 
 #[test]
 fn the_root_is_the_least(rt: HostRuntime) {
     let alloc = rt.alloc();
-    let high = [row(1, [1, 0, 0, 0]), row(2, [0, 0, 0, 1]), row(3, [0, 0, 0, 0])];
+    let high = [
+        row(1, [1, 0, 0, 0]),
+        row(2, [0, 0, 0, 1]),
+        row(3, [0, 0, 0, 0]),
+    ];
     becomes(&rt, alloc, &high[..2], &[row(1, [0, 0, 0, 1])]);
     becomes(&rt, alloc, &high, &[]);
-    let higher = [row(1, [7, 0, 0, 0]), row(2, [1, 0, 0, 0]), row(3, [0, 0, 0, 2])];
+    let higher = [
+        row(1, [7, 0, 0, 0]),
+        row(2, [1, 0, 0, 0]),
+        row(3, [0, 0, 0, 2]),
+    ];
     becomes(&rt, alloc, &higher, &[row(1, [0, 0, 0, 7])]);
     let four = [
         row(1, [0, 0, 0, 1]),
@@ -68,23 +83,53 @@ fn the_root_is_the_least(rt: HostRuntime) {
 #[test]
 fn each_square_stands_once_in_the_order_of_the_walk(rt: HostRuntime) {
     let alloc = rt.alloc();
-    let twice = [row(1, [1, 0, 0, 0]), row(1, [1, 0, 0, 0]), row(2, [1, 0, 2, 0])];
-    becomes(&rt, alloc, &twice, &[row(1, [1, 0, 0, 0]), row(2, [1, 0, 1, 0])]);
-    let reversed = [row(1, [2, 0, 0, 0]), row(1, [1, 0, 0, 0]), row(2, [2, 1, 0, 0])];
+    let twice = [
+        row(1, [1, 0, 0, 0]),
+        row(1, [1, 0, 0, 0]),
+        row(2, [1, 0, 2, 0]),
+    ];
+    becomes(
+        &rt,
+        alloc,
+        &twice,
+        &[row(1, [1, 0, 0, 0]), row(2, [1, 0, 1, 0])],
+    );
+    let reversed = [
+        row(1, [2, 0, 0, 0]),
+        row(1, [1, 0, 0, 0]),
+        row(2, [2, 1, 0, 0]),
+    ];
     becomes(
         &rt,
         alloc,
         &reversed,
-        &[row(1, [1, 0, 0, 0]), row(1, [2, 0, 0, 0]), row(2, [1, 2, 0, 0])],
+        &[
+            row(1, [1, 0, 0, 0]),
+            row(1, [2, 0, 0, 0]),
+            row(2, [1, 2, 0, 0]),
+        ],
     );
-    let unused = [row(1, [1, 1, 1, 1]), row(1, [3, 0, 0, 0]), row(2, [2, 0, 0, 0])];
-    becomes(&rt, alloc, &unused, &[row(1, [3, 0, 0, 0]), row(2, [1, 0, 0, 0])]);
+    let unused = [
+        row(1, [1, 1, 1, 1]),
+        row(1, [3, 0, 0, 0]),
+        row(2, [2, 0, 0, 0]),
+    ];
+    becomes(
+        &rt,
+        alloc,
+        &unused,
+        &[row(1, [3, 0, 0, 0]), row(2, [1, 0, 0, 0])],
+    );
 }
 
 #[test]
 fn cells_lie_in_their_quadrants(rt: HostRuntime) {
     let alloc = rt.alloc();
-    let rows = [row(1, [1, 2, 3, 4]), row(2, [1, 0, 0, 0]), row(3, [2, 0, 0, 1])];
+    let rows = [
+        row(1, [1, 2, 3, 4]),
+        row(2, [1, 0, 0, 0]),
+        row(3, [2, 0, 0, 1]),
+    ];
     assert!(&rt; !are_rows(&rows));
     let plane = plane_of(&rt, alloc, &rows[..2]);
     has(&rt, &plane, -2, -2, 1);
@@ -135,8 +180,14 @@ fn equal_planes_have_equal_cells(rt: HostRuntime) {
     let high = [row(1, [1, 0, 0, 0]), row(2, [0, 0, 0, 1])];
     assert!(&rt; are_equal(&rt, alloc, &small, &high), "another root");
     assert!(&rt; are_equal(&rt, alloc, &[], &[row(1, [0; 4])]), "no cells");
-    assert!(&rt; !are_equal(&rt, alloc, &small, &[row(1, [0, 0, 0, 2])]), "another state");
-    assert!(&rt; !are_equal(&rt, alloc, &small, &[row(1, [0, 0, 1, 0])]), "another place");
+    assert!(&rt;
+        !are_equal(&rt, alloc, &small, &[row(1, [0, 0, 0, 2])]),
+        "another state"
+    );
+    assert!(&rt;
+        !are_equal(&rt, alloc, &small, &[row(1, [0, 0, 1, 0])]),
+        "another place"
+    );
     assert!(&rt; !are_equal(&rt, alloc, &small, &[]), "a cell more");
 }
 
@@ -149,11 +200,23 @@ fn a_copy_is_equal(rt: HostRuntime) {
 
 #[test]
 fn rows_that_stand_for_no_plane(rt: HostRuntime) {
-    assert!(&rt; are_rows(&[row(1, [255; 4]), row(2, [0, 1, 1, 0])]), "a plane");
+    assert!(&rt;
+        are_rows(&[row(1, [255; 4]), row(2, [0, 1, 1, 0])]),
+        "a plane"
+    );
     assert!(&rt; !are_rows(&[row(0, [0; 4])]), "a level of 0");
     assert!(&rt; !are_rows(&[row(63, [0; 4])]), "a level above 62");
     assert!(&rt; !are_rows(&[row(1, [0, 256, 0, 0])]), "a state above 255");
-    assert!(&rt; !are_rows(&[row(2, [0, 0, 1, 0]), row(1, [0; 4])]), "a later row");
-    assert!(&rt; !are_rows(&[row(1, [0; 4]), row(2, [1, 0, 0, 2])]), "the row itself");
-    assert!(&rt; !are_rows(&[row(1, [0; 4]), row(3, [1, 0, 0, 0])]), "a row two levels below");
+    assert!(&rt;
+        !are_rows(&[row(2, [0, 0, 1, 0]), row(1, [0; 4])]),
+        "a later row"
+    );
+    assert!(&rt;
+        !are_rows(&[row(1, [0; 4]), row(2, [1, 0, 0, 2])]),
+        "the row itself"
+    );
+    assert!(&rt;
+        !are_rows(&[row(1, [0; 4]), row(3, [1, 0, 0, 0])]),
+        "a row two levels below"
+    );
 }

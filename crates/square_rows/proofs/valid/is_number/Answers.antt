@@ -8,9 +8,10 @@ use Rattle.square_rows.proofs.valid.is_number.Goals as goal
 pub returns-then-level-eq0 : goal.returns-then-level-eq0
 returns-then-level-eq0 c =
     let rows = c.args.rows.now in
-    let n = c.args.number in
-    (λ test. subst (λ k. IsNumber rows k n) (sym c.if-level-eq0.true) (IsNumber-state rows n (ltb-true n 256 test)),
-     λ h. lt-ltb n 256 (state-IsNumber rows n (subst (λ k. IsNumber rows k n) c.if-level-eq0.true h)))
+    let n = c.args.number in (
+      λ test. subst (λ k. IsNumber rows k n) (sym c.if-level-eq0.true) (IsNumber-state rows n (ltb-true n 256 test)),
+      λ h. lt-ltb n 256 (state-IsNumber rows n (subst (λ k. IsNumber rows k n) c.if-level-eq0.true h)),
+    )
 
 pub returns-then-number-eq0 : goal.returns-then-number-eq0
 returns-then-number-eq0 c =
@@ -22,6 +23,7 @@ returns-then-place-rows c =
 
 pub returns : goal.returns
 returns c =
-    let rows = c.args.rows.now in
-    (λ test. listed-number rows c.args.level c.args.number (omega arith) (omega arith) (eqb-true _ _ test),
-     λ h. eq-eqb _ _ (number-listed rows c.args.level c.args.number (omega arith) (omega arith) h).1)
+    let rows = c.args.rows.now in (
+      λ test. listed-number rows c.args.level c.args.number (omega arith) (omega arith) (eqb-true _ _ test),
+      λ h. eq-eqb _ _ (number-listed rows c.args.level c.args.number (omega arith) (omega arith) h).1,
+    )
