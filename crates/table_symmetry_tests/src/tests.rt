@@ -2,6 +2,7 @@
 mod expansions;
 mod faults;
 mod helpers;
+mod line_faults;
 mod lines;
 mod lookups;
 mod sets;

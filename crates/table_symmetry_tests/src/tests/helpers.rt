@@ -80,3 +80,8 @@ pub fn next(rt: &impl Abort, rule: &TableRule, around: [u8; 9]) -> u8 {
 pub fn gives(rt: &impl Abort, rule: &TableRule, around: [u8; 9], wanted: u8) {
     same(rt, &next(rt, rule, around), &wanted, &around);
 }
+
+/// Stops the test where reading these lines doesn't end as wanted.
+pub fn ends(rt: &impl Abort, alloc: Global, lines: &str, wanted: Outcome) {
+    same(rt, &outcome(read(rt, alloc, lines)), &wanted, &lines);
+}
