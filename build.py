@@ -15,8 +15,10 @@ from concurrent.futures import FIRST_COMPLETED, ThreadPoolExecutor, wait
 ROOT = os.path.dirname(os.path.realpath(__file__))
 PROGRAM = "desk"
 BUILT = f"{ROOT}/crates/{PROGRAM}/out/{PROGRAM}"
-# Lines that one processor proves in a second, as measured. Only the first guess of the time rests on it.
-LINES_A_SECOND = 22
+# Lines a second for each processor, as measured on four, of which the chain leaves some idle: the first guess of the
+# time, and for how many seconds it counts.
+LINES_A_SECOND = 12
+GUESS_SECONDS = 180
 # More processes than these hardly shorten the proof of one crate.
 MOST_JOBS = 4
 
@@ -84,17 +86,19 @@ class Progress:
     """How far the proofs are, by their lines."""
 
     def __init__(self, lines, processors):
-        self.lines, self.done, self.began = lines, 0, time.monotonic()
-        self.left, self.speed, self.begun = sum(lines.values()), LINES_A_SECOND * processors, 0
+        self.lines, self.left, self.begun = lines, sum(lines.values()), 0
+        self.guess, self.done, self.began = LINES_A_SECOND * processors, 0, time.monotonic()
 
     def begin(self, name):
         self.begun += 1
-        minutes = max(1, round(self.left / self.speed / 60))
+        # The guess counts as if it had been seen for some minutes, until enough is measured.
+        seconds = GUESS_SECONDS + time.monotonic() - self.began
+        speed = (GUESS_SECONDS * self.guess + self.done) / seconds
+        minutes = max(1, round(self.left / speed / 60))
         tell(f"crate {self.begun} of {len(self.lines)} is being proved, {name}; about {minutes} min to go")
 
     def end(self, name):
         self.left, self.done = self.left - self.lines[name], self.done + self.lines[name]
-        self.speed = self.done / max(time.monotonic() - self.began, 1)
 
 
 def build(below):
