@@ -3,7 +3,7 @@
 standard error how far it is.
 
 A crate is proved once those that it stands on are. Of the crates that are ready, the one with the
-longest chain of others above it comes first and gets the processors that no other can use.
+longest chain of others above it comes first, and gets the processors that no other can use.
 """
 import os
 import subprocess
@@ -114,7 +114,9 @@ def build(below):
                 idle = processors - sum(jobs for _, jobs, _ in running.values())
                 if idle == 0:
                     break
-                jobs = max(1, min(MOST_JOBS, idle - (len(ready) - at - 1)))
+                # Only the longest chain gets more than one, so that none of it waits for another crate.
+                is_longest = all(chain[name] >= chain[it] for it in [*left, *(it for it, _, _ in running.values())])
+                jobs = max(1, min(MOST_JOBS, idle - (len(ready) - at - 1))) if is_longest else 1
                 log = tempfile.TemporaryFile("w+", errors="replace")
                 progress.begin(name)
                 left.remove(name)
