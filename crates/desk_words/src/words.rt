@@ -1,5 +1,5 @@
 //! What the words of the command line come to.
-ghost use Rattle.std.specs.Prelude.{◌≡◌, ◌≢◌, [], OnOk, map, string_bytes};
+ghost use Rattle.std.specs.Prelude.{◌≡◌, ◌≢◌, [], IfErr, OnOk, map, string_bytes};
 ghost use Rattle.clap.specs.Words.{kind_of};
 ghost use Rattle.desk_words.specs.Words.{Checks, ReadsWords};
 ghost use Rattle.desk_words.specs.Command.{faults};
@@ -47,6 +47,8 @@ fn fault_of(alloc: Global, error: &Error) -> WordsFault
 pub fn read_words<S: AsStr>(alloc: Global, words: &[S]) -> Result<(), WordsFault>
     ensures reads { ReadsWords (map S.text words.now) result }
     ensures taken { OnOk result (faults (map S.text words.now) ≡ []) }
+    ensures refused { faults (map S.text words.now) ≡ []
+        → IfErr result (λ fault. fault ≡ WordsFault.NoMemory) }
 {
     match read(alloc, words) {
         Ok(()) => Ok(()),
