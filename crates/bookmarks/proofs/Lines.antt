@@ -1,7 +1,7 @@
 -- Steps of the text of counts.
 use Rattle.std.proofs.Common.{◌≡◌, ℕ, suc, ◌+◌, ◌-◌, ◌<◌, List, [], ◌∷◌, ◌++◌, ap, ap₂, ◌∙◌, sym, arith, append_assoc, append-nil, refl}
-use Rattle.plane_core.specs.World.{World}
-use Rattle.plane_core.specs.Live.{count_of}
+use Rattle.worlds.specs.World.{World}
+use Rattle.worlds.specs.Live.{count_of}
 use Rattle.bookmarks.specs.Counts.{count_line, count_lines, count_lines-none, count_lines-more, or_empty}
 
 -- one more state

@@ -7,7 +7,7 @@ use Rattle.std.proofs.lemmas.Bool.{and_parts}
 use Rattle.bookmarks.specs.Within.{spans_plane}
 use Rattle.std.specs.List.{join_with_byte, range_with_len, concat}
 use Rattle.std.proofs.lemmas.List.FromFn.{map-range_with_len_more}
-use Rattle.plane_core.specs.World.{World, cell}
+use Rattle.worlds.specs.World.{World, cell}
 use Rattle.bookmarks.specs.Window.{row_states, row_line, window_text, next_state}
 
 -- a piece behind others

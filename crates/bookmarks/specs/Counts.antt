@@ -1,8 +1,8 @@
 -- The text of a view of counts.
 use Rattle.std.specs.Prelude.{◌≡◌, ℕ, zero, suc, List, [], ◌∷◌, ◌++◌, codes, decimal}
 use Rattle.std.proofs.Common.{refl}
-use Rattle.plane_core.specs.World.{World}
-use Rattle.plane_core.specs.Live.{count_of}
+use Rattle.worlds.specs.World.{World}
+use Rattle.worlds.specs.Live.{count_of}
 
 -- the line of a state that so many live cells have: none where no cell has it
 abbrev pub count_line : ℕ → ℕ → List ℕ

@@ -1,7 +1,7 @@
 -- The text of a view of a pattern in run-length encoding.
 use Rattle.std.specs.Prelude.{ℕ, List, nat_lt, if◌then◌else◌, codes}
-use Rattle.plane_core.specs.World.{World}
-use Rattle.plane_core.specs.Live.{population}
+use Rattle.worlds.specs.World.{World}
+use Rattle.worlds.specs.Live.{population}
 use Rattle.multistate_rle.specs.PatternText.{rle_text}
 
 -- the pattern's text, or one line in its place where more than 1,000,000 cells are live

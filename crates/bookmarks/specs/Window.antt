@@ -1,7 +1,7 @@
 -- The text of a window.
 use Rattle.std.specs.Prelude.{ℕ, zero, suc, List, ◌++◌, ℤ, pos, ◌+ℤ◌, map, codes, decimal}
 use Rattle.std.specs.List.{join_with_byte, range_with_len, concat}
-use Rattle.plane_core.specs.World.{World, cell}
+use Rattle.worlds.specs.World.{World, cell}
 
 -- the states of so many cells from (x, y) to the right, in decimal
 abbrev pub row_states : World → ℤ → ℤ → ℕ → List (List ℕ)

@@ -1,6 +1,6 @@
 //! The text of a view of the pattern itself.
 ghost use Rattle.std.specs.Prelude.{◌≡◌, IfOk};
-ghost use Rattle.plane_core.specs.Range.{AllBelow};
+ghost use Rattle.worlds.specs.Range.{AllBelow};
 ghost use Rattle.bookmarks.specs.Rle.{pattern_text};
 
 use multistate_rle::{MOST_WRITTEN, write_rle};

@@ -1,6 +1,6 @@
 //! The text of a view.
 ghost use Rattle.std.specs.Prelude.{◌≡◌, IfOk};
-ghost use Rattle.plane_core.specs.Range.{AllBelow};
+ghost use Rattle.worlds.specs.Range.{AllBelow};
 ghost use Rattle.bookmarks.specs.Text.{text_of};
 ghost use Rattle.bookmarks.specs.Within.{IsWithin};
 
@@ -8,6 +8,7 @@ use crate::counts::counts_text;
 use crate::pattern::pattern_text;
 use crate::view::View;
 use crate::window::window_text;
+use multistate_macrocell::write_mc;
 use plane_core::Plane;
 use std::alloc::{AllocError, Global};
 
@@ -34,5 +35,6 @@ pub fn render(
         } => window_text(alloc, plane, *left, *top, *width, *height),
         View::Counts => counts_text(alloc, plane),
         View::Rle => pattern_text(alloc, plane, name, generation, states),
+        View::Macrocell => write_mc(alloc, plane, name, generation),
     }
 }

@@ -28,6 +28,8 @@ pub enum View {
     /// The pattern as run-length encoded text, or the line `too many cells` where more than
     /// 1,000,000 cells are live.
     Rle,
+    /// The pattern as macrocell text, a line for each of its distinct squares.
+    Macrocell,
 }
 
 // Whether so many coordinates from the first on are among those of planes.
@@ -46,7 +48,7 @@ impl View {
             View::Window { width, height, .. } => {
                 *width > 0 && *height > 0 && u64::from(*width) * u64::from(*height) <= MOST_CELLS
             }
-            View::Counts | View::Rle => true,
+            View::Counts | View::Rle | View::Macrocell => true,
         }
     }
 
@@ -62,7 +64,7 @@ impl View {
                 width,
                 height,
             } => spans_plane(*left, *width) && spans_plane(*top, *height),
-            View::Counts | View::Rle => true,
+            View::Counts | View::Rle | View::Macrocell => true,
         }
     }
 }

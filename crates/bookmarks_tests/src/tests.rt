@@ -1,6 +1,6 @@
 //! Worked texts of views.
 ghost use Rattle.std.specs.Prelude.{◌<◌, All, IsTrue};
-ghost use Rattle.plane_core.specs.Range.{AllBelow, CanBeLaid};
+ghost use Rattle.worlds.specs.Range.{AllBelow, CanBeLaid};
 ghost use Rattle.bookmarks.specs.Within.{IsWithin};
 
 use bookmarks::{View, render};

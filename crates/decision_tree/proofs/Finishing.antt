@@ -1,7 +1,7 @@
 -- The tree of nodes that were read.
 use Rattle.std.proofs.Common.{◌≡◌, ◌≢◌, ℕ, ◌+◌, ◌*◌, ◌-◌, ◌==◌, true, false, cond, List, length, slice_index, Ok, Err, refl, sym, ap, ◌∙◌, arith, rules, tests}
 use Rattle.std.proofs.lemmas.Bool.{and_from}
-use Rattle.plane_core.specs.Step.{nine_zeros}
+use Rattle.worlds.specs.Step.{nine_zeros}
 use Rattle.rule_file.specs.declared.fault.RuleFault.TheVariants.{NotQuiescent}
 use Rattle.decision_tree.specs.declared.descriptors.TreeHead.{TreeHead}
 use Rattle.decision_tree.specs.declared.tree.Neighbors.{Neighbors}

@@ -1,8 +1,11 @@
 mod Finishing
 mod Following
 pub mod Growing
+mod HeadFaults
 pub mod KeptNodes
+mod KeptNumbers
 mod LastLine
 mod NextNode
-mod Pieces
 pub mod SaidNodes
+mod WrittenFiles
+pub mod WrittenTrees

@@ -1,9 +1,22 @@
--- A law of trees.
-use Rattle.std.specs.Prelude.{◌≡◌, ℕ, List, Ok}
-use Rattle.rule_file.specs.RuleFile.{Section}
-use Rattle.decision_tree.specs.Tree.{Tree, next, next_under}
-use Rattle.decision_tree.specs.TreeLines.{tree_of}
+-- Laws of trees: each statement is proved by a function of the same name.
+use Rattle.std.specs.Prelude.{◌≡◌, ℕ, true, List, Ok}
+use Rattle.rule_file.specs.RuleFile.{Section, file_of, is_name}
+use Rattle.decision_tree.specs.Tree.{Tree, is_quiescent, next, next_under}
+use Rattle.decision_tree.specs.TreeLines.{Node, tree_from, tree_of}
+use Rattle.decision_tree.specs.declared.descriptors.TreeHead.{TreeHead}
+use Rattle.decision_tree.specs.Kept.{IsTreeHead}
+use Rattle.decision_tree.specs.WrittenTree.{AreNodesOf, written_file, written_section}
 
 -- the next state under a tree that a file says is what is found from its root
 abbrev pub TreesOfFilesArePlain : Type 0
 TreesOfFilesArePlain = (section : Section) (tree : Tree) (around : List ℕ) → tree_of section ≡ Ok tree → next_under tree around ≡ next tree around
+
+-- the lines that are written for a head and its nodes mean their tree
+abbrev pub WrittenMeansTheSame : Type 0
+WrittenMeansTheSame = (opened : ℕ) (head : TreeHead) (nodes : List Node) → IsTreeHead head → AreNodesOf head nodes → is_quiescent (tree_from head nodes) ≡ true
+    → tree_of (written_section opened head nodes) ≡ Ok (tree_from head nodes)
+
+-- the text that is written for a name and a tree is the rule file of this name whose section are these lines
+abbrev pub WrittenIsItsFile : Type 0
+WrittenIsItsFile = (name : List ℕ) (head : TreeHead) (nodes : List Node) → is_name name ≡ true → IsTreeHead head → AreNodesOf head nodes
+    → file_of (written_file name head nodes) ≡ Ok (record { name = name; section = written_section 2 head nodes })

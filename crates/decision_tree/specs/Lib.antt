@@ -3,3 +3,4 @@ pub mod Laws
 pub mod Tree
 pub mod TreeLaws
 pub mod TreeLines
+pub mod WrittenTree

@@ -1,7 +1,7 @@
 -- A tree, and the next state of a cell that it gives.
 use Rattle.std.specs.Prelude.{ℕ, ◌-◌, ◌==◌, ◌&&◌, Bool, nat_lt, if◌then◌else◌, List, [], ◌∷◌, length, map, slice_index, slice_index_or}
 use Rattle.std.specs.List.{list_all}
-use Rattle.plane_core.specs.Step.{nine_zeros}
+use Rattle.worlds.specs.Step.{nine_zeros}
 use Rattle.decision_tree.specs.declared.tree.Neighbors.{Neighbors}
 use Rattle.decision_tree.specs.declared.tree.Neighbors.TheVariants.{Four, Eight}
 

@@ -4,7 +4,7 @@ use Rattle.std.specs.List.{list_all}
 use Rattle.std.proofs.Common.{refl, arith, rules, tests}
 use Rattle.std.proofs.lemmas.Bool.{and_parts}
 use Rattle.std.proofs.lemmas.List.Sums.{AllPass-from_list_all}
-use Rattle.plane_core.specs.Step.{nine_zeros, AreNineBelow}
+use Rattle.worlds.specs.Step.{nine_zeros, AreNineBelow}
 use Rattle.decision_tree.specs.declared.tree.Neighbors.{Neighbors}
 use Rattle.decision_tree.specs.declared.tree.Neighbors.TheVariants.{Four, Eight}
 use Rattle.decision_tree.specs.Tree.{Entries, Tree, node_at, follow, leads, inputs_of, places_of, root_of, next, next_under, is_quiescent, is_sound}

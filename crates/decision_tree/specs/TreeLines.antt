@@ -1,10 +1,10 @@
 -- What the lines of a tree mean: the tree, or the first fault that they have.
-use Rattle.std.specs.Prelude.{ℕ, ◌+◌, ◌==◌, ◌&&◌, ◌||◌, Bool, true, false, nat_le, nat_lt, if◌then◌else◌, List, [], ◌∷◌, ◌++◌, length, map, take, drop, filter, codes, position, slice_index, Option, Some, None, is_none, Result, Ok, Err, option_and_then}
+use Rattle.std.specs.Prelude.{ℕ, ◌+◌, ◌==◌, ◌&&◌, ◌||◌, Bool, nat_le, nat_lt, if◌then◌else◌, List, [], ◌∷◌, ◌++◌, length, map, take, drop, filter, codes, position, slice_index, Option, Some, None, is_none, Result, Ok, Err, option_and_then}
 use Rattle.std.specs.List.{list_all, slice_split}
 use Rattle.std.specs.Option.{option_map, option_map_or, ok_or}
 use Rattle.std.specs.Str.{bytes_eq}
 use Rattle.text_lines.specs.Blanks.{is_blank, trim_start, trim_end}
-use Rattle.text_lines.specs.Numbers.{number_of}
+use Rattle.text_lines.specs.Numbers.{is_word, number_of}
 use Rattle.rule_file.specs.declared.fault.RuleFault.{RuleFault}
 use Rattle.rule_file.specs.declared.fault.RuleFault.TheVariants.{BadTree, NotQuiescent}
 use Rattle.basics.specs.Results.{◌>>=◌}
@@ -78,11 +78,6 @@ pub record Node : Type 0 where
   pub depth : ℕ
   pub entries : Entries
 
--- a word has a byte at least
-abbrev pub is_word : List ℕ → Bool
-is_word [] = false
-is_word (b ∷ bs) = true
-
 -- the words of a line, which blanks part
 abbrev pub words : List ℕ → List (List ℕ)
 words line = filter is_word (slice_split is_blank line)
@@ -134,6 +129,10 @@ abbrev pub last_number : ℕ → List NumberedLine → ℕ
 last_number opened [] = opened
 last_number opened (line ∷ lines) = last_number line.number lines
 
+-- the head of a section, and the lines after it
+abbrev pub head_in : Section → Result (TreeHead × List NumberedLine) RuleFault
+head_in section = head_from (last_number section.opened section.lines) undescribed section.lines
+
 -- the tree of some nodes, if it is quiescent
 abbrev pub if_quiescent : Tree → Result Tree RuleFault
 if_quiescent tree = if is_quiescent tree then Ok tree else Err NotQuiescent
@@ -145,6 +144,6 @@ tree_from head nodes = record { states = head.states; neighbors = head.neighbors
 -- what the lines of a tree mean
 abbrev pub tree_of : Section → Result Tree RuleFault
 tree_of section = do
-  found ← head_from (last_number section.opened section.lines) undescribed section.lines
+  found ← head_in section
   nodes ← nodes_from (last_number section.opened section.lines) found.0 [] found.1
   if_quiescent (tree_from found.0 nodes)

@@ -1,7 +1,17 @@
-//! A law of the definitions, the contract of a function that does nothing.
-ghost use Rattle.decision_tree.specs.Laws.{TreesOfFilesArePlain};
+//! Laws of the definitions, each the contract of a function that does nothing.
+ghost use Rattle.decision_tree.specs.Laws.{TreesOfFilesArePlain, WrittenIsItsFile, WrittenMeansTheSame};
 
 /// The next state under a tree that a file says is what is found from its root.
 pub fn trees_of_files_are_plain()
     ensures { TreesOfFilesArePlain }
+{}
+
+/// The lines that are written for a tree mean this tree again.
+pub fn written_means_the_same()
+    ensures { WrittenMeansTheSame }
+{}
+
+/// The text that is written for a name and a tree is the rule file of this name and this tree.
+pub fn written_is_its_file()
+    ensures { WrittenIsItsFile }
 {}

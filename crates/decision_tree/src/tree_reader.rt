@@ -1,9 +1,9 @@
 //! Reading a tree: first its descriptors, then a node a line.
-ghost use Rattle.std.specs.Prelude.{◌≡◌, ℕ, List, IfOk, length};
+ghost use Rattle.std.specs.Prelude.{◌≡◌, Err, IfOk, IsOk, IsTrue, length};
 ghost use Rattle.rule_file.specs.Results.{Gives};
 ghost use Rattle.decision_tree.specs.Kept.{AreKept, IsTreeHead, nodes_of};
-ghost use Rattle.decision_tree.specs.Tree.{next, next_under};
-ghost use Rattle.decision_tree.specs.TreeLines.{if_quiescent, last_number, tree_from, tree_of};
+ghost use Rattle.decision_tree.specs.Tree.{is_sound};
+ghost use Rattle.decision_tree.specs.TreeLines.{head_in, if_quiescent, last_number, tree_from, tree_of};
 
 use crate::descriptors::{TreeHead, read_head};
 use crate::nodes::{Nodes, read_nodes};
@@ -18,11 +18,11 @@ use std::alloc::Global;
 /// line is a node: its depth and an entry for each state, parted by blanks. The first faulty line is
 /// answered by BadTree; for missing lines it is the section's last line, or the one that opens it
 /// where there is none. After all lines comes NotQuiescent. NoMemory comes only where memory was
-/// wanted.
+/// wanted, and never where the descriptors have a fault.
 pub fn read_tree(alloc: Global, text: &RuleText) -> Result<TreeRule, RuleFault>
     ensures tree { Gives result (tree_of text.now.section) }
-    ensures straight { IfOk result
-        (λ tree. (around : List ℕ) → next_under tree around ≡ next tree around) }
+    ensures sound { IfOk result (λ tree. IsTrue (is_sound tree)) }
+    ensures no_memory { result ≡ Err RuleFault.NoMemory → IsOk (head_in text.now.section) }
 {
     let last = last_line(text);
     let (head, lines) = read_head(last, text.lines())?;
@@ -37,8 +37,7 @@ fn finish(head: TreeHead, nodes: Nodes) -> Result<TreeRule, RuleFault>
     requires whole { length nodes.depths.items ≡ head.node_count }
     ensures tree { Gives result (if_quiescent (tree_from head
         (nodes_of head.states nodes.depths.items nodes.entries.items))) }
-    ensures straight { IfOk result
-        (λ tree. (around : List ℕ) → next_under tree around ≡ next tree around) }
+    ensures sound { IfOk result (λ tree. IsTrue (is_sound tree)) }
 {
     let root = head.node_count - 1;
     let zeros = Around([0; 9]);

@@ -1,2 +1,1 @@
-pub mod Walk
-pub mod Texts
+pub mod Filling

@@ -1,4 +1,3 @@
 pub mod Cause
 pub mod Rows
 pub mod Shown
-pub mod Laid

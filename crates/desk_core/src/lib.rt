@@ -1,23 +1,21 @@
-//! The desk: a document and the texts of its bookmarks that are known.
+//! The desk: a document, and what is known of its patterns and of the texts of its bookmarks.
 //!
 //! A text that the desk shows as current is the one that a fresh computation of the document gives,
 //! as the document is now, whatever edits were made or refused before and however often the desk
 //! was settled. A bookmark whose text isn't known is shown as pending.
 //!
-//! An edit forgets all texts, and `settle` computes each anew from the start, so its cost grows
-//! with the generations and the live cells of each bookmark.
+//! An edit keeps what it doesn't touch, and `settle` goes on from the nearest arrival that is known.
 #![tactic(auto)]
 
 mod cause;
 mod desk;
-mod history;
-mod row;
 mod shown;
 
 pub use cause::Cause;
+pub use dependency_book::Shown;
 pub use desk::{Desk, settle};
 pub use schedule::{
     Bookmark, CellSet, Document, Edit, EditFault, Edited, Listing, Plane, Refusal, Rule, RuleFault,
     View,
 };
-pub use shown::{Settling, Shown};
+pub use shown::Settling;

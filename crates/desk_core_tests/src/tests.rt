@@ -191,29 +191,27 @@ fn views_of_x(rt: HostRuntime) {
     expect_text(&rt, &desk, 3, encoded);
 }
 
-/// Makes the edit, and stops the test where the texts aren't forgotten or where settling doesn't
-/// give the first bookmark this one.
-fn check_forgets(rt: &impl Abort, desk: &mut Desk, change: &Edit, text: &str) {
+/// Makes the edit, and stops the test where not so many bookmarks are pending then, or where settling
+/// doesn't give the first one this text.
+fn check_edit(rt: &impl Abort, desk: &mut Desk, change: &Edit, pending: u32, text: &str) {
     settle(rt, desk);
     edit(rt, desk, change);
-    same(rt, &desk.shown(1), &Shown::Pending, &text);
-    let bookmarks = desk.document().bookmarks().len();
-    same(rt, &(desk.pending() as usize), &bookmarks, &text);
+    same(rt, &desk.pending(), &pending, &text);
     settle(rt, desk);
     expect_text(rt, desk, 1, text);
 }
 
 #[test]
-fn accepted_edits_forget(rt: HostRuntime) {
+fn edits_forget_what_they_touch(rt: HostRuntime) {
     let alloc = rt.alloc();
     let mut desk = desk_of_x(&rt, alloc);
     edit(&rt, &mut desk, &mark(2));
-    check_forgets(&rt, &mut desk, &set(&rt, alloc, &[]), "1 2\n");
-    check_forgets(&rt, &mut desk, &set(&rt, alloc, &[(100, 0, 1)]), "1 4\n");
-    check_forgets(&rt, &mut desk, &mark(3), "1 4\n");
-    check_forgets(&rt, &mut desk, &rule_x(&rt, alloc), "1 4\n");
-    check_forgets(&rt, &mut desk, &set(&rt, alloc, &[(0, 0, 0)]), "1 2\n");
-    expect_text(&rt, &desk, 2, "1 4\n");
+    check_edit(&rt, &mut desk, &set(&rt, alloc, &[]), 1, "1 2\n");
+    check_edit(&rt, &mut desk, &set(&rt, alloc, &[(100, 0, 1)]), 1, "1 4\n");
+    check_edit(&rt, &mut desk, &mark(3), 1, "1 4\n");
+    check_edit(&rt, &mut desk, &rule_x(&rt, alloc), 2, "1 4\n");
+    check_edit(&rt, &mut desk, &insert(&rt, alloc, 3), 1, "1 4\n");
+    check_edit(&rt, &mut desk, &set(&rt, alloc, &[(0, 0, 0)]), 2, "1 2\n");
 }
 
 fn check_refused(rt: &impl Abort, desk: &mut Desk, refused: &Edit, fault: EditFault, pending: u32) {
@@ -246,8 +244,8 @@ fn refused_edits_change_nothing(rt: HostRuntime) {
     edit(&rt, &mut desk, &mark(2));
     settle(&rt, &mut desk);
     edit(&rt, &mut desk, &mark(1));
-    // Of the two bookmarks neither is known before settling, and then both are.
-    check_all_refused(&rt, alloc, &mut desk, 2);
+    // The bookmark that was added is pending before settling, and then both are known.
+    check_all_refused(&rt, alloc, &mut desk, 1);
     settle_both(&rt, &mut desk);
     check_all_refused(&rt, alloc, &mut desk, 0);
     settle_both(&rt, &mut desk);
@@ -300,7 +298,6 @@ fn bookmark_is_moved_and_removed(rt: HostRuntime) {
     expect_text(&rt, &desk, 1, "1 4\n");
     edit(&rt, &mut desk, &Edit::RemoveBookmark { id: 1 });
     expect_none(&rt, &desk, 1);
-    expect_pending(&rt, &desk, 1);
-    settle(&rt, &mut desk);
+    expect_pending(&rt, &desk, 0);
     expect_text(&rt, &desk, 2, "1 2\n");
 }

@@ -10,22 +10,23 @@ use Rattle.script_lines.specs.declared.reader.TextFound.{TextFound}
 use Rattle.script_lines.specs.declared.reader.TextFound.TheVariants as found_text
 use Rattle.script_lines.specs.declared.kept_line.KeptLine.{KeptLine}
 use Rattle.std.specs.Io.KnownBytes.{IsAtEnd}
-use Rattle.desk_server.specs.Command.{command_of, text_format}
-use Rattle.desk_server.specs.Answer.{Say, Tell, NoEnd}
-use Rattle.desk_server.specs.Script.{asks, Between, InText, without_end}
-use Rattle.desk_server.specs.Heard.{Asked, Hears, BreaksOff}
-use Rattle.desk_server.specs.declared.command.Format.{Format}
-use Rattle.desk_server.specs.declared.heard.What.{What}
-use Rattle.desk_server.specs.declared.heard.What.TheVariants as what
+use Rattle.desk_server.specs.Command.{command_of, format_of}
+use Rattle.desk_server.specs.Answer.{Take, Refuse}
+use Rattle.desk_server.specs.Script.{asks, asked_by, Between, InText, without_end}
+use Rattle.desk_server.specs.Heard.{AsksFor, Hears, BreaksOff}
+use Rattle.desk_server.specs.declared.fault.ScriptFault.TheVariants.{NoEnd}
+use Rattle.desk_server.specs.declared.format.Format.{Format}
+use Rattle.desk_server.specs.declared.request.Request.{Request}
+use Rattle.desk_server.specs.declared.request.Request.TheVariants as request
 
 -- lines up to one that is `end` are the text
 asks-text : (stop : End) (at : ℕ) (f : Format) (kept : List ℕ) (n : ℕ) (lines : List Line) (closing : Line) (rest : List Line) → NoneEnds lines → is_end closing.says ≡ true
-    → asks stop (InText at f kept) n (lines ++ closing ∷ rest) ≡ Tell f (kept ++ raw_bytes lines) ∷ asks stop Between (n + length lines + 1) rest
-asks-text stop at f kept n [] closing rest inside ends = rw ends (ap (λ t. Tell f t ∷ asks stop Between (n + 1) rest) (sym (append-nil kept)) ∙ ap (λ m. Tell f (kept ++ []) ∷ asks stop Between m rest) (omega arith))
+    → asks stop (InText at f kept) n (lines ++ closing ∷ rest) ≡ Take f (kept ++ raw_bytes lines) ∷ asks stop Between (n + length lines + 1) rest
+asks-text stop at f kept n [] closing rest inside ends = rw ends (ap (λ t. Take f t ∷ asks stop Between (n + 1) rest) (sym (append-nil kept)) ∙ ap (λ m. Take f (kept ++ []) ∷ asks stop Between m rest) (omega arith))
 asks-text stop at f kept n (line ∷ lines) closing rest inside ends =
     rw inside.0 (asks-text stop at f (kept ++ line.raw) (n + 1) lines closing rest inside.1 ends
-    ∙ ap (λ t. Tell f t ∷ asks stop Between (n + 1 + length lines + 1) rest) (append_assoc kept line.raw (raw_bytes lines))
-    ∙ ap (λ m. Tell f (kept ++ (line.raw ++ raw_bytes lines)) ∷ asks stop Between m rest) (omega arith))
+    ∙ ap (λ t. Take f t ∷ asks stop Between (n + 1 + length lines + 1) rest) (append_assoc kept line.raw (raw_bytes lines))
+    ∙ ap (λ m. Take f (kept ++ (line.raw ++ raw_bytes lines)) ∷ asks stop Between m rest) (omega arith))
 
 -- where none is `end`, the text has no end
 asks-open_text : (stop : End) (at : ℕ) (f : Format) (kept : List ℕ) (n : ℕ) (lines : List Line) → NoneEnds lines → asks stop (InText at f kept) n lines ≡ without_end stop at
@@ -36,16 +37,16 @@ asks-open_text stop at f kept n (line ∷ lines) inside = rw inside.0 (asks-open
 asks-passed : (stop : End) (n : ℕ) (line : Line) (rest : List Line) → is_passed_over line.says ≡ true → asks stop Between n (line ∷ rest) ≡ asks stop Between (n + 1) rest
 asks-passed stop n line rest passed = rw passed refl
 
-asks-command : (stop : End) (n : ℕ) (line : Line) (rest : List Line) → is_passed_over line.says ≡ false → text_format (command_of line.says) ≡ None
-    → asks stop Between n (line ∷ rest) ≡ Say n (command_of line.says) ∷ asks stop Between (n + 1) rest
+asks-command : (stop : End) (n : ℕ) (line : Line) (rest : List Line) → is_passed_over line.says ≡ false → format_of line.says ≡ None
+    → asks stop Between n (line ∷ rest) ≡ asked_by n (command_of line.says) ∷ asks stop Between (n + 1) rest
 asks-command stop n line rest passed text = rw passed (rw text refl)
 
-asks-text_command : (stop : End) (n : ℕ) (f : Format) (line : Line) (rest : List Line) → is_passed_over line.says ≡ false → text_format (command_of line.says) ≡ Some f
+asks-text_command : (stop : End) (n : ℕ) (f : Format) (line : Line) (rest : List Line) → is_passed_over line.says ≡ false → format_of line.says ≡ Some f
     → asks stop Between n (line ∷ rest) ≡ asks stop (InText n f []) (n + 1) rest
 asks-text_command stop n f line rest passed text = rw passed (rw text refl)
 
 -- a line that begins no text
-pub hears-nothing : (old new : Ahead) (kept : KeptLine) (last : Bool) (n : ℕ) → (t : LineTaken last old new kept) → is_passed_over t.line.says ≡ true → Hears old new Between what.Nothing last n n (n + 1)
+pub hears-nothing : (old new : Ahead) (kept : KeptLine) (last : Bool) (n : ℕ) → (t : LineTaken last old new kept) → is_passed_over t.line.says ≡ true → Hears old new Between None last n (n + 1)
 hears-nothing old new kept last n t passed = record {
   bytes = t.line.raw;
   asked = [];
@@ -55,14 +56,17 @@ hears-nothing old new kept last n t passed = record {
   at_end = t.at_end;
 }
 
-pub hears-command : (old new : Ahead) (kept : KeptLine) (last : Bool) (what : What) (n : ℕ) → (t : LineTaken last old new kept) → is_passed_over t.line.says ≡ false → text_format (command_of t.line.says) ≡ None
-    → Asked what n (Say n (command_of t.line.says) ∷ []) → Hears old new Between what last n n (n + 1)
-hears-command old new kept last what n t passed text is = record {
+pub hears-command : (old new : Ahead) (kept : KeptLine) (last : Bool) (r : Request) (n k : ℕ) → k ≡ n → (t : LineTaken last old new kept) → is_passed_over t.line.says ≡ false → format_of t.line.says ≡ None
+    → AsksFor r (asked_by k (command_of t.line.says)) → Hears old new Between (Some r) last n (n + 1)
+hears-command old new kept last r n k same t passed text is = record {
   bytes = t.line.raw;
-  asked = Say n (command_of t.line.says) ∷ [];
+  asked = asked_by k (command_of t.line.says) ∷ [];
   taken = t.taken;
-  law = λ stop more f. ap (asks stop Between n) (t.law stop more f) ∙ asks-command stop n t.line (lines_until stop more) passed text;
-  is = is;
+  law = λ stop more f.
+      ap (asks stop Between n) (t.law stop more f)
+      ∙ asks-command stop n t.line (lines_until stop more) passed text
+      ∙ ap (λ v. asked_by v (command_of t.line.says) ∷ asks stop Between (n + 1) (lines_until stop more)) (sym same);
+  is = (asked_by k (command_of t.line.says), refl, is);
   at_end = t.at_end;
 }
 
@@ -72,9 +76,9 @@ follows-any false stop more e = tt
 follows-any true stop more e = absurd (cc)
 
 -- the command of a text
-pub hears-text : (old mid new : Ahead) (format : Format) (kept : KeptLine) (first : Bool) (what : What) (last : Bool) (line n m : ℕ) → first ≡ false → (t : LineTaken first old mid kept) → is_passed_over t.line.says ≡ false → text_format (command_of t.line.says) ≡ Some format
-    → Hears mid new (InText n format []) what last line (n + 1) m → Hears old new Between what last line n m
-hears-text old mid new format kept first what last line n m e t passed text h = record {
+pub hears-text : (old mid new : Ahead) (format : Format) (kept : KeptLine) (first : Bool) (heard : Option Request) (last : Bool) (n m : ℕ) → first ≡ false → (t : LineTaken first old mid kept) → is_passed_over t.line.says ≡ false → format_of t.line.says ≡ Some format
+    → Hears mid new (InText n format []) heard last (n + 1) m → Hears old new Between heard last n m
+hears-text old mid new format kept first heard last n m e t passed text h = record {
   bytes = t.line.raw ++ h.bytes;
   asked = h.asked;
   taken = takes_then old mid new t.line.raw h.bytes t.taken h.taken;
@@ -87,7 +91,7 @@ hears-text old mid new format kept first what last line n m e t passed text h = 
   at_end = h.at_end;
 }
 
-pub breaks-text : (old mid new : Ahead) (format : Format) (kept : KeptLine) (first : Bool) (n : ℕ) → first ≡ false → (t : LineTaken first old mid kept) → is_passed_over t.line.says ≡ false → text_format (command_of t.line.says) ≡ Some format
+pub breaks-text : (old mid new : Ahead) (format : Format) (kept : KeptLine) (first : Bool) (n : ℕ) → first ≡ false → (t : LineTaken first old mid kept) → is_passed_over t.line.says ≡ false → format_of t.line.says ≡ Some format
     → BreaksOff mid new (InText n format []) (n + 1) → BreaksOff old new Between n
 breaks-text old mid new format kept first n e t passed text b = record {
   bytes = t.line.raw ++ b.bytes;
@@ -96,65 +100,65 @@ breaks-text old mid new format kept first n e t passed text b = record {
 }
 
 -- nothing follows the command of a text
-nothing-follows : (stop : End) (n m : ℕ) (format : Format) (more : List ℕ) → Follows true stop more → asks stop (InText n format []) m (lines_until stop more) ≡ NoEnd n ∷ asks stop Between m (lines_until stop more)
+nothing-follows : (stop : End) (n m : ℕ) (format : Format) (more : List ℕ) → Follows true stop more → asks stop (InText n format []) m (lines_until stop more) ≡ Refuse (NoEnd n) ∷ asks stop Between m (lines_until stop more)
 nothing-follows stop n m format more f =
     ap (λ v. asks stop (InText n format []) m (lines_until stop v)) f.1
     ∙ ap (λ s. asks s (InText n format []) m (lines_until s [])) f.0
-    ∙ sym (ap (λ s. NoEnd n ∷ asks s Between m (lines_until s [])) f.0)
-    ∙ sym (ap (λ v. NoEnd n ∷ asks stop Between m (lines_until stop v)) f.1)
+    ∙ sym (ap (λ s. Refuse (NoEnd n) ∷ asks s Between m (lines_until s [])) f.0)
+    ∙ sym (ap (λ v. Refuse (NoEnd n) ∷ asks stop Between m (lines_until stop v)) f.1)
 
-pub hears-last_text : (old new : Ahead) (format : Format) (kept : KeptLine) (n : ℕ) → (t : LineTaken true old new kept) → is_passed_over t.line.says ≡ false → text_format (command_of t.line.says) ≡ Some format
-    → Hears old new Between what.NoEnd true n n (n + 1)
-hears-last_text old new format kept n t passed text = record {
+pub hears-last_text : (old new : Ahead) (format : Format) (kept : KeptLine) (last : Bool) (n k : ℕ) → last ≡ true → k ≡ n → (t : LineTaken last old new kept) → is_passed_over t.line.says ≡ false → format_of t.line.says ≡ Some format
+    → Hears old new Between (Some (request.Refuse (NoEnd k))) last n (n + 1)
+hears-last_text old new format kept last n k e same t passed text = record {
   bytes = t.line.raw;
-  asked = NoEnd n ∷ [];
+  asked = Refuse (NoEnd n) ∷ [];
   taken = t.taken;
   law = λ stop more f.
       ap (asks stop Between n) (t.law stop more f) ∙ asks-text_command stop n format t.line (lines_until stop more) passed text
-      ∙ nothing-follows stop n (n + 1) format more f;
-  is = refl;
+      ∙ nothing-follows stop n (n + 1) format more (subst (λ v. Follows v stop more) e f);
+  is = (Refuse (NoEnd n), refl, ap (λ v. Refuse (NoEnd v)) (sym same));
   at_end = t.at_end;
 }
 
 -- a text with its end
-hears-whole_text : (format : Format) (text : Option (List ℕ)) (old new : Ahead) (last : Bool) (n m : ℕ) → TextTaken last text old new n m → Hears old new (InText n format []) (what.Tells format text) last n (n + 1) (m + 1)
+hears-whole_text : (format : Format) (text : Option (List ℕ)) (old new : Ahead) (last : Bool) (n m : ℕ) → TextTaken last text old new n m → Hears old new (InText n format []) (Some (request.Take format text)) last (n + 1) (m + 1)
 hears-whole_text format text old new last n m t = record {
   bytes = raw_bytes t.lines ++ t.closing.raw;
-  asked = Tell format (raw_bytes t.lines) ∷ [];
+  asked = Take format (raw_bytes t.lines) ∷ [];
   taken = t.taken;
   law = λ stop more f.
       ap (asks stop (InText n format []) (n + 1)) (t.law stop more f)
       ∙ asks-text stop n format [] (n + 1) t.lines t.closing (lines_until stop more) t.inside t.ends
-      ∙ ap (λ k. Tell format (raw_bytes t.lines) ∷ asks stop Between k (lines_until stop more)) (omega (arith, t.number));
-  is = (raw_bytes t.lines, refl, t.is);
+      ∙ ap (λ k. Take format (raw_bytes t.lines) ∷ asks stop Between k (lines_until stop more)) (omega (arith, t.number));
+  is = (Take format (raw_bytes t.lines), refl, (raw_bytes t.lines, refl, t.is));
   at_end = t.at_end;
 }
 
 -- a text without one
 open-law : (stop : End) (format : Format) (n k m : ℕ) (bytes more : List ℕ) → NoneEnds (lines_until Ended bytes) → Follows true stop more
-    → asks stop (InText n format []) k (lines_until stop (bytes ++ more)) ≡ NoEnd n ∷ asks stop Between m (lines_until stop more)
+    → asks stop (InText n format []) k (lines_until stop (bytes ++ more)) ≡ Refuse (NoEnd n) ∷ asks stop Between m (lines_until stop more)
 open-law stop format n k m bytes more inside f =
     ap (λ v. asks stop (InText n format []) k (lines_until stop (bytes ++ v))) f.1
     ∙ ap (λ v. asks stop (InText n format []) k (lines_until stop v)) (append-nil bytes)
     ∙ ap (λ s. asks s (InText n format []) k (lines_until s bytes)) f.0
     ∙ asks-open_text Ended n format [] k (lines_until Ended bytes) inside
-    ∙ sym (ap (λ s. NoEnd n ∷ asks s Between m (lines_until s [])) f.0)
-    ∙ sym (ap (λ v. NoEnd n ∷ asks stop Between m (lines_until stop v)) f.1)
+    ∙ sym (ap (λ s. Refuse (NoEnd n) ∷ asks s Between m (lines_until s [])) f.0)
+    ∙ sym (ap (λ v. Refuse (NoEnd n) ∷ asks stop Between m (lines_until stop v)) f.1)
 
-hears-open_text : (format : Format) (old new : Ahead) (n m : ℕ) → NoEndAmong Ended old new → IsAtEnd new.bytes → Hears old new (InText n format []) what.NoEnd true n (n + 1) m
+hears-open_text : (format : Format) (old new : Ahead) (n m : ℕ) → NoEndAmong Ended old new → IsAtEnd new.bytes → Hears old new (InText n format []) (Some (request.Refuse (NoEnd n))) true (n + 1) m
 hears-open_text format old new n m t end = record {
   bytes = t.bytes;
-  asked = NoEnd n ∷ [];
+  asked = Refuse (NoEnd n) ∷ [];
   taken = t.taken;
   law = λ stop more f. open-law stop format n (n + 1) m t.bytes more t.inside f;
-  is = refl;
+  is = (Refuse (NoEnd n), refl, refl);
   at_end = λ _. end;
 }
 
-pub reads-ended : (format : Format) (found : TextFound) (text : Option (List ℕ)) (last : Bool) (old new : Ahead) (n m : ℕ) → found ≡ found_text.Ended text last → ReadsText found old new n m → Hears old new (InText n format []) (what.Tells format text) last n (n + 1) (m + 1)
+pub reads-ended : (format : Format) (found : TextFound) (text : Option (List ℕ)) (last : Bool) (old new : Ahead) (n m : ℕ) → found ≡ found_text.Ended text last → ReadsText found old new n m → Hears old new (InText n format []) (Some (request.Take format text)) last (n + 1) (m + 1)
 reads-ended format found text last old new n m e h = hears-whole_text format text old new last n m (subst (λ f. ReadsText f old new n m) e h)
 
-pub reads-open : (format : Format) (found : TextFound) (old new : Ahead) (n m : ℕ) → found ≡ found_text.NoEnd → ReadsText found old new n m → Hears old new (InText n format []) what.NoEnd true n (n + 1) (m + 1)
+pub reads-open : (format : Format) (found : TextFound) (old new : Ahead) (n m : ℕ) → found ≡ found_text.NoEnd → ReadsText found old new n m → Hears old new (InText n format []) (Some (request.Refuse (NoEnd n))) true (n + 1) (m + 1)
 reads-open format found old new n m e h = let parts = subst (λ f. ReadsText f old new n m) e h in hears-open_text format old new n (m + 1) parts.0 parts.1
 
 pub breaks-open_text : (format : Format) (old new : Ahead) (n : ℕ) → NoEndAmong Broken old new → BreaksOff old new (InText n format []) (n + 1)
@@ -169,8 +173,8 @@ pub breaks-line : (old new : Ahead) (n : ℕ) → StopsInLine old new → Breaks
 breaks-line old new n s = record { bytes = s.seen; taken = s.taken; law = ap (asks Broken Between n) s.none }
 
 -- the script is at its end
-pub hears-end : (old new : Ahead) (line n m : ℕ) → EndsHere old new → Hears old new Between what.Nothing true line n m
-hears-end old new line n m e = record {
+pub hears-end : (old new : Ahead) (n m : ℕ) → EndsHere old new → Hears old new Between None true n m
+hears-end old new n m e = record {
   bytes = [];
   asked = [];
   taken = e.0;

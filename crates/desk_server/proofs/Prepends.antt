@@ -1,7 +1,7 @@
 -- Cells that stand before others.
 use Rattle.std.proofs.Common.{◌≡◌, List, [], ◌∷◌, ◌++◌, Option, Some, None, refl, sym, ap, append_assoc}
 use Rattle.std.specs.Option.{option_map}
-use Rattle.plane_core.specs.declared.cell.CellSet.{CellSet}
+use Rattle.worlds.specs.declared.cell.CellSet.{CellSet}
 use Rattle.desk_server.specs.Command.{before}
 
 pub prepends_one : (xs : List CellSet) (c : CellSet) (o : Option (List CellSet)) → option_map (λ more. xs ++ more) (before (Some c) o) ≡ option_map (λ more. (xs ++ c ∷ []) ++ more) o

@@ -1,18 +1,20 @@
 -- What the desk's answers are by the definition of the replies.
-use Rattle.std.proofs.Common.{◌≡◌, ◌⊎◌, inl, inr, ℕ, List, Result, Err, ◌≤◌, ◌<◌, Option, Some, None, length, Bool, true, false, cond, codes, ◌&&◌, refl, sym, ap, ap₂, ◌∙◌, subst, arith, nat_le}
+use Rattle.std.proofs.Common.{◌≡◌, ◌⊎◌, inl, inr, ℕ, List, Result, Err, ◌≤◌, ◌<◌, Option, Some, None, length, Bool, true, false, cond, ◌&&◌, refl, sym, ap, ap₂, ◌∙◌, subst, arith, nat_le}
 use Rattle.std.specs.Prelude.{IsSome}
 use Rattle.std.proofs.lemmas.Bool.Decides.{nat_tests}
 use Rattle.schedule.specs.Plan.{Plan}
+use Rattle.schedule.specs.declared.fault.EditFault.TheVariants.{NoMemory}
 use Rattle.schedule.specs.declared.document.Bookmark.{Bookmark}
 use Rattle.desk_core.specs.Rows.{Known, bookmark_in, text_known}
-use Rattle.desk_core.specs.Cause.{is_cause}
+use Rattle.desk_core.specs.declared.cause.Cause.{Cause}
 use Rattle.desk_core.specs.Shown.{Shows, IsPending}
-use Rattle.desk_core.specs.declared.shown.Shown.{Shown}
-use Rattle.desk_core.specs.declared.shown.Shown.TheVariants as found
-use Rattle.desk_server.specs.Answer.{Want, Enough, Memory, Unsettled, Pending, After, only, unless_memory, settled, shown}
+use Rattle.dependency_book.specs.declared.shown.Shown.{Shown}
+use Rattle.dependency_book.specs.declared.shown.Shown.TheVariants as found
+use Rattle.desk_server.specs.Faults.{Fault, of_edit}
+use Rattle.desk_server.specs.Answer.{Enough, Memory, Unsettled, Pending, After, only, unless_fault, settled, shown}
 use Rattle.desk_server.specs.Reply.{current_text, pending_text, refused_text, settled_text, unsettled_text}
 use Rattle.desk_server.specs.Told.{text_of, ends, shown_text}
-use Rattle.desk_server.specs.Heard.{Gives}
+use Rattle.desk_server.specs.Heard.{Gives, GivesBy, GivesOrWants}
 use Rattle.desk_server.specs.declared.reply.Reply.{Reply}
 use Rattle.desk_server.specs.declared.reply.Reply.TheVariants as reply
 
@@ -24,31 +26,31 @@ gives-only p new r told same is goes = ap (λ q. only q told) (sym same) ∙ sym
     after t e = record { told = t; plan = new.plan; ends = e }
 
 -- what was refused, or what memory was wanted for
-pub gives-refused : {A E : Type 0} (p : Plan) (new : Known) (r : Reply) (fault none : E) (read : Result A E) (then : Result A E → After) (told : E → List ℕ)
-    → told none ≡ refused_text 70 (codes "NoMemory") None → then (Err fault) ≡ only p (told fault) → new.plan ≡ p → (fault ≡ none) ⊎ (read ≡ Err fault)
-    → ((k : Known) → text_of k r ≡ told fault) → ends r ≡ false → (want : Want) × Gives (unless_memory want p (then read)) r new
-gives-refused p new r fault none read then told law given same (inl memory) is goes = (Memory, ap (only p) (sym law ∙ sym (ap told memory)) ∙ gives-only p new r (told fault) same (is new) goes)
-gives-refused p new r fault none read then told law given same (inr refused) is goes = (Enough, ap then refused ∙ given ∙ gives-only p new r (told fault) same (is new) goes)
+pub gives-refused : {A E : Type 0} (p : Plan) (new : Known) (r : Reply) (told : E → Fault) (done : A → After) (fault none : E) (read : Result A E)
+    → told none ≡ of_edit NoMemory → new.plan ≡ p → (fault ≡ none) ⊎ (read ≡ Err fault)
+    → ((k : Known) → text_of k r ≡ refused_text (told fault)) → ends r ≡ false → GivesOrWants p (unless_fault p told done read) r new
+gives-refused p new r told done fault none read law same (inl memory) is goes = (Memory, ap (λ f. only p (refused_text f)) (sym law ∙ sym (ap told memory)) ∙ gives-only p new r (refused_text (told fault)) same (is new) goes)
+gives-refused p new r told done fault none read law same (inr refused) is goes = (Enough, ap (unless_fault p told done) refused ∙ gives-only p new r (refused_text (told fault)) same (is new) goes)
 
 -- settling that left bookmarks pending
-left : (a b c : Bool) (x y : After) → a ≡ true → b ≡ true → c ≡ true → cond (a && b && c) x y ≡ x
-left true true true x y h k l = refl
-left true true false x y h k l = absurd (cc)
-left true false c x y h k l = absurd (cc)
-left false b c x y h k l = absurd (cc)
+left : (a b : Bool) (x y : After) → a ≡ true → b ≡ true → cond (a && b) x y ≡ x
+left true true x y h k = refl
+left true false x y h k = absurd (cc)
+left false b x y h k = absurd (cc)
 
-pub gives-unsettled : (p : Plan) (new : Known) (n cause : ℕ) → new.plan ≡ p → 0 < n → n ≤ length new.plan.bookmarks → is_cause cause ≡ true → (want : Want) × Gives (settled want p) (reply.Unsettled n cause) new
-gives-unsettled p new n cause same some few is = (
-  Unsettled n cause,
-  subst (λ q. Gives (settled (Unsettled n cause) q) (reply.Unsettled n cause) new) same
-      (left (nat_le 1 n) (nat_le n (length new.plan.bookmarks)) (is_cause cause) (only new.plan (unsettled_text n cause)) (only new.plan settled_text) (grind (arith, nat_tests)) (grind (arith, nat_tests)) is),
+pub gives-unsettled : (p : Plan) (new : Known) (n : ℕ) (cause : Option Cause) (why : Cause) → new.plan ≡ p → 0 < n → n ≤ length new.plan.bookmarks → cause ≡ Some why → GivesBy (λ want. settled want p) (reply.Unsettled n cause) new
+gives-unsettled p new n cause why same some few is = (
+  Unsettled n why,
+  subst (λ q. Gives (settled (Unsettled n why) q) (reply.Unsettled n cause) new) same
+      (subst (λ c. Gives (settled (Unsettled n why) new.plan) (reply.Unsettled n c) new) (sym is)
+      (left (nat_le 1 n) (nat_le n (length new.plan.bookmarks)) (only new.plan (unsettled_text n (Some why))) (only new.plan settled_text) (grind (arith, nat_tests)) (grind (arith, nat_tests)))),
 )
 
 some_of : (o : Option Bookmark) → IsSome o → (b : Bookmark) × (o ≡ Some b)
 some_of None h = absurd (cc)
 some_of (Some b) h = (b, refl)
 
-shown-here : (new : Known) (id : ℕ) (s : Shown) → Shows new id s → (want : Want) × Gives (shown want new.plan id (bookmark_in new.plan.bookmarks id)) (reply.Shown id) new
+shown-here : (new : Known) (id : ℕ) (s : Shown) → Shows new id s → GivesBy (λ want. shown want new.plan id (bookmark_in new.plan.bookmarks id)) (reply.Shown id) new
 shown-here new id (found.Current text) h = (
   Enough,
   ap (shown Enough new.plan id) h.there
@@ -63,7 +65,7 @@ shown-here new id found.NoSuch h = (
 )
 
 -- a bookmark that is shown
-pub gives-shown : (p : Plan) (new : Known) (id : ℕ) (s : Shown) → new.plan ≡ p → Shows new id s → (want : Want) × Gives (shown want p id (bookmark_in p.bookmarks id)) (reply.Shown id) new
+pub gives-shown : (p : Plan) (new : Known) (id : ℕ) (s : Shown) → new.plan ≡ p → Shows new id s → GivesBy (λ want. shown want p id (bookmark_in p.bookmarks id)) (reply.Shown id) new
 gives-shown p new id s same h = let here = shown-here new id s h in (here.0, subst (λ q. Gives (shown here.0 q id (bookmark_in q.bookmarks id)) (reply.Shown id) new) same here.1)
 
 -- what is written of a pending one

@@ -1,5 +1,6 @@
 -- One command after another.
 use Rattle.std.proofs.Common.{◌≡◌, ◌≢◌, ℕ, List, [], ◌∷◌, ◌++◌, Bool, true, false, cond, sym, ◌∙◌, ap, refl, append_assoc, append-nil, subst, Option, Some, None, IfSome}
+use Rattle.std.specs.Prelude.{flat_map}
 use Rattle.std.proofs.KnownBytes.{Appends-nil, Appends-trans}
 use Rattle.script_lines.specs.Ahead.{Ahead, Takes}
 use Rattle.script_lines.proofs.Ahead.{takes_none, takes_then}
@@ -11,18 +12,17 @@ use Rattle.script_lines.proofs.Told.{front_first, front_then}
 use Rattle.schedule.specs.Plan.{Plan, opening}
 use Rattle.desk_core.specs.Rows.{Known}
 use Rattle.desk_server.specs.Answer.{Ask, After, Want, answer}
-use Rattle.desk_server.specs.Script.{asks, Between, replies_to, replies_by, replies_with}
+use Rattle.desk_server.specs.Script.{asks, Between, afters, replies_to, replies_by, replies_with}
 use Rattle.desk_server.specs.Told.{text_of, ends}
-use Rattle.desk_server.specs.Heard.{Hears, Served, BreaksOff}
+use Rattle.desk_server.specs.Heard.{AsksFor, Asked, Hears, Gives, GivesBy, Served, BreaksOff}
 use Rattle.desk_server.specs.Run.{Answers, Finishes, StopsTelling, AnswersWhole, AnswersAll, AnswersFront}
-use Rattle.desk_server.specs.declared.heard.What.{What}
+use Rattle.desk_server.specs.declared.request.Request.{Request}
 use Rattle.desk_server.specs.declared.reply.Reply.{Reply}
 use Rattle.desk_server.specs.declared.reply.Reply.TheVariants as reply
 use Rattle.desk_server.proofs.Hearing.{follows-any}
 
 pub ends-other : (r : Reply) → r ≢ reply.Bye → ends r ≡ false
-ends-other (reply.Accepted edited) h = refl
-ends-other (reply.Started revision generation) h = refl
+ends-other (reply.Accepted revision word number) h = refl
 ends-other reply.Settled h = refl
 ends-other (reply.Unsettled pending cause) h = refl
 ends-other (reply.Shown id) h = refl
@@ -39,51 +39,62 @@ follows_nothing false new rest h e = tt
 follows_nothing true new rest h e = (refl, at_end_nil new rest (h refl) e)
 
 -- the reply to one command, and those to the rest
-after_is : (want : Want) (p : Plan) (ask : Ask) (r : Reply) (k : Known) → answer want p ask ≡ record { told = text_of k r; plan = k.plan; ends = ends r } → (rest : List Ask) (later : List Want)
+told_behind : (b : Bool) (p : Plan) (rest : List Ask) (later : List Want) → flat_map (λ (a : After). a.told) (cond b [] (afters p rest later)) ≡ cond b [] (replies_to p rest later)
+told_behind true p rest later = refl
+told_behind false p rest later = refl
+
+after_is : (want : Want) (p : Plan) (ask : Ask) (r : Reply) (k : Known) → Gives (answer want p ask) r k → (rest : List Ask) (later : List Want)
     → replies_to p (ask ∷ rest) (want ∷ later) ≡ text_of k r ++ cond (ends r) [] (replies_to k.plan rest later)
-after_is want p ask r k e rest later = ap (λ (a : After). a.told ++ cond a.ends [] (replies_to a.plan rest later)) e
+after_is want p ask r k e rest later = ap (λ (a : After). a.told ++ flat_map (λ (b : After). b.told) (cond a.ends [] (afters a.plan rest later))) e ∙ ap (λ v. text_of k r ++ v) (told_behind (ends r) k.plan rest later)
 
 -- nothing was asked
-pub goes_on_silent : (old new : Ahead) (told : Option (List ℕ)) (what : What) (last : Bool) (line : ℕ) (j k : Known) (n m : ℕ) → last ≡ false
-    → (h : Hears old new Between what last line n m) → Served None h.asked j k → Answers old new told told j.plan k.plan n m
-goes_on_silent old new told what last line j k n m e h s = record {
+asked_nothing : (heard : Option Request) (asked : List Ask) → heard ≡ None → Asked heard asked → asked ≡ []
+asked_nothing heard asked e is = subst (λ o. Asked o asked) e is
+
+pub goes_on_silent : (old new : Ahead) (told : Option (List ℕ)) (heard : Option Request) (last : Bool) (k : Known) (n m : ℕ) → heard ≡ None → last ≡ false
+    → (h : Hears old new Between heard last n m) → Answers old new told told k.plan k.plan n m
+goes_on_silent old new told heard last k n m none e h = record {
   bytes = h.bytes;
   wants = [];
   told = [];
   taken = h.taken;
   wrote = Appends-nil told;
-  law = λ stop more later. ap (λ v. replies_to j.plan v later) (h.law stop more (follows-any last stop more e) ∙ ap (λ v. v ++ asks stop Between m (lines_until stop more)) s.0)
-      ∙ ap (λ q. replies_to q (asks stop Between m (lines_until stop more)) later) (sym s.1);
+  law = λ stop more later. ap (λ v. replies_to k.plan v later) (h.law stop more (follows-any last stop more e) ∙ ap (λ v. v ++ asks stop Between m (lines_until stop more)) (asked_nothing heard h.asked none h.is));
 }
 
-pub done_silent : (old new : Ahead) (told : Option (List ℕ)) (what : What) (last : Bool) (line : ℕ) (j k : Known) (n m : ℕ) → last ≡ true
-    → (h : Hears old new Between what last line n m) → Served None h.asked j k → Finishes old new told told j.plan n
-done_silent old new told what last line j k n m e h s = record {
+pub done_silent : (old new : Ahead) (told : Option (List ℕ)) (heard : Option Request) (last : Bool) (k : Known) (n m : ℕ) → heard ≡ None → last ≡ true
+    → (h : Hears old new Between heard last n m) → Finishes old new told told k.plan n
+done_silent old new told heard last k n m none e h = record {
   bytes = h.bytes;
   wants = [];
   taken = h.taken;
   told = [];
   wrote = Appends-nil told;
-  law = λ rest x. ap (λ v. replies_to j.plan v []) (h.law Ended rest (follows_nothing last new.bytes rest h.at_end x) ∙ ap (λ v. v ++ asks Ended Between m (lines_until Ended rest)) s.0
+  law = λ rest x. ap (λ v. replies_to k.plan v []) (h.law Ended rest (follows_nothing last new.bytes rest h.at_end x) ∙ ap (λ v. v ++ asks Ended Between m (lines_until Ended rest)) (asked_nothing heard h.asked none h.is)
       ∙ ap (λ v. asks Ended Between m (lines_until Ended v)) (at_end_nil new.bytes rest (h.at_end e) x));
 }
 
--- the replies from here on, where a reply was found
-replies_from : (old new : Ahead) (what : What) (last : Bool) (line : ℕ) (j k : Known) (n m : ℕ) (r : Reply)
-    → (h : Hears old new Between what last line n m) → (s : Served (Some r) h.asked j k) → (stop : End) (more : List ℕ) (later : List Want) → Follows last stop more
-    → replies_to j.plan (asks stop Between n (lines_until stop (h.bytes ++ more))) (s.1 ∷ later) ≡ text_of k r ++ cond (ends r) [] (replies_to k.plan (asks stop Between m (lines_until stop more)) later)
-replies_from old new what last line j k n m r h s stop more later f =
-    ap (λ v. replies_to j.plan v (s.1 ∷ later)) (h.law stop more f ∙ ap (λ v. v ++ asks stop Between m (lines_until stop more)) s.2) ∙ after_is s.1 j.plan s.0 r k s.3 (asks stop Between m (lines_until stop more)) later
+-- one thing was asked, and the reply to it found
+pub served : (heard : Option Request) (request : Request) (asked : List Ask) (j k : Known) (r : Reply) → heard ≡ Some request → Asked heard asked
+    → ((ask : Ask) → AsksFor request ask → GivesBy (λ want. answer want j.plan ask) r k) → Served r asked j k
+served heard request asked j k r e is gives = let one = subst (λ o. Asked o asked) e is in (one.0, one.1, gives one.0 one.2)
 
-pub goes_on_told : (old new : Ahead) (before after : Option (List ℕ)) (what : What) (last : Bool) (line : ℕ) (j k : Known) (n m : ℕ) (r : Reply) → last ≡ false → r ≢ reply.Bye
-    → (h : Hears old new Between what last line n m) → Served (Some r) h.asked j k → Appends before after (text_of k r) → Answers old new before after j.plan k.plan n m
-goes_on_told old new before after what last line j k n m r e b h s w = record {
+-- the replies from here on
+replies_from : (old new : Ahead) (heard : Option Request) (last : Bool) (j k : Known) (n m : ℕ) (r : Reply)
+    → (h : Hears old new Between heard last n m) → (s : Served r h.asked j k) → (stop : End) (more : List ℕ) (later : List Want) → Follows last stop more
+    → replies_to j.plan (asks stop Between n (lines_until stop (h.bytes ++ more))) (s.2.0 ∷ later) ≡ text_of k r ++ cond (ends r) [] (replies_to k.plan (asks stop Between m (lines_until stop more)) later)
+replies_from old new heard last j k n m r h s stop more later f =
+    ap (λ v. replies_to j.plan v (s.2.0 ∷ later)) (h.law stop more f ∙ ap (λ v. v ++ asks stop Between m (lines_until stop more)) s.1) ∙ after_is s.2.0 j.plan s.0 r k s.2.1 (asks stop Between m (lines_until stop more)) later
+
+pub goes_on_told : (old new : Ahead) (before after : Option (List ℕ)) (heard : Option Request) (last : Bool) (j k : Known) (n m : ℕ) (r : Reply) → last ≡ false → r ≢ reply.Bye
+    → (h : Hears old new Between heard last n m) → Served r h.asked j k → Appends before after (text_of k r) → Answers old new before after j.plan k.plan n m
+goes_on_told old new before after heard last j k n m r e b h s w = record {
   bytes = h.bytes;
-  wants = s.1 ∷ [];
+  wants = s.2.0 ∷ [];
   told = text_of k r;
   taken = h.taken;
   wrote = w;
-  law = λ stop more later. replies_from old new what last line j k n m r h s stop more later (follows-any last stop more e)
+  law = λ stop more later. replies_from old new heard last j k n m r h s stop more later (follows-any last stop more e)
       ∙ ap (λ v. text_of k r ++ cond v [] (replies_to k.plan (asks stop Between m (lines_until stop more)) later)) (ends-other r b);
 }
 
@@ -91,37 +102,37 @@ nothing_more : (v : Bool) (t : List ℕ) → t ++ cond v [] [] ≡ t
 nothing_more true t = append-nil t
 nothing_more false t = append-nil t
 
-pub done_last : (old new : Ahead) (before after : Option (List ℕ)) (what : What) (last : Bool) (line : ℕ) (j k : Known) (n m : ℕ) (r : Reply) → last ≡ true
-    → (h : Hears old new Between what last line n m) → Served (Some r) h.asked j k → Appends before after (text_of k r) → Finishes old new before after j.plan n
-done_last old new before after what last line j k n m r e h s w = record {
+pub done_last : (old new : Ahead) (before after : Option (List ℕ)) (heard : Option Request) (last : Bool) (j k : Known) (n m : ℕ) (r : Reply) → last ≡ true
+    → (h : Hears old new Between heard last n m) → Served r h.asked j k → Appends before after (text_of k r) → Finishes old new before after j.plan n
+done_last old new before after heard last j k n m r e h s w = record {
   bytes = h.bytes;
-  wants = s.1 ∷ [];
+  wants = s.2.0 ∷ [];
   taken = h.taken;
   told = text_of k r;
   wrote = w;
-  law = λ rest x. replies_from old new what last line j k n m r h s Ended rest [] (follows_nothing last new.bytes rest h.at_end x)
+  law = λ rest x. replies_from old new heard last j k n m r h s Ended rest [] (follows_nothing last new.bytes rest h.at_end x)
       ∙ ap (λ v. text_of k r ++ cond (ends r) [] (replies_to k.plan (asks Ended Between m (lines_until Ended v)) [])) (at_end_nil new.bytes rest (h.at_end e) x) ∙ nothing_more (ends r) (text_of k r);
 }
 
-pub done_bye : (old new : Ahead) (before after : Option (List ℕ)) (what : What) (last : Bool) (line : ℕ) (j k : Known) (n m : ℕ) (r : Reply) → r ≡ reply.Bye
-    → (h : Hears old new Between what last line n m) → Served (Some r) h.asked j k → Appends before after (text_of k r) → Finishes old new before after j.plan n
-done_bye old new before after what last line j k n m r b h s w = record {
+pub done_bye : (old new : Ahead) (before after : Option (List ℕ)) (heard : Option Request) (last : Bool) (j k : Known) (n m : ℕ) (r : Reply) → r ≡ reply.Bye
+    → (h : Hears old new Between heard last n m) → Served r h.asked j k → Appends before after (text_of k r) → Finishes old new before after j.plan n
+done_bye old new before after heard last j k n m r b h s w = record {
   bytes = h.bytes;
-  wants = s.1 ∷ [];
+  wants = s.2.0 ∷ [];
   taken = h.taken;
   told = text_of k r;
   wrote = w;
-  law = λ rest x. replies_from old new what last line j k n m r h s Ended rest [] (follows_nothing last new.bytes rest h.at_end x)
+  law = λ rest x. replies_from old new heard last j k n m r h s Ended rest [] (follows_nothing last new.bytes rest h.at_end x)
       ∙ ap (λ v. text_of k r ++ cond (ends v) [] (replies_to k.plan (asks Ended Between m (lines_until Ended rest)) [])) b ∙ append-nil (text_of k r);
 }
 
-pub stops_telling : (old new : Ahead) (before after : Option (List ℕ)) (what : What) (last : Bool) (line : ℕ) (j k : Known) (n m : ℕ) (r : Reply)
-    → (h : Hears old new Between what last line n m) → Served (Some r) h.asked j k → AppendsFront before after (text_of k r) → StopsTelling old new before after j.plan n
-stops_telling old new before after what last line j k n m r h s w = record {
+pub stops_telling : (old new : Ahead) (before after : Option (List ℕ)) (heard : Option Request) (last : Bool) (j k : Known) (n m : ℕ) (r : Reply)
+    → (h : Hears old new Between heard last n m) → Served r h.asked j k → AppendsFront before after (text_of k r) → StopsTelling old new before after j.plan n
+stops_telling old new before after heard last j k n m r h s w = record {
   bytes = h.bytes;
-  wants = s.1 ∷ [];
+  wants = s.2.0 ∷ [];
   taken = h.taken;
-  law = λ rest x. subst (AppendsFront before after) (sym (replies_from old new what last line j k n m r h s Ended rest [] (follows_nothing last new.bytes rest h.at_end x)))
+  law = λ rest x. subst (AppendsFront before after) (sym (replies_from old new heard last j k n m r h s Ended rest [] (follows_nothing last new.bytes rest h.at_end x)))
       (front_first before after (text_of k r) (cond (ends r) [] (replies_to k.plan (asks Ended Between m (lines_until Ended rest)) [])) w);
 }
 

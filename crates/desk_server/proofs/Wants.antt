@@ -1,148 +1,133 @@
--- Which commands can meet want of memory.
-use Rattle.std.proofs.Common.{◌≡◌, ℕ, ◌-◌, ◌^◌, ◌≤◌, ◌<◌, List, [], ◌∷◌, length, length-append, Bool, true, false, cond, codes, ap, refl, arith, Option, Some, None}
+-- Which lines can meet want of memory.
+use Rattle.std.proofs.Common.{◌≡◌, ℕ, ◌≤◌, ◌<◌, List, [], ◌∷◌, length, length-append, Bool, true, false, cond, codes, ap, refl, arith, Option, Some, None}
 use Rattle.std.specs.List.{join_with_byte}
+use Rattle.std.specs.Option.{option_map}
 use Rattle.std.specs.Str.{bytes_eq}
 use Rattle.std.proofs.lemmas.Slice.Eq.{bytes_eq-Decides}
 use Rattle.script_lines.specs.Words.{words, squashed}
-use Rattle.plane_core.specs.declared.cell.CellSet.{CellSet}
-use Rattle.bookmarks.specs.declared.view.View.{View}
+use Rattle.schedule.specs.declared.edit.Edit.{Edit}
 use Rattle.schedule.specs.declared.document.Bookmark.{Bookmark}
 use Rattle.schedule.specs.Plan.{Plan}
 use Rattle.desk_core.specs.Rows.{bookmark_in}
-use Rattle.desk_server.specs.Numbers.{up_to}
-use Rattle.desk_server.specs.View.{view_of}
-use Rattle.desk_server.specs.Command.{cells_of, command_of, command_of_words, command_by, verb_of, alone, start_of, set_of, mark_of, mark_by, show_of, show_by}
-use Rattle.desk_server.specs.Answer.{shown, no_memory, Memory, MayWant}
-use Rattle.desk_server.specs.declared.command.Format.TheVariants as format
-use Rattle.desk_server.specs.declared.command.Verb.{Verb}
-use Rattle.desk_server.specs.declared.command.Verb.TheVariants as verb
+use Rattle.desk_server.specs.View.{alone}
+use Rattle.desk_server.specs.Command.{edit_by, one_count, command_of, command_of_words, command_by, format_of, format_of_words, start_of}
+use Rattle.desk_server.specs.Script.{asked_by}
+use Rattle.desk_server.specs.Answer.{shown, no_memory, Memory, CanWant}
+use Rattle.desk_server.specs.declared.format.Format.{Format}
+use Rattle.desk_server.specs.declared.format.Format.TheVariants as format
 use Rattle.desk_server.specs.declared.command.Command.{Command}
-use Rattle.desk_server.specs.declared.command.Command.TheVariants.{Take, Set, Mark, Settle, Show, Quit, Bad}
+use Rattle.desk_server.specs.declared.command.Command.TheVariants as command
 
--- the commands whose words are fixed
-abbrev is_fixed : Command → Bool
-is_fixed (Take format) = true
-is_fixed (Set cells) = false
-is_fixed (Mark g view) = false
-is_fixed Settle = true
-is_fixed (Show id) = false
-is_fixed Quit = true
-is_fixed Bad = false
+-- the commands whose words are fixed, and the formats
+abbrev is_fixed : Option Command → Bool
+is_fixed (Some command.Settle) = true
+is_fixed (Some command.Quit) = true
+is_fixed _ = false
 
--- and the first words of such
-abbrev is_fixed_verb : Verb → Bool
-is_fixed_verb verb.Rule = true
-is_fixed_verb verb.Start = true
-is_fixed_verb verb.Set = false
-is_fixed_verb verb.Mark = false
-is_fixed_verb verb.Settle = true
-is_fixed_verb verb.Show = false
-is_fixed_verb verb.Quit = true
-is_fixed_verb verb.Other = false
+abbrev opens : Option Format → Bool
+opens None = false
+opens (Some format) = true
 
 shown-wants : (p : Plan) (id : ℕ) (b : Option Bookmark) → shown Memory p id b ≡ no_memory p
 shown-wants p id None = refl
 shown-wants p id (Some b) = refl
 
-other-wants : (command : Command) → is_fixed command ≡ false → MayWant command
-other-wants (Take format) h = absurd (cc)
-other-wants (Set cells) h = (refl, λ line p. refl)
-other-wants (Mark g view) h = (refl, λ line p. refl)
-other-wants Settle h = absurd (cc)
-other-wants (Show id) h = (refl, λ line p. shown-wants p id (bookmark_in p.bookmarks id))
-other-wants Quit h = absurd (cc)
-other-wants Bad h = (refl, λ line p. refl)
+-- all others can meet it
+other-wants : (n : ℕ) (c : Option Command) → is_fixed c ≡ false → CanWant (asked_by n c)
+other-wants n None h = λ p. refl
+other-wants n (Some (command.Edit edit)) h = λ p. refl
+other-wants n (Some command.Settle) h = absurd (cc)
+other-wants n (Some (command.Show id)) h = λ p. shown-wants p id (bookmark_in p.bookmarks id)
+other-wants n (Some command.Quit) h = absurd (cc)
 
-set-open : (o : Option (List CellSet)) → is_fixed (set_of o) ≡ false
-set-open None = refl
-set-open (Some []) = refl
-set-open (Some (c ∷ cs)) = refl
+edit-open : (e : Option Edit) → is_fixed (option_map command.Edit e) ≡ false
+edit-open None = refl
+edit-open (Some e) = refl
 
--- setting cells can meet it
-pub set-wants : (o : Option (List CellSet)) → MayWant (set_of o)
-set-wants o = other-wants (set_of o) (set-open o)
+show-open : (id : Option ℕ) → is_fixed (option_map command.Show id) ≡ false
+show-open None = refl
+show-open (Some id) = refl
 
-mark_by-open : (g : Option ℕ) (view : Option View) → is_fixed (mark_by g view) ≡ false
-mark_by-open None view = refl
-mark_by-open (Some g) None = refl
-mark_by-open (Some g) (Some view) = refl
-
-mark-open : (ws : List (List ℕ)) → is_fixed (mark_of ws) ≡ false
-mark-open [] = refl
-mark-open (g ∷ view) = mark_by-open (up_to (2 ^ 64 - 1) g) (view_of view)
-
-show_by-open : (o : Option ℕ) → is_fixed (show_by o) ≡ false
-show_by-open None = refl
-show_by-open (Some n) = refl
-
-show-open : (ws : List (List ℕ)) → is_fixed (show_of ws) ≡ false
-show-open [] = refl
-show-open (id ∷ []) = show_by-open (up_to (2 ^ 64 - 1) id)
-show-open (id ∷ w ∷ rest) = refl
-
--- where no word may follow, none does
-alone-fixed : (command : Command) (rest : List (List ℕ)) → is_fixed (alone command rest) ≡ true → rest ≡ []
-alone-fixed command [] h = refl
-alone-fixed command (w ∷ rest) h = absurd (cc)
-
-none-short : (rest : List (List ℕ)) → rest ≡ [] → length (join_with_byte 32 rest) ≤ 3
-none-short [] e = omega arith
-none-short (w ∷ rest) e = absurd (cc)
+-- each edit can
+pub edit-wants : (e : Option Edit) (n : ℕ) → CanWant (asked_by n (option_map command.Edit e))
+edit-wants e n = other-wants n (option_map command.Edit e) (edit-open e)
 
 short : (word text : List ℕ) (n : ℕ) → length text ≤ n → bytes_eq word text ≡ true → length word ≤ n
 short word text n h e = omega (arith, h, ap length ((bytes_eq-Decides word text).0 e))
 
-rle-short : (name : List ℕ) (rest : List (List ℕ)) → bytes_eq name (codes "rle") ≡ true → rest ≡ [] → length (join_with_byte 32 (name ∷ rest)) ≤ 3
-rle-short name [] e h = short name (codes "rle") 3 (omega arith) e
-rle-short name (w ∷ rest) e h = absurd (cc)
+-- where no word may follow, none does
+none-short : (rest : List (List ℕ)) → rest ≡ [] → length (join_with_byte 32 rest) ≤ 3
+none-short [] e = omega arith
+none-short (w ∷ rest) e = absurd (cc)
 
-start-short : (ws : List (List ℕ)) → is_fixed (start_of ws) ≡ true → length (join_with_byte 32 ws) ≤ 3
+alone-fixed : (c : Command) (rest : List (List ℕ)) → is_fixed (alone (Some c) rest) ≡ true → length (join_with_byte 32 rest) ≤ 3
+alone-fixed c [] h = omega arith
+alone-fixed c (w ∷ rest) h = absurd (cc)
+
+alone-opens : (f : Format) (rest : List (List ℕ)) → opens (alone (Some f) rest) ≡ true → rest ≡ []
+alone-opens f [] h = refl
+alone-opens f (w ∷ rest) h = absurd (cc)
+
+-- the first word is short, and so is what stands behind it
+abbrev IsShort : List ℕ → List (List ℕ) → Type 0
+IsShort word rest = (length word ≤ 6) × (length (join_with_byte 32 rest) ≤ 3)
+
+-- of a command of fixed words
+command-short : (word : List ℕ) (rest : List (List ℕ)) → is_fixed (command_by word rest) ≡ true → IsShort word rest
+command-short word rest h = chosen (bytes_eq word (codes "settle")) (bytes_eq word (codes "show")) (bytes_eq word (codes "quit")) (short word (codes "settle") 6 (omega arith)) (short word (codes "quit") 6 (omega arith)) h
+  where
+    chosen : (a b c : Bool) → (a ≡ true → length word ≤ 6) → (c ≡ true → length word ≤ 6)
+        → is_fixed (cond a (alone (Some command.Settle) rest) (cond b (option_map command.Show (one_count rest)) (cond c (alone (Some command.Quit) rest) (option_map command.Edit (edit_by word rest))))) ≡ true → IsShort word rest
+    chosen true b c s q k = (s refl, alone-fixed command.Settle rest k)
+    chosen false true c s q k = absurd (cc (k, show-open (one_count rest)))
+    chosen false false true s q k = (q refl, alone-fixed command.Quit rest k)
+    chosen false false false s q k = absurd (cc (k, edit-open (edit_by word rest)))
+
+-- of the command of a text
+start-short : (ws : List (List ℕ)) → opens (start_of ws) ≡ true → length (join_with_byte 32 ws) ≤ 3
 start-short [] h = absurd (cc)
-start-short (name ∷ rest) h = named (bytes_eq name (codes "rle")) refl h
+start-short (name ∷ rest) h = named (bytes_eq name (codes "rle")) (bytes_eq name (codes "mc")) (short name (codes "rle") 3 (omega arith)) (short name (codes "mc") 3 (omega arith)) h
   where
-    named : (v : Bool) → bytes_eq name (codes "rle") ≡ v → is_fixed (cond v (alone (Take format.Rle) rest) Bad) ≡ true → length (join_with_byte 32 (name ∷ rest)) ≤ 3
-    named true e k = rle-short name rest e (alone-fixed (Take format.Rle) rest k)
-    named false e k = absurd (cc)
+    only : (more : List (List ℕ)) → more ≡ [] → length name ≤ 3 → length (join_with_byte 32 (name ∷ more)) ≤ 3
+    only [] e l = l
+    only (w ∷ more) e l = absurd (cc)
 
--- what stands behind the first word of a command of fixed words is short
-by-fixed : (v : Verb) (rest : List (List ℕ)) → is_fixed (command_by v rest) ≡ true → (is_fixed_verb v ≡ true) × (length (join_with_byte 32 rest) ≤ 3)
-by-fixed verb.Rule rest h = (refl, none-short rest (alone-fixed (Take format.Rule) rest h))
-by-fixed verb.Start rest h = (refl, start-short rest h)
-by-fixed verb.Set rest h = absurd (cc (h, set-open (cells_of rest)))
-by-fixed verb.Mark rest h = absurd (cc (h, mark-open rest))
-by-fixed verb.Settle rest h = (refl, none-short rest (alone-fixed Settle rest h))
-by-fixed verb.Show rest h = absurd (cc (h, show-open rest))
-by-fixed verb.Quit rest h = (refl, none-short rest (alone-fixed Quit rest h))
-by-fixed verb.Other rest h = absurd (cc)
+    named : (v u : Bool) → (v ≡ true → length name ≤ 3) → (u ≡ true → length name ≤ 3) → opens (cond v (alone (Some format.Rle) rest) (cond u (alone (Some format.Macrocell) rest) None)) ≡ true → length (join_with_byte 32 (name ∷ rest)) ≤ 3
+    named true u l m k = only rest (alone-opens format.Rle rest k) (l refl)
+    named false true l m k = only rest (alone-opens format.Macrocell rest k) (m refl)
+    named false false l m k = absurd (cc)
 
--- and so is the first word
-chosen : (n : ℕ) (o p q r s t u : Bool) → (o ≡ true → n ≤ 6) → (p ≡ true → n ≤ 6) → (s ≡ true → n ≤ 6) → (u ≡ true → n ≤ 6)
-    → is_fixed_verb (cond o verb.Rule (cond p verb.Start (cond q verb.Set (cond r verb.Mark (cond s verb.Settle (cond t verb.Show (cond u verb.Quit verb.Other))))))) ≡ true → n ≤ 6
-chosen n true p q r s t u a b c d h = a refl
-chosen n false true q r s t u a b c d h = b refl
-chosen n false false true r s t u a b c d h = absurd (cc)
-chosen n false false false true s t u a b c d h = absurd (cc)
-chosen n false false false false true t u a b c d h = c refl
-chosen n false false false false false true u a b c d h = absurd (cc)
-chosen n false false false false false false true a b c d h = d refl
-chosen n false false false false false false false a b c d h = absurd (cc)
-
-verb-short : (word : List ℕ) → is_fixed_verb (verb_of word) ≡ true → length word ≤ 6
-verb-short word h =
-    chosen (length word) (bytes_eq word (codes "rule")) (bytes_eq word (codes "start")) (bytes_eq word (codes "set")) (bytes_eq word (codes "mark")) (bytes_eq word (codes "settle")) (bytes_eq word (codes "show")) (bytes_eq word (codes "quit"))
-    (short word (codes "rule") 6 (omega arith)) (short word (codes "start") 6 (omega arith)) (short word (codes "settle") 6 (omega arith)) (short word (codes "quit") 6 (omega arith)) h
-
-words-short : (ws : List (List ℕ)) → is_fixed (command_of_words ws) ≡ true → length (join_with_byte 32 ws) ≤ 64
-words-short [] h = absurd (cc)
-words-short (word ∷ []) h = omega (arith, verb-short word (by-fixed (verb_of word) [] h).0)
-words-short (word ∷ w ∷ rest) h =
-    let parts = by-fixed (verb_of word) (w ∷ rest) h in
-    omega (arith, verb-short word parts.0, parts.1, length-append word (32 ∷ join_with_byte 32 (w ∷ rest)))
-
--- a long line can meet it
-pub long-wants : (says : List ℕ) → 64 < length (squashed says) → MayWant (command_of says)
-long-wants says long = other-wants (command_of says) (go (is_fixed (command_of says)) refl)
+text-short : (word : List ℕ) (rest : List (List ℕ)) → opens (format_of_words (word ∷ rest)) ≡ true → IsShort word rest
+text-short word rest h = chosen (bytes_eq word (codes "rule")) (bytes_eq word (codes "start")) (short word (codes "rule") 6 (omega arith)) (short word (codes "start") 6 (omega arith)) h
   where
-    go : (v : Bool) → is_fixed (command_of says) ≡ v → is_fixed (command_of says) ≡ false
-    go false e = e
-    go true e = absurd (omega (arith, long, words-short (words says) e))
+    chosen : (a b : Bool) → (a ≡ true → length word ≤ 6) → (b ≡ true → length word ≤ 6) → opens (cond a (alone (Some format.Rule) rest) (cond b (start_of rest) None)) ≡ true → IsShort word rest
+    chosen true b s q k = (s refl, none-short rest (alone-opens format.Rule rest k))
+    chosen false true s q k = (q refl, start-short rest k)
+    chosen false false s q k = absurd (cc)
+
+line-short : (word : List ℕ) (rest : List (List ℕ)) → IsShort word rest → length (join_with_byte 32 (word ∷ rest)) ≤ 64
+line-short word [] h = omega (arith, h.0)
+line-short word (w ∷ rest) h = omega (arith, h.0, h.1, length-append word (32 ∷ join_with_byte 32 (w ∷ rest)))
+
+words-fixed : (ws : List (List ℕ)) → is_fixed (command_of_words ws) ≡ true → length (join_with_byte 32 ws) ≤ 64
+words-fixed [] h = absurd (cc)
+words-fixed (word ∷ rest) h = line-short word rest (command-short word rest h)
+
+words-open : (ws : List (List ℕ)) → opens (format_of_words ws) ≡ true → length (join_with_byte 32 ws) ≤ 64
+words-open [] h = absurd (cc)
+words-open (word ∷ rest) h = line-short word rest (text-short word rest h)
+
+-- a long line opens no text, and can meet it
+none-opens : (o : Option Format) → opens o ≡ false → o ≡ None
+none-opens None h = refl
+none-opens (Some f) h = absurd (cc)
+
+long-false : (v : Bool) (n : ℕ) → 64 < n → (v ≡ true → n ≤ 64) → v ≡ false
+long-false false n long f = refl
+long-false true n long f = absurd (omega (arith, long, f refl))
+
+pub long-wants : (says : List ℕ) (n : ℕ) → 64 < length (squashed says) → (format_of says ≡ None) × CanWant (asked_by n (command_of says))
+long-wants says n long = (
+  none-opens (format_of says) (long-false (opens (format_of says)) (length (squashed says)) long (words-open (words says))),
+  other-wants n (command_of says) (long-false (is_fixed (command_of says)) (length (squashed says)) long (words-fixed (words says))),
+)

@@ -1,40 +1,39 @@
 -- What each command does to a document, and what is replied.
-use Rattle.std.specs.Prelude.{◌≡◌, ℕ, ◌&&◌, nat_le, List, length, Bool, true, false, if◌then◌else◌, codes, Option, None, Some, Result, Ok, Err}
+use Rattle.std.specs.Prelude.{◌≡◌, ℕ, ◌&&◌, nat_le, List, [], length, Bool, true, false, if◌then◌else◌, codes, Option, None, Some, Result, Ok, Err}
 use Rattle.rule_tree.specs.declared.rule.Rule.{Rule as FileRule}
-use Rattle.rule_file.specs.declared.fault.RuleFault.{RuleFault}
 use Rattle.rule_tree.specs.Rule.{rule_of}
-use Rattle.rule_file.specs.Faults as rule_faults
+use Rattle.worlds.specs.World.{World}
 use Rattle.plane_core.specs.declared.loaded.Loaded.{Loaded}
-use Rattle.multistate_rle.specs.declared.fault.RleFault.{RleFault}
 use Rattle.multistate_rle.specs.Pattern.{pattern_of}
-use Rattle.multistate_rle.specs.Faults as pattern_faults
-use Rattle.schedule.specs.declared.fault.EditFault.{EditFault}
+use Rattle.multistate_macrocell.specs.Pattern as macrocells
+use Rattle.schedule.specs.declared.fault.EditFault.TheVariants.{NoMemory, NoSuchBookmark}
 use Rattle.schedule.specs.declared.document.Bookmark.{Bookmark}
-use Rattle.schedule.specs.Faults as edit_faults
 use Rattle.schedule.specs.Plan.{Plan}
-use Rattle.schedule.specs.Asked.{SetCells, ReplaceStart, ReplaceRule, AddBookmark}
+use Rattle.schedule.specs.Asked.{Asked, asked_of, InsertIntervention, ReplaceStart, ReplaceRule, AddBookmark}
 use Rattle.schedule.specs.Change.{Changed, change}
 use Rattle.schedule.specs.Scratch.{scratch}
-use Rattle.desk_core.specs.Cause.{is_cause}
+use Rattle.desk_core.specs.declared.cause.Cause.{Cause}
 use Rattle.desk_core.specs.Rows.{bookmark_in}
-use Rattle.desk_server.specs.declared.command.Format.{Format}
-use Rattle.desk_server.specs.declared.command.Format.TheVariants as format
+use Rattle.desk_server.specs.declared.fault.ScriptFault.{ScriptFault}
+use Rattle.desk_server.specs.declared.fault.ScriptFault.TheVariants.{BadCommand, NoEnd}
+use Rattle.desk_server.specs.declared.format.Format.{Format}
+use Rattle.desk_server.specs.declared.format.Format.TheVariants as format
 use Rattle.desk_server.specs.declared.command.Command.{Command}
-use Rattle.desk_server.specs.declared.command.Command.TheVariants.{Take, Set, Mark, Settle, Show, Quit, Bad}
-use Rattle.desk_server.specs.Command.{text_format}
-use Rattle.desk_server.specs.Reply.{ok_text, started_text, settled_text, unsettled_text, current_text, pending_text, refused_text, bye_text}
+use Rattle.desk_server.specs.declared.command.Command.TheVariants.{Edit, Settle, Show, Quit}
+use Rattle.desk_server.specs.Faults.{Fault, of_rule, of_pattern, of_macrocell, of_edit, of_script}
+use Rattle.desk_server.specs.Reply.{accepted_text, settled_text, unsettled_text, current_text, pending_text, refused_text, bye_text}
 
--- what is asked of the desk: a command on a line, a text of a format, or a text without its end
+-- what is asked of the desk: a command, what a text of a format means, or to refuse what lines say
 pub data Ask : Type 0 where
-  Say : ℕ → Command → Ask
-  Tell : Format → List ℕ → Ask
-  NoEnd : ℕ → Ask
+  Obey : Command → Ask
+  Take : Format → List ℕ → Ask
+  Refuse : ScriptFault → Ask
 
 -- what a command met: enough of everything, want of memory, a settling that left so many bookmarks pending for this cause, or a bookmark that stayed pending
 pub data Want : Type 0 where
   Enough : Want
   Memory : Want
-  Unsettled : ℕ → ℕ → Want
+  Unsettled : ℕ → Cause → Want
   Pending : Want
 
 -- what is replied, the document after it, and whether the script ends
@@ -47,8 +46,11 @@ pub record After : Type 0 where
 abbrev pub only : Plan → List ℕ → After
 only p text = record { told = text; plan = p; ends = false }
 
+abbrev pub refused : Plan → Fault → After
+refused p fault = only p (refused_text fault)
+
 abbrev pub no_memory : Plan → After
-no_memory p = only p (refused_text 70 (codes "NoMemory") None)
+no_memory p = refused p (of_edit NoMemory)
 
 -- a command that can meet want of memory, and then does nothing
 abbrev pub unless_memory : Want → Plan → After → After
@@ -57,36 +59,40 @@ unless_memory Memory p after = no_memory p
 unless_memory (Unsettled n cause) p after = after
 unless_memory Pending p after = after
 
+-- what is done with a value that was found, or the refusal for its fault
+abbrev pub unless_fault : {A E : Type 0} → Plan → (E → Fault) → (A → After) → Result A E → After
+unless_fault p refusal done (Ok value) = done value
+unless_fault p refusal done (Err fault) = refused p (refusal fault)
+
+-- an edit was made, which is replied with a number behind this word, if there is one
+abbrev pub accepted : Changed → List ℕ → Option ℕ → After
+accepted c word number = record { told = accepted_text c.edited.revision word number; plan = c.plan; ends = false }
+
+-- the word before the id that an edit gives, if it gives one
+abbrev pub id_word : Asked → List ℕ
+id_word (InsertIntervention generation cells) = codes " intervention "
+id_word (AddBookmark generation view) = codes " bookmark "
+id_word _ = []
+
 -- an edit was made or refused
-abbrev pub edited : Plan → Result Changed EditFault → After
-edited p (Ok c) = record { told = ok_text c.edited; plan = c.plan; ends = false }
-edited p (Err fault) = only p (refused_text (edit_faults.fault_number fault) (edit_faults.fault_name fault) None)
+abbrev pub edited : Plan → Asked → After
+edited p asked = unless_fault p of_edit (λ (c : Changed). accepted c (id_word asked) c.edited.id) (change p asked)
 
--- a rule's text was read
-abbrev pub ruled : Plan → Result FileRule RuleFault → After
-ruled p (Ok rule) = edited p (change p (ReplaceRule rule))
-ruled p (Err fault) = only p (refused_text (rule_faults.fault_number fault) (rule_faults.fault_name fault) (rule_faults.fault_place fault))
+-- a start was taken or refused, whose file names this generation
+abbrev pub started : Plan → ℕ → World → After
+started p generation start = unless_fault p of_edit (λ (c : Changed). accepted c (codes " gen ") (Some generation)) (change p (ReplaceStart start))
 
--- an edit that brings a start was made, whose file names this generation, or refused
-abbrev pub begun : Plan → ℕ → Result Changed EditFault → After
-begun p generation (Ok c) = record { told = started_text c.edited.revision generation; plan = c.plan; ends = false }
-begun p generation (Err fault) = only p (refused_text (edit_faults.fault_number fault) (edit_faults.fault_name fault) None)
-
--- a pattern's text was read
-abbrev pub started : Plan → Result Loaded RleFault → After
-started p (Ok loaded) = begun p loaded.generation (change p (ReplaceStart loaded.plane))
-started p (Err fault) = only p (refused_text (pattern_faults.fault_number fault) (pattern_faults.fault_name fault) (pattern_faults.fault_place fault))
-
--- a text of a format was read
+-- what a text of a format means was taken or refused
 abbrev pub taken : Plan → Format → List ℕ → After
-taken p format.Rule text = ruled p (rule_of text)
-taken p format.Rle text = started p (pattern_of text)
+taken p format.Rule text = unless_fault p of_rule (λ (rule : FileRule). edited p (ReplaceRule rule)) (rule_of text)
+taken p format.Rle text = unless_fault p of_pattern (λ (loaded : Loaded). started p loaded.generation loaded.plane) (pattern_of text)
+taken p format.Macrocell text = unless_fault p of_macrocell (λ (loaded : Loaded). started p loaded.generation loaded.plane) (macrocells.pattern_of text)
 
 -- all texts were computed; a want leaves some bookmarks pending
 abbrev pub settled : Want → Plan → After
 settled Enough p = only p settled_text
 settled Memory p = only p settled_text
-settled (Unsettled n cause) p = if nat_le 1 n && nat_le n (length p.bookmarks) && is_cause cause then only p (unsettled_text n cause) else only p settled_text
+settled (Unsettled n cause) p = if nat_le 1 n && nat_le n (length p.bookmarks) then only p (unsettled_text n (Some cause)) else only p settled_text
 settled Pending p = only p settled_text
 
 -- a bookmark of the document is shown with the text that starting over gives, unless a want left it pending
@@ -98,33 +104,23 @@ there Pending p id b = only p (pending_text id)
 
 -- a bookmark is shown, if there is one
 abbrev pub shown : Want → Plan → ℕ → Option Bookmark → After
-shown want p id None = unless_memory want p (only p (refused_text 44 (codes "NoSuchBookmark") None))
+shown want p id None = unless_memory want p (refused p (of_edit NoSuchBookmark))
 shown want p id (Some b) = there want p id b
 
--- no command
-abbrev pub bad : Plan → ℕ → After
-bad p line = only p (refused_text 80 (codes "BadCommand") (Some line))
-
--- a command on a line
-abbrev pub obeyed : Want → Plan → ℕ → Command → After
-obeyed want p line (Take format) = unless_memory want p (bad p line)
-obeyed want p line (Set cells) = unless_memory want p (edited p (change p (SetCells cells)))
-obeyed want p line (Mark generation view) = unless_memory want p (edited p (change p (AddBookmark generation view)))
-obeyed want p line Settle = settled want p
-obeyed want p line (Show id) = shown want p id (bookmark_in p.bookmarks id)
-obeyed want p line Quit = record { told = bye_text; plan = p; ends = true }
-obeyed want p line Bad = unless_memory want p (bad p line)
+-- a command
+abbrev pub obeyed : Want → Plan → Command → After
+obeyed want p (Edit edit) = unless_memory want p (edited p (asked_of edit))
+obeyed want p Settle = settled want p
+obeyed want p (Show id) = shown want p id (bookmark_in p.bookmarks id)
+obeyed want p Quit = record { told = bye_text; plan = p; ends = true }
 
 -- what is replied to what is asked; a want that it can't meet counts as none
 abbrev pub answer : Want → Plan → Ask → After
-answer want p (Say line command) = obeyed want p line command
-answer want p (Tell format text) = unless_memory want p (taken p format text)
-answer want p (NoEnd line) = only p (refused_text 81 (codes "NoEnd") (Some line))
+answer want p (Obey command) = obeyed want p command
+answer want p (Take format text) = unless_memory want p (taken p format text)
+answer want p (Refuse (BadCommand line)) = unless_memory want p (refused p (of_script (BadCommand line)))
+answer want p (Refuse (NoEnd line)) = refused p (of_script (NoEnd line))
 
 -- want of memory is replied to it, and nothing changes
 abbrev pub CanWant : Ask → Type 0
 CanWant ask = (p : Plan) → answer Memory p ask ≡ no_memory p
-
--- a command without a text that can meet want of memory
-abbrev pub MayWant : Command → Type 0
-MayWant command = (text_format command ≡ None) × ((line : ℕ) → CanWant (Say line command))

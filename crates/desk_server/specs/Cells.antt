@@ -2,8 +2,8 @@
 use Rattle.std.specs.Prelude.{◌≡◌, ◌<◌, List, [], None, Some, ℕ, length}
 use Rattle.script_lines.specs.Words.{words}
 use Rattle.desk_server.specs.Command.{cells_of, before}
-use Rattle.desk_server.specs.declared.command.CellFound.{CellFound}
-use Rattle.desk_server.specs.declared.command.CellFound.TheVariants as found
+use Rattle.desk_server.specs.declared.cells.CellFound.{CellFound}
+use Rattle.desk_server.specs.declared.cells.CellFound.TheVariants as found
 
 -- no word is left, or no cell stands there, or one does before others
 abbrev pub NextCell : List ℕ → CellFound → Type 0

@@ -1,17 +1,17 @@
 -- What a line of a script asks for, by its words.
 use Rattle.std.specs.Prelude.{ℕ, ◌-◌, ◌^◌, ℤ, List, [], ◌∷◌, Option, Some, None, codes, if◌then◌else◌}
+use Rattle.std.specs.Option.{option_map, option_zip}
 use Rattle.std.specs.Str.{bytes_eq}
 use Rattle.script_lines.specs.Words.{words}
-use Rattle.plane_core.specs.declared.cell.CellSet.{CellSet}
-use Rattle.bookmarks.specs.declared.view.View.{View}
+use Rattle.worlds.specs.declared.cell.CellSet.{CellSet}
+use Rattle.schedule.specs.declared.edit.Edit.{Edit}
+use Rattle.schedule.specs.declared.edit.Edit.TheVariants.{InsertIntervention, ChangeIntervention, RemoveIntervention, SetCells, AddBookmark, MoveBookmark, RemoveBookmark}
 use Rattle.desk_server.specs.Numbers.{up_to, coordinate}
-use Rattle.desk_server.specs.View.{view_of}
-use Rattle.desk_server.specs.declared.command.Format.{Format}
-use Rattle.desk_server.specs.declared.command.Format.TheVariants as format
-use Rattle.desk_server.specs.declared.command.Verb.{Verb}
-use Rattle.desk_server.specs.declared.command.Verb.TheVariants as verb
+use Rattle.desk_server.specs.View.{alone, view_of}
+use Rattle.desk_server.specs.declared.format.Format.{Format}
+use Rattle.desk_server.specs.declared.format.Format.TheVariants as format
 use Rattle.desk_server.specs.declared.command.Command.{Command}
-use Rattle.desk_server.specs.declared.command.Command.TheVariants.{Take, Set, Mark, Settle, Show, Quit, Bad}
+use Rattle.desk_server.specs.declared.command.Command.TheVariants as command
 
 -- a cell, where all three of its words are numbers
 abbrev pub cell_by : Option ℤ → Option ℤ → Option ℕ → Option CellSet
@@ -37,81 +37,101 @@ cells_of (x ∷ []) = None
 cells_of (x ∷ y ∷ []) = None
 cells_of (x ∷ y ∷ s ∷ rest) = before (cell_of x y s) (cells_of rest)
 
--- one cell or more are set
-abbrev pub set_of : Option (List CellSet) → Command
-set_of None = Bad
-set_of (Some []) = Bad
-set_of (Some (c ∷ cells)) = Set (c ∷ cells)
+-- one cell or more
+abbrev pub some_cells : Option (List CellSet) → Option (List CellSet)
+some_cells None = None
+some_cells (Some []) = None
+some_cells (Some (c ∷ cells)) = Some (c ∷ cells)
 
--- a bookmark, where both its generation and its view are known
-abbrev pub mark_by : Option ℕ → Option View → Command
-mark_by (Some g) (Some view) = Mark g view
-mark_by (Some g) None = Bad
-mark_by None view = Bad
+-- the cells behind the word `set`
+abbrev pub cells_set : List (List ℕ) → Option (List CellSet)
+cells_set [] = None
+cells_set (word ∷ rest) = if bytes_eq word (codes "set") then some_cells (cells_of rest) else None
 
--- the generation and the view of a bookmark
-abbrev pub mark_of : List (List ℕ) → Command
-mark_of [] = Bad
-mark_of (g ∷ view) = mark_by (up_to (2 ^ 64 - 1) g) (view_of view)
+-- an id or a generation
+abbrev pub count_of : List ℕ → Option ℕ
+count_of word = up_to (2 ^ 64 - 1) word
 
--- a bookmark is shown
-abbrev pub show_by : Option ℕ → Command
-show_by None = Bad
-show_by (Some id) = Show id
+-- one such number, and no other word
+abbrev pub one_count : List (List ℕ) → Option ℕ
+one_count [] = None
+one_count (word ∷ rest) = alone (count_of word) rest
 
--- the id of a bookmark
-abbrev pub show_of : List (List ℕ) → Command
-show_of [] = Bad
-show_of (id ∷ []) = show_by (up_to (2 ^ 64 - 1) id)
-show_of (id ∷ w ∷ rest) = Bad
+-- such a number, and what the words behind it name
+abbrev pub counted : {A : Type 0} → (List (List ℕ) → Option A) → List (List ℕ) → Option (ℕ × A)
+counted named [] = None
+counted named (word ∷ rest) = option_zip (count_of word) (named rest)
 
--- a command that no word follows
-abbrev pub alone : Command → List (List ℕ) → Command
-alone command [] = command
-alone command (w ∷ rest) = Bad
+-- the edit of each first word, by the words behind it
+abbrev pub set_of : List (List ℕ) → Option Edit
+set_of rest = option_map SetCells (some_cells (cells_of rest))
 
--- the format of a start
-abbrev pub start_of : List (List ℕ) → Command
-start_of [] = Bad
-start_of (name ∷ rest) = if bytes_eq name (codes "rle") then alone (Take format.Rle) rest else Bad
+abbrev pub at_of : List (List ℕ) → Option Edit
+at_of rest = option_map (λ r. InsertIntervention r.0 r.1) (counted cells_set rest)
 
--- what a command's first word is
-abbrev pub verb_of : List ℕ → Verb
-verb_of word =
-    if bytes_eq word (codes "rule") then verb.Rule
-    else (if bytes_eq word (codes "start") then verb.Start
-    else (if bytes_eq word (codes "set") then verb.Set
-    else (if bytes_eq word (codes "mark") then verb.Mark
-    else (if bytes_eq word (codes "settle") then verb.Settle
-    else (if bytes_eq word (codes "show") then verb.Show
-    else (if bytes_eq word (codes "quit") then verb.Quit
-    else verb.Other))))))
+abbrev pub change_of : List (List ℕ) → Option Edit
+change_of rest = option_map (λ r. ChangeIntervention r.0 r.1.0 r.1.1) (counted (counted cells_set) rest)
+
+abbrev pub drop_of : List (List ℕ) → Option Edit
+drop_of rest = option_map RemoveIntervention (one_count rest)
+
+abbrev pub mark_of : List (List ℕ) → Option Edit
+mark_of rest = option_map (λ r. AddBookmark r.0 r.1) (counted view_of rest)
+
+abbrev pub move_of : List (List ℕ) → Option Edit
+move_of rest = option_map (λ r. MoveBookmark r.0 r.1) (counted one_count rest)
+
+abbrev pub unmark_of : List (List ℕ) → Option Edit
+unmark_of rest = option_map RemoveBookmark (one_count rest)
+
+-- the edit of bookmarks of a first word and those behind it
+abbrev pub bookmark_edit_by : List ℕ → List (List ℕ) → Option Edit
+bookmark_edit_by word rest =
+    if bytes_eq word (codes "mark") then mark_of rest
+    else (if bytes_eq word (codes "move") then move_of rest
+    else (if bytes_eq word (codes "unmark") then unmark_of rest
+    else None))
+
+-- the edit of a first word and those behind it
+abbrev pub edit_by : List ℕ → List (List ℕ) → Option Edit
+edit_by word rest =
+    if bytes_eq word (codes "set") then set_of rest
+    else (if bytes_eq word (codes "at") then at_of rest
+    else (if bytes_eq word (codes "change") then change_of rest
+    else (if bytes_eq word (codes "drop") then drop_of rest
+    else bookmark_edit_by word rest)))
 
 -- the command of a first word and those behind it
-abbrev pub command_by : Verb → List (List ℕ) → Command
-command_by verb.Rule rest = alone (Take format.Rule) rest
-command_by verb.Start rest = start_of rest
-command_by verb.Set rest = set_of (cells_of rest)
-command_by verb.Mark rest = mark_of rest
-command_by verb.Settle rest = alone Settle rest
-command_by verb.Show rest = show_of rest
-command_by verb.Quit rest = alone Quit rest
-command_by verb.Other rest = Bad
+abbrev pub command_by : List ℕ → List (List ℕ) → Option Command
+command_by word rest =
+    if bytes_eq word (codes "settle") then alone (Some command.Settle) rest
+    else (if bytes_eq word (codes "show") then option_map command.Show (one_count rest)
+    else (if bytes_eq word (codes "quit") then alone (Some command.Quit) rest
+    else option_map command.Edit (edit_by word rest)))
 
-abbrev pub command_of_words : List (List ℕ) → Command
-command_of_words [] = Bad
-command_of_words (word ∷ rest) = command_by (verb_of word) rest
+abbrev pub command_of_words : List (List ℕ) → Option Command
+command_of_words [] = None
+command_of_words (word ∷ rest) = command_by word rest
 
--- the command of a line that says this
-abbrev pub command_of : List ℕ → Command
+-- the command of a line that says this, if it is one that no text follows
+abbrev pub command_of : List ℕ → Option Command
 command_of says = command_of_words (words says)
 
--- the format of the text that follows the command's line, if one does
-abbrev pub text_format : Command → Option Format
-text_format (Take format) = Some format
-text_format (Set cells) = None
-text_format (Mark g view) = None
-text_format Settle = None
-text_format (Show id) = None
-text_format Quit = None
-text_format Bad = None
+-- the format of a start
+abbrev pub start_of : List (List ℕ) → Option Format
+start_of [] = None
+start_of (name ∷ rest) =
+    if bytes_eq name (codes "rle") then alone (Some format.Rle) rest
+    else (if bytes_eq name (codes "mc") then alone (Some format.Macrocell) rest
+    else None)
+
+abbrev pub format_of_words : List (List ℕ) → Option Format
+format_of_words [] = None
+format_of_words (word ∷ rest) =
+    if bytes_eq word (codes "rule") then alone (Some format.Rule) rest
+    else (if bytes_eq word (codes "start") then start_of rest
+    else None)
+
+-- the format of the text that follows a line that says this, if one does
+abbrev pub format_of : List ℕ → Option Format
+format_of says = format_of_words (words says)

@@ -7,39 +7,48 @@ use Rattle.text_lines.specs.Lines.{End, Broken, lines_until}
 use Rattle.script_lines.specs.ScriptLine.{is_passed_over}
 use Rattle.script_lines.specs.Script.{Follows}
 use Rattle.script_lines.specs.Text.{IsText}
+use Rattle.schedule.specs.Plan.{Plan}
 use Rattle.desk_core.specs.Rows.{Known}
-use Rattle.desk_server.specs.Command.{command_of, text_format}
-use Rattle.desk_server.specs.Answer.{Ask, Say, Tell, NoEnd, Want, After, answer, CanWant, MayWant}
-use Rattle.desk_server.specs.Script.{asks, Place, Between}
+use Rattle.desk_server.specs.Command.{command_of, format_of}
+use Rattle.desk_server.specs.Answer.{Ask, Obey, Take, Refuse, Want, After, answer, unless_memory, CanWant}
+use Rattle.desk_server.specs.Script.{asks, asked_by, Place, Between}
 use Rattle.desk_server.specs.Told.{text_of, ends}
 use Rattle.desk_server.specs.declared.reply.Reply.{Reply}
-use Rattle.desk_server.specs.declared.heard.What.{What}
-use Rattle.desk_server.specs.declared.heard.What.TheVariants as what
+use Rattle.desk_server.specs.declared.command.Command.{Command}
+use Rattle.desk_server.specs.declared.request.Request.{Request}
+use Rattle.desk_server.specs.declared.request.Request.TheVariants as request
 use Rattle.desk_server.specs.declared.heard.Meaning.{Meaning}
 use Rattle.desk_server.specs.declared.heard.Meaning.TheVariants as meaning
 
--- what a line means
-abbrev pub Means : Meaning → List ℕ → Type 0
-Means meaning.Nothing says = is_passed_over says ≡ true
-Means (meaning.Says command) says = (is_passed_over says ≡ false) × (text_format command ≡ None) × (command_of says ≡ command)
-Means (meaning.AsksText format) says = (is_passed_over says ≡ false) × (text_format (command_of says) ≡ Some format)
-Means meaning.NoMemory says = (is_passed_over says ≡ false) × MayWant (command_of says)
+-- whatever line has this command, it can meet want of memory
+abbrev pub LineCanWant : Option Command → Type 0
+LineCanWant command = (n : ℕ) → CanWant (asked_by n command)
 
--- what was asked: nothing, or one thing
-abbrev pub Asked : What → ℕ → List Ask → Type 0
-Asked what.Nothing line asked = asked ≡ []
-Asked (what.Says command) line asked = asked ≡ Say line command ∷ []
-Asked (what.Tells format text) line asked = (bytes : List ℕ) × (asked ≡ Tell format bytes ∷ []) × IsText text bytes
-Asked what.NoMemory line asked = (ask : Ask) × (asked ≡ ask ∷ []) × CanWant ask
-Asked what.NoEnd line asked = asked ≡ NoEnd line ∷ []
+-- what a request asks: this, or something that memory was wanted for
+abbrev pub AsksFor : Request → Ask → Type 0
+AsksFor (request.Obey command) ask = ask ≡ Obey command
+AsksFor (request.Take format text) ask = (bytes : List ℕ) × (ask ≡ Take format bytes) × IsText text bytes
+AsksFor (request.Refuse fault) ask = ask ≡ Refuse fault
+AsksFor request.NoMemory ask = CanWant ask
+
+-- nothing was asked, or one thing
+abbrev pub Asked : Option Request → List Ask → Type 0
+Asked None asked = asked ≡ []
+Asked (Some r) asked = (ask : Ask) × (asked ≡ ask ∷ []) × AsksFor r ask
+
+-- what line n means that says this
+abbrev pub Means : ℕ → Meaning → List ℕ → Type 0
+Means n meaning.Nothing says = is_passed_over says ≡ true
+Means n (meaning.Asks r) says = (is_passed_over says ≡ false) × (format_of says ≡ None) × AsksFor r (asked_by n (command_of says))
+Means n (meaning.OpensText format) says = (is_passed_over says ≡ false) × (format_of says ≡ Some format)
 
 -- bytes were taken that ask for `asked` from this place on, whatever may follow them; they begin on line n, and what follows begins on line m
-pub record Hears (old new : Ahead) (place : Place) (what : What) (last : Bool) (line : ℕ) (n m : ℕ) : Type 0 where
+pub record Hears (old new : Ahead) (place : Place) (heard : Option Request) (last : Bool) (n m : ℕ) : Type 0 where
   pub bytes : List ℕ
   pub asked : List Ask
   pub taken : Takes old new bytes
   pub law : (stop : End) (more : List ℕ) → Follows last stop more → asks stop place n (lines_until stop (bytes ++ more)) ≡ asked ++ asks stop Between m (lines_until stop more)
-  pub is : Asked what line asked
+  pub is : Asked heard asked
   pub at_end : last ≡ true → IsAtEnd new.bytes
 
 -- the reading broke off before anything more was asked
@@ -56,7 +65,14 @@ ReadFails remaining old new = FailsOrFull old.failures new.failures new.given ×
 abbrev pub Gives : After → Reply → Known → Type 0
 Gives after reply new = after ≡ record { told = text_of new reply; plan = new.plan; ends = ends reply }
 
--- the reply to what was asked, if anything was
-abbrev pub Served : Option Reply → List Ask → Known → Known → Type 0
-Served None asked old new = (asked ≡ []) × (new.plan ≡ old.plan)
-Served (Some reply) asked old new = (ask : Ask) × (want : Want) × (asked ≡ ask ∷ []) × Gives (answer want old.plan ask) reply new
+-- they are those of an answer, for some want
+abbrev pub GivesBy : (Want → After) → Reply → Known → Type 0
+GivesBy after reply new = (want : Want) × Gives (after want) reply new
+
+-- the same of an answer that want of memory can take the place of
+abbrev pub GivesOrWants : Plan → After → Reply → Known → Type 0
+GivesOrWants p after = GivesBy (λ want. unless_memory want p after)
+
+-- the reply to what was asked
+abbrev pub Served : Reply → List Ask → Known → Known → Type 0
+Served reply asked old new = (ask : Ask) × (asked ≡ ask ∷ []) × GivesBy (λ want. answer want old.plan ask) reply new

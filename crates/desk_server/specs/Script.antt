@@ -1,12 +1,13 @@
 -- The replies to a script.
-use Rattle.std.specs.Prelude.{ℕ, ◌+◌, List, [], ◌∷◌, ◌++◌, Option, None, Some, if◌then◌else◌}
+use Rattle.std.specs.Prelude.{ℕ, ◌+◌, List, [], ◌∷◌, ◌++◌, Option, None, Some, flat_map, if◌then◌else◌}
 use Rattle.text_lines.specs.Lines.{End, Ended, Broken, Line, lines_until}
 use Rattle.script_lines.specs.ScriptLine.{is_passed_over, is_end}
 use Rattle.schedule.specs.Plan.{Plan, opening}
-use Rattle.desk_server.specs.Command.{command_of, text_format}
-use Rattle.desk_server.specs.declared.command.Format.{Format}
+use Rattle.desk_server.specs.Command.{command_of, format_of}
+use Rattle.desk_server.specs.declared.fault.ScriptFault.TheVariants.{BadCommand, NoEnd}
+use Rattle.desk_server.specs.declared.format.Format.{Format}
 use Rattle.desk_server.specs.declared.command.Command.{Command}
-use Rattle.desk_server.specs.Answer.{Ask, Say, Tell, NoEnd, Want, Enough, answer}
+use Rattle.desk_server.specs.Answer.{Ask, Obey, Take, Refuse, Want, Enough, After, answer}
 
 -- where a line stands: between commands, or in the text of a format, of the command on line `at`
 pub data Place : Type 0 where
@@ -15,13 +16,18 @@ pub data Place : Type 0 where
 
 -- a text without its end is refused, but not where the reading broke off
 abbrev pub without_end : End → ℕ → List Ask
-without_end Ended at = NoEnd at ∷ []
+without_end Ended at = Refuse (NoEnd at) ∷ []
 without_end Broken at = []
 
--- what is asked by a command on line n, if no text follows it
-abbrev pub asked_at : ℕ → Command → Option Format → List Ask
-asked_at n command None = Say n command ∷ []
-asked_at n command (Some format) = []
+-- what line n asks by its command, if it has one
+abbrev pub asked_by : ℕ → Option Command → Ask
+asked_by n (Some command) = Obey command
+asked_by n None = Refuse (BadCommand n)
+
+-- what line n asks that says this, if no text follows it
+abbrev pub asked_at : ℕ → List ℕ → Option Format → List Ask
+asked_at n says None = asked_by n (command_of says) ∷ []
+asked_at n says (Some format) = []
 
 -- where the line behind it stands
 abbrev pub place_behind : ℕ → Option Format → Place
@@ -33,11 +39,10 @@ abbrev pub asks : End → Place → ℕ → List Line → List Ask
 asks stop Between n [] = []
 asks stop (InText at format text) n [] = without_end stop at
 asks stop Between n (line ∷ rest) =
-    let command = command_of line.says in
     if is_passed_over line.says then asks stop Between (n + 1) rest
-    else asked_at n command (text_format command) ++ asks stop (place_behind n (text_format command)) (n + 1) rest
+    else asked_at n line.says (format_of line.says) ++ asks stop (place_behind n (format_of line.says)) (n + 1) rest
 asks stop (InText at format text) n (line ∷ rest) =
-    if is_end line.says then Tell format text ∷ asks stop Between (n + 1) rest
+    if is_end line.says then Take format text ∷ asks stop Between (n + 1) rest
     else asks stop (InText at format (text ++ line.raw)) (n + 1) rest
 
 -- what the next one asked meets, and those after it; with none left there is enough
@@ -49,12 +54,16 @@ abbrev pub later_wants : List Want → List Want
 later_wants [] = []
 later_wants (w ∷ ws) = ws
 
--- the replies to all that is asked of the desk with this document
-abbrev pub replies_to : Plan → List Ask → List Want → List ℕ
-replies_to p [] wants = []
-replies_to p (ask ∷ rest) wants =
+-- what is replied to each that is asked of the desk with this document, with the document after it
+abbrev pub afters : Plan → List Ask → List Want → List After
+afters p [] wants = []
+afters p (ask ∷ rest) wants =
     let after = answer (first_want wants) p ask in
-    after.told ++ (if after.ends then [] else replies_to after.plan rest (later_wants wants))
+    after ∷ (if after.ends then [] else afters after.plan rest (later_wants wants))
+
+-- the replies to all
+abbrev pub replies_to : Plan → List Ask → List Want → List ℕ
+replies_to p asked wants = flat_map (λ (after : After). after.told) (afters p asked wants)
 
 -- the replies to a script, however its reading stopped, where the wants say of one command after another what it met
 abbrev pub replies_by : End → List ℕ → List Want → List ℕ

@@ -2,13 +2,13 @@
 use Rattle.std.specs.Prelude.{ℕ, ◌-◌, ◌^◌, ℤ, List, [], ◌∷◌, Option, Some, None, codes, if◌then◌else◌}
 use Rattle.std.specs.Str.{bytes_eq}
 use Rattle.bookmarks.specs.declared.view.View.{View}
-use Rattle.bookmarks.specs.declared.view.View.TheVariants.{Window, Counts, Rle}
+use Rattle.bookmarks.specs.declared.view.View.TheVariants.{Window, Counts, Rle, Macrocell}
 use Rattle.desk_server.specs.Numbers.{up_to, coordinate}
 
--- a view that no word follows
-abbrev pub plain_view : View → List (List ℕ) → Option View
-plain_view view [] = Some view
-plain_view view (w ∷ rest) = None
+-- what no word follows
+abbrev pub alone : {A : Type 0} → Option A → List (List ℕ) → Option A
+alone named [] = named
+alone named (w ∷ rest) = None
 
 -- a window, where all four of its words are numbers
 abbrev pub window_by : Option ℤ → Option ℤ → Option ℕ → Option ℕ → Option View
@@ -35,7 +35,8 @@ window_of (x ∷ y ∷ w ∷ h ∷ v ∷ rest) = None
 abbrev pub view_of : List (List ℕ) → Option View
 view_of [] = None
 view_of (name ∷ rest) =
-    if bytes_eq name (codes "counts") then plain_view Counts rest
-    else (if bytes_eq name (codes "rle") then plain_view Rle rest
+    if bytes_eq name (codes "counts") then alone (Some Counts) rest
+    else (if bytes_eq name (codes "rle") then alone (Some Rle) rest
+    else (if bytes_eq name (codes "mc") then alone (Some Macrocell) rest
     else (if bytes_eq name (codes "window") then window_of rest
-    else None))
+    else None)))

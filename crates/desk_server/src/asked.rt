@@ -1,38 +1,54 @@
 //! What the desk does when something is asked.
-ghost use Rattle.std.specs.Prelude.{◌≡◌, ℕ, List, Some};
-ghost use Rattle.schedule.specs.Change.{change};
+ghost use Rattle.std.specs.Prelude.{◌≡◌};
 ghost use Rattle.std.specs.Arc.{arc_value};
-ghost use Rattle.schedule.specs.Asked.{asked_of, ReplaceStart};
-ghost use Rattle.rule_tree.specs.Rule.{rule_of};
-ghost use Rattle.multistate_rle.specs.Pattern.{pattern_of};
-ghost use Rattle.std.specs.Option.{option_map_or};
-ghost use Rattle.desk_core.specs.Cause.{cause_number};
-ghost use Rattle.desk_core.specs.Rows.{bookmark_in, pending_of};
-ghost use Rattle.desk_server.specs.Answer.{Ask, Want, unless_memory, edited, ruled, started, begun, taken, settled, shown, obeyed};
-ghost use Rattle.desk_server.specs.Heard.{Asked, Gives, Served};
+ghost use Rattle.schedule.specs.Asked.{asked_of};
+ghost use Rattle.desk_core.specs.Rows.{bookmark_in};
+ghost use Rattle.desk_server.specs.Answer.{Ask, answer, id_word, obeyed};
+ghost use Rattle.desk_server.specs.Answer.{edited, started, taken, settled, shown};
+ghost use Rattle.desk_server.specs.Heard.{AsksFor, GivesBy, GivesOrWants};
+ghost use Rattle.desk_server.specs.Told.{CountsPending};
 
-use crate::command::{Command, Format};
-use crate::fault::ScriptFault;
-use crate::heard::What;
+use crate::command::Command;
+use crate::format::Format;
 use crate::reply::{Reply, refused};
-use desk_core::{Cause, Desk, Edit, EditFault, Plane, Rule, Settling, Shown};
+use crate::request::Request;
+use desk_core::{Desk, Edit, EditFault, Plane, Rule, Settling, Shown};
+use multistate_macrocell::read_mc;
 use multistate_rle::read_rle;
+use plane_core::Loaded;
 use std::alloc::Global;
 use std::sync::Arc;
 
+// The word before the id that an edit gives, if it gives one.
+fn id_word(edit: &Edit) -> &'static str
+    ensures { result.now ≡ id_word (asked_of edit.now) }
+{
+    match edit {
+        Edit::InsertIntervention { .. } => " intervention ",
+        Edit::AddBookmark { .. } => " bookmark ",
+        _ => "",
+    }
+}
+
 // Makes an edit, or refuses it.
 fn edit(desk: &mut Desk, edit: &Edit) -> Reply
-    ensures { (want : Want) × Gives (unless_memory want desk.old.plan (edited desk.old.plan (change desk.old.plan (asked_of edit.now)))) result desk.new }
+    ensures { GivesOrWants desk.old.plan (edited desk.old.plan (asked_of edit.now))
+        result desk.new }
 {
     match desk.edit(edit) {
-        Ok(edited) => Reply::Accepted(edited),
+        Ok(edited) => Reply::Accepted {
+            revision: edited.revision,
+            word: id_word(edit),
+            number: edited.id,
+        },
         Err(fault) => refused(&fault),
     }
 }
 
 // Takes the rule that a text means.
 fn take_rule(alloc: Global, desk: &mut Desk, text: &[u8]) -> Reply
-    ensures { (want : Want) × Gives (unless_memory want desk.old.plan (ruled desk.old.plan (rule_of text.now))) result desk.new }
+    ensures { GivesOrWants desk.old.plan (taken desk.old.plan Format.Rule text.now)
+        result desk.new }
 {
     let rule = match Rule::read(alloc, text) {
         Ok(rule) => rule,
@@ -44,71 +60,80 @@ fn take_rule(alloc: Global, desk: &mut Desk, text: &[u8]) -> Reply
     }
 }
 
-// Takes a start whose file names this generation, or refuses it; the desk counts from 0 all the same.
+// Takes a start whose file names this generation, or refuses it; the desk counts from 0 all the
+// same.
 fn begin(desk: &mut Desk, start: Arc<Plane>, generation: u64) -> Reply
-    ensures { (want : Want) × Gives (unless_memory want desk.old.plan (begun desk.old.plan generation (change desk.old.plan (ReplaceStart (arc_value start))))) result desk.new }
+    ensures { GivesOrWants desk.old.plan (started desk.old.plan generation (arc_value start))
+        result desk.new }
 {
     let edited = match desk.edit(&Edit::ReplaceStart(start)) {
         Ok(edited) => edited,
         Err(fault) => return refused(&fault),
     };
-    Reply::Started {
+    Reply::Accepted {
         revision: edited.revision,
-        generation,
+        word: " gen ",
+        number: Some(generation),
     }
 }
 
-// Takes the start that a text means.
-fn take_start(alloc: Global, desk: &mut Desk, text: &[u8]) -> Reply
-    ensures { (want : Want) × Gives (unless_memory want desk.old.plan (started desk.old.plan (pattern_of text.now))) result desk.new }
+// Takes the start that a file holds.
+fn take_start(alloc: Global, desk: &mut Desk, pattern: Loaded) -> Reply
+    ensures { GivesOrWants desk.old.plan (started desk.old.plan pattern.generation pattern.plane)
+        result desk.new }
 {
-    let pattern = match read_rle(alloc, text) {
-        Ok(pattern) => pattern,
-        Err(fault) => return refused(&fault),
-    };
     match Arc::new(alloc, pattern.plane) {
         Ok(start) => begin(desk, start, pattern.generation),
         Err(_) => refused(&EditFault::NoMemory),
     }
 }
 
-// Takes what a text of this format means.
-fn take(alloc: Global, desk: &mut Desk, format: Format, text: &[u8]) -> Reply
-    ensures { (want : Want) × Gives (unless_memory want desk.old.plan (taken desk.old.plan format text.now)) result desk.new }
+// Takes the start that a run-length encoded text means.
+fn take_rle(alloc: Global, desk: &mut Desk, text: &[u8]) -> Reply
+    ensures { GivesOrWants desk.old.plan (taken desk.old.plan Format.Rle text.now) result desk.new }
 {
-    match format {
-        Format::Rule => take_rule(alloc, desk, text),
-        Format::Rle => take_start(alloc, desk, text),
+    match read_rle(alloc, text) {
+        Ok(pattern) => take_start(alloc, desk, pattern),
+        Err(fault) => refused(&fault),
     }
 }
 
-// The number of a cause, or 0 where there is none.
-fn number(cause: Option<Cause>) -> u8
-    ensures { result ≡ option_map_or cause_number cause 0 }
+// Takes the start that a macrocell text means.
+fn take_macrocell(alloc: Global, desk: &mut Desk, text: &[u8]) -> Reply
+    ensures { GivesOrWants desk.old.plan (taken desk.old.plan Format.Macrocell text.now)
+        result desk.new }
 {
-    match cause {
-        Some(cause) => cause.number(),
-        None => 0,
+    match read_mc(alloc, text) {
+        Ok(pattern) => take_start(alloc, desk, pattern),
+        Err(fault) => refused(&fault),
+    }
+}
+
+// Takes what a text of this format means.
+fn take(alloc: Global, desk: &mut Desk, format: Format, text: &[u8]) -> Reply
+    ensures { GivesOrWants desk.old.plan (taken desk.old.plan format text.now) result desk.new }
+{
+    match format {
+        Format::Rule => take_rule(alloc, desk, text),
+        Format::Rle => take_rle(alloc, desk, text),
+        Format::Macrocell => take_macrocell(alloc, desk, text),
     }
 }
 
 fn settle(desk: &mut Desk) -> Reply
-    ensures answer { (want : Want) × Gives (settled want desk.old.plan) result desk.new }
-    ensures settled { result ≡ Reply.Settled → pending_of desk.new ≡ 0 }
-    ensures pending { (n cause : ℕ) → result ≡ Reply.Unsettled n cause → n ≡ pending_of desk.new }
+    ensures answer { GivesBy (λ want. settled want desk.old.plan) result desk.new }
+    ensures counts { CountsPending result desk.new }
 {
     match desk_core::settle(desk) {
         Settling::Settled => Reply::Settled,
-        Settling::Unsettled { pending, cause } => Reply::Unsettled {
-            pending,
-            cause: number(cause),
-        },
+        Settling::Unsettled { pending, cause } => Reply::Unsettled { pending, cause },
     }
 }
 
 // Shows a bookmark, after settling.
 fn show(desk: &mut Desk, id: u64) -> Reply
-    ensures { (want : Want) × Gives (shown want desk.old.plan id (bookmark_in desk.old.plan.bookmarks id)) result desk.new }
+    ensures { GivesBy (λ want. shown want desk.old.plan id
+        (bookmark_in desk.old.plan.bookmarks id)) result desk.new }
 {
     if desk.shown(id) != Shown::NoSuch {
         desk_core::settle(desk);
@@ -118,35 +143,31 @@ fn show(desk: &mut Desk, id: u64) -> Reply
     Reply::Shown { id }
 }
 
-fn obey(desk: &mut Desk, command: Command, line: u64) -> Reply
-    ensures answer { (want : Want) × Gives (obeyed want desk.old.plan line command) result desk.new }
-    ensures settled { command ≡ Command.Settle → result ≡ Reply.Settled → pending_of desk.new ≡ 0 }
-    ensures pending { (n cause : ℕ) → command ≡ Command.Settle → result ≡ Reply.Unsettled n cause → n ≡ pending_of desk.new }
+fn obey(desk: &mut Desk, command: Command) -> Reply
+    ensures answer { GivesBy (λ want. obeyed want desk.old.plan command) result desk.new }
+    ensures counts { command ≡ Command.Settle → CountsPending result desk.new }
 {
     match command {
-        Command::Set(cells) => edit(desk, &Edit::SetCells { cells }),
-        Command::Mark { generation, view } => edit(desk, &Edit::AddBookmark { generation, view }),
+        Command::Edit(change) => edit(desk, &change),
         Command::Settle => settle(desk),
         Command::Show { id } => show(desk, id),
         Command::Quit => Reply::Bye,
-        Command::Take(_) | Command::Bad => refused(&ScriptFault::BadCommand(line)),
     }
 }
 
-/// Does what was asked, and gives the reply to it, if anything was.
-pub(crate) fn serve(alloc: Global, desk: &mut Desk, what: What, line: u64) -> Option<Reply>
-    ensures answer { (asked : List Ask) → Asked what line asked → Served result asked desk.old desk.new }
-    ensures settled { what ≡ What.Says Command.Settle → result ≡ Some Reply.Settled → pending_of desk.new ≡ 0 }
-    ensures pending { (n cause : ℕ) → what ≡ What.Says Command.Settle → result ≡ Some (Reply.Unsettled n cause) → n ≡ pending_of desk.new }
+/// Does what a request asks, and gives the reply.
+pub(crate) fn serve(alloc: Global, desk: &mut Desk, request: Request) -> Reply
+    ensures answer { (ask : Ask) → AsksFor request ask
+        → GivesBy (λ want. answer want desk.old.plan ask) result desk.new }
+    ensures counts { request ≡ Request.Obey Command.Settle → CountsPending result desk.new }
 {
-    match what {
-        What::Nothing => None,
-        What::Says(command) => Some(obey(desk, command, line)),
-        What::Tells { format, text } => match text.bytes() {
-            Some(bytes) => Some(take(alloc, desk, format, bytes)),
-            None => Some(refused(&EditFault::NoMemory)),
+    match request {
+        Request::Obey(command) => obey(desk, command),
+        Request::Take { format, text } => match text.bytes() {
+            Some(bytes) => take(alloc, desk, format, bytes),
+            None => refused(&EditFault::NoMemory),
         },
-        What::NoMemory => Some(refused(&EditFault::NoMemory)),
-        What::NoEnd => Some(refused(&ScriptFault::NoEnd(line))),
+        Request::Refuse(fault) => refused(&fault),
+        Request::NoMemory => refused(&EditFault::NoMemory),
     }
 }

@@ -3,64 +3,61 @@ ghost use Rattle.std.specs.Prelude.{◌≡◌, ◌+◌, ◌<◌, ◌≤◌, ℕ,
 ghost use Rattle.script_lines.specs.Ahead.{Ahead};
 ghost use Rattle.script_lines.specs.KeptLine.{Says};
 ghost use Rattle.script_lines.specs.Script.{LineTaken};
-ghost use Rattle.desk_server.specs.Script.{Between, InText};
-ghost use Rattle.desk_server.specs.Heard.{Means, Hears, BreaksOff, ReadFails};
+ghost use Rattle.desk_server.specs.Command.{command_of, format_of};
+ghost use Rattle.desk_server.specs.Script.{Between, InText, asked_by};
+ghost use Rattle.desk_server.specs.Heard.{AsksFor, Means, Hears, BreaksOff, ReadFails};
 
-use crate::command::{Command, Format, read_command};
-use script_lines::{CountedReader, Failed, Found, KeptLine, Text, TextFound};
+use crate::command::read_command;
+use crate::fault::ScriptFault;
+use crate::format::{Format, read_format};
+use crate::request::Request;
+use script_lines::{CountedReader, Failed, Found, KeptLine, TextFound};
 use std::alloc::Global;
 use std::io::Read;
 use std::sync::ledger::Ledger;
 
 /// What a line means.
-#[derive(Debug, Drop)]
+#[derive(Drop)]
 pub enum Meaning {
     /// It is passed over.
     Nothing,
-    /// A command.
-    Says(Command),
-    /// A command whose text follows, which has this format.
-    AsksText(Format),
-    /// A command that memory was wanted for.
-    NoMemory,
+    /// It asks this.
+    Asks(Request),
+    /// A text of this format follows.
+    OpensText(Format),
 }
 
-/// What was heard.
-#[derive(Debug, Drop)]
-pub enum What {
-    /// Nothing was asked.
-    Nothing,
-    /// A command.
-    Says(Command),
-    /// A text of this format.
-    Tells { format: Format, text: Text },
-    /// Something that memory was wanted for.
-    NoMemory,
-    /// A command whose text has no end.
-    NoEnd,
-}
-
-/// What was heard, on which line it began, and whether nothing follows.
-#[derive(Debug, Drop)]
+/// What was heard, if anything was asked, and whether nothing follows.
+#[derive(Drop)]
 pub(crate) struct Heard {
-    pub what: What,
-    pub line: u64,
+    pub request: Option<Request>,
     pub last: bool,
 }
 
-fn meaning_of(alloc: Global, line: &KeptLine) -> Meaning
-    ensures { (says : List ℕ) → Says line.now says → Means result says }
+// What the words of a line ask, which no text follows.
+fn read_request(alloc: Global, words: &[u8], number: u64) -> Request
+    ensures { AsksFor result (asked_by number (command_of words.now)) }
+{
+    match read_command(alloc, words) {
+        Ok(Some(command)) => Request::Obey(command),
+        Ok(None) => Request::Refuse(ScriptFault::BadCommand(number)),
+        Err(_) => Request::NoMemory,
+    }
+}
+
+// What a line of this number means.
+fn meaning_of(alloc: Global, line: &KeptLine, number: u64) -> Meaning
+    ensures { (says : List ℕ) → Says line.now says → Means number result says }
 {
     if line.is_passed_over() {
         return Meaning::Nothing;
     }
-    let Some(bytes) = line.words() else {
-        return Meaning::NoMemory;
+    let Some(words) = line.words() else {
+        return Meaning::Asks(Request::NoMemory);
     };
-    match read_command(alloc, bytes) {
-        Err(_) => Meaning::NoMemory,
-        Ok(Command::Take(format)) => Meaning::AsksText(format),
-        Ok(command) => Meaning::Says(command),
+    match read_format(words) {
+        Some(format) => Meaning::OpensText(format),
+        None => Meaning::Asks(read_request(alloc, words, number)),
     }
 }
 
@@ -72,7 +69,7 @@ fn listen_text<R: Read, L: Ledger>(
     format: Format,
 ) -> Result<Heard, Failed>
     ensures heard { IfOk result (λ heard. Hears reader.old.ahead reader.new.ahead
-        (InText reader.old.lines format []) heard.what heard.last heard.line
+        (InText reader.old.lines format []) heard.request heard.last
         (reader.old.lines + 1) (reader.new.lines + 1)) }
     ensures same { OnOk result (reader.new.ahead.room ≤ reader.old.ahead.room) }
     ensures worked { OnOk result (reader.new.failures ≡ reader.old.failures) }
@@ -83,13 +80,11 @@ fn listen_text<R: Read, L: Ledger>(
     let number = reader.line_number();
     match reader.read_text(alloc, line)? {
         TextFound::NoEnd => Ok(Heard {
-            what: What::NoEnd,
-            line: number,
+            request: Some(Request::Refuse(ScriptFault::NoEnd(number))),
             last: true,
         }),
         TextFound::Ended { text, last } => Ok(Heard {
-            what: What::Tells { format, text },
-            line: number,
+            request: Some(Request::Take { format, text }),
             last,
         }),
     }
@@ -104,7 +99,7 @@ fn listen_line<R: Read, L: Ledger>(
 ) -> Result<Heard, Failed>
     ensures heard { IfOk result (λ heard. (start : Ahead)
         → LineTaken last start reader.old.ahead line.old
-        → Hears start reader.new.ahead Between heard.what heard.last heard.line
+        → Hears start reader.new.ahead Between heard.request heard.last
         reader.old.lines (reader.new.lines + 1)) }
     ensures same { OnOk result (reader.new.ahead.room ≤ reader.old.ahead.room) }
     ensures worked { OnOk result (reader.new.failures ≡ reader.old.failures) }
@@ -113,27 +108,19 @@ fn listen_line<R: Read, L: Ledger>(
     ensures failed { OnErr result (ReadFails R.remaining reader.old reader.new) }
 {
     let number = reader.line_number();
-    match meaning_of(alloc, line) {
+    match meaning_of(alloc, line, number) {
         Meaning::Nothing => Ok(Heard {
-            what: What::Nothing,
-            line: number,
+            request: None,
             last,
         }),
-        Meaning::NoMemory => Ok(Heard {
-            what: What::NoMemory,
-            line: number,
+        Meaning::Asks(request) => Ok(Heard {
+            request: Some(request),
             last,
         }),
-        Meaning::Says(command) => Ok(Heard {
-            what: What::Says(command),
-            line: number,
-            last,
-        }),
-        Meaning::AsksText(format) => {
+        Meaning::OpensText(format) => {
             if last {
                 return Ok(Heard {
-                    what: What::NoEnd,
-                    line: number,
+                    request: Some(Request::Refuse(ScriptFault::NoEnd(number))),
                     last,
                 });
             }
@@ -149,7 +136,7 @@ pub(crate) fn listen<R: Read, L: Ledger>(
     line: &mut KeptLine,
 ) -> Result<Heard, Failed>
     ensures heard { IfOk result (λ heard. Hears reader.old.ahead reader.new.ahead Between
-        heard.what heard.last heard.line (reader.old.lines + 1) (reader.new.lines + 1)) }
+        heard.request heard.last (reader.old.lines + 1) (reader.new.lines + 1)) }
     ensures falls { IfOk result (λ heard. heard.last ≡ false
         → reader.new.ahead.room < reader.old.ahead.room) }
     ensures worked { OnOk result (reader.new.failures ≡ reader.old.failures) }
@@ -161,8 +148,7 @@ pub(crate) fn listen<R: Read, L: Ledger>(
         Found::Line => listen_line(alloc, reader, line, false),
         Found::Last => listen_line(alloc, reader, line, true),
         Found::End => Ok(Heard {
-            what: What::Nothing,
-            line: reader.line_number(),
+            request: None,
             last: true,
         }),
     }

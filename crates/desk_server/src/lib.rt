@@ -10,13 +10,18 @@
 #![tactic(auto)]
 
 mod asked;
+mod cells;
 mod command;
+mod edits;
 mod fault;
+mod format;
 mod heard;
 mod laws;
 mod reply;
+mod request;
 mod server;
 mod view;
+mod words;
 
 pub use laws::plain_without_wants;
 pub use script_lines::{CountedReader, CountedWriter};

@@ -2,10 +2,13 @@
 ghost use Rattle.std.specs.Prelude.{◌≡◌, ◌+◌, ℕ, OnOk, OnErr, codes, false, true};
 ghost use Rattle.script_lines.specs.Faults.{Wrote};
 ghost use Rattle.desk_core.specs.Rows.{Known};
-ghost use Rattle.desk_server.specs.Reply.{ok_text, started_text, refused_text, current_text, pending_text};
+ghost use Rattle.std.specs.Option.{option_map_or};
+ghost use Rattle.desk_core.specs.Cause.{cause_number};
+ghost use Rattle.desk_server.specs.Faults.{fault_of};
+ghost use Rattle.desk_server.specs.Reply.{accepted_text, refused_text, unsettled_text};
 ghost use Rattle.desk_server.specs.Told.{text_of, ends, part_text, parts_text};
 
-use desk_core::{Desk, EditFault, Edited, Refusal, Shown};
+use desk_core::{Cause, Desk, EditFault, Refusal, Shown};
 use script_lines::{CountedWriter, Failed};
 use std::io::Write;
 use std::sync::ledger::Ledger;
@@ -13,19 +16,18 @@ use std::sync::ledger::Ledger;
 /// What is replied to a command.
 #[derive(Clone, Copy, Debug, PartialEq, Eq)]
 pub enum Reply {
-    /// The edit was made.
-    Accepted(Edited),
-    /// A start was taken: the revision after it, and the generation that its file names.
-    Started {
+    /// An edit was made: the revision after it, and a number behind its word, if there is one.
+    Accepted {
         revision: u64,
-        generation: u64,
+        word: &'static str,
+        number: Option<u64>,
     },
     /// Every bookmark is current.
     Settled,
-    /// So many bookmarks are pending, for the refusal of this number; 0 where none was met.
+    /// So many bookmarks are pending, for this cause, if one was met.
     Unsettled {
         pending: u32,
-        cause: u8,
+        cause: Option<Cause>,
     },
     /// What the desk shows of the bookmark of this id.
     Shown {
@@ -50,7 +52,8 @@ pub enum Part<'a> {
 
 /// The reply to something refused.
 pub(crate) fn refused<F: Refusal>(fault: &F) -> Reply
-    ensures text { (known : Known) → text_of known result ≡ refused_text (F.number_of fault.now) (F.name_of fault.now) (F.place_of fault.now) }
+    ensures text { (known : Known) → text_of known result ≡ refused_text
+        (fault_of (F.number_of fault.now) (F.name_of fault.now) (F.place_of fault.now)) }
     ensures goes_on { ends result ≡ false }
 {
     Reply::Refused {
@@ -90,48 +93,62 @@ fn tell_parts<W: Write, L: Ledger>(
 
 fn tell_accepted<W: Write, L: Ledger>(
     writer: &mut CountedWriter<W, L>,
-    edited: Edited,
+    revision: u64,
+    word: &str,
+    number: Option<u64>,
 ) -> Result<(), Failed>
-    ensures bytes { Wrote writer.old.contents writer.new.contents result (ok_text edited) }
+    ensures bytes { Wrote writer.old.contents writer.new.contents result
+        (accepted_text revision word.now number) }
     ensures worked { OnOk result (writer.new.failures ≡ writer.old.failures) }
     ensures failed { OnErr result (writer.new.failures ≡ writer.old.failures + 1) }
 {
     let (ok, revision, end) = (
         Part::Text(b"ok "),
-        Part::Number(edited.revision),
+        Part::Number(revision),
         Part::Text(b"\n"),
     );
-    match edited.id {
+    match number {
         None => tell_parts(writer, &[ok, revision, end]),
-        Some(id) => tell_parts(
+        Some(number) => tell_parts(
             writer,
             &[
                 ok,
                 revision,
-                Part::Text(b" bookmark "),
-                Part::Number(id),
+                Part::Text(word.as_bytes()),
+                Part::Number(number),
                 end,
             ],
         ),
     }
 }
 
-fn tell_started<W: Write, L: Ledger>(
+// The number of a cause, or 0 where there is none.
+fn cause_number(cause: Option<Cause>) -> u64
+    ensures { result ≡ option_map_or cause_number cause 0 }
+{
+    match cause {
+        Some(cause) => u64::from(cause.number()),
+        None => 0,
+    }
+}
+
+fn tell_unsettled<W: Write, L: Ledger>(
     writer: &mut CountedWriter<W, L>,
-    revision: u64,
-    generation: u64,
+    pending: u32,
+    cause: Option<Cause>,
 ) -> Result<(), Failed>
-    ensures bytes { Wrote writer.old.contents writer.new.contents result (started_text revision generation) }
+    ensures bytes { Wrote writer.old.contents writer.new.contents result
+        (unsettled_text pending cause) }
     ensures worked { OnOk result (writer.new.failures ≡ writer.old.failures) }
     ensures failed { OnErr result (writer.new.failures ≡ writer.old.failures + 1) }
 {
     tell_parts(
         writer,
         &[
-            Part::Text(b"ok "),
-            Part::Number(revision),
-            Part::Text(b" gen "),
-            Part::Number(generation),
+            Part::Text(b"unsettled "),
+            Part::Number(pending as u64),
+            Part::Text(b" "),
+            Part::Number(cause_number(cause)),
             Part::Text(b"\n"),
         ],
     )
@@ -143,7 +160,8 @@ fn tell_refused<W: Write, L: Ledger>(
     name: &str,
     place: Option<u64>,
 ) -> Result<(), Failed>
-    ensures bytes { Wrote writer.old.contents writer.new.contents result (refused_text number name.now place) }
+    ensures bytes { Wrote writer.old.contents writer.new.contents result
+        (refused_text (fault_of number name.now place)) }
     ensures worked { OnOk result (writer.new.failures ≡ writer.old.failures) }
     ensures failed { OnErr result (writer.new.failures ≡ writer.old.failures + 1) }
 {
@@ -174,7 +192,8 @@ fn tell_shown<W: Write, L: Ledger>(
     desk: &Desk,
     id: u64,
 ) -> Result<(), Failed>
-    ensures bytes { Wrote writer.old.contents writer.new.contents result (text_of desk.now (Reply.Shown id)) }
+    ensures bytes { Wrote writer.old.contents writer.new.contents result
+        (text_of desk.now (Reply.Shown id)) }
     ensures worked { OnOk result (writer.new.failures ≡ writer.old.failures) }
     ensures failed { OnErr result (writer.new.failures ≡ writer.old.failures + 1) }
 {
@@ -206,22 +225,13 @@ fn tell<W: Write, L: Ledger>(
     ensures failed { OnErr result (writer.new.failures ≡ writer.old.failures + 1) }
 {
     match reply {
-        Reply::Accepted(edited) => tell_accepted(writer, edited),
-        Reply::Started {
+        Reply::Accepted {
             revision,
-            generation,
-        } => tell_started(writer, revision, generation),
+            word,
+            number,
+        } => tell_accepted(writer, revision, word, number),
         Reply::Settled => writer.tell(b"settled\n"),
-        Reply::Unsettled { pending, cause } => {
-            let pending = Part::Number(pending as u64);
-            let cause = Part::Number(cause as u64);
-            let (unsettled, space, end) = (
-                Part::Text(b"unsettled "),
-                Part::Text(b" "),
-                Part::Text(b"\n"),
-            );
-            tell_parts(writer, &[unsettled, pending, space, cause, end])
-        }
+        Reply::Unsettled { pending, cause } => tell_unsettled(writer, pending, cause),
         Reply::Shown { id } => tell_shown(writer, desk, id),
         Reply::Refused {
             number,

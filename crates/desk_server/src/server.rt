@@ -52,10 +52,11 @@ fn round<R: Read, W: Write, L: Ledger, M: Ledger>(
     let Ok(heard) = listen(alloc, reader, line) else {
         return Err(RunFault::Read);
     };
-    let Heard { what, line, last } = heard;
-    let Some(reply) = serve(alloc, desk, what, line) else {
+    let Heard { request, last } = heard;
+    let Some(request) = request else {
         return Ok(if last { Next::Done } else { Next::GoOn });
     };
+    let reply = serve(alloc, desk, request);
     if send(writer, desk, reply).is_err() {
         return Err(RunFault::Write);
     }

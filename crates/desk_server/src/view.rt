@@ -1,8 +1,9 @@
 //! The view that a bookmark's words name.
 ghost use Rattle.std.specs.Prelude.{◌≡◌};
 ghost use Rattle.script_lines.specs.Words.{words};
-ghost use Rattle.desk_server.specs.View.{extent, plain_view, view_of, window_of};
+ghost use Rattle.desk_server.specs.View.{extent, view_of, window_of};
 
+use crate::words::alone;
 use desk_core::View;
 use script_lines::{next_word, signed, unsigned};
 
@@ -12,22 +13,13 @@ pub(crate) fn read_view(bytes: &[u8]) -> Option<View>
 {
     let (name, rest) = next_word(bytes)?;
     if name == b"counts".as_slice() {
-        plain_view(View::Counts, rest)
+        alone(View::Counts, rest)
     } else if name == b"rle".as_slice() {
-        plain_view(View::Rle, rest)
+        alone(View::Rle, rest)
+    } else if name == b"mc".as_slice() {
+        alone(View::Macrocell, rest)
     } else if name == b"window".as_slice() {
         read_window(rest)
-    } else {
-        None
-    }
-}
-
-// The view, if no word follows it.
-fn plain_view(view: View, rest: &[u8]) -> Option<View>
-    ensures { result ≡ plain_view view (words rest.now) }
-{
-    if next_word(rest).is_none() {
-        Some(view)
     } else {
         None
     }

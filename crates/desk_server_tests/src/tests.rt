@@ -2,6 +2,7 @@
 ghost use Rattle.std.specs.Prelude.{◌≡◌, ◌<◌};
 
 mod devices;
+mod edits;
 mod faults;
 mod first;
 mod scripts;

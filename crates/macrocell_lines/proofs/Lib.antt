@@ -1,11 +1,8 @@
 pub mod BitmapCells
-pub mod Bytes
 pub mod Growing
 pub mod NumberLines
 pub mod PassedLines
 pub mod Rows
-pub mod Splits
-pub mod TextLines
 pub mod WrittenBitmaps
 pub mod WrittenNodes
 pub mod WrittenTexts

@@ -9,8 +9,11 @@ use Rattle.macrocell_lines.specs.Laws.{IsName, IsNameByte, WrittenSaysTheSame}
 use Rattle.macrocell_lines.specs.MacrocellText.{after_line, after_lines, nothing_said, said_by}
 use Rattle.macrocell_lines.specs.Nodes.{AreNodes}
 use Rattle.macrocell_lines.specs.WrittenText.{node_line, written_lines}
-use Rattle.macrocell_lines.proofs.Bytes.{IsDigit, IsPrinted, IsVisible, all_so, decimal-numeral, differs, digit-visible, number_in-decimal, printed-tested, visible-printed}
-use Rattle.macrocell_lines.proofs.TextLines.{IsLine, ends-append, ends-visible, line-between, says-lines, trim-blank}
+use Rattle.basics.proofs.Lists.{all_so}
+use Rattle.text_lines.proofs.ByteRanges.{IsDigit, IsPrinted, IsVisible, differs, digit-visible, printed-tested, visible-printed}
+use Rattle.text_lines.proofs.Decimals.{decimal-numeral}
+use Rattle.macrocell_lines.proofs.NumberLines.{number_in-decimal}
+use Rattle.text_lines.proofs.PrintedLines.{IsLine, ends-append, ends-visible, line-between, says-lines, trim-blank}
 use Rattle.macrocell_lines.proofs.WrittenNodes.{node-lines, nodes-taken}
 
 name-visible : (name : List ℕ) → AllByRecursion IsNameByte name → AllByRecursion IsVisible name
@@ -28,7 +31,7 @@ no-colon name h =
     ap (λ n. cond (nat_lt n (length name)) (Some n) None) (colon_none name h) ∙ ap (λ v. cond v (Some (length name)) None) past
 
 name-taken : (name : List ℕ) → IsName name → after_line 2 nothing_said (codes "#R " ++ name) ≡ Ok (record { heading = record { rule_name = name; generation = 0 }; nodes = [] })
-name-taken name h = rw (trim-blank name h.some (name-visible name h.bytes)) (rw (no-colon name h.bytes) refl)
+name-taken name h = rw (trim-blank name (name-visible name h.bytes)) (rw (no-colon name h.bytes) refl)
 
 digits-visible : (n : ℕ) → n < 2 ^ 64 → AllByRecursion IsVisible (decimal n)
 digits-visible n h = let numeral = decimal-numeral n h in all_so IsDigit IsVisible (decimal n) digit-visible numeral.digits
@@ -36,7 +39,7 @@ digits-visible n h = let numeral = decimal-numeral n h in all_so IsDigit IsVisib
 generation-taken : (name : List ℕ) (generation : ℕ) → generation < 2 ^ 64 → after_line 3 (record { heading = record { rule_name = name; generation = 0 }; nodes = [] }) (codes "#G " ++ decimal generation) ≡ Ok (record { heading = record { rule_name = name; generation = generation }; nodes = [] })
 generation-taken name generation h =
     let numeral = decimal-numeral generation h in
-    rw (trim-blank (decimal generation) numeral.some (digits-visible generation h)) (rw (number_in-decimal generation h) refl)
+    rw (trim-blank (decimal generation) (digits-visible generation h)) (rw (number_in-decimal generation h) refl)
 
 -- a mark, a blank and visible bytes
 mark-line : (letter : ℕ) (bs : List ℕ) → IsVisible letter → 0 < length bs → AllByRecursion IsVisible bs → IsLine (35 ∷ letter ∷ 32 ∷ bs)

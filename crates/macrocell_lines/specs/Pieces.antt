@@ -1,7 +1,8 @@
 -- The pieces of a line, and the numbers that its words write.
-use Rattle.std.specs.Prelude.{ℕ, ◌-◌, ◌^◌, ◌==◌, Bool, true, false, min, filter, List, [], ◌∷◌, Option, Some, None}
+use Rattle.std.specs.Prelude.{ℕ, ◌-◌, ◌^◌, ◌==◌, min, filter, List, [], ◌∷◌, Option, Some, None}
 use Rattle.std.specs.List.{slice_split}
 use Rattle.std.specs.Option.{option_map}
+pub use Rattle.text_lines.specs.Numbers.{is_word}
 use Rattle.text_lines.specs.Numbers.{number_of}
 use Rattle.macrocell_lines.specs.declared.numbers.FiveNumbers.{FiveNumbers}
 
@@ -14,11 +15,6 @@ None >>= f = None
 -- what stands before, between and behind the separators of a line
 abbrev pub pieces : ℕ → List ℕ → List (List ℕ)
 pieces separator line = slice_split (λ b. b == separator) line
-
--- a word has a byte at least
-abbrev pub is_word : List ℕ → Bool
-is_word [] = false
-is_word (b ∷ bs) = true
 
 -- the words of a line, which spaces separate
 abbrev pub words : List ℕ → List (List ℕ)

@@ -1,12 +1,10 @@
 -- The text of a quadtree.
 use Rattle.std.specs.Prelude.{ℕ, zero, suc, ◌/◌, ◌%◌, ◌==◌, if◌then◌else◌, List, [], ◌∷◌, ◌++◌, map, codes, decimal}
-use Rattle.std.specs.List.{flat_map, join_with_byte}
+use Rattle.std.specs.List.{flat_map}
+pub use Rattle.text_lines.specs.LineEnds.{text_of_lines}
+pub use Rattle.text_lines.specs.Numbers.{numbers_line}
 use Rattle.macrocell_lines.specs.declared.node.Node.{Node}
 use Rattle.macrocell_lines.specs.declared.node.Node.TheVariants.{Cells, Square, Bitmap}
-
--- numbers in decimal, with a space between each two
-abbrev pub numbers_line : List ℕ → List ℕ
-numbers_line numbers = join_with_byte 32 (map decimal numbers)
 
 -- so many bits of a row as cells, from the lowest on
 unfoldable pub row_text : ℕ → ℕ → List ℕ
@@ -27,10 +25,6 @@ node_line (Bitmap bitmap) = rows_text bitmap.rows
 abbrev pub written_lines : List ℕ → ℕ → List Node → List (List ℕ)
 written_lines name generation nodes =
     codes "[M2] (experiment desk)" ∷ (codes "#R " ++ name) ∷ (codes "#G " ++ decimal generation) ∷ map node_line nodes
-
--- lines, of which a line feed ends each
-abbrev pub text_of_lines : List (List ℕ) → List ℕ
-text_of_lines lines = flat_map (λ line. line ++ 10 ∷ []) lines
 
 -- the text of a rule's name, a generation and the nodes in order
 abbrev pub written_text : List ℕ → ℕ → List Node → List ℕ

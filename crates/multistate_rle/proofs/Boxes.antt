@@ -1,12 +1,12 @@
 -- The bounding box of a world is the box of its live cells.
 use Rattle.std.proofs.Common.{◌≡◌, ◌∙◌, ap, refl, ℕ, List, [], ◌∷◌, Option, None, Some, ℤ, arith}
 use Rattle.std.proofs.lemmas.Int.{ints}
-use Rattle.plane_core.specs.World.{World, Place, cell, blank, cell-blank, entries-blank}
-use Rattle.plane_core.specs.Live.{live, live-entries, as_live}
-use Rattle.plane_core.specs.Range.{IsBoundingBox}
-use Rattle.plane_core.specs.Box.{grown}
-use Rattle.plane_core.specs.declared.cell.Bounds.{Bounds}
-use Rattle.plane_core.proofs.Lists.{Walked, Walked-none, Walked-more, some_walked, none_walked}
+use Rattle.worlds.specs.World.{World, Place, cell, blank, cell-blank, entries-blank}
+use Rattle.worlds.specs.Live.{live, live-entries, as_live}
+use Rattle.worlds.specs.Range.{IsBoundingBox}
+use Rattle.worlds.specs.Box.{grown}
+use Rattle.worlds.specs.declared.cell.Bounds.{Bounds}
+use Rattle.worlds.proofs.Walks.{Walked, Walked-none, Walked-more, some_walked, none_walked}
 use Rattle.multistate_rle.specs.declared.frame.Frame.{Frame}
 use Rattle.multistate_rle.specs.Frame.{box_of, box_with}
 use Rattle.std.proofs.Common.{map}

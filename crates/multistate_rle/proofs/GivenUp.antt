@@ -1,8 +1,8 @@
 -- What is drawn after a growth was refused: the same faults, and no world.
 use Rattle.std.proofs.Common.{◌≡◌, ◌≢◌, ℕ, ◌+◌, ◌==◌, ◌⊎◌, Bool, true, false, cond, inl, inr, List, [], ◌∷◌, Result, Ok, Err, max, nat_lt, refl, sym, ap, subst, ◌∙◌}
 use Rattle.std.specs.Prelude.{IsOk}
-use Rattle.plane_core.specs.Lay.{lay}
-use Rattle.plane_core.specs.World.{World, blank}
+use Rattle.worlds.specs.Lay.{lay}
+use Rattle.worlds.specs.World.{World, blank}
 use Rattle.basics.specs.Results.{◌>>=◌, Gives}
 use Rattle.multistate_rle.specs.declared.fault.RleFault.{RleFault}
 use Rattle.multistate_rle.specs.declared.fault.RleFault.TheVariants.{TooManyLive, CellOutOfRange, NoMemory}

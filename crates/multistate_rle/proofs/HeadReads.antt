@@ -12,17 +12,11 @@ use Rattle.text_lines.specs.Blanks.{is_blank, trim}
 use Rattle.text_lines.specs.Numbers.{number_of}
 use Rattle.multistate_rle.specs.Comments.{is_sign, starts_loose, tight, parts, signed_of, coordinate_of, place_in, generation_in, plain_origin, after_part, after_comment}
 use Rattle.multistate_rle.specs.Header.{value_in, size_in, name_after_width, name_in, rule_name}
-use Rattle.multistate_rle.proofs.Bytes.{IsVisible, differs, visible-solid}
-use Rattle.multistate_rle.proofs.Cuts.{IsPrinted, IsOther, printed, visible, others, cut-first, cut-none, trim-blank}
-use Rattle.multistate_rle.proofs.Decimals.{IsDigit, decimal-bytes, decimal-some, number_of-decimal}
-use Rattle.basics.proofs.Lists.{all_append}
-use Rattle.multistate_rle.proofs.LiveCells.{all_so}
-
-digit-visible : (b : ℕ) → IsDigit b → IsVisible b
-digit-visible b h = let low : 48 ≤ b = h.0 in let high : b ≤ 57 = h.1 in (omega arith, omega arith)
-
-pub visible-printed : (b : ℕ) → IsVisible b → IsPrinted b
-visible-printed b h = let low : 33 ≤ b = h.0 in let high : b ≤ 126 = h.1 in (omega arith, omega arith)
+use Rattle.text_lines.proofs.ByteRanges.{IsDigit, IsPrinted, IsVisible, differs, digit-visible, printed-tested, visible-printed, visible-solid, visible-tested}
+use Rattle.text_lines.proofs.PrintedLines.{trim-blank}
+use Rattle.multistate_rle.proofs.Cuts.{IsOther, others, cut-first, cut-none}
+use Rattle.text_lines.proofs.Decimals.{decimal-bytes, decimal-some, number_of-decimal}
+use Rattle.basics.proofs.Lists.{all_append, all_so}
 
 -- a digit or a minus
 abbrev pub IsNumeric : ℕ → Type 0
@@ -138,12 +132,12 @@ split-words xs ys h k =
 
 place-visible : (x y : ℤ) → IsCoordinate x → IsCoordinate y → AllByRecursion IsVisible (place_part x y)
 place-visible x y h k =
-    all_append IsVisible (codes "Pos=") (signed_decimal x ++ 44 ∷ signed_decimal y) (visible (codes "Pos=") refl)
+    all_append IsVisible (codes "Pos=") (signed_decimal x ++ 44 ∷ signed_decimal y) (visible-tested (codes "Pos=") refl)
     (all_append IsVisible (signed_decimal x) (44 ∷ signed_decimal y) (all_so IsNumeric IsVisible (signed_decimal x) numeric-visible (signed-bytes x h))
     ((omega arith, omega arith), all_so IsNumeric IsVisible (signed_decimal y) numeric-visible (signed-bytes y k)))
 
 pub generation-visible : (n : ℕ) → n < 2 ^ 64 → AllByRecursion IsVisible (codes "Gen=" ++ decimal n)
-generation-visible n h = all_append IsVisible (codes "Gen=") (decimal n) (visible (codes "Gen=") refl) (all_so IsDigit IsVisible (decimal n) digit-visible (decimal-bytes n h))
+generation-visible n h = all_append IsVisible (codes "Gen=") (decimal n) (visible-tested (codes "Gen=") refl) (all_so IsDigit IsVisible (decimal n) digit-visible (decimal-bytes n h))
 
 place-open : (x y : ℤ) → IsCoordinate x → IsCoordinate y → joined_behind true (place_part x y) ≡ false
 unfolding joined_behind
@@ -213,7 +207,7 @@ header-reads width height name wide high h =
 -- both lines are printed
 pub comment-printed : (x y : ℤ) (n : ℕ) → IsCoordinate x → IsCoordinate y → n < 2 ^ 64 → AllByRecursion IsPrinted (comment_line x y n)
 comment-printed x y n h k small =
-    all_append IsPrinted (codes "#CXRLE ") (place_part x y ++ 32 ∷ (codes "Gen=" ++ decimal n)) (printed (codes "#CXRLE ") refl)
+    all_append IsPrinted (codes "#CXRLE ") (place_part x y ++ 32 ∷ (codes "Gen=" ++ decimal n)) (printed-tested (codes "#CXRLE ") refl)
     (all_append IsPrinted (place_part x y) (32 ∷ (codes "Gen=" ++ decimal n)) (all_so IsVisible IsPrinted (place_part x y) visible-printed (place-visible x y h k))
     ((omega arith, omega arith), all_so IsVisible IsPrinted (codes "Gen=" ++ decimal n) visible-printed (generation-visible n small)))
 
@@ -222,8 +216,8 @@ decimal-printed n h = all_so IsDigit IsPrinted (decimal n) (λ b k. visible-prin
 
 pub header-printed : (width height : ℕ) (name : List ℕ) → width < 2 ^ 64 → height < 2 ^ 64 → AllByRecursion IsPlain name → AllByRecursion IsPrinted (header_line width height name)
 header-printed width height name wide high h =
-    all_append IsPrinted (codes "x = ") (decimal width ++ 44 ∷ (codes " y = " ++ decimal height ++ 44 ∷ (codes " rule = " ++ name))) (printed (codes "x = ") refl)
+    all_append IsPrinted (codes "x = ") (decimal width ++ 44 ∷ (codes " y = " ++ decimal height ++ 44 ∷ (codes " rule = " ++ name))) (printed-tested (codes "x = ") refl)
     (all_append IsPrinted (decimal width) (44 ∷ (codes " y = " ++ decimal height ++ 44 ∷ (codes " rule = " ++ name))) (decimal-printed width wide)
-    (all_append IsPrinted (codes ", y = ") (decimal height ++ 44 ∷ (codes " rule = " ++ name)) (printed (codes ", y = ") refl)
+    (all_append IsPrinted (codes ", y = ") (decimal height ++ 44 ∷ (codes " rule = " ++ name)) (printed-tested (codes ", y = ") refl)
     (all_append IsPrinted (decimal height) (44 ∷ (codes " rule = " ++ name)) (decimal-printed height high)
-    (all_append IsPrinted (codes ", rule = ") name (printed (codes ", rule = ") refl) (all_so IsVisible IsPrinted name visible-printed (name-visible name h))))))
+    (all_append IsPrinted (codes ", rule = ") name (printed-tested (codes ", rule = ") refl) (all_so IsVisible IsPrinted name visible-printed (name-visible name h))))))

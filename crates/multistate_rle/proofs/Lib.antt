@@ -1,9 +1,8 @@
+mod Anywhere
 pub mod BodyReads
 pub mod Boxes
-pub mod Bytes
 mod Capped
 pub mod Cuts
-pub mod Decimals
 mod FirstLines
 mod GivenUp
 pub mod HeadReads
@@ -14,3 +13,4 @@ pub mod Runs
 mod Settled
 pub mod StripCells
 mod Strips
+mod VisibleBytes

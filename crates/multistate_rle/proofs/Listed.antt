@@ -3,10 +3,10 @@ use Rattle.std.proofs.Common.{◌≡◌, sym, subst, ℕ, ◌<◌, ◌^◌, List
 use Rattle.std.specs.List.{All, AllByRecursion}
 use Rattle.std.proofs.lemmas.Int.{ints}
 use Rattle.std.proofs.lemmas.List.Elements.{All-from_recursion}
-use Rattle.plane_core.specs.World.{World, Place, cell}
-use Rattle.plane_core.specs.Live.{live, live-states, of_cell}
-use Rattle.plane_core.specs.Range.{HasMargin, IsInside}
-use Rattle.plane_core.specs.declared.cell.Cell.{Cell}
+use Rattle.worlds.specs.World.{World, Place, cell}
+use Rattle.worlds.specs.Live.{live, live-states, of_cell}
+use Rattle.worlds.specs.Range.{HasMargin, IsInside}
+use Rattle.worlds.specs.declared.cell.Cell.{Cell}
 use Rattle.multistate_rle.specs.Listed.{IsListed}
 
 -- what `live-states` says of a listed cell

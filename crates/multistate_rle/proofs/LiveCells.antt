@@ -11,16 +11,16 @@ use Rattle.std.specs.Map.{lookup}
 use Rattle.std.specs.FinMap as map
 use Rattle.std.specs.FinMap.Entries.{below_all, is_sorted}
 use Rattle.std.proofs.lemmas.Int.{ints, by_lt_z}
-use Rattle.basics.proofs.Lists.{all_append}
+use Rattle.basics.proofs.Lists.{all_append, all_so}
 use Rattle.basics.proofs.Tests.{first, second}
-use Rattle.plane_core.specs.World.{World, Place, place_cmp, same_place, cell, blank, cell-blank, same_world}
-use Rattle.plane_core.specs.Live.{live, live-entries, as_live, cell-state_at, live-states}
-use Rattle.plane_core.specs.Lay.{lay, last_mention, cell-lay}
-use Rattle.plane_core.specs.Fill.{same_is}
-use Rattle.plane_core.specs.Range.{IsInside, HasMargin, IsBoundingBox}
-use Rattle.plane_core.specs.Box.{grown}
-use Rattle.plane_core.specs.declared.cell.Bounds.{Bounds}
-use Rattle.plane_core.proofs.Lists.{Walked, Walked-none, Walked-more, some_walked, none_walked}
+use Rattle.worlds.specs.World.{World, Place, place_cmp, same_place, cell, blank, cell-blank, same_world}
+use Rattle.worlds.specs.Live.{live, live-entries, as_live, cell-state_at, live-states}
+use Rattle.worlds.specs.Lay.{lay, last_mention, cell-lay}
+use Rattle.worlds.specs.Fill.{same_is}
+use Rattle.worlds.specs.Range.{IsInside, HasMargin, IsBoundingBox}
+use Rattle.worlds.specs.Box.{grown}
+use Rattle.worlds.specs.declared.cell.Bounds.{Bounds}
+use Rattle.worlds.proofs.Walks.{Walked, Walked-none, Walked-more, some_walked, none_walked}
 use Rattle.multistate_rle.specs.declared.frame.Frame.{Frame}
 use Rattle.multistate_rle.specs.declared.token.Token.{Token}
 use Rattle.multistate_rle.specs.declared.token.Token.TheVariants as token
@@ -116,11 +116,6 @@ sorted_live (e ∷ es) h = both _ _ (below_live e.0 es (first _ _ h)) (sorted_li
 -- the live cells are sorted
 pub live-sorted : (w : World) → T (is_sorted place_cmp (live w))
 live-sorted w = subst (λ es. T (is_sorted place_cmp es)) (sym (live-entries w)) (sorted_live (map.entries w) (map.entries_sorted w))
-
--- what holds of each holds of each still
-pub all_so : {X : Type 0} (P Q : X → Type 0) (xs : List X) → ((x : X) → P x → Q x) → AllByRecursion P xs → AllByRecursion Q xs
-all_so P Q [] f h = tt
-all_so P Q (x ∷ xs) f h = (f x h.0, all_so P Q xs f h.1)
 
 -- a frame that holds the live cells and lies in the range of planes
 pub record FrameFits (w : World) (f : Frame) : Type 0 where

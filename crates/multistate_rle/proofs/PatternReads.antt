@@ -8,10 +8,10 @@ use Rattle.std.proofs.lemmas.Int.{ints}
 use Rattle.std.proofs.lemmas.List.{length-map}
 use Rattle.std.proofs.Math.ListN.{length-append}
 use Rattle.std.proofs.Math.Seq.{drop-append_seam}
-use Rattle.plane_core.specs.World.{World, Place, cell, blank}
-use Rattle.plane_core.specs.Live.{live, live-states}
-use Rattle.plane_core.specs.Lay.{lay}
-use Rattle.plane_core.specs.Range.{IsInside, HasMargin, AllBelow}
+use Rattle.worlds.specs.World.{World, Place, cell, blank}
+use Rattle.worlds.specs.Live.{live, live-states}
+use Rattle.worlds.specs.Lay.{lay}
+use Rattle.worlds.specs.Range.{IsInside, HasMargin, AllBelow}
 use Rattle.text_lines.specs.Blanks.{trim_start, trim_end, trim}
 use Rattle.text_lines.specs.Lines.{Line, lines, lines_from, full_line, strip_carriage_return}
 use Rattle.text_lines.specs.Lines.End.{Ended}
@@ -32,10 +32,12 @@ use Rattle.multistate_rle.specs.PatternText.{packed, framed_text}
 use Rattle.multistate_rle.specs.Symbols.{solid_from, symbols}
 use Rattle.multistate_rle.specs.Token.{tokens, token_text}
 use Rattle.multistate_rle.proofs.BodyReads.{IsWritable, runs_of, packed-reads}
-use Rattle.multistate_rle.proofs.Bytes.{IsVisible, differs}
-use Rattle.multistate_rle.proofs.Cuts.{IsPrinted, trim_end-behind, trim_end-visible, strip-printed, line-first}
+use Rattle.text_lines.proofs.ByteRanges.{IsPrinted, IsVisible, differs}
+use Rattle.basics.proofs.Lists.{all_so}
+use Rattle.text_lines.proofs.LineEnds.{line-first}
+use Rattle.text_lines.proofs.PrintedLines.{ends-append, ends-visible, printed-one, strip-printed}
 use Rattle.multistate_rle.proofs.HeadReads.{IsPlain, IsCoordinate, comment_line, comment-reads, header_line, header-reads, comment-printed, header-printed, generation-visible}
-use Rattle.multistate_rle.proofs.LiveCells.{IsListedIn, IsFramed, IsCellOf, IsBeside, FrameFits, all_so, ahead, frame-fits, lay-live, live-sorted, tokens-writable}
+use Rattle.multistate_rle.proofs.LiveCells.{IsListedIn, IsFramed, IsCellOf, IsBeside, FrameFits, ahead, frame-fits, lay-live, live-sorted, tokens-writable}
 use Rattle.multistate_rle.proofs.StripCells.{set_of, drawn, IsLaidInside, drawn-tokens, live_count-drawn, drawn-inside}
 
 two_groups : (sign place left comma top blank age generation feed x width y height rule name body : List ℕ)
@@ -56,7 +58,7 @@ regrouped left top generation width height name body =
 -- what a line says that begins and ends with no blank
 says-line : (line front last : List ℕ) → line ≡ front ++ last → trim_start (front ++ last) ≡ front ++ last → 0 < length last → AllByRecursion IsVisible last → AllByRecursion IsPrinted line → trim (strip_carriage_return line) ≡ line
 says-line line front last is start some h k =
-    ap trim (strip-printed line k) ∙ ap trim is ∙ ap trim_end start ∙ trim_end-behind front last some (trim_end-visible last h) ∙ sym is
+    ap trim (strip-printed line k) ∙ ap trim is ∙ ap trim_end start ∙ (ends-append front last (ends-visible last some h)).trimmed ∙ sym is
 
 comment-says : (x y : ℤ) (n : ℕ) → IsCoordinate x → IsCoordinate y → n < 2 ^ 64 → trim (strip_carriage_return (comment_line x y n)) ≡ comment_line x y n
 comment-says x y n h k small =
@@ -101,10 +103,10 @@ head-reads x y n width height name body h k small wide high some plain =
     let second : List ℕ = header_line width height name in
     let says : trim (strip_carriage_return first) ≡ first = comment-says x y n h k small in
     let says_then : trim (strip_carriage_return second) ≡ second = header-says width height name wide high some plain in
-    ap (head_from plain_origin 0) (line-first [] first (second ++ 10 ∷ body) (comment-printed x y n h k small))
+    ap (head_from plain_origin 0) (line-first Ended [] first (second ++ 10 ∷ body) (printed-one first (comment-printed x y n h k small)))
     ∙ head-comment plain_origin 0 (full_line first) (lines_from Ended [] (second ++ 10 ∷ body)) (ap (begins_with 35) says)
     ∙ ap (λ o. head_from o (0 + length (first ++ 10 ∷ [])) (lines_from Ended [] (second ++ 10 ∷ body))) (ap (after_comment plain_origin) says ∙ comment-reads x y n h k small)
-    ∙ ap (head_from (record { x = x; y = y; generation = n }) (0 + length (first ++ 10 ∷ []))) (line-first [] second body (header-printed width height name wide high plain))
+    ∙ ap (head_from (record { x = x; y = y; generation = n }) (0 + length (first ++ 10 ∷ []))) (line-first Ended [] second body (printed-one second (header-printed width height name wide high plain)))
     ∙ head-header (record { x = x; y = y; generation = n }) (0 + length (first ++ 10 ∷ [])) (full_line second) (lines_from Ended [] body) name
     (subst (λ bs. 0 < length bs) (sym says_then) (omega arith)) (ap (begins_with 35) says_then) (ap rule_name says_then ∙ header-reads width height name wide high plain)
 

@@ -3,9 +3,9 @@ use Rattle.std.proofs.Common.{◌≡◌, ◌∙◌, sym, ap, refl, ℕ, zero, su
 use Rattle.std.specs.Prelude.{◌==◌, unsigned_abs}
 use Rattle.std.proofs.lemmas.Int.{ints}
 use Rattle.std.proofs.lemmas.Bool.Decides.{nat_tests}
-use Rattle.plane_core.specs.World.{Place}
-use Rattle.plane_core.specs.Live.{of_cell, place_of}
-use Rattle.plane_core.specs.declared.cell.Cell.{Cell}
+use Rattle.worlds.specs.World.{Place}
+use Rattle.worlds.specs.Live.{of_cell, place_of}
+use Rattle.worlds.specs.declared.cell.Cell.{Cell}
 use Rattle.multistate_rle.specs.declared.token.Token.{Token}
 use Rattle.multistate_rle.specs.declared.token.Token.TheVariants.{Run, RowEnds, End}
 use Rattle.multistate_rle.specs.declared.open_run.OpenRun.{OpenRun}

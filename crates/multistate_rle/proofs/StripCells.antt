@@ -7,16 +7,16 @@ use Rattle.std.proofs.lemmas.Int.{ints}
 use Rattle.std.proofs.lemmas.List.FromFn.{length-map-range_with_len}
 use Rattle.std.proofs.lemmas.List.Sums.{sum_by-cons}
 use Rattle.std.proofs.Math.ListN.{length-append}
-use Rattle.plane_core.specs.World.{Place}
-use Rattle.plane_core.specs.declared.cell.CellSet.{CellSet}
-use Rattle.plane_core.specs.Range.{IsInside}
+use Rattle.worlds.specs.World.{Place}
+use Rattle.worlds.specs.declared.cell.CellSet.{CellSet}
+use Rattle.worlds.specs.Range.{IsInside}
 use Rattle.multistate_rle.specs.declared.comment.Origin.{Origin}
 use Rattle.multistate_rle.specs.declared.token.Token.{Token}
 use Rattle.multistate_rle.specs.declared.token.Token.TheVariants as token
 use Rattle.multistate_rle.specs.Pattern.{Strip, strips_from, live_count, is_in_range, lies_inside, cell_at, cells_of}
 use Rattle.multistate_rle.specs.Token.{distance, zeros, way_by, way, joined, tokens, behind}
 use Rattle.multistate_rle.proofs.BodyReads.{IsWritable, runs_of}
-use Rattle.multistate_rle.proofs.Bytes.{differs}
+use Rattle.text_lines.proofs.ByteRanges.{differs}
 use Rattle.multistate_rle.proofs.Strips.{same_cell}
 
 -- a listed cell, as it is laid

@@ -4,8 +4,8 @@ use Rattle.std.specs.Prelude.{int_le, int_lt, neg_ℤ, ◌≤ℤ◌, ◌<ℤ◌}
 use Rattle.std.specs.List.{range_with_len}
 use Rattle.std.proofs.lemmas.Int.{ints}
 use Rattle.std.proofs.lemmas.List.FromFn.{map-range_with_len_more}
-use Rattle.plane_core.specs.declared.cell.CellSet.{CellSet}
-use Rattle.plane_core.specs.Range.{IsInside}
+use Rattle.worlds.specs.declared.cell.CellSet.{CellSet}
+use Rattle.worlds.specs.Range.{IsInside}
 use Rattle.multistate_rle.specs.declared.comment.Origin.{Origin}
 use Rattle.multistate_rle.specs.Pattern.{Strip, is_in_range, lies_inside, cell_at, cells_of}
 use Rattle.multistate_rle.specs.Drawing.{side_by_side}

@@ -1,9 +1,9 @@
 -- A pattern that is being drawn run by run, with numbers that stand at 2^64 - 1 where they are greater.
 use Rattle.std.specs.Prelude.{◌≡◌, ◌⊎◌, ℕ, ◌+◌, ◌-◌, ◌^◌, ◌==◌, ◌&&◌, Bool, true, false, nat_le, nat_lt, min, map, pos, ◌+ℤ◌, List, [], ◌++◌, Result, Ok, Err, if◌then◌else◌}
 use Rattle.std.specs.List.{range_with_len}
-use Rattle.plane_core.specs.declared.cell.CellSet.{CellSet}
-use Rattle.plane_core.specs.Lay.{lay}
-use Rattle.plane_core.specs.World.{World, blank}
+use Rattle.worlds.specs.declared.cell.CellSet.{CellSet}
+use Rattle.worlds.specs.Lay.{lay}
+use Rattle.worlds.specs.World.{World, blank}
 use Rattle.multistate_rle.specs.declared.comment.Origin.{Origin}
 use Rattle.multistate_rle.specs.declared.fault.RleFault.{RleFault}
 use Rattle.multistate_rle.specs.declared.fault.RleFault.TheVariants.{TooManyLive, CellOutOfRange, NoMemory}

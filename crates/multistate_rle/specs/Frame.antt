@@ -1,8 +1,8 @@
 -- The frame of a pattern: the place and the size of its bounding box.
 use Rattle.std.specs.Prelude.{ℕ, ◌+◌, List, [], ◌∷◌, pos, Option, None, Some}
-use Rattle.plane_core.specs.World.{Place}
-use Rattle.plane_core.specs.Box.{grown}
-use Rattle.plane_core.specs.declared.cell.Bounds.{Bounds}
+use Rattle.worlds.specs.World.{Place}
+use Rattle.worlds.specs.Box.{grown}
+use Rattle.worlds.specs.declared.cell.Bounds.{Bounds}
 use Rattle.multistate_rle.specs.declared.frame.Frame.{Frame}
 use Rattle.multistate_rle.specs.Token.{distance}
 

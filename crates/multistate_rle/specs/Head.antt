@@ -1,9 +1,10 @@
 -- What stands before the body of a pattern file.
-use Rattle.std.specs.Prelude.{ℕ, ◌+◌, ◌==◌, ◌||◌, ◌&&◌, Bool, false, List, [], ◌∷◌, codes, length, is_some, Result, Ok, Err, if◌then◌else◌}
+use Rattle.std.specs.Prelude.{◌≡◌, IfSome, ℕ, ◌+◌, ◌==◌, ◌||◌, ◌&&◌, Bool, false, List, [], ◌∷◌, codes, length, is_some, Result, Ok, Err, if◌then◌else◌}
 use Rattle.text_lines.specs.Lines.{Line}
 use Rattle.basics.specs.Results.{◌>>=◌}
 use Rattle.multistate_rle.specs.declared.comment.Origin.{Origin}
 use Rattle.multistate_rle.specs.declared.fault.RleFault.{RleFault}
+use Rattle.multistate_rle.specs.declared.head.Head as kept
 use Rattle.multistate_rle.specs.declared.fault.RleFault.TheVariants.{NoHeader}
 use Rattle.multistate_rle.specs.Comments.{after_comment}
 use Rattle.multistate_rle.specs.Cut.{after, begins_with}
@@ -30,3 +31,14 @@ head_from origin len (line ∷ lines) =
 abbrev pub is_placed : List Line → Bool
 is_placed [] = false
 is_placed (line ∷ lines) = is_passed line.says && (is_some (after (codes "#CXRLE") line.says) || is_placed lines)
+
+-- a head that was read: what it has is that of the file; where memory was wanted, it has no origin
+pub record IsHead (found : kept.Head) (head : Head) : Type 0 where
+  pub name : found.name.now ≡ head.name
+  pub len : found.len ≡ head.len
+  pub origin : IfSome found.origin (λ origin. origin ≡ head.origin)
+
+-- a call read a head, or gave the fault that there is in its place
+abbrev pub ReadsHead : Result kept.Head RleFault → Result Head RleFault → Type 0
+ReadsHead (Ok found) read = (head : Head) × (read ≡ Ok head) × IsHead found head
+ReadsHead (Err fault) read = read ≡ Err fault

@@ -1,9 +1,9 @@
 -- What the definitions are meant to say: each statement is proved by a function of the same name.
 use Rattle.std.specs.Prelude.{◌≡◌, ◌≢◌, ℕ, ◌<◌, ◌≤◌, ◌^◌, List, length, Ok}
 use Rattle.std.specs.List.{AllByRecursion}
-use Rattle.plane_core.specs.World.{World}
-use Rattle.plane_core.specs.Live.{population}
-use Rattle.plane_core.specs.Range.{HasMargin, AllBelow}
+use Rattle.worlds.specs.World.{World}
+use Rattle.worlds.specs.Live.{population}
+use Rattle.worlds.specs.Range.{HasMargin, AllBelow}
 use Rattle.multistate_rle.specs.Pattern.{pattern_of}
 use Rattle.multistate_rle.specs.PatternText.{rle_text}
 

@@ -1,6 +1,6 @@
 -- Cells as a plane lists them.
 use Rattle.std.specs.Prelude.{◌<◌, ◌^◌, pos, ◌<ℤ◌}
-use Rattle.plane_core.specs.declared.cell.Cell.{Cell}
+use Rattle.worlds.specs.declared.cell.Cell.{Cell}
 
 -- the cell isn't empty, and lies left of the right edge of planes
 abbrev pub IsListed : Cell → Type 0

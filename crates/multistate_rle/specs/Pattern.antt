@@ -1,15 +1,15 @@
 -- Which pattern a file means, or the first fault that it has.
-use Rattle.std.specs.Prelude.{◌⊎◌, IsTrue, IsOk, ℕ, ◌+◌, ◌-◌, ◌*◌, ◌^◌, ◌==◌, ◌&&◌, Bool, nat_lt, max, ℤ, pos, neg_ℤ, ◌+ℤ◌, int_le, int_lt, List, [], ◌∷◌, map, drop, sum_by, Result, Ok, Err, if◌then◌else◌}
+use Rattle.std.specs.Prelude.{◌≡◌, ◌≢◌, ◌⊎◌, IsTrue, IsOk, ℕ, ◌+◌, ◌-◌, ◌*◌, ◌^◌, ◌==◌, ◌&&◌, Bool, nat_lt, max, ℤ, pos, neg_ℤ, ◌+ℤ◌, int_le, int_lt, List, [], ◌∷◌, map, drop, sum_by, Result, Ok, Err, if◌then◌else◌}
 use Rattle.std.specs.List.{flat_map, list_all, range_with_len}
 use Rattle.text_lines.specs.Lines.{lines}
 use Rattle.basics.specs.Results.{◌>>=◌}
-use Rattle.plane_core.specs.declared.cell.CellSet.{CellSet}
+use Rattle.worlds.specs.declared.cell.CellSet.{CellSet}
 use Rattle.plane_core.specs.declared.loaded.Loaded.{Loaded}
-use Rattle.plane_core.specs.Lay.{lay}
-use Rattle.plane_core.specs.World.{World, blank}
+use Rattle.worlds.specs.Lay.{lay}
+use Rattle.worlds.specs.World.{World, blank}
 use Rattle.multistate_rle.specs.declared.comment.Origin.{Origin}
 use Rattle.multistate_rle.specs.declared.fault.RleFault.{RleFault}
-use Rattle.multistate_rle.specs.declared.fault.RleFault.TheVariants.{BadRun, TooManyLive, CellOutOfRange}
+use Rattle.multistate_rle.specs.declared.fault.RleFault.TheVariants.{BadRun, TooManyLive, CellOutOfRange, NoMemory}
 use Rattle.multistate_rle.specs.declared.symbol.Symbol.{Symbol}
 use Rattle.multistate_rle.specs.declared.symbol.Symbol.TheVariants.{Digit, Cell, RowEnd, End, Unknown}
 use Rattle.multistate_rle.specs.Comments.{plain_origin}
@@ -87,6 +87,20 @@ pattern_of text = do
   world ← drawn_by head.origin (symbols (solid_from head.len (drop head.len text)))
   Ok (record { plane = world; rule_name = head.name; generation = head.origin.generation })
 
--- memory may be wanted: the file has no fault, or a comment before it places the pattern
+-- memory may be wanted: the file has no fault, or just cells out of range, and a comment that places them wants memory too
 abbrev pub MayWant : List ℕ → Type 0
-MayWant text = IsTrue (is_placed (lines text)) ⊎ IsOk (pattern_of text)
+MayWant text = IsOk (pattern_of text) ⊎ (IsTrue (is_placed (lines text)) × (pattern_of text ≡ Err CellOutOfRange))
+
+-- a fault that a body has wherever its pattern lies; `NoMemory` stands for none
+abbrev pub IsFaultAnywhere : RleFault → List Symbol → Type 0
+IsFaultAnywhere fault ss = (origin : Origin) → fault ≢ NoMemory → drawn_by origin ss ≡ Err fault
+
+-- a body that has no fault, or just cells out of range, wherever its pattern lies
+abbrev pub HasNoFaultAnywhere : List Symbol → Type 0
+HasNoFaultAnywhere ss = (origin : Origin) → IsOk (drawn_by origin ss) ⊎ (drawn_by origin ss ≡ Err CellOutOfRange)
+
+-- the fault of a body, if its place has no part in it, and else `NoMemory`
+abbrev pub unplaced : RleFault → RleFault
+unplaced (BadRun offset) = BadRun offset
+unplaced TooManyLive = TooManyLive
+unplaced _ = NoMemory

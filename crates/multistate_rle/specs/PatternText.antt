@@ -1,8 +1,8 @@
 -- The text of a pattern in run-length encoding.
 use Rattle.std.specs.Prelude.{ℕ, ◌-◌, nat_le, if◌then◌else◌, List, [], ◌∷◌, ◌++◌, length, map, codes, decimal}
 use Rattle.std.specs.Fmt.{signed_decimal}
-use Rattle.plane_core.specs.World.{World}
-use Rattle.plane_core.specs.Live.{live}
+use Rattle.worlds.specs.World.{World}
+use Rattle.worlds.specs.Live.{live}
 use Rattle.multistate_rle.specs.declared.frame.Frame.{Frame}
 use Rattle.multistate_rle.specs.Frame.{box_of, frame_of}
 use Rattle.multistate_rle.specs.Token.{tokens, token_text}

@@ -1,6 +1,6 @@
 -- The tokens of a body: which ones a pattern has, and how each is written.
 use Rattle.std.specs.Prelude.{ℕ, zero, suc, ◌+◌, ◌/◌, ◌%◌, ◌==◌, if◌then◌else◌, List, [], ◌∷◌, ◌++◌, ℤ, pos, ◌+ℤ◌, ◌-ℤ◌, codes, decimal, unsigned_abs}
-use Rattle.plane_core.specs.World.{Place}
+use Rattle.worlds.specs.World.{Place}
 use Rattle.multistate_rle.specs.declared.token.Token.{Token}
 use Rattle.multistate_rle.specs.declared.token.Token.TheVariants.{Run, RowEnds, End}
 

@@ -1,6 +1,6 @@
 -- Texts that are being written: what they come to, once the rest is written too.
 use Rattle.std.specs.Prelude.{ℕ, ◌++◌, List, ℤ, map}
-use Rattle.plane_core.specs.World.{Place}
+use Rattle.worlds.specs.World.{Place}
 use Rattle.multistate_rle.specs.declared.token.Token.{Token}
 use Rattle.multistate_rle.specs.declared.body.Body.{Body}
 use Rattle.multistate_rle.specs.declared.open_run.OpenRun.{OpenRun}

@@ -1,7 +1,7 @@
 //! The body of a pattern's text, as far as it is written.
 ghost use Rattle.std.specs.Prelude.{◌≡◌, ◌∷◌, [], ◌++◌, ◌+◌, ◌<◌, ◌≤◌, ◌^◌, ℕ, List, All, map, IfOk, OnOk, length};
-ghost use Rattle.plane_core.specs.World.{Place};
-ghost use Rattle.plane_core.specs.Live.{of_cell, place_of};
+ghost use Rattle.worlds.specs.World.{Place};
+ghost use Rattle.worlds.specs.Live.{of_cell, place_of};
 ghost use Rattle.multistate_rle.specs.declared.token.Token.{Token};
 ghost use Rattle.multistate_rle.specs.declared.token.Token.TheVariants.{End};
 ghost use Rattle.multistate_rle.specs.Token.{way, tokens, zeros};
@@ -41,7 +41,8 @@ impl Body {
 
     // Writes a token, on the present line if it fits whole, else on the next.
     fn push(&mut self, token: Token) -> Result<(), AllocError>
-        ensures { OnOk result ((ts : List Token) → finished self.new ts ≡ finished self.old (token ∷ ts)) }
+        ensures { OnOk result
+            ((ts : List Token) → finished self.new ts ≡ finished self.old (token ∷ ts)) }
     {
         let start = self.text.len();
         push_token(&mut self.text, token, self.states)?;
@@ -56,7 +57,8 @@ impl Body {
 
     // Writes so many cells of state 0.
     fn push_zeros(&mut self, count: u64) -> Result<(), AllocError>
-        ensures { OnOk result ((ts : List Token) → finished self.new ts ≡ finished self.old (zeros count ++ ts)) }
+        ensures { OnOk result
+            ((ts : List Token) → finished self.new ts ≡ finished self.old (zeros count ++ ts)) }
     {
         if count == 0 {
             return Ok(());
@@ -66,7 +68,8 @@ impl Body {
 
     // Writes what leads from the place (x, y) to the cell.
     fn push_way(&mut self, left: i64, x: i64, y: i64, cell: &Cell) -> Result<(), AllocError>
-        ensures { OnOk result ((ts : List Token) → finished self.new ts ≡ finished self.old (way left (y, x) (place_of cell.now) ++ ts)) }
+        ensures { OnOk result ((ts : List Token) →
+            finished self.new ts ≡ finished self.old (way left (y, x) (place_of cell.now) ++ ts)) }
     {
         let count = cell.y.abs_diff(y);
         if count == 0 {
@@ -79,7 +82,9 @@ impl Body {
     // Goes on with the cell: the open run, which is written where it doesn't hold the cell.
     fn advance(&mut self, left: i64, run: OpenRun, cell: &Cell) -> Result<OpenRun, AllocError>
         requires { (run.count + 1 < 2 ^ 64) × IsListed cell.now }
-        ensures written { IfOk result (λ next. (cells : List (Place × ℕ)) → finished self.new (tokens_on left next cells) ≡ finished self.old (tokens_on left run (of_cell cell.now ∷ cells))) }
+        ensures written { IfOk result (λ next. (cells : List (Place × ℕ)) →
+            finished self.new (tokens_on left next cells)
+            ≡ finished self.old (tokens_on left run (of_cell cell.now ∷ cells))) }
         ensures count { IfOk result (λ next. next.count ≤ run.count + 1) }
     {
         if run.goes_on_with(cell) {
@@ -94,7 +99,8 @@ impl Body {
     fn push_rest(&mut self, left: i64, mut run: OpenRun, cells: &[Cell]) -> Result<(), AllocError>
         requires few { run.count + length cells.now < 2 ^ 64 }
         requires listed { All IsListed cells.now }
-        ensures { OnOk result (finished self.new [] ≡ finished self.old (tokens_on left run (map of_cell cells.now))) }
+        ensures { OnOk result
+            (finished self.new [] ≡ finished self.old (tokens_on left run (map of_cell cells.now))) }
     {
         for cell in cells {
             run = self.advance(left, run, cell)?;
@@ -107,7 +113,8 @@ impl Body {
     /// row by row, and the frame is theirs.
     pub(crate) fn push_cells(&mut self, frame: &Frame, cells: &[Cell]) -> Result<(), AllocError>
         requires { All IsListed cells.now }
-        ensures { OnOk result (finished self.new [] ≡ finished self.old (tokens frame.now.left (frame.now.top, frame.now.left) (map of_cell cells.now))) }
+        ensures { OnOk result (finished self.new [] ≡ finished self.old
+            (tokens frame.now.left (frame.now.top, frame.now.left) (map of_cell cells.now))) }
     {
         let Some((first, rest)) = cells.split_first() else {
             return self.push(Token::End);

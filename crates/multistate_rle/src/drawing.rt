@@ -1,7 +1,7 @@
 //! Drawing a pattern, run by run.
 ghost use Rattle.std.specs.Prelude.{◌≡◌, ◌+◌, ◌<◌, ◌≤◌, ◌++◌, ◌&&◌, ◌^◌, All, IsTrue, OnOk, Err, pos, ◌+ℤ◌, ◌≤ℤ◌};
 ghost use Rattle.basics.specs.Results.{Gives};
-ghost use Rattle.plane_core.specs.Range.{CanBeLaid};
+ghost use Rattle.worlds.specs.Range.{CanBeLaid};
 ghost use Rattle.multistate_rle.specs.Pattern.{cells_of, is_in_range, lies_inside};
 ghost use Rattle.multistate_rle.specs.Drawing.{IsLike, WantsAlone, after_cells, after_rows, given_up, side_by_side, strip_at, undrawn, with_strip, world_drawn};
 
@@ -35,7 +35,7 @@ pub struct Drawing {
 
 impl Model for Drawing {
     ghost use Rattle.std.specs.Prelude.{All};
-    ghost use Rattle.plane_core.specs.Range.{CanBeLaid};
+    ghost use Rattle.worlds.specs.Range.{CanBeLaid};
     ghost use Rattle.multistate_rle.specs.Drawing.{Drawn};
 
     ghost Value = { Drawn };

@@ -1,7 +1,7 @@
 //! Where a pattern lies.
 ghost use Rattle.std.specs.Prelude.{◌≡◌};
-ghost use Rattle.plane_core.specs.Live.{live};
-ghost use Rattle.plane_core.specs.Range.{HasMargin};
+ghost use Rattle.worlds.specs.Live.{live};
+ghost use Rattle.worlds.specs.Range.{HasMargin};
 ghost use Rattle.multistate_rle.specs.Frame.{frame_of, box_of};
 
 use plane_core::Plane;

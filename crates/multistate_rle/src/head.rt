@@ -1,35 +1,35 @@
-//! What stands before the body of a pattern file: comments, and the header line.
-ghost use Rattle.std.specs.Prelude.{◌≡◌, ◌≤◌, Err, IfOk, IsTrue, length};
+//! Reading what stands before the body of a pattern file: comments, and the header line.
+ghost use Rattle.std.specs.Prelude.{◌≡◌, ◌≢◌, ◌≤◌, Err, IfOk, IsTrue, None, length};
 ghost use Rattle.text_lines.specs.Lines.{lines};
-ghost use Rattle.basics.specs.Results.{GivesBy};
 ghost use Rattle.multistate_rle.specs.Comments.{plain_origin};
-ghost use Rattle.multistate_rle.specs.Head.{head_from, is_passed, is_placed};
+ghost use Rattle.multistate_rle.specs.Head.{ReadsHead, head_from, is_passed, is_placed};
 
 use crate::comment::{Origin, after_comment, plain_origin};
 use crate::cut::begins_with;
 use crate::fault::RleFault;
-use crate::header::rule_name;
+use crate::header_line::rule_name;
 use crate::line::first_line;
 use std::alloc::Global;
 
 /// What stands before the body: where the pattern lies and which generation it is, the rule's
-/// name, and the length of all this in bytes.
+/// name, and the length of all this in bytes. The origin is None where a comment that gives it
+/// found no memory.
 #[derive(Clone, Copy, Debug)]
 pub struct Head<'a> {
-    pub origin: Origin,
+    pub origin: Option<Origin>,
     pub name: &'a [u8],
     pub len: usize,
 }
 
 /// Reads comments and blank lines, and then the header.
 pub fn read_head(alloc: Global, text: &[u8]) -> Result<Head<'_>, RleFault>
-    ensures head { GivesBy RleFault.NoMemory
-        (λ head. record { origin = head.origin; name = head.name.now; len = head.len })
-        result (head_from plain_origin 0 (lines text.now)) }
+    ensures head { ReadsHead result (head_from plain_origin 0 (lines text.now)) }
     ensures within { IfOk result (λ head. head.len ≤ length text.now) }
-    ensures no_memory { result ≡ Err RleFault.NoMemory → IsTrue (is_placed (lines text.now)) }
+    ensures wanted { IfOk result
+        (λ head. head.origin ≡ None → IsTrue (is_placed (lines text.now))) }
+    ensures fault { result ≢ Err RleFault.NoMemory }
 {
-    let mut origin = plain_origin();
+    let mut origin = Some(plain_origin());
     let mut len = 0;
     while len < text.len() {
         let line = first_line(&text[len..]);
@@ -38,7 +38,9 @@ pub fn read_head(alloc: Global, text: &[u8]) -> Result<Head<'_>, RleFault>
             let name = rule_name(line.says)?;
             return Ok(Head { origin, name, len });
         }
-        origin = after_comment(alloc, origin, line.says)?;
+        if let Some(known) = origin {
+            origin = after_comment(alloc, known, line.says).ok();
+        }
     }
     Err(RleFault::NoHeader)
 }

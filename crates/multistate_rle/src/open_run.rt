@@ -35,7 +35,8 @@ impl OpenRun {
 
     /// Whether the run goes on with the cell.
     pub(crate) fn goes_on_with(&self, cell: &Cell) -> bool
-        ensures { IsTrue result ↔ ((self.now.y ≡ cell.now.y) × (self.now.next ≡ cell.now.x) × (self.now.state ≡ cell.now.state)) }
+        ensures { IsTrue result ↔ ((self.now.y ≡ cell.now.y)
+            × (self.now.next ≡ cell.now.x) × (self.now.state ≡ cell.now.state)) }
     {
         self.y == cell.y && self.next == cell.x && self.state == cell.state
     }

@@ -1,9 +1,9 @@
 //! Reading a pattern file.
 ghost use Rattle.std.specs.Prelude.{◌≡◌, Err, IsOk};
 ghost use Rattle.basics.specs.Results.{Gives};
-ghost use Rattle.multistate_rle.specs.Pattern.{MayWant, drawn_by, pattern_of};
+ghost use Rattle.multistate_rle.specs.Pattern.{HasNoFaultAnywhere, IsFaultAnywhere, MayWant, drawn_by, pattern_of, unplaced};
 
-use crate::comment::Origin;
+use crate::comment::{Origin, plain_origin};
 use crate::drawing::Drawing;
 use crate::fault::RleFault;
 use crate::head::read_head;
@@ -20,20 +20,47 @@ use std::alloc::Global;
 /// the name has a colon. A byte of the body that is no item is refused by BadRun, more than
 /// 16,777,216 live cells by TooManyLive, and a cell outside `-2^61 <= x, y < 2^61` by
 /// CellOutOfRange, in this order. NoMemory comes only where memory was wanted, and last: a fault of
-/// the file is the answer where it has one, unless a `#CXRLE` comment before it found no memory.
+/// the file is the answer where it has one. A `#CXRLE` comment that found no memory leaves open
+/// whether cells are out of range, and nothing else.
 pub fn read_rle(alloc: Global, text: &[u8]) -> Result<Loaded, RleFault>
     ensures pattern { Gives RleFault.NoMemory result (pattern_of text.now) }
     ensures no_memory { result ≡ Err RleFault.NoMemory → MayWant text.now }
 {
     let head = read_head(alloc, text)?;
-    let plane = read_body(alloc, head.origin, Symbols::new(text, head.len))?;
+    let symbols = Symbols::new(text, head.len);
+    let Some(origin) = head.origin else {
+        return Err(fault_anywhere(alloc, symbols));
+    };
+    let plane = read_body(alloc, origin, symbols)?;
     let mut name = Vec::new(alloc);
     name.extend_from_slice(head.name)?;
     Ok(Loaded {
         plane,
         rule_name: Listing::from_vec(name),
-        generation: head.origin.generation,
+        generation: origin.generation,
     })
+}
+
+// The fault that a body has wherever its pattern lies. NoMemory where it has none, since memory
+// was wanted to learn where it lies.
+fn fault_anywhere(alloc: Global, symbols: Symbols) -> RleFault
+    ensures fault { IsFaultAnywhere result symbols.entry }
+    ensures no_memory { result ≡ RleFault.NoMemory → HasNoFaultAnywhere symbols.entry }
+{
+    if let Err(fault) = read_body(alloc, plain_origin(), symbols) {
+        return unplaced(fault);
+    }
+    RleFault::NoMemory
+}
+
+// The fault of a body, if its place has no part in it, and else NoMemory.
+fn unplaced(fault: RleFault) -> RleFault
+    ensures { result ≡ unplaced fault }
+{
+    match fault {
+        RleFault::BadRun(_) | RleFault::TooManyLive => fault,
+        _ => RleFault::NoMemory,
+    }
 }
 
 // The plane that the symbols of a body draw.

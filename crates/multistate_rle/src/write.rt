@@ -1,12 +1,12 @@
 //! Writing a pattern.
 ghost use Rattle.std.specs.Prelude.{◌≡◌, ◌≤◌, IfOk};
-ghost use Rattle.plane_core.specs.Live.{population};
-ghost use Rattle.plane_core.specs.Range.{AllBelow};
+ghost use Rattle.worlds.specs.Live.{population};
+ghost use Rattle.worlds.specs.Range.{AllBelow};
 ghost use Rattle.multistate_rle.specs.PatternText.{rle_text};
 
 use crate::body::Body;
 use crate::frame::Frame;
-use crate::opening::header;
+use crate::written_head::write_head;
 use plane_core::Plane;
 use std::alloc::{AllocError, Global};
 
@@ -24,7 +24,7 @@ pub fn write_rle(
     generation: u64,
     states: u16,
 ) -> Result<Vec<u8>, AllocError>
-    requires few { population plane.now ≤ 1_000_000 }
+    requires few { population plane.now ≤ MOST_WRITTEN }
     requires below { AllBelow states plane.now }
     ensures { IfOk result (λ text. text.items ≡ rle_text plane.now name.now generation states) }
 {
@@ -32,7 +32,7 @@ pub fn write_rle(
         unreachable!();
     };
     let frame = Frame::around(plane);
-    let mut body = Body::behind(header(alloc, &frame, name, generation)?, states);
+    let mut body = Body::behind(write_head(alloc, &frame, name, generation)?, states);
     body.push_cells(&frame, &cells)?;
     body.close()
 }

@@ -1,10 +1,7 @@
-mod engine;
-mod faults;
 mod patterns;
-mod rules;
 
 ghost use Rattle.std.specs.Prelude.{◌<◌, All, IsTrue};
-ghost use Rattle.plane_core.specs.Range.{AllBelow, CanBeLaid};
+ghost use Rattle.worlds.specs.Range.{AllBelow, CanBeLaid};
 
 use plane_core::{Cell, CellSet, Plane};
 use std::alloc::Global;

@@ -8,10 +8,15 @@
 #![tactic(auto)]
 
 mod fault;
+mod laws;
 mod numbered_lines;
 mod sections;
 mod text;
 
 pub use fault::RuleFault;
+pub use laws::{
+    blanks_do_not_matter, comments_do_not_matter, line_ends_do_not_matter, lines_say_all,
+    remarks_do_not_matter,
+};
 pub use sections::cut;
 pub use text::{RuleLine, RuleText, SectionKind};

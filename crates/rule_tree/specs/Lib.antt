@@ -1,3 +1,4 @@
+pub mod Laws
 pub mod NamedRule
 pub mod Rule
 pub mod RuleLaws

@@ -1,5 +1,5 @@
 -- The rule that a file means, and the next state of a cell under a rule.
-use Rattle.std.specs.Prelude.{◌≡◌, ℕ, ◌<◌, List, codes, length, slice_index, Option, None, Some, Result, Ok}
+use Rattle.std.specs.Prelude.{◌≡◌, ℕ, ◌<◌, Bool, true, if◌then◌else◌, List, codes, length, slice_index, Option, None, Some, Result, Ok}
 use Rattle.std.proofs.Common.{refl}
 use Rattle.rule_file.specs.declared.fault.RuleFault.{RuleFault}
 use Rattle.rule_file.specs.declared.text.SectionKind.{SectionKind}
@@ -33,13 +33,14 @@ abbrev pub plain_next : Kind → List ℕ → ℕ
 plain_next (Table t) around = table.next t around
 plain_next (Tree t) around = tree_rule.next t around
 
--- the same; of a table or tree that no file has it is 0
-abbrev pub next_under_kind : Kind → List ℕ → ℕ
-next_under_kind (Table t) around = table_rule.next_under t around
-next_under_kind (Tree t) around = tree_rule.next_under t around
+-- a table or a tree that a file may have
+abbrev pub is_sound : Kind → Bool
+is_sound (Table t) = table_rule.is_sound t
+is_sound (Tree t) = tree_rule.is_sound t
 
+-- the next state of a cell under a rule. A rule's laws, that nine zeros give 0 and that the answer is a state, are asked of all values of this type, also of those that aren't sound: there it is 0. The rule that a file means is sound, so that this is `plain_next` (`RulesOfFilesArePlain`)
 abbrev pub next_of : NamedRule → List ℕ → ℕ
-next_of rule around = next_under_kind rule.kind around
+next_of rule around = if is_sound rule.kind then plain_next rule.kind around else 0
 
 -- the table or the tree that a section says, or its one fault
 abbrev pub kind_by : SectionKind → Section → Result Kind RuleFault
@@ -72,7 +73,7 @@ IsTranslated (Tree t) translation = translation ≡ None
 IsTranslated (Table t) translation = IsAsked (Table t) translation
 
 pub record IsKeptRule (kind : Kind) (translation : Option tree_rule.Tree) : Type 0 where
-  pub plain : (around : List ℕ) → next_under_kind kind around ≡ plain_next kind around
+  pub sound : is_sound kind ≡ true
   pub translated : IsTranslated kind translation
 
 -- the rule `still`, under which each cell keeps its state

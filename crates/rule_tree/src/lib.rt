@@ -6,8 +6,10 @@
 //! then the tree is asked.
 #![tactic(auto)]
 
+mod laws;
 mod rule;
 
 pub use decision_tree::{Neighbors, TreeRule, read_tree};
+pub use laws::rules_of_files_are_plain;
 pub use rule::Rule;
 pub use tree_translation::{TreeFault, from_table, trees_have_the_nodes_needed};

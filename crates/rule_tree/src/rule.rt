@@ -1,8 +1,10 @@
 //! Rules as files have them.
-ghost use Rattle.std.specs.Prelude.{◌≡◌, ◌<◌, ℕ, List, All, IfOk};
+ghost use Rattle.std.specs.Prelude.{◌≡◌, ◌<◌, All, Err, IfOk, IsOk};
 ghost use Rattle.std.specs.Option.{option_map};
-ghost use Rattle.rule_file.specs.Results.{Gives};
-ghost use Rattle.rule_tree.specs.Rule.{IsAsked, IsTranslated, kind_of, name_of, next_of, next_under_kind, plain_next, rule_of, states_of, still};
+ghost use Rattle.rule_file.specs.Results.{Gives, GivesBy};
+ghost use Rattle.rule_file.specs.RuleFile.{file_of};
+ghost use Rattle.rule_tree.specs.Rule.{IsAsked, IsKeptRule, kind_of, name_of, next_of, plain_next, rule_of, states_of, still};
+ghost use Rattle.table_symmetry.specs.Rows.{AreExpanded};
 
 use basics::Listing;
 use decision_tree::{TreeRule, read_tree};
@@ -10,8 +12,8 @@ use plane_core::{Around, Next};
 use rule_file::{RuleFault, RuleText, SectionKind, cut};
 use std::alloc::{AllocError, Global};
 use std::marker::Model;
-use table_symmetry::{TableRule, read_table};
-use tree_translation::{TreeFault, from_table};
+use table_symmetry::{Expanded, TableRule, read_expanded};
+use tree_translation::{TreeFault, from_rows};
 
 /// What says what a rule does.
 #[derive(Debug, Drop)]
@@ -48,15 +50,14 @@ impl Rule {
     /// or tree says what the rule does.
     ///
     /// A file that means no rule is refused by the one fault that it has. NoMemory comes only
-    /// where memory was wanted.
+    /// where memory was wanted, and never where the file has no name or neither a table nor a tree.
     pub fn read(alloc: Global, text: &[u8]) -> Result<Rule, RuleFault>
         ensures rule { Gives result (rule_of text.now) }
-        ensures straight { IfOk result
-            (λ rule. (around : List ℕ) → next_of rule around ≡ plain_next rule.kind around) }
+        ensures plain { IfOk result (λ rule. next_of rule ≡ plain_next rule.kind) }
+        ensures no_memory { result ≡ Err RuleFault.NoMemory → IsOk (file_of text.now) }
     {
         let file = cut(alloc, text)?;
-        let kind = read_kind(alloc, &file)?;
-        let translation = translated(alloc, &kind)?;
+        let (kind, translation) = read_kind(alloc, &file)?;
         let name = Listing::from_vec(file.name().to_vec(alloc)?);
         Ok(Rule {
             name,
@@ -70,11 +71,12 @@ impl Rule {
         ensures { IfOk result (λ rule. rule ≡ still) }
     {
         let name = Listing::from_vec(b"still".to_vec(alloc)?);
-        let kind = Kind::Table(TableRule::still(alloc));
-        let translation = translated(alloc, &kind)?;
+        let table = TableRule::still(alloc);
+        let rows = table.expand()?;
+        let translation = translated(alloc, &table, &rows)?;
         Ok(Rule {
             name,
-            kind,
+            kind: Kind::Table(table),
             translation,
         })
     }
@@ -98,29 +100,34 @@ impl Rule {
     }
 }
 
-// The table or the tree that a section says.
-fn read_kind(alloc: Global, file: &RuleText) -> Result<Kind, RuleFault>
-    ensures kind { Gives result (kind_of file.now.section) }
-    ensures straight { IfOk result
-        (λ kind. (around : List ℕ) → next_under_kind kind around ≡ plain_next kind around) }
+// The table or the tree that a section says, and the tree to which a table is translated.
+fn read_kind(alloc: Global, file: &RuleText) -> Result<(Kind, Option<TreeRule>), RuleFault>
+    ensures kind { GivesBy (λ found. found.0) result (kind_of file.now.section) }
+    ensures kept { IfOk result (λ found. IsKeptRule found.0 found.1) }
 {
     match file.kind() {
-        SectionKind::Table => Ok(Kind::Table(read_table(alloc, file)?)),
-        SectionKind::Tree => Ok(Kind::Tree(read_tree(alloc, file)?)),
+        SectionKind::Table => {
+            let (table, rows) = read_expanded(alloc, file)?;
+            let translation = translated(alloc, &table, &rows)?;
+            Ok((Kind::Table(table), translation))
+        }
+        SectionKind::Tree => Ok((Kind::Tree(read_tree(alloc, file)?), None)),
     }
 }
 
-// The tree of a table, unless it is too large.
-fn translated(alloc: Global, kind: &Kind) -> Result<Option<TreeRule>, AllocError>
-    ensures { IfOk result (λ tree. IsTranslated kind.now tree) }
+// The tree of a table that expands to these rows, unless it is too large.
+fn translated(
+    alloc: Global,
+    table: &TableRule,
+    rows: &[Expanded],
+) -> Result<Option<TreeRule>, AllocError>
+    requires { AreExpanded table.now rows.now }
+    ensures { IfOk result (λ tree. IsAsked (Kind.Table table.now) tree) }
 {
-    match kind {
-        Kind::Tree(_) => Ok(None),
-        Kind::Table(table) => match from_table(alloc, table) {
-            Ok(tree) => Ok(Some(tree)),
-            Err(TreeFault::TreeTooLarge) => Ok(None),
-            Err(TreeFault::NoMemory) => Err(AllocError),
-        },
+    match from_rows(alloc, table, rows) {
+        Ok(tree) => Ok(Some(tree)),
+        Err(TreeFault::TreeTooLarge) => Ok(None),
+        Err(TreeFault::NoMemory) => Err(AllocError),
     }
 }
 

@@ -5,11 +5,11 @@ use Rattle.std.specs.List.{AllByRecursion, list_all}
 use Rattle.std.proofs.lemmas.Int.{ints}
 use Rattle.std.proofs.lemmas.Bool.{and_parts}
 use Rattle.std.proofs.lemmas.Bool.Decides.{nat_tests}
-use Rattle.plane_core.specs.World.{World, Place, cell, blank, entries-blank}
-use Rattle.plane_core.specs.Live.{live, live-states, live-entries, as_live, cell-state_at, by_place}
-use Rattle.plane_core.specs.Range.{IsInside, HasMargin, AllBelow, IsGreatest, IsInBox, IsBoundingBox}
-use Rattle.plane_core.specs.declared.cell.Bounds.{Bounds}
-use Rattle.plane_core.specs.declared.cell.CellSet.{CellSet}
+use Rattle.worlds.specs.World.{World, Place, cell, blank, entries-blank}
+use Rattle.worlds.specs.Live.{live, live-states, live-entries, as_live, cell-state_at, by_place}
+use Rattle.worlds.specs.Range.{IsInside, HasMargin, AllBelow, IsGreatest, IsInBox, IsBoundingBox}
+use Rattle.worlds.specs.declared.cell.Bounds.{Bounds}
+use Rattle.worlds.specs.declared.cell.CellSet.{CellSet}
 use Rattle.schedule.specs.Change.{is_in_range, may_be_named, stay_in_range, set_below, lies_near, lies_below}
 use Rattle.schedule.specs.Near.{box_near}
 use Rattle.schedule.specs.Sound.{AreNamed, SetBelow}

@@ -4,9 +4,9 @@ use Rattle.std.specs.Prelude.{if◌then◌else◌}
 use Rattle.std.specs.Prelude.{All}
 use Rattle.std.specs.List.{AllByRecursion}
 use Rattle.std.proofs.lemmas.List.Elements.{All-from_recursion}
-use Rattle.plane_core.specs.Range.{HasMargin, AllBelow, CanBeLaid}
-use Rattle.plane_core.specs.declared.cell.CellSet.{CellSet}
-use Rattle.plane_core.proofs.Keeps.{HasMargin-arrive, AllBelow-arrive, HasMargin-lay, AllBelow-lay, IsInside-less, AreInside-less}
+use Rattle.worlds.specs.Range.{HasMargin, AllBelow, CanBeLaid}
+use Rattle.worlds.specs.declared.cell.CellSet.{CellSet}
+use Rattle.worlds.proofs.Keeps.{HasMargin-arrive, AllBelow-arrive, HasMargin-lay, AllBelow-lay, IsInside-less, AreInside-less}
 use Rattle.rule_tree.specs.Rule.{states_of, next_of}
 use Rattle.rule_tree.specs.RuleLaws.{next_of-quiet, next_of-below}
 use Rattle.schedule.specs.declared.document.Intervention.{Intervention}

@@ -5,11 +5,11 @@ use Rattle.std.specs.List.{AllByRecursion}
 use Rattle.std.specs.Prelude.{All}
 use Rattle.std.proofs.lemmas.Bool.{and_parts, not-false}
 use Rattle.std.proofs.lemmas.Bool.Decides.{nat_tests}
-use Rattle.plane_core.specs.World.{World, blank, cell-blank}
-use Rattle.plane_core.specs.Lay.{lay}
-use Rattle.plane_core.specs.Range.{HasMargin, AllBelow, CanBeLaid}
-use Rattle.plane_core.specs.declared.cell.CellSet.{CellSet}
-use Rattle.plane_core.proofs.Keeps.{HasMargin-lay, AllBelow-lay}
+use Rattle.worlds.specs.World.{World, blank, cell-blank}
+use Rattle.worlds.specs.Lay.{lay}
+use Rattle.worlds.specs.Range.{HasMargin, AllBelow, CanBeLaid}
+use Rattle.worlds.specs.declared.cell.CellSet.{CellSet}
+use Rattle.worlds.proofs.Keeps.{HasMargin-lay, AllBelow-lay}
 use Rattle.rule_tree.specs.declared.rule.Rule.{Rule}
 use Rattle.rule_tree.specs.Rule.{states_of, still, states_of-still}
 use Rattle.bookmarks.specs.declared.view.View.{View}

@@ -1,8 +1,8 @@
 -- An edit by what it says: the rule or the world itself, whoever shares it.
 use Rattle.std.specs.Prelude.{ℕ, List}
 use Rattle.std.specs.Arc.{arc_value}
-use Rattle.plane_core.specs.declared.cell.CellSet.{CellSet}
-use Rattle.plane_core.specs.World.{World}
+use Rattle.worlds.specs.declared.cell.CellSet.{CellSet}
+use Rattle.worlds.specs.World.{World}
 use Rattle.rule_tree.specs.declared.rule.Rule.{Rule}
 use Rattle.bookmarks.specs.declared.view.View.{View}
 use Rattle.schedule.specs.declared.edit.Edit.{Edit}

@@ -1,10 +1,10 @@
 -- What an edit makes of a document, and why it is refused.
 use Rattle.std.specs.Prelude.{◌≡◌, ℕ, ◌+◌, ◌-◌, ◌^◌, ◌&&◌, Bool, not, nat_lt, nat_le, int_le, int_lt, List, [], ◌∷◌, ◌++◌, length, ℤ, pos, neg_ℤ, Option, None, Some, Result, Ok, Err, MatchResult, if◌then◌else◌}
 use Rattle.std.specs.List.{list_all}
-use Rattle.plane_core.specs.declared.cell.CellSet.{CellSet}
-use Rattle.plane_core.specs.World.{World}
-use Rattle.plane_core.specs.Lay.{lay}
-use Rattle.plane_core.specs.Live.{live}
+use Rattle.worlds.specs.declared.cell.CellSet.{CellSet}
+use Rattle.worlds.specs.World.{World}
+use Rattle.worlds.specs.Lay.{lay}
+use Rattle.worlds.specs.Live.{live}
 use Rattle.rule_tree.specs.declared.rule.Rule.{Rule}
 use Rattle.rule_tree.specs.Rule.{states_of}
 use Rattle.schedule.specs.declared.document.Intervention.{Intervention}

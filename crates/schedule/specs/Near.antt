@@ -1,6 +1,6 @@
 -- Boxes that lie where edits may name cells.
 use Rattle.std.specs.Prelude.{◌^◌, pos, neg_ℤ, int_le, int_lt, Bool, ◌&&◌}
-use Rattle.plane_core.specs.declared.cell.Bounds.{Bounds}
+use Rattle.worlds.specs.declared.cell.Bounds.{Bounds}
 
 -- the edges of the box lie in -2^60 <= x, y < 2^60
 abbrev pub box_near : Bounds → Bool

@@ -1,6 +1,6 @@
 -- What a document says.
 use Rattle.std.specs.Prelude.{ℕ, List, []}
-use Rattle.plane_core.specs.World.{World, blank}
+use Rattle.worlds.specs.World.{World, blank}
 use Rattle.rule_tree.specs.declared.rule.Rule.{Rule}
 use Rattle.rule_tree.specs.Rule.{still}
 use Rattle.schedule.specs.declared.document.Intervention.{Intervention}

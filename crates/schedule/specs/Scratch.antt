@@ -1,8 +1,8 @@
 -- What a bookmark shows by definition: the pattern computed anew from the start, one generation after another.
 use Rattle.std.specs.Prelude.{ℕ, Bool, List, [], flat_map, if◌then◌else◌, ◌==◌}
-use Rattle.plane_core.specs.declared.cell.CellSet.{CellSet}
-use Rattle.plane_core.specs.World.{World}
-use Rattle.plane_core.specs.Arrival as history
+use Rattle.worlds.specs.declared.cell.CellSet.{CellSet}
+use Rattle.worlds.specs.World.{World}
+use Rattle.worlds.specs.Arrival as history
 use Rattle.rule_tree.specs.Rule.{name_of, states_of, next_of}
 use Rattle.bookmarks.specs.Text.{text_of}
 use Rattle.schedule.specs.declared.document.Intervention.{Intervention}

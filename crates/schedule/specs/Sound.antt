@@ -1,8 +1,8 @@
 -- What holds of every document.
 use Rattle.std.specs.Prelude.{ℕ, ◌<◌, ◌≤◌, ◌^◌, List, length}
 use Rattle.std.specs.List.{AllByRecursion}
-use Rattle.plane_core.specs.Range.{IsInside, HasMargin, AllBelow}
-use Rattle.plane_core.specs.declared.cell.CellSet.{CellSet}
+use Rattle.worlds.specs.Range.{IsInside, HasMargin, AllBelow}
+use Rattle.worlds.specs.declared.cell.CellSet.{CellSet}
 use Rattle.rule_tree.specs.Rule.{states_of}
 use Rattle.bookmarks.specs.Within.{IsWithin}
 use Rattle.schedule.specs.declared.document.Intervention.{Intervention}

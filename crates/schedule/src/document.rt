@@ -58,7 +58,7 @@ impl Intervention {
 
 impl Model for Document {
     ghost use Rattle.std.specs.Coded.{codes};
-    ghost use Rattle.plane_core.specs.World.{coded_world};
+    ghost use Rattle.worlds.specs.World.{coded_world};
     ghost use Rattle.schedule.specs.Plan.{Plan};
 
     ghost Value = { Plan };

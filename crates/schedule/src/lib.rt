@@ -19,9 +19,7 @@ pub use bookmarks::{View, render};
 pub use document::{Bookmark, Document, Intervention};
 pub use edit::{Edit, Edited};
 pub use fault::EditFault;
-pub use plane_core::{
-    Bounds, Cell, CellSet, EvolveFault, Evolved, Next, NoStop, Plane, Report, Stop, evolve_plain,
-    fits,
-};
+pub use plane_core::{Bounds, Cell, CellSet, Next, NoStop, Plane, Stop};
 pub use rule_file::RuleFault;
 pub use rule_tree::Rule;
+pub use step_engine::{EvolveFault, Evolved, Report, evolve_plain, fits};

@@ -1,6 +1,6 @@
 //! Worked edits, with what they answer.
 ghost use Rattle.std.specs.Prelude.{◌<◌, All, IsTrue};
-ghost use Rattle.plane_core.specs.Range.{CanBeLaid};
+ghost use Rattle.worlds.specs.Range.{CanBeLaid};
 
 use schedule::{
     Bookmark, CellSet, Document, Edit, EditFault, Edited, Listing, Next, Plane, Refusal, Rule, View,

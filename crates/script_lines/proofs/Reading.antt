@@ -6,7 +6,7 @@ use Rattle.text_lines.specs.Lines.{NoLineFeed, strip_carriage_return}
 use Rattle.script_lines.specs.KeptLine.{Took, Saw, waiting}
 use Rattle.script_lines.specs.Text.{Grows}
 use Rattle.script_lines.specs.declared.kept_line.KeptLine.{KeptLine}
-use Rattle.script_lines.proofs.Trims.{push_not_nil}
+use Rattle.basics.proofs.Lists.{push_not_nil}
 
 -- these bytes of the line were seen
 pub record IsReading (old new : Ahead) (before after : Option (List ℕ)) (line : KeptLine) (empty : Bool) : Type 0 where

@@ -1,10 +1,8 @@
 -- Trimming, a byte at a time.
 use Rattle.std.proofs.Common.{◌≡◌, ◌≢◌, ℕ, List, [], ◌∷◌, ◌++◌, length, take, Bool, true, false, cond, sym, ◌∙◌, ap, refl}
+use Rattle.basics.proofs.Lists.{push_not_nil}
+use Rattle.text_lines.proofs.Trims.{before_end-more, trim_end-push, trim_end-push_blank}
 use Rattle.text_lines.specs.Blanks.{is_blank, trim_start, before_end, trim_end, trim, StartsSolid, IsTrimmed}
-
-pub push_not_nil : (xs : List ℕ) (b : ℕ) → xs ++ b ∷ [] ≢ []
-push_not_nil [] b e = cc
-push_not_nil (x ∷ xs) b e = cc
 
 pub nil_front : (xs ys : List ℕ) → xs ++ ys ≡ [] → xs ≡ []
 nil_front [] ys e = refl
@@ -27,18 +25,6 @@ trim_start-push_blank (c ∷ cs) b e h = elim (is_blank c) as (λ v. cond v (tri
   | true ↦ λ k. trim_start-push_blank cs b k h
   | false ↦ λ k. absurd (cc)
 ] e
-
-pub before_end-more : (x : ℕ) (ys : List ℕ) → ys ≢ [] → before_end x ys ≡ x ∷ ys
-before_end-more x [] h = absurd (h refl)
-before_end-more x (y ∷ ys) h = refl
-
-pub trim_end-push_blank : (xs : List ℕ) (b : ℕ) → is_blank b ≡ true → trim_end (xs ++ b ∷ []) ≡ trim_end xs
-trim_end-push_blank [] b h = rw h refl
-trim_end-push_blank (x ∷ xs) b h = ap (before_end x) (trim_end-push_blank xs b h)
-
-pub trim_end-push : (xs : List ℕ) (b : ℕ) → is_blank b ≡ false → trim_end (xs ++ b ∷ []) ≡ xs ++ b ∷ []
-trim_end-push [] b h = rw h refl
-trim_end-push (x ∷ xs) b h = ap (before_end x) (trim_end-push xs b h) ∙ before_end-more x (xs ++ b ∷ []) (push_not_nil xs b)
 
 pub trim_end-push_some : (xs : List ℕ) (b : ℕ) → trim_end xs ≢ [] → trim_end (xs ++ b ∷ []) ≢ []
 trim_end-push_some xs b h e = by_blank (is_blank b) refl

@@ -33,6 +33,10 @@ pub record Holds (tail : Tail) (kept bytes : List ℕ) : Type 0 where
   pub split : bytes ≡ kept ++ more
   pub rest : IsRest tail kept more
 
+-- the line kept all of these bytes but the rest
+abbrev pub Kept : KeptLine → List ℕ → Type 0
+Kept line bytes = Holds line.tail line.kept.items bytes
+
 -- of these bytes, without the blanks at their front and with each run of spaces cut to one, all was kept but the rest
 pub record TookBy (tail : Tail) (kept : List ℕ) (gap : Bool) (bytes : List ℕ) : Type 0 where
   pub holds : Holds tail kept (squash false (trim_start bytes))

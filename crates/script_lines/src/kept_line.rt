@@ -54,7 +54,7 @@ pub struct KeptLine {
 }
 
 impl KeptLine {
-    ghost use Rattle.script_lines.specs.KeptLine.{Holds, Took, Saw, Says, TakesLine, raw_of};
+    ghost use Rattle.script_lines.specs.KeptLine.{Kept, Took, Saw, Says, TakesLine, raw_of};
     ghost use Rattle.script_lines.specs.ScriptLine.{is_passed_over, is_end};
 
     /// The empty line, with room for the lines whose words are fixed.
@@ -87,7 +87,8 @@ impl KeptLine {
     /// Bytes that have the words of the line, or None where memory was wanted: then the words with
     /// one space between each two are more than 64 bytes.
     pub fn words(&self) -> Option<&[u8]>
-        ensures { (says : List ℕ) → Says self.now says → MatchOption result (64 < length (squashed says)) (λ bytes. words bytes.now ≡ words says) }
+        ensures { (says : List ℕ) → Says self.now says → MatchOption result
+            (64 < length (squashed says)) (λ bytes. words bytes.now ≡ words says) }
     {
         if self.tail == Tail::Cut {
             None
@@ -109,7 +110,7 @@ impl KeptLine {
 
     // One more byte that is to be kept.
     fn add(&mut self, byte: u8)
-        ensures holds { (bytes : List ℕ) → Holds self.old.tail self.old.kept.items bytes → Holds self.new.tail self.new.kept.items (bytes ++ byte ∷ []) }
+        ensures holds { (bytes : List ℕ) → Kept self.old bytes → Kept self.new (bytes ++ byte ∷ []) }
         ensures gap { self.new.gap ≡ self.old.gap }
         ensures waits { self.new.waits ≡ self.old.waits }
     {

@@ -1,11 +1,11 @@
 -- The cells of squares: where a square is put on a world, and that squares with the same cells are equal.
-use Rattle.std.proofs.Common.{◌≡◌, ℕ, zero, suc, ◌+◌, ◌-◌, ◌<◌, ◌≤◌, ◌^◌, ◌⊎◌, Bool, true, false, cond, refl, sym, ap, ap₂, ◌∙◌, subst, arith, inl, inr, pow-suc, ℤ, pos, neg_ℤ, ◌+ℤ◌, ◌-ℤ◌, ◌≤ℤ◌, ◌<ℤ◌}
+use Rattle.std.proofs.Common.{◌≡◌, ℕ, zero, suc, ◌+◌, ◌-◌, ◌<◌, ◌≤◌, ◌^◌, ◌⊎◌, refl, sym, ap, ap₂, ◌∙◌, arith, inl, inr, pow-suc, ℤ, pos, ◌+ℤ◌, ◌-ℤ◌, ◌≤ℤ◌}
 use Rattle.std.specs.Prelude.{unsigned_abs}
-use Rattle.std.proofs.lemmas.Bool.{cases_lt, cases_Bool, cond-true, cond-false, lt-leb, le-leb, false_from_ne_true}
+use Rattle.std.proofs.lemmas.Bool.{cases_lt, cond-true, cond-false, lt-leb, le-leb, false_from_ne_true}
 use Rattle.std.proofs.lemmas.Int.{ints, by_lt_z}
-use Rattle.plane_core.specs.World.{World, Place, cell, put, blank, cell-put, cell-blank, same_place}
-use Rattle.plane_core.specs.Fill.{same_is, is_same}
-use Rattle.square_rows.specs.Square.{Square, one, four, empty_square, IsSquare, cell_in, put_square, IsIn}
+use Rattle.worlds.specs.World.{World, Place, cell, put, cell-put, same_place}
+use Rattle.worlds.specs.Fill.{same_is, is_same}
+use Rattle.worlds.specs.Square.{Square, one, four, empty_square, IsSquare, cell_in, put_square, IsIn}
 
 -- a side is twice that of the quadrants
 pub double : (k : ℕ) → 2 ^ suc k ≡ 2 ^ k + 2 ^ k
@@ -103,7 +103,7 @@ same_square (suc k) (four a b c d) (four e f g h) ht hu same =
     λ i. four (nw i) (ne i) (sw i) (se i)
 
 -- a quadrant lies in its square
-in_part : (n m : ℕ) (l t l' t' x y : ℤ) → m ≡ n + n → l ≤ℤ l' → l' ≤ℤ (l +ℤ pos n) → t ≤ℤ t' → t' ≤ℤ (t +ℤ pos n) → IsIn n l' t' x y → IsIn m l t x y
+pub in_part : (n m : ℕ) (l t l' t' x y : ℤ) → m ≡ n + n → l ≤ℤ l' → l' ≤ℤ (l +ℤ pos n) → t ≤ℤ t' → t' ≤ℤ (t +ℤ pos n) → IsIn n l' t' x y → IsIn m l t x y
 in_part n m l t l' t' x y twice a b c d h =
     let left = h.left in let right = h.right in let top = h.top in let bottom = h.bottom in
     record { left = omega (arith, ints); right = omega (arith, ints); top = omega (arith, ints); bottom = omega (arith, ints) }
@@ -118,12 +118,12 @@ in_or_out n l t x y =
     (λ k. inr (λ h. let g = h.bottom in absurd (omega (arith, ints))))))
     (λ k. inr (λ h. let g = h.right in absurd (omega (arith, ints)))))
 
-put_square-four : (k : ℕ) (nw ne sw se : Square) (l t : ℤ) (w : World)
+pub put_square-four : (k : ℕ) (nw ne sw se : Square) (l t : ℤ) (w : World)
     → put_square (suc k) (four nw ne sw se) l t w ≡ put_square k se (l +ℤ pos (2 ^ k)) (t +ℤ pos (2 ^ k)) (put_square k sw l (t +ℤ pos (2 ^ k)) (put_square k ne (l +ℤ pos (2 ^ k)) t (put_square k nw l t w)))
 unfolding put_square
 put_square-four k nw ne sw se l t w = refl
 
-put_square-one : (k s : ℕ) (l t : ℤ) (w : World) → put_square k (one s) l t w ≡ put w l t s
+pub put_square-one : (k s : ℕ) (l t : ℤ) (w : World) → put_square k (one s) l t w ≡ put w l t s
 unfolding put_square
 put_square-one k s l t w = refl
 

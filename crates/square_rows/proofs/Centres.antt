@@ -1,18 +1,17 @@
 -- The root in the middle of a root, by its rows.
-use Rattle.std.proofs.Common.{◌≡◌, ℕ, zero, suc, ◌+◌, ◌-◌, ◌<◌, ◌≤◌, ◌^◌, ◌⊎◌, ◌==◌, Bool, true, false, cond, ◌||◌, ◌&&◌, List, [], ◌∷◌, ◌++◌, length, get_or, Option, Some, None, refl, sym, ap, ap₂, ◌∙◌, subst, arith, inl, inr, lit<, pow_mono, ℤ, pos, neg_ℤ, ◌+ℤ◌, ◌≤ℤ◌, ◌<ℤ◌}
+use Rattle.std.proofs.Common.{◌≡◌, ℕ, zero, suc, ◌-◌, ◌<◌, ◌≤◌, ◌^◌, ◌==◌, Bool, true, false, cond, List, [], ◌∷◌, ◌++◌, length, get_or, Option, Some, None, refl, sym, ap, ◌∙◌, subst, arith, inl, inr, lit<, pow_mono}
 use Rattle.std.specs.Prelude.{IfNone}
-use Rattle.std.proofs.lemmas.Bool.{cases_lt, cases_eq, cases_Bool, and_parts, and_from, or_cases, or_left, or_right, eqb-true, eqb-false, eq-eqb, ne_eqb, cond-true, cond-false}
+use Rattle.std.proofs.lemmas.Bool.{cases_lt, cases_eq, and_parts, and_from, or_cases, or_left, or_right, eqb-true, eq-eqb, ne_eqb, cond-true, cond-false}
 use Rattle.std.proofs.lemmas.Int.{ints}
-use Rattle.std.proofs.lemmas.List.{length_push, get_or_push, get_or_append_left, nil_from_length}
-use Rattle.plane_core.specs.World.{World, cell, blank}
+use Rattle.std.proofs.lemmas.List.{length_push, get_or_push, nil_from_length}
+use Rattle.worlds.specs.World.{World}
 use Rattle.square_rows.specs.declared.row.SquareRow.{SquareRow}
-use Rattle.square_rows.specs.Square.{Square, one, four, empty_square, IsSquare, put_square, IsIn}
-use Rattle.square_rows.specs.Rows.{no_row, row_at, kid, IsNumber, IsRow, AreRows, square_in, root_level, root_of, edge_of, world_of_rows, Fits, IsLeastLevel}
+use Rattle.worlds.specs.Square.{Square, one, four, empty_square, IsSquare}
+use Rattle.square_rows.specs.Rows.{no_row, row_at, kid, IsNumber, AreRows, square_in, root_level, world_of_rows, Fits, IsLeastLevel}
 use Rattle.square_rows.specs.Walks.{Has, AreWalked}
 use Rattle.square_rows.specs.Centre.{cornered, centred, is_passed, is_alone, NoneEmpty, IsCorner, IsCentre}
 use Rattle.square_rows.proofs.Numbering.{Grows, Grows-more, Has-empty, Has-one}
-use Rattle.square_rows.proofs.Sound.{row_of, IsNumber-level, IsNumber-from, IsNumber-state, kid_number, square_in-none, square_in-state, square_in-row, square_in-grown, AreRows-push, row_kept}
-use Rattle.square_rows.proofs.Cells.{double, IsSquare-four}
+use Rattle.square_rows.proofs.Sound.{row_of, IsNumber-level, IsNumber-from, IsNumber-state, square_in-none, square_in-state, square_in-row, square_in-grown, AreRows-push, row_kept}
 use Rattle.square_rows.proofs.Roots.{rooted, root-IsSquare, root-Fits, root_level-none, root_level-some, root-side, square_in-IsSquare}
 use Rattle.square_rows.proofs.Tidy.{world-put}
 use Rattle.square_rows.proofs.Descents.{number-kid}

@@ -1,9 +1,9 @@
 -- A square whose live cells lie in its middle stands for the same world as the square in the middle.
-use Rattle.std.proofs.Common.{◌≡◌, ℕ, zero, suc, ◌+◌, ◌-◌, ◌<◌, ◌≤◌, ◌^◌, ◌⊎◌, refl, sym, ap, ap₂, ◌∙◌, subst, arith, inl, inr, ℤ, pos, neg_ℤ, ◌+ℤ◌, ◌≤ℤ◌, ◌<ℤ◌}
+use Rattle.std.proofs.Common.{◌≡◌, ℕ, suc, ◌+◌, ◌-◌, ◌<◌, ◌≤◌, ◌^◌, ◌⊎◌, refl, sym, ap, ap₂, ◌∙◌, subst, arith, inl, inr, ℤ, pos, neg_ℤ, ◌+ℤ◌}
 use Rattle.std.proofs.lemmas.Bool.{cases_lt}
 use Rattle.std.proofs.lemmas.Int.{ints}
-use Rattle.plane_core.specs.World.{World, cell, blank, cell-blank, same_world}
-use Rattle.square_rows.specs.Square.{Square, one, four, empty_square, IsSquare, cell_in, put_square, IsIn}
+use Rattle.worlds.specs.World.{World, cell, blank, cell-blank, same_world}
+use Rattle.worlds.specs.Square.{Square, one, four, empty_square, IsSquare, cell_in, put_square, IsIn}
 use Rattle.square_rows.specs.Rows.{Fits, edge_of}
 use Rattle.square_rows.specs.Centre.{cornered, centred}
 use Rattle.square_rows.proofs.Cells.{double, cell_in-nw, cell_in-ne, cell_in-sw, cell_in-se, cell_in-empty, IsSquare-empty, IsSquare-four, IsSquare-parts, same_square, in_or_out, offset, put_square-inside, put_square-outside}

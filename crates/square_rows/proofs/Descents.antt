@@ -1,8 +1,8 @@
 -- A step down from a square to the quadrant that holds a cell.
-use Rattle.std.proofs.Common.{◌≡◌, ℕ, zero, suc, ◌+◌, ◌-◌, ◌<◌, ◌≤◌, ◌^◌, Bool, true, false, cond, List, length, get_or, refl, sym, ap, ap₂, ◌∙◌, subst, arith, lit<}
+use Rattle.std.proofs.Common.{◌≡◌, ℕ, zero, suc, ◌-◌, ◌<◌, ◌≤◌, ◌^◌, Bool, true, false, cond, List, length, get_or, refl, sym, ap, ap₂, ◌∙◌, subst, arith, lit<}
 use Rattle.std.specs.Prelude.{nat_le}
 use Rattle.square_rows.specs.declared.row.SquareRow.{SquareRow}
-use Rattle.square_rows.specs.Square.{Square, one, four, cell_in, quadrant_at, within}
+use Rattle.worlds.specs.Square.{Square, cell_in, quadrant_at, within}
 use Rattle.square_rows.specs.Rows.{square_in, IsNumber, AreRows, kid, no_row, row_at}
 use Rattle.square_rows.proofs.Sound.{IsNumber-level, kid_number, square_in-row}
 

@@ -1,6 +1,10 @@
 pub mod Numbering
 pub mod Sound
 pub mod Cells
+pub mod Totals
+pub mod Overlays
+pub mod Measuring
+pub mod Counting
 pub mod Roots
 pub mod Descents
 pub mod Walking
@@ -8,3 +12,6 @@ pub mod Tidy
 pub mod Centring
 pub mod Centres
 pub mod Validity
+pub mod Adding
+pub mod Laying
+pub mod Gathering

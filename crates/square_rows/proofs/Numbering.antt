@@ -1,15 +1,15 @@
 -- What a walk does to the rows: it adds rows at the end, and a second walk of the same square adds none.
-use Rattle.std.proofs.Common.{◌≡◌, ℕ, zero, suc, ◌+◌, ◌-◌, ◌<◌, ◌≤◌, Bool, true, false, cond, not, ◌&&◌, ◌||◌, List, [], ◌∷◌, ◌++◌, length, take, drop, get_or, refl, sym, ap, ap₂, ◌∙◌, subst, arith, rules, inl, inr, append_assoc, length-append, eqb}
-use Rattle.std.proofs.lemmas.Bool.{cases_Bool, and_parts, and_from, true≢false, false≢true}
-use Rattle.std.proofs.lemmas.List.{append-nil, length_push, get_or_append_left, get_or_push}
-use Rattle.std.proofs.lemmas.List.Folds.{list_any-append, position_or_len_push, list_any_at}
-use Rattle.std.proofs.lemmas.Bool.{or_left, or_right}
+use Rattle.std.proofs.Common.{◌≡◌, ℕ, zero, suc, ◌+◌, ◌<◌, Bool, true, false, cond, not, ◌||◌, List, [], ◌∷◌, ◌++◌, length, refl, sym, ap, ◌∙◌, subst, arith, append_assoc, length-append, eqb}
+use Rattle.std.proofs.lemmas.Bool.{and_parts, and_from}
+use Rattle.std.proofs.lemmas.List.{append-nil, length_push, get_or_push}
+use Rattle.std.proofs.lemmas.List.Folds.{list_any-append, list_any_at}
+use Rattle.std.proofs.lemmas.Bool.{or_left}
 use Rattle.std.proofs.lemmas.Slice.Eq.{bytes_eq-Decides}
 use Rattle.std.proofs.lemmas.Bool.{eqb-true, eq-eqb}
 use Rattle.std.specs.List.{list_any, position_or_len}
 use Rattle.std.specs.Bool.{Decides}
 use Rattle.square_rows.specs.declared.row.SquareRow.{SquareRow}
-use Rattle.square_rows.specs.Square.{Square, one, four, empty_square}
+use Rattle.worlds.specs.Square.{Square, one, four, empty_square}
 use Rattle.square_rows.specs.Walks.{Has}
 use Rattle.square_rows.specs.Rows.{Numbered, numbered, number_row, number_square, same_row, same_kids}
 

@@ -1,11 +1,11 @@
 -- The root of rows, its world, and that a world has one list of rows.
-use Rattle.std.proofs.Common.{◌≡◌, ℕ, zero, suc, ◌+◌, ◌-◌, ◌<◌, ◌≤◌, ◌^◌, ◌⊎◌, List, [], ◌∷◌, length, get_or, refl, sym, ap, ap₂, ◌∙◌, subst, arith, inl, inr, lit<, pow_mono, ℤ, pos, neg_ℤ, ◌+ℤ◌, ◌-ℤ◌, ◌≤ℤ◌, ◌<ℤ◌}
+use Rattle.std.proofs.Common.{◌≡◌, ℕ, zero, suc, ◌+◌, ◌-◌, ◌<◌, ◌≤◌, ◌^◌, List, [], ◌∷◌, length, get_or, refl, sym, ap, ap₂, ◌∙◌, subst, arith, inl, inr, lit<, pow_mono, ℤ, pos, neg_ℤ, ◌+ℤ◌}
 use Rattle.std.proofs.lemmas.Int.{ints}
-use Rattle.plane_core.specs.World.{World, cell, blank, cell-blank, same_world}
-use Rattle.plane_core.specs.Range.{HasMargin}
+use Rattle.worlds.specs.World.{cell, blank, cell-blank, same_world}
+use Rattle.worlds.specs.Range.{HasMargin}
 use Rattle.square_rows.specs.declared.row.SquareRow.{SquareRow}
-use Rattle.square_rows.specs.Square.{Square, one, four, empty_square, IsSquare, cell_in, put_square, IsIn}
-use Rattle.square_rows.specs.Rows.{Numbered, number_square, no_row, row_at, kid, IsNumber, IsRow, AreRows, square_in, root_level, root_of, edge_of, world_of_rows, Fits, IsLeastLevel, AreCanonical, AreSquaresOf}
+use Rattle.worlds.specs.Square.{Square, IsSquare, cell_in, put_square, IsIn}
+use Rattle.square_rows.specs.Rows.{Numbered, number_square, no_row, row_at, kid, IsNumber, AreRows, square_in, root_level, root_of, edge_of, world_of_rows, Fits, AreCanonical}
 use Rattle.square_rows.proofs.Numbering.{Has-empty}
 use Rattle.square_rows.proofs.Sound.{kid_number, square_in-none, square_in-state, square_in-row, state-IsNumber, IsNumber-level, IsNumber-from, AreRows-none}
 use Rattle.square_rows.proofs.Cells.{IsSquare-one, IsSquare-empty, IsSquare-parts, cell_in-empty, same_square, put_square-inside, put_square-outside, in_or_out, offset, double}

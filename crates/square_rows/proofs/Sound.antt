@@ -1,15 +1,15 @@
 -- What the rows of a walk stand for: each number names the square that was walked, and each row is the one of its square.
-use Rattle.std.proofs.Common.{◌≡◌, ℕ, zero, suc, ◌+◌, ◌-◌, ◌<◌, ◌≤◌, Bool, true, false, cond, not, ◌||◌, List, [], ◌∷◌, ◌++◌, length, take, drop, get_or, refl, sym, ap, ap₂, ◌∙◌, subst, arith, inl, inr, length-append, add-one, lit<}
+use Rattle.std.proofs.Common.{◌≡◌, ℕ, zero, suc, ◌+◌, ◌-◌, ◌<◌, ◌≤◌, Bool, true, false, cond, not, ◌||◌, List, [], ◌∷◌, ◌++◌, length, take, drop, get_or, refl, sym, ap, ◌∙◌, subst, arith, inl, inr, length-append, lit<}
 use Rattle.std.proofs.lemmas.Bool.{cases_lt}
-use Rattle.std.proofs.lemmas.List.{append-nil, length_push, get_or_append_left, get_or_push, take-append-drop, take-append-le, take_at, get_or-take, length-take}
+use Rattle.std.proofs.lemmas.List.{length_push, get_or_append_left, get_or_push, take-append-drop, take-append-le, take_at}
 use Rattle.std.proofs.lemmas.List.Sums.{passes_at_first}
 use Rattle.std.proofs.lemmas.Slice.Eq.{bytes_eq-Decides}
 use Rattle.std.specs.List.{list_any, position_or_len}
 use Rattle.square_rows.specs.declared.row.SquareRow.{SquareRow}
-use Rattle.square_rows.specs.Square.{Square, one, four, empty_square, IsSquare}
+use Rattle.worlds.specs.Square.{Square, one, four, empty_square, IsSquare}
 use Rattle.square_rows.specs.Rows.{Numbered, numbered, number_row, number_square, same_row, same_kids, no_row, row_at, kid, IsNumber, IsRow, AreRows, square_in}
 use Rattle.square_rows.specs.Walks.{Has}
-use Rattle.square_rows.proofs.Numbering.{Grows, Grows-none, Grows-more, Grows-then, RowHas, Has-kept, Has-grown, Has-four, Has-empty, RowHas-again, number_row-is, number_row-grows, number_square-grows, same_row-is, not_found}
+use Rattle.square_rows.proofs.Numbering.{Grows, Grows-more, Grows-then, RowHas, Has-grown, Has-four, Has-empty, RowHas-again, number_row-is, number_square-grows, same_row-is, not_found}
 
 -- the row of a number of a level above 0
 pub IsNumber-level : (rows : List SquareRow) (k n : ℕ) → IsNumber rows (suc k) n → 0 < n → (n ≤ length rows) × ((row_at rows n).level ≡ suc k)

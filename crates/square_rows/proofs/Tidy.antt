@@ -1,19 +1,19 @@
 -- The rows that a walk gives have the walked square as their root.
-use Rattle.std.proofs.Common.{◌≡◌, ℕ, zero, suc, ◌+◌, ◌-◌, ◌<◌, ◌≤◌, ◌^◌, ◌⊎◌, Bool, true, false, List, [], ◌∷◌, ◌++◌, length, get_or, refl, sym, ap, ap₂, ◌∙◌, subst, arith, inl, inr}
+use Rattle.std.proofs.Common.{◌≡◌, ℕ, zero, suc, ◌+◌, ◌-◌, ◌<◌, ◌≤◌, ◌^◌, ◌⊎◌, Bool, true, false, List, [], ◌∷◌, ◌++◌, length, get_or, refl, sym, ap, ◌∙◌, subst, arith, inl, inr}
 use Rattle.std.proofs.lemmas.Bool.{cases_lt}
 use Rattle.std.proofs.lemmas.Int.{ints}
 use Rattle.std.proofs.lemmas.List.{length_push, get_or_append_left, get_or_push}
 use Rattle.std.specs.List.{list_any, position_or_len}
-use Rattle.std.specs.Prelude.{ℤ, pos, ◌+ℤ◌, ◌≤ℤ◌, ◌<ℤ◌, Result, Ok, Err, IfOk}
-use Rattle.plane_core.specs.World.{World, cell, blank, cell-blank, same_world}
+use Rattle.std.specs.Prelude.{Result, Ok, Err, IfOk}
+use Rattle.worlds.specs.World.{blank, cell-blank, same_world}
 use Rattle.square_rows.specs.declared.row.SquareRow.{SquareRow}
-use Rattle.square_rows.specs.Square.{Square, one, four, empty_square, IsSquare, cell_in, put_square, IsIn}
-use Rattle.square_rows.specs.Rows.{Numbered, numbered, number_row, number_square, same_row, same_kids, no_row, row_at, IsNumber, AreRows, square_in, root_level, root_of, edge_of, world_of_rows, IsLeastLevel, AreCanonical}
-use Rattle.square_rows.specs.Walks.{Has, AreWalked}
-use Rattle.square_rows.proofs.Numbering.{Has-empty, number_row-is, not_found}
-use Rattle.square_rows.proofs.Sound.{IsSound, EachHas, EachHas-none, AreRows-none, number_square-sound, IsNumber-level, square_in-none, found_within, found_at, row_of}
+use Rattle.worlds.specs.Square.{Square, one, four, empty_square, IsSquare, cell_in, put_square}
+use Rattle.square_rows.specs.Rows.{Numbered, numbered, number_row, number_square, same_row, no_row, row_at, AreRows, square_in, root_level, root_of, edge_of, world_of_rows, IsLeastLevel, AreCanonical}
+use Rattle.square_rows.specs.Walks.{AreWalked}
+use Rattle.square_rows.proofs.Numbering.{Has-empty, not_found}
+use Rattle.square_rows.proofs.Sound.{IsSound, EachHas-none, AreRows-none, number_square-sound, IsNumber-level, square_in-none, found_within, found_at, row_of}
 use Rattle.square_rows.proofs.Cells.{cell_in-empty, in_or_out, offset}
-use Rattle.square_rows.proofs.Roots.{rooted, root-IsSquare, root_level-none, root_level-some, world-root, world-inside, world-outside, canonical-none}
+use Rattle.square_rows.proofs.Roots.{rooted, root-IsSquare, root_level-some, world-root, world-inside, world-outside, canonical-none}
 
 -- no level is above m
 abbrev LevelsUpTo : ℕ → List SquareRow → Type 0

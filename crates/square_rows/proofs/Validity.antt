@@ -1,9 +1,8 @@
 -- Which rows may stand in a list.
-use Rattle.std.proofs.Common.{◌≡◌, ℕ, zero, suc, ◌+◌, ◌-◌, ◌<◌, ◌≤◌, List, length, take, get_or, refl, sym, ap, ◌∙◌, subst, arith, inl, inr}
-use Rattle.std.proofs.lemmas.Bool.{cases_lt}
+use Rattle.std.proofs.Common.{◌≡◌, ℕ, zero, suc, ◌-◌, ◌<◌, ◌≤◌, List, length, arith}
 use Rattle.square_rows.specs.declared.row.SquareRow.{SquareRow}
-use Rattle.square_rows.specs.Rows.{no_row, row_at, kid, IsNumber, IsRow, AreKidsOf, AreRows}
-use Rattle.square_rows.proofs.Sound.{IsNumber-level, IsNumber-from, IsNumber-state, state-IsNumber}
+use Rattle.square_rows.specs.Rows.{row_at, kid, IsNumber, AreKidsOf}
+use Rattle.square_rows.proofs.Sound.{IsNumber-level, IsNumber-from}
 
 -- a number of a level above 0, by its row
 pub number-listed : (rows : List SquareRow) (k n : ℕ) → 0 < k → 0 < n → IsNumber rows k n → (n ≤ length rows) × ((row_at rows n).level ≡ k)

@@ -1,11 +1,11 @@
 -- A walk over rows, step by step.
-use Rattle.std.proofs.Common.{◌≡◌, ℕ, zero, suc, ◌+◌, ◌-◌, ◌<◌, ◌≤◌, List, [], ◌∷◌, length, get_or, Option, Some, None, refl, sym, ap, ap₂, ◌∙◌, subst, arith, inl, inr, get_or-set_same, get_or-set_other}
+use Rattle.std.proofs.Common.{◌≡◌, ℕ, zero, suc, ◌-◌, ◌<◌, ◌≤◌, List, [], ◌∷◌, length, get_or, Option, Some, None, sym, ap, ◌∙◌, subst, arith, inl, inr, get_or-set_same, get_or-set_other}
 use Rattle.std.proofs.lemmas.Bool.{cases_eq}
 use Rattle.std.proofs.Math.ListN.{set}
 use Rattle.std.proofs.lemmas.List.{length-set}
 use Rattle.std.proofs.lemmas.Option.{same_Some}
 use Rattle.square_rows.specs.declared.row.SquareRow.{SquareRow}
-use Rattle.square_rows.specs.Square.{Square, four}
+use Rattle.worlds.specs.Square.{Square, four}
 use Rattle.square_rows.specs.Rows.{Numbered, number_row, number_square, square_in, IsNumber, kid, no_row, row_at}
 use Rattle.square_rows.specs.Walks.{Has, Walks, Remembers}
 use Rattle.square_rows.proofs.Numbering.{Grows, Has-grown, Has-again, number_row-grows}

@@ -1,6 +1,6 @@
 -- Squares whose live cells all lie in the square of half the side in the middle.
-use Rattle.std.specs.Prelude.{◌≡◌, ℕ, suc, ◌<◌, cond, ◌==◌, Bool, ◌||◌, ◌&&◌, List, [], ◌∷◌, ◌++◌, get_or}
-use Rattle.square_rows.specs.Square.{Square, four, empty_square}
+use Rattle.std.specs.Prelude.{◌≡◌, ℕ, suc, cond, ◌==◌, Bool, ◌||◌, ◌&&◌, List, [], ◌∷◌, ◌++◌, get_or}
+use Rattle.worlds.specs.Square.{Square, four, empty_square}
 use Rattle.square_rows.specs.declared.row.SquareRow.{SquareRow}
 use Rattle.square_rows.specs.Rows.{IsNumber, AreRows, square_in, root_level, world_of_rows}
 

@@ -1,4 +1,7 @@
-pub mod Square
 pub mod Rows
 pub mod Walks
 pub mod Centre
+pub mod Measures
+pub mod Laid
+pub mod Entries
+pub mod Counts

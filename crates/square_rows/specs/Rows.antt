@@ -1,10 +1,10 @@
 -- Lists of square rows, the squares that they stand for, and the one list that a world is written as.
-use Rattle.std.specs.Prelude.{◌≡◌, ℕ, zero, suc, ◌+◌, ◌-◌, ◌<◌, ◌≤◌, ◌^◌, Bool, true, false, cond, ◌&&◌, ◌==◌, nat_eq, List, [], ◌∷◌, ◌++◌, length, take, get_or, ℤ, pos, neg_ℤ}
+use Rattle.std.specs.Prelude.{◌≡◌, ℕ, zero, suc, ◌+◌, ◌-◌, ◌<◌, ◌≤◌, ◌^◌, Bool, true, false, ◌&&◌, ◌==◌, nat_eq, List, [], ◌∷◌, ◌++◌, length, take, get_or, ℤ, pos, neg_ℤ}
 use Rattle.std.specs.List.{list_any, position_or_len}
 use Rattle.std.specs.Cmp.Lexicographic.{pointwise}
-use Rattle.plane_core.specs.World.{World, cell, blank}
+use Rattle.worlds.specs.World.{World, cell, blank}
 use Rattle.square_rows.specs.declared.row.SquareRow.{SquareRow}
-use Rattle.square_rows.specs.Square.{Square, one, four, empty_square, put_square, IsIn}
+use Rattle.worlds.specs.Square.{Square, one, four, empty_square, put_square, IsIn}
 
 abbrev pub no_row : SquareRow
 no_row = record { level = 0; kids = [] }

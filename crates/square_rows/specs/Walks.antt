@@ -1,8 +1,8 @@
 -- What a walk remembers of the rows that it has seen.
 use Rattle.std.specs.Prelude.{◌≡◌, ℕ, suc, ◌<◌, List, length, get_or, [], Option, Some, None}
 use Rattle.square_rows.specs.declared.row.SquareRow.{SquareRow}
-use Rattle.square_rows.specs.Square.{Square}
-use Rattle.square_rows.specs.Rows.{Numbered, no_row, number_square, square_in, AreRows, IsNumber, root_level, root_of}
+use Rattle.worlds.specs.Square.{Square}
+use Rattle.square_rows.specs.Rows.{no_row, number_square, square_in, AreRows, IsNumber, root_level, root_of}
 
 -- the number of a square is n, and it adds nothing
 abbrev pub Has : ℕ → Square → List SquareRow → ℕ → Type 0

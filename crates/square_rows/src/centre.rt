@@ -1,6 +1,6 @@
 //! A root that is larger than its pattern needs, and the smaller one in its middle.
 ghost use Rattle.std.specs.Prelude.{◌≡◌, ◌-◌, ◌<◌, ◌≤◌, ◌^◌, suc, length, IfSome, IfNone, OnOk};
-ghost use Rattle.square_rows.specs.Square.{Square};
+ghost use Rattle.worlds.specs.Square.{Square};
 ghost use Rattle.square_rows.specs.Rows.{AreRows, IsNumber, IsLeastLevel, square_in, root_level, world_of_rows};
 ghost use Rattle.square_rows.specs.Centre.{is_passed, is_alone, IsCorner, IsCentre, NoneEmpty, cornered};
 
@@ -33,7 +33,8 @@ fn inner(rows: &[SquareRow], level: u8, number: u32, corner: usize) -> Option<u3
     requires number { IsNumber rows.now level number }
     requires corner { corner < 4 }
     ensures some { IfSome result (IsCorner rows.now (level - 1) number corner) }
-    ensures none { IfNone result ((s : Square) → square_in rows.now (suc (level - 1)) number ≡ cornered (level - 1) corner s → ⊥) }
+    ensures none { IfNone result ((s : Square) →
+        square_in rows.now (suc (level - 1)) number ≡ cornered (level - 1) corner s → ⊥) }
 {
     if number == 0 {
         return Some(0);

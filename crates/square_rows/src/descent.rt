@@ -1,8 +1,9 @@
 //! The way down from the root to one cell.
 ghost use Rattle.std.specs.Prelude.{◌≡◌, ◌+◌, ◌-◌, ◌<◌, ◌≤◌, ◌^◌, length, IfSome, IfNone, ◌+ℤ◌, pos, neg_ℤ};
-ghost use Rattle.plane_core.specs.World.{cell};
-ghost use Rattle.square_rows.specs.Square.{cell_in, quadrant_at, within, IsIn};
+ghost use Rattle.worlds.specs.World.{cell};
+ghost use Rattle.worlds.specs.Square.{cell_in, quadrant_at, within, IsIn};
 ghost use Rattle.square_rows.specs.Rows.{AreRows, IsNumber, square_in, root_level, world_of_rows};
+ghost use Rattle.square_rows.specs.Laid.{IsFrom};
 
 use crate::row::SquareRow;
 
@@ -29,6 +30,29 @@ pub fn side(level: u8) -> u64
     1u64 << level
 }
 
+// The cell so far to the right and down.
+pub fn shifted(spot: Spot, right: u64, down: u64) -> Spot
+    requires x { IsFrom spot.x right }
+    requires y { IsFrom spot.y down }
+    ensures x { result.x ≡ spot.x +ℤ pos right }
+    ensures y { result.y ≡ spot.y +ℤ pos down }
+{
+    Spot {
+        x: spot.x + right as i64,
+        y: spot.y + down as i64,
+    }
+}
+
+// The upper left cell of the square of this level with the cell (0, 0) in its middle.
+pub fn corner_of(level: u8) -> Spot
+    requires { (1 ≤ level) × (level ≤ 62) }
+    ensures x { result.x ≡ neg_ℤ (pos (2 ^ (level - 1))) }
+    ensures y { result.y ≡ neg_ℤ (pos (2 ^ (level - 1))) }
+{
+    let half = side(level - 1) as i64;
+    Spot { x: -half, y: -half }
+}
+
 // The level of the root.
 pub fn root_level(rows: &[SquareRow]) -> u8
     ensures level { result ≡ root_level rows.now }
@@ -46,7 +70,8 @@ pub fn offset_in(half: u64, spot: Spot) -> Option<Offset>
     requires { half ≤ 2 ^ 61 }
     ensures x { IfSome result (λ at. (spot.x ≡ neg_ℤ (pos half) +ℤ pos at.x) × (at.x < half + half)) }
     ensures y { IfSome result (λ at. (spot.y ≡ neg_ℤ (pos half) +ℤ pos at.y) × (at.y < half + half)) }
-    ensures outside { IfNone result (IsIn (half + half) (neg_ℤ (pos half)) (neg_ℤ (pos half)) spot.x spot.y → ⊥) }
+    ensures outside { IfNone result
+        (IsIn (half + half) (neg_ℤ (pos half)) (neg_ℤ (pos half)) spot.x spot.y → ⊥) }
 {
     let half = half as i64;
     let Spot { x, y } = spot;

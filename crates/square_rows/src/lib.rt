@@ -1,21 +1,30 @@
 //! Planes as square rows: a pattern as the list of its distinct squares.
 //!
 //! A square of level `k` has a side of `2^k` cells, and is one row that names its four quadrants,
-//! so a pattern whose squares repeat takes as many rows as it has different ones. A `SquarePlane`
-//! is seen by contracts as the world of `plane_core`. Its rows are canonical: a world has one list
-//! of them, so planes with equal cells have equal rows. `from_squares` makes any rows canonical in
-//! two walks that see each row once, `get` is one descent of at most 62 levels, and `equals`
-//! compares rows.
+//! so a pattern whose squares repeat takes as many rows as it has different ones. A `Plane` is seen by
+//! contracts as a world. Its rows are canonical: a world has one list of them, so planes with equal
+//! cells have equal rows.
+//!
+//! `from_squares` makes any rows canonical in two walks that see each row once, and measures them in
+//! a third pass, so that `population`, `greatest` and `bounds` are there. `get` is one descent of at
+//! most 62 levels, and `equals` compares rows. `lay` adds a row for each square that holds a laid
+//! cell, at most 62 a cell, and makes the rows canonical again. `live` descends to each live cell
+//! once, and `counts` takes one pass over the rows for each state up to the greatest.
 #![tactic(auto)]
 
 mod canonical;
 mod centre;
+mod counts;
 mod descent;
+mod lay;
+mod live;
+mod measures;
 mod plane;
+mod raise;
 mod row;
 mod valid;
 mod walk;
 
-pub use plane::SquarePlane;
+pub use plane::Plane;
 pub use row::SquareRow;
 pub use valid::are_rows;

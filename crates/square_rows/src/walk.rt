@@ -45,7 +45,8 @@ fn walk_square(
     requires number { IsNumber rows.now level number }
     requires remembers { Remembers rows.now walk.old.done.keys walk.old.numbers.items }
     requires few { length walk.old.done.keys < 2 ^ 32 }
-    ensures walks { IfOk result (Walks level (square_in rows.now level number) walk.old.done.keys walk.new.done.keys) }
+    ensures walks { IfOk result
+        (Walks level (square_in rows.now level number) walk.old.done.keys walk.new.done.keys) }
     ensures remembers { OnOk result (Remembers rows.now walk.new.done.keys walk.new.numbers.items) }
     ensures few { OnOk result (length walk.new.done.keys < 2 ^ 32) }
 {
@@ -78,7 +79,8 @@ fn walk_square(
 pub fn walked(alloc: Global, rows: &[SquareRow]) -> Result<Vec<SquareRow>, AllocError>
     requires rows { AreRows rows.now }
     requires few { length rows.now < 2 ^ 32 }
-    ensures rows { IfOk result (λ done. (number_square (root_level rows.now) (root_of rows.now) []).rows ≡ done.items) }
+    ensures rows { IfOk result (λ done.
+        (number_square (root_level rows.now) (root_of rows.now) []).rows ≡ done.items) }
     ensures few { IfOk result (λ done. length done.items < 2 ^ 32) }
 {
     let mut walk = Walk {

@@ -2,4 +2,8 @@
 #![tactic(auto)]
 
 #[cfg(test)]
+mod laid;
+#[cfg(test)]
+mod measured;
+#[cfg(test)]
 mod tests;

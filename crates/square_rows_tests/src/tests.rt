@@ -1,4 +1,4 @@
-use square_rows::{SquarePlane, SquareRow, are_rows};
+use square_rows::{Plane, SquareRow, are_rows};
 use std::alloc::Global;
 use std::fmt::Debug;
 use std::process::Abort;
@@ -16,9 +16,9 @@ fn same<T: PartialEq + Debug, A: Debug>(rt: &impl Abort, found: &T, wanted: &T, 
     );
 }
 
-fn plane_of(rt: &impl Abort, alloc: Global, rows: &[SquareRow]) -> SquarePlane {
+fn plane_of(rt: &impl Abort, alloc: Global, rows: &[SquareRow]) -> Plane {
     assert!(rt; are_rows(rows), "the rows stand for no plane");
-    SquarePlane::from_squares(alloc, rows).expect(rt, "memory")
+    Plane::from_squares(alloc, rows).expect(rt, "memory")
 }
 
 /// The given rows become the wanted ones.
@@ -29,7 +29,7 @@ fn becomes(rt: &impl Abort, alloc: Global, given: &[SquareRow], wanted: &[Square
     same(rt, &found, &wanted, &given.len());
 }
 
-fn has(rt: &impl Abort, plane: &SquarePlane, x: i64, y: i64, state: u8) {
+fn has(rt: &impl Abort, plane: &Plane, x: i64, y: i64, state: u8) {
     same(rt, &plane.get(x, y), &state, &(x, y));
 }
 
@@ -139,7 +139,7 @@ fn cells_lie_in_their_quadrants(rt: HostRuntime) {
     has(&rt, &plane, 0, 0, 0);
     has(&rt, &plane, -3, -2, 0);
     has(&rt, &plane, i64::MIN, i64::MAX, 0);
-    has(&rt, &SquarePlane::empty(alloc), 0, 0, 0);
+    has(&rt, &Plane::empty(alloc), 0, 0, 0);
 }
 
 /// A square of level 62 whose cells are all live.

@@ -68,6 +68,9 @@ impl<A: Allocator + Clone> PatchTree<A> {
         ensures err { OnErr result (IsPartlyLaid level column row other_level
             (quadtree other.now) (quadtree self.old) (quadtree self.new)) }
     {
+        if let PatchTree::Keep = other {
+            return Ok(());
+        }
         if level == other_level {
             return self.cover(alloc, other);
         }

@@ -1,8 +1,10 @@
 mod FullLines
+mod HeadFaults
 mod Names
 mod Renumbered
 mod Reordered
 mod SameNames
+pub mod SaidTables
 pub mod Sets
 mod Splits
 mod Unions

@@ -4,6 +4,7 @@ use Rattle.std.specs.List.{list_all}
 use Rattle.rule_file.specs.RuleFile.{NumberedLine}
 use Rattle.table_lines.specs.Descriptors.{descriptor_of}
 use Rattle.table_lines.specs.Lines.{lines_of}
+use Rattle.table_lines.specs.Read.{IsRead}
 use Rattle.table_lines.specs.Table.{Table}
 
 -- lines that say a table say it under other numbers too: blank lines and comments between them change nothing
@@ -17,3 +18,7 @@ is_descriptor line = is_some (descriptor_of line.text)
 -- two descriptors, one after the other, may stand in the other order, and so all three in any
 abbrev pub DescriptorsInAnyOrder : Type 0
 DescriptorsInAnyOrder = (front : List NumberedLine) (line next : NumberedLine) (rest : List NumberedLine) (table : Table) → list_all is_descriptor front ≡ true → is_descriptor line ≡ true → is_descriptor next ≡ true → lines_of (front ++ line ∷ next ∷ rest) ≡ Ok table → lines_of (front ++ next ∷ line ∷ rest) ≡ Ok table
+
+-- a table that lines say has two states or more and 256 at most, and its transitions name no others and have an input for the cell and each neighbour
+abbrev pub TablesOfLinesAreRead : Type 0
+TablesOfLinesAreRead = (lines : List NumberedLine) (table : Table) → lines_of lines ≡ Ok table → IsRead table

@@ -1,5 +1,5 @@
 //! Laws of the definitions, each the contract of a function that does nothing.
-ghost use Rattle.table_lines.specs.LineLaws.{DescriptorsInAnyOrder, NumbersDoNotMatter};
+ghost use Rattle.table_lines.specs.LineLaws.{DescriptorsInAnyOrder, NumbersDoNotMatter, TablesOfLinesAreRead};
 
 /// Lines that say a table say it under other numbers too: blank lines and comments between them
 /// change nothing.
@@ -10,4 +10,10 @@ pub fn numbers_do_not_matter()
 /// Two descriptors, one after the other, may stand in the other order, and so all three in any.
 pub fn descriptors_stand_in_any_order()
     ensures { DescriptorsInAnyOrder }
+{}
+
+/// A table that lines say has from 2 to 256 states, and its transitions name no others and have an
+/// input for the cell and each neighbour.
+pub fn tables_of_lines_are_read()
+    ensures { TablesOfLinesAreRead }
 {}

@@ -1,10 +1,10 @@
 //! The lines of a table as a value, before its limits are looked at.
-ghost use Rattle.std.specs.Prelude.{◌≡◌, ◌≤◌, [], IsTrue};
+ghost use Rattle.std.specs.Prelude.{◌≡◌, ◌≤◌, [], Err, IsOk, IsTrue};
 ghost use Rattle.std.specs.List.{list_all};
 ghost use Rattle.rule_file.specs.Results.{Gives};
 ghost use Rattle.table_lines.specs.Below.{admits_below};
 ghost use Rattle.table_lines.specs.Table.{headed};
-ghost use Rattle.table_lines.specs.Lines.{lines_of};
+ghost use Rattle.table_lines.specs.Lines.{head_in, lines_of};
 ghost use Rattle.table_lines.specs.Transitions.{is_full};
 
 use crate::descriptors::{Head, read_head};
@@ -96,9 +96,10 @@ impl TableLines {
 /// defines a variable, or is a transition that lists the cell, its neighbours and the result. The
 /// first faulty line is answered, by MissingDescriptor, BadStates, BadNeighborhood, BadSymmetry,
 /// BadVariable, BadTransition, StateTooHigh or FreeResult. NoMemory comes only where memory was
-/// wanted.
+/// wanted, and never where the descriptors have a fault.
 pub fn read_lines(alloc: Global, text: &RuleText) -> Result<TableLines, RuleFault>
-    ensures { Gives result (lines_of text.now.section.lines) }
+    ensures table { Gives result (lines_of text.now.section.lines) }
+    ensures no_memory { result ≡ Err RuleFault.NoMemory → IsOk (head_in text.now.section.lines) }
 {
     let (head, lines) = read_head(text.lines())?;
     let transitions = read_transitions(alloc, head, lines)?;

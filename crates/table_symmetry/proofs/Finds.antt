@@ -6,7 +6,7 @@ use Rattle.std.specs.Option.{option_map}
 use Rattle.std.proofs.lemmas.Bool.{cases_lt, and_parts, ltb-true}
 use Rattle.std.proofs.lemmas.List.{length-append, length-map, get_or-map, get_or_append_left, get_or_push}
 use Rattle.std.proofs.lemmas.List.Elements.{All-get_or}
-use Rattle.plane_core.specs.Step.{AreNineBelow}
+use Rattle.worlds.specs.Step.{AreNineBelow}
 use Rattle.table_symmetry.specs.declared.expansion.Expanded.{Expanded}
 use Rattle.table_lines.specs.declared.neighborhood.Neighborhood.{Neighborhood}
 use Rattle.table_lines.specs.declared.neighborhood.Neighborhood.TheVariants.{VonNeumann, Moore, Hexagonal, OneDimensional}

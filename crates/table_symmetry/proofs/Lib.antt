@@ -10,6 +10,7 @@ mod Limits
 mod Matching
 mod Naturality
 mod Search
+pub mod SaidTables
 mod SoundTables
 mod Words
 mod Compositions

@@ -1,25 +1,28 @@
 -- A table within the limits, and one that isn't.
-use Rattle.std.proofs.Common.{◌≡◌, unwrap_or, ◌<◌, ◌≤◌, true, false, cond, nat_lt, length, Result, Ok, Err, sym, ap, ◌∙◌, inl, inr, arith}
+use Rattle.std.proofs.Common.{◌≡◌, unwrap_or, ◌+◌, ◌<◌, ◌≤◌, true, false, cond, nat_lt, List, length, Result, Ok, Err, refl, sym, subst, ap, ◌∙◌, inl, inr, arith}
 use Rattle.std.specs.List.{list_all}
 use Rattle.std.specs.Result.{IsErrAnd}
 use Rattle.std.proofs.lemmas.Bool.{and_from, eq-eqb, ne_eqb}
-use Rattle.plane_core.specs.Step.{nine_zeros}
+use Rattle.worlds.specs.Step.{nine_zeros}
 use Rattle.std.proofs.lemmas.Bool.Decides.{nat_tests}
 use Rattle.rule_file.specs.declared.fault.RuleFault.{RuleFault}
 use Rattle.rule_file.specs.declared.fault.RuleFault.TheVariants.{TooManyTransitions, NotQuiescent}
 use Rattle.rule_file.specs.Results.{Gives}
+use Rattle.table_symmetry.specs.declared.expansion.Expanded.{Expanded}
 use Rattle.table_symmetry.specs.Expanded.{expanded, transition_limit}
 use Rattle.table_symmetry.specs.Grown.{IsTooLong}
 use Rattle.table_symmetry.specs.declared.lookup.Lookup.{Lookup}
 use Rattle.table_symmetry.specs.Kept.{IsKept, LooksUp}
 use Rattle.table_symmetry.specs.Lookup.{FindsFirst, found}
-use Rattle.table_symmetry.specs.NextState.{gives_states, is_quiescent, next}
+use Rattle.table_symmetry.specs.NextState.{gives_states, is_quiescent, next, places_of}
+use Rattle.table_symmetry.specs.Rows.{AreExpanded}
 use Rattle.table_symmetry.specs.RuleLaws.{zeros-below}
 use Rattle.table_lines.specs.Read.{IsRead}
 use Rattle.table_symmetry.specs.Table.{Table}
 use Rattle.table_symmetry.specs.TableLines.{within_limits}
 use Rattle.table_symmetry.proofs.FirstMatch.{next-expanded}
-use Rattle.table_symmetry.proofs.SoundTables.{all_give_states}
+use Rattle.table_symmetry.proofs.Lengths.{expanded-length}
+use Rattle.table_symmetry.proofs.SoundTables.{all_give_states, expanded-below}
 
 within_limits-many : (table : Table) → transition_limit < length (expanded table) → within_limits table ≡ Err TooManyTransitions
 within_limits-many table h =
@@ -63,3 +66,15 @@ is_kept table lookup read looked quiet =
 
 pub is_restless : (table : Table) (lookup : Lookup) → 0 < table.states → FindsFirst lookup table.states table.neighborhood (expanded table) → (unwrap_or (found lookup nine_zeros) 0 ≡ 0 → ⊥) → is_quiescent table ≡ false
 is_restless table lookup some finds moves = ne_eqb (next table nine_zeros) 0 (λ e. moves (next_of_zeros table lookup finds some ∙ e))
+
+-- the expanded transitions of a table that is kept
+pub are_expanded : (table : Table) (lookup : Lookup) (rows : List Expanded) → IsKept table lookup → rows ≡ expanded table → AreExpanded table rows
+are_expanded table lookup rows kept listed =
+    subst (AreExpanded table) (sym listed) (record {
+      sound = kept.sound;
+      listed = refl;
+      few = kept.few;
+      full = expanded-length (length (places_of table.neighborhood) + 1) table.symmetry table.transitions kept.full;
+      below = expanded-below table kept.sound;
+      first = next-expanded table;
+    })

@@ -1,14 +1,20 @@
 -- Lists of expanded transitions that grow up to the limit.
 use Rattle.std.specs.Prelude.{◌≡◌, ◌⊎◌, ℕ, ◌+◌, ◌<◌, ◌≤◌, List, [], ◌∷◌, ◌++◌, Bool, length, map, Vec, Result, Ok, Err, if◌then◌else◌}
-use Rattle.std.specs.List.{list_any}
+use Rattle.std.specs.List.{flat_map, list_any}
 use Rattle.rule_file.specs.declared.fault.RuleFault.{RuleFault}
 use Rattle.rule_file.specs.declared.fault.RuleFault.TheVariants.{NoMemory, TooManyTransitions}
 use Rattle.table_symmetry.specs.declared.expansion.Expanded.{Expanded}
-use Rattle.table_symmetry.specs.Expanded.{transition_limit}
+use Rattle.table_lines.specs.declared.symmetry.Symmetry.{Symmetry}
+use Rattle.table_lines.specs.declared.transition.Transition.{Transition}
+use Rattle.table_symmetry.specs.Expanded.{expanded_of, transition_limit}
 
 -- why a list doesn't grow by so many: memory was wanted, or they are too many
 abbrev pub IsTooLong : RuleFault → ℕ → Type 0
 IsTooLong fault count = (fault ≡ NoMemory) ⊎ ((fault ≡ TooManyTransitions) × (transition_limit < count))
+
+-- these are the expanded transitions of some transitions, and not too many
+abbrev pub ExpandTo : Symmetry → List Transition → List Expanded → Type 0
+ExpandTo symmetry transitions rows = (rows ≡ flat_map (expanded_of symmetry) transitions) × (length rows ≤ transition_limit)
 
 -- a list grew by some more
 abbrev pub Grows : {U : Type 0} → Result U RuleFault → List Expanded → List Expanded → List Expanded → Type 0

@@ -3,8 +3,10 @@ pub mod Expanded
 pub mod Generators
 pub mod Grown
 pub mod Kept
+pub mod Laws
 pub mod Lookup
 pub mod NextState
+pub mod Rows
 pub mod Rule
 pub mod RuleLaws
 pub mod States

@@ -2,7 +2,7 @@
 use Rattle.std.specs.Prelude.{ℕ, ◌==◌, ◌&&◌, Bool, true, false, not, nat_lt, if◌then◌else◌, List, [], ◌∷◌, ◌++◌, map, take, drop, find, slice_index, unwrap_or, Option}
 use Rattle.std.specs.List.{filter, list_any, list_all, flat_map}
 use Rattle.std.specs.Option.{option_map}
-use Rattle.plane_core.specs.Step.{nine_zeros}
+use Rattle.worlds.specs.Step.{nine_zeros}
 pub use Rattle.table_lines.specs.Neighborhood.{places_of}
 pub use Rattle.table_lines.specs.Transitions.{admitted, is_variable}
 use Rattle.table_lines.specs.declared.neighborhood.Neighborhood.{Neighborhood}

@@ -10,7 +10,7 @@ use Rattle.table_symmetry.specs.NextState.{next, is_quiescent, gives_states}
 abbrev pub is_sound : Table → Bool
 is_sound table = is_quiescent table && list_all (gives_states table.states) table.transitions
 
--- the next state under a table; of one that no file has it is 0
+-- the next state under a table. A rule's laws, that nine zeros give 0 and that the answer is a state, are asked of all tables, also of those that aren't sound: there it is 0. Each table that lines mean is sound (`TablesOfFilesAreSound`)
 abbrev pub next_under : Table → List ℕ → ℕ
 next_under table around = if is_sound table then next table around else 0
 

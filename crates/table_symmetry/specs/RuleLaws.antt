@@ -4,7 +4,7 @@ use Rattle.std.specs.List.{list_all}
 use Rattle.std.specs.Option.{option_map}
 use Rattle.std.proofs.Common.{refl, sym, subst, cond, arith, rules, tests}
 use Rattle.std.proofs.lemmas.Bool.{and_parts}
-use Rattle.plane_core.specs.Step.{nine_zeros, AreNineBelow}
+use Rattle.worlds.specs.Step.{nine_zeros, AreNineBelow}
 use Rattle.table_lines.specs.declared.transition.Transition.{Transition}
 use Rattle.table_symmetry.specs.Table.{Table}
 use Rattle.table_symmetry.specs.NextState.{next, first_result, matches, given, assignments, is_quiescent, gives_states}

@@ -5,6 +5,7 @@ use Rattle.rule_file.specs.declared.fault.RuleFault.{RuleFault}
 use Rattle.rule_file.specs.declared.fault.RuleFault.TheVariants.{TooManyTransitions, NotQuiescent}
 use Rattle.rule_file.specs.RuleFile.{NumberedLine}
 use Rattle.table_lines.specs.Lines.{lines_of}
+pub use Rattle.table_lines.specs.Lines.{head_in}
 use Rattle.table_symmetry.specs.Expanded.{expanded, transition_limit}
 use Rattle.table_symmetry.specs.NextState.{is_quiescent}
 use Rattle.table_symmetry.specs.Table.{Table}

@@ -162,7 +162,8 @@ fn inserted(
     place: usize,
 ) -> Result<Vec<StateSet>, AllocError>
     requires { place ≤ length list.now }
-    ensures { IfOk result (λ longer. longer.items ≡ take place list.now ++ set ∷ drop place list.now) }
+    ensures { IfOk result (λ longer.
+        longer.items ≡ take place list.now ++ set ∷ drop place list.now) }
 {
     let mut longer = list.to_vec(alloc)?;
     longer.insert(place, set)?;

@@ -6,7 +6,7 @@
 ghost use Rattle.std.specs.Prelude.{◌≡◌, ◌≤◌, ◌++◌, ◌∷◌, length, map, IfOk, OnOk, MatchResult};
 ghost use Rattle.std.specs.List.{flat_map};
 ghost use Rattle.table_symmetry.specs.Expanded.{expanded_of, expanded_one, transition_limit};
-ghost use Rattle.table_symmetry.specs.Grown.{Grows, IsTooLong, lists_in, row_of};
+ghost use Rattle.table_symmetry.specs.Grown.{ExpandTo, Grows, IsTooLong, lists_in, row_of};
 ghost use Rattle.table_symmetry.specs.NextState as meaning;
 
 use crate::arrangement::{Circles, arrangements, joined};
@@ -36,7 +36,7 @@ pub fn expand(
     transitions: &[Transition],
 ) -> Result<Vec<Expanded>, RuleFault>
     ensures { MatchResult result
-        (λ rows. (rows.items ≡ flat_map (expanded_of symmetry) transitions.now) × (length rows.items ≤ transition_limit))
+        (λ rows. ExpandTo symmetry transitions.now rows.items)
         (λ fault. IsTooLong fault (length (flat_map (expanded_of symmetry) transitions.now))) }
 {
     let mut rows = Vec::new(alloc);
@@ -56,7 +56,8 @@ fn push_assigned(
     transition: &Transition,
 ) -> Result<(), RuleFault>
     requires { length rows.old.items ≤ transition_limit }
-    ensures { Grows result rows.old.items rows.new.items (flat_map (expanded_one symmetry) (meaning.assigned bound.now transition.now)) }
+    ensures { Grows result rows.old.items rows.new.items
+        (flat_map (expanded_one symmetry) (meaning.assigned bound.now transition.now)) }
 {
     match bound {
         [] => push_one(alloc, rows, symmetry, transition),
@@ -220,7 +221,8 @@ fn with_first(
     variable: &Variable,
     variables: &[Variable],
 ) -> Result<Vec<Variable>, AllocError>
-    ensures { IfOk result (λ all. all.items ≡ variable.now ∷ meaning.without variable.now variables.now) }
+    ensures { IfOk result (λ all.
+        all.items ≡ variable.now ∷ meaning.without variable.now variables.now) }
 {
     let mut all = without(alloc, variable, variables)?;
     all.insert(0, *variable)?;

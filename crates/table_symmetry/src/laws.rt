@@ -1,5 +1,6 @@
 //! Laws of the definitions, each the contract of a function that does nothing.
 ghost use Rattle.table_symmetry.specs.Generators.{PermuteTakesAllOrders, SymmetriesAreGenerated};
+ghost use Rattle.table_symmetry.specs.Laws.{TablesOfFilesAreSound};
 
 /// The maps of each symmetry that a neighbourhood has, but `permute`, are all compositions of its
 /// turns and reflections, of which each is undone by another.
@@ -10,4 +11,10 @@ pub fn symmetries_are_generated()
 /// `permute` takes the neighbours in exactly all orders.
 pub fn permute_takes_all_orders()
     ensures { PermuteTakesAllOrders }
+{}
+
+/// A table that the lines of a section mean is sound: a cell of state 0 among such cells keeps it,
+/// and whatever a transition gives is a state. So its next state needs no guard.
+pub fn tables_of_files_are_sound()
+    ensures { TablesOfFilesAreSound }
 {}

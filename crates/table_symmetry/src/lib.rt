@@ -17,9 +17,9 @@ mod table;
 mod table_reader;
 
 pub use expansion::Expanded;
-pub use laws::{permute_takes_all_orders, symmetries_are_generated};
+pub use laws::{permute_takes_all_orders, symmetries_are_generated, tables_of_files_are_sound};
 pub use table::TableRule;
 pub use table_lines::{
     Entry, Head, Neighborhood, StateSet, Symmetry, TableLines, Transition, Variable, read_lines,
 };
-pub use table_reader::read_table;
+pub use table_reader::{read_expanded, read_table};

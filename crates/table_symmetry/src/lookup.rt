@@ -1,8 +1,8 @@
 //! The fast search for the first of many rows that matches.
-ghost use Rattle.std.specs.Prelude.{◌≡◌, ◌≤◌, ◌+◌, ◌*◌, ◌/◌, ◌%◌, ◌<◌, ◌==◌, ℕ, List, [], ◌∷◌, length, map, take, slice_index, slice_index_or, None, IfOk, All};
+ghost use Rattle.std.specs.Prelude.{◌≡◌, ◌≤◌, ◌<◌, ℕ, List, [], length, take, slice_index, slice_index_or, None, IfOk, All};
 ghost use Rattle.std.specs.Int.{bit_at};
-ghost use Rattle.table_symmetry.specs.NextState.{inputs_of, places_of};
-ghost use Rattle.table_symmetry.specs.Lookup.{row_has, found, words_at, HasColumns, FindsFirst};
+ghost use Rattle.table_symmetry.specs.NextState.{inputs_of};
+ghost use Rattle.table_symmetry.specs.Lookup.{FindsFirst, HasBits, HasColumns, HaveInputs, TellRows, found, word_of_each, words_at};
 
 use crate::expansion::Expanded;
 use basics::Listing;
@@ -41,7 +41,7 @@ impl Lookup {
         rows: &[Expanded],
     ) -> Result<Lookup, AllocError>
         requires states { states ≤ 256 }
-        requires inputs { All (λ row. length row.inputs ≡ length (inputs_of neighborhood [])) rows.now }
+        requires inputs { HaveInputs neighborhood rows.now }
         ensures { IfOk result (λ lookup. FindsFirst lookup states neighborhood rows.now) }
     {
         let mut columns = Vec::new(alloc);
@@ -76,7 +76,7 @@ impl Lookup {
 
     /// The 64 rows of a word that have these states at their places, a bit each.
     fn matching(&self, inputs: &[u8], word: usize) -> u64
-        ensures { (bit : ℕ) → bit < 64 → (bit_at result bit == 1) ≡ row_has self.now.columns inputs.now (64 * word + bit) }
+        ensures { TellRows self.now.columns inputs.now word result }
     {
         let mut rows = u64::MAX;
         for (columns, state) in self.columns.as_slice().iter().zip(inputs) {
@@ -113,7 +113,8 @@ pub(crate) fn input_count(neighborhood: Neighborhood) -> usize
 
 /// The states of a row's inputs, before states that don't matter.
 fn picked(neighborhood: Neighborhood, around: &Around) -> [u8; 9]
-    ensures { take (length (inputs_of neighborhood [])) result ≡ inputs_of neighborhood around.now.0 }
+    ensures { take (length (inputs_of neighborhood [])) result
+        ≡ inputs_of neighborhood around.now.0 }
 {
     let [c, n, ne, e, se, s, sw, w, nw] = around.0;
     match neighborhood {
@@ -156,7 +157,7 @@ fn words_of(
 ) -> Result<Vec<u64>, AllocError>
     requires word { word < 4 }
     requires place { All (λ row. place < length row.inputs) rows.now }
-    ensures { IfOk result (λ words. words.items ≡ map (λ row. slice_index (words_at place row) word) rows.now) }
+    ensures { IfOk result (λ words. words.items ≡ word_of_each place word rows.now) }
 {
     rows.iter()
         .map(|row| word_in(row, place, word))
@@ -175,7 +176,7 @@ fn word_in(row: &Expanded, place: usize, word: usize) -> u64
 /// One bit of each word, 64 of them in a word.
 fn column(alloc: Global, words: &[u64], bit: u32) -> Result<Vec<u64>, AllocError>
     requires { bit < 64 }
-    ensures { IfOk result (λ column. (row : ℕ) → row < length words.now → bit_at (slice_index column.items (row / 64)) (row % 64) ≡ bit_at (slice_index words.now row) bit) }
+    ensures { IfOk result (λ column. HasBits column.items words.now bit) }
 {
     let mut column = Vec::new(alloc);
     for number in 0..words.len().div_ceil(64) {

@@ -1,7 +1,7 @@
 //! Rules that are given by a table.
-ghost use Rattle.std.specs.Prelude.{◌≡◌, ◌+◌, ◌<◌, ◌≤◌, ℕ, List, length, slice_index, unwrap_or, All, IfOk};
-ghost use Rattle.table_symmetry.specs.Expanded.{expanded, first_match, transition_limit};
-ghost use Rattle.table_symmetry.specs.NextState.{inputs_of, next, places_of};
+ghost use Rattle.std.specs.Prelude.{◌≡◌, ◌<◌, All, IfOk};
+ghost use Rattle.table_symmetry.specs.NextState.{next};
+ghost use Rattle.table_symmetry.specs.Rows.{AreExpanded};
 ghost use Rattle.table_symmetry.specs.Rule.{next_under, still_table};
 
 use crate::expansion::{Expanded, expand};
@@ -72,13 +72,7 @@ impl TableRule {
     /// bound variables, each different list of sets that a map of the symmetry gives. They are at
     /// most 1,000,000, and the first that matches gives the next state.
     pub fn expand(&self) -> Result<Vec<Expanded>, AllocError>
-        ensures rows { IfOk result (λ rows. rows.items ≡ expanded self.now) }
-        ensures few { IfOk result (λ rows. length rows.items ≤ transition_limit) }
-        ensures full { IfOk result (λ rows. All (λ row. length row.inputs ≡ length (places_of self.now.neighborhood) + 1) rows.items) }
-        ensures below { IfOk result (λ rows. All (λ row. row.result < self.now.states) rows.items) }
-        ensures first { IfOk result (λ rows. (around : List ℕ) →
-            unwrap_or (first_match rows.items (inputs_of self.now.neighborhood around)) (slice_index around 0) ≡ next self.now around) }
-        ensures straight { IfOk result (λ rows. (around : List ℕ) → next_under self.now around ≡ next self.now around) }
+        ensures { IfOk result (λ rows. AreExpanded self.now rows.items) }
     {
         match expand(self.alloc, self.lines.symmetry(), self.lines.transitions()) {
             Ok(rows) => Ok(rows),

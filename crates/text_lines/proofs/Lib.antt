@@ -1,3 +1,9 @@
+pub mod ByteRanges
+pub mod Decimals
 mod Digits
 pub mod FirstLine
+pub mod LineEnds
+pub mod NumberLines
+pub mod Pieces
+pub mod PrintedLines
 pub mod Trims

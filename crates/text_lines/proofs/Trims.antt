@@ -1,9 +1,10 @@
 -- Trimming at the end, a byte at a time.
-use Rattle.std.proofs.Common.{◌≡◌, ◌≢◌, ℕ, ◌-◌, ◌<◌, ◌≤◌, ◌==◌, List, [], ◌∷◌, ◌++◌, length, take, get_or, true, false, cond, sym, ◌∙◌, ap, refl, arith}
+use Rattle.std.proofs.Common.{◌≡◌, ◌≢◌, ℕ, ◌-◌, ◌<◌, ◌≤◌, ◌==◌, List, [], ◌∷◌, ◌++◌, length, take, get_or, true, false, cond, sym, ◌∙◌, ap, refl, arith, append-nil, append_assoc}
 use Rattle.std.proofs.lemmas.List.{take_more}
 use Rattle.std.proofs.Math.Seq.{take-length}
 use Rattle.basics.proofs.Lists.{push_not_nil}
-use Rattle.text_lines.specs.Blanks.{is_blank, before_end, trim_end}
+use Rattle.std.specs.List.{AllByRecursion}
+use Rattle.text_lines.specs.Blanks.{IsBlank, is_blank, before_end, trim, trim_end, trim_start}
 use Rattle.text_lines.specs.Lines.{strip_carriage_return}
 
 pub before_end-more : (x : ℕ) (ys : List ℕ) → ys ≢ [] → before_end x ys ≡ x ∷ ys
@@ -38,3 +39,23 @@ trim_end-solid xs some h = front_and_last xs some ∙ sym (trim_end-push (take (
 pub strip_carriage_return-at : (xs : List ℕ) → 1 ≤ length xs → strip_carriage_return xs ≡ cond (get_or xs (length xs - 1) 0 == 13) (take (length xs - 1) xs) xs
 strip_carriage_return-at xs some =
     ap strip_carriage_return (front_and_last xs some) ∙ strip_carriage_return-push (take (length xs - 1) xs) (get_or xs (length xs - 1) 0) ∙ ap (cond (get_or xs (length xs - 1) 0 == 13) (take (length xs - 1) xs)) (sym (front_and_last xs some))
+
+-- blanks at either end are trimmed
+trim_start-blanks : (blanks : List ℕ) → AllByRecursion IsBlank blanks → trim_start blanks ≡ []
+trim_start-blanks [] h = refl
+trim_start-blanks (b ∷ bs) h = rw h.0 (trim_start-blanks bs h.1)
+
+trim_end-append_blanks : (xs blanks : List ℕ) → AllByRecursion IsBlank blanks → trim_end (xs ++ blanks) ≡ trim_end xs
+trim_end-append_blanks xs [] h = ap trim_end (append-nil xs)
+trim_end-append_blanks xs (b ∷ bs) h = ap trim_end (sym (append_assoc xs (b ∷ []) bs)) ∙ trim_end-append_blanks (xs ++ b ∷ []) bs h.1 ∙ trim_end-push_blank xs b h.0
+
+trim-append_blanks : (xs blanks : List ℕ) → AllByRecursion IsBlank blanks → trim (xs ++ blanks) ≡ trim xs
+trim-append_blanks [] blanks h = ap trim_end (trim_start-blanks blanks h)
+trim-append_blanks (x ∷ xs) blanks h = elim (is_blank x) as (λ v. trim_end (cond v (trim_start (xs ++ blanks)) (x ∷ xs ++ blanks)) ≡ trim_end (cond v (trim_start xs) (x ∷ xs))) [ true ↦ trim-append_blanks xs blanks h | false ↦ trim_end-append_blanks (x ∷ xs) blanks h ]
+
+trim_start-prepend_blanks : (blanks xs : List ℕ) → AllByRecursion IsBlank blanks → trim_start (blanks ++ xs) ≡ trim_start xs
+trim_start-prepend_blanks [] xs h = refl
+trim_start-prepend_blanks (b ∷ bs) xs h = rw h.0 (trim_start-prepend_blanks bs xs h.1)
+
+pub trim-between_blanks : (front xs back : List ℕ) → AllByRecursion IsBlank front → AllByRecursion IsBlank back → trim (front ++ (xs ++ back)) ≡ trim xs
+trim-between_blanks front xs back h k = ap trim_end (trim_start-prepend_blanks front (xs ++ back) h) ∙ trim-append_blanks xs back k

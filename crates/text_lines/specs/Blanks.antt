@@ -1,9 +1,13 @@
 -- Blanks, which are spaces and tabs, and bytes without those at their ends.
-use Rattle.std.specs.Prelude.{◌≡◌, ℕ, ◌==◌, List, [], ◌∷◌, Bool, ◌||◌, false, if◌then◌else◌}
+use Rattle.std.specs.Prelude.{◌≡◌, ℕ, ◌==◌, List, [], ◌∷◌, Bool, ◌||◌, false, true, if◌then◌else◌}
 
 -- a space or a tab
 abbrev pub is_blank : ℕ → Bool
 is_blank b = (b == 32) || (b == 9)
+
+-- the same as a fact
+abbrev pub IsBlank : ℕ → Type 0
+IsBlank b = is_blank b ≡ true
 
 -- the bytes from the first that is no blank
 abbrev pub trim_start : List ℕ → List ℕ

@@ -1,4 +1,5 @@
 pub mod Blanks
+pub mod LineEnds
 pub mod Lines
 pub mod Numbers
 pub use Rattle.basics.specs.Results

@@ -2,7 +2,7 @@
 use Rattle.std.proofs.Common.{◌≡◌, inl, inr, ℕ, ◌+◌, ◌<◌, List, [], ◌∷◌, ◌++◌, All, length, map, slice_index, slice_index_or, unwrap_or, refl, sym, ap, subst, ◌∙◌, arith}
 use Rattle.std.proofs.lemmas.List.{get_or-map, length-map}
 use Rattle.std.proofs.lemmas.List.Elements.{All-append, All-from_get_or, All-from_recursion, All-map}
-use Rattle.plane_core.specs.Step.{AreNineBelow}
+use Rattle.worlds.specs.Step.{AreNineBelow}
 use Rattle.table_symmetry.specs.declared.expansion.Expanded.{Expanded}
 use Rattle.table_symmetry.specs.Expanded.{first_match}
 use Rattle.table_symmetry.specs.NextState as table_rule

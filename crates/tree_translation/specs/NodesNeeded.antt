@@ -1,7 +1,7 @@
 -- How many nodes a tree of a table has at least.
 -- Inputs that have begun in two ways need two nodes where something that may follow tells them apart (Myhill and Nerode).
 use Rattle.std.specs.Prelude.{◌≡◌, ◌≢◌, ◌⊎◌, ℕ, ◌<◌, All, List, [], ◌++◌, length, slice_index_or}
-use Rattle.plane_core.specs.Step.{AreNineBelow}
+use Rattle.worlds.specs.Step.{AreNineBelow}
 use Rattle.table_symmetry.specs.NextState as table_rule
 use Rattle.table_symmetry.specs.Table.{Table}
 use Rattle.tree_translation.specs.Translation.{AllInside, neighbors_of}

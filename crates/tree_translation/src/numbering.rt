@@ -91,7 +91,8 @@ fn entries_of(
     requires clear { All (λ b. b ≡ false) marks.old }
     requires known { Knows states layers.now found.old }
     ensures entries { IfOk result
-        (λ entries. AreEntries states layers.now found.new.nodes.keys input list.now entries.items) }
+        (λ entries.
+        AreEntries states layers.now found.new.nodes.keys input list.now entries.items) }
     ensures grows { OnOk result (Grows states layers.now input
         (input + 1) list.now found.old found.new) }
     ensures clear { OnOk result (All (λ b. b ≡ false) marks.new) }
@@ -140,7 +141,8 @@ fn number_again(
     requires clear { All (λ b. b ≡ false) marks.old }
     requires known { Knows states layers.now found.old }
     requires latest { IfSome latest
-        (λ l. IsNumberOf states layers.now found.old.nodes.keys input l.now.list.items l.now.number) }
+        (λ l.
+        IsNumberOf states layers.now found.old.nodes.keys input l.now.list.items l.now.number) }
     ensures number { IfOk result
         (λ n. IsNumberOf states layers.now found.new.nodes.keys input list.now n) }
     ensures grows { OnOk result (Grows states layers.now input input list.now found.old found.new) }

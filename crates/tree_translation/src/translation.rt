@@ -3,15 +3,16 @@
 //! The inputs are fixed one after another. What the table does then depends only on the rows that
 //! still may match, in their order, and of these only on what is left of them: equal tails count
 //! once. So each different list of tails that can be left gets the number of a node, where equal
-//! nodes are shared. It is the subset construction of automata, and the sharing of decision diagrams
-//! (Bryant 1986).
+//! nodes are shared. It is the subset construction of automata, and the sharing of decision
+//! diagrams (Bryant 1986).
 ghost use Rattle.std.specs.Prelude.{◌≡◌, ◌≤◌, ◌<◌, ◌+◌, ◌-◌, length, ℕ, List, true, All, IfErr, IfOk};
 ghost use Rattle.tree_translation.specs.declared.tree_fault.TreeFault.TheVariants.{NoMemory, TreeTooLarge};
 ghost use Rattle.tree_translation.specs.NodesNeeded.{NeedsNodes};
 ghost use Rattle.tree_translation.specs.Numbering.{entries_in};
 ghost use Rattle.tree_translation.specs.Starts.{NeedStarts};
-ghost use Rattle.plane_core.specs.Step.{nine_zeros};
+ghost use Rattle.worlds.specs.Step.{nine_zeros};
 ghost use Rattle.table_symmetry.specs.NextState.{next};
+ghost use Rattle.table_symmetry.specs.Rows.{AreExpanded};
 ghost use Rattle.decision_tree.specs.Tree.{follow, inputs_of, leads};
 ghost use Rattle.tree_translation.specs.Translation.{DoesRows, Translates, neighbors_of, node_limit, order_of, rows_give};
 
@@ -40,8 +41,20 @@ pub fn from_table(alloc: Global, table: &TableRule) -> Result<TreeRule, TreeFaul
         NeedsNodes table.now (node_limit + 1)) }
 {
     let rows = table.expand()?;
+    from_rows(alloc, table, &rows)
+}
+
+/// The same as `from_table`, where the table's expanded transitions are there already.
+pub fn from_rows(alloc: Global, table: &TableRule, rows: &[Expanded]) -> Result<TreeRule, TreeFault>
+    requires { AreExpanded table.now rows.now }
+    ensures translates { IfOk result (λ tree. Translates table.now tree) }
+    ensures few { IfOk result (λ tree. length tree.nodes ≤ node_limit) }
+    ensures smallest { IfOk result (λ tree. NeedsNodes table.now (length tree.nodes)) }
+    ensures large { IfErr result (λ fault. fault ≡ TreeTooLarge →
+        NeedsNodes table.now (node_limit + 1)) }
+{
     let order = order_of(table.neighborhood());
-    let nodes = nodes_for(alloc, table.states(), order, &rows)?;
+    let nodes = nodes_for(alloc, table.states(), order, rows)?;
     finish(alloc, table, nodes.as_slice())
 }
 
@@ -131,7 +144,8 @@ fn order_of(neighborhood: Neighborhood) -> &'static [Option<usize>]
 fn finish(alloc: Global, table: &TableRule, nodes: &[Listed]) -> Result<TreeRule, TreeFault>
     requires few { length nodes.now ≤ node_limit }
     requires width { All (λ node. length node ≡ table.now.states) (entries_in nodes.now) }
-    requires leading { (inputs : List ℕ) → length inputs ≡ length (order_of table.now.neighborhood) →
+    requires leading { (inputs : List ℕ) →
+        length inputs ≡ length (order_of table.now.neighborhood) →
         leads table.now.states (entries_in nodes.now) (length (entries_in nodes.now) - 1) inputs
         ≡ true }
     requires same { (around : List ℕ) → All (λ s. s < table.now.states) around →

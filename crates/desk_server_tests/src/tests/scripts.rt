@@ -32,7 +32,7 @@ const SCRIPTS: &[Row] = &[
         replies: b"refused 80 BadCommand 1\n",
     },
     Row {
-        script: b"\nwork\nrule X\nquit now\nshow\nshow 1 2\nshow x\nsettle 1\nstart mc\n",
+        script: b"\nwork\nrule X\nquit now\nshow\nshow 1 2\nshow x\nsettle 1\nstart x\n",
         replies: b"refused 80 BadCommand 2\nrefused 80 BadCommand 3\nrefused 80 BadCommand 4\nrefused 80 BadCommand 5\nrefused 80 BadCommand 6\nrefused 80 BadCommand 7\nrefused 80 BadCommand 8\nrefused 80 BadCommand 9\n",
     },
     Row {

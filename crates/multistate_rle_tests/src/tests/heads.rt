@@ -267,3 +267,26 @@ fn headers_before_bodies(rt: HostRuntime) {
     expect_told_first(&rt, alloc, b"x = 1, rule = T:", 21);
     expect_told_first(&rt, alloc, b"x = 1, y = 1, rule = T:T30,20", 23);
 }
+
+// These need no memory, nor do they ask where the comment places the pattern.
+#[test]
+fn faults_behind_a_comment(rt: HostRuntime) {
+    let alloc = rt.alloc();
+    expect_outcome(&rt, alloc, b"#CXRLE Pos=1,2\n", 20, None);
+    expect_outcome(&rt, alloc, b"#CXRLE Pos=1,2\nx = 1\n", 21, None);
+    expect_outcome(
+        &rt,
+        alloc,
+        b"#CXRLE Pos=1,2\nx = 1, y = 1, rule = a:b\n",
+        23,
+        None,
+    );
+    expect_outcome(&rt, alloc, b"#CXRLE Pos=1,2\nx = 1, y = 1\n?", 22, Some(28));
+    expect_outcome(
+        &rt,
+        alloc,
+        b"#CXRLE Pos=1,2\nx = 1, y = 1\n16777217o!",
+        24,
+        None,
+    );
+}

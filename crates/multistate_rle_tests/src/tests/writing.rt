@@ -1,7 +1,7 @@
 //! Patterns as they are written.
 ghost use Rattle.std.specs.Prelude.{◌<◌, ◌≤◌, All, IsTrue};
-ghost use Rattle.plane_core.specs.Live.{population};
-ghost use Rattle.plane_core.specs.Range.{AllBelow, CanBeLaid};
+ghost use Rattle.worlds.specs.Live.{population};
+ghost use Rattle.worlds.specs.Range.{AllBelow, CanBeLaid};
 
 use super::{Row, same};
 use multistate_rle::{MOST_WRITTEN, read_rle, write_rle};

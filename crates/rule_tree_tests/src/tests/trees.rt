@@ -1,10 +1,11 @@
 //! Trees, and how they are asked.
 use super::{expect_next, same};
-use plane_core::{CellSet, Next, NoStop, Plane, evolve_plain, fits};
+use plane_core::{CellSet, Next, NoStop, Plane};
 use rule_file::{RuleFault, cut};
 use rule_tree::{TreeRule, read_tree};
 use std::alloc::Global;
 use std::process::Abort;
+use step_engine::{evolve_plain, fits};
 
 // Each cell copies its western neighbour.
 pub const W: &[u8] = b"@RULE W\n\

@@ -1,5 +1,5 @@
 //! Tables with what they expand to and what they give.
-use super::helpers::{gives, next, outcome, read_rule, rule, same};
+use super::helpers::{gives, listed, next, outcome, read_rule, rule, same};
 use plane_core::Next;
 use std::alloc::Global;
 use std::process::Abort;
@@ -356,6 +356,17 @@ fn restless_tables_are_refused(rt: HostRuntime) {
         &rt,
         rt.alloc(),
         "n_states:3\nneighborhood:hexagonal\nsymmetries:rotate6\nvar a={0,1}\na,0,0,0,0,0,0,2\n",
+    );
+}
+
+#[test]
+fn reading_lists_the_expanded_transitions(rt: HostRuntime) {
+    let lines = two_states(&rt, rt.alloc(), "vonNeumann", "rotate4", "0,1,0,0,0,1");
+    same(
+        &rt,
+        &listed(&rt, rt.alloc(), lines.as_str()).len(),
+        &4,
+        &"turns",
     );
 }
 

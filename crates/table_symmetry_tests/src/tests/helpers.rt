@@ -5,7 +5,7 @@ use rule_file::{RuleFault, cut};
 use std::alloc::Global;
 use std::fmt::Debug;
 use std::process::Abort;
-use table_symmetry::{TableLines, TableRule, read_lines, read_table};
+use table_symmetry::{Expanded, TableLines, TableRule, read_expanded, read_lines, read_table};
 
 /// The number and the line of a fault, or (0, None).
 pub type Outcome = (u8, Option<u64>);
@@ -39,6 +39,14 @@ pub fn read_rule(rt: &impl Abort, alloc: Global, lines: &str) -> Result<TableRul
     let file = file(rt, alloc, lines);
     let text = cut(alloc, &file).expect(rt, "a rule file");
     read_table(alloc, &text)
+}
+
+/// The expanded transitions that reading a table lists.
+pub fn listed(rt: &impl Abort, alloc: Global, lines: &str) -> Vec<Expanded> {
+    let file = file(rt, alloc, lines);
+    let text = cut(alloc, &file).expect(rt, "a rule file");
+    let (_, rows) = read_expanded(alloc, &text).expect(rt, "a table");
+    rows
 }
 
 /// The rule of a table that can be read.

@@ -2,7 +2,7 @@ use Rattle.std.proofs.Common.{◌≡◌, ◌∙◌, sym, ap, ◌+◌, ◌++◌, 
 use Rattle.std.proofs.lemmas.Int.{to_z-of_z}
 use Rattle.std.specs.Prelude.{codes}
 use Rattle.std.specs.List.{join_with_byte}
-use Rattle.plane_core.specs.World.{cell}
+use Rattle.worlds.specs.World.{cell}
 use Rattle.bookmarks.specs.Window.{row_states, next_state}
 use Rattle.bookmarks.proofs.Rows.{row-more, spanned}
 use Rattle.bookmarks.proofs.window.push_row.Goals as goal

@@ -1,8 +1,9 @@
 use Rattle.std.proofs.Common.{◌≡◌, length, map, filter}
 use Rattle.std.specs.Option.{option_map}
 use Rattle.decision_tree.specs.Kept.{saturated}
-use Rattle.decision_tree.specs.TreeLines.{is_word, numbers_in, words}
-use Rattle.decision_tree.proofs.Pieces.{with_front}
+use Rattle.text_lines.specs.Numbers.{is_word}
+use Rattle.decision_tree.specs.TreeLines.{numbers_in, words}
+use Rattle.decision_tree.proofs.KeptNumbers.{with_front}
 use Rattle.decision_tree.proofs.numbers.read_numbers.Given as goal
 
 abbrev pub invariant-loop-piece : goal.invariant-loop-piece

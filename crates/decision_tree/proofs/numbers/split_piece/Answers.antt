@@ -1,12 +1,13 @@
 use Rattle.std.proofs.Common.{sym, ◌∙◌, arith}
 use Rattle.std.proofs.lemmas.Grind.{common_steps}
-use Rattle.decision_tree.proofs.Pieces.{pieces-some, pieces-none}
+use Rattle.text_lines.specs.Blanks.{is_blank}
+use Rattle.text_lines.proofs.Pieces.{split-some, split-none}
 use Rattle.decision_tree.proofs.numbers.split_piece.Goals as goal
 
 pub returns-in-Some : goal.returns-in-Some
 returns-in-Some c =
-    let split = pieces-some c.args.text.now c.in-Some.end (sym c.first_blank.ensures ∙ c.in-Some.is) in
+    let split = split-some is_blank c.args.text.now c.in-Some.end (sym c.first_blank.ensures ∙ c.in-Some.is) in
     grind (arith, common_steps, split)
 
 pub returns-in-None : goal.returns-in-None
-returns-in-None c = pieces-none c.args.text.now (sym c.first_blank.ensures ∙ c.in-None.is)
+returns-in-None c = split-none is_blank c.args.text.now (sym c.first_blank.ensures ∙ c.in-None.is)

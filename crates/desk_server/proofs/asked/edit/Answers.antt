@@ -1,16 +1,16 @@
-use Rattle.std.proofs.Common.{None, refl, ap}
+use Rattle.std.proofs.Common.{refl, ap}
 use Rattle.schedule.specs.Asked.{asked_of}
-use Rattle.schedule.specs.Change.{change}
-use Rattle.schedule.specs.Faults.{fault_number, fault_name}
+use Rattle.schedule.specs.Change.{Changed, change}
 use Rattle.schedule.specs.declared.fault.EditFault.TheVariants.{NoMemory}
 use Rattle.desk_core.specs.Rows.{Known}
-use Rattle.desk_server.specs.Answer.{edited}
-use Rattle.desk_server.specs.Reply.{refused_text}
+use Rattle.desk_server.specs.Answer.{id_word, accepted}
+use Rattle.desk_server.specs.Faults.{of_edit}
 use Rattle.desk_server.proofs.Replies.{gives-refused}
 use Rattle.desk_server.proofs.asked.edit.Goals as goal
 
 pub returns-in-Err : goal.returns-in-Err
 returns-in-Err c =
     let p = c.args.desk.now.plan in
-    gives-refused p c.edit.new.self c.refused.result c.in-Err.fault NoMemory (change p (asked_of c.args.edit.now)) (edited p) (λ f. refused_text (fault_number f) (fault_name f) None)
-    refl refl (ap (λ (k : Known). k.plan) c.in-Err.ensures.unchanged) c.in-Err.ensures.refused c.refused.ensures.text c.refused.ensures.goes_on
+    let asked = asked_of c.args.edit.now in
+    gives-refused p c.edit.new.self c.refused.result of_edit (λ (d : Changed). accepted d (id_word asked) d.edited.id) c.in-Err.fault NoMemory (change p asked)
+    refl (ap (λ (k : Known). k.plan) c.in-Err.ensures.unchanged) c.in-Err.ensures.refused c.refused.ensures.text c.refused.ensures.goes_on

@@ -14,7 +14,7 @@ returns-in-NoEnd-clause-same g c = reads-most c.in_ok-read_text.field-0 _ _ _ _ 
 
 pub returns-in-Ended-clause-heard : goal.returns-in-Ended-clause-heard
 returns-in-Ended-clause-heard g c =
-    rw c.line_number-number.ensures (reads-ended c.args.format c.in_ok-read_text.field-0 c.in-Ended.text c.in-Ended.last _ _ c.args.reader.now.lines c.read_text.new.self.lines c.in-Ended.is c.in_ok-read_text.ensures.text)
+    reads-ended c.args.format c.in_ok-read_text.field-0 c.in-Ended.text c.in-Ended.last _ _ c.args.reader.now.lines c.read_text.new.self.lines c.in-Ended.is c.in_ok-read_text.ensures.text
 
 pub returns-in-Ended-clause-same : goal.returns-in-Ended-clause-same
 returns-in-Ended-clause-same g c = reads-most c.in_ok-read_text.field-0 _ _ _ _ c.in_ok-read_text.ensures.text

@@ -3,4 +3,4 @@ use Rattle.desk_server.proofs.Wants.{long-wants}
 use Rattle.desk_server.proofs.heard.meaning_of.Goals as goal
 
 pub returns-in_default : goal.returns-in_default
-returns-in_default c = λ says s. (sym (c.if-is_passed_over.ensures says s), long-wants says (c.in_default.ensures says s))
+returns-in_default c = λ says s. let wants = long-wants says c.args.number (c.in_default.ensures says s) in (sym (c.if-is_passed_over.ensures says s), wants.0, wants.1)

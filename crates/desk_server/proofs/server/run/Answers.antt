@@ -1,8 +1,7 @@
-use Rattle.std.proofs.Common.{◌≡◌, ◌+◌, ◌∙◌, sym, ap, subst, refl, true, Ok, Err}
+use Rattle.std.proofs.Common.{◌≡◌, ◌+◌, ◌∙◌, ap, subst, refl, Ok, Err}
 use Rattle.schedule.specs.Plan.{opening}
 use Rattle.desk_core.specs.Rows.{Known}
 use Rattle.script_lines.specs.Input.{FailsOrFull}
-use Rattle.desk_server.specs.Run.{AnswersWhole}
 use Rattle.desk_server.specs.declared.server.RunFault.TheVariants as fault
 use Rattle.desk_server.proofs.Rounds.{answers_none, answers_answers, answers_finishes, answers_stops, answers_breaks, finishes_all, stops_front}
 use Rattle.desk_server.proofs.server.run.Goals as goal

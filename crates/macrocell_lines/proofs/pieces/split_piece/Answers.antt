@@ -1,12 +1,12 @@
-use Rattle.std.proofs.Common.{sym, ◌∙◌, arith}
+use Rattle.std.proofs.Common.{sym, ◌∙◌, ◌==◌, arith}
 use Rattle.std.proofs.lemmas.Grind.{common_steps}
-use Rattle.macrocell_lines.proofs.Splits.{pieces-some, pieces-none}
+use Rattle.text_lines.proofs.Pieces.{split-some, split-none}
 use Rattle.macrocell_lines.proofs.pieces.split_piece.Goals as goal
 
 pub returns-in-Some : goal.returns-in-Some
 returns-in-Some c =
-    let split = pieces-some c.args.separator c.args.text.now c.in-Some.end (sym c.find_byte.ensures ∙ c.in-Some.is) in
+    let split = split-some (λ b. b == c.args.separator) c.args.text.now c.in-Some.end (sym c.find_byte.ensures ∙ c.in-Some.is) in
     grind (arith, common_steps, split)
 
 pub returns-in-None : goal.returns-in-None
-returns-in-None c = pieces-none c.args.separator c.args.text.now (sym c.find_byte.ensures ∙ c.in-None.is)
+returns-in-None c = split-none (λ b. b == c.args.separator) c.args.text.now (sym c.find_byte.ensures ∙ c.in-None.is)

@@ -1,7 +1,7 @@
 use Rattle.std.proofs.Common.{arith}
 use Rattle.std.proofs.lemmas.Int.{ints}
 use Rattle.std.proofs.lemmas.List.Elements.{All-push}
-use Rattle.plane_core.specs.Range.{CanBeLaid}
+use Rattle.worlds.specs.Range.{CanBeLaid}
 use Rattle.multistate_rle.proofs.Strips.{side_by_side-more}
 use Rattle.multistate_rle.proofs.drawing.push_strip.Goals as goal
 

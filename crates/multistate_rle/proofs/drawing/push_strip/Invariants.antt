@@ -1,6 +1,6 @@
 use Rattle.std.proofs.Common.{◌≡◌, ◌++◌}
 use Rattle.std.specs.List.{All}
-use Rattle.plane_core.specs.Range.{CanBeLaid}
+use Rattle.worlds.specs.Range.{CanBeLaid}
 use Rattle.multistate_rle.specs.Drawing.{side_by_side}
 use Rattle.multistate_rle.proofs.drawing.push_strip.Given as goal
 

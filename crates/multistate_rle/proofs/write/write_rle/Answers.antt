@@ -1,7 +1,7 @@
 use Rattle.std.proofs.Common.{◌≡◌, map, rules, subst, sym}
 use Rattle.std.specs.List.{All}
-use Rattle.plane_core.specs.Live.{live, of_cell}
-use Rattle.plane_core.specs.declared.cell.Cell.{Cell}
+use Rattle.worlds.specs.Live.{live, of_cell}
+use Rattle.worlds.specs.declared.cell.Cell.{Cell}
 use Rattle.std.proofs.Common.{List}
 use Rattle.multistate_rle.specs.Listed.{IsListed}
 use Rattle.multistate_rle.proofs.Listed.{AllListed-live}

@@ -1,5 +1,5 @@
-use Rattle.std.proofs.Common.{◌≡◌, ℕ, ◌-◌, ◌<◌, ◌≤◌, length, sym, ap, subst, ◌∙◌, arith, lit<}
-use Rattle.square_rows.specs.Rows.{IsNumber, AreRows, IsLeastLevel, root_level, world_of_rows, kid, row_at}
+use Rattle.std.proofs.Common.{◌-◌, length, sym, ap, subst, ◌∙◌, arith, lit<}
+use Rattle.square_rows.specs.Rows.{IsNumber, kid, row_at}
 use Rattle.square_rows.proofs.Centres.{IfNone_from, NoCorner, HasMiddle, least-one, least-nw, least-ne, least-sw, least-se, rows-some, root-kid, centre-is}
 use Rattle.square_rows.proofs.centre.centre.Goals as goal
 

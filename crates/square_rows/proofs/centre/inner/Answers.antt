@@ -1,5 +1,4 @@
-use Rattle.std.proofs.Common.{◌≡◌, ◌-◌, ◌<◌, false, true, sym, subst, ◌∙◌, arith}
-use Rattle.square_rows.specs.Rows.{IsNumber}
+use Rattle.std.proofs.Common.{◌-◌, sym, subst, ◌∙◌, arith}
 use Rattle.square_rows.specs.Centre.{IsCorner}
 use Rattle.square_rows.proofs.Descents.{number_within}
 use Rattle.square_rows.proofs.Centres.{corner-alone, corner-none, corner-only, zero-IsNumber}

@@ -1,6 +1,5 @@
-use Rattle.std.proofs.Common.{◌≡◌, ◌<◌, ◌≤◌, ◌-◌, ◌^◌, ℕ, suc, length, get_or, sym, ap, ap₂, ◌∙◌, subst, arith, rules}
-use Rattle.square_rows.specs.declared.row.SquareRow.{SquareRow}
-use Rattle.square_rows.specs.Square.{Square, cell_in, quadrant_at}
+use Rattle.std.proofs.Common.{◌-◌, sym, ap, ap₂, ◌∙◌, subst, arith, rules}
+use Rattle.worlds.specs.Square.{Square, cell_in, quadrant_at}
 use Rattle.square_rows.specs.Rows.{square_in, IsNumber, kid, row_at}
 use Rattle.square_rows.proofs.Sound.{state-IsNumber, square_in-none, square_in-state}
 use Rattle.square_rows.proofs.Cells.{cell_in-one, cell_in-empty}

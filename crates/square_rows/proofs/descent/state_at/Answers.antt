@@ -1,4 +1,4 @@
-use Rattle.std.proofs.Common.{◌≡◌, ◌≤◌, ◌-◌, ◌^◌, length, arith, sym, subst, pow_mono}
+use Rattle.std.proofs.Common.{◌≤◌, ◌-◌, ◌^◌, length, arith, sym, subst, pow_mono}
 use Rattle.square_rows.specs.Rows.{IsNumber}
 use Rattle.square_rows.proofs.Roots.{rooted, found-inside, found-outside}
 use Rattle.square_rows.proofs.descent.state_at.Goals as goal

@@ -1,6 +1,6 @@
-use Rattle.std.proofs.Common.{◌≡◌, ◌<◌, ◌-◌, ◌+◌, ℕ, length, get_or, sym, ap, ◌∙◌, subst, arith, rules, lit<, None, Some}
+use Rattle.std.proofs.Common.{◌≡◌, ◌-◌, get_or, sym, ◌∙◌, subst, arith, lit<, None, Some}
 use Rattle.std.proofs.lemmas.List.{get_or_read}
-use Rattle.square_rows.specs.Rows.{square_in, kid, row_at}
+use Rattle.square_rows.specs.Rows.{square_in}
 use Rattle.square_rows.specs.Walks.{Walks}
 use Rattle.square_rows.proofs.Sound.{Has-state, Has-none}
 use Rattle.square_rows.proofs.Descents.{number_within, number-kid}

@@ -1,6 +1,6 @@
-use Rattle.std.proofs.Common.{◌≡◌, ◌+◌, ◌<◌, ◌^◌, true, false, List, length, sym, ap, subst, ◌∙◌, arith, cond}
+use Rattle.std.proofs.Common.{◌+◌, ◌<◌, ◌^◌, List, length, sym, ap, subst, ◌∙◌, arith}
 use Rattle.square_rows.specs.declared.row.SquareRow.{SquareRow}
-use Rattle.square_rows.specs.Rows.{Numbered, same_kids}
+use Rattle.square_rows.specs.Rows.{Numbered}
 use Rattle.square_rows.proofs.Numbering.{number_row-empty, number_row-insert, few_more}
 use Rattle.square_rows.proofs.walk.complete.Goals as goal
 

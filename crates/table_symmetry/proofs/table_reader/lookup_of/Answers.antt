@@ -26,8 +26,10 @@ returns c =
     let rows : c.in_ok-rows.rows.items ≡ expanded table =
     c.in_ok-rows.ensures.0 ∙ ap (λ s. flat_map (expanded_of s) c.transitions.result.now) c.symmetry.ensures ∙ ap (flat_map (expanded_of table.symmetry)) c.transitions.ensures.value in
     let found : FindsFirst lookup c.states.result c.neighborhood.result (expanded table) = subst (FindsFirst lookup c.states.result c.neighborhood.result) (c.deref.ensures.value ∙ rows) c.in_ok-lookup.ensures in
-    let near : FindsFirst lookup c.states.result table.neighborhood (expanded table) = subst (λ n. FindsFirst lookup c.states.result n (expanded table)) c.neighborhood.ensures found in
-    record {
-      few = subst (λ rows. length rows ≤ transition_limit) rows c.in_ok-rows.ensures.1;
-      finds = subst (λ n. FindsFirst lookup n table.neighborhood (expanded table)) c.states.ensures.value near;
-    }
+    let near : FindsFirst lookup c.states.result table.neighborhood (expanded table) = subst (λ n. FindsFirst lookup c.states.result n (expanded table)) c.neighborhood.ensures found in (
+      record {
+        few = subst (λ rows. length rows ≤ transition_limit) rows c.in_ok-rows.ensures.1;
+        finds = subst (λ n. FindsFirst lookup n table.neighborhood (expanded table)) c.states.ensures.value near;
+      },
+      rows,
+    )

@@ -1,5 +1,5 @@
 use Rattle.std.proofs.Common.{◌∙◌, ◌≡◌, ap, List, ◌++◌, ◌∷◌, rules}
-use Rattle.plane_core.specs.Live.{place_of}
+use Rattle.worlds.specs.Live.{place_of}
 use Rattle.multistate_rle.specs.declared.open_run.OpenRun.{OpenRun}
 use Rattle.multistate_rle.specs.declared.token.Token.{Token}
 use Rattle.multistate_rle.specs.Token.{way, joined, tokens, behind}

@@ -1,7 +1,7 @@
 use Rattle.std.proofs.Common.{◌∙◌, ◌≡◌, sym, ap, ◌++◌, ◌∷◌, [], ℕ, List, map, rules, OnOk}
 use Rattle.std.proofs.lemmas.Result.{on_ok_weaker}
-use Rattle.plane_core.specs.World.{Place}
-use Rattle.plane_core.specs.Live.{of_cell, place_of}
+use Rattle.worlds.specs.World.{Place}
+use Rattle.worlds.specs.Live.{of_cell, place_of}
 use Rattle.multistate_rle.specs.declared.token.Token.{Token}
 use Rattle.multistate_rle.specs.Token.{way, joined, tokens, behind}
 use Rattle.multistate_rle.specs.Writing.{finished, tokens_on}

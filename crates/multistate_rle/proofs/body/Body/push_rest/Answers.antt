@@ -1,6 +1,6 @@
 use Rattle.std.proofs.Common.{◌∙◌, ◌≡◌, sym, ap, ◌∷◌, [], length, ◌≤◌, arith, rules, map, drop}
 use Rattle.std.proofs.lemmas.Result.{on_ok_weaker}
-use Rattle.plane_core.specs.Live.{of_cell}
+use Rattle.worlds.specs.Live.{of_cell}
 use Rattle.multistate_rle.specs.declared.token.Token.TheVariants.{End}
 use Rattle.multistate_rle.specs.Writing.{finished, tokens_on}
 use Rattle.multistate_rle.proofs.Runs.{cells_done}

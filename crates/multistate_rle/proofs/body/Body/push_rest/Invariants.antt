@@ -1,5 +1,5 @@
 use Rattle.std.proofs.Common.{◌≡◌, ◌+◌, ◌≤◌, drop, map}
-use Rattle.plane_core.specs.Live.{of_cell}
+use Rattle.worlds.specs.Live.{of_cell}
 use Rattle.multistate_rle.specs.Writing.{finished, tokens_on}
 use Rattle.multistate_rle.proofs.body.Body.push_rest.Given as goal
 

@@ -1,6 +1,6 @@
 use Rattle.std.proofs.Common.{◌∙◌, ◌≡◌, sym, ap, ap₂, ◌++◌, ◌∷◌, rules}
 use Rattle.std.proofs.lemmas.Result.{on_ok_weaker}
-use Rattle.plane_core.specs.Live.{place_of}
+use Rattle.worlds.specs.Live.{place_of}
 use Rattle.multistate_rle.specs.declared.token.Token.TheVariants.{RowEnds}
 use Rattle.multistate_rle.specs.Token.{distance, zeros}
 use Rattle.multistate_rle.specs.Writing.{finished}

@@ -1,6 +1,6 @@
 use Rattle.std.proofs.Common.{◌≡◌, ◌∙◌, sym, ap, ◌+◌, rules, to_z, of_z, w64}
-use Rattle.plane_core.specs.World.{blank}
-use Rattle.plane_core.specs.Range.{IsBoundingBox}
+use Rattle.worlds.specs.World.{blank}
+use Rattle.worlds.specs.Range.{IsBoundingBox}
 use Rattle.multistate_rle.specs.Frame.{frame_of}
 use Rattle.multistate_rle.specs.Token.{distance}
 use Rattle.multistate_rle.proofs.Boxes.{box_of-blank, box_of-live, same_frame}

@@ -1,7 +1,7 @@
 use Rattle.std.proofs.Common.{◌≡◌, ◌∙◌, List, length, ap, ap₂, sym, subst, None}
 use Rattle.std.specs.Prelude.{if◌then◌else◌, ◌==◌}
 use Rattle.std.proofs.lemmas.List.{length-map, with_items_is}
-use Rattle.plane_core.specs.declared.cell.CellSet.{CellSet}
+use Rattle.worlds.specs.declared.cell.CellSet.{CellSet}
 use Rattle.schedule.specs.declared.document.Intervention.{Intervention}
 use Rattle.schedule.specs.Kept.{plan_of}
 use Rattle.schedule.specs.Ids.{intervention_id, changed_at}

@@ -1,6 +1,6 @@
 use Rattle.std.proofs.Common.{◌≡◌, ◌≤◌, ◌∙◌, sym, ap, subst, None, arith}
 use Rattle.std.specs.Arc.{arc_value}
-use Rattle.plane_core.specs.World.{World}
+use Rattle.worlds.specs.World.{World}
 use Rattle.rule_tree.specs.Rule.{states_of}
 use Rattle.schedule.specs.Kept.{plan_of}
 use Rattle.schedule.specs.Sound.{IsSound}

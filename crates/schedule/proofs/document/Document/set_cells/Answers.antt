@@ -1,5 +1,5 @@
 use Rattle.std.proofs.Common.{◌≡◌, ◌∙◌, sym, ap, subst, None}
-use Rattle.plane_core.specs.Lay.{lay}
+use Rattle.worlds.specs.Lay.{lay}
 use Rattle.schedule.specs.Kept.{plan_of}
 use Rattle.schedule.specs.Change.{first_refusal, for_cells}
 use Rattle.schedule.proofs.Sounds.{IsSound-cells, CanBeLaid-fit}

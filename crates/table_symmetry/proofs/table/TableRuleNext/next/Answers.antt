@@ -1,6 +1,6 @@
 use Rattle.std.proofs.Common.{◌≡◌, ◌<◌, true, cond, rules, ap, sym, subst, ◌∙◌, unwrap_or}
 use Rattle.std.specs.Prelude.{All, slice_index}
-use Rattle.plane_core.specs.Step.{AreNineBelow}
+use Rattle.worlds.specs.Step.{AreNineBelow}
 use Rattle.table_symmetry.specs.NextState.{next}
 use Rattle.table_symmetry.specs.Rule.{is_sound}
 use Rattle.table_symmetry.specs.Table.{Table}

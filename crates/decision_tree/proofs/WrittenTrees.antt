@@ -1,0 +1,176 @@
+-- Trees that are written read back.
+use Rattle.std.proofs.Common.{◌≡◌, ◌∙◌, sym, ap, refl, ℕ, ◌+◌, ◌<◌, ◌≤◌, ◌==◌, ◌&&◌, ◌||◌, Bool, true, false, cond, List, [], ◌∷◌, ◌++◌, length, map, take, drop, Option, Some, None, Ok, Err, nat_lt, nat_le, decimal, append-nil, append_assoc, length-append, arith}
+use Rattle.std.specs.Prelude.{codes, option_and_then, slice_index}
+use Rattle.std.specs.List.{AllByRecursion, list_all}
+use Rattle.std.specs.Option.{option_map, option_map_or, ok_or}
+use Rattle.std.proofs.lemmas.Bool.{and_parts}
+use Rattle.std.proofs.lemmas.Bool.Decides.{nat_tests}
+use Rattle.basics.specs.Results.{◌>>=◌}
+use Rattle.text_lines.specs.Blanks.{is_blank, trim_end, trim_start}
+use Rattle.text_lines.specs.Numbers.{numbers_line}
+use Rattle.text_lines.proofs.ByteRanges.{differs, digit-visible, visible-solid}
+use Rattle.text_lines.proofs.Decimals.{IsNumeral, IsWide, decimal-numeral, number_of-decimal}
+use Rattle.text_lines.proofs.NumberLines.{Parts, numbers-bytes, words-numbers}
+use Rattle.text_lines.proofs.Pieces.{position-at, position-none}
+use Rattle.rule_file.specs.declared.fault.RuleFault.TheVariants.{BadTree, NotQuiescent}
+use Rattle.rule_file.specs.RuleFile.{NumberedLine, numbered_from}
+use Rattle.decision_tree.specs.declared.tree.Neighbors.{Neighbors}
+use Rattle.decision_tree.specs.declared.tree.Neighbors.TheVariants.{Four, Eight}
+use Rattle.decision_tree.specs.declared.descriptors.Descriptor.{Descriptor}
+use Rattle.decision_tree.specs.declared.descriptors.Descriptor.TheVariants as descriptor
+use Rattle.decision_tree.specs.declared.descriptors.TreeHead.{TreeHead}
+use Rattle.decision_tree.specs.Kept.{IsTreeHead}
+use Rattle.decision_tree.specs.Laws.{WrittenMeansTheSame}
+use Rattle.decision_tree.specs.TreeLines.{Described, Node, depth_of_root, describe, descriptor_named, descriptor_of, do_entries_fit, head_from, head_of, if_quiescent, is_next, last_number, node_from, node_of, nodes_from, number_within, numbers_in, tree_from, undescribed}
+use Rattle.decision_tree.specs.WrittenTree.{EachIsNext, neighbors_text, node_line, written_lines, written_section}
+
+-- digits stand as they are behind an equals sign
+trim_start-digits : (ds : List ℕ) → IsNumeral ds → trim_start ds ≡ ds
+trim_start-digits [] h = refl
+trim_start-digits (d ∷ ds) h = let digits = h.digits in ap (λ v. cond v (trim_start ds) (d ∷ ds)) (visible-solid d (digit-visible d digits.0))
+
+-- what a descriptor's line says, by its word
+abbrev described_by : List ℕ → ℕ → Option (Descriptor × List ℕ)
+described_by line sign = option_map (λ d. (d, trim_start (drop (sign + 1) line))) (descriptor_named (trim_end (take sign line)))
+
+states-line : (n : ℕ) → IsWide n → descriptor_of (codes "num_states=" ++ decimal n) ≡ Some (descriptor.States, decimal n)
+states-line n h =
+    ap (λ at. option_and_then (described_by (codes "num_states=" ++ decimal n)) at)
+    (position-at (λ b. b == 61) (codes "num_states") 61 (decimal n) (refl, (refl, (refl, (refl, (refl, (refl, (refl, (refl, (refl, (refl, tt)))))))))) refl)
+    ∙ ap (λ value. Some (descriptor.States, value)) (trim_start-digits (decimal n) (decimal-numeral n h))
+
+nodes-line : (n : ℕ) → IsWide n → descriptor_of (codes "num_nodes=" ++ decimal n) ≡ Some (descriptor.Nodes, decimal n)
+nodes-line n h =
+    ap (λ at. option_and_then (described_by (codes "num_nodes=" ++ decimal n)) at)
+    (position-at (λ b. b == 61) (codes "num_nodes") 61 (decimal n) (refl, (refl, (refl, (refl, (refl, (refl, (refl, (refl, (refl, tt))))))))) refl)
+    ∙ ap (λ value. Some (descriptor.Nodes, value)) (trim_start-digits (decimal n) (decimal-numeral n h))
+
+-- a number within its limits reads back
+within-read : (least most n : ℕ) → IsWide n → least ≤ n → n ≤ most → number_within least most (decimal n) ≡ Some n
+within-read least most n wide low high =
+    let above : nat_le least n ≡ true = grind (arith, nat_tests) in
+    let below : nat_le n most ≡ true = grind (arith, nat_tests) in
+    ap (option_and_then (λ m. cond (nat_le least m && nat_le m most) (Some m) None)) (number_of-decimal n wide)
+    ∙ ap (λ v. cond (v && nat_le n most) (Some n) None) above
+    ∙ ap (λ v. cond v (Some n) None) below
+
+-- one descriptor after another
+head-step : (last : ℕ) (d e : Described) (line : NumberedLine) (lines : List NumberedLine) (x : Descriptor) (value : List ℕ) → descriptor_of line.text ≡ Some (x, value) → describe d x value ≡ Some e → head_from last d (line ∷ lines) ≡ head_from last e lines
+head-step last d e line lines x value is said =
+    ap (λ read. option_map_or (λ x. ok_or (describe d x.0 x.1) (BadTree line.number) >>= λ e. head_from last e lines) read (ok_or (head_of d) (BadTree line.number) >>= λ head. Ok (head, line ∷ lines))) is
+    ∙ ap (λ read. ok_or read (BadTree line.number) >>= λ e. head_from last e lines) said
+
+-- and the line behind them
+head-end : (last : ℕ) (d : Described) (head : TreeHead) (line : NumberedLine) (lines : List NumberedLine) → descriptor_of line.text ≡ None → head_of d ≡ Some head → head_from last d (line ∷ lines) ≡ Ok (head, line ∷ lines)
+head-end last d head line lines is said =
+    ap (λ read. option_map_or (λ x. ok_or (describe d x.0 x.1) (BadTree line.number) >>= λ e. head_from last e lines) read (ok_or (head_of d) (BadTree line.number) >>= λ head. Ok (head, line ∷ lines))) is
+    ∙ ap (λ read. ok_or read (BadTree line.number) >>= λ head. Ok (head, line ∷ lines)) said
+
+neighbors-step : (last : ℕ) (states : ℕ) (neighbors : Neighbors) (number : ℕ) (lines : List NumberedLine) → head_from last (record undescribed { states = Some states }) (record { number = number; text = codes "num_neighbors=" ++ neighbors_text neighbors } ∷ lines) ≡ head_from last (record { states = Some states; neighbors = Some neighbors; node_count = None }) lines
+neighbors-step last states Four number lines = refl
+neighbors-step last states Eight number lines = refl
+
+-- a line of numbers is no descriptor
+numbers-undescribed : (n : ℕ) (ns : List ℕ) → AllByRecursion IsWide (n ∷ ns) → descriptor_of (numbers_line (n ∷ ns)) ≡ None
+numbers-undescribed n ns h =
+    ap (λ at. option_and_then (described_by (numbers_line (n ∷ ns))) at)
+    (position-none (λ b. b == 61) (numbers_line (n ∷ ns)) (numbers-bytes (λ b. (b == 61) ≡ false) refl (λ b k. let high : b ≤ 57 = k.1 in differs b 61 (λ e. omega arith)) n ns h))
+
+parts-blank : Parts is_blank
+parts-blank = record { space = refl; digit = λ b h. visible-solid b (digit-visible b h) }
+
+numbers-read : (ns : List ℕ) → AllByRecursion IsWide ns → numbers_in (map decimal ns) ≡ Some ns
+numbers-read [] h = refl
+numbers-read (n ∷ ns) h =
+    ap (λ read. option_and_then (λ n. option_map (λ ns. n ∷ ns) (numbers_in (map decimal ns))) read) (number_of-decimal n h.0)
+    ∙ ap (option_map (λ ns. n ∷ ns)) (numbers-read ns h.1)
+
+-- the line of a node that may stand there says it
+node-read : (head : TreeHead) (nodes : List Node) (node : Node) → AllByRecursion IsWide (node.depth ∷ node.entries) → is_next head (map (λ n. n.depth) nodes) node ≡ true → node_of head nodes (node_line node) ≡ Some node
+node-read head nodes node wide is =
+    ap (λ read. option_and_then (λ numbers. option_and_then (λ node. cond (is_next head (map (λ n. n.depth) nodes) node) (Some node) None) (node_from numbers)) read)
+    (ap numbers_in (words-numbers is_blank parts-blank node.depth node.entries wide) ∙ numbers-read (node.depth ∷ node.entries) wide)
+    ∙ ap (λ v. cond v (Some node) None) is
+
+-- states and numbers of nodes are written in full
+entries-low : (states : ℕ) (entries : List ℕ) → states ≤ 256 → list_all (λ state. nat_lt state states) entries ≡ true → AllByRecursion IsWide entries
+entries-low states [] few h = tt
+entries-low states (n ∷ ns) few h =
+    let both = and_parts (nat_lt n states) (list_all (λ state. nat_lt state states) ns) h in
+    let first : nat_lt n states ≡ true = both.0 in
+    let low : n < states = grind (arith, nat_tests) in
+    (omega arith, entries-low states ns few both.1)
+
+numbers-low : (count depth : ℕ) (depth_of : ℕ → ℕ) (entries : List ℕ) → count ≤ 4194304 → list_all (λ number. nat_lt number count && (depth_of number + 1 == depth)) entries ≡ true → AllByRecursion IsWide entries
+numbers-low count depth depth_of [] few h = tt
+numbers-low count depth depth_of (n ∷ ns) few h =
+    let both = and_parts (nat_lt n count && (depth_of n + 1 == depth)) (list_all (λ number. nat_lt number count && (depth_of number + 1 == depth)) ns) h in
+    let first : nat_lt n count ≡ true = (and_parts (nat_lt n count) (depth_of n + 1 == depth) both.0).0 in
+    let low : n < count = grind (arith, nat_tests) in
+    (omega arith, numbers-low count depth depth_of ns few both.1)
+
+fits-low : (head : TreeHead) (depths : List ℕ) (node : Node) → IsTreeHead head → length depths < head.node_count → do_entries_fit head.states depths node ≡ true → AllByRecursion IsWide node.entries
+fits-low head depths node limits room h = by (node.depth == 1) h
+  where
+    by : (v : Bool) → cond v (list_all (λ state. nat_lt state head.states) node.entries) (list_all (λ number. nat_lt number (length depths) && (slice_index depths number + 1 == node.depth)) node.entries) ≡ true → AllByRecursion IsWide node.entries
+    by true h = entries-low head.states node.entries limits.at_most h
+    by false h = let few = limits.few in numbers-low (length depths) node.depth (slice_index depths) node.entries (omega arith) h
+
+pub node-wide : (head : TreeHead) (nodes : List Node) (node : Node) → IsTreeHead head → node.depth ≤ head.node_count → is_next head (map (λ n. n.depth) nodes) node ≡ true → AllByRecursion IsWide (node.depth ∷ node.entries)
+node-wide head nodes node limits low h =
+    let depths = map (λ (n : Node). n.depth) nodes in
+    let last = nat_lt (length depths + 1) head.node_count || (node.depth == depth_of_root head.neighbors) in
+    let one = and_parts (nat_lt (length depths) head.node_count) ((length node.entries == head.states) && (do_entries_fit head.states depths node && last)) h in
+    let two = and_parts (length node.entries == head.states) (do_entries_fit head.states depths node && last) one.1 in
+    let three = and_parts (do_entries_fit head.states depths node) last two.1 in
+    let test : nat_lt (length depths) head.node_count ≡ true = one.0 in
+    let room : length depths < head.node_count = grind (arith, nat_tests) in
+    let few = limits.few in
+    (omega arith, fits-low head depths node limits room three.0)
+
+-- all nodes read back, one behind another
+nodes-taken : (last number : ℕ) (head : TreeHead) (nodes others : List Node) → IsTreeHead head → length nodes + length others ≡ head.node_count → EachIsNext head nodes others → AllByRecursion (λ node. node.depth ≤ head.node_count) others → nodes_from last head nodes (numbered_from number (map node_line others)) ≡ Ok (nodes ++ others)
+nodes-taken last number head nodes [] limits all h low =
+    let is : (length nodes == head.node_count) ≡ true = grind (arith, nat_tests) in
+    ap (λ v. cond v (Ok nodes) (Err (BadTree last))) is ∙ ap Ok (sym (append-nil nodes))
+nodes-taken last number head nodes (node ∷ others) limits all h low =
+    ap (λ read. ok_or (option_map (λ node. nodes ++ node ∷ []) read) (BadTree number) >>= λ more. nodes_from last head more (numbered_from (number + 1) (map node_line others)))
+    (node-read head nodes node (node-wide head nodes node limits low.0 h.0) h.0)
+    ∙ nodes-taken last (number + 1) head (nodes ++ node ∷ []) others limits (omega (arith, length-append nodes (node ∷ []))) h.1 low.1
+    ∙ ap Ok (append_assoc nodes (node ∷ []) others)
+
+-- the head that is written reads back
+head-taken : (last number : ℕ) (head : TreeHead) (node : Node) (others : List Node) → IsTreeHead head → AllByRecursion IsWide (node.depth ∷ node.entries) → head_from last undescribed (numbered_from number (written_lines head (node ∷ others))) ≡ Ok (head, numbered_from (number + 1 + 1 + 1) (map node_line (node ∷ others)))
+head-taken last number head node others limits wide =
+    let low = limits.at_least in
+    let high = limits.at_most in
+    let some = limits.some in
+    let few = limits.few in
+    let behind = numbered_from (number + 1 + 1 + 1) (map node_line (node ∷ others)) in
+    let third : NumberedLine = record { number = number + 1 + 1; text = codes "num_nodes=" ++ decimal head.node_count } in
+    let second : NumberedLine = record { number = number + 1; text = codes "num_neighbors=" ++ neighbors_text head.neighbors } in
+    let first : NumberedLine = record { number = number; text = codes "num_states=" ++ decimal head.states } in
+    head-step last undescribed (record undescribed { states = Some head.states }) first (second ∷ third ∷ behind) descriptor.States (decimal head.states)
+    (states-line head.states (omega arith))
+    (ap (option_map (λ n. record undescribed { states = Some n })) (within-read 2 256 head.states (omega arith) low high))
+    ∙ neighbors-step last head.states head.neighbors (number + 1) (third ∷ behind)
+    ∙ head-step last (record { states = Some head.states; neighbors = Some head.neighbors; node_count = None }) (record { states = Some head.states; neighbors = Some head.neighbors; node_count = Some head.node_count }) third behind descriptor.Nodes (decimal head.node_count)
+    (nodes-line head.node_count (omega arith))
+    (ap (option_map (λ n. record { states = Some head.states; neighbors = Some head.neighbors; node_count = Some n })) (within-read 1 4194304 head.node_count (omega arith) some few))
+    ∙ head-end last (record { states = Some head.states; neighbors = Some head.neighbors; node_count = Some head.node_count }) head (record { number = number + 1 + 1 + 1; text = node_line node }) (numbered_from (number + 1 + 1 + 1 + 1) (map node_line others))
+    (numbers-undescribed node.depth node.entries wide) refl
+
+-- what is written means the tree
+pub written-means : WrittenMeansTheSame
+written-means opened head [] limits are quiet = let some = limits.some in let all = are.count in absurd (omega arith)
+written-means opened head (node ∷ others) limits are quiet =
+    let nodes = node ∷ others in
+    let section = written_section opened head nodes in
+    let last = last_number section.opened section.lines in
+    let each = are.each in
+    let low = are.low in
+    ap (λ found. found >>= λ f. nodes_from last f.0 [] f.1 >>= λ ns. if_quiescent (tree_from f.0 ns))
+    (head-taken last (opened + 1) head node others limits (node-wide head [] node limits low.0 each.0))
+    ∙ ap (λ read. read >>= λ ns. if_quiescent (tree_from head ns))
+    (nodes-taken last (opened + 1 + 1 + 1 + 1) head [] nodes limits (omega (arith, are.count)) each low)
+    ∙ ap (λ v. cond v (Ok (tree_from head nodes)) (Err NotQuiescent)) quiet

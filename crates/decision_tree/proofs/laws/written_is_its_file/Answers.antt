@@ -1,0 +1,5 @@
+use Rattle.decision_tree.proofs.WrittenFiles.{written-file}
+use Rattle.decision_tree.proofs.laws.written_is_its_file.Goals as goal
+
+pub returns : goal.returns
+returns c = written-file

@@ -1,0 +1,12 @@
+pub mod Loops
+pub mod Mapped
+pub mod Marked
+pub mod Texted
+pub mod Walk
+pub mod Leaves
+pub mod Noted
+pub mod Revised
+pub mod Found
+pub mod Stepping
+pub mod Placed
+pub mod Filled

@@ -1,0 +1,65 @@
+-- What an edit keeps of what is known.
+use Rattle.std.specs.Prelude.{◌≡◌, ℕ, Bool, true, false, not, ◌&&◌, nat_lt, nat_le, min, List, [], ◌∷◌, Option, None, Some, if◌then◌else◌, ◌==◌}
+use Rattle.schedule.specs.declared.document.Intervention.{Intervention}
+use Rattle.schedule.specs.declared.document.Bookmark.{Bookmark}
+use Rattle.schedule.specs.Plan.{Plan}
+use Rattle.schedule.specs.Asked.{Asked, InsertIntervention, ChangeIntervention, RemoveIntervention, SetCells, ReplaceStart, ReplaceRule, AddBookmark, MoveBookmark, RemoveBookmark}
+use Rattle.dependency_book.specs.Marks.{is_noted}
+use Rattle.dependency_book.specs.Known.{Known, arrival_known, text_known, bookmark_in}
+
+-- the generation of the intervention of this id, or 0 where there is none
+abbrev pub generation_of : List Intervention → ℕ → ℕ
+generation_of [] id = 0
+generation_of (i ∷ is) id = if i.id == id then i.generation else generation_of is id
+
+-- the generation at which an edit is first felt, if it changes any pattern: what arrives there stays, and what leaves it may be another
+abbrev pub felt_from : Plan → Asked → Option ℕ
+felt_from p (InsertIntervention generation cells) = Some generation
+felt_from p (ChangeIntervention id generation cells) = Some (min generation (generation_of p.interventions id))
+felt_from p (RemoveIntervention id) = Some (generation_of p.interventions id)
+felt_from p (SetCells cells) = Some 0
+felt_from p (ReplaceStart start) = Some 0
+felt_from p (ReplaceRule rule) = Some 0
+felt_from p (AddBookmark generation view) = None
+felt_from p (MoveBookmark id generation) = None
+felt_from p (RemoveBookmark id) = None
+
+-- whether an edit that is felt from there leaves what arrives at generation g
+abbrev pub leaves_arrival : Option ℕ → ℕ → Bool
+leaves_arrival None g = true
+leaves_arrival (Some from) g = nat_le g from
+
+-- whether it leaves what leaves generation g
+abbrev pub leaves_after : Option ℕ → ℕ → Bool
+leaves_after None g = true
+leaves_after (Some from) g = nat_lt g from
+
+-- whether an edit removes a bookmark or moves it to another generation
+abbrev pub takes : Asked → Bookmark → Bool
+takes (InsertIntervention generation cells) b = false
+takes (ChangeIntervention id generation cells) b = false
+takes (RemoveIntervention id) b = false
+takes (SetCells cells) b = false
+takes (ReplaceStart start) b = false
+takes (ReplaceRule rule) b = false
+takes (AddBookmark generation view) b = false
+takes (MoveBookmark id generation) b = b.id == id && not (b.generation == generation)
+takes (RemoveBookmark id) b = b.id == id
+
+-- whether the arrival at generation g is kept
+abbrev pub keeps_arrival : Plan → Asked → ℕ → Bool
+keeps_arrival p asked g = leaves_arrival (felt_from p asked) g
+
+-- whether the text of a bookmark is kept
+abbrev pub keeps_text : Plan → Asked → Bookmark → Bool
+keeps_text p asked b = leaves_after (felt_from p asked) b.generation && not (takes asked b)
+
+-- what stays known of the text of a bookmark of the document before an edit
+abbrev pub text_kept : Plan → Asked → Option Bookmark → Option (List ℕ) → Option (List ℕ)
+text_kept p asked None text = None
+text_kept p asked (Some b) text = if keeps_text p asked b then text else None
+
+-- what is known after an edit: of the marks above 0 that it leaves the kept arrivals, of the bookmarks that it leaves the kept texts, and nothing else
+pub record KeepsRows (asked : Asked) (old new : Known) : Type 0 where
+  pub arrivals : (g : ℕ) → arrival_known new g ≡ (if g == 0 then Some new.plan.start else if is_noted new.plan g && keeps_arrival old.plan asked g then arrival_known old g else None)
+  pub texts : (id : ℕ) → text_known new id ≡ text_kept old.plan asked (bookmark_in old.plan.bookmarks id) (text_known old id)

@@ -1,0 +1,11 @@
+pub mod Rows
+pub mod Marks
+pub mod Known
+pub mod Right
+pub mod Kept
+pub mod Touch
+pub mod Needs
+pub mod Shown
+pub mod Laid
+pub mod Rearranged
+pub mod Places

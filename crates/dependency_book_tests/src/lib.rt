@@ -1,0 +1,5 @@
+//! Worked books, with what they know.
+#![tactic(auto)]
+
+#[cfg(test)]
+mod tests;

@@ -1,0 +1,125 @@
+-- Rows that are added one behind another.
+use Rattle.std.proofs.Common.{◌≡◌, ℕ, zero, suc, ◌-◌, ◌<◌, ◌≤◌, List, [], ◌∷◌, ◌++◌, length, get_or, refl, sym, ap, ap₂, ◌∙◌, subst, arith, append-nil, lit<}
+use Rattle.std.proofs.lemmas.List.{length_push, get_or_push}
+use Rattle.square_rows.specs.declared.row.SquareRow.{SquareRow}
+use Rattle.worlds.specs.Square.{Square, one, four}
+use Rattle.square_rows.specs.Rows.{AreRows, IsNumber, IsRow, kid, no_row, row_at, square_in}
+use Rattle.square_rows.proofs.Numbering.{Grows, Grows-more, Grows-then}
+use Rattle.square_rows.proofs.Roots.{root_level-some}
+use Rattle.square_rows.proofs.Sound.{AreRows-push, IsNumber-from, IsNumber-grown, IsNumber-state, row_of, square_in-grown, square_in-row, square_in-state}
+use Rattle.multistate_macrocell.specs.Tables.{Adds, square_of_row}
+
+-- rows that were added to have grown
+pub adds-grows : (old new : List SquareRow) (k n : ℕ) (t : Square) → Adds old new k n t → Grows old new
+adds-grows old new k n t adds = record { more = adds.more; is = adds.grown }
+
+-- a cell takes no row
+pub adds-cell : (rows : List SquareRow) (k n : ℕ) (t : Square) → AreRows rows → k ≡ 0 → n < 256 → t ≡ one n → Adds rows rows k n t
+adds-cell rows zero n t valid e small is = record {
+  more = [];
+  grown = sym (append-nil rows);
+  valid = valid;
+  number = IsNumber-state rows n small;
+  names = square_in-state rows n ∙ sym is;
+  last = λ h. absurd (omega (arith, h));
+  root = λ h. absurd (omega (arith, h));
+}
+adds-cell rows (suc k) n t valid e small is = absurd (omega (arith, e))
+
+-- the kids of a row name the same squares with the row behind them
+kid_stays : (rows : List SquareRow) (row : SquareRow) (q : ℕ) → AreRows rows → IsRow rows row → q < 4 → square_in (rows ++ row ∷ []) (row.level - 1) (kid row q) ≡ square_in rows (row.level - 1) (kid row q)
+kid_stays rows row q valid is h = square_in-grown rows (rows ++ row ∷ []) (row.level - 1) (kid row q) (Grows-more rows (row ∷ [])) valid (is.kids q h)
+
+-- the square of the last row
+pushed_square : (rows : List SquareRow) (row : SquareRow) → AreRows rows → IsRow rows row → square_in (rows ++ row ∷ []) (suc (row.level - 1)) (suc (length rows)) ≡ square_of_row rows row
+pushed_square rows row valid is =
+    let all = rows ++ row ∷ [] in
+    let k = row.level - 1 in
+    square_in-row all k (length rows)
+    ∙ ap (λ (r : SquareRow). four (square_in all k (kid r 0)) (square_in all k (kid r 1)) (square_in all k (kid r 2)) (square_in all k (kid r 3))) (get_or_push rows row no_row (length rows) refl)
+    ∙ ap₂ (λ (a b : Square). four a b (square_in all k (kid row 2)) (square_in all k (kid row 3))) (kid_stays rows row 0 valid is (lit< tt)) (kid_stays rows row 1 valid is (lit< tt))
+    ∙ ap₂ (λ (c d : Square). four (square_in rows k (kid row 0)) (square_in rows k (kid row 1)) c d) (kid_stays rows row 2 valid is (lit< tt)) (kid_stays rows row 3 valid is (lit< tt))
+
+-- one row behind others
+pub adds-row : (rows new : List SquareRow) (row : SquareRow) (n : ℕ) → AreRows rows → IsRow rows row → new ≡ rows ++ row ∷ [] → n ≡ length new → Adds rows new row.level n (square_of_row rows row)
+adds-row rows new row n valid is grown count =
+    let all = rows ++ row ∷ [] in
+    let low : 1 ≤ row.level = is.low in
+    let level : suc (row.level - 1) ≡ row.level = omega arith in
+    let long : length all ≡ suc (length rows) = omega (arith, length_push rows row) in
+    let at : row_at all (length all) ≡ row = let less : length all - 1 ≡ length rows = omega arith in ap (λ m. get_or all m no_row) less ∙ get_or_push rows row no_row (length rows) refl in
+    let named : IsNumber all (suc (row.level - 1)) (length all) = IsNumber-from all (row.level - 1) (length all) (λ live. (omega arith, ap (λ (r : SquareRow). r.level) at ∙ sym level)) in
+    let square : square_in all (suc (row.level - 1)) (length all) ≡ square_of_row rows row = ap (square_in all (suc (row.level - 1))) long ∙ pushed_square rows row valid is in
+    let here : Adds rows all row.level (length all) (square_of_row rows row) = record {
+      more = row ∷ [];
+      grown = refl;
+      valid = AreRows-push rows row valid is;
+      number = subst (λ k. IsNumber all k (length all)) level named;
+      names = ap (λ k. square_in all k (length all)) (sym level) ∙ square;
+      last = λ h. refl;
+      root = λ h. root_level-some all (omega arith) ∙ ap (λ (r : SquareRow). r.level) at;
+    } in
+    let there : Adds rows new row.level (length new) (square_of_row rows row) = subst (λ (rs : List SquareRow). Adds rows rs row.level (length rs) (square_of_row rows row)) (sym grown) here in
+    subst (λ m. Adds rows new row.level m (square_of_row rows row)) (sym count) there
+
+-- four squares of a level, added one behind another
+pub record AddsFour (r0 r1 r2 r3 r4 : List SquareRow) (k a b c d : ℕ) (nw ne sw se : Square) : Type 0 where
+  pub first : Adds r0 r1 k a nw
+  pub second : Adds r1 r2 k b ne
+  pub third : Adds r2 r3 k c sw
+  pub fourth : Adds r3 r4 k d se
+
+module _ (r0 r1 r2 r3 r4 : List SquareRow) (k a b c d : ℕ) (nw ne sw se : Square) (adds : AddsFour r0 r1 r2 r3 r4 k a b c d nw ne sw se) where
+  g1 : Grows r0 r1
+  g1 = adds-grows r0 r1 k a nw adds.first
+
+  g4 : Grows r3 r4
+  g4 = adds-grows r3 r4 k d se adds.fourth
+
+  g3 : Grows r2 r4
+  g3 = Grows-then r2 r3 r4 (adds-grows r2 r3 k c sw adds.third) g4
+
+  g2 : Grows r1 r4
+  g2 = Grows-then r1 r2 r4 (adds-grows r1 r2 k b ne adds.second) g3
+
+  number_kid : (level q : ℕ) → level ≡ suc k → q < 4 → IsNumber r4 k (kid (row_of level a b c d) q)
+  number_kid level zero e h = IsNumber-grown r1 r4 k a g2 adds.first.number
+  number_kid level (suc zero) e h = IsNumber-grown r2 r4 k b g3 adds.second.number
+  number_kid level (suc (suc zero)) e h = IsNumber-grown r3 r4 k c g4 adds.third.number
+  number_kid level (suc (suc (suc zero))) e h = adds.fourth.number
+  number_kid level (suc (suc (suc (suc q)))) e h = absurd (omega (arith, h))
+
+  -- the row of the four may stand behind them
+  pub four-row : (level : ℕ) → level ≡ suc k → level ≤ 62 → IsRow r4 (row_of level a b c d)
+  four-row level e high =
+      let less : k ≡ level - 1 = omega arith in
+      record {
+        low = omega arith;
+        high = high;
+        kids = λ q h. subst (λ j. IsNumber r4 j (kid (row_of level a b c d) q)) less (number_kid level q e h);
+      }
+
+  -- and stands for the square of the four
+  pub four-square : (level : ℕ) → level ≡ suc k → square_of_row r4 (row_of level a b c d) ≡ four nw ne sw se
+  four-square level e =
+      let less : level - 1 ≡ k = omega arith in
+      let is_nw = square_in-grown r1 r4 k a g2 adds.first.valid adds.first.number ∙ adds.first.names in
+      let is_ne = square_in-grown r2 r4 k b g3 adds.second.valid adds.second.number ∙ adds.second.names in
+      let is_sw = square_in-grown r3 r4 k c g4 adds.third.valid adds.third.number ∙ adds.third.names in
+      ap (λ j. four (square_in r4 j a) (square_in r4 j b) (square_in r4 j c) (square_in r4 j d)) less
+      ∙ ap₂ (λ (s t : Square). four s t (square_in r4 k c) (square_in r4 k d)) is_nw is_ne
+      ∙ ap₂ (λ (s t : Square). four nw ne s t) is_sw adds.fourth.names
+
+  -- so that the four and their row add the square of the four
+  pub adds-four : (level n : ℕ) (r5 : List SquareRow) (t : Square) → level ≡ suc k → t ≡ four nw ne sw se → Adds r4 r5 level n (square_of_row r4 (row_of level a b c d)) → Adds r0 r5 level n t
+  adds-four level n r5 t e is row =
+      let g = Grows-then r0 r1 r5 g1 (Grows-then r1 r4 r5 g2 (adds-grows r4 r5 level n (square_of_row r4 (row_of level a b c d)) row)) in
+      record {
+        more = g.more;
+        grown = g.is;
+        valid = row.valid;
+        number = row.number;
+        names = row.names ∙ four-square level e ∙ sym is;
+        last = row.last;
+        root = row.root;
+      }

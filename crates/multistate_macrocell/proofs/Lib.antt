@@ -1,0 +1,9 @@
+pub mod Adding
+pub mod Drawing
+pub mod Children
+pub mod NodeRows
+pub mod Standing
+pub mod Written
+pub mod WorldRows
+pub mod RowNodes
+pub mod NodeCells

@@ -1,0 +1,215 @@
+-- Rows, and the numbers of the nodes among them, that stand for the first nodes.
+use Rattle.std.proofs.Common.{◌≡◌, ◌∙◌, sym, ap, ap₂, refl, subst, ℕ, zero, suc, ◌+◌, ◌-◌, ◌<◌, ◌≤◌, List, [], ◌∷◌, ◌++◌, length, take, get_or, Some, arith, inl, inr}
+use Rattle.std.specs.Prelude.{IsTrue, slice_get}
+use Rattle.std.specs.Option.{option_map_or}
+use Rattle.std.proofs.lemmas.List.{get_or_append_left, get_or_push, length_push, nil_from_length}
+use Rattle.std.proofs.lemmas.Bool.{cases_lt}
+use Rattle.std.proofs.lemmas.Option.{slice_get-get_or}
+use Rattle.macrocell_lines.specs.declared.node.Node.{Node}
+use Rattle.macrocell_lines.specs.declared.node.Node.TheVariants.{Cells, Square as Quartered, Bitmap as Drawn}
+use Rattle.macrocell_lines.specs.Nodes.{AreNodes, AreQuadrants, Follows, is_child, level_of}
+use Rattle.worlds.specs.World.{blank}
+use Rattle.square_rows.specs.declared.row.SquareRow.{SquareRow}
+use Rattle.worlds.specs.Square.{Square, four, empty_square, put_square}
+use Rattle.square_rows.specs.Rows.{AreRows, IsNumber, edge_of, root_level, square_in, world_of_rows}
+use Rattle.square_rows.proofs.Roots.{world-none, world-root}
+use Rattle.square_rows.proofs.Sound.{AreRows-none, IsNumber-from, IsNumber-grown, square_in-grown, square_in-none}
+use Rattle.multistate_macrocell.specs.Quadtree.{square_named, square_of, world_of_nodes, world_of_root}
+use Rattle.multistate_macrocell.specs.Tables.{Adds, AreKnown, CanFollow, IsKnown, row_number, square_by}
+use Rattle.multistate_macrocell.proofs.Adding.{adds-grows}
+use Rattle.multistate_macrocell.proofs.Children.{child-earlier, child-is, child-level, follows-at}
+
+-- the row of the node with a number is of its level and stands for its square
+pub record HasRow (rows : List SquareRow) (nodes : List Node) (numbers : List ℕ) (k n : ℕ) : Type 0 where
+  pub number : IsNumber rows k (row_number numbers n)
+  pub names : square_in rows k (row_number numbers n) ≡ square_named nodes k n
+
+-- the first nodes, so many, have rows, of which the last is that of the last of them
+pub record Stand (rows : List SquareRow) (nodes : List Node) (numbers : List ℕ) (place : ℕ) : Type 0 where
+  pub valid : AreRows rows
+  pub count : length numbers ≡ suc place
+  pub zero_first : row_number numbers 0 ≡ 0
+  pub each : (k n : ℕ) → n ≤ place → IsTrue (is_child nodes (suc (suc k)) n) → HasRow rows nodes numbers (suc k) n
+  pub last : row_number numbers place ≡ length rows
+  pub root : (node : Node) → 0 < place → slice_get nodes (place - 1) ≡ Some node → root_level rows ≡ level_of node
+
+pub named-none : (nodes : List Node) (k : ℕ) → square_named nodes (suc k) 0 ≡ empty_square (suc k)
+unfolding square_named
+named-none nodes k = refl
+
+none-number : (k : ℕ) → IsNumber [] (suc k) 0
+none-number k = IsNumber-from [] k 0 (λ live. absurd (omega (arith, live)))
+
+-- nothing stands for no nodes
+pub stand-none : (nodes : List Node) → Stand [] nodes (0 ∷ []) 0
+stand-none nodes = record {
+  valid = AreRows-none;
+  count = refl;
+  zero_first = refl;
+  each = each;
+  last = refl;
+  root = λ node h at. absurd (omega (arith, h));
+}
+  where
+    each : (k n : ℕ) → n ≤ 0 → IsTrue (is_child nodes (suc (suc k)) n) → HasRow [] nodes (0 ∷ []) (suc k) n
+    each k zero h is = record { number = none-number k; names = square_in-none [] (suc k) ∙ sym (named-none nodes k) }
+    each k (suc n) h is = absurd (omega (arith, h))
+
+-- a quadrant of the next node has a row
+quadrant_has : (rows : List SquareRow) (nodes : List Node) (numbers : List ℕ) (place k level n : ℕ) → Stand rows nodes numbers place → level ≡ suc (suc k) → IsTrue (is_child (take place nodes) level n) → HasRow rows nodes numbers (suc k) n
+quadrant_has rows nodes numbers place k level n stand e h =
+    let is = child-earlier nodes place level n h in
+    stand.each k n is.earlier (subst (λ l. IsTrue (is_child nodes l n)) e is.child)
+
+quadrant_known : (rows : List SquareRow) (nodes : List Node) (numbers : List ℕ) (place level n : ℕ) → Stand rows nodes numbers place → 2 ≤ level → IsTrue (is_child (take place nodes) level n) → IsKnown rows numbers (level - 1) n
+quadrant_known rows nodes numbers place level n stand low h =
+    let e : level ≡ suc (suc (level - 2)) = omega arith in
+    let less : suc (level - 2) ≡ level - 1 = omega arith in
+    let earlier = (child-earlier nodes place level n h).earlier in
+    let count = stand.count in
+    record {
+      there = omega arith;
+      number = subst (λ k. IsNumber rows k (row_number numbers n)) less (quadrant_has rows nodes numbers place (level - 2) level n stand e h).number;
+    }
+
+quadrants_known : (rows : List SquareRow) (nodes : List Node) (numbers : List ℕ) (place level a b c d : ℕ) → Stand rows nodes numbers place → AreQuadrants (take place nodes) level a b c d → AreKnown rows numbers level a b c d
+quadrants_known rows nodes numbers place level a b c d stand h = record {
+  low = h.low;
+  high = h.high;
+  nw_known = quadrant_known rows nodes numbers place level a stand h.low h.nw_child;
+  ne_known = quadrant_known rows nodes numbers place level b stand h.low h.ne_child;
+  sw_known = quadrant_known rows nodes numbers place level c stand h.low h.sw_child;
+  se_known = quadrant_known rows nodes numbers place level d stand h.low h.se_child;
+}
+
+can_follow : (rows : List SquareRow) (nodes : List Node) (numbers : List ℕ) (place : ℕ) (node : Node) → Stand rows nodes numbers place → Follows (take place nodes) node → CanFollow rows numbers node
+can_follow rows nodes numbers place (Cells a b c d) stand h = h
+can_follow rows nodes numbers place (Quartered level a b c d) stand h = quadrants_known rows nodes numbers place level a b c d stand h
+can_follow rows nodes numbers place (Drawn bitmap) stand h = tt
+
+-- the next node may become a row
+pub next-follows : (rows : List SquareRow) (nodes : List Node) (numbers : List ℕ) (place : ℕ) (node : Node) → AreNodes nodes → Stand rows nodes numbers place → slice_get nodes place ≡ Some node → CanFollow rows numbers node
+next-follows rows nodes numbers place node are stand at = can_follow rows nodes numbers place node stand (follows-at [] nodes place node are.each at)
+
+-- the square of the next node, by rows and by nodes
+square_is : (rows : List SquareRow) (nodes : List Node) (numbers : List ℕ) (place k : ℕ) (node : Node) → Stand rows nodes numbers place → Follows (take place nodes) node → level_of node ≡ suc k → square_by rows numbers node ≡ square_of (square_named nodes k) node
+unfolding square_of
+square_is rows nodes numbers place k (Cells a b c d) stand h e = refl
+square_is rows nodes numbers place zero (Quartered level a b c d) stand h e = absurd (let low = h.low in omega arith)
+square_is rows nodes numbers place (suc j) (Quartered level a b c d) stand h e =
+    let less : level - 1 ≡ suc j = omega arith in
+    let nw = (quadrant_has rows nodes numbers place j level a stand e h.nw_child).names in
+    let ne = (quadrant_has rows nodes numbers place j level b stand e h.ne_child).names in
+    let sw = (quadrant_has rows nodes numbers place j level c stand e h.sw_child).names in
+    let se = (quadrant_has rows nodes numbers place j level d stand e h.se_child).names in
+    ap (λ i. four (square_in rows i (row_number numbers a)) (square_in rows i (row_number numbers b)) (square_in rows i (row_number numbers c)) (square_in rows i (row_number numbers d))) less
+    ∙ ap₂ (λ (s t : Square). four s t (square_in rows (suc j) (row_number numbers c)) (square_in rows (suc j) (row_number numbers d))) nw ne
+    ∙ ap₂ (λ (s t : Square). four (square_named nodes (suc j) a) (square_named nodes (suc j) b) s t) sw se
+square_is rows nodes numbers place k (Drawn bitmap) stand h e = refl
+
+pub level_live : (nodes : List Node) (node : Node) → Follows nodes node → 0 < level_of node
+level_live nodes (Cells a b c d) h = omega arith
+level_live nodes (Quartered level a b c d) h = let low = h.low in omega arith
+level_live nodes (Drawn bitmap) h = omega arith
+
+pub named-node : (nodes : List Node) (k i : ℕ) (node : Node) → slice_get nodes i ≡ Some node → square_named nodes (suc k) (suc i) ≡ square_of (square_named nodes k) node
+unfolding square_named
+named-node nodes k i node at = ap (λ found. option_map_or (square_of (square_named nodes k)) found (empty_square (suc k))) at
+
+-- the rows with those of the next node
+module _ (rows new : List SquareRow) (nodes : List Node) (numbers : List ℕ) (place n : ℕ) (node : Node) (are : AreNodes nodes) (stand : Stand rows nodes numbers place) (at : slice_get nodes place ≡ Some node) (adds : Adds rows new (level_of node) n (square_by rows numbers node)) where
+  follows : Follows (take place nodes) node
+  follows = follows-at [] nodes place node are.each at
+
+  all : List ℕ
+  all = numbers ++ n ∷ []
+
+  here : row_number all (suc place) ≡ n
+  unfolding all
+  here = get_or_push numbers n 0 (suc place) stand.count
+
+  stays : (m : ℕ) → m ≤ place → row_number all m ≡ row_number numbers m
+  unfolding all
+  stays m h = let count = stand.count in get_or_append_left numbers (n ∷ []) 0 m (omega arith)
+
+  old_has : (k m : ℕ) → m ≤ place → IsTrue (is_child nodes (suc (suc k)) m) → HasRow new nodes all (suc k) m
+  old_has k m h is =
+      let has = stand.each k m h is in
+      let grows = adds-grows rows new (level_of node) n (square_by rows numbers node) adds in
+      let same = stays m h in
+      record {
+        number = subst (IsNumber new (suc k)) (sym same) (IsNumber-grown rows new (suc k) (row_number numbers m) grows has.number);
+        names = ap (square_in new (suc k)) same ∙ square_in-grown rows new (suc k) (row_number numbers m) grows stand.valid has.number ∙ has.names;
+      }
+
+  new_has : (k : ℕ) → IsTrue (is_child nodes (suc (suc k)) (suc place)) → HasRow new nodes all (suc k) (suc place)
+  new_has k is =
+      let up = child-level nodes (suc (suc k)) place node at is in
+      let level : level_of node ≡ suc k = omega arith in
+      let number = subst (IsNumber new (level_of node)) (sym here) adds.number in
+      let names = ap (square_in new (level_of node)) here ∙ adds.names in
+      record {
+        number = subst (λ j. IsNumber new j (row_number all (suc place))) level number;
+        names = ap (λ j. square_in new j (row_number all (suc place))) (sym level) ∙ names
+            ∙ square_is rows nodes numbers place k node stand follows level ∙ sym (named-node nodes k place node at);
+      }
+
+  each_has : (k m : ℕ) → m ≤ suc place → IsTrue (is_child nodes (suc (suc k)) m) → HasRow new nodes all (suc k) m
+  each_has k m h is =
+      elim (cases_lt m (suc place)) [
+        | inl lt ↦ old_has k m (omega arith) is
+        | inr ge ↦
+            let e : suc place ≡ m = omega arith in
+            subst (HasRow new nodes all (suc k)) e (new_has k (subst (λ i. IsTrue (is_child nodes (suc (suc k)) i)) (sym e) is))
+      ]
+
+  pub stand-more : Stand new nodes (numbers ++ n ∷ []) (suc place)
+  unfolding all
+  stand-more = record {
+    valid = adds.valid;
+    count = let count = stand.count in omega (arith, length_push numbers n);
+    zero_first = stays 0 (omega arith) ∙ stand.zero_first;
+    each = each_has;
+    last = here ∙ adds.last (level_live (take place nodes) node follows);
+    root = λ other h is.
+        let less : suc place - 1 ≡ place = omega arith in
+        let same : Some node ≡ Some other = sym at ∙ ap (slice_get nodes) (sym less) ∙ is in
+        adds.root (level_live (take place nodes) node follows) ∙ (let e : node ≡ other = cc in ap level_of e);
+  }
+
+world-nodes-none : world_of_nodes [] ≡ blank
+unfolding world_of_nodes
+world-nodes-none = refl
+
+pub world-nodes-root : (nodes : List Node) (root : Node) → slice_get nodes (length nodes - 1) ≡ Some root → world_of_nodes nodes ≡ world_of_root nodes (level_of root) (length nodes)
+unfolding world_of_nodes
+world-nodes-root nodes root at = ap (λ found. option_map_or (λ root. world_of_root nodes (level_of root) (length nodes)) found blank) at
+
+root_stands : (rows : List SquareRow) (nodes : List Node) (numbers : List ℕ) (root : Node) (i k : ℕ) → Stand rows nodes numbers (length nodes) → length nodes ≡ suc i → slice_get nodes i ≡ Some root → level_of root ≡ suc k → world_of_rows rows ≡ world_of_nodes nodes
+root_stands rows nodes numbers root i k stand long at level =
+    let less : length nodes - 1 ≡ i = omega arith in
+    let here : slice_get nodes (length nodes - 1) ≡ Some root = ap (slice_get nodes) less ∙ at in
+    let up : level_of root + 1 ≡ suc (suc k) = omega arith in
+    let child : IsTrue (is_child nodes (suc (suc k)) (length nodes)) = subst (λ n. IsTrue (is_child nodes (suc (suc k)) n)) (sym long) (child-is nodes (suc (suc k)) i root at up) in
+    let has = stand.each k (length nodes) (omega arith) child in
+    let root_is : root_level rows ≡ suc k = stand.root root (omega arith) here ∙ level in
+    let square : square_in rows (suc k) (length rows) ≡ square_named nodes (suc k) (length nodes) = ap (square_in rows (suc k)) (sym stand.last) ∙ has.names in
+    let edge = edge_of (suc k) in
+    world-root rows
+    ∙ ap (λ j. put_square j (square_in rows j (length rows)) (edge_of j) (edge_of j) blank) root_is
+    ∙ ap (λ (t : Square). put_square (suc k) t edge edge blank) square
+    ∙ ap (λ j. world_of_root nodes j (length nodes)) (sym level)
+    ∙ sym (world-nodes-root nodes root here)
+
+-- what stands for all nodes stands for their world
+pub stand-world : (rows : List SquareRow) (nodes : List Node) (numbers : List ℕ) → AreNodes nodes → Stand rows nodes numbers (length nodes) → world_of_rows rows ≡ world_of_nodes nodes
+stand-world rows [] numbers are stand =
+    let none : rows ≡ [] = nil_from_length rows (sym stand.last ∙ stand.zero_first) in
+    ap world_of_rows none ∙ world-none ∙ sym world-nodes-none
+stand-world rows (first ∷ others) numbers are stand =
+    let nodes : List Node = first ∷ others in
+    let root = get_or nodes (length others) first in
+    let at : slice_get nodes (length others) ≡ Some root = slice_get-get_or nodes (length others) first (omega arith) in
+    let live = level_live (take (length others) nodes) root (follows-at [] nodes (length others) root are.each at) in
+    let level : level_of root ≡ suc (level_of root - 1) = omega (arith, live) in
+    root_stands rows nodes numbers root (length others) (level_of root - 1) stand refl at level

@@ -1,0 +1,89 @@
+-- Texts of rows, piece by piece.
+use Rattle.std.proofs.Common.{◌≡◌, ◌∙◌, sym, ap, refl, ℕ, ◌+◌, ◌<◌, ◌==◌, Bool, true, false, cond, List, [], ◌∷◌, ◌++◌, length, map, take, get_or, append_assoc, append-nil, decimal}
+use Rattle.std.specs.Prelude.{codes, is_ok, OnOk, Result, Ok, Err}
+use Rattle.std.proofs.lemmas.Bool.{eqb-true}
+use Rattle.std.proofs.lemmas.List.{flat_map_more, map-append, take_more}
+use Rattle.square_rows.specs.declared.row.SquareRow.{SquareRow}
+use Rattle.square_rows.specs.Rows.{kid}
+use Rattle.macrocell_lines.specs.declared.node.Node.TheVariants.{Cells, Square as Quartered}
+use Rattle.macrocell_lines.specs.WrittenText.{node_line, numbers_line, text_of_lines, written_text}
+use Rattle.multistate_macrocell.specs.Lines.{heading_text, row_line, row_lines}
+use Rattle.multistate_macrocell.specs.PatternText.{node_of, nodes_of}
+
+-- the row of the empty pattern
+abbrev pub empty_row : SquareRow
+empty_row = record { level = 1; kids = 0 ∷ 0 ∷ 0 ∷ 0 ∷ [] }
+
+-- the line of the empty pattern, where there is no row
+abbrev pub empty_line : List SquareRow → List ℕ
+empty_line [] = row_line empty_row ++ 10 ∷ []
+empty_line (row ∷ rows) = []
+
+-- the text of one more row
+pub row_lines-more : (bs : List ℕ) (rows : List SquareRow) (i : ℕ) (d : SquareRow) → i < length rows → (bs ++ row_lines (take i rows)) ++ (row_line (get_or rows i d) ++ 10 ∷ []) ≡ bs ++ row_lines (take (i + 1) rows)
+row_lines-more bs rows i d h =
+    flat_map_more (λ (line : List ℕ). line ++ 10 ∷ []) bs (map row_line (take i rows)) (row_line (get_or rows i d))
+    ∙ ap (λ lines. bs ++ text_of_lines lines) (sym (map-append row_line (take i rows) (get_or rows i d ∷ [])))
+    ∙ ap (λ (rs : List SquareRow). bs ++ row_lines rs) (sym (take_more rows i d h))
+
+-- the lines before the rows
+apart : (a name b number c rest : List ℕ) → (a ++ name ++ b ++ number ++ c) ++ rest ≡ a ++ (name ++ (b ++ (number ++ (c ++ rest))))
+apart a name b number c rest = simp append_assoc
+
+together : (first name word mark number end rest : List ℕ) → first ++ (((name ++ word) ++ end) ++ (((mark ++ number) ++ end) ++ rest)) ≡ first ++ (name ++ (word ++ (end ++ (mark ++ (number ++ (end ++ rest))))))
+together first name word mark number end rest = simp append_assoc
+
+heading-lines : (name : List ℕ) (generation : ℕ) (rest : List ℕ)
+    → heading_text name generation ++ rest ≡ (codes "[M2] (experiment desk)" ++ 10 ∷ []) ++ (((codes "#R " ++ name) ++ 10 ∷ []) ++ (((codes "#G " ++ decimal generation) ++ 10 ∷ []) ++ rest))
+heading-lines name generation rest =
+    apart (codes "[M2] (experiment desk)\n#R ") name (codes "\n#G ") (decimal generation) (codes "\n") rest
+    ∙ sym (together (codes "[M2] (experiment desk)" ++ 10 ∷ []) (codes "#R ") name (codes "#G ") (decimal generation) (10 ∷ []) rest)
+
+line_by : (v : Bool) (level a b c d : ℕ) → (v ≡ true → level ≡ 1) → node_line (cond v (Cells a b c d) (Quartered level a b c d)) ≡ numbers_line (level ∷ a ∷ b ∷ c ∷ d ∷ [])
+line_by true level a b c d h = ap (λ l. numbers_line (l ∷ a ∷ b ∷ c ∷ d ∷ [])) (sym (h refl))
+line_by false level a b c d h = refl
+
+node-row : (row : SquareRow) → node_line (node_of row) ≡ row_line row
+unfolding row_line
+node-row row = line_by (row.level == 1) row.level (kid row 0) (kid row 1) (kid row 2) (kid row 3) (eqb-true row.level 1)
+
+-- the line of a row, number by number
+apart_five : (old level a b c d end : List ℕ) → (old ++ level ++ a ++ b ++ c ++ d) ++ end ≡ old ++ (level ++ (a ++ (b ++ (c ++ (d ++ end)))))
+apart_five old level a b c d end = simp append_assoc
+
+together_five : (level a b c d end : List ℕ) → (level ++ (a ++ (b ++ (c ++ d)))) ++ end ≡ level ++ (a ++ (b ++ (c ++ (d ++ end))))
+together_five level a b c d end = simp append_assoc
+
+joined : (old level a b c d : List ℕ) → (old ++ level ++ 32 ∷ a ++ 32 ∷ b ++ 32 ∷ c ++ 32 ∷ d) ++ 10 ∷ [] ≡ old ++ ((level ++ 32 ∷ (a ++ 32 ∷ (b ++ 32 ∷ (c ++ 32 ∷ d)))) ++ 10 ∷ [])
+joined old level a b c d =
+    apart_five old level (32 ∷ a) (32 ∷ b) (32 ∷ c) (32 ∷ d) (10 ∷ [])
+    ∙ ap (λ line. old ++ line) (sym (together_five level (32 ∷ a) (32 ∷ b) (32 ∷ c) (32 ∷ d) (10 ∷ [])))
+
+pub row_line-joined : (old : List ℕ) (row : SquareRow) → (old ++ decimal row.level ++ 32 ∷ decimal (kid row 0) ++ 32 ∷ decimal (kid row 1) ++ 32 ∷ decimal (kid row 2) ++ 32 ∷ decimal (kid row 3)) ++ 10 ∷ [] ≡ old ++ (row_line row ++ 10 ∷ [])
+unfolding row_line
+row_line-joined old row = joined old (decimal row.level) (decimal (kid row 0)) (decimal (kid row 1)) (decimal (kid row 2)) (decimal (kid row 3))
+
+nodes-rows : (rows : List SquareRow) → map node_line (map node_of rows) ≡ map row_line rows
+nodes-rows [] = refl
+nodes-rows (row ∷ rows) = ap (λ line. line ∷ map node_line (map node_of rows)) (node-row row) ∙ ap (λ lines. row_line row ∷ lines) (nodes-rows rows)
+
+empty-line : row_line empty_row ≡ node_line (Cells 0 0 0 0)
+unfolding row_line
+empty-line = refl
+
+-- the text of rows, by their lines
+pub text-rows : (name : List ℕ) (generation : ℕ) (rows : List SquareRow) → (heading_text name generation ++ empty_line rows) ++ row_lines rows ≡ written_text name generation (nodes_of rows)
+text-rows name generation [] =
+    append-nil (heading_text name generation ++ empty_line [])
+    ∙ ap (λ line. heading_text name generation ++ (line ++ 10 ∷ [])) empty-line
+    ∙ heading-lines name generation (node_line (Cells 0 0 0 0) ++ 10 ∷ [])
+    ∙ ap (λ rest. (codes "[M2] (experiment desk)" ++ 10 ∷ []) ++ (((codes "#R " ++ name) ++ 10 ∷ []) ++ (((codes "#G " ++ decimal generation) ++ 10 ∷ []) ++ rest))) (sym (append-nil (node_line (Cells 0 0 0 0) ++ 10 ∷ [])))
+text-rows name generation (row ∷ rows) =
+    ap (λ bs. bs ++ row_lines (row ∷ rows)) (append-nil (heading_text name generation))
+    ∙ heading-lines name generation (row_lines (row ∷ rows))
+    ∙ ap (λ lines. (codes "[M2] (experiment desk)" ++ 10 ∷ []) ++ (((codes "#R " ++ name) ++ 10 ∷ []) ++ (((codes "#G " ++ decimal generation) ++ 10 ∷ []) ++ text_of_lines lines))) (sym (nodes-rows (row ∷ rows)))
+
+-- what a last call adds, where it gives Ok
+pub added-on_ok : {T E : Type 0} (r : Result T E) (new more old : List ℕ) → new ≡ cond (is_ok r) more old → OnOk r (new ≡ more)
+added-on_ok (Ok x) new more old e = e
+added-on_ok (Err x) new more old e = tt

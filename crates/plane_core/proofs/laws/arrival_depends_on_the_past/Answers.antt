@@ -1,5 +1,0 @@
-use Rattle.plane_core.specs.Arrival.{arrive-past}
-use Rattle.plane_core.proofs.laws.arrival_depends_on_the_past.Goals as goal
-
-pub returns : goal.returns
-returns c = arrive-past

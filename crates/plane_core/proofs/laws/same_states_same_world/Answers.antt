@@ -1,5 +1,0 @@
-use Rattle.plane_core.specs.World.{same_world}
-use Rattle.plane_core.proofs.laws.same_states_same_world.Goals as goal
-
-pub returns : goal.returns
-returns c = same_world

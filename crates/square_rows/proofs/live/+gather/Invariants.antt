@@ -1,0 +1,4 @@
+use Rattle.square_rows.proofs.live.+gather.Given as goal
+
+abbrev pub decreases-gather : goal.decreases-gather
+decreases-gather l = l.level

@@ -1,0 +1,162 @@
+//! Cells laid on a pattern: only the squares that hold one of them are made anew.
+//!
+//! Each square passes the cells that lie in it on to its quadrants, so cells that lie together
+//! share the rows of the squares around them. Scattered cells take at most 62 rows each.
+ghost use Rattle.std.specs.Prelude.{◌≡◌, ◌↔◌, ◌<◌, ◌≤◌, ◌^◌, length, All, IfOk, OnOk, IsTrue};
+ghost use Rattle.worlds.specs.Lay.{lay};
+ghost use Rattle.worlds.specs.Range.{CanBeLaid};
+ghost use Rattle.worlds.specs.Square.{IsIn};
+ghost use Rattle.square_rows.specs.Rows.{AreRows, IsNumber, root_level, world_of_rows};
+ghost use Rattle.square_rows.specs.Laid.{AreThoseIn, IsLaid, IsOnPlane, RootHolds};
+
+use crate::descent::{Spot, corner_of, root_level, shifted, side};
+use crate::raise::{push_row, quadrants, raise};
+use crate::row::SquareRow;
+use std::alloc::{AllocError, Global};
+use worlds::CellSet;
+
+// Whether a cell lies in a square.
+fn is_in(side: u64, corner: Spot, cell: &CellSet) -> bool
+    requires { IsOnPlane side corner.x corner.y }
+    ensures { IsTrue result ↔ IsIn side corner.x corner.y cell.now.x cell.now.y }
+{
+    let Spot { x, y } = corner;
+    let side = side as i64;
+    if cell.x < x || cell.x >= x + side || cell.y < y || cell.y >= y + side {
+        return false;
+    }
+    true
+}
+
+// Whether each of the cells lies in a square.
+fn are_in(side: u64, corner: Spot, cells: &[CellSet]) -> bool
+    requires { IsOnPlane side corner.x corner.y }
+    ensures { IsTrue result → All (λ c. IsIn side corner.x corner.y c.x c.y) cells.now }
+{
+    for cell in cells {
+        if !is_in(side, corner, cell) {
+            return false;
+        }
+    }
+    true
+}
+
+// The cells that lie in a square.
+fn those_in(
+    alloc: Global,
+    side: u64,
+    corner: Spot,
+    cells: &[CellSet],
+) -> Result<Vec<CellSet>, AllocError>
+    requires square { IsOnPlane side corner.x corner.y }
+    requires states { All (λ c. c.state < 256) cells.now }
+    ensures { IfOk result (λ here. AreThoseIn side corner.x corner.y cells.now here.items) }
+{
+    let mut here = Vec::new(alloc);
+    for cell in cells {
+        if is_in(side, corner, cell) {
+            here.push(*cell)?;
+        }
+    }
+    Ok(here)
+}
+
+// Lays cells on the square with this upper left cell, and gives the number of what it becomes.
+fn lay_in(
+    alloc: Global,
+    rows: &mut Vec<SquareRow>,
+    level: u8,
+    number: u32,
+    corner: Spot,
+    cells: &[CellSet],
+) -> Result<u32, AllocError>
+    requires rows { AreRows rows.old.items × (length rows.old.items < 2 ^ 32) }
+    requires level { level ≤ 62 }
+    requires number { IsNumber rows.old.items level number }
+    requires square { IsOnPlane (2 ^ level) corner.x corner.y }
+    requires states { All (λ c. c.state < 256) cells.now }
+    ensures { IfOk result (λ n.
+        IsLaid rows.old.items rows.new.items level number n corner.x corner.y cells.now) }
+{
+    let here = those_in(alloc, side(level), corner, cells)?;
+    let Some(last) = here.last() else {
+        return Ok(number);
+    };
+    if level == 0 {
+        return Ok(u32::from(last.state));
+    }
+    let half = side(level - 1);
+    let kids = quadrants(rows, level, number);
+    let nw = lay_in(alloc, rows, level - 1, kids[0], corner, &here)?;
+    let ne = lay_in(
+        alloc,
+        rows,
+        level - 1,
+        kids[1],
+        shifted(corner, half, 0),
+        &here,
+    )?;
+    let sw = lay_in(
+        alloc,
+        rows,
+        level - 1,
+        kids[2],
+        shifted(corner, 0, half),
+        &here,
+    )?;
+    let se = lay_in(
+        alloc,
+        rows,
+        level - 1,
+        kids[3],
+        shifted(corner, half, half),
+        &here,
+    )?;
+    let row = SquareRow {
+        level,
+        kids: [nw, ne, sw, se],
+    };
+    push_row(rows, row)
+}
+
+// Raises the root until its square holds the cells.
+fn raise_around(rows: &mut Vec<SquareRow>, cells: &[CellSet]) -> Result<(), AllocError>
+    requires rows { AreRows rows.old.items × (length rows.old.items < 2 ^ 32) }
+    requires cells { All CanBeLaid cells.now }
+    ensures rows { OnOk result (AreRows rows.new.items × (length rows.new.items < 2 ^ 32)) }
+    ensures world { OnOk result (world_of_rows rows.new.items ≡ world_of_rows rows.old.items) }
+    ensures holds { OnOk result (RootHolds rows.new.items cells.now) }
+{
+    while root_level(rows) < 62 {
+        let level = root_level(rows);
+        if are_in(side(level), corner_of(level), cells) {
+            return Ok(());
+        }
+        raise(rows)?;
+    }
+    Ok(())
+}
+
+/// Makes the rows stand for the world after the cells are set in turn.
+pub fn lay_rows(
+    alloc: Global,
+    rows: &mut Vec<SquareRow>,
+    cells: &[CellSet],
+) -> Result<(), AllocError>
+    requires rows { AreRows rows.old.items × (length rows.old.items < 2 ^ 32) }
+    requires cells { All CanBeLaid cells.now }
+    ensures rows { OnOk result (AreRows rows.new.items × (length rows.new.items < 2 ^ 32)) }
+    ensures world { OnOk result (world_of_rows rows.new.items ≡ lay cells.now (world_of_rows rows.old.items)) }
+{
+    raise_around(rows, cells)?;
+    let level = root_level(rows);
+    lay_in(
+        alloc,
+        rows,
+        level,
+        rows.len() as u32,
+        corner_of(level),
+        cells,
+    )?;
+    Ok(())
+}

@@ -1,0 +1,41 @@
+-- Numbers and the squares that they stand for.
+use Rattle.std.proofs.Common.{◌≡◌, ℕ, zero, suc, ◌-◌, ◌<◌, List, [], ◌∷◌, length, get_or, refl, sym, ◌∙◌, ap, ap₂, subst, arith}
+use Rattle.std.proofs.lemmas.Grind.{common_steps}
+use Rattle.square_table.specs.Squares.{IsNumber, square_in, kid_at, kids_at, first_number, AreDistinct, level_of, number_of, NumbersTellSquares}
+
+-- a number has one level
+pub one_level : (rows : List (List ℕ)) (j k n : ℕ) → IsNumber rows j n → IsNumber rows k n → j ≡ k
+unfolding IsNumber
+one_level rows zero zero n a b = refl
+one_level rows zero (suc k) n a b = absurd (omega (arith, a, b.0))
+one_level rows (suc j) zero n a b = absurd (omega (arith, a.0, b))
+one_level rows (suc j) (suc k) n a b = ap suc (one_level rows j k (kid_at rows n 0) a.2 b.2)
+
+-- lists of four numbers are one where the numbers are
+same_four : (xs ys : List ℕ) → length xs ≡ 4 → length ys ≡ 4 → get_or xs 0 0 ≡ get_or ys 0 0 → get_or xs 1 0 ≡ get_or ys 1 0 → get_or xs 2 0 ≡ get_or ys 2 0 → get_or xs 3 0 ≡ get_or ys 3 0 → xs ≡ ys
+same_four (a ∷ b ∷ c ∷ d ∷ []) (e ∷ f ∷ g ∷ h ∷ []) p q nw ne sw se = cc
+same_four xs ys p q nw ne sw se = grind (arith, common_steps)
+
+-- the cells tell the number
+pub one_number : (rows : List (List ℕ)) → AreDistinct rows → (k m n : ℕ) → IsNumber rows k m → IsNumber rows k n → square_in rows k m ≡ square_in rows k n → m ≡ n
+unfolding IsNumber square_in
+one_number rows are zero m n a b same = cc
+one_number rows are (suc k) m n a b same =
+    let nw = one_number rows are k (kid_at rows m 0) (kid_at rows n 0) a.2 b.2 cc in
+    let ne = one_number rows are k (kid_at rows m 1) (kid_at rows n 1) a.3 b.3 cc in
+    let sw = one_number rows are k (kid_at rows m 2) (kid_at rows n 2) a.4 b.4 cc in
+    let se = one_number rows are k (kid_at rows m 3) (kid_at rows n 3) a.5 b.5 cc in
+    let first : m - first_number < length rows = omega (arith, a.0, a.1) in
+    let second : n - first_number < length rows = omega (arith, b.0, b.1) in
+    let kids : kids_at rows m ≡ kids_at rows n = same_four _ _ (are.four (m - first_number) first) (are.four (n - first_number) second) nw ne sw se in
+    let places = are.distinct (m - first_number) (n - first_number) first second kids in
+    omega (arith, a.0, b.0, places)
+
+-- in one table numbers are equal exactly where levels and cells are
+pub numbers-tell : NumbersTellSquares
+numbers-tell t are s1 s2 h1 h2 = (
+  (λ same.
+      let level = one_level t.rows (level_of s1) (level_of s2) (number_of s1) h1.numbered (subst (IsNumber t.rows (level_of s2)) (sym same) h2.numbered) in
+      (level, ap₂ (square_in t.rows) level same)),
+  (λ both. one_number t.rows are (level_of s1) (number_of s1) (number_of s2) h1.numbered (subst (λ k. IsNumber t.rows k (number_of s2)) (sym both.0) h2.numbered) (both.1 ∙ ap (λ k. square_in t.rows k (number_of s2)) (sym both.0))),
+)

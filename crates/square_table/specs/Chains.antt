@@ -1,0 +1,42 @@
+-- Rows of a hash table, and the chains that lead to them.
+use Rattle.std.specs.Prelude.{◌≡◌, ℕ, ◌+◌, ◌-◌, ◌*◌, ◌/◌, ◌%◌, ◌^◌, ◌<◌, ◌≤◌, List, length, slice_index, slice_index_or, bit_and}
+use Rattle.square_table.specs.declared.chains.Row.{Row}
+
+-- the numbers of a row's quadrants
+abbrev pub kids_of : Row → List ℕ
+kids_of r = r.kids.now
+
+-- a mix of the four numbers
+unfoldable pub hash_of : List ℕ → ℕ
+hash_of k =
+    ((((((slice_index k 0 * 0x9e37_79b9_7f4a_7c15) % 2 ^ 64 + (slice_index k 1 * 0xd1b5_4a32_d192_ed03) % 2 ^ 64) % 2 ^ 64
+    + (slice_index k 2 * 0xbf58_476d_1ce4_e5b9) % 2 ^ 64) % 2 ^ 64)
+    + (slice_index k 3 * 0x94d0_49bb_1331_11eb) % 2 ^ 64) % 2 ^ 64) / 2 ^ 32
+
+-- the chain on which quadrants stand, of so many
+unfoldable pub bucket_of : List ℕ → ℕ → ℕ
+bucket_of k count = bit_and (hash_of k) (count - 1)
+
+-- each chain leads from the newest of its rows to the oldest, and the first n rows are on them; a link is a row's place and one more, or 0
+pub record IsChained (rows : List Row) (n : ℕ) (heads : List ℕ) : Type 0 where
+  pub some : 0 < length heads
+  pub head_in : (b : ℕ) → b < length heads → slice_index heads b ≤ n
+  pub head_own : (b i : ℕ) (d : Row) → b < length heads → slice_index heads b ≡ i + 1
+      → bucket_of (kids_of (slice_index_or rows i d)) (length heads) ≡ b
+  pub head_all : (i : ℕ) (d : Row) → i < n
+      → i + 1 ≤ slice_index heads (bucket_of (kids_of (slice_index_or rows i d)) (length heads))
+  pub next_in : (i : ℕ) (d : Row) → i < n → (slice_index_or rows i d).next ≤ i
+  pub next_own : (i j : ℕ) (d e : Row) → i < n → (slice_index_or rows i d).next ≡ j + 1
+      → bucket_of (kids_of (slice_index_or rows j e)) (length heads) ≡ bucket_of (kids_of (slice_index_or rows i d)) (length heads)
+  pub next_all : (i j : ℕ) (d e : Row) → i < j → j < n
+      → bucket_of (kids_of (slice_index_or rows i d)) (length heads) ≡ bucket_of (kids_of (slice_index_or rows j e)) (length heads)
+      → i + 1 ≤ (slice_index_or rows j e).next
+
+-- no row has these quadrants
+pub record IsAbsent (rows : List Row) (kids : List ℕ) : Type 0 where
+  pub absent : (i : ℕ) (d : Row) → i < length rows → kids_of (slice_index_or rows i d) ≡ kids → ⊥
+
+-- rows with the same quadrants, whatever their links
+pub record AreAlike (rows more : List Row) : Type 0 where
+  pub count : length more ≡ length rows
+  pub kids : (i : ℕ) (d e : Row) → i < length rows → kids_of (slice_index_or more i d) ≡ kids_of (slice_index_or rows i e)

@@ -1,0 +1,4 @@
+pub mod Chains
+pub mod Squares
+pub mod Faults
+pub mod Kept

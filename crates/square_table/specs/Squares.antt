@@ -1,0 +1,83 @@
+-- What the numbers of a table mean.
+use Rattle.std.specs.Prelude.{◌≡◌, ◌↔◌, ℕ, zero, suc, ◌+◌, ◌-◌, ◌<◌, ◌≤◌, List, [], ◌∷◌, ◌++◌, length, get_or, slice_index_or}
+use Rattle.worlds.specs.Square as squares
+use Rattle.worlds.specs.Square.{one, four}
+use Rattle.square_table.specs.declared.square.Square.{Square}
+
+-- squares are numbered from 256 on, and below it cells by their states
+abbrev pub first_number : ℕ
+first_number = 256
+
+-- what contracts see of a table: the quadrants of each square, in the order of numbers, and how many squares it may hold
+pub record Table : Type 0 where
+  pub rows : List (List ℕ)
+  pub limit : ℕ
+
+-- the quadrants of the square with this number
+abbrev pub kids_at : List (List ℕ) → ℕ → List ℕ
+kids_at rows n = get_or rows (n - first_number) []
+
+-- the q-th of the quadrants nw, ne, sw and se
+abbrev pub kid_at : List (List ℕ) → ℕ → ℕ → ℕ
+kid_at rows n q = get_or (kids_at rows n) q 0
+
+-- n is the number of a square of level k
+unfoldable pub IsNumber : List (List ℕ) → ℕ → ℕ → Type 0
+IsNumber rows zero n = n < first_number
+IsNumber rows (suc k) n =
+    (first_number ≤ n) × (n < first_number + length rows)
+    × IsNumber rows k (kid_at rows n 0) × IsNumber rows k (kid_at rows n 1) × IsNumber rows k (kid_at rows n 2) × IsNumber rows k (kid_at rows n 3)
+
+-- the square of level k that the number stands for
+unfoldable pub square_in : List (List ℕ) → ℕ → ℕ → squares.Square
+square_in rows zero n = one n
+square_in rows (suc k) n =
+    four (square_in rows k (kid_at rows n 0)) (square_in rows k (kid_at rows n 1)) (square_in rows k (kid_at rows n 2)) (square_in rows k (kid_at rows n 3))
+
+abbrev pub level_of : Square → ℕ
+level_of s = s.level
+
+abbrev pub number_of : Square → ℕ
+number_of s = s.number
+
+-- the square is one of the table's
+pub record IsHeld (t : Table) (s : Square) : Type 0 where
+  pub numbered : IsNumber t.rows (level_of s) (number_of s)
+  pub quadrants : 0 < level_of s → s.kids.now ≡ kids_at t.rows (number_of s)
+
+-- its cells
+abbrev pub cells_of : Table → Square → squares.Square
+cells_of t s = square_in t.rows (level_of s) (number_of s)
+
+-- each square of the one table is one of the other, with the same cells
+pub record Keeps (old new : Table) : Type 0 where
+  pub limit : new.limit ≡ old.limit
+  pub held : (s : Square) → IsHeld old s → IsHeld new s
+  pub cells : (s : Square) → IsHeld old s → cells_of new s ≡ cells_of old s
+
+-- each row has four quadrants, and no two rows are one
+pub record AreDistinct (rows : List (List ℕ)) : Type 0 where
+  pub four : (i : ℕ) → i < length rows → length (get_or rows i []) ≡ 4
+  pub distinct : (i j : ℕ) → i < length rows → j < length rows → get_or rows i [] ≡ get_or rows j [] → i ≡ j
+
+-- in one table numbers are equal exactly where levels and cells are
+abbrev pub NumbersTellSquares : Type 0
+NumbersTellSquares = (t : Table) → AreDistinct t.rows → (s1 s2 : Square) → IsHeld t s1 → IsHeld t s2 →
+    (number_of s1 ≡ number_of s2) ↔ ((level_of s1 ≡ level_of s2) × (cells_of t s1 ≡ cells_of t s2))
+
+-- four squares, of the table and of one level
+pub record AreFour (t : Table) (level : ℕ) (quadrants : List Square) : Type 0 where
+  pub held : (q : ℕ) (d : Square) → q < 4 → IsHeld t (slice_index_or quadrants q d)
+  pub alike : (q : ℕ) (d : Square) → q < 4 → level_of (slice_index_or quadrants q d) ≡ level
+
+-- the cells of the square that four make, by which is the q-th of them
+abbrev pub joined : Table → (ℕ → Square) → squares.Square
+joined t at = four (cells_of t (at 0)) (cells_of t (at 1)) (cells_of t (at 2)) (cells_of t (at 3))
+
+-- the table with one more row
+abbrev pub with_row : Table → List ℕ → Table
+with_row t kids = record { rows = t.rows ++ kids ∷ []; limit = t.limit }
+
+-- no row has these quadrants
+abbrev pub Lacks : List (List ℕ) → List ℕ → Type 0
+Lacks rows kids = (i : ℕ) → i < length rows → get_or rows i [] ≡ kids → ⊥

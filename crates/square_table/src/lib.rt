@@ -1,0 +1,19 @@
+//! Shared squares: each distinct square of one computation stands once, and is known by a number.
+//!
+//! A `SquareTable` keeps its squares in an arena that is made before it. Squares of equal cells and
+//! equal level have equal numbers, and others have different ones, so two squares are compared at the
+//! cost of two numbers, and what is found of one holds for all that are equal. `join` finds or makes
+//! the square of four by a hash table with chains: one look-up of about one cache miss, at 16 bytes in
+//! the arena for the quadrants, 16 for the row and 4 for the head of its chain.
+#![tactic(auto)]
+
+mod chains;
+mod fault;
+mod laws;
+mod square;
+mod table;
+
+pub use fault::TableFault;
+pub use laws::numbers_tell_squares;
+pub use square::Square;
+pub use table::SquareTable;

@@ -1,0 +1,199 @@
+//! The distinct squares of one computation.
+ghost use Rattle.std.specs.Prelude.{◌≡◌, ℕ, ◌+◌, ◌-◌, ◌^◌, ◌<◌, ◌≤◌, length, map, slice_index_or, vec_len, [], ◌∷◌, ◌++◌, IfOk, IfSome, IfNone, OnOk, OnErr, Err};
+ghost use Rattle.worlds.specs.Square.{one, empty_square};
+ghost use Rattle.square_table.specs.Chains.{kids_of, IsChained, IsAbsent};
+ghost use Rattle.square_table.specs.Squares.{Table, IsHeld, Keeps, AreFour, Lacks, with_row, joined, cells_of, level_of, number_of};
+ghost use Rattle.square_table.specs.Kept.{IsRowOf};
+ghost use Rattle.square_table.specs.declared.square.Square.{Square};
+
+use crate::chains::{Row, chains, find, insert, widen};
+use crate::fault::TableFault;
+use crate::square::Square;
+use bumpalo::Bump;
+use std::alloc::{AllocError, Global};
+use std::marker::Model;
+
+// Below it numbers are those of cells, which are their states.
+const FIRST_NUMBER: u32 = 256;
+
+// A table begins with so many chains. Their number is a power of two, and doubles with the rows.
+const FEWEST_CHAINS: usize = 1024;
+
+/// The distinct squares of one computation, in an arena that is made before the table.
+///
+/// Contracts see the quadrants of each square by their numbers, in the order in which the squares
+/// were made, and how many squares the table may hold.
+#[derive(Drop)]
+pub struct SquareTable<'a> {
+    arena: &'a Bump,
+    none: &'a [u32; 4],
+    rows: Vec<Row<'a>>,
+    heads: Vec<u32>,
+    limit: u32,
+    alloc: Global,
+}
+
+impl<'a> Model for SquareTable<'a> {
+    ghost use Rattle.std.specs.Prelude.{◌≤◌, length, map};
+    ghost use Rattle.square_table.specs.Chains.{kids_of, IsChained};
+    ghost use Rattle.square_table.specs.Squares.{Table, AreDistinct};
+
+    ghost Value = { Table };
+
+    ghost view = { λ t. record { rows = map kids_of t.rows.items; limit = t.limit } };
+
+    ghost invariant = { λ t. IsChained t.rows.items (length t.rows.items) t.heads.items × AreDistinct (map kids_of t.rows.items) × (length t.rows.items ≤ t.limit) × (t.limit ≤ 16777216) };
+}
+
+// The quadrants of a row by their numbers, and its own number.
+#[derive(Clone, Copy)]
+struct Numbered<'a> {
+    kids: &'a [u32; 4],
+    number: u32,
+}
+
+// Four numbers, placed in the arena for good.
+fn placed<'a>(arena: &'a Bump, kids: [u32; 4]) -> Result<&'a [u32; 4], AllocError>
+    ensures { IfOk result (λ placed. placed.now ≡ kids) }
+{
+    let placed: &'a [u32] = arena.try_alloc_slice_copy(&kids)?;
+    Ok(placed.as_array().unwrap())
+}
+
+// The numbers of four squares.
+fn numbers(four: &[Square<'_>; 4]) -> [u32; 4]
+    requires { length four.now ≡ 4 }
+    ensures { result ≡ map number_of four.now }
+{
+    [
+        four[0].number,
+        four[1].number,
+        four[2].number,
+        four[3].number,
+    ]
+}
+
+impl<'a> SquareTable<'a> {
+    /// A table with no square, that may hold up to `limit`, at most 16,777,216.
+    pub fn new(alloc: Global, arena: &'a Bump, limit: u32) -> Result<SquareTable<'a>, AllocError>
+        requires { limit ≤ 16777216 }
+        ensures { IfOk result (λ t. t ≡ record { rows = []; limit = limit }) }
+    {
+        Ok(SquareTable {
+            arena,
+            none: placed(arena, [0; 4])?,
+            rows: Vec::new(alloc),
+            heads: chains(alloc, FEWEST_CHAINS)?,
+            limit,
+            alloc,
+        })
+    }
+
+    /// How many squares it holds, cells not counted.
+    pub fn len(&self) -> u32
+        ensures { result ≡ length self.now.rows }
+    {
+        self.rows.len() as u32
+    }
+
+    /// The square of one cell.
+    pub fn cell(&self, state: u8) -> Square<'a>
+        ensures held { IsHeld self.now result }
+        ensures level { level_of result ≡ 0 }
+        ensures cells { cells_of self.now result ≡ one state }
+    {
+        Square {
+            kids: self.none,
+            number: u32::from(state),
+            level: 0,
+        }
+    }
+
+    // More chains, where there are as many rows.
+    fn make_ready(&mut self)
+        ensures { self.new ≡ self.old }
+    {
+        if self.rows.len() >= self.heads.len() {
+            widen(self.alloc, &mut self.rows, &mut self.heads);
+        }
+    }
+
+    // The row of these quadrants, if there is one.
+    fn known(&self, kids: [u32; 4]) -> Option<Numbered<'a>>
+        ensures some { IfSome result (IsRowOf self.now.rows kids) }
+        ensures none { IfNone result (Lacks self.now.rows kids) }
+    {
+        let at = find(&self.rows, &self.heads, kids);
+        if at == 0 {
+            return None;
+        }
+        Some(Numbered {
+            kids: self.rows[at as usize - 1].kids,
+            number: FIRST_NUMBER + (at - 1),
+        })
+    }
+
+    // A row for quadrants that have none.
+    fn add(&mut self, kids: [u32; 4]) -> Result<Numbered<'a>, TableFault>
+        requires four { length kids ≡ 4 }
+        requires lacks { Lacks self.old.rows kids }
+        ensures table { OnOk result (self.new ≡ with_row self.old kids) }
+        ensures row { IfOk result (IsRowOf self.new.rows kids) }
+        ensures unchanged { OnErr result (self.new ≡ self.old) }
+        ensures full { result ≡ Err TableFault.NoRoom → length self.old.rows ≡ self.old.limit }
+    {
+        if self.rows.len() >= self.limit as usize {
+            return Err(TableFault::NoRoom);
+        }
+        let kids = placed(self.arena, kids)?;
+        let number = FIRST_NUMBER + self.rows.len() as u32;
+        insert(&mut self.rows, &mut self.heads, kids)?;
+        Ok(Numbered { kids, number })
+    }
+
+    /// The square of four of one level of at most 63, in the order nw, ne, sw, se.
+    ///
+    /// NoRoom where it isn't there yet and the table holds as many as it may; NoMemory where a growth
+    /// was refused. A refused call leaves the table as it was.
+    pub fn join(&mut self, four: [Square<'a>; 4]) -> Result<Square<'a>, TableFault>
+        requires four { (d : Square) → AreFour self.old (level_of (slice_index_or four 0 d)) four }
+        requires level { (d : Square) → level_of (slice_index_or four 0 d) ≤ 63 }
+        ensures keeps { Keeps self.old self.new }
+        ensures held { IfOk result (IsHeld self.new) }
+        ensures level { IfOk result (λ s. (d : Square) →
+            level_of s ≡ level_of (slice_index_or four.entry 0 d) + 1) }
+        ensures cells { IfOk result (λ s. (d : Square) →
+            cells_of self.new s ≡ joined self.old (λ q. slice_index_or four.entry q d)) }
+        ensures unchanged { OnErr result (self.new ≡ self.old) }
+        ensures full { result ≡ Err TableFault.NoRoom → length self.old.rows ≡ self.old.limit }
+    {
+        self.make_ready();
+        let level = four[0].level + 1;
+        let kids = numbers(&four);
+        let row = match self.known(kids) {
+            Some(row) => row,
+            None => self.add(kids)?,
+        };
+        Ok(Square {
+            kids: row.kids,
+            number: row.number,
+            level,
+        })
+    }
+
+    /// The square of a level of at most 64 with no live cell.
+    pub fn blank(&mut self, level: u8) -> Result<Square<'a>, TableFault>
+        requires { level ≤ 64 }
+        ensures keeps { Keeps self.old self.new }
+        ensures held { IfOk result (λ s. IsHeld self.new s) }
+        ensures level { IfOk result (λ s. level_of s ≡ level) }
+        ensures cells { IfOk result (λ s. cells_of self.new s ≡ empty_square level) }
+        ensures full { result ≡ Err TableFault.NoRoom → length self.new.rows ≡ self.old.limit }
+    {
+        let mut square = self.cell(0);
+        for _ in 0..level {
+            square = self.join([square; 4])?;
+        }
+        Ok(square)
+    }
+}

@@ -1,0 +1,5 @@
+//! Tests of shared squares, by their public calls.
+#![tactic(auto)]
+
+#[cfg(test)]
+mod tests;

@@ -1,0 +1,47 @@
+use basics::Refusal;
+use bumpalo::Bump;
+use square_table::{SquareTable, TableFault};
+
+#[test]
+fn equal_squares_have_equal_numbers(rt: HostRuntime) {
+    let arena = Bump::new(rt.alloc());
+    let mut table = SquareTable::new(rt.alloc(), &arena, 64).expect(&rt, "memory");
+    let live = table.cell(1);
+    assert_eq!(&rt; live.number(), 1);
+    let first = table.join([live; 4]).expect(&rt, "memory");
+    assert_eq!(&rt; first.number(), 256);
+    assert_eq!(&rt; first.level(), 1);
+    let again = table.join([live; 4]).expect(&rt, "memory");
+    assert_eq!(&rt; again.number(), 256);
+    assert_eq!(&rt; table.len(), 1);
+}
+
+#[test]
+fn empty_squares_of_each_level_are_shared(rt: HostRuntime) {
+    let arena = Bump::new(rt.alloc());
+    let mut table = SquareTable::new(rt.alloc(), &arena, 64).expect(&rt, "memory");
+    let large = table.blank(63).expect(&rt, "memory");
+    assert_eq!(&rt; large.number(), 256 + 62);
+    assert_eq!(&rt; large.level(), 63);
+    let small = table.blank(3).expect(&rt, "memory");
+    assert_eq!(&rt; small.number(), 258);
+    assert_eq!(&rt; table.len(), 63);
+}
+
+#[test]
+fn a_full_table_has_no_room(rt: HostRuntime) {
+    let arena = Bump::new(rt.alloc());
+    let mut table = SquareTable::new(rt.alloc(), &arena, 2).expect(&rt, "memory");
+    assert!(&rt; table.blank(2).is_ok());
+    assert!(&rt; matches!(&table.blank(3), Err(TableFault::NoRoom)));
+    assert!(&rt; table.blank(2).is_ok());
+    assert_eq!(&rt; table.len(), 2);
+}
+
+#[test]
+fn faults_have_numbers_and_names(rt: HostRuntime) {
+    assert_eq!(&rt; TableFault::NoRoom.number(), 71);
+    assert_eq!(&rt; TableFault::NoRoom.name(), "NoRoom");
+    assert_eq!(&rt; TableFault::NoMemory.number(), 70);
+    assert_eq!(&rt; TableFault::NoMemory.name(), "NoMemory");
+}

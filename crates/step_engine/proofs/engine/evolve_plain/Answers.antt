@@ -1,0 +1,46 @@
+use Rattle.std.proofs.Common.{◌≡◌, ◌∙◌, sym, ap, subst, arith, ◌+◌, ◌-◌, suc, refl}
+use Rattle.worlds.specs.Step.{step}
+use Rattle.worlds.specs.Iterate.{iterate, iterate-zero, iterate-one_more}
+use Rattle.worlds.specs.Range.{HasMargin, AllBelow}
+use Rattle.worlds.proofs.Stepped.{AllBelow-step, HasMargin-step, HasMargin-less}
+use Rattle.worlds.proofs.Steps.{still-iterate}
+use Rattle.step_engine.proofs.engine.evolve_plain.Goals as goal
+use Rattle.step_engine.proofs.engine.evolve_plain.Goals.{else-loop-test, then-loop-test+else-poll+in_ok-next_generation+in-None}
+
+pub returns-then-generations-eq0-clause-plane : goal.returns-then-generations-eq0-clause-plane
+returns-then-generations-eq0-clause-plane g c =
+    let f = step (g.R.Next.meaning c.args.rule.now) in
+    c.in_ok-copy.ensures ∙ sym (iterate-zero f c.args.plane.now) ∙ ap (λ n. iterate n f c.args.plane.now) (sym c.if-generations-eq0.true)
+
+pub loop-init : goal.loop-init
+loop-init g c = record {
+  stepped = c.in_ok-now.ensures ∙ sym (iterate-zero (step (g.R.Next.meaning c.args.rule.now)) c.args.plane.now);
+  below = subst (AllBelow (g.R.Next.state_count c.args.rule.now)) (sym c.in_ok-now.ensures) c.requires.below;
+  fits = subst (λ w. HasMargin (c.args.generations - 0) w) (sym c.in_ok-now.ensures) (subst (λ r. HasMargin r c.args.plane.now) (omega arith) c.requires.fits);
+  asked = refl;
+}
+
+pub loop-preserved : goal.loop-preserved
+loop-preserved g c =
+    let next = g.R.Next.meaning c.args.rule.now in
+    let quiet = g.met.R.Next.quiet c.args.rule.now in
+    let is : c.in-Some.later ≡ step next c.loop.now = rw c.in-Some.is at c.in_ok-next_generation.ensures.later in
+    let room : HasMargin (suc (c.args.generations - (c.loop.counter + 1))) c.loop.now = subst (λ r. HasMargin r c.loop.now) (omega arith) c.loop.invariant.fits in
+    record {
+      stepped = is ∙ ap (step next) c.loop.invariant.stepped ∙ sym (iterate-one_more c.loop.counter (step next) c.args.plane.now);
+      below = subst (AllBelow (g.R.Next.state_count c.args.rule.now)) (sym is) (AllBelow-step _ next c.loop.now quiet (g.met.R.Next.below c.args.rule.now) c.loop.invariant.below);
+      fits = subst (λ w. HasMargin (c.args.generations - (c.loop.counter + 1)) w) (sym is) (HasMargin-step _ next c.loop.now quiet room);
+      asked = (let k = c.if-poll.ensures in let a = c.loop.invariant.asked in omega (arith, k, a));
+    }
+
+pub plane-requires : goal.plane-requires
+plane-requires g c = HasMargin-less 0 (c.args.generations - c.loop.counter) c.loop.now (omega arith) c.loop.invariant.fits
+
+pub returns-clause-plane : goal.returns-clause-plane
+returns-clause-plane g c =
+    let f = step (g.R.Next.meaning c.args.rule.now) in
+    c.in_ok-plane.ensures
+    ∙ elim c.loop-test.branch [
+      | else-loop-test w ↦ c.loop.invariant.stepped ∙ ap (λ n. iterate n f c.args.plane.now) (omega arith)
+      | then-loop-test+else-poll+in_ok-next_generation+in-None w ↦ still-iterate f c.args.plane.now c.loop.now c.loop.counter c.args.generations (omega arith) c.loop.invariant.stepped (rw w.in-None.is at w.in_ok-next_generation.ensures.still)
+    ]

@@ -1,0 +1,9 @@
+use Rattle.std.proofs.Common.{◌≡◌, take, length}
+use Rattle.worlds.specs.Step.{around}
+use Rattle.step_engine.proofs.generation.Generation.states_around.Given as goal
+
+abbrev pub invariant-loop-i : goal.invariant-loop-i
+invariant-loop-i l = record {
+  states : take l.i l.states ≡ take l.i (around l.self l.spot.x l.spot.y);
+  nine : length l.states ≡ 9;
+}

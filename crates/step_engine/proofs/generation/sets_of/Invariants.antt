@@ -1,0 +1,10 @@
+use Rattle.std.proofs.Common.{◌≡◌, ◌<◌, map, take}
+use Rattle.std.specs.Prelude.{All}
+use Rattle.step_engine.specs.Listed.{as_set}
+use Rattle.step_engine.proofs.generation.sets_of.Given as goal
+
+abbrev pub invariant-loop-cell : goal.invariant-loop-cell
+invariant-loop-cell l = record {
+  items : l.sets.items ≡ map as_set (take l.cell-index l.cells);
+  small : All (λ c. c.state < 256) l.sets.items;
+}

@@ -1,0 +1,18 @@
+use Rattle.std.proofs.Common.{◌≡◌, ◌<◌, sym, subst, arith, rules, length, true, get_or, take}
+use Rattle.std.specs.Prelude.{All}
+use Rattle.std.proofs.lemmas.List.{take_more, take_all}
+use Rattle.std.proofs.lemmas.List.Elements.{All-push}
+use Rattle.step_engine.specs.Room.{CellHasRoom}
+use Rattle.step_engine.proofs.room.all_have_room.Goals as goal
+
+pub loop-cell-preserved : goal.loop-cell-preserved
+loop-cell-preserved c =
+    let cells = c.args.cells.now in
+    let i = c.loop-cell.cell-index in
+    let P = CellHasRoom c.args.patch.now.level in
+    let below : i < length cells = omega arith in
+    let yes : c.has_room.result ≡ true = search rules in
+    subst (All P) (sym (take_more cells i _ below)) (All-push P (take i cells) (get_or cells i _) c.loop-cell.invariant (c.has_room.ensures.0 yes))
+
+pub returns : goal.returns
+returns c = λ _. subst (All (CellHasRoom c.args.patch.now.level)) (take_all c.loop-cell.cell-index c.args.cells.now c.loop-cell-test.false) c.loop-cell.invariant

@@ -1,0 +1,21 @@
+-- What an engine reports of its work, and why it refuses.
+use Rattle.std.specs.Prelude.{ℕ, List, codes}
+use Rattle.step_engine.specs.declared.evolved.Report.{Report}
+use Rattle.step_engine.specs.declared.evolved.EvolveFault.{EvolveFault}
+use Rattle.step_engine.specs.declared.evolved.EvolveFault.TheVariants.{NoRoom, Stopped, NoMemory}
+
+-- the report of an engine that shares nothing
+abbrev pub nothing_shared : Report
+nothing_shared = record { squares = 0; fours = 0; base = 0 }
+
+-- the number of a refusal
+abbrev pub number_of : EvolveFault → ℕ
+number_of NoMemory = 70
+number_of NoRoom = 71
+number_of Stopped = 72
+
+-- its name
+abbrev pub name_of : EvolveFault → List ℕ
+name_of NoMemory = codes "NoMemory"
+name_of NoRoom = codes "NoRoom"
+name_of Stopped = codes "Stopped"

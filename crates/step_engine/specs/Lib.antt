@@ -1,0 +1,6 @@
+pub mod Asked
+pub mod Evolved
+pub mod Generation
+pub mod Box
+pub mod Listed
+pub mod Room

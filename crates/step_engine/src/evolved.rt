@@ -1,0 +1,80 @@
+//! What an engine answers.
+
+use basics::Refusal;
+use plane_core::Plane;
+use std::alloc::AllocError;
+use thiserror::Error;
+
+/// What an engine kept while it evolved a pattern; an engine that shares nothing reports zeros.
+#[derive(Clone, Copy, Debug, PartialEq, Eq)]
+pub struct Report {
+    /// How many distinct squares there were.
+    pub squares: u32,
+    /// How many of these were of 4 by 4 cells.
+    pub fours: u32,
+    /// How many of those were put to the rule.
+    pub base: u32,
+}
+
+/// A pattern some generations later, and what the engine reports of the way.
+#[derive(Drop)]
+pub struct Evolved {
+    pub plane: Plane,
+    pub report: Report,
+}
+
+/// Why a pattern was not evolved.
+#[derive(Clone, Copy, Debug, PartialEq, Eq, Error)]
+pub enum EvolveFault {
+    /// The engine held as many squares as it may.
+    #[error("there is no room for another square")]
+    NoRoom,
+    /// The computation was told to stop.
+    #[error("the computation was stopped")]
+    Stopped,
+    /// A growth was refused.
+    #[error("there is no memory")]
+    NoMemory,
+}
+
+impl Refusal for EvolveFault {
+    ghost use Rattle.std.specs.Prelude.{None};
+    ghost use Rattle.step_engine.specs.Evolved.{number_of, name_of};
+
+    ghost number_of = { number_of };
+
+    ghost name_of = { name_of };
+
+    ghost place_of = { λ _. None };
+
+    fn number(&self) -> u8 {
+        match self {
+            EvolveFault::NoMemory => 70,
+            EvolveFault::NoRoom => 71,
+            EvolveFault::Stopped => 72,
+        }
+    }
+
+    fn name(&self) -> &'static str {
+        match self {
+            EvolveFault::NoMemory => "NoMemory",
+            EvolveFault::NoRoom => "NoRoom",
+            EvolveFault::Stopped => "Stopped",
+        }
+    }
+
+    fn place(&self) -> Option<u64> {
+        None
+    }
+}
+
+impl From<AllocError> for EvolveFault {
+    ghost use Rattle.std.specs.Prelude.{◌≡◌};
+    ghost use Rattle.step_engine.specs.declared.evolved.EvolveFault.TheVariants.{NoMemory};
+
+    ghost from_gives = { λ _ fault. fault ≡ NoMemory };
+
+    fn from(_error: AllocError) -> EvolveFault {
+        EvolveFault::NoMemory
+    }
+}

@@ -1,0 +1,5 @@
+//! The tests of `step_engine`.
+#![tactic(auto)]
+
+#[cfg(test)]
+mod tests;

@@ -1,0 +1,131 @@
+ghost use Rattle.std.specs.Prelude.{◌≡◌, ◌<◌, All};
+
+use plane_core::{Around, Next, Stop};
+
+// Where `Around` has the neighbours.
+const NORTH: usize = 1;
+
+const EAST: usize = 3;
+
+const SOUTH: usize = 5;
+
+const WEST: usize = 7;
+
+/// A cell takes the state that one of the nine places had.
+#[derive(Clone, Copy)]
+pub struct Copying {
+    pub from: usize,
+}
+
+impl Next for Copying {
+    ghost use Rattle.std.specs.Prelude.{slice_index};
+    ghost use Rattle.std.proofs.Common.{arith, inl, inr};
+    ghost use Rattle.std.proofs.lemmas.Bool.{cases_lt};
+    ghost use Rattle.std.proofs.lemmas.List.{get_or-replicate, get_or_past};
+    ghost use Rattle.std.proofs.lemmas.List.Elements.{All-get_or};
+    ghost use Rattle.worlds.specs.Step.{nine_zeros};
+
+    ghost state_count = { λ _. 256 };
+
+    ghost meaning = { λ rule states. slice_index states rule.from };
+
+    fn states(&self) -> u16 {
+        256
+    }
+
+    fn next(&self, around: &Around) -> u8 {
+        around.0.get(self.from).copied().unwrap_or(0)
+    }
+
+    ghost quiet = { λ rule. elim (cases_lt rule.from 9) [ inl k ↦ get_or-replicate 9 rule.from 0 0 k | inr k ↦ get_or_past nine_zeros rule.from 0 k ] };
+
+    ghost below = { λ rule states h. elim (cases_lt rule.from 9) [ inl k ↦ All-get_or (λ s. s < 256) states rule.from 0 (Prim.omega (arith, k, h.nine)) h.below | inr k ↦ Prim.omega (arith, get_or_past states rule.from 0 (Prim.omega (arith, k, h.nine))) ] };
+}
+
+/// The table over two states and the order C, W, E that has the lines 0 1 0 1, 0 0 1 1, 1 0 0 0
+/// and 1 1 1 0: a cell becomes live where one of the two lives alone.
+#[derive(Clone, Copy)]
+pub struct OneOfTwo;
+
+impl Next for OneOfTwo {
+    ghost use Rattle.std.specs.Prelude.{slice_index, ◌==◌, if◌then◌else◌, refl};
+    ghost use Rattle.std.proofs.Common.{arith};
+
+    ghost state_count = { λ _. 2 };
+
+    ghost meaning = { λ _ states. if slice_index states 7 == slice_index states 3 then 0 else 1 };
+
+    fn states(&self) -> u16 {
+        2
+    }
+
+    fn next(&self, around: &Around) -> u8 {
+        if around.0[WEST] == around.0[EAST] {
+            0
+        } else {
+            1
+        }
+    }
+
+    ghost quiet = { λ _. refl };
+
+    ghost below = { λ _ states _. Prim.grind arith };
+}
+
+/// A live cell stays, and a dead one becomes live where exactly one of its four neighbours lives.
+#[derive(Clone, Copy)]
+pub struct Star;
+
+impl Next for Star {
+    ghost use Rattle.std.specs.Prelude.{slice_index, ◌==◌, ◌+◌, if◌then◌else◌, refl};
+    ghost use Rattle.std.proofs.Common.{arith};
+
+    ghost state_count = { λ _. 2 };
+
+    ghost meaning = { λ _ states. if slice_index states 0 == 1 then 1 else (if slice_index states 1 + slice_index states 3 + slice_index states 5 + slice_index states 7 == 1 then 1 else 0) };
+
+    fn states(&self) -> u16 {
+        2
+    }
+
+    fn next(&self, around: &Around) -> u8 {
+        if around.0[0] == 1 {
+            return 1;
+        }
+        let live = u16::from(around.0[NORTH])
+            + u16::from(around.0[EAST])
+            + u16::from(around.0[SOUTH])
+            + u16::from(around.0[WEST]);
+        if live == 1 { 1 } else { 0 }
+    }
+
+    ghost quiet = { λ _. refl };
+
+    ghost below = { λ _ states _. Prim.grind arith };
+}
+
+/// Says yes once, at the poll after `left - 1` others.
+#[derive(Clone, Copy)]
+pub struct Countdown {
+    pub left: u64,
+}
+
+impl Stop for Countdown {
+    ghost use Rattle.std.specs.Prelude.{◌==◌, if◌then◌else◌};
+
+    ghost yes_count = { λ stop. if stop.left == 0 then 1 else 0 };
+
+    fn poll(&mut self) -> bool {
+        match self.left {
+            0 => false,
+            1 => {
+                self.left = 0;
+                true
+            }
+            left => {
+                self.left = left - 1;
+                false
+            }
+        }
+    }
+}

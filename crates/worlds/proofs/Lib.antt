@@ -1,0 +1,6 @@
+pub mod Cells
+pub mod Local
+pub mod Steps
+pub mod Walks
+pub mod Stepped
+pub mod Keeps

@@ -1,0 +1,5 @@
+use Rattle.worlds.proofs.Local.{cell-step-none}
+use Rattle.worlds.proofs.laws.spreads_one_cell.Goals as goal
+
+pub returns : goal.returns
+returns c = cell-step-none

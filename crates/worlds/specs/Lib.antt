@@ -1,0 +1,13 @@
+pub mod World
+pub mod Lay
+pub mod Fill
+pub mod Step
+pub mod Iterate
+pub mod Live
+pub mod Range
+pub mod Box
+pub mod Arrival
+pub mod Moved
+pub mod Near
+pub mod Laws
+pub mod Square
