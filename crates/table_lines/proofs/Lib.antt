@@ -8,3 +8,5 @@ pub mod SaidTables
 pub mod Sets
 mod Splits
 mod Unions
+mod WrittenEntries
+mod WrittenTables

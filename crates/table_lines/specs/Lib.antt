@@ -14,3 +14,4 @@ pub mod Symmetry
 pub mod Table
 pub mod Transitions
 pub mod Variables
+pub mod WrittenTable

@@ -1,11 +1,12 @@
 -- What holds of the lines of all tables.
-use Rattle.std.specs.Prelude.{◌≡◌, Bool, true, List, ◌∷◌, ◌++◌, is_some, map, Ok}
+use Rattle.std.specs.Prelude.{◌≡◌, ℕ, Bool, true, List, ◌∷◌, ◌++◌, is_some, map, Ok}
 use Rattle.std.specs.List.{list_all}
 use Rattle.rule_file.specs.RuleFile.{NumberedLine}
 use Rattle.table_lines.specs.Descriptors.{descriptor_of}
 use Rattle.table_lines.specs.Lines.{lines_of}
 use Rattle.table_lines.specs.Read.{IsRead}
 use Rattle.table_lines.specs.Table.{Table}
+use Rattle.table_lines.specs.WrittenTable.{IsTableOf, written_table}
 
 -- lines that say a table say it under other numbers too: blank lines and comments between them change nothing
 abbrev pub NumbersDoNotMatter : Type 0
@@ -22,3 +23,7 @@ DescriptorsInAnyOrder = (front : List NumberedLine) (line next : NumberedLine) (
 -- a table that lines say has two states or more and 256 at most, and its transitions name no others and have an input for the cell and each neighbour
 abbrev pub TablesOfLinesAreRead : Type 0
 TablesOfLinesAreRead = (lines : List NumberedLine) (table : Table) → lines_of lines ≡ Ok table → IsRead table
+
+-- the lines that are written for a table, whatever numbers they have, say it again
+abbrev pub WrittenTablesAreRead : Type 0
+WrittenTablesAreRead = (number : ℕ) (sets : List (List ℕ)) (table : Table) → IsTableOf sets table → lines_of (written_table number sets table) ≡ Ok table

@@ -1,5 +1,5 @@
 //! Laws of the definitions, each the contract of a function that does nothing.
-ghost use Rattle.table_lines.specs.LineLaws.{DescriptorsInAnyOrder, NumbersDoNotMatter, TablesOfLinesAreRead};
+ghost use Rattle.table_lines.specs.LineLaws.{DescriptorsInAnyOrder, NumbersDoNotMatter, TablesOfLinesAreRead, WrittenTablesAreRead};
 
 /// Lines that say a table say it under other numbers too: blank lines and comments between them
 /// change nothing.
@@ -16,4 +16,9 @@ pub fn descriptors_stand_in_any_order()
 /// input for the cell and each neighbour.
 pub fn tables_of_lines_are_read()
     ensures { TablesOfLinesAreRead }
+{}
+
+/// The lines that are written for a table say this table again.
+pub fn written_tables_are_read()
+    ensures { WrittenTablesAreRead }
 {}
