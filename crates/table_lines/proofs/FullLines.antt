@@ -45,7 +45,7 @@ full_line number n fs true (Ok es) t count same h =
 full_line number n fs true (Err e) t count same h = absurd cc
 full_line number n fs false r t count same h = absurd cc
 
-transition_of-full : (head : Head) (variables : Variables) (line : NumberedLine) (t : Transition) → transition_of head variables line ≡ Ok t → length t.inputs ≡ length (places_of head.neighborhood) + 1
+pub transition_of-full : (head : Head) (variables : Variables) (line : NumberedLine) (t : Transition) → transition_of head variables line ≡ Ok t → length t.inputs ≡ length (places_of head.neighborhood) + 1
 transition_of-full head variables line t h =
     let parts = fields head.states line.text in
     full_line line.number (length (places_of head.neighborhood)) parts (length parts == length (places_of head.neighborhood) + 2)

@@ -9,4 +9,5 @@ pub mod Sets
 mod Splits
 mod Unions
 mod WrittenEntries
+mod WrittenSets
 mod WrittenTables

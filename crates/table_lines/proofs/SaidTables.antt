@@ -35,28 +35,28 @@ pub then-ok : {A B : Type 0} (r : Result A RuleFault) (f : A → Result B RuleFa
 then-ok (Ok x) f y h = (x, refl, h)
 then-ok (Err e) f y h = absurd cc
 
-some-ok : {A : Type 0} (o : Option A) (e : RuleFault) (x : A) → ◌≡◌ {A = Result A RuleFault} (ok_or o e) (Ok x) → o ≡ Some x
+pub some-ok : {A : Type 0} (o : Option A) (e : RuleFault) (x : A) → ◌≡◌ {A = Result A RuleFault} (ok_or o e) (Ok x) → o ≡ Some x
 some-ok None e x h = absurd cc
 some-ok (Some y) e x h = ap Some (same_value y x h)
 
-map-some : {A B : Type 0} (f : A → B) (o : Option A) (y : B) → option_map f o ≡ Some y → (x : A) × (o ≡ Some x) × (f x ≡ y)
+pub map-some : {A B : Type 0} (f : A → B) (o : Option A) (y : B) → option_map f o ≡ Some y → (x : A) × (o ≡ Some x) × (f x ≡ y)
 map-some f None y h = absurd cc
 map-some f (Some x) y h = (x, refl, cc)
 
-then-some : {A B : Type 0} (f : A → Option B) (o : Option A) (y : B) → option_and_then f o ≡ Some y → (x : A) × (o ≡ Some x) × (f x ≡ Some y)
+pub then-some : {A B : Type 0} (f : A → Option B) (o : Option A) (y : B) → option_and_then f o ≡ Some y → (x : A) × (o ≡ Some x) × (f x ≡ Some y)
 then-some f None y h = absurd cc
 then-some f (Some x) y h = (x, refl, h)
 
-if-some : {A : Type 0} (b : Bool) (x y : A) → (if b then Some x else None) ≡ Some y → (b ≡ true) × (x ≡ y)
+pub if-some : {A : Type 0} (b : Bool) (x y : A) → (if b then Some x else None) ≡ Some y → (b ≡ true) × (x ≡ y)
 if-some true x y h = (refl, cc)
 if-some false x y h = absurd cc
 
 -- a value that is given where a test holds, and where it doesn't
-if-ok : {A : Type 0} (b : Bool) (r : Result A RuleFault) (e : RuleFault) (y : A) → (if b then r else Err e) ≡ Ok y → (b ≡ true) × (r ≡ Ok y)
+pub if-ok : {A : Type 0} (b : Bool) (r : Result A RuleFault) (e : RuleFault) (y : A) → (if b then r else Err e) ≡ Ok y → (b ≡ true) × (r ≡ Ok y)
 if-ok true r e y h = (refl, h)
 if-ok false r e y h = absurd cc
 
-else-ok : {A : Type 0} (b : Bool) (r : Result A RuleFault) (e : RuleFault) (y : A) → (if b then Err e else r) ≡ Ok y → r ≡ Ok y
+pub else-ok : {A : Type 0} (b : Bool) (r : Result A RuleFault) (e : RuleFault) (y : A) → (if b then Err e else r) ≡ Ok y → r ≡ Ok y
 else-ok true r e y h = absurd cc
 else-ok false r e y h = h
 
@@ -185,7 +185,7 @@ head_of-within d head within h =
     (within states.0 (some-ok d.states MissingDescriptor states.0 states.1))
 
 -- the head that lines describe has so many
-head_from-within : (d : Described) (lines : List NumberedLine) (found : Head × List NumberedLine) → HasStates d → head_from d lines ≡ Ok found → AreStates found.0.states
+pub head_from-within : (d : Described) (lines : List NumberedLine) (found : Head × List NumberedLine) → HasStates d → head_from d lines ≡ Ok found → AreStates found.0.states
 head_from-within d [] found within h =
     let head = then-ok (head_of d) (λ (head : Head). Ok (head, [])) found h in
     subst (λ (x : Head × List NumberedLine). AreStates x.0.states) (same_value (head.0, []) found head.2) (head_of-within d head.0 within head.1)

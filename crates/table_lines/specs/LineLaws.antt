@@ -1,5 +1,5 @@
 -- What holds of the lines of all tables.
-use Rattle.std.specs.Prelude.{◌≡◌, ℕ, Bool, true, List, ◌∷◌, ◌++◌, is_some, map, Ok}
+use Rattle.std.specs.Prelude.{◌≡◌, ℕ, Bool, true, ◌≤◌, ◌^◌, List, ◌∷◌, ◌++◌, is_some, length, map, Ok}
 use Rattle.std.specs.List.{list_all}
 use Rattle.rule_file.specs.RuleFile.{NumberedLine}
 use Rattle.table_lines.specs.Descriptors.{descriptor_of}
@@ -27,3 +27,7 @@ TablesOfLinesAreRead = (lines : List NumberedLine) (table : Table) → lines_of 
 -- the lines that are written for a table, whatever numbers they have, say it again
 abbrev pub WrittenTablesAreRead : Type 0
 WrittenTablesAreRead = (number : ℕ) (sets : List (List ℕ)) (table : Table) → IsTableOf sets table → lines_of (written_table number sets table) ≡ Ok table
+
+-- a table that lines say is one for which lines are written, whose variables are some sets; no file has more than 2^64 lines
+abbrev pub TablesOfLinesAreWritten : Type 0
+TablesOfLinesAreWritten = (lines : List NumberedLine) (table : Table) → length lines ≤ 2 ^ 64 → lines_of lines ≡ Ok table → (sets : List (List ℕ)) × IsTableOf sets table

@@ -1,5 +1,5 @@
 //! Laws of the definitions, each the contract of a function that does nothing.
-ghost use Rattle.table_lines.specs.LineLaws.{DescriptorsInAnyOrder, NumbersDoNotMatter, TablesOfLinesAreRead, WrittenTablesAreRead};
+ghost use Rattle.table_lines.specs.LineLaws.{DescriptorsInAnyOrder, NumbersDoNotMatter, TablesOfLinesAreRead, WrittenTablesAreRead, TablesOfLinesAreWritten};
 
 /// Lines that say a table say it under other numbers too: blank lines and comments between them
 /// change nothing.
@@ -21,4 +21,9 @@ pub fn tables_of_lines_are_read()
 /// The lines that are written for a table say this table again.
 pub fn written_tables_are_read()
     ensures { WrittenTablesAreRead }
+{}
+
+/// A table that lines say is one for which lines are written.
+pub fn tables_of_lines_are_written()
+    ensures { TablesOfLinesAreWritten }
 {}
