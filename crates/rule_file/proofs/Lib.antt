@@ -1,3 +1,4 @@
 mod Comments
 mod Remarks
 mod Saying
+pub mod WrittenFiles

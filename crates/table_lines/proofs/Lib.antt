@@ -9,5 +9,6 @@ pub mod Sets
 mod Splits
 mod Unions
 mod WrittenEntries
-mod WrittenSets
-mod WrittenTables
+mod WrittenFiles
+pub mod WrittenSets
+pub mod WrittenTables

@@ -54,7 +54,7 @@ trim_start-digits [] h = refl
 trim_start-digits (d ∷ ds) h = let digits = h.digits in ap (λ v. cond v (trim_start ds) (d ∷ ds)) (visible-solid d (digit-visible d digits.0))
 
 -- the set that a definition lists, between its braces
-abbrev listed : List ℕ → List ℕ
+abbrev pub listed : List ℕ → List ℕ
 listed set = join_with_byte 44 (map decimal set)
 
 -- names of different variables differ
@@ -86,7 +86,7 @@ named-more variables done set count few named number low =
     ]
 
 -- the states of a set are written in full
-set-wide : (n : ℕ) (set : List ℕ) → n ≤ 256 → all_below n set ≡ true → AllByRecursion IsWide set
+pub set-wide : (n : ℕ) (set : List ℕ) → n ≤ 256 → all_below n set ≡ true → AllByRecursion IsWide set
 set-wide n [] few h = tt
 set-wide n (s ∷ set) few h =
     let both = and_parts (nat_lt s n) (all_below n set) h in
@@ -99,7 +99,7 @@ set-fields [] h = tt
 set-fields (s ∷ set) h = (decimal-field s h.0, set-fields set h.1)
 
 -- each byte of the states with commas between them is a digit or a comma
-listed-each : (P : ℕ → Type 0) → P 44 → ((b : ℕ) → IsDigit b → P b) → (set : List ℕ) → 0 < length set → AllByRecursion IsWide set → AllByRecursion P (listed set)
+pub listed-each : (P : ℕ → Type 0) → P 44 → ((b : ℕ) → IsDigit b → P b) → (set : List ℕ) → 0 < length set → AllByRecursion IsWide set → AllByRecursion P (listed set)
 listed-each P comma digit [] some h = absurd (omega arith)
 listed-each P comma digit (s ∷ set) some h = joined-each P comma (decimal s) (map decimal set) (words (s ∷ set) h)
   where
@@ -211,10 +211,10 @@ definition-undescribed n number set few wide is =
     (refl, (refl, all_append P (listed set) (125 ∷ []) (listed-each P refl no_colon set is.some low) (refl, tt))))
 
 -- the entries of a transition, its result last
-abbrev entries_of : Transition → List Entry
+abbrev pub entries_of : Transition → List Entry
 entries_of t = t.inputs ++ t.result ∷ []
 
-abbrev line_of : List Entry → List ℕ
+abbrev pub line_of : List Entry → List ℕ
 line_of entries = join_with_byte 44 (map entry_text entries)
 
 module _ (n : ℕ) (sets : List (List ℕ)) (low : n ≤ 256) (few : length sets ≤ 2 ^ 64) where
@@ -246,10 +246,10 @@ transition-made t =
     ap (λ (k : ℕ). record { inputs = take k (entries_of t); result = slice_index_or (entries_of t) k (State 0) }) last
     ∙ ap₂ (λ (inputs : List Entry) (result : Entry). record { inputs = inputs; result = result }) (take-append_seam t.inputs (t.result ∷ [])) (get_or-append_seam t.inputs t.result [] (State 0))
 
-entries-are : (n : ℕ) (neighborhood : Neighborhood) (sets : List (List ℕ)) (t : Transition) → IsTransitionOf n neighborhood sets t → AllByRecursion (IsEntryOf n sets) (entries_of t)
+pub entries-are : (n : ℕ) (neighborhood : Neighborhood) (sets : List (List ℕ)) (t : Transition) → IsTransitionOf n neighborhood sets t → AllByRecursion (IsEntryOf n sets) (entries_of t)
 entries-are n neighborhood sets t is = all_append (IsEntryOf n sets) t.inputs (t.result ∷ []) is.inputs (is.result, tt)
 
-entries-many : (n : ℕ) (neighborhood : Neighborhood) (sets : List (List ℕ)) (t : Transition) → IsTransitionOf n neighborhood sets t → length (entries_of t) ≡ length (places_of neighborhood) + 2
+pub entries-many : (n : ℕ) (neighborhood : Neighborhood) (sets : List (List ℕ)) (t : Transition) → IsTransitionOf n neighborhood sets t → length (entries_of t) ≡ length (places_of neighborhood) + 2
 entries-many n neighborhood sets t is =
     let full : length t.inputs ≡ length (places_of neighborhood) + 1 = eqb-true (length t.inputs) (length (places_of neighborhood) + 1) is.full in
     omega (arith, full, length-append t.inputs (t.result ∷ []))

@@ -1,12 +1,13 @@
 -- What holds of the lines of all tables.
 use Rattle.std.specs.Prelude.{◌≡◌, ℕ, Bool, true, ◌≤◌, ◌^◌, List, ◌∷◌, ◌++◌, is_some, length, map, Ok}
 use Rattle.std.specs.List.{list_all}
-use Rattle.rule_file.specs.RuleFile.{NumberedLine}
+use Rattle.rule_file.specs.declared.text.SectionKind.TheVariants as section_kind
+use Rattle.rule_file.specs.RuleFile.{NumberedLine, file_of, is_name}
 use Rattle.table_lines.specs.Descriptors.{descriptor_of}
 use Rattle.table_lines.specs.Lines.{lines_of}
 use Rattle.table_lines.specs.Read.{IsRead}
 use Rattle.table_lines.specs.Table.{Table}
-use Rattle.table_lines.specs.WrittenTable.{IsTableOf, written_table}
+use Rattle.table_lines.specs.WrittenTable.{IsTableOf, written_file, written_table}
 
 -- lines that say a table say it under other numbers too: blank lines and comments between them change nothing
 abbrev pub NumbersDoNotMatter : Type 0
@@ -31,3 +32,8 @@ WrittenTablesAreRead = (number : ℕ) (sets : List (List ℕ)) (table : Table) �
 -- a table that lines say is one for which lines are written, whose variables are some sets; no file has more than 2^64 lines
 abbrev pub TablesOfLinesAreWritten : Type 0
 TablesOfLinesAreWritten = (lines : List NumberedLine) (table : Table) → length lines ≤ 2 ^ 64 → lines_of lines ≡ Ok table → (sets : List (List ℕ)) × IsTableOf sets table
+
+-- the text that is written for a name and a table is the rule file of this name whose section are these lines
+abbrev pub WrittenIsItsFile : Type 0
+WrittenIsItsFile = (name : List ℕ) (sets : List (List ℕ)) (table : Table) → is_name name ≡ true → IsTableOf sets table
+    → file_of (written_file name sets table) ≡ Ok (record { name = name; section = record { kind = section_kind.Table; opened = 2; lines = written_table 3 sets table } })

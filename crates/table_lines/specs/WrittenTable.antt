@@ -1,6 +1,7 @@
 -- The lines that write a table.
 use Rattle.std.specs.Prelude.{◌≡◌, ℕ, ◌+◌, ◌<◌, ◌≤◌, ◌^◌, true, false, List, [], ◌∷◌, ◌++◌, length, map, slice_index_or, codes, decimal, Some}
 use Rattle.std.specs.List.{AllByRecursion, join_with_byte}
+use Rattle.text_lines.specs.LineEnds.{text_of_lines}
 use Rattle.rule_file.specs.RuleFile.{NumberedLine, numbered_from}
 use Rattle.table_lines.specs.declared.neighborhood.Neighborhood.{Neighborhood}
 use Rattle.table_lines.specs.declared.neighborhood.Neighborhood.TheVariants.{VonNeumann, Moore, Hexagonal, OneDimensional}
@@ -84,3 +85,7 @@ pub record IsTableOf (sets : List (List ℕ)) (table : Table) : Type 0 where
   pub few : length sets ≤ 2 ^ 64
   pub defined : AllByRecursion (IsSet table.states) sets
   pub transitions : AllByRecursion (IsTransitionOf table.states table.neighborhood sets) table.transitions
+
+-- the text of a rule file of this name, which has the table's section alone
+abbrev pub written_file : List ℕ → List (List ℕ) → Table → List ℕ
+written_file name sets table = text_of_lines ((codes "@RULE " ++ name) ∷ codes "@TABLE" ∷ written_lines sets table)

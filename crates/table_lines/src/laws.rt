@@ -1,5 +1,5 @@
 //! Laws of the definitions, each the contract of a function that does nothing.
-ghost use Rattle.table_lines.specs.LineLaws.{DescriptorsInAnyOrder, NumbersDoNotMatter, TablesOfLinesAreRead, WrittenTablesAreRead, TablesOfLinesAreWritten};
+ghost use Rattle.table_lines.specs.LineLaws.{DescriptorsInAnyOrder, NumbersDoNotMatter, TablesOfLinesAreRead, TablesOfLinesAreWritten, WrittenIsItsFile, WrittenTablesAreRead};
 
 /// Lines that say a table say it under other numbers too: blank lines and comments between them
 /// change nothing.
@@ -26,4 +26,9 @@ pub fn written_tables_are_read()
 /// A table that lines say is one for which lines are written.
 pub fn tables_of_lines_are_written()
     ensures { TablesOfLinesAreWritten }
+{}
+
+/// The text that is written for a name and a table is the rule file of this name and this table.
+pub fn written_is_its_file()
+    ensures { WrittenIsItsFile }
 {}

@@ -21,7 +21,7 @@ mod variables;
 pub use descriptors::Head;
 pub use laws::{
     descriptors_stand_in_any_order, numbers_do_not_matter, tables_of_lines_are_read,
-    tables_of_lines_are_written, written_tables_are_read,
+    tables_of_lines_are_written, written_is_its_file, written_tables_are_read,
 };
 pub use lines::{TableLines, read_lines};
 pub use neighborhood::Neighborhood;
