@@ -5,14 +5,11 @@ use Rattle.std.specs.Result.{IsErrAnd}
 use Rattle.basics.specs.Results.{◌>>=◌}
 use Rattle.rule_file.specs.declared.fault.RuleFault.{RuleFault}
 use Rattle.rule_file.specs.declared.fault.RuleFault.TheVariants.{BadTree, NoMemory}
+use Rattle.rule_file.proofs.Readings.{WantsNone}
 use Rattle.rule_file.specs.RuleFile.{NumberedLine}
 use Rattle.decision_tree.specs.declared.descriptors.Descriptor.{Descriptor}
 use Rattle.decision_tree.specs.declared.descriptors.TreeHead.{TreeHead}
 use Rattle.decision_tree.specs.TreeLines.{Described, describe, descriptor_of, head_from, head_of}
-
--- a reading that wants no memory
-abbrev pub WantsNone : {A : Type 0} → Result A RuleFault → Type 0
-WantsNone {A} r = ◌≢◌ {A = Result A RuleFault} r (Err NoMemory)
 
 -- a line that isn't what a tree has there is no want of memory
 some-none : {A B : Type 0} (o : Option A) (number : ℕ) (f : A → Result B RuleFault) → ((x : A) → WantsNone (f x)) → WantsNone (ok_or o (BadTree number) >>= f)
@@ -26,8 +23,3 @@ head_from-none last d (line ∷ lines) = by (descriptor_of line.text) (λ e. hea
     by : (o : Option (Descriptor × List ℕ)) → ((e : Described) → WantsNone (head_from last e lines)) → WantsNone (option_map_or (λ x. ok_or (describe d x.0 x.1) (BadTree line.number) >>= λ e. head_from last e lines) o (ok_or (head_of d) (BadTree line.number) >>= λ head. Ok (head, line ∷ lines)))
     by None rest = some-none (head_of d) line.number (λ (head : TreeHead). Ok (head, line ∷ lines)) (λ head h. absurd cc)
     by (Some x) rest = some-none (describe d x.0 x.1) line.number (λ e. head_from last e lines) rest
-
--- so a call that hands on such a fault doesn't say that memory was wanted
-pub handed_on : {A B : Type 0} (result : Result A RuleFault) (read : Result B RuleFault) (e : RuleFault) → IsErrAnd result (λ f. f ≡ e) → read ≡ Err e → WantsNone read → result ≢ Err NoMemory
-handed_on (Ok x) read e is at none h = absurd is
-handed_on (Err f) read e is at none h = let wanted : e ≡ NoMemory = cc in none (at ∙ ap Err wanted)

@@ -9,6 +9,7 @@ use Rattle.std.proofs.lemmas.List.Sums.{AllPass-from_list_all}
 use Rattle.text_lines.specs.Numbers.{number_of}
 use Rattle.basics.specs.Results.{◌>>=◌}
 use Rattle.rule_file.specs.declared.fault.RuleFault.TheVariants.{BadTree, NotQuiescent}
+use Rattle.rule_file.proofs.Readings.{if-some, map-some, some-ok, then-ok, then-some}
 use Rattle.rule_file.specs.RuleFile.{NumberedLine, Section}
 use Rattle.decision_tree.specs.declared.descriptors.Descriptor.{Descriptor}
 use Rattle.decision_tree.specs.declared.descriptors.Descriptor.TheVariants as descriptor
@@ -128,26 +129,6 @@ said-push head nodes node said next =
         ∙ eqb-true node.depth (depth_of_root head.neighbors) is
 
 -- what a node says comes from a line that may stand there
-if-some : {X : Type 0} (b : Bool) (x y : X) → (if b then Some x else None) ≡ Some y → (b ≡ true) × (x ≡ y)
-if-some true x y h = (refl, cc)
-if-some false x y h = absurd cc
-
-then-some : {X Y : Type 0} (f : X → Option Y) (o : Option X) (y : Y) → option_and_then f o ≡ Some y → (x : X) × (o ≡ Some x) × (f x ≡ Some y)
-then-some f None y h = absurd cc
-then-some f (Some x) y h = (x, refl, h)
-
-map-some : {X Y : Type 0} (f : X → Y) (o : Option X) (y : Y) → option_map f o ≡ Some y → (x : X) × (o ≡ Some x) × (f x ≡ y)
-map-some f None y h = absurd cc
-map-some f (Some x) y h = (x, refl, cc)
-
-ok-some : {X E : Type 0} (o : Option X) (e : E) (x : X) → ok_or o e ≡ Ok x → o ≡ Some x
-ok-some None e x h = absurd cc
-ok-some (Some y) e x h = cc
-
-then-ok : {A B E : Type 0} (r : Result A E) (f : A → Result B E) (y : B) → (r >>= f) ≡ Ok y → (x : A) × (r ≡ Ok x) × (f x ≡ Ok y)
-then-ok (Ok x) f y h = (x, refl, h)
-then-ok (Err e) f y h = absurd cc
-
 -- the node of a line may stand there
 said-next : (head : TreeHead) (nodes : List Node) (line : List ℕ) (node : Node) → node_of head nodes line ≡ Some node → is_next head (depths_of nodes) node ≡ true
 said-next head nodes line node h =
@@ -167,7 +148,7 @@ said-from last head nodes [] found said h = by (length nodes == head.node_count)
     by false e ok = absurd cc
 said-from last head nodes (line ∷ lines) found said h =
     let more = then-ok (with_line head nodes line) (λ ns. nodes_from last head ns lines) found h in
-    let node = map-some (λ (n : Node). nodes ++ n ∷ []) (node_of head nodes line.text) more.0 (ok-some (option_map (λ (n : Node). nodes ++ n ∷ []) (node_of head nodes line.text)) (BadTree line.number) more.0 more.1) in
+    let node = map-some (λ (n : Node). nodes ++ n ∷ []) (node_of head nodes line.text) more.0 (some-ok (option_map (λ (n : Node). nodes ++ n ∷ []) (node_of head nodes line.text)) (BadTree line.number) more.0 more.1) in
     said-from last head more.0 lines found (subst (AreSaid head) node.2 (said-push head nodes node.0 said (said-next head nodes line.text node.0 node.1))) more.2
 
 -- a count that is described is of one node at least
@@ -214,10 +195,10 @@ some-found last d (line ∷ lines) found some h = by (descriptor_of line.text) h
     by None ok rest =
         let head = then-ok (ok_or (head_of d) (BadTree line.number)) (λ (head : TreeHead). Ok (head, line ∷ lines)) found ok in
         let is : (head.0, line ∷ lines) ≡ found = cc in
-        subst (λ (x : TreeHead × List NumberedLine). 1 ≤ x.0.node_count) is (some-head d head.0 some (ok-some (head_of d) (BadTree line.number) head.0 head.1))
+        subst (λ (x : TreeHead × List NumberedLine). 1 ≤ x.0.node_count) is (some-head d head.0 some (some-ok (head_of d) (BadTree line.number) head.0 head.1))
     by (Some x) ok rest =
         let e = then-ok (ok_or (describe d x.0 x.1) (BadTree line.number)) (λ e. head_from last e lines) found ok in
-        rest e.0 (some-described d x.0 x.1 e.0 some (ok-some (describe d x.0 x.1) (BadTree line.number) e.0 e.1)) e.2
+        rest e.0 (some-described d x.0 x.1 e.0 some (some-ok (describe d x.0 x.1) (BadTree line.number) e.0 e.1)) e.2
 
 -- states that are described are two at least
 abbrev TwoStates : Described → Type 0
@@ -259,10 +240,10 @@ two-found last d (line ∷ lines) found two h = by (descriptor_of line.text) h (
     by None ok rest =
         let head = then-ok (ok_or (head_of d) (BadTree line.number)) (λ (head : TreeHead). Ok (head, line ∷ lines)) found ok in
         let is : (head.0, line ∷ lines) ≡ found = cc in
-        subst (λ (x : TreeHead × List NumberedLine). 2 ≤ x.0.states) is (two-head d head.0 two (ok-some (head_of d) (BadTree line.number) head.0 head.1))
+        subst (λ (x : TreeHead × List NumberedLine). 2 ≤ x.0.states) is (two-head d head.0 two (some-ok (head_of d) (BadTree line.number) head.0 head.1))
     by (Some x) ok rest =
         let e = then-ok (ok_or (describe d x.0 x.1) (BadTree line.number)) (λ e. head_from last e lines) found ok in
-        rest e.0 (two-described d x.0 x.1 e.0 two (ok-some (describe d x.0 x.1) (BadTree line.number) e.0 e.1)) e.2
+        rest e.0 (two-described d x.0 x.1 e.0 two (some-ok (describe d x.0 x.1) (BadTree line.number) e.0 e.1)) e.2
 
 -- a tree that a section says, by its head and its nodes
 pub record IsSaid (tree : Tree) : Type 0 where

@@ -12,6 +12,7 @@ use Rattle.text_lines.proofs.ByteRanges.{differs, digit-visible, visible-solid}
 use Rattle.text_lines.proofs.Decimals.{IsNumeral, IsWide, decimal-numeral, number_of-decimal}
 use Rattle.text_lines.proofs.NumberLines.{Parts, numbers-bytes, words-numbers}
 use Rattle.text_lines.proofs.Pieces.{position-at, position-none}
+use Rattle.rule_file.proofs.WrittenFiles.{trim_start-digits}
 use Rattle.rule_file.specs.declared.fault.RuleFault.TheVariants.{BadTree, NotQuiescent}
 use Rattle.rule_file.specs.RuleFile.{NumberedLine, numbered_from}
 use Rattle.decision_tree.specs.declared.tree.Neighbors.{Neighbors}
@@ -23,11 +24,6 @@ use Rattle.decision_tree.specs.Kept.{IsTreeHead}
 use Rattle.decision_tree.specs.Laws.{WrittenMeansTheSame}
 use Rattle.decision_tree.specs.TreeLines.{Described, Node, depth_of_root, describe, descriptor_named, descriptor_of, do_entries_fit, head_from, head_of, if_quiescent, is_next, last_number, node_from, node_of, nodes_from, number_within, numbers_in, tree_from, undescribed}
 use Rattle.decision_tree.specs.WrittenTree.{EachIsNext, neighbors_text, node_line, written_lines, written_section}
-
--- digits stand as they are behind an equals sign
-trim_start-digits : (ds : List ℕ) → IsNumeral ds → trim_start ds ≡ ds
-trim_start-digits [] h = refl
-trim_start-digits (d ∷ ds) h = let digits = h.digits in ap (λ v. cond v (trim_start ds) (d ∷ ds)) (visible-solid d (digit-visible d digits.0))
 
 -- what a descriptor's line says, by its word
 abbrev described_by : List ℕ → ℕ → Option (Descriptor × List ℕ)

@@ -1,4 +1,5 @@
 mod Comments
+pub mod Readings
 mod Remarks
 mod Saying
 pub mod WrittenFiles

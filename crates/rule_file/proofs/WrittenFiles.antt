@@ -8,9 +8,10 @@ use Rattle.std.proofs.lemmas.Bool.{and_parts}
 use Rattle.std.proofs.lemmas.Bool.Decides.{nat_tests}
 use Rattle.basics.specs.Results.{◌>>=◌}
 use Rattle.basics.proofs.Lists.{all_append, all_so}
-use Rattle.text_lines.specs.Blanks.{trim}
+use Rattle.text_lines.specs.Blanks.{trim, trim_start}
 use Rattle.text_lines.specs.LineEnds.{text_of_lines}
-use Rattle.text_lines.proofs.ByteRanges.{IsDigit, IsPrinted, IsVisible, all_tested, differs, digit-visible, is_visible, printed-tested, visible-printed}
+use Rattle.text_lines.proofs.ByteRanges.{IsDigit, IsPrinted, IsVisible, all_tested, differs, digit-visible, is_visible, printed-tested, visible-printed, visible-solid}
+use Rattle.text_lines.proofs.Decimals.{IsNumeral}
 use Rattle.text_lines.proofs.Pieces.{all-past}
 use Rattle.text_lines.proofs.PrintedLines.{IsLine, ends-append, ends-visible, line-between, line-visible, says-lines}
 use Rattle.rule_file.specs.declared.fault.RuleFault.TheVariants.{NoRuleLine}
@@ -118,3 +119,8 @@ file-written name kind opening lines h opens is plain =
     (named-rule name (record { number = 2; text = opening } ∷ numbered_from 3 lines) h)
     ∙ ap (λ found. option_map_or (λ kind. Ok (record { kind = kind; opened = 2; lines = section_lines (numbered_from 3 lines) })) found (section_of (numbered_from 3 lines)) >>= λ section. Ok (record { name = name; section = section })) is
     ∙ ap (λ lines. Ok (record { name = name; section = record { kind = kind; opened = 2; lines = lines } })) (section_lines-plain 3 lines plain)
+
+-- digits stand as they are behind a sign
+pub trim_start-digits : (ds : List ℕ) → IsNumeral ds → trim_start ds ≡ ds
+trim_start-digits [] h = refl
+trim_start-digits (d ∷ ds) h = let digits = h.digits in ap (λ v. cond v (trim_start ds) (d ∷ ds)) (visible-solid d (digit-visible d digits.0))

@@ -4,6 +4,7 @@ use Rattle.basics.specs.Results.{◌>>=◌}
 use Rattle.rule_file.specs.declared.fault.RuleFault.{RuleFault}
 use Rattle.rule_file.specs.declared.text.SectionKind.{SectionKind}
 use Rattle.rule_file.specs.declared.text.SectionKind.TheVariants as section
+use Rattle.rule_file.proofs.Readings.{then-ok}
 use Rattle.rule_file.specs.RuleFile.{RuleFile, Section, file_of}
 use Rattle.table_symmetry.specs.Table as table_values
 use Rattle.table_symmetry.specs.TableLines.{table_of}
@@ -16,11 +17,6 @@ use Rattle.rule_tree.specs.declared.rule.Kind.TheVariants.{Table, Tree}
 use Rattle.rule_tree.specs.NamedRule.{NamedRule}
 use Rattle.rule_tree.specs.Rule.{is_sound, kind_by, kind_of, next_of, plain_next, rule_of}
 use Rattle.rule_tree.specs.RuleLaws.{next_of-plain}
-
--- what was read before, where a reading gives a value
-then-ok : {A B : Type 0} (r : Result A RuleFault) (f : A → Result B RuleFault) (y : B) → (r >>= f) ≡ Ok y → (x : A) × (r ≡ Ok x) × (f x ≡ Ok y)
-then-ok (Ok x) f y h = (x, refl, h)
-then-ok (Err e) f y h = absurd cc
 
 -- the table or tree that a section says is one that a file may have
 kind_by-sound : (k : SectionKind) (s : Section) (kind : Kind) → kind_by k s ≡ Ok kind → is_sound kind ≡ true

@@ -7,6 +7,7 @@ use Rattle.rule_file.specs.declared.fault.RuleFault.{RuleFault}
 use Rattle.rule_file.specs.declared.fault.RuleFault.TheVariants.{BadTransition, FreeResult}
 use Rattle.basics.specs.Results.{◌>>=◌}
 use Rattle.rule_file.specs.RuleFile.{NumberedLine}
+use Rattle.rule_file.proofs.Readings.{same_value}
 use Rattle.table_lines.specs.declared.descriptors.Head.{Head}
 use Rattle.table_lines.specs.declared.transition.Entry.{Entry}
 use Rattle.table_lines.specs.declared.transition.Transition.{Transition}
@@ -15,13 +16,6 @@ use Rattle.table_lines.specs.Descriptors.{descriptor_of}
 use Rattle.table_lines.specs.Fields.{fields}
 use Rattle.table_lines.specs.Transitions.{entry_of, is_free, is_full, transition_from, transition_of, transitions_of, unless_free}
 use Rattle.table_lines.specs.Variables.{Variables, defines_variable, each, variables_after}
-
-abbrev value_or : {A : Type 0} → Result A RuleFault → A → A
-value_or (Ok x) d = x
-value_or (Err e) d = d
-
-pub same_value : {A : Type 0} (x y : A) → ◌≡◌ {A = Result A RuleFault} (Ok x) (Ok y) → x ≡ y
-same_value x y h = ap (λ r. value_or r x) h
 
 each_first : {A B : Type 0} (xs : List A) (zs : List B) (r : Result B RuleFault) (rs : Result (List B) RuleFault) → ((ys : List B) → rs ≡ Ok ys → length ys ≡ length xs) → (r >>= λ y. rs >>= λ ys. Ok (y ∷ ys)) ≡ Ok zs → length zs ≡ suc (length xs)
 each_first xs zs (Ok y) (Ok ys) rest h = ap length (sym (same_value (y ∷ ys) zs h)) ∙ ap suc (rest ys refl)

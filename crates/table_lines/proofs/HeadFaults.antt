@@ -5,6 +5,7 @@ use Rattle.std.specs.Result.{IsErrAnd}
 use Rattle.basics.specs.Results.{◌>>=◌}
 use Rattle.rule_file.specs.declared.fault.RuleFault.{RuleFault}
 use Rattle.rule_file.specs.declared.fault.RuleFault.TheVariants.{BadNeighborhood, BadStates, BadSymmetry, MissingDescriptor, NoMemory}
+use Rattle.rule_file.proofs.Readings.{WantsNone}
 use Rattle.rule_file.specs.RuleFile.{NumberedLine}
 use Rattle.table_lines.specs.declared.descriptors.Descriptor.{Descriptor}
 use Rattle.table_lines.specs.declared.descriptors.Descriptor.TheVariants as descriptor
@@ -12,10 +13,6 @@ use Rattle.table_lines.specs.declared.descriptors.Head.{Head}
 use Rattle.table_lines.specs.Descriptors.{Described, are_unfit, describe, descriptor_of, fitting, head_from, head_of, once, states_in}
 use Rattle.table_lines.specs.Neighborhood.{neighborhood_named}
 use Rattle.table_lines.specs.Symmetry.{symmetry_named}
-
--- a reading that wants no memory
-abbrev pub WantsNone : {A : Type 0} → Result A RuleFault → Type 0
-WantsNone {A} r = ◌≢◌ {A = Result A RuleFault} r (Err NoMemory)
 
 -- one reading after another
 then-none : {A B : Type 0} (r : Result A RuleFault) (f : A → Result B RuleFault) → WantsNone r → ((x : A) → WantsNone (f x)) → WantsNone (r >>= f)
@@ -62,8 +59,3 @@ head_from-none d (line ∷ lines) = by (descriptor_of line.text) (λ e. head_fro
     by : (o : Option (Descriptor × List ℕ)) → ((e : Described) → WantsNone (head_from e lines)) → WantsNone (option_map_or (λ x. describe d line.number x.0 x.1 >>= λ e. head_from e lines) o (head_of d >>= λ head. Ok (head, line ∷ lines)))
     by None rest = then-none (head_of d) (λ (head : Head). Ok (head, line ∷ lines)) (head_of-none d) (λ head. ok-none (head, line ∷ lines))
     by (Some x) rest = then-none (describe d line.number x.0 x.1) (λ e. head_from e lines) (describe-none d line.number x.0 x.1) rest
-
--- so a call that hands on such a fault doesn't say that memory was wanted
-pub handed_on : {A B : Type 0} (result : Result A RuleFault) (read : Result B RuleFault) (e : RuleFault) → IsErrAnd result (λ f. f ≡ e) → read ≡ Err e → WantsNone read → result ≢ Err NoMemory
-handed_on (Ok x) read e is at none h = absurd is
-handed_on (Err f) read e is at none h = let wanted : e ≡ NoMemory = cc in none (at ∙ ap Err wanted)

@@ -17,7 +17,7 @@ use Rattle.table_lines.specs.LineLaws.{NumbersDoNotMatter}
 use Rattle.table_lines.specs.Neighborhood.{places_of}
 use Rattle.table_lines.specs.Table.{Table, headed}
 use Rattle.table_lines.specs.Transitions.{entry_of, is_free, transition_from, transition_of, transitions_of, unless_free}
-use Rattle.table_lines.proofs.FullLines.{same_value}
+use Rattle.rule_file.proofs.Readings.{same_value}
 use Rattle.table_lines.specs.Variables.{Variables, are_below, definition_in, defines_variable, each, member_states, no_variables, variable_named, variables_after}
 
 -- the second gives what the first gives, where that gives something

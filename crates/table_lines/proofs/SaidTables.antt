@@ -9,6 +9,7 @@ use Rattle.rule_file.specs.declared.fault.RuleFault.{RuleFault}
 use Rattle.rule_file.specs.declared.fault.RuleFault.TheVariants.{BadNeighborhood, BadStates, BadSymmetry, BadTransition, BadVariable, FreeResult, MissingDescriptor, StateTooHigh}
 use Rattle.basics.specs.Results.{◌>>=◌}
 use Rattle.rule_file.specs.RuleFile.{NumberedLine}
+use Rattle.rule_file.proofs.Readings.{else-ok, if-ok, if-some, map-some, same_value, some-ok, then-ok, then-some}
 use Rattle.table_lines.specs.declared.descriptors.Descriptor.{Descriptor}
 use Rattle.table_lines.specs.declared.descriptors.Descriptor.TheVariants as descriptor
 use Rattle.table_lines.specs.declared.descriptors.Head.{Head}
@@ -27,38 +28,8 @@ use Rattle.table_lines.specs.Symmetry.{symmetry_named}
 use Rattle.table_lines.specs.Table.{Table, headed}
 use Rattle.table_lines.specs.Transitions.{entry_of, is_free, transition_from, transition_of, transitions_of, unless_free}
 use Rattle.table_lines.specs.Variables.{Variables, are_below, defines_variable, definition_in, each, member_states, no_variables, variable_named, variables_after, with_definition}
-use Rattle.table_lines.proofs.FullLines.{same_value, transitions_of-full}
+use Rattle.table_lines.proofs.FullLines.{transitions_of-full}
 use Rattle.table_lines.proofs.Unions.{union-below, variable_named-below}
-
--- what was read before, where a reading gives a value
-pub then-ok : {A B : Type 0} (r : Result A RuleFault) (f : A → Result B RuleFault) (y : B) → (r >>= f) ≡ Ok y → (x : A) × (r ≡ Ok x) × (f x ≡ Ok y)
-then-ok (Ok x) f y h = (x, refl, h)
-then-ok (Err e) f y h = absurd cc
-
-pub some-ok : {A : Type 0} (o : Option A) (e : RuleFault) (x : A) → ◌≡◌ {A = Result A RuleFault} (ok_or o e) (Ok x) → o ≡ Some x
-some-ok None e x h = absurd cc
-some-ok (Some y) e x h = ap Some (same_value y x h)
-
-pub map-some : {A B : Type 0} (f : A → B) (o : Option A) (y : B) → option_map f o ≡ Some y → (x : A) × (o ≡ Some x) × (f x ≡ y)
-map-some f None y h = absurd cc
-map-some f (Some x) y h = (x, refl, cc)
-
-pub then-some : {A B : Type 0} (f : A → Option B) (o : Option A) (y : B) → option_and_then f o ≡ Some y → (x : A) × (o ≡ Some x) × (f x ≡ Some y)
-then-some f None y h = absurd cc
-then-some f (Some x) y h = (x, refl, h)
-
-pub if-some : {A : Type 0} (b : Bool) (x y : A) → (if b then Some x else None) ≡ Some y → (b ≡ true) × (x ≡ y)
-if-some true x y h = (refl, cc)
-if-some false x y h = absurd cc
-
--- a value that is given where a test holds, and where it doesn't
-pub if-ok : {A : Type 0} (b : Bool) (r : Result A RuleFault) (e : RuleFault) (y : A) → (if b then r else Err e) ≡ Ok y → (b ≡ true) × (r ≡ Ok y)
-if-ok true r e y h = (refl, h)
-if-ok false r e y h = absurd cc
-
-pub else-ok : {A : Type 0} (b : Bool) (r : Result A RuleFault) (e : RuleFault) (y : A) → (if b then Err e else r) ≡ Ok y → r ≡ Ok y
-else-ok true r e y h = absurd cc
-else-ok false r e y h = h
 
 -- what all of a list passes, its beginnings and its elements pass
 pass-take : {A : Type 0} (p : A → Bool) (k : ℕ) (xs : List A) → list_all p xs ≡ true → list_all p (take k xs) ≡ true
@@ -106,7 +77,7 @@ transition_of-below head variables line t some low h =
     let fits : admits_below n u ≡ true = and_from (list_all (entry_below n) u.inputs) (entry_below n u.result)
     (pass-take (entry_below n) (length entries.0 - 1) entries.0 all)
     (pass-at (entry_below n) entries.0 (length entries.0 - 1) (State 0) all (and_from (nat_lt 0 n) true first refl)) in
-    subst (λ x. admits_below n x ≡ true) (same_value u t (else-ok (is_free u.inputs u.result) (Ok u) (FreeResult line.number) t entries.2)) fits
+    subst (λ x. admits_below n x ≡ true) (same_value u t (else-ok (is_free u.inputs u.result) (Ok u) (FreeResult line.number) t entries.2).1) fits
 
 -- one more definition defines states below n too
 variables_after-below : (head : Head) (variables : Variables) (line : NumberedLine) (more : Variables) → variables_below head.states variables ≡ true → variables_after head variables line ≡ Ok more → variables_below head.states more ≡ true
@@ -158,7 +129,7 @@ once-ok number None described d h = h
 once-ok number (Some x) described d h = absurd cc
 
 fitting-ok : (d e : Described) → fitting d ≡ Ok e → d ≡ e
-fitting-ok d e h = same_value d e (else-ok (are_unfit d.neighborhood d.symmetry) (Ok d) BadSymmetry e h)
+fitting-ok d e h = same_value d e (else-ok (are_unfit d.neighborhood d.symmetry) (Ok d) BadSymmetry e h).1
 
 described-within : (d : Described) (number : ℕ) (x : Descriptor) (value : List ℕ) (e : Described) → HasStates d → describe d number x value ≡ Ok e → HasStates e
 described-within d number descriptor.States value e within h n at =

@@ -38,8 +38,9 @@ use Rattle.table_lines.specs.Table.{Table, headed}
 use Rattle.table_lines.specs.Transitions.{entry_of, is_free, transition_from, transition_of, transitions_of, unless_free}
 use Rattle.table_lines.specs.Variables.{Variables, are_below, defines_variable, definition_in, each, is_variable_name, member_states, named_in, no_variables, unbraced, variable_named, variables_after, with_definition}
 use Rattle.table_lines.specs.WrittenTable.{IsEntryOf, IsSet, IsTableOf, IsTransitionOf}
-use Rattle.table_lines.proofs.FullLines.{same_value, transition_of-full}
-use Rattle.table_lines.proofs.SaidTables.{AreStates, else-ok, head_from-within, if-ok, if-some, map-some, some-ok, then-ok, then-some}
+use Rattle.rule_file.proofs.Readings.{else-ok, if-ok, if-some, map-some, same_value, some-ok, then-ok, then-some}
+use Rattle.table_lines.proofs.FullLines.{transition_of-full}
+use Rattle.table_lines.proofs.SaidTables.{AreStates, head_from-within}
 use Rattle.table_lines.proofs.Splits.{length-parts}
 use Rattle.table_lines.proofs.Unions.{union-below}
 
@@ -113,10 +114,6 @@ entry-is n sets variables number field e defined h = by (number_of field) h
         let found = map-some OneOf (variable_named variables field) e (some-ok (option_map OneOf (variable_named variables field)) (BadTransition number) e ok) in
         subst (IsEntryOf n sets) found.2 (named-is sets variables.by_name field found.0 defined.each found.1)
 
-else-false : {A : Type 0} (b : Bool) (r : Result A RuleFault) (e : RuleFault) (y : A) → (if b then Err e else r) ≡ Ok y → b ≡ false
-else-false true r e y h = absurd cc
-else-false false r e y h = refl
-
 transition-is : (head : Head) (sets : List (List ℕ)) (variables : Variables) (line : NumberedLine) (t : Transition) → 0 < head.states → AreDefined head.states sets variables → transition_of head variables line ≡ Ok t → IsTransitionOf head.states head.neighborhood sets t
 transition-is head sets variables line t some defined h =
     let n = head.states in
@@ -125,13 +122,13 @@ transition-is head sets variables line t some defined h =
     let entries = then-ok read (λ es. unless_free line.number (transition_from es)) t counted.1 in
     let all = all-read (IsEntryOf n sets) (entry_of n variables line.number) (fields n line.text) entries.0 (λ field e is. entry-is n sets variables line.number field e defined is) entries.1 in
     let u : Transition = transition_from entries.0 in
-    let same = same_value u t (else-ok (is_free u.inputs u.result) (Ok u) (FreeResult line.number) t entries.2) in
-    let bound = else-false (is_free u.inputs u.result) (Ok u) (FreeResult line.number) t entries.2 in
+    let unless = else-ok (is_free u.inputs u.result) (Ok u) (FreeResult line.number) t entries.2 in
+    let same = same_value u t unless.1 in
     record {
       inputs = subst (λ (x : Transition). AllByRecursion (IsEntryOf n sets) x.inputs) same (all-take (IsEntryOf n sets) (length entries.0 - 1) entries.0 all);
       result = subst (λ (x : Transition). IsEntryOf n sets x.result) same (all-or (IsEntryOf n sets) entries.0 (length entries.0 - 1) (State 0) all some);
       full = eq-eqb (length t.inputs) (length (places_of head.neighborhood) + 1) (transition_of-full head variables line t h);
-      bound = subst (λ (x : Transition). is_free x.inputs x.result ≡ false) same bound;
+      bound = subst (λ (x : Transition). is_free x.inputs x.result ≡ false) same unless.0;
     }
 
 -- a definition has a member at least

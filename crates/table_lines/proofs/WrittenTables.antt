@@ -20,6 +20,7 @@ use Rattle.text_lines.proofs.ByteRanges.{IsDigit, IsVisible, differs, digit-visi
 use Rattle.text_lines.proofs.Decimals.{IsNumeral, IsWide, decimal-bytes, decimal-numeral, number_of-decimal}
 use Rattle.text_lines.proofs.Pieces.{position-at, position-none}
 use Rattle.text_lines.proofs.PrintedLines.{IsLine, line-visible, trim-blank}
+use Rattle.rule_file.proofs.WrittenFiles.{trim_start-digits}
 use Rattle.rule_file.specs.declared.fault.RuleFault.{RuleFault}
 use Rattle.rule_file.specs.declared.fault.RuleFault.TheVariants.{BadNeighborhood, BadStates, BadSymmetry, BadTransition, BadVariable, FreeResult, MissingDescriptor, StateTooHigh}
 use Rattle.rule_file.specs.RuleFile.{NumberedLine, numbered_from}
@@ -47,11 +48,6 @@ use Rattle.table_lines.specs.Transitions.{entry_of, is_free, is_full, transition
 use Rattle.table_lines.specs.Variables.{Variables, are_below, defines_variable, definition_in, each, is_variable_byte, is_variable_name, member_states, named_in, no_variables, unbraced, variable_named, variables_after, with_definition}
 use Rattle.table_lines.specs.WrittenTable.{IsEntryOf, IsSet, IsTableOf, IsTransitionOf, definition_line, definition_lines, entry_text, name_of_neighborhood, set_text, transition_line, variable_name, written_lines, written_table}
 use Rattle.table_lines.proofs.WrittenEntries.{AreNamed, IsField, decimal-each, decimal-field, entries-read, entry-defines_none, entry-each, entry-field, fields-joined, joined-each, parts-joined}
-
--- digits stand as they are behind a colon
-trim_start-digits : (ds : List ℕ) → IsNumeral ds → trim_start ds ≡ ds
-trim_start-digits [] h = refl
-trim_start-digits (d ∷ ds) h = let digits = h.digits in ap (λ v. cond v (trim_start ds) (d ∷ ds)) (visible-solid d (digit-visible d digits.0))
 
 -- the set that a definition lists, between its braces
 abbrev pub listed : List ℕ → List ℕ

@@ -6,7 +6,8 @@ use Rattle.rule_file.specs.declared.fault.RuleFault.TheVariants.{TooManyTransiti
 use Rattle.rule_file.specs.RuleFile.{NumberedLine}
 use Rattle.table_lines.specs.Lines.{lines_of}
 use Rattle.table_lines.specs.Read.{IsRead}
-use Rattle.table_lines.proofs.SaidTables.{lines-read, then-ok}
+use Rattle.rule_file.proofs.Readings.{then-ok}
+use Rattle.table_lines.proofs.SaidTables.{lines-read}
 use Rattle.table_symmetry.specs.Expanded.{expanded, transition_limit}
 use Rattle.table_symmetry.specs.NextState.{gives_states, is_quiescent}
 use Rattle.table_symmetry.specs.Rule.{is_sound}

@@ -1,5 +1,6 @@
 use Rattle.decision_tree.specs.TreeLines.{head_from, undescribed}
-use Rattle.decision_tree.proofs.HeadFaults.{handed_on, head_from-none}
+use Rattle.rule_file.proofs.Readings.{handed_on}
+use Rattle.decision_tree.proofs.HeadFaults.{head_from-none}
 use Rattle.decision_tree.proofs.tree_reader.read_tree.Goals as goal
 
 pub returns-in_err-head-clause-no_memory : goal.returns-in_err-head-clause-no_memory

@@ -5,7 +5,8 @@ use Rattle.table_lines.specs.Descriptors.{head_from, undescribed}
 use Rattle.table_lines.specs.Transitions.{is_full}
 use Rattle.table_lines.specs.Variables.{no_variables}
 use Rattle.table_lines.proofs.FullLines.{transitions_of-full}
-use Rattle.table_lines.proofs.HeadFaults.{handed_on, head_from-none}
+use Rattle.rule_file.proofs.Readings.{handed_on}
+use Rattle.table_lines.proofs.HeadFaults.{head_from-none}
 use Rattle.table_lines.proofs.lines.read_lines.Goals as goal
 
 pub invariant_of-result : goal.invariant_of-result

@@ -1,0 +1,55 @@
+-- Readings, one after another: what they tell where they give a value, and where none wants memory.
+use Rattle.std.proofs.Common.{◌≡◌, ◌≢◌, Bool, true, false, Option, Some, None, Result, Ok, Err, if◌then◌else◌, refl, ap, ◌∙◌}
+use Rattle.std.specs.Prelude.{option_and_then}
+use Rattle.std.specs.Option.{option_map, ok_or}
+use Rattle.std.specs.Result.{IsErrAnd}
+use Rattle.basics.specs.Results.{◌>>=◌}
+use Rattle.rule_file.specs.declared.fault.RuleFault.{RuleFault}
+use Rattle.rule_file.specs.declared.fault.RuleFault.TheVariants.{NoMemory}
+
+-- the value of a reading, where it gives one
+abbrev value_or : {A E : Type 0} → Result A E → A → A
+value_or (Ok x) d = x
+value_or (Err e) d = d
+
+pub same_value : {A : Type 0} (x y : A) → ◌≡◌ {A = Result A RuleFault} (Ok x) (Ok y) → x ≡ y
+same_value x y h = ap (λ r. value_or r x) h
+
+-- what was read before, where a reading gives a value
+pub then-ok : {A B : Type 0} (r : Result A RuleFault) (f : A → Result B RuleFault) (y : B) → (r >>= f) ≡ Ok y → (x : A) × (r ≡ Ok x) × (f x ≡ Ok y)
+then-ok (Ok x) f y h = (x, refl, h)
+then-ok (Err e) f y h = absurd cc
+
+pub some-ok : {A : Type 0} (o : Option A) (e : RuleFault) (x : A) → ◌≡◌ {A = Result A RuleFault} (ok_or o e) (Ok x) → o ≡ Some x
+some-ok None e x h = absurd cc
+some-ok (Some y) e x h = ap Some (same_value y x h)
+
+pub map-some : {A B : Type 0} (f : A → B) (o : Option A) (y : B) → option_map f o ≡ Some y → (x : A) × (o ≡ Some x) × (f x ≡ y)
+map-some f None y h = absurd cc
+map-some f (Some x) y h = (x, refl, cc)
+
+pub then-some : {A B : Type 0} (f : A → Option B) (o : Option A) (y : B) → option_and_then f o ≡ Some y → (x : A) × (o ≡ Some x) × (f x ≡ Some y)
+then-some f None y h = absurd cc
+then-some f (Some x) y h = (x, refl, h)
+
+pub if-some : {A : Type 0} (b : Bool) (x y : A) → (if b then Some x else None) ≡ Some y → (b ≡ true) × (x ≡ y)
+if-some true x y h = (refl, cc)
+if-some false x y h = absurd cc
+
+-- a value that is given where a test holds, and where it doesn't
+pub if-ok : {A : Type 0} (b : Bool) (r : Result A RuleFault) (e : RuleFault) (y : A) → (if b then r else Err e) ≡ Ok y → (b ≡ true) × (r ≡ Ok y)
+if-ok true r e y h = (refl, h)
+if-ok false r e y h = absurd cc
+
+pub else-ok : {A : Type 0} (b : Bool) (r : Result A RuleFault) (e : RuleFault) (y : A) → (if b then Err e else r) ≡ Ok y → (b ≡ false) × (r ≡ Ok y)
+else-ok true r e y h = absurd cc
+else-ok false r e y h = (refl, h)
+
+-- a reading that wants no memory
+abbrev pub WantsNone : {A : Type 0} → Result A RuleFault → Type 0
+WantsNone {A} r = ◌≢◌ {A = Result A RuleFault} r (Err NoMemory)
+
+-- so a call that hands on such a fault doesn't say that memory was wanted
+pub handed_on : {A B : Type 0} (result : Result A RuleFault) (read : Result B RuleFault) (e : RuleFault) → IsErrAnd result (λ f. f ≡ e) → read ≡ Err e → WantsNone read → result ≢ Err NoMemory
+handed_on (Ok x) read e is at none h = absurd is
+handed_on (Err f) read e is at none h = let wanted : e ≡ NoMemory = cc in none (at ∙ ap Err wanted)
