@@ -10,12 +10,13 @@ use Rattle.text_lines.specs.Numbers.{number_of}
 use Rattle.basics.specs.Results.{◌>>=◌}
 use Rattle.rule_file.specs.declared.fault.RuleFault.TheVariants.{BadTree, NotQuiescent}
 use Rattle.rule_file.proofs.Readings.{if-some, map-some, some-ok, then-ok, then-some}
+use Rattle.rule_file.specs.States.{least_states, most_states, states_in}
 use Rattle.rule_file.specs.RuleFile.{NumberedLine, Section}
 use Rattle.decision_tree.specs.declared.descriptors.Descriptor.{Descriptor}
 use Rattle.decision_tree.specs.declared.descriptors.Descriptor.TheVariants as descriptor
 use Rattle.decision_tree.specs.declared.descriptors.TreeHead.{TreeHead}
 use Rattle.decision_tree.specs.Tree.{Entries, Tree, is_quiescent, is_sound, leads, next, next_under, node_at, places_of, root_of}
-use Rattle.decision_tree.specs.TreeLines.{Described, Node, depth_of_root, describe, descriptor_of, do_entries_fit, head_from, head_of, if_quiescent, is_next, last_number, neighbors_in, node_count_in, node_from, node_of, nodes_from, numbers_in, once, states_in, tree_from, tree_of, undescribed, with_line, words}
+use Rattle.decision_tree.specs.TreeLines.{Described, Node, depth_of_root, describe, descriptor_of, do_entries_fit, head_from, head_of, if_quiescent, is_next, last_number, most_nodes, neighbors_in, node_count_in, node_from, node_of, nodes_from, numbers_in, once, tree_from, tree_of, undescribed, with_line, words}
 use Rattle.decision_tree.proofs.Finishing.{levels}
 use Rattle.decision_tree.proofs.Growing.{Leading, leading-push}
 
@@ -161,9 +162,9 @@ once-some (Some x) described d h = absurd cc
 
 some-counted : (value : List ℕ) (n : ℕ) → node_count_in value ≡ Some n → 1 ≤ n
 some-counted value n h =
-    let read = then-some (λ m. if nat_le 1 m && nat_le m 4194304 then Some m else None) (number_of value) n h in
-    let is = if-some (nat_le 1 read.0 && nat_le read.0 4194304) read.0 n read.2 in
-    let least : nat_le 1 read.0 ≡ true = (and_parts (nat_le 1 read.0) (nat_le read.0 4194304) is.0).0 in
+    let read = then-some (λ m. if nat_le 1 m && nat_le m most_nodes then Some m else None) (number_of value) n h in
+    let is = if-some (nat_le 1 read.0 && nat_le read.0 most_nodes) read.0 n read.2 in
+    let least : nat_le 1 read.0 ≡ true = (and_parts (nat_le 1 read.0) (nat_le read.0 most_nodes) is.0).0 in
     let some : 1 ≤ read.0 = search (rules, tests) in
     subst (λ m. 1 ≤ m) is.1 some
 
@@ -206,9 +207,9 @@ TwoStates d = (n : ℕ) → d.states ≡ Some n → 2 ≤ n
 
 two-counted : (value : List ℕ) (n : ℕ) → states_in value ≡ Some n → 2 ≤ n
 two-counted value n h =
-    let read = then-some (λ m. if nat_le 2 m && nat_le m 256 then Some m else None) (number_of value) n h in
-    let is = if-some (nat_le 2 read.0 && nat_le read.0 256) read.0 n read.2 in
-    let least : nat_le 2 read.0 ≡ true = (and_parts (nat_le 2 read.0) (nat_le read.0 256) is.0).0 in
+    let read = then-some (λ m. if nat_le least_states m && nat_le m most_states then Some m else None) (number_of value) n h in
+    let is = if-some (nat_le least_states read.0 && nat_le read.0 most_states) read.0 n read.2 in
+    let least : nat_le least_states read.0 ≡ true = (and_parts (nat_le least_states read.0) (nat_le read.0 most_states) is.0).0 in
     let some : 2 ≤ read.0 = search (rules, tests) in
     subst (λ m. 2 ≤ m) is.1 some
 

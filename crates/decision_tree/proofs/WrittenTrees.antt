@@ -12,8 +12,9 @@ use Rattle.text_lines.proofs.ByteRanges.{differs, digit-visible, visible-solid}
 use Rattle.text_lines.proofs.Decimals.{IsNumeral, IsWide, decimal-numeral, number_of-decimal}
 use Rattle.text_lines.proofs.NumberLines.{Parts, numbers-bytes, words-numbers}
 use Rattle.text_lines.proofs.Pieces.{position-at, position-none}
-use Rattle.rule_file.proofs.WrittenFiles.{trim_start-digits}
+use Rattle.rule_file.proofs.WrittenFiles.{trim_start-digits, within-read}
 use Rattle.rule_file.specs.declared.fault.RuleFault.TheVariants.{BadTree, NotQuiescent}
+use Rattle.rule_file.specs.States.{least_states, most_states}
 use Rattle.rule_file.specs.RuleFile.{NumberedLine, numbered_from}
 use Rattle.decision_tree.specs.declared.tree.Neighbors.{Neighbors}
 use Rattle.decision_tree.specs.declared.tree.Neighbors.TheVariants.{Four, Eight}
@@ -22,7 +23,7 @@ use Rattle.decision_tree.specs.declared.descriptors.Descriptor.TheVariants as de
 use Rattle.decision_tree.specs.declared.descriptors.TreeHead.{TreeHead}
 use Rattle.decision_tree.specs.Kept.{IsTreeHead}
 use Rattle.decision_tree.specs.Laws.{WrittenMeansTheSame}
-use Rattle.decision_tree.specs.TreeLines.{Described, Node, depth_of_root, describe, descriptor_named, descriptor_of, do_entries_fit, head_from, head_of, if_quiescent, is_next, last_number, node_from, node_of, nodes_from, number_within, numbers_in, tree_from, undescribed}
+use Rattle.decision_tree.specs.TreeLines.{Described, Node, depth_of_root, describe, descriptor_named, descriptor_of, do_entries_fit, head_from, head_of, if_quiescent, is_next, last_number, most_nodes, node_from, node_of, nodes_from, numbers_in, tree_from, undescribed}
 use Rattle.decision_tree.specs.WrittenTree.{EachIsNext, neighbors_text, node_line, written_lines, written_section}
 
 -- what a descriptor's line says, by its word
@@ -40,15 +41,6 @@ nodes-line n h =
     ap (λ at. option_and_then (described_by (codes "num_nodes=" ++ decimal n)) at)
     (position-at (λ b. b == 61) (codes "num_nodes") 61 (decimal n) (refl, (refl, (refl, (refl, (refl, (refl, (refl, (refl, (refl, tt))))))))) refl)
     ∙ ap (λ value. Some (descriptor.Nodes, value)) (trim_start-digits (decimal n) (decimal-numeral n h))
-
--- a number within its limits reads back
-within-read : (least most n : ℕ) → IsWide n → least ≤ n → n ≤ most → number_within least most (decimal n) ≡ Some n
-within-read least most n wide low high =
-    let above : nat_le least n ≡ true = grind (arith, nat_tests) in
-    let below : nat_le n most ≡ true = grind (arith, nat_tests) in
-    ap (option_and_then (λ m. cond (nat_le least m && nat_le m most) (Some m) None)) (number_of-decimal n wide)
-    ∙ ap (λ v. cond (v && nat_le n most) (Some n) None) above
-    ∙ ap (λ v. cond v (Some n) None) below
 
 -- one descriptor after another
 head-step : (last : ℕ) (d e : Described) (line : NumberedLine) (lines : List NumberedLine) (x : Descriptor) (value : List ℕ) → descriptor_of line.text ≡ Some (x, value) → describe d x value ≡ Some e → head_from last d (line ∷ lines) ≡ head_from last e lines
@@ -97,7 +89,7 @@ entries-low states (n ∷ ns) few h =
     let low : n < states = grind (arith, nat_tests) in
     (omega arith, entries-low states ns few both.1)
 
-numbers-low : (count depth : ℕ) (depth_of : ℕ → ℕ) (entries : List ℕ) → count ≤ 4194304 → list_all (λ number. nat_lt number count && (depth_of number + 1 == depth)) entries ≡ true → AllByRecursion IsWide entries
+numbers-low : (count depth : ℕ) (depth_of : ℕ → ℕ) (entries : List ℕ) → count ≤ most_nodes → list_all (λ number. nat_lt number count && (depth_of number + 1 == depth)) entries ≡ true → AllByRecursion IsWide entries
 numbers-low count depth depth_of [] few h = tt
 numbers-low count depth depth_of (n ∷ ns) few h =
     let both = and_parts (nat_lt n count && (depth_of n + 1 == depth)) (list_all (λ number. nat_lt number count && (depth_of number + 1 == depth)) ns) h in
@@ -148,11 +140,11 @@ head-taken last number head node others limits wide =
     let first : NumberedLine = record { number = number; text = codes "num_states=" ++ decimal head.states } in
     head-step last undescribed (record undescribed { states = Some head.states }) first (second ∷ third ∷ behind) descriptor.States (decimal head.states)
     (states-line head.states (omega arith))
-    (ap (option_map (λ n. record undescribed { states = Some n })) (within-read 2 256 head.states (omega arith) low high))
+    (ap (option_map (λ n. record undescribed { states = Some n })) (within-read least_states most_states head.states (omega arith) low high))
     ∙ neighbors-step last head.states head.neighbors (number + 1) (third ∷ behind)
     ∙ head-step last (record { states = Some head.states; neighbors = Some head.neighbors; node_count = None }) (record { states = Some head.states; neighbors = Some head.neighbors; node_count = Some head.node_count }) third behind descriptor.Nodes (decimal head.node_count)
     (nodes-line head.node_count (omega arith))
-    (ap (option_map (λ n. record { states = Some head.states; neighbors = Some head.neighbors; node_count = Some n })) (within-read 1 4194304 head.node_count (omega arith) some few))
+    (ap (option_map (λ n. record { states = Some head.states; neighbors = Some head.neighbors; node_count = Some n })) (within-read 1 most_nodes head.node_count (omega arith) some few))
     ∙ head-end last (record { states = Some head.states; neighbors = Some head.neighbors; node_count = Some head.node_count }) head (record { number = number + 1 + 1 + 1; text = node_line node }) (numbered_from (number + 1 + 1 + 1 + 1) (map node_line others))
     (numbers-undescribed node.depth node.entries wide) refl
 

@@ -1,9 +1,10 @@
 -- How a tree is kept: the entries of all nodes one after another.
 use Rattle.std.specs.Prelude.{◌≡◌, ℕ, zero, suc, ◌+◌, ◌*◌, ◌^◌, ◌-◌, ◌<◌, ◌≤◌, min, true, List, [], ◌∷◌, length, take, drop, slice_index, EachIndex}
+use Rattle.rule_file.specs.States.{least_states, most_states}
 use Rattle.decision_tree.specs.declared.tree.Neighbors.{Neighbors}
 use Rattle.decision_tree.specs.declared.descriptors.TreeHead.{TreeHead}
 use Rattle.decision_tree.specs.Tree.{Entries, Tree, leads, is_sound}
-use Rattle.decision_tree.specs.TreeLines.{Node, depth_of_root}
+use Rattle.decision_tree.specs.TreeLines.{Node, depth_of_root, most_nodes}
 
 -- so many nodes, whose n entries each stand one after another
 abbrev pub nodes_in : ℕ → ℕ → List ℕ → List Entries
@@ -16,23 +17,23 @@ tree_of_kept states neighbors root entries = record { states = states; neighbors
 
 -- the tree of these entries is one that a file may have
 pub record IsKeptTree (states : ℕ) (neighbors : Neighbors) (root : ℕ) (entries : List ℕ) : Type 0 where
-  pub at_least : 2 ≤ states
-  pub at_most : states ≤ 256
+  pub at_least : least_states ≤ states
+  pub at_most : states ≤ most_states
   pub filled : length entries ≡ (root + 1) * states
   pub sound : is_sound (tree_of_kept states neighbors root entries) ≡ true
 
 -- so many entries store the nodes up to the root, from which these inputs lead to a state
 pub record Stores (states : ℕ) (inputs : List ℕ) (root : ℕ) (entries : List ℕ) : Type 0 where
-  pub at_most : states ≤ 256
+  pub at_most : states ≤ most_states
   pub filled : length entries ≡ (root + 1) * states
   pub leading : leads states (nodes_in states (root + 1) entries) root inputs ≡ true
 
 -- the head of a tree has numbers within their limits
 pub record IsTreeHead (head : TreeHead) : Type 0 where
-  pub at_least : 2 ≤ head.states
-  pub at_most : head.states ≤ 256
+  pub at_least : least_states ≤ head.states
+  pub at_most : head.states ≤ most_states
   pub some : 1 ≤ head.node_count
-  pub few : head.node_count ≤ 4194304
+  pub few : head.node_count ≤ most_nodes
 
 -- nodes of these depths, whose n entries each stand one after another
 abbrev pub nodes_of : ℕ → List ℕ → List ℕ → List Node

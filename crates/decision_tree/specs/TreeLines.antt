@@ -9,6 +9,7 @@ use Rattle.rule_file.specs.declared.fault.RuleFault.{RuleFault}
 use Rattle.rule_file.specs.declared.fault.RuleFault.TheVariants.{BadTree, NotQuiescent}
 use Rattle.basics.specs.Results.{◌>>=◌}
 use Rattle.rule_file.specs.RuleFile.{NumberedLine, Section}
+use Rattle.rule_file.specs.States.{number_within, states_in}
 use Rattle.decision_tree.specs.declared.tree.Neighbors.{Neighbors}
 use Rattle.decision_tree.specs.declared.tree.Neighbors.TheVariants.{Four, Eight}
 use Rattle.decision_tree.specs.declared.descriptors.Descriptor.{Descriptor}
@@ -24,21 +25,17 @@ descriptor_named word = if bytes_eq word (codes "num_states") then Some descript
 abbrev pub descriptor_of : List ℕ → Option (Descriptor × List ℕ)
 descriptor_of line = option_and_then (λ sign. option_map (λ d. (d, trim_start (drop (sign + 1) line))) (descriptor_named (trim_end (take sign line)))) (position (λ b. b == 61) line)
 
--- a number from `least` to `most`
-abbrev pub number_within : ℕ → ℕ → List ℕ → Option ℕ
-number_within least most value = option_and_then (λ n. if nat_le least n && nat_le n most then Some n else None) (number_of value)
-
--- how many states a rule has, from 2 to 256
-abbrev pub states_in : List ℕ → Option ℕ
-states_in value = number_within 2 256 value
-
 -- four neighbours or eight
 abbrev pub neighbors_in : List ℕ → Option Neighbors
 neighbors_in value = option_and_then (λ n. if n == 4 then Some Four else (if n == 8 then Some Eight else None)) (number_of value)
 
--- how many nodes a tree has, from 1 to 4,194,304
+-- a tree may have so many nodes
+abbrev pub most_nodes : ℕ
+most_nodes = 4194304
+
+-- how many nodes a tree has, one at least
 abbrev pub node_count_in : List ℕ → Option ℕ
-node_count_in value = number_within 1 4194304 value
+node_count_in value = number_within 1 most_nodes value
 
 -- what the descriptors said so far
 pub record Described : Type 0 where

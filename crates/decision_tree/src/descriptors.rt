@@ -3,12 +3,15 @@ ghost use Rattle.std.specs.Prelude.{◌≡◌, IfOk, IfSome};
 ghost use Rattle.std.specs.Option.{option_map};
 ghost use Rattle.basics.specs.Results.{Reads};
 ghost use Rattle.decision_tree.specs.Kept.{IsTreeHead};
-ghost use Rattle.decision_tree.specs.TreeLines.{describe, descriptor_named, descriptor_of, head_from, head_of, neighbors_in, node_count_in, states_in, undescribed};
+ghost use Rattle.decision_tree.specs.TreeLines.{describe, descriptor_named, descriptor_of, head_from, head_of, neighbors_in, node_count_in, undescribed};
 
 use crate::tree::Neighbors;
-use rule_file::{RuleFault, RuleLine};
+use rule_file::{RuleFault, RuleLine, states_in};
 use std::marker::Model;
 use text_lines::{find_byte, number, trim_end, trim_start};
+
+/// The most nodes that a tree may have.
+const MOST_NODES: u64 = 4_194_304;
 
 /// What a descriptor describes.
 #[derive(Clone, Copy, Debug, PartialEq, Eq)]
@@ -49,15 +52,6 @@ fn descriptor_named(word: &[u8]) -> Option<Descriptor>
     }
 }
 
-fn states_in(value: &[u8]) -> Option<u16>
-    ensures { result ≡ states_in value.now }
-{
-    match number(value)? {
-        states @ 2..=256 => Some(states as u16),
-        _ => None,
-    }
-}
-
 fn neighbors_in(value: &[u8]) -> Option<Neighbors>
     ensures { result ≡ neighbors_in value.now }
 {
@@ -72,7 +66,7 @@ fn node_count_in(value: &[u8]) -> Option<u32>
     ensures { result ≡ node_count_in value.now }
 {
     match number(value)? {
-        count @ 1..=4_194_304 => Some(count as u32),
+        count @ 1..=MOST_NODES => Some(count as u32),
         _ => None,
     }
 }
@@ -87,7 +81,8 @@ pub struct Described {
 
 impl Model for Described {
     ghost use Rattle.std.specs.Prelude.{IfSome, ◌≤◌};
-    ghost use Rattle.decision_tree.specs.TreeLines.{Described};
+    ghost use Rattle.rule_file.specs.States.{MayHaveStates};
+    ghost use Rattle.decision_tree.specs.TreeLines.{Described, most_nodes};
 
     ghost Value = { Described };
 
@@ -97,8 +92,8 @@ impl Model for Described {
       node_count = d.node_count;
     } };
 
-    ghost invariant = { λ d. IfSome d.states (λ n. (2 ≤ n) × (n ≤ 256))
-        × IfSome d.node_count (λ n. (1 ≤ n) × (n ≤ 4194304)) };
+    ghost invariant = { λ d. IfSome d.states MayHaveStates
+        × IfSome d.node_count (λ n. (1 ≤ n) × (n ≤ most_nodes)) };
 }
 
 impl Described {

@@ -1,6 +1,6 @@
 -- Rule files that are written line by line.
-use Rattle.std.proofs.Common.{◌≡◌, ◌∙◌, ap, ap₂, refl, ℕ, ◌+◌, ◌<◌, ◌≤◌, ◌==◌, ◌&&◌, Bool, true, false, not, cond, List, [], ◌∷◌, ◌++◌, length, take, Some, None, Ok, arith}
-use Rattle.std.specs.Prelude.{codes}
+use Rattle.std.proofs.Common.{◌≡◌, ◌∙◌, ap, ap₂, refl, ℕ, ◌+◌, ◌<◌, ◌≤◌, ◌==◌, ◌&&◌, Bool, true, false, not, cond, List, [], ◌∷◌, ◌++◌, length, take, Some, None, Ok, decimal, arith}
+use Rattle.std.specs.Prelude.{codes, nat_le, option_and_then}
 use Rattle.std.specs.List.{AllByRecursion, list_all}
 use Rattle.std.specs.Option.{option_map, option_map_or, ok_or}
 use Rattle.std.proofs.Math.Seq.{take-length}
@@ -11,12 +11,13 @@ use Rattle.basics.proofs.Lists.{all_append, all_so}
 use Rattle.text_lines.specs.Blanks.{trim, trim_start}
 use Rattle.text_lines.specs.LineEnds.{text_of_lines}
 use Rattle.text_lines.proofs.ByteRanges.{IsDigit, IsPrinted, IsVisible, all_tested, differs, digit-visible, is_visible, printed-tested, visible-printed, visible-solid}
-use Rattle.text_lines.proofs.Decimals.{IsNumeral}
+use Rattle.text_lines.proofs.Decimals.{IsNumeral, IsWide, number_of-decimal}
 use Rattle.text_lines.proofs.Pieces.{all-past}
 use Rattle.text_lines.proofs.PrintedLines.{IsLine, ends-append, ends-visible, line-between, line-visible, says-lines}
 use Rattle.rule_file.specs.declared.fault.RuleFault.TheVariants.{NoRuleLine}
 use Rattle.rule_file.specs.declared.text.SectionKind.{SectionKind}
 use Rattle.rule_file.specs.RuleFile.{NumberedLine, file_of, is_name, is_name_byte, named, numbered_from, opens_section, rule_name, said, section_kind, section_lines, section_of, unless_blank, without_comment}
+use Rattle.rule_file.specs.States.{number_within}
 
 -- a byte that begins no comment
 abbrev pub IsPlain : ℕ → Type 0
@@ -124,3 +125,12 @@ file-written name kind opening lines h opens is plain =
 pub trim_start-digits : (ds : List ℕ) → IsNumeral ds → trim_start ds ≡ ds
 trim_start-digits [] h = refl
 trim_start-digits (d ∷ ds) h = let digits = h.digits in ap (λ v. cond v (trim_start ds) (d ∷ ds)) (visible-solid d (digit-visible d digits.0))
+
+-- a number within its limits reads back
+pub within-read : (least most n : ℕ) → IsWide n → least ≤ n → n ≤ most → number_within least most (decimal n) ≡ Some n
+within-read least most n wide low high =
+    let above : nat_le least n ≡ true = grind (arith, nat_tests) in
+    let below : nat_le n most ≡ true = grind (arith, nat_tests) in
+    ap (option_and_then (λ m. cond (nat_le least m && nat_le m most) (Some m) None)) (number_of-decimal n wide)
+    ∙ ap (λ v. cond (v && nat_le n most) (Some n) None) above
+    ∙ ap (λ v. cond v (Some n) None) below

@@ -2,3 +2,4 @@ pub mod Faults
 pub mod Laws
 pub mod Results
 pub mod RuleFile
+pub mod States

@@ -11,6 +11,7 @@ mod fault;
 mod laws;
 mod numbered_lines;
 mod sections;
+mod states;
 mod text;
 
 pub use fault::RuleFault;
@@ -19,4 +20,5 @@ pub use laws::{
     remarks_do_not_matter,
 };
 pub use sections::cut;
+pub use states::states_in;
 pub use text::{RuleLine, RuleText, SectionKind};

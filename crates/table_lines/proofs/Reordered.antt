@@ -6,12 +6,13 @@ use Rattle.std.proofs.lemmas.Bool.{and_parts}
 use Rattle.basics.specs.Results.{◌>>=◌}
 use Rattle.rule_file.specs.declared.fault.RuleFault.{RuleFault}
 use Rattle.rule_file.specs.declared.fault.RuleFault.TheVariants.{BadNeighborhood, BadStates, BadSymmetry}
+use Rattle.rule_file.specs.States.{states_in}
 use Rattle.rule_file.specs.RuleFile.{NumberedLine}
 use Rattle.table_lines.specs.declared.descriptors.Descriptor.{Descriptor}
 use Rattle.table_lines.specs.declared.descriptors.Descriptor.TheVariants as descriptor
 use Rattle.table_lines.specs.declared.descriptors.Head.{Head}
 use Rattle.table_lines.specs.declared.neighborhood.Neighborhood.{Neighborhood}
-use Rattle.table_lines.specs.Descriptors.{Described, are_unfit, describe, descriptor_of, fitting, head_from, head_of, once, states_in, undescribed}
+use Rattle.table_lines.specs.Descriptors.{Described, are_unfit, describe, descriptor_of, fitting, head_from, head_of, once, undescribed}
 use Rattle.table_lines.specs.LineLaws.{DescriptorsInAnyOrder, is_descriptor}
 use Rattle.table_lines.specs.Neighborhood.{neighborhood_named}
 use Rattle.table_lines.proofs.Renumbered.{GivesToo, then_too}

@@ -8,6 +8,7 @@ use Rattle.text_lines.specs.Numbers.{number_of}
 use Rattle.rule_file.specs.declared.fault.RuleFault.{RuleFault}
 use Rattle.rule_file.specs.declared.fault.RuleFault.TheVariants.{BadNeighborhood, BadStates, BadSymmetry, BadTransition, BadVariable, FreeResult, MissingDescriptor, StateTooHigh}
 use Rattle.basics.specs.Results.{◌>>=◌}
+use Rattle.rule_file.specs.States.{least_states, most_states, states_in}
 use Rattle.rule_file.specs.RuleFile.{NumberedLine}
 use Rattle.rule_file.proofs.Readings.{else-ok, if-ok, if-some, map-some, same_value, some-ok, then-ok, then-some}
 use Rattle.table_lines.specs.declared.descriptors.Descriptor.{Descriptor}
@@ -19,7 +20,7 @@ use Rattle.table_lines.specs.declared.transition.Entry.TheVariants.{State, OneOf
 use Rattle.table_lines.specs.declared.transition.Transition.{Transition}
 use Rattle.table_lines.specs.Below.{admits_below, all_below, entry_below, variables_below}
 use Rattle.table_lines.specs.Definitions.{union}
-use Rattle.table_lines.specs.Descriptors.{Described, are_unfit, describe, descriptor_of, fitting, head_from, head_of, once, states_in, undescribed}
+use Rattle.table_lines.specs.Descriptors.{Described, are_unfit, describe, descriptor_of, fitting, head_from, head_of, once, undescribed}
 use Rattle.table_lines.specs.Fields.{fields}
 use Rattle.table_lines.specs.Lines.{lines_of}
 use Rattle.table_lines.specs.Neighborhood.{neighborhood_named, places_of}
@@ -109,19 +110,19 @@ transitions_of-below head variables (line ∷ lines) ts some low h =
 
 -- how many states are described is within the limits
 pub record AreStates (n : ℕ) : Type 0 where
-  pub at_least : 2 ≤ n
-  pub at_most : n ≤ 256
+  pub at_least : least_states ≤ n
+  pub at_most : n ≤ most_states
 
 abbrev HasStates : Described → Type 0
 HasStates d = (n : ℕ) → d.states ≡ Some n → AreStates n
 
 states_in-within : (value : List ℕ) (n : ℕ) → states_in value ≡ Some n → AreStates n
 states_in-within value n h =
-    let read = then-some (λ m. if nat_le 2 m && nat_le m 256 then Some m else None) (number_of value) n h in
-    let is = if-some (nat_le 2 read.0 && nat_le read.0 256) read.0 n read.2 in
-    let tested = and_parts (nat_le 2 read.0) (nat_le read.0 256) is.0 in
-    let least : nat_le 2 read.0 ≡ true = tested.0 in
-    let most : nat_le read.0 256 ≡ true = tested.1 in
+    let read = then-some (λ m. if nat_le least_states m && nat_le m most_states then Some m else None) (number_of value) n h in
+    let is = if-some (nat_le least_states read.0 && nat_le read.0 most_states) read.0 n read.2 in
+    let tested = and_parts (nat_le least_states read.0) (nat_le read.0 most_states) is.0 in
+    let least : nat_le least_states read.0 ≡ true = tested.0 in
+    let most : nat_le read.0 most_states ≡ true = tested.1 in
     subst AreStates is.1 (record { at_least = search (rules, tests); at_most = search (rules, tests) })
 
 once-ok : {A : Type 0} (number : ℕ) (old : Option A) (described : Result Described RuleFault) (d : Described) → once number old described ≡ Ok d → described ≡ Ok d

@@ -58,8 +58,8 @@ definition-plain n number set few wide is =
     let printed : (b : ℕ) → IsDigit b → IsPrinted b = λ b h. visible-printed b (digit-visible b h) in
     record {
       is_line = line-between 118 (codes "ar v" ++ decimal number ++ set_text set) (omega arith, omega arith)
-      (all_append IsPrinted (codes "ar v" ++ decimal number) (set_text set) (all_append IsPrinted (codes "ar v") (decimal number) (printed-tested (codes "ar v") refl) (decimal-each IsPrinted printed number wide)) (all_so IsVisible IsPrinted (set_text set) visible-printed visible))
-      (ends-append (codes "var " ++ name) (set_text set) (ends-append (codes "={" ++ listed set) (codes "}") (ends-visible (codes "}") (omega arith) (visible-tested (codes "}") refl))));
+          (all_append IsPrinted (codes "ar v" ++ decimal number) (set_text set) (all_append IsPrinted (codes "ar v") (decimal number) (printed-tested (codes "ar v") refl) (decimal-each IsPrinted printed number wide)) (all_so IsVisible IsPrinted (set_text set) visible-printed visible))
+          (ends-append (codes "var " ++ name) (set_text set) (ends-append (codes "={" ++ listed set) (codes "}") (ends-visible (codes "}") (omega arith) (visible-tested (codes "}") refl))));
       plain = all_append IsPlain (codes "var " ++ name) (set_text set) (refl, (refl, (refl, (refl, (refl, decimal-each IsPlain digit-plain number wide))))) plain;
       some = omega arith;
       closed = refl;
@@ -93,8 +93,15 @@ definitions-plain n count (set ∷ sets) low few h = (definition-plain n count s
 -- the file of a text that is written
 pub written-file : WrittenIsItsFile
 written-file name sets table h is =
-    file-written name section_kind.Table (codes "@TABLE") (written_lines sets table) h (line-visible (codes "@TABLE") (omega arith) (visible-tested (codes "@TABLE") refl)) refl
-    (states-plain table.states (omega (arith, is.at_most)), (neighborhood-plain table.neighborhood, (symmetry-plain table.symmetry,
-    all_append IsPlainLine (definition_lines 0 sets) (map transition_line table.transitions)
-    (definitions-plain table.states 0 sets is.at_most (omega (arith, is.few)) is.defined)
-    (transitions-plain table.states table.neighborhood sets table.transitions is.at_most is.few is.transitions))))
+    file-written name section_kind.Table (codes "@TABLE") (written_lines sets table) h (line-visible (codes "@TABLE") (omega arith) (visible-tested (codes "@TABLE") refl)) refl (
+      states-plain table.states (omega (arith, is.at_most)),
+      (
+        neighborhood-plain table.neighborhood,
+        (
+          symmetry-plain table.symmetry,
+          all_append IsPlainLine (definition_lines 0 sets) (map transition_line table.transitions)
+              (definitions-plain table.states 0 sets is.at_most (omega (arith, is.few)) is.defined)
+              (transitions-plain table.states table.neighborhood sets table.transitions is.at_most is.few is.transitions),
+        ),
+      ),
+    )

@@ -20,9 +20,10 @@ use Rattle.text_lines.proofs.ByteRanges.{IsDigit, IsVisible, differs, digit-visi
 use Rattle.text_lines.proofs.Decimals.{IsNumeral, IsWide, decimal-bytes, decimal-numeral, number_of-decimal}
 use Rattle.text_lines.proofs.Pieces.{position-at, position-none}
 use Rattle.text_lines.proofs.PrintedLines.{IsLine, line-visible, trim-blank}
-use Rattle.rule_file.proofs.WrittenFiles.{trim_start-digits}
+use Rattle.rule_file.proofs.WrittenFiles.{trim_start-digits, within-read}
 use Rattle.rule_file.specs.declared.fault.RuleFault.{RuleFault}
 use Rattle.rule_file.specs.declared.fault.RuleFault.TheVariants.{BadNeighborhood, BadStates, BadSymmetry, BadTransition, BadVariable, FreeResult, MissingDescriptor, StateTooHigh}
+use Rattle.rule_file.specs.States.{least_states, most_states}
 use Rattle.rule_file.specs.RuleFile.{NumberedLine, numbered_from}
 use Rattle.table_lines.specs.declared.descriptors.Descriptor.{Descriptor}
 use Rattle.table_lines.specs.declared.descriptors.Descriptor.TheVariants as descriptor
@@ -36,7 +37,7 @@ use Rattle.table_lines.specs.declared.transition.Entry.TheVariants.{State, OneOf
 use Rattle.table_lines.specs.declared.transition.Transition.{Transition}
 use Rattle.table_lines.specs.Below.{all_below}
 use Rattle.table_lines.specs.Definitions.{union}
-use Rattle.table_lines.specs.Descriptors.{Described, are_unfit, describe, descriptor_named, descriptor_of, fitting, head_from, head_of, states_in, undescribed}
+use Rattle.table_lines.specs.Descriptors.{Described, are_unfit, describe, descriptor_named, descriptor_of, fitting, head_from, head_of, undescribed}
 use Rattle.table_lines.specs.Fields.{fields, parts}
 use Rattle.table_lines.specs.LineLaws.{WrittenTablesAreRead}
 use Rattle.table_lines.specs.Neighborhood.{neighborhood_named, places_of}
@@ -328,14 +329,6 @@ states-line n wide =
     (position-at (λ b. b == 58) (codes "n_states") 58 (decimal n) (refl, (refl, (refl, (refl, (refl, (refl, (refl, (refl, tt)))))))) refl)
     ∙ ap (λ (value : List ℕ). Some (descriptor.States, value)) (trim_start-digits (decimal n) (decimal-numeral n wide))
 
-states-read : (n : ℕ) → 2 ≤ n → n ≤ 256 → states_in (decimal n) ≡ Some n
-states-read n low high =
-    let above : nat_le 2 n ≡ true = grind (arith, nat_tests) in
-    let below : nat_le n 256 ≡ true = grind (arith, nat_tests) in
-    ap (option_and_then (λ m. cond (nat_le 2 m && nat_le m 256) (Some m) None)) (number_of-decimal n (omega arith))
-    ∙ ap (λ v. cond (v && nat_le n 256) (Some n) None) above
-    ∙ ap (λ v. cond v (Some n) None) below
-
 neighborhood-line : (m : Neighborhood) → descriptor_of (codes "neighborhood:" ++ name_of_neighborhood m) ≡ Some (descriptor.Neighborhood, name_of_neighborhood m)
 neighborhood-line VonNeumann = refl
 neighborhood-line Moore = refl
@@ -374,7 +367,7 @@ head-read head number lines low high has_symmetry plain =
     let two : Described = record { states = Some head.states; neighborhood = Some head.neighborhood; symmetry = None } in
     let all : Described = record { states = Some head.states; neighborhood = Some head.neighborhood; symmetry = Some name } in
     head-step undescribed one first (second ∷ third ∷ lines) descriptor.States (decimal head.states) (states-line head.states (omega arith))
-    (ap (λ read. ok_or read BadStates >>= λ n. Ok (record undescribed { states = Some n })) (states-read head.states low high))
+    (ap (λ read. ok_or read BadStates >>= λ n. Ok (record undescribed { states = Some n })) (within-read least_states most_states head.states (omega arith) low high))
     ∙ head-step one two second (third ∷ lines) descriptor.Neighborhood (name_of_neighborhood head.neighborhood) (neighborhood-line head.neighborhood)
     (ap (λ read. ok_or read BadNeighborhood >>= λ m. fitting (record one { neighborhood = Some m })) (neighborhood-read head.neighborhood))
     ∙ head-step two all third lines descriptor.Symmetries name (symmetry-line head.symmetry)

@@ -9,6 +9,7 @@ use Rattle.rule_file.specs.declared.fault.RuleFault.{RuleFault}
 use Rattle.rule_file.specs.declared.fault.RuleFault.TheVariants.{MissingDescriptor, BadStates, BadNeighborhood, BadSymmetry, BadTransition}
 use Rattle.basics.specs.Results.{◌>>=◌}
 use Rattle.rule_file.specs.RuleFile.{NumberedLine}
+use Rattle.rule_file.specs.States.{states_in}
 use Rattle.table_lines.specs.declared.descriptors.Head.{Head}
 use Rattle.table_lines.specs.declared.descriptors.Descriptor.{Descriptor}
 use Rattle.table_lines.specs.Neighborhood.{neighborhood_named}
@@ -22,10 +23,6 @@ descriptor_named word = if bytes_eq word (codes "n_states") then Some descriptor
 -- a descriptor and its value, which a colon parts, if the line is one
 abbrev pub descriptor_of : List ℕ → Option (Descriptor × List ℕ)
 descriptor_of line = option_and_then (λ colon. option_map (λ d. (d, trim_start (drop (colon + 1) line))) (descriptor_named (trim_end (take colon line)))) (position (λ b. b == 58) line)
-
--- how many states a rule has, from 2 to 256
-abbrev pub states_in : List ℕ → Option ℕ
-states_in value = option_and_then (λ n. if nat_le 2 n && nat_le n 256 then Some n else None) (number_of value)
 
 -- what the descriptors said so far; the symmetry is a name until the neighbourhood is known
 pub record Described : Type 0 where

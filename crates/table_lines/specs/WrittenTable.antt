@@ -3,6 +3,7 @@ use Rattle.std.specs.Prelude.{◌≡◌, ℕ, ◌+◌, ◌<◌, ◌≤◌, ◌^�
 use Rattle.std.specs.List.{AllByRecursion, join_with_byte}
 use Rattle.text_lines.specs.LineEnds.{text_of_lines}
 use Rattle.rule_file.specs.RuleFile.{NumberedLine, numbered_from}
+use Rattle.rule_file.specs.States.{least_states, most_states}
 use Rattle.table_lines.specs.declared.neighborhood.Neighborhood.{Neighborhood}
 use Rattle.table_lines.specs.declared.neighborhood.Neighborhood.TheVariants.{VonNeumann, Moore, Hexagonal, OneDimensional}
 use Rattle.table_lines.specs.declared.transition.Entry.{Entry}
@@ -79,8 +80,8 @@ pub record IsTransitionOf (n : ℕ) (neighborhood : Neighborhood) (sets : List (
 
 -- a table that lines may say, whose variables are these sets in order
 pub record IsTableOf (sets : List (List ℕ)) (table : Table) : Type 0 where
-  pub at_least : 2 ≤ table.states
-  pub at_most : table.states ≤ 256
+  pub at_least : least_states ≤ table.states
+  pub at_most : table.states ≤ most_states
   pub symmetry : symmetry_named table.neighborhood (name_of_symmetry table.symmetry) ≡ Some table.symmetry
   pub few : length sets ≤ 2 ^ 64
   pub defined : AllByRecursion (IsSet table.states) sets

@@ -1,12 +1,13 @@
 //! The descriptors of a table: how many states, which neighbourhood, which symmetries.
-ghost use Rattle.std.specs.Prelude.{◌≡◌, ◌≤◌, IfOk};
+ghost use Rattle.std.specs.Prelude.{◌≡◌, IfOk};
 ghost use Rattle.basics.specs.Results.{Reads};
 ghost use Rattle.std.specs.Option.{option_map};
-ghost use Rattle.table_lines.specs.Descriptors.{descriptor_named, descriptor_of, head_from, head_of, states_in, fitting, describe, undescribed};
+ghost use Rattle.rule_file.specs.States.{MayHaveStates};
+ghost use Rattle.table_lines.specs.Descriptors.{descriptor_named, descriptor_of, head_from, head_of, fitting, describe, undescribed};
 
 use crate::neighborhood::Neighborhood;
 use crate::symmetry::Symmetry;
-use rule_file::{RuleFault, RuleLine};
+use rule_file::{RuleFault, RuleLine, states_in};
 use std::marker::Model;
 use text_lines::{find_byte, number, trim_end, trim_start};
 
@@ -49,15 +50,6 @@ fn descriptor_named(word: &[u8]) -> Option<Descriptor>
     }
 }
 
-fn states_in(value: &[u8]) -> Option<u16>
-    ensures { result ≡ states_in value.now }
-{
-    match number(value)? {
-        states @ 2..=256 => Some(states as u16),
-        _ => None,
-    }
-}
-
 /// What the descriptors said so far. The symmetry is a name until the neighbourhood is known.
 #[derive(Debug, Drop)]
 pub struct Described<'a> {
@@ -67,8 +59,9 @@ pub struct Described<'a> {
 }
 
 impl<'a> Model for Described<'a> {
-    ghost use Rattle.std.specs.Prelude.{IfSome, ◌≤◌};
+    ghost use Rattle.std.specs.Prelude.{IfSome};
     ghost use Rattle.std.specs.Option.{option_copied};
+    ghost use Rattle.rule_file.specs.States.{MayHaveStates};
     ghost use Rattle.table_lines.specs.Descriptors.{Described};
 
     ghost Value = { Described };
@@ -79,7 +72,7 @@ impl<'a> Model for Described<'a> {
       symmetry = option_copied d.symmetry;
     } };
 
-    ghost invariant = { λ d. IfSome d.states (λ n. (2 ≤ n) × (n ≤ 256)) };
+    ghost invariant = { λ d. IfSome d.states MayHaveStates };
 }
 
 impl<'a> Described<'a> {
@@ -158,7 +151,7 @@ impl<'a> Described<'a> {
     /// The head of the table, if all three descriptors were there.
     pub fn head(&self) -> Result<Head, RuleFault>
         ensures head { result ≡ head_of self.now }
-        ensures states { IfOk result (λ head. (2 ≤ head.states) × (head.states ≤ 256)) }
+        ensures states { IfOk result (λ head. MayHaveStates head.states) }
     {
         let states = self.states.ok_or(RuleFault::MissingDescriptor)?;
         let neighborhood = self.neighborhood.ok_or(RuleFault::MissingDescriptor)?;
@@ -176,7 +169,7 @@ impl<'a> Described<'a> {
 /// there on.
 pub fn read_head<'a>(lines: &'a [RuleLine<'a>]) -> Result<(Head, &'a [RuleLine<'a>]), RuleFault>
     ensures head { Reads (λ found. (found.0, found.1.now)) result (head_from undescribed lines.now) }
-    ensures states { IfOk result (λ found. (2 ≤ found.0.states) × (found.0.states ≤ 256)) }
+    ensures states { IfOk result (λ found. MayHaveStates found.0.states) }
 {
     let mut described = Described::new();
     let mut left = lines;

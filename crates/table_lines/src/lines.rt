@@ -2,6 +2,7 @@
 ghost use Rattle.std.specs.Prelude.{◌≡◌, ◌≤◌, [], Err, IsOk, IsTrue};
 ghost use Rattle.std.specs.List.{list_all};
 ghost use Rattle.rule_file.specs.Results.{Gives};
+ghost use Rattle.rule_file.specs.States.{least_states, most_states};
 ghost use Rattle.table_lines.specs.Below.{admits_below};
 ghost use Rattle.table_lines.specs.Table.{headed};
 ghost use Rattle.table_lines.specs.Lines.{head_in, lines_of};
@@ -39,8 +40,8 @@ impl Model for TableLines {
 impl TableLines {
     /// A table of this head without transitions. Takes no memory.
     pub fn of_head(alloc: Global, head: Head) -> TableLines
-        requires at_least { 2 ≤ head.states }
-        requires at_most { head.states ≤ 256 }
+        requires at_least { least_states ≤ head.states }
+        requires at_most { head.states ≤ most_states }
         ensures { result ≡ headed head [] }
     {
         TableLines {
@@ -52,8 +53,8 @@ impl TableLines {
     /// How many states there are.
     pub fn states(&self) -> u16
         ensures value { result ≡ self.now.states }
-        ensures at_least { 2 ≤ result }
-        ensures at_most { result ≤ 256 }
+        ensures at_least { least_states ≤ result }
+        ensures at_most { result ≤ most_states }
     {
         self.head.states
     }

@@ -2,6 +2,7 @@
 ghost use Rattle.std.specs.Prelude.{◌≡◌, ◌≤◌, ◌<◌, ◌+◌, length, IfOk, IsTrue};
 ghost use Rattle.std.specs.List.{list_all};
 ghost use Rattle.rule_file.specs.Results.{Gives, GivesBy};
+ghost use Rattle.rule_file.specs.States.{most_states};
 ghost use Rattle.table_lines.specs.Below.{admits_below, entry_below, variables_below};
 ghost use Rattle.table_lines.specs.Entries.{TakesOne, TakesSome};
 ghost use Rattle.table_lines.specs.Neighborhood.{places_of};
@@ -27,7 +28,7 @@ pub fn read_transitions(
     head: Head,
     lines: &[RuleLine],
 ) -> Result<Vec<Transition>, RuleFault>
-    requires { head.states ≤ 256 }
+    requires { head.states ≤ most_states }
     ensures read { GivesBy (λ ts. ts.items) result (transitions_of head no_variables lines.now) }
     ensures below { IfOk result (λ ts. IsTrue (list_all (admits_below head.states) ts.items)) }
 {
@@ -63,7 +64,7 @@ fn read_transition(
     variables: &Variables,
     line: &RuleLine,
 ) -> Result<Transition, RuleFault>
-    requires at_most { head.states ≤ 256 }
+    requires at_most { head.states ≤ most_states }
     requires below { IsTrue (variables_below head.states variables.now) }
     ensures read { Gives result (transition_of head variables.now line.now) }
     ensures below { IfOk result (λ t. IsTrue (admits_below head.states t)) }
@@ -90,7 +91,7 @@ fn take_inputs(
     fields: &mut Fields,
 ) -> Result<Vec<Entry>, RuleFault>
     requires enough { length fields.old ≡ length (places_of head.neighborhood) + 2 }
-    requires at_most { head.states ≤ 256 }
+    requires at_most { head.states ≤ most_states }
     requires below { IsTrue (variables_below head.states variables.now) }
     ensures read { TakesSome (λ entries. entries.items) result
         (entry_of head.states variables.now line) fields.old fields.new }
@@ -114,7 +115,7 @@ fn take_entry(
     fields: &mut Fields,
 ) -> Result<Entry, RuleFault>
     requires enough { 0 < length fields.old }
-    requires at_most { head.states ≤ 256 }
+    requires at_most { head.states ≤ most_states }
     requires below { IsTrue (variables_below head.states variables.now) }
     ensures read { TakesOne result (entry_of head.states variables.now line) fields.old fields.new }
     ensures below { IfOk result (λ entry. IsTrue (entry_below head.states entry)) }
@@ -129,7 +130,7 @@ fn read_entry(
     line: u64,
     field: &[u8],
 ) -> Result<Entry, RuleFault>
-    requires at_most { states ≤ 256 }
+    requires at_most { states ≤ most_states }
     requires below { IsTrue (variables_below states variables.now) }
     ensures read { result ≡ entry_of states variables.now line field.now }
     ensures below { IfOk result (λ entry. IsTrue (entry_below states entry)) }

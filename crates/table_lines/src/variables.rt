@@ -3,6 +3,7 @@ ghost use Rattle.std.specs.Prelude.{◌≡◌, ◌≤◌, ◌<◌, ◌+◌, ◌^
 ghost use Rattle.std.specs.List.{list_all};
 ghost use Rattle.std.specs.Option.{option_copied, option_map};
 ghost use Rattle.basics.specs.Results.{Reads};
+ghost use Rattle.rule_file.specs.States.{most_states};
 ghost use Rattle.table_lines.specs.Below.{all_below, variables_below};
 ghost use Rattle.table_lines.specs.Definitions.{Defines, member_set, set_of};
 ghost use Rattle.table_lines.specs.Variables.{definition_in, is_variable_byte, is_variable_name, no_variables, unbraced, variable_named, variables_after};
@@ -59,7 +60,7 @@ impl<'a> Variables<'a> {
     /// BadVariable is answered for a line that isn't well formed or names an unknown variable, and
     /// only then StateTooHigh. NoMemory comes only where memory was wanted.
     pub fn define(&mut self, head: Head, line: &RuleLine<'a>) -> Result<(), RuleFault>
-        requires at_most { head.states ≤ 256 }
+        requires at_most { head.states ≤ most_states }
         requires below { IsTrue (variables_below head.states self.old) }
         requires room { self.old.defined + 1 < 2 ^ 64 }
         ensures read { Defines result self.new (variables_after head self.old line.now) }
@@ -84,7 +85,7 @@ impl<'a> Variables<'a> {
 
     // The states that the members of a set stand for.
     fn set_of(&self, states: u16, line: u64, mut members: Fields) -> Result<StateSet, RuleFault>
-        requires at_most { states ≤ 256 }
+        requires at_most { states ≤ most_states }
         requires below { IsTrue (variables_below states self.now) }
         ensures read { Reads (λ set. set) result (set_of states self.now line members.entry) }
         ensures below { IfOk result (λ set. IsTrue (all_below states set)) }
@@ -111,7 +112,7 @@ impl<'a> Variables<'a> {
         line: u64,
         member: &[u8],
     ) -> Result<Option<StateSet>, RuleFault>
-        requires at_most { states ≤ 256 }
+        requires at_most { states ≤ most_states }
         requires below { IsTrue (variables_below states self.now) }
         ensures { Reads (λ set. set) result (member_set states self.now line member.now) }
     {

@@ -15,3 +15,4 @@ mod SoundTables
 mod Words
 mod Compositions
 mod Orders
+mod WrittenTables

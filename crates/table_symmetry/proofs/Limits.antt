@@ -26,12 +26,12 @@ use Rattle.table_symmetry.proofs.SoundTables.{all_give_states, expanded-below}
 
 within_limits-many : (table : Table) → transition_limit < length (expanded table) → within_limits table ≡ Err TooManyTransitions
 within_limits-many table h =
-    let many : nat_lt 1000000 (length (expanded table)) ≡ true = grind (arith, nat_tests, h) in
+    let many : nat_lt transition_limit (length (expanded table)) ≡ true = grind (arith, nat_tests, h) in
     ap (λ b. cond b (Err TooManyTransitions) (cond (is_quiescent table) (Ok table) (Err NotQuiescent))) many
 
 few_pass : (table : Table) → length (expanded table) ≤ transition_limit → within_limits table ≡ cond (is_quiescent table) (Ok table) (Err NotQuiescent)
 few_pass table h =
-    let few : nat_lt 1000000 (length (expanded table)) ≡ false = grind (arith, nat_tests, h) in
+    let few : nat_lt transition_limit (length (expanded table)) ≡ false = grind (arith, nat_tests, h) in
     ap (λ b. cond b (Err TooManyTransitions) (cond (is_quiescent table) (Ok table) (Err NotQuiescent))) few
 
 pub within_limits-restless : (table : Table) → length (expanded table) ≤ transition_limit → is_quiescent table ≡ false → within_limits table ≡ Err NotQuiescent

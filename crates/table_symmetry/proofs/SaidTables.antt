@@ -16,7 +16,7 @@ use Rattle.table_symmetry.specs.TableLines.{table_of, within_limits}
 use Rattle.table_symmetry.proofs.SoundTables.{all_give_states}
 
 -- a table within the limits is quiescent
-passed : (many quiet : Bool) (t table : Table) → (if many then Err TooManyTransitions else (if quiet then Ok t else Err NotQuiescent)) ≡ Ok table → (quiet ≡ true) × (t ≡ table)
+pub passed : (many quiet : Bool) (t table : Table) → (if many then Err TooManyTransitions else (if quiet then Ok t else Err NotQuiescent)) ≡ Ok table → (quiet ≡ true) × (t ≡ table)
 passed true quiet t table h = absurd cc
 passed false true t table h = (refl, cc)
 passed false false t table h = absurd cc

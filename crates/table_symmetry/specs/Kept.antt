@@ -1,6 +1,7 @@
 -- What a table rule keeps.
 use Rattle.std.specs.Prelude.{◌≡◌, ◌≤◌, true, length}
 use Rattle.std.specs.List.{list_all}
+use Rattle.rule_file.specs.States.{least_states, most_states}
 use Rattle.table_symmetry.specs.declared.lookup.Lookup.{Lookup}
 use Rattle.table_symmetry.specs.Expanded.{expanded, transition_limit}
 use Rattle.table_symmetry.specs.Lookup.{FindsFirst}
@@ -15,8 +16,8 @@ pub record LooksUp (table : Table) (lookup : Lookup) : Type 0 where
 
 -- a table that a file may have, and a look-up of its expanded transitions
 pub record IsKept (table : Table) (lookup : Lookup) : Type 0 where
-  pub at_least : 2 ≤ table.states
-  pub at_most : table.states ≤ 256
+  pub at_least : least_states ≤ table.states
+  pub at_most : table.states ≤ most_states
   pub sound : is_sound table ≡ true
   pub full : list_all (is_full table.neighborhood) table.transitions ≡ true
   pub few : length (expanded table) ≤ transition_limit

@@ -1,6 +1,7 @@
 //! The fast search for the first of many rows that matches.
 ghost use Rattle.std.specs.Prelude.{◌≡◌, ◌≤◌, ◌<◌, ℕ, List, [], length, take, slice_index, slice_index_or, None, IfOk, All};
 ghost use Rattle.std.specs.Int.{bit_at};
+ghost use Rattle.rule_file.specs.States.{most_states};
 ghost use Rattle.table_symmetry.specs.NextState.{inputs_of};
 ghost use Rattle.table_symmetry.specs.Lookup.{FindsFirst, HasBits, HasColumns, HaveInputs, TellRows, found, word_of_each, words_at};
 
@@ -40,7 +41,7 @@ impl Lookup {
         neighborhood: Neighborhood,
         rows: &[Expanded],
     ) -> Result<Lookup, AllocError>
-        requires states { states ≤ 256 }
+        requires states { states ≤ most_states }
         requires inputs { HaveInputs neighborhood rows.now }
         ensures { IfOk result (λ lookup. FindsFirst lookup states neighborhood rows.now) }
     {
@@ -132,7 +133,7 @@ fn columns_of(
     place: usize,
     rows: &[Expanded],
 ) -> Result<Listing<Listing<u64>>, AllocError>
-    requires states { states ≤ 256 }
+    requires states { states ≤ most_states }
     requires place { All (λ row. place < length row.inputs) rows.now }
     ensures { IfOk result (λ columns. HasColumns columns states place rows.now) }
 {

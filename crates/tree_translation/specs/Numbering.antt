@@ -3,6 +3,7 @@ use Rattle.std.specs.Prelude.{◌≡◌, ℕ, ◌+◌, ◌<◌, ◌≤◌, ◌==
 use Rattle.std.specs.List.{IsDistinct}
 use Rattle.std.specs.Str.{bytes_eq}
 use Rattle.std.specs.HashMap.{get}
+use Rattle.rule_file.specs.States.{most_states}
 use Rattle.tree_translation.specs.declared.layers.Layer.{Layer}
 use Rattle.tree_translation.specs.declared.listed.Listed.{Listed}
 use Rattle.tree_translation.specs.declared.numbering.Found.{Found}
@@ -103,7 +104,7 @@ pub record AreEntries (states : ℕ) (layers : List Layer) (nodes : List Listed)
 -- layers for these states, none of which has more tails than there is room for
 pub record AreFit (states : ℕ) (layers : List Layer) (room : ℕ) : Type 0 where
   pub some : 1 ≤ states
-  pub at_most : states ≤ 256
+  pub at_most : states ≤ most_states
   pub fit : Fit states layers
   pub few : All (λ (layer : Layer). length layer.tails.items ≤ room) layers
 

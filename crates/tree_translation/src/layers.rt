@@ -1,6 +1,7 @@
 //! The rows of a table, cut up for a tree.
 ghost use Rattle.std.specs.Prelude.{◌≡◌, ◌≤◌, ◌<◌, ◌∷◌, ℕ, length, slice_index, slice_index_or, All, IfOk, IsTrue, None, OnOk};
 ghost use Rattle.table_symmetry.specs.declared.expansion.Expanded.{Expanded};
+ghost use Rattle.table_symmetry.specs.Expanded.{transition_limit};
 ghost use Rattle.tree_translation.specs.Layers.{AreLayersOf, IsGrownBy, IsLayer, IsLayerOf, asked_at};
 
 use indexmap::IndexSet;
@@ -48,7 +49,7 @@ pub fn layers_of(
     order: &[Option<usize>],
     rows: &[Expanded],
 ) -> Result<(Vec<Layer>, Vec<u32>), AllocError>
-    requires { length rows.now ≤ 1000000 }
+    requires { length rows.now ≤ transition_limit }
     ensures count { IfOk result (λ r. length r.1.items ≡ length rows.now) }
     ensures layers { IfOk result (λ r. (states : ℕ) → All (λ row. row.result < states) rows.now →
         AreLayersOf states order.now rows.now r.0.items r.1.items) }
@@ -80,7 +81,7 @@ fn layer_of(
     rows: &[Expanded],
     rests: &[u32],
 ) -> Result<(Layer, Vec<u32>), AllocError>
-    requires few { length rows.now ≤ 1000000 }
+    requires few { length rows.now ≤ transition_limit }
     requires rests { length rests.now ≡ length rows.now }
     ensures layer { IfOk result (λ r. (count : ℕ) → All (λ rest. rest < count) rests.now →
         IsLayer r.0 count) }
@@ -109,7 +110,7 @@ fn asked(place: Option<usize>, row: &Expanded) -> Option<StateSet>
 
 // The number of a set among these, of which it becomes the last where it isn't there.
 fn number_of(sets: &mut Vec<Option<StateSet>>, set: Option<StateSet>) -> Result<u32, AllocError>
-    requires few { length sets.old.items < 1000000 }
+    requires few { length sets.old.items < transition_limit }
     ensures inside { IfOk result (λ number. number < length sets.new.items) }
     ensures set { IfOk result (λ number. slice_index_or sets.new.items number None ≡ set) }
     ensures grown { OnOk result (IsGrownBy sets.old.items set sets.new.items) }

@@ -5,6 +5,7 @@
 //! made is needed, and too many of them are seen as soon as they are there. It costs for each
 //! different list one pass over its tails for each state.
 ghost use Rattle.std.specs.Prelude.{◌≡◌, ◌≤◌, ◌<◌, ◌+◌, ◌∷◌, ◌++◌, [], length, slice_index, slice_index_or, unwrap_or, ℕ, List, false, All, IfErr, IfOk, IfSome, OnOk, Some, None, if◌then◌else◌};
+ghost use Rattle.rule_file.specs.States.{most_states};
 ghost use Rattle.tree_translation.specs.declared.tree_fault.TreeFault.TheVariants.{TreeTooLarge};
 ghost use Rattle.tree_translation.specs.Layers.{IsLayer, lets, rest_at};
 ghost use Rattle.tree_translation.specs.Numbering.{AreEntries, AreFit, AreTailsAt, Grows, IsNumberOf, Knows, NeedsTooMany, entries_in};
@@ -160,7 +161,7 @@ fn number_again(
 
 // For each state of the last input the first result that is left, or the state.
 fn leaf_of(alloc: Global, states: u16, layer: &Layer, list: &[u32]) -> Result<Vec<u32>, AllocError>
-    requires at_most { states ≤ 256 }
+    requires at_most { states ≤ most_states }
     requires layer { IsLayer layer.now states }
     requires inside { All (λ n. n < length layer.now.tails.items) list.now }
     ensures { IfOk result (λ leaf. AreLeaves states layer.now list.now leaf.items) }

@@ -11,8 +11,10 @@ ghost use Rattle.tree_translation.specs.NodesNeeded.{NeedsNodes};
 ghost use Rattle.tree_translation.specs.Numbering.{entries_in};
 ghost use Rattle.tree_translation.specs.Starts.{NeedStarts};
 ghost use Rattle.worlds.specs.Step.{nine_zeros};
+ghost use Rattle.rule_file.specs.States.{most_states};
 ghost use Rattle.table_symmetry.specs.NextState.{next};
 ghost use Rattle.table_symmetry.specs.Rows.{AreExpanded};
+ghost use Rattle.table_symmetry.specs.Expanded.{transition_limit};
 ghost use Rattle.decision_tree.specs.Tree.{follow, inputs_of, leads};
 ghost use Rattle.tree_translation.specs.Translation.{DoesRows, Translates, neighbors_of, node_limit, order_of, rows_give};
 
@@ -66,9 +68,9 @@ fn nodes_for(
     rows: &[Expanded],
 ) -> Result<IndexSet<Listed>, TreeFault>
     requires some { 1 ≤ states }
-    requires at_most { states ≤ 256 }
+    requires at_most { states ≤ most_states }
     requires order { 1 ≤ length order.now }
-    requires few { length rows.now ≤ 1000000 }
+    requires few { length rows.now ≤ transition_limit }
     requires below { All (λ row. row.result < states) rows.now }
     ensures does { IfOk result (λ nodes. DoesRows states order.now rows.now
         (entries_in nodes.keys)) }
