@@ -1,1 +1,2 @@
 mod SaidRules
+mod WrittenRules

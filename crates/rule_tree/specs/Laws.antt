@@ -1,8 +1,28 @@
--- A law of rules.
-use Rattle.std.specs.Prelude.{◌≡◌, ℕ, List, Ok}
+-- Laws of rules: each statement is proved by a function of the same name.
+use Rattle.std.specs.Prelude.{◌≡◌, ℕ, true, List, Ok}
+use Rattle.rule_file.specs.RuleFile.{is_name}
+use Rattle.table_lines.specs.WrittenTable as table_text
+use Rattle.table_symmetry.specs.Table as table_values
+use Rattle.table_symmetry.specs.TableLines.{within_limits}
+use Rattle.decision_tree.specs.declared.descriptors.TreeHead.{TreeHead}
+use Rattle.decision_tree.specs.Kept.{IsTreeHead}
+use Rattle.decision_tree.specs.Tree.{is_quiescent}
+use Rattle.decision_tree.specs.TreeLines.{Node, tree_from}
+use Rattle.decision_tree.specs.WrittenTree as tree_text
+use Rattle.rule_tree.specs.declared.rule.Kind.TheVariants.{Table, Tree}
 use Rattle.rule_tree.specs.NamedRule.{NamedRule}
 use Rattle.rule_tree.specs.Rule.{next_of, plain_next, rule_of}
 
 -- the next state under the rule that a file means is that of its table or tree
 abbrev pub RulesOfFilesArePlain : Type 0
 RulesOfFilesArePlain = (bytes : List ℕ) (rule : NamedRule) → rule_of bytes ≡ Ok rule → next_of rule ≡ plain_next rule.kind
+
+-- the text that is written for a name and a table within its limits means the rule of this name and this table
+abbrev pub WrittenTablesAreRules : Type 0
+WrittenTablesAreRules = (name : List ℕ) (sets : List (List ℕ)) (table : table_values.Table) → is_name name ≡ true → table_text.IsTableOf sets table → within_limits table ≡ Ok table
+    → rule_of (table_text.written_file name sets table) ≡ Ok (record { name = name; kind = Table table })
+
+-- so does the text that is written for a name and a tree
+abbrev pub WrittenTreesAreRules : Type 0
+WrittenTreesAreRules = (name : List ℕ) (head : TreeHead) (nodes : List Node) → is_name name ≡ true → IsTreeHead head → tree_text.AreNodesOf head nodes → is_quiescent (tree_from head nodes) ≡ true
+    → rule_of (tree_text.written_file name head nodes) ≡ Ok (record { name = name; kind = Tree (tree_from head nodes) })

@@ -1,7 +1,17 @@
-//! A law of the definitions, the contract of a function that does nothing.
-ghost use Rattle.rule_tree.specs.Laws.{RulesOfFilesArePlain};
+//! Laws of the definitions, each the contract of a function that does nothing.
+ghost use Rattle.rule_tree.specs.Laws.{RulesOfFilesArePlain, WrittenTablesAreRules, WrittenTreesAreRules};
 
 /// The next state under the rule that a file means is that of its table or tree.
 pub fn rules_of_files_are_plain()
     ensures { RulesOfFilesArePlain }
+{}
+
+/// The text that is written for a name and a table means the rule of this name and this table.
+pub fn written_tables_are_rules()
+    ensures { WrittenTablesAreRules }
+{}
+
+/// The text that is written for a name and a tree means the rule of this name and this tree.
+pub fn written_trees_are_rules()
+    ensures { WrittenTreesAreRules }
 {}

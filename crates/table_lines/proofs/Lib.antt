@@ -9,6 +9,6 @@ pub mod Sets
 mod Splits
 mod Unions
 mod WrittenEntries
-mod WrittenFiles
+pub mod WrittenFiles
 pub mod WrittenSets
 pub mod WrittenTables

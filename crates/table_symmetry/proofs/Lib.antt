@@ -15,4 +15,4 @@ mod SoundTables
 mod Words
 mod Compositions
 mod Orders
-mod WrittenTables
+pub mod WrittenTables

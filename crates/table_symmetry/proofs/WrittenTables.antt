@@ -23,4 +23,4 @@ table_of-written lines table short h =
     let t : Table = said.0 in
     let same = (passed (nat_lt transition_limit (length (expanded t))) (is_quiescent t) t table said.2).1 in
     let written = said-written lines t short said.1 in
-    (written.0, (subst (IsTableOf written.0) same written.1, subst (λ (u : Table). within_limits u ≡ Ok table) same said.2))
+    (written.0, subst (IsTableOf written.0) same written.1, subst (λ (u : Table). within_limits u ≡ Ok table) same said.2)

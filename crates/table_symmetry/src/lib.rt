@@ -17,7 +17,10 @@ mod table;
 mod table_reader;
 
 pub use expansion::Expanded;
-pub use laws::{permute_takes_all_orders, symmetries_are_generated, tables_of_files_are_sound, tables_of_files_are_written, written_means_the_same};
+pub use laws::{
+    permute_takes_all_orders, symmetries_are_generated, tables_of_files_are_sound,
+    tables_of_files_are_written, written_means_the_same,
+};
 pub use table::TableRule;
 pub use table_lines::{
     Entry, Head, Neighborhood, StateSet, Symmetry, TableLines, Transition, Variable, read_lines,
