@@ -1,7 +1,6 @@
 -- The faults of a table's head, of which none is a want of memory.
-use Rattle.std.proofs.Common.{◌≡◌, ◌≢◌, ℕ, Bool, true, false, List, [], ◌∷◌, Option, Some, None, Result, Ok, Err, if◌then◌else◌, ap, ◌∙◌}
+use Rattle.std.proofs.Common.{◌≡◌, ◌≢◌, ℕ, Bool, true, false, List, [], ◌∷◌, Option, Some, None, Result, Ok, Err, if◌then◌else◌, ap}
 use Rattle.std.specs.Option.{option_map_or, ok_or}
-use Rattle.std.specs.Result.{IsErrAnd}
 use Rattle.basics.specs.Results.{◌>>=◌}
 use Rattle.rule_file.specs.declared.fault.RuleFault.{RuleFault}
 use Rattle.rule_file.specs.declared.fault.RuleFault.TheVariants.{BadNeighborhood, BadStates, BadSymmetry, MissingDescriptor, NoMemory}

@@ -1,6 +1,6 @@
 -- The table that lines say: it has two states or more and 256 at most, and its transitions name no others.
 use Rattle.std.proofs.Common.{◌≡◌, ℕ, zero, suc, ◌-◌, ◌<◌, ◌≤◌, Bool, true, false, List, [], ◌∷◌, length, take, nat_le, nat_lt, Option, Some, None, Result, Ok, Err, is_some, if◌then◌else◌, refl, ap, ◌∙◌, subst, arith, rules, tests}
-use Rattle.std.specs.Prelude.{◌&&◌, slice_index_or, option_and_then, ◌==◌, ◌+◌}
+use Rattle.std.specs.Prelude.{◌&&◌, slice_index_or, ◌==◌, ◌+◌}
 use Rattle.std.specs.List.{list_all}
 use Rattle.std.specs.Option.{option_map, option_map_or, ok_or}
 use Rattle.std.proofs.lemmas.Bool.{and_from, and_parts}

@@ -1,7 +1,7 @@
 -- Entries that are written read back.
-use Rattle.std.proofs.Common.{◌≡◌, ◌≢◌, ◌∙◌, sym, ap, ap₂, refl, subst, ℕ, suc, ◌+◌, ◌<◌, ◌≤◌, ◌^◌, ◌==◌, ◌&&◌, ◌||◌, Bool, true, false, not, cond, List, [], ◌∷◌, ◌++◌, length, map, Some, None, Ok, Err, nat_lt, nat_le, decimal, arith}
-use Rattle.std.specs.Prelude.{codes, nat_eq, slice_index_or, is_none}
-use Rattle.std.specs.List.{All, AllByRecursion, join_with_byte, list_all, list_any, slice_split}
+use Rattle.std.proofs.Common.{◌≡◌, ◌∙◌, sym, ap, ap₂, refl, ℕ, ◌<◌, ◌≤◌, ◌^◌, ◌==◌, ◌&&◌, ◌||◌, Bool, true, false, not, cond, List, [], ◌∷◌, ◌++◌, length, map, Some, Ok, Err, nat_lt, nat_le, decimal, arith}
+use Rattle.std.specs.Prelude.{slice_index_or}
+use Rattle.std.specs.List.{All, AllByRecursion, join_with_byte, list_any}
 use Rattle.std.specs.Option.{option_map, option_map_or, ok_or}
 use Rattle.std.proofs.lemmas.Bool.Decides.{nat_tests}
 use Rattle.std.proofs.lemmas.List.Elements.{All-from_recursion}
@@ -10,14 +10,12 @@ use Rattle.std.proofs.lemmas.List.Splits.{slice_split_at, slice_split_none}
 use Rattle.basics.specs.Results.{◌>>=◌}
 use Rattle.basics.proofs.Lists.{all_append, all_so}
 use Rattle.text_lines.specs.Blanks.{trim}
-use Rattle.text_lines.specs.Numbers.{number_of}
 use Rattle.text_lines.proofs.ByteRanges.{IsDigit, IsVisible, differs, digit-visible}
 use Rattle.text_lines.proofs.Decimals.{IsNumeral, IsWide, decimal-bytes, decimal-numeral, decimal-some, number_of-decimal}
-use Rattle.text_lines.proofs.PrintedLines.{IsLine, line-visible}
+use Rattle.text_lines.proofs.PrintedLines.{line-visible}
 use Rattle.rule_file.specs.declared.fault.RuleFault.TheVariants.{BadTransition, StateTooHigh}
 use Rattle.table_lines.specs.declared.transition.Entry.{Entry}
 use Rattle.table_lines.specs.declared.transition.Entry.TheVariants.{State, OneOf}
-use Rattle.table_lines.specs.declared.transition.Variable.{Variable}
 use Rattle.table_lines.specs.Fields.{fields, parts, single_bytes}
 use Rattle.table_lines.specs.Transitions.{entry_of}
 use Rattle.table_lines.specs.Variables.{Variables, defines_variable, each, variable_named}

@@ -1,11 +1,11 @@
 -- Rule files of tables that are written.
-use Rattle.std.proofs.Common.{◌≡◌, refl, ℕ, ◌+◌, ◌<◌, ◌≤◌, ◌^◌, ◌==◌, true, false, List, [], ◌∷◌, ◌++◌, length, map, decimal, length-append, arith}
+use Rattle.std.proofs.Common.{refl, ℕ, ◌+◌, ◌≤◌, ◌^◌, List, [], ◌∷◌, ◌++◌, length, map, decimal, length-append, arith}
 use Rattle.std.specs.Prelude.{codes}
 use Rattle.std.specs.List.{AllByRecursion}
 use Rattle.basics.proofs.Lists.{all_append, all_so}
 use Rattle.text_lines.proofs.ByteRanges.{IsDigit, IsPrinted, IsVisible, digit-visible, printed-tested, visible-printed, visible-tested}
-use Rattle.text_lines.proofs.Decimals.{IsWide, decimal-bytes}
-use Rattle.text_lines.proofs.PrintedLines.{IsLine, ends-append, ends-visible, line-between, line-visible}
+use Rattle.text_lines.proofs.Decimals.{IsWide}
+use Rattle.text_lines.proofs.PrintedLines.{ends-append, ends-visible, line-between, line-visible}
 use Rattle.rule_file.specs.declared.text.SectionKind.TheVariants as section_kind
 use Rattle.rule_file.proofs.WrittenFiles.{IsPlain, IsPlainLine, IsSolid, digit-plain, digit-solid, file-written, solid-line, solid-tested}
 use Rattle.table_lines.specs.declared.neighborhood.Neighborhood.{Neighborhood}
@@ -16,8 +16,7 @@ use Rattle.table_lines.specs.declared.transition.Entry.{Entry}
 use Rattle.table_lines.specs.declared.transition.Transition.{Transition}
 use Rattle.table_lines.specs.LineLaws.{WrittenIsItsFile}
 use Rattle.table_lines.specs.Symmetry.{name_of_symmetry}
-use Rattle.table_lines.specs.Table.{Table}
-use Rattle.table_lines.specs.WrittenTable.{IsEntryOf, IsSet, IsTableOf, IsTransitionOf, definition_line, definition_lines, entry_text, name_of_neighborhood, set_text, transition_line, variable_name, written_lines}
+use Rattle.table_lines.specs.WrittenTable.{IsEntryOf, IsSet, IsTransitionOf, definition_line, definition_lines, entry_text, name_of_neighborhood, set_text, transition_line, variable_name, written_lines}
 use Rattle.table_lines.proofs.WrittenEntries.{decimal-each, entry-each, joined-each}
 use Rattle.table_lines.proofs.WrittenTables.{entries-are, entries-many, entries_of, line_of, listed, listed-each, set-wide}
 

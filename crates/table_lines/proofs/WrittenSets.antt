@@ -1,13 +1,13 @@
 -- The sets that the variables of a table are, where lines say it.
-use Rattle.std.proofs.Common.{◌≡◌, ◌∙◌, sym, ap, ap₂, refl, subst, ℕ, zero, suc, ◌+◌, ◌-◌, ◌<◌, ◌≤◌, ◌^◌, ◌==◌, ◌&&◌, ◌||◌, Bool, true, false, cond, List, [], ◌∷◌, ◌++◌, length, take, drop, Option, Some, None, Result, Ok, Err, is_some, if◌then◌else◌, nat_lt, position, append-nil, append_assoc, length-append, arith, rules, tests}
+use Rattle.std.proofs.Common.{◌≡◌, ◌∙◌, sym, ap, refl, subst, ℕ, zero, suc, ◌+◌, ◌-◌, ◌<◌, ◌≤◌, ◌==◌, ◌||◌, Bool, true, false, cond, List, [], ◌∷◌, ◌++◌, length, take, drop, Option, Some, None, Result, Ok, Err, is_some, if◌then◌else◌, nat_lt, position, append-nil, append_assoc, length-append, arith}
 use Rattle.std.specs.Prelude.{find, nat_eq, option_and_then, slice_index_or}
-use Rattle.std.specs.List.{AllByRecursion, list_all, list_any}
+use Rattle.std.specs.List.{AllByRecursion, list_any}
 use Rattle.std.specs.Option.{option_map, option_map_or, ok_or}
 use Rattle.std.specs.Str.{bytes_eq}
 use lib.Pointwise.{bytes_decides}
 use Rattle.std.proofs.Math.ListN.{get_or-append}
 use Rattle.std.proofs.Math.Seq.{get_or-append_seam}
-use Rattle.std.proofs.lemmas.Bool.{and_from, and_parts, eq-eqb}
+use Rattle.std.proofs.lemmas.Bool.{and_parts, eq-eqb}
 use Rattle.std.proofs.lemmas.Bool.Decides.{nat_tests}
 use Rattle.basics.specs.Results.{◌>>=◌}
 use Rattle.basics.proofs.Lists.{all_append, all_so}
@@ -19,7 +19,6 @@ use Rattle.rule_file.specs.RuleFile.{NumberedLine}
 use Rattle.table_lines.specs.declared.descriptors.Descriptor.{Descriptor}
 use Rattle.table_lines.specs.declared.descriptors.Head.{Head}
 use Rattle.table_lines.specs.declared.neighborhood.Neighborhood.{Neighborhood}
-use Rattle.table_lines.specs.declared.symmetry.Symmetry.{Symmetry}
 use Rattle.table_lines.specs.declared.transition.Entry.{Entry}
 use Rattle.table_lines.specs.declared.transition.Entry.TheVariants.{State, OneOf}
 use Rattle.table_lines.specs.declared.transition.Transition.{Transition}
@@ -29,12 +28,11 @@ use Rattle.table_lines.specs.Definitions.{union}
 use Rattle.table_lines.specs.Descriptors.{Described, describe, descriptor_of, head_from, head_of, undescribed}
 use Rattle.table_lines.specs.Fields.{fields, parts}
 use Rattle.table_lines.specs.LineLaws.{TablesOfLinesAreWritten}
-use Rattle.table_lines.specs.Lines.{lines_of}
 use Rattle.table_lines.specs.Neighborhood.{places_of}
 use Rattle.table_lines.specs.States.{has, rising}
 use Rattle.table_lines.specs.StateWords.{has-rising, rising-agree}
 use Rattle.table_lines.specs.Symmetry.{name_of_symmetry, symmetries_of, symmetry_named}
-use Rattle.table_lines.specs.Table.{Table, headed}
+use Rattle.table_lines.specs.Table.{headed}
 use Rattle.table_lines.specs.Transitions.{entry_of, is_free, transition_from, transition_of, transitions_of, unless_free}
 use Rattle.table_lines.specs.Variables.{Variables, are_below, defines_variable, definition_in, each, is_variable_name, member_states, named_in, no_variables, unbraced, variable_named, variables_after, with_definition}
 use Rattle.table_lines.specs.WrittenTable.{IsEntryOf, IsSet, IsTableOf, IsTransitionOf}

@@ -1,7 +1,7 @@
 -- Tables that are written read back.
-use Rattle.std.proofs.Common.{◌≡◌, ◌≢◌, ◌∙◌, sym, ap, ap₂, refl, subst, ℕ, suc, ◌+◌, ◌-◌, ◌<◌, ◌≤◌, ◌^◌, ◌==◌, ◌&&◌, ◌||◌, Bool, true, false, not, cond, List, [], ◌∷◌, ◌++◌, length, map, take, drop, Option, Some, None, Result, Ok, Err, is_some, inl, inr, nat_lt, nat_le, decimal, arith, append-nil, append_assoc, length-append}
+use Rattle.std.proofs.Common.{◌≡◌, ◌≢◌, ◌∙◌, sym, ap, ap₂, refl, subst, ℕ, suc, ◌+◌, ◌-◌, ◌<◌, ◌≤◌, ◌^◌, ◌==◌, ◌&&◌, ◌||◌, Bool, true, false, not, cond, List, [], ◌∷◌, ◌++◌, length, map, take, drop, Option, Some, None, Result, Ok, Err, is_some, inl, inr, nat_lt, decimal, arith, append-nil, append_assoc, length-append}
 use Rattle.std.specs.Prelude.{codes, nat_eq, slice_index_or, is_none, option_and_then, find}
-use Rattle.std.specs.List.{AllByRecursion, join_with_byte, list_all, list_any, ends_with}
+use Rattle.std.specs.List.{AllByRecursion, join_with_byte, list_all, list_any}
 use Rattle.std.specs.Option.{option_map, option_map_or, ok_or}
 use Rattle.std.specs.Str.{bytes_eq}
 use lib.Pointwise.{bytes_decides}
@@ -13,16 +13,16 @@ use Rattle.std.proofs.lemmas.Bool.{and_parts, and_from, eq-eqb, eqb-true, cases_
 use Rattle.std.proofs.lemmas.Bool.Decides.{nat_tests}
 use Rattle.std.proofs.lemmas.List.{length-map}
 use Rattle.basics.specs.Results.{◌>>=◌}
-use Rattle.basics.proofs.Lists.{all_append, all_so}
+use Rattle.basics.proofs.Lists.{all_append}
 use Rattle.text_lines.specs.Blanks.{trim, trim_end, trim_start}
 use Rattle.text_lines.specs.Numbers.{number_of}
-use Rattle.text_lines.proofs.ByteRanges.{IsDigit, IsVisible, differs, digit-visible, visible-solid, visible-tested}
-use Rattle.text_lines.proofs.Decimals.{IsNumeral, IsWide, decimal-bytes, decimal-numeral, number_of-decimal}
+use Rattle.text_lines.proofs.ByteRanges.{IsDigit, IsVisible, differs, digit-visible}
+use Rattle.text_lines.proofs.Decimals.{IsWide, decimal-bytes, decimal-numeral, number_of-decimal}
 use Rattle.text_lines.proofs.Pieces.{position-at, position-none}
-use Rattle.text_lines.proofs.PrintedLines.{IsLine, line-visible, trim-blank}
+use Rattle.text_lines.proofs.PrintedLines.{line-visible, trim-blank}
 use Rattle.rule_file.proofs.WrittenFiles.{trim_start-digits, within-read}
 use Rattle.rule_file.specs.declared.fault.RuleFault.{RuleFault}
-use Rattle.rule_file.specs.declared.fault.RuleFault.TheVariants.{BadNeighborhood, BadStates, BadSymmetry, BadTransition, BadVariable, FreeResult, MissingDescriptor, StateTooHigh}
+use Rattle.rule_file.specs.declared.fault.RuleFault.TheVariants.{BadNeighborhood, BadStates, BadSymmetry, BadTransition, BadVariable, FreeResult, StateTooHigh}
 use Rattle.rule_file.specs.States.{least_states, most_states}
 use Rattle.rule_file.specs.RuleFile.{NumberedLine, numbered_from}
 use Rattle.table_lines.specs.declared.descriptors.Descriptor.{Descriptor}
@@ -33,11 +33,11 @@ use Rattle.table_lines.specs.declared.neighborhood.Neighborhood.TheVariants.{Von
 use Rattle.table_lines.specs.declared.symmetry.Symmetry.{Symmetry}
 use Rattle.table_lines.specs.declared.symmetry.Symmetry.TheVariants as symmetry
 use Rattle.table_lines.specs.declared.transition.Entry.{Entry}
-use Rattle.table_lines.specs.declared.transition.Entry.TheVariants.{State, OneOf}
+use Rattle.table_lines.specs.declared.transition.Entry.TheVariants.{State}
 use Rattle.table_lines.specs.declared.transition.Transition.{Transition}
 use Rattle.table_lines.specs.Below.{all_below}
 use Rattle.table_lines.specs.Definitions.{union}
-use Rattle.table_lines.specs.Descriptors.{Described, are_unfit, describe, descriptor_named, descriptor_of, fitting, head_from, head_of, undescribed}
+use Rattle.table_lines.specs.Descriptors.{Described, describe, descriptor_named, descriptor_of, fitting, head_from, head_of, undescribed}
 use Rattle.table_lines.specs.Fields.{fields, parts}
 use Rattle.table_lines.specs.LineLaws.{WrittenTablesAreRead}
 use Rattle.table_lines.specs.Neighborhood.{neighborhood_named, places_of}
@@ -45,9 +45,9 @@ use Rattle.table_lines.specs.States.{has, rising}
 use Rattle.table_lines.specs.StateWords.{rising-agree}
 use Rattle.table_lines.specs.Symmetry.{name_of_symmetry, symmetry_named}
 use Rattle.table_lines.specs.Table.{Table, headed}
-use Rattle.table_lines.specs.Transitions.{entry_of, is_free, is_full, transition_from, transition_of, transitions_of, unless_free}
-use Rattle.table_lines.specs.Variables.{Variables, are_below, defines_variable, definition_in, each, is_variable_byte, is_variable_name, member_states, named_in, no_variables, unbraced, variable_named, variables_after, with_definition}
-use Rattle.table_lines.specs.WrittenTable.{IsEntryOf, IsSet, IsTableOf, IsTransitionOf, definition_line, definition_lines, entry_text, name_of_neighborhood, set_text, transition_line, variable_name, written_lines, written_table}
+use Rattle.table_lines.specs.Transitions.{entry_of, transition_from, transition_of, transitions_of, unless_free}
+use Rattle.table_lines.specs.Variables.{Variables, are_below, defines_variable, definition_in, each, is_variable_byte, is_variable_name, member_states, no_variables, unbraced, variable_named, variables_after, with_definition}
+use Rattle.table_lines.specs.WrittenTable.{IsEntryOf, IsSet, IsTableOf, IsTransitionOf, definition_line, definition_lines, entry_text, name_of_neighborhood, set_text, transition_line, variable_name}
 use Rattle.table_lines.proofs.WrittenEntries.{AreNamed, IsField, decimal-each, decimal-field, entries-read, entry-defines_none, entry-each, entry-field, fields-joined, joined-each, parts-joined}
 
 -- the set that a definition lists, between its braces

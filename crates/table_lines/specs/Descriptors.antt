@@ -1,10 +1,9 @@
 -- What the descriptors of a table say: its head, or the first fault.
-use Rattle.std.specs.Prelude.{ℕ, ◌==◌, ◌&&◌, Bool, false, if◌then◌else◌, List, [], ◌∷◌, take, drop, Option, ◌+◌, nat_le, codes, position, Some, None, Result, Ok, Err, is_none, option_and_then}
+use Rattle.std.specs.Prelude.{ℕ, ◌==◌, Bool, false, if◌then◌else◌, List, [], ◌∷◌, take, drop, Option, ◌+◌, codes, position, Some, None, Result, Ok, Err, is_none, option_and_then}
 use Rattle.std.specs.Option.{option_map, option_map_or, ok_or}
 use Rattle.table_lines.specs.declared.neighborhood.Neighborhood.{Neighborhood}
 use Rattle.std.specs.Str.{bytes_eq}
 use Rattle.text_lines.specs.Blanks.{trim_start, trim_end}
-use Rattle.text_lines.specs.Numbers.{number_of}
 use Rattle.rule_file.specs.declared.fault.RuleFault.{RuleFault}
 use Rattle.rule_file.specs.declared.fault.RuleFault.TheVariants.{MissingDescriptor, BadStates, BadNeighborhood, BadSymmetry, BadTransition}
 use Rattle.basics.specs.Results.{◌>>=◌}
