@@ -331,22 +331,15 @@ fn expect_too_large(rt: &impl Abort, alloc: Global, states: u16) {
     same(rt, &fault, &Some(TreeFault::TreeTooLarge), &states);
 }
 
-// Behind the corners 32 * 32 * 32 * 32 lists are left, and no two of them do the same.
+// Of 32 states 32 * 32 * 32 * 32 lists are left behind the corners, and no two of them do the same;
+// of 64 states more than a million are left soon. The nine states are C, N, NE, E, SE, S, SW, W, NW.
+//
+// The one test that goes up to the limit: the interpreter of `rt try` doesn't come to the end of a
+// million nodes in the minute that a test has there.
 #[test]
-fn trees_of_a_million_nodes_are_too_large(rt: HostRuntime) {
-    expect_too_large(&rt, rt.alloc(), 32);
-}
-
-// With 64 states more than a million of them are left soon.
-#[test]
-fn trees_of_more_nodes_are_too_large_as_soon(rt: HostRuntime) {
-    expect_too_large(&rt, rt.alloc(), 64);
-}
-
-// The nine states are C, N, NE, E, SE, S, SW, W, NW.
-#[test]
-fn rules_keep_tables_whose_trees_are_too_large(rt: HostRuntime) {
+fn trees_of_more_than_a_million_nodes_are_too_large(rt: HostRuntime) {
     let alloc = rt.alloc();
+    expect_too_large(&rt, alloc, 64);
     let lines = four_pairs(alloc, 32).expect(&rt, "memory");
     let text = file_of(&rt, alloc, &lines);
     let rule = Rule::read(alloc, text.as_bytes()).expect(&rt, "a rule");

@@ -323,18 +323,16 @@ fn the_first_expanded_transition_that_matches_counts(rt: HostRuntime) {
     }
 }
 
+// The one test that goes up to the limit: the interpreter of `rt try` doesn't come to the end of a
+// million rows in the minute that a test has there.
 #[test]
-fn a_million_expanded_transitions(rt: HostRuntime) {
-    let lines = cubed(&rt, rt.alloc(), 100);
-    let rule = rule(&rt, rt.alloc(), lines.as_str());
-    same(&rt, &rule.states(), &100, &"states");
-    let rows = rule.expand().expect(&rt, "memory");
+fn a_million_expanded_transitions_and_one_more(rt: HostRuntime) {
+    let mut lines = cubed(&rt, rt.alloc(), 100);
+    let rows = listed(&rt, rt.alloc(), lines.as_str());
     same(&rt, &rows.len(), &1_000_000, &"expanded transitions");
-}
-
-#[test]
-fn more_than_a_million_are_too_many(rt: HostRuntime) {
-    let lines = cubed(&rt, rt.alloc(), 101);
+    lines
+        .push_str("0,0,0,0,0,0,0,0,0,0\n")
+        .expect(&rt, "memory");
     let read = read_rule(&rt, rt.alloc(), lines.as_str());
     same(&rt, &outcome(read), &(11, None), &"TooManyTransitions");
 }
