@@ -12,7 +12,7 @@ use Rattle.worlds.specs.Lay.{lay, last_mention, cell-lay}
 use Rattle.square_rows.specs.declared.row.SquareRow.{SquareRow}
 use Rattle.worlds.specs.Square.{Square, cell_in, IsIn}
 use Rattle.square_rows.specs.Rows.{IsNumber, AreRows, square_in, row_at, root_level, edge_of, world_of_rows}
-use Rattle.square_rows.specs.Laid.{square_of, AreQuadrants, Keeps, IsAdded, IsFrom, IsOnPlane, AreThoseIn, IsLaid, RootHolds}
+use Rattle.square_rows.specs.Laid.{square_of, AreQuadrants, Keeps, IsAdded, IsFrom, IsOnPlane, AreThoseIn, IsCellOf, IsLaid, RootHolds}
 use Rattle.square_rows.proofs.Sound.{IsNumber-level, IsNumber-state, square_in-state}
 use Rattle.square_rows.proofs.Cells.{double, cell_in-one, cell_in-nw, cell_in-ne, cell_in-sw, cell_in-se, in_or_out, offset}
 use Rattle.square_rows.proofs.Roots.{root_level-some, world-outside, root-cells, root-side, rooted}
@@ -323,3 +323,42 @@ high-holds rows cells valid high can =
     let at = (can i d h).0 in
     let left = at.left in let right = at.right in let top = at.top in let bottom = at.bottom in
     record { left = omega (arith, ints); right = omega (arith, ints); top = omega (arith, ints); bottom = omega (arith, ints) })
+
+-- the same cells, with the square and the list as they are passed on
+pub those-passed_on : (side : ℕ) (l t x y : ℤ) (cells cs here : List CellSet) → x ≡ l → y ≡ t → cs ≡ cells → AreThoseIn side x y cs here → AreThoseIn side l t cells here
+those-passed_on side l t x y cells cs here ex ey is those =
+    subst (λ u. AreThoseIn side u t cells here) ex (subst (λ v. AreThoseIn side x v cells here) ey (subst (λ (ds : List CellSet). AreThoseIn side x y ds here) is those))
+
+-- the cells of a square are those that lie in it
+pub those-all : (side : ℕ) (l t : ℤ) (cells : List CellSet) → All (IsCellOf side l t) cells → AreThoseIn side l t cells cells
+those-all side l t cells all = record { inside = λ i d h. (all i d h).0; states = λ i d h. (all i d h).1; mentions = λ x y s here. refl }
+
+-- those that lie in a square are its cells
+pub those-of : (side : ℕ) (l t : ℤ) (cells here : List CellSet) → AreThoseIn side l t cells here → All (IsCellOf side l t) here
+those-of side l t cells here those i d h = (those.inside i d h, those.states i d h)
+
+-- what is laid of the cells of a square is laid of all
+pub laid-those : (old new : List SquareRow) (k before after side : ℕ) (l t : ℤ) (cells here : List CellSet) → side ≡ 2 ^ k → AreThoseIn side l t cells here → IsLaid old new k before after l t here → IsLaid old new k before after l t cells
+laid-those old new k before after side l t cells here is those laid =
+    let in_side : AreThoseIn (2 ^ k) l t cells here = subst (λ n. AreThoseIn n l t cells here) is those in
+    record {
+      keeps = laid.keeps;
+      number = laid.number;
+      each = λ i j hi hj. laid.each i j hi hj ∙ in_side.mentions (l +ℤ pos i) (t +ℤ pos j) _ (counted-in (2 ^ k) l t i j hi hj);
+      last = laid.last;
+    }
+
+-- those that lie in a quadrant, by its side and its corner as they are passed on
+pub those-at : (level half : ℕ) (l t x y : ℤ) (cells here : List CellSet) → half ≡ 2 ^ (level - 1) → l ≡ x → t ≡ y → AreThoseIn half l t cells here → AreThoseIn (2 ^ (level - 1)) x y cells here
+those-at level half l t x y cells here is ex ey those = subst (λ n. AreThoseIn n x y cells here) is (those-passed_on half x y l t cells cells here ex ey refl those)
+
+-- a square by its halves
+pub square-from_halves : (level half : ℕ) (l t : ℤ) → 0 < level → half ≡ 2 ^ (level - 1) → IsOnPlane (2 ^ level) l t → IsOnPlane (half + half) l t
+square-from_halves level half l t some is on_plane =
+    let side = root-side level some in
+    let across = on_plane.across in let down = on_plane.down in
+    let left = across.low in let right = across.high in let top = down.low in let bottom = down.high in
+    record {
+      across = record { low = left; high = omega (arith, ints) };
+      down = record { low = top; high = omega (arith, ints) };
+    }

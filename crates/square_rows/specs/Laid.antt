@@ -4,6 +4,7 @@ use Rattle.worlds.specs.declared.cell.CellSet.{CellSet}
 use Rattle.worlds.specs.World.{World, cell}
 use Rattle.worlds.specs.Lay.{last_mention}
 use Rattle.square_rows.specs.declared.row.SquareRow.{SquareRow}
+use Rattle.square_rows.specs.declared.lay.Parts.{Parts}
 use Rattle.worlds.specs.Square.{Square, four, cell_in, IsIn}
 use Rattle.square_rows.specs.Rows.{IsNumber, AreRows, square_in, root_level, edge_of}
 
@@ -51,6 +52,17 @@ pub record AreThoseIn (side : ℕ) (left top : ℤ) (cells here : List CellSet) 
   pub inside : (i : ℕ) (d : CellSet) → i < length here → IsIn side left top (get_or here i d).x (get_or here i d).y
   pub states : (i : ℕ) (d : CellSet) → i < length here → (get_or here i d).state < 256
   pub mentions : (x y : ℤ) (s : ℕ) → IsIn side left top x y → last_mention here x y s ≡ last_mention cells x y s
+
+-- a cell of the square of this side, with a state below 256
+abbrev pub IsCellOf : ℕ → ℤ → ℤ → CellSet → Type 0
+IsCellOf side left top c = IsIn side left top c.x c.y × (c.state < 256)
+
+-- the cells by the quadrants, of side half, of the square with the upper left cell (left, top)
+pub record AreParted (half : ℕ) (left top : ℤ) (cells : List CellSet) (parts : Parts) : Type 0 where
+  pub nw : AreThoseIn half left top cells parts.nw.items
+  pub ne : AreThoseIn half (left +ℤ pos half) top cells parts.ne.items
+  pub sw : AreThoseIn half left (top +ℤ pos half) cells parts.sw.items
+  pub se : AreThoseIn half (left +ℤ pos half) (top +ℤ pos half) cells parts.se.items
 
 -- after names the square of level k with the upper left cell (left, top) that before named, with the cells laid on it
 pub record IsLaid (old new : List SquareRow) (k before after : ℕ) (left top : ℤ) (cells : List CellSet) : Type 0 where

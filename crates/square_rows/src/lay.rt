@@ -2,18 +2,21 @@
 //!
 //! Each square passes the cells that lie in it on to its quadrants, so cells that lie together
 //! share the rows of the squares around them. Scattered cells take at most 62 rows each.
-ghost use Rattle.std.specs.Prelude.{◌≡◌, ◌↔◌, ◌<◌, ◌≤◌, ◌^◌, length, All, IfOk, OnOk, IsTrue};
+ghost use Rattle.std.specs.Prelude.{◌≡◌, ◌↔◌, ◌+◌, ◌<◌, ◌≤◌, ◌^◌, length, All, IfOk, OnOk, IsTrue};
 ghost use Rattle.worlds.specs.Lay.{lay};
 ghost use Rattle.worlds.specs.Range.{CanBeLaid};
 ghost use Rattle.worlds.specs.Square.{IsIn};
 ghost use Rattle.square_rows.specs.Rows.{AreRows, IsNumber, root_level, world_of_rows};
-ghost use Rattle.square_rows.specs.Laid.{AreThoseIn, IsLaid, IsOnPlane, RootHolds};
+ghost use Rattle.square_rows.specs.Laid.{IsCellOf, AreParted, AreThoseIn, IsLaid, IsOnPlane, RootHolds};
 
 use crate::descent::{Spot, corner_of, root_level, shifted, side};
 use crate::raise::{push_row, quadrants, raise};
 use crate::row::SquareRow;
 use std::alloc::{AllocError, Global};
 use worlds::CellSet;
+
+// So many cells are laid at a time, since they are copied for it.
+const BATCH: usize = 1 << 20;
 
 // Whether a cell lies in a square.
 fn is_in(side: u64, corner: Spot, cell: &CellSet) -> bool
@@ -61,25 +64,49 @@ fn those_in(
     Ok(here)
 }
 
-// Lays cells on the square with this upper left cell, and gives the number of what it becomes.
+// The cells that lie in each quadrant of a square.
+#[derive(Drop)]
+struct Parts {
+    nw: Vec<CellSet>,
+    ne: Vec<CellSet>,
+    sw: Vec<CellSet>,
+    se: Vec<CellSet>,
+}
+
+// The cells by the quadrants, with this side, of the square with this upper left cell. The list
+// that held them together is let go.
+fn parted(alloc: Global, half: u64, corner: Spot, cells: Vec<CellSet>) -> Result<Parts, AllocError>
+    requires square { IsOnPlane (half + half) corner.x corner.y }
+    requires states { All (λ c. c.state < 256) cells.items }
+    ensures { IfOk result (AreParted half corner.x corner.y cells.items) }
+{
+    Ok(Parts {
+        nw: those_in(alloc, half, corner, &cells)?,
+        ne: those_in(alloc, half, shifted(corner, half, 0), &cells)?,
+        sw: those_in(alloc, half, shifted(corner, 0, half), &cells)?,
+        se: those_in(alloc, half, shifted(corner, half, half), &cells)?,
+    })
+}
+
+// Lays the cells of the square with this upper left cell on it, and gives the number of what it
+// becomes.
 fn lay_in(
     alloc: Global,
     rows: &mut Vec<SquareRow>,
     level: u8,
     number: u32,
     corner: Spot,
-    cells: &[CellSet],
+    cells: Vec<CellSet>,
 ) -> Result<u32, AllocError>
     requires rows { AreRows rows.old.items × (length rows.old.items < 2 ^ 32) }
     requires level { level ≤ 62 }
     requires number { IsNumber rows.old.items level number }
     requires square { IsOnPlane (2 ^ level) corner.x corner.y }
-    requires states { All (λ c. c.state < 256) cells.now }
+    requires cells { All (IsCellOf (2 ^ level) corner.x corner.y) cells.items }
     ensures { IfOk result (λ n.
-        IsLaid rows.old.items rows.new.items level number n corner.x corner.y cells.now) }
+        IsLaid rows.old.items rows.new.items level number n corner.x corner.y cells.items) }
 {
-    let here = those_in(alloc, side(level), corner, cells)?;
-    let Some(last) = here.last() else {
+    let Some(last) = cells.last() else {
         return Ok(number);
     };
     if level == 0 {
@@ -87,31 +114,14 @@ fn lay_in(
     }
     let half = side(level - 1);
     let kids = quadrants(rows, level, number);
-    let nw = lay_in(alloc, rows, level - 1, kids[0], corner, &here)?;
-    let ne = lay_in(
-        alloc,
-        rows,
-        level - 1,
-        kids[1],
-        shifted(corner, half, 0),
-        &here,
-    )?;
-    let sw = lay_in(
-        alloc,
-        rows,
-        level - 1,
-        kids[2],
-        shifted(corner, 0, half),
-        &here,
-    )?;
-    let se = lay_in(
-        alloc,
-        rows,
-        level - 1,
-        kids[3],
-        shifted(corner, half, half),
-        &here,
-    )?;
+    let parts = parted(alloc, half, corner, cells)?;
+    let east = shifted(corner, half, 0);
+    let south = shifted(corner, 0, half);
+    let far = shifted(corner, half, half);
+    let nw = lay_in(alloc, rows, level - 1, kids[0], corner, parts.nw)?;
+    let ne = lay_in(alloc, rows, level - 1, kids[1], east, parts.ne)?;
+    let sw = lay_in(alloc, rows, level - 1, kids[2], south, parts.sw)?;
+    let se = lay_in(alloc, rows, level - 1, kids[3], far, parts.se)?;
     let row = SquareRow {
         level,
         kids: [nw, ne, sw, se],
@@ -137,6 +147,27 @@ fn raise_around(rows: &mut Vec<SquareRow>, cells: &[CellSet]) -> Result<(), Allo
     Ok(())
 }
 
+// Makes the rows stand for the world after the cells are set in turn.
+fn lay_batch(alloc: Global, rows: &mut Vec<SquareRow>, cells: &[CellSet]) -> Result<(), AllocError>
+    requires rows { AreRows rows.old.items × (length rows.old.items < 2 ^ 32) }
+    requires cells { All CanBeLaid cells.now }
+    ensures rows { OnOk result (AreRows rows.new.items × (length rows.new.items < 2 ^ 32)) }
+    ensures world { OnOk result (world_of_rows rows.new.items ≡ lay cells.now (world_of_rows rows.old.items)) }
+{
+    raise_around(rows, cells)?;
+    let level = root_level(rows);
+    let number = rows.len() as u32;
+    lay_in(
+        alloc,
+        rows,
+        level,
+        number,
+        corner_of(level),
+        cells.to_vec(alloc)?,
+    )?;
+    Ok(())
+}
+
 /// Makes the rows stand for the world after the cells are set in turn.
 pub fn lay_rows(
     alloc: Global,
@@ -148,15 +179,11 @@ pub fn lay_rows(
     ensures rows { OnOk result (AreRows rows.new.items × (length rows.new.items < 2 ^ 32)) }
     ensures world { OnOk result (world_of_rows rows.new.items ≡ lay cells.now (world_of_rows rows.old.items)) }
 {
-    raise_around(rows, cells)?;
-    let level = root_level(rows);
-    lay_in(
-        alloc,
-        rows,
-        level,
-        rows.len() as u32,
-        corner_of(level),
-        cells,
-    )?;
-    Ok(())
+    let mut rest = cells;
+    while rest.len() > BATCH {
+        let (batch, more) = rest.split_at(BATCH);
+        lay_batch(alloc, rows, batch)?;
+        rest = more;
+    }
+    lay_batch(alloc, rows, rest)
 }

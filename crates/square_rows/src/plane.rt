@@ -100,6 +100,18 @@ impl Plane {
         Plane::from_squares(self.alloc, &rows)
     }
 
+    /// The plane with these cells alone, which are set in turn. The list is let go before the rows
+    /// of the plane are made, so both are never in memory together.
+    pub fn from_cells(alloc: Global, cells: Vec<CellSet>) -> Result<Plane, AllocError>
+        requires { All CanBeLaid cells.items }
+        ensures { IfOk result (λ plane. plane ≡ lay cells.items blank) }
+    {
+        let mut rows = Vec::new(alloc);
+        lay_rows(alloc, &mut rows, &cells)?;
+        drop(cells);
+        Plane::from_squares(alloc, &rows)
+    }
+
     /// The rows of the distinct squares, in the order in which the walk nw, ne, sw, se from the
     /// least root completes them.
     pub fn squares(&self) -> Result<Vec<SquareRow>, AllocError>

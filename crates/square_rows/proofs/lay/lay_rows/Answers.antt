@@ -1,37 +1,19 @@
-use Rattle.std.proofs.Common.{◌≡◌, length, sym, ap, ◌∙◌, subst, arith}
-use Rattle.square_rows.specs.Rows.{IsNumber, root_level, edge_of}
-use Rattle.square_rows.specs.Laid.{IsLaid}
-use Rattle.square_rows.proofs.Roots.{rooted}
-use Rattle.square_rows.proofs.Laying.{root-on_plane, laid-world}
-use Rattle.worlds.specs.Lay.{lay}
+use Rattle.std.proofs.Common.{◌≡◌, ◌∙◌, ◌++◌, List, sym, ap, subst}
+use Rattle.std.specs.Prelude.{All, drop}
+use Rattle.std.proofs.lemmas.List.Elements.{All-drop}
+use Rattle.worlds.specs.declared.cell.CellSet.{CellSet}
+use Rattle.worlds.specs.Range.{CanBeLaid}
+use Rattle.worlds.specs.Lay.{lay, lay-append}
+use Rattle.square_rows.specs.Rows.{world_of_rows}
 use Rattle.square_rows.proofs.lay.lay_rows.Goals as goal
 
-pub lay_in-requires-clause-number : goal.lay_in-requires-clause-number
-lay_in-requires-clause-number c =
-    let rows = c.raise_around.new.rows.items in
-    let level : c.root_level-level.result ≡ root_level rows = c.root_level-level.ensures.level ∙ ap root_level c.deref.ensures.value in
-    let count : c.len.result ≡ length rows = omega (arith, c.len.ensures) in
-    subst (λ n. IsNumber rows c.root_level-level.result n) (sym count) (subst (λ k. IsNumber rows k (length rows)) (sym level) (rooted rows c.in_ok-raise_around.ensures.rows.0).number)
-
-pub lay_in-requires-clause-square : goal.lay_in-requires-clause-square
-lay_in-requires-clause-square c =
-    let rows = c.raise_around.new.rows.items in
-    let level : c.root_level-level.result ≡ root_level rows = c.root_level-level.ensures.level ∙ ap root_level c.deref.ensures.value in
-    let root = rooted rows c.in_ok-raise_around.ensures.rows.0 in
-    let low = root.low in let high = root.high in
-    root-on_plane c.root_level-level.result c.corner_of.result.x c.corner_of.result.y (omega arith) (omega arith) c.corner_of.ensures.x c.corner_of.ensures.y
-
-pub returns-clause-world : goal.returns-clause-world
-returns-clause-world c =
-    let rows = c.raise_around.new.rows.items in
-    let new = c.lay_in.new.rows.items in
-    let k = c.root_level-level.result in
-    let cells = c.args.cells.now in
-    let level : k ≡ root_level rows = c.root_level-level.ensures.level ∙ ap root_level c.deref.ensures.value in
-    let count : c.len.result ≡ length rows = omega (arith, c.len.ensures) in
-    let here : IsLaid rows new k (length rows) c.in_ok-lay_in.field-0 c.corner_of.result.x c.corner_of.result.y cells =
-    subst (λ n. IsLaid rows new k n c.in_ok-lay_in.field-0 c.corner_of.result.x c.corner_of.result.y cells) count c.in_ok-lay_in.ensures in
-    let laid : IsLaid rows new k (length rows) c.in_ok-lay_in.field-0 (edge_of k) (edge_of k) cells =
-    subst (λ x. IsLaid rows new k (length rows) c.in_ok-lay_in.field-0 x (edge_of k) cells) c.corner_of.ensures.x (subst (λ y. IsLaid rows new k (length rows) c.in_ok-lay_in.field-0 c.corner_of.result.x y cells) c.corner_of.ensures.y here) in
-    laid-world rows new k c.in_ok-lay_in.field-0 cells c.in_ok-raise_around.ensures.rows.0 level c.in_ok-raise_around.ensures.holds laid
-    ∙ ap (lay cells) c.in_ok-raise_around.ensures.world
+pub loop-rest-preserved : goal.loop-rest-preserved
+loop-rest-preserved c =
+    let w = world_of_rows c.loop-rest.rows.items in
+    let rest : List CellSet = c.loop-rest.rest.now in
+    let batch : List CellSet = c.split_at.result.0.now in
+    let more : List CellSet = c.split_at.result.1.now in
+    let before = c.loop-rest.invariant in
+    let can : All CanBeLaid more = subst (All CanBeLaid) (sym c.split_at.ensures.back) (All-drop CanBeLaid 1048576 rest before.2) in
+    let laid = c.in_ok-lay_batch.ensures in
+    (laid.rows.0, laid.rows.1, can, ap (lay more) laid.world ∙ sym (lay-append batch more w) ∙ ap (λ (cs : List CellSet). lay cs w) (sym c.split_at.ensures.by_index.0) ∙ before.3)
