@@ -4,6 +4,5 @@ pub mod Children
 pub mod NodeRows
 pub mod Standing
 pub mod Written
-pub mod WorldRows
 pub mod RowNodes
 pub mod NodeCells

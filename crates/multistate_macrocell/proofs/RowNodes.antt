@@ -4,7 +4,6 @@ use Rattle.std.specs.Prelude.{IsTrue, slice_get}
 use Rattle.std.proofs.lemmas.Bool.{eq-eqb, eqb-true, ne_eqb}
 use Rattle.std.proofs.lemmas.Bool.Decides.{eqb_tells}
 use Rattle.std.specs.Option.{option_map}
-use Rattle.macrocell_lines.specs.WrittenText.{written_text}
 use Rattle.std.proofs.lemmas.List.{length-map, map-append}
 use Rattle.std.proofs.lemmas.Option.{slice_get-get_or, slice_get-map}
 use Rattle.basics.specs.Results.{◌>>=◌}
@@ -19,12 +18,13 @@ use Rattle.square_rows.specs.Rows.{AreRows, IsNumber, IsRow, edge_of, kid, no_ro
 use Rattle.square_rows.proofs.Roots.{root_level-none, root_level-some, rooted, world-root}
 use Rattle.square_rows.proofs.Sound.{IsNumber-level, kid_number, square_in-none, square_in-row, square_in-state, state-IsNumber}
 use Rattle.multistate_macrocell.specs.Laws.{WrittenMeansTheSame}
-use Rattle.multistate_macrocell.specs.Pattern.{pattern_of, said_pattern}
+use Rattle.multistate_macrocell.specs.Pattern.{said_pattern}
 use Rattle.multistate_macrocell.specs.PatternText.{node_of, nodes_of}
 use Rattle.multistate_macrocell.specs.Quadtree.{square_named, square_of, world_of_nodes, world_of_root}
 use Rattle.multistate_macrocell.proofs.Children.{child-is}
 use Rattle.multistate_macrocell.proofs.Standing.{named-node, named-none, world-nodes-root}
-use Rattle.multistate_macrocell.proofs.WorldRows.{rows_of-squares}
+use Rattle.square_rows.specs.WorldRows.{rows_of}
+use Rattle.square_rows.proofs.WorldRows.{squares-rows_of}
 
 -- the node of a row, by its level
 node_of-one : (row : SquareRow) → row.level ≡ 1 → node_of row ≡ Cells (kid row 0) (kid row 1) (kid row 2) (kid row 3)
@@ -179,9 +179,10 @@ rows-world (first ∷ others) valid =
 
 -- what is written means the same
 pub written-means : WrittenMeansTheSame
-written-means w rows name generation are few is small =
+written-means w name generation margin states few is small =
+    let rows = rows_of w in
+    let are = squares-rows_of w margin states in
     let valid = are.canonical.valid in
     let world : world_of_nodes (nodes_of rows) ≡ w = rows-world rows valid ∙ are.world in
-    ap (λ (rs : List SquareRow). pattern_of (written_text name generation (nodes_of rs))) (rows_of-squares w rows are)
-    ∙ ap (λ read. read >>= λ said. Ok (said_pattern said)) (written-says name generation (nodes_of rows) is small (rows-nodes rows valid few))
+    ap (λ read. read >>= λ said. Ok (said_pattern said)) (written-says name generation (nodes_of rows) is small (rows-nodes rows valid few))
     ∙ ap (λ v. Ok (record { plane = v; rule_name = name; generation = generation })) world

@@ -4,16 +4,17 @@ use Rattle.macrocell_lines.specs.Laws.{IsName}
 use Rattle.macrocell_lines.specs.declared.node.Node.{Node}
 use Rattle.macrocell_lines.specs.Nodes.{AreNodes, level_of}
 use Rattle.worlds.specs.World.{World, cell}
-use Rattle.square_rows.specs.declared.row.SquareRow.{SquareRow}
-use Rattle.square_rows.specs.Rows.{AreSquaresOf, edge_of}
+use Rattle.worlds.specs.Range.{AllBelow, HasMargin}
+use Rattle.square_rows.specs.Rows.{edge_of}
+use Rattle.square_rows.specs.WorldRows.{rows_of}
 use Rattle.worlds.specs.Square.{IsIn, Square, cell_in}
 use Rattle.multistate_macrocell.specs.Pattern.{pattern_of}
 use Rattle.multistate_macrocell.specs.PatternText.{macrocell_text}
 use Rattle.multistate_macrocell.specs.Quadtree.{square_named, world_of_nodes}
 
--- what is written of a plane's world, where it has at most 16,777,216 distinct squares, means the world, the name and the generation that were written
+-- what is written of a world in the range of planes, with states below 256 and at most 16,777,216 distinct squares, means the world, the name and the generation that were written
 abbrev pub WrittenMeansTheSame : Type 0
-WrittenMeansTheSame = (w : World) (rows : List SquareRow) (name : List ℕ) (generation : ℕ) → AreSquaresOf w rows → length rows ≤ 16777216 → IsName name → generation < 2 ^ 64
+WrittenMeansTheSame = (w : World) (name : List ℕ) (generation : ℕ) → HasMargin 0 w → AllBelow 256 w → length (rows_of w) ≤ 16777216 → IsName name → generation < 2 ^ 64
     → pattern_of (macrocell_text w name generation) ≡ Ok (record { plane = w; rule_name = name; generation = generation })
 
 -- each cell of a world is that of the square of level k in the middle of which the cell (0, 0) lies, as far from its edges, and outside it no cell is live

@@ -141,9 +141,9 @@ impl Drawing {
     ///
     /// TooManyLive comes where more than 16,777,216 cells are live, else CellOutOfRange where one
     /// lies outside the plane. NoMemory comes only where memory was wanted.
-    pub fn plane(&self) -> Result<Plane, RleFault>
-        ensures plane { Gives RleFault.NoMemory result (world_drawn self.now) }
-        ensures no_memory { result ≡ Err RleFault.NoMemory → WantsAlone (world_drawn self.now) }
+    pub fn plane(self) -> Result<Plane, RleFault>
+        ensures plane { Gives RleFault.NoMemory result (world_drawn self) }
+        ensures no_memory { result ≡ Err RleFault.NoMemory → WantsAlone (world_drawn self) }
     {
         if self.live > LIVE_LIMIT {
             return Err(RleFault::TooManyLive);
@@ -154,7 +154,7 @@ impl Drawing {
         if !self.is_whole {
             return Err(RleFault::NoMemory);
         }
-        Ok(Plane::empty(self.alloc).lay(&self.cells)?)
+        Ok(Plane::from_cells(self.alloc, self.cells)?)
     }
 }
 

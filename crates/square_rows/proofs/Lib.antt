@@ -15,3 +15,4 @@ pub mod Validity
 pub mod Adding
 pub mod Laying
 pub mod Gathering
+pub mod WorldRows

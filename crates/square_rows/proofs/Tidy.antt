@@ -12,8 +12,8 @@ use Rattle.square_rows.specs.Rows.{Numbered, numbered, number_row, number_square
 use Rattle.square_rows.specs.Walks.{AreWalked}
 use Rattle.square_rows.proofs.Numbering.{Has-empty, not_found}
 use Rattle.square_rows.proofs.Sound.{IsSound, EachHas-none, AreRows-none, number_square-sound, IsNumber-level, square_in-none, found_within, found_at, row_of}
-use Rattle.square_rows.proofs.Cells.{cell_in-empty, in_or_out, offset}
-use Rattle.square_rows.proofs.Roots.{rooted, root-IsSquare, root_level-some, world-root, world-inside, world-outside, canonical-none}
+use Rattle.square_rows.proofs.Cells.{IsSquare-empty, cell_in-empty, put_square-inside, put_square-outside, in_or_out, offset}
+use Rattle.square_rows.proofs.Roots.{rooted, root-IsSquare, root_level-some, world-root, world-none, canonical-none}
 
 -- no level is above m
 abbrev LevelsUpTo : ℕ → List SquareRow → Type 0
@@ -78,23 +78,6 @@ number_square-last k (four nw ne sw se) live is =
     let ud : LevelsUpTo k d.rows = number_square-levels k se c.rows k same uc in
     numbered-last _ _ d.rows k a.number b.number c.number d.number ud refl live
 
--- a root that is empty stands for the blank world
-world-empty : (rows : List SquareRow) → AreRows rows → root_of rows ≡ empty_square (root_level rows) → world_of_rows rows ≡ blank
-world-empty rows valid e =
-    same_world (world_of_rows rows) blank (λ x y.
-    elim (in_or_out (2 ^ root_level rows) (edge_of (root_level rows)) (edge_of (root_level rows)) x y) [
-      | inl h ↦
-          let at_x = offset (edge_of (root_level rows)) x h.left in
-          let at_y = offset (edge_of (root_level rows)) y h.top in
-          let right = h.right in let bottom = h.bottom in
-          let ex = at_x.1 in let ey = at_y.1 in
-          world-inside rows x y at_x.0 at_y.0 valid at_x.1 at_y.1 (omega (arith, ints)) (omega (arith, ints))
-          ∙ ap (λ (t : Square). cell_in (root_level rows) t at_x.0 at_y.0) e
-          ∙ cell_in-empty (root_level rows) at_x.0 at_y.0
-          ∙ sym (cell-blank x y)
-      | inr out ↦ world-outside rows x y valid out ∙ sym (cell-blank x y)
-    ])
-
 -- what a walk of the root gives: walked rows of the same world
 pub record IsTidied (rows done : List SquareRow) : Type 0 where
   pub walked : AreWalked done
@@ -107,14 +90,32 @@ walked-none = record { valid = AreRows-none; each = EachHas-none.has; walked = c
 pub world-put : (rows : List SquareRow) (k : ℕ) (t : Square) → root_level rows ≡ k → square_in rows k (length rows) ≡ t → world_of_rows rows ≡ put_square k t (edge_of k) (edge_of k) blank
 world-put rows k t ek et = world-root rows ∙ ap (λ m. put_square m (square_in rows m (length rows)) (edge_of m) (edge_of m) blank) ek ∙ ap (λ (s : Square). put_square k s (edge_of k) (edge_of k) blank) et
 
-tidied_by : (rows : List SquareRow) (k : ℕ) → AreRows rows → root_level rows ≡ suc k → IsTidied rows (number_square (suc k) (square_in rows (suc k) (length rows)) []).rows
-tidied_by rows k valid ek =
-    let t = square_in rows (suc k) (length rows) in
+-- what a walk of a square of level k gives: walked rows of the world that it is the root of
+pub record IsListed (k : ℕ) (t : Square) (done : List SquareRow) : Type 0 where
+  pub walked : AreWalked done
+  pub world : world_of_rows done ≡ put_square k t (edge_of k) (edge_of k) blank
+  pub level : (root_level done ≡ k) ⊎ (done ≡ [])
+
+-- an empty square adds nothing to the blank world
+blank-put : (k : ℕ) → put_square k (empty_square k) (edge_of k) (edge_of k) blank ≡ blank
+blank-put k =
+    same_world _ blank (λ x y.
+    elim (in_or_out (2 ^ k) (edge_of k) (edge_of k) x y) [
+      | inl h ↦
+          let at_x = offset (edge_of k) x h.left in
+          let at_y = offset (edge_of k) y h.top in
+          let right = h.right in let bottom = h.bottom in
+          let ex = at_x.1 in let ey = at_y.1 in
+          put_square-inside k (empty_square k) (edge_of k) (edge_of k) blank x y at_x.0 at_y.0 (IsSquare-empty k) at_x.1 at_y.1 (omega (arith, ints)) (omega (arith, ints))
+          ∙ cell_in-empty k at_x.0 at_y.0
+          ∙ sym (cell-blank x y)
+      | inr out ↦ put_square-outside k (empty_square k) (edge_of k) (edge_of k) blank x y (IsSquare-empty k) out
+    ])
+
+pub listed : (k : ℕ) (t : Square) → IsSquare (suc k) t → suc k ≤ 62 → IsListed (suc k) t (number_square (suc k) t []).rows
+listed k t is high =
     let r = number_square (suc k) t [] in
-    let is : IsSquare (suc k) t = subst (λ m. IsSquare m (square_in rows m (length rows))) ek (root-IsSquare rows valid) in
-    let root = rooted rows valid in
-    let high = root.high in
-    let sound : IsSound (suc k) t r = number_square-sound (suc k) t [] AreRows-none EachHas-none is (omega arith) in
+    let sound : IsSound (suc k) t r = number_square-sound (suc k) t [] AreRows-none EachHas-none is high in
     elim (cases_lt 0 r.number) [
       | inl live ↦
           let last : r.number ≡ length r.rows = number_square-last k t live is in
@@ -130,17 +131,29 @@ tidied_by rows k valid ek =
                   ap (λ m. (number_square m (square_in r.rows m (length r.rows)) []).rows) level
                   ∙ ap (λ (s : Square). (number_square (suc k) s []).rows) square;
             };
-            world = world-put r.rows (suc k) t level square ∙ sym (world-put rows (suc k) t ek refl);
-            level = inl (level ∙ sym ek);
+            world = world-put r.rows (suc k) t level square;
+            level = inl level;
           }
       | inr none ↦
           let zero_is : r.number ≡ 0 = omega arith in
           let t_empty : t ≡ empty_square (suc k) = sym sound.square ∙ ap (square_in r.rows (suc k)) zero_is ∙ square_in-none r.rows (suc k) in
           let nothing : r.rows ≡ [] = ap (λ (s : Square). (number_square (suc k) s []).rows) t_empty ∙ ap (λ (q : Numbered). q.rows) (Has-empty (suc k) []) in
-          let root_empty : root_of rows ≡ empty_square (root_level rows) = subst (λ m. square_in rows m (length rows) ≡ empty_square m) (sym ek) t_empty in
-          let world_none : world_of_rows [] ≡ blank = world-empty [] AreRows-none (square_in-none [] (root_level [])) in
-          subst (IsTidied rows) (sym nothing) (record { walked = walked-none; world = world_none ∙ sym (world-empty rows valid root_empty); level = inr refl })
+          let empty_put : put_square (suc k) t (edge_of (suc k)) (edge_of (suc k)) blank ≡ blank = ap (λ (s : Square). put_square (suc k) s (edge_of (suc k)) (edge_of (suc k)) blank) t_empty ∙ blank-put (suc k) in
+          subst (IsListed (suc k) t) (sym nothing) (record { walked = walked-none; world = world-none ∙ sym empty_put; level = inr refl })
     ]
+
+tidied_by : (rows : List SquareRow) (k : ℕ) → AreRows rows → root_level rows ≡ suc k → IsTidied rows (number_square (suc k) (square_in rows (suc k) (length rows)) []).rows
+tidied_by rows k valid ek =
+    let t = square_in rows (suc k) (length rows) in
+    let is : IsSquare (suc k) t = subst (λ m. IsSquare m (square_in rows m (length rows))) ek (root-IsSquare rows valid) in
+    let root = rooted rows valid in
+    let high = root.high in
+    let own = listed k t is (omega arith) in
+    record {
+      walked = own.walked;
+      world = own.world ∙ sym (world-put rows (suc k) t ek refl);
+      level = elim own.level [ inl level ↦ inl (level ∙ sym ek) | inr none ↦ inr none ];
+    }
 
 pub tidied : (rows done : List SquareRow) → AreRows rows → (number_square (root_level rows) (root_of rows) []).rows ≡ done → IsTidied rows done
 tidied rows done valid e =

@@ -5,3 +5,5 @@ pub mod Measures
 pub mod Laid
 pub mod Entries
 pub mod Counts
+pub mod WorldRows
+pub mod Laws

@@ -17,6 +17,7 @@ mod centre;
 mod counts;
 mod descent;
 mod lay;
+mod laws;
 mod live;
 mod measures;
 mod plane;
@@ -25,6 +26,7 @@ mod row;
 mod valid;
 mod walk;
 
+pub use laws::{worlds_have_one_list_of_rows, worlds_have_rows};
 pub use plane::Plane;
 pub use row::SquareRow;
 pub use valid::are_rows;

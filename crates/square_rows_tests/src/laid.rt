@@ -61,6 +61,23 @@ fn gives(rt: &impl Abort, alloc: Global, cells: &[CellSet], then: &[CellSet], wa
     assert!(rt; plane.equals(&plane_of(rt, alloc, wanted)), "other cells");
 }
 
+/// The plane that is made of the cells is the one on which they are laid.
+fn is_made_of(rt: &impl Abort, alloc: Global, cells: &[CellSet]) {
+    assert!(rt; all_can_be_laid(cells), "a cell that no plane has");
+    let list = cells.to_vec(alloc).expect(rt, "memory");
+    let plane = Plane::from_cells(alloc, list).expect(rt, "memory");
+    assert!(rt; plane.equals(&plane_of(rt, alloc, cells)), "other cells");
+}
+
+#[test]
+fn a_plane_is_made_of_cells(rt: HostRuntime) {
+    let alloc = rt.alloc();
+    is_made_of(&rt, alloc, &[]);
+    is_made_of(&rt, alloc, &[set(3, -4, 2)]);
+    is_made_of(&rt, alloc, &[set(5, 5, 1), set(0, 0, 9), set(5, 5, 255)]);
+    is_made_of(&rt, alloc, &[set(-EDGE, EDGE - 1, 1), set(1, 1, 0)]);
+}
+
 #[test]
 fn cells_are_laid(rt: HostRuntime) {
     let alloc = rt.alloc();

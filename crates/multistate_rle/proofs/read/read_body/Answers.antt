@@ -38,7 +38,7 @@ returns-in-Unknown-clause-plane c =
     subst (IsDrawn (now c.loop-symbol.symbols)) (drawn_on-all c.args.origin c.args.symbols placed) c.loop-symbol.invariant.drawn in
     fault_drawn (now c.loop-symbol.symbols) (drawn_by c.args.origin c.args.symbols) _ (ap now left) drawn
 
-drawn_last : (c : goal.After-drop-drawing-inside-2) → IsDrawn (world_drawn c.loop-symbol.drawing) (drawn_by c.args.origin c.args.symbols)
+drawn_last : (c : goal.After-plane) → IsDrawn (world_drawn c.loop-symbol.drawing) (drawn_by c.args.origin c.args.symbols)
 drawn_last c =
     let d = c.loop-symbol.drawing in
     let placed : IsPlaced c.args.origin = record { x = search rules; y = search rules } in

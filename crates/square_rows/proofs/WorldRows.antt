@@ -5,15 +5,18 @@ use Rattle.std.specs.List.{AllByRecursion, list_all, position_or_len, range_with
 use Rattle.std.proofs.lemmas.Bool.{and_from, and_parts, cases_lt}
 use Rattle.std.proofs.lemmas.Int.{ints}
 use Rattle.std.proofs.lemmas.List.FromFn.{get_or-range_with_len, length-range_with_len}
-use Rattle.std.proofs.lemmas.List.Sums.{position_or_len_is}
-use Rattle.worlds.specs.World.{Place, World, cell}
+use Rattle.std.proofs.lemmas.List.Sums.{fails_before_first, passes_at_first, position_or_len_is}
+use Rattle.worlds.specs.World.{Place, World, blank, cell, cell-blank, same_world}
+use Rattle.worlds.specs.Range.{AllBelow, HasMargin}
 use Rattle.worlds.specs.Live.{by_place, cell-state_at, live, live-states}
 use Rattle.square_rows.specs.declared.row.SquareRow.{SquareRow}
-use Rattle.worlds.specs.Square.{Square, IsIn, IsSquare, cell_in, four, one, square_at}
-use Rattle.square_rows.specs.Rows.{AreRows, AreSquaresOf, Fits, IsLeastLevel, edge_of, number_square, root_level, root_of, world_of_rows}
-use Rattle.square_rows.proofs.Cells.{IsSquare-one, IsSquare-parts, cell_in-ne, cell_in-nw, cell_in-one, cell_in-se, cell_in-sw, double, in_or_out, offset, same_square}
-use Rattle.square_rows.proofs.Roots.{root-IsSquare, rooted, world-inside, world-outside}
-use Rattle.multistate_macrocell.specs.PatternText.{holds_all, is_within, least_level, rows_of}
+use Rattle.worlds.specs.Square.{Square, IsIn, IsSquare, cell_in, four, one, put_square, square_at}
+use Rattle.square_rows.specs.Rows.{AreCanonical, AreRows, AreSquaresOf, Fits, IsLeastLevel, edge_of, number_square, root_level, root_of, world_of_rows}
+use Rattle.square_rows.proofs.Cells.{IsSquare-one, IsSquare-parts, cell_in-ne, cell_in-nw, cell_in-one, cell_in-se, cell_in-sw, double, in_or_out, offset, put_square-inside, put_square-outside, same_square}
+use Rattle.square_rows.proofs.Roots.{canonical-none, root-IsSquare, rooted, world-inside, world-outside}
+use Rattle.square_rows.specs.Laws.{WorldsHaveRows}
+use Rattle.square_rows.specs.WorldRows.{holds_all, is_within, least_level, rows_of}
+use Rattle.square_rows.proofs.Tidy.{IsListed, listed}
 
 -- the square of a world at a place has the world's cells
 square_at-zero : (w : World) (x y : ℤ) → square_at w 0 x y ≡ one (cell w x y)
@@ -199,3 +202,100 @@ rows_of-squares w rows are =
     ∙ ap (λ j. (number_square j (square_at w j (edge_of j) (edge_of j)) []).rows) level
     ∙ ap (λ (t : Square). (number_square k t []).rows) square
     ∙ canonical.walked
+
+-- a root of the greatest level holds the range of planes
+range-fits : (w : World) → HasMargin 0 w → Fits 62 w
+range-fits w margin x y alive =
+    let at = margin x y alive in
+    let left = at.left in let right = at.right in let top = at.top in let bottom = at.bottom in
+    record { left = omega (arith, ints); right = omega (arith, ints); top = omega (arith, ints); bottom = omega (arith, ints) }
+
+-- a level that is least, and that rows may have
+record IsGoodLevel (k : ℕ) (w : World) : Type 0 where
+  least : IsLeastLevel k w
+  low : 1 ≤ k
+  high : k ≤ 62
+
+-- the least level is there
+least_level-good : (w : World) → HasMargin 0 w → IsGoodLevel (least_level w) w
+least_level-good w margin =
+    let levels = range_with_len 1 62 in
+    let p = holds_all w in
+    let n = position_or_len p levels in
+    let long : length levels ≡ 62 = length-range_with_len 1 62 in
+    let at : (i : ℕ) → i < 62 → get_or levels i 0 ≡ 1 + i = λ i h. get_or-range_with_len 1 62 i 0 h in
+    let last : p (get_or levels 61 0) ≡ true = ap p (at 61 (omega arith)) ∙ fits-holds w 62 (range-fits w margin) in
+    let not_before : (j : ℕ) → j < n → p (get_or levels j 0) ≡ false = λ j h. fails_before_first p levels j 0 h in
+    let within : n ≤ 61 = elim (cases_lt 61 n) [ inl after ↦ (let no = not_before 61 after in absurd (cc)) | inr le ↦ le ] in
+    let here : p (get_or levels n 0) ≡ true = passes_at_first p levels 0 (omega arith) in
+    let is : least_level w ≡ 1 + n = least_level-is w in
+    let fits : Fits (1 + n) w = holds-fits w (1 + n) (ap p (sym (at n (omega arith))) ∙ here) in
+    record {
+      least = subst (λ k. IsLeastLevel k w) (sym is) (record {
+        holds = fits;
+        least = λ j low fits_j.
+            elim (cases_lt j (1 + n)) [
+              | inl below ↦
+                  let less : 1 + (j - 1) ≡ j = omega arith in
+                  let yes : p (get_or levels (j - 1) 0) ≡ true = ap p (at (j - 1) (omega arith) ∙ less) ∙ fits-holds w j fits_j in
+                  let no = not_before (j - 1) (omega arith) in
+                  absurd (cc)
+              | inr le ↦ le
+            ];
+      });
+      low = omega (arith, is);
+      high = omega (arith, is, within);
+    }
+
+-- the square of a world in a root that holds it stands for the world
+root-world : (w : World) (k : ℕ) → Fits k w → AllBelow 256 w → put_square k (square_at w k (edge_of k) (edge_of k)) (edge_of k) (edge_of k) blank ≡ w
+root-world w k fits small =
+    let edge = edge_of k in
+    let t = square_at w k edge edge in
+    let is : IsSquare k t = square_at-IsSquare w k edge edge small in
+    same_world _ w (λ x y.
+    elim (in_or_out (2 ^ k) edge edge x y) [
+      | inl h ↦
+          let at_x = offset edge x h.left in
+          let at_y = offset edge y h.top in
+          let right = h.right in let bottom = h.bottom in
+          let ex = at_x.1 in let ey = at_y.1 in
+          let hi : at_x.0 < 2 ^ k = omega (arith, ints) in
+          let hj : at_y.0 < 2 ^ k = omega (arith, ints) in
+          put_square-inside k t edge edge blank x y at_x.0 at_y.0 is ex ey hi hj
+          ∙ square_at-cells w k edge edge at_x.0 at_y.0 hi hj
+          ∙ ap₂ (cell w) (sym ex) (sym ey)
+      | inr out ↦
+          let dead : 0 < cell w x y → ⊥ = λ alive. out (fits x y alive) in
+          let none : cell w x y ≡ 0 = omega (arith, dead) in
+          put_square-outside k t edge edge blank x y is out ∙ cell-blank x y ∙ sym none
+    ])
+
+squares-by : (w : World) (k : ℕ) (rows : List SquareRow) → IsLeastLevel k w → IsListed k (square_at w k (edge_of k) (edge_of k)) rows → AllBelow 256 w → AreSquaresOf w rows
+squares-by w k rows least own small =
+    let world : world_of_rows rows ≡ w = own.world ∙ root-world w k least.holds small in
+    record {
+      canonical = elim own.level [
+        | inl level ↦ record {
+          valid = own.walked.valid;
+          walked = own.walked.walked;
+          least = subst (λ j. IsLeastLevel j (world_of_rows rows)) (sym level) (subst (IsLeastLevel k) (sym world) least);
+        }
+        | inr none ↦ subst AreCanonical (sym none) canonical-none
+      ];
+      world = world;
+    }
+
+-- the rows of a world stand for it
+pub squares-rows_of : WorldsHaveRows
+squares-rows_of w margin small =
+    let good = least_level-good w margin in
+    let low = good.low in
+    let k = least_level w - 1 in
+    let up : suc k ≡ least_level w = omega arith in
+    let least : IsLeastLevel (suc k) w = subst (λ j. IsLeastLevel j w) (sym up) good.least in
+    let high : suc k ≤ 62 = omega (arith, good.high, up) in
+    let t = square_at w (suc k) (edge_of (suc k)) (edge_of (suc k)) in
+    let is : IsSquare (suc k) t = square_at-IsSquare w (suc k) (edge_of (suc k)) (edge_of (suc k)) small in
+    let rows : rows_of w ≡ (number_square (suc k) t []).rows = rows_of-is w ∙ ap (λ j. (number_square j (square_at w j (edge_of j) (edge_of j)) []).rows) (sym up) in
+    subst (AreSquaresOf w) (sym rows) (squares-by w (suc k) (number_square (suc k) t []).rows least (listed k t is high) small)
