@@ -1,0 +1,24 @@
+-- What an answer says.
+use Rattle.std.specs.Prelude.{◌≡◌, IfOk, Result, Ok, Err}
+use Rattle.std.specs.Arc.{arc_value}
+use Rattle.step_engine.specs.declared.evolved.EvolveFault.{EvolveFault}
+use Rattle.revision_jobs.specs.declared.answer.Job.{Job}
+use Rattle.revision_jobs.specs.declared.answer.Outcome.{Outcome}
+use Rattle.revision_jobs.specs.declared.answer.Outcome.TheVariants.{Plane, Text, Gave}
+use Rattle.revision_jobs.specs.Entries.{entry_of}
+use Rattle.revision_jobs.specs.Value.{Value, pattern, text, value}
+
+-- the value in an outcome, or why there is none
+abbrev pub said : Outcome → Result Value EvolveFault
+said (Plane plane) = Ok (pattern (arc_value plane))
+said (Text bytes) = Ok (text bytes)
+said (Gave fault) = Err fault
+
+-- a job, and the value that was found for it or why there is none
+pub record Answered : Type 0 where
+  pub job : Job
+  pub outcome : Result Value EvolveFault
+
+-- a value in the answer to a job is that of the job's entry
+abbrev pub IsRight : Job → Result Value EvolveFault → Type 0
+IsRight job outcome = IfOk outcome (λ found. found ≡ value (entry_of job.place))

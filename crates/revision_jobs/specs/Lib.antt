@@ -1,0 +1,5 @@
+pub mod Answered
+pub mod Entries
+pub mod Inline
+pub mod Posted
+pub mod Value

@@ -1,0 +1,116 @@
+//! Jobs and their answers.
+ghost use Rattle.std.specs.Prelude.{◌≡◌, IfOk};
+ghost use Rattle.revision_jobs.specs.Answered.{IsRight, said};
+
+use crate::entries::Place;
+use basics::Listing;
+use plane_core::Plane;
+use std::alloc::{AllocError, Global};
+use std::marker::Model;
+use std::sync::Arc;
+use step_engine::EvolveFault;
+
+/// What a worker is asked: to compute the entry at a place, under a number.
+#[derive(Drop)]
+pub struct Job {
+    pub number: u32,
+    pub place: Place,
+}
+
+/// What came of a job.
+#[derive(Drop)]
+pub enum Outcome {
+    /// The pattern of a step.
+    Plane(Arc<Plane>),
+    /// The text of a view.
+    Text(Listing<u8>),
+    /// Why there is none: no room, which is said of a step alone, a stop, or want of memory.
+    Gave(EvolveFault),
+}
+
+/// The answer to a job. A value in it is the value of the job's entry, which is why `work` and
+/// `again` alone make answers.
+///
+/// Contracts see the job, and the value or why there is none.
+#[derive(Drop)]
+pub struct Answer {
+    pub(crate) job: Job,
+    pub(crate) outcome: Outcome,
+}
+
+impl Model for Answer {
+    ghost use Rattle.std.specs.Coded.{codes};
+    ghost use Rattle.worlds.specs.World.{coded_world};
+    ghost use Rattle.revision_jobs.specs.Answered.{Answered};
+
+    ghost Value = { Answered };
+
+    ghost coded = { Prim.hlevel (codes, coded_world) };
+
+    ghost use Rattle.revision_jobs.specs.Answered.{IsRight, said};
+
+    ghost view = { λ answer. record { job = answer.job; outcome = said answer.outcome } };
+
+    ghost invariant = { λ answer. IsRight answer.job (said answer.outcome) };
+}
+
+impl Job {
+    // The same job once more.
+    fn again(&self) -> Job
+        ensures { result ≡ self.now }
+    {
+        Job {
+            number: self.number,
+            place: self.place.share(),
+        }
+    }
+}
+
+impl Outcome {
+    // An equal outcome.
+    fn again(&self, alloc: Global) -> Result<Outcome, AllocError>
+        ensures { IfOk result (λ outcome. said outcome ≡ said self.now) }
+    {
+        match self {
+            Outcome::Plane(plane) => Ok(Outcome::Plane(Arc::try_clone(plane)?)),
+            Outcome::Text(text) => Ok(Outcome::Text(text.copy(alloc)?)),
+            Outcome::Gave(fault) => Ok(Outcome::Gave(*fault)),
+        }
+    }
+}
+
+impl Answer {
+    /// The number of the job.
+    pub fn number(&self) -> u32
+        ensures { result ≡ self.now.job.number }
+    {
+        self.job.number
+    }
+
+    /// The place of the job's entry.
+    pub fn place(&self) -> &Place
+        ensures { result.now ≡ self.now.job.place }
+    {
+        &self.job.place
+    }
+
+    /// The job and what came of it.
+    pub fn into_parts(self) -> (Job, Outcome)
+        ensures job { result.0 ≡ self.job }
+        ensures outcome { said result.1 ≡ self.outcome }
+        ensures right { IsRight result.0 (said result.1) }
+    {
+        let Answer { job, outcome } = self;
+        (job, outcome)
+    }
+
+    /// The same answer once more, unless memory is wanted.
+    pub fn again(&self, alloc: Global) -> Result<Answer, AllocError>
+        ensures { IfOk result (λ answer. answer ≡ self.now) }
+    {
+        Ok(Answer {
+            job: self.job.again(),
+            outcome: self.outcome.again(alloc)?,
+        })
+    }
+}

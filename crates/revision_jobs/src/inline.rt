@@ -1,0 +1,97 @@
+//! A post without threads.
+ghost use Rattle.std.specs.Prelude.{◌≡◌, ◌≤◌, None};
+
+use crate::answer::Job;
+use crate::entries::Entries;
+use crate::gate::NoGate;
+use crate::post::{Post, Received, Sent};
+use crate::worker::work;
+use std::alloc::Global;
+use std::marker::Model;
+
+/// A prompt post, which works the job that it holds in the caller's thread, when its answer is
+/// asked for.
+///
+/// Contracts see its table, its floor and the job that it holds.
+#[derive(Drop)]
+pub struct InlinePost<'a> {
+    entries: &'a Entries,
+    floor: u64,
+    held: Option<Job>,
+    squares: u32,
+    alloc: Global,
+}
+
+impl<'a> Model for InlinePost<'a> {
+    ghost use Rattle.std.specs.Coded.{codes};
+    ghost use Rattle.worlds.specs.World.{coded_world};
+    ghost use Rattle.revision_jobs.specs.Inline.{Inline};
+
+    ghost Value = { Inline };
+
+    ghost coded = { Prim.hlevel (codes, coded_world) };
+
+    ghost use Rattle.std.specs.Prelude.{◌≤◌, IfSome};
+    ghost use Rattle.revision_jobs.specs.Entries.{IsOf};
+
+    ghost view = { λ post. record { table = post.entries.now; floor = post.floor; held = post.held } };
+
+    ghost invariant = { λ post. IfSome post.held (λ job. IsOf post.entries.now job.place) × (post.squares ≤ 16777216) };
+}
+
+impl<'a> InlinePost<'a> {
+    /// A post that holds no job. A step may keep at most `squares` squares, 16,777,216 or less.
+    pub fn new(alloc: Global, entries: &'a Entries, squares: u32) -> InlinePost<'a>
+        requires { squares ≤ 16777216 }
+        ensures { result ≡ record { table = entries.now; floor = 0; held = None } }
+    {
+        InlinePost {
+            entries,
+            floor: 0,
+            held: None,
+            squares,
+            alloc,
+        }
+    }
+}
+
+impl<'a> Post for InlinePost<'a> {
+    ghost use Rattle.std.specs.Prelude.{true};
+
+    ghost table = { λ post. post.table };
+
+    ghost floor = { λ post. post.floor };
+
+    ghost is_prompt = { λ _. true };
+
+    ghost held = { λ post. post.held };
+
+    fn send(&mut self, job: Job) -> Sent {
+        if self.held.is_some() {
+            return Sent::Full(job);
+        }
+        self.floor = u64::from(job.number) + 1;
+        self.held = Some(job);
+        Sent::Taken
+    }
+
+    fn receive(&mut self) -> Received {
+        let Some(job) = self.held.take() else {
+            return Received::Nothing;
+        };
+        let mut stop = self.entries.stop(&job.place);
+        let answer = work(
+            self.alloc,
+            job,
+            self.entries,
+            &mut NoGate,
+            &mut stop,
+            self.squares,
+        );
+        Received::Answer(answer)
+    }
+
+    fn floor(&self) -> u64 {
+        self.floor
+    }
+}
