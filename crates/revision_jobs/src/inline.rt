@@ -31,12 +31,11 @@ impl<'a> Model for InlinePost<'a> {
 
     ghost coded = { Prim.hlevel (codes, coded_world) };
 
-    ghost use Rattle.std.specs.Prelude.{◌≤◌, IfSome};
-    ghost use Rattle.revision_jobs.specs.Entries.{IsOf};
+    ghost use Rattle.revision_jobs.specs.Inline.{IsKept};
 
-    ghost view = { λ post. record { table = post.entries.now; floor = post.floor; held = post.held } };
+    ghost view = { λ p. record { table = p.entries.now; floor = p.floor; held = p.held } };
 
-    ghost invariant = { λ post. IfSome post.held (λ job. IsOf post.entries.now job.place) × (post.squares ≤ 16777216) };
+    ghost invariant = { λ p. IsKept p.entries.now p.held p.squares };
 }
 
 impl<'a> InlinePost<'a> {

@@ -1,0 +1,5 @@
+//! Worked jobs, their answers, and posts.
+#![tactic(auto)]
+
+#[cfg(test)]
+mod tests;

@@ -1,0 +1,72 @@
+ghost use Rattle.std.specs.Prelude.{◌≡◌};
+ghost use Rattle.revision_jobs.specs.Entries.{IsOf};
+
+use super::{push_from_one, same, table};
+use revision_jobs::{Answer, InlinePost, Job, Outcome, Place, Post, Received, Sent};
+use std::process::Abort;
+
+const SQUARES: u32 = 4096;
+
+/// Sends a job, and answers the number of the job that came back, if one did.
+fn sent<P: Post>(rt: &impl Abort, post: &mut P, number: u32, place: Place) -> Option<u32>
+    requires { IsOf (P.table post.old) place }
+    ensures { P.table post.new ≡ P.table post.old }
+{
+    assert!(rt;
+        post.floor() <= u64::from(number),
+        "a number below the floor"
+    );
+    match post.send(Job { number, place }) {
+        Sent::Taken => None,
+        Sent::Full(job) => Some(job.number),
+        Sent::Closed(_) => panic!(rt; "closed"),
+    }
+}
+
+/// The number of the job that is answered by a plane, if an answer comes.
+fn received<P: Post>(rt: &impl Abort, post: &mut P) -> Option<u32>
+    ensures { P.table post.new ≡ P.table post.old }
+{
+    match post.receive() {
+        Received::Answer(answer) => Some(number_of(rt, answer)),
+        Received::Nothing => None,
+        Received::Ended => panic!(rt; "ended"),
+    }
+}
+
+fn number_of(rt: &impl Abort, answer: Answer) -> u32 {
+    let (job, outcome) = answer.into_parts();
+    match outcome {
+        Outcome::Plane(_) => job.number,
+        Outcome::Text(_) => panic!(rt; "a text"),
+        Outcome::Gave(fault) => panic!(rt; "{fault:?}"),
+    }
+}
+
+#[test]
+fn holds_one_job(rt: HostRuntime) {
+    let alloc = rt.alloc();
+    let entries = table(&rt, alloc);
+    let place = push_from_one(&rt, alloc, &entries, 8);
+    let mut post = InlinePost::new(alloc, &entries, SQUARES);
+    same(&rt, &post.floor(), &0, &"before any");
+    same(&rt, &received(&rt, &mut post), &None, &"nothing");
+    same(
+        &rt,
+        &sent(&rt, &mut post, 5, place.share()),
+        &None,
+        &"taken",
+    );
+    same(&rt, &post.floor(), &6, &"after 5");
+    same(
+        &rt,
+        &sent(&rt, &mut post, 9, place.share()),
+        &Some(9),
+        &"full",
+    );
+    same(&rt, &post.floor(), &6, &"still");
+    same(&rt, &received(&rt, &mut post), &Some(5), &"answered");
+    same(&rt, &received(&rt, &mut post), &None, &"nothing more");
+    same(&rt, &sent(&rt, &mut post, 6, place), &None, &"taken next");
+    same(&rt, &received(&rt, &mut post), &Some(6), &"answered next");
+}
