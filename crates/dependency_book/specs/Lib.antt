@@ -9,3 +9,4 @@ pub mod Shown
 pub mod Laid
 pub mod Rearranged
 pub mod Places
+pub mod Wants

@@ -1,10 +1,11 @@
 //! Computing what a book needs.
-ghost use Rattle.std.specs.Prelude.{◌≡◌, ◌<◌, IfOk, IfErr, OnOk, OnErr, Some, length, true};
+ghost use Rattle.std.specs.Prelude.{◌≡◌, ◌<◌, ◌≤◌, IfOk, IfErr, OnOk, OnErr, Some, length, true};
 ghost use Rattle.bookmarks.specs.Within.{IsWithin};
 ghost use Rattle.schedule.specs.Scratch.{arrival, scratch};
 ghost use Rattle.dependency_book.specs.Known.{unknown_of};
 ghost use Rattle.dependency_book.specs.Needs.{has_arrival, next_need, Fills};
 ghost use Rattle.dependency_book.specs.Right.{AreArrivals};
+ghost use Rattle.dependency_book.specs.Wants.{IsWant, MeetsWant};
 ghost use Rattle.dependency_book.specs.Places.{IsKnownBefore, mark_at};
 
 use crate::arrival::Arrival;
@@ -18,17 +19,19 @@ use std::alloc::Global;
 
 impl Book {
     /// Computes what is needed next, in the caller's thread, and keeps it. The need is the one that
-    /// `next_need` answers. NoMemory, where memory was wanted, leaves the book as it was; no other
-    /// refusal comes.
-    pub fn compute(&mut self, need: &Need) -> Result<(), EvolveFault>
-        requires { next_need self.old ≡ Some need.now }
+    /// `next_need` answers. An engine may hold `limit` squares, at most 2^24, on the way to a mark.
+    /// NoMemory where memory was wanted, and NoRoom where an engine wanted more squares, leave the
+    /// book as it was; a text wants no room, and no other refusal comes.
+    pub fn compute(&mut self, need: &Need, limit: u32) -> Result<(), EvolveFault>
+        requires next { next_need self.old ≡ Some need.now }
+        requires bound { limit ≤ 16777216 }
         ensures ok { OnOk result (Fills need.now self.old self.new) }
         ensures nearer { OnOk result (unknown_of self.new < unknown_of self.old) }
-        ensures memory { IfErr result (λ fault. fault ≡ EvolveFault.NoMemory) }
+        ensures refused { IfErr result (MeetsWant need.now) }
         ensures unchanged { OnErr result (self.new ≡ self.old) }
     {
         match need {
-            Need::Step { mark } => self.compute_arrival(*mark),
+            Need::Step { mark } => self.compute_arrival(*mark, limit),
             Need::View { id } => self.compute_text(*id),
         }
     }
@@ -36,15 +39,16 @@ impl Book {
 
 impl Book {
     // Computes what arrives at a mark, and keeps it.
-    fn compute_arrival(&mut self, mark: u64) -> Result<(), EvolveFault>
-        requires { next_need self.old ≡ Some (Need.Step mark) }
+    fn compute_arrival(&mut self, mark: u64, limit: u32) -> Result<(), EvolveFault>
+        requires next { next_need self.old ≡ Some (Need.Step mark) }
+        requires bound { limit ≤ 16777216 }
         ensures ok { OnOk result (Fills (Need.Step mark) self.old self.new) }
         ensures nearer { OnOk result (unknown_of self.new < unknown_of self.old) }
-        ensures memory { IfErr result (λ fault. fault ≡ EvolveFault.NoMemory) }
+        ensures refused { IfErr result IsWant }
         ensures unchanged { OnErr result (self.new ≡ self.old) }
     {
         let place = place_for(&self.arrivals, mark);
-        let plane = step_to(self.alloc, &self.document, &self.arrivals, place)?;
+        let plane = step_to(self.alloc, &self.document, &self.arrivals, place, limit)?;
         let arrival = Arrival::share(self.alloc, plane)?;
         self.arrivals[place].value = Some(arrival);
         Ok(())
@@ -74,22 +78,27 @@ fn step_to(
     document: &Document,
     arrivals: &[ArrivalRow],
     place: usize,
+    limit: u32,
 ) -> Result<Plane, EvolveFault>
     requires right { AreArrivals document.now arrivals.now }
     requires low { place < length arrivals.now }
     requires before { IsKnownBefore place arrivals.now }
+    requires bound { limit ≤ 16777216 }
     ensures arrives { IfOk result (λ plane. plane ≡ arrival document.now (mark_at arrivals.now place)) }
-    ensures memory { IfErr result (λ fault. fault ≡ EvolveFault.NoMemory) }
+    ensures refused { IfErr result IsWant }
 {
     // The document's limits bound its marks.
     let start = document.start();
     let to = arrivals[place].key.generation;
     if place == 0 {
-        return arrival_from(alloc, document, start, 0, to);
+        return arrival_from(alloc, document, start, 0, to, limit);
     }
     let before = &arrivals[place - 1];
     match &before.value {
-        Some(arrival) => arrival_from(alloc, document, arrival.plane(), before.key.generation, to),
+        Some(arrival) => {
+            let from = before.key.generation;
+            arrival_from(alloc, document, arrival.plane(), from, to, limit)
+        }
         None => unreachable!("what arrives at the mark before is known"),
     }
 }

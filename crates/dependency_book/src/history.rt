@@ -8,32 +8,35 @@ ghost use Rattle.rule_tree.specs.Rule.{states_of, next_of};
 ghost use Rattle.bookmarks.specs.Within.{IsWithin};
 ghost use Rattle.schedule.specs.Scratch.{own_cells, cells_at, arrival, scratch};
 ghost use Rattle.dependency_book.specs.Laid.{AllCanBeLaid};
+ghost use Rattle.dependency_book.specs.Wants.{IsWant};
 
 use schedule::{
-    Bookmark, Document, EvolveFault, Intervention, Next, NoStop, Plane, Rule, evolve_plain, render,
+    Bookmark, Document, EvolveFault, Intervention, Next, NoStop, Plane, Rule, evolve, render,
 };
 use std::alloc::{AllocError, Global};
 
 /// The pattern that arrives at the generation `to`, from the one that arrives at `from`. No
-/// intervention acts between them.
+/// intervention acts between them. The engine may hold `limit` squares: NoRoom where it wants more.
 pub(crate) fn arrival_from(
     alloc: Global,
     document: &Document,
     arrived: &Plane,
     from: u64,
     to: u64,
+    limit: u32,
 ) -> Result<Plane, EvolveFault>
     requires later { from < to }
     requires near { to ≤ 2 ^ 60 }
+    requires bound { limit ≤ 16777216 }
     requires arrived { arrived.now ≡ arrival document.now from }
     requires quiet { (g : ℕ) → from < g → g < to → cells_at document.now.interventions g ≡ [] }
     ensures arrives { IfOk result (λ plane. plane ≡ arrival document.now to) }
-    ensures memory { IfErr result (λ fault. fault ≡ EvolveFault.NoMemory) }
+    ensures refused { IfErr result IsWant }
 {
     // The document's limits bound the states and the margin of the pattern.
     let _start = document.start();
     let left = laid_at(document.interventions(), arrived.copy()?, from)?;
-    evolved(alloc, document.rule(), &left, to - from)
+    evolved(alloc, document.rule(), &left, to - from, limit)
 }
 
 /// The text that a bookmark of the document shows, from the pattern that arrives at its generation.
@@ -67,20 +70,22 @@ pub(crate) fn text_from(
     Ok(text)
 }
 
-// The plane so many generations later. Nothing stops the plain engine but want of memory.
+// The plane so many generations later. Nothing stops the engine but want of memory or of room.
 fn evolved(
     alloc: Global,
     rule: &Rule,
     plane: &Plane,
     generations: u64,
+    limit: u32,
 ) -> Result<Plane, EvolveFault>
     requires below { AllBelow (states_of rule.now) plane.now }
     requires few { generations ≤ 2 ^ 60 }
     requires fits { HasMargin generations plane.now }
+    requires bound { limit ≤ 16777216 }
     ensures plane { IfOk result (λ later. later ≡ iterate generations (step (next_of rule.now)) plane.now) }
-    ensures memory { IfErr result (λ fault. fault ≡ EvolveFault.NoMemory) }
+    ensures refused { IfErr result IsWant }
 {
-    let evolved = evolve_plain(alloc, rule, plane, generations, &mut NoStop, u32::MAX)?;
+    let evolved = evolve(alloc, rule, plane, generations, &mut NoStop, limit)?;
     Ok(evolved.plane)
 }
 

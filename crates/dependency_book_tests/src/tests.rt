@@ -10,6 +10,9 @@ use std::sync::Arc;
 const X: &[u8] =
     b"@RULE X\n@TABLE\nn_states:2\nneighborhood:oneDimensional\nsymmetries:none\n0,1,0,1\n0,0,1,1\n1,0,0,0\n1,1,1,0\n";
 
+// How many squares an engine may hold.
+const SQUARES: u32 = 4096;
+
 /// Stops the test where what was found isn't what was wanted.
 fn same<T: PartialEq + Debug, A: Debug>(rt: &impl Abort, found: &T, wanted: &T, at: &A) {
     assert!(rt; found == wanted, "{at:?}: {found:?}, not {wanted:?}");
@@ -42,7 +45,7 @@ fn revise(rt: &impl Abort, book: &mut Book, edit: &Edit) -> Edited {
 /// Computes what is needed next, if anything is. Where memory is wanted it is needed still.
 fn compute_next(rt: &impl Abort, book: &mut Book) {
     if let Some(need) = book.next_need() {
-        if let Err(fault) = book.compute(&need) {
+        if let Err(fault) = book.compute(&need, SQUARES) {
             same(rt, &fault, &EvolveFault::NoMemory, &need);
             same(rt, &book.next_need(), &Some(need), &"still needed");
             panic!(rt; "memory");

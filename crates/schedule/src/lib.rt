@@ -22,4 +22,4 @@ pub use fault::EditFault;
 pub use plane_core::{Bounds, Cell, CellSet, Next, NoStop, Plane, Stop};
 pub use rule_file::RuleFault;
 pub use rule_tree::Rule;
-pub use step_engine::{EvolveFault, Evolved, Report, evolve_plain, fits};
+pub use step_engine::{EvolveFault, Evolved, Report, evolve, evolve_plain, fits};

@@ -21,7 +21,7 @@ step_to-requires-clause-low c =
     let k : ℕ = rows_below m d.arrivals in
     let place : ℕ = c.place_for-place.result in
     let at : place ≡ k = c.place_for-place.ensures ∙ ap (rows_below m) c.deref.ensures.value in
-    let f : StepPlace true d.arrivals m k = stepped d m right (subst (λ (e : Known). next_need e ≡ Some (Step m)) (sym c.self.view_is) c.requires) in
+    let f : StepPlace true d.arrivals m k = stepped d m right (subst (λ (e : Known). next_need e ≡ Some (Step m)) (sym c.self.view_is) c.requires.next) in
     subst (λ (rows : List ArrivalRow). place < length rows) (sym c.deref-2.ensures.value) (subst (λ n. n < length d.arrivals) (sym at) f.low)
 
 pub step_to-requires-clause-before : goal.step_to-requires-clause-before
@@ -32,7 +32,7 @@ step_to-requires-clause-before c =
     let k : ℕ = rows_below m d.arrivals in
     let place : ℕ = c.place_for-place.result in
     let at : place ≡ k = c.place_for-place.ensures ∙ ap (rows_below m) c.deref.ensures.value in
-    let f : StepPlace true d.arrivals m k = stepped d m right (subst (λ (e : Known). next_need e ≡ Some (Step m)) (sym c.self.view_is) c.requires) in
+    let f : StepPlace true d.arrivals m k = stepped d m right (subst (λ (e : Known). next_need e ≡ Some (Step m)) (sym c.self.view_is) c.requires.next) in
     subst (IsKnownBefore place) (sym c.deref-2.ensures.value) (subst (λ n. IsKnownBefore n d.arrivals) (sym at) f.later_known)
 
 pub index_mut-requires : goal.index_mut-requires
@@ -43,7 +43,7 @@ index_mut-requires c =
     let k : ℕ = rows_below m d.arrivals in
     let place : ℕ = c.place_for-place.result in
     let at : place ≡ k = c.place_for-place.ensures ∙ ap (rows_below m) c.deref.ensures.value in
-    let f : StepPlace true d.arrivals m k = stepped d m right (subst (λ (e : Known). next_need e ≡ Some (Step m)) (sym c.self.view_is) c.requires) in
+    let f : StepPlace true d.arrivals m k = stepped d m right (subst (λ (e : Known). next_need e ≡ Some (Step m)) (sym c.self.view_is) c.requires.next) in
     let low : place < length c.deref.result.now = subst (λ (rows : List ArrivalRow). place < length rows) (sym c.deref.ensures.value) (subst (λ n. n < length d.arrivals) (sym at) f.low) in
     omega (arith, low)
 
@@ -55,7 +55,7 @@ invariant_of-self c =
     let k : ℕ = rows_below m d.arrivals in
     let place : ℕ = c.place_for-place.result in
     let at : place ≡ k = c.place_for-place.ensures ∙ ap (rows_below m) c.deref.ensures.value in
-    let f : StepPlace true d.arrivals m k = stepped d m right (subst (λ (e : Known). next_need e ≡ Some (Step m)) (sym c.self.view_is) c.requires) in
+    let f : StepPlace true d.arrivals m k = stepped d m right (subst (λ (e : Known). next_need e ≡ Some (Step m)) (sym c.self.view_is) c.requires.next) in
     let w : World = c.in_ok-arrival.arrival in
     let is : w ≡ arrival d.plan m = c.in_ok-arrival.ensures ∙ c.in_ok-plane.ensures.arrives ∙ ap (arrival d.plan) (ap₂ mark_at c.deref-2.ensures.value at ∙ f.mark (record { key = record { generation = 0 }; value = None })) in
     let x : ArrivalRow = c.index_mut.result.now in
@@ -71,7 +71,7 @@ returns-clause-ok c =
     let k : ℕ = rows_below m d.arrivals in
     let place : ℕ = c.place_for-place.result in
     let at : place ≡ k = c.place_for-place.ensures ∙ ap (rows_below m) c.deref.ensures.value in
-    let f : StepPlace true d.arrivals m k = stepped d m right (subst (λ (e : Known). next_need e ≡ Some (Step m)) (sym c.self.view_is) c.requires) in
+    let f : StepPlace true d.arrivals m k = stepped d m right (subst (λ (e : Known). next_need e ≡ Some (Step m)) (sym c.self.view_is) c.requires.next) in
     let w : World = c.in_ok-arrival.arrival in
     let is : w ≡ arrival d.plan m = c.in_ok-arrival.ensures ∙ c.in_ok-plane.ensures.arrives ∙ ap (arrival d.plan) (ap₂ mark_at c.deref-2.ensures.value at ∙ f.mark (record { key = record { generation = 0 }; value = None })) in
     let x : ArrivalRow = c.index_mut.result.now in
@@ -88,7 +88,7 @@ returns-clause-nearer c =
     let k : ℕ = rows_below m d.arrivals in
     let place : ℕ = c.place_for-place.result in
     let at : place ≡ k = c.place_for-place.ensures ∙ ap (rows_below m) c.deref.ensures.value in
-    let f : StepPlace true d.arrivals m k = stepped d m right (subst (λ (e : Known). next_need e ≡ Some (Step m)) (sym c.self.view_is) c.requires) in
+    let f : StepPlace true d.arrivals m k = stepped d m right (subst (λ (e : Known). next_need e ≡ Some (Step m)) (sym c.self.view_is) c.requires.next) in
     let w : World = c.in_ok-arrival.arrival in
     let is : w ≡ arrival d.plan m = c.in_ok-arrival.ensures ∙ c.in_ok-plane.ensures.arrives ∙ ap (arrival d.plan) (ap₂ mark_at c.deref-2.ensures.value at ∙ f.mark (record { key = record { generation = 0 }; value = None })) in
     let x : ArrivalRow = c.index_mut.result.now in
