@@ -4,8 +4,9 @@ ghost use Rattle.schedule.specs.Plan.{opening};
 ghost use Rattle.schedule.specs.Asked.{asked_of};
 ghost use Rattle.schedule.specs.Change.{change, made, refusal};
 ghost use Rattle.dependency_book.specs.Kept.{KeepsRows};
+ghost use Rattle.dependency_book.specs.Needs.{next_need};
 ghost use Rattle.desk_core.specs.Rows.{pending_of, KeepsTexts};
-ghost use Rattle.desk_core.specs.Shown.{Shows, Ends};
+ghost use Rattle.desk_core.specs.Shown.{Shows, Ends, IsMet};
 
 use crate::cause::Cause;
 use crate::shown::Settling;
@@ -18,6 +19,7 @@ use std::marker::Model;
 #[derive(Drop)]
 pub struct Desk {
     book: Book,
+    squares: u32,
 }
 
 impl Model for Desk {
@@ -30,15 +32,22 @@ impl Model for Desk {
     ghost coded = { Prim.hlevel (codes, coded_world) };
 
     ghost view = { λ desk. desk.book };
+
+    ghost use Rattle.std.specs.Prelude.{◌≤◌};
+
+    ghost invariant = { λ desk. desk.squares ≤ 16777216 };
 }
 
 impl Desk {
-    /// A desk with the opening document of revision 0.
-    pub fn open(alloc: Global) -> Result<Desk, AllocError>
+    /// A desk with the opening document of revision 0, whose engines may hold so many squares, at
+    /// most 2^24.
+    pub fn open(alloc: Global, squares: u32) -> Result<Desk, AllocError>
+        requires { squares ≤ 16777216 }
         ensures { IfOk result (λ desk. desk ≡ record { plan = opening 0; arrivals = []; texts = [] }) }
     {
         Ok(Desk {
             book: Book::open(alloc, 0)?,
+            squares,
         })
     }
 
@@ -80,32 +89,37 @@ impl Desk {
     }
 }
 
-/// Computes what isn't known, each from the nearest known arrival, until every bookmark is current
-/// or memory is wanted. The texts that were known stay.
+/// Computes what isn't known, each from the nearest known arrival, until every bookmark is current,
+/// memory is wanted, or an engine wants more squares than it may hold. The texts that were known
+/// stay.
 pub fn settle(desk: &mut Desk) -> Settling
     ensures ends { Ends desk.new result }
     ensures document { desk.new.plan ≡ desk.old.plan }
     ensures keeps { KeepsTexts desk.old desk.new }
 {
-    // A want of memory may come where every bookmark is current and an arrival alone isn't known.
-    let _ended = fill(&mut desk.book);
+    let Err(fault) = fill(&mut desk.book, desk.squares) else {
+        return Settling::Settled;
+    };
+    // A want may come where every bookmark is current and an arrival alone isn't known.
     match desk.book.pending() {
         0 => Settling::Settled,
         pending => Settling::Unsettled {
             pending,
-            cause: Some(Cause::NoMemory),
+            cause: Cause::of(fault),
         },
     }
 }
 
-// Computes what is needed, until nothing is or memory is wanted.
-fn fill(book: &mut Book) -> Result<(), EvolveFault>
+// Computes what is needed, until nothing is, or memory or room is wanted for it.
+fn fill(book: &mut Book, limit: u32) -> Result<(), EvolveFault>
+    requires { limit ≤ 16777216 }
     ensures document { book.new.plan ≡ book.old.plan }
     ensures keeps { KeepsTexts book.old book.new }
     ensures ok { OnOk result (pending_of book.new ≡ 0) }
+    ensures refused { IfErr result (IsMet (next_need book.new)) }
 {
     while let Some(need) = book.next_need() {
-        book.compute(&need)?;
+        book.compute(&need, limit)?;
     }
     Ok(())
 }

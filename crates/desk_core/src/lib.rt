@@ -5,6 +5,7 @@
 //! was settled. A bookmark whose text isn't known is shown as pending.
 //!
 //! An edit keeps what it doesn't touch, and `settle` goes on from the nearest arrival that is known.
+//! It ends unsettled where memory is wanted, or more squares than an engine may hold, and says which.
 #![tactic(auto)]
 
 mod cause;
