@@ -1,12 +1,15 @@
 -- What is read where no word follows the program's name, or one word for help does.
-use Rattle.std.proofs.Common.{◌≡◌, ◌≤◌, inl, inr, refl, arith, ap, ◌∙◌, List, [], ◌∷◌, Result, Ok, Err, IfErr, IsErrAnd, codes, length, map}
+use Rattle.std.proofs.Common.{◌≡◌, ◌≤◌, ℕ, inl, inr, refl, sym, arith, ap, ◌∙◌, List, [], ◌∷◌, Option, Some, Result, Ok, Err, IfOk, IsErrAnd, codes, length, map}
+use Rattle.std.specs.Prelude.{MatchResult}
+use Rattle.std.specs.Str.Parse.{digits_value, without_leading_plus}
 use Rattle.std.proofs.Math.Path.{subst}
 use Rattle.clap.specs.Words.{FailsBy, HasKind, Text, kind_of}
 use Rattle.clap.specs.declared.error.Error.{Error}
 use Rattle.clap.specs.declared.error.kind.ErrorKind.TheVariants.{DisplayHelp, OutOfMemory}
 use Rattle.clap.proofs.OnLiterals.{clap_on_literals}
-use Rattle.desk_words.specs.Words.{AsksForHelp}
-use Rattle.desk_words.specs.Command.{IsHelpOrMemory, faults}
+use Rattle.desk_words.specs.declared.options.Options.{Options}
+use Rattle.desk_words.specs.Words.{AsksForHelp, IsDefault}
+use Rattle.desk_words.specs.Command.{Chooses, IsHelpOrMemory, faults, squares_text}
 
 faults-none : faults [] ≡ []
 unfolding clap_on_literals
@@ -45,10 +48,31 @@ help_or_memory error (inl memory) = inr memory
 help_or_memory error (inr (inl help)) = inl help
 help_or_memory error (inr (inr none)) = absurd none
 
--- with no word an error is want of memory
-pub alone_fails : {S T : Type 0} (f : S → Text) (words : List S) (r : Result T Error) → FailsBy (faults (map f words)) r → length words ≤ 1 → IfErr r (λ error. kind_of error ≡ OutOfMemory)
-alone_fails f words (Ok x) fails few = tt
-alone_fails f words (Err e) fails few = only_memory e (subst (λ kinds. HasKind kinds e) (faults-alone f words few) fails)
+text-none : squares_text [] ≡ Some (codes "4194304")
+unfolding clap_on_literals
+text-none = refl
+
+text-name : (name : Text) → squares_text (name ∷ []) ≡ Some (codes "4194304")
+unfolding clap_on_literals
+text-name name = refl
+
+text-alone : {S : Type 0} (f : S → Text) (words : List S) → length words ≤ 1 → squares_text (map f words) ≡ Some (codes "4194304")
+text-alone f [] few = text-none
+text-alone f (name ∷ []) few = text-name (f name)
+text-alone f (name ∷ word ∷ words) few = absurd (omega (arith, few))
+
+-- what the default's text chooses
+default_chosen : (words : List Text) (n : ℕ) → squares_text words ≡ Some (codes "4194304") → Chooses words n → n ≡ 4194304
+default_chosen words n is chosen = chosen.2 ∙ ap (λ t. digits_value 10 (without_leading_plus t)) (some_is chosen.0 (codes "4194304") (sym chosen.1 ∙ is))
+  where
+    some_is : (s t : Text) → Some s ≡ Some t → s ≡ t
+    some_is s t e = cc e
+
+-- with no word the default is chosen, and an error is want of memory
+pub alone_reads : {S : Type 0} (f : S → Text) (words : List S) (r : Result Options Error) → FailsBy (faults (map f words)) r → IfOk r (λ options. Chooses (map f words) options.squares) → length words ≤ 1
+    → MatchResult r IsDefault (λ error. kind_of error ≡ OutOfMemory)
+alone_reads f words (Ok options) fails chosen few = default_chosen (map f words) options.squares (text-alone f words few) chosen
+alone_reads f words (Err e) fails chosen few = only_memory e (subst (λ kinds. HasKind kinds e) (faults-alone f words few) fails)
 
 -- a word for help is answered by the help
 pub help_answers : {T : Type 0} (words : List Text) (r : Result T Error) → FailsBy (faults words) r → AsksForHelp words → IsErrAnd r IsHelpOrMemory

@@ -1,11 +1,12 @@
 //! What the words of the command line come to.
-ghost use Rattle.std.specs.Prelude.{◌≡◌, ◌≢◌, [], IfErr, OnOk, map, string_bytes};
+ghost use Rattle.std.specs.Prelude.{◌≡◌, ◌≢◌, [], IfErr, IfOk, OnOk, map, string_bytes};
 ghost use Rattle.clap.specs.Words.{kind_of};
-ghost use Rattle.desk_words.specs.Words.{Checks, ReadsWords};
-ghost use Rattle.desk_words.specs.Command.{faults};
+ghost use Rattle.desk_words.specs.Words.{Checks, IsInRange, ReadsWords};
+ghost use Rattle.desk_words.specs.Command.{Chooses, faults};
 ghost use Rattle.desk_words.specs.Fault.{IsHelp, IsRefusal};
 
 use crate::command::{no_text, read};
+use crate::options::Options;
 use clap::Error;
 use clap::error::ErrorKind;
 use std::alloc::Global;
@@ -44,14 +45,15 @@ fn fault_of(alloc: Global, error: &Error) -> WordsFault
 }
 
 /// Reads the words of the command line, of which the first is the program's name.
-pub fn read_words<S: AsStr>(alloc: Global, words: &[S]) -> Result<(), WordsFault>
+pub fn read_words<S: AsStr>(alloc: Global, words: &[S]) -> Result<Options, WordsFault>
     ensures reads { ReadsWords (map S.text words.now) result }
+    ensures chosen { IfOk result (λ options. Chooses (map S.text words.now) options.squares) }
     ensures taken { OnOk result (faults (map S.text words.now) ≡ []) }
     ensures refused { faults (map S.text words.now) ≡ []
         → IfErr result (λ fault. fault ≡ WordsFault.NoMemory) }
 {
     match read(alloc, words) {
-        Ok(()) => Ok(()),
+        Ok(options) => Ok(options),
         Err(error) => Err(fault_of(alloc, &error)),
     }
 }
@@ -67,8 +69,9 @@ fn refused(alloc: Global) -> WordsFault
 }
 
 /// Reads the words that a program was started with, or refuses them where one is no UTF-8.
-pub fn check_words(alloc: Global, given: &io::Result<Vec<String>>) -> Result<(), WordsFault>
-    ensures { Checks (λ words. map string_bytes words.items) given.now result }
+pub fn check_words(alloc: Global, given: &io::Result<Vec<String>>) -> Result<Options, WordsFault>
+    ensures checks { Checks (λ words. map string_bytes words.items) given.now result }
+    ensures range { IfOk result IsInRange }
 {
     match given {
         Ok(words) => read_words(alloc, words.as_slice()),

@@ -1,22 +1,28 @@
-use Rattle.std.proofs.Common.{◌≡◌, [], Ok, rules, map}
+use Rattle.std.proofs.Common.{◌≡◌, [], Ok, rules, map, IfOk}
 use Rattle.clap.specs.Words.{FailsBy}
-use Rattle.desk_words.specs.Command.{faults}
-use Rattle.desk_words.proofs.Requests.{alone_fails, help_answers}
+use Rattle.desk_words.specs.declared.options.Options.{Options}
+use Rattle.desk_words.specs.Command.{Chooses, faults}
+use Rattle.desk_words.proofs.Requests.{alone_reads, help_answers}
 use Rattle.desk_words.proofs.command.read.Goals as goal
 
-pub returns-in_err-try_get_matches_from-clause-alone :
-    goal.returns-in_err-try_get_matches_from-clause-alone
-returns-in_err-try_get_matches_from-clause-alone g c =
+pub returns-in_err-matches-clause-alone : goal.returns-in_err-matches-clause-alone
+returns-in_err-matches-clause-alone g c =
     let fails : FailsBy (faults (map g.S.AsStr.text c.args.words.now)) c.from_residual.result = search rules in
-    alone_fails g.S.AsStr.text c.args.words.now c.from_residual.result fails
+    let chosen : IfOk c.from_residual.result (λ (options : Options). Chooses (map g.S.AsStr.text c.args.words.now) options.squares) = search rules in
+    alone_reads g.S.AsStr.text c.args.words.now c.from_residual.result fails chosen
 
-pub returns-in_err-try_get_matches_from-clause-help :
-    goal.returns-in_err-try_get_matches_from-clause-help
-returns-in_err-try_get_matches_from-clause-help g c =
+pub returns-in_err-matches-clause-help : goal.returns-in_err-matches-clause-help
+returns-in_err-matches-clause-help g c =
     let fails : FailsBy (faults (map g.S.AsStr.text c.args.words.now)) c.from_residual.result = search rules in
     help_answers (map g.S.AsStr.text c.args.words.now) c.from_residual.result fails
 
+pub returns-clause-alone : goal.returns-clause-alone
+returns-clause-alone g c =
+    let reads : faults (map g.S.AsStr.text c.args.words.now) ≡ [] = c.in_ok-matches.ensures.faults in
+    let chosen : Chooses (map g.S.AsStr.text c.args.words.now) c.in-Some.squares = search rules in
+    alone_reads g.S.AsStr.text c.args.words.now (Ok (record { squares = c.in-Some.squares })) reads chosen
+
 pub returns-clause-help : goal.returns-clause-help
 returns-clause-help g c asks =
-    let reads : faults (map g.S.AsStr.text c.args.words.now) ≡ [] = search rules in
+    let reads : faults (map g.S.AsStr.text c.args.words.now) ≡ [] = c.in_ok-matches.ensures.faults in
     help_answers (map g.S.AsStr.text c.args.words.now) (Ok (tt {0})) reads asks

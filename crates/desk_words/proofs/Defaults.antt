@@ -1,0 +1,199 @@
+-- What is read, after a parse, of the one argument of a command, which has a default.
+use Rattle.std.proofs.Common.{◌≡◌, ◌⊎◌, ◌∙◌, ◌<◌, ◌≤◌, ◌++◌, ◌∷◌, ◌||◌, ap, ℕ, zero, suc, Bool, true, false, List, [], length, is_some, Option, Some, None, refl, sym, subst, inl, inr, arith, slice_index, codes}
+use Rattle.std.specs.List.{All, slice_index_or}
+use Rattle.std.specs.Str.{bytes_eq}
+use Rattle.std.specs.Prelude.{find, option_map, slice_get}
+use Rattle.std.specs.Borrow.{Bor}
+use Rattle.std.proofs.lemmas.Slice.Eq.{bytes_eq-Decides}
+use Rattle.std.proofs.lemmas.List.Elements.{All-get_or, All-nil}
+use Rattle.clap.specs.Facts.{args_of, groups_of, AllowsNone, Entry, EntryPasses, EntryValuesPass, HasReading, IsCountArg, IsFilledEntry, IsGroupEntry, PassesArg, ReadsByParser, ValuesPass, WantsDefault, least_values, parser_of, parser_of_value, unwrap_or_range}
+use Rattle.clap.specs.Built.{AddsArg, IsAuto, IsParsedFrom, IsPlain, IsPlainArg, SameRules}
+use Rattle.clap.specs.Matches.{found_of, matched_of, one_text}
+use Rattle.clap.specs.Values.{Accepts, read_as, reading_of}
+use Rattle.clap.proofs.CallerLemmas.{added_plain, default_present, entry_by_id, same_rules_by_id}
+use Rattle.clap.specs.declared.builder.action.ArgAction.TheVariants.{Count, Set}
+use Rattle.clap.specs.declared.builder.arg.Arg.{Arg}
+use Rattle.clap.specs.declared.builder.command.Command.{Command}
+use Rattle.clap.specs.declared.builder.command.Command.TheViews.{out-Command}
+use Rattle.clap.specs.declared.builder.value_parser.Reading.{Reading}
+use Rattle.clap.specs.declared.builder.value_parser.ValueParser.{ValueParser}
+use Rattle.clap.specs.declared.builder.value_parser.ValueParser.TheVariants.{Unsigned}
+use Rattle.clap.specs.Walk.{Rule, rule_of}
+use Rattle.desk_words.specs.Command.{AlwaysGives, squares_rule}
+use Rattle.clap.specs.declared.parser.matches.ArgMatches.{ArgMatches}
+use Rattle.clap.specs.declared.parser.matches.Found.{Found}
+use Rattle.clap.specs.declared.parser.matches.MatchedArg.{MatchedArg}
+
+-- an id that some entry has is found
+found_at : (xs : List Entry) (id : List ℕ) (i : ℕ) → i < length xs → ((d : Entry) → bytes_eq (slice_index_or xs i d).0.now id ≡ true)
+    → is_some (option_map (λ (e : Entry). e.1) (find (λ (e : Entry). bytes_eq e.0.now id) xs)) ≡ true
+found_at [] id i low is = absurd (omega (arith, low))
+found_at (x ∷ xs) id zero low is = rw (is x) refl
+found_at (x ∷ xs) id (suc i) low is = go (bytes_eq x.0.now id) refl (found_at xs id i (omega (arith, low)) is)
+  where
+    go : (t : Bool) → bytes_eq x.0.now id ≡ t → is_some (option_map (λ (e : Entry). e.1) (find (λ (e : Entry). bytes_eq e.0.now id) xs)) ≡ true
+        → is_some (option_map (λ (e : Entry). e.1) (find (λ (e : Entry). bytes_eq e.0.now id) (x ∷ xs))) ≡ true
+    go true t rest = rw t refl
+    go false t rest = rw t rest
+
+-- the first of some values, of which each has a property
+first_read : (P : Bor (List ℕ) → Type 0) (how : Reading) (vs : List (Bor (List ℕ))) → All P vs → 0 < length vs
+    → (v : Bor (List ℕ)) × (option_map (λ s. read_as how s.now) (slice_get vs 0) ≡ Some (read_as how v.now)) × P v
+first_read P how [] all some = absurd (omega (arith, some))
+first_read P how (v ∷ vs) all some = (v, refl, All-get_or P (v ∷ vs) 0 v (omega arith) all)
+
+text_of : (f : Found) (id : List ℕ) (x : MatchedArg) (how : Reading) (t : List ℕ) → matched_of f id ≡ Some x → x.reading ≡ how
+    → option_map (λ s. read_as how s.now) (slice_get x.vals.items 0) ≡ Some t → one_text f id ≡ Some t
+text_of f id x how t found is v = rw (found, is) v
+
+-- the arguments of a built command that have the id of a caller's argument do as that one does
+abbrev OnlyRules : Command → Arg → Type 0
+OnlyRules built a = (j : ℕ) (x : Arg) → j < length (args_of built) → slice_index_or (args_of built) j x ≡ x → bytes_eq x.id.now a.id.now ≡ true → SameRules a x
+
+not_none : (n : ℕ) → 1 ≤ n → n ≡ 0 → ⊥
+not_none n some none = omega (arith, some, none)
+
+parser_is : (a y : Arg) (q : ValueParser) → SameRules a y → a.value_parser ≡ Some q → parser_of y ≡ q
+parser_is a y q s parser = ap parser_of_value (s.parser q parser)
+
+-- a value that passed its parser
+accepted : (built : Command) (a : Arg) (q : ValueParser) (t : List ℕ) → OnlyRules built a → a.value_parser ≡ Some q → PassesArg built a.id.now t → Accepts a.ignore_case q t
+accepted built a q t rules parser any =
+    let s = rules any.0 any.1 any.2 any.3 any.4.0 in
+    subst (λ (b : Bool). Accepts b q t) s.ignore_case (subst (λ (p : ValueParser). Accepts any.1.ignore_case p t) (parser_is a any.1 q s parser) any.4.1)
+
+-- and is read as its parser says
+reads_as : (built : Command) (a : Arg) (q : ValueParser) (how : Reading) → OnlyRules built a → a.value_parser ≡ Some q → HasReading built a.id.now how → how ≡ reading_of q
+reads_as built a q how rules parser any =
+    sym any.4.1 ∙ ap reading_of (parser_is a any.1 q (rules any.0 any.1 any.2 any.3 any.4.0) parser)
+
+-- such an argument doesn't count
+no_count : (built : Command) (a : Arg) → OnlyRules built a → a.action ≡ Some Set → IsCountArg built a.id.now → ⊥
+no_count built a rules set any =
+    let is_set : any.1.action ≡ Some Set = (rules any.0 any.1 any.2 any.3 any.4.0).action Set set in
+    let bad : Set ≡ Count = rw is_set at any.4.1 in
+    absurd (cc bad)
+
+-- and doesn't go without a value
+no_lack : (built : Command) (a : Arg) → OnlyRules built a → a.action ≡ Some Set → a.val_delim ≡ None → 1 ≤ least_values a → AllowsNone built a.id.now → ⊥
+no_lack built a rules set delim least any =
+    let s = rules any.0 any.1 any.2 any.3 any.4.0 in
+    elim any.4.1 [
+      | inl none ↦ not_none (least_values any.1) (s.least set least) none
+      | inr has ↦
+          let bad : false ≡ true = rw (s.val_delim, delim) at has in
+          absurd (cc bad)
+    ]
+
+no_group : (built : Command) (e : Entry) (id : List ℕ) → groups_of built ≡ [] → (id ≡ [] → ⊥) → e.0.now ≡ id → IsGroupEntry built e → e.1.is_group ≡ true → ⊥
+no_group built e id groups named key pass g = elim (pass g) [
+  | inl empty ↦ named (sym key ∙ empty)
+  | inr lots ↦
+      let bad : 0 < 0 = rw groups at lots in
+      not_none 0 bad refl
+]
+
+filled_of : (built : Command) (e : Entry) → (e.1.is_group ≡ true → ⊥) → (IsCountArg built e.0.now → ⊥) → (AllowsNone built e.0.now → ⊥) → IsFilledEntry built e → 0 < length e.1.vals.items
+filled_of built e group count lack (inl g) = absurd (group g.0)
+filled_of built e group count lack (inr (inl v)) = v
+filled_of built e group count lack (inr (inr (inl h))) = absurd (count h.1)
+filled_of built e group count lack (inr (inr (inr h))) = absurd (lack h)
+
+pass_of : (built : Command) (e : Entry) → (e.1.is_group ≡ true → ⊥) → EntryValuesPass built e → All (λ v. PassesArg built e.0.now v.now) e.1.vals.items
+pass_of built e group (inl g) = absurd (group g)
+pass_of built e group (inr vals) = vals
+
+reading_at : (built : Command) (e : Entry) → (e.1.is_group ≡ true → ⊥) → ReadsByParser built e → HasReading built e.0.now e.1.reading
+reading_at built e group (inl g) = absurd (group g)
+reading_at built e group (inr any) = any
+
+-- what the entry of that argument gives
+entry_gives : (built : Command) (f : Found) (a : Arg) (q : ValueParser) (e : Entry) → OnlyRules built a → groups_of built ≡ []
+    → (a.id.now ≡ [] → ⊥) → a.action ≡ Some Set → a.val_delim ≡ None → 1 ≤ least_values a → a.value_parser ≡ Some q → matched_of f a.id.now ≡ Some e.1
+    → e.0.now ≡ a.id.now → EntryPasses built e
+    → (t : List ℕ) × (one_text f a.id.now ≡ Some (read_as (reading_of q) t)) × Accepts a.ignore_case q t
+entry_gives built f a q e rules groups named set delim least parser found key pass =
+    let group = no_group built e a.id.now groups named key pass.3 in
+    let all = pass_of built e group pass.0 in
+    let count : IsCountArg built e.0.now → ⊥ = λ h. no_count built a rules set (subst (IsCountArg built) key h) in
+    let lack : AllowsNone built e.0.now → ⊥ = λ h. no_lack built a rules set delim least (subst (AllowsNone built) key h) in
+    let some = filled_of built e group count lack pass.1 in
+    let how = reads_as built a q e.1.reading rules parser (subst (λ (w : List ℕ). HasReading built w e.1.reading) key (reading_at built e group pass.4)) in
+    finish (first_read (λ v. PassesArg built e.0.now v.now) (reading_of q) e.1.vals.items all some) how
+  where
+    finish : ((v : Bor (List ℕ)) × (option_map (λ s. read_as (reading_of q) s.now) (slice_get e.1.vals.items 0) ≡ Some (read_as (reading_of q) v.now)) × PassesArg built e.0.now v.now)
+        → e.1.reading ≡ reading_of q → (t : List ℕ) × (one_text f a.id.now ≡ Some (read_as (reading_of q) t)) × Accepts a.ignore_case q t
+    finish first how = (
+      first.0.now,
+      text_of f a.id.now e.1 (reading_of q) (read_as (reading_of q) first.0.now) found how first.1,
+      accepted built a q first.0.now rules parser (subst (λ (w : List ℕ). PassesArg built w first.0.now) key first.2),
+    )
+
+-- what an entry gives that is there
+find_entry : (built : Command) (f : Found) (a : Arg) (q : ValueParser) → is_some (matched_of f a.id.now) ≡ true → ValuesPass built f
+    → ((e : Entry) → matched_of f a.id.now ≡ Some e.1 → e.0.now ≡ a.id.now → EntryPasses built e → (t : List ℕ) × (one_text f a.id.now ≡ Some (read_as (reading_of q) t)) × Accepts a.ignore_case q t)
+    → (t : List ℕ) × (one_text f a.id.now ≡ Some (read_as (reading_of q) t)) × Accepts a.ignore_case q t
+find_entry built f a q some values gives = go (matched_of f a.id.now) refl some
+  where
+    go : (o : Option MatchedArg) → matched_of f a.id.now ≡ o → is_some o ≡ true → (t : List ℕ) × (one_text f a.id.now ≡ Some (read_as (reading_of q) t)) × Accepts a.ignore_case q t
+    go None found some = absurd (cc some)
+    go (Some x) found some =
+        let got = entry_by_id (EntryPasses built) f.entries.items a.id.now x values found in
+        gives got.0 (found ∙ ap (λ (y : MatchedArg). Some y) (sym got.1)) ((bytes_eq-Decides got.0.0.now a.id.now).0 got.2) got.3
+
+-- the same of an argument with the same rules
+told_again : (f : Found) (a b : Arg) (q : ValueParser) → SameRules a b → b.id.now ≡ a.id.now
+    → (t : List ℕ) × (one_text f b.id.now ≡ Some (read_as (reading_of q) t)) × Accepts b.ignore_case q t
+    → (t : List ℕ) × (one_text f a.id.now ≡ Some (read_as (reading_of q) t)) × Accepts a.ignore_case q t
+told_again f a b q rules same got = (
+  got.0,
+  subst (λ (w : List ℕ). one_text f w ≡ Some (read_as (reading_of q) got.0)) same got.1,
+  subst (λ (c : Bool). Accepts c q got.0) rules.ignore_case got.2,
+)
+
+-- the one argument of a command, where it has a default and takes a value, has a text that passed its parser
+pub one_default_read : (start cmd : Command) (a : Arg) (m : ArgMatches) → AddsArg start a cmd
+    → args_of start ≡ [] → groups_of start ≡ [] → (out-Command start).has_globals ≡ false
+    → IsPlainArg a → a.global ≡ false → WantsDefault a → a.action ≡ Some Set → a.val_delim ≡ None → 1 ≤ least_values a
+    → (a.id.now ≡ [] → ⊥) → (IsAuto a → ⊥) → (q : ValueParser) → a.value_parser ≡ Some q → IsParsedFrom cmd m
+    → (t : List ℕ) × (one_text (found_of m) a.id.now ≡ Some (read_as (reading_of q) t)) × Accepts a.ignore_case q t
+one_default_read start cmd a m added args groups globals plain global wants set delim least named own q parser p =
+    let f = found_of m in
+    let id = a.id.now in
+    let list : args_of cmd ≡ added.arg ∷ [] = added.args ∙ ap (λ l. l ++ added.arg ∷ []) args in
+    let start-plain : IsPlain start = (subst (All IsPlainArg) (sym args) (All-nil IsPlainArg), groups) in
+    let plain2 : IsPlain cmd = added_plain start cmd a added start-plain plain in
+    let first : Arg = slice_index_or (args_of cmd) 0 a in
+    let elem : first ≡ added.arg = ap (λ l. slice_index_or l 0 a) list in
+    let lt : 0 < length (args_of cmd) = subst (λ l. 0 < length l) (sym list) (omega arith) in
+    let no-globals : (out-Command cmd).has_globals ≡ false = added.globals ∙ (ap (λ b. b || a.global) globals ∙ ap (λ b. false || b) global) in
+    let rules : SameRules a first = subst (SameRules a) (sym elem) added.rules in
+    let same_id : first.id.now ≡ id = ap (λ x. x.now) rules.id in
+    let wants2 : WantsDefault first = (rules.ifs ∙ wants.0, rw (rules.defaults wants.1) wants.1) in
+    let has = default_present cmd m p no-globals 0 a lt wants2 in
+    let there : is_some (matched_of f first.id.now) ≡ true = found_at f.entries.items first.id.now has.0 has.1 has.2 in
+    let only : (j : ℕ) (e : Arg) → j < length (args_of cmd) → bytes_eq (slice_index_or (args_of cmd) j e).id.now first.id.now ≡ true → j ≡ 0 =
+    λ j e low same. let one : j < 1 = subst (λ l. j < length l) list low in omega arith in
+    let own2 : IsAuto first → ⊥ = λ auto. own (elim auto [ inl h ↦ inl (sym same_id ∙ h) | inr h ↦ inr (sym same_id ∙ h) ]) in
+    let values = (p.parsed (p.from.globals ∙ no-globals)).values in
+    let got = find_entry p.built f first q there values (λ e found key pass. entry_gives p.built f first q e
+    (λ j y low at same. same_rules_by_id cmd m p 0 a lt only own2 j y low at same)
+    (p.from.plain plain2).1 (λ empty. named (sym same_id ∙ empty)) (rules.action Set set) (rules.val_delim ∙ delim) (rules.least set least) (rules.parser q parser) found key pass) in
+    told_again f a first q rules same_id got
+
+-- so the option of the command has a text that is a number in its range
+pub always_gives : (start cmd : Command) (a : Arg) → AddsArg start a cmd
+    → args_of start ≡ [] → groups_of start ≡ [] → (out-Command start).has_globals ≡ false
+    → IsPlainArg a × (a.global ≡ false) → WantsDefault a → a.val_delim ≡ None → rule_of a ≡ squares_rule → AlwaysGives cmd
+always_gives start cmd a added args groups globals alone wants delim rule = λ m p.
+    let id : a.id.now ≡ codes "squares" = ap (λ (r : Rule). r.id) rule in
+    let head : (t : List ℕ) → a.id.now ≡ t → slice_index t 0 ≡ 115 = λ t e. rw (← e, id) refl in
+    let least : least_values a ≡ 1 = ap (λ (r : Rule). (unwrap_or_range r.range).start_inclusive) rule in
+    let got = one_default_read start cmd a m added args groups globals alone.0 alone.1 wants (ap (λ (r : Rule). r.action) rule) delim (omega (arith, least))
+    (λ e. let bad : 0 ≡ 115 = head [] e in absurd (omega arith))
+    (λ auto. elim auto [
+      | inl h ↦ let bad : 104 ≡ 115 = head _ h in absurd (omega arith)
+      | inr h ↦ let bad : 118 ≡ 115 = head _ h in absurd (omega arith)
+    ])
+    (Unsigned 64 16777216) (ap (λ (r : Rule). r.parser) rule) p in
+    (got.0, (subst (λ (w : List ℕ). one_text (found_of m) w ≡ Some got.0) id got.1, got.2))
