@@ -3,7 +3,8 @@
 //! `run` reads a script and writes the reply to each command before it reads the next. What it
 //! writes is the replies to the script: what each command in turn makes of the document, and for
 //! each bookmark that is shown the text that starting over gives. A command that meets want of
-//! memory says so and changes nothing, or leaves a bookmark pending.
+//! memory says so and changes nothing, or leaves a bookmark pending; so does one that meets an
+//! engine's want of more squares than it may hold, which a settling says as its cause.
 //!
 //! A line is kept only as far as its command needs. A settling costs what its bookmarks cost; all
 //! else is in proportion to what is read and written.

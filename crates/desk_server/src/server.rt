@@ -1,5 +1,5 @@
 //! A script, answered while it is read.
-ghost use Rattle.std.specs.Prelude.{◌≡◌, ◌≢◌, ◌+◌, IfSome, OnOk, Ok, Err};
+ghost use Rattle.std.specs.Prelude.{◌≡◌, ◌≢◌, ◌≤◌, ◌+◌, IfSome, OnOk, Ok, Err};
 ghost use Rattle.desk_server.specs.Run.{Finishes, AnswersAll, AnswersWhole};
 ghost use Rattle.desk_server.specs.Round.{GoesOn, Works, ReadBreaks, WriteBreaks, ReadStops, WriteStops};
 
@@ -70,12 +70,16 @@ fn round<R: Read, W: Write, L: Ledger, M: Ledger>(
     })
 }
 
-/// Reads a script, and writes and hands on the reply to each command before it reads the next.
+/// Reads a script, and writes and hands on the reply to each command before it reads the next. An
+/// engine may hold so many squares, at most 2^24.
 pub fn run<R: Read, W: Write, L: Ledger, M: Ledger>(
     alloc: Global,
+    squares: u32,
     reader: &mut CountedReader<R, L>,
     writer: &mut CountedWriter<W, M>,
 ) -> Result<(), RunFault>
+    requires { squares ≤ 16777216 }
+
     // The replies to the script were written, for some wants.
     ensures done { OnOk result (IfSome reader.old.ahead.bytes
         (AnswersAll writer.old.contents writer.new.contents)) }
@@ -99,7 +103,7 @@ pub fn run<R: Read, W: Write, L: Ledger, M: Ledger>(
     ensures no_memory { result ≡ Err RunFault.NoMemory
         → (reader.new ≡ reader.old) × (writer.new ≡ writer.old) }
 {
-    let Ok(mut desk) = Desk::open(alloc) else {
+    let Ok(mut desk) = Desk::open(alloc, squares) else {
         return Err(RunFault::NoMemory);
     };
     let Ok(mut line) = KeptLine::new(alloc) else {
