@@ -15,6 +15,9 @@ type Row = (i64, i64, u16);
 const X: &[u8] =
     b"@RULE X\n@TABLE\nn_states:2\nneighborhood:oneDimensional\nsymmetries:none\n0,1,0,1\n0,0,1,1\n1,0,0,0\n1,1,1,0\n";
 
+// How many squares an engine may hold.
+const SQUARES: u32 = 4096;
+
 /// Stops the test where what was found isn't what was wanted.
 fn same<T: PartialEq + Debug, A: Debug>(rt: &impl Abort, found: &T, wanted: &T, at: &A) {
     assert!(rt; found == wanted, "{at:?}: {found:?}, not {wanted:?}");
@@ -57,7 +60,7 @@ fn edit(rt: &impl Abort, desk: &mut Desk, edit: &Edit) -> Edited {
 }
 
 fn open(rt: &impl Abort, alloc: Global) -> Desk {
-    Desk::open(alloc).expect(rt, "memory")
+    Desk::open(alloc, SQUARES).expect(rt, "memory")
 }
 
 /// A desk with the rule X and the cell (0, 0) in state 1, at revision 2.
@@ -253,7 +256,8 @@ fn refused_edits_change_nothing(rt: HostRuntime) {
 
 #[test]
 fn causes(rt: HostRuntime) {
-    same(&rt, &Cause::NoMemory.number(), &70, &"number");
+    same(&rt, &Cause::NoMemory.number(), &70, &"memory");
+    same(&rt, &Cause::NoRoom.number(), &71, &"room");
 }
 
 /// The edit that sets (0, 0) to 1 in what arrives at a generation.
