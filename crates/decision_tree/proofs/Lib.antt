@@ -7,5 +7,5 @@ mod KeptNumbers
 mod LastLine
 mod NextNode
 pub mod SaidNodes
-mod WrittenFiles
+pub mod WrittenFiles
 pub mod WrittenTrees

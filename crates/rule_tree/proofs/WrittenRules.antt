@@ -12,9 +12,9 @@ use Rattle.rule_tree.specs.Rule.{kind_of}
 pub tables-rules : WrittenTablesAreRules
 tables-rules name sets table named is within =
     ap (λ file. file >>= λ f. kind_of f.section >>= λ kind. Ok (record { name = f.name; kind = kind })) (table_files.written-file name sets table named is)
-    ∙ ap (λ read. read >>= λ t. Ok (Table t) >>= λ kind. Ok (record { name = name; kind = kind })) (written-means 3 sets table is within)
+    ∙ ap (λ read. (read >>= λ t. Ok (Table t)) >>= λ kind. Ok (record { name = name; kind = kind })) (written-means 3 sets table is within)
 
 pub trees-rules : WrittenTreesAreRules
 trees-rules name head nodes named limits are quiet =
     ap (λ file. file >>= λ f. kind_of f.section >>= λ kind. Ok (record { name = f.name; kind = kind })) (tree_files.written-file name head nodes named limits are)
-    ∙ ap (λ read. read >>= λ t. Ok (Tree t) >>= λ kind. Ok (record { name = name; kind = kind })) (trees.written-means 2 head nodes limits are quiet)
+    ∙ ap (λ read. (read >>= λ t. Ok (Tree t)) >>= λ kind. Ok (record { name = name; kind = kind })) (trees.written-means 2 head nodes limits are quiet)
