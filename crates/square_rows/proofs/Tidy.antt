@@ -7,7 +7,7 @@ use Rattle.std.specs.List.{list_any, position_or_len}
 use Rattle.std.specs.Prelude.{Result, Ok, Err, IfOk}
 use Rattle.worlds.specs.World.{blank, cell-blank, same_world}
 use Rattle.square_rows.specs.declared.row.SquareRow.{SquareRow}
-use Rattle.worlds.specs.Square.{Square, one, four, empty_square, IsSquare, cell_in, put_square}
+use Rattle.worlds.specs.Square.{Square, one, four, empty_square, IsSquare, put_square}
 use Rattle.square_rows.specs.Rows.{Numbered, numbered, number_row, number_square, same_row, no_row, row_at, AreRows, square_in, root_level, root_of, edge_of, world_of_rows, IsLeastLevel, AreCanonical}
 use Rattle.square_rows.specs.Walks.{AreWalked}
 use Rattle.square_rows.proofs.Numbering.{Has-empty, not_found}

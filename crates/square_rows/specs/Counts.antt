@@ -1,6 +1,7 @@
--- How many cells of a square have a state, and how that comes from its quadrants.
-use Rattle.std.specs.Prelude.{◌≡◌, ℕ, zero, suc, ◌+◌, ◌<◌, ◌≤◌, cond, ◌==◌, List, length, get_or}
+-- How many cells of a square have a state, and how that is summed up over rows.
+use Rattle.std.specs.Prelude.{◌≡◌, ℕ, zero, suc, ◌+◌, ◌*◌, ◌^◌, ◌≤◌, cond, ◌==◌, List, length, get_or}
 use Rattle.square_rows.specs.declared.row.SquareRow.{SquareRow}
+use Rattle.square_rows.specs.declared.counts.Tally.{Tally}
 use Rattle.worlds.specs.Square.{Square, one, four}
 use Rattle.square_rows.specs.Rows.{no_row, square_in}
 
@@ -18,21 +19,44 @@ is_live (suc s) = 1
 abbrev pub is_state : ℕ → ℕ → ℕ
 is_state s r = cond (r == s) 1 0
 
+-- 1 for each state
+abbrev pub is_any : ℕ → ℕ
+is_any s = 1
+
 -- how many cells of a square have the state s
 abbrev pub cells_with : ℕ → Square → ℕ
 cells_with s t = tally (is_state s) t
 
--- how many cells of the square of level k that n names have the state s, by those of the rows' squares
-unfoldable pub count_in : List ℕ → ℕ → ℕ → ℕ → ℕ
-count_in all s zero n = is_state s n
-count_in all s (suc k) zero = 0
-count_in all s (suc k) (suc i) = get_or all i 0
+-- the square of the i-th row
+abbrev pub row_square : List SquareRow → ℕ → Square
+row_square rows i = square_in rows (get_or rows i no_row).level (suc i)
 
--- n cells of the square of the i-th row have the state s
-abbrev pub IsCountAt : List SquareRow → ℕ → ℕ → ℕ → Type 0
-IsCountAt rows s i n = let k = (get_or rows i no_row).level in n ≡ cells_with s (square_in rows k (suc i))
+-- the sum of the first n numbers of g
+unfoldable pub sum_to : (ℕ → ℕ) → ℕ → ℕ
+sum_to g zero = 0
+sum_to g (suc n) = sum_to g n + g n
 
--- how many cells of the squares of the first rows have the state s
-pub record AreCounted (rows : List SquareRow) (s : ℕ) (all : List ℕ) : Type 0 where
-  pub few : length all ≤ length rows
-  pub each : (i : ℕ) → i < length all → IsCountAt rows s i (get_or all i 0)
+-- the sum of f over the cells that are counted, and over those of the first rows' squares, each as often as it stands
+abbrev pub held : List SquareRow → (ℕ → ℕ) → Tally → ℕ
+held rows f t = sum_to (λ s. get_or t.counts s 0 * f s) 256 + sum_to (λ i. get_or t.times.items i 0 * tally f (row_square rows i)) (length t.times.items)
+
+-- a square that stands n times may be added: there are no more cells than in a square of level 62
+pub record HasRoom (rows : List SquareRow) (t : Tally) (n : ℕ) (square : Square) : Type 0 where
+  pub room : held rows is_any t + n * tally is_any square ≤ 2 ^ 124
+  pub states : length t.counts ≡ 256
+
+-- the live cells of a square that stands n times are added, by their states
+pub record Gains (rows : List SquareRow) (old new : Tally) (n : ℕ) (square : Square) : Type 0 where
+  pub each : (f : ℕ → ℕ) → f 0 ≡ 0 → held rows f new ≡ held rows f old + n * tally f square
+  pub most : held rows is_any new ≤ held rows is_any old + n * tally is_any square
+  pub none : get_or new.counts 0 0 ≡ get_or old.counts 0 0
+  pub states : length new.counts ≡ 256
+  pub left : length new.times.items ≡ length old.times.items
+
+-- the rows that are left, each as often as it stands, and the counts hold the live cells of the root
+pub record IsTallied (rows : List SquareRow) (root : Square) (t : Tally) : Type 0 where
+  pub each : (f : ℕ → ℕ) → f 0 ≡ 0 → held rows f t ≡ tally f root
+  pub most : held rows is_any t ≤ 2 ^ 124
+  pub none : get_or t.counts 0 0 ≡ 0
+  pub states : length t.counts ≡ 256
+  pub left : length t.times.items ≤ length rows

@@ -1,72 +1,70 @@
-//! How many cells have each state, by one pass over the rows for each state up to the greatest.
-ghost use Rattle.std.specs.Prelude.{◌≡◌, ℕ, ◌<◌, ◌≤◌, length, slice_index, IfOk};
+//! How many cells have each state, in one pass over the rows.
+//!
+//! The square of a row stands in the pattern as often as those that have it as a quadrant do, all
+//! together. So the rows are gone over from the root down, each behind all that name it.
+ghost use Rattle.std.specs.Prelude.{◌≡◌, ℕ, ◌+◌, ◌<◌, ◌≤◌, ◌^◌, length, slice_index, IfOk};
 ghost use Rattle.worlds.specs.Live.{count_of};
-ghost use Rattle.worlds.specs.Range.{IsGreatest};
-ghost use Rattle.square_rows.specs.Rows.{AreRows, world_of_rows};
-ghost use Rattle.square_rows.specs.Counts.{AreCounted, IsCountAt, count_in};
+ghost use Rattle.square_rows.specs.Rows.{AreRows, IsNumber, square_in, world_of_rows};
+ghost use Rattle.square_rows.specs.Counts.{Gains, HasRoom, row_square};
 
+use crate::descent::root_level;
 use crate::row::SquareRow;
 use std::alloc::{AllocError, Global};
 
-// How many cells of the square that a number names have the state.
-fn count_in(all: &[u128], state: u8, level: u8, number: u32) -> u128
-    requires { 1 ≤ level → number ≤ length all.now }
-    ensures { result ≡ count_in all.now state level number }
+// How many cells of each state are counted, and how often the square of each of the first rows
+// stands in what isn't counted yet.
+#[derive(Drop)]
+struct Tally {
+    counts: [u128; 256],
+    times: Vec<u128>,
+}
+
+// Adds a square that stands so often: its cell, or its row. An empty one is passed over.
+fn add_square(rows: &[SquareRow], tally: &mut Tally, level: u8, number: u32, times: u128)
+    requires number { IsNumber rows.now level number }
+    requires listed { 1 ≤ level → number ≤ length tally.old.times.items }
+    requires room { HasRoom rows.now tally.old times (square_in rows.now level number) }
+    ensures { Gains rows.now tally.old tally.new times (square_in rows.now level number) }
 {
-    if level == 0 {
-        return if number == u32::from(state) { 1 } else { 0 };
-    }
     if number == 0 {
-        return 0;
+        return;
     }
-    all[number as usize - 1]
+    if level == 0 {
+        tally.counts[number as usize] += times;
+    } else {
+        tally.times[number as usize - 1] += times;
+    }
 }
 
-// How many cells of the square of the next row have the state, by the rows before it.
-fn count_of_next(rows: &[SquareRow], all: &[u128], state: u8) -> u128
+// Adds the quadrants of the row behind those that are left, which stands so often.
+fn add_quadrants(rows: &[SquareRow], tally: &mut Tally, times: u128)
     requires rows { AreRows rows.now }
-    requires live { 0 < state }
-    requires counted { AreCounted rows.now state all.now }
-    requires more { length all.now < length rows.now }
-    ensures { IsCountAt rows.now state (length all.now) result }
+    requires more { length tally.old.times.items < length rows.now }
+    requires room { HasRoom rows.now tally.old times (row_square rows.now (length tally.old.times.items)) }
+    ensures { Gains rows.now tally.old tally.new times (row_square rows.now (length tally.old.times.items)) }
 {
-    let row = rows[all.len()];
+    let row = rows[tally.times.len()];
     let level = row.level - 1;
-    let nw = count_in(all, state, level, row.kids[0]);
-    let ne = count_in(all, state, level, row.kids[1]);
-    let sw = count_in(all, state, level, row.kids[2]);
-    let se = count_in(all, state, level, row.kids[3]);
-    nw + ne + sw + se
-}
-
-// How many cells of the pattern have the state.
-fn count_of(alloc: Global, rows: &[SquareRow], state: u8) -> Result<u128, AllocError>
-    requires rows { AreRows rows.now }
-    requires live { 0 < state }
-    ensures { IfOk result (λ count. count ≡ count_of (world_of_rows rows.now) state) }
-{
-    let mut all = Vec::with_capacity(alloc, rows.len())?;
-    while all.len() < rows.len() {
-        let next = count_of_next(rows, &all, state);
-        all.push(next)?;
-    }
-    let Some(root) = all.last() else {
-        return Ok(0);
-    };
-    Ok(*root)
+    add_square(rows, tally, level, row.kids[0], times);
+    add_square(rows, tally, level, row.kids[1], times);
+    add_square(rows, tally, level, row.kids[2], times);
+    add_square(rows, tally, level, row.kids[3], times);
 }
 
 /// How many live cells of the pattern that rows stand for have each state.
-pub fn counts(alloc: Global, rows: &[SquareRow], greatest: u8) -> Result<[u128; 256], AllocError>
+pub fn counts(alloc: Global, rows: &[SquareRow]) -> Result<[u128; 256], AllocError>
     requires rows { AreRows rows.now }
-    requires greatest { IsGreatest (world_of_rows rows.now) greatest }
+    requires few { length rows.now < 2 ^ 32 }
     ensures { IfOk result (λ counts. (s : ℕ) → s < 256 →
         slice_index counts s ≡ count_of (world_of_rows rows.now) s) }
 {
-    let mut counts = [0; 256];
-    for below in 0..greatest {
-        let state = below + 1;
-        counts[state as usize] = count_of(alloc, rows, state)?;
+    let mut tally = Tally {
+        counts: [0; 256],
+        times: Vec::from_elem(alloc, 0, rows.len())?,
+    };
+    add_square(rows, &mut tally, root_level(rows), rows.len() as u32, 1);
+    while let Some(times) = tally.times.pop() {
+        add_quadrants(rows, &mut tally, times);
     }
-    Ok(counts)
+    Ok(tally.counts)
 }

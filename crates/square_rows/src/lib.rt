@@ -8,16 +8,17 @@
 //! `from_squares` makes any rows canonical in two walks that see each row once, and measures them in
 //! a third pass, so that `population`, `greatest` and `bounds` are there. `get` is one descent of at
 //! most 62 levels, and `equals` compares rows. `lay` adds a row for each square that holds a laid
-//! cell, at most 62 a cell, and makes the rows canonical again. `live` descends to each live cell
-//! once, and `counts` takes one pass over the rows for each state up to the greatest.
+//! cell, at most 62 a cell, and makes the rows canonical again; `from_cells` lets the list of cells
+//! go before that. `live` descends to each live cell once, and `counts` takes one pass over the
+//! rows from the root down.
 #![tactic(auto)]
 
 mod canonical;
 mod centre;
 mod counts;
 mod descent;
-mod lay;
 mod laws;
+mod lay;
 mod live;
 mod measures;
 mod plane;

@@ -160,7 +160,7 @@ impl Plane {
     pub fn counts(&self) -> Result<[u128; 256], AllocError>
         ensures { IfOk result (λ counts. (s : ℕ) → s < 256 → slice_index counts s ≡ count_of self.now s) }
     {
-        counts(self.alloc, &self.rows, self.measures.greatest)
+        counts(self.alloc, &self.rows)
     }
 
     /// Whether the cells are the same.

@@ -1,13 +1,54 @@
-use Rattle.std.proofs.Common.{arith}
-use Rattle.square_rows.specs.Rows.{world_of_rows}
-use Rattle.square_rows.proofs.Counting.{counts-none, counts-more, counts-all}
+use Rattle.std.proofs.Common.{◌≡◌, ◌<◌, length, replicate, refl, sym, ap, subst, arith}
+use Rattle.std.proofs.lemmas.List.{length_push}
+use Rattle.square_rows.specs.declared.counts.Tally.{Tally}
+use Rattle.square_rows.specs.Rows.{IsNumber, square_in, root_of}
+use Rattle.square_rows.specs.Counts.{Gains, HasRoom}
+use Rattle.square_rows.proofs.Roots.{rooted}
+use Rattle.square_rows.proofs.Counting.{room-root, tallied-root, popped-more, popped-room, tallied-more, tallied-all}
 use Rattle.square_rows.proofs.counts.counts.Goals as goal
 
-pub loop-below-init : goal.loop-below-init
-loop-below-init c = counts-none (world_of_rows c.args.rows.now)
+pub add_square-requires-clause-number : goal.add_square-requires-clause-number
+add_square-requires-clause-number c = subst (λ k. IsNumber c.args.rows.now k (length c.args.rows.now)) (sym c.root_level.ensures.level) (rooted c.args.rows.now c.requires.rows).number
 
-pub loop-below-preserved : goal.loop-below-preserved
-loop-below-preserved c = counts-more (world_of_rows c.args.rows.now) c.loop-below.below c.in_ok-counts.field-0 c.loop-below.counts (omega arith) c.in_ok-counts.ensures c.loop-below.invariant
+pub add_square-requires-clause-room : goal.add_square-requires-clause-room
+add_square-requires-clause-room c =
+    let rows = c.args.rows.now in
+    let empty : Tally = record { counts = replicate 256 0; times = c.in_ok-from_elem.field-0 } in
+    subst (λ k. HasRoom rows empty 1 (square_in rows k (length rows))) (sym c.root_level.ensures.level)
+    (room-root rows empty (length rows) c.requires.rows refl (c.in_ok-from_elem.ensures.items_if_clones_equal (λ y h. h)))
+
+pub loop-times-init : goal.loop-times-init
+loop-times-init c =
+    let rows = c.args.rows.now in
+    let empty : Tally = record { counts = replicate 256 0; times = c.in_ok-from_elem.field-0 } in
+    let new = c.add_square.new.tally in
+    tallied-root rows empty new c.requires.rows refl (c.in_ok-from_elem.ensures.items_if_clones_equal (λ y h. h))
+    (subst (λ k. Gains rows empty new 1 (square_in rows k (length rows))) c.root_level.ensures.level c.add_square.ensures)
+
+pub add_quadrants-requires-clause-more : goal.add_quadrants-requires-clause-more
+add_quadrants-requires-clause-more c =
+    let rows = c.args.rows.now in
+    let popped : Tally = record { counts = c.loop-times.tally.counts; times = c.pop.new.self } in
+    popped-more rows (root_of rows) c.loop-times.tally popped c.in-Some.times c.in-Some.ensures.items c.loop-times.invariant
+
+pub add_quadrants-requires-clause-room : goal.add_quadrants-requires-clause-room
+add_quadrants-requires-clause-room c =
+    let rows = c.args.rows.now in
+    let popped : Tally = record { counts = c.loop-times.tally.counts; times = c.pop.new.self } in
+    popped-room rows (root_of rows) c.loop-times.tally popped c.in-Some.times refl c.in-Some.ensures.items c.loop-times.invariant
+
+pub loop-times-smaller : goal.loop-times-smaller
+loop-times-smaller c =
+    let less : length c.add_quadrants.new.tally.times.items < length c.loop-times.tally.times.items = omega (arith, c.add_quadrants.ensures.left, ap length c.in-Some.ensures.items, length_push c.pop.new.self.items c.in-Some.times) in
+    less
+
+pub loop-times-preserved : goal.loop-times-preserved
+loop-times-preserved c =
+    let rows = c.args.rows.now in
+    let popped : Tally = record { counts = c.loop-times.tally.counts; times = c.pop.new.self } in
+    tallied-more rows (root_of rows) c.loop-times.tally popped c.add_quadrants.new.tally c.in-Some.times refl c.in-Some.ensures.items c.loop-times.invariant c.add_quadrants.ensures
 
 pub returns : goal.returns
-returns c = λ s h. counts-all (world_of_rows c.args.rows.now) c.loop-below.below c.args.greatest s c.loop-below.counts c.requires.greatest c.loop-below-test.false c.loop-below.invariant h
+returns c =
+    let none : length c.loop-times.tally.times.items ≡ 0 = omega (arith, c.in_default.ensures.cases.0) in
+    λ s h. tallied-all c.args.rows.now c.loop-times.tally s c.requires.rows none c.loop-times.invariant h

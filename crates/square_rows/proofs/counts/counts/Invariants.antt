@@ -1,6 +1,10 @@
-use Rattle.square_rows.specs.Rows.{world_of_rows}
-use Rattle.square_rows.proofs.Counting.{AreCountsUpTo}
+use Rattle.std.proofs.Common.{length}
+use Rattle.square_rows.specs.Rows.{root_of}
+use Rattle.square_rows.specs.Counts.{IsTallied}
 use Rattle.square_rows.proofs.counts.counts.Given as goal
 
-abbrev pub invariant-loop-below : goal.invariant-loop-below
-invariant-loop-below l = AreCountsUpTo (world_of_rows l.rows) l.below l.counts
+abbrev pub invariant-loop-times : goal.invariant-loop-times
+invariant-loop-times l = IsTallied l.rows (root_of l.rows) l.tally
+
+abbrev pub decreases-loop-times : goal.decreases-loop-times
+decreases-loop-times l = length l.tally.times.items

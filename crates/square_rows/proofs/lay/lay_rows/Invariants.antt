@@ -1,9 +1,7 @@
-use Rattle.std.proofs.Common.{◌≡◌, ◌↔◌, ◌+◌, ◌<◌, ◌≤◌, ◌^◌, length, All, IfOk, OnOk, IsTrue, ℕ, ◌-◌, ◌*◌}
+use Rattle.std.proofs.Common.{◌≡◌, ◌<◌, ◌^◌, length, All}
 use Rattle.worlds.specs.Lay.{lay}
 use Rattle.worlds.specs.Range.{CanBeLaid}
-use Rattle.worlds.specs.Square.{IsIn}
-use Rattle.square_rows.specs.Rows.{AreRows, IsNumber, root_level, world_of_rows}
-use Rattle.square_rows.specs.Laid.{IsCellOf, AreParted, AreThoseIn, IsLaid, IsOnPlane, RootHolds}
+use Rattle.square_rows.specs.Rows.{AreRows, world_of_rows}
 use Rattle.square_rows.proofs.lay.lay_rows.Given as goal
 
 abbrev pub invariant-loop-rest : goal.invariant-loop-rest

@@ -1,4 +1,4 @@
-use Rattle.std.proofs.Common.{arith, refl, sym}
+use Rattle.std.proofs.Common.{arith, refl}
 use Rattle.std.proofs.lemmas.Int.{ints}
 use Rattle.square_rows.proofs.Laying.{those-passed_on}
 use Rattle.square_rows.proofs.lay.parted.Goals as goal

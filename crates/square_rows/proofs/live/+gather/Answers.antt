@@ -1,10 +1,8 @@
-use Rattle.std.proofs.Common.{◌≡◌, ℕ, suc, ◌-◌, ◌<◌, ◌≤◌, ◌^◌, List, get_or, refl, sym, ap, ◌∙◌, subst, arith, lit<, rules, Some, None, SFits, w64, pos, ◌+ℤ◌, ◌≤ℤ◌, OnOk}
-use Rattle.std.specs.Prelude.{unsigned_abs}
-use Rattle.std.proofs.lemmas.Int.{ints, fits_signed_from_abs}
+use Rattle.std.proofs.Common.{◌≡◌, suc, ◌-◌, ◌<◌, ◌^◌, get_or, refl, sym, ap, ◌∙◌, subst, arith, lit<, rules, Some, pos, ◌+ℤ◌}
+use Rattle.std.proofs.lemmas.Int.{ints}
 use Rattle.worlds.specs.World.{World}
 use Rattle.square_rows.specs.Entries.{world_of, world_of-update, AllKept-insert, IsKept-passed}
-use Rattle.worlds.specs.Range.{IsInside}
-use Rattle.worlds.specs.Square.{put_square, IsIn}
+use Rattle.worlds.specs.Square.{put_square}
 use Rattle.square_rows.specs.Rows.{IsNumber, square_in}
 use Rattle.square_rows.specs.Laid.{IsOnPlane, IsClear}
 use Rattle.square_rows.proofs.Sound.{state-IsNumber}

@@ -1,8 +1,7 @@
-use Rattle.std.proofs.Common.{◌≡◌, ◌≤◌, ◌^◌, List, length, map, refl, sym, ap, ◌∙◌, subst, arith}
-use Rattle.worlds.specs.World.{World, blank}
+use Rattle.std.proofs.Common.{◌≡◌, ◌^◌, length, map, refl, sym, ap, ◌∙◌, subst}
+use Rattle.worlds.specs.World.{World}
 use Rattle.worlds.specs.Live.{live, of_cell}
 use Rattle.square_rows.specs.Entries.{world_of, world_of-none}
-use Rattle.worlds.specs.declared.cell.Cell.{Cell}
 use Rattle.worlds.specs.Square.{put_square}
 use Rattle.square_rows.specs.Rows.{IsNumber, square_in, root_level, edge_of, world_of_rows}
 use Rattle.square_rows.proofs.Roots.{rooted}
