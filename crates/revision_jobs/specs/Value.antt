@@ -1,7 +1,6 @@
 -- What an entry comes to, and when it can be worked.
 use Rattle.std.specs.Prelude.{ℕ, ◌≤◌, ◌^◌, List, All, ⊤}
 use Rattle.std.specs.Arc.{arc_value}
-use Rattle.worlds.specs.declared.cell.CellSet.{CellSet}
 use Rattle.worlds.specs.World.{World}
 use Rattle.worlds.specs.Lay.{lay}
 use Rattle.worlds.specs.Iterate.{iterate}
