@@ -1,14 +1,11 @@
 -- The number that the words choose.
-use Rattle.std.proofs.Common.{◌≡◌, ◌∙◌, ◌<◌, ◌≤◌, ap, sym, subst, refl, ℕ, List, Result, Ok, Err, Option, Some, None, true, IfOk, codes, arith, ◌^◌}
-use Rattle.std.specs.Str.Parse.{ParsesUnsigned, digits_value, without_leading_plus}
-use Rattle.clap.specs.Words.{App, HasMatchesOf, IsParsedFrom, Text, app_of, found_of, is_simple, matches_of, one_of, one_text, rows_of}
-use Rattle.clap.specs.Matches.{ReadsOne}
+use Rattle.std.proofs.Common.{◌≡◌, ◌∙◌, ap, sym, subst, refl, List, Result, Ok, Err, Some, true, IfOk, codes}
+use Rattle.clap.specs.Words.{App, HasMatchesOf, IsParsedFrom, Text, app_of, found_of, is_simple, matches_of, one_of, rows_of}
 use Rattle.clap.proofs.WalkLemmas.{one_text-rows}
 use Rattle.clap.specs.declared.builder.command.Command.{Command}
 use Rattle.clap.specs.declared.error.Error.{Error}
 use Rattle.clap.specs.declared.parser.matches.ArgMatches.{ArgMatches}
-use Rattle.clap.specs.declared.parser.matches.Found.{Found}
-use Rattle.desk_words.specs.Command.{AlwaysGives, Chooses, Gives, desk, squares_text}
+use Rattle.desk_words.specs.Command.{AlwaysGives, Gives, desk, squares_text}
 
 desk_is_simple : is_simple desk ≡ true
 desk_is_simple = refl

@@ -1,5 +1,5 @@
 -- What is read, after a parse, of the one argument of a command, which has a default.
-use Rattle.std.proofs.Common.{◌≡◌, ◌⊎◌, ◌∙◌, ◌<◌, ◌≤◌, ◌++◌, ◌∷◌, ◌||◌, ap, ℕ, zero, suc, Bool, true, false, List, [], length, is_some, Option, Some, None, refl, sym, subst, inl, inr, arith, slice_index, codes}
+use Rattle.std.proofs.Common.{◌≡◌, ◌∙◌, ◌<◌, ◌≤◌, ◌++◌, ◌∷◌, ◌||◌, ap, ℕ, zero, suc, Bool, true, false, List, [], length, is_some, Option, Some, None, refl, sym, subst, inl, inr, arith, slice_index, codes}
 use Rattle.std.specs.List.{All, slice_index_or}
 use Rattle.std.specs.Str.{bytes_eq}
 use Rattle.std.specs.Prelude.{find, option_map, slice_get}

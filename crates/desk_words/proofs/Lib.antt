@@ -1,3 +1,4 @@
 pub mod Requests
 pub mod Defaults
 pub mod Chosen
+pub mod Given

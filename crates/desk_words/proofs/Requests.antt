@@ -1,5 +1,5 @@
 -- What is read where no word follows the program's name, or one word for help does.
-use Rattle.std.proofs.Common.{◌≡◌, ◌≤◌, ℕ, inl, inr, refl, sym, arith, ap, ◌∙◌, List, [], ◌∷◌, Option, Some, Result, Ok, Err, IfOk, IsErrAnd, codes, length, map}
+use Rattle.std.proofs.Common.{◌≡◌, ◌≤◌, ℕ, inl, inr, refl, sym, arith, ap, ◌∙◌, List, [], ◌∷◌, Some, Result, Ok, Err, IfOk, IsErrAnd, codes, length, map}
 use Rattle.std.specs.Prelude.{MatchResult}
 use Rattle.std.specs.Str.Parse.{digits_value, without_leading_plus}
 use Rattle.std.proofs.Math.Path.{subst}
@@ -39,7 +39,7 @@ faults-help [] asks = absurd asks
 faults-help (name ∷ words) (inl short) = ap (λ rest. faults (name ∷ rest)) short ∙ faults-short name
 faults-help (name ∷ words) (inr long) = ap (λ rest. faults (name ∷ rest)) long ∙ faults-long name
 
-only_memory : (error : Error) → HasKind [] error → kind_of error ≡ OutOfMemory
+pub only_memory : (error : Error) → HasKind [] error → kind_of error ≡ OutOfMemory
 only_memory error (inl memory) = memory
 only_memory error (inr none) = absurd none
 

@@ -1,6 +1,7 @@
 -- What the command line may say.
-use Rattle.std.specs.Prelude.{◌≡◌, ◌⊎◌, ℕ, ◌≤◌, List, [], ◌∷◌, Result, IfErr, IfOk, IsErrAnd, MatchResult, codes, length, ◌≢◌}
+use Rattle.std.specs.Prelude.{◌≡◌, ◌⊎◌, ℕ, ◌≤◌, List, [], ◌∷◌, ◌++◌, Result, IfErr, IfOk, IsErrAnd, MatchResult, codes, length, ◌≢◌}
 use Rattle.std.specs.IoError.{error_kind}
+use Rattle.std.specs.Str.Parse.{IsNumeral, digits_value}
 use Rattle.std.specs.declared.io.Error.{Error}
 use Rattle.std.specs.declared.io.ErrorKind.TheVariants.{OutOfMemory}
 use Rattle.desk_words.specs.Fault.{IsHelp, IsRefusal}
@@ -12,6 +13,14 @@ use Rattle.desk_words.specs.declared.words.WordsFault.TheVariants.{NoMemory}
 abbrev pub AsksForHelp : List (List ℕ) → Type 0
 AsksForHelp [] = ⊥
 AsksForHelp (name ∷ words) = (words ≡ codes "-h" ∷ []) ⊎ (words ≡ codes "--help" ∷ [])
+
+-- after the program's name stands the option with n in digits, a number of its range, and no other word
+abbrev pub AsksForSquares : List (List ℕ) → ℕ → Type 0
+AsksForSquares [] n = ⊥
+AsksForSquares (name ∷ words) n =
+    (digits : List ℕ) × IsNumeral 10 digits × (digits_value 10 digits ≡ n)
+    × ((words ≡ codes "--squares" ∷ digits ∷ []) ⊎ (words ≡ (codes "--squares=" ++ digits) ∷ []))
+    × (64 ≤ n) × (n ≤ 16777216)
 
 -- what is chosen where the words choose nothing
 abbrev pub IsDefault : Options → Type 0
@@ -25,6 +34,8 @@ IsInRange options = (64 ≤ options.squares) × (options.squares ≤ 16777216)
 pub record ReadsWords (words : List (List ℕ)) (result : Result Options WordsFault) : Type 0 where
   -- without a word behind the program's name the defaults are chosen, and nothing is refused but for memory
   pub alone : length words ≤ 1 → MatchResult result IsDefault (λ fault. fault ≡ NoMemory)
+  -- a number of squares that an engine may hold is chosen, and refused but for memory
+  pub given : (n : ℕ) → AsksForSquares words n → MatchResult result (λ options. options.squares ≡ n) (λ fault. fault ≡ NoMemory)
   -- help is answered where it is asked for
   pub help : AsksForHelp words → IsErrAnd result IsHelp
 

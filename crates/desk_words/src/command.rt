@@ -1,8 +1,8 @@
 //! The command that the words belong to, as `clap` knows it.
-ghost use Rattle.std.specs.Prelude.{◌≡◌, ◌≤◌, IfOk, IsErrAnd, MatchResult, None, false, length, map};
+ghost use Rattle.std.specs.Prelude.{◌≡◌, ◌≤◌, IfOk, IsErrAnd, MatchResult, None, ℕ, false, length, map};
 ghost use Rattle.clap.specs.Facts.{WantsDefault};
 ghost use Rattle.clap.specs.Words.{FailsBy, IsPlainArg, app_of, found_of, kind_of, rule_of};
-ghost use Rattle.desk_words.specs.Words.{AsksForHelp, IsDefault};
+ghost use Rattle.desk_words.specs.Words.{AsksForHelp, AsksForSquares, IsDefault};
 ghost use Rattle.desk_words.specs.Command.{AlwaysGives, Chooses, Gives, IsHelpOrMemory};
 ghost use Rattle.desk_words.specs.Command.{desk, faults, squares_rule};
 
@@ -59,6 +59,8 @@ pub(crate) fn read<'a, S: AsStr>(alloc: Global, words: &'a [S]) -> Result<Option
     ensures chosen { IfOk result (λ options. Chooses (map S.text words.now) options.squares) }
     ensures alone { length words.now ≤ 1
         → MatchResult result IsDefault (λ error. kind_of error ≡ ErrorKind.OutOfMemory) }
+    ensures given { (n : ℕ) → AsksForSquares (map S.text words.now) n → MatchResult result
+        (λ options. options.squares ≡ n) (λ error. kind_of error ≡ ErrorKind.OutOfMemory) }
     ensures help { AsksForHelp (map S.text words.now) → IsErrAnd result IsHelpOrMemory }
 {
     let matches = parsed(alloc, words)?;

@@ -2,6 +2,7 @@ use Rattle.std.proofs.Common.{◌≡◌, [], Ok, rules, map, IfOk}
 use Rattle.clap.specs.Words.{FailsBy}
 use Rattle.desk_words.specs.declared.options.Options.{Options}
 use Rattle.desk_words.specs.Command.{Chooses, faults}
+use Rattle.desk_words.proofs.Given.{given_reads}
 use Rattle.desk_words.proofs.Requests.{alone_reads, help_answers}
 use Rattle.desk_words.proofs.command.read.Goals as goal
 
@@ -10,6 +11,12 @@ returns-in_err-matches-clause-alone g c =
     let fails : FailsBy (faults (map g.S.AsStr.text c.args.words.now)) c.from_residual.result = search rules in
     let chosen : IfOk c.from_residual.result (λ (options : Options). Chooses (map g.S.AsStr.text c.args.words.now) options.squares) = search rules in
     alone_reads g.S.AsStr.text c.args.words.now c.from_residual.result fails chosen
+
+pub returns-in_err-matches-clause-given : goal.returns-in_err-matches-clause-given
+returns-in_err-matches-clause-given g c =
+    let fails : FailsBy (faults (map g.S.AsStr.text c.args.words.now)) c.from_residual.result = search rules in
+    let chosen : IfOk c.from_residual.result (λ (options : Options). Chooses (map g.S.AsStr.text c.args.words.now) options.squares) = search rules in
+    given_reads (map g.S.AsStr.text c.args.words.now) c.from_residual.result fails chosen
 
 pub returns-in_err-matches-clause-help : goal.returns-in_err-matches-clause-help
 returns-in_err-matches-clause-help g c =
@@ -21,6 +28,12 @@ returns-clause-alone g c =
     let reads : faults (map g.S.AsStr.text c.args.words.now) ≡ [] = c.in_ok-matches.ensures.faults in
     let chosen : Chooses (map g.S.AsStr.text c.args.words.now) c.in-Some.squares = search rules in
     alone_reads g.S.AsStr.text c.args.words.now (Ok (record { squares = c.in-Some.squares })) reads chosen
+
+pub returns-clause-given : goal.returns-clause-given
+returns-clause-given g c =
+    let reads : faults (map g.S.AsStr.text c.args.words.now) ≡ [] = c.in_ok-matches.ensures.faults in
+    let chosen : Chooses (map g.S.AsStr.text c.args.words.now) c.in-Some.squares = search rules in
+    given_reads (map g.S.AsStr.text c.args.words.now) (Ok (record { squares = c.in-Some.squares })) reads chosen
 
 pub returns-clause-help : goal.returns-clause-help
 returns-clause-help g c asks =
