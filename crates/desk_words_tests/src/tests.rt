@@ -1,5 +1,5 @@
 //! Words, and the beginnings and ends of the texts about them.
-use desk_words::{WordsFault, check_words, read_words};
+use desk_words::{Options, WordsFault, check_words, read_words};
 use std::alloc::Global;
 use std::env::FillError;
 use std::fmt::Debug;
@@ -37,12 +37,19 @@ impl Env for Started {
 // What is said of words.
 #[derive(Clone, Copy, Debug, PartialEq, Eq)]
 enum Verdict {
-    Nothing,
+    // They are read, and choose so many squares.
+    Squares(u32),
     Help,
     // An unknown word.
     Unknown,
     // A word with a value that it doesn't take.
     Value,
+    // A number of squares that is none, or too few or too many.
+    Number,
+    // The option a second time.
+    Again,
+    // The option without its number.
+    Missing,
     // A word that is no UTF-8.
     NoText,
     Other,
@@ -50,7 +57,8 @@ enum Verdict {
 
 const END: &str = "\n\nFor more information, try '--help'.\n";
 
-const HELP: &str = "\n\nUsage: desk\n\nOptions:\n  -h, --help  Print help\n";
+const HELP: &str =
+    "\n\nUsage: desk [OPTIONS]\n\nOptions:\n      --squares <N>  How many squares an engine may hold, from 64 to 16777216. A square takes about 48 bytes: 4194304 take about 200 MB [default: 4194304]\n  -h, --help         Print help\n";
 
 fn refusal(text: &str) -> Verdict {
     if !text.ends_with(END) {
@@ -59,6 +67,12 @@ fn refusal(text: &str) -> Verdict {
         Verdict::Unknown
     } else if text.starts_with("error: unexpected value 'all' for '") {
         Verdict::Value
+    } else if text.starts_with("error: invalid value '") {
+        Verdict::Number
+    } else if text.starts_with("error: the argument '--squares <N>' cannot be used multiple") {
+        Verdict::Again
+    } else if text.starts_with("error: a value is required for '--squares <N>' but none") {
+        Verdict::Missing
     } else if text.starts_with("error: invalid UTF-8 was detected in one or more arguments") {
         Verdict::NoText
     } else {
@@ -66,9 +80,9 @@ fn refusal(text: &str) -> Verdict {
     }
 }
 
-fn said(answer: &Result<(), WordsFault>) -> Verdict {
+fn said(answer: &Result<Options, WordsFault>) -> Verdict {
     match answer {
-        Ok(()) => Verdict::Nothing,
+        Ok(options) => Verdict::Squares(options.squares),
         Err(WordsFault::Help(text)) if text.as_str().ends_with(HELP) => Verdict::Help,
         Err(WordsFault::Refused(text)) => refusal(text.as_str()),
         Err(_) => Verdict::Other,
@@ -79,6 +93,8 @@ fn same<T: PartialEq + Debug, A: Debug>(rt: &impl Abort, found: &T, wanted: &T, 
     assert_eq!(rt; *found, *wanted, "at {at:?}");
 }
 
+const DEFAULT: Verdict = Verdict::Squares(4_194_304);
+
 struct Row {
     words: &'static [&'static str],
     said: Verdict,
@@ -87,15 +103,15 @@ struct Row {
 const READ: &[Row] = &[
     Row {
         words: &[],
-        said: Verdict::Nothing,
+        said: DEFAULT,
     },
     Row {
         words: &["desk"],
-        said: Verdict::Nothing,
+        said: DEFAULT,
     },
     Row {
         words: &["desk", "--"],
-        said: Verdict::Nothing,
+        said: DEFAULT,
     },
     Row {
         words: &["desk", "-h"],
@@ -129,6 +145,50 @@ const READ: &[Row] = &[
         words: &["desk", "--help=all"],
         said: Verdict::Value,
     },
+    Row {
+        words: &["desk", "--squares", "64"],
+        said: Verdict::Squares(64),
+    },
+    Row {
+        words: &["desk", "--squares=16777216"],
+        said: Verdict::Squares(16_777_216),
+    },
+    Row {
+        words: &["desk", "--squares", "000100"],
+        said: Verdict::Squares(100),
+    },
+    Row {
+        words: &["desk", "--squares", "63"],
+        said: Verdict::Number,
+    },
+    Row {
+        words: &["desk", "--squares=16777217"],
+        said: Verdict::Number,
+    },
+    Row {
+        words: &["desk", "--squares", "99999999999999999999"],
+        said: Verdict::Number,
+    },
+    Row {
+        words: &["desk", "--squares", "x"],
+        said: Verdict::Number,
+    },
+    Row {
+        words: &["desk", "--squares="],
+        said: Verdict::Number,
+    },
+    Row {
+        words: &["desk", "--squares", "64", "--squares", "65"],
+        said: Verdict::Again,
+    },
+    Row {
+        words: &["desk", "--squares"],
+        said: Verdict::Missing,
+    },
+    Row {
+        words: &["desk", "--squares", "64", "-h"],
+        said: Verdict::Help,
+    },
 ];
 
 fn reads(rt: &impl Abort, alloc: Global, row: &Row) {
@@ -160,8 +220,10 @@ fn starts(rt: &impl Abort, alloc: Global, words: &'static [&'static [u8]], wante
 #[test]
 fn words_come_from_the_start(rt: HostRuntime) {
     let alloc = rt.alloc();
-    starts(&rt, alloc, &[b"desk"], Verdict::Nothing);
+    starts(&rt, alloc, &[b"desk"], DEFAULT);
     starts(&rt, alloc, &[b"desk", b"-h"], Verdict::Help);
     starts(&rt, alloc, &[b"desk", b"work"], Verdict::Unknown);
+    let least: &[&[u8]] = &[b"desk", b"--squares", b"64"];
+    starts(&rt, alloc, least, Verdict::Squares(64));
     starts(&rt, alloc, &[b"desk", b"\xff"], Verdict::NoText);
 }
