@@ -1,5 +1,5 @@
 -- What settling stops for.
-use Rattle.std.proofs.Common.{◌≡◌, ◌⊎◌, inl, inr, ap, Option, None, Some}
+use Rattle.std.proofs.Common.{◌≡◌, inl, inr, ap, Option, None, Some}
 use Rattle.step_engine.specs.declared.evolved.EvolveFault.{EvolveFault}
 use Rattle.dependency_book.specs.declared.need.Need.{Need}
 use Rattle.dependency_book.specs.declared.need.Need.TheVariants.{Step, View}
