@@ -44,7 +44,7 @@ fn answer_counted<W: Write, L: Ledger, M: Ledger>(
 {
     let mut reader = CountedReader::<_, L>::new(pieces, reader_blank);
     let mut writer = CountedWriter::<_, M>::new(writer, writer_blank);
-    let answered = run(alloc, &mut reader, &mut writer);
+    let answered = run(alloc, 4096, &mut reader, &mut writer);
     (answered, writer.into_inner())
 }
 

@@ -36,7 +36,7 @@ const SCRIPTS: &[Row] = &[
         replies: b"refused 80 BadCommand 2\nrefused 80 BadCommand 3\nrefused 80 BadCommand 4\nrefused 80 BadCommand 5\nrefused 80 BadCommand 6\nrefused 80 BadCommand 7\nrefused 80 BadCommand 8\nrefused 80 BadCommand 9\n",
     },
     Row {
-        script: b"set\nset 0\nset 0 0\nset 0 0 1 2\nset 0 0 -1\nset a 0 0\nmark 1\nmark counts\nmark -1 counts\nmark 1 mc\nmark 1 counts 2\n",
+        script: b"set\nset 0\nset 0 0\nset 0 0 1 2\nset 0 0 -1\nset a 0 0\nmark 1\nmark counts\nmark -1 counts\nmark 1 macrocell\nmark 1 counts 2\n",
         replies: b"refused 80 BadCommand 1\nrefused 80 BadCommand 2\nrefused 80 BadCommand 3\nrefused 80 BadCommand 4\nrefused 80 BadCommand 5\nrefused 80 BadCommand 6\nrefused 80 BadCommand 7\nrefused 80 BadCommand 8\nrefused 80 BadCommand 9\nrefused 80 BadCommand 10\nrefused 80 BadCommand 11\n",
     },
     // Texts without their end.
