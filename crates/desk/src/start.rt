@@ -1,7 +1,8 @@
 //! What the program does between its start and its ending.
-ghost use Rattle.std.specs.Prelude.{◌≡◌, ◌<◌, Err, IfSome, MatchResult, OnOk, Result, map, string_bytes};
+ghost use Rattle.std.specs.Prelude.{◌≡◌, ◌<◌, ◌≤◌, Err, IfSome, MatchResult, OnOk, Result, map, string_bytes};
 ghost use Rattle.desk_server.specs.Run.{AnswersAll, AnswersFront};
 ghost use Rattle.desk_words.specs.Words.{Checks};
+ghost use Rattle.desk_words.specs.declared.options.Options.{Options};
 ghost use Rattle.desk_words.specs.declared.words.WordsFault.{WordsFault as Fault};
 ghost use Rattle.desk.specs.Start.{AnswersRead, Answers, RunEnds};
 ghost use Rattle.desk.specs.Ending.{EndsBy};
@@ -14,10 +15,11 @@ use std::io;
 use std::io::{Read, Write};
 use std::sync::ledger::{Blank, Ledger};
 
-// Answers the script that the reader gives, and hands both devices back. Their failures are counted
-// in ledgers of their own, made of the two blanks.
+// Answers the script that the reader gives, where an engine may hold so many squares, and hands
+// both devices back. Their failures are counted in ledgers of their own, made of the two blanks.
 fn answer<R: Read, W: Write, L: Ledger, M: Ledger>(
     alloc: Global,
+    squares: u32,
     reader: R,
     writer: W,
     reader_blank: Blank,
@@ -29,6 +31,7 @@ fn answer<R: Read, W: Write, L: Ledger, M: Ledger>(
     requires writer_name { writer_blank.name ≡ M.name }
     requires writer_parts { writer_blank.parts ≡ M.parts }
     requires writer_some { 0 < writer_blank.parts }
+    requires bound { squares ≤ 16777216 }
     // The replies to the script were written.
     ensures done { OnOk result.0 (IfSome (R.remaining reader)
         (AnswersAll (W.contents writer) (W.contents result.2))) }
@@ -42,12 +45,12 @@ fn answer<R: Read, W: Write, L: Ledger, M: Ledger>(
 {
     let mut reader = CountedReader::<_, L>::new(reader, reader_blank);
     let mut writer = CountedWriter::<_, M>::new(writer, writer_blank);
-    let answered = run(alloc, &mut reader, &mut writer);
+    let answered = run(alloc, squares, &mut reader, &mut writer);
     (answered, reader.into_inner(), writer.into_inner())
 }
 
-/// Reads the words, and answers the script if they are in order, or says why they are not and
-/// hands both devices back untouched. Failures of the devices are counted in ledgers of their own,
+/// Reads the words, and answers the script if they are in order, with the squares that they choose,
+/// or says why they are not and hands both devices back untouched. Failures of the devices are counted in ledgers of their own,
 /// made of the two blanks.
 pub fn start<H: Print + Eprint, R: Read, W: Write, L: Ledger, M: Ledger>(
     rt: &H,
@@ -65,16 +68,17 @@ pub fn start<H: Print + Eprint, R: Read, W: Write, L: Ledger, M: Ledger>(
     requires writer_parts { writer_blank.parts ≡ M.parts }
     requires writer_some { 0 < writer_blank.parts }
     // What the words come to is known, and then how the run ended, or that nothing was touched.
-    ensures { (checked : Result (Unit {0}) Fault)
+    ensures { (checked : Result Options Fault)
         × Checks (λ words. map string_bytes words.items) words.now checked
         × MatchResult checked
         (λ _. RunEnds R.remaining W.contents reader writer result.0 result.1 result.2)
         (λ fault. EndsBy fault result.0 × (result.1 ≡ reader) × (result.2 ≡ writer)) }
 {
     match check_words(alloc, words) {
-        Ok(()) => {
+        Ok(options) => {
             let (answered, reader, writer) = answer::<_, _, L, M>(
                 alloc,
+                options.squares,
                 reader,
                 writer,
                 reader_blank,

@@ -175,6 +175,8 @@ fn writes(rt: &impl Abort, alloc: Global, word: &str, ending: Ending, wanted: &[
 fn words_come_before_the_script(rt: HostRuntime) {
     let alloc = rt.alloc();
     writes(&rt, alloc, "", Ending::Done, b"bye\n");
+    writes(&rt, alloc, "--squares=64", Ending::Done, b"bye\n");
+    writes(&rt, alloc, "--squares=63", Ending::Refused, b"");
     writes(&rt, alloc, "--help", Ending::Done, b"");
     writes(&rt, alloc, "work", Ending::Refused, b"");
 }
