@@ -1,0 +1,126 @@
+#!/usr/bin/env python3
+"""Times desk beside bgolly, Golly's engine without a window, on the same rules and patterns.
+
+    bench/bench.py [--desk PROGRAM] [--golly FOLDER] [--only WORD]
+
+bgolly and its patterns come with Debian's package `golly`. Each program runs once for each pattern;
+the table has the processor seconds of the whole process and the peak of its memory, start-up
+included. bgolly runs its RuleLoader, and both get the rule as a table from the same file.
+"""
+import argparse
+import gzip
+import math
+import os
+import random
+import subprocess
+import sys
+import tempfile
+
+HERE = os.path.dirname(os.path.realpath(__file__))
+SQUARES = 16777216
+
+LIFE = """@RULE LifeTable
+@TABLE
+n_states:2
+neighborhood:Moore
+symmetries:permute
+var a={0,1}
+var b={0,1}
+var c={0,1}
+var d={0,1}
+var e={0,1}
+var f={0,1}
+var g={0,1}
+var h={0,1}
+0,1,1,1,0,0,0,0,0,1
+1,1,1,0,0,0,0,0,0,1
+1,1,1,1,0,0,0,0,0,1
+1,a,b,c,d,e,f,g,h,0
+"""
+
+
+def soup(side):
+    """A square of cells of which one in three lives, as RLE."""
+    chance = random.Random(1)
+    rows = ["".join("o" if chance.random() < 1 / 3 else "b" for _ in range(side)) for _ in range(side)]
+    return f"x = {side}, y = {side}, rule = LifeTable\n" + "$\n".join(rows) + "!\n"
+
+
+def text_of(path):
+    """A file's text, unpacked where it is packed."""
+    opened = gzip.open(path, "rt") if path.endswith(".gz") else open(path, encoding="utf-8")
+    with opened as file:
+        return file.read()
+
+
+def under(text, rule):
+    """A macrocell text under another rule."""
+    lines = [line for line in text.splitlines() if not line.startswith("#R")]
+    return "\n".join([lines[0], f"#R {rule}", *lines[1:]]) + "\n"
+
+
+def cases(golly):
+    """Name, format, pattern, rule file and generations of each case."""
+    patterns, rules = f"{golly}/Patterns", f"{golly}/Rules"
+    loops = text_of(f"{patterns}/Loops/Langtons-Loops.rle")
+    loops_rule = text_of(f"{rules}/Langtons-Loops.rule")
+    primes = text_of(f"{patterns}/WireWorld/primes.mc")
+    galaxy = under(text_of(f"{patterns}/HashLife/metapixel-galaxy.mc.gz"), "LifeTable")
+    return [
+        ("Langton's loops to 2^20", "rle", loops, loops_rule, 2**20),
+        ("Langton's loops to 2^24", "rle", loops, loops_rule, 2**24),
+        ("WireWorld primes to 2^22", "mc", primes, text_of(f"{rules}/WireWorld.rule"), 2**22),
+        ("a soup of 512 by 512 to 2^10", "rle", soup(512), LIFE, 2**10),
+        ("metapixel galaxy to 2^18", "mc", galaxy, LIFE, 2**18),
+    ]
+
+
+def measured(words, given=None):
+    """Processor seconds, peak in MB and output of a program."""
+    with tempfile.TemporaryFile() as said, tempfile.TemporaryFile() as script:
+        script.write((given or "").encode())
+        script.seek(0)
+        child = subprocess.Popen(words, stdin=script, stdout=said, stderr=subprocess.DEVNULL)
+        _, status, used = os.wait4(child.pid, 0)
+        child.returncode = os.waitstatus_to_exitcode(status)
+        said.seek(0)
+        return used.ru_utime + used.ru_stime, used.ru_maxrss / 1024, said.read().decode(errors="replace")
+
+
+def desk_script(form, pattern, rule, generations):
+    return f"rule\n{rule.rstrip()}\nend\nstart {form}\n{pattern.rstrip()}\nend\nmark {generations} counts\nsettle\nshow 1\nquit\n"
+
+
+def main():
+    words = argparse.ArgumentParser(description=__doc__.splitlines()[0])
+    words.add_argument("--desk", default=f"{HERE}/../crates/desk/out/desk")
+    words.add_argument("--golly", default="/usr/share/golly")
+    words.add_argument("--only", default="")
+    given = words.parse_args()
+    ratios = []
+    print("| pattern | desk s | bgolly s | ratio | desk MB | bgolly MB | ratio |")
+    print("|---|---|---|---|---|---|---|")
+    with tempfile.TemporaryDirectory() as room:
+        for name, form, pattern, rule, generations in cases(given.golly):
+            if given.only not in name:
+                continue
+            rule_name = rule.split()[1]
+            for path, text in ((f"{room}/{rule_name}.rule", rule), (f"{room}/pattern.{form}", pattern)):
+                with open(path, "w", encoding="utf-8") as file:
+                    file.write(text)
+            script = desk_script(form, pattern, rule, generations)
+            seconds, peak, said = measured([given.desk, "--squares", str(SQUARES)], script)
+            theirs, their_peak, _ = measured(
+                ["bgolly", "-a", "RuleLoader", "-s", f"{room}/", "-q", "-q", "-m", str(generations), "-i", str(generations), f"{room}/pattern.{form}"]
+            )
+            done = "settled" in said.split()
+            if done:
+                ratios.append(seconds / theirs)
+            print(f"| {name} | {seconds:.2f}{'' if done else ' (unsettled)'} | {theirs:.2f} | {seconds / theirs:.2f} | {peak:.0f} | {their_peak:.0f} | {peak / their_peak:.2f} |", flush=True)
+    if ratios:
+        print(f"\nGeometric mean of the times: {math.exp(sum(map(math.log, ratios)) / len(ratios)):.2f}")
+    return 0
+
+
+if __name__ == "__main__":
+    sys.exit(main())
