@@ -1,3 +1,4 @@
 pub mod Links
 pub mod Numbers
 pub mod Tables
+pub mod Growth

@@ -2,3 +2,4 @@ pub mod Chains
 pub mod Squares
 pub mod Faults
 pub mod Kept
+pub mod Centred

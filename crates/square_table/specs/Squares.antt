@@ -34,6 +34,17 @@ square_in rows zero n = one n
 square_in rows (suc k) n =
     four (square_in rows k (kid_at rows n 0)) (square_in rows k (kid_at rows n 1)) (square_in rows k (kid_at rows n 2)) (square_in rows k (kid_at rows n 3))
 
+-- the four name squares of level k
+pub record AreNumbers (rows : List (List ℕ)) (k : ℕ) (kids : List ℕ) : Type 0 where
+  pub nw : IsNumber rows k (get_or kids 0 0)
+  pub ne : IsNumber rows k (get_or kids 1 0)
+  pub sw : IsNumber rows k (get_or kids 2 0)
+  pub se : IsNumber rows k (get_or kids 3 0)
+
+-- the square whose quadrants of level k these numbers stand for
+abbrev pub square_of : List (List ℕ) → ℕ → List ℕ → squares.Square
+square_of rows k kids = four (square_in rows k (get_or kids 0 0)) (square_in rows k (get_or kids 1 0)) (square_in rows k (get_or kids 2 0)) (square_in rows k (get_or kids 3 0))
+
 abbrev pub level_of : Square → ℕ
 level_of s = s.level
 
@@ -48,6 +59,18 @@ pub record IsHeld (t : Table) (s : Square) : Type 0 where
 -- its cells
 abbrev pub cells_of : Table → Square → squares.Square
 cells_of t s = square_in t.rows (level_of s) (number_of s)
+
+-- n is the number of the square whose quadrants have these numbers
+pub record IsSquareOf (rows : List (List ℕ)) (kids : List ℕ) (n : ℕ) : Type 0 where
+  pub above : first_number ≤ n
+  pub there : n < first_number + length rows
+  pub listed : kids_at rows n ≡ kids
+
+-- the one table with more rows, or none, behind its own is the other
+pub record Grows (old new : Table) : Type 0 where
+  pub limit : new.limit ≡ old.limit
+  pub more : List (List ℕ)
+  pub rows : new.rows ≡ old.rows ++ more
 
 -- each square of the one table is one of the other, with the same cells
 pub record Keeps (old new : Table) : Type 0 where
