@@ -1,2 +1,4 @@
 pub mod Grids
 pub mod Steps
+pub mod Nine
+pub mod Below
