@@ -82,10 +82,12 @@ IsBelow-fours_of u (a ∷ b ∷ c ∷ d ∷ e ∷ f ∷ g ∷ h ∷ i ∷ j ∷ 
 
 IsBelow-later : (u : ℕ) (next : List ℕ → ℕ) → Keeps u next → 0 < u → (s : Square) → IsBelow u s → IsBelow u (later next s)
 unfolding IsBelow
-IsBelow-later u next keeps some (four (four a b c d) (four e f g h) (four i j k l) (four m n o p)) is = (next_cell u next keeps some d b e g m j i c a is.0.3 is.0.1 is.1.0 is.1.2 is.3.0 is.2.1 is.2.0 is.0.2 is.0.0,
- next_cell u next keeps some g e f h n m j d b is.1.2 is.1.0 is.1.1 is.1.3 is.3.1 is.3.0 is.2.1 is.0.3 is.0.1,
- next_cell u next keeps some j d g m o l k i c is.2.1 is.0.3 is.1.2 is.3.0 is.3.2 is.2.3 is.2.2 is.2.0 is.0.2,
- next_cell u next keeps some m g h n p o l j d is.3.0 is.1.2 is.1.3 is.3.1 is.3.3 is.3.2 is.2.3 is.2.1 is.0.3)
+IsBelow-later u next keeps some (four (four a b c d) (four e f g h) (four i j k l) (four m n o p)) is = (
+  next_cell u next keeps some d b e g m j i c a is.0.3 is.0.1 is.1.0 is.1.2 is.3.0 is.2.1 is.2.0 is.0.2 is.0.0,
+  next_cell u next keeps some g e f h n m j d b is.1.2 is.1.0 is.1.1 is.1.3 is.3.1 is.3.0 is.2.1 is.0.3 is.0.1,
+  next_cell u next keeps some j d g m o l k i c is.2.1 is.0.3 is.1.2 is.3.0 is.3.2 is.2.3 is.2.2 is.2.0 is.0.2,
+  next_cell u next keeps some m g h n p o l j d is.3.0 is.1.2 is.1.3 is.3.1 is.3.3 is.3.2 is.2.3 is.2.1 is.0.3,
+)
 IsBelow-later u next keeps some (one s) is = is
 IsBelow-later u next keeps some (four (one s) ne sw se) is = is
 IsBelow-later u next keeps some (four (four a b c d) (one s) sw se) is = is
@@ -107,21 +109,24 @@ IsBelow-in_two u f g first second (four nw ne sw se) is =
     let l = first se is.3 in
     (second _ (a, b, d, e), second _ (b, c, e, h), second _ (d, e, i, j), second _ (e, h, j, l))
 
-IsBelow-result : (u : ℕ) (next : List ℕ → ℕ) → Keeps u next → 0 < u → (k n : ℕ) (s : Square) → IsBelow u s → IsBelow u (result next k n s)
+pub IsBelow-result : (u : ℕ) (next : List ℕ → ℕ) → Keeps u next → 0 < u → (k n : ℕ) (s : Square) → IsBelow u s → IsBelow u (result next k n s)
 unfolding result
-IsBelow-result u next keeps some zero zero s is = IsBelow-middle u s is
+IsBelow-result u next keeps some k zero s is = IsBelow-middle u s is
 IsBelow-result u next keeps some zero (suc n) s is = IsBelow-later u next keeps some s is
-IsBelow-result u next keeps some (suc k) n s is =
+IsBelow-result u next keeps some (suc k) (suc i) s is =
+    let n = suc i in
     IsBelow-in_two u (result next k (min n (2 ^ k))) (result next k (n - min n (2 ^ k))) (IsBelow-result u next keeps some k (min n (2 ^ k))) (IsBelow-result u next keeps some k (n - min n (2 ^ k))) s is
 
 -- where each state of a square is below a number, so is each of those that are put to the rule
 pub Puts-below : (u : ℕ) (next : List ℕ → ℕ) → Keeps u next → 0 < u → (k n : ℕ) (s : Square) → IsBelow u s → Puts next k n s (IsBelow u)
 unfolding Puts
-Puts-below u next keeps some zero zero s is = tt
+Puts-below u next keeps some k zero s is = tt
 Puts-below u next keeps some zero (suc n) s is = is
-Puts-below u next keeps some (suc k) n s is =
+Puts-below u next keeps some (suc k) (suc i) s is =
+    let n = suc i in
     let m = min n (2 ^ k) in
     let nine = IsBelow-nine_of u s is in
-    let made = All-map (IsBelow u) (result next k m) (nine_of s) (All-weaker (IsBelow u) (λ q. IsBelow u (result next k m q)) (IsBelow-result u next keeps some k m) (nine_of s) nine) in
-    (All-weaker (IsBelow u) (λ q. Puts next k m q (IsBelow u)) (Puts-below u next keeps some k m) (nine_of s) nine,
-        All-weaker (IsBelow u) (λ q. Puts next k (n - m) q (IsBelow u)) (Puts-below u next keeps some k (n - m)) _ (IsBelow-fours_of u _ made))
+    let made = All-map (IsBelow u) (result next k m) (nine_of s) (All-weaker (IsBelow u) (λ q. IsBelow u (result next k m q)) (IsBelow-result u next keeps some k m) (nine_of s) nine) in (
+      All-weaker (IsBelow u) (λ q. Puts next k m q (IsBelow u)) (Puts-below u next keeps some k m) (nine_of s) nine,
+      All-weaker (IsBelow u) (λ q. Puts next k (n - m) q (IsBelow u)) (Puts-below u next keeps some k (n - m)) _ (IsBelow-fours_of u _ made),
+    )

@@ -2,3 +2,4 @@ pub mod Grids
 pub mod Steps
 pub mod Nine
 pub mod Below
+pub mod InTwo

@@ -15,11 +15,11 @@ fours_of other = []
 
 -- P holds of each square of level 2 that is put to the rule on the way to the result of a square of level k + 2
 unfoldable pub Puts : (List ℕ → ℕ) → ℕ → ℕ → Square → (Square → Type 0) → Type 0
-Puts next zero zero s P = ⊤
+Puts next k zero s P = ⊤
 Puts next zero (suc n) s P = P s
-Puts next (suc k) n s P =
-    All (λ q. Puts next k (min n (2 ^ k)) q P) (nine_of s)
-    × All (λ q. Puts next k (n - min n (2 ^ k)) q P) (fours_of (map (result next k (min n (2 ^ k))) (nine_of s)))
+Puts next (suc k) (suc n) s P =
+    All (λ q. Puts next k (min (suc n) (2 ^ k)) q P) (nine_of s)
+    × All (λ q. Puts next k (suc n - min (suc n) (2 ^ k)) q P) (fours_of (map (result next k (min (suc n) (2 ^ k))) (nine_of s)))
 
 -- each of its states is below n
 unfoldable pub IsBelow : ℕ → Square → Type 0
