@@ -3,3 +3,4 @@ pub mod Squares
 pub mod Faults
 pub mod Kept
 pub mod Centred
+pub mod Loading

@@ -1,5 +1,5 @@
 -- What the numbers of a table mean.
-use Rattle.std.specs.Prelude.{◌≡◌, ◌↔◌, ℕ, zero, suc, ◌+◌, ◌-◌, ◌<◌, ◌≤◌, List, [], ◌∷◌, ◌++◌, length, get_or, slice_index_or}
+use Rattle.std.specs.Prelude.{◌≡◌, ◌↔◌, ◌⊎◌, ℕ, zero, suc, ◌+◌, ◌-◌, ◌<◌, ◌≤◌, List, [], ◌∷◌, ◌++◌, length, get_or, slice_index_or}
 use Rattle.worlds.specs.Square as squares
 use Rattle.worlds.specs.Square.{one, four}
 use Rattle.square_table.specs.declared.square.Square.{Square}
@@ -100,6 +100,14 @@ joined t at = four (cells_of t (at 0)) (cells_of t (at 1)) (cells_of t (at 2)) (
 -- the table with one more row
 abbrev pub with_row : Table → List ℕ → Table
 with_row t kids = record { rows = t.rows ++ kids ∷ []; limit = t.limit }
+
+-- each state among the quadrants of the rows is below c
+pub record AllStatesBelow (c : ℕ) (rows : List (List ℕ)) : Type 0 where
+  pub each : (i q : ℕ) → i < length rows → q < 4 → get_or (get_or rows i []) q 0 < first_number → get_or (get_or rows i []) q 0 < c
+
+-- the one table is the other, or has one more row, of these quadrants
+abbrev pub GrowsBy : List ℕ → Table → Table → Type 0
+GrowsBy kids old new = (new ≡ old) ⊎ (new ≡ with_row old kids)
 
 -- no row has these quadrants
 abbrev pub Lacks : List (List ℕ) → List ℕ → Type 0

@@ -10,6 +10,7 @@
 mod chains;
 mod fault;
 mod laws;
+mod load;
 mod square;
 mod table;
 

@@ -2,7 +2,7 @@
 ghost use Rattle.std.specs.Prelude.{◌≡◌, ℕ, ◌+◌, ◌-◌, ◌^◌, ◌<◌, ◌≤◌, length, map, slice_index_or, vec_len, [], ◌∷◌, ◌++◌, IfOk, IfSome, IfNone, OnOk, OnErr, Err};
 ghost use Rattle.worlds.specs.Square.{one, empty_square};
 ghost use Rattle.square_table.specs.Chains.{kids_of, IsChained, IsAbsent};
-ghost use Rattle.square_table.specs.Squares.{Table, IsNumber, IsHeld, IsSquareOf, Grows, Keeps, AreFour, Lacks, with_row, joined, cells_of, first_number, kids_at, level_of, number_of, AreDistinct};
+ghost use Rattle.square_table.specs.Squares.{Table, IsNumber, IsHeld, IsSquareOf, Grows, GrowsBy, Keeps, AreFour, Lacks, with_row, joined, cells_of, first_number, kids_at, level_of, number_of, AreDistinct};
 ghost use Rattle.square_table.specs.Kept.{IsRowOf};
 ghost use Rattle.square_table.specs.declared.square.Square.{Square};
 
@@ -87,6 +87,11 @@ impl<'a> SquareTable<'a> {
             limit,
             alloc,
         })
+    }
+
+    // Where its memory comes from.
+    pub(crate) fn alloc(&self) -> Global {
+        self.alloc
     }
 
     /// How many squares it holds, cells not counted.
@@ -178,6 +183,7 @@ impl<'a> SquareTable<'a> {
     fn row(&mut self, kids: [u32; 4]) -> Result<Numbered<'a>, TableFault>
         requires { length kids ≡ 4 }
         ensures grows { Grows self.old self.new }
+        ensures one { GrowsBy kids self.old self.new }
         ensures row { IfOk result (IsRowOf self.new.rows kids) }
         ensures unchanged { OnErr result (self.new ≡ self.old) }
         ensures full { result ≡ Err TableFault.NoRoom → length self.old.rows ≡ self.old.limit }
@@ -205,6 +211,7 @@ impl<'a> SquareTable<'a> {
     /// leaves the table as it was.
     pub fn join_numbers(&mut self, kids: [u32; 4]) -> Result<u32, TableFault>
         ensures grows { Grows self.old self.new }
+        ensures one { GrowsBy kids self.old self.new }
         ensures square { IfOk result (IsSquareOf self.new.rows kids) }
         ensures unchanged { OnErr result (self.new ≡ self.old) }
         ensures full { result ≡ Err TableFault.NoRoom → length self.old.rows ≡ self.old.limit }
