@@ -5,3 +5,7 @@ pub mod Next
 pub mod Offsets
 pub mod Rooms
 pub mod Together
+pub mod Reaching
+pub mod Centring
+pub mod Joins
+pub mod Evolving

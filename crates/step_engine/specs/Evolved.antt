@@ -1,5 +1,9 @@
 -- What an engine reports of its work, and why it refuses.
 use Rattle.std.specs.Prelude.{ℕ, List, codes}
+use Rattle.square_table.specs.declared.fault.TableFault.{TableFault}
+use Rattle.square_table.specs.declared.fault.TableFault.TheVariants as table
+use Rattle.hash_engine.specs.declared.fault.ResultFault.{ResultFault}
+use Rattle.hash_engine.specs.declared.fault.ResultFault.TheVariants as results
 use Rattle.step_engine.specs.declared.evolved.Report.{Report}
 use Rattle.step_engine.specs.declared.evolved.EvolveFault.{EvolveFault}
 use Rattle.step_engine.specs.declared.evolved.EvolveFault.TheVariants.{NoRoom, Stopped, NoMemory}
@@ -19,3 +23,13 @@ abbrev pub name_of : EvolveFault → List ℕ
 name_of NoMemory = codes "NoMemory"
 name_of NoRoom = codes "NoRoom"
 name_of Stopped = codes "Stopped"
+
+-- a refusal of a table of squares, as the engine's
+abbrev pub of_table : TableFault → EvolveFault
+of_table table.NoRoom = NoRoom
+of_table table.NoMemory = NoMemory
+
+-- why a square has no result, as the engine's refusal
+abbrev pub of_result : ResultFault → EvolveFault
+of_result (results.Table fault) = of_table fault
+of_result results.Stopped = Stopped
