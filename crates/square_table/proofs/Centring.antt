@@ -1,5 +1,5 @@
 -- Squares whose middle lies at the origin, and the worlds whose cells they have.
-use Rattle.std.proofs.Common.{◌≡◌, ℕ, zero, suc, ◌+◌, ◌-◌, ◌<◌, ◌≤◌, ◌^◌, List, length, refl, sym, ap, ap₂, ◌∙◌, subst, arith, inl, inr, pow_mono, ℤ, pos, neg_ℤ, ◌+ℤ◌}
+use Rattle.std.proofs.Common.{◌≡◌, ℕ, zero, suc, ◌+◌, ◌-◌, ◌<◌, ◌≤◌, ◌^◌, List, [], ◌∷◌, length, get_or, refl, sym, ap, ap₂, ◌∙◌, subst, arith, inl, inr, pow_mono, ℤ, pos, neg_ℤ, ◌+ℤ◌}
 use Rattle.std.proofs.lemmas.Bool.{cases_lt}
 use Rattle.std.proofs.lemmas.Int.{ints}
 use Rattle.worlds.specs.World.{World, cell, same_world}
@@ -9,7 +9,11 @@ use Rattle.square_rows.specs.declared.row.SquareRow.{SquareRow}
 use Rattle.square_rows.specs.Rows.{AreRows, root_level, root_of, edge_of, world_of_rows}
 use Rattle.square_rows.proofs.Cells.{cell_in-ne, cell_in-nw, cell_in-one, cell_in-se, cell_in-sw, double, in_or_out, offset}
 use Rattle.square_rows.proofs.Roots.{root-IsSquare, root-Fits, root-cells}
-use Rattle.square_table.specs.Centred.{edge, IsCentred}
+use Rattle.square_rows.specs.Rows as listed
+use Rattle.square_table.specs.Centred.{edge, IsCentred, CentredAlike}
+use Rattle.square_table.specs.Packing.{AreRowsOf}
+use Rattle.square_table.specs.Squares.{square_in, square_of, kids_at}
+use Rattle.square_table.proofs.Growth.{square_in-quadrants}
 
 square_at-zero : (w : World) (x y : ℤ) → square_at w 0 x y ≡ one (cell w x y)
 unfolding square_at
@@ -130,7 +134,7 @@ se_of (one s) = one s
 se_of (four nw ne sw se) = se
 
 -- the four that meet in the middle
-middle_of : Square → Square
+pub middle_of : Square → Square
 middle_of s = four (se_of (nw_of s)) (sw_of (ne_of s)) (ne_of (sw_of s)) (nw_of (se_of s))
 
 half_edge : (k : ℕ) → edge (suc (suc k)) +ℤ pos (2 ^ k) ≡ edge (suc k)
@@ -177,3 +181,43 @@ middle_centred w k s high margin is = record {
       subst (λ n. IsIn (2 ^ suc k) (neg_ℤ (pos (2 ^ n))) (neg_ℤ (pos (2 ^ n))) x y) (sym b)
       (record { left = omega (arith, ints); right = omega (arith, ints); top = omega (arith, ints); bottom = omega (arith, ints) });
 }
+
+-- the middle of a square of a table, by the numbers of its quadrants
+middle_in : (rows : List (List ℕ)) (k : ℕ) (kids a b c d : List ℕ) → a ≡ kids_at rows (get_or kids 0 0) → b ≡ kids_at rows (get_or kids 1 0) → c ≡ kids_at rows (get_or kids 2 0) → d ≡ kids_at rows (get_or kids 3 0)
+    → middle_of (square_of rows (suc k) kids) ≡ square_of rows k (get_or a 3 0 ∷ get_or b 2 0 ∷ get_or c 1 0 ∷ get_or d 0 0 ∷ [])
+unfolding middle_of nw_of ne_of sw_of se_of
+middle_in rows k kids a b c d ea eb ec ed =
+    let nw = square_in-quadrants rows k (get_or kids 0 0) ∙ ap (square_of rows k) (sym ea) in
+    let ne = square_in-quadrants rows k (get_or kids 1 0) ∙ ap (square_of rows k) (sym eb) in
+    let sw = square_in-quadrants rows k (get_or kids 2 0) ∙ ap (square_of rows k) (sym ec) in
+    let se = square_in-quadrants rows k (get_or kids 3 0) ∙ ap (square_of rows k) (sym ed) in
+    λ i. four (se_of (nw i)) (sw_of (ne i)) (ne_of (sw i)) (nw_of (se i))
+
+pub middle_alike : (rows : List (List ℕ)) (level : ℕ) (kids a b c d : List ℕ) → 62 < level → a ≡ kids_at rows (get_or kids 0 0) → b ≡ kids_at rows (get_or kids 1 0) → c ≡ kids_at rows (get_or kids 2 0) → d ≡ kids_at rows (get_or kids 3 0)
+    → CentredAlike level (square_of rows (level - 1) kids) (level - 1) (square_of rows (level - 1 - 1) (get_or a 3 0 ∷ get_or b 2 0 ∷ get_or c 1 0 ∷ get_or d 0 0 ∷ []))
+middle_alike rows zero kids a b c d high ea eb ec ed = absurd (omega (arith, high))
+middle_alike rows (suc zero) kids a b c d high ea eb ec ed = absurd (omega (arith, high))
+middle_alike rows (suc (suc k)) kids a b c d high ea eb ec ed = λ w margin is.
+    let less : suc (suc k) - 1 ≡ suc k = omega arith in
+    let two_less : suc (suc k) - 1 - 1 ≡ k = omega arith in
+    let far : 61 ≤ k = omega (arith, high) in
+    let new = get_or a 3 0 ∷ get_or b 2 0 ∷ get_or c 1 0 ∷ get_or d 0 0 ∷ [] in
+    let whole : IsCentred w (suc (suc k)) (square_of rows (suc k) kids) = subst (λ j. IsCentred w (suc (suc k)) (square_of rows j kids)) less is in
+    let part : IsCentred w (suc k) (square_of rows k new) = subst (IsCentred w (suc k)) (middle_in rows k kids a b c d ea eb ec ed) (middle_centred w k _ far margin whole) in
+    subst (λ j. IsCentred w j (square_of rows (suc (suc k) - 1 - 1) new)) (sym less) (subst (λ j. IsCentred w (suc k) (square_of rows j new)) (sym two_less) part)
+
+-- a square by the numbers of its quadrants
+pub quarters_alike : (rows : List (List ℕ)) (k n : ℕ) (kids : List ℕ) → 0 < k → kids ≡ kids_at rows n → CentredAlike k (square_in rows k n) k (square_of rows (k - 1) kids)
+quarters_alike rows zero n kids low e = absurd (omega (arith, low))
+quarters_alike rows (suc k) n kids low e = λ w margin is.
+    let less : k ≡ suc k - 1 = omega arith in
+    subst (λ j. IsCentred w (suc k) (square_of rows j kids)) less (subst (IsCentred w (suc k)) (square_in-quadrants rows k n ∙ ap (square_of rows k) (sym e)) is)
+
+pub alike_then : (i j k : ℕ) (r s t : Square) → CentredAlike i r j s → CentredAlike j s k t → CentredAlike i r k t
+alike_then i j k r s t first second w margin is = second w margin (first w margin is)
+
+-- the plane of rows whose root is centred on a world is that world
+pub rows_centred : (w : World) (rows : List SquareRow) (k : ℕ) (s : Square) → AreRowsOf k s rows → IsCentred w k s → world_of_rows rows ≡ w
+rows_centred w rows k s are is =
+    let root : IsCentred (world_of_rows rows) k s = subst (IsCentred (world_of_rows rows) k) are.root (subst (λ j. IsCentred (world_of_rows rows) j (listed.square_in rows j (length rows))) are.level (root_centred rows are.valid)) in
+    one_world (world_of_rows rows) w k s root is

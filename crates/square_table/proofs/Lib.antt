@@ -5,3 +5,4 @@ pub mod Growth
 pub mod Loading
 pub mod Centring
 pub mod Canonical
+pub mod Packing

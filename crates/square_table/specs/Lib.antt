@@ -4,3 +4,4 @@ pub mod Faults
 pub mod Kept
 pub mod Centred
 pub mod Loading
+pub mod Packing
