@@ -2,7 +2,7 @@
 use Rattle.std.proofs.Common.{◌≡◌, ℕ, zero, suc, ◌-◌, ◌<◌, ◌≤◌, ◌^◌, min, List, [], ◌∷◌, map, get_or, refl, arith, lit<}
 use Rattle.std.specs.Prelude.{All}
 use Rattle.std.proofs.lemmas.List.Elements.{All-nil, All-map, All-weaker}
-use Rattle.worlds.specs.Square.{Square, one, four}
+use Rattle.worlds.specs.Square.{Square, one, four, empty_square}
 use Rattle.worlds.specs.Step.{AreNineBelow}
 use Rattle.hash_life.specs.Result.{between, amid, middle, later, state_of, next_of, in_two, result}
 use Rattle.hash_life.specs.Puts.{nine_of, fours_of, Puts, IsBelow}
@@ -130,3 +130,9 @@ Puts-below u next keeps some (suc k) (suc i) s is =
       All-weaker (IsBelow u) (λ q. Puts next k m q (IsBelow u)) (Puts-below u next keeps some k m) (nine_of s) nine,
       All-weaker (IsBelow u) (λ q. Puts next k (n - m) q (IsBelow u)) (Puts-below u next keeps some k (n - m)) _ (IsBelow-fours_of u _ made),
     )
+
+-- a square with no live cell
+pub IsBelow-empty : (u k : ℕ) → 0 < u → IsBelow u (empty_square k)
+unfolding IsBelow empty_square
+IsBelow-empty u zero some = some
+IsBelow-empty u (suc k) some = let is = IsBelow-empty u k some in (is, is, is, is)

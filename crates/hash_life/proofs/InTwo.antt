@@ -1,14 +1,18 @@
--- Results above level 2, for any number of generations but none.
+-- The cases of a result.
 use Rattle.std.proofs.Common.{◌≡◌, ℕ, zero, suc, ◌-◌, ◌<◌, ◌^◌, min, List, map, refl, arith}
 use Rattle.std.specs.Prelude.{All}
 use Rattle.worlds.specs.Square.{Square}
-use Rattle.hash_life.specs.Result.{later, in_two, result}
+use Rattle.hash_life.specs.Result.{middle, later, in_two, result}
 use Rattle.hash_life.specs.Puts.{nine_of, fours_of, Puts}
 
 pub result-in_two : (next : List ℕ → ℕ) (k n : ℕ) (s : Square) → 0 < n → result next (suc k) n s ≡ in_two (result next k (min n (2 ^ k))) (result next k (n - min n (2 ^ k))) s
 unfolding result
 result-in_two next k zero s some = absurd (omega (arith, some))
 result-in_two next k (suc n) s some = refl
+
+pub result-none : (next : List ℕ → ℕ) (k : ℕ) (s : Square) → result next k 0 s ≡ middle s
+unfolding result
+result-none next k s = refl
 
 pub result-later : (next : List ℕ → ℕ) (n : ℕ) (s : Square) → 0 < n → result next 0 n s ≡ later next s
 unfolding result

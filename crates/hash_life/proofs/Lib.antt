@@ -3,3 +3,4 @@ pub mod Steps
 pub mod Nine
 pub mod Below
 pub mod InTwo
+pub mod Places

@@ -99,7 +99,7 @@ Takes-later next quiet w x y =
     ∙ sym (joined (step next w) 0 x1 x2 y1 y2 refl refl)
 
 -- up to 2^k generations
-Takes-result : (next : List ℕ → ℕ) → next nine_zeros ≡ 0 → (w : World) (k n : ℕ) → n ≤ 2 ^ k → Takes k w (iterate n (step next) w) (result next k n)
+pub Takes-result : (next : List ℕ → ℕ) → next nine_zeros ≡ 0 → (w : World) (k n : ℕ) → n ≤ 2 ^ k → Takes k w (iterate n (step next) w) (result next k n)
 unfolding result iterate
 Takes-result next quiet w k zero few x y = Takes-middle k w x y
 Takes-result next quiet w zero (suc zero) few x y = Takes-later next quiet w x y

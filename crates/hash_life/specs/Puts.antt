@@ -1,6 +1,9 @@
 -- Which squares HashLife puts to the rule on its way to a result.
-use Rattle.std.specs.Prelude.{⊤, ℕ, zero, suc, ◌-◌, ◌<◌, ◌^◌, min, List, [], ◌∷◌, map, All}
-use Rattle.worlds.specs.Square.{Square, one, four}
+use Rattle.std.specs.Prelude.{⊤, ◌≡◌, ℕ, zero, suc, ◌-◌, ◌<◌, ◌≤◌, ◌^◌, min, List, [], ◌∷◌, map, All, ℤ}
+use Rattle.worlds.specs.World.{World}
+use Rattle.worlds.specs.Step.{step, nine_zeros}
+use Rattle.worlds.specs.Iterate.{iterate}
+use Rattle.worlds.specs.Square.{Square, one, four, square_at}
 use Rattle.hash_life.specs.Result.{between, amid, middle, result}
 
 -- the nine squares of half the side that overlap in a square, by rows
@@ -25,3 +28,11 @@ Puts next (suc k) (suc n) s P =
 unfoldable pub IsBelow : ℕ → Square → Type 0
 IsBelow n (one s) = s < n
 IsBelow n (four nw ne sw se) = IsBelow n nw × IsBelow n ne × IsBelow n sw × IsBelow n se
+
+-- the square of level 2 stands somewhere in the world at one of its first n generations
+abbrev pub Stands : (List ℕ → ℕ) → World → ℕ → Square → Type 0
+Stands next w n s = (t : ℕ) × (x : ℤ) × (y : ℤ) × (t < n) × (s ≡ square_at (iterate t (step next) w) 2 x y)
+
+-- each square that is put to the rule on the way to the result of a square of a world stands in it at an earlier generation
+abbrev pub PutsWhatStands : Type 0
+PutsWhatStands = (next : List ℕ → ℕ) → next nine_zeros ≡ 0 → (w : World) (k n : ℕ) (x y : ℤ) → n ≤ 2 ^ k → Puts next k n (square_at w (suc (suc k)) x y) (Stands next w n)

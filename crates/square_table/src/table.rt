@@ -97,7 +97,7 @@ impl<'a> SquareTable<'a> {
     /// How many squares it holds, cells not counted.
     pub fn len(&self) -> u32
         ensures count { result ≡ length self.now.rows }
-        ensures within { result ≤ self.now.limit }
+        ensures within { (result ≤ self.now.limit) × (self.now.limit ≤ 16777216) }
         ensures distinct { AreDistinct self.now.rows }
     {
         self.rows.len() as u32

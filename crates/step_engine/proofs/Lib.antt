@@ -1,4 +1,4 @@
-pub mod Asking
+pub mod Asks
 pub mod Boxes
 pub mod Mentions
 pub mod Next

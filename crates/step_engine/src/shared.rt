@@ -3,6 +3,7 @@ ghost use Rattle.std.specs.Prelude.{◌≡◌, ◌≢◌, ◌≤◌, ◌^◌, �
 ghost use Rattle.worlds.specs.Iterate.{iterate};
 ghost use Rattle.worlds.specs.Step.{step};
 ghost use Rattle.worlds.specs.Range.{HasMargin, AllBelow};
+ghost use Rattle.step_engine.specs.Evolved.{IsWithin};
 
 use crate::evolved::{EvolveFault, Evolved, Report};
 use crate::padding::with_room;
@@ -36,6 +37,7 @@ pub fn evolve_by<Q: Ask, S: Stop>(
     requires fits { HasMargin generations plane.now }
     ensures plane { IfOk result (λ evolved.
         evolved.plane ≡ iterate generations (step (Q.meaning rule.old)) plane.now) }
+    ensures report { IfOk result (λ evolved. IsWithin limit evolved.report) }
 
     // Stopped is answered exactly where the stop said yes.
     ensures stopped { result ≡ Err EvolveFault.Stopped →
@@ -49,14 +51,12 @@ pub fn evolve_by<Q: Ask, S: Stop>(
     let root = with_room(&mut table, start, plane, generations)?;
     let found = result(alloc, &mut table, rule, root, generations, stop)?;
     let plane = table.pack(found.square)?;
-    Ok(Evolved {
-        plane,
-        report: Report {
-            squares: table.len(),
-            fours: 0,
-            base: 0,
-        },
-    })
+    let report = Report {
+        squares: table.len(),
+        fours: found.fours,
+        base: found.base,
+    };
+    Ok(Evolved { plane, report })
 }
 
 /// The plane `generations` later, as `evolve_by` gives it.
@@ -73,6 +73,7 @@ pub fn evolve<R: Next, S: Stop>(
     requires fits { HasMargin generations plane.now }
     ensures plane { IfOk result (λ evolved.
         evolved.plane ≡ iterate generations (step (R.meaning rule.now)) plane.now) }
+    ensures report { IfOk result (λ evolved. IsWithin limit evolved.report) }
 
     // Stopped is answered exactly where the stop said yes.
     ensures stopped { result ≡ Err EvolveFault.Stopped →

@@ -12,15 +12,16 @@ result-requires-clause-below g c = IsBelow-centred _ c.args.plane.now _ _ c.requ
 
 pub pack-requires-clause-world : goal.pack-requires-clause-world
 pack-requires-clause-world g c =
-    let ready = c.in_ok-root.ensures.ready in
-    (iterate c.args.generations (step (g.Q.Ask.meaning c.args.rule.now)) c.args.plane.now,
-        HasMargin-iterate c.args.generations _ c.args.plane.now (g.met.Q.Ask.quiet c.args.rule.now) c.requires.fits,
-        IsCentred-later (g.Q.Ask.meaning c.args.rule.now) (g.met.Q.Ask.quiet c.args.rule.now) c.args.plane.now _ _ c.args.generations _ _
-        ready.level.0 c.in_ok-found.ensures.level ready.room ready.centred c.in_ok-found.ensures.cells)
+    let ready = c.in_ok-root.ensures.ready in (
+      iterate c.args.generations (step (g.Q.Ask.meaning c.args.rule.now)) c.args.plane.now,
+      HasMargin-iterate c.args.generations _ c.args.plane.now (g.met.Q.Ask.quiet c.args.rule.now) c.requires.fits,
+      IsCentred-later (g.Q.Ask.meaning c.args.rule.now) (g.met.Q.Ask.quiet c.args.rule.now) c.args.plane.now _ _ c.args.generations _ _
+          ready.level.0 c.in_ok-found.ensures.held.1 ready.room ready.centred c.in_ok-found.ensures.cells,
+    )
 
 pub returns-clause-plane : goal.returns-clause-plane
 returns-clause-plane g c =
     let ready = c.in_ok-root.ensures.ready in
     one_world c.in_ok-plane.plane _ _ _ c.in_ok-plane.ensures (
-        IsCentred-later (g.Q.Ask.meaning c.args.rule.now) (g.met.Q.Ask.quiet c.args.rule.now) c.args.plane.now _ _ c.args.generations _ _
-        ready.level.0 c.in_ok-found.ensures.level ready.room ready.centred c.in_ok-found.ensures.cells)
+    IsCentred-later (g.Q.Ask.meaning c.args.rule.now) (g.met.Q.Ask.quiet c.args.rule.now) c.args.plane.now _ _ c.args.generations _ _
+    ready.level.0 c.in_ok-found.ensures.held.1 ready.room ready.centred c.in_ok-found.ensures.cells)
