@@ -1,12 +1,12 @@
 -- The rows of a plane: their levels, and their states.
-use Rattle.std.proofs.Common.{◌≡◌, ℕ, zero, suc, ◌+◌, ◌-◌, ◌<◌, ◌≤◌, ◌^◌, Bool, true, false, List, [], ◌∷◌, ◌++◌, length, get_or, refl, sym, ap, ap₂, ◌∙◌, subst, arith, inl, inr, ℤ, pos, ◌+ℤ◌}
+use Rattle.std.proofs.Common.{◌≡◌, ℕ, zero, suc, ◌+◌, ◌-◌, ◌<◌, ◌≤◌, ◌^◌, Bool, true, false, List, [], ◌∷◌, ◌++◌, length, get_or, refl, sym, ap, ap₂, ◌∙◌, subst, arith, inl, inr, pos, ◌+ℤ◌}
 use Rattle.std.proofs.lemmas.Bool.{cases_lt}
 use Rattle.std.proofs.lemmas.List.{length_push, get_or_append_left, get_or_push}
-use Rattle.worlds.specs.World.{World, cell}
+use Rattle.worlds.specs.World.{World}
 use Rattle.worlds.specs.Range.{AllBelow}
 use Rattle.worlds.specs.Square.{Square, one, four, IsSquare, cell_in}
 use Rattle.square_rows.specs.declared.row.SquareRow.{SquareRow}
-use Rattle.square_rows.specs.Rows.{Numbered, numbered, number_row, number_square, no_row, kid, AreCanonical, AreSquaresOf, root_level, root_of, edge_of, world_of_rows}
+use Rattle.square_rows.specs.Rows.{numbered, number_row, number_square, no_row, kid, AreCanonical, AreSquaresOf, root_level, root_of, edge_of, world_of_rows}
 use Rattle.square_rows.proofs.Cells.{cell_in-ne, cell_in-nw, cell_in-one, cell_in-se, cell_in-sw, double}
 use Rattle.square_rows.proofs.Sound.{row_of}
 use Rattle.square_rows.proofs.Roots.{root-IsSquare, root-cells}
@@ -84,12 +84,11 @@ states_below (suc k) (one s) c is all = absurd is
 states_below (suc k) (four nw ne sw se) c is all =
     let h = 2 ^ k in
     let twice = double k in
-    let back = λ (i : ℕ). let e : (h + i) - h ≡ i = omega arith in e in
-    (
+    let back = λ (i : ℕ). let e : (h + i) - h ≡ i = omega arith in e in (
       states_below k nw c is.0 (λ i j hi hj. subst (λ n. n < c) (cell_in-nw k nw ne sw se i j hi hj) (all i j (omega arith) (omega arith))),
       states_below k ne c is.1 (λ i j hi hj. subst (λ n. n < c) (cell_in-ne k nw ne sw se (h + i) j (omega arith) hj ∙ ap (λ m. cell_in k ne m j) (back i)) (all (h + i) j (omega arith) (omega arith))),
       states_below k sw c is.2 (λ i j hi hj. subst (λ n. n < c) (cell_in-sw k nw ne sw se i (h + j) hi (omega arith) ∙ ap (λ m. cell_in k sw i m) (back j)) (all i (h + j) (omega arith) (omega arith))),
-      states_below k se c is.3 (λ i j hi hj. subst (λ n. n < c) (cell_in-se k nw ne sw se (h + i) (h + j) (omega arith) (omega arith) ∙ ap₂ (cell_in k se) (back i) (back j)) (all (h + i) (h + j) (omega arith) (omega arith)))
+      states_below k se c is.3 (λ i j hi hj. subst (λ n. n < c) (cell_in-se k nw ne sw se (h + i) (h + j) (omega arith) (omega arith) ∙ ap₂ (cell_in k se) (back i) (back j)) (all (h + i) (h + j) (omega arith) (omega arith))),
     )
 
 -- those of a square are below 256

@@ -1,5 +1,5 @@
 -- The squares of a plane's rows, made in a table one by one.
-use Rattle.std.proofs.Common.{◌≡◌, ℕ, zero, suc, ◌+◌, ◌-◌, ◌<◌, ◌≤◌, List, [], ◌∷◌, ◌++◌, length, get_or, refl, sym, ap, ◌∙◌, subst, arith, inl, inr, lit<}
+use Rattle.std.proofs.Common.{◌≡◌, ℕ, zero, suc, ◌-◌, ◌<◌, ◌≤◌, List, [], ◌∷◌, ◌++◌, length, get_or, refl, sym, ap, ◌∙◌, subst, arith, inl, inr, lit<}
 use Rattle.std.proofs.lemmas.Bool.{cases_lt}
 use Rattle.std.proofs.lemmas.List.{length_push, get_or_append_left, get_or_push}
 use Rattle.worlds.specs.Square.{Square, one, four, empty_square, cell_in}
@@ -9,7 +9,7 @@ use Rattle.square_rows.specs.Rows.{no_row, kid, AreRows}
 use Rattle.square_rows.proofs.Cells.{cell_in-one}
 use Rattle.square_rows.proofs.Sound.{IsNumber-level, square_in-none, square_in-state, square_in-row, state-IsNumber}
 use Rattle.square_rows.proofs.Measuring.{kid_is}
-use Rattle.square_table.specs.Squares.{Table, IsNumber, AreNumbers, square_in, square_of, first_number, IsSquareOf, Grows, GrowsBy, AllStatesBelow, with_row}
+use Rattle.square_table.specs.Squares.{Table, IsNumber, AreNumbers, square_in, square_of, first_number, IsSquareOf, Grows, GrowsBy, AllStatesBelow}
 use Rattle.square_table.specs.Loading.{AreBlanks, IsLoadedAt, AreLoaded, number_in, LevelsUpTo, CellsBelow, GrowsFrom}
 use Rattle.square_table.proofs.Tables.{kept_row, last_row}
 use Rattle.square_table.proofs.Growth.{Grows-same, Grows-then, IsNumber-grows, square_in-grows, AreNumbers-grows, square_of-grows, IsNumber-joined, square_in-joined}
@@ -97,7 +97,6 @@ blank_below rows zero n c some is same h =
     let e : n ≡ 0 = sym (cell_in-one 0 n 0 0) ∙ ap (λ (s : Square). cell_in 0 s 0 0) (sym (square_in-cell rows n) ∙ same ∙ empty_square-zero) ∙ cell_in-one 0 0 0 0 in
     omega (arith, e, some)
 blank_below rows (suc k) n c some is same h = absurd (omega (arith, above_states rows k n is, h))
-
 
 pub blank_grows : (t u : Table) (blanks : List ℕ) (b : ℕ) → b ≡ get_or blanks (length blanks - 1) 0 → 0 < length blanks → AreBlanks t.rows blanks → Grows t u → GrowsBy (four_of b) t u → GrowsFrom [] t u
 blank_grows t u blanks b e some are grows step =

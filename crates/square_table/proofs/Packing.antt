@@ -1,5 +1,5 @@
 -- The squares of a table that are packed as the rows of a plane.
-use Rattle.std.proofs.Common.{◌≡◌, ℕ, zero, suc, ◌+◌, ◌-◌, ◌<◌, ◌≤◌, ◌^◌, List, [], ◌∷◌, ◌++◌, length, get_or, Option, Some, None, Result, Ok, Err, refl, sym, ap, ◌∙◌, subst, arith, inl, inr, lit<, get_or-set_same, get_or-set_other}
+use Rattle.std.proofs.Common.{◌≡◌, ℕ, zero, suc, ◌+◌, ◌-◌, ◌<◌, ◌≤◌, ◌^◌, List, [], ◌∷◌, ◌++◌, length, get_or, Option, Some, None, Result, Ok, Err, sym, ap, ◌∙◌, subst, arith, inl, inr, lit<, get_or-set_same, get_or-set_other}
 use Rattle.std.specs.Prelude.{IfSome, IfOk, OnOk}
 use Rattle.std.proofs.Math.ListN.{set}
 use Rattle.std.proofs.lemmas.Bool.{cases_eq}
@@ -10,9 +10,9 @@ use Rattle.square_rows.specs.Rows as listed
 use Rattle.square_rows.specs.Rows.{AreRows, IsRow}
 use Rattle.square_rows.specs.Laid as laid
 use Rattle.square_rows.specs.Laid.{Keeps, IsAdded}
-use Rattle.square_rows.proofs.Adding.{Keeps-none, Keeps-then, quadrants-none, added, root_added}
+use Rattle.square_rows.proofs.Adding.{Keeps-then, quadrants-none, added, root_added}
 use Rattle.square_rows.proofs.Sound as sound
-use Rattle.square_table.specs.Squares.{IsNumber, AreNumbers, square_in, square_of, first_number, kids_at}
+use Rattle.square_table.specs.Squares.{IsNumber, AreNumbers, square_of, first_number, kids_at}
 use Rattle.square_table.specs.Packing.{IsPacked, IsPacking, AreRowsOf}
 use Rattle.square_table.proofs.Tables.{above_zero}
 use Rattle.square_table.proofs.Numbers.{one_level}

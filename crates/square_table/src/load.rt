@@ -93,11 +93,7 @@ impl<'a> SquareTable<'a> {
     }
 
     // The numbers of the squares of a plane's rows, in the order of the rows.
-    fn load_rows(
-        &mut self,
-        squares: &[SquareRow],
-        blanks: &[u32],
-    ) -> Result<Vec<u32>, TableFault>
+    fn load_rows(&mut self, squares: &[SquareRow], blanks: &[u32]) -> Result<Vec<u32>, TableFault>
         requires squares { AreRows squares.now × LevelsUpTo (length blanks.now) squares.now }
         requires blanks { AreBlanks self.old.rows blanks.now }
         ensures grows { GrowsFrom squares.now self.old self.new }

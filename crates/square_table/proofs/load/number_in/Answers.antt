@@ -1,4 +1,4 @@
-use Rattle.std.proofs.Common.{◌≡◌, ℕ, zero, suc, ◌-◌, ◌<◌, List, length, get_or, refl, ap, arith}
+use Rattle.std.proofs.Common.{◌≡◌, ℕ, zero, suc, ◌-◌, List, get_or, refl, ap, arith}
 use Rattle.square_table.specs.Loading.{number_in}
 use Rattle.square_table.proofs.load.number_in.Goals as goal
 

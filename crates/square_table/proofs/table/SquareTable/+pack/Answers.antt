@@ -38,9 +38,13 @@ pub pack_square-quadrants-requires-clause-there : goal.pack_square-quadrants-req
 pack_square-quadrants-requires-clause-there t c = (above_zero c.args.self.now.rows c.args.level c.args.number (omega (arith, c.if-level-eq0.false)) c.requires.number).1
 
 pub pack_square-pack_kids-requires : goal.pack_square-pack_kids-requires
-pack_square-pack_kids-requires t c =
-    (omega (arith, c.decreases, c.if-level-eq0.false), (omega (arith, c.requires.level),
-    (quadrant_numbers c.args.self.now.rows c.args.level c.args.number c.quadrants.result (omega (arith, c.if-level-eq0.false)) c.requires.number c.quadrants.ensures, c.requires.packed)))
+pack_square-pack_kids-requires t c = (
+  omega (arith, c.decreases, c.if-level-eq0.false),
+  (
+    omega (arith, c.requires.level),
+    (quadrant_numbers c.args.self.now.rows c.args.level c.args.number c.quadrants.result (omega (arith, c.if-level-eq0.false)) c.requires.number c.quadrants.ensures, c.requires.packed),
+  ),
+)
 
 pub pack_square-returns-clause-square : goal.pack_square-returns-clause-square
 pack_square-returns-clause-square t c =

@@ -1,4 +1,4 @@
-use Rattle.std.proofs.Common.{◌≡◌, ◌+◌, ◌<◌, ◌≤◌, ◌∷◌, ◌++◌, ℕ, List, [], length, ap, sym, ◌∙◌, subst, arith}
+use Rattle.std.proofs.Common.{◌≡◌, ◌+◌, ◌∷◌, ◌++◌, ℕ, List, [], length, ap, sym, ◌∙◌, subst}
 use Rattle.square_table.specs.Loading.{AreBlanks}
 use Rattle.square_table.proofs.Loading.{GrowsFrom-same, GrowsFrom-then, AreBlanks-first}
 use Rattle.square_table.proofs.table.SquareTable.blanks.Goals as goal

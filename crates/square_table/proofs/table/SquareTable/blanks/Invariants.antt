@@ -1,4 +1,4 @@
-use Rattle.std.proofs.Common.{◌≡◌, [], ◌<◌, ◌+◌, length}
+use Rattle.std.proofs.Common.{◌≡◌, [], length}
 use Rattle.square_table.specs.Loading.{AreBlanks, GrowsFrom}
 use Rattle.square_table.proofs.table.SquareTable.blanks.Given as goal
 

@@ -1,4 +1,4 @@
-use Rattle.std.proofs.Common.{◌≡◌, ℕ, [], ◌∷◌, List, ap₂, ◌∙◌, refl, lit<}
+use Rattle.std.proofs.Common.{ℕ, [], ◌∷◌, ap₂, ◌∙◌, refl, lit<}
 use Rattle.square_table.specs.Squares.{Table, square_in, Grows, IsSquareOf}
 use Rattle.square_table.specs.Loading.{AreBlanks}
 use Rattle.square_table.proofs.Loading.{AreBlanks-first, AreBlanks-more, blank_grows, four_of}

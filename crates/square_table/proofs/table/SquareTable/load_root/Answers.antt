@@ -1,4 +1,4 @@
-use Rattle.std.proofs.Common.{◌≡◌, ℕ, suc, ◌+◌, ◌-◌, ◌<◌, ◌≤◌, List, [], None, Some, length, get_or, refl, ap, ap₂, sym, ◌∙◌, subst, arith, inl, inr}
+use Rattle.std.proofs.Common.{◌≡◌, ℕ, suc, ◌-◌, ◌<◌, List, [], None, Some, length, get_or, ap, ap₂, sym, ◌∙◌, subst, arith, inl, inr}
 use Rattle.std.specs.Prelude.{slice_get}
 use Rattle.std.proofs.lemmas.Bool.{cases_lt}
 use Rattle.std.proofs.lemmas.List.{nil_from_length, get_or_read}
@@ -10,7 +10,6 @@ use Rattle.square_rows.specs.Rows.{no_row, AreRows, root_level, root_of}
 use Rattle.square_rows.proofs.Adding.{IfOk_then}
 use Rattle.square_rows.proofs.Roots.{root_level-none, root_level-some}
 use Rattle.square_rows.proofs.Sound.{square_in-none}
-use Rattle.square_table.specs.declared.square.Square.{Square}
 use Rattle.square_table.specs.Squares.{square_in, level_of, cells_of}
 use Rattle.square_table.specs.Loading.{LevelsUpTo, AreLoaded, IsLoadedAt}
 use Rattle.square_table.proofs.table.SquareTable.load_root.Goals as goal

@@ -1,5 +1,5 @@
 use Rattle.std.proofs.Common.{◌≡◌, ◌-◌, ◌<◌, ◌≤◌, ℕ, List, [], ◌∷◌, get_or, arith}
-use Rattle.square_table.specs.Squares.{IsNumber, AreNumbers, kids_at}
+use Rattle.square_table.specs.Squares.{AreNumbers, kids_at}
 use Rattle.square_table.proofs.Tables.{above_zero}
 use Rattle.square_table.proofs.Packing.{quadrant_numbers}
 use Rattle.square_table.proofs.Centring.{middle_alike}

@@ -2,7 +2,7 @@ use Rattle.std.proofs.Common.{◌≡◌, ap, sym, ◌∙◌, subst}
 use Rattle.worlds.specs.World.{World}
 use Rattle.square_rows.specs.Rows.{world_of_rows}
 use Rattle.square_rows.proofs.Adding.{IfOk_then}
-use Rattle.square_table.specs.Squares.{level_of, cells_of, square_of}
+use Rattle.square_table.specs.Squares.{level_of, cells_of}
 use Rattle.square_table.specs.Centred.{IsCentred}
 use Rattle.square_table.proofs.Centring.{rows_centred}
 use Rattle.square_table.proofs.table.SquareTable.pack.Goals as goal

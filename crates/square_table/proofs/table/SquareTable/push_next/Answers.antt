@@ -1,4 +1,4 @@
-use Rattle.std.proofs.Common.{◌≡◌, ◌+◌, ◌-◌, ◌<◌, ◌≤◌, ℕ, List, [], ◌∷◌, length, get_or, refl, ap, sym, ◌∙◌, subst, arith, lit<}
+use Rattle.std.proofs.Common.{◌≡◌, ◌-◌, ◌<◌, ◌≤◌, ℕ, List, [], ◌∷◌, length, get_or, refl, ap, sym, ◌∙◌, subst, arith, lit<}
 use Rattle.square_rows.specs.declared.row.SquareRow.{SquareRow}
 use Rattle.square_rows.specs.Rows.{no_row, AreRows}
 use Rattle.square_table.specs.Loading.{AreBlanks, AreLoaded, LevelsUpTo, number_in}
