@@ -1,8 +1,7 @@
 -- What is remembered stays right, and tells the result of the square that is asked for.
-use Rattle.std.proofs.Common.{◌≡◌, ℕ, suc, ◌+◌, ◌-◌, ◌<◌, ◌≤◌, ◌^◌, List, get_or, refl, sym, ◌∙◌, ap, subst, arith, inl, inr}
+use Rattle.std.proofs.Common.{◌≡◌, ℕ, suc, ◌+◌, ◌-◌, ◌<◌, ◌≤◌, ◌^◌, List, get_or, sym, ◌∙◌, ap, subst, arith, inl, inr}
 use Rattle.std.proofs.lemmas.Bool.{cases_eq}
-use Rattle.worlds.specs.Square.{Square}
-use Rattle.square_table.specs.Squares.{Table, IsNumber, square_in, first_number, Grows}
+use Rattle.square_table.specs.Squares.{Table, IsNumber, first_number, Grows}
 use Rattle.square_table.proofs.Growth.{IsNumber-grows, square_in-grows}
 use Rattle.square_table.proofs.Numbers.{one_level}
 use Rattle.hash_life.specs.Result.{result}

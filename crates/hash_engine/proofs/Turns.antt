@@ -1,11 +1,11 @@
 -- A loop that writes results over squares.
-use Rattle.std.proofs.Common.{◌≡◌, ℕ, suc, ◌+◌, ◌<◌, ◌≤◌, List, length, map, get_or, refl, sym, ◌∙◌, ap, subst, arith, inl, inr}
+use Rattle.std.proofs.Common.{◌≡◌, ℕ, suc, ◌+◌, ◌<◌, ◌≤◌, List, length, map, get_or, sym, ◌∙◌, ap, subst, arith, inl, inr}
 use Rattle.std.proofs.Math.ListN.{set}
 use Rattle.std.specs.Prelude.{All}
 use Rattle.std.proofs.lemmas.Bool.{cases_eq}
 use Rattle.std.proofs.lemmas.List.{length-map, get_or-map, get_or_default, get_or-set_same, get_or-set_other}
 use Rattle.worlds.specs.Square.{Square, one}
-use Rattle.square_table.specs.Squares.{Table, IsNumber, square_in, Grows}
+use Rattle.square_table.specs.Squares.{Table, square_in, Grows}
 use Rattle.square_table.proofs.Growth.{IsNumber-grows, square_in-grows}
 use Rattle.hash_life.specs.Result.{result}
 use Rattle.hash_life.specs.Puts.{Puts, IsBelow}

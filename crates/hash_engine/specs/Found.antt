@@ -3,7 +3,6 @@ use Rattle.std.specs.Prelude.{◌≡◌, ◌≢◌, ℕ, ◌+◌, List, length, 
 use Rattle.square_table.specs.Squares.{Table}
 use Rattle.square_table.specs.declared.fault.TableFault.TheVariants.{NoRoom}
 use Rattle.hash_engine.specs.declared.fault.ResultFault.{ResultFault}
-use Rattle.hash_engine.specs.declared.fault.ResultFault.TheVariants as ResultFault
 
 -- a rule means the same as before
 pub record IsSameRule (old_meaning new_meaning : List ℕ → ℕ) (old_count new_count : ℕ) : Type 0 where

@@ -1,5 +1,5 @@
 -- What is remembered.
-use Rattle.std.specs.Prelude.{◌≡◌, ◌≢◌, ℕ, suc, ◌+◌, ◌-◌, ◌^◌, ◌<◌, List, get_or}
+use Rattle.std.specs.Prelude.{◌≡◌, ◌≢◌, ℕ, suc, ◌+◌, ◌^◌, ◌<◌, List, get_or}
 use Rattle.square_table.specs.Squares.{IsNumber, square_in, first_number}
 use Rattle.hash_life.specs.Result.{result}
 use Rattle.hash_engine.specs.Standing.{StandsFor}

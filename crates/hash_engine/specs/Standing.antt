@@ -1,5 +1,5 @@
 -- Numbers that stand for squares.
-use Rattle.std.specs.Prelude.{◌≡◌, ℕ, suc, ◌<◌, List, length, get_or, All}
+use Rattle.std.specs.Prelude.{◌≡◌, ℕ, suc, ◌<◌, List, length, get_or}
 use Rattle.worlds.specs.Square as squares
 use Rattle.worlds.specs.Square.{one, four}
 use Rattle.square_table.specs.Squares.{IsNumber, square_in}

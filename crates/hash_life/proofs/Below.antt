@@ -1,5 +1,5 @@
 -- Squares whose states are below a number, and what HashLife makes of them.
-use Rattle.std.proofs.Common.{◌≡◌, ℕ, zero, suc, ◌-◌, ◌<◌, ◌≤◌, ◌^◌, min, List, [], ◌∷◌, map, get_or, refl, arith, lit<}
+use Rattle.std.proofs.Common.{ℕ, zero, suc, ◌-◌, ◌<◌, ◌^◌, min, List, [], ◌∷◌, get_or, refl, lit<}
 use Rattle.std.specs.Prelude.{All}
 use Rattle.std.proofs.lemmas.List.Elements.{All-nil, All-map, All-weaker}
 use Rattle.worlds.specs.Square.{Square, one, four, empty_square}

@@ -5,7 +5,7 @@ use Rattle.std.proofs.lemmas.Int.{ints}
 use Rattle.worlds.specs.World.{World}
 use Rattle.worlds.specs.Step.{step, nine_zeros}
 use Rattle.worlds.specs.Iterate.{iterate, iterate-zero}
-use Rattle.worlds.specs.Square.{Square, four, square_at}
+use Rattle.worlds.specs.Square.{Square, square_at}
 use Rattle.worlds.proofs.Steps.{iterate-add}
 use Rattle.hash_life.specs.Result.{result}
 use Rattle.hash_life.specs.Puts.{nine_of, fours_of, Puts, Stands, PutsWhatStands}
@@ -83,9 +83,10 @@ Puts-standing next quiet w (suc k) (suc i) x y P few holds =
     let then : (a b : ℤ) → R (square_at v (suc (suc k)) a b) = λ a b. Puts-standing next quiet v k (n - m) a b P few_then
     (λ t c d early. subst (λ z. P (square_at z 2 c d)) (iterate-add (step next) w t m) (holds (t + m) c d (omega (arith, early)))) in
     let nine = nine_places w k x x1 x2 (x2 +ℤ h) y y1 y2 (y2 +ℤ h) refl refl refl refl refl refl in
-    let fours = fours_places k w v (result next k m) (Takes-result next quiet w k m few_first) x x1 x2 (x2 +ℤ h) y y1 y2 (y2 +ℤ h) refl refl refl refl refl refl in
-    (subst (All Q) (sym nine) (All-nine Q _ _ _ _ _ _ _ _ _ (first x y) (first x1 y) (first x2 y) (first x y1) (first x1 y1) (first x2 y1) (first x y2) (first x1 y2) (first x2 y2)),
-        subst (All R) (sym fours) (All-four R _ _ _ _ (then _ _) (then _ _) (then _ _) (then _ _)))
+    let fours = fours_places k w v (result next k m) (Takes-result next quiet w k m few_first) x x1 x2 (x2 +ℤ h) y y1 y2 (y2 +ℤ h) refl refl refl refl refl refl in (
+      subst (All Q) (sym nine) (All-nine Q _ _ _ _ _ _ _ _ _ (first x y) (first x1 y) (first x2 y) (first x y1) (first x1 y1) (first x2 y1) (first x y2) (first x1 y2) (first x2 y2)),
+      subst (All R) (sym fours) (All-four R _ _ _ _ (then _ _) (then _ _) (then _ _) (then _ _)),
+    )
 
 pub what_is_put : PutsWhatStands
 what_is_put next quiet w k n x y few = Puts-standing next quiet w k n x y (Stands next w n) few (λ t across down early. (t, across, down, early, refl))

@@ -1,9 +1,9 @@
 -- HashLife's results are single steps.
-use Rattle.std.proofs.Common.{◌≡◌, ℕ, zero, suc, ◌+◌, ◌-◌, ◌≤◌, ◌^◌, min, List, [], ◌∷◌, ℤ, pos, negsuc, ◌+ℤ◌, refl, sym, ◌∙◌, ap, ap₂, subst, arith}
+use Rattle.std.proofs.Common.{◌≡◌, ℕ, zero, suc, ◌+◌, ◌-◌, ◌≤◌, ◌^◌, min, List, [], ◌∷◌, ℤ, pos, negsuc, ◌+ℤ◌, refl, sym, ◌∙◌, ap, arith}
 use Rattle.std.proofs.lemmas.Int.{ints}
 use Rattle.worlds.specs.World.{World, cell}
-use Rattle.worlds.specs.Step.{step, nine_zeros, around, cell-step}
-use Rattle.worlds.specs.Iterate.{iterate, iterate-zero, iterate-one_more}
+use Rattle.worlds.specs.Step.{step, nine_zeros, cell-step}
+use Rattle.worlds.specs.Iterate.{iterate}
 use Rattle.worlds.specs.Square.{Square, one, four, square_at}
 use Rattle.worlds.proofs.Steps.{iterate-add}
 use Rattle.hash_life.specs.Result.{middle, later, in_two, result, ResultIsSteps}

@@ -1,13 +1,12 @@
-use Rattle.std.proofs.Common.{◌≡◌, ℕ, suc, ◌+◌, ◌-◌, ◌^◌, ◌<◌, ◌≤◌, min, List, length, map, get_or, refl, sym, ◌∙◌, ap, subst, arith, rules}
+use Rattle.std.proofs.Common.{◌≡◌, ℕ, suc, ◌-◌, ◌^◌, ◌<◌, min, length, map, get_or, ◌∙◌, ap, subst, arith, rules}
 use Rattle.std.specs.Prelude.{All}
 use Rattle.std.proofs.lemmas.List.{length-set}
-use Rattle.square_table.specs.Squares.{IsNumber, Grows, square_in}
+use Rattle.square_table.specs.Squares.{square_in}
 use Rattle.square_table.proofs.Growth.{Grows-then, IsNumber-grows}
 use Rattle.hash_life.specs.Result as hash_life
 use Rattle.hash_life.specs.Puts.{nine_of, fours_of}
 use Rattle.hash_engine.specs.Standing.{StandForAll, IsReady}
 use Rattle.hash_engine.specs.Memo.{IsRight}
-use Rattle.hash_engine.specs.Found.{IsSameRule}
 use Rattle.hash_engine.proofs.Standing.{above}
 use Rattle.hash_engine.proofs.Memos.{IsRight-grows}
 use Rattle.hash_engine.proofs.Computed.{IsReady-lower, IsReady-same, IsRight-same, IsRight-back, IsSameRule-then, nine_stand, nine_ready, fours_ready, StandsFor-computed, StandsFor-higher, base_below, base_stands, none_stands, stands_grown}

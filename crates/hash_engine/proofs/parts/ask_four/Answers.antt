@@ -1,4 +1,4 @@
-use Rattle.std.proofs.Common.{◌≡◌, ◌∙◌, ℕ, ◌<◌, List, [], ◌∷◌, get_or, sym, subst}
+use Rattle.std.proofs.Common.{◌≡◌, ◌∙◌, ℕ, ◌<◌, [], ◌∷◌, get_or, sym, subst}
 use Rattle.std.specs.Prelude.{All}
 use Rattle.hash_life.specs.Puts.{IsBelow}
 use Rattle.hash_life.proofs.Nine.{All-nine}

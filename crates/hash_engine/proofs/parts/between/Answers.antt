@@ -1,4 +1,3 @@
-use Rattle.std.proofs.Common.{suc}
 use Rattle.std.proofs.lemmas.Result.{IfOk-weaker}
 use Rattle.hash_engine.proofs.Standing.{above, within, StandsFor-between}
 use Rattle.hash_engine.proofs.parts.between.Goals as goal

@@ -1,4 +1,4 @@
-use Rattle.std.proofs.Common.{◌≡◌, ◌∙◌, sym, subst, suc, length, [], ◌∷◌, lit<, rules}
+use Rattle.std.proofs.Common.{◌≡◌, ◌∙◌, sym, subst, suc, length, lit<, rules}
 use Rattle.worlds.specs.Square.{one}
 use Rattle.square_table.proofs.Growth.{Grows-same, Grows-then}
 use Rattle.hash_engine.specs.Standing.{StandForAll}

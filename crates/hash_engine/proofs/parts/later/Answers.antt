@@ -1,6 +1,5 @@
-use Rattle.std.proofs.Common.{◌≡◌, ◌<◌, sym, subst, arith, rules}
+use Rattle.std.proofs.Common.{◌≡◌, ◌<◌, sym, subst, rules}
 use Rattle.std.proofs.lemmas.Result.{IfOk-weaker}
-use Rattle.worlds.specs.Square.{four}
 use Rattle.square_table.specs.Squares.{square_in}
 use Rattle.hash_life.specs.Result.{later}
 use Rattle.hash_life.specs.Puts.{IsBelow}

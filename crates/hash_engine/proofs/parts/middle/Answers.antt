@@ -1,6 +1,5 @@
 use Rattle.std.proofs.Common.{suc}
 use Rattle.std.proofs.lemmas.Result.{IfOk-weaker}
-use Rattle.square_table.specs.Squares.{AreNumbers}
 use Rattle.hash_engine.proofs.Standing.{above, within, quadrant_numbers, StandsFor-middle}
 use Rattle.hash_engine.proofs.parts.middle.Goals as goal
 

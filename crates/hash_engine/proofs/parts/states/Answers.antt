@@ -1,4 +1,4 @@
-use Rattle.std.proofs.Common.{suc, arith}
+use Rattle.std.proofs.Common.{arith}
 use Rattle.square_table.specs.Squares.{IsNumber}
 use Rattle.hash_engine.proofs.Standing.{above, within, quadrant_numbers}
 use Rattle.hash_engine.proofs.parts.states.Goals as goal

@@ -1,7 +1,6 @@
-use Rattle.std.proofs.Common.{◌≡◌, ◌^◌, ◌∙◌, sym, ap, get_or, subst, suc}
+use Rattle.std.proofs.Common.{◌^◌, ◌∙◌, sym, ap, get_or, subst}
 use Rattle.std.proofs.lemmas.Option.{IfSome_then}
-use Rattle.square_table.specs.Squares.{IsNumber}
-use Rattle.hash_engine.specs.Memo.{AreKnown, IsRight, IsResult}
+use Rattle.hash_engine.specs.Memo.{AreKnown}
 use Rattle.hash_engine.proofs.Memos.{recalled}
 use Rattle.hash_engine.proofs.memo.Memo.recall.Goals as goal
 

@@ -1,4 +1,4 @@
-use Rattle.std.proofs.Common.{◌≡◌, ◌<◌, sym, subst, rules, lit<}
+use Rattle.std.proofs.Common.{◌≡◌, sym, subst, rules, lit<}
 use Rattle.worlds.specs.Square.{empty_square}
 use Rattle.square_table.specs.Squares.{cells_of}
 use Rattle.hash_life.specs.Puts.{IsBelow}
