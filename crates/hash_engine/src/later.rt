@@ -49,7 +49,8 @@ fn later<Q: Ask, S: Stop>(
     ensures memo { IsRight (Q.meaning rule.old) table.new.rows memo.new }
     ensures end { IsEnd table.new (S.yes_count stop.old) (S.yes_count stop.new) result }
     ensures square { IfOk result (λ n. StandsFor table.new.rows (suc k) n
-        (hash_life.result (Q.meaning rule.old) k generations (square_in table.old.rows (suc (suc k)) number))) }
+        (hash_life.result (Q.meaning rule.old) k generations
+        (square_in table.old.rows (suc (suc k)) number))) }
 {
     if generations == 0 {
         return Ok(parts::middle(table, number)?);
@@ -87,7 +88,8 @@ fn compute<Q: Ask, S: Stop>(
     ensures memo { IsRight (Q.meaning rule.old) table.new.rows memo.new }
     ensures end { IsEnd table.new (S.yes_count stop.old) (S.yes_count stop.new) result }
     ensures square { IfOk result (λ n. StandsFor table.new.rows (suc k) n
-        (hash_life.result (Q.meaning rule.old) k generations (square_in table.old.rows (suc (suc k)) number))) }
+        (hash_life.result (Q.meaning rule.old) k generations
+        (square_in table.old.rows (suc (suc k)) number))) }
 {
     if k == 0 {
         return Ok(parts::later(table, rule, number)?);

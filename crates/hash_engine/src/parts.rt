@@ -104,9 +104,12 @@ fn states(table: &SquareTable<'_>, number: u32) -> [u8; 4]
 
 // The four cells in the middle of four by four one generation later.
 fn ask_four<Q: Ask>(rule: &mut Q, nw: [u8; 4], ne: [u8; 4], sw: [u8; 4], se: [u8; 4]) -> [u8; 4]
-    requires { IsBelow (Q.state_count rule.old) (four (of_four nw) (of_four ne) (of_four sw) (of_four se)) }
-    ensures states { of_four result ≡ later (Q.meaning rule.old) (four (of_four nw) (of_four ne) (of_four sw) (of_four se)) }
-    ensures rule { IsSameRule (Q.meaning rule.old) (Q.meaning rule.new) (Q.state_count rule.old) (Q.state_count rule.new) }
+    requires { IsBelow (Q.state_count rule.old)
+        (four (of_four nw) (of_four ne) (of_four sw) (of_four se)) }
+    ensures states { of_four result ≡ later (Q.meaning rule.old)
+        (four (of_four nw) (of_four ne) (of_four sw) (of_four se)) }
+    ensures rule { IsSameRule (Q.meaning rule.old) (Q.meaning rule.new)
+        (Q.state_count rule.old) (Q.state_count rule.new) }
     ensures asks { Q.asks rule.new ≡ Q.asks rule.old + 4 }
 {
     let [a, b, c, d] = nw;
@@ -131,8 +134,10 @@ pub(crate) fn later<Q: Ask>(
     requires below { IsBelow (Q.state_count rule.old) (square_in table.old.rows 2 number) }
     ensures grows { Grows table.old table.new }
     ensures square { IfOk result (λ n.
-        StandsFor table.new.rows 1 n (later (Q.meaning rule.old) (square_in table.old.rows 2 number))) }
-    ensures rule { IsSameRule (Q.meaning rule.old) (Q.meaning rule.new) (Q.state_count rule.old) (Q.state_count rule.new) }
+        StandsFor table.new.rows 1 n
+        (later (Q.meaning rule.old) (square_in table.old.rows 2 number))) }
+    ensures rule { IsSameRule (Q.meaning rule.old) (Q.meaning rule.new)
+        (Q.state_count rule.old) (Q.state_count rule.new) }
     ensures asks { Q.asks rule.new ≡ Q.asks rule.old + 4 }
     ensures full { result ≡ Err TableFault.NoRoom → length table.new.rows ≡ table.new.limit }
 {
