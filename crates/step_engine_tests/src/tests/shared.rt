@@ -1,10 +1,10 @@
 use super::engine::{ONE, evolved, is_below};
 use super::rules::{Copying, Countdown, OneOfTwo, Star};
 use super::{Row, plane_of, same};
-use plane_core::{Bounds, Next, NoStop, Stop};
+use plane_core::{Bounds, Next, NoStop, Plane, Stop};
 use std::alloc::Global;
 use std::process::Abort;
-use step_engine::{EvolveFault, Evolved, evolve, fits};
+use step_engine::{EvolveFault, Evolved, evolve, evolve_plain, fits};
 
 const EAST: usize = 3;
 
@@ -29,10 +29,24 @@ fn shared<R: Next, S: Stop>(
     evolve(alloc, rule, &plane, generations, stop, limit)
 }
 
-/// Stops the test where the two engines don't agree.
-fn expect_alike<R: Next>(rt: &impl Abort, alloc: Global, rule: &R, rows: &[Row], generations: u64) {
-    let plain = evolved(rt, alloc, rule, rows, generations, &mut NoStop).expect(rt, "a plane");
-    let squares = shared(
+/// The plane a generation later, by the plain engine.
+fn stepped<R: Next>(rt: &impl Abort, alloc: Global, rule: &R, plane: &Plane) -> Plane {
+    assert!(rt; is_below(plane, rule.states()), "a state isn't the rule's");
+    assert!(rt; fits(plane, 1));
+    let later = evolve_plain(alloc, rule, plane, 1, &mut NoStop, 0);
+    later.expect(rt, "a plane").plane
+}
+
+/// Stops the test where `evolve` doesn't give the plane.
+fn expect_plane<R: Next>(
+    rt: &impl Abort,
+    alloc: Global,
+    rule: &R,
+    rows: &[Row],
+    generations: u64,
+    wanted: &Plane,
+) {
+    let answer = shared(
         rt,
         alloc,
         rule,
@@ -41,23 +55,38 @@ fn expect_alike<R: Next>(rt: &impl Abort, alloc: Global, rule: &R, rows: &[Row],
         &mut NoStop,
         SOME_SQUARES,
     );
-    let later = squares.expect(rt, "a plane");
+    let later = answer.expect(rt, "a plane").plane;
     assert!(rt;
-        later.plane.equals(&plain.plane),
+        later.equals(wanted),
         "{generations}: the engines don't agree"
     );
 }
 
-#[test]
-fn agrees_with_the_plain_engine(rt: HostRuntime) {
-    let alloc = rt.alloc();
-    let east = Copying { from: EAST };
+/// Stops the test where the two engines don't agree at some generation from 0 to 40.
+fn expect_alike<R: Next>(rt: &impl Abort, alloc: Global, rule: &R, rows: &[Row]) {
+    let mut plain = plane_of(rt, alloc, rows);
     for generations in 0..=40 {
-        expect_alike(&rt, alloc, &OneOfTwo, ONE, generations);
-        expect_alike(&rt, alloc, &OneOfTwo, &[(0, 0, 1), (1, 0, 1)], generations);
-        expect_alike(&rt, alloc, &Star, ONE, generations);
-        expect_alike(&rt, alloc, &east, &[(9, -9, 255), (-3, 0, 1)], generations);
+        expect_plane(rt, alloc, rule, rows, generations, &plain);
+        plain = stepped(rt, alloc, rule, &plain);
     }
+}
+
+#[test]
+fn agrees_with_the_plain_engine_on_a_row(rt: HostRuntime) {
+    let alloc = rt.alloc();
+    expect_alike(&rt, alloc, &OneOfTwo, ONE);
+    expect_alike(&rt, alloc, &OneOfTwo, &[(0, 0, 1), (1, 0, 1)]);
+}
+
+#[test]
+fn agrees_with_the_plain_engine_on_a_star(rt: HostRuntime) {
+    expect_alike(&rt, rt.alloc(), &Star, ONE);
+}
+
+#[test]
+fn agrees_with_the_plain_engine_on_what_moves(rt: HostRuntime) {
+    let east = Copying { from: EAST };
+    expect_alike(&rt, rt.alloc(), &east, &[(9, -9, 255), (-3, 0, 1)]);
 }
 
 /// Stops the test where other cells are live than two in the row 0, so far to the west and east.
