@@ -99,7 +99,10 @@ fn is_refused(rt: &impl Abort, alloc: Global, cells: &[CellSet], limit: u16) {
     let limit = u32::from(limit);
     let mut table = SquareTable::new(alloc, &arena, limit).expect(rt, "memory");
     let plane = plane_of(rt, alloc, cells);
-    assert!(rt; matches!(&table.load(&plane), Err(TableFault::NoRoom)), "room");
+    assert!(rt;
+        matches!(&table.load(&plane), Err(TableFault::NoRoom)),
+        "room"
+    );
     assert!(rt; table.len() == limit, "another count");
 }
 
