@@ -1,8 +1,8 @@
 -- Squares of a world by the squares in them, which stand in a grid.
-use Rattle.std.proofs.Common.{◌≡◌, ℕ, suc, ◌+◌, ◌^◌, ℤ, pos, ◌+ℤ◌, refl, sym, ◌∙◌, ap, ap₂, arith}
+use Rattle.std.proofs.Common.{◌≡◌, ℕ, suc, ◌+◌, ◌^◌, ℤ, pos, ◌+ℤ◌, ap₂, arith}
 use Rattle.std.proofs.lemmas.Int.{ints}
 use Rattle.worlds.specs.World.{World}
-use Rattle.worlds.specs.Square.{Square, four, square_at}
+use Rattle.worlds.specs.Square.{four, square_at}
 
 -- squares at equal places are one
 pub same_square : (w : World) (k : ℕ) (x1 x2 y1 y2 : ℤ) → x1 ≡ x2 → y1 ≡ y2 → square_at w k x1 y1 ≡ square_at w k x2 y2

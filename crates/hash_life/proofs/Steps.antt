@@ -1,9 +1,9 @@
 -- HashLife's results are single steps.
-use Rattle.std.proofs.Common.{◌≡◌, ℕ, zero, suc, ◌+◌, ◌-◌, ◌≤◌, ◌^◌, min, List, [], ◌∷◌, ℤ, pos, negsuc, ◌+ℤ◌, refl, sym, ◌∙◌, ap, ap₂, subst, arith}
+use Rattle.std.proofs.Common.{◌≡◌, ℕ, zero, suc, ◌+◌, ◌-◌, ◌≤◌, ◌^◌, min, List, [], ◌∷◌, ℤ, pos, negsuc, ◌+ℤ◌, refl, sym, ◌∙◌, ap, arith}
 use Rattle.std.proofs.lemmas.Int.{ints}
 use Rattle.worlds.specs.World.{World, cell}
-use Rattle.worlds.specs.Step.{step, nine_zeros, around, cell-step}
-use Rattle.worlds.specs.Iterate.{iterate, iterate-zero, iterate-one_more}
+use Rattle.worlds.specs.Step.{step, nine_zeros, cell-step}
+use Rattle.worlds.specs.Iterate.{iterate}
 use Rattle.worlds.specs.Square.{Square, one, four, square_at}
 use Rattle.worlds.proofs.Steps.{iterate-add}
 use Rattle.hash_life.specs.Result.{middle, later, in_two, result, ResultIsSteps}
@@ -68,15 +68,15 @@ alike : (a b c d e f g h : ℕ) → a ≡ e → b ≡ f → c ≡ g → d ≡ h 
 alike a b c d e f g h nw ne sw se = cc
 
 -- no generations
-Takes-middle : (w : World) → Takes 0 w w middle
-Takes-middle w x y =
-    let h = pos (2 ^ 0) in
+Takes-middle : (k : ℕ) (w : World) → Takes k w w middle
+Takes-middle k w x y =
+    let h = pos (2 ^ k) in
     let x1 = x +ℤ h in
     let x2 = x1 +ℤ h in
     let y1 = y +ℤ h in
     let y2 = y1 +ℤ h in
-    let whole = sixteen w 0 x x1 x2 (x2 +ℤ h) y y1 y2 (y2 +ℤ h) refl refl refl refl refl refl in
-    let made = joined w 0 x1 x2 y1 y2 refl refl in
+    let whole = sixteen w k x x1 x2 (x2 +ℤ h) y y1 y2 (y2 +ℤ h) refl refl refl refl refl refl in
+    let made = joined w k x1 x2 y1 y2 refl refl in
     cc
 
 -- one generation
@@ -99,12 +99,13 @@ Takes-later next quiet w x y =
     ∙ sym (joined (step next w) 0 x1 x2 y1 y2 refl refl)
 
 -- up to 2^k generations
-Takes-result : (next : List ℕ → ℕ) → next nine_zeros ≡ 0 → (w : World) (k n : ℕ) → n ≤ 2 ^ k → Takes k w (iterate n (step next) w) (result next k n)
+pub Takes-result : (next : List ℕ → ℕ) → next nine_zeros ≡ 0 → (w : World) (k n : ℕ) → n ≤ 2 ^ k → Takes k w (iterate n (step next) w) (result next k n)
 unfolding result iterate
-Takes-result next quiet w zero zero few x y = Takes-middle w x y
+Takes-result next quiet w k zero few x y = Takes-middle k w x y
 Takes-result next quiet w zero (suc zero) few x y = Takes-later next quiet w x y
 Takes-result next quiet w zero (suc (suc n)) few x y = absurd (omega arith)
-Takes-result next quiet w (suc k) n few x y =
+Takes-result next quiet w (suc k) (suc i) few x y =
+    let n = suc i in
     let m = min n (2 ^ k) in
     let rest = n - m in
     let v = iterate m (step next) w in

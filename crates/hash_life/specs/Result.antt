@@ -48,9 +48,9 @@ in_two f g s = s
 
 -- the middle of a square of level k + 2, n generations later: first as many as 2^k of them, and then the others
 unfoldable pub result : (List ℕ → ℕ) → ℕ → ℕ → Square → Square
-result next zero zero s = middle s
+result next k zero s = middle s
 result next zero (suc n) s = later next s
-result next (suc k) n s = in_two (result next k (min n (2 ^ k))) (result next k (n - min n (2 ^ k))) s
+result next (suc k) (suc n) s = in_two (result next k (min (suc n) (2 ^ k))) (result next k (suc n - min (suc n) (2 ^ k))) s
 
 -- the result of a square of a world, for up to 2^k generations, is the square in its middle so many single steps later
 abbrev pub ResultIsSteps : Type 0

@@ -8,8 +8,15 @@
 #![tactic(auto)]
 
 ghost use Rattle.hash_life.specs.Result.{ResultIsSteps};
+ghost use Rattle.hash_life.specs.Puts.{PutsWhatStands};
 
 /// The result of a square of the plane is the square in its middle so many single steps later.
 pub fn result_is_steps()
     ensures { ResultIsSteps }
+{}
+
+/// On the way to the result of a square of the plane only squares of 4 by 4 cells that stand in the
+/// plane at an earlier generation are put to the rule.
+pub fn puts_what_stands()
+    ensures { PutsWhatStands }
 {}

@@ -10,4 +10,4 @@ mod loaded;
 
 pub use loaded::Loaded;
 pub use square_rows::{Plane, SquareRow, are_rows};
-pub use worlds::{Around, Bounds, Cell, CellSet, Next, NoStop, Stop};
+pub use worlds::{Around, Ask, Bounds, Cell, CellSet, Next, NoStop, Stop};

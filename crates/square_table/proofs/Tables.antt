@@ -14,7 +14,7 @@ row_kids (r ∷ rs) zero d h = refl
 row_kids (r ∷ rs) (suc i) d h = row_kids rs i d (omega arith)
 
 -- an old row of a longer list
-kept_row : (rows : List (List ℕ)) (row : List ℕ) (i : ℕ) → i < length rows → get_or (rows ++ row ∷ []) i [] ≡ get_or rows i []
+pub kept_row : (rows : List (List ℕ)) (row : List ℕ) (i : ℕ) → i < length rows → get_or (rows ++ row ∷ []) i [] ≡ get_or rows i []
 kept_row [] row i h = absurd (omega arith)
 kept_row (r ∷ rs) row zero h = refl
 kept_row (r ∷ rs) row (suc i) h = kept_row rs row i (omega arith)
@@ -26,14 +26,14 @@ last_row [] row (suc i) h = absurd (omega arith)
 last_row (r ∷ rs) row zero h = absurd (omega arith)
 last_row (r ∷ rs) row (suc i) h = last_row rs row i (omega arith)
 
-one_longer : (rows : List (List ℕ)) (row : List ℕ) → length (rows ++ row ∷ []) ≡ length rows + 1
+pub one_longer : (rows : List (List ℕ)) (row : List ℕ) → length (rows ++ row ∷ []) ≡ length rows + 1
 one_longer rows row = grind (arith, common_steps)
 
 kept_kid : (rows : List (List ℕ)) (row : List ℕ) (n q : ℕ) → first_number ≤ n → n < first_number + length rows → kid_at (rows ++ row ∷ []) n q ≡ kid_at rows n q
 kept_kid rows row n q above there = ap (λ ks. get_or ks q 0) (kept_row rows row (n - first_number) (omega arith))
 
 -- an old number
-IsNumber-more : (rows : List (List ℕ)) (row : List ℕ) (k n : ℕ) → IsNumber rows k n → IsNumber (rows ++ row ∷ []) k n
+pub IsNumber-more : (rows : List (List ℕ)) (row : List ℕ) (k n : ℕ) → IsNumber rows k n → IsNumber (rows ++ row ∷ []) k n
 unfolding IsNumber
 IsNumber-more rows row zero n h = h
 IsNumber-more rows row (suc k) n h =
@@ -43,7 +43,7 @@ IsNumber-more rows row (suc k) n h =
     (h.0, omega (arith, h.1, size), kid 0 h.2, kid 1 h.3, kid 2 h.4, kid 3 h.5)
 
 -- its square
-square_in-more : (rows : List (List ℕ)) (row : List ℕ) (k n : ℕ) → IsNumber rows k n → square_in (rows ++ row ∷ []) k n ≡ square_in rows k n
+pub square_in-more : (rows : List (List ℕ)) (row : List ℕ) (k n : ℕ) → IsNumber rows k n → square_in (rows ++ row ∷ []) k n ≡ square_in rows k n
 unfolding IsNumber square_in
 square_in-more rows row zero n h = refl
 square_in-more rows row (suc k) n h =
@@ -55,7 +55,7 @@ square_in-more rows row (suc k) n h =
     let se = kid 3 h.5 in
     cc
 
-above_zero : (rows : List (List ℕ)) (k n : ℕ) → 0 < k → IsNumber rows k n → (first_number ≤ n) × (n < first_number + length rows)
+pub above_zero : (rows : List (List ℕ)) (k n : ℕ) → 0 < k → IsNumber rows k n → (first_number ≤ n) × (n < first_number + length rows)
 unfolding IsNumber
 above_zero rows zero n some h = absurd (omega arith)
 above_zero rows (suc k) n some h = (h.0, h.1)

@@ -1,5 +1,5 @@
 -- What the numbers of a table mean.
-use Rattle.std.specs.Prelude.{◌≡◌, ◌↔◌, ℕ, zero, suc, ◌+◌, ◌-◌, ◌<◌, ◌≤◌, List, [], ◌∷◌, ◌++◌, length, get_or, slice_index_or}
+use Rattle.std.specs.Prelude.{◌≡◌, ◌↔◌, ◌⊎◌, ℕ, zero, suc, ◌+◌, ◌-◌, ◌<◌, ◌≤◌, List, [], ◌∷◌, ◌++◌, length, get_or, slice_index_or}
 use Rattle.worlds.specs.Square as squares
 use Rattle.worlds.specs.Square.{one, four}
 use Rattle.square_table.specs.declared.square.Square.{Square}
@@ -34,6 +34,17 @@ square_in rows zero n = one n
 square_in rows (suc k) n =
     four (square_in rows k (kid_at rows n 0)) (square_in rows k (kid_at rows n 1)) (square_in rows k (kid_at rows n 2)) (square_in rows k (kid_at rows n 3))
 
+-- the four name squares of level k
+pub record AreNumbers (rows : List (List ℕ)) (k : ℕ) (kids : List ℕ) : Type 0 where
+  pub nw : IsNumber rows k (get_or kids 0 0)
+  pub ne : IsNumber rows k (get_or kids 1 0)
+  pub sw : IsNumber rows k (get_or kids 2 0)
+  pub se : IsNumber rows k (get_or kids 3 0)
+
+-- the square whose quadrants of level k these numbers stand for
+abbrev pub square_of : List (List ℕ) → ℕ → List ℕ → squares.Square
+square_of rows k kids = four (square_in rows k (get_or kids 0 0)) (square_in rows k (get_or kids 1 0)) (square_in rows k (get_or kids 2 0)) (square_in rows k (get_or kids 3 0))
+
 abbrev pub level_of : Square → ℕ
 level_of s = s.level
 
@@ -48,6 +59,18 @@ pub record IsHeld (t : Table) (s : Square) : Type 0 where
 -- its cells
 abbrev pub cells_of : Table → Square → squares.Square
 cells_of t s = square_in t.rows (level_of s) (number_of s)
+
+-- n is the number of the square whose quadrants have these numbers
+pub record IsSquareOf (rows : List (List ℕ)) (kids : List ℕ) (n : ℕ) : Type 0 where
+  pub above : first_number ≤ n
+  pub there : n < first_number + length rows
+  pub listed : kids_at rows n ≡ kids
+
+-- the one table with more rows, or none, behind its own is the other
+pub record Grows (old new : Table) : Type 0 where
+  pub limit : new.limit ≡ old.limit
+  pub more : List (List ℕ)
+  pub rows : new.rows ≡ old.rows ++ more
 
 -- each square of the one table is one of the other, with the same cells
 pub record Keeps (old new : Table) : Type 0 where
@@ -77,6 +100,14 @@ joined t at = four (cells_of t (at 0)) (cells_of t (at 1)) (cells_of t (at 2)) (
 -- the table with one more row
 abbrev pub with_row : Table → List ℕ → Table
 with_row t kids = record { rows = t.rows ++ kids ∷ []; limit = t.limit }
+
+-- each state among the quadrants of the rows is below c
+pub record AllStatesBelow (c : ℕ) (rows : List (List ℕ)) : Type 0 where
+  pub each : (i q : ℕ) → i < length rows → q < 4 → get_or (get_or rows i []) q 0 < first_number → get_or (get_or rows i []) q 0 < c
+
+-- the one table is the other, or has one more row, of these quadrants
+abbrev pub GrowsBy : List ℕ → Table → Table → Type 0
+GrowsBy kids old new = (new ≡ old) ⊎ (new ≡ with_row old kids)
 
 -- no row has these quadrants
 abbrev pub Lacks : List (List ℕ) → List ℕ → Type 0

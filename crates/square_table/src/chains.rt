@@ -38,7 +38,8 @@ fn bucket(kids: [u32; 4], count: usize) -> usize
     hash(kids) as usize & (count - 1)
 }
 
-fn is_same(a: [u32; 4], b: [u32; 4]) -> bool
+/// Whether two squares have the same quadrants.
+pub fn is_same(a: [u32; 4], b: [u32; 4]) -> bool
     ensures { IsTrue result ↔ a ≡ b }
 {
     a == b

@@ -5,15 +5,20 @@
 //! cost of two numbers, and what is found of one holds for all that are equal. `join` finds or makes
 //! the square of four by a hash table with chains: one look-up of about one cache miss, at 16 bytes in
 //! the arena for the quadrants, 16 for the row and 4 for the head of its chain.
+//!
+//! `load` makes the square of a plane, by one look-up for each of its rows, and `pack` the plane of a
+//! square, by a step for each distinct square in it.
 #![tactic(auto)]
 
 mod chains;
 mod fault;
 mod laws;
+mod load;
+mod pack;
 mod square;
 mod table;
 
 pub use fault::TableFault;
-pub use laws::numbers_tell_squares;
+pub use laws::{centred_tells_world, numbers_tell_squares};
 pub use square::Square;
 pub use table::SquareTable;

@@ -2,7 +2,7 @@
 ghost use Rattle.std.specs.Prelude.{◌≡◌, ℕ, ◌+◌, ◌-◌, ◌^◌, ◌<◌, ◌≤◌, length, map, slice_index_or, vec_len, [], ◌∷◌, ◌++◌, IfOk, IfSome, IfNone, OnOk, OnErr, Err};
 ghost use Rattle.worlds.specs.Square.{one, empty_square};
 ghost use Rattle.square_table.specs.Chains.{kids_of, IsChained, IsAbsent};
-ghost use Rattle.square_table.specs.Squares.{Table, IsHeld, Keeps, AreFour, Lacks, with_row, joined, cells_of, level_of, number_of};
+ghost use Rattle.square_table.specs.Squares.{Table, IsNumber, IsHeld, IsSquareOf, Grows, GrowsBy, Keeps, AreFour, Lacks, with_row, joined, cells_of, first_number, kids_at, level_of, number_of, AreDistinct};
 ghost use Rattle.square_table.specs.Kept.{IsRowOf};
 ghost use Rattle.square_table.specs.declared.square.Square.{Square};
 
@@ -89,9 +89,16 @@ impl<'a> SquareTable<'a> {
         })
     }
 
+    // Where its memory comes from.
+    pub(crate) fn alloc(&self) -> Global {
+        self.alloc
+    }
+
     /// How many squares it holds, cells not counted.
     pub fn len(&self) -> u32
-        ensures { result ≡ length self.now.rows }
+        ensures count { result ≡ length self.now.rows }
+        ensures within { (result ≤ self.now.limit) × (self.now.limit ≤ 16777216) }
+        ensures distinct { AreDistinct self.now.rows }
     {
         self.rows.len() as u32
     }
@@ -106,6 +113,27 @@ impl<'a> SquareTable<'a> {
             kids: self.none,
             number: u32::from(state),
             level: 0,
+        }
+    }
+
+    /// The square of a level with a number.
+    pub fn square(&self, level: u8, number: u32) -> Square<'a>
+        requires { IsNumber self.now.rows level number }
+        ensures held { IsHeld self.now result }
+        ensures level { level_of result ≡ level }
+        ensures number { number_of result ≡ number }
+    {
+        if level == 0 {
+            return Square {
+                kids: self.none,
+                number,
+                level,
+            };
+        }
+        Square {
+            kids: self.rows[(number - FIRST_NUMBER) as usize].kids,
+            number,
+            level,
         }
     }
 
@@ -151,6 +179,46 @@ impl<'a> SquareTable<'a> {
         Ok(Numbered { kids, number })
     }
 
+    // The row of these quadrants, found or made.
+    fn row(&mut self, kids: [u32; 4]) -> Result<Numbered<'a>, TableFault>
+        requires { length kids ≡ 4 }
+        ensures grows { Grows self.old self.new }
+        ensures one { GrowsBy kids self.old self.new }
+        ensures row { IfOk result (IsRowOf self.new.rows kids) }
+        ensures unchanged { OnErr result (self.new ≡ self.old) }
+        ensures full { result ≡ Err TableFault.NoRoom → length self.old.rows ≡ self.old.limit }
+    {
+        self.make_ready();
+        match self.known(kids) {
+            Some(row) => Ok(row),
+            None => self.add(kids),
+        }
+    }
+
+    /// The numbers of the quadrants nw, ne, sw and se of the square with this number.
+    pub fn quadrants(&self, number: u32) -> [u32; 4]
+        requires above { first_number ≤ number }
+        requires there { number < first_number + length self.now.rows }
+        ensures { result ≡ kids_at self.now.rows number }
+    {
+        *self.rows[(number - FIRST_NUMBER) as usize].kids
+    }
+
+    /// The number of the square whose quadrants nw, ne, sw and se have these numbers.
+    ///
+    /// It stands for a square where the four are numbers of one level. NoRoom where it isn't there
+    /// yet and the table holds as many as it may; NoMemory where a growth was refused. A refused call
+    /// leaves the table as it was.
+    pub fn join_numbers(&mut self, kids: [u32; 4]) -> Result<u32, TableFault>
+        ensures grows { Grows self.old self.new }
+        ensures one { GrowsBy kids self.old self.new }
+        ensures square { IfOk result (IsSquareOf self.new.rows kids) }
+        ensures unchanged { OnErr result (self.new ≡ self.old) }
+        ensures full { result ≡ Err TableFault.NoRoom → length self.old.rows ≡ self.old.limit }
+    {
+        Ok(self.row(kids)?.number)
+    }
+
     /// The square of four of one level of at most 63, in the order nw, ne, sw, se.
     ///
     /// NoRoom where it isn't there yet and the table holds as many as it may; NoMemory where a growth
@@ -167,13 +235,9 @@ impl<'a> SquareTable<'a> {
         ensures unchanged { OnErr result (self.new ≡ self.old) }
         ensures full { result ≡ Err TableFault.NoRoom → length self.old.rows ≡ self.old.limit }
     {
-        self.make_ready();
         let level = four[0].level + 1;
         let kids = numbers(&four);
-        let row = match self.known(kids) {
-            Some(row) => row,
-            None => self.add(kids)?,
-        };
+        let row = self.row(kids)?;
         Ok(Square {
             kids: row.kids,
             number: row.number,

@@ -2,4 +2,6 @@
 #![tactic(auto)]
 
 #[cfg(test)]
+mod planes;
+#[cfg(test)]
 mod tests;

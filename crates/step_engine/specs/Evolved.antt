@@ -1,5 +1,9 @@
 -- What an engine reports of its work, and why it refuses.
-use Rattle.std.specs.Prelude.{ℕ, List, codes}
+use Rattle.std.specs.Prelude.{ℕ, ◌≤◌, List, codes}
+use Rattle.square_table.specs.declared.fault.TableFault.{TableFault}
+use Rattle.square_table.specs.declared.fault.TableFault.TheVariants as table
+use Rattle.hash_engine.specs.declared.fault.ResultFault.{ResultFault}
+use Rattle.hash_engine.specs.declared.fault.ResultFault.TheVariants as results
 use Rattle.step_engine.specs.declared.evolved.Report.{Report}
 use Rattle.step_engine.specs.declared.evolved.EvolveFault.{EvolveFault}
 use Rattle.step_engine.specs.declared.evolved.EvolveFault.TheVariants.{NoRoom, Stopped, NoMemory}
@@ -7,6 +11,12 @@ use Rattle.step_engine.specs.declared.evolved.EvolveFault.TheVariants.{NoRoom, S
 -- the report of an engine that shares nothing
 abbrev pub nothing_shared : Report
 nothing_shared = record { squares = 0; fours = 0; base = 0 }
+
+-- a report of no more squares than there may be, of no more of 4 by 4 cells than these, and of no more put to the rule than those
+pub record IsWithin (limit : ℕ) (report : Report) : Type 0 where
+  pub squares : report.squares ≤ limit
+  pub fours : report.fours ≤ report.squares
+  pub base : report.base ≤ report.fours
 
 -- the number of a refusal
 abbrev pub number_of : EvolveFault → ℕ
@@ -19,3 +29,13 @@ abbrev pub name_of : EvolveFault → List ℕ
 name_of NoMemory = codes "NoMemory"
 name_of NoRoom = codes "NoRoom"
 name_of Stopped = codes "Stopped"
+
+-- a refusal of a table of squares, as the engine's
+abbrev pub of_table : TableFault → EvolveFault
+of_table table.NoRoom = NoRoom
+of_table table.NoMemory = NoMemory
+
+-- why a square has no result, as the engine's refusal
+abbrev pub of_result : ResultFault → EvolveFault
+of_result (results.Table fault) = of_table fault
+of_result results.Stopped = Stopped

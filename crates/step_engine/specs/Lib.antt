@@ -4,3 +4,5 @@ pub mod Generation
 pub mod Box
 pub mod Listed
 pub mod Room
+pub mod Reach
+pub mod Padded

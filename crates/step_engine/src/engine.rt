@@ -66,27 +66,3 @@ pub fn evolve_plain<R: Next, S: Stop>(
         report: NOTHING_SHARED,
     })
 }
-
-/// The plane `generations` later. It is `evolve_plain` as long as there is no faster engine.
-pub fn evolve<R: Next, S: Stop>(
-    alloc: Global,
-    rule: &R,
-    plane: &Plane,
-    generations: u64,
-    stop: &mut S,
-    limit: u32,
-) -> Result<Evolved, EvolveFault>
-    requires below { AllBelow (R.state_count rule.now) plane.now }
-    requires few { generations ≤ 2 ^ 60 }
-    requires fits { HasMargin generations plane.now }
-    ensures plane { IfOk result (λ evolved.
-        evolved.plane ≡ iterate generations (step (R.meaning rule.now)) plane.now) }
-
-    // Stopped is answered exactly where the stop said yes.
-    ensures stopped { result ≡ Err EvolveFault.Stopped →
-        S.yes_count stop.new ≡ S.yes_count stop.old + 1 }
-    ensures went_on { result ≢ Err EvolveFault.Stopped →
-        S.yes_count stop.new ≡ S.yes_count stop.old }
-{
-    evolve_plain(alloc, rule, plane, generations, stop, limit)
-}

@@ -1,7 +1,9 @@
 //! What an engine answers.
 
 use basics::Refusal;
+use hash_engine::ResultFault;
 use plane_core::Plane;
+use square_table::TableFault;
 use std::alloc::AllocError;
 use thiserror::Error;
 
@@ -76,5 +78,33 @@ impl From<AllocError> for EvolveFault {
 
     fn from(_error: AllocError) -> EvolveFault {
         EvolveFault::NoMemory
+    }
+}
+
+impl From<TableFault> for EvolveFault {
+    ghost use Rattle.std.specs.Prelude.{◌≡◌};
+    ghost use Rattle.step_engine.specs.Evolved.{of_table};
+
+    ghost from_gives = { λ inner fault. fault ≡ of_table inner };
+
+    fn from(inner: TableFault) -> EvolveFault {
+        match inner {
+            TableFault::NoRoom => EvolveFault::NoRoom,
+            TableFault::NoMemory => EvolveFault::NoMemory,
+        }
+    }
+}
+
+impl From<ResultFault> for EvolveFault {
+    ghost use Rattle.std.specs.Prelude.{◌≡◌};
+    ghost use Rattle.step_engine.specs.Evolved.{of_result};
+
+    ghost from_gives = { λ inner fault. fault ≡ of_result inner };
+
+    fn from(inner: ResultFault) -> EvolveFault {
+        match inner {
+            ResultFault::Table(inner) => EvolveFault::from(inner),
+            ResultFault::Stopped => EvolveFault::Stopped,
+        }
     }
 }

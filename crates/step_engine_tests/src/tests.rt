@@ -2,6 +2,7 @@ mod edges;
 mod engine;
 mod faults;
 mod rules;
+mod shared;
 mod stops;
 
 ghost use Rattle.std.specs.Prelude.{◌<◌, All, IsTrue};

@@ -14,7 +14,7 @@ const WEST: usize = 7;
 
 pub const ONE: &[Row] = &[(0, 0, 1)];
 
-fn is_below(plane: &Plane, states: u16) -> bool
+pub fn is_below(plane: &Plane, states: u16) -> bool
     ensures { IsTrue result → AllBelow states plane.now }
 {
     u16::from(plane.greatest()) < states

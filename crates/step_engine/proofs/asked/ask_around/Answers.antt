@@ -5,7 +5,7 @@ use Rattle.worlds.specs.World.{Place}
 use Rattle.worlds.specs.Step.{places_around}
 use Rattle.step_engine.specs.Asked.{AsksMore}
 use Rattle.step_engine.specs.Room.{HasRoom}
-use Rattle.step_engine.proofs.Asking.{AsksMore-at, AsksMore-none, AsksMore-then}
+use Rattle.step_engine.proofs.Asks.{AsksMore-at, AsksMore-none, AsksMore-then}
 use Rattle.step_engine.proofs.Offsets.{near_at, place_at}
 use Rattle.step_engine.proofs.Rooms.{held_near}
 use Rattle.step_engine.proofs.asked.ask_around.Goals as goal

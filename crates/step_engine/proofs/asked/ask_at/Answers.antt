@@ -2,7 +2,7 @@ use Rattle.std.proofs.Common.{◌≡◌, ◌<◌, ◌∙◌, sym, ap, ap₂, ari
 use Rattle.std.specs.Prelude.{is_some}
 use Rattle.std.proofs.lemmas.Int.{ints}
 use Rattle.square_tree.specs.Cells.{state_at}
-use Rattle.step_engine.proofs.Asking.{AsksMore-again, AsksMore-noted}
+use Rattle.step_engine.proofs.Asks.{AsksMore-again, AsksMore-noted}
 use Rattle.step_engine.proofs.asked.ask_at.Goals as goal
 
 pub returns-then-is_some : goal.returns-then-is_some

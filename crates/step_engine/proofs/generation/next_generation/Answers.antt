@@ -2,7 +2,7 @@ use Rattle.std.proofs.Common.{◌<◌, ◌∙◌, sym, ap, subst, arith, length,
 use Rattle.worlds.specs.declared.cell.CellSet.{CellSet}
 use Rattle.worlds.specs.Step.{step, places_around}
 use Rattle.step_engine.specs.Asked.{HasAsked, AsksMore}
-use Rattle.step_engine.proofs.Asking.{AsksMore-around}
+use Rattle.step_engine.proofs.Asks.{AsksMore-around}
 use Rattle.step_engine.proofs.Mentions.{place_of}
 use Rattle.step_engine.proofs.Next.{asked_for, asked_for-more, asked_all, next-laid, next-together, next-still}
 use Rattle.step_engine.proofs.generation.next_generation.Goals as goal

@@ -1,5 +1,5 @@
 use Rattle.std.proofs.Common.{true}
-use Rattle.step_engine.proofs.Asking.{HasAsked-none}
+use Rattle.step_engine.proofs.Asks.{HasAsked-none}
 use Rattle.step_engine.proofs.asked.Asked.nothing.Goals as goal
 
 pub returns-clause-none : goal.returns-clause-none

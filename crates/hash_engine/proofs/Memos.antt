@@ -1,0 +1,59 @@
+-- What is remembered stays right, and tells the result of the square that is asked for.
+use Rattle.std.proofs.Common.{◌≡◌, ℕ, suc, ◌+◌, ◌-◌, ◌<◌, ◌≤◌, ◌^◌, List, get_or, sym, ◌∙◌, ap, subst, arith, inl, inr}
+use Rattle.std.proofs.lemmas.Bool.{cases_eq}
+use Rattle.square_table.specs.Squares.{Table, IsNumber, first_number, Grows}
+use Rattle.square_table.proofs.Growth.{IsNumber-grows, square_in-grows}
+use Rattle.square_table.proofs.Numbers.{one_level}
+use Rattle.hash_life.specs.Result.{result}
+use Rattle.hash_engine.specs.Standing.{StandsFor}
+use Rattle.hash_engine.specs.Memo.{IsResult, AreKnown, IsRight, IsNoted}
+use Rattle.hash_engine.specs.declared.memo.Memo.{Memo}
+use Rattle.hash_engine.proofs.Standing.{StandsFor-grows}
+
+IsResult-grows : (next : List ℕ → ℕ) (t u : Table) (k generations n r : ℕ) → Grows t u → IsResult next t.rows k generations n r → IsResult next u.rows k generations n r
+IsResult-grows next t u k generations n r grows is =
+    let same = square_in-grows t u (suc (suc k)) n grows is.numbered in
+    record {
+      numbered = IsNumber-grows t u (suc (suc k)) n grows is.numbered;
+      result = subst (λ s. StandsFor u.rows (suc k) r (result next k generations s)) (sym same) (StandsFor-grows t u (suc k) r _ grows is.result);
+    }
+
+AreKnown-grows : (next : List ℕ → ℕ) (count : ℕ → ℕ) (t u : Table) (known : List ℕ) → Grows t u → AreKnown next count t.rows known → AreKnown next count u.rows known
+AreKnown-grows next count t u known grows are = record {
+  right = λ i some. let h = are.right i some in (h.0, IsResult-grows next t u h.0 (count h.0) _ _ grows h.1);
+}
+
+pub IsRight-grows : (next : List ℕ → ℕ) (t u : Table) (memo : Memo) → Grows t u → IsRight next t.rows memo → IsRight next u.rows memo
+IsRight-grows next t u memo grows right = record {
+  full = AreKnown-grows next (λ k. 2 ^ k) t u memo.full.items grows right.full;
+  part = AreKnown-grows next (λ k. get_or memo.counts k 0) t u memo.part.items grows right.part;
+}
+
+-- what stands at a square's place is its result
+pub recalled : (next : List ℕ → ℕ) (count : ℕ → ℕ) (rows : List (List ℕ)) (known : List ℕ) (k generations n r : ℕ) → generations ≡ count k → first_number ≤ n → 0 < r → get_or known (n - first_number) 0 ≡ r →
+    AreKnown next count rows known → IsNumber rows (suc (suc k)) n → IsResult next rows k generations n r
+recalled next count rows known k generations n r asked high some is are number =
+    let place : first_number + (n - first_number) ≡ n = omega (arith, high) in
+    let there : 0 < get_or known (n - first_number) 0 = omega (arith, some, is) in
+    let h = are.right (n - first_number) there in
+    let found : IsResult next rows h.0 (count h.0) n (get_or known (n - first_number) 0) = subst (λ m. IsResult next rows h.0 (count h.0) m (get_or known (n - first_number) 0)) place h.1 in
+    let found_r : IsResult next rows h.0 (count h.0) n r = subst (λ v. IsResult next rows h.0 (count h.0) n v) is found in
+    let levels = one_level rows (suc (suc h.0)) (suc (suc k)) n found_r.numbered number in
+    let level : h.0 ≡ k = omega (arith, levels) in
+    subst (λ g. IsResult next rows k g n r) (sym asked) (subst (λ j. IsResult next rows j (count j) n r) level found_r)
+
+-- one more result
+pub AreKnown-noted : (next : List ℕ → ℕ) (count : ℕ → ℕ) (rows : List (List ℕ)) (known more : List ℕ) (k generations n r : ℕ) → generations ≡ count k → first_number ≤ n →
+    AreKnown next count rows known → IsResult next rows k generations n r → IsNoted (n - first_number) r known more → AreKnown next count rows more
+AreKnown-noted next count rows known more k generations n r asked high are is noted = record {
+  right = λ i some. elim (cases_eq i (n - first_number)) [
+    | inl here ↦
+        let place : n ≡ first_number + i = omega (arith, high, here) in
+        let r_is : r ≡ get_or more i 0 = sym noted.here ∙ ap (λ j. get_or more j 0) (sym here) in
+        (k, subst (λ g. IsResult next rows k g (first_number + i) (get_or more i 0)) asked (subst (λ m. IsResult next rows k generations m (get_or more i 0)) place (subst (λ v. IsResult next rows k generations n v) r_is is)))
+    | inr other ↦
+        let same = noted.others i other in
+        let h = are.right i (omega (arith, some, same)) in
+        (h.0, subst (λ v. IsResult next rows h.0 (count h.0) (first_number + i) v) (sym same) h.1)
+  ];
+}

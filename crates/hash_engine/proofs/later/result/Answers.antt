@@ -1,0 +1,10 @@
+use Rattle.std.proofs.Common.{◌≡◌, suc, ◌-◌, arith}
+use Rattle.square_table.specs.Squares.{level_of, number_of}
+use Rattle.hash_engine.proofs.Computed.{IsReady-root}
+use Rattle.hash_engine.proofs.later.result.Goals as goal
+
+pub later-requires-clause-number : goal.later-requires-clause-number
+later-requires-clause-number g c =
+    let level : level_of c.args.root ≡ suc (suc (c.level-k.result - 2)) = omega (arith, c.requires.least, c.level-k.ensures) in
+    IsReady-root (g.Q.Ask.meaning c.args.rule.now) (g.Q.Ask.state_count c.args.rule.now) (g.met.Q.Ask.below c.args.rule.now) c.args.table.now (level_of c.args.root) (c.level-k.result - 2) c.args.generations (number_of c.args.root) c.number.result level c.number.ensures
+    c.requires.held.numbered c.requires.below

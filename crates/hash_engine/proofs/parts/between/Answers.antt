@@ -1,0 +1,21 @@
+use Rattle.std.proofs.lemmas.Result.{IfOk-weaker}
+use Rattle.hash_engine.proofs.Standing.{above, within, StandsFor-between}
+use Rattle.hash_engine.proofs.parts.between.Goals as goal
+
+pub quadrants-requires-clause-above : goal.quadrants-requires-clause-above
+quadrants-requires-clause-above c = above _ c.requires.west.0 _ c.requires.west.1
+
+pub quadrants-requires-clause-there : goal.quadrants-requires-clause-there
+quadrants-requires-clause-there c = within _ c.requires.west.0 _ c.requires.west.1
+
+pub quadrants-requires-2-clause-above : goal.quadrants-requires-2-clause-above
+quadrants-requires-2-clause-above c = above _ c.requires.east.0 _ c.requires.east.1
+
+pub quadrants-requires-2-clause-there : goal.quadrants-requires-2-clause-there
+quadrants-requires-2-clause-there c = within _ c.requires.east.0 _ c.requires.east.1
+
+pub returns-clause-square : goal.returns-clause-square
+returns-clause-square c =
+    IfOk-weaker c.join_numbers.result _ _
+    (λ n is k s t first second. StandsFor-between c.args.table.now c.join_numbers.new.self k c.args.west c.args.east n c.quadrants.result c.quadrants-2.result s t c.quadrants.ensures c.quadrants-2.ensures c.join_numbers.ensures.grows is first second)
+    c.join_numbers.ensures.square

@@ -1,0 +1,45 @@
+use Rattle.std.proofs.Common.{◌≡◌, ◌<◌, sym, subst, rules}
+use Rattle.std.proofs.lemmas.Result.{IfOk-weaker}
+use Rattle.square_table.specs.Squares.{square_in}
+use Rattle.hash_life.specs.Result.{later}
+use Rattle.hash_life.specs.Puts.{IsBelow}
+use Rattle.hash_engine.specs.Standing.{of_four}
+use Rattle.hash_engine.proofs.Asked.{square_of_sixteen, StandsFor-cells}
+use Rattle.hash_engine.proofs.Standing.{above, within, quadrant_numbers}
+use Rattle.hash_engine.proofs.parts.later.Goals as goal
+
+pub quadrants-requires-clause-above : goal.quadrants-requires-clause-above
+quadrants-requires-clause-above g c = above _ 1 _ c.requires.number
+
+pub quadrants-requires-clause-there : goal.quadrants-requires-clause-there
+quadrants-requires-clause-there g c = within _ 1 _ c.requires.number
+
+pub states-requires : goal.states-requires
+states-requires g c = (quadrant_numbers _ 1 _ _ c.quadrants.ensures c.requires.number).nw
+
+pub states-requires-2 : goal.states-requires-2
+states-requires-2 g c = (quadrant_numbers _ 1 _ _ c.quadrants.ensures c.requires.number).ne
+
+pub states-requires-3 : goal.states-requires-3
+states-requires-3 g c = (quadrant_numbers _ 1 _ _ c.quadrants.ensures c.requires.number).sw
+
+pub states-requires-4 : goal.states-requires-4
+states-requires-4 g c = (quadrant_numbers _ 1 _ _ c.quadrants.ensures c.requires.number).se
+
+pub ask_four-requires : goal.ask_four-requires
+ask_four-requires g c =
+    subst (IsBelow (g.Q.Ask.state_count c.args.rule.now))
+    (square_of_sixteen c.args.table.now.rows c.args.number c.quadrants.result c.states.result c.states-2.result c.states-3.result c.states-4.result c.quadrants.ensures c.states.ensures c.states-2.ensures c.states-3.ensures c.states-4.ensures)
+    c.requires.below
+
+pub returns-clause-square : goal.returns-clause-square
+returns-clause-square g c =
+    let sixteen = square_of_sixteen c.args.table.now.rows c.args.number c.quadrants.result c.states.result c.states-2.result c.states-3.result c.states-4.result c.quadrants.ensures c.states.ensures c.states-2.ensures c.states-3.ensures c.states-4.ensures in
+    let made : of_four c.ask_four.result ≡ later (g.Q.Ask.meaning c.args.rule.now) (square_in c.args.table.now.rows 2 c.args.number) = subst (λ s. of_four c.ask_four.result ≡ later (g.Q.Ask.meaning c.args.rule.now) s) (sym sixteen) c.ask_four.ensures.states in
+    let a : c.from.result < 256 = search rules in
+    let b : c.from-2.result < 256 = search rules in
+    let d : c.from-3.result < 256 = search rules in
+    let e : c.from-4.result < 256 = search rules in
+    IfOk-weaker c.join_numbers.result _ _
+    (λ n is. StandsFor-cells c.join_numbers.new.self.rows n _ _ _ _ c.ask_four.result _ is a b d e c.from.ensures c.from-2.ensures c.from-3.ensures c.from-4.ensures made)
+    c.join_numbers.ensures.square

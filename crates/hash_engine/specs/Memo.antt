@@ -1,0 +1,25 @@
+-- What is remembered.
+use Rattle.std.specs.Prelude.{◌≡◌, ◌≢◌, ℕ, suc, ◌+◌, ◌^◌, ◌<◌, List, get_or}
+use Rattle.square_table.specs.Squares.{IsNumber, square_in, first_number}
+use Rattle.hash_life.specs.Result.{result}
+use Rattle.hash_engine.specs.Standing.{StandsFor}
+use Rattle.hash_engine.specs.declared.memo.Memo.{Memo}
+
+-- r is the number of the result, so many generations later, of the square of level k + 2 with the number n
+pub record IsResult (next : List ℕ → ℕ) (rows : List (List ℕ)) (k generations n r : ℕ) : Type 0 where
+  pub numbered : IsNumber rows (suc (suc k)) n
+  pub result : StandsFor rows (suc k) r (result next k generations (square_in rows (suc (suc k)) n))
+
+-- results by the places of their squares, 0 where none is known; the level decides how many generations later each is
+pub record AreKnown (next : List ℕ → ℕ) (count : ℕ → ℕ) (rows : List (List ℕ)) (known : List ℕ) : Type 0 where
+  pub right : (i : ℕ) → 0 < get_or known i 0 → (k : ℕ) × IsResult next rows k (count k) (first_number + i) (get_or known i 0)
+
+-- each result that is remembered is right
+pub record IsRight (next : List ℕ → ℕ) (rows : List (List ℕ)) (memo : Memo) : Type 0 where
+  pub full : AreKnown next (λ k. 2 ^ k) rows memo.full.items
+  pub part : AreKnown next (λ k. get_or memo.counts k 0) rows memo.part.items
+
+-- the one list has this result at the place i, and is the other elsewhere
+pub record IsNoted (i r : ℕ) (old new : List ℕ) : Type 0 where
+  pub here : get_or new i 0 ≡ r
+  pub others : (j : ℕ) → j ≢ i → get_or new j 0 ≡ get_or old j 0

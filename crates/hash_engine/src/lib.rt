@@ -1,0 +1,20 @@
+//! HashLife over shared squares: the middle of a square up to 2^k generations later, where each
+//! distinct square is computed once.
+//!
+//! `result` is the function of squares of `hash_life`, which is single steps by the law that stands
+//! there (R. Wm. Gosper, Exploiting Regularities in Large Cellular Spaces, Physica 10D, 1984). A
+//! square of level k + 2 is asked for nine results of level k + 1 and four of what these make. In one
+//! call a level is asked for two counts of generations at most, the full 2^k and one other, so that
+//! two lists by the squares' numbers remember all: 8 bytes a square.
+#![tactic(auto)]
+
+mod asking;
+mod counts;
+mod fault;
+mod later;
+mod memo;
+mod parts;
+
+pub use asking::Asking;
+pub use fault::ResultFault;
+pub use later::{Found, result};

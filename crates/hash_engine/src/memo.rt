@@ -1,0 +1,131 @@
+//! What is remembered of a computation: the results by the numbers of their squares.
+
+ghost use Rattle.std.specs.Prelude.{◌≡◌, ◌+◌, ◌-◌, ◌^◌, ◌<◌, ◌≤◌, ℕ, List, suc, get_or, IfSome, OnOk, OnErr};
+ghost use Rattle.square_table.specs.Squares.{IsNumber, first_number};
+ghost use Rattle.hash_engine.specs.Memo.{IsRight, IsResult, IsNoted};
+
+use std::alloc::{AllocError, Global};
+
+// Below it numbers are those of cells.
+const FIRST_NUMBER: u32 = 256;
+
+/// As many generations as a square of level k + 2 is asked for at once, which is 2^k.
+pub(crate) fn full(k: u8) -> u64
+    requires { k ≤ 61 }
+    ensures { result ≡ 2 ^ k }
+{
+    1u64 << k
+}
+
+/// The results that are known, for two counts of generations a level: the full one, and one other.
+/// The results stand by the numbers of the squares, 0 where none is known.
+#[derive(Drop)]
+pub(crate) struct Memo {
+    full: Vec<u32>,
+    part: Vec<u32>,
+    // The other count, by k.
+    counts: [u64; 62],
+}
+
+// The counts less than the full ones for which squares of each level are asked on the way from
+// level k + 2, by as many generations.
+fn counts(k: u8, generations: u64) -> [u64; 62]
+    requires { k ≤ 61 }
+{
+    let mut counts = [0; 62];
+    let mut rest = generations;
+    for level in (0..=k).rev() {
+        counts[usize::from(level)] = rest;
+        let half = full(level) / 2;
+        if rest > half {
+            rest -= half;
+        }
+    }
+    counts
+}
+
+// The result at a number.
+fn found(known: &[u32], number: u32) -> Option<u32>
+    requires { first_number ≤ number }
+    ensures { IfSome result (λ r. (0 < r) × (get_or known.now (number - first_number) 0 ≡ r)) }
+{
+    match known.get((number - FIRST_NUMBER) as usize) {
+        None | Some(0) => None,
+        Some(result) => Some(*result),
+    }
+}
+
+// Writes the result of a number down. The list's room is doubled where it is too short.
+fn note(known: &mut Vec<u32>, number: u32, found: u32) -> Result<(), AllocError>
+    requires { first_number ≤ number }
+    ensures ok { OnOk result (IsNoted (number - first_number) found known.old.items known.new.items) }
+    ensures err { OnErr result (known.new.items ≡ known.old.items) }
+{
+    let place = (number - FIRST_NUMBER) as usize;
+    if place >= known.len() {
+        known.resize(place + 1, 0)?;
+    }
+    known[place] = found;
+    Ok(())
+}
+
+impl Memo {
+    /// Nothing yet, for what is asked on the way from level k + 2 by as many generations.
+    pub(crate) fn nothing(alloc: Global, k: u8, generations: u64) -> Memo
+        requires { k ≤ 61 }
+        ensures { (next : List ℕ → ℕ) (rows : List (List ℕ)) → IsRight next rows result }
+    {
+        Memo {
+            full: Vec::new(alloc),
+            part: Vec::new(alloc),
+            counts: counts(k, generations),
+        }
+    }
+
+    /// The result of a square of level k + 2 by as many generations, where it is known.
+    pub(crate) fn recall(&self, k: u8, generations: u64, number: u32) -> Option<u32>
+        requires k { k ≤ 61 }
+        requires number { first_number ≤ number }
+        ensures { IfSome result (λ r. (next : List ℕ → ℕ) (rows : List (List ℕ)) →
+            IsRight next rows self.now → IsNumber rows (suc (suc k)) number →
+            IsResult next rows k generations number r) }
+    {
+        if generations == full(k) {
+            found(&self.full, number)
+        } else if generations == self.counts[usize::from(k)] {
+            found(&self.part, number)
+        } else {
+            None
+        }
+    }
+
+    /// Whether the result of the square at this place by the full count is known.
+    pub(crate) fn has_full(&self, place: u32) -> bool {
+        match self.full.get(place as usize) {
+            None | Some(0) => false,
+            Some(_) => true,
+        }
+    }
+
+    /// Remembers it. After a refusal what was known is known still.
+    pub(crate) fn remember(
+        &mut self,
+        k: u8,
+        generations: u64,
+        number: u32,
+        found: u32,
+    ) -> Result<(), AllocError>
+        requires k { k ≤ 61 }
+        requires number { first_number ≤ number }
+        ensures { (next : List ℕ → ℕ) (rows : List (List ℕ)) → IsRight next rows self.old →
+            IsResult next rows k generations number found → IsRight next rows self.new }
+    {
+        if generations == full(k) {
+            note(&mut self.full, number, found)
+        } else if generations == self.counts[usize::from(k)] {
+            note(&mut self.part, number, found)
+        } else {
+            Ok(())
+        }
+    }
+}

@@ -1,0 +1,153 @@
+//! Squares made of the quadrants of others.
+
+ghost use Rattle.std.specs.Prelude.{◌≡◌, ◌+◌, ◌<◌, ℕ, suc, List, All, length, IfOk, Err};
+ghost use Rattle.worlds.specs.Square as squares;
+ghost use Rattle.worlds.specs.Square.{four};
+ghost use Rattle.square_table.specs.Squares.{IsNumber, square_in, Grows, kids_at};
+ghost use Rattle.hash_life.specs.Result.{between, amid, middle, later};
+ghost use Rattle.hash_life.specs.Puts.{nine_of, fours_of, IsBelow};
+ghost use Rattle.hash_engine.specs.Standing.{StandsFor, StandForAll, of_four};
+ghost use Rattle.hash_engine.specs.Found.{IsSameRule};
+
+use square_table::{SquareTable, TableFault};
+use worlds::{Around, Ask};
+
+// The square between two that stand side by side.
+fn between(table: &mut SquareTable<'_>, west: u32, east: u32) -> Result<u32, TableFault>
+    requires west { (k : ℕ) × IsNumber table.old.rows (suc k) west }
+    requires east { (k : ℕ) × IsNumber table.old.rows (suc k) east }
+    ensures grows { Grows table.old table.new }
+    ensures square { IfOk result (λ n. (k : ℕ) (s t : squares.Square) →
+        StandsFor table.old.rows (suc k) west s → StandsFor table.old.rows (suc k) east t →
+        StandsFor table.new.rows (suc k) n (between s t)) }
+    ensures full { result ≡ Err TableFault.NoRoom → length table.new.rows ≡ table.new.limit }
+{
+    let [_, nw, _, sw] = table.quadrants(west);
+    let [ne, _, se, _] = table.quadrants(east);
+    table.join_numbers([nw, ne, sw, se])
+}
+
+// The square between two that stand one above the other.
+fn amid(table: &mut SquareTable<'_>, north: u32, south: u32) -> Result<u32, TableFault>
+    requires north { (k : ℕ) × IsNumber table.old.rows (suc k) north }
+    requires south { (k : ℕ) × IsNumber table.old.rows (suc k) south }
+    ensures grows { Grows table.old table.new }
+    ensures square { IfOk result (λ n. (k : ℕ) (s t : squares.Square) →
+        StandsFor table.old.rows (suc k) north s → StandsFor table.old.rows (suc k) south t →
+        StandsFor table.new.rows (suc k) n (amid s t)) }
+    ensures full { result ≡ Err TableFault.NoRoom → length table.new.rows ≡ table.new.limit }
+{
+    let [_, _, nw, ne] = table.quadrants(north);
+    let [sw, se, _, _] = table.quadrants(south);
+    table.join_numbers([nw, ne, sw, se])
+}
+
+/// The square of half the side in the middle.
+pub(crate) fn middle(table: &mut SquareTable<'_>, number: u32) -> Result<u32, TableFault>
+    requires { (k : ℕ) × IsNumber table.old.rows (suc (suc k)) number }
+    ensures grows { Grows table.old table.new }
+    ensures square { IfOk result (λ n. (k : ℕ) (s : squares.Square) →
+        StandsFor table.old.rows (suc (suc k)) number s →
+        StandsFor table.new.rows (suc k) n (middle s)) }
+    ensures full { result ≡ Err TableFault.NoRoom → length table.new.rows ≡ table.new.limit }
+{
+    let [nw, ne, sw, se] = table.quadrants(number);
+    let [_, _, _, a] = table.quadrants(nw);
+    let [_, _, b, _] = table.quadrants(ne);
+    let [_, c, _, _] = table.quadrants(sw);
+    let [d, _, _, _] = table.quadrants(se);
+    table.join_numbers([a, b, c, d])
+}
+
+/// The nine squares of half the side that overlap in a square, by rows.
+pub(crate) fn nine(table: &mut SquareTable<'_>, number: u32) -> Result<[u32; 9], TableFault>
+    requires { (k : ℕ) × IsNumber table.old.rows (suc (suc k)) number }
+    ensures grows { Grows table.old table.new }
+    ensures squares { IfOk result (λ ns. (k : ℕ) (s : squares.Square) →
+        StandsFor table.old.rows (suc (suc k)) number s →
+        StandForAll table.new.rows (suc k) ns (nine_of s)) }
+    ensures full { result ≡ Err TableFault.NoRoom → length table.new.rows ≡ table.new.limit }
+{
+    let [nw, ne, sw, se] = table.quadrants(number);
+    let north = between(table, nw, ne)?;
+    let west = amid(table, nw, sw)?;
+    let centre = middle(table, number)?;
+    let east = amid(table, ne, se)?;
+    let south = between(table, sw, se)?;
+    Ok([nw, north, ne, west, centre, east, sw, south, se])
+}
+
+/// The four squares that overlap in what nine make, by rows.
+pub(crate) fn fours(table: &mut SquareTable<'_>, nine: [u32; 9]) -> Result<[u32; 4], TableFault>
+    ensures grows { Grows table.old table.new }
+    ensures squares { IfOk result (λ ns. (k : ℕ) (ss : List squares.Square) →
+        StandForAll table.old.rows k nine ss →
+        StandForAll table.new.rows (suc k) ns (fours_of ss)) }
+    ensures full { result ≡ Err TableFault.NoRoom → length table.new.rows ≡ table.new.limit }
+{
+    let [a, b, c, d, e, f, g, h, i] = nine;
+    let nw = table.join_numbers([a, b, d, e])?;
+    let ne = table.join_numbers([b, c, e, f])?;
+    let sw = table.join_numbers([d, e, g, h])?;
+    let se = table.join_numbers([e, f, h, i])?;
+    Ok([nw, ne, sw, se])
+}
+
+// The states of a square of level 1.
+fn states(table: &SquareTable<'_>, number: u32) -> [u8; 4]
+    requires { IsNumber table.now.rows 1 number }
+    ensures { result ≡ kids_at table.now.rows number }
+{
+    let [nw, ne, sw, se] = table.quadrants(number);
+    [nw as u8, ne as u8, sw as u8, se as u8]
+}
+
+// The four cells in the middle of four by four one generation later.
+fn ask_four<Q: Ask>(rule: &mut Q, nw: [u8; 4], ne: [u8; 4], sw: [u8; 4], se: [u8; 4]) -> [u8; 4]
+    requires { IsBelow (Q.state_count rule.old)
+        (four (of_four nw) (of_four ne) (of_four sw) (of_four se)) }
+    ensures states { of_four result ≡ later (Q.meaning rule.old)
+        (four (of_four nw) (of_four ne) (of_four sw) (of_four se)) }
+    ensures rule { IsSameRule (Q.meaning rule.old) (Q.meaning rule.new)
+        (Q.state_count rule.old) (Q.state_count rule.new) }
+    ensures asks { Q.asks rule.new ≡ Q.asks rule.old + 4 }
+{
+    let [a, b, c, d] = nw;
+    let [e, f, g, h] = ne;
+    let [i, j, k, l] = sw;
+    let [m, n, o, p] = se;
+    [
+        rule.ask(&Around([d, b, e, g, m, j, i, c, a])),
+        rule.ask(&Around([g, e, f, h, n, m, j, d, b])),
+        rule.ask(&Around([j, d, g, m, o, l, k, i, c])),
+        rule.ask(&Around([m, g, h, n, p, o, l, j, d])),
+    ]
+}
+
+/// The four cells in the middle of a square of level 2 one generation later.
+pub(crate) fn later<Q: Ask>(
+    table: &mut SquareTable<'_>,
+    rule: &mut Q,
+    number: u32,
+) -> Result<u32, TableFault>
+    requires number { IsNumber table.old.rows 2 number }
+    requires below { IsBelow (Q.state_count rule.old) (square_in table.old.rows 2 number) }
+    ensures grows { Grows table.old table.new }
+    ensures square { IfOk result (λ n.
+        StandsFor table.new.rows 1 n
+        (later (Q.meaning rule.old) (square_in table.old.rows 2 number))) }
+    ensures rule { IsSameRule (Q.meaning rule.old) (Q.meaning rule.new)
+        (Q.state_count rule.old) (Q.state_count rule.new) }
+    ensures asks { Q.asks rule.new ≡ Q.asks rule.old + 4 }
+    ensures full { result ≡ Err TableFault.NoRoom → length table.new.rows ≡ table.new.limit }
+{
+    let [nw, ne, sw, se] = table.quadrants(number);
+    let [nw, ne, sw, se] = ask_four(
+        rule,
+        states(table, nw),
+        states(table, ne),
+        states(table, sw),
+        states(table, se),
+    );
+    table.join_numbers([u32::from(nw), u32::from(ne), u32::from(sw), u32::from(se)])
+}

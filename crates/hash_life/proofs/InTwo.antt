@@ -1,0 +1,37 @@
+-- The cases of a result.
+use Rattle.std.proofs.Common.{◌≡◌, ℕ, zero, suc, ◌-◌, ◌<◌, ◌^◌, min, List, map, refl, arith}
+use Rattle.std.specs.Prelude.{All}
+use Rattle.worlds.specs.Square.{Square}
+use Rattle.hash_life.specs.Result.{middle, later, in_two, result}
+use Rattle.hash_life.specs.Puts.{nine_of, fours_of, Puts}
+
+pub result-in_two : (next : List ℕ → ℕ) (k n : ℕ) (s : Square) → 0 < n → result next (suc k) n s ≡ in_two (result next k (min n (2 ^ k))) (result next k (n - min n (2 ^ k))) s
+unfolding result
+result-in_two next k zero s some = absurd (omega (arith, some))
+result-in_two next k (suc n) s some = refl
+
+pub result-none : (next : List ℕ → ℕ) (k : ℕ) (s : Square) → result next k 0 s ≡ middle s
+unfolding result
+result-none next k s = refl
+
+pub result-later : (next : List ℕ → ℕ) (n : ℕ) (s : Square) → 0 < n → result next 0 n s ≡ later next s
+unfolding result
+result-later next zero s some = absurd (omega (arith, some))
+result-later next (suc n) s some = refl
+
+-- the squares that are put to the rule by the nine, and by the four
+pub Puts-nine : (next : List ℕ → ℕ) (k n : ℕ) (s : Square) (P : Square → Type 0) → 0 < n → Puts next (suc k) n s P → All (λ q. Puts next k (min n (2 ^ k)) q P) (nine_of s)
+unfolding Puts
+Puts-nine next k zero s P some puts = absurd (omega (arith, some))
+Puts-nine next k (suc n) s P some puts = puts.0
+
+pub Puts-fours : (next : List ℕ → ℕ) (k n : ℕ) (s : Square) (P : Square → Type 0) → 0 < n → Puts next (suc k) n s P →
+    All (λ q. Puts next k (n - min n (2 ^ k)) q P) (fours_of (map (result next k (min n (2 ^ k))) (nine_of s)))
+unfolding Puts
+Puts-fours next k zero s P some puts = absurd (omega (arith, some))
+Puts-fours next k (suc n) s P some puts = puts.1
+
+pub Puts-itself : (next : List ℕ → ℕ) (n : ℕ) (s : Square) (P : Square → Type 0) → 0 < n → Puts next 0 n s P → P s
+unfolding Puts
+Puts-itself next zero s P some puts = absurd (omega (arith, some))
+Puts-itself next (suc n) s P some puts = puts

@@ -1,0 +1,10 @@
+use Rattle.std.proofs.Common.{◌≡◌, [], length}
+use Rattle.square_table.specs.Loading.{AreBlanks, GrowsFrom}
+use Rattle.square_table.proofs.table.SquareTable.blanks.Given as goal
+
+abbrev pub invariant-loop : goal.invariant-loop
+invariant-loop l = record {
+  grows : GrowsFrom [] l.initial.self l.self;
+  count : length l.blanks.items ≡ l.counter;
+  blanks : AreBlanks l.self.rows l.blanks.items;
+}

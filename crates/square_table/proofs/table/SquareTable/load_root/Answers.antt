@@ -1,0 +1,75 @@
+use Rattle.std.proofs.Common.{◌≡◌, ℕ, suc, ◌-◌, ◌<◌, List, [], None, Some, length, get_or, ap, ap₂, sym, ◌∙◌, subst, arith, inl, inr}
+use Rattle.std.specs.Prelude.{slice_get}
+use Rattle.std.proofs.lemmas.Bool.{cases_lt}
+use Rattle.std.proofs.lemmas.List.{nil_from_length, get_or_read}
+use Rattle.std.proofs.lemmas.Option.{slice_get_within, get_or_from_slice_get, slice_get-get_or}
+use Rattle.worlds.specs.Square.{empty_square}
+use Rattle.square_rows.specs.declared.row.SquareRow.{SquareRow}
+use Rattle.square_rows.specs.Rows as listed
+use Rattle.square_rows.specs.Rows.{no_row, AreRows, root_level, root_of}
+use Rattle.square_rows.proofs.Adding.{IfOk_then}
+use Rattle.square_rows.proofs.Roots.{root_level-none, root_level-some}
+use Rattle.square_rows.proofs.Sound.{square_in-none}
+use Rattle.square_table.specs.Squares.{square_in, level_of, cells_of}
+use Rattle.square_table.specs.Loading.{LevelsUpTo, AreLoaded, IsLoadedAt}
+use Rattle.square_table.proofs.table.SquareTable.load_root.Goals as goal
+
+-- without a last row there are no rows
+none : (rows : List SquareRow) → slice_get rows (length rows - 1) ≡ None → rows ≡ []
+none rows h =
+    nil_from_length rows (elim (cases_lt 0 (length rows)) [
+      | inl some ↦ let there = slice_get-get_or rows (length rows - 1) no_row (omega (arith, some)) in absurd (cc)
+      | inr empty ↦ omega (arith, empty)
+    ])
+
+pub returns-in_default-clause-level : goal.returns-in_default-clause-level
+returns-in_default-clause-level c =
+    IfOk_then c.load_none.result (λ s. level_of s ≡ 1) (λ s. level_of s ≡ root_level c.args.squares.now)
+    (λ s h. h ∙ sym (ap root_level (none c.args.squares.now (sym c.in_default.ensures.value)) ∙ root_level-none)) c.load_none.ensures.level
+
+empty_root : (rows : List SquareRow) → rows ≡ [] → root_of rows ≡ empty_square 1
+empty_root rows e = ap root_of e ∙ ap (λ k. listed.square_in [] k 0) root_level-none ∙ square_in-none [] 1
+
+pub returns-in_default-clause-cells : goal.returns-in_default-clause-cells
+returns-in_default-clause-cells c =
+    IfOk_then c.load_none.result (λ s. cells_of c.load_none.new.self s ≡ empty_square 1) (λ s. cells_of c.load_none.new.self s ≡ root_of c.args.squares.now)
+    (λ s h. h ∙ sym (empty_root c.args.squares.now (none c.args.squares.now (sym c.in_default.ensures.value)))) c.load_none.ensures.cells
+
+-- the last row is that of the root
+record IsLast (rows : List SquareRow) (root : SquareRow) : Type 0 where
+  some : 0 < length rows
+  level : root.level ≡ root_level rows
+
+last : (rows : List SquareRow) (root : SquareRow) → slice_get rows (length rows - 1) ≡ Some root → IsLast rows root
+last rows root h =
+    let within : length rows - 1 < length rows = slice_get_within rows (length rows - 1) root h in
+    let at : get_or rows (length rows - 1) no_row ≡ root = get_or_from_slice_get rows (length rows - 1) root no_row h in
+    let some : 0 < length rows = omega (arith, within) in
+    record { some = some; level = ap (λ (r : SquareRow). r.level) (sym at) ∙ sym (root_level-some rows some) }
+
+levels : (rows : List SquareRow) (blanks seen : List ℕ) (k : ℕ) → AreRows rows × LevelsUpTo (root_level rows) rows → k ≡ root_level rows → length blanks ≡ k → seen ≡ blanks → AreRows rows × LevelsUpTo (length seen) rows
+levels rows blanks seen k valid level count same = (valid.0, subst (λ n. LevelsUpTo n rows) (sym (ap length same ∙ count ∙ level)) valid.1)
+
+pub load_rows-requires-clause-squares : goal.load_rows-requires-clause-squares
+load_rows-requires-clause-squares c =
+    levels c.args.squares.now c.in_ok-blanks.blanks.items c.deref.result.now c.in-Some.root.now.level c.requires (last c.args.squares.now c.in-Some.root.now (sym c.in-Some.ensures.value)).level c.in_ok-blanks.ensures.count c.deref.ensures.value
+
+-- the number that was loaded last is that of the root
+root : (rows : List SquareRow) (table : List (List ℕ)) (numbers : List ℕ) (n k : ℕ) → 0 < length rows → k ≡ root_level rows → length numbers ≡ length rows → AreLoaded rows table numbers → n ≡ get_or numbers (length rows - 1) n → square_in table k n ≡ root_of rows
+root rows table numbers n k some level count known read =
+    let i = length rows - 1 in
+    let last_is : suc i ≡ length rows = omega (arith, some) in
+    let within : i < length numbers = omega (arith, some, count) in
+    let at : n ≡ get_or numbers i 0 = get_or_read numbers i n within read 0 in
+    let loaded : IsLoadedAt rows table i n = subst (IsLoadedAt rows table i) (sym at) (known.each i within) in
+    let high : (get_or rows i no_row).level ≡ root_level rows = sym (root_level-some rows some) in
+    ap (λ j. square_in table j n) (level ∙ sym high) ∙ loaded.square ∙ ap (λ j. listed.square_in rows j (suc i)) high ∙ ap (listed.square_in rows (root_level rows)) last_is
+
+pub returns-clause-level : goal.returns-clause-level
+returns-clause-level c = c.square.ensures.level ∙ (last c.args.squares.now c.in-Some.root.now (sym c.in-Some.ensures.value)).level
+
+pub returns-clause-cells : goal.returns-clause-cells
+returns-clause-cells c =
+    let is = last c.args.squares.now c.in-Some.root.now (sym c.in-Some.ensures.value) in
+    ap₂ (square_in c.load_rows.new.self.rows) c.square.ensures.level c.square.ensures.number
+    ∙ root c.args.squares.now c.load_rows.new.self.rows c.in_ok-numbers.numbers.items c.index-number.result.now c.in-Some.root.now.level is.some is.level c.in_ok-numbers.ensures.count c.in_ok-numbers.ensures.loaded c.index-number.ensures

@@ -1,0 +1,79 @@
+use Rattle.std.proofs.Common.{◌≡◌, ◌-◌, ◌<◌, ◌≤◌, ℕ, List, [], ◌∷◌, length, get_or, refl, ap, sym, ◌∙◌, subst, arith, lit<}
+use Rattle.square_rows.specs.declared.row.SquareRow.{SquareRow}
+use Rattle.square_rows.specs.Rows.{no_row, AreRows}
+use Rattle.square_table.specs.Loading.{AreBlanks, AreLoaded, LevelsUpTo, number_in}
+use Rattle.square_table.proofs.Loading.{IsNext, next_found, next_kid, next_kids, next_grows, next_loaded}
+use Rattle.square_table.proofs.table.SquareTable.push_next.Goals as goal
+
+-- the level of the kids of the i-th row
+abbrev below : List SquareRow → ℕ → ℕ
+below squares i = (get_or squares i no_row).level - 1
+
+is_next : (squares : List SquareRow) (blanks numbers : List ℕ) (rows : List (List ℕ)) (i : ℕ) → i ≡ length numbers → AreRows squares × LevelsUpTo (length blanks) squares → length numbers < length squares → AreBlanks rows blanks × AreLoaded squares rows numbers
+    → IsNext squares blanks numbers rows i (below squares i)
+is_next squares blanks numbers rows i same valid more known =
+    record { at = same; valid = valid.0; levels = valid.1; more = omega (arith, same, more); blank = known.0; known = known.1; level = refl }
+
+-- the q-th kid is 0 or the number of a row that is loaded
+early : (squares : List SquareRow) (blanks numbers seen : List ℕ) (rows : List (List ℕ)) (i q : ℕ) → IsNext squares blanks numbers rows i (below squares i) → q < 4 → seen ≡ numbers → 1 ≤ below squares i → next_kid squares i q ≤ length seen
+early squares blanks numbers seen rows i q next hq e h = subst (λ (ns : List ℕ). next_kid squares i q ≤ length ns) (sym e) ((next_found squares blanks numbers rows i (below squares i) q next hq).listed h)
+
+pub number_in-nw-requires-clause-listed : goal.number_in-nw-requires-clause-listed
+number_in-nw-requires-clause-listed c =
+    early c.args.squares.now c.args.blanks.now c.args.numbers.now.items _ c.args.self.now.rows c.len.result 0
+    (is_next c.args.squares.now c.args.blanks.now c.args.numbers.now.items c.args.self.now.rows c.len.result (omega (arith, c.len.ensures, c.args.numbers.now.ok.0)) c.requires.squares c.requires.more c.requires.known)
+    (lit< tt) c.deref.ensures.value
+
+pub number_in-ne-requires-clause-listed : goal.number_in-ne-requires-clause-listed
+number_in-ne-requires-clause-listed c =
+    early c.args.squares.now c.args.blanks.now c.args.numbers.now.items _ c.args.self.now.rows c.len.result 1
+    (is_next c.args.squares.now c.args.blanks.now c.args.numbers.now.items c.args.self.now.rows c.len.result (omega (arith, c.len.ensures, c.args.numbers.now.ok.0)) c.requires.squares c.requires.more c.requires.known)
+    (lit< tt) c.deref-2.ensures.value
+
+pub number_in-sw-requires-clause-listed : goal.number_in-sw-requires-clause-listed
+number_in-sw-requires-clause-listed c =
+    early c.args.squares.now c.args.blanks.now c.args.numbers.now.items _ c.args.self.now.rows c.len.result 2
+    (is_next c.args.squares.now c.args.blanks.now c.args.numbers.now.items c.args.self.now.rows c.len.result (omega (arith, c.len.ensures, c.args.numbers.now.ok.0)) c.requires.squares c.requires.more c.requires.known)
+    (lit< tt) c.deref-3.ensures.value
+
+pub number_in-se-requires-clause-listed : goal.number_in-se-requires-clause-listed
+number_in-se-requires-clause-listed c =
+    early c.args.squares.now c.args.blanks.now c.args.numbers.now.items _ c.args.self.now.rows c.len.result 3
+    (is_next c.args.squares.now c.args.blanks.now c.args.numbers.now.items c.args.self.now.rows c.len.result (omega (arith, c.len.ensures, c.args.numbers.now.ok.0)) c.requires.squares c.requires.more c.requires.known)
+    (lit< tt) c.deref-4.ensures.value
+
+-- the numbers that are joined
+joined : (squares : List SquareRow) (blanks numbers s0 s1 s2 s3 : List ℕ) (i m0 m1 m2 m3 : ℕ) → s0 ≡ numbers → s1 ≡ numbers → s2 ≡ numbers → s3 ≡ numbers
+    → m0 ≡ number_in blanks s0 (below squares i) (next_kid squares i 0) → m1 ≡ number_in blanks s1 (below squares i) (next_kid squares i 1)
+    → m2 ≡ number_in blanks s2 (below squares i) (next_kid squares i 2) → m3 ≡ number_in blanks s3 (below squares i) (next_kid squares i 3)
+    → (m0 ∷ m1 ∷ m2 ∷ m3 ∷ []) ≡ next_kids squares blanks numbers i (below squares i)
+unfolding next_kids
+joined squares blanks numbers s0 s1 s2 s3 i m0 m1 m2 m3 e0 e1 e2 e3 h0 h1 h2 h3 =
+    let n = λ (q : ℕ) (ns : List ℕ). number_in blanks ns (below squares i) (next_kid squares i q) in
+    let a = h0 ∙ ap (n 0) e0 in let b = h1 ∙ ap (n 1) e1 in let d = h2 ∙ ap (n 2) e2 in let e = h3 ∙ ap (n 3) e3 in
+    λ j. a j ∷ b j ∷ d j ∷ e j ∷ []
+
+pub returns-in_err-push-clause-grows : goal.returns-in_err-push-clause-grows
+returns-in_err-push-clause-grows c =
+    next_grows c.args.squares.now c.args.blanks.now c.args.numbers.now.items _ c.args.self.now c.join_numbers.new.self c.len.result (below c.args.squares.now c.len.result)
+    (is_next c.args.squares.now c.args.blanks.now c.args.numbers.now.items c.args.self.now.rows c.len.result (omega (arith, c.len.ensures, c.args.numbers.now.ok.0)) c.requires.squares c.requires.more c.requires.known)
+    (joined c.args.squares.now c.args.blanks.now c.args.numbers.now.items _ _ _ _ c.len.result _ _ _ _ c.deref.ensures.value c.deref-2.ensures.value c.deref-3.ensures.value c.deref-4.ensures.value
+    c.number_in-nw.ensures c.number_in-ne.ensures c.number_in-sw.ensures c.number_in-se.ensures)
+    c.in_ok-next.ensures.grows c.in_ok-next.ensures.one
+
+pub returns-clause-grows : goal.returns-clause-grows
+returns-clause-grows c =
+    next_grows c.args.squares.now c.args.blanks.now c.args.numbers.now.items _ c.args.self.now c.join_numbers.new.self c.len.result (below c.args.squares.now c.len.result)
+    (is_next c.args.squares.now c.args.blanks.now c.args.numbers.now.items c.args.self.now.rows c.len.result (omega (arith, c.len.ensures, c.args.numbers.now.ok.0)) c.requires.squares c.requires.more c.requires.known)
+    (joined c.args.squares.now c.args.blanks.now c.args.numbers.now.items _ _ _ _ c.len.result _ _ _ _ c.deref.ensures.value c.deref-2.ensures.value c.deref-3.ensures.value c.deref-4.ensures.value
+    c.number_in-nw.ensures c.number_in-ne.ensures c.number_in-sw.ensures c.number_in-se.ensures)
+    c.in_ok-next.ensures.grows c.in_ok-next.ensures.one
+
+pub returns-clause-loaded : goal.returns-clause-loaded
+returns-clause-loaded c =
+    subst (AreLoaded c.args.squares.now c.join_numbers.new.self.rows) (sym c.in_ok-push.ensures)
+    (next_loaded c.args.squares.now c.args.blanks.now c.args.numbers.now.items _ c.args.self.now c.join_numbers.new.self c.len.result (below c.args.squares.now c.len.result) c.in_ok-next.next
+    (is_next c.args.squares.now c.args.blanks.now c.args.numbers.now.items c.args.self.now.rows c.len.result (omega (arith, c.len.ensures, c.args.numbers.now.ok.0)) c.requires.squares c.requires.more c.requires.known)
+    (joined c.args.squares.now c.args.blanks.now c.args.numbers.now.items _ _ _ _ c.len.result _ _ _ _ c.deref.ensures.value c.deref-2.ensures.value c.deref-3.ensures.value c.deref-4.ensures.value
+    c.number_in-nw.ensures c.number_in-ne.ensures c.number_in-sw.ensures c.number_in-se.ensures)
+    c.in_ok-next.ensures.grows c.in_ok-next.ensures.square)

@@ -1,0 +1,41 @@
+-- Planes that become squares of a table, row by row.
+use Rattle.std.specs.Prelude.{◌≡◌, ℕ, zero, suc, ◌<◌, ◌≤◌, List, length, get_or}
+use Rattle.worlds.specs.Square.{empty_square}
+use Rattle.square_rows.specs.declared.row.SquareRow.{SquareRow}
+use Rattle.square_rows.specs.Rows as listed
+use Rattle.square_rows.specs.Rows.{no_row, kid}
+use Rattle.square_table.specs.Squares.{Table, IsNumber, square_in, Grows, AllStatesBelow}
+
+-- the k-th is the number of the square of level k with no live cell
+pub record AreBlanks (rows : List (List ℕ)) (blanks : List ℕ) : Type 0 where
+  pub numbers : (k : ℕ) → k < length blanks → IsNumber rows k (get_or blanks k 0)
+  pub empty : (k : ℕ) → k < length blanks → square_in rows k (get_or blanks k 0) ≡ empty_square k
+
+-- n is the number of the square of the i-th row of a plane
+pub record IsLoadedAt (squares : List SquareRow) (rows : List (List ℕ)) (i n : ℕ) : Type 0 where
+  pub number : IsNumber rows (get_or squares i no_row).level n
+  pub square : square_in rows (get_or squares i no_row).level n ≡ listed.square_in squares (get_or squares i no_row).level (suc i)
+
+-- these are the numbers of the squares of the first rows of a plane
+pub record AreLoaded (squares : List SquareRow) (rows : List (List ℕ)) (numbers : List ℕ) : Type 0 where
+  pub few : length numbers ≤ length squares
+  pub each : (i : ℕ) → i < length numbers → IsLoadedAt squares rows i (get_or numbers i 0)
+
+-- the number of the square of level k that a kid of a plane's row stands for
+unfoldable pub number_in : List ℕ → List ℕ → ℕ → ℕ → ℕ
+number_in blanks numbers zero n = n
+number_in blanks numbers (suc k) zero = get_or blanks (suc k) 0
+number_in blanks numbers (suc k) (suc i) = get_or numbers i 0
+
+-- no level is above n
+abbrev pub LevelsUpTo : ℕ → List SquareRow → Type 0
+LevelsUpTo n squares = (i : ℕ) → i < length squares → (get_or squares i no_row).level ≤ n
+
+-- each state in a plane's rows is below c
+abbrev pub CellsBelow : ℕ → List SquareRow → Type 0
+CellsBelow c squares = (i q : ℕ) → i < length squares → q < 4 → (get_or squares i no_row).level ≡ 1 → kid (get_or squares i no_row) q < c
+
+-- the table has more rows, or none, with states of a plane's rows or 0
+pub record GrowsFrom (squares : List SquareRow) (old new : Table) : Type 0 where
+  pub grows : Grows old new
+  pub states : (c : ℕ) → 0 < c → CellsBelow c squares → AllStatesBelow c old.rows → AllStatesBelow c new.rows

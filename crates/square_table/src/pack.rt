@@ -1,0 +1,184 @@
+//! Squares of a table as planes.
+ghost use Rattle.std.specs.Prelude.{◌≡◌, ℕ, ◌-◌, ◌<◌, ◌≤◌, ◌^◌, length, get_or, IfOk, OnOk};
+ghost use Rattle.worlds.specs.World.{World};
+ghost use Rattle.worlds.specs.Range.{HasMargin};
+ghost use Rattle.square_rows.specs.Rows as listed;
+ghost use Rattle.square_rows.specs.Rows.{AreRows};
+ghost use Rattle.square_rows.specs.Laid as laid;
+ghost use Rattle.square_rows.specs.Laid.{Keeps, IsAdded};
+ghost use Rattle.square_table.specs.Squares.{IsHeld, IsNumber, AreNumbers, square_of, level_of, cells_of};
+ghost use Rattle.square_table.specs.Centred.{IsCentred, CentredAlike};
+ghost use Rattle.square_table.specs.Packing.{IsPacked, IsPacking, AreRowsOf};
+
+use crate::chains::is_same;
+use crate::square::Square;
+use crate::table::SquareTable;
+use square_rows::{Plane, SquareRow};
+use std::alloc::AllocError;
+
+// Numbers of a table's squares from it on are those of rows.
+const FIRST_NUMBER: u32 = 256;
+
+// The highest level of a plane's root.
+const MOST_LEVEL: u8 = 62;
+
+// A square by the numbers of its quadrants.
+#[derive(Clone, Copy, Debug)]
+struct Quarters {
+    kids: [u32; 4],
+    level: u8,
+}
+
+// The rows that are packed, and for each row of the table its number among them, if it has one.
+#[derive(Drop)]
+struct Packed {
+    squares: Vec<SquareRow>,
+    numbers: Vec<Option<u32>>,
+}
+
+// Adds a row of quadrants, and gives its number.
+fn push_row(squares: &mut Vec<SquareRow>, level: u8, kids: [u32; 4]) -> Result<u32, AllocError>
+    requires level { (1 ≤ level) × (level ≤ 62) }
+    requires squares { AreRows squares.old.items × (length squares.old.items < 2 ^ 32) }
+    requires kids { (q : ℕ) → q < 4 → listed.IsNumber squares.old.items (level - 1) (get_or kids q 0) }
+    ensures { IfOk result (λ n. IsAdded squares.old.items squares.new.items level n
+        (laid.square_of squares.old.items (level - 1) kids)) }
+{
+    if squares.len() >= u32::MAX as usize {
+        return Err(AllocError);
+    }
+    squares.push(SquareRow { level, kids })?;
+    Ok(squares.len() as u32)
+}
+
+// The number of quadrants as a row, which is added; 0 where they are empty.
+fn add_row(squares: &mut Vec<SquareRow>, level: u8, kids: [u32; 4]) -> Result<u32, AllocError>
+    requires level { (1 ≤ level) × (level ≤ 62) }
+    requires squares { AreRows squares.old.items × (length squares.old.items < 2 ^ 32) }
+    requires kids { (q : ℕ) → q < 4 → listed.IsNumber squares.old.items (level - 1) (get_or kids q 0) }
+    ensures keeps { OnOk result (Keeps squares.old.items squares.new.items) }
+    ensures number { IfOk result (listed.IsNumber squares.new.items level) }
+    ensures square { IfOk result (λ n.
+        listed.square_in squares.new.items level n ≡ laid.square_of squares.old.items (level - 1) kids) }
+{
+    if is_same(kids, [0; 4]) {
+        return Ok(0);
+    }
+    push_row(squares, level, kids)
+}
+
+impl<'a> SquareTable<'a> {
+    // The square of half the side in the middle of one.
+    fn middle(&self, whole: Quarters) -> Quarters
+        requires level { 2 ≤ whole.level }
+        requires numbers { AreNumbers self.now.rows (whole.level - 1) whole.kids }
+        ensures level { result.level ≡ whole.level - 1 }
+        ensures numbers { AreNumbers self.now.rows (result.level - 1) result.kids }
+        ensures centred { 62 < whole.level → CentredAlike whole.level (square_of self.now.rows (whole.level - 1) whole.kids)
+            result.level (square_of self.now.rows (result.level - 1) result.kids) }
+    {
+        let kids = whole.kids;
+        let nw = self.quadrants(kids[0])[3];
+        let ne = self.quadrants(kids[1])[2];
+        let sw = self.quadrants(kids[2])[1];
+        let se = self.quadrants(kids[3])[0];
+        Quarters {
+            kids: [nw, ne, sw, se],
+            level: whole.level - 1,
+        }
+    }
+
+    // The square in its middle that may be a plane's root.
+    fn root(&self, square: Square<'a>) -> Quarters
+        requires held { IsHeld self.now square }
+        requires level { 1 ≤ level_of square }
+        ensures level { (1 ≤ result.level) × (result.level ≤ 62) }
+        ensures numbers { AreNumbers self.now.rows (result.level - 1) result.kids }
+        ensures centred { CentredAlike (level_of square.entry) (cells_of self.now square.entry)
+            result.level (square_of self.now.rows (result.level - 1) result.kids) }
+    {
+        let mut root = Quarters {
+            kids: *square.kids,
+            level: square.level,
+        };
+        while root.level > MOST_LEVEL {
+            root = self.middle(root);
+        }
+        root
+    }
+
+    // Packs the squares of a level that four numbers stand for, and gives their numbers among the rows.
+    #[cycle(pack)]
+    fn pack_kids(
+        &self,
+        packed: &mut Packed,
+        level: u8,
+        kids: [u32; 4],
+    ) -> Result<[u32; 4], AllocError>
+        requires level { level ≤ 61 }
+        requires kids { AreNumbers self.now.rows level kids }
+        requires packed { IsPacking self.now.rows packed.old.squares.items packed.old.numbers.items }
+        ensures keeps { OnOk result (Keeps packed.old.squares.items packed.new.squares.items) }
+        ensures kids { IfOk result (λ all. (q : ℕ) → q < 4 →
+            IsPacked self.now.rows packed.new.squares.items level (get_or kids q 0) (get_or all q 0)) }
+        ensures packed { OnOk result (IsPacking self.now.rows packed.new.squares.items packed.new.numbers.items) }
+    {
+        let nw = self.pack_square(packed, level, kids[0])?;
+        let ne = self.pack_square(packed, level, kids[1])?;
+        let sw = self.pack_square(packed, level, kids[2])?;
+        let se = self.pack_square(packed, level, kids[3])?;
+        Ok([nw, ne, sw, se])
+    }
+
+    // Packs a square, and gives its number among the rows. One that was seen is not packed again.
+    #[cycle(pack)]
+    fn pack_square(&self, packed: &mut Packed, level: u8, number: u32) -> Result<u32, AllocError>
+        requires level { level ≤ 61 }
+        requires number { IsNumber self.now.rows level number }
+        requires packed { IsPacking self.now.rows packed.old.squares.items packed.old.numbers.items }
+        ensures keeps { OnOk result (Keeps packed.old.squares.items packed.new.squares.items) }
+        ensures square { IfOk result (IsPacked self.now.rows packed.new.squares.items level number) }
+        ensures packed { OnOk result (IsPacking self.now.rows packed.new.squares.items packed.new.numbers.items) }
+    {
+        if level == 0 {
+            return Ok(number);
+        }
+        let place = (number - FIRST_NUMBER) as usize;
+        if let Some(known) = packed.numbers[place] {
+            return Ok(known);
+        }
+        let kids = self.pack_kids(packed, level - 1, self.quadrants(number))?;
+        let known = add_row(&mut packed.squares, level, kids)?;
+        packed.numbers[place] = Some(known);
+        Ok(known)
+    }
+
+    // The rows of a square, of which the last is its own.
+    fn pack_rows(&self, root: Quarters) -> Result<Vec<SquareRow>, AllocError>
+        requires level { (1 ≤ root.level) × (root.level ≤ 62) }
+        requires numbers { AreNumbers self.now.rows (root.level - 1) root.kids }
+        ensures { IfOk result (λ rows. AreRowsOf root.level (square_of self.now.rows (root.level - 1) root.kids) rows.items) }
+    {
+        let mut packed = Packed {
+            squares: Vec::new(self.alloc()),
+            numbers: vec![in self.alloc(); None; self.len() as usize]?,
+        };
+        let kids = self.pack_kids(&mut packed, root.level - 1, root.kids)?;
+        push_row(&mut packed.squares, root.level, kids)?;
+        Ok(packed.squares)
+    }
+
+    /// The plane whose cells round (0, 0) are those of the square, of a level of at least 1.
+    ///
+    /// It costs a step for each distinct square in it, and 8 bytes for each of the table beside the
+    /// rows of the plane. It is refused for memory alone.
+    pub fn pack(&self, square: Square<'a>) -> Result<Plane, AllocError>
+        requires held { IsHeld self.now square }
+        requires level { 1 ≤ level_of square }
+        requires world { (w : World) × HasMargin 0 w × IsCentred w (level_of square) (cells_of self.now square) }
+        ensures { IfOk result (λ plane. IsCentred plane (level_of square.entry) (cells_of self.now square.entry)) }
+    {
+        let rows = self.pack_rows(self.root(square))?;
+        Plane::from_squares(self.alloc(), &rows)
+    }
+}

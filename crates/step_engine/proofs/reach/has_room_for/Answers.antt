@@ -1,0 +1,32 @@
+use Rattle.std.proofs.Common.{◌≡◌, ◌-◌, ◌^◌, refl, ap, ◌∙◌, subst, arith}
+use Rattle.std.proofs.lemmas.Int.{ints}
+use Rattle.step_engine.specs.Reach.{LiesWithin, BoxLiesWithin}
+use Rattle.step_engine.proofs.Boxes.{IsInRange-box, HasMargin-box}
+use Rattle.step_engine.proofs.Reaching.{LiesWithin-box, LiesWithin-blank}
+use Rattle.step_engine.proofs.reach.has_room_for.Goals as goal
+
+pub lies_within-requires-clause-range : goal.lies_within-requires-clause-range
+lies_within-requires-clause-range c = IsInRange-box c.in-Some.bounds c.args.plane.now c.bounds.ensures.in_range c.in-Some.ensures.some
+
+pub returns-in-None-clause-room : goal.returns-in-None-clause-room
+returns-in-None-clause-room c = λ _. record {
+  few = omega (arith, c.if-generations-side.false, c.side-side.ensures.value);
+  within = LiesWithin-blank _ c.args.plane.now (c.in-None.ensures.none.0 refl);
+}
+
+pub returns-in-Some-clause-room : goal.returns-in-Some-clause-room
+returns-in-Some-clause-room c = λ yes. record {
+  few = omega (arith, c.if-generations-side.false, c.side-side.ensures.value);
+  within = LiesWithin-box _ c.in-Some.bounds c.args.plane.now c.in-Some.ensures.some (subst (λ n. BoxLiesWithin (n - c.args.generations) c.in-Some.bounds) c.side-side.ensures.value (c.lies_within.ensures.0 yes));
+}
+
+pub returns-in-Some-clause-most : goal.returns-in-Some-clause-most
+returns-in-Some-clause-most c = λ top few margin.
+    let side : c.side-side.result ≡ 2 ^ 61 = c.side-side.ensures.value ∙ ap (λ k. 2 ^ k) top in
+    let box = (HasMargin-box c.args.generations c.in-Some.bounds c.args.plane.now c.in-Some.ensures.some).1 margin in
+    c.lies_within.ensures.1 (record {
+      left = (let k = box.left in omega (arith, ints));
+      right = (let k = box.right in omega (arith, ints));
+      top = (let k = box.top in omega (arith, ints));
+      bottom = (let k = box.bottom in omega (arith, ints));
+    })

@@ -1,0 +1,27 @@
+use Rattle.std.proofs.Common.{◌≡◌, ◌∙◌, sym}
+use Rattle.worlds.specs.Step.{step}
+use Rattle.worlds.specs.Iterate.{iterate}
+use Rattle.square_table.specs.Squares.{cells_of, level_of}
+use Rattle.square_table.specs.Centred.{IsCentred}
+use Rattle.square_table.proofs.Centring.{one_world}
+use Rattle.step_engine.proofs.Evolving.{IsBelow-centred, HasMargin-iterate, IsCentred-later}
+use Rattle.step_engine.proofs.shared.evolve_by.Goals as goal
+
+pub result-requires-clause-below : goal.result-requires-clause-below
+result-requires-clause-below g c = IsBelow-centred _ c.args.plane.now _ _ c.requires.below c.in_ok-root.ensures.ready.centred
+
+pub pack-requires-clause-world : goal.pack-requires-clause-world
+pack-requires-clause-world g c =
+    let ready = c.in_ok-root.ensures.ready in (
+      iterate c.args.generations (step (g.Q.Ask.meaning c.args.rule.now)) c.args.plane.now,
+      HasMargin-iterate c.args.generations _ c.args.plane.now (g.met.Q.Ask.quiet c.args.rule.now) c.requires.fits,
+      IsCentred-later (g.Q.Ask.meaning c.args.rule.now) (g.met.Q.Ask.quiet c.args.rule.now) c.args.plane.now _ _ c.args.generations _ _
+          ready.level.0 c.in_ok-found.ensures.held.1 ready.room ready.centred c.in_ok-found.ensures.cells,
+    )
+
+pub returns-clause-plane : goal.returns-clause-plane
+returns-clause-plane g c =
+    let ready = c.in_ok-root.ensures.ready in
+    one_world c.in_ok-plane.plane _ _ _ c.in_ok-plane.ensures (
+    IsCentred-later (g.Q.Ask.meaning c.args.rule.now) (g.met.Q.Ask.quiet c.args.rule.now) c.args.plane.now _ _ c.args.generations _ _
+    ready.level.0 c.in_ok-found.ensures.held.1 ready.room ready.centred c.in_ok-found.ensures.cells)

@@ -1,0 +1,92 @@
+//! Many generations of a plane at once, by squares that are shared.
+ghost use Rattle.std.specs.Prelude.{◌≡◌, ◌≢◌, ◌≤◌, ◌^◌, ◌+◌, IfOk, Err};
+ghost use Rattle.worlds.specs.Iterate.{iterate};
+ghost use Rattle.worlds.specs.Step.{step};
+ghost use Rattle.worlds.specs.Range.{HasMargin, AllBelow};
+ghost use Rattle.step_engine.specs.Evolved.{IsWithin};
+
+use crate::evolved::{EvolveFault, Evolved, Report};
+use crate::padding::with_room;
+use bumpalo::Bump;
+use hash_engine::{Asking, result};
+use plane_core::{Ask, Next, Plane, Stop};
+use square_table::SquareTable;
+use std::alloc::Global;
+
+// A table may hold no more squares.
+const MOST_SQUARES: u32 = 1 << 24;
+
+/// The plane `generations` later, by Gosper's algorithm for any number of generations (R. Wm. Gosper,
+/// Exploiting Regularities in Large Cellular Spaces, Physica 10D, 1984), where the rule counts its
+/// asks.
+///
+/// The plane's states are below the rule's, and it fits. Each distinct square is computed once; all
+/// of them are given up at the end. The stop is asked before each result that isn't known yet, and
+/// Stopped is answered where it says yes; NoRoom where `limit` squares, at most 16,777,216, are not
+/// enough; NoMemory where a growth was refused.
+pub fn evolve_by<Q: Ask, S: Stop>(
+    alloc: Global,
+    rule: &mut Q,
+    plane: &Plane,
+    generations: u64,
+    stop: &mut S,
+    limit: u32,
+) -> Result<Evolved, EvolveFault>
+    requires below { AllBelow (Q.state_count rule.old) plane.now }
+    requires few { generations ≤ 2 ^ 60 }
+    requires fits { HasMargin generations plane.now }
+    ensures plane { IfOk result (λ evolved.
+        evolved.plane ≡ iterate generations (step (Q.meaning rule.old)) plane.now) }
+    ensures report { IfOk result (λ evolved. IsWithin limit evolved.report) }
+
+    // Stopped is answered exactly where the stop said yes.
+    ensures stopped { result ≡ Err EvolveFault.Stopped →
+        S.yes_count stop.new ≡ S.yes_count stop.old + 1 }
+    ensures went_on { result ≢ Err EvolveFault.Stopped →
+        S.yes_count stop.new ≡ S.yes_count stop.old }
+{
+    let arena = Bump::new(alloc);
+    let mut table = SquareTable::new(alloc, &arena, limit.min(MOST_SQUARES))?;
+    let start = table.load(plane)?;
+    let root = with_room(&mut table, start, plane, generations)?;
+    let found = result(alloc, &mut table, rule, root, generations, stop)?;
+    let plane = table.pack(found.square)?;
+    let report = Report {
+        squares: table.len(),
+        fours: found.fours,
+        base: found.base,
+    };
+    Ok(Evolved { plane, report })
+}
+
+/// The plane `generations` later, as `evolve_by` gives it.
+pub fn evolve<R: Next, S: Stop>(
+    alloc: Global,
+    rule: &R,
+    plane: &Plane,
+    generations: u64,
+    stop: &mut S,
+    limit: u32,
+) -> Result<Evolved, EvolveFault>
+    requires below { AllBelow (R.state_count rule.now) plane.now }
+    requires few { generations ≤ 2 ^ 60 }
+    requires fits { HasMargin generations plane.now }
+    ensures plane { IfOk result (λ evolved.
+        evolved.plane ≡ iterate generations (step (R.meaning rule.now)) plane.now) }
+    ensures report { IfOk result (λ evolved. IsWithin limit evolved.report) }
+
+    // Stopped is answered exactly where the stop said yes.
+    ensures stopped { result ≡ Err EvolveFault.Stopped →
+        S.yes_count stop.new ≡ S.yes_count stop.old + 1 }
+    ensures went_on { result ≢ Err EvolveFault.Stopped →
+        S.yes_count stop.new ≡ S.yes_count stop.old }
+{
+    evolve_by(
+        alloc,
+        &mut Asking::new(rule),
+        plane,
+        generations,
+        stop,
+        limit,
+    )
+}
