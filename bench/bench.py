@@ -39,6 +39,18 @@ var h={0,1}
 """
 
 
+def measured(words, given=None):
+    """Processor seconds, peak in MB and output of a program."""
+    with tempfile.TemporaryFile() as said, tempfile.TemporaryFile() as script:
+        script.write((given or "").encode())
+        script.seek(0)
+        child = subprocess.Popen(words, stdin=script, stdout=said, stderr=subprocess.DEVNULL)
+        _, status, used = os.wait4(child.pid, 0)
+        child.returncode = os.waitstatus_to_exitcode(status)
+        said.seek(0)
+        return used.ru_utime + used.ru_stime, used.ru_maxrss / 1024, said.read().decode(errors="replace")
+
+
 def soup(side):
     """A square of cells of which one in three lives, as RLE."""
     chance = random.Random(1)
@@ -59,13 +71,21 @@ def under(text, rule):
     return "\n".join([lines[0], f"#R {rule}", *lines[1:]]) + "\n"
 
 
-def cases(golly):
+def as_nodes(desk, text):
+    """A macrocell text of two states with a node line for each square, which is all that RuleLoader reads."""
+    _, _, said = measured([desk], f"start mc\n{text.rstrip()}\nend\nmark 0 mc\nshow 1\nquit\n")
+    lines = said.splitlines()
+    return "\n".join(lines[lines.index("[M2] (experiment desk)") : -1]) + "\n"
+
+
+def cases(golly, desk):
     """Name, format, pattern, rule file and generations of each case."""
     patterns, rules = f"{golly}/Patterns", f"{golly}/Rules"
     loops = text_of(f"{patterns}/Loops/Langtons-Loops.rle")
     loops_rule = text_of(f"{rules}/Langtons-Loops.rule")
     primes = text_of(f"{patterns}/WireWorld/primes.mc")
-    galaxy = under(text_of(f"{patterns}/HashLife/metapixel-galaxy.mc.gz"), "LifeTable")
+    galaxy = text_of(f"{patterns}/HashLife/metapixel-galaxy.mc.gz")
+    galaxy = under(as_nodes(desk, under(galaxy, "LifeTable")), "LifeTable")
     return [
         ("Langton's loops to 2^20", "rle", loops, loops_rule, 2**20),
         ("Langton's loops to 2^24", "rle", loops, loops_rule, 2**24),
@@ -73,18 +93,6 @@ def cases(golly):
         ("a soup of 512 by 512 to 2^10", "rle", soup(512), LIFE, 2**10),
         ("metapixel galaxy to 2^18", "mc", galaxy, LIFE, 2**18),
     ]
-
-
-def measured(words, given=None):
-    """Processor seconds, peak in MB and output of a program."""
-    with tempfile.TemporaryFile() as said, tempfile.TemporaryFile() as script:
-        script.write((given or "").encode())
-        script.seek(0)
-        child = subprocess.Popen(words, stdin=script, stdout=said, stderr=subprocess.DEVNULL)
-        _, status, used = os.wait4(child.pid, 0)
-        child.returncode = os.waitstatus_to_exitcode(status)
-        said.seek(0)
-        return used.ru_utime + used.ru_stime, used.ru_maxrss / 1024, said.read().decode(errors="replace")
 
 
 def desk_script(form, pattern, rule, generations):
@@ -101,7 +109,7 @@ def main():
     print("| pattern | desk s | bgolly s | ratio | desk MB | bgolly MB | ratio |")
     print("|---|---|---|---|---|---|---|")
     with tempfile.TemporaryDirectory() as room:
-        for name, form, pattern, rule, generations in cases(given.golly):
+        for name, form, pattern, rule, generations in cases(given.golly, given.desk):
             if given.only not in name:
                 continue
             rule_name = rule.split()[1]
