@@ -10,6 +10,7 @@ ghost use Rattle.schedule.specs.Scratch.{own_cells, cells_at, arrival, scratch};
 ghost use Rattle.dependency_book.specs.Laid.{AllCanBeLaid};
 ghost use Rattle.dependency_book.specs.Wants.{IsWant};
 
+use crate::laid::Laid;
 use schedule::{
     Bookmark, Document, EvolveFault, Intervention, Next, NoStop, Plane, Rule, evolve, render,
 };
@@ -35,8 +36,8 @@ pub(crate) fn arrival_from(
 {
     // The document's limits bound the states and the margin of the pattern.
     let _start = document.start();
-    let left = laid_at(document.interventions(), arrived.copy()?, from)?;
-    evolved(alloc, document.rule(), &left, to - from, limit)
+    let left = laid_at(document.interventions(), arrived, from)?;
+    evolved(alloc, document.rule(), left.plane(), to - from, limit)
 }
 
 /// The text that a bookmark of the document shows, from the pattern that arrives at its generation.
@@ -53,16 +54,12 @@ pub(crate) fn text_from(
 {
     // The document's limits bound the states of the pattern.
     let _start = document.start();
-    let plane = laid_at(
-        document.interventions(),
-        arrived.copy()?,
-        bookmark.generation,
-    )?;
+    let laid = laid_at(document.interventions(), arrived, bookmark.generation)?;
     let rule = document.rule();
     let text = render(
         alloc,
         &bookmark.view,
-        &plane,
+        laid.plane(),
         rule.name(),
         rule.states(),
         bookmark.generation,
@@ -90,15 +87,15 @@ fn evolved(
 }
 
 // The plane after the interventions of a generation.
-fn laid_at(
+fn laid_at<'p>(
     interventions: &[Intervention],
-    plane: Plane,
+    plane: &'p Plane,
     generation: u64,
-) -> Result<Plane, AllocError>
+) -> Result<Laid<'p>, AllocError>
     requires { AllCanBeLaid interventions.now }
-    ensures { IfOk result (λ laid. laid ≡ lay (cells_at interventions.now generation) plane) }
+    ensures { IfOk result (λ laid. laid ≡ lay (cells_at interventions.now generation) plane.now) }
 {
-    let mut laid = plane;
+    let mut laid = Laid::nothing(plane);
     for intervention in interventions {
         laid = laid_by(intervention, laid, generation)?;
     }
@@ -106,12 +103,16 @@ fn laid_at(
 }
 
 // The plane after an intervention, if it is one of the generation.
-fn laid_by(intervention: &Intervention, plane: Plane, generation: u64) -> Result<Plane, AllocError>
+fn laid_by<'p>(
+    intervention: &Intervention,
+    plane: Laid<'p>,
+    generation: u64,
+) -> Result<Laid<'p>, AllocError>
     requires { All CanBeLaid intervention.now.cells }
-    ensures { IfOk result (λ laid. laid ≡ lay (own_cells intervention.now generation) plane) }
+    ensures { IfOk result (λ laid. laid ≡ lay (own_cells intervention.now generation) plane.entry) }
 {
     if !intervention.acts_at(generation) {
         return Ok(plane);
     }
-    plane.lay(intervention.cells.as_slice())
+    plane.with(intervention.cells.as_slice())
 }

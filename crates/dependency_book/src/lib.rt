@@ -15,6 +15,7 @@ mod arrival;
 mod book;
 mod compute;
 mod history;
+mod laid;
 mod mark;
 mod marks;
 mod need;

@@ -19,16 +19,16 @@ laid_at-requires c = subst AllCanBeLaid (sym c.interventions.ensures) (CanBeLaid
 pub evolved-requires-clause-below : goal.evolved-requires-clause-below
 evolved-requires-clause-below c =
     let p = c.args.document.now in
-    let left : c.in_ok-left.left ≡ after p c.args.from =
-    c.in_ok-left.ensures ∙ ap₂ (λ is w. lay (cells_at is c.args.from) w) c.interventions.ensures (c.in_ok-copy.ensures ∙ c.requires.arrived) in
-    subst (λ (r : Rule). AllBelow (states_of r) c.in_ok-left.left) (sym (c.deref.ensures ∙ c.rule.ensures))
+    let left : c.plane.result.now ≡ after p c.args.from =
+    c.plane.ensures ∙ c.in_ok-left.ensures ∙ ap₂ (λ is w. lay (cells_at is c.args.from) w) c.interventions.ensures c.requires.arrived in
+    subst (λ (r : Rule). AllBelow (states_of r) c.plane.result.now) (sym (c.deref.ensures ∙ c.rule.ensures))
     (subst (AllBelow (states_of p.rule)) (sym left) (AllBelow-after p c.args.from c.start-start.ensures.sound))
 
 pub evolved-requires-clause-fits : goal.evolved-requires-clause-fits
 evolved-requires-clause-fits c =
     let p = c.args.document.now in
-    let left : c.in_ok-left.left ≡ after p c.args.from =
-    c.in_ok-left.ensures ∙ ap₂ (λ is w. lay (cells_at is c.args.from) w) c.interventions.ensures (c.in_ok-copy.ensures ∙ c.requires.arrived) in
+    let left : c.plane.result.now ≡ after p c.args.from =
+    c.plane.ensures ∙ c.in_ok-left.ensures ∙ ap₂ (λ is w. lay (cells_at is c.args.from) w) c.interventions.ensures c.requires.arrived in
     let later = c.requires.later in
     let near = c.requires.near in
     subst (HasMargin (c.args.to - c.args.from)) (sym left)
@@ -38,9 +38,9 @@ pub returns-clause-arrives : goal.returns-clause-arrives
 returns-clause-arrives c =
     let p = c.args.document.now in
     let gens = c.args.to - c.args.from in
-    let left : c.in_ok-left.left ≡ lay (cells_at p.interventions c.args.from) c.args.arrived.now =
-    c.in_ok-left.ensures ∙ ap₂ (λ is w. lay (cells_at is c.args.from) w) c.interventions.ensures c.in_ok-copy.ensures in
-    if_ok c.evolved.result (λ (w : World). w ≡ iterate gens (step (next_of c.deref.result.now)) c.in_ok-left.left) (λ (w : World). w ≡ arrival p c.args.to)
-    (λ w is. arrival-gap p c.args.from c.args.to c.args.arrived.now w c.in_ok-left.left c.requires.later c.requires.quiet c.requires.arrived left
-    (is ∙ ap (λ (r : Rule). iterate gens (step (next_of r)) c.in_ok-left.left) (c.deref.ensures ∙ c.rule.ensures)))
+    let left : c.plane.result.now ≡ lay (cells_at p.interventions c.args.from) c.args.arrived.now =
+    c.plane.ensures ∙ c.in_ok-left.ensures ∙ ap (λ is. lay (cells_at is c.args.from) c.args.arrived.now) c.interventions.ensures in
+    if_ok c.evolved.result (λ (w : World). w ≡ iterate gens (step (next_of c.deref.result.now)) c.plane.result.now) (λ (w : World). w ≡ arrival p c.args.to)
+    (λ w is. arrival-gap p c.args.from c.args.to c.args.arrived.now w c.plane.result.now c.requires.later c.requires.quiet c.requires.arrived left
+    (is ∙ ap (λ (r : Rule). iterate gens (step (next_of r)) c.plane.result.now) (c.deref.ensures ∙ c.rule.ensures)))
     c.evolved.ensures.plane

@@ -12,4 +12,4 @@ loop-intervention-preserved c =
     let low : k < length is = omega arith in
     c.in_ok-laid.ensures
     ∙ ap (λ (i : Intervention). lay (own_cells i c.args.generation) c.loop-intervention.laid) c.intervention-item.is
-    ∙ lay-more is k c.intervention-item.result c.args.generation c.args.plane c.loop-intervention.laid low c.loop-intervention.invariant
+    ∙ lay-more is k c.intervention-item.result c.args.generation c.args.plane.now c.loop-intervention.laid low c.loop-intervention.invariant

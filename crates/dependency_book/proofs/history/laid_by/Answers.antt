@@ -9,5 +9,5 @@ returns-then-not-acts_at c = ap (λ cells. lay cells c.args.plane) (sym (own_cel
 
 pub returns : goal.returns
 returns c =
-    subst (λ (cells : List CellSet). IfOk c.lay.result (λ laid. laid ≡ lay cells c.args.plane))
-    (c.as_slice.ensures ∙ sym (own_cells-acts c.args.intervention.now c.args.generation (sym c.acts_at.ensures ∙ c.if-not-acts_at.false))) c.lay.ensures
+    subst (λ (cells : List CellSet). IfOk c.with.result (λ laid. laid ≡ lay cells c.args.plane))
+    (c.as_slice.ensures ∙ sym (own_cells-acts c.args.intervention.now c.args.generation (sym c.acts_at.ensures ∙ c.if-not-acts_at.false))) c.with.ensures

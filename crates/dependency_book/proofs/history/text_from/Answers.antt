@@ -13,7 +13,7 @@ laid_at-requires c = subst AllCanBeLaid (sym c.interventions.ensures) (CanBeLaid
 pub render-requires-clause-below : goal.render-requires-clause-below
 render-requires-clause-below c =
     let p = c.args.document.now in
-    let left : c.in_ok-plane.plane ≡ after p c.args.bookmark.generation =
-    c.in_ok-plane.ensures ∙ ap₂ (λ is w. lay (cells_at is c.args.bookmark.generation) w) c.interventions.ensures (c.in_ok-copy.ensures ∙ c.requires.arrived) in
-    subst (λ n. AllBelow n c.in_ok-plane.plane) (sym (c.states.ensures.count ∙ ap states_of (c.deref-2.ensures ∙ c.rule-rule.ensures)))
+    let left : c.plane.result.now ≡ after p c.args.bookmark.generation =
+    c.plane.ensures ∙ c.in_ok-laid.ensures ∙ ap₂ (λ is w. lay (cells_at is c.args.bookmark.generation) w) c.interventions.ensures c.requires.arrived in
+    subst (λ n. AllBelow n c.plane.result.now) (sym (c.states.ensures.count ∙ ap states_of (c.deref-2.ensures ∙ c.rule-rule.ensures)))
     (subst (AllBelow (states_of p.rule)) (sym left) (AllBelow-after p c.args.bookmark.generation c.start-start.ensures.sound))

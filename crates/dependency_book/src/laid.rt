@@ -1,0 +1,60 @@
+//! Patterns with cells laid on them, which are copied only where some are.
+ghost use Rattle.std.specs.Prelude.{◌≡◌, All, IfOk};
+ghost use Rattle.worlds.specs.Lay.{lay};
+ghost use Rattle.worlds.specs.Range.{CanBeLaid};
+
+use schedule::{CellSet, Plane};
+use std::alloc::AllocError;
+use std::marker::Model;
+
+/// A pattern, or what it became when cells were laid on it, which contracts see as its world.
+#[derive(Drop)]
+pub(crate) struct Laid<'p> {
+    before: &'p Plane,
+    after: Option<Plane>,
+}
+
+impl<'p> Model for Laid<'p> {
+    ghost use Rattle.std.specs.Prelude.{unwrap_or};
+    ghost use Rattle.worlds.specs.World.{World, coded_world};
+
+    ghost Value = { World };
+
+    ghost coded = { coded_world };
+
+    ghost view = { λ l. unwrap_or l.after l.before.now };
+}
+
+impl<'p> Laid<'p> {
+    /// A pattern on which nothing is laid.
+    pub(crate) fn nothing(plane: &'p Plane) -> Laid<'p>
+        ensures { result ≡ plane.now }
+    {
+        Laid {
+            before: plane,
+            after: None,
+        }
+    }
+
+    /// The pattern.
+    pub(crate) fn plane(&self) -> &Plane
+        ensures { result.now ≡ self.now }
+    {
+        match &self.after {
+            Some(plane) => plane,
+            None => self.before,
+        }
+    }
+
+    /// The pattern with cells laid on it.
+    pub(crate) fn with(self, cells: &[CellSet]) -> Result<Laid<'p>, AllocError>
+        requires { All CanBeLaid cells.now }
+        ensures { IfOk result (λ laid. laid ≡ lay cells.now self.entry) }
+    {
+        let after = self.plane().lay(cells)?;
+        Ok(Laid {
+            before: self.before,
+            after: Some(after),
+        })
+    }
+}
