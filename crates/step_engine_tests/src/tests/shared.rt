@@ -89,8 +89,8 @@ fn agrees_with_the_plain_engine_on_what_moves(rt: HostRuntime) {
     expect_alike(&rt, rt.alloc(), &east, &[(9, -9, 255), (-3, 0, 1)]);
 }
 
-/// Stops the test where other cells are live than two in the row 0, so far to the west and east.
-fn expect_two(rt: &impl Abort, alloc: Global, generations: u64) {
+/// Stops the test where other cells are live than two in the row 0, at its ends from left to right.
+fn expect_two(rt: &impl Abort, alloc: Global, generations: u64, left: i64, right: i64) {
     let answer = shared(
         rt,
         alloc,
@@ -102,11 +102,10 @@ fn expect_two(rt: &impl Abort, alloc: Global, generations: u64) {
     );
     let plane = answer.expect(rt, "a plane").plane;
     same(rt, &plane.population(), &2, &generations);
-    let far = generations as i64;
     let bounds = Bounds {
-        left: -far,
+        left,
         top: 0,
-        right: far,
+        right,
         bottom: 0,
     };
     same(rt, &plane.bounds(), &Some(bounds), &generations);
@@ -115,8 +114,8 @@ fn expect_two(rt: &impl Abort, alloc: Global, generations: u64) {
 #[test]
 fn goes_as_far_as_generations_go(rt: HostRuntime) {
     let alloc = rt.alloc();
-    expect_two(&rt, alloc, 1 << 20);
-    expect_two(&rt, alloc, FAR);
+    expect_two(&rt, alloc, 1 << 20, -(1 << 20), 1 << 20);
+    expect_two(&rt, alloc, FAR, -(1 << 60), 1 << 60);
 }
 
 fn expect_fault<S: Stop>(
