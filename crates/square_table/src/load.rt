@@ -76,7 +76,8 @@ impl<'a> SquareTable<'a> {
     ) -> Result<(), TableFault>
         requires squares { AreRows squares.now × LevelsUpTo (length blanks.now) squares.now }
         requires more { length numbers.old.items < length squares.now }
-        requires known { AreBlanks self.old.rows blanks.now × AreLoaded squares.now self.old.rows numbers.old.items }
+        requires known { AreBlanks self.old.rows blanks.now
+            × AreLoaded squares.now self.old.rows numbers.old.items }
         ensures grows { GrowsFrom squares.now self.old self.new }
         ensures loaded { OnOk result (AreLoaded squares.now self.new.rows numbers.new.items) }
         ensures count { OnOk result (length numbers.new.items ≡ length numbers.old.items + 1) }

@@ -74,7 +74,8 @@ impl<'a> SquareTable<'a> {
         requires numbers { AreNumbers self.now.rows (whole.level - 1) whole.kids }
         ensures level { result.level ≡ whole.level - 1 }
         ensures numbers { AreNumbers self.now.rows (result.level - 1) result.kids }
-        ensures centred { 62 < whole.level → CentredAlike whole.level (square_of self.now.rows (whole.level - 1) whole.kids)
+        ensures centred { 62 < whole.level → CentredAlike whole.level
+            (square_of self.now.rows (whole.level - 1) whole.kids)
             result.level (square_of self.now.rows (result.level - 1) result.kids) }
     {
         let kids = whole.kids;
@@ -157,7 +158,8 @@ impl<'a> SquareTable<'a> {
     fn pack_rows(&self, root: Quarters) -> Result<Vec<SquareRow>, AllocError>
         requires level { (1 ≤ root.level) × (root.level ≤ 62) }
         requires numbers { AreNumbers self.now.rows (root.level - 1) root.kids }
-        ensures { IfOk result (λ rows. AreRowsOf root.level (square_of self.now.rows (root.level - 1) root.kids) rows.items) }
+        ensures { IfOk result (λ rows. AreRowsOf root.level
+            (square_of self.now.rows (root.level - 1) root.kids) rows.items) }
     {
         let mut packed = Packed {
             squares: Vec::new(self.alloc()),
