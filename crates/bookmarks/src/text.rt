@@ -24,7 +24,8 @@ pub fn render(
 ) -> Result<Vec<u8>, AllocError>
     requires below { AllBelow states plane.now }
     requires within { IsWithin view.now }
-    ensures { IfOk result (λ text. text.items ≡ text_of view.now plane.now name.now states generation) }
+    ensures { IfOk result
+        (λ text. text.items ≡ text_of view.now plane.now name.now states generation) }
 {
     match view {
         View::Window {

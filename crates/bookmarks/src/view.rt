@@ -3,12 +3,10 @@ ghost use Rattle.std.specs.Prelude.{◌≡◌};
 ghost use Rattle.bookmarks.specs.Within.{has_window_size, lies_in_range, spans_plane};
 
 /// A window has at most so many cells.
-const MOST_CELLS: u64 = 65_536;
+const MOST_WINDOW_CELLS: u64 = 65_536;
 
-// Coordinates of planes go from the least up to but not including the one beyond.
-const LEAST: i64 = -(1 << 61);
-
-const BEYOND: i64 = 1 << 61;
+// Planes have the coordinates from -2^61 up to but not including 2^61.
+const PLANE_REACH: i64 = 1 << 61;
 
 /// What of a pattern a bookmark shows.
 #[derive(Clone, Copy, Debug, PartialEq, Eq)]
@@ -36,7 +34,7 @@ pub enum View {
 fn spans_plane(first: i64, count: u32) -> bool
     ensures { result ≡ spans_plane first count }
 {
-    LEAST <= first && first <= BEYOND - i64::from(count)
+    -PLANE_REACH <= first && first <= PLANE_REACH - i64::from(count)
 }
 
 impl View {
@@ -46,7 +44,9 @@ impl View {
     {
         match self {
             View::Window { width, height, .. } => {
-                *width > 0 && *height > 0 && u64::from(*width) * u64::from(*height) <= MOST_CELLS
+                *width > 0
+                    && *height > 0
+                    && u64::from(*width) * u64::from(*height) <= MOST_WINDOW_CELLS
             }
             View::Counts | View::Rle | View::Macrocell => true,
         }

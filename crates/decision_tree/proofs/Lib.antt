@@ -6,6 +6,8 @@ pub mod KeptNodes
 mod KeptNumbers
 mod LastLine
 mod NextNode
+pub mod Renumbered
+mod Reordered
 pub mod SaidNodes
 pub mod WrittenFiles
 pub mod WrittenTrees

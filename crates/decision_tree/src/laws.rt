@@ -1,9 +1,21 @@
 //! Laws of the definitions, each the contract of a function that does nothing.
-ghost use Rattle.decision_tree.specs.Laws.{TreesOfFilesArePlain, WrittenIsItsFile, WrittenMeansTheSame};
+ghost use Rattle.decision_tree.specs.Laws.{DescriptorsInAnyOrder, NumbersDoNotMatter, TreesOfFilesArePlain};
+ghost use Rattle.decision_tree.specs.Laws.{WrittenIsItsFile, WrittenMeansTheSame};
 
 /// The next state under a tree that a file says is what is found from its root.
 pub fn trees_of_files_are_plain()
     ensures { TreesOfFilesArePlain }
+{}
+
+/// Lines that say a tree say it under other numbers too: blank lines and comments between them
+/// change nothing.
+pub fn numbers_do_not_matter()
+    ensures { NumbersDoNotMatter }
+{}
+
+/// Two descriptors, one after the other, may stand in the other order, and so all three in any.
+pub fn descriptors_stand_in_any_order()
+    ensures { DescriptorsInAnyOrder }
 {}
 
 /// The lines that are written for a tree mean this tree again.

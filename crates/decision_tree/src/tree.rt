@@ -36,7 +36,8 @@ impl Model for TreeRule {
 
     ghost view = { λ rule. tree_of_kept rule.states rule.neighbors rule.root rule.entries.items };
 
-    ghost invariant = { λ rule. IsKeptTree rule.states rule.neighbors rule.root rule.entries.items };
+    ghost invariant = { λ rule.
+        IsKeptTree rule.states rule.neighbors rule.root rule.entries.items };
 }
 
 impl TreeRule {

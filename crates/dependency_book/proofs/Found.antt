@@ -6,8 +6,13 @@ use Rattle.std.proofs.lemmas.List.{drop_all, length-map}
 use Rattle.std.proofs.lemmas.List.Elements.{All-get_or, All-from_recursion}
 use Rattle.schedule.specs.declared.document.Bookmark.{Bookmark}
 use Rattle.schedule.specs.Plan.{Plan}
+use Rattle.schedule.specs.Scratch.{scratch}
+use Rattle.revision_jobs.specs.declared.entries.Entries.{Entries}
+use Rattle.dependency_book.specs.declared.finding.Finding.{Finding}
+use Rattle.dependency_book.specs.declared.finding.Finding.TheVariants.{Expected, Found}
+use Rattle.dependency_book.specs.Findings.{found}
 use Rattle.dependency_book.specs.Rows.{TextRow, value_at, keys, of_id}
-use Rattle.dependency_book.specs.Known.{Known, text_known, bookmark_in}
+use Rattle.dependency_book.specs.Known.{Known, text_row, bookmark_in}
 use Rattle.dependency_book.specs.Right.{IsRight, AreTexts, IsScratch}
 use Rattle.dependency_book.specs.Rearranged.{rows_before}
 use Rattle.dependency_book.specs.Shown.{IsCurrent, IsPending}
@@ -42,7 +47,7 @@ Passed-none rows id = record { bookmark = refl; text = refl }
 pub Passed-more : (rows : List TextRow) (id k : ℕ) (x : TextRow) → k < length rows → x ≡ get_or rows k x → x.key.id ≢ id → Passed rows id k → Passed rows id (k + 1)
 Passed-more rows id k x low is apart h =
     let B : List TextRow → Option Bookmark = λ rs. bookmark_in (keys rs) id in
-    let T : List TextRow → Option (List ℕ) = value_at (of_id id) in
+    let T : List TextRow → Option (Finding (List ℕ)) = value_at (of_id id) in
     let rest = drop (k + 1) rows in
     let other = eq_false x.key.id id apart in
     record {
@@ -56,29 +61,34 @@ here_bookmark d id k x right low is same h =
     ap (λ bs. bookmark_in bs id) (sym right.texts.bookmarks)
     ∙ sym (decided B (B d.texts) (Some x.key) d.texts k x low is h.bookmark (cond-true (x.key.id == id) (Some x.key) (B (drop (k + 1) d.texts)) (eq_true x.key.id id same)))
 
-here_text : (d : Known) (id k : ℕ) (x : TextRow) → k < length d.texts → x ≡ get_or d.texts k x → x.key.id ≡ id → Passed d.texts id k → text_known d id ≡ x.value
+here_text : (d : Known) (id k : ℕ) (x : TextRow) → k < length d.texts → x ≡ get_or d.texts k x → x.key.id ≡ id → Passed d.texts id k → text_row d id ≡ x.value
 here_text d id k x low is same h =
-    let T : List TextRow → Option (List ℕ) = value_at (of_id id) in
+    let T : List TextRow → Option (Finding (List ℕ)) = value_at (of_id id) in
     sym (decided T (T d.texts) x.value d.texts k x low is h.text (cond-true (x.key.id == id) x.value (T (drop (k + 1) d.texts)) (eq_true x.key.id id same)))
 
 -- what is known at a place is right
-pub right_text : (p : Plan) (rows : List TextRow) (k : ℕ) (x : TextRow) → AreTexts p rows → k < length rows → x ≡ get_or rows k x → IfSome x.value (IsScratch p x.key)
-right_text p rows k x right low is =
-    subst (λ (r : TextRow). IfSome r.value (IsScratch p r.key)) (sym is)
-    (All-get_or (λ (r : TextRow). IfSome r.value (IsScratch p r.key)) rows k x low (All-from_recursion (λ (r : TextRow). IfSome r.value (IsScratch p r.key)) rows right.right))
+pub right_text : (table : Entries) (p : Plan) (rows : List TextRow) (k : ℕ) (x : TextRow) → AreTexts table p rows → k < length rows → x ≡ get_or rows k x → IfSome x.value (IsScratch table p x.key)
+right_text table p rows k x right low is =
+    subst (λ (r : TextRow). IfSome r.value (IsScratch table p r.key)) (sym is)
+    (All-get_or (λ (r : TextRow). IfSome r.value (IsScratch table p r.key)) rows k x low (All-from_recursion (λ (r : TextRow). IfSome r.value (IsScratch table p r.key)) rows right.right))
 
-pub IsCurrent-found : (d : Known) (id k : ℕ) (x : TextRow) (text : List ℕ) → IsRight d → k < length d.texts → x ≡ get_or d.texts k x → x.key.id ≡ id → Passed d.texts id k → x.value ≡ Some text → IsCurrent d id text
+found_right : (table : Entries) (p : Plan) (b : Bookmark) (o : Option (Finding (List ℕ))) (text : List ℕ) → found o ≡ Some text → IfSome o (IsScratch table p b) → text ≡ scratch p b
+found_right table p b None text is h = absurd cc
+found_right table p b (Some (Expected job)) text is h = absurd cc
+found_right table p b (Some (Found bytes)) text is h = let same : bytes ≡ text = cc in sym same ∙ h
+
+pub IsCurrent-found : (d : Known) (id k : ℕ) (x : TextRow) (text : List ℕ) → IsRight d → k < length d.texts → x ≡ get_or d.texts k x → x.key.id ≡ id → Passed d.texts id k → found x.value ≡ Some text → IsCurrent d id text
 IsCurrent-found d id k x text right low is same h there = record {
   bookmark = x.key;
   there = here_bookmark d id k x right low is same h;
-  known = here_text d id k x low is same h ∙ there;
-  scratch_text = subst (λ o. IfSome o (IsScratch d.plan x.key)) there (right_text d.plan d.texts k x right.texts low is);
+  known = ap found (here_text d id k x low is same h) ∙ there;
+  scratch_text = found_right d.table d.plan x.key x.value text there (right_text d.table d.plan d.texts k x right.texts low is);
 }
 
-pub IsPending-found : (d : Known) (id k : ℕ) (x : TextRow) → IsRight d → k < length d.texts → x ≡ get_or d.texts k x → x.key.id ≡ id → Passed d.texts id k → x.value ≡ None → IsPending d id
+pub IsPending-found : (d : Known) (id k : ℕ) (x : TextRow) → IsRight d → k < length d.texts → x ≡ get_or d.texts k x → x.key.id ≡ id → Passed d.texts id k → found x.value ≡ None → IsPending d id
 IsPending-found d id k x right low is same h none = record {
   there = ap is_some (here_bookmark d id k x right low is same h);
-  unknown = here_text d id k x low is same h ∙ none;
+  unknown = ap found (here_text d id k x low is same h) ∙ none;
 }
 
 pub none_found : (d : Known) (id k : ℕ) → IsRight d → length d.texts ≤ k → Passed d.texts id k → bookmark_in d.plan.bookmarks id ≡ None
@@ -86,5 +96,5 @@ none_found d id k right end h =
     let B : List TextRow → Option Bookmark = λ rs. bookmark_in (keys rs) id in
     ap (λ bs. bookmark_in bs id) (sym right.texts.bookmarks) ∙ sym (ended B (B d.texts) d.texts k end h.bookmark)
 
-pub texts_length : (p : Plan) (rows : List TextRow) → AreTexts p rows → length rows ≡ length p.bookmarks
-texts_length p rows right = sym (length-map rows (λ (r : TextRow). r.key)) ∙ ap length right.bookmarks
+pub texts_length : (table : Entries) (p : Plan) (rows : List TextRow) → AreTexts table p rows → length rows ≡ length p.bookmarks
+texts_length table p rows right = sym (length-map rows (λ (r : TextRow). r.key)) ∙ ap length right.bookmarks

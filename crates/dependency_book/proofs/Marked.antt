@@ -8,6 +8,7 @@ use Rattle.schedule.proofs.Ids.{each_filter}
 use Rattle.dependency_book.proofs.Loops.{headed}
 use Rattle.std.proofs.lemmas.Bool.Decides.{nat_tests}
 use Rattle.worlds.specs.World.{World}
+use Rattle.dependency_book.specs.declared.finding.Finding.{Finding}
 use Rattle.dependency_book.specs.declared.mark.Mark.{Mark}
 use Rattle.dependency_book.specs.Rows.{ArrivalRow, value_at, AllKnown, unknown, forget, keys, at_generation}
 use Rattle.dependency_book.specs.Marks.{MarksRise}
@@ -114,18 +115,18 @@ value_at-forget f g (r ∷ rs) =
     (λ hit.
     cond-true here (if nat_lt f r.key.generation then None else r.value) left hit
     ∙ ap (λ n. if nat_lt f n then None else r.value) (true_eq r.key.generation g hit)
-    ∙ ap (λ (o : Option World). if nat_lt f g then None else o) (sym (cond-true here r.value rest hit)))
+    ∙ ap (λ (o : Option (Finding World)). if nat_lt f g then None else o) (sym (cond-true here r.value rest hit)))
     (λ miss.
     cond-false here (if nat_lt f r.key.generation then None else r.value) left miss
     ∙ value_at-forget f g rs
-    ∙ ap (λ (o : Option World). if nat_lt f g then None else o) (sym (cond-false here r.value rest miss)))
+    ∙ ap (λ (o : Option (Finding World)). if nat_lt f g then None else o) (sym (cond-false here r.value rest miss)))
 
 some_if : {V : Type 0} (P Q : V → Type 0) (b : Bool) (o : Option V) → (b ≡ false → (v : V) → P v → Q v) → IfSome o P → IfSome (if b then None else o) Q
 some_if P Q true o f h = tt
 some_if P Q false None f h = tt
 some_if P Q false (Some v) f h = f refl v h
 
-pub AllKnown-forget : (P Q : Mark → World → Type 0) (f low : ℕ) (rows : List ArrivalRow) → ((m : Mark) → low < m.generation → above f m ≡ false → (w : World) → P m w → Q m w) → MarksRise low (keys rows) → AllKnown P rows → AllKnown Q (forget (above f) rows)
+pub AllKnown-forget : (P Q : Mark → Finding World → Type 0) (f low : ℕ) (rows : List ArrivalRow) → ((m : Mark) → low < m.generation → above f m ≡ false → (w : Finding World) → P m w → Q m w) → MarksRise low (keys rows) → AllKnown P rows → AllKnown Q (forget (above f) rows)
 AllKnown-forget P Q f low [] step rise h = tt
 AllKnown-forget P Q f low (r ∷ rs) step rise h = (
   some_if (P r.key) (Q r.key) (above f r.key) r.value (λ stays w k. step r.key rise.0 stays w k) h.0,
@@ -174,13 +175,13 @@ value_at-placed m g (r ∷ rs) miss =
     let whole : List ArrivalRow = r ∷ rs in
     let parts = or_parts (r.key.generation == m) (has m rs) miss in
     either_way test
-    (λ less. ap (value_at (at_generation g)) (cond-true test (r ∷ placed m rs) (new ∷ r ∷ rs) less) ∙ ap (λ (o : Option World). if r.key.generation == g then r.value else o) (value_at-placed m g rs parts.1))
+    (λ less. ap (value_at (at_generation g)) (cond-true test (r ∷ placed m rs) (new ∷ r ∷ rs) less) ∙ ap (λ (o : Option (Finding World)). if r.key.generation == g then r.value else o) (value_at-placed m g rs parts.1))
     (λ more. ap (value_at (at_generation g)) (cond-false test (r ∷ placed m rs) (new ∷ r ∷ rs) more)
     ∙ either_way (m == g)
     (λ hit. cond-true (m == g) None (value_at (at_generation g) whole) hit ∙ sym (value_at-absent g whole (subst (λ n. has n whole ≡ false) (true_eq m g hit) miss)))
     (λ other. cond-false (m == g) None (value_at (at_generation g) whole) other))
 
-pub AllKnown-placed : (P : Mark → World → Type 0) (m : ℕ) (rows : List ArrivalRow) → AllKnown P rows → AllKnown P (placed m rows)
+pub AllKnown-placed : (P : Mark → Finding World → Type 0) (m : ℕ) (rows : List ArrivalRow) → AllKnown P rows → AllKnown P (placed m rows)
 AllKnown-placed P m [] h = (tt, tt)
 AllKnown-placed P m (r ∷ rs) h =
     let new : ArrivalRow = unknown (record { generation = m }) in
@@ -234,7 +235,7 @@ value_at-without m g (r ∷ rs) apart =
     (λ hit.
     let off : r.key.generation ≢ g = (let is = true_eq r.key.generation m hit in λ same. apart (sym is ∙ same)) in
     ap (value_at (at_generation g)) (cond-false (not test) (r ∷ rest) rest (ap not hit)) ∙ value_at-without m g rs apart ∙ sym (cond-false (r.key.generation == g) r.value (value_at (at_generation g) rs) (eq_false r.key.generation g off)))
-    (λ miss. ap (value_at (at_generation g)) (cond-true (not test) (r ∷ rest) rest (ap not miss)) ∙ ap (λ (o : Option World). if r.key.generation == g then r.value else o) (value_at-without m g rs apart))
+    (λ miss. ap (value_at (at_generation g)) (cond-true (not test) (r ∷ rest) rest (ap not miss)) ∙ ap (λ (o : Option (Finding World)). if r.key.generation == g then r.value else o) (value_at-without m g rs apart))
 
-pub AllKnown-without : (P : Mark → World → Type 0) (m : ℕ) (rows : List ArrivalRow) → AllKnown P rows → AllKnown P (without_mark m rows)
+pub AllKnown-without : (P : Mark → Finding World → Type 0) (m : ℕ) (rows : List ArrivalRow) → AllKnown P rows → AllKnown P (without_mark m rows)
 AllKnown-without P m rows h = each_filter (λ (r : ArrivalRow). IfSome r.value (P r.key)) (λ (r : ArrivalRow). not (r.key.generation == m)) rows h

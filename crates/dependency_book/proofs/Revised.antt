@@ -1,5 +1,5 @@
 -- What is known after an edit is right, and just what the edit keeps.
-use Rattle.std.proofs.Common.{◌≡◌, ℕ, ◌+◌, ◌<◌, ◌∙◌, ◌++◌, Bool, true, false, not, ◌&&◌, nat_lt, nat_le, List, [], ◌∷◌, refl, sym, ap, subst, arith, Option, None, Some, Ok}
+use Rattle.std.proofs.Common.{◌≡◌, ℕ, ◌+◌, ◌<◌, ◌≤◌, ◌∙◌, ◌++◌, Bool, true, false, not, ◌&&◌, nat_lt, nat_le, List, [], ◌∷◌, refl, sym, ap, subst, arith, Option, None, Some, Ok}
 use Rattle.std.specs.Prelude.{if◌then◌else◌, ◌==◌, IfSome}
 use Rattle.std.specs.List.{list_any}
 use Rattle.std.proofs.lemmas.Bool.{cond-true, cond-false}
@@ -12,20 +12,30 @@ use Rattle.schedule.specs.Plan.{Plan}
 use Rattle.schedule.specs.Asked.{Asked, InsertIntervention, ChangeIntervention, RemoveIntervention, SetCells, ReplaceStart, ReplaceRule, AddBookmark, MoveBookmark, RemoveBookmark}
 use Rattle.schedule.specs.Change.{Changed, change, changed, made, marking, refusal, unless_refused}
 use Rattle.schedule.specs.Ids.{bookmark_id, changed_at, without}
+use Rattle.schedule.specs.Scratch.{arrival, scratch}
 use Rattle.schedule.specs.Sound.{IsSound}
+use Rattle.revision_jobs.specs.declared.answer.Job.{Job}
+use Rattle.revision_jobs.specs.declared.entries.Entries.{Entries}
+use Rattle.revision_jobs.specs.Value.{pattern, text}
+use Rattle.dependency_book.specs.declared.finding.Finding.{Finding}
+use Rattle.dependency_book.specs.declared.finding.Finding.TheVariants.{Expected, Found}
 use Rattle.dependency_book.specs.declared.mark.Mark.{Mark}
+use Rattle.dependency_book.specs.declared.need.Need.{Need}
+use Rattle.dependency_book.specs.declared.need.Need.TheVariants.{Step, View}
 use Rattle.dependency_book.specs.declared.touch.Rekeyed.{Rekeyed}
 use Rattle.dependency_book.specs.declared.touch.Rekeyed.TheVariants.{Same, Added, Moved, Removed}
 use Rattle.dependency_book.specs.Rows.{ArrivalRow, TextRow, value_at, AllKnown, keys, at_generation, of_id}
 use Rattle.dependency_book.specs.Marks.{MarksRise, AreMarksOf, is_noted}
-use Rattle.dependency_book.specs.Known.{Known, arrival_known, text_known, bookmark_in}
-use Rattle.dependency_book.specs.Right.{IsRight, AreArrivals, AreTexts, IsArrival, IsScratch}
+use Rattle.dependency_book.specs.Known.{Known, arrival_row, text_row, bookmark_in, expected}
+use Rattle.dependency_book.specs.Right.{IsRight, AreArrivals, AreTexts, AreNumbered, IsArrival, IsScratch}
+use Rattle.dependency_book.specs.Findings.{job_of}
 use Rattle.dependency_book.specs.Kept.{KeepsRows, felt_from, leaves_arrival, leaves_after, takes, keeps_arrival, keeps_text, text_kept}
 use Rattle.dependency_book.specs.Touch.{reached_by, left_by, rekeyed_by}
 use Rattle.dependency_book.specs.Rearranged.{above, at_or_above, placed, with_mark, without_mark, forgotten_marks, reached_marks, left_marks, forgotten_texts, rekeyed_texts}
 use Rattle.dependency_book.proofs.Marked.{either_way, true_eq, eq_true, lt_true, has, any_keys, value_at-absent, keys-forget, value_at-forget, AllKnown-forget, has-placed_same, has-placed_other, rise-placed, value_at-placed, AllKnown-placed, has-without_same, has-without_other, rise-without, value_at-without, AllKnown-without}
 use Rattle.dependency_book.proofs.Texted.{kept_by, kept_of, kept_by-is, kept_by-same, kept_by-all, keys-forget_texts, value_at-forget_texts, AllKnown-forget_texts, AllKnown-weaker, keys-added, value_at-added, AllKnown-added, keys-moved, value_at-moved, AllKnown-moved, keys-removed, value_at-removed, AllKnown-removed}
 use Rattle.dependency_book.proofs.Noted.{Follows, follows}
+use Rattle.dependency_book.proofs.Outs.{job_of-map}
 use Rattle.dependency_book.proofs.Leaves.{arrival_left, scratch_left}
 
 -- the marks where an edit is felt
@@ -53,14 +63,14 @@ some_weaker : {V : Type 0} (P Q : V → Type 0) (o : Option V) → ((v : V) → 
 some_weaker P Q None f h = tt
 some_weaker P Q (Some v) f h = f v h
 
-weaker_marks : (P Q : Mark → World → Type 0) (low : ℕ) (rows : List ArrivalRow) → ((m : Mark) → low < m.generation → (w : World) → P m w → Q m w) → MarksRise low (keys rows) → AllKnown P rows → AllKnown Q rows
+weaker_marks : (P Q : Mark → Finding World → Type 0) (low : ℕ) (rows : List ArrivalRow) → ((m : Mark) → low < m.generation → (w : Finding World) → P m w → Q m w) → MarksRise low (keys rows) → AllKnown P rows → AllKnown Q rows
 weaker_marks P Q low [] step rise h = tt
 weaker_marks P Q low (r ∷ rs) step rise h = (
   some_weaker (P r.key) (Q r.key) r.value (λ w k. step r.key rise.0 w k) h.0,
   weaker_marks P Q r.key.generation rs (λ m over w k. step m (let first : low < r.key.generation = rise.0 in omega (arith, first, over)) w k) rise.1 h.1,
 )
 
-AllKnown-felt : (P Q : Mark → World → Type 0) (felt : Option ℕ) (rows : List ArrivalRow) → ((m : Mark) → 0 < m.generation → leaves_arrival felt m.generation ≡ true → (w : World) → P m w → Q m w) → MarksRise 0 (keys rows) → AllKnown P rows → AllKnown Q (forgotten_marks felt rows)
+AllKnown-felt : (P Q : Mark → Finding World → Type 0) (felt : Option ℕ) (rows : List ArrivalRow) → ((m : Mark) → 0 < m.generation → leaves_arrival felt m.generation ≡ true → (w : Finding World) → P m w → Q m w) → MarksRise 0 (keys rows) → AllKnown P rows → AllKnown Q (forgotten_marks felt rows)
 AllKnown-felt P Q None rows step rise h = weaker_marks P Q 0 rows (λ m over w k. step m over refl w k) rise h
 AllKnown-felt P Q (Some f) rows step rise h = AllKnown-forget P Q f 0 rows (λ m over stays w k. step m over (le_not_above f m.generation stays) w k) rise h
 
@@ -139,22 +149,27 @@ marks_follow p q reached left felt rows f marks g some =
         one : (m g : ℕ) → Some m ≡ Some g → m ≡ g
         one m g is = cc
 
+-- what stands at a mark is right as long as the same arrives there
+arrival_stays : (table : Entries) (p q : Plan) (m : Mark) (f : Finding World) → arrival p m.generation ≡ arrival q m.generation → IsArrival table p m f → IsArrival table q m f
+arrival_stays table p q m (Expected job) same h = (h.0, h.1 ∙ ap pattern same)
+arrival_stays table p q m (Found world) same h = h ∙ same
+
 -- the arrivals after an edit are right
-arrivals_right : (p : Plan) (asked : Asked) (rows : List ArrivalRow) → IsSound p → refusal p asked ≡ None → AreArrivals p rows
-    → AreArrivals (changed p asked).plan (left_marks (changed p asked).plan (left_by p asked) (reached_marks (reached_by asked) (forgotten_marks (felt_from p asked) rows)))
-arrivals_right p asked rows sound free h =
+arrivals_right : (table : Entries) (p : Plan) (asked : Asked) (rows : List ArrivalRow) → IsSound p → refusal p asked ≡ None → AreArrivals table p rows
+    → AreArrivals table (changed p asked).plan (left_marks (changed p asked).plan (left_by p asked) (reached_marks (reached_by asked) (forgotten_marks (felt_from p asked) rows)))
+arrivals_right table p asked rows sound free h =
     let q = (changed p asked).plan in
     let rows1 = forgotten_marks (felt_from p asked) rows in
     let rows2 = reached_marks (reached_by asked) rows1 in
     let rise1 : MarksRise 0 (keys rows1) = subst (MarksRise 0) (sym (keys-felt (felt_from p asked) rows)) h.rise in
-    let known1 : AllKnown (IsArrival q) rows1 =
-    AllKnown-felt (IsArrival p) (IsArrival q) (felt_from p asked) rows (λ m over stays w is. is ∙ arrival_left p asked m.generation sound over stays) h.rise h.right in
+    let known1 : AllKnown (IsArrival table q) rows1 =
+    AllKnown-felt (IsArrival table p) (IsArrival table q) (felt_from p asked) rows (λ m over stays w is. arrival_stays table p q m w (arrival_left p asked m.generation sound over stays) is) h.rise h.right in
     let rise2 : MarksRise 0 (keys rows2) = reached_either (λ ys. MarksRise 0 (keys ys)) (reached_by asked) rows1 rise1 (λ m is some absent. rise-placed m 0 rows1 rise1 some absent) in
-    let known2 : AllKnown (IsArrival q) rows2 = reached_either (AllKnown (IsArrival q)) (reached_by asked) rows1 known1 (λ m is some absent. AllKnown-placed (IsArrival q) m rows1 known1) in
+    let known2 : AllKnown (IsArrival table q) rows2 = reached_either (AllKnown (IsArrival table q)) (reached_by asked) rows1 known1 (λ m is some absent. AllKnown-placed (IsArrival table q) m rows1 known1) in
     record {
       rise = left_either (λ ys. MarksRise 0 (keys ys)) q (left_by p asked) rows2 rise2 (λ m is free. rise-without m 0 rows2 rise2);
       marks = marks_follow p q (reached_by asked) (left_by p asked) (felt_from p asked) rows (follows p asked sound free) h.marks;
-      right = left_either (AllKnown (IsArrival q)) q (left_by p asked) rows2 known2 (λ m is free. AllKnown-without (IsArrival q) m rows2 known2);
+      right = left_either (AllKnown (IsArrival table q)) q (left_by p asked) rows2 known2 (λ m is free. AllKnown-without (IsArrival table q) m rows2 known2);
     }
 
 -- and just those that stay
@@ -194,7 +209,7 @@ value_at-felt_texts : (felt : Option ℕ) (id : ℕ) (rows : List TextRow) → v
 value_at-felt_texts None id rows = kept_by-all rows id
 value_at-felt_texts (Some f) id rows = value_at-forget_texts (at_or_above f) rows id ∙ kept_by-same (λ b. not (at_or_above f b)) (λ b. leaves_after (Some f) b.generation) rows id (λ b. not_le f b.generation)
 
-AllKnown-felt_texts : (P Q : Bookmark → List ℕ → Type 0) (felt : Option ℕ) (rows : List TextRow) → ((b : Bookmark) → leaves_after felt b.generation ≡ true → (t : List ℕ) → P b t → Q b t) → AllKnown P rows → AllKnown Q (forgotten_texts felt rows)
+AllKnown-felt_texts : (P Q : Bookmark → Finding (List ℕ) → Type 0) (felt : Option ℕ) (rows : List TextRow) → ((b : Bookmark) → leaves_after felt b.generation ≡ true → (t : Finding (List ℕ)) → P b t → Q b t) → AllKnown P rows → AllKnown Q (forgotten_texts felt rows)
 AllKnown-felt_texts P Q None rows step h = AllKnown-weaker P Q rows (λ b t k. step b refl t k) h
 AllKnown-felt_texts P Q (Some f) rows step h = AllKnown-forget_texts P Q (at_or_above f) rows (λ b stays t k. step b (not_le_false f b.generation stays) t k) h
 
@@ -222,21 +237,26 @@ texts_keys p (AddBookmark generation view) rows same =
 texts_keys p (MoveBookmark id generation) rows same = keys-moved id generation rows ∙ ap (λ bs. changed_at bookmark_id (marking generation) bs id) same
 texts_keys p (RemoveBookmark id) rows same = keys-removed id rows ∙ ap (λ bs. without bookmark_id bs id) same
 
-texts_known : (P : Bookmark → List ℕ → Type 0) (rekeyed : Rekeyed) (last : ℕ) (rows : List TextRow) → AllKnown P rows → AllKnown P (rekeyed_texts rekeyed last rows)
+texts_known : (P : Bookmark → Finding (List ℕ) → Type 0) (rekeyed : Rekeyed) (last : ℕ) (rows : List TextRow) → AllKnown P rows → AllKnown P (rekeyed_texts rekeyed last rows)
 texts_known P Same last rows h = h
 texts_known P (Added g view) last rows h = AllKnown-added P rows (record { id = last; generation = g; view = view }) h
 texts_known P (Moved id g) last rows h = AllKnown-moved P id g rows h
 texts_known P (Removed id) last rows h = AllKnown-removed P id rows h
 
+-- what stands for a bookmark is right as long as starting over gives the same
+scratch_stays : (table : Entries) (p q : Plan) (b : Bookmark) (f : Finding (List ℕ)) → scratch p b ≡ scratch q b → IsScratch table p b f → IsScratch table q b f
+scratch_stays table p q b (Expected job) same h = (h.0, h.1 ∙ ap text same)
+scratch_stays table p q b (Found bytes) same h = h ∙ same
+
 -- the texts after an edit are right
-texts_right : (p : Plan) (asked : Asked) (rows : List TextRow) → IsSound p → AreTexts p rows
-    → AreTexts (changed p asked).plan (rekeyed_texts (rekeyed_by asked) (changed p asked).plan.last_bookmark (forgotten_texts (felt_from p asked) rows))
-texts_right p asked rows sound h =
+texts_right : (table : Entries) (p : Plan) (asked : Asked) (rows : List TextRow) → IsSound p → AreTexts table p rows
+    → AreTexts table (changed p asked).plan (rekeyed_texts (rekeyed_by asked) (changed p asked).plan.last_bookmark (forgotten_texts (felt_from p asked) rows))
+texts_right table p asked rows sound h =
     let q = (changed p asked).plan in
     record {
       bookmarks = texts_keys p asked rows h.bookmarks;
-      right = texts_known (IsScratch q) (rekeyed_by asked) q.last_bookmark (forgotten_texts (felt_from p asked) rows)
-          (AllKnown-felt_texts (IsScratch p) (IsScratch q) (felt_from p asked) rows (λ b stays t is. is ∙ scratch_left p asked b sound stays) h.right);
+      right = texts_known (IsScratch table q) (rekeyed_by asked) q.last_bookmark (forgotten_texts (felt_from p asked) rows)
+          (AllKnown-felt_texts (IsScratch table p) (IsScratch table q) (felt_from p asked) rows (λ b stays t is. scratch_stays table p q b t (scratch_left p asked b sound stays) is) h.right);
     }
 
 -- and just those that stay
@@ -255,7 +275,7 @@ texts_values p (MoveBookmark i generation) last rows id =
 texts_values p (RemoveBookmark i) last rows id =
     value_at-removed i rows id ∙ kept_by-same (λ b. not (b.id == i)) (keeps_text p (RemoveBookmark i)) rows id (λ b. refl)
 
-kept_is : (p : Plan) (asked : Asked) (o : Option Bookmark) (v : Option (List ℕ)) → kept_of (keeps_text p asked) o v ≡ text_kept p asked o v
+kept_is : (p : Plan) (asked : Asked) (o : Option Bookmark) (v : Option (Finding (List ℕ))) → kept_of (keeps_text p asked) o v ≡ text_kept p asked o v
 kept_is p asked None v = refl
 kept_is p asked (Some b) v = refl
 
@@ -264,51 +284,97 @@ accepted : (o : Option EditFault) (c d : Changed) → unless_refused o c ≡ Ok 
 accepted None c d h = (refl, cc)
 accepted (Some fault) c d h = absurd cc
 
--- what is known after an edit
-abbrev pub known_after : Plan → Plan → Asked → List ArrivalRow → List TextRow → Known
-known_after p q asked arrivals texts = record {
+-- what stands after an edit
+abbrev pub known_after : Known → Plan → Asked → Known
+known_after d q asked = record {
+  table = d.table;
   plan = q;
-  arrivals = left_marks q (left_by p asked) (reached_marks (reached_by asked) (forgotten_marks (felt_from p asked) arrivals));
-  texts = rekeyed_texts (rekeyed_by asked) q.last_bookmark (forgotten_texts (felt_from p asked) texts);
+  given = d.given;
+  arrivals = left_marks q (left_by d.plan asked) (reached_marks (reached_by asked) (forgotten_marks (felt_from d.plan asked) d.arrivals));
+  texts = rekeyed_texts (rekeyed_by asked) q.last_bookmark (forgotten_texts (felt_from d.plan asked) d.texts);
 }
 
-right_after : (d : Known) (asked : Asked) → IsSound d.plan → IsRight d → refusal d.plan asked ≡ None → IsRight (known_after d.plan (changed d.plan asked).plan asked d.arrivals d.texts)
-right_after d asked sound right free = record {
-  arrivals = arrivals_right d.plan asked d.arrivals sound free right.arrivals;
-  texts = texts_right d.plan asked d.texts sound right.texts;
-}
-
-pub revised_right : (d : Known) (q : Plan) (asked : Asked) (edited : Edited) → IsSound d.plan → IsRight d → change d.plan asked ≡ Ok (made q edited) → IsRight (known_after d.plan q asked d.arrivals d.texts)
-revised_right d q asked edited sound right is =
-    let done = accepted (refusal d.plan asked) (changed d.plan asked) (made q edited) is in
-    subst (λ (c : Changed). IsRight (known_after d.plan c.plan asked d.arrivals d.texts)) (sym done.1) (right_after d asked sound right done.0)
-
-keeps_arrivals : (d : Known) (q : Plan) (asked : Asked) (g : ℕ) → IsRight (known_after d.plan q asked d.arrivals d.texts)
-    → arrival_known (known_after d.plan q asked d.arrivals d.texts) g ≡ (if g == 0 then Some q.start else if is_noted q g && keeps_arrival d.plan asked g then arrival_known d g else None)
-keeps_arrivals d q asked g right =
-    let new = known_after d.plan q asked d.arrivals d.texts in
+keeps_arrivals : (d : Known) (q : Plan) (asked : Asked) (g : ℕ) → AreMarksOf q (keys (known_after d q asked).arrivals)
+    → arrival_row (known_after d q asked) g ≡ (if g == 0 then Some (Found q.start) else if is_noted q g && keeps_arrival d.plan asked g then arrival_row d g else None)
+keeps_arrivals d q asked g marks =
+    let new = known_after d q asked in
     let v = value_at (at_generation g) new.arrivals in
-    let stays : Option World → Option World = λ o. if is_noted q g && keeps_arrival d.plan asked g then o else None in
+    let stays : Option (Finding World) → Option (Finding World) = λ o. if is_noted q g && keeps_arrival d.plan asked g then o else None in
     either_way (g == 0)
-    (λ hit. cond-true (g == 0) (Some q.start) v hit ∙ sym (cond-true (g == 0) (Some q.start) (stays (arrival_known d g)) hit))
+    (λ hit. cond-true (g == 0) (Some (Found q.start)) v hit ∙ sym (cond-true (g == 0) (Some (Found q.start)) (stays (arrival_row d g)) hit))
     (λ miss.
     let some : 0 < g = (let apart = miss in positive g apart) in
-    cond-false (g == 0) (Some q.start) v miss
-    ∙ arrivals_kept d.plan q (reached_by asked) (left_by d.plan asked) (felt_from d.plan asked) d.arrivals g some right.arrivals.marks
-    ∙ ap stays (sym (cond-false (g == 0) (Some d.plan.start) (value_at (at_generation g) d.arrivals) miss))
-    ∙ sym (cond-false (g == 0) (Some q.start) (stays (arrival_known d g)) miss))
+    cond-false (g == 0) (Some (Found q.start)) v miss
+    ∙ arrivals_kept d.plan q (reached_by asked) (left_by d.plan asked) (felt_from d.plan asked) d.arrivals g some marks
+    ∙ ap stays (sym (cond-false (g == 0) (Some (Found d.plan.start)) (value_at (at_generation g) d.arrivals) miss))
+    ∙ sym (cond-false (g == 0) (Some (Found q.start)) (stays (arrival_row d g)) miss))
   where
     positive : (g : ℕ) → (g == 0) ≡ false → 0 < g
     positive g h = grind (arith, nat_tests)
 
-pub revised_keeps : (d : Known) (q : Plan) (asked : Asked) (edited : Edited) → IsSound d.plan → IsRight d → change d.plan asked ≡ Ok (made q edited) → KeepsRows asked d (known_after d.plan q asked d.arrivals d.texts)
+after_keeps : (d : Known) (q : Plan) (asked : Asked) → keys d.texts ≡ d.plan.bookmarks → AreMarksOf q (keys (known_after d q asked).arrivals) → KeepsRows asked d (known_after d q asked)
+after_keeps d q asked bookmarks marks = record {
+  table = refl;
+  given = refl;
+  arrivals = λ g. keeps_arrivals d q asked g marks;
+  texts = λ id.
+      texts_values d.plan asked q.last_bookmark d.texts id
+      ∙ kept_by-is (keeps_text d.plan asked) d.texts id
+      ∙ kept_is d.plan asked (bookmark_in (keys d.texts) id) (text_row d id)
+      ∙ ap (λ bs. text_kept d.plan asked (bookmark_in bs id) (text_row d id)) bookmarks;
+}
+
+-- a job that is out afterwards was out for the same row before
+
+if_kept : {V : Type 0} (b : Bool) (row : Option (Finding V)) (job : Job) → job_of (if b then row else None) ≡ Some job → job_of row ≡ Some job
+if_kept true row job h = h
+if_kept false row job h = absurd cc
+
+text_was_out : (p : Plan) (asked : Asked) (o : Option Bookmark) (row : Option (Finding (List ℕ))) (job : Job) → job_of (text_kept p asked o row) ≡ Some job → job_of row ≡ Some job
+text_was_out p asked None row job h = absurd cc
+text_was_out p asked (Some b) row job h = if_kept (keeps_text p asked b) row job h
+
+was_out : (asked : Asked) (old new : Known) (need : Need) (job : Job) → KeepsRows asked old new → expected new need ≡ Some job → expected old need ≡ Some job
+was_out asked old new (Step g) job keeps h =
+    let kept = if is_noted new.plan g && keeps_arrival old.plan asked g then arrival_row old g else None in
+    let out : job_of (arrival_row new g) ≡ Some job = sym (job_of-map pattern (arrival_row new g)) ∙ h in
+    job_of-map pattern (arrival_row old g)
+    ∙ either_way (g == 0)
+    (λ hit. absurd (let found = sym (ap job_of (keeps.arrivals g ∙ cond-true (g == 0) (Some (Found new.plan.start)) kept hit)) ∙ out in none_out job found))
+    (λ miss.
+    if_kept (is_noted new.plan g && keeps_arrival old.plan asked g) (arrival_row old g) job
+    (sym (ap job_of (keeps.arrivals g ∙ cond-false (g == 0) (Some (Found new.plan.start)) kept miss)) ∙ out))
+  where
+    none_out : (job : Job) → None ≡ Some job → ⊥
+    none_out job h = cc
+was_out asked old new (View id) job keeps h =
+    job_of-map text (text_row old id)
+    ∙ text_was_out old.plan asked (bookmark_in old.plan.bookmarks id) (text_row old id) job
+    (sym (ap job_of (keeps.texts id)) ∙ sym (job_of-map text (text_row new id)) ∙ h)
+
+numbered_kept : (asked : Asked) (old new : Known) → KeepsRows asked old new → AreNumbered old → AreNumbered new
+numbered_kept asked old new keeps h = record {
+  few = subst (λ n. n ≤ 16777216) (sym keeps.given) h.few;
+  given = λ need job out. subst (λ n. job.number < n) (sym keeps.given) (h.given need job (was_out asked old new need job keeps out));
+  once = λ a b i j out other same. h.once a b i j (was_out asked old new a i keeps out) (was_out asked old new b j keeps other) same;
+}
+
+right_after : (d : Known) (asked : Asked) → IsSound d.plan → IsRight d → refusal d.plan asked ≡ None → IsRight (known_after d (changed d.plan asked).plan asked)
+right_after d asked sound right free =
+    let q = (changed d.plan asked).plan in
+    let rows = arrivals_right d.table d.plan asked d.arrivals sound free right.arrivals in
+    record {
+      arrivals = rows;
+      texts = texts_right d.table d.plan asked d.texts sound right.texts;
+      numbered = numbered_kept asked d (known_after d q asked) (after_keeps d q asked right.texts.bookmarks rows.marks) right.numbered;
+    }
+
+pub revised_right : (d : Known) (q : Plan) (asked : Asked) (edited : Edited) → IsSound d.plan → IsRight d → change d.plan asked ≡ Ok (made q edited) → IsRight (known_after d q asked)
+revised_right d q asked edited sound right is =
+    let done = accepted (refusal d.plan asked) (changed d.plan asked) (made q edited) is in
+    subst (λ (c : Changed). IsRight (known_after d c.plan asked)) (sym done.1) (right_after d asked sound right done.0)
+
+pub revised_keeps : (d : Known) (q : Plan) (asked : Asked) (edited : Edited) → IsSound d.plan → IsRight d → change d.plan asked ≡ Ok (made q edited) → KeepsRows asked d (known_after d q asked)
 revised_keeps d q asked edited sound right is =
     let after = revised_right d q asked edited sound right is in
-    record {
-      arrivals = λ g. keeps_arrivals d q asked g after;
-      texts = λ id.
-          texts_values d.plan asked q.last_bookmark d.texts id
-          ∙ kept_by-is (keeps_text d.plan asked) d.texts id
-          ∙ kept_is d.plan asked (bookmark_in (keys d.texts) id) (text_known d id)
-          ∙ ap (λ bs. text_kept d.plan asked (bookmark_in bs id) (text_known d id)) right.texts.bookmarks;
-    }
+    after_keeps d q asked right.texts.bookmarks after.arrivals.marks

@@ -1,6 +1,6 @@
--- What is needed next: where its row stands, what it follows from, and what it changes.
-use Rattle.std.proofs.Common.{◌≡◌, ℕ, ◌+◌, ◌<◌, ◌≤◌, ◌∙◌, Bool, true, false, ◌||◌, nat_le, nat_lt, List, [], ◌∷◌, ◌++◌, cond, refl, sym, ap, subst, arith, Option, None, Some}
-use Rattle.std.specs.Prelude.{if◌then◌else◌, ◌==◌, is_some, is_none, count_by}
+-- What is needed next, and what isn't known where nothing is needed.
+use Rattle.std.proofs.Common.{◌≡◌, ℕ, ◌+◌, ◌<◌, ◌≤◌, ◌∙◌, Bool, true, false, not, ◌||◌, nat_le, nat_lt, List, [], ◌∷◌, ◌++◌, cond, refl, sym, ap, subst, arith, Option, None, Some}
+use Rattle.std.specs.Prelude.{if◌then◌else◌, ◌==◌, is_none, count_by}
 use Rattle.std.specs.List.{list_any, AllByRecursion}
 use Rattle.std.proofs.lemmas.Bool.{cond-true, cond-false, or_left, or_right, and_from}
 use Rattle.std.proofs.lemmas.Bool.Decides.{nat_tests}
@@ -8,23 +8,26 @@ use Rattle.std.proofs.lemmas.List.Sums.{sum_by-append}
 use Rattle.schedule.specs.declared.document.Bookmark.{Bookmark}
 use Rattle.schedule.specs.declared.document.Intervention.{Intervention}
 use Rattle.schedule.specs.Scratch.{acts_at}
+use Rattle.schedule.specs.Sound.{IsSound}
+use Rattle.dependency_book.specs.declared.finding.Finding.{Finding}
+use Rattle.dependency_book.specs.declared.finding.Finding.TheVariants.{Expected, Found}
 use Rattle.dependency_book.specs.declared.need.Need.TheVariants.{Step, View}
 use Rattle.dependency_book.specs.Rows.{ArrivalRow, TextRow, value_at, is_unknown, keys, at_generation}
 use Rattle.dependency_book.specs.Marks.{MarksRise, is_noted, stands_at}
-use Rattle.dependency_book.specs.Known.{Known, pending_of}
+use Rattle.dependency_book.specs.Findings.{job_of, is_found}
+use Rattle.dependency_book.specs.Known.{Known, NothingOut, is_pending, pending_of, wanting_of}
 use Rattle.dependency_book.specs.Right.{IsRight}
 use Rattle.dependency_book.specs.Needs.{has_arrival, can_view, next_view, is_awaited, can_step, next_step}
 use Rattle.dependency_book.proofs.Marked.{either_way, eq_true, true_lt, false_lt, has, absent_below}
+use Rattle.dependency_book.proofs.Outs.{NoneOut, arrivals_none, texts_none}
 
 -- where nothing is needed, nothing is pending
 
-some_not_none : {V : Type 0} (o : Option V) → is_some o ≡ true → is_none o ≡ false
-some_not_none None h = absurd cc
-some_not_none (Some v) h = refl
-
-none_not_some : {V : Type 0} (o : Option V) → is_some o ≡ false → is_none o ≡ true
-none_not_some None h = refl
-none_not_some (Some v) h = absurd cc
+-- where no job is out, what wasn't found is missing
+unfound_missing : {V : Type 0} (o : Option (Finding V)) → job_of o ≡ None → is_found o ≡ false → is_none o ≡ true
+unfound_missing None out h = refl
+unfound_missing (Some (Expected job)) out h = absurd cc
+unfound_missing (Some (Found v)) out h = absurd cc
 
 not_some : {V : Type 0} (b : Bool) (v : V) (o : Option V) → (if b then Some v else o) ≡ None → (b ≡ false) × (o ≡ None)
 not_some true v o h = absurd cc
@@ -53,20 +56,20 @@ first_le low g r rs rise there =
         by_lt : {A : Type 0} (m n : ℕ) → (m < n → A) → (n ≤ m → A) → A
         by_lt m n f g = either_way (nat_lt m n) (λ hit. f (true_lt m n hit)) (λ miss. g (false_lt m n miss))
 
--- an awaited mark is known where no step is needed
-awaited_known : (bs : List Bookmark) (low g : ℕ) (rows : List ArrivalRow) → MarksRise low (keys rows) → next_step bs true rows ≡ None → is_awaited bs g ≡ true → has g rows ≡ true → is_some (value_at (at_generation g) rows) ≡ true
-awaited_known bs low g [] rise none awaited there = absurd cc
-awaited_known bs low g (r ∷ rs) rise none awaited there =
-    let parts = not_some (can_step bs true r) (Step r.key.generation) (next_step bs (is_some r.value) rs) none in
-    either_way (is_some r.value)
+-- an awaited mark is known where no step is needed and no job is out
+awaited_known : (bs : List Bookmark) (low g : ℕ) (rows : List ArrivalRow) → MarksRise low (keys rows) → NoneOut rows → next_step bs true rows ≡ None → is_awaited bs g ≡ true → has g rows ≡ true → is_found (value_at (at_generation g) rows) ≡ true
+awaited_known bs low g [] rise out none awaited there = absurd cc
+awaited_known bs low g (r ∷ rs) rise out none awaited there =
+    let parts = not_some (can_step bs true r) (Step r.key.generation) (next_step bs (is_found r.value) rs) none in
+    either_way (is_found r.value)
     (λ known.
     either_way (r.key.generation == g)
-    (λ hit. ap is_some (cond-true (r.key.generation == g) r.value (value_at (at_generation g) rs) hit) ∙ known)
+    (λ hit. ap is_found (cond-true (r.key.generation == g) r.value (value_at (at_generation g) rs) hit) ∙ known)
     (λ miss.
-    ap is_some (cond-false (r.key.generation == g) r.value (value_at (at_generation g) rs) miss)
-    ∙ awaited_known bs r.key.generation g rs rise.1 (ap (λ b. next_step bs b rs) (sym known) ∙ parts.1) awaited (sym (ap (λ t. t || has g rs) miss) ∙ there)))
+    ap is_found (cond-false (r.key.generation == g) r.value (value_at (at_generation g) rs) miss)
+    ∙ awaited_known bs r.key.generation g rs rise.1 out.1 (ap (λ b. next_step bs b rs) (sym known) ∙ parts.1) awaited (sym (ap (λ t. t || has g rs) miss) ∙ there)))
     (λ missing.
-    let can : can_step bs true r ≡ true = and_from (is_unknown r) (is_awaited bs r.key.generation) (none_not_some r.value missing) (awaited_below bs g r.key.generation (first_le low g r rs rise there) awaited) in
+    let can : can_step bs true r ≡ true = and_from (is_unknown r) (is_awaited bs r.key.generation) (unfound_missing r.value out.0 missing) (awaited_below bs g r.key.generation (first_le low g r rs rise there) awaited) in
     absurd (clash (can_step bs true r) can parts.0))
   where
     clash : (b : Bool) → b ≡ true → b ≡ false → ⊥
@@ -123,22 +126,44 @@ each_weaker : {X : Type 0} (P Q : X → Type 0) (xs : List X) → ((x : X) → P
 each_weaker P Q [] f h = tt
 each_weaker P Q (x ∷ xs) f h = (f x h.0, each_weaker P Q xs f h.1)
 
-arrival_there : (d : Known) (r : TextRow) → IsRight d → next_step d.plan.bookmarks true d.arrivals ≡ None → StandsIn d.plan.bookmarks r → has_arrival d.arrivals r.key.generation ≡ true
-arrival_there d r right none stands =
+arrival_there : (d : Known) (r : TextRow) → IsRight d → NoneOut d.arrivals → next_step d.plan.bookmarks true d.arrivals ≡ None → StandsIn d.plan.bookmarks r → has_arrival d.arrivals r.key.generation ≡ true
+arrival_there d r right out none stands =
     let g = r.key.generation in
     either_way (g == 0)
-    (λ hit. or_left (g == 0) (is_some (value_at (at_generation g) d.arrivals)) hit)
+    (λ hit. or_left (g == 0) (is_found (value_at (at_generation g) d.arrivals)) hit)
     (λ miss.
     let noted : is_noted d.plan g ≡ true = or_right (list_any (λ (i : Intervention). acts_at i g) d.plan.interventions) (list_any (λ (b : Bookmark). stands_at b g) d.plan.bookmarks) stands in
-    or_right (g == 0) (is_some (value_at (at_generation g) d.arrivals))
-    (awaited_known d.plan.bookmarks 0 g d.arrivals right.arrivals.rise none (member_awaited d.plan.bookmarks r.key stands) (right.arrivals.marks g (over g miss) ∙ noted)))
+    or_right (g == 0) (is_found (value_at (at_generation g) d.arrivals))
+    (awaited_known d.plan.bookmarks 0 g d.arrivals right.arrivals.rise out none (member_awaited d.plan.bookmarks r.key stands) (right.arrivals.marks g (over g miss) ∙ noted)))
   where
     over : (g : ℕ) → (g == 0) ≡ false → 0 < g
     over g h = grind (arith, nat_tests)
 
-pub none_pending : (d : Known) → IsRight d → next_view d.arrivals d.texts ≡ None → next_step d.plan.bookmarks true d.arrivals ≡ None → pending_of d ≡ 0
-none_pending d right no_view no_step =
-    none_unknown d.arrivals d.texts
-    (each_weaker (StandsIn d.plan.bookmarks) (λ (r : TextRow). has_arrival d.arrivals r.key.generation ≡ true) d.texts (λ r stands. arrival_there d r right no_step stands)
+-- where no job is out, the pending rows are those in which nothing stands
+pub pending_unknown : (rows : List TextRow) → NoneOut rows → count_by is_pending rows ≡ count_by is_unknown rows
+pending_unknown [] out = refl
+pending_unknown (r ∷ rs) out =
+    let pending = count_cons is_pending r rs in
+    let unknown = count_cons is_unknown r rs in
+    let here : one_if (is_pending r) ≡ one_if (is_unknown r) = ap one_if (same_here r.value out.0) in
+    let rest = pending_unknown rs out.1 in
+    omega (arith, pending, unknown, here, rest)
+  where
+    same_here : {V : Type 0} (o : Option (Finding V)) → job_of o ≡ None → not (is_found o) ≡ is_none o
+    same_here None out = refl
+    same_here (Some (Expected job)) out = absurd cc
+    same_here (Some (Found v)) out = refl
+
+pub none_pending : (d : Known) → IsSound d.plan → IsRight d → next_view d.arrivals d.texts ≡ None → next_step d.plan.bookmarks true d.arrivals ≡ None → NothingOut d → pending_of d ≡ 0
+none_pending d sound right no_view no_step out =
+    let arrivals_out = arrivals_none d right out in
+    pending_unknown d.texts (texts_none d sound right out)
+    ∙ none_unknown d.arrivals d.texts
+    (each_weaker (StandsIn d.plan.bookmarks) (λ (r : TextRow). has_arrival d.arrivals r.key.generation ≡ true) d.texts (λ r stands. arrival_there d r right arrivals_out no_step stands)
     (each_stands d.texts d.plan.bookmarks (λ g h. subst (λ (bs : List Bookmark). list_any (λ (b : Bookmark). stands_at b g) bs ≡ true) right.texts.bookmarks h)))
     no_view
+
+pub none_wanting : (d : Known) → IsSound d.plan → IsRight d → NothingOut d → wanting_of d ≡ 0 → pending_of d ≡ 0
+none_wanting d sound right out none =
+    let same : pending_of d ≡ count_by is_unknown d.texts = pending_unknown d.texts (texts_none d sound right out) in
+    omega (arith, same, none)

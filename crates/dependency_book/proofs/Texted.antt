@@ -6,18 +6,19 @@ use Rattle.schedule.specs.declared.document.Bookmark.{Bookmark}
 use Rattle.schedule.specs.Ids.{bookmark_id, changed_at, without}
 use Rattle.schedule.specs.Change.{marking}
 use Rattle.schedule.proofs.Ids.{each_filter}
-use Rattle.schedule.proofs.Each.{all_append}
+use Rattle.basics.proofs.Lists.{all_append}
+use Rattle.dependency_book.specs.declared.finding.Finding.{Finding}
 use Rattle.dependency_book.specs.Rows.{TextRow, value_at, AllKnown, unknown, forget, keys, of_id}
 use Rattle.dependency_book.specs.Known.{bookmark_in}
 use Rattle.dependency_book.specs.Rearranged.{moved_text, without_text}
 use Rattle.dependency_book.proofs.Marked.{either_way, true_eq, eq_true}
 
 -- what was known of a bookmark that stays
-abbrev pub kept_by : (Bookmark → Bool) → List TextRow → ℕ → Option (List ℕ)
+abbrev pub kept_by : (Bookmark → Bool) → List TextRow → ℕ → Option (Finding (List ℕ))
 kept_by keep [] id = None
 kept_by keep (r ∷ rs) id = if r.key.id == id then (if keep r.key then r.value else None) else kept_by keep rs id
 
-abbrev pub kept_of : (Bookmark → Bool) → Option Bookmark → Option (List ℕ) → Option (List ℕ)
+abbrev pub kept_of : (Bookmark → Bool) → Option Bookmark → Option (Finding (List ℕ)) → Option (Finding (List ℕ))
 kept_of keep None text = None
 kept_of keep (Some b) text = if keep b then text else None
 
@@ -39,12 +40,12 @@ kept_by-is keep (r ∷ rs) id =
 pub kept_by-same : (keep other : Bookmark → Bool) (rows : List TextRow) (id : ℕ) → ((b : Bookmark) → keep b ≡ other b) → kept_by keep rows id ≡ kept_by other rows id
 kept_by-same keep other [] id h = refl
 kept_by-same keep other (r ∷ rs) id h =
-    ap₂ (λ t (o : Option (List ℕ)). if r.key.id == id then (if t then r.value else None) else o) (h r.key) (kept_by-same keep other rs id h)
+    ap₂ (λ t (o : Option (Finding (List ℕ))). if r.key.id == id then (if t then r.value else None) else o) (h r.key) (kept_by-same keep other rs id h)
 
 -- all that is known stays
 pub kept_by-all : (rows : List TextRow) (id : ℕ) → value_at (of_id id) rows ≡ kept_by (λ _. true) rows id
 kept_by-all [] id = refl
-kept_by-all (r ∷ rs) id = ap (λ (o : Option (List ℕ)). if r.key.id == id then r.value else o) (kept_by-all rs id)
+kept_by-all (r ∷ rs) id = ap (λ (o : Option (Finding (List ℕ))). if r.key.id == id then r.value else o) (kept_by-all rs id)
 
 -- rows that forget
 
@@ -52,21 +53,21 @@ pub keys-forget_texts : (lost : Bookmark → Bool) (rows : List TextRow) → key
 keys-forget_texts lost [] = refl
 keys-forget_texts lost (r ∷ rs) = ap (λ bs. r.key ∷ bs) (keys-forget_texts lost rs)
 
-swapped : (b : Bool) (o : Option (List ℕ)) → (if b then None else o) ≡ (if not b then o else None)
+swapped : (b : Bool) (o : Option (Finding (List ℕ))) → (if b then None else o) ≡ (if not b then o else None)
 swapped true o = refl
 swapped false o = refl
 
 pub value_at-forget_texts : (lost : Bookmark → Bool) (rows : List TextRow) (id : ℕ) → value_at (of_id id) (forget lost rows) ≡ kept_by (λ b. not (lost b)) rows id
 value_at-forget_texts lost [] id = refl
 value_at-forget_texts lost (r ∷ rs) id =
-    ap₂ (λ (u o : Option (List ℕ)). if r.key.id == id then u else o) (swapped (lost r.key) r.value) (value_at-forget_texts lost rs id)
+    ap₂ (λ (u o : Option (Finding (List ℕ))). if r.key.id == id then u else o) (swapped (lost r.key) r.value) (value_at-forget_texts lost rs id)
 
 some_if : {V : Type 0} (P Q : V → Type 0) (b : Bool) (o : Option V) → (b ≡ false → (v : V) → P v → Q v) → IfSome o P → IfSome (if b then None else o) Q
 some_if P Q true o f h = tt
 some_if P Q false None f h = tt
 some_if P Q false (Some v) f h = f refl v h
 
-pub AllKnown-forget_texts : (P Q : Bookmark → List ℕ → Type 0) (lost : Bookmark → Bool) (rows : List TextRow) → ((b : Bookmark) → lost b ≡ false → (t : List ℕ) → P b t → Q b t) → AllKnown P rows → AllKnown Q (forget lost rows)
+pub AllKnown-forget_texts : (P Q : Bookmark → Finding (List ℕ) → Type 0) (lost : Bookmark → Bool) (rows : List TextRow) → ((b : Bookmark) → lost b ≡ false → (t : Finding (List ℕ)) → P b t → Q b t) → AllKnown P rows → AllKnown Q (forget lost rows)
 AllKnown-forget_texts P Q lost [] step h = tt
 AllKnown-forget_texts P Q lost (r ∷ rs) step h = (some_if (P r.key) (Q r.key) (lost r.key) r.value (λ stays t k. step r.key stays t k) h.0, AllKnown-forget_texts P Q lost rs step h.1)
 
@@ -74,7 +75,7 @@ some_weaker : {V : Type 0} (P Q : V → Type 0) (o : Option V) → ((v : V) → 
 some_weaker P Q None f h = tt
 some_weaker P Q (Some v) f h = f v h
 
-pub AllKnown-weaker : (P Q : Bookmark → List ℕ → Type 0) (rows : List TextRow) → ((b : Bookmark) (t : List ℕ) → P b t → Q b t) → AllKnown P rows → AllKnown Q rows
+pub AllKnown-weaker : (P Q : Bookmark → Finding (List ℕ) → Type 0) (rows : List TextRow) → ((b : Bookmark) (t : Finding (List ℕ)) → P b t → Q b t) → AllKnown P rows → AllKnown Q rows
 AllKnown-weaker P Q [] step h = tt
 AllKnown-weaker P Q (r ∷ rs) step h = (some_weaker (P r.key) (Q r.key) r.value (λ t k. step r.key t k) h.0, AllKnown-weaker P Q rs step h.1)
 
@@ -86,9 +87,9 @@ keys-added (r ∷ rs) b = ap (λ bs. r.key ∷ bs) (keys-added rs b)
 
 pub value_at-added : (rows : List TextRow) (b : Bookmark) (id : ℕ) → value_at (of_id id) (rows ++ unknown b ∷ []) ≡ value_at (of_id id) rows
 value_at-added [] b id = either_way (b.id == id) (λ hit. cond-true (b.id == id) None None hit) (λ miss. cond-false (b.id == id) None None miss)
-value_at-added (r ∷ rs) b id = ap (λ (o : Option (List ℕ)). if r.key.id == id then r.value else o) (value_at-added rs b id)
+value_at-added (r ∷ rs) b id = ap (λ (o : Option (Finding (List ℕ))). if r.key.id == id then r.value else o) (value_at-added rs b id)
 
-pub AllKnown-added : (P : Bookmark → List ℕ → Type 0) (rows : List TextRow) (b : Bookmark) → AllKnown P rows → AllKnown P (rows ++ unknown b ∷ [])
+pub AllKnown-added : (P : Bookmark → Finding (List ℕ) → Type 0) (rows : List TextRow) (b : Bookmark) → AllKnown P rows → AllKnown P (rows ++ unknown b ∷ [])
 AllKnown-added P rows b h = all_append (λ (r : TextRow). IfSome r.value (P r.key)) rows (unknown b ∷ []) h (tt, tt)
 
 -- a bookmark elsewhere
@@ -106,9 +107,9 @@ value_at-moved id g [] other = refl
 value_at-moved id g (r ∷ rs) other =
     let lost = r.key.id == id && not (r.key.generation == g) in
     ap (λ n. if n == other then (if lost then None else r.value) else value_at (of_id other) (map (moved_text id g) rs)) (id_stays (r.key.id == id) g r.key)
-    ∙ ap₂ (λ (u o : Option (List ℕ)). if r.key.id == other then u else o) (swapped lost r.value) (value_at-moved id g rs other)
+    ∙ ap₂ (λ (u o : Option (Finding (List ℕ))). if r.key.id == other then u else o) (swapped lost r.value) (value_at-moved id g rs other)
 
-moved_one : (P : Bookmark → List ℕ → Type 0) (id g : ℕ) (k : Bookmark) (o : Option (List ℕ)) → IfSome o (P k) → IfSome (if k.id == id && not (k.generation == g) then None else o) (P (if k.id == id then marking g k else k))
+moved_one : (P : Bookmark → Finding (List ℕ) → Type 0) (id g : ℕ) (k : Bookmark) (o : Option (Finding (List ℕ))) → IfSome o (P k) → IfSome (if k.id == id && not (k.generation == g) then None else o) (P (if k.id == id then marking g k else k))
 moved_one P id g k o h =
     let test = k.id == id in
     let there = k.generation == g in
@@ -118,17 +119,17 @@ moved_one P id g k o h =
     (λ here.
     let same : marking g k ≡ k = ap (λ n. record k { generation = n }) (sym (true_eq k.generation g here)) in
     let lost : (test && not there) ≡ false = ap (λ b. test && not b) here ∙ ap (λ b. b && false) hit in
-    subst (λ (u : Option (List ℕ)). IfSome u (P (if test then marking g k else k))) (sym (cond-false (test && not there) None o lost))
+    subst (λ (u : Option (Finding (List ℕ))). IfSome u (P (if test then marking g k else k))) (sym (cond-false (test && not there) None o lost))
     (subst (λ (j : Bookmark). IfSome o (P j)) (sym (cond-true test (marking g k) k hit ∙ same)) h))
     (λ away.
     let lost : (test && not there) ≡ true = ap (λ b. test && not b) away ∙ ap (λ b. b && true) hit in
-    subst (λ (u : Option (List ℕ)). IfSome u (P (if test then marking g k else k))) (sym (cond-true (test && not there) None o lost)) tt))
+    subst (λ (u : Option (Finding (List ℕ))). IfSome u (P (if test then marking g k else k))) (sym (cond-true (test && not there) None o lost)) tt))
     (λ miss.
     let lost : (test && not there) ≡ false = ap (λ b. b && not there) miss in
-    subst (λ (u : Option (List ℕ)). IfSome u (P (if test then marking g k else k))) (sym (cond-false (test && not there) None o lost))
+    subst (λ (u : Option (Finding (List ℕ))). IfSome u (P (if test then marking g k else k))) (sym (cond-false (test && not there) None o lost))
     (subst (λ (j : Bookmark). IfSome o (P j)) (sym (cond-false test (marking g k) k miss)) h))
 
-pub AllKnown-moved : (P : Bookmark → List ℕ → Type 0) (id g : ℕ) (rows : List TextRow) → AllKnown P rows → AllKnown P (map (moved_text id g) rows)
+pub AllKnown-moved : (P : Bookmark → Finding (List ℕ) → Type 0) (id g : ℕ) (rows : List TextRow) → AllKnown P rows → AllKnown P (map (moved_text id g) rows)
 AllKnown-moved P id g [] h = tt
 AllKnown-moved P id g (r ∷ rs) h = (moved_one P id g r.key r.value h.0, AllKnown-moved P id g rs h.1)
 
@@ -159,7 +160,7 @@ value_at-removed id (r ∷ rs) other =
     (λ passed. sym (cond-false (r.key.id == other) (if not test then r.value else None) kept passed)))
     (λ miss.
     ap (value_at (of_id other)) (cond-true (not test) (r ∷ rest) rest (ap not miss))
-    ∙ ap₂ (λ (u o : Option (List ℕ)). if r.key.id == other then u else o) (sym (cond-true (not test) r.value None (ap not miss))) (value_at-removed id rs other))
+    ∙ ap₂ (λ (u o : Option (Finding (List ℕ))). if r.key.id == other then u else o) (sym (cond-true (not test) r.value None (ap not miss))) (value_at-removed id rs other))
   where
     none_kept : (id other : ℕ) (rs : List TextRow) → id ≡ other → kept_by (λ b. not (b.id == id)) rs other ≡ None
     none_kept id other [] same = refl
@@ -169,5 +170,5 @@ value_at-removed id (r ∷ rs) other =
         ∙ cond-false (not (r.key.id == id)) r.value None (ap not (eq_true r.key.id id (true_eq r.key.id other hit ∙ sym same))))
         (λ miss. cond-false (r.key.id == other) (if not (r.key.id == id) then r.value else None) (kept_by (λ b. not (b.id == id)) rs other) miss ∙ none_kept id other rs same)
 
-pub AllKnown-removed : (P : Bookmark → List ℕ → Type 0) (id : ℕ) (rows : List TextRow) → AllKnown P rows → AllKnown P (without_text id rows)
+pub AllKnown-removed : (P : Bookmark → Finding (List ℕ) → Type 0) (id : ℕ) (rows : List TextRow) → AllKnown P rows → AllKnown P (without_text id rows)
 AllKnown-removed P id rows h = each_filter (λ (r : TextRow). IfSome r.value (P r.key)) (λ (r : TextRow). not (r.key.id == id)) rows h

@@ -4,8 +4,9 @@ use Rattle.schedule.specs.declared.document.Intervention.{Intervention}
 use Rattle.schedule.specs.declared.document.Bookmark.{Bookmark}
 use Rattle.schedule.specs.Plan.{Plan}
 use Rattle.schedule.specs.Asked.{Asked, InsertIntervention, ChangeIntervention, RemoveIntervention, SetCells, ReplaceStart, ReplaceRule, AddBookmark, MoveBookmark, RemoveBookmark}
+use Rattle.dependency_book.specs.declared.finding.Finding.TheVariants.{Found}
 use Rattle.dependency_book.specs.Marks.{is_noted}
-use Rattle.dependency_book.specs.Known.{Known, arrival_known, text_known, bookmark_in}
+use Rattle.dependency_book.specs.Known.{Known, arrival_row, text_row, bookmark_in}
 
 -- the generation of the intervention of this id, or 0 where there is none
 abbrev pub generation_of : List Intervention → ℕ → ℕ
@@ -54,12 +55,14 @@ keeps_arrival p asked g = leaves_arrival (felt_from p asked) g
 abbrev pub keeps_text : Plan → Asked → Bookmark → Bool
 keeps_text p asked b = leaves_after (felt_from p asked) b.generation && not (takes asked b)
 
--- what stays known of the text of a bookmark of the document before an edit
-abbrev pub text_kept : Plan → Asked → Option Bookmark → Option (List ℕ) → Option (List ℕ)
-text_kept p asked None text = None
-text_kept p asked (Some b) text = if keeps_text p asked b then text else None
+-- what stays of what stands for a bookmark of the document before an edit
+abbrev pub text_kept : {V : Type 0} → Plan → Asked → Option Bookmark → Option V → Option V
+text_kept p asked None row = None
+text_kept p asked (Some b) row = if keeps_text p asked b then row else None
 
--- what is known after an edit: of the marks above 0 that it leaves the kept arrivals, of the bookmarks that it leaves the kept texts, and nothing else
+-- what stands after an edit, known or out: at the marks above 0 that it leaves what it keeps of the arrivals, for the bookmarks that it leaves what it keeps of the texts, and nothing else
 pub record KeepsRows (asked : Asked) (old new : Known) : Type 0 where
-  pub arrivals : (g : ℕ) → arrival_known new g ≡ (if g == 0 then Some new.plan.start else if is_noted new.plan g && keeps_arrival old.plan asked g then arrival_known old g else None)
-  pub texts : (id : ℕ) → text_known new id ≡ text_kept old.plan asked (bookmark_in old.plan.bookmarks id) (text_known old id)
+  pub table : new.table ≡ old.table
+  pub given : new.given ≡ old.given
+  pub arrivals : (g : ℕ) → arrival_row new g ≡ (if g == 0 then Some (Found new.plan.start) else if is_noted new.plan g && keeps_arrival old.plan asked g then arrival_row old g else None)
+  pub texts : (id : ℕ) → text_row new id ≡ text_kept old.plan asked (bookmark_in old.plan.bookmarks id) (text_row old id)

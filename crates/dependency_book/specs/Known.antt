@@ -1,31 +1,70 @@
--- What a book knows: its document, the worlds that arrive at marks and the texts of bookmarks.
-use Rattle.std.specs.Prelude.{◌≡◌, ℕ, ◌+◌, List, [], ◌∷◌, Option, None, Some, IfSome, count_by, if◌then◌else◌, ◌==◌}
+-- What a book knows: its document, the worlds that arrive at marks and the texts of bookmarks, and which jobs are out for others.
+use Rattle.std.specs.Prelude.{◌≡◌, ℕ, ◌+◌, Bool, not, List, [], ◌∷◌, Option, None, Some, IfSome, count_by, if◌then◌else◌, ◌==◌}
 use Rattle.worlds.specs.World.{World}
 use Rattle.schedule.specs.declared.document.Bookmark.{Bookmark}
-use Rattle.schedule.specs.Plan.{Plan}
+use Rattle.schedule.specs.Plan.{Plan, opening}
+use Rattle.revision_jobs.specs.declared.answer.Job.{Job}
+use Rattle.revision_jobs.specs.declared.entries.Entries.{Entries}
+use Rattle.revision_jobs.specs.Value.{Value, pattern, text}
+use Rattle.dependency_book.specs.declared.finding.Finding.{Finding}
+use Rattle.dependency_book.specs.declared.finding.Finding.TheVariants.{Found}
+use Rattle.dependency_book.specs.declared.need.Need.{Need}
+use Rattle.dependency_book.specs.declared.need.Need.TheVariants.{Step, View}
+use Rattle.dependency_book.specs.Findings.{found, is_found, job_of, finding_map}
 use Rattle.dependency_book.specs.Rows.{ArrivalRow, TextRow, value_at, is_unknown, at_generation, of_id}
 
--- the document, a row for each of its marks above 0, and a row for each of its bookmarks
+-- the table of entries that its jobs are of, the document, how many numbers of jobs were given, a row for each of the document's marks above 0, and a row for each of its bookmarks
 pub record Known : Type 0 where
+  pub table : Entries
   pub plan : Plan
+  pub given : ℕ
   pub arrivals : List ArrivalRow
   pub texts : List TextRow
 
--- the world that arrives at generation g, if it is known; what arrives at 0 is the start
+-- the book of the opening document, of which nothing is known or out
+abbrev pub opened : Entries → ℕ → Known
+opened table revision = record { table = table; plan = opening revision; given = 0; arrivals = []; texts = [] }
+
+-- what stands at generation g; what arrives at 0 is the start
+abbrev pub arrival_row : Known → ℕ → Option (Finding World)
+arrival_row d g = if g == 0 then Some (Found d.plan.start) else value_at (at_generation g) d.arrivals
+
+-- what stands for the bookmark of this id
+abbrev pub text_row : Known → ℕ → Option (Finding (List ℕ))
+text_row d id = value_at (of_id id) d.texts
+
+-- the world that arrives at generation g, if it is known
 abbrev pub arrival_known : Known → ℕ → Option World
-arrival_known d g = if g == 0 then Some d.plan.start else value_at (at_generation g) d.arrivals
+arrival_known d g = found (arrival_row d g)
 
 -- the text of the bookmark of this id, if it is known
 abbrev pub text_known : Known → ℕ → Option (List ℕ)
-text_known d id = value_at (of_id id) d.texts
+text_known d id = found (text_row d id)
+
+-- what stands in the row that a need names
+abbrev pub row_of : Known → Need → Option (Finding Value)
+row_of d (Step mark) = finding_map pattern (arrival_row d mark)
+row_of d (View id) = finding_map text (text_row d id)
+
+-- the job that is out for it, if one is
+abbrev pub expected : Known → Need → Option Job
+expected d need = job_of (row_of d need)
+
+-- no job is out
+abbrev pub NothingOut : Known → Type 0
+NothingOut d = (need : Need) → expected d need ≡ None
+
+-- whether the text of a bookmark isn't known
+abbrev pub is_pending : TextRow → Bool
+is_pending r = not (is_found r.value)
 
 -- how many texts aren't known
 abbrev pub pending_of : Known → ℕ
-pending_of d = count_by is_unknown d.texts
+pending_of d = count_by is_pending d.texts
 
--- how many rows aren't known
-abbrev pub unknown_of : Known → ℕ
-unknown_of d = count_by is_unknown d.arrivals + count_by is_unknown d.texts
+-- in how many rows nothing stands
+abbrev pub wanting_of : Known → ℕ
+wanting_of d = count_by is_unknown d.arrivals + count_by is_unknown d.texts
 
 -- each text that was known still is
 abbrev pub KeepsTexts : Known → Known → Type 0

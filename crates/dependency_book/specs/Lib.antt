@@ -6,7 +6,9 @@ pub mod Kept
 pub mod Touch
 pub mod Needs
 pub mod Shown
-pub mod Laid
 pub mod Rearranged
 pub mod Places
-pub mod Wants
+pub mod Findings
+pub mod Entered
+pub mod Jobs
+pub mod Puts

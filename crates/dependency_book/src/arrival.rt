@@ -1,9 +1,8 @@
 //! Patterns that arrive at marks.
-ghost use Rattle.std.specs.Prelude.{◌≡◌, IfOk};
+ghost use Rattle.std.specs.Prelude.{◌≡◌};
 ghost use Rattle.std.specs.Arc.{arc_value};
 
 use schedule::Plane;
-use std::alloc::{AllocError, Global};
 use std::marker::Model;
 use std::sync::Arc;
 
@@ -26,17 +25,14 @@ impl Model for Arrival {
 }
 
 impl Arrival {
-    /// Shares a pattern.
-    pub(crate) fn share(alloc: Global, plane: Plane) -> Result<Arrival, AllocError>
-        ensures { IfOk result (λ arrival. arrival ≡ plane) }
+    /// The arrival of a pattern.
+    pub(crate) fn of(plane: Arc<Plane>) -> Arrival
+        ensures { result ≡ arc_value plane }
     {
-        Ok(Arrival {
-            plane: Arc::new(alloc, plane)?,
-        })
+        Arrival { plane }
     }
 
     /// The pattern.
-
     pub(crate) fn plane(&self) -> &Arc<Plane>
         ensures { arc_value result.now ≡ self.now }
     {

@@ -1,28 +1,32 @@
 //! The book.
-ghost use Rattle.std.specs.Prelude.{◌≡◌, ◌≤◌, IfOk, IfNone, length, []};
-ghost use Rattle.schedule.specs.Plan.{opening};
-ghost use Rattle.dependency_book.specs.Known.{pending_of};
+ghost use Rattle.std.specs.Prelude.{◌≡◌, ◌≤◌, ◌+◌, IfOk, IfNone, IfSome, None, length};
+ghost use Rattle.dependency_book.specs.Known.{opened, row_of, pending_of, wanting_of, NothingOut};
 ghost use Rattle.dependency_book.specs.Needs.{next_need};
 ghost use Rattle.dependency_book.specs.Shown.{Shows};
 
+use crate::finding::found;
 use crate::marks::ArrivalRow;
 use crate::need::{Need, next_step, next_view};
 use crate::shown::Shown;
-use crate::texts::{TextRow, unknown_count};
+use crate::texts::{TextRow, pending_count};
+use revision_jobs::Entries;
 use schedule::Document;
 use std::alloc::{AllocError, Global};
 use std::marker::Model;
 
-/// A document, what is known to arrive at its marks, and the texts of its bookmarks that are known.
+/// A document, what is known to arrive at its marks, the texts of its bookmarks that are known, and
+/// the jobs of a table of entries that are out for others.
 #[derive(Drop)]
-pub struct Book {
+pub struct Book<'e> {
+    pub(crate) entries: &'e Entries,
     pub(crate) document: Document,
+    pub(crate) given: u32,
     pub(crate) arrivals: Vec<ArrivalRow>,
     pub(crate) texts: Vec<TextRow>,
     pub(crate) alloc: Global,
 }
 
-impl Model for Book {
+impl<'e> Model for Book<'e> {
     ghost use Rattle.std.specs.Coded.{codes};
     ghost use Rattle.worlds.specs.World.{coded_world};
     ghost use Rattle.dependency_book.specs.Known.{Known};
@@ -33,19 +37,32 @@ impl Model for Book {
 
     ghost use Rattle.dependency_book.specs.Right.{IsRight};
 
-    ghost view = { λ book. record { plan = book.document; arrivals = book.arrivals.items; texts = book.texts.items } };
+    ghost view = { λ book. record {
+      table = book.entries.now;
+      plan = book.document;
+      given = book.given;
+      arrivals = book.arrivals.items;
+      texts = book.texts.items;
+    } };
 
-    ghost invariant = { λ book. IsRight (record { plan = book.document; arrivals = book.arrivals.items; texts = book.texts.items }) };
+    ghost invariant = { λ book. IsRight (record {
+      table = book.entries.now;
+      plan = book.document;
+      given = book.given;
+      arrivals = book.arrivals.items;
+      texts = book.texts.items;
+    }) };
 }
 
-impl Book {
-    /// A book of the opening document at a revision.
-    pub fn open(alloc: Global, revision: u64) -> Result<Book, AllocError>
-        ensures { IfOk result (λ book.
-            book ≡ record { plan = opening revision; arrivals = []; texts = [] }) }
+impl<'e> Book<'e> {
+    /// A book of the opening document at a revision, whose jobs are of this table.
+    pub fn open(alloc: Global, entries: &'e Entries, revision: u64) -> Result<Book<'e>, AllocError>
+        ensures { IfOk result (λ book. book ≡ opened entries.now revision) }
     {
         Ok(Book {
+            entries,
             document: Document::opening(alloc, revision)?,
+            given: 0,
             arrivals: Vec::new(alloc),
             texts: Vec::new(alloc),
             alloc,
@@ -66,7 +83,7 @@ impl Book {
     {
         for row in &self.texts {
             if row.key.id == id {
-                return match &row.value {
+                return match found(&row.value) {
                     Some(text) => Shown::Current(text.as_slice()),
                     None => Shown::Pending,
                 };
@@ -79,23 +96,28 @@ impl Book {
     pub fn pending(&self) -> u32
         ensures count { result ≡ pending_of self.now }
         ensures bound { result ≤ length self.now.plan.bookmarks }
+        ensures none { NothingOut self.now → wanting_of self.now ≡ 0 → result ≡ 0 }
+        ensures few { length self.now.arrivals + length self.now.texts ≤ 12288 }
     {
         // A document has few enough bookmarks.
         let _bookmarks = self.document.bookmarks();
-        unknown_count(&self.texts) as u32
+        pending_count(&self.texts) as u32
     }
 
-    /// What has to be computed next: the first bookmark, by rising id, whose text isn't known where
-    /// what arrives at its generation is; or else the first mark that a bookmark is at or above, at
-    /// which the arrival isn't known where that at the mark before it is. None where every text is
-    /// known, and where only arrivals above every bookmark aren't.
+    /// What has to be computed next, and no job is out for: the first bookmark, by rising id, whose
+    /// text isn't known where what arrives at its generation is; or else the first mark that a
+    /// bookmark is at or above, at which the arrival isn't known where that at the mark before it
+    /// is. None where every text is known, where only arrivals above every bookmark aren't, and
+    /// where all that is needed waits for jobs that are out.
     pub fn next_need(&self) -> Option<Need>
         ensures need { result ≡ next_need self.now }
-        ensures settled { IfNone result (pending_of self.now ≡ 0) }
+        ensures empty { IfSome result (λ need. row_of self.now need ≡ None) }
+        ensures settled { IfNone result (NothingOut self.now → pending_of self.now ≡ 0) }
     {
+        let bookmarks = self.document.bookmarks();
         match next_view(&self.arrivals, &self.texts) {
             Some(need) => Some(need),
-            None => next_step(self.document.bookmarks(), &self.arrivals),
+            None => next_step(bookmarks, &self.arrivals),
         }
     }
 }

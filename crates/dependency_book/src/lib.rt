@@ -7,15 +7,19 @@
 //! that the document's history has at that mark, and a known text is the one that a fresh
 //! computation gives. An edit keeps exactly the rows that it doesn't touch.
 //!
-//! An edit costs a search and one pass over the rows; `compute` costs the generations from one mark
-//! to the next, or one text.
+//! What isn't known is computed by jobs, in any order and by anybody: a row expects the job that is
+//! out for it, and takes what its answer says, whatever edits that keep the row were made meanwhile.
+//! An answer that no row expects changes nothing.
+//!
+//! An edit and an answer each cost a search and one pass over the rows. Nothing is computed here.
 #![tactic(auto)]
 
 mod arrival;
 mod book;
-mod compute;
-mod history;
-mod laid;
+mod entered;
+mod filled;
+mod finding;
+mod jobs;
 mod mark;
 mod marks;
 mod need;
@@ -26,8 +30,10 @@ mod texts;
 mod touch;
 
 pub use book::Book;
+pub use filled::Filled;
 pub use mark::Mark;
 pub use need::Need;
+pub use revision_jobs::{Answer, Entries, Entry, Job, Outcome, Place};
 pub use schedule::{
     Bookmark, CellSet, Document, Edit, EditFault, Edited, EvolveFault, Listing, Plane, Refusal,
     Rule, RuleFault, View,

@@ -3,28 +3,31 @@ ghost use Rattle.std.specs.Prelude.{◌≡◌, ◌<◌, ◌==◌, MatchOption, v
 ghost use Rattle.std.specs.Arc.{arc_value};
 ghost use Rattle.std.specs.List.{list_any};
 ghost use Rattle.schedule.specs.Scratch.{acts_at};
-ghost use Rattle.dependency_book.specs.Rows.{forget, forgotten, value_at, at_generation};
+ghost use Rattle.dependency_book.specs.Findings.{found};
+ghost use Rattle.dependency_book.specs.Rows.{forget, forgotten, put, value_at, at_generation};
 ghost use Rattle.dependency_book.specs.Marks.{is_noted, stands_at};
 ghost use Rattle.dependency_book.specs.Rearranged.{above, rows_below, with_mark, without_mark};
 
 use crate::arrival::Arrival;
+use crate::finding::{Finding, found};
 use crate::mark::Mark;
 use crate::row::Row;
 use schedule::{Bookmark, Document, Intervention, Plane};
 use std::sync::Arc;
 
-/// A mark with what arrives there, if it is known.
+/// A mark with what arrives there, or the job that is out for it.
 pub(crate) type ArrivalRow = Row<Mark, Arrival>;
 
 /// What is known to arrive at a mark above 0.
 pub(crate) fn arrival_in(rows: &[ArrivalRow], generation: u64) -> Option<&Arc<Plane>>
     ensures { MatchOption result
-        (value_at (at_generation generation) rows.now ≡ None)
-        (λ plane. value_at (at_generation generation) rows.now ≡ Some (arc_value plane.now)) }
+        (found (value_at (at_generation generation) rows.now) ≡ None)
+        (λ plane. found (value_at (at_generation generation) rows.now)
+        ≡ Some (arc_value plane.now)) }
 {
     for row in rows {
         if row.key.generation == generation {
-            return match &row.value {
+            return match found(&row.value) {
                 Some(arrival) => Some(arrival.plane()),
                 None => None,
             };
@@ -68,6 +71,18 @@ pub(crate) fn place_for(rows: &[ArrivalRow], generation: u64) -> usize
         }
     }
     rows.len()
+}
+
+/// Puts what is known, or out, in the row of a mark.
+pub(crate) fn put_arrival(rows: &mut [ArrivalRow], mark: u64, finding: Option<Finding<Arrival>>)
+    ensures { rows.new ≡ put (at_generation mark) finding rows.old }
+{
+    for row in rows.iter_mut() {
+        if row.key.generation == mark {
+            row.value = finding;
+            return;
+        }
+    }
 }
 
 /// Adds a mark at which nothing is known, unless it is there. There is room for it.

@@ -3,11 +3,12 @@ ghost use Rattle.std.specs.Prelude.{◌≡◌, true};
 ghost use Rattle.dependency_book.specs.Needs.{has_arrival, can_view, next_view};
 ghost use Rattle.dependency_book.specs.Needs.{is_awaited, can_step, next_step};
 
+use crate::finding::is_found;
 use crate::marks::{ArrivalRow, arrival_in};
 use crate::texts::TextRow;
 use schedule::Bookmark;
 
-/// What a book computes next.
+/// What a book wants computed.
 #[derive(Clone, Copy, Debug, PartialEq, Eq)]
 pub enum Need {
     /// The pattern that arrives at this mark, from what is known to arrive at the mark before it.
@@ -23,14 +24,14 @@ fn has_arrival(arrivals: &[ArrivalRow], generation: u64) -> bool
     generation == 0 || arrival_in(arrivals, generation).is_some()
 }
 
-// Whether the text of a bookmark isn't known where what arrives at its generation is.
+// Whether the text of a bookmark isn't known or out where what arrives at its generation is known.
 fn can_view(arrivals: &[ArrivalRow], row: &TextRow) -> bool
     ensures { result ≡ can_view arrivals.now row.now }
 {
     row.value.is_none() && has_arrival(arrivals, row.key.generation)
 }
 
-/// The first text that isn't known where what arrives at its generation is.
+/// The first text that isn't known or out where what arrives at its generation is known.
 pub(crate) fn next_view(arrivals: &[ArrivalRow], texts: &[TextRow]) -> Option<Need>
     ensures { result ≡ next_view arrivals.now texts.now }
 {
@@ -51,16 +52,16 @@ fn is_awaited(bookmarks: &[Bookmark], generation: u64) -> bool
         .any(|bookmark| generation <= bookmark.generation)
 }
 
-// Whether a bookmark is at a mark or above it, at which nothing is known where something is at the
-// mark before it.
+// Whether a bookmark is at a mark or above it, at which nothing is known or out where what arrives
+// at the mark before it is known.
 fn can_step(bookmarks: &[Bookmark], before: bool, row: &ArrivalRow) -> bool
     ensures { result ≡ can_step bookmarks.now before row.now }
 {
     before && (row.value.is_none() && is_awaited(bookmarks, row.key.generation))
 }
 
-/// The first mark that a bookmark is at or above, at which nothing is known where something is at
-/// the mark before it.
+/// The first mark that a bookmark is at or above, at which nothing is known or out where what
+/// arrives at the mark before it is known.
 pub(crate) fn next_step(bookmarks: &[Bookmark], arrivals: &[ArrivalRow]) -> Option<Need>
     ensures { result ≡ next_step bookmarks.now true arrivals.now }
 {
@@ -71,7 +72,7 @@ pub(crate) fn next_step(bookmarks: &[Bookmark], arrivals: &[ArrivalRow]) -> Opti
                 mark: row.key.generation,
             });
         }
-        before = row.value.is_some();
+        before = is_found(&row.value);
     }
     None
 }

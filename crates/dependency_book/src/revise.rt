@@ -12,9 +12,12 @@ use crate::texts::{TextRow, drop_text, forget_from, move_text};
 use crate::touch::{Rekeyed, touch_of};
 use schedule::{Bookmark, Document, Edit, EditFault, Edited};
 
-impl Book {
+impl Book<'_> {
     /// Makes the change that the edit asks for and forgets exactly what the edit touches, or
     /// refuses it and changes nothing.
+    ///
+    /// What an edit keeps is what is known in a row, or the job that is out for it: a row that it
+    /// touches knows nothing afterwards and expects nothing.
     ///
     /// An edit of interventions keeps what arrives at marks up to the lesser of the generations
     /// that it names and changes, and the texts of bookmarks below that. An edit of bookmarks keeps

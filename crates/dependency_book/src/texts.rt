@@ -1,12 +1,14 @@
 //! The rows of bookmarks.
 ghost use Rattle.std.specs.Prelude.{◌≡◌, map, count_by};
-ghost use Rattle.dependency_book.specs.Rows.{forget, forgotten, is_unknown};
+ghost use Rattle.dependency_book.specs.Known.{is_pending};
+ghost use Rattle.dependency_book.specs.Rows.{forget, forgotten, put, of_id};
 ghost use Rattle.dependency_book.specs.Rearranged.{at_or_above, rows_before, moved_text, without_text};
 
+use crate::finding::{Finding, is_found};
 use crate::row::Row;
 use schedule::{Bookmark, Listing};
 
-/// A bookmark with its text, if it is known.
+/// A bookmark with its text, or the job that is out for it.
 pub(crate) type TextRow = Row<Bookmark, Listing<u8>>;
 
 /// How many rows stand before the one of an id.
@@ -21,11 +23,36 @@ pub(crate) fn place_of(rows: &[TextRow], id: u64) -> usize
     rows.len()
 }
 
-/// How many of the texts aren't known.
-pub(crate) fn unknown_count(rows: &[TextRow]) -> usize
-    ensures { result ≡ count_by is_unknown rows.now }
+/// Puts what is known, or out, in the row of a bookmark.
+pub(crate) fn put_text(rows: &mut [TextRow], id: u64, finding: Option<Finding<Listing<u8>>>)
+    ensures { rows.new ≡ put (of_id id) finding rows.old }
 {
-    rows.iter().filter(|row| row.value.is_none()).count()
+    for row in rows.iter_mut() {
+        if row.key.id == id {
+            row.value = finding;
+            return;
+        }
+    }
+}
+
+// Whether the text of a bookmark isn't known.
+fn is_pending(row: &TextRow) -> bool
+    ensures { result ≡ is_pending row.now }
+{
+    !is_found(&row.value)
+}
+
+/// How many of the texts aren't known.
+pub(crate) fn pending_count(rows: &[TextRow]) -> usize
+    ensures { result ≡ count_by is_pending rows.now }
+{
+    let mut count = 0;
+    for row in rows {
+        if is_pending(row) {
+            count += 1;
+        }
+    }
+    count
 }
 
 // Forgets the text of a bookmark at a generation or above it.

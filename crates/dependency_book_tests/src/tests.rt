@@ -1,17 +1,17 @@
-//! Worked books, with what they know.
-use dependency_book::{Book, CellSet, Edit, Edited, EvolveFault, Listing, Need, Rule, Shown, View};
+//! Worked books, with what they know and what is out.
+mod bench;
+
+use bench::{Act, Bench};
+use dependency_book::{CellSet, Edit, Entries, EvolveFault, Filled, Listing, Need, Rule};
 use std::alloc::Global;
 use std::fmt::Debug;
 use std::process::Abort;
-use std::sync::Arc;
+use std::sync::{Arc, Wait};
 
 // A cell is 1 next where exactly one of its neighbours is. Two of the eight cases are left to the
 // cell's own state.
 const X: &[u8] =
     b"@RULE X\n@TABLE\nn_states:2\nneighborhood:oneDimensional\nsymmetries:none\n0,1,0,1\n0,0,1,1\n1,0,0,0\n1,1,1,0\n";
-
-// How many squares an engine may hold.
-const SQUARES: u32 = 4096;
 
 /// Stops the test where what was found isn't what was wanted.
 fn same<T: PartialEq + Debug, A: Debug>(rt: &impl Abort, found: &T, wanted: &T, at: &A) {
@@ -31,176 +31,287 @@ fn rule_x(rt: &impl Abort, alloc: Global) -> Edit {
     Edit::ReplaceRule(Arc::new(alloc, rule).expect(rt, "memory"))
 }
 
-fn mark(generation: u64) -> Edit {
-    Edit::AddBookmark {
-        generation,
-        view: View::Counts,
+/// Does these acts, and then those, in a book of the opening document.
+fn play<R: Abort + Wait>(rt: &R, alloc: Global, before: &[Act], acts: &[Act]) {
+    let entries = Entries::new(alloc).expect(rt, "memory");
+    let mut bench = Bench::open(rt, alloc, &entries);
+    for act in before {
+        bench.act(rt, act);
+    }
+    for act in acts {
+        bench.act(rt, act);
     }
 }
 
-fn revise(rt: &impl Abort, book: &mut Book, edit: &Edit) -> Edited {
-    book.revise(edit).expect(rt, "an accepted edit")
-}
+// A settled book with counts at 2, 8 and 20. One cell is two after 2 and after 8 generations, and
+// four after 16 + 4.
+const SETTLED: &[Act] = &[
+    Act::Start,
+    Act::Mark(2),
+    Act::Mark(8),
+    Act::Mark(20),
+    Act::Settle(6),
+    Act::Shows(1, "1 2\n"),
+    Act::Shows(2, "1 2\n"),
+    Act::Shows(3, "1 4\n"),
+];
 
-/// Computes what is needed next, if anything is. Where memory is wanted it is needed still.
-fn compute_next(rt: &impl Abort, book: &mut Book) {
-    if let Some(need) = book.next_need() {
-        if let Err(fault) = book.compute(&need, SQUARES) {
-            same(rt, &fault, &EvolveFault::NoMemory, &need);
-            same(rt, &book.next_need(), &Some(need), &"still needed");
-            panic!(rt; "memory");
-        }
-    }
-}
+const OPENED: &[Act] = &[
+    Act::Revision(7),
+    Act::Next(None),
+    Act::Lacks(1),
+    Act::Mark(0),
+    Act::Compute(Need::View { id: 1 }),
+    Act::Shows(1, "empty\n"),
+];
 
-/// Computes all that is needed: at most so many rows.
-fn settle(rt: &impl Abort, book: &mut Book, rows: u32) {
-    for _ in 0..rows {
-        compute_next(rt, book);
-    }
-    same(rt, &book.next_need(), &None, &"settled");
-    same(rt, &book.pending(), &0, &"settled");
-}
+const VIEWS_BEFORE_STEPS: &[Act] = &[
+    Act::Start,
+    Act::Mark(2),
+    Act::Mark(1),
+    Act::Insert {
+        generation: 3,
+        x: 0,
+    },
+    Act::Compute(Need::Step { mark: 1 }),
+    Act::Compute(Need::View { id: 2 }),
+    Act::Compute(Need::Step { mark: 2 }),
+    Act::Compute(Need::View { id: 1 }),
+    // No bookmark waits for what arrives at the intervention.
+    Act::Next(None),
+    Act::Shows(1, "1 2\n"),
+    Act::Shows(2, "1 2\n"),
+];
 
-/// Stops the test where something else is needed next, and computes it.
-fn expect_need(rt: &impl Abort, book: &mut Book, need: Need) {
-    same(rt, &book.next_need(), &Some(need), &need);
-    compute_next(rt, book);
-}
+const INSERTED: &[Act] = &[
+    Act::Insert {
+        generation: 8,
+        x: 1,
+    },
+    Act::Shows(1, "1 2\n"),
+    Act::Waits(2),
+    Act::Waits(3),
+    Act::Pending(2),
+    // What arrives at 8 is still known.
+    Act::Compute(Need::View { id: 2 }),
+    Act::Compute(Need::Step { mark: 20 }),
+    Act::Compute(Need::View { id: 3 }),
+    // The cells -8, 1 and 8 at 8 are four each at 20, of which two pairs meet.
+    Act::Shows(2, "1 3\n"),
+    Act::Shows(3, "1 8\n"),
+];
 
-/// Stops the test where the bookmark isn't shown with the text.
-fn expect_text(rt: &impl Abort, book: &Book, id: u64, wanted: &str) {
-    match book.shown(id) {
-        Shown::Current(text) => same(rt, &text, &wanted.as_bytes(), &id),
-        Shown::Pending => panic!(rt; "bookmark {id} is pending"),
-        Shown::NoSuch => panic!(rt; "there is no bookmark {id}"),
-    }
-}
+const CHANGED: &[Act] = &[
+    Act::Insert {
+        generation: 8,
+        x: 1,
+    },
+    Act::Settle(3),
+    Act::Change {
+        id: 1,
+        generation: 20,
+        x: 1,
+    },
+    Act::Shows(1, "1 2\n"),
+    Act::Waits(2),
+    Act::Waits(3),
+    Act::Next(Some(Need::View { id: 2 })),
+];
 
-fn expect_pending(rt: &impl Abort, book: &Book, id: u64) {
-    same(rt, &book.shown(id), &Shown::Pending, &id);
-}
+const MOVED: &[Act] = &[
+    Act::Insert {
+        generation: 8,
+        x: 1,
+    },
+    Act::Settle(3),
+    Act::Move {
+        id: 1,
+        generation: 4,
+    },
+    Act::Waits(1),
+    Act::Pending(1),
+    Act::Move {
+        id: 1,
+        generation: 4,
+    },
+    Act::Compute(Need::Step { mark: 4 }),
+    Act::Compute(Need::View { id: 1 }),
+    Act::Shows(1, "1 2\n"),
+    Act::Move {
+        id: 1,
+        generation: 4,
+    },
+    Act::Shows(1, "1 2\n"),
+    Act::Unmark(2),
+    Act::Pending(0),
+    Act::Lacks(2),
+];
 
-fn insert(rt: &impl Abort, alloc: Global, generation: u64, x: i64) -> Edit {
-    Edit::InsertIntervention {
-        generation,
-        cells: cell(rt, alloc, x),
-    }
-}
+// At generation 1 the cells (-1, 0) and (1, 0) are live; with (0, 0) they are three.
+const AFTER_INTERVENTIONS: &[Act] = &[
+    Act::Mark(1),
+    Act::Insert {
+        generation: 1,
+        x: 0,
+    },
+    Act::Settle(8),
+    Act::Shows(4, "1 3\n"),
+    Act::Remove(1),
+    Act::Waits(4),
+    Act::Settle(8),
+    Act::Shows(4, "1 2\n"),
+    Act::Shows(1, "1 2\n"),
+];
 
-/// A settled book with the rule X, the cell (0, 0) in state 1 and counts at 2, 8 and 20.
-fn book_of_x(rt: &impl Abort, alloc: Global) -> Book {
-    let mut book = Book::open(alloc, 0).expect(rt, "memory");
-    revise(rt, &mut book, &rule_x(rt, alloc));
-    let cells = cell(rt, alloc, 0);
-    revise(rt, &mut book, &Edit::SetCells { cells });
-    revise(rt, &mut book, &mark(2));
-    revise(rt, &mut book, &mark(8));
-    revise(rt, &mut book, &mark(20));
-    settle(rt, &mut book, 6);
-    book
-}
+const FILLED_LATE: &[Act] = &[
+    Act::Insert {
+        generation: 8,
+        x: 1,
+    },
+    Act::Compute(Need::View { id: 2 }),
+    Act::Issue(Need::Step { mark: 20 }),
+    Act::Next(None),
+    Act::FirstOut(Some(7)),
+    // A bookmark between leaves what is out.
+    Act::Mark(12),
+    Act::FirstOut(Some(7)),
+    Act::Fill(Filled::Row),
+    Act::FirstOut(None),
+    Act::Settle(3),
+];
+
+const DROPPED: &[Act] = &[
+    Act::Insert {
+        generation: 8,
+        x: 1,
+    },
+    Act::Issue(Need::View { id: 2 }),
+    // An intervention before takes what is out.
+    Act::Insert {
+        generation: 2,
+        x: 0,
+    },
+    Act::FirstOut(None),
+    Act::Fill(Filled::NotExpected),
+    Act::Waits(2),
+    Act::Settle(8),
+];
+
+const FILLED_TWICE: &[Act] = &[
+    Act::Mark(0),
+    Act::Issue(Need::View { id: 4 }),
+    Act::Fill(Filled::Row),
+    Act::Fill(Filled::NotExpected),
+    Act::Shows(4, "1 1\n"),
+];
+
+const STRAYED: &[Act] = &[
+    Act::Mark(2),
+    Act::Mark(8),
+    Act::Issue(Need::View { id: 4 }),
+    Act::Stray(Need::View { id: 5 }),
+    Act::Fill(Filled::NotExpected),
+    Act::FirstOut(Some(6)),
+    Act::Waits(4),
+    Act::Next(Some(Need::View { id: 5 })),
+];
+
+const FORGOTTEN: &[Act] = &[
+    Act::Mark(0),
+    Act::Issue(Need::View { id: 4 }),
+    Act::Forget(true),
+    Act::Forget(false),
+    Act::Fill(Filled::NotExpected),
+    Act::Next(Some(Need::View { id: 4 })),
+];
+
+const NUMBERED: &[Act] = &[
+    Act::Given(6),
+    Act::FirstOut(None),
+    Act::Mark(2),
+    Act::Mark(5),
+    Act::Issue(Need::View { id: 4 }),
+    Act::Issue(Need::Step { mark: 5 }),
+    Act::Given(8),
+    Act::FirstOut(Some(6)),
+    Act::Fill(Filled::Row),
+    Act::FirstOut(Some(6)),
+    Act::Pending(2),
+    Act::Compute(Need::View { id: 5 }),
+    Act::Pending(1),
+    Act::Next(None),
+];
+
+const STOPPED: &[Act] = &[
+    Act::Mark(5),
+    Act::Stop(Need::Step { mark: 5 }),
+    Act::Next(None),
+    Act::Fill(Filled::Released(EvolveFault::Stopped)),
+    Act::FirstOut(None),
+    Act::Next(Some(Need::Step { mark: 5 })),
+];
 
 #[test]
 fn opens(rt: HostRuntime) {
-    let mut book = Book::open(rt.alloc(), 7).expect(&rt, "memory");
-    same(&rt, &book.document().revision(), &7, &"revision");
-    same(&rt, &book.next_need(), &None, &"nothing");
-    same(&rt, &book.shown(1), &Shown::NoSuch, &"nothing");
-    revise(&rt, &mut book, &mark(0));
-    expect_need(&rt, &mut book, Need::View { id: 1 });
-    expect_text(&rt, &book, 1, "empty\n");
+    play(&rt, rt.alloc(), &[], OPENED);
 }
 
 #[test]
 fn views_come_before_steps(rt: HostRuntime) {
-    let alloc = rt.alloc();
-    let mut book = Book::open(alloc, 0).expect(&rt, "memory");
-    revise(&rt, &mut book, &rule_x(&rt, alloc));
-    let cells = cell(&rt, alloc, 0);
-    revise(&rt, &mut book, &Edit::SetCells { cells });
-    revise(&rt, &mut book, &mark(2));
-    revise(&rt, &mut book, &mark(1));
-    revise(&rt, &mut book, &insert(&rt, alloc, 3, 0));
-    expect_need(&rt, &mut book, Need::Step { mark: 1 });
-    expect_need(&rt, &mut book, Need::View { id: 2 });
-    expect_need(&rt, &mut book, Need::Step { mark: 2 });
-    expect_need(&rt, &mut book, Need::View { id: 1 });
-    // No bookmark waits for what arrives at the intervention.
-    same(&rt, &book.next_need(), &None, &"settled");
-    expect_text(&rt, &book, 1, "1 2\n");
-    expect_text(&rt, &book, 2, "1 2\n");
+    play(&rt, rt.alloc(), &[], VIEWS_BEFORE_STEPS);
 }
 
 #[test]
 fn inserted_intervention_touches_what_is_later(rt: HostRuntime) {
-    let alloc = rt.alloc();
-    let mut book = book_of_x(&rt, alloc);
-    revise(&rt, &mut book, &insert(&rt, alloc, 8, 1));
-    expect_text(&rt, &book, 1, "1 2\n");
-    expect_pending(&rt, &book, 2);
-    expect_pending(&rt, &book, 3);
-    same(&rt, &book.pending(), &2, &"pending");
-    // What arrives at 8 is still known.
-    expect_need(&rt, &mut book, Need::View { id: 2 });
-    expect_need(&rt, &mut book, Need::Step { mark: 20 });
-    expect_need(&rt, &mut book, Need::View { id: 3 });
+    play(&rt, rt.alloc(), SETTLED, INSERTED);
 }
 
 #[test]
 fn changed_intervention_touches_from_the_lesser_generation(rt: HostRuntime) {
-    let alloc = rt.alloc();
-    let mut book = book_of_x(&rt, alloc);
-    revise(&rt, &mut book, &insert(&rt, alloc, 8, 1));
-    settle(&rt, &mut book, 3);
-    let changed = Edit::ChangeIntervention {
-        id: 1,
-        generation: 20,
-        cells: cell(&rt, alloc, 1),
-    };
-    revise(&rt, &mut book, &changed);
-    expect_text(&rt, &book, 1, "1 2\n");
-    expect_pending(&rt, &book, 2);
-    expect_pending(&rt, &book, 3);
-    same(&rt, &book.next_need(), &Some(Need::View { id: 2 }), &"kept");
+    play(&rt, rt.alloc(), SETTLED, CHANGED);
 }
 
 #[test]
 fn moved_bookmark_alone_is_pending(rt: HostRuntime) {
-    let alloc = rt.alloc();
-    let mut book = book_of_x(&rt, alloc);
-    revise(&rt, &mut book, &insert(&rt, alloc, 8, 1));
-    settle(&rt, &mut book, 3);
-    let moved = Edit::MoveBookmark {
-        id: 1,
-        generation: 4,
-    };
-    revise(&rt, &mut book, &moved);
-    expect_pending(&rt, &book, 1);
-    same(&rt, &book.pending(), &1, &"pending");
-    revise(&rt, &mut book, &moved);
-    expect_need(&rt, &mut book, Need::Step { mark: 4 });
-    expect_need(&rt, &mut book, Need::View { id: 1 });
-    expect_text(&rt, &book, 1, "1 2\n");
-    revise(&rt, &mut book, &moved);
-    expect_text(&rt, &book, 1, "1 2\n");
-    revise(&rt, &mut book, &Edit::RemoveBookmark { id: 2 });
-    same(&rt, &book.pending(), &0, &"pending");
-    same(&rt, &book.shown(2), &Shown::NoSuch, &"removed");
+    play(&rt, rt.alloc(), SETTLED, MOVED);
 }
 
-// At generation 1 the cells (-1, 0) and (1, 0) are live; with (0, 0) they are three.
 #[test]
 fn bookmark_shows_after_its_interventions(rt: HostRuntime) {
-    let alloc = rt.alloc();
-    let mut book = book_of_x(&rt, alloc);
-    revise(&rt, &mut book, &mark(1));
-    revise(&rt, &mut book, &insert(&rt, alloc, 1, 0));
-    settle(&rt, &mut book, 8);
-    expect_text(&rt, &book, 4, "1 3\n");
-    revise(&rt, &mut book, &Edit::RemoveIntervention { id: 1 });
-    expect_pending(&rt, &book, 4);
-    settle(&rt, &mut book, 8);
-    expect_text(&rt, &book, 4, "1 2\n");
-    expect_text(&rt, &book, 1, "1 2\n");
+    play(&rt, rt.alloc(), SETTLED, AFTER_INTERVENTIONS);
+}
+
+#[test]
+fn answer_fills_across_an_added_bookmark(rt: HostRuntime) {
+    play(&rt, rt.alloc(), SETTLED, FILLED_LATE);
+}
+
+#[test]
+fn earlier_intervention_drops_what_is_out(rt: HostRuntime) {
+    play(&rt, rt.alloc(), SETTLED, DROPPED);
+}
+
+#[test]
+fn second_answer_is_not_expected(rt: HostRuntime) {
+    play(&rt, rt.alloc(), SETTLED, FILLED_TWICE);
+}
+
+#[test]
+fn answer_from_another_place_is_not_expected(rt: HostRuntime) {
+    play(&rt, rt.alloc(), SETTLED, STRAYED);
+}
+
+#[test]
+fn job_is_forgotten_once(rt: HostRuntime) {
+    play(&rt, rt.alloc(), SETTLED, FORGOTTEN);
+}
+
+#[test]
+fn numbers_rise_and_the_first_out_is_the_least(rt: HostRuntime) {
+    play(&rt, rt.alloc(), SETTLED, NUMBERED);
+}
+
+#[test]
+fn stopped_job_is_released(rt: HostRuntime) {
+    play(&rt, rt.alloc(), SETTLED, STOPPED);
 }

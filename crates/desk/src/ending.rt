@@ -12,7 +12,7 @@ pub enum Ending {
     Done,
     /// The command line was refused, which was told.
     Refused,
-    /// A device failed, or there was no memory for the words or for a desk.
+    /// A device failed, or there was no memory for the words, for a table of entries or for a desk.
     Failed(RunFault),
 }
 

@@ -1,8 +1,9 @@
 //! The program `desk`: answers the script on standard input on standard output.
 //!
-//! It reads its words, opens a desk and answers the script, in that order, so that of several
-//! faults the first in that order is told. How it ends is an `Ending`, and each ending has one
-//! status and one text, which are proved. Memory is taken for the words and then as the desk says.
+//! It reads its words, opens a table of entries and a desk and answers the script, in that order,
+//! so that of several faults the first in that order is told. How it ends is an `Ending`, and each
+//! ending has one status and one text, which are proved. Memory is taken for the words, for the
+//! table, and then as the desk says.
 #![tactic(auto)]
 
 ghost use Rattle.std.specs.Prelude.{◌≡◌};
@@ -23,6 +24,7 @@ use std::{env, io};
 fn main(rt: HostRuntime) -> ExitCode {
     let words = given(&rt);
     let (ending, _, _) = start::<_, _, _, Brand, Brand>(
+        &rt,
         &rt,
         rt.alloc(),
         &words,

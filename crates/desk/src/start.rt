@@ -8,16 +8,22 @@ ghost use Rattle.desk.specs.Start.{AnswersRead, Answers, RunEnds};
 ghost use Rattle.desk.specs.Ending.{EndsBy};
 
 use crate::ending::{Ending, report};
-use desk_server::{CountedReader, CountedWriter, RunFault, run};
+use desk_server::{CountedReader, CountedWriter, Entries, InlinePost, RunFault, run};
 use desk_words::check_words;
 use std::alloc::Global;
 use std::io;
 use std::io::{Read, Write};
+use std::sync::Wait;
 use std::sync::ledger::{Blank, Ledger};
 
-// Answers the script that the reader gives, where an engine may hold so many squares, and hands
-// both devices back. Their failures are counted in ledgers of their own, made of the two blanks.
+/// How many results of steps a desk may keep beside what its document needs.
+const FACTS: u32 = 64;
+
+// Answers the script that the reader gives, where a step may keep so many squares, and hands both
+// devices back. Each job is worked in this thread. Failures of the devices are counted in ledgers of
+// their own, made of the two blanks.
 fn answer<R: Read, W: Write, L: Ledger, M: Ledger>(
+    rt: &impl Wait,
     alloc: Global,
     squares: u32,
     reader: R,
@@ -43,17 +49,30 @@ fn answer<R: Read, W: Write, L: Ledger, M: Ledger>(
         (AnswersFront (W.contents writer) (W.contents result.2)) }
     ensures memory { result.0 ≡ Err RunFault.NoMemory → (result.1 ≡ reader) × (result.2 ≡ writer) }
 {
+    let Ok(entries) = Entries::new(alloc) else {
+        return (Err(RunFault::NoMemory), reader, writer);
+    };
+    let mut post = InlinePost::new(alloc, &entries, squares);
     let mut reader = CountedReader::<_, L>::new(reader, reader_blank);
     let mut writer = CountedWriter::<_, M>::new(writer, writer_blank);
-    let answered = run(alloc, squares, &mut reader, &mut writer);
+    let answered = run(
+        rt,
+        alloc,
+        &entries,
+        FACTS,
+        &mut reader,
+        &mut writer,
+        &mut post,
+    );
     (answered, reader.into_inner(), writer.into_inner())
 }
 
-/// Reads the words, and answers the script if they are in order, with the squares that they choose,
-/// or says why they are not and hands both devices back untouched. Failures of the devices are counted in ledgers of their own,
-/// made of the two blanks.
+/// Reads the words, and answers the script if they are in order, with the squares that they choose;
+/// or says on the outputs why they are not, and hands both devices back untouched. Failures of the
+/// devices are counted in ledgers of their own, made of the two blanks.
 pub fn start<H: Print + Eprint, R: Read, W: Write, L: Ledger, M: Ledger>(
-    rt: &H,
+    rt: &impl Wait,
+    outputs: &H,
     alloc: Global,
     words: &io::Result<Vec<String>>,
     reader: R,
@@ -77,6 +96,7 @@ pub fn start<H: Print + Eprint, R: Read, W: Write, L: Ledger, M: Ledger>(
     match check_words(alloc, words) {
         Ok(options) => {
             let (answered, reader, writer) = answer::<_, _, L, M>(
+                rt,
                 alloc,
                 options.squares,
                 reader,
@@ -86,6 +106,6 @@ pub fn start<H: Print + Eprint, R: Read, W: Write, L: Ledger, M: Ledger>(
             );
             (Ending::of_run(answered), reader, writer)
         }
-        Err(fault) => (report(rt, &fault), reader, writer),
+        Err(fault) => (report(outputs, &fault), reader, writer),
     }
 }

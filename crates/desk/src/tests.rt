@@ -11,6 +11,7 @@ use std::io;
 use std::io::{Read, Write};
 use std::marker::Brand;
 use std::process::{Abort, ExitCode};
+use std::sync::Wait;
 use std::sync::ledger::Blank;
 
 fn same<T: PartialEq + Debug, A: Debug>(rt: &impl Abort, found: &T, wanted: &T, at: &A) {
@@ -145,7 +146,7 @@ fn words_of(rt: &impl Abort, alloc: Global, word: &str) -> Vec<String> {
 
 // How the program ends with this word, and what the writer then holds.
 fn started<R: Read + Drop, W: Write>(
-    rt: &impl Abort,
+    rt: &(impl Abort + Wait),
     alloc: Global,
     word: &str,
     reader: R,
@@ -153,6 +154,7 @@ fn started<R: Read + Drop, W: Write>(
 ) -> (Ending, W) {
     let words = Ok(words_of(rt, alloc, word));
     let (ending, _, written) = start::<_, _, _, Brand, Brand>(
+        rt,
         &Outputs::new(false),
         alloc,
         &words,
@@ -164,7 +166,7 @@ fn started<R: Read + Drop, W: Write>(
     (ending, written)
 }
 
-fn writes(rt: &impl Abort, alloc: Global, word: &str, ending: Ending, wanted: &[u8]) {
+fn writes(rt: &(impl Abort + Wait), alloc: Global, word: &str, ending: Ending, wanted: &[u8]) {
     let script = b"quit\n".as_slice();
     let (found, written) = started(rt, alloc, word, script, Vec::new(alloc));
     same(rt, &found, &ending, &word);

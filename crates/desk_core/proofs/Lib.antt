@@ -1,2 +1,5 @@
-pub mod Filling
-pub mod Causes
+mod Out
+mod Steps
+mod Texts
+mod Turns
+mod Happening

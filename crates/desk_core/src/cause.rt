@@ -1,28 +1,43 @@
 //! Why settling stops.
 
+use crate::issue::IssueFault;
 use schedule::EvolveFault;
 
-/// Why settling stops before every bookmark is current.
+/// Why settling stopped before every bookmark was current.
 #[derive(Clone, Copy, Debug, PartialEq, Eq)]
 pub enum Cause {
     /// Memory was wanted.
     NoMemory,
-    /// An engine wanted more squares than it may hold.
+    /// A step wanted more squares than it may keep.
     NoRoom,
+    /// A job was told to stop.
+    Stopped,
+    /// Every number of a job was given.
+    NumbersSpent,
 }
 
 impl Cause {
     ghost use Rattle.std.specs.Prelude.{◌≡◌};
-    ghost use Rattle.desk_core.specs.Cause.{cause_number, cause_of};
+    ghost use Rattle.desk_core.specs.Cause.{cause_number, cause_of_answer, cause_of_issue};
 
-    /// The cause that a refusal is; a computation that was told to stop has none.
-    pub(crate) fn of(fault: EvolveFault) -> Option<Cause>
-        ensures { result ≡ cause_of fault }
+    /// The cause that a job's giving up is.
+    pub(crate) fn of_answer(fault: EvolveFault) -> Cause
+        ensures { result ≡ cause_of_answer fault }
     {
         match fault {
-            EvolveFault::NoMemory => Some(Cause::NoMemory),
-            EvolveFault::NoRoom => Some(Cause::NoRoom),
-            EvolveFault::Stopped => None,
+            EvolveFault::NoMemory => Cause::NoMemory,
+            EvolveFault::NoRoom => Cause::NoRoom,
+            EvolveFault::Stopped => Cause::Stopped,
+        }
+    }
+
+    /// The cause that a refused issue is.
+    pub(crate) fn of_issue(fault: IssueFault) -> Cause
+        ensures { result ≡ cause_of_issue fault }
+    {
+        match fault {
+            IssueFault::NoMemory => Cause::NoMemory,
+            IssueFault::NumbersSpent => Cause::NumbersSpent,
         }
     }
 
@@ -33,6 +48,8 @@ impl Cause {
         match self {
             Cause::NoMemory => 70,
             Cause::NoRoom => 71,
+            Cause::Stopped => 72,
+            Cause::NumbersSpent => 73,
         }
     }
 }

@@ -1,28 +1,26 @@
 //! The desk.
-ghost use Rattle.std.specs.Prelude.{◌≡◌, ◌⊎◌, ◌≤◌, IfOk, IfErr, IfSome, OnErr, OnOk, length, []};
-ghost use Rattle.schedule.specs.Plan.{opening};
+ghost use Rattle.std.specs.Prelude.{◌≡◌, ◌⊎◌, ◌≤◌, ◌+◌, IfOk, IfErr, IfSome, OnErr, OnOk, length};
 ghost use Rattle.schedule.specs.Asked.{asked_of};
 ghost use Rattle.schedule.specs.Change.{change, made, refusal};
 ghost use Rattle.dependency_book.specs.Kept.{KeepsRows};
-ghost use Rattle.dependency_book.specs.Needs.{next_need};
-ghost use Rattle.desk_core.specs.Rows.{pending_of, KeepsTexts};
-ghost use Rattle.desk_core.specs.Shown.{Shows, Ends, IsMet};
+ghost use Rattle.desk_core.specs.Events.{core_of, after_event, edits};
+ghost use Rattle.desk_core.specs.Rows.{opened, pending_of, wanting_of, NothingOut};
+ghost use Rattle.desk_core.specs.Shown.{Shows};
 
-use crate::cause::Cause;
-use crate::shown::Settling;
 use dependency_book::{Book, Shown};
-use schedule::{Document, Edit, EditFault, Edited, EvolveFault};
+use revision_jobs::Entries;
+use schedule::{Document, Edit, EditFault, Edited};
 use std::alloc::{AllocError, Global};
 use std::marker::Model;
 
-/// A document, and what is known of it.
+/// A document, what is known of it, and the jobs of a table of entries that are out for the rest.
 #[derive(Drop)]
-pub struct Desk {
-    book: Book,
-    squares: u32,
+pub struct Desk<'e> {
+    pub(crate) book: Book<'e>,
+    pub(crate) entries: &'e Entries,
 }
 
-impl Model for Desk {
+impl<'e> Model for Desk<'e> {
     ghost use Rattle.std.specs.Coded.{codes};
     ghost use Rattle.worlds.specs.World.{coded_world};
     ghost use Rattle.desk_core.specs.Rows.{Known};
@@ -33,21 +31,20 @@ impl Model for Desk {
 
     ghost view = { λ desk. desk.book };
 
-    ghost use Rattle.std.specs.Prelude.{◌≤◌};
+    ghost use Rattle.std.specs.Prelude.{◌≡◌};
 
-    ghost invariant = { λ desk. desk.squares ≤ 16777216 };
+    ghost invariant = { λ desk. desk.entries.now ≡ desk.book.table };
 }
 
-impl Desk {
-    /// A desk with the opening document of revision 0, whose engines may hold so many squares, at
-    /// most 2^24.
-    pub fn open(alloc: Global, squares: u32) -> Result<Desk, AllocError>
-        requires { squares ≤ 16777216 }
-        ensures { IfOk result (λ desk. desk ≡ record { plan = opening 0; arrivals = []; texts = [] }) }
+impl<'e> Desk<'e> {
+    /// A desk with the opening document of revision 0, whose jobs are of this table. So many results
+    /// of steps may be kept beside the rows; none is so far.
+    pub fn open(alloc: Global, entries: &'e Entries, _facts: u32) -> Result<Desk<'e>, AllocError>
+        ensures { IfOk result (λ desk. desk ≡ opened entries.now 0) }
     {
         Ok(Desk {
-            book: Book::open(alloc, 0)?,
-            squares,
+            book: Book::open(alloc, entries, 0)?,
+            entries,
         })
     }
 
@@ -66,8 +63,11 @@ impl Desk {
         ensures keeps { OnOk result (KeepsRows (asked_of edit.now) self.old self.new) }
         ensures refused { IfErr result (λ fault.
             (fault ≡ EditFault.NoMemory) ⊎ (change self.old.plan (asked_of edit.now) ≡ Err fault)) }
-        ensures first { IfSome (refusal self.old.plan (asked_of edit.now)) (λ fault. result ≡ Err fault) }
+        ensures first { IfSome (refusal self.old.plan (asked_of edit.now))
+            (λ fault. result ≡ Err fault) }
         ensures unchanged { OnErr result (self.new ≡ self.old) }
+        ensures event { OnOk result
+            (core_of self.new ≡ after_event (core_of self.old) (edits (asked_of edit.now))) }
     {
         self.book.revise(edit)
     }
@@ -84,42 +84,16 @@ impl Desk {
     pub fn pending(&self) -> u32
         ensures count { result ≡ pending_of self.now }
         ensures bound { result ≤ length self.now.plan.bookmarks }
+        ensures none { NothingOut self.now → wanting_of self.now ≡ 0 → result ≡ 0 }
+        ensures few { length self.now.arrivals + length self.now.texts ≤ 12288 }
     {
         self.book.pending()
     }
-}
 
-/// Computes what isn't known, each from the nearest known arrival, until every bookmark is current,
-/// memory is wanted, or an engine wants more squares than it may hold. The texts that were known
-/// stay.
-pub fn settle(desk: &mut Desk) -> Settling
-    ensures ends { Ends desk.new result }
-    ensures document { desk.new.plan ≡ desk.old.plan }
-    ensures keeps { KeepsTexts desk.old desk.new }
-{
-    let Err(fault) = fill(&mut desk.book, desk.squares) else {
-        return Settling::Settled;
-    };
-    // A want may come where every bookmark is current and an arrival alone isn't known.
-    match desk.book.pending() {
-        0 => Settling::Settled,
-        pending => Settling::Unsettled {
-            pending,
-            cause: Cause::of(fault),
-        },
+    /// How many numbers of jobs were given.
+    pub fn given(&self) -> u32
+        ensures { result ≡ self.now.given }
+    {
+        self.book.given()
     }
-}
-
-// Computes what is needed, until nothing is, or memory or room is wanted for it.
-fn fill(book: &mut Book, limit: u32) -> Result<(), EvolveFault>
-    requires { limit ≤ 16777216 }
-    ensures document { book.new.plan ≡ book.old.plan }
-    ensures keeps { KeepsTexts book.old book.new }
-    ensures ok { OnOk result (pending_of book.new ≡ 0) }
-    ensures refused { IfErr result (IsMet (next_need book.new)) }
-{
-    while let Some(need) = book.next_need() {
-        book.compute(&need, limit)?;
-    }
-    Ok(())
 }

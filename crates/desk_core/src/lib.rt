@@ -4,19 +4,35 @@
 //! as the document is now, whatever edits were made or refused before and however often the desk
 //! was settled. A bookmark whose text isn't known is shown as pending.
 //!
-//! An edit keeps what it doesn't touch, and `settle` goes on from the nearest arrival that is known.
-//! It ends unsettled where memory is wanted, or more squares than an engine may hold, and says which.
+//! What isn't known is computed by jobs, which a desk numbers and whoever likes works. An answer
+//! counts where a row of the present document expects its job, however late it comes and whatever
+//! edits were made meanwhile; any other is stale and changes nothing. `settle` issues, sends and
+//! collects over a post until nothing is needed.
+//!
+//! An edit keeps what it doesn't touch, known or expected. Nothing is computed here.
 #![tactic(auto)]
 
 mod cause;
+mod collect;
+mod course;
 mod desk;
+mod hand;
+mod issue;
+mod settling;
 mod shown;
 
 pub use cause::Cause;
+pub use collect::Collected;
 pub use dependency_book::Shown;
-pub use desk::{Desk, settle};
-pub use schedule::{
-    Bookmark, CellSet, Document, Edit, EditFault, Edited, Listing, Plane, Refusal, Rule, RuleFault,
-    View,
+pub use desk::Desk;
+pub use issue::IssueFault;
+pub use revision_jobs::{
+    Answer, Entries, Entry, Gate, InlinePost, Job, NoGate, Outcome, Place, Post, Received, Sent,
+    work,
 };
+pub use schedule::{
+    Bookmark, CellSet, Document, Edit, EditFault, Edited, EvolveFault, Listing, Plane, Refusal,
+    Rule, RuleFault, View,
+};
+pub use settling::settle;
 pub use shown::Settling;

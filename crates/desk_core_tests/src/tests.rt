@@ -1,11 +1,17 @@
 //! Worked desks, with what they show.
+ghost use Rattle.std.specs.Prelude.{◌≡◌};
+
+mod jobs;
+mod posts;
+
 use desk_core::{
-    Cause, CellSet, Desk, Edit, EditFault, Edited, Listing, Rule, Settling, Shown, View,
+    Cause, CellSet, Desk, Edit, EditFault, Edited, Entries, InlinePost, Listing, Rule, Settling,
+    Shown, View,
 };
 use std::alloc::Global;
 use std::fmt::Debug;
 use std::process::Abort;
-use std::sync::Arc;
+use std::sync::{Arc, Wait};
 
 /// A cell as a row of a table gives it: x, y and its state.
 type Row = (i64, i64, u16);
@@ -15,8 +21,11 @@ type Row = (i64, i64, u16);
 const X: &[u8] =
     b"@RULE X\n@TABLE\nn_states:2\nneighborhood:oneDimensional\nsymmetries:none\n0,1,0,1\n0,0,1,1\n1,0,0,0\n1,1,1,0\n";
 
-// How many squares an engine may hold.
+// How many squares a step may keep.
 const SQUARES: u32 = 4096;
+
+// More turns than a desk of these tests takes.
+const TURNS: u32 = 100;
 
 /// Stops the test where what was found isn't what was wanted.
 fn same<T: PartialEq + Debug, A: Debug>(rt: &impl Abort, found: &T, wanted: &T, at: &A) {
@@ -55,46 +64,59 @@ fn rule_x(rt: &impl Abort, alloc: Global) -> Edit {
     Edit::ReplaceRule(Arc::new(alloc, rule).expect(rt, "memory"))
 }
 
-fn edit(rt: &impl Abort, desk: &mut Desk, edit: &Edit) -> Edited {
+fn edit(rt: &impl Abort, desk: &mut Desk, edit: &Edit) -> Edited
+    ensures { desk.new.table ≡ desk.old.table }
+{
     desk.edit(edit).expect(rt, "an accepted edit")
 }
 
-fn open(rt: &impl Abort, alloc: Global) -> Desk {
-    Desk::open(alloc, SQUARES).expect(rt, "memory")
+fn table(rt: &impl Abort, alloc: Global) -> Entries {
+    Entries::new(alloc).expect(rt, "memory")
+}
+
+fn open<'e>(rt: &impl Abort, alloc: Global, entries: &'e Entries) -> Desk<'e>
+    ensures { result.table ≡ entries.now }
+{
+    Desk::open(alloc, entries, 1).expect(rt, "memory")
 }
 
 /// A desk with the rule X and the cell (0, 0) in state 1, at revision 2.
-fn desk_of_x(rt: &impl Abort, alloc: Global) -> Desk {
-    let mut desk = open(rt, alloc);
+fn desk_of_x<'e>(rt: &impl Abort, alloc: Global, entries: &'e Entries) -> Desk<'e>
+    ensures { result.table ≡ entries.now }
+{
+    let mut desk = open(rt, alloc, entries);
     edit(rt, &mut desk, &rule_x(rt, alloc));
     edit(rt, &mut desk, &set(rt, alloc, &[(0, 0, 1)]));
     desk
 }
 
-/// Stops the test where a settling that wanted memory doesn't say so, or where the next one doesn't
-/// compute what it left.
-fn check_unsettled(rt: &impl Abort, desk: &mut Desk, pending: u32, cause: Option<Cause>) {
-    assert!(rt; pending > 0);
-    same(rt, &desk.pending(), &pending, &"unsettled");
-    same(rt, &cause, &Some(Cause::NoMemory), &"unsettled");
-    same(
-        rt,
-        &desk_core::settle(desk),
-        &Settling::Settled,
-        &"settled again",
-    );
+/// Settles the desk over a post of its own without threads.
+fn settled<R: Wait>(rt: &R, alloc: Global, desk: &mut Desk, entries: &Entries) -> Settling
+    requires { desk.old.table ≡ entries.now }
+    ensures { desk.new.table ≡ desk.old.table }
+{
+    let mut post = InlinePost::new(alloc, entries, SQUARES);
+    desk_core::settle(rt, desk, &mut post, TURNS)
 }
 
-/// Settles the desk, with memory for all. Where a growth is refused some bookmarks are pending, and
-/// the next settling computes those.
-fn settle(rt: &impl Abort, desk: &mut Desk) {
-    match desk_core::settle(desk) {
-        Settling::Settled => same(rt, &desk.pending(), &0, &"settled"),
-        Settling::Unsettled { pending, cause } => {
-            check_unsettled(rt, desk, pending, cause);
-            panic!(rt; "memory");
-        }
+/// Settles the desk, with memory for all. Where a growth is refused the cause is told, and the next
+/// settling computes what is left.
+fn settle<R: Abort + Wait>(rt: &R, alloc: Global, desk: &mut Desk, entries: &Entries)
+    requires { desk.old.table ≡ entries.now }
+    ensures { desk.new.table ≡ desk.old.table }
+{
+    let settling = settled(rt, alloc, desk, entries);
+    if settling == Settling::Settled {
+        return;
     }
+    let unsettled = Settling::Unsettled {
+        pending: desk.pending(),
+        cause: Some(Cause::NoMemory),
+    };
+    same(rt, &settling, &unsettled, &"unsettled");
+    let again = settled(rt, alloc, desk, entries);
+    same(rt, &again, &Settling::Settled, &"settled again");
+    panic!(rt; "memory");
 }
 
 /// Stops the test where the bookmark isn't shown with the text.
@@ -116,12 +138,14 @@ fn expect_pending(rt: &impl Abort, desk: &Desk, pending: u32) {
 
 #[test]
 fn opens(rt: HostRuntime) {
-    let mut desk = open(&rt, rt.alloc());
+    let alloc = rt.alloc();
+    let entries = table(&rt, alloc);
+    let mut desk = open(&rt, alloc, &entries);
     same(&rt, &desk.document().revision(), &0, &"revision");
     let name = desk.document().rule().name();
     same(&rt, &name, &b"still".as_slice(), &"name");
     expect_pending(&rt, &desk, 0);
-    settle(&rt, &mut desk);
+    settle(&rt, alloc, &mut desk, &entries);
     expect_none(&rt, &desk, 0);
     expect_none(&rt, &desk, 1);
     expect_none(&rt, &desk, u64::MAX);
@@ -129,7 +153,9 @@ fn opens(rt: HostRuntime) {
 
 #[test]
 fn nothing_is_counted_as_empty(rt: HostRuntime) {
-    let mut desk = open(&rt, rt.alloc());
+    let alloc = rt.alloc();
+    let entries = table(&rt, alloc);
+    let mut desk = open(&rt, alloc, &entries);
     let wanted = Edited {
         revision: 1,
         id: Some(1),
@@ -137,15 +163,18 @@ fn nothing_is_counted_as_empty(rt: HostRuntime) {
     same(&rt, &edit(&rt, &mut desk, &mark(0)), &wanted, &"edited");
     same(&rt, &desk.shown(1), &Shown::Pending, &"edited");
     expect_pending(&rt, &desk, 1);
-    settle(&rt, &mut desk);
+    settle(&rt, alloc, &mut desk, &entries);
     expect_text(&rt, &desk, 1, "empty\n");
     expect_pending(&rt, &desk, 0);
     expect_none(&rt, &desk, 0);
     expect_none(&rt, &desk, 2);
 }
 
-fn settle_one_cell(rt: &impl Abort, desk: &mut Desk) {
-    settle(rt, desk);
+fn settle_one_cell<R: Abort + Wait>(rt: &R, alloc: Global, desk: &mut Desk, entries: &Entries)
+    requires { desk.old.table ≡ entries.now }
+    ensures { desk.new.table ≡ desk.old.table }
+{
+    settle(rt, alloc, desk, entries);
     expect_pending(rt, desk, 0);
     expect_text(rt, desk, 1, "1 2\n");
     expect_text(rt, desk, 2, "1 1\n");
@@ -158,16 +187,24 @@ fn settle_one_cell(rt: &impl Abort, desk: &mut Desk) {
 
 #[test]
 fn one_cell_under_x(rt: HostRuntime) {
-    let mut desk = desk_of_x(&rt, rt.alloc());
-    for generation in [2, 0, 3, 1, 2, 8, 7] {
-        edit(&rt, &mut desk, &mark(generation));
-    }
+    let alloc = rt.alloc();
+    let entries = table(&rt, alloc);
+    let mut desk = desk_of_x(&rt, alloc, &entries);
+    edit(&rt, &mut desk, &mark(2));
+    edit(&rt, &mut desk, &mark(0));
+    edit(&rt, &mut desk, &mark(3));
+    edit(&rt, &mut desk, &mark(1));
+    edit(&rt, &mut desk, &mark(2));
+    edit(&rt, &mut desk, &mark(8));
+    edit(&rt, &mut desk, &mark(7));
     expect_pending(&rt, &desk, 7);
-    settle_one_cell(&rt, &mut desk);
-    settle_one_cell(&rt, &mut desk);
+    settle_one_cell(&rt, alloc, &mut desk, &entries);
+    settle_one_cell(&rt, alloc, &mut desk, &entries);
 }
 
-fn mark_view(rt: &impl Abort, desk: &mut Desk, view: View) {
+fn mark_view(rt: &impl Abort, desk: &mut Desk, view: View)
+    ensures { desk.new.table ≡ desk.old.table }
+{
     let added = Edit::AddBookmark {
         generation: 2,
         view,
@@ -177,7 +214,9 @@ fn mark_view(rt: &impl Abort, desk: &mut Desk, view: View) {
 
 #[test]
 fn views_of_x(rt: HostRuntime) {
-    let mut desk = desk_of_x(&rt, rt.alloc());
+    let alloc = rt.alloc();
+    let entries = table(&rt, alloc);
+    let mut desk = desk_of_x(&rt, alloc, &entries);
     let window = View::Window {
         left: -2,
         top: 0,
@@ -187,7 +226,7 @@ fn views_of_x(rt: HostRuntime) {
     mark_view(&rt, &mut desk, View::Counts);
     mark_view(&rt, &mut desk, window);
     mark_view(&rt, &mut desk, View::Rle);
-    settle(&rt, &mut desk);
+    settle(&rt, alloc, &mut desk, &entries);
     expect_text(&rt, &desk, 1, "1 2\n");
     expect_text(&rt, &desk, 2, "1 0 0 0 1\n");
     let encoded = "#CXRLE Pos=-2,0 Gen=2\nx = 5, y = 1, rule = X\no3bo!\n";
@@ -196,28 +235,82 @@ fn views_of_x(rt: HostRuntime) {
 
 /// Makes the edit, and stops the test where not so many bookmarks are pending then, or where settling
 /// doesn't give the first one this text.
-fn check_edit(rt: &impl Abort, desk: &mut Desk, change: &Edit, pending: u32, text: &str) {
-    settle(rt, desk);
+fn check_edit<R: Abort + Wait>(
+    rt: &R,
+    alloc: Global,
+    desk: &mut Desk,
+    entries: &Entries,
+    change: &Edit,
+    pending: u32,
+    text: &str,
+)
+    requires { desk.old.table ≡ entries.now }
+    ensures { desk.new.table ≡ desk.old.table }
+{
+    settle(rt, alloc, desk, entries);
     edit(rt, desk, change);
     same(rt, &desk.pending(), &pending, &text);
-    settle(rt, desk);
+    settle(rt, alloc, desk, entries);
     expect_text(rt, desk, 1, text);
 }
 
 #[test]
 fn edits_forget_what_they_touch(rt: HostRuntime) {
     let alloc = rt.alloc();
-    let mut desk = desk_of_x(&rt, alloc);
+    let entries = table(&rt, alloc);
+    let mut desk = desk_of_x(&rt, alloc, &entries);
     edit(&rt, &mut desk, &mark(2));
-    check_edit(&rt, &mut desk, &set(&rt, alloc, &[]), 1, "1 2\n");
-    check_edit(&rt, &mut desk, &set(&rt, alloc, &[(100, 0, 1)]), 1, "1 4\n");
-    check_edit(&rt, &mut desk, &mark(3), 1, "1 4\n");
-    check_edit(&rt, &mut desk, &rule_x(&rt, alloc), 2, "1 4\n");
-    check_edit(&rt, &mut desk, &insert(&rt, alloc, 3), 1, "1 4\n");
-    check_edit(&rt, &mut desk, &set(&rt, alloc, &[(0, 0, 0)]), 2, "1 2\n");
+    check_edit(
+        &rt,
+        alloc,
+        &mut desk,
+        &entries,
+        &set(&rt, alloc, &[]),
+        1,
+        "1 2\n",
+    );
+    check_edit(
+        &rt,
+        alloc,
+        &mut desk,
+        &entries,
+        &set(&rt, alloc, &[(100, 0, 1)]),
+        1,
+        "1 4\n",
+    );
+    check_edit(&rt, alloc, &mut desk, &entries, &mark(3), 1, "1 4\n");
+    check_edit(
+        &rt,
+        alloc,
+        &mut desk,
+        &entries,
+        &rule_x(&rt, alloc),
+        2,
+        "1 4\n",
+    );
+    check_edit(
+        &rt,
+        alloc,
+        &mut desk,
+        &entries,
+        &insert(&rt, alloc, 3),
+        1,
+        "1 4\n",
+    );
+    check_edit(
+        &rt,
+        alloc,
+        &mut desk,
+        &entries,
+        &set(&rt, alloc, &[(0, 0, 0)]),
+        2,
+        "1 2\n",
+    );
 }
 
-fn check_refused(rt: &impl Abort, desk: &mut Desk, refused: &Edit, fault: EditFault, pending: u32) {
+fn check_refused(rt: &impl Abort, desk: &mut Desk, refused: &Edit, fault: EditFault, pending: u32)
+    ensures { desk.new.table ≡ desk.old.table }
+{
     same(rt, &desk.edit(refused), &Err(fault), &pending);
     same(rt, &desk.pending(), &pending, &fault);
     same(rt, &desk.document().revision(), &4, &fault);
@@ -225,7 +318,9 @@ fn check_refused(rt: &impl Abort, desk: &mut Desk, refused: &Edit, fault: EditFa
 }
 
 /// Stops the test where one of three edits isn't refused or changes something.
-fn check_all_refused(rt: &impl Abort, alloc: Global, desk: &mut Desk, pending: u32) {
+fn check_all_refused(rt: &impl Abort, alloc: Global, desk: &mut Desk, pending: u32)
+    ensures { desk.new.table ≡ desk.old.table }
+{
     let high = set(rt, alloc, &[(0, 0, 2)]);
     check_refused(rt, desk, &high, EditFault::CellStateTooHigh, pending);
     let outside = set(rt, alloc, &[(1 << 60, 0, 1)]);
@@ -234,8 +329,11 @@ fn check_all_refused(rt: &impl Abort, alloc: Global, desk: &mut Desk, pending: u
     check_refused(rt, desk, &far, EditFault::GenerationTooFar, pending);
 }
 
-fn settle_both(rt: &impl Abort, desk: &mut Desk) {
-    settle(rt, desk);
+fn settle_both<R: Abort + Wait>(rt: &R, alloc: Global, desk: &mut Desk, entries: &Entries)
+    requires { desk.old.table ≡ entries.now }
+    ensures { desk.new.table ≡ desk.old.table }
+{
+    settle(rt, alloc, desk, entries);
     expect_text(rt, desk, 1, "1 2\n");
     expect_text(rt, desk, 2, "1 2\n");
 }
@@ -243,21 +341,24 @@ fn settle_both(rt: &impl Abort, desk: &mut Desk) {
 #[test]
 fn refused_edits_change_nothing(rt: HostRuntime) {
     let alloc = rt.alloc();
-    let mut desk = desk_of_x(&rt, alloc);
+    let entries = table(&rt, alloc);
+    let mut desk = desk_of_x(&rt, alloc, &entries);
     edit(&rt, &mut desk, &mark(2));
-    settle(&rt, &mut desk);
+    settle(&rt, alloc, &mut desk, &entries);
     edit(&rt, &mut desk, &mark(1));
     // The bookmark that was added is pending before settling, and then both are known.
     check_all_refused(&rt, alloc, &mut desk, 1);
-    settle_both(&rt, &mut desk);
+    settle_both(&rt, alloc, &mut desk, &entries);
     check_all_refused(&rt, alloc, &mut desk, 0);
-    settle_both(&rt, &mut desk);
+    settle_both(&rt, alloc, &mut desk, &entries);
 }
 
 #[test]
 fn causes(rt: HostRuntime) {
     same(&rt, &Cause::NoMemory.number(), &70, &"memory");
     same(&rt, &Cause::NoRoom.number(), &71, &"room");
+    same(&rt, &Cause::Stopped.number(), &72, &"a stop");
+    same(&rt, &Cause::NumbersSpent.number(), &73, &"numbers");
 }
 
 /// The edit that sets (0, 0) to 1 in what arrives at a generation.
@@ -274,23 +375,26 @@ fn insert(rt: &impl Abort, alloc: Global, generation: u64) -> Edit {
 #[test]
 fn bookmark_shows_after_its_interventions(rt: HostRuntime) {
     let alloc = rt.alloc();
-    let mut desk = desk_of_x(&rt, alloc);
+    let entries = table(&rt, alloc);
+    let mut desk = desk_of_x(&rt, alloc, &entries);
     edit(&rt, &mut desk, &mark(1));
     edit(&rt, &mut desk, &mark(0));
-    settle(&rt, &mut desk);
+    settle(&rt, alloc, &mut desk, &entries);
     expect_text(&rt, &desk, 1, "1 2\n");
     edit(&rt, &mut desk, &insert(&rt, alloc, 1));
-    settle(&rt, &mut desk);
+    settle(&rt, alloc, &mut desk, &entries);
     expect_text(&rt, &desk, 1, "1 3\n");
     expect_text(&rt, &desk, 2, "1 1\n");
     edit(&rt, &mut desk, &Edit::RemoveIntervention { id: 1 });
-    settle(&rt, &mut desk);
+    settle(&rt, alloc, &mut desk, &entries);
     expect_text(&rt, &desk, 1, "1 2\n");
 }
 
 #[test]
 fn bookmark_is_moved_and_removed(rt: HostRuntime) {
-    let mut desk = desk_of_x(&rt, rt.alloc());
+    let alloc = rt.alloc();
+    let entries = table(&rt, alloc);
+    let mut desk = desk_of_x(&rt, alloc, &entries);
     edit(&rt, &mut desk, &mark(0));
     edit(&rt, &mut desk, &mark(2));
     let moved = Edit::MoveBookmark {
@@ -298,7 +402,7 @@ fn bookmark_is_moved_and_removed(rt: HostRuntime) {
         generation: 3,
     };
     edit(&rt, &mut desk, &moved);
-    settle(&rt, &mut desk);
+    settle(&rt, alloc, &mut desk, &entries);
     expect_text(&rt, &desk, 1, "1 4\n");
     edit(&rt, &mut desk, &Edit::RemoveBookmark { id: 1 });
     expect_none(&rt, &desk, 1);

@@ -1,5 +1,6 @@
 pub mod Prepends
 pub mod Wants
+pub mod Jobs
 pub mod Hearing
 pub mod Replies
 pub mod Parts

@@ -1,11 +1,11 @@
 -- What the desk's answers are by the definition of the replies.
-use Rattle.std.proofs.Common.{◌≡◌, ◌⊎◌, inl, inr, ℕ, List, Result, Err, ◌≤◌, ◌<◌, Option, Some, None, length, Bool, true, false, cond, ◌&&◌, refl, sym, ap, ap₂, ◌∙◌, subst, arith, nat_le}
+use Rattle.std.proofs.Common.{◌≡◌, ◌≢◌, ◌⊎◌, inl, inr, ℕ, List, Result, Err, ◌≤◌, ◌<◌, Option, Some, None, IfNone, length, Bool, true, false, cond, ◌&&◌, refl, sym, ap, ap₂, ◌∙◌, subst, arith, nat_le}
 use Rattle.std.specs.Prelude.{IsSome}
 use Rattle.std.proofs.lemmas.Bool.Decides.{nat_tests}
 use Rattle.schedule.specs.Plan.{Plan}
 use Rattle.schedule.specs.declared.fault.EditFault.TheVariants.{NoMemory}
 use Rattle.schedule.specs.declared.document.Bookmark.{Bookmark}
-use Rattle.desk_core.specs.Rows.{Known, bookmark_in, text_known}
+use Rattle.desk_core.specs.Rows.{Known, bookmark_in, text_known, pending_of}
 use Rattle.desk_core.specs.declared.cause.Cause.{Cause}
 use Rattle.desk_core.specs.Shown.{Shows, IsPending}
 use Rattle.dependency_book.specs.declared.shown.Shown.{Shown}
@@ -38,13 +38,18 @@ left true true x y h k = refl
 left true false x y h k = absurd (cc)
 left false b x y h k = absurd (cc)
 
-pub gives-unsettled : (p : Plan) (new : Known) (n : ℕ) (cause : Option Cause) (why : Cause) → new.plan ≡ p → 0 < n → n ≤ length new.plan.bookmarks → cause ≡ Some why → GivesBy (λ want. settled want p) (reply.Unsettled n cause) new
+gives-unsettled : (p : Plan) (new : Known) (n : ℕ) (cause : Option Cause) (why : Cause) → new.plan ≡ p → 0 < n → n ≤ length new.plan.bookmarks → cause ≡ Some why → GivesBy (λ want. settled want p) (reply.Unsettled n cause) new
 gives-unsettled p new n cause why same some few is = (
   Unsettled n why,
   subst (λ q. Gives (settled (Unsettled n why) q) (reply.Unsettled n cause) new) same
       (subst (λ c. Gives (settled (Unsettled n why) new.plan) (reply.Unsettled n c) new) (sym is)
       (left (nat_le 1 n) (nat_le n (length new.plan.bookmarks)) (only new.plan (unsettled_text n (Some why))) (only new.plan settled_text) (grind (arith, nat_tests)) (grind (arith, nat_tests)))),
 )
+
+pub gives-pending : (p : Plan) (new : Known) (n : ℕ) (cause : Option Cause) → new.plan ≡ p → IfNone cause (pending_of new ≡ 0) → n ≡ pending_of new → n ≢ 0 → n ≤ length new.plan.bookmarks
+    → GivesBy (λ want. settled want p) (reply.Unsettled n cause) new
+gives-pending p new n None same none is some few = absurd (some (is ∙ none))
+gives-pending p new n (Some why) same none is some few = gives-unsettled p new n (Some why) why same (omega arith) few refl
 
 some_of : (o : Option Bookmark) → IsSome o → (b : Bookmark) × (o ≡ Some b)
 some_of None h = absurd (cc)

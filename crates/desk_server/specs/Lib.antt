@@ -9,5 +9,6 @@ pub mod Script
 pub mod Wanted
 pub mod Told
 pub mod Heard
+pub mod Jobs
 pub mod Run
 pub mod Round

@@ -1,23 +1,27 @@
 //! What the desk does when something is asked.
-ghost use Rattle.std.specs.Prelude.{◌≡◌};
+ghost use Rattle.std.specs.Prelude.{◌≡◌, IfNone};
 ghost use Rattle.std.specs.Arc.{arc_value};
 ghost use Rattle.schedule.specs.Asked.{asked_of};
-ghost use Rattle.desk_core.specs.Rows.{bookmark_in};
+ghost use Rattle.desk_core.specs.Rows.{bookmark_in, pending_of};
 ghost use Rattle.desk_server.specs.Answer.{Ask, answer, id_word, obeyed};
 ghost use Rattle.desk_server.specs.Answer.{edited, started, taken, settled, shown};
 ghost use Rattle.desk_server.specs.Heard.{AsksFor, GivesBy, GivesOrWants};
+ghost use Rattle.desk_server.specs.Jobs.{Carries, DropsJobs};
 ghost use Rattle.desk_server.specs.Told.{CountsPending};
 
 use crate::command::Command;
 use crate::format::Format;
 use crate::reply::{Reply, refused};
 use crate::request::Request;
-use desk_core::{Desk, Edit, EditFault, Plane, Rule, Settling, Shown};
+use desk_core::{Cause, Desk, Edit, EditFault, Plane, Post, Rule, Settling, Shown};
 use multistate_macrocell::read_mc;
 use multistate_rle::read_rle;
 use plane_core::Loaded;
 use std::alloc::Global;
-use std::sync::Arc;
+use std::sync::{Arc, Wait};
+
+/// How often a settling may send or receive, which is enough for every document over a prompt post.
+const TURNS: u32 = 1_000_000;
 
 // The word before the id that an edit gives, if it gives one.
 fn id_word(edit: &Edit) -> &'static str
@@ -31,9 +35,10 @@ fn id_word(edit: &Edit) -> &'static str
 }
 
 // Makes an edit, or refuses it.
-fn edit(desk: &mut Desk, edit: &Edit) -> Reply
-    ensures { GivesOrWants desk.old.plan (edited desk.old.plan (asked_of edit.now))
+fn edit(desk: &mut Desk<'_>, edit: &Edit) -> Reply
+    ensures answer { GivesOrWants desk.old.plan (edited desk.old.plan (asked_of edit.now))
         result desk.new }
+    ensures jobs { DropsJobs desk.old desk.new }
 {
     match desk.edit(edit) {
         Ok(edited) => Reply::Accepted {
@@ -46,9 +51,10 @@ fn edit(desk: &mut Desk, edit: &Edit) -> Reply
 }
 
 // Takes the rule that a text means.
-fn take_rule(alloc: Global, desk: &mut Desk, text: &[u8]) -> Reply
-    ensures { GivesOrWants desk.old.plan (taken desk.old.plan Format.Rule text.now)
+fn take_rule(alloc: Global, desk: &mut Desk<'_>, text: &[u8]) -> Reply
+    ensures answer { GivesOrWants desk.old.plan (taken desk.old.plan Format.Rule text.now)
         result desk.new }
+    ensures jobs { DropsJobs desk.old desk.new }
 {
     let rule = match Rule::read(alloc, text) {
         Ok(rule) => rule,
@@ -62,9 +68,10 @@ fn take_rule(alloc: Global, desk: &mut Desk, text: &[u8]) -> Reply
 
 // Takes a start whose file names this generation, or refuses it; the desk counts from 0 all the
 // same.
-fn begin(desk: &mut Desk, start: Arc<Plane>, generation: u64) -> Reply
-    ensures { GivesOrWants desk.old.plan (started desk.old.plan generation (arc_value start))
+fn begin(desk: &mut Desk<'_>, start: Arc<Plane>, generation: u64) -> Reply
+    ensures answer { GivesOrWants desk.old.plan (started desk.old.plan generation (arc_value start))
         result desk.new }
+    ensures jobs { DropsJobs desk.old desk.new }
 {
     let edited = match desk.edit(&Edit::ReplaceStart(start)) {
         Ok(edited) => edited,
@@ -78,9 +85,10 @@ fn begin(desk: &mut Desk, start: Arc<Plane>, generation: u64) -> Reply
 }
 
 // Takes the start that a file holds.
-fn take_start(alloc: Global, desk: &mut Desk, pattern: Loaded) -> Reply
-    ensures { GivesOrWants desk.old.plan (started desk.old.plan pattern.generation pattern.plane)
-        result desk.new }
+fn take_start(alloc: Global, desk: &mut Desk<'_>, pattern: Loaded) -> Reply
+    ensures answer { GivesOrWants desk.old.plan
+        (started desk.old.plan pattern.generation pattern.plane) result desk.new }
+    ensures jobs { DropsJobs desk.old desk.new }
 {
     match Arc::new(alloc, pattern.plane) {
         Ok(start) => begin(desk, start, pattern.generation),
@@ -89,8 +97,10 @@ fn take_start(alloc: Global, desk: &mut Desk, pattern: Loaded) -> Reply
 }
 
 // Takes the start that a run-length encoded text means.
-fn take_rle(alloc: Global, desk: &mut Desk, text: &[u8]) -> Reply
-    ensures { GivesOrWants desk.old.plan (taken desk.old.plan Format.Rle text.now) result desk.new }
+fn take_rle(alloc: Global, desk: &mut Desk<'_>, text: &[u8]) -> Reply
+    ensures answer { GivesOrWants desk.old.plan (taken desk.old.plan Format.Rle text.now)
+        result desk.new }
+    ensures jobs { DropsJobs desk.old desk.new }
 {
     match read_rle(alloc, text) {
         Ok(pattern) => take_start(alloc, desk, pattern),
@@ -99,9 +109,10 @@ fn take_rle(alloc: Global, desk: &mut Desk, text: &[u8]) -> Reply
 }
 
 // Takes the start that a macrocell text means.
-fn take_macrocell(alloc: Global, desk: &mut Desk, text: &[u8]) -> Reply
-    ensures { GivesOrWants desk.old.plan (taken desk.old.plan Format.Macrocell text.now)
+fn take_macrocell(alloc: Global, desk: &mut Desk<'_>, text: &[u8]) -> Reply
+    ensures answer { GivesOrWants desk.old.plan (taken desk.old.plan Format.Macrocell text.now)
         result desk.new }
+    ensures jobs { DropsJobs desk.old desk.new }
 {
     match read_mc(alloc, text) {
         Ok(pattern) => take_start(alloc, desk, pattern),
@@ -110,8 +121,10 @@ fn take_macrocell(alloc: Global, desk: &mut Desk, text: &[u8]) -> Reply
 }
 
 // Takes what a text of this format means.
-fn take(alloc: Global, desk: &mut Desk, format: Format, text: &[u8]) -> Reply
-    ensures { GivesOrWants desk.old.plan (taken desk.old.plan format text.now) result desk.new }
+fn take(alloc: Global, desk: &mut Desk<'_>, format: Format, text: &[u8]) -> Reply
+    ensures answer { GivesOrWants desk.old.plan (taken desk.old.plan format text.now)
+        result desk.new }
+    ensures jobs { DropsJobs desk.old desk.new }
 {
     match format {
         Format::Rule => take_rule(alloc, desk, text),
@@ -120,49 +133,93 @@ fn take(alloc: Global, desk: &mut Desk, format: Format, text: &[u8]) -> Reply
     }
 }
 
-fn settle(desk: &mut Desk) -> Reply
+// Gives up every job that is out.
+fn give_up(desk: &mut Desk<'_>)
+    ensures plan { desk.new.plan ≡ desk.old.plan }
+    ensures jobs { DropsJobs desk.old desk.new }
+{
+    let mut first = desk.first_out();
+    while let Some(number) = first {
+        desk.cancel(number);
+        first = desk.first_out();
+    }
+}
+
+// Computes what isn't known, and gives the cause where that left bookmarks pending. Whatever is out
+// then is given up, so that it is computed anew another time.
+fn compute<P: Post>(rt: &impl Wait, desk: &mut Desk<'_>, post: &mut P) -> Option<Cause>
+    requires { Carries P.table P.floor P.is_prompt P.held post.old desk.old }
+    ensures plan { desk.new.plan ≡ desk.old.plan }
+    ensures settled { IfNone result (pending_of desk.new ≡ 0) }
+    ensures post { Carries P.table P.floor P.is_prompt P.held post.new desk.new }
+{
+    match desk_core::settle(rt, desk, post, TURNS) {
+        Settling::Settled => None,
+        Settling::Unsettled { pending: _, cause } => {
+            give_up(desk);
+            cause
+        }
+    }
+}
+
+fn settle<P: Post>(rt: &impl Wait, desk: &mut Desk<'_>, post: &mut P) -> Reply
+    requires { Carries P.table P.floor P.is_prompt P.held post.old desk.old }
     ensures answer { GivesBy (λ want. settled want desk.old.plan) result desk.new }
     ensures counts { CountsPending result desk.new }
+    ensures post { Carries P.table P.floor P.is_prompt P.held post.new desk.new }
 {
-    match desk_core::settle(desk) {
-        Settling::Settled => Reply::Settled,
-        Settling::Unsettled { pending, cause } => Reply::Unsettled { pending, cause },
+    let cause = compute(rt, desk, post);
+    match desk.pending() {
+        0 => Reply::Settled,
+        pending => Reply::Unsettled { pending, cause },
     }
 }
 
 // Shows a bookmark, after settling.
-fn show(desk: &mut Desk, id: u64) -> Reply
-    ensures { GivesBy (λ want. shown want desk.old.plan id
+fn show<P: Post>(rt: &impl Wait, desk: &mut Desk<'_>, post: &mut P, id: u64) -> Reply
+    requires { Carries P.table P.floor P.is_prompt P.held post.old desk.old }
+    ensures answer { GivesBy (λ want. shown want desk.old.plan id
         (bookmark_in desk.old.plan.bookmarks id)) result desk.new }
+    ensures post { Carries P.table P.floor P.is_prompt P.held post.new desk.new }
 {
     if desk.shown(id) != Shown::NoSuch {
-        desk_core::settle(desk);
+        compute(rt, desk, post);
     }
     // Whatever the desk kept, what it shows is what starting over gives.
     let _shown = desk.shown(id);
     Reply::Shown { id }
 }
 
-fn obey(desk: &mut Desk, command: Command) -> Reply
+fn obey<P: Post>(rt: &impl Wait, desk: &mut Desk<'_>, post: &mut P, command: Command) -> Reply
+    requires { Carries P.table P.floor P.is_prompt P.held post.old desk.old }
     ensures answer { GivesBy (λ want. obeyed want desk.old.plan command) result desk.new }
     ensures counts { command ≡ Command.Settle → CountsPending result desk.new }
+    ensures post { Carries P.table P.floor P.is_prompt P.held post.new desk.new }
 {
     match command {
         Command::Edit(change) => edit(desk, &change),
-        Command::Settle => settle(desk),
-        Command::Show { id } => show(desk, id),
+        Command::Settle => settle(rt, desk, post),
+        Command::Show { id } => show(rt, desk, post, id),
         Command::Quit => Reply::Bye,
     }
 }
 
-/// Does what a request asks, and gives the reply.
-pub(crate) fn serve(alloc: Global, desk: &mut Desk, request: Request) -> Reply
+/// Does what a request asks, and gives the reply. What has to be computed goes over the post.
+pub(crate) fn serve<P: Post>(
+    rt: &impl Wait,
+    alloc: Global,
+    desk: &mut Desk<'_>,
+    post: &mut P,
+    request: Request,
+) -> Reply
+    requires { Carries P.table P.floor P.is_prompt P.held post.old desk.old }
     ensures answer { (ask : Ask) → AsksFor request ask
         → GivesBy (λ want. answer want desk.old.plan ask) result desk.new }
     ensures counts { request ≡ Request.Obey Command.Settle → CountsPending result desk.new }
+    ensures post { Carries P.table P.floor P.is_prompt P.held post.new desk.new }
 {
     match request {
-        Request::Obey(command) => obey(desk, command),
+        Request::Obey(command) => obey(rt, desk, post, command),
         Request::Take { format, text } => match text.bytes() {
             Some(bytes) => take(alloc, desk, format, bytes),
             None => refused(&EditFault::NoMemory),

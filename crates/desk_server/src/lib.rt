@@ -3,8 +3,11 @@
 //! `run` reads a script and writes the reply to each command before it reads the next. What it
 //! writes is the replies to the script: what each command in turn makes of the document, and for
 //! each bookmark that is shown the text that starting over gives. A command that meets want of
-//! memory says so and changes nothing, or leaves a bookmark pending; so does one that meets an
-//! engine's want of more squares than it may hold, which a settling says as its cause.
+//! memory says so and changes nothing, or leaves a bookmark pending, as does a step that wants more
+//! squares than it may keep. What a settling leaves pending it says with its cause.
+//!
+//! What isn't known is computed by jobs over a post, which the caller opens beside the table of
+//! entries that the jobs are of.
 //!
 //! A line is kept only as far as its command needs. A settling costs what its bookmarks cost; all
 //! else is in proportion to what is read and written.
@@ -24,6 +27,7 @@ mod server;
 mod view;
 mod words;
 
+pub use desk_core::{Entries, InlinePost, Post};
 pub use laws::plain_without_wants;
 pub use script_lines::{CountedReader, CountedWriter};
 pub use server::{RunFault, run};

@@ -189,7 +189,7 @@ fn tell_refused<W: Write, L: Ledger>(
 
 fn tell_shown<W: Write, L: Ledger>(
     writer: &mut CountedWriter<W, L>,
-    desk: &Desk,
+    desk: &Desk<'_>,
     id: u64,
 ) -> Result<(), Failed>
     ensures bytes { Wrote writer.old.contents writer.new.contents result
@@ -217,7 +217,7 @@ fn tell_shown<W: Write, L: Ledger>(
 
 fn tell<W: Write, L: Ledger>(
     writer: &mut CountedWriter<W, L>,
-    desk: &Desk,
+    desk: &Desk<'_>,
     reply: Reply,
 ) -> Result<(), Failed>
     ensures bytes { Wrote writer.old.contents writer.new.contents result (text_of desk.now reply) }
@@ -245,7 +245,7 @@ fn tell<W: Write, L: Ledger>(
 /// Writes a reply, and hands it on at once.
 pub(crate) fn send<W: Write, L: Ledger>(
     writer: &mut CountedWriter<W, L>,
-    desk: &Desk,
+    desk: &Desk<'_>,
     reply: Reply,
 ) -> Result<(), Failed>
     ensures bytes { Wrote writer.old.contents writer.new.contents result (text_of desk.now reply) }

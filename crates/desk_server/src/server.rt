@@ -1,15 +1,17 @@
 //! A script, answered while it is read.
-ghost use Rattle.std.specs.Prelude.{◌≡◌, ◌≢◌, ◌≤◌, ◌+◌, IfSome, OnOk, Ok, Err};
+ghost use Rattle.std.specs.Prelude.{◌≡◌, ◌≢◌, ◌+◌, IfSome, OnOk, Ok, Err};
+ghost use Rattle.desk_server.specs.Jobs.{Carries, IsFresh};
 ghost use Rattle.desk_server.specs.Run.{Finishes, AnswersAll, AnswersWhole};
 ghost use Rattle.desk_server.specs.Round.{GoesOn, Works, ReadBreaks, WriteBreaks, ReadStops, WriteStops};
 
 use crate::asked::serve;
 use crate::heard::{Heard, listen};
 use crate::reply::{Reply, send};
-use desk_core::Desk;
+use desk_core::{Desk, Entries, Post};
 use script_lines::{CountedReader, CountedWriter, KeptLine};
 use std::alloc::Global;
 use std::io::{Read, Write};
+use std::sync::Wait;
 use std::sync::ledger::Ledger;
 
 /// Why a run stopped before the script's end.
@@ -25,22 +27,26 @@ pub enum RunFault {
 
 // What a round left to do.
 #[derive(Clone, Copy, Debug, PartialEq, Eq)]
-enum Next {
+enum Rest {
     GoOn,
     Done,
 }
 
 // Hears one command, and answers it.
-fn round<R: Read, W: Write, L: Ledger, M: Ledger>(
+fn round<R: Read, W: Write, L: Ledger, M: Ledger, P: Post>(
+    rt: &impl Wait,
     alloc: Global,
     reader: &mut CountedReader<R, L>,
     writer: &mut CountedWriter<W, M>,
     line: &mut KeptLine,
-    desk: &mut Desk,
-) -> Result<Next, RunFault>
-    ensures goes_on { result ≡ Ok Next.GoOn
-        → GoesOn reader.old reader.new writer.old writer.new desk.old desk.new }
-    ensures done { result ≡ Ok Next.Done → Finishes reader.old.ahead reader.new.ahead
+    desk: &mut Desk<'_>,
+    post: &mut P,
+) -> Result<Rest, RunFault>
+    requires { Carries P.table P.floor P.is_prompt P.held post.old desk.old }
+    ensures goes_on { result ≡ Ok Rest.GoOn
+        → GoesOn reader.old reader.new writer.old writer.new desk.old desk.new
+        × Carries P.table P.floor P.is_prompt P.held post.new desk.new }
+    ensures done { result ≡ Ok Rest.Done → Finishes reader.old.ahead reader.new.ahead
         writer.old.contents writer.new.contents desk.old.plan (reader.old.lines + 1) }
     ensures works { OnOk result (Works reader.old reader.new writer.old writer.new) }
     ensures read { result ≡ Err RunFault.Read
@@ -54,31 +60,37 @@ fn round<R: Read, W: Write, L: Ledger, M: Ledger>(
     };
     let Heard { request, last } = heard;
     let Some(request) = request else {
-        return Ok(if last { Next::Done } else { Next::GoOn });
+        return Ok(if last { Rest::Done } else { Rest::GoOn });
     };
-    let reply = serve(alloc, desk, request);
+    let reply = serve(rt, alloc, desk, post, request);
     if send(writer, desk, reply).is_err() {
         return Err(RunFault::Write);
     }
     if last {
-        return Ok(Next::Done);
+        return Ok(Rest::Done);
     }
     Ok(if reply == Reply::Bye {
-        Next::Done
+        Rest::Done
     } else {
-        Next::GoOn
+        Rest::GoOn
     })
 }
 
-/// Reads a script, and writes and hands on the reply to each command before it reads the next. An
-/// engine may hold so many squares, at most 2^24.
-pub fn run<R: Read, W: Write, L: Ledger, M: Ledger>(
+/// Reads a script, and writes and hands on the reply to each command before it reads the next.
+///
+/// What isn't known is computed by jobs of the table of entries over the post, and so many results
+/// of steps may be kept beside what the document needs. It may wait where the post does.
+pub fn run<R: Read, W: Write, L: Ledger, M: Ledger, P: Post>(
+    rt: &impl Wait,
     alloc: Global,
-    squares: u32,
+    entries: &Entries,
+    facts: u32,
     reader: &mut CountedReader<R, L>,
     writer: &mut CountedWriter<W, M>,
+    post: &mut P,
 ) -> Result<(), RunFault>
-    requires { squares ≤ 16777216 }
+    // The post is of the table, prompt, and took no job before.
+    requires { IsFresh P.table P.floor P.is_prompt post.old entries.now }
 
     // The replies to the script were written, for some wants.
     ensures done { OnOk result (IfSome reader.old.ahead.bytes
@@ -103,7 +115,7 @@ pub fn run<R: Read, W: Write, L: Ledger, M: Ledger>(
     ensures no_memory { result ≡ Err RunFault.NoMemory
         → (reader.new ≡ reader.old) × (writer.new ≡ writer.old) }
 {
-    let Ok(mut desk) = Desk::open(alloc, squares) else {
+    let Ok(mut desk) = Desk::open(alloc, entries, facts) else {
         return Err(RunFault::NoMemory);
     };
     let Ok(mut line) = KeptLine::new(alloc) else {
@@ -111,9 +123,9 @@ pub fn run<R: Read, W: Write, L: Ledger, M: Ledger>(
     };
     reader.begin();
     'script: loop {
-        match round(alloc, reader, writer, &mut line, &mut desk) {
-            Ok(Next::GoOn) => {}
-            Ok(Next::Done) => return Ok(()),
+        match round(rt, alloc, reader, writer, &mut line, &mut desk, post) {
+            Ok(Rest::GoOn) => {}
+            Ok(Rest::Done) => return Ok(()),
             Err(fault) => return Err(fault),
         }
     }

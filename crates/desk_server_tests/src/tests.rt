@@ -10,12 +10,13 @@ mod starts;
 mod views;
 
 use crate::tests::devices::{Narrow, Pieces};
-use desk_server::{CountedReader, CountedWriter, RunFault, run};
+use desk_server::{CountedReader, CountedWriter, Entries, InlinePost, RunFault, run};
 use std::alloc::Global;
 use std::fmt::Debug;
 use std::io::Write;
 use std::marker::Brand;
 use std::process::Abort;
+use std::sync::Wait;
 use std::sync::ledger::{Blank, Ledger};
 
 // A script and the replies to it.
@@ -29,6 +30,7 @@ pub fn same<T: PartialEq + Debug, A: Debug>(rt: &impl Abort, found: &T, wanted: 
 }
 
 fn answer_counted<W: Write, L: Ledger, M: Ledger>(
+    rt: &(impl Abort + Wait),
     alloc: Global,
     pieces: Pieces<'_>,
     writer: W,
@@ -44,37 +46,45 @@ fn answer_counted<W: Write, L: Ledger, M: Ledger>(
 {
     let mut reader = CountedReader::<_, L>::new(pieces, reader_blank);
     let mut writer = CountedWriter::<_, M>::new(writer, writer_blank);
-    let answered = run(alloc, 4096, &mut reader, &mut writer);
+    let entries = Entries::new(alloc).expect(rt, "memory");
+    let mut post = InlinePost::new(alloc, &entries, 4096);
+    let answered = run(rt, alloc, &entries, 64, &mut reader, &mut writer, &mut post);
     (answered, writer.into_inner())
 }
 
 // How a run over this writer ended, and the writer after it.
 pub fn answer_to<W: Write>(
+    rt: &(impl Abort + Wait),
     alloc: Global,
     pieces: Pieces<'_>,
     writer: W,
 ) -> (Result<(), RunFault>, W) {
-    answer_counted::<_, Brand, Brand>(alloc, pieces, writer, Blank::new(1), Blank::new(1))
+    answer_counted::<_, Brand, Brand>(rt, alloc, pieces, writer, Blank::new(1), Blank::new(1))
 }
 
 // How a run ended, and what was written where so many bytes may be.
-pub fn answer(alloc: Global, pieces: Pieces<'_>, limit: usize) -> (Result<(), RunFault>, Vec<u8>) {
+pub fn answer(
+    rt: &(impl Abort + Wait),
+    alloc: Global,
+    pieces: Pieces<'_>,
+    limit: usize,
+) -> (Result<(), RunFault>, Vec<u8>) {
     let narrow = Narrow {
         taken: Vec::new(alloc),
         limit,
     };
-    let (answered, narrow) = answer_to(alloc, pieces, narrow);
+    let (answered, narrow) = answer_to(rt, alloc, pieces, narrow);
     (answered, narrow.taken)
 }
 
 // The whole script is answered by these replies.
-pub fn answers(rt: &impl Abort, alloc: Global, pieces: Pieces<'_>, replies: &[u8]) {
+pub fn answers(rt: &(impl Abort + Wait), alloc: Global, pieces: Pieces<'_>, replies: &[u8]) {
     let at = (pieces.bytes, pieces.size);
-    let (answered, told) = answer(alloc, pieces, usize::MAX);
+    let (answered, told) = answer(rt, alloc, pieces, usize::MAX);
     same(rt, &answered, &Ok(()), &at);
     same(rt, &told.as_slice(), &replies, &at);
 }
 
-pub fn row_is_answered(rt: &impl Abort, alloc: Global, row: &Row) {
+pub fn row_is_answered(rt: &(impl Abort + Wait), alloc: Global, row: &Row) {
     answers(rt, alloc, Pieces::whole(row.script), row.replies);
 }

@@ -1,15 +1,20 @@
 -- What is read where no word follows the program's name, or one word for help does.
-use Rattle.std.proofs.Common.{◌≡◌, ◌≤◌, ℕ, inl, inr, refl, sym, arith, ap, ◌∙◌, List, [], ◌∷◌, Some, Result, Ok, Err, IfOk, IsErrAnd, codes, length, map}
+use Rattle.std.proofs.Common.{◌≡◌, ◌≢◌, ◌==◌, Bool, true, false, ◌≤◌, ℕ, inl, inr, refl, sym, arith, ap, ◌∙◌, List, [], ◌∷◌, None, Some, Result, Ok, Err, IfOk, IsErrAnd, codes, length, map}
 use Rattle.std.specs.Prelude.{MatchResult}
 use Rattle.std.specs.Str.Parse.{digits_value, without_leading_plus}
+use Rattle.std.proofs.lemmas.Bool.Decides.{nat_tests}
 use Rattle.std.proofs.Math.Path.{subst}
+use Rattle.clap.specs.Lexer.{strip_byte}
 use Rattle.clap.specs.Words.{FailsBy, HasKind, Text, kind_of}
 use Rattle.clap.specs.declared.error.Error.{Error}
-use Rattle.clap.specs.declared.error.kind.ErrorKind.TheVariants.{DisplayHelp, OutOfMemory}
+use Rattle.clap.specs.declared.error.kind.ErrorKind.TheVariants.{DisplayHelp, OutOfMemory, UnknownArgument}
 use Rattle.clap.proofs.OnLiterals.{clap_on_literals}
 use Rattle.desk_words.specs.declared.options.Options.{Options}
-use Rattle.desk_words.specs.Words.{AsksForHelp, IsDefault}
-use Rattle.desk_words.specs.Command.{Chooses, IsHelpOrMemory, faults, squares_text}
+use Rattle.desk_words.specs.Words.{AsksForHelp, BeginsPlain, IsDefault}
+use Rattle.desk_words.specs.Command.{Chooses, IsHelpOrMemory, IsUnknownOrMemory, faults, squares_text}
+
+differs : (b c : ℕ) → b ≢ c → (b == c) ≡ false
+differs b c other = grind (arith, nat_tests)
 
 faults-none : faults [] ≡ []
 unfolding clap_on_literals
@@ -26,6 +31,23 @@ faults-short name = refl
 faults-long : (name : Text) → faults (name ∷ codes "--help" ∷ []) ≡ DisplayHelp ∷ []
 unfolding clap_on_literals
 faults-long name = refl
+
+faults-empty : (name : Text) (words : List Text) → faults (name ∷ [] ∷ words) ≡ UnknownArgument ∷ []
+unfolding clap_on_literals
+faults-empty name words = refl
+
+faults-plain : (name : Text) (b : ℕ) (word : Text) (words : List Text) → (b == 45) ≡ false → faults (name ∷ (b ∷ word) ∷ words) ≡ UnknownArgument ∷ []
+unfolding clap_on_literals
+faults-plain name b word words other =
+    let stripped : strip_byte 45 (b ∷ word) ≡ None = rw other refl in
+    rw stripped (rw other refl)
+
+-- the first word is no option
+faults-unknown : (words : List Text) → BeginsPlain words → faults words ≡ UnknownArgument ∷ []
+faults-unknown [] plain = absurd plain
+faults-unknown (name ∷ []) plain = absurd plain
+faults-unknown (name ∷ [] ∷ words) plain = faults-empty name words
+faults-unknown (name ∷ (b ∷ word) ∷ words) plain = faults-plain name b word words (differs b 45 plain)
 
 -- no word follows the name
 faults-alone : {S : Type 0} (f : S → Text) (words : List S) → length words ≤ 1 → faults (map f words) ≡ []
@@ -47,6 +69,11 @@ help_or_memory : (error : Error) → HasKind (DisplayHelp ∷ []) error → IsHe
 help_or_memory error (inl memory) = inr memory
 help_or_memory error (inr (inl help)) = inl help
 help_or_memory error (inr (inr none)) = absurd none
+
+unknown_or_memory : (error : Error) → HasKind (UnknownArgument ∷ []) error → IsUnknownOrMemory error
+unknown_or_memory error (inl memory) = inr memory
+unknown_or_memory error (inr (inl unknown)) = inl unknown
+unknown_or_memory error (inr (inr none)) = absurd none
 
 text-none : squares_text [] ≡ Some (codes "4194304")
 unfolding clap_on_literals
@@ -73,6 +100,11 @@ pub alone_reads : {S : Type 0} (f : S → Text) (words : List S) (r : Result Opt
     → MatchResult r IsDefault (λ error. kind_of error ≡ OutOfMemory)
 alone_reads f words (Ok options) fails chosen few = default_chosen (map f words) options.squares (text-alone f words few) chosen
 alone_reads f words (Err e) fails chosen few = only_memory e (subst (λ kinds. HasKind kinds e) (faults-alone f words few) fails)
+
+-- words that begin with no option are answered as an unknown word
+pub plain_refused : {T : Type 0} (words : List Text) (r : Result T Error) → FailsBy (faults words) r → BeginsPlain words → IsErrAnd r IsUnknownOrMemory
+plain_refused words (Ok x) fails plain = let bad : UnknownArgument ∷ [] ≡ [] = rw (← faults-unknown words plain) fails in absurd (cc bad)
+plain_refused words (Err e) fails plain = unknown_or_memory e (subst (λ kinds. HasKind kinds e) (faults-unknown words plain) fails)
 
 -- a word for help is answered by the help
 pub help_answers : {T : Type 0} (words : List Text) (r : Result T Error) → FailsBy (faults words) r → AsksForHelp words → IsErrAnd r IsHelpOrMemory

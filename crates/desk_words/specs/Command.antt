@@ -8,7 +8,7 @@ use Rattle.clap.specs.declared.builder.value_parser.ValueParser.TheVariants.{Uns
 use Rattle.clap.specs.declared.error.Error.{Error}
 use Rattle.clap.specs.declared.parser.matches.ArgMatches.{ArgMatches}
 use Rattle.clap.specs.declared.parser.matches.Found.{Found}
-use Rattle.clap.specs.declared.error.kind.ErrorKind.TheVariants.{DisplayHelp, OutOfMemory}
+use Rattle.clap.specs.declared.error.kind.ErrorKind.TheVariants.{DisplayHelp, OutOfMemory, UnknownArgument}
 
 -- the option `--squares N`, where N is a number from 64 to 16777216, and 4194304 where it isn't used
 abbrev pub squares_rule : Rule
@@ -49,6 +49,10 @@ Gives words found = (text : Text) × (squares_text words ≡ Some text) × HasSq
 -- whatever is parsed by the command, the option has a text
 abbrev pub AlwaysGives : Command → Type 0
 AlwaysGives command = (m : ArgMatches) → IsParsedFrom command m → (text : Text) × HasSquares (found_of m) text
+
+-- the error is an unknown word, or want of memory
+abbrev pub IsUnknownOrMemory : Error → Type 0
+IsUnknownOrMemory error = (kind_of error ≡ UnknownArgument) ⊎ (kind_of error ≡ OutOfMemory)
 
 -- the error is the help, or want of memory
 abbrev pub IsHelpOrMemory : Error → Type 0

@@ -14,6 +14,13 @@ abbrev pub AsksForHelp : List (List ℕ) → Type 0
 AsksForHelp [] = ⊥
 AsksForHelp (name ∷ words) = (words ≡ codes "-h" ∷ []) ⊎ (words ≡ codes "--help" ∷ [])
 
+-- after the program's name stands first a word that is no option: it begins with no dash
+abbrev pub BeginsPlain : List (List ℕ) → Type 0
+BeginsPlain [] = ⊥
+BeginsPlain (name ∷ []) = ⊥
+BeginsPlain (name ∷ [] ∷ words) = Unit {0}
+BeginsPlain (name ∷ (b ∷ word) ∷ words) = b ≢ 45
+
 -- after the program's name stands the option with n in digits, a number of its range, and no other word
 abbrev pub AsksForSquares : List (List ℕ) → ℕ → Type 0
 AsksForSquares [] n = ⊥
@@ -36,6 +43,8 @@ pub record ReadsWords (words : List (List ℕ)) (result : Result Options WordsFa
   pub alone : length words ≤ 1 → MatchResult result IsDefault (λ fault. fault ≡ NoMemory)
   -- a number of squares that an engine may hold is chosen, and refused but for memory
   pub given : (n : ℕ) → AsksForSquares words n → MatchResult result (λ options. options.squares ≡ n) (λ fault. fault ≡ NoMemory)
+  -- words that begin with no option are refused
+  pub plain : BeginsPlain words → IsErrAnd result IsRefusal
   -- help is answered where it is asked for
   pub help : AsksForHelp words → IsErrAnd result IsHelp
 

@@ -2,8 +2,8 @@
 ghost use Rattle.std.specs.Prelude.{◌≡◌, ◌≤◌, IfOk, IsErrAnd, MatchResult, None, ℕ, false, length, map};
 ghost use Rattle.clap.specs.Facts.{WantsDefault};
 ghost use Rattle.clap.specs.Words.{FailsBy, IsPlainArg, app_of, found_of, kind_of, rule_of};
-ghost use Rattle.desk_words.specs.Words.{AsksForHelp, AsksForSquares, IsDefault};
-ghost use Rattle.desk_words.specs.Command.{AlwaysGives, Chooses, Gives, IsHelpOrMemory};
+ghost use Rattle.desk_words.specs.Words.{AsksForHelp, AsksForSquares, BeginsPlain, IsDefault};
+ghost use Rattle.desk_words.specs.Command.{AlwaysGives, Chooses, Gives, IsHelpOrMemory, IsUnknownOrMemory};
 ghost use Rattle.desk_words.specs.Command.{desk, faults, squares_rule};
 
 use crate::options::Options;
@@ -61,6 +61,7 @@ pub(crate) fn read<'a, S: AsStr>(alloc: Global, words: &'a [S]) -> Result<Option
         → MatchResult result IsDefault (λ error. kind_of error ≡ ErrorKind.OutOfMemory) }
     ensures given { (n : ℕ) → AsksForSquares (map S.text words.now) n → MatchResult result
         (λ options. options.squares ≡ n) (λ error. kind_of error ≡ ErrorKind.OutOfMemory) }
+    ensures plain { BeginsPlain (map S.text words.now) → IsErrAnd result IsUnknownOrMemory }
     ensures help { AsksForHelp (map S.text words.now) → IsErrAnd result IsHelpOrMemory }
 {
     let matches = parsed(alloc, words)?;

@@ -3,7 +3,6 @@ use Rattle.std.proofs.Common.{◌≡◌, ℕ, suc, ◌-◌, ◌<◌, ◌^◌, mi
 use Rattle.std.specs.Prelude.{All}
 use Rattle.worlds.specs.Square.{Square, one, four}
 use Rattle.square_table.specs.Squares.{Table, IsNumber, square_in, IsSquareOf, Grows}
-use Rattle.square_table.proofs.Growth.{square_in-grows}
 use Rattle.hash_life.specs.Result.{middle, later, in_two, result}
 use Rattle.hash_life.specs.Puts.{nine_of, fours_of, Puts, IsBelow}
 use Rattle.hash_life.proofs.Below.{Keeps, Puts-below}
@@ -24,13 +23,14 @@ IsReady-all next u rows k generations ns ss are puts = λ i d below.
       below = subst (λ q. Puts next k generations q (IsBelow u)) (sym is.square) (puts i (one 0) (omega (arith, below, are.count)));
     }
 
-pub Puts-first : (next : List ℕ → ℕ) (u j generations first : ℕ) (s : Square) → 0 < generations → first ≡ min generations (2 ^ j) → Puts next (suc j) generations s (IsBelow u) → All (λ q. Puts next j first q (IsBelow u)) (nine_of s)
-Puts-first next u j generations first s some is puts = subst (λ m. All (λ q. Puts next j m q (IsBelow u)) (nine_of s)) (sym is) (Puts-nine next j generations s (IsBelow u) some puts)
+-- what holds of each that is put to the rule, for the nine and for the four
+pub Puts-first : (next : List ℕ → ℕ) (j generations first : ℕ) (s : Square) (P : Square → Type 0) → 0 < generations → first ≡ min generations (2 ^ j) → Puts next (suc j) generations s P → All (λ q. Puts next j first q P) (nine_of s)
+Puts-first next j generations first s P some is puts = subst (λ m. All (λ q. Puts next j m q P) (nine_of s)) (sym is) (Puts-nine next j generations s P some puts)
 
-pub Puts-then : (next : List ℕ → ℕ) (u j generations first : ℕ) (s : Square) → 0 < generations → first ≡ min generations (2 ^ j) → Puts next (suc j) generations s (IsBelow u) →
-    All (λ q. Puts next j (generations - first) q (IsBelow u)) (fours_of (map (result next j first) (nine_of s)))
-Puts-then next u j generations first s some is puts =
-    subst (λ m. All (λ q. Puts next j (generations - m) q (IsBelow u)) (fours_of (map (result next j m) (nine_of s)))) (sym is) (Puts-fours next j generations s (IsBelow u) some puts)
+pub Puts-then : (next : List ℕ → ℕ) (j generations first : ℕ) (s : Square) (P : Square → Type 0) → 0 < generations → first ≡ min generations (2 ^ j) → Puts next (suc j) generations s P →
+    All (λ q. Puts next j (generations - first) q P) (fours_of (map (result next j first) (nine_of s)))
+Puts-then next j generations first s P some is puts =
+    subst (λ m. All (λ q. Puts next j (generations - m) q P) (fours_of (map (result next j m) (nine_of s)))) (sym is) (Puts-fours next j generations s P some puts)
 
 pub StandsFor-computed : (next : List ℕ → ℕ) (j generations first : ℕ) (t v w : Table) (number n : ℕ) (kids : List ℕ) → 0 < generations → first ≡ min generations (2 ^ j) → IsNumber t.rows (suc (suc (suc j))) number →
     Grows v w → IsSquareOf w.rows kids n →
@@ -56,11 +56,11 @@ nine_stand t u j number nine numbered stand = stand (suc j) _ (StandsFor-itself 
 
 pub nine_ready : (next : List ℕ → ℕ) (c : ℕ) (t u : Table) (j generations first number : ℕ) (nine : List ℕ) → 0 < generations → first ≡ min generations (2 ^ j) → IsReady next c t.rows (suc j) generations number →
     StandForAll u.rows (suc (suc j)) nine (nine_of (square_in t.rows (suc (suc (suc j))) number)) → All (IsReady next c u.rows j first) nine
-nine_ready next c t u j generations first number nine some is ready stand = IsReady-all next c u.rows j first nine _ stand (Puts-first next c j generations first _ some is ready.below)
+nine_ready next c t u j generations first number nine some is ready stand = IsReady-all next c u.rows j first nine _ stand (Puts-first next j generations first _ (IsBelow c) some is ready.below)
 
 pub fours_ready : (next : List ℕ → ℕ) (c : ℕ) (t u : Table) (j generations first number : ℕ) (fours : List ℕ) → 0 < generations → first ≡ min generations (2 ^ j) → IsReady next c t.rows (suc j) generations number →
     StandForAll u.rows (suc (suc j)) fours (fours_of (map (result next j first) (nine_of (square_in t.rows (suc (suc (suc j))) number)))) → All (IsReady next c u.rows j (generations - first)) fours
-fours_ready next c t u j generations first number fours some is ready stand = IsReady-all next c u.rows j (generations - first) fours _ stand (Puts-then next c j generations first _ some is ready.below)
+fours_ready next c t u j generations first number fours some is ready stand = IsReady-all next c u.rows j (generations - first) fours _ stand (Puts-then next j generations first _ (IsBelow c) some is ready.below)
 
 -- the same rule
 pub IsReady-same : (m n : List ℕ → ℕ) (c d : ℕ) (rows : List (List ℕ)) (k generations : ℕ) (ns : List ℕ) → IsSameRule m n c d → All (IsReady m c rows k generations) ns → All (IsReady n d rows k generations) ns
@@ -88,15 +88,11 @@ pub StandsFor-higher : (next : List ℕ → ℕ) (rows more : List (List ℕ)) (
 StandsFor-higher next rows more k j generations n r is stands = subst (λ l. StandsFor more (suc l) r (result next l generations (square_in rows (suc (suc l)) n))) is stands
 
 -- a square of level 2
-pub base_below : (next : List ℕ → ℕ) (c : ℕ) (rows : List (List ℕ)) (k generations n : ℕ) → 0 < generations → k ≡ 0 → IsReady next c rows k generations n → IsBelow c (square_in rows 2 n)
-base_below next c rows k generations n some is ready =
-    let at = subst (λ l. IsReady next c rows l generations n) is ready in
-    Puts-itself next generations (square_in rows 2 n) (IsBelow c) some at.below
+pub base_below : (next : List ℕ → ℕ) (c : ℕ) (rows : List (List ℕ)) (generations n : ℕ) → 0 < generations → IsReady next c rows 0 generations n → IsBelow c (square_in rows 2 n)
+base_below next c rows generations n some is = Puts-itself next generations (square_in rows 2 n) (IsBelow c) some is.below
 
-pub base_stands : (next : List ℕ → ℕ) (rows more : List (List ℕ)) (k generations n r : ℕ) → 0 < generations → k ≡ 0 → StandsFor more 1 r (later next (square_in rows 2 n)) → StandsFor more (suc k) r (result next k generations (square_in rows (suc (suc k)) n))
-base_stands next rows more k generations n r some is stands =
-    subst (λ l. StandsFor more (suc l) r (result next l generations (square_in rows (suc (suc l)) n))) (sym is)
-    (subst (StandsFor more 1 r) (sym (result-later next generations (square_in rows 2 n) some)) stands)
+pub base_stands : (next : List ℕ → ℕ) (rows more : List (List ℕ)) (generations n r : ℕ) → 0 < generations → StandsFor more 1 r (later next (square_in rows 2 n)) → StandsFor more 1 r (result next 0 generations (square_in rows 2 n))
+base_stands next rows more generations n r some stands = subst (StandsFor more 1 r) (sym (result-later next generations (square_in rows 2 n) some)) stands
 
 -- no generations
 pub none_stands : (next : List ℕ → ℕ) (t u : Table) (k generations n r : ℕ) → generations ≡ 0 → IsNumber t.rows (suc (suc k)) n → ((j : ℕ) (s : Square) → StandsFor t.rows (suc (suc j)) n s → StandsFor u.rows (suc j) r (middle s)) →
@@ -104,11 +100,6 @@ pub none_stands : (next : List ℕ → ℕ) (t u : Table) (k generations n r : �
 none_stands next t u k generations n r none numbered stands =
     subst (λ g. StandsFor u.rows (suc k) r (result next k g (square_in t.rows (suc (suc k)) n))) (sym none)
     (subst (StandsFor u.rows (suc k) r) (sym (result-none next k (square_in t.rows (suc (suc k)) n))) (stands k _ (StandsFor-itself t.rows (suc (suc k)) n numbered)))
-
--- a result by what its square is in the grown table
-pub stands_grown : (next : List ℕ → ℕ) (t u : Table) (k generations n r : ℕ) → Grows t u → IsNumber t.rows (suc (suc k)) n → StandsFor u.rows (suc k) r (result next k generations (square_in t.rows (suc (suc k)) n)) →
-    StandsFor u.rows (suc k) r (result next k generations (square_in u.rows (suc (suc k)) n))
-stands_grown next t u k generations n r grows numbered stands = subst (λ s. StandsFor u.rows (suc k) r (result next k generations s)) (sym (square_in-grows t u (suc (suc k)) n grows numbered)) stands
 
 -- a square with states has some
 below_some : (c : ℕ) (s : Square) → IsBelow c s → 0 < c

@@ -1,7 +1,7 @@
 -- What is remembered stays right, and tells the result of the square that is asked for.
 use Rattle.std.proofs.Common.{◌≡◌, ℕ, suc, ◌+◌, ◌-◌, ◌<◌, ◌≤◌, ◌^◌, List, get_or, sym, ◌∙◌, ap, subst, arith, inl, inr}
 use Rattle.std.proofs.lemmas.Bool.{cases_eq}
-use Rattle.square_table.specs.Squares.{Table, IsNumber, first_number, Grows}
+use Rattle.square_table.specs.Squares.{Table, IsNumber, square_in, first_number, Grows}
 use Rattle.square_table.proofs.Growth.{IsNumber-grows, square_in-grows}
 use Rattle.square_table.proofs.Numbers.{one_level}
 use Rattle.hash_life.specs.Result.{result}
@@ -17,6 +17,13 @@ IsResult-grows next t u k generations n r grows is =
       numbered = IsNumber-grows t u (suc (suc k)) n grows is.numbered;
       result = subst (λ s. StandsFor u.rows (suc k) r (result next k generations s)) (sym same) (StandsFor-grows t u (suc k) r _ grows is.result);
     }
+
+-- the result of a square that was there before it
+pub IsResult-made : (next : List ℕ → ℕ) (t u : Table) (k generations n r : ℕ) → Grows t u → IsNumber t.rows (suc (suc k)) n → StandsFor u.rows (suc k) r (result next k generations (square_in t.rows (suc (suc k)) n)) → IsResult next u.rows k generations n r
+IsResult-made next t u k generations n r grows numbered stands = record {
+  numbered = IsNumber-grows t u (suc (suc k)) n grows numbered;
+  result = subst (λ s. StandsFor u.rows (suc k) r (result next k generations s)) (sym (square_in-grows t u (suc (suc k)) n grows numbered)) stands;
+}
 
 AreKnown-grows : (next : List ℕ → ℕ) (count : ℕ → ℕ) (t u : Table) (known : List ℕ) → Grows t u → AreKnown next count t.rows known → AreKnown next count u.rows known
 AreKnown-grows next count t u known grows are = record {

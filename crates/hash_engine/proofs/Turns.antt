@@ -27,16 +27,19 @@ IsReady-turn m n c d t u k generations olds news i same grows ready below rest e
     (subst (λ f. IsReady f d u.rows k generations (get_or olds i e)) (sym same.meaning)
     (subst (λ v. IsReady m v u.rows k generations (get_or olds i e)) (sym same.states) (IsReady-grows m c t u k generations _ grows (ready i e below))))
 
+-- its cells are what they were
+pub square_in-turn : (next : List ℕ → ℕ) (c : ℕ) (t u : Table) (k generations : ℕ) (olds news : List ℕ) (i a : ℕ) → Grows t u → All (IsReady next c t.rows k generations) olds → i < length olds →
+    ((j e : ℕ) → i ≤ j → get_or news j e ≡ get_or olds j e) → (e : ℕ) → square_in u.rows (suc (suc k)) (get_or news i a) ≡ square_in t.rows (suc (suc k)) (get_or olds i e)
+square_in-turn next c t u k generations olds news i a grows ready below rest e =
+    ap (square_in u.rows (suc (suc k))) (rest i a (omega arith) ∙ get_or_default olds i a e below) ∙ square_in-grows t u (suc (suc k)) (get_or olds i e) grows (ready i e below).numbered
+
 -- its result, by what it was
 pub result-turn : (m n : List ℕ → ℕ) (c d : ℕ) (t u : Table) (rows : List (List ℕ)) (k generations : ℕ) (olds news : List ℕ) (i r a : ℕ) → IsSameRule m n c d → Grows t u → All (IsReady m c t.rows k generations) olds → i < length olds →
     ((j e : ℕ) → i ≤ j → get_or news j e ≡ get_or olds j e) → StandsFor rows (suc k) r (result n k generations (square_in u.rows (suc (suc k)) (get_or news i a))) →
     (e : ℕ) → StandsFor rows (suc k) r (result m k generations (square_in t.rows (suc (suc k)) (get_or olds i e)))
 result-turn m n c d t u rows k generations olds news i r a same grows ready below rest is e =
-    let place : get_or news i a ≡ get_or olds i e = rest i a (omega arith) ∙ get_or_default olds i a e below in
-    let cells = square_in-grows t u (suc (suc k)) (get_or olds i e) grows (ready i e below).numbered in
-    subst (λ s. StandsFor rows (suc k) r (result m k generations s)) cells
-    (subst (λ f. StandsFor rows (suc k) r (result f k generations (square_in u.rows (suc (suc k)) (get_or olds i e)))) same.meaning
-    (subst (λ v. StandsFor rows (suc k) r (result n k generations (square_in u.rows (suc (suc k)) v))) place is))
+    subst (λ s. StandsFor rows (suc k) r (result m k generations s)) (square_in-turn m c t u k generations olds news i a grows ready below rest e)
+    (subst (λ f. StandsFor rows (suc k) r (result f k generations (square_in u.rows (suc (suc k)) (get_or news i a)))) same.meaning is)
 
 -- one more is done
 pub done_more : (next : List ℕ → ℕ) (t u v : Table) (k generations : ℕ) (olds news : List ℕ) (i r : ℕ) → i < length news → Grows u v →

@@ -1,3 +1,4 @@
 pub mod Standing
 pub mod Memo
 pub mod Found
+pub mod Asked

@@ -1,5 +1,5 @@
 -- What is remembered.
-use Rattle.std.specs.Prelude.{◌≡◌, ◌≢◌, ℕ, suc, ◌+◌, ◌^◌, ◌<◌, List, get_or}
+use Rattle.std.specs.Prelude.{◌≡◌, ◌≢◌, ℕ, suc, ◌+◌, ◌-◌, ◌^◌, ◌<◌, List, get_or}
 use Rattle.square_table.specs.Squares.{IsNumber, square_in, first_number}
 use Rattle.hash_life.specs.Result.{result}
 use Rattle.hash_engine.specs.Standing.{StandsFor}
@@ -23,3 +23,8 @@ pub record IsRight (next : List ℕ → ℕ) (rows : List (List ℕ)) (memo : Me
 pub record IsNoted (i r : ℕ) (old new : List ℕ) : Type 0 where
   pub here : get_or new i 0 ≡ r
   pub others : (j : ℕ) → j ≢ i → get_or new j 0 ≡ get_or old j 0
+
+-- of a square of level k + 2 this result is remembered, among those by the full counts where its own is one
+pub record IsRemembered (k generations n r : ℕ) (old new : Memo) : Type 0 where
+  pub full : generations ≡ 2 ^ k → IsNoted (n - first_number) r old.full.items new.full.items
+  pub other : generations ≢ 2 ^ k → new.full.items ≡ old.full.items

@@ -1,6 +1,7 @@
 //! How many squares a computation had.
-ghost use Rattle.std.specs.Prelude.{◌≤◌, ◌<◌, ◌+◌, length};
-ghost use Rattle.square_table.specs.Squares.{first_number};
+ghost use Rattle.std.specs.Prelude.{◌≡◌, ◌≤◌, ◌<◌, ◌+◌, length};
+ghost use Rattle.square_table.specs.Squares.{first_number, AreDistinct};
+ghost use Rattle.hash_engine.specs.Asked.{is_four, places_put};
 
 use crate::memo::Memo;
 use square_table::SquareTable;
@@ -19,6 +20,7 @@ pub(crate) struct Counts {
 fn is_four(table: &SquareTable<'_>, number: u32) -> bool
     requires above { first_number ≤ number }
     requires there { number < first_number + length table.now.rows }
+    ensures { result ≡ is_four table.now.rows number }
 {
     let quadrant = table.quadrants(number)[0];
     if quadrant < FIRST_NUMBER || quadrant - FIRST_NUMBER >= table.len() {
@@ -29,8 +31,10 @@ fn is_four(table: &SquareTable<'_>, number: u32) -> bool
 
 /// Goes through the squares of a table once.
 pub(crate) fn count_squares(table: &SquareTable<'_>, memo: &Memo) -> Counts
+    ensures put { result.base ≡ length (places_put table.now.rows memo.now) }
     ensures base { result.base ≤ result.fours }
     ensures fours { result.fours ≤ length table.now.rows }
+    ensures distinct { AreDistinct table.now.rows }
 {
     let mut counts = Counts { fours: 0, base: 0 };
     for place in 0..table.len() {

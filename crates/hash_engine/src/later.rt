@@ -1,19 +1,22 @@
 //! Results of squares.
 
-ghost use Rattle.std.specs.Prelude.{◌≡◌, ◌+◌, ◌-◌, ◌<◌, ◌≤◌, ℕ, suc, List, All, map, length, IfOk, OnOk};
+ghost use Rattle.std.specs.Prelude.{◌≡◌, ◌+◌, ◌-◌, ◌^◌, ◌<◌, ◌≤◌, ℕ, ℤ, suc, List, [], ◌∷◌, All, map, length, get_or, IfOk, OnOk, Err};
+ghost use Rattle.worlds.specs.World.{World};
 ghost use Rattle.worlds.specs.Square as squares;
-ghost use Rattle.square_table.specs.Squares.{IsNumber, IsHeld, square_in, Grows, level_of, cells_of};
+ghost use Rattle.worlds.specs.Square.{square_at};
+ghost use Rattle.square_table.specs.Squares.{IsNumber, IsHeld, square_in, Grows, level_of, cells_of, first_number};
 ghost use Rattle.hash_life.specs.Result as hash_life;
-ghost use Rattle.hash_life.specs.Puts.{IsBelow};
+ghost use Rattle.hash_life.specs.Puts.{IsBelow, AsksOnce};
 ghost use Rattle.hash_engine.specs.Standing.{StandsFor, StandForAll, IsReady};
 ghost use Rattle.hash_engine.specs.Memo.{IsRight};
-ghost use Rattle.hash_engine.specs.Found.{IsSameRule, IsEnd};
+ghost use Rattle.hash_engine.specs.Asked.{AsksForMore};
+ghost use Rattle.hash_engine.specs.Found.{IsSameRule, IsLater, IsEnd};
 
 use crate::counts::count_squares;
 use crate::fault::ResultFault;
 use crate::memo::{Memo, full};
 use crate::parts;
-use square_table::{Square, SquareTable};
+use square_table::{Square, SquareTable, TableFault};
 use std::alloc::Global;
 use worlds::{Ask, Stop};
 
@@ -26,6 +29,36 @@ pub struct Found<'a> {
     pub fours: u32,
     /// How many of these were put to the rule.
     pub base: u32,
+}
+
+// The result of a square of level 2, by the rule, which isn't asked for it again.
+fn put<Q: Ask>(
+    table: &mut SquareTable<'_>,
+    memo: &mut Memo,
+    rule: &mut Q,
+    generations: u64,
+    number: u32,
+) -> Result<u32, TableFault>
+    requires some { 0 < generations }
+    requires number { IsReady (Q.meaning rule.old) (Q.state_count rule.old)
+        table.old.rows 0 generations number }
+    requires memo { IsRight (Q.meaning rule.old) table.old.rows memo.old }
+    requires anew { generations ≡ 1 →
+        get_or memo.old.full.items (number - first_number) 0 ≡ 0 }
+    ensures grows { Grows table.old table.new }
+    ensures rule { IsSameRule (Q.meaning rule.old) (Q.meaning rule.new)
+        (Q.state_count rule.old) (Q.state_count rule.new) }
+    ensures memo { IsRight (Q.meaning rule.old) table.new.rows memo.new }
+    ensures found { IfOk result (λ n. StandsFor table.new.rows 1 n
+        (hash_life.result (Q.meaning rule.old) 0 generations
+        (square_in table.old.rows 2 number))
+        × AsksForMore (Q.meaning rule.old) 0 generations (number ∷ [])
+        table.old table.new memo.old memo.new (Q.asks rule.old) (Q.asks rule.new)) }
+    ensures full { result ≡ Err TableFault.NoRoom → length table.new.rows ≡ table.new.limit }
+{
+    let made = parts::later(table, rule, number)?;
+    memo.remember(0, generations, number, made)?;
+    Ok(made)
 }
 
 // The result of a square of level k + 2, remembered or not.
@@ -48,9 +81,11 @@ fn later<Q: Ask, S: Stop>(
         (Q.state_count rule.old) (Q.state_count rule.new) }
     ensures memo { IsRight (Q.meaning rule.old) table.new.rows memo.new }
     ensures end { IsEnd table.new (S.yes_count stop.old) (S.yes_count stop.new) result }
-    ensures square { IfOk result (λ n. StandsFor table.new.rows (suc k) n
+    ensures found { IfOk result (λ n. StandsFor table.new.rows (suc k) n
         (hash_life.result (Q.meaning rule.old) k generations
-        (square_in table.old.rows (suc (suc k)) number))) }
+        (square_in table.old.rows (suc (suc k)) number))
+        × AsksForMore (Q.meaning rule.old) k generations (number ∷ [])
+        table.old table.new memo.old memo.new (Q.asks rule.old) (Q.asks rule.new)) }
 {
     if generations == 0 {
         return Ok(parts::middle(table, number)?);
@@ -61,12 +96,15 @@ fn later<Q: Ask, S: Stop>(
     if stop.poll() {
         return Err(ResultFault::Stopped);
     }
+    if k == 0 {
+        return Ok(put(table, memo, rule, generations, number)?);
+    }
     let made = compute(table, memo, rule, stop, k, generations, number)?;
     memo.remember(k, generations, number, made)?;
     Ok(made)
 }
 
-// The result of a square of level k + 2, which isn't remembered.
+// The result of a square of level k + 2 above level 2, which isn't remembered.
 #[cycle(later)]
 fn compute<Q: Ask, S: Stop>(
     table: &mut SquareTable<'_>,
@@ -78,7 +116,7 @@ fn compute<Q: Ask, S: Stop>(
     number: u32,
 ) -> Result<u32, ResultFault>
     requires some { 0 < generations }
-    requires k { k ≤ 61 }
+    requires k { (0 < k) × (k ≤ 61) }
     requires number { IsReady (Q.meaning rule.old) (Q.state_count rule.old)
         table.old.rows k generations number }
     requires memo { IsRight (Q.meaning rule.old) table.old.rows memo.old }
@@ -87,13 +125,12 @@ fn compute<Q: Ask, S: Stop>(
         (Q.state_count rule.old) (Q.state_count rule.new) }
     ensures memo { IsRight (Q.meaning rule.old) table.new.rows memo.new }
     ensures end { IsEnd table.new (S.yes_count stop.old) (S.yes_count stop.new) result }
-    ensures square { IfOk result (λ n. StandsFor table.new.rows (suc k) n
+    ensures found { IfOk result (λ n. StandsFor table.new.rows (suc k) n
         (hash_life.result (Q.meaning rule.old) k generations
-        (square_in table.old.rows (suc (suc k)) number))) }
+        (square_in table.old.rows (suc (suc k)) number))
+        × AsksForMore (Q.meaning rule.old) k generations (number ∷ [])
+        table.old table.new memo.old memo.new (Q.asks rule.old) (Q.asks rule.new)) }
 {
-    if k == 0 {
-        return Ok(parts::later(table, rule, number)?);
-    }
     let first = generations.min(full(k - 1));
     let mut nine = parts::nine(table, number)?;
     all_later(table, memo, rule, stop, k - 1, first, &mut nine)?;
@@ -130,10 +167,12 @@ fn all_later<Q: Ask, S: Stop>(
         (Q.state_count rule.old) (Q.state_count rule.new) }
     ensures memo { IsRight (Q.meaning rule.old) table.new.rows memo.new }
     ensures end { IsEnd table.new (S.yes_count stop.old) (S.yes_count stop.new) result }
-    ensures squares { OnOk result ((ss : List squares.Square) →
+    ensures found { OnOk result (((ss : List squares.Square) →
         StandForAll table.old.rows (suc (suc k)) numbers.old ss →
         StandForAll table.new.rows (suc k) numbers.new
-        (map (hash_life.result (Q.meaning rule.old) k generations) ss)) }
+        (map (hash_life.result (Q.meaning rule.old) k generations) ss))
+        × AsksForMore (Q.meaning rule.old) k generations numbers.old
+        table.old table.new memo.old memo.new (Q.asks rule.old) (Q.asks rule.new)) }
 {
     for number in numbers.iter_mut() {
         *number = later(table, memo, rule, stop, k, generations, *number)?;
@@ -152,19 +191,20 @@ pub fn result<'a, Q: Ask, S: Stop>(
     stop: &mut S,
 ) -> Result<Found<'a>, ResultFault>
     requires held { IsHeld table.old root }
-    requires least { 2 ≤ level_of root }
-    requires greatest { level_of root ≤ 63 }
+    requires level { (2 ≤ level_of root) × (level_of root ≤ 63) }
     requires below { IsBelow (Q.state_count rule.old) (cells_of table.old root) }
     ensures grows { Grows table.old table.new }
     ensures rule { IsSameRule (Q.meaning rule.old) (Q.meaning rule.new)
         (Q.state_count rule.old) (Q.state_count rule.new) }
-    ensures held { IfOk result (λ found. IsHeld table.new found.square
-        × (level_of found.square + 1 ≡ level_of root.entry)) }
+    ensures square { IfOk result (λ found. IsLater (Q.meaning rule.old) generations
+        table.old root.entry table.new found.square) }
     ensures counts { IfOk result (λ found. (found.base ≤ found.fours)
         × (found.fours ≤ length table.new.rows)) }
-    ensures cells { IfOk result (λ found. cells_of table.new found.square ≡
-        hash_life.result (Q.meaning rule.old) (level_of root.entry - 2) generations
-        (cells_of table.old root.entry)) }
+    ensures asks { IfOk result (λ found. (w : World) (x y : ℤ) →
+        generations ≤ 2 ^ (level_of root.entry - 2) →
+        cells_of table.old root.entry ≡ square_at w (level_of root.entry) x y →
+        AsksOnce (Q.meaning rule.old) w generations found.base
+        (Q.asks rule.old) (Q.asks rule.new)) }
     ensures end { IsEnd table.new (S.yes_count stop.old) (S.yes_count stop.new) result }
 {
     let k = root.level() - 2;
@@ -172,7 +212,7 @@ pub fn result<'a, Q: Ask, S: Stop>(
     let number = later(table, &mut memo, rule, stop, k, generations, root.number())?;
     let counts = count_squares(table, &memo);
     Ok(Found {
-        square: table.square(k + 1, number),
+        square: table.square(k + 1, number)?,
         fours: counts.fours,
         base: counts.base,
     })

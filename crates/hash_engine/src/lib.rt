@@ -5,7 +5,8 @@
 //! there (R. Wm. Gosper, Exploiting Regularities in Large Cellular Spaces, Physica 10D, 1984). A
 //! square of level k + 2 is asked for nine results of level k + 1 and four of what these make. In one
 //! call a level is asked for two counts of generations at most, the full 2^k and one other, so that
-//! two lists by the squares' numbers remember all: 8 bytes a square.
+//! two lists by the squares' numbers remember all: 8 bytes a square. The rule is asked at level 2
+//! alone, four times for each distinct square of 4 by 4 cells that is put to it.
 #![tactic(auto)]
 
 mod asking;

@@ -1,8 +1,8 @@
 //! What is remembered of a computation: the results by the numbers of their squares.
 
-ghost use Rattle.std.specs.Prelude.{◌≡◌, ◌+◌, ◌-◌, ◌^◌, ◌<◌, ◌≤◌, ℕ, List, suc, get_or, IfSome, OnOk, OnErr};
+ghost use Rattle.std.specs.Prelude.{◌≡◌, ◌+◌, ◌-◌, ◌^◌, ◌<◌, ◌≤◌, ℕ, List, suc, get_or, nat_lt, IfSome, IfNone, OnOk, OnErr, []};
 ghost use Rattle.square_table.specs.Squares.{IsNumber, first_number};
-ghost use Rattle.hash_engine.specs.Memo.{IsRight, IsResult, IsNoted};
+ghost use Rattle.hash_engine.specs.Memo.{IsRight, IsResult, IsNoted, IsRemembered};
 
 use std::alloc::{AllocError, Global};
 
@@ -47,7 +47,9 @@ fn counts(k: u8, generations: u64) -> [u64; 62]
 // The result at a number.
 fn found(known: &[u32], number: u32) -> Option<u32>
     requires { first_number ≤ number }
-    ensures { IfSome result (λ r. (0 < r) × (get_or known.now (number - first_number) 0 ≡ r)) }
+    ensures some { IfSome result (λ r.
+        (0 < r) × (get_or known.now (number - first_number) 0 ≡ r)) }
+    ensures none { IfNone result (get_or known.now (number - first_number) 0 ≡ 0) }
 {
     match known.get((number - FIRST_NUMBER) as usize) {
         None | Some(0) => None,
@@ -73,7 +75,8 @@ impl Memo {
     /// Nothing yet, for what is asked on the way from level k + 2 by as many generations.
     pub(crate) fn nothing(alloc: Global, k: u8, generations: u64) -> Memo
         requires { k ≤ 61 }
-        ensures { (next : List ℕ → ℕ) (rows : List (List ℕ)) → IsRight next rows result }
+        ensures right { (next : List ℕ → ℕ) (rows : List (List ℕ)) → IsRight next rows result }
+        ensures full { result.full.items ≡ [] }
     {
         Memo {
             full: Vec::new(alloc),
@@ -86,9 +89,11 @@ impl Memo {
     pub(crate) fn recall(&self, k: u8, generations: u64, number: u32) -> Option<u32>
         requires k { k ≤ 61 }
         requires number { first_number ≤ number }
-        ensures { IfSome result (λ r. (next : List ℕ → ℕ) (rows : List (List ℕ)) →
+        ensures some { IfSome result (λ r. (next : List ℕ → ℕ) (rows : List (List ℕ)) →
             IsRight next rows self.now → IsNumber rows (suc (suc k)) number →
             IsResult next rows k generations number r) }
+        ensures none { IfNone result (generations ≡ 2 ^ k →
+            get_or self.now.full.items (number - first_number) 0 ≡ 0) }
     {
         if generations == full(k) {
             found(&self.full, number)
@@ -100,7 +105,9 @@ impl Memo {
     }
 
     /// Whether the result of the square at this place by the full count is known.
-    pub(crate) fn has_full(&self, place: u32) -> bool {
+    pub(crate) fn has_full(&self, place: u32) -> bool
+        ensures { result ≡ nat_lt 0 (get_or self.now.full.items place 0) }
+    {
         match self.full.get(place as usize) {
             None | Some(0) => false,
             Some(_) => true,
@@ -117,8 +124,9 @@ impl Memo {
     ) -> Result<(), AllocError>
         requires k { k ≤ 61 }
         requires number { first_number ≤ number }
-        ensures { (next : List ℕ → ℕ) (rows : List (List ℕ)) → IsRight next rows self.old →
+        ensures right { (next : List ℕ → ℕ) (rows : List (List ℕ)) → IsRight next rows self.old →
             IsResult next rows k generations number found → IsRight next rows self.new }
+        ensures noted { OnOk result (IsRemembered k generations number found self.old self.new) }
     {
         if generations == full(k) {
             note(&mut self.full, number, found)

@@ -12,8 +12,26 @@ ghost use Rattle.hash_engine.specs.Found.{IsSameRule};
 use square_table::{SquareTable, TableFault};
 use worlds::{Around, Ask};
 
+// Guesses at the squares that `nine` makes, in its order.
+fn guesses(table: &SquareTable<'_>, number: u32) -> [u32; 5]
+    requires { (k : ℕ) × IsNumber table.now.rows (suc (suc k)) number }
+{
+    let [nw, ne, sw, se] = table.quadrants(number);
+    let [_, b, e, f] = table.quadrants(nw);
+    let [c, _, g, h] = table.quadrants(ne);
+    let [i, j, _, n] = table.quadrants(sw);
+    let [k, l, o, _] = table.quadrants(se);
+    [
+        table.guess([b, c, f, g]),
+        table.guess([e, f, i, j]),
+        table.guess([f, g, j, k]),
+        table.guess([g, h, k, l]),
+        table.guess([j, k, n, o]),
+    ]
+}
+
 // The square between two that stand side by side.
-fn between(table: &mut SquareTable<'_>, west: u32, east: u32) -> Result<u32, TableFault>
+fn between(table: &mut SquareTable<'_>, west: u32, east: u32, guess: u32) -> Result<u32, TableFault>
     requires west { (k : ℕ) × IsNumber table.old.rows (suc k) west }
     requires east { (k : ℕ) × IsNumber table.old.rows (suc k) east }
     ensures grows { Grows table.old table.new }
@@ -24,11 +42,11 @@ fn between(table: &mut SquareTable<'_>, west: u32, east: u32) -> Result<u32, Tab
 {
     let [_, nw, _, sw] = table.quadrants(west);
     let [ne, _, se, _] = table.quadrants(east);
-    table.join_numbers([nw, ne, sw, se])
+    table.join_guessed([nw, ne, sw, se], guess)
 }
 
 // The square between two that stand one above the other.
-fn amid(table: &mut SquareTable<'_>, north: u32, south: u32) -> Result<u32, TableFault>
+fn amid(table: &mut SquareTable<'_>, north: u32, south: u32, guess: u32) -> Result<u32, TableFault>
     requires north { (k : ℕ) × IsNumber table.old.rows (suc k) north }
     requires south { (k : ℕ) × IsNumber table.old.rows (suc k) south }
     ensures grows { Grows table.old table.new }
@@ -39,11 +57,11 @@ fn amid(table: &mut SquareTable<'_>, north: u32, south: u32) -> Result<u32, Tabl
 {
     let [_, _, nw, ne] = table.quadrants(north);
     let [sw, se, _, _] = table.quadrants(south);
-    table.join_numbers([nw, ne, sw, se])
+    table.join_guessed([nw, ne, sw, se], guess)
 }
 
-/// The square of half the side in the middle.
-pub(crate) fn middle(table: &mut SquareTable<'_>, number: u32) -> Result<u32, TableFault>
+// The square of half the side in the middle.
+fn centre(table: &mut SquareTable<'_>, number: u32, guess: u32) -> Result<u32, TableFault>
     requires { (k : ℕ) × IsNumber table.old.rows (suc (suc k)) number }
     ensures grows { Grows table.old table.new }
     ensures square { IfOk result (λ n. (k : ℕ) (s : squares.Square) →
@@ -56,7 +74,20 @@ pub(crate) fn middle(table: &mut SquareTable<'_>, number: u32) -> Result<u32, Ta
     let [_, _, b, _] = table.quadrants(ne);
     let [_, c, _, _] = table.quadrants(sw);
     let [d, _, _, _] = table.quadrants(se);
-    table.join_numbers([a, b, c, d])
+    table.join_guessed([a, b, c, d], guess)
+}
+
+/// The square of half the side in the middle.
+pub(crate) fn middle(table: &mut SquareTable<'_>, number: u32) -> Result<u32, TableFault>
+    requires { (k : ℕ) × IsNumber table.old.rows (suc (suc k)) number }
+    ensures grows { Grows table.old table.new }
+    ensures square { IfOk result (λ n. (k : ℕ) (s : squares.Square) →
+        StandsFor table.old.rows (suc (suc k)) number s →
+        StandsFor table.new.rows (suc k) n (middle s)) }
+    ensures full { result ≡ Err TableFault.NoRoom → length table.new.rows ≡ table.new.limit }
+{
+    let guess = 0;
+    centre(table, number, guess)
 }
 
 /// The nine squares of half the side that overlap in a square, by rows.
@@ -68,12 +99,13 @@ pub(crate) fn nine(table: &mut SquareTable<'_>, number: u32) -> Result<[u32; 9],
         StandForAll table.new.rows (suc k) ns (nine_of s)) }
     ensures full { result ≡ Err TableFault.NoRoom → length table.new.rows ≡ table.new.limit }
 {
+    let [north, west, middle, east, south] = guesses(table, number);
     let [nw, ne, sw, se] = table.quadrants(number);
-    let north = between(table, nw, ne)?;
-    let west = amid(table, nw, sw)?;
-    let centre = middle(table, number)?;
-    let east = amid(table, ne, se)?;
-    let south = between(table, sw, se)?;
+    let north = between(table, nw, ne, north)?;
+    let west = amid(table, nw, sw, west)?;
+    let centre = centre(table, number, middle)?;
+    let east = amid(table, ne, se, east)?;
+    let south = between(table, sw, se, south)?;
     Ok([nw, north, ne, west, centre, east, sw, south, se])
 }
 
@@ -86,10 +118,14 @@ pub(crate) fn fours(table: &mut SquareTable<'_>, nine: [u32; 9]) -> Result<[u32;
     ensures full { result ≡ Err TableFault.NoRoom → length table.new.rows ≡ table.new.limit }
 {
     let [a, b, c, d, e, f, g, h, i] = nine;
-    let nw = table.join_numbers([a, b, d, e])?;
-    let ne = table.join_numbers([b, c, e, f])?;
-    let sw = table.join_numbers([d, e, g, h])?;
-    let se = table.join_numbers([e, f, h, i])?;
+    let nw = table.guess([a, b, d, e]);
+    let ne = table.guess([b, c, e, f]);
+    let sw = table.guess([d, e, g, h]);
+    let se = table.guess([e, f, h, i]);
+    let nw = table.join_guessed([a, b, d, e], nw)?;
+    let ne = table.join_guessed([b, c, e, f], ne)?;
+    let sw = table.join_guessed([d, e, g, h], sw)?;
+    let se = table.join_guessed([e, f, h, i], se)?;
     Ok([nw, ne, sw, se])
 }
 

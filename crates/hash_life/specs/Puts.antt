@@ -1,5 +1,6 @@
 -- Which squares HashLife puts to the rule on its way to a result.
-use Rattle.std.specs.Prelude.{⊤, ◌≡◌, ℕ, zero, suc, ◌-◌, ◌<◌, ◌≤◌, ◌^◌, min, List, [], ◌∷◌, map, All, ℤ}
+use Rattle.std.specs.Prelude.{⊤, ◌≡◌, ◌≢◌, ℕ, zero, suc, ◌+◌, ◌-◌, ◌*◌, ◌<◌, ◌≤◌, ◌^◌, min, List, [], ◌∷◌, length, map, All, ℤ}
+use Rattle.std.specs.List.{AllPairs}
 use Rattle.worlds.specs.World.{World}
 use Rattle.worlds.specs.Step.{step, nine_zeros}
 use Rattle.worlds.specs.Iterate.{iterate}
@@ -36,3 +37,11 @@ Stands next w n s = (t : ℕ) × (x : ℤ) × (y : ℤ) × (t < n) × (s ≡ squ
 -- each square that is put to the rule on the way to the result of a square of a world stands in it at an earlier generation
 abbrev pub PutsWhatStands : Type 0
 PutsWhatStands = (next : List ℕ → ℕ) → next nine_zeros ≡ 0 → (w : World) (k n : ℕ) (x y : ℤ) → n ≤ 2 ^ k → Puts next k n (square_at w (suc (suc k)) x y) (Stands next w n)
+
+-- four asks for each of so many blocks, no two of which are the same, and each of which stands in the world at one of its first n generations
+pub record AsksOnce (next : List ℕ → ℕ) (w : World) (n base asks new_asks : ℕ) : Type 0 where
+  pub blocks : List Square
+  pub count : length blocks ≡ base
+  pub different : AllPairs (λ s t. s ≢ t) blocks
+  pub stand : All (Stands next w n) blocks
+  pub four : new_asks ≡ asks + 4 * base

@@ -99,8 +99,8 @@ impl Body {
     fn push_rest(&mut self, left: i64, mut run: OpenRun, cells: &[Cell]) -> Result<(), AllocError>
         requires few { run.count + length cells.now < 2 ^ 64 }
         requires listed { All IsListed cells.now }
-        ensures { OnOk result
-            (finished self.new [] ≡ finished self.old (tokens_on left run (map of_cell cells.now))) }
+        ensures { OnOk result (finished self.new []
+            ≡ finished self.old (tokens_on left run (map of_cell cells.now))) }
     {
         for cell in cells {
             run = self.advance(left, run, cell)?;

@@ -124,7 +124,8 @@ impl Drawing {
     fn keep_strip(&mut self, count: u64, state: u8)
         requires few { count ≤ LIVE_LIMIT }
         requires inside { IsTrue (lies_inside self.old.origin (strip_at self.old count state)) }
-        ensures { let cells = self.old.cells ++ cells_of self.old.origin (strip_at self.old count state) in
+        ensures { let strip = strip_at self.old count state in
+            let cells = self.old.cells ++ cells_of self.old.origin strip in
             IsLike (record self.old { cells = cells }) self.new }
     {
         let first = CellSet {

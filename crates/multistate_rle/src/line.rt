@@ -14,7 +14,8 @@ pub struct FirstLine<'a> {
 /// The first line of a text that has one.
 pub fn first_line(text: &[u8]) -> FirstLine<'_>
     requires { text.now ≢ [] }
-    ensures line { lines text.now ≡ record { says = result.says.now; raw = take result.len text.now } ∷
+    ensures line { lines text.now
+        ≡ record { says = result.says.now; raw = take result.len text.now } ∷
         lines (drop result.len text.now) }
     ensures some { 0 < result.len }
     ensures within { result.len ≤ length text.now }

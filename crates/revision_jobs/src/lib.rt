@@ -8,7 +8,7 @@
 //! `InlinePost` works them in the caller's thread.
 //!
 //! Reading an entry, its stop flag or its index costs the same however long the table is. `work`
-//! costs laying the entry's cells and the engine's generations or the text of the view.
+//! costs laying the entry's cells, if it has any, and the engine's generations or the text of the view.
 #![tactic(auto)]
 
 mod answer;
@@ -16,6 +16,7 @@ mod entries;
 mod entry;
 mod gate;
 mod inline;
+mod laid;
 mod post;
 mod stop;
 mod worker;

@@ -14,6 +14,7 @@ use crate::answer::{Answer, Job, Outcome};
 use crate::entries::Entries;
 use crate::entry::Entry;
 use crate::gate::Gate;
+use crate::laid::Laid;
 use basics::Listing;
 use bookmarks::render;
 use plane_core::{CellSet, Plane, Stop};
@@ -90,8 +91,9 @@ fn found<S: Stop>(
             states,
             generation,
         } => {
-            let laid = from.lay(cells.as_slice())?;
-            let text = render(alloc, view, &laid, name.as_slice(), *states, *generation)?;
+            let laid = Laid::on(from, cells.as_slice())?;
+            let plane = laid.plane();
+            let text = render(alloc, view, plane, name.as_slice(), *states, *generation)?;
             Ok(Outcome::Text(Listing::from_vec(text)))
         }
     }
@@ -117,8 +119,8 @@ fn later<S: Stop>(
     ensures went_on { result ≢ Err EvolveFault.Stopped →
         S.yes_count stop.new ≡ S.yes_count stop.old }
 {
-    let laid = from.lay(cells)?;
-    let evolved = evolve(alloc, rule, &laid, gens, stop, limit)?;
+    let laid = Laid::on(from, cells)?;
+    let evolved = evolve(alloc, rule, laid.plane(), gens, stop, limit)?;
     Ok(evolved.plane)
 }
 

@@ -53,3 +53,20 @@ WantsNone {A} r = ◌≢◌ {A = Result A RuleFault} r (Err NoMemory)
 pub handed_on : {A B : Type 0} (result : Result A RuleFault) (read : Result B RuleFault) (e : RuleFault) → IsErrAnd result (λ f. f ≡ e) → read ≡ Err e → WantsNone read → result ≢ Err NoMemory
 handed_on (Ok x) read e is at none h = absurd is
 handed_on (Err f) read e is at none h = let wanted : e ≡ NoMemory = cc in none (at ∙ ap Err wanted)
+
+-- the second gives what the first gives, where that gives something
+abbrev pub GivesToo : {A : Type 0} → Result A RuleFault → Result A RuleFault → Type 0
+GivesToo {A} r q = (x : A) → r ≡ Ok x → q ≡ Ok x
+
+-- steps one after another
+pub then_too : {A B : Type 0} (r q : Result A RuleFault) (f g : A → Result B RuleFault) → GivesToo r q → ((x : A) → GivesToo (f x) (g x)) → GivesToo (r >>= f) (q >>= g)
+then_too (Ok x) q f g first later y h = ap (λ p. p >>= g) (first x refl) ∙ later x y h
+then_too (Err e) q f g first later y h = absurd cc
+
+pub ok_or-too : {A : Type 0} (o : Option A) (d e : RuleFault) → GivesToo (ok_or o d) (ok_or o e)
+ok_or-too (Some x) d e y h = h
+ok_or-too None d e y h = absurd cc
+
+pub unless-too : {A : Type 0} (b : Bool) (r q : Result A RuleFault) (d e : RuleFault) → GivesToo r q → GivesToo (if b then r else Err d) (if b then q else Err e)
+unless-too true r q d e both y h = both y h
+unless-too false r q d e both y h = absurd cc

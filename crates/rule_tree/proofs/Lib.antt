@@ -1,2 +1,3 @@
 mod SaidRules
+mod SaidTwice
 mod WrittenRules

@@ -1,5 +1,6 @@
 -- Laws of rules: each statement is proved by a function of the same name.
 use Rattle.std.specs.Prelude.{◌≡◌, ℕ, true, List, Ok}
+use Rattle.rule_file.specs.Laws.{saying_of}
 use Rattle.rule_file.specs.RuleFile.{is_name}
 use Rattle.table_lines.specs.WrittenTable as table_text
 use Rattle.table_symmetry.specs.Table as table_values
@@ -16,6 +17,10 @@ use Rattle.rule_tree.specs.Rule.{next_of, plain_next, rule_of}
 -- the next state under the rule that a file means is that of its table or tree
 abbrev pub RulesOfFilesArePlain : Type 0
 RulesOfFilesArePlain = (bytes : List ℕ) (rule : NamedRule) → rule_of bytes ≡ Ok rule → next_of rule ≡ plain_next rule.kind
+
+-- a text that says what another says, whichever of its lines say it, means the same rule: where blank lines and comments stand doesn't matter
+abbrev pub RulesAreWhatIsSaid : Type 0
+RulesAreWhatIsSaid = (text other : List ℕ) (rule : NamedRule) → saying_of text ≡ saying_of other → rule_of text ≡ Ok rule → rule_of other ≡ Ok rule
 
 -- the text that is written for a name and a table within its limits means the rule of this name and this table
 abbrev pub WrittenTablesAreRules : Type 0

@@ -1,9 +1,16 @@
 //! Laws of the definitions, each the contract of a function that does nothing.
-ghost use Rattle.rule_tree.specs.Laws.{RulesOfFilesArePlain, WrittenTablesAreRules, WrittenTreesAreRules};
+ghost use Rattle.rule_tree.specs.Laws.{RulesAreWhatIsSaid, RulesOfFilesArePlain};
+ghost use Rattle.rule_tree.specs.Laws.{WrittenTablesAreRules, WrittenTreesAreRules};
 
 /// The next state under the rule that a file means is that of its table or tree.
 pub fn rules_of_files_are_plain()
     ensures { RulesOfFilesArePlain }
+{}
+
+/// Texts that say the same mean the same rule, whichever of their lines say it: where blank lines
+/// and comments stand doesn't matter.
+pub fn rules_are_what_is_said()
+    ensures { RulesAreWhatIsSaid }
 {}
 
 /// The text that is written for a name and a table means the rule of this name and this table.

@@ -10,20 +10,21 @@ use Rattle.worlds.specs.Live.{live, live-states, live-entries, as_live, cell-sta
 use Rattle.worlds.specs.Range.{IsInside, HasMargin, AllBelow, IsGreatest, IsInBox, IsBoundingBox}
 use Rattle.worlds.specs.declared.cell.Bounds.{Bounds}
 use Rattle.worlds.specs.declared.cell.CellSet.{CellSet}
-use Rattle.schedule.specs.Change.{is_in_range, may_be_named, stay_in_range, set_below, lies_near, lies_below}
+use Rattle.schedule.specs.Change.{is_named, may_be_named, stay_in_range, set_below, lies_near, lies_below}
 use Rattle.schedule.specs.Near.{box_near}
 use Rattle.schedule.specs.Sound.{AreNamed, SetBelow}
-use Rattle.schedule.proofs.Each.{each_passes, all_pass, all_weaker}
+use Rattle.basics.proofs.Lists.{all_so}
+use Rattle.schedule.proofs.Each.{each_passes, all_pass}
 
-in_range : (z : ℤ) → is_in_range z ≡ true → (neg_ℤ (pos (2 ^ 60)) ≤ℤ z) × (z <ℤ pos (2 ^ 60))
+in_range : (z : ℤ) → is_named z ≡ true → (neg_ℤ (pos (2 ^ 60)) ≤ℤ z) × (z <ℤ pos (2 ^ 60))
 in_range z h = let parts = and_parts (int_le (neg_ℤ (pos (2 ^ 60))) z) (int_lt z (pos (2 ^ 60))) h in (
   (let k = parts.0 in grind (arith, ints)),
   (let k = parts.1 in grind (arith, ints)),
 )
 
-place_inside : (x y : ℤ) → (is_in_range x && is_in_range y) ≡ true → IsInside (2 ^ 60) x y
+place_inside : (x y : ℤ) → (is_named x && is_named y) ≡ true → IsInside (2 ^ 60) x y
 place_inside x y h =
-    let parts = and_parts (is_in_range x) (is_in_range y) h in
+    let parts = and_parts (is_named x) (is_named y) h in
     let column = in_range x parts.0 in
     let row = in_range y parts.1 in
     record {
@@ -70,7 +71,7 @@ lies_below_is w g n most some =
 pub HasMargin-lies : (w : World) → lies_near w ≡ true → HasMargin (2 ^ 60) w
 HasMargin-lies w h x y alive =
     let is = cell-state_at w x y in
-    by_place (live w) (λ x y _. IsInside (2 ^ 60) x y) (each_passes (λ (e : Place × ℕ). is_in_range e.0.1 && is_in_range e.0.0) _ (live w) (λ e k. place_inside e.0.1 e.0.0 k) h) x y (subst (λ s. 0 < s) is alive)
+    by_place (live w) (λ x y _. IsInside (2 ^ 60) x y) (each_passes (λ (e : Place × ℕ). is_named e.0.1 && is_named e.0.0) _ (live w) (λ e k. place_inside e.0.1 e.0.0 k) h) x y (subst (λ s. 0 < s) is alive)
 
 both : (a b : Bool) → a ≡ true → b ≡ true → (a && b) ≡ true
 both a b h k = ap (λ t. t && b) h ∙ k
@@ -81,16 +82,16 @@ passes_le y z h = grind (arith, ints)
 passes_lt : (y z : ℤ) → y <ℤ z → int_lt y z ≡ true
 passes_lt y z h = grind (arith, ints)
 
-span_near : (low z high : ℤ) → int_le (neg_ℤ (pos (2 ^ 60))) low ≡ true → int_lt high (pos (2 ^ 60)) ≡ true → low ≤ℤ z → z ≤ℤ high → is_in_range z ≡ true
+span_near : (low z high : ℤ) → int_le (neg_ℤ (pos (2 ^ 60))) low ≡ true → int_lt high (pos (2 ^ 60)) ≡ true → low ≤ℤ z → z ≤ℤ high → is_named z ≡ true
 span_near low z high h k l m = both (int_le (neg_ℤ (pos (2 ^ 60))) z) (int_lt z (pos (2 ^ 60))) (grind (arith, ints)) (grind (arith, ints))
 
 -- a place in such a box
-in_box_near : (b : Bounds) (x y : ℤ) → box_near b ≡ true → IsInBox b x y → (is_in_range x && is_in_range y) ≡ true
+in_box_near : (b : Bounds) (x y : ℤ) → box_near b ≡ true → IsInBox b x y → (is_named x && is_named y) ≡ true
 in_box_near b x y h inside =
     let parts = and_parts (int_le (neg_ℤ (pos (2 ^ 60))) b.left && int_lt b.right (pos (2 ^ 60))) (int_le (neg_ℤ (pos (2 ^ 60))) b.top && int_lt b.bottom (pos (2 ^ 60))) h in
     let columns = and_parts (int_le (neg_ℤ (pos (2 ^ 60))) b.left) (int_lt b.right (pos (2 ^ 60))) parts.0 in
     let rows = and_parts (int_le (neg_ℤ (pos (2 ^ 60))) b.top) (int_lt b.bottom (pos (2 ^ 60))) parts.1 in
-    both (is_in_range x) (is_in_range y) (span_near b.left x b.right columns.0 columns.1 inside.left inside.right) (span_near b.top y b.bottom rows.0 rows.1 inside.top inside.bottom)
+    both (is_named x) (is_named y) (span_near b.left x b.right columns.0 columns.1 inside.left inside.right) (span_near b.top y b.bottom rows.0 rows.1 inside.top inside.bottom)
 
 least_near : (z : ℤ) → neg_ℤ (pos (2 ^ 61)) ≤ℤ (z -ℤ pos (2 ^ 60)) → int_le (neg_ℤ (pos (2 ^ 60))) z ≡ true
 least_near z h = let k : neg_ℤ (pos (2 ^ 60)) ≤ℤ z = omega (arith, ints, h) in passes_le (neg_ℤ (pos (2 ^ 60))) z k
@@ -113,8 +114,8 @@ pub lies_near_is : (w : World) (b : Bounds) → IsBoundingBox b w → box_near b
 lies_near_is w b box =
     elim (box_near b) as (λ t. box_near b ≡ t → t ≡ lies_near w) [
       | true ↦ λ e.
-          sym (all_pass (λ (d : Place × ℕ). is_in_range d.0.1 && is_in_range d.0.0) (λ d. IsInBox b d.0.1 d.0.0) (live w) (λ d k. in_box_near b d.0.1 d.0.0 e k)
-          (all_weaker (λ (d : Place × ℕ). (cell w d.0.1 d.0.0 ≡ d.1) × (0 < d.1)) (λ d. IsInBox b d.0.1 d.0.0) (live w) (λ d k. box.holds d.0.1 d.0.0 (subst (λ s. 0 < s) (sym k.0) k.1)) (live-states w)))
+          sym (all_pass (λ (d : Place × ℕ). is_named d.0.1 && is_named d.0.0) (λ d. IsInBox b d.0.1 d.0.0) (live w) (λ d k. in_box_near b d.0.1 d.0.0 e k)
+          (all_so (λ (d : Place × ℕ). (cell w d.0.1 d.0.0 ≡ d.1) × (0 < d.1)) (λ d. IsInBox b d.0.1 d.0.0) (live w) (λ d k. box.holds d.0.1 d.0.0 (subst (λ s. 0 < s) (sym k.0) k.1)) (live-states w)))
       | false ↦ λ e.
           elim (lies_near w) as (λ t. lies_near w ≡ t → false ≡ t) [
             | true ↦ λ k. sym e ∙ box_near-live w b box (HasMargin-lies w k)
@@ -124,4 +125,4 @@ lies_near_is w b box =
 
 -- where no cell is live
 pub lies_near-blank : (w : World) → w ≡ blank → lies_near w ≡ true
-lies_near-blank w is = ap lies_near is ∙ ap (λ es. list_all (λ (e : Place × ℕ). is_in_range e.0.1 && is_in_range e.0.0) es) (live-entries blank ∙ ap (map as_live) entries-blank)
+lies_near-blank w is = ap lies_near is ∙ ap (λ es. list_all (λ (e : Place × ℕ). is_named e.0.1 && is_named e.0.0) es) (live-entries blank ∙ ap (map as_live) entries-blank)

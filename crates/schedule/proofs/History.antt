@@ -13,7 +13,7 @@ use Rattle.schedule.specs.declared.document.Intervention.{Intervention}
 use Rattle.schedule.specs.Plan.{Plan}
 use Rattle.schedule.specs.Scratch.{acts_at, own_cells, cells_at, arrival, after}
 use Rattle.schedule.specs.Sound.{AreNamed, SetBelow, IsAllowed, IsSound}
-use Rattle.schedule.proofs.Each.{all_append}
+use Rattle.basics.proofs.Lists.{all_append}
 
 own : (P : CellSet → Type 0) (b : Bool) (cs : List CellSet) → AllByRecursion P cs → AllByRecursion P (if b then cs else [])
 own P true cs h = h

@@ -9,7 +9,7 @@ use Rattle.std.proofs.lemmas.List.Elements.{All-get_or, All-from_recursion}
 use Rattle.std.proofs.lemmas.List.Quantifiers.{position-Some}
 use Rattle.std.proofs.lemmas.List.Sums.{length-filter, count_by-le-length, fails_before_first}
 use Rattle.schedule.specs.Ids.{IdsRise, changed_at}
-use Rattle.schedule.proofs.Each.{all_append}
+use Rattle.basics.proofs.Lists.{all_append}
 
 -- an element with a greater id at the end
 pub rise_push : {X : Type 0} (id : X → ℕ) (xs : List X) (x : X) (last : ℕ) → IdsRise id xs → AllByRecursion (λ y. id y ≤ last) xs → last < id x → IdsRise id (xs ++ x ∷ [])

@@ -22,7 +22,8 @@ use Rattle.schedule.specs.Sound.{AreNamed, SetBelow, IsAllowed, IsSound}
 use Rattle.schedule.specs.Ids.{IdsRise, intervention_id, bookmark_id, has_id, changed_at, without}
 use Rattle.schedule.specs.Change.{first_refusal, for_cells, for_intervention, for_changed_intervention, for_start, for_rule, for_bookmark, for_moved_bookmark, acting, marking, revised, stay_in_range, set_below, lies_near, lies_below, all_set_below, is_too_far}
 use Rattle.schedule.proofs.History.{CanBeLaid-named}
-use Rattle.schedule.proofs.Each.{each_passes, all_append, all_weaker}
+use Rattle.basics.proofs.Lists.{all_append, all_so}
+use Rattle.schedule.proofs.Each.{each_passes}
 use Rattle.schedule.proofs.Ids.{rise_push, each_map, rise_map, each_filter, rise_filter, length-filter_le}
 use Rattle.std.proofs.lemmas.List.{length-map}
 use Rattle.schedule.proofs.Below.{AreNamed-stay, SetBelow-test, AllBelow-lies, HasMargin-lies}
@@ -148,7 +149,7 @@ allowed p i cells far is free =
     }
 
 given_more : {X : Type 0} (id : X → ℕ) (xs : List X) (last : ℕ) → AllByRecursion (λ x. id x ≤ last) xs → AllByRecursion (λ x. id x ≤ last + 1) xs
-given_more id xs last h = all_weaker (λ x. id x ≤ last) (λ x. id x ≤ last + 1) xs (λ x k. omega (arith, k)) h
+given_more id xs last h = all_so (λ x. id x ≤ last) (λ x. id x ≤ last + 1) xs (λ x k. omega (arith, k)) h
 
 pub IsSound-intervention : (p : Plan) (generation : ℕ) (cells : List CellSet) (i : Intervention) (is : List Intervention) → IsSound p → first_refusal (for_intervention p generation cells) ≡ None
     → is ≡ p.interventions ++ i ∷ [] → i.id ≡ p.last_intervention + 1 → i.generation ≡ generation → i.cells ≡ cells → IsSound (record (revised p) { interventions = is; last_intervention = p.last_intervention + 1 })

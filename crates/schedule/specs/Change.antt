@@ -22,13 +22,13 @@ use Rattle.schedule.specs.declared.document.Bookmark.{Bookmark}
 abbrev pub is_too_far : ℕ → Bool
 is_too_far generation = nat_lt (2 ^ 60) generation
 
--- a coordinate from -2^60 up to but not including 2^60
-abbrev pub is_in_range : ℤ → Bool
-is_in_range z = int_le (neg_ℤ (pos (2 ^ 60))) z && int_lt z (pos (2 ^ 60))
+-- a coordinate that a named cell may have, from -2^60 up to but not including 2^60
+abbrev pub is_named : ℤ → Bool
+is_named z = int_le (neg_ℤ (pos (2 ^ 60))) z && int_lt z (pos (2 ^ 60))
 
 -- a cell that an edit may name, by its place
 abbrev pub may_be_named : CellSet → Bool
-may_be_named c = is_in_range c.x && is_in_range c.y
+may_be_named c = is_named c.x && is_named c.y
 
 -- every cell may be
 abbrev pub stay_in_range : List CellSet → Bool
@@ -40,7 +40,7 @@ set_below n cells = list_all (λ (c : CellSet). nat_lt c.state n) cells
 
 -- every live cell lies where an edit may name it
 abbrev pub lies_near : World → Bool
-lies_near w = list_all (λ e. is_in_range e.0.1 && is_in_range e.0.0) (live w)
+lies_near w = list_all (λ e. is_named e.0.1 && is_named e.0.0) (live w)
 
 -- every live cell's state is below n
 abbrev pub lies_below : ℕ → World → Bool

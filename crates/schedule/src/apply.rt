@@ -26,10 +26,12 @@ impl Document {
     /// Makes the change that the edit asks for, or refuses it by its first refusal and changes
     /// nothing. NoMemory comes only where memory was wanted, and after all other refusals.
     pub fn apply(&mut self, edit: &Edit) -> Result<Edited, EditFault>
-        ensures ok { IfOk result (λ edited. change self.old (asked_of edit.now) ≡ Ok (made self.new edited)) }
+        ensures ok { IfOk result
+            (λ edited. change self.old (asked_of edit.now) ≡ Ok (made self.new edited)) }
         ensures refused { IfErr result (λ fault.
             (fault ≡ EditFault.NoMemory) ⊎ (change self.old (asked_of edit.now) ≡ Err fault)) }
-        ensures first { IfSome (refusal self.old (asked_of edit.now)) (λ fault. result ≡ Err fault) }
+        ensures first { IfSome (refusal self.old (asked_of edit.now))
+            (λ fault. result ≡ Err fault) }
         ensures unchanged { OnErr result (self.new ≡ self.old) }
     {
         self.check(edit)?;
@@ -86,7 +88,8 @@ impl Document {
         generation: u64,
         cells: &[CellSet],
     ) -> Result<Edited, EditFault>
-        requires { first_refusal (for_changed_intervention self.old id generation cells.now) ≡ None }
+        requires { first_refusal (for_changed_intervention self.old id generation cells.now)
+            ≡ None }
         ensures ok { IfOk result (λ edited.
             with_changed_intervention self.old id generation cells.now ≡ made self.new edited) }
         ensures memory { IfErr result (λ fault. fault ≡ EditFault.NoMemory) }
@@ -117,7 +120,8 @@ impl Document {
     // Sets cells of the start.
     fn set_cells(&mut self, cells: &[CellSet]) -> Result<Edited, EditFault>
         requires { first_refusal (for_cells self.old cells.now) ≡ None }
-        ensures ok { IfOk result (λ edited. changed_cells self.old cells.now ≡ made self.new edited) }
+        ensures ok { IfOk result
+            (λ edited. changed_cells self.old cells.now ≡ made self.new edited) }
         ensures memory { IfErr result (λ fault. fault ≡ EditFault.NoMemory) }
         ensures unchanged { OnErr result (self.new ≡ self.old) }
     {
@@ -133,7 +137,8 @@ impl Document {
     // Takes another start.
     fn replace_start(&mut self, start: &Arc<Plane>) -> Result<Edited, EditFault>
         requires { first_refusal (for_start self.old (arc_value start.now)) ≡ None }
-        ensures ok { IfOk result (λ edited. changed_start self.old (arc_value start.now) ≡ made self.new edited) }
+        ensures ok { IfOk result
+            (λ edited. changed_start self.old (arc_value start.now) ≡ made self.new edited) }
         ensures memory { IfErr result (λ fault. fault ≡ EditFault.NoMemory) }
         ensures unchanged { OnErr result (self.new ≡ self.old) }
     {
@@ -151,7 +156,8 @@ impl Document {
     // Takes another rule.
     fn replace_rule(&mut self, rule: &Arc<Rule>) -> Result<Edited, EditFault>
         requires { first_refusal (for_rule self.old (arc_value rule.now)) ≡ None }
-        ensures ok { IfOk result (λ edited. changed_rule self.old (arc_value rule.now) ≡ made self.new edited) }
+        ensures ok { IfOk result
+            (λ edited. changed_rule self.old (arc_value rule.now) ≡ made self.new edited) }
         ensures memory { IfErr result (λ fault. fault ≡ EditFault.NoMemory) }
         ensures unchanged { OnErr result (self.new ≡ self.old) }
     {
@@ -169,7 +175,8 @@ impl Document {
     // Adds a bookmark.
     fn add_bookmark(&mut self, generation: u64, view: View) -> Result<Edited, EditFault>
         requires { first_refusal (for_bookmark self.old generation view) ≡ None }
-        ensures ok { IfOk result (λ edited. changed_bookmarks self.old generation view ≡ made self.new edited) }
+        ensures ok { IfOk result
+            (λ edited. changed_bookmarks self.old generation view ≡ made self.new edited) }
         ensures memory { IfErr result (λ fault. fault ≡ EditFault.NoMemory) }
         ensures unchanged { OnErr result (self.new ≡ self.old) }
     {

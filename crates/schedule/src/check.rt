@@ -1,7 +1,7 @@
 //! Whether an edit fits a document.
 ghost use Rattle.std.specs.Prelude.{◌≡◌, ◌<◌};
 ghost use Rattle.schedule.specs.Asked.{asked_of};
-ghost use Rattle.schedule.specs.Change.{may_be_named, stay_in_range, set_below, lies_near};
+ghost use Rattle.schedule.specs.Change.{is_named, may_be_named, stay_in_range, set_below, lies_near};
 ghost use Rattle.schedule.specs.Change.{lies_below, all_set_below, refusals, Checks, spent};
 ghost use Rattle.schedule.specs.Change.{for_cells, for_start, for_rule, for_bookmark};
 ghost use Rattle.schedule.specs.Change.{for_intervention, for_changed_intervention};
@@ -29,16 +29,21 @@ pub const MOST_BOOKMARKS: usize = 4096;
 /// One edit names at most this many cells.
 pub const MOST_CELLS: usize = 10_000;
 
-// Named cells have coordinates from the least up to but not including the one beyond.
-const LEAST: i64 = -(1 << 60);
+// Named cells have coordinates from -2^60 up to but not including 2^60.
+const NAMED_REACH: i64 = 1 << 60;
 
-const BEYOND: i64 = 1 << 60;
+// Whether a named cell may have this coordinate.
+fn is_named(coordinate: i64) -> bool
+    ensures { result ≡ is_named coordinate }
+{
+    -NAMED_REACH <= coordinate && coordinate < NAMED_REACH
+}
 
 // Whether an edit may name the cell, by its place.
 fn may_be_named(cell: &CellSet) -> bool
     ensures { result ≡ may_be_named cell.now }
 {
-    LEAST <= cell.x && cell.x < BEYOND && (LEAST <= cell.y && cell.y < BEYOND)
+    is_named(cell.x) && is_named(cell.y)
 }
 
 // Whether an edit may name each cell.
@@ -59,7 +64,9 @@ fn set_below(states: u16, cells: &[CellSet]) -> bool
 fn box_near(bounds: &Bounds) -> bool
     ensures { result ≡ box_near bounds.now }
 {
-    LEAST <= bounds.left && bounds.right < BEYOND && (LEAST <= bounds.top && bounds.bottom < BEYOND)
+    -NAMED_REACH <= bounds.left
+        && bounds.right < NAMED_REACH
+        && (-NAMED_REACH <= bounds.top && bounds.bottom < NAMED_REACH)
 }
 
 // Whether each live cell lies where an edit may name it.

@@ -44,9 +44,8 @@ impl Input {
         ensures bytes { Keeps (left (R.remaining reader.old.inner) self.old)
             (left (R.remaining reader.new.inner) self.new) }
         ensures same { bytes_left reader.new.given self.new ≡ bytes_left reader.old.given self.old }
-        ensures starts { OnOk result (self.new.unread.at ≡ 0) }
-        ensures end { OnOk result (self.new.unread.end ≡ 0
-            → IsAtEnd (left (R.remaining reader.new.inner) self.new)) }
+        ensures filled { OnOk result ((self.new.unread.at ≡ 0) × (self.new.unread.end ≡ 0
+            → IsAtEnd (left (R.remaining reader.new.inner) self.new))) }
         ensures worked { OnOk result (reader.new.failures ≡ reader.old.failures) }
         ensures failed { OnErr result (IsDrained self.new.unread
             × FailsOrFull reader.old.failures reader.new.failures reader.new.given) }
@@ -105,7 +104,8 @@ impl Input {
             (left (R.remaining reader.new.inner) self.new)) }
         ensures falls { IfOk result (λ b. MatchOption b
             (bytes_left reader.new.given self.new ≡ bytes_left reader.old.given self.old)
-            (λ _. bytes_left reader.new.given self.new + 1 ≡ bytes_left reader.old.given self.old)) }
+            (λ _. bytes_left reader.new.given self.new + 1
+            ≡ bytes_left reader.old.given self.old)) }
         ensures worked { OnOk result (reader.new.failures ≡ reader.old.failures) }
         ensures err { OnErr result (Keeps (left (R.remaining reader.old.inner) self.old)
             (left (R.remaining reader.new.inner) self.new)) }

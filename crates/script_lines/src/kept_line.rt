@@ -110,7 +110,8 @@ impl KeptLine {
 
     // One more byte that is to be kept.
     fn add(&mut self, byte: u8)
-        ensures holds { (bytes : List ℕ) → Kept self.old bytes → Kept self.new (bytes ++ byte ∷ []) }
+        ensures holds { (bytes : List ℕ) → Kept self.old bytes
+            → Kept self.new (bytes ++ byte ∷ []) }
         ensures gap { self.new.gap ≡ self.old.gap }
         ensures waits { self.new.waits ≡ self.old.waits }
     {
@@ -180,7 +181,8 @@ impl KeptLine {
 
     // The line is at its line feed.
     fn end_line(&mut self)
-        ensures { (seen : List ℕ) → Saw self.old seen → Says self.new (trim (strip_carriage_return seen)) }
+        ensures { (seen : List ℕ) → Saw self.old seen
+            → Says self.new (trim (strip_carriage_return seen)) }
     {
         self.close();
     }

@@ -5,7 +5,8 @@ ghost use Rattle.script_lines.specs.Words.{words, starts_in_word, FirstWord};
 /// The first word and the bytes behind it, or None where there is no word. Words are separated by
 /// spaces alone.
 pub fn next_word(bytes: &[u8]) -> Option<(&[u8], &[u8])>
-    ensures { MatchOption result (words bytes.now ≡ []) (λ pair. FirstWord bytes.now pair.0.now pair.1.now) }
+    ensures { MatchOption result (words bytes.now ≡ [])
+        (λ pair. FirstWord bytes.now pair.0.now pair.1.now) }
 {
     let bytes = skip_spaces(bytes);
     if bytes.is_empty() {

@@ -4,7 +4,7 @@ use Rattle.square_table.specs.declared.chains.Row.{Row}
 
 -- the numbers of a row's quadrants
 abbrev pub kids_of : Row → List ℕ
-kids_of r = r.kids.now
+kids_of r = r.kids
 
 -- a mix of the four numbers
 unfoldable pub hash_of : List ℕ → ℕ

@@ -1,7 +1,6 @@
 pub mod Chains
 pub mod Squares
 pub mod Faults
-pub mod Kept
 pub mod Centred
 pub mod Loading
 pub mod Packing

@@ -1,10 +1,12 @@
 //! Shared squares: each distinct square of one computation stands once, and is known by a number.
 //!
-//! A `SquareTable` keeps its squares in an arena that is made before it. Squares of equal cells and
+//! A `SquareTable` keeps the quadrants of each square by their numbers. Squares of equal cells and
 //! equal level have equal numbers, and others have different ones, so two squares are compared at the
 //! cost of two numbers, and what is found of one holds for all that are equal. `join` finds or makes
-//! the square of four by a hash table with chains: one look-up of about one cache miss, at 16 bytes in
-//! the arena for the quadrants, 16 for the row and 4 for the head of its chain.
+//! the square of four by a hash table with chains, at 20 bytes for the row and 8 to 16 for the heads
+//! of chains, of which at most half are in use. A look-up reads a head and a row; with `guess` several
+//! look-ups wait for their heads together. A handle, `Square`, has its quadrants in an arena that is
+//! made before the table.
 //!
 //! `load` makes the square of a plane, by one look-up for each of its rows, and `pack` the plane of a
 //! square, by a step for each distinct square in it.

@@ -118,7 +118,7 @@ impl<'a> SquareTable<'a> {
         ensures full { result ≡ Err TableFault.NoRoom → length self.new.rows ≡ self.old.limit }
     {
         let number = self.join_numbers([0; 4])?;
-        Ok(self.square(1, number))
+        Ok(self.square(1, number)?)
     }
 
     // The square of the root of a plane's rows.
@@ -137,7 +137,7 @@ impl<'a> SquareTable<'a> {
         let blanks = self.blanks(level)?;
         let numbers = self.load_rows(squares, &blanks)?;
         let number = numbers[squares.len() - 1];
-        Ok(self.square(level, number))
+        Ok(self.square(level, number)?)
     }
 
     /// The square of a plane, whose middle is the cell (0, 0), at the least level from 1 to 62 that

@@ -3,10 +3,9 @@ ghost use Rattle.std.specs.Prelude.{◌≡◌, ℕ, ◌+◌, ◌-◌, ◌^◌, �
 ghost use Rattle.worlds.specs.Square.{one, empty_square};
 ghost use Rattle.square_table.specs.Chains.{kids_of, IsChained, IsAbsent};
 ghost use Rattle.square_table.specs.Squares.{Table, IsNumber, IsHeld, IsSquareOf, Grows, GrowsBy, Keeps, AreFour, Lacks, with_row, joined, cells_of, first_number, kids_at, level_of, number_of, AreDistinct};
-ghost use Rattle.square_table.specs.Kept.{IsRowOf};
 ghost use Rattle.square_table.specs.declared.square.Square.{Square};
 
-use crate::chains::{Row, chains, find, insert, widen};
+use crate::chains::{Row, chains, find, head, insert, is_same, widen};
 use crate::fault::TableFault;
 use crate::square::Square;
 use bumpalo::Bump;
@@ -16,10 +15,12 @@ use std::marker::Model;
 // Below it numbers are those of cells, which are their states.
 const FIRST_NUMBER: u32 = 256;
 
-// A table begins with so many chains. Their number is a power of two, and doubles with the rows.
+// A table begins with so many chains. Their number is a power of two, and doubles with the rows:
+// there are about twice as many or more, so that most rows stand first on their chains.
 const FEWEST_CHAINS: usize = 1024;
 
-/// The distinct squares of one computation, in an arena that is made before the table.
+/// The distinct squares of one computation. The arena, which is made before the table, holds the
+/// quadrants of its handles.
 ///
 /// Contracts see the quadrants of each square by their numbers, in the order in which the squares
 /// were made, and how many squares the table may hold.
@@ -27,7 +28,7 @@ const FEWEST_CHAINS: usize = 1024;
 pub struct SquareTable<'a> {
     arena: &'a Bump,
     none: &'a [u32; 4],
-    rows: Vec<Row<'a>>,
+    rows: Vec<Row>,
     heads: Vec<u32>,
     limit: u32,
     alloc: Global,
@@ -43,13 +44,6 @@ impl<'a> Model for SquareTable<'a> {
     ghost view = { λ t. record { rows = map kids_of t.rows.items; limit = t.limit } };
 
     ghost invariant = { λ t. IsChained t.rows.items (length t.rows.items) t.heads.items × AreDistinct (map kids_of t.rows.items) × (length t.rows.items ≤ t.limit) × (t.limit ≤ 16777216) };
-}
-
-// The quadrants of a row by their numbers, and its own number.
-#[derive(Clone, Copy)]
-struct Numbered<'a> {
-    kids: &'a [u32; 4],
-    number: u32,
 }
 
 // Four numbers, placed in the arena for good.
@@ -116,83 +110,61 @@ impl<'a> SquareTable<'a> {
         }
     }
 
-    /// The square of a level with a number.
-    pub fn square(&self, level: u8, number: u32) -> Square<'a>
+    /// The square of a level with a number. It is refused for memory alone.
+    pub fn square(&self, level: u8, number: u32) -> Result<Square<'a>, AllocError>
         requires { IsNumber self.now.rows level number }
-        ensures held { IsHeld self.now result }
-        ensures level { level_of result ≡ level }
-        ensures number { number_of result ≡ number }
+        ensures held { IfOk result (IsHeld self.now) }
+        ensures level { IfOk result (λ s. level_of s ≡ level) }
+        ensures number { IfOk result (λ s. number_of s ≡ number) }
     {
-        if level == 0 {
-            return Square {
-                kids: self.none,
-                number,
-                level,
-            };
-        }
-        Square {
-            kids: self.rows[(number - FIRST_NUMBER) as usize].kids,
+        let kids = if level == 0 {
+            self.none
+        } else {
+            placed(self.arena, self.quadrants(number))?
+        };
+        Ok(Square {
+            kids,
             number,
             level,
-        }
+        })
     }
 
-    // More chains, where there are as many rows.
+    // More chains, where rows may be first on half of them.
     fn make_ready(&mut self)
         ensures { self.new ≡ self.old }
     {
-        if self.rows.len() >= self.heads.len() {
+        if self.rows.len() >= self.heads.len() / 2 {
             widen(self.alloc, &mut self.rows, &mut self.heads);
         }
     }
 
-    // The row of these quadrants, if there is one.
-    fn known(&self, kids: [u32; 4]) -> Option<Numbered<'a>>
-        ensures some { IfSome result (IsRowOf self.now.rows kids) }
+    // The number of the square of these quadrants, if it is there.
+    fn known(&self, kids: [u32; 4]) -> Option<u32>
+        ensures some { IfSome result (IsSquareOf self.now.rows kids) }
         ensures none { IfNone result (Lacks self.now.rows kids) }
     {
         let at = find(&self.rows, &self.heads, kids);
         if at == 0 {
             return None;
         }
-        Some(Numbered {
-            kids: self.rows[at as usize - 1].kids,
-            number: FIRST_NUMBER + (at - 1),
-        })
+        Some(FIRST_NUMBER + (at - 1))
     }
 
-    // A row for quadrants that have none.
-    fn add(&mut self, kids: [u32; 4]) -> Result<Numbered<'a>, TableFault>
+    // Adds the row of quadrants that have none, and gives its number.
+    fn add(&mut self, kids: [u32; 4]) -> Result<u32, TableFault>
         requires four { length kids ≡ 4 }
         requires lacks { Lacks self.old.rows kids }
         ensures table { OnOk result (self.new ≡ with_row self.old kids) }
-        ensures row { IfOk result (IsRowOf self.new.rows kids) }
+        ensures square { IfOk result (IsSquareOf self.new.rows kids) }
         ensures unchanged { OnErr result (self.new ≡ self.old) }
         ensures full { result ≡ Err TableFault.NoRoom → length self.old.rows ≡ self.old.limit }
     {
         if self.rows.len() >= self.limit as usize {
             return Err(TableFault::NoRoom);
         }
-        let kids = placed(self.arena, kids)?;
         let number = FIRST_NUMBER + self.rows.len() as u32;
         insert(&mut self.rows, &mut self.heads, kids)?;
-        Ok(Numbered { kids, number })
-    }
-
-    // The row of these quadrants, found or made.
-    fn row(&mut self, kids: [u32; 4]) -> Result<Numbered<'a>, TableFault>
-        requires { length kids ≡ 4 }
-        ensures grows { Grows self.old self.new }
-        ensures one { GrowsBy kids self.old self.new }
-        ensures row { IfOk result (IsRowOf self.new.rows kids) }
-        ensures unchanged { OnErr result (self.new ≡ self.old) }
-        ensures full { result ≡ Err TableFault.NoRoom → length self.old.rows ≡ self.old.limit }
-    {
-        self.make_ready();
-        match self.known(kids) {
-            Some(row) => Ok(row),
-            None => self.add(kids),
-        }
+        Ok(number)
     }
 
     /// The numbers of the quadrants nw, ne, sw and se of the square with this number.
@@ -201,7 +173,7 @@ impl<'a> SquareTable<'a> {
         requires there { number < first_number + length self.now.rows }
         ensures { result ≡ kids_at self.now.rows number }
     {
-        *self.rows[(number - FIRST_NUMBER) as usize].kids
+        self.rows[(number - FIRST_NUMBER) as usize].kids
     }
 
     /// The number of the square whose quadrants nw, ne, sw and se have these numbers.
@@ -216,7 +188,36 @@ impl<'a> SquareTable<'a> {
         ensures unchanged { OnErr result (self.new ≡ self.old) }
         ensures full { result ≡ Err TableFault.NoRoom → length self.old.rows ≡ self.old.limit }
     {
-        Ok(self.row(kids)?.number)
+        self.make_ready();
+        match self.known(kids) {
+            Some(number) => Ok(number),
+            None => self.add(kids),
+        }
+    }
+
+    /// A number that may be that of the square with these quadrants, for `join_guessed`.
+    ///
+    /// Guesses that are made one after another wait for memory together, and joins don't: so guess
+    /// the numbers of several squares before the first of them is joined.
+    pub fn guess(&self, kids: [u32; 4]) -> u32
+        ensures { result < first_number + length self.now.rows }
+    {
+        FIRST_NUMBER - 1 + head(&self.heads, kids)
+    }
+
+    /// As `join_numbers`, and sooner where the guess is right.
+    pub fn join_guessed(&mut self, kids: [u32; 4], guess: u32) -> Result<u32, TableFault>
+        ensures grows { Grows self.old self.new }
+        ensures one { GrowsBy kids self.old self.new }
+        ensures square { IfOk result (IsSquareOf self.new.rows kids) }
+        ensures unchanged { OnErr result (self.new ≡ self.old) }
+        ensures full { result ≡ Err TableFault.NoRoom → length self.old.rows ≡ self.old.limit }
+    {
+        let is_number = guess >= FIRST_NUMBER && guess - FIRST_NUMBER < self.len();
+        if is_number && is_same(self.quadrants(guess), kids) {
+            return Ok(guess);
+        }
+        self.join_numbers(kids)
     }
 
     /// The square of four of one level of at most 63, in the order nw, ne, sw, se.
@@ -237,10 +238,11 @@ impl<'a> SquareTable<'a> {
     {
         let level = four[0].level + 1;
         let kids = numbers(&four);
-        let row = self.row(kids)?;
+        let placed = placed(self.arena, kids)?;
+        let number = self.join_numbers(kids)?;
         Ok(Square {
-            kids: row.kids,
-            number: row.number,
+            kids: placed,
+            number,
             level,
         })
     }

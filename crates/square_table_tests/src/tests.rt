@@ -1,6 +1,7 @@
 use basics::Refusal;
 use bumpalo::Bump;
 use square_table::{SquareTable, TableFault};
+use std::process::Abort;
 
 #[test]
 fn equal_squares_have_equal_numbers(rt: HostRuntime) {
@@ -26,6 +27,25 @@ fn empty_squares_of_each_level_are_shared(rt: HostRuntime) {
     let small = table.blank(3).expect(&rt, "memory");
     assert_eq!(&rt; small.number(), 258);
     assert_eq!(&rt; table.len(), 63);
+}
+
+// Joins quadrants whose square has the number 257, by a guess.
+fn join_by(rt: &impl Abort, table: &mut SquareTable<'_>, guess: u32) {
+    let number = table.join_guessed([0, 1, 1, 0], guess).expect(rt, "room");
+    assert!(rt; number == 257);
+}
+
+#[test]
+fn a_guess_changes_no_number(rt: HostRuntime) {
+    let arena = Bump::new(rt.alloc());
+    let mut table = SquareTable::new(rt.alloc(), &arena, 64).expect(&rt, "memory");
+    assert_eq!(&rt; table.join_numbers([1, 0, 0, 1]).expect(&rt, "room"), 256);
+    join_by(&rt, &mut table, 0);
+    for guess in [0, 1, 255, 256, 257, 258, 4_294_967_295] {
+        join_by(&rt, &mut table, guess);
+    }
+    assert_eq!(&rt; table.guess([0, 1, 1, 0]), 257);
+    assert_eq!(&rt; table.len(), 2);
 }
 
 #[test]

@@ -34,7 +34,7 @@ fn padded<'a>(table: &mut SquareTable<'a>, square: Square<'a>) -> Result<Square<
     ensures full { result ≡ Err TableFault.NoRoom → length table.new.rows ≡ table.old.limit }
 {
     let number = pad(table, square)?;
-    Ok(table.square(square.level() + 1, number))
+    Ok(table.square(square.level() + 1, number)?)
 }
 
 /// A square round the origin, with empty ones round it until its middle has room for so many

@@ -3,6 +3,7 @@ ghost use Rattle.std.specs.Prelude.{◌≡◌, ◌≢◌, ◌≤◌, ◌^◌, �
 ghost use Rattle.worlds.specs.Iterate.{iterate};
 ghost use Rattle.worlds.specs.Step.{step};
 ghost use Rattle.worlds.specs.Range.{HasMargin, AllBelow};
+ghost use Rattle.hash_life.specs.Puts.{AsksOnce};
 ghost use Rattle.step_engine.specs.Evolved.{IsWithin};
 
 use crate::evolved::{EvolveFault, Evolved, Report};
@@ -21,9 +22,10 @@ const MOST_SQUARES: u32 = 1 << 24;
 /// asks.
 ///
 /// The plane's states are below the rule's, and it fits. Each distinct square is computed once; all
-/// of them are given up at the end. The stop is asked before each result that isn't known yet, and
-/// Stopped is answered where it says yes; NoRoom where `limit` squares, at most 16,777,216, are not
-/// enough; NoMemory where a growth was refused.
+/// of them are given up at the end. So the rule is asked four times, in the order nw, ne, sw and se,
+/// for each different block of 4 by 4 cells that is put to it. The stop is asked before each result
+/// that isn't known yet, and Stopped is answered where it says yes; NoRoom where `limit` squares, at
+/// most 16,777,216, are not enough; NoMemory where a growth was refused.
 pub fn evolve_by<Q: Ask, S: Stop>(
     alloc: Global,
     rule: &mut Q,
@@ -38,6 +40,10 @@ pub fn evolve_by<Q: Ask, S: Stop>(
     ensures plane { IfOk result (λ evolved.
         evolved.plane ≡ iterate generations (step (Q.meaning rule.old)) plane.now) }
     ensures report { IfOk result (λ evolved. IsWithin limit evolved.report) }
+
+    // No block of 4 by 4 cells is put to the rule twice, and each stands in an earlier generation.
+    ensures asks { IfOk result (λ evolved. AsksOnce (Q.meaning rule.old) plane.now generations
+        evolved.report.base (Q.asks rule.old) (Q.asks rule.new)) }
 
     // Stopped is answered exactly where the stop said yes.
     ensures stopped { result ≡ Err EvolveFault.Stopped →

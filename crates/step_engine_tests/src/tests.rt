@@ -1,3 +1,4 @@
+mod asks;
 mod edges;
 mod engine;
 mod faults;

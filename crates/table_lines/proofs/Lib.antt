@@ -1,7 +1,7 @@
 mod FullLines
 mod HeadFaults
 mod Names
-mod Renumbered
+pub mod Renumbered
 mod Reordered
 mod SameNames
 pub mod SaidTables

@@ -17,25 +17,8 @@ use Rattle.table_lines.specs.LineLaws.{NumbersDoNotMatter}
 use Rattle.table_lines.specs.Neighborhood.{places_of}
 use Rattle.table_lines.specs.Table.{Table, headed}
 use Rattle.table_lines.specs.Transitions.{entry_of, is_free, transition_from, transition_of, transitions_of, unless_free}
-use Rattle.rule_file.proofs.Readings.{same_value}
+use Rattle.rule_file.proofs.Readings.{GivesToo, ok_or-too, same_value, then_too, unless-too}
 use Rattle.table_lines.specs.Variables.{Variables, are_below, definition_in, defines_variable, each, member_states, no_variables, variable_named, variables_after}
-
--- the second gives what the first gives, where that gives something
-abbrev pub GivesToo : {A : Type 0} → Result A RuleFault → Result A RuleFault → Type 0
-GivesToo {A} r q = (x : A) → r ≡ Ok x → q ≡ Ok x
-
--- steps one after another
-pub then_too : {A B : Type 0} (r q : Result A RuleFault) (f g : A → Result B RuleFault) → GivesToo r q → ((x : A) → GivesToo (f x) (g x)) → GivesToo (r >>= f) (q >>= g)
-then_too (Ok x) q f g first later y h = ap (λ p. p >>= g) (first x refl) ∙ later x y h
-then_too (Err e) q f g first later y h = absurd cc
-
-ok_or-too : {A : Type 0} (o : Option A) (d e : RuleFault) → GivesToo (ok_or o d) (ok_or o e)
-ok_or-too (Some x) d e y h = h
-ok_or-too None d e y h = absurd cc
-
-unless-too : {A : Type 0} (b : Bool) (r q : Result A RuleFault) (d e : RuleFault) → GivesToo r q → GivesToo (if b then r else Err d) (if b then q else Err e)
-unless-too true r q d e both y h = both y h
-unless-too false r q d e both y h = absurd cc
 
 each-too : {A B : Type 0} (f g : A → Result B RuleFault) → ((x : A) → GivesToo (f x) (g x)) → (xs : List A) → GivesToo (each f xs) (each g xs)
 each-too f g both [] ys h = h

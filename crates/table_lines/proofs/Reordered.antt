@@ -15,7 +15,7 @@ use Rattle.table_lines.specs.declared.neighborhood.Neighborhood.{Neighborhood}
 use Rattle.table_lines.specs.Descriptors.{Described, are_unfit, describe, descriptor_of, fitting, head_from, head_of, once, undescribed}
 use Rattle.table_lines.specs.LineLaws.{DescriptorsInAnyOrder, is_descriptor}
 use Rattle.table_lines.specs.Neighborhood.{neighborhood_named}
-use Rattle.table_lines.proofs.Renumbered.{GivesToo, then_too}
+use Rattle.rule_file.proofs.Readings.{GivesToo, then_too}
 
 abbrev of_parts : Option ℕ → Option Neighborhood → Option (List ℕ) → Described
 of_parts s n y = record { states = s; neighborhood = n; symmetry = y }

@@ -1,13 +1,20 @@
 -- The variables of a table, as lines define them one after another.
-use Rattle.std.specs.Prelude.{◌≡◌, ◌⊎◌, List, ℕ, Option, Some, None, Result, Ok, Err, if◌then◌else◌}
+use Rattle.std.specs.Prelude.{◌≡◌, ◌⊎◌, ◌+◌, ◌<◌, ◌≤◌, ◌^◌, List, ℕ, true, Option, Some, None, Result, Ok, Err, if◌then◌else◌}
 use Rattle.std.specs.List.{list_any}
 use Rattle.std.specs.Option.{ok_or}
 use Rattle.rule_file.specs.declared.fault.RuleFault.{RuleFault}
 use Rattle.rule_file.specs.declared.fault.RuleFault.TheVariants.{BadVariable, NoMemory, StateTooHigh}
 use Rattle.basics.specs.Results.{◌>>=◌}
-use Rattle.table_lines.specs.Below.{all_below}
+use Rattle.rule_file.specs.States.{most_states}
+use Rattle.table_lines.specs.Below.{all_below, variables_below}
 use Rattle.table_lines.specs.States.{has, rising}
 use Rattle.table_lines.specs.Variables.{Variables, are_below, each, member_states, variable_named}
+
+-- variables of some states, of which one more may be defined
+pub record MayDefine (states : ℕ) (variables : Variables) : Type 0 where
+  pub at_most : states ≤ most_states
+  pub below : variables_below states variables ≡ true
+  pub room : variables.defined + 1 < 2 ^ 64
 
 -- as many definitions, and by every name the same variable
 abbrev pub SameByName : Variables → Variables → Type 0

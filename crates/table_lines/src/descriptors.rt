@@ -104,7 +104,8 @@ impl<'a> Described<'a> {
     }
 
     fn describe_states(&mut self, line: u64, value: &[u8]) -> Result<(), RuleFault>
-        ensures { Reads (λ _. self.new) result (describe self.old line Descriptor.States value.now) }
+        ensures { Reads (λ _. self.new) result
+            (describe self.old line Descriptor.States value.now) }
     {
         if self.states.is_some() {
             return Err(RuleFault::BadTransition(line));
@@ -115,7 +116,8 @@ impl<'a> Described<'a> {
     }
 
     fn describe_neighborhood(&mut self, line: u64, value: &[u8]) -> Result<(), RuleFault>
-        ensures { Reads (λ _. self.new) result (describe self.old line Descriptor.Neighborhood value.now) }
+        ensures { Reads (λ _. self.new) result
+            (describe self.old line Descriptor.Neighborhood value.now) }
     {
         if self.neighborhood.is_some() {
             return Err(RuleFault::BadTransition(line));
@@ -126,7 +128,8 @@ impl<'a> Described<'a> {
     }
 
     fn describe_symmetries(&mut self, line: u64, value: &'a [u8]) -> Result<(), RuleFault>
-        ensures { Reads (λ _. self.new) result (describe self.old line Descriptor.Symmetries value.now) }
+        ensures { Reads (λ _. self.new) result
+            (describe self.old line Descriptor.Symmetries value.now) }
     {
         if self.symmetry.is_some() {
             return Err(RuleFault::BadTransition(line));
@@ -168,7 +171,8 @@ impl<'a> Described<'a> {
 /// The head that the first lines describe, up to one that is no descriptor, and the lines from
 /// there on.
 pub fn read_head<'a>(lines: &'a [RuleLine<'a>]) -> Result<(Head, &'a [RuleLine<'a>]), RuleFault>
-    ensures head { Reads (λ found. (found.0, found.1.now)) result (head_from undescribed lines.now) }
+    ensures head { Reads (λ found. (found.0, found.1.now)) result
+        (head_from undescribed lines.now) }
     ensures states { IfOk result (λ found. MayHaveStates found.0.states) }
 {
     let mut described = Described::new();

@@ -5,7 +5,7 @@ ghost use Rattle.std.specs.Option.{option_copied, option_map};
 ghost use Rattle.basics.specs.Results.{Reads};
 ghost use Rattle.rule_file.specs.States.{most_states};
 ghost use Rattle.table_lines.specs.Below.{all_below, variables_below};
-ghost use Rattle.table_lines.specs.Definitions.{Defines, member_set, set_of};
+ghost use Rattle.table_lines.specs.Definitions.{Defines, MayDefine, member_set, set_of};
 ghost use Rattle.table_lines.specs.Variables.{definition_in, is_variable_byte, is_variable_name, no_variables, unbraced, variable_named, variables_after};
 
 use crate::descriptors::Head;
@@ -60,9 +60,7 @@ impl<'a> Variables<'a> {
     /// BadVariable is answered for a line that isn't well formed or names an unknown variable, and
     /// only then StateTooHigh. NoMemory comes only where memory was wanted.
     pub fn define(&mut self, head: Head, line: &RuleLine<'a>) -> Result<(), RuleFault>
-        requires at_most { head.states ≤ most_states }
-        requires below { IsTrue (variables_below head.states self.old) }
-        requires room { self.old.defined + 1 < 2 ^ 64 }
+        requires { MayDefine head.states self.old }
         ensures read { Defines result self.new (variables_after head self.old line.now) }
         ensures below { OnOk result (IsTrue (variables_below head.states self.new)) }
         ensures count { self.new.defined ≤ self.old.defined + 1 }

@@ -7,6 +7,7 @@ ghost use Rattle.table_symmetry.specs.Rule.{next_under, still_table};
 use crate::expansion::{Expanded, expand};
 use crate::lookup::Lookup;
 use plane_core::{Around, Next};
+use rule_file::RuleFault;
 use std::alloc::{AllocError, Global};
 use std::marker::Model;
 use table_lines::{Head, Neighborhood, Symmetry, TableLines};
@@ -76,7 +77,8 @@ impl TableRule {
     {
         match expand(self.alloc, self.lines.symmetry(), self.lines.transitions()) {
             Ok(rows) => Ok(rows),
-            Err(_) => Err(AllocError),
+            Err(RuleFault::NoMemory) => Err(AllocError),
+            Err(_) => unreachable!("the transitions are few enough"),
         }
     }
 }

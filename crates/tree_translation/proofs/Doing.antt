@@ -14,7 +14,7 @@ use Rattle.decision_tree.specs.Tree.{Entries, follow, leads, node_at}
 use Rattle.decision_tree.specs.TreeLaws.{leads-on, leads-width}
 use Rattle.decision_tree.proofs.Growing.{leads-append, leads-node}
 use Rattle.decision_tree.proofs.KeptNodes.{none-past}
-use Rattle.tree_translation.proofs.NodeLists.{other_default}
+use Rattle.std.proofs.lemmas.List.{get_or_default}
 
 -- more nodes change nothing of what is followed from those before
 follow-append : (n : ℕ) (nodes more : List Entries) (number : ℕ) (inputs : List ℕ) → leads n nodes number inputs ≡ true → list_all (λ s. nat_lt s n) inputs ≡ true → follow (nodes ++ more) number inputs ≡ follow nodes number inputs
@@ -50,7 +50,7 @@ leaves-below states layer list leaf fits inside leaves =
     list_all-from_AllPass (λ s. nat_lt s states) leaf (λ k d l.
     let under : k < states = omega (arith, l, leaves.width) in
     let low : slice_index leaf k < states = subst (λ s. s < states) (sym (leaves.each k under)) (first-below layer states k list fits inside under) in
-    let there : get_or leaf k d ≡ slice_index leaf k = other_default leaf k d 0 l in
+    let there : get_or leaf k d ≡ slice_index leaf k = get_or_default leaf k d 0 l in
     grind (arith, nat_tests, low, there))
 
 -- a node of these entries does what the list does at the last input
@@ -91,7 +91,7 @@ Does-branch states layer next deeper nodes list entries number wide each at = re
     leading (input ∷ inputs) long =
         leads-node states nodes number entries input inputs at wide
         (list_all-from_AllPass (λ entry. leads states nodes entry inputs) entries (λ k d l.
-        ap (λ e. leads states nodes e inputs) (other_default entries k d 0 l) ∙ (each k (omega (arith, l, wide))).does.leading inputs (omega (arith, long))))
+        ap (λ e. leads states nodes e inputs) (get_or_default entries k d 0 l) ∙ (each k (omega (arith, l, wide))).does.leading inputs (omega (arith, long))))
 
     follows : (inputs : List ℕ) → length inputs ≡ suc (suc (length deeper)) → list_all (λ s. nat_lt s states) inputs ≡ true → follow nodes number inputs ≡ outcome (layer ∷ next ∷ deeper) list inputs
     follows [] long low = absurd (omega (arith, long))

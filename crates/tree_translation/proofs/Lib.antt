@@ -1,4 +1,5 @@
 mod Apart
+mod Asked
 mod Beginnings
 mod Doing
 mod Layering

@@ -21,7 +21,7 @@ use Rattle.tree_translation.specs.Starts.{NeedStarts, Start, StartsApart, start_
 use Rattle.tree_translation.specs.Translation.{Does, LeftOf, node_limit, outcome}
 use Rattle.decision_tree.specs.Tree.{Entries, follow, node_at}
 use Rattle.tree_translation.proofs.Apart.{DifferAt, different-at}
-use Rattle.tree_translation.proofs.NodeLists.{other_default}
+use Rattle.std.proofs.lemmas.List.{get_or_default}
 use Rattle.tree_translation.proofs.Doing.{Does-append, Does-branch, Does-leaf, outcome-left}
 
 -- nodes that differ in their numbers differ in their inputs or entries
@@ -556,4 +556,4 @@ AreBegun-none states depth give nodes none k l = absurd (omega (arith, l, ap len
 
 -- a node's width, wherever it is looked at
 pub nodes-wide : (states depth : ℕ) (nodes : List Listed) → AreNodes states depth nodes → All (λ (node : Entries). length node ≡ states) (entries_in nodes)
-nodes-wide states depth nodes are k d l = ap length (other_default (entries_in nodes) k d [] l) ∙ (are.each k (omega (arith, l, length-listed nodes))).wide
+nodes-wide states depth nodes are k d l = ap length (get_or_default (entries_in nodes) k d [] l) ∙ (are.each k (omega (arith, l, length-listed nodes))).wide

@@ -18,7 +18,7 @@ use Rattle.tree_translation.specs.Translation.{Does, DoesRows, Translates, first
 use Rattle.decision_tree.specs.Tree.{Entries, Tree, inputs_of, is_quiescent, is_sound, leads, next, places_of}
 use Rattle.decision_tree.specs.TreeLaws.{inputs-below, leads-width}
 use Rattle.decision_tree.proofs.KeptNodes.{none-past}
-use Rattle.tree_translation.proofs.NodeLists.{other_default}
+use Rattle.std.proofs.lemmas.List.{get_or_default}
 
 -- functions that agree place by place give the same first answer
 first_some-pairs : {X Y : Type 0} (f : X → Option ℕ) (g : Y → Option ℕ) (xs : List X) (ys : List Y) → length xs ≡ length ys → ((k : ℕ) (d : X) (e : Y) → k < length ys → f (slice_index_or xs k d) ≡ g (slice_index_or ys k e)) → first_some f xs ≡ first_some g ys
@@ -32,7 +32,7 @@ first_some-pairs f g (x ∷ xs) (y ∷ ys) count each =
 pub rows-outcome : (states : ℕ) (order : List (Option ℕ)) (rows : List Expanded) (layers : List Layer) (numbers inputs : List ℕ) → AreLayersOf states order rows layers numbers → length inputs ≡ length order → outcome layers numbers inputs ≡ rows_give order rows inputs
 rows-outcome states order rows layers numbers inputs are long =
     ap (λ o. unwrap_or o (last_of inputs)) (first_some-pairs (λ n. result_of layers n inputs) (λ (row : Expanded). cond (all_allow (asked order row.inputs) inputs) (Some row.result) None) numbers rows are.count
-    (λ k d e l. ap (λ n. result_of layers n inputs) (other_default numbers k d 0 (omega (arith, l, are.count))) ∙ are.stand k e l inputs long))
+    (λ k d e l. ap (λ n. result_of layers n inputs) (get_or_default numbers k d 0 (omega (arith, l, are.count))) ∙ are.stand k e l inputs long))
 
 -- what the root does, the rows do
 pub DoesRows-root : (states : ℕ) (order : List (Option ℕ)) (rows : List Expanded) (layers : List Layer) (numbers : List ℕ) (nodes : List Entries) → AreLayersOf states order rows layers numbers → Does states layers nodes numbers (length nodes - 1) → DoesRows states order rows nodes
@@ -180,7 +180,7 @@ rows-next table rows full first around =
     let inputs = inputs_of (neighbors_of table.neighborhood) around in
     let others = table_rule.inputs_of table.neighborhood around in
     (λ i. unwrap_or (first_some-pairs (λ (row : Expanded). cond (all_allow (asked (order_of table.neighborhood) row.inputs) inputs) (Some row.result) None) (λ (row : Expanded). cond (all_have row.inputs others) (Some row.result) None) rows rows refl
-    (λ k d e l. ap (λ (row : Expanded). cond (all_allow (asked (order_of table.neighborhood) row.inputs) inputs) (Some row.result) None) (other_default rows k d e l) ∙ ap (λ b. cond b (Some (slice_index_or rows k e).result) None) (asked-have table.neighborhood (slice_index_or rows k e).inputs around (full k e l))) i) (last-input table.neighborhood around i))
+    (λ k d e l. ap (λ (row : Expanded). cond (all_allow (asked (order_of table.neighborhood) row.inputs) inputs) (Some row.result) None) (get_or_default rows k d e l) ∙ ap (λ b. cond b (Some (slice_index_or rows k e).result) None) (asked-have table.neighborhood (slice_index_or rows k e).inputs around (full k e l))) i) (last-input table.neighborhood around i))
     ∙ ap (λ o. unwrap_or o (slice_index around 0)) (first_some-match rows others)
     ∙ first around
 

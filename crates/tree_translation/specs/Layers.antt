@@ -1,6 +1,7 @@
 -- What is left of a table's rows, input by input.
 use Rattle.std.specs.Prelude.{◌≡◌, ◌⊎◌, ⊤, ℕ, ◌<◌, ◌≤◌, ◌&&◌, Bool, true, false, All, List, [], ◌∷◌, ◌++◌, length, map, slice_get, slice_index, slice_index_or, Option, None, Some, if◌then◌else◌}
 use Rattle.table_symmetry.specs.declared.expansion.Expanded.{Expanded}
+use Rattle.table_lines.specs.States.{same_set}
 use Rattle.table_symmetry.specs.States.{has}
 use Rattle.tree_translation.specs.declared.layers.Layer.{Layer}
 use Rattle.tree_translation.specs.declared.layers.Tail.{Tail}
@@ -9,6 +10,13 @@ use Rattle.tree_translation.specs.declared.layers.Tail.{Tail}
 abbrev pub allows : Option (List ℕ) → ℕ → Bool
 allows None state = true
 allows (Some set) state = has set state
+
+-- whether the same is asked of two inputs
+abbrev pub same_asked : Option (List ℕ) → Option (List ℕ) → Bool
+same_asked None None = true
+same_asked None (Some other) = false
+same_asked (Some set) None = false
+same_asked (Some set) (Some other) = same_set set other
 
 -- what a row asks of the input at this place, which it may not have
 abbrev pub asked_at : Option ℕ → List (List ℕ) → Option (List ℕ)

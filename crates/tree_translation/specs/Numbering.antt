@@ -1,5 +1,5 @@
 -- The nodes of a tree as they are made, and the lists of tails whose nodes are known.
-use Rattle.std.specs.Prelude.{◌≡◌, ℕ, ◌+◌, ◌<◌, ◌≤◌, ◌==◌, ◌&&◌, Bool, All, List, [], ◌∷◌, ◌++◌, length, map, drop, slice_index, slice_index_or, Some}
+use Rattle.std.specs.Prelude.{◌≡◌, ℕ, ◌+◌, ◌<◌, ◌≤◌, ◌==◌, ◌&&◌, Bool, false, All, List, [], ◌∷◌, ◌++◌, length, map, drop, slice_index, slice_index_or, Some}
 use Rattle.std.specs.List.{IsDistinct}
 use Rattle.std.specs.Str.{bytes_eq}
 use Rattle.std.specs.HashMap.{get}
@@ -112,3 +112,10 @@ pub record AreFit (states : ℕ) (layers : List Layer) (room : ℕ) : Type 0 whe
 pub record AreTailsAt (layers : List Layer) (input : ℕ) (list : List ℕ) : Type 0 where
   pub there : input < length layers
   pub inside : (d : Layer) → All (λ n. n < length (slice_index_or layers input d).tails.items) list
+
+-- layers that fit, tails of the layer of an input, nodes that are known, and a false for each tail of any layer
+pub record CanNumber (states : ℕ) (layers : List Layer) (input : ℕ) (list : List ℕ) (marks : List Bool) (found : Found) : Type 0 where
+  pub fit : AreFit states layers (length marks)
+  pub tails : AreTailsAt layers input list
+  pub clear : All (λ b. b ≡ false) marks
+  pub known : Knows states layers found

@@ -1,8 +1,10 @@
 -- A tree that does what a table does.
-use Rattle.std.specs.Prelude.{◌≡◌, ℕ, ◌-◌, ◌<◌, All, List, [], ◌∷◌, length, nat_lt, slice_index, Option, None, Some, true, if◌then◌else◌, unwrap_or}
+use Rattle.std.specs.Prelude.{◌≡◌, ℕ, ◌-◌, ◌<◌, ◌≤◌, All, List, [], ◌∷◌, length, nat_lt, slice_index, Option, None, Some, true, if◌then◌else◌, unwrap_or}
 use Rattle.std.specs.List.{list_all}
 use Rattle.std.specs.Option.{option_or}
+use Rattle.rule_file.specs.States.{most_states}
 use Rattle.table_symmetry.specs.declared.expansion.Expanded.{Expanded}
+use Rattle.table_symmetry.specs.Expanded.{transition_limit}
 use Rattle.table_lines.specs.declared.neighborhood.Neighborhood.{Neighborhood}
 use Rattle.table_lines.specs.declared.neighborhood.Neighborhood.TheVariants.{VonNeumann, Moore, Hexagonal, OneDimensional}
 use Rattle.table_symmetry.specs.NextState as table_rule
@@ -11,7 +13,7 @@ use Rattle.tree_translation.specs.declared.layers.Layer.{Layer}
 use Rattle.decision_tree.specs.declared.tree.Neighbors.{Neighbors}
 use Rattle.decision_tree.specs.declared.tree.Neighbors.TheVariants.{Four, Eight}
 use Rattle.tree_translation.specs.Layers.{all_allow, asked, lets, rest_at, result_of}
-use Rattle.decision_tree.specs.Tree.{Entries, Tree, follow, leads, next}
+use Rattle.decision_tree.specs.Tree.{Entries, Tree, follow, inputs_of, leads, next}
 
 -- the neighbours of a tree for a table: the four or the eight that hold the table's
 abbrev pub neighbors_of : Neighborhood → Neighbors
@@ -68,6 +70,20 @@ rows_give order rows inputs = unwrap_or (first_some (λ (row : Expanded). if all
 pub record DoesRows (states : ℕ) (order : List (Option ℕ)) (rows : List Expanded) (nodes : List Entries) : Type 0 where
   pub leading : (inputs : List ℕ) → length inputs ≡ length order → leads states nodes (length nodes - 1) inputs ≡ true
   pub follows : (inputs : List ℕ) → length inputs ≡ length order → list_all (λ s. nat_lt s states) inputs ≡ true → follow nodes (length nodes - 1) inputs ≡ rows_give order rows inputs
+
+-- rows with results among so many states, and an order of one input or more for them
+pub record CanTranslate (states : ℕ) (order : List (Option ℕ)) (rows : List Expanded) : Type 0 where
+  pub some : 1 ≤ states
+  pub at_most : states ≤ most_states
+  pub asked : 1 ≤ length order
+  pub few : length rows ≤ transition_limit
+  pub below : All (λ (row : Expanded). row.result < states) rows
+
+-- nodes of which the last is the root of a tree that does what a table does
+pub record DoTable (table : Table) (nodes : List Entries) : Type 0 where
+  pub width : All (λ node. length node ≡ table.states) nodes
+  pub leading : (inputs : List ℕ) → length inputs ≡ length (order_of table.neighborhood) → leads table.states nodes (length nodes - 1) inputs ≡ true
+  pub same : (around : List ℕ) → All (λ s. s < table.states) around → follow nodes (length nodes - 1) (inputs_of (neighbors_of table.neighborhood) around) ≡ table_rule.next table around
 
 -- for each state of the last input the first result that is left, or the state
 pub record AreLeaves (states : ℕ) (layer : Layer) (list leaf : List ℕ) : Type 0 where

@@ -1,8 +1,9 @@
 //! The rows of a table, cut up for a tree.
-ghost use Rattle.std.specs.Prelude.{◌≡◌, ◌≤◌, ◌<◌, ◌∷◌, ℕ, length, slice_index, slice_index_or, All, IfOk, IsTrue, None, OnOk};
+ghost use Rattle.std.specs.Prelude.{◌≡◌, ◌≤◌, ◌<◌, ◌∷◌, ℕ, length, position, slice_index, slice_index_or, All, IfOk, None, OnOk};
+ghost use Rattle.indexmap.specs.IndexSet.{insert_key};
 ghost use Rattle.table_symmetry.specs.declared.expansion.Expanded.{Expanded};
 ghost use Rattle.table_symmetry.specs.Expanded.{transition_limit};
-ghost use Rattle.tree_translation.specs.Layers.{AreLayersOf, IsGrownBy, IsLayer, IsLayerOf, asked_at};
+ghost use Rattle.tree_translation.specs.Layers.{AreLayersOf, IsLayer, IsLayerOf, asked_at, same_asked};
 
 use indexmap::IndexSet;
 use std::alloc::{AllocError, Global};
@@ -108,14 +109,21 @@ fn asked(place: Option<usize>, row: &Expanded) -> Option<StateSet>
     row.inputs.as_slice().get(place?).copied()
 }
 
+// Where the same is asked as here.
+fn place_of(sets: &[Option<StateSet>], set: &Option<StateSet>) -> Option<usize>
+    ensures { result ≡ position (same_asked set.now) sets.now }
+{
+    sets.iter().position(|other| are_same(set, other))
+}
+
 // The number of a set among these, of which it becomes the last where it isn't there.
 fn number_of(sets: &mut Vec<Option<StateSet>>, set: Option<StateSet>) -> Result<u32, AllocError>
     requires few { length sets.old.items < transition_limit }
     ensures inside { IfOk result (λ number. number < length sets.new.items) }
     ensures set { IfOk result (λ number. slice_index_or sets.new.items number None ≡ set) }
-    ensures grown { OnOk result (IsGrownBy sets.old.items set sets.new.items) }
+    ensures grown { OnOk result (sets.new.items ≡ insert_key same_asked sets.old.items set) }
 {
-    if let Some(number) = sets.iter().position(|other| are_same(other, &set)) {
+    if let Some(number) = place_of(sets, &set) {
         return Ok(number as u32);
     }
     sets.push(set)?;
@@ -123,7 +131,7 @@ fn number_of(sets: &mut Vec<Option<StateSet>>, set: Option<StateSet>) -> Result<
 }
 
 fn are_same(a: &Option<StateSet>, b: &Option<StateSet>) -> bool
-    ensures { IsTrue result → a.now ≡ b.now }
+    ensures { result ≡ same_asked a.now b.now }
 {
     match (a, b) {
         (Some(a), Some(b)) => a.equals(b),

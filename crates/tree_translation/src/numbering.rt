@@ -8,7 +8,7 @@ ghost use Rattle.std.specs.Prelude.{◌≡◌, ◌≤◌, ◌<◌, ◌+◌, ◌�
 ghost use Rattle.rule_file.specs.States.{most_states};
 ghost use Rattle.tree_translation.specs.declared.tree_fault.TreeFault.TheVariants.{TreeTooLarge};
 ghost use Rattle.tree_translation.specs.Layers.{IsLayer, lets, rest_at};
-ghost use Rattle.tree_translation.specs.Numbering.{AreEntries, AreFit, AreTailsAt, Grows, IsNumberOf, Knows, NeedsTooMany, entries_in};
+ghost use Rattle.tree_translation.specs.Numbering.{AreEntries, CanNumber, Grows, IsNumberOf, NeedsTooMany, entries_in};
 ghost use Rattle.tree_translation.specs.TailsFound.{AreMarked, IsFound};
 ghost use Rattle.tree_translation.specs.Translation.{AreLeaves, LeftOf, first_some};
 
@@ -46,10 +46,7 @@ pub fn number_of(
     marks: &mut [bool],
     found: &mut Found,
 ) -> Result<u32, TreeFault>
-    requires fit { AreFit states layers.now (length marks.old) }
-    requires tails { AreTailsAt layers.now input list.now }
-    requires clear { All (λ b. b ≡ false) marks.old }
-    requires known { Knows states layers.now found.old }
+    requires { CanNumber states layers.now input list.now marks.old found.old }
     ensures number { IfOk result
         (λ n. IsNumberOf states layers.now found.new.nodes.keys input list.now n) }
     ensures grows { OnOk result (Grows states layers.now input input list.now found.old found.new) }
@@ -87,10 +84,7 @@ fn entries_of(
     marks: &mut [bool],
     found: &mut Found,
 ) -> Result<Vec<u32>, TreeFault>
-    requires fit { AreFit states layers.now (length marks.old) }
-    requires tails { AreTailsAt layers.now input list.now }
-    requires clear { All (λ b. b ≡ false) marks.old }
-    requires known { Knows states layers.now found.old }
+    requires { CanNumber states layers.now input list.now marks.old found.old }
     ensures entries { IfOk result
         (λ entries.
         AreEntries states layers.now found.new.nodes.keys input list.now entries.items) }
@@ -137,10 +131,7 @@ fn number_again(
     marks: &mut [bool],
     found: &mut Found,
 ) -> Result<u32, TreeFault>
-    requires fit { AreFit states layers.now (length marks.old) }
-    requires tails { AreTailsAt layers.now input list.now }
-    requires clear { All (λ b. b ≡ false) marks.old }
-    requires known { Knows states layers.now found.old }
+    requires ready { CanNumber states layers.now input list.now marks.old found.old }
     requires latest { IfSome latest
         (λ l.
         IsNumberOf states layers.now found.old.nodes.keys input l.now.list.items l.now.number) }

@@ -5,18 +5,15 @@
 //! once. So each different list of tails that can be left gets the number of a node, where equal
 //! nodes are shared. It is the subset construction of automata, and the sharing of decision
 //! diagrams (Bryant 1986).
-ghost use Rattle.std.specs.Prelude.{◌≡◌, ◌≤◌, ◌<◌, ◌+◌, ◌-◌, length, ℕ, List, true, All, IfErr, IfOk};
+ghost use Rattle.std.specs.Prelude.{◌≡◌, ◌≤◌, ◌+◌, length, All, IfErr, IfOk};
 ghost use Rattle.tree_translation.specs.declared.tree_fault.TreeFault.TheVariants.{NoMemory, TreeTooLarge};
 ghost use Rattle.tree_translation.specs.NodesNeeded.{NeedsNodes};
 ghost use Rattle.tree_translation.specs.Numbering.{entries_in};
 ghost use Rattle.tree_translation.specs.Starts.{NeedStarts};
 ghost use Rattle.worlds.specs.Step.{nine_zeros};
-ghost use Rattle.rule_file.specs.States.{most_states};
 ghost use Rattle.table_symmetry.specs.NextState.{next};
 ghost use Rattle.table_symmetry.specs.Rows.{AreExpanded};
-ghost use Rattle.table_symmetry.specs.Expanded.{transition_limit};
-ghost use Rattle.decision_tree.specs.Tree.{follow, inputs_of, leads};
-ghost use Rattle.tree_translation.specs.Translation.{DoesRows, Translates, neighbors_of, node_limit, order_of, rows_give};
+ghost use Rattle.tree_translation.specs.Translation.{CanTranslate, DoTable, DoesRows, Translates, neighbors_of, node_limit, order_of, rows_give};
 
 use crate::layers::layers_of;
 use crate::listed::Listed;
@@ -67,11 +64,7 @@ fn nodes_for(
     order: &[Option<usize>],
     rows: &[Expanded],
 ) -> Result<IndexSet<Listed>, TreeFault>
-    requires some { 1 ≤ states }
-    requires at_most { states ≤ most_states }
-    requires order { 1 ≤ length order.now }
-    requires few { length rows.now ≤ transition_limit }
-    requires below { All (λ row. row.result < states) rows.now }
+    requires { CanTranslate states order.now rows.now }
     ensures does { IfOk result (λ nodes. DoesRows states order.now rows.now
         (entries_in nodes.keys)) }
     ensures few { IfOk result (λ nodes. length nodes.keys ≤ node_limit) }
@@ -145,14 +138,7 @@ fn order_of(neighborhood: Neighborhood) -> &'static [Option<usize>]
 // The tree of these nodes, of which the last is the root.
 fn finish(alloc: Global, table: &TableRule, nodes: &[Listed]) -> Result<TreeRule, TreeFault>
     requires few { length nodes.now ≤ node_limit }
-    requires width { All (λ node. length node ≡ table.now.states) (entries_in nodes.now) }
-    requires leading { (inputs : List ℕ) →
-        length inputs ≡ length (order_of table.now.neighborhood) →
-        leads table.now.states (entries_in nodes.now) (length (entries_in nodes.now) - 1) inputs
-        ≡ true }
-    requires same { (around : List ℕ) → All (λ s. s < table.now.states) around →
-        follow (entries_in nodes.now) (length (entries_in nodes.now) - 1)
-        (inputs_of (neighbors_of table.now.neighborhood) around) ≡ next table.now around }
+    requires does { DoTable table.now (entries_in nodes.now) }
     requires quiet { next table.now nine_zeros ≡ 0 }
     ensures translates { IfOk result (λ tree. Translates table.now tree) }
     ensures nodes { IfOk result (λ tree. length tree.nodes ≡ length nodes.now) }

@@ -5,6 +5,7 @@ use crate::tests::{answer, answer_to, same};
 use desk_server::RunFault;
 use std::alloc::Global;
 use std::process::Abort;
+use std::sync::Wait;
 
 // How many bytes of the first script were read where reading fails, and what is written.
 struct Break {
@@ -63,13 +64,13 @@ const BREAKS: &[Break] = &[
     },
 ];
 
-fn reading_fails(rt: &impl Abort, alloc: Global, row: &Break) {
+fn reading_fails(rt: &(impl Abort + Wait), alloc: Global, row: &Break) {
     let pieces = Pieces {
         bytes: &FIRST[..row.count.min(FIRST.len())],
         size: 6,
         fails: true,
     };
-    let (answered, told) = answer(alloc, pieces, usize::MAX);
+    let (answered, told) = answer(rt, alloc, pieces, usize::MAX);
     same(rt, &answered, &Err(RunFault::Read), &row.count);
     same(rt, &told.as_slice(), &row.replies, &row.count);
 }
@@ -82,8 +83,8 @@ fn a_read_fails_at_each_place(rt: HostRuntime) {
     }
 }
 
-fn writing_fails(rt: &impl Abort, alloc: Global, limit: usize) {
-    let (answered, told) = answer(alloc, Pieces::whole(FIRST), limit);
+fn writing_fails(rt: &(impl Abort + Wait), alloc: Global, limit: usize) {
+    let (answered, told) = answer(rt, alloc, Pieces::whole(FIRST), limit);
     same(rt, &answered, &Err(RunFault::Write), &limit);
     same(rt, &told.len(), &limit, &limit);
     same(rt, &FIRST_REPLIES.starts_with(&told), &true, &limit);
@@ -99,14 +100,14 @@ fn a_write_fails_at_each_place(rt: HostRuntime) {
 
 // Each of the six replies to the first script is handed on, and where that fails the run does.
 fn flushing_fails(
-    rt: &impl Abort,
+    rt: &(impl Abort + Wait),
     alloc: Global,
     limit: usize,
     wanted: Result<(), RunFault>,
     count: usize,
 ) {
     let flushes = Flushes { count: 0, limit };
-    let (answered, flushes) = answer_to(alloc, Pieces::whole(FIRST), flushes);
+    let (answered, flushes) = answer_to(rt, alloc, Pieces::whole(FIRST), flushes);
     same(rt, &answered, &wanted, &limit);
     same(rt, &flushes.count, &count, &limit);
 }

@@ -4,6 +4,7 @@ use crate::tests::first::{FIRST, FIRST_REPLIES};
 use crate::tests::{Row, answers, row_is_answered};
 use std::alloc::Global;
 use std::process::Abort;
+use std::sync::Wait;
 
 const SCRIPTS: &[Row] = &[
     Row {
@@ -100,7 +101,7 @@ fn scripts_are_answered(rt: HostRuntime) {
     }
 }
 
-fn first_by(rt: &impl Abort, alloc: Global, size: usize) {
+fn first_by(rt: &(impl Abort + Wait), alloc: Global, size: usize) {
     let pieces = Pieces {
         bytes: FIRST,
         size,
@@ -127,7 +128,7 @@ fn cells(rt: &impl Abort, alloc: Global, count: usize) -> Vec<u8> {
     script
 }
 
-fn sets_many(rt: &impl Abort, alloc: Global, count: usize, replies: &[u8]) {
+fn sets_many(rt: &(impl Abort + Wait), alloc: Global, count: usize, replies: &[u8]) {
     let script = cells(rt, alloc, count);
     answers(rt, alloc, Pieces::whole(&script), replies);
 }
@@ -159,7 +160,7 @@ fn long_script(rt: &impl Abort, alloc: Global, count: usize) -> Vec<u8> {
 const RULE: &[u8] =
     b"\nn_states:2\nneighborhood:oneDimensional\nsymmetries:none\n0,1,0,1\nend\nmark ";
 
-fn long_is_answered(rt: &impl Abort, alloc: Global, count: usize) {
+fn long_is_answered(rt: &(impl Abort + Wait), alloc: Global, count: usize) {
     let script = long_script(rt, alloc, count);
     answers(
         rt,

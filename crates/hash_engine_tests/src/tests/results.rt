@@ -46,7 +46,7 @@ fn expect_later(
     let later = square_of(&mut table, 4, 8, 8, wanted).expect(rt, "room");
     assert!(rt; is_number(&table, 5, number));
     assert!(rt; is_below(&table, 5, number, 2));
-    let root = table.square(5, number);
+    let root = table.square(5, number).expect(rt, "memory");
     let mut rule = Asking::new(&Life);
     let found = result(alloc, &mut table, &mut rule, root, generations, &mut NoStop);
     let found = found.expect(rt, "room");

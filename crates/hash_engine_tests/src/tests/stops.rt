@@ -24,7 +24,7 @@ fn expect_end(
     let number = square_of(&mut table, 5, 0, 0, ROW).expect(rt, "room");
     assert!(rt; is_number(&table, 5, number));
     assert!(rt; is_below(&table, 5, number, 2));
-    let root = table.square(5, number);
+    let root = table.square(5, number).expect(rt, "memory");
     let mut rule = Asking::new(&Life);
     let mut stop = Countdown { left };
     let ended = result(alloc, &mut table, &mut rule, root, 8, &mut stop);

@@ -8,11 +8,11 @@ use Rattle.desk_server.specs.Faults.{of_rule}
 use Rattle.desk_server.proofs.Replies.{gives-refused}
 use Rattle.desk_server.proofs.asked.take_rule.Goals as goal
 
-pub returns-in-Err : goal.returns-in-Err
-returns-in-Err c =
+pub returns-in-Err-clause-answer : goal.returns-in-Err-clause-answer
+returns-in-Err-clause-answer c =
     let p = c.args.desk.now.plan in
     gives-refused p c.args.desk.now c.refused.result of_rule (λ (rule : Rule). edited p (ReplaceRule rule)) c.in-Err.fault NoMemory (rule_of c.args.text.now)
     refl refl c.in-Err.ensures.rule c.refused.ensures.text c.refused.ensures.goes_on
 
-pub returns : goal.returns
-returns c = (Memory, search rules)
+pub returns-clause-answer : goal.returns-clause-answer
+returns-clause-answer c = (Memory, search rules)

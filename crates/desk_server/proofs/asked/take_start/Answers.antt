@@ -3,7 +3,7 @@ use Rattle.desk_server.specs.Answer.{started}
 use Rattle.desk_server.specs.Heard.{GivesOrWants}
 use Rattle.desk_server.proofs.asked.take_start.Goals as goal
 
-pub returns-in-Ok : goal.returns-in-Ok
-returns-in-Ok c =
+pub returns-in-Ok-clause-answer : goal.returns-in-Ok-clause-answer
+returns-in-Ok-clause-answer c =
     let p = c.args.desk.now.plan in
-    subst (λ w. GivesOrWants p (started p c.args.pattern.generation w) c.begin.result c.begin.new.desk) c.in-Ok.ensures.ok c.begin.ensures
+    subst (λ w. GivesOrWants p (started p c.args.pattern.generation w) c.begin.result c.begin.new.desk) c.in-Ok.ensures.ok c.begin.ensures.answer

@@ -3,12 +3,14 @@ use Rattle.schedule.specs.Plan.{opening}
 use Rattle.desk_core.specs.Rows.{Known}
 use Rattle.script_lines.specs.Input.{FailsOrFull}
 use Rattle.desk_server.specs.declared.server.RunFault.TheVariants as fault
+use Rattle.desk_server.proofs.Jobs.{carries_first}
 use Rattle.desk_server.proofs.Rounds.{answers_none, answers_answers, answers_finishes, answers_stops, answers_breaks, finishes_all, stops_front}
 use Rattle.desk_server.proofs.server.run.Goals as goal
 
 pub script-init : goal.script-init
 script-init g c = rw c.begin.ensures (record {
   answered = answers_none _ _ _ (opening 0) c.in-Ok.desk.plan 1 refl (ap (λ (k : Known). k.plan) c.in-Ok.ensures);
+  carries = carries_first g.P.Post.table g.P.Post.floor g.P.Post.is_prompt g.P.Post.held c.args.post.now c.args.entries.now c.in-Ok.desk c.in-Ok.ensures c.requires;
   flushed = λ h. h;
   reads = refl;
   writes = refl;
@@ -18,14 +20,15 @@ pub script-preserved : goal.script-preserved
 script-preserved g c =
     let next = c.in-Ok-GoOn.ensures in
     record {
-      answered = answers_answers _ _ _ _ _ _ _ _ _ _ _ _ c.script.invariant.answered (next.goes_on (ap Ok c.in-Ok-GoOn.field-0-is)).0;
+      answered = answers_answers _ _ _ _ _ _ _ _ _ _ _ _ c.script.invariant.answered (next.goes_on (ap Ok c.in-Ok-GoOn.field-0-is)).0.0;
+      carries = (next.goes_on (ap Ok c.in-Ok-GoOn.field-0-is)).1;
       flushed = λ h. next.works.2 (c.script.invariant.flushed h);
       reads = next.works.0 ∙ c.script.invariant.reads;
       writes = next.works.1 ∙ c.script.invariant.writes;
     }
 
 pub script-smaller : goal.script-smaller
-script-smaller g c = (c.in-Ok-GoOn.ensures.goes_on (ap Ok c.in-Ok-GoOn.field-0-is)).1
+script-smaller g c = (c.in-Ok-GoOn.ensures.goes_on (ap Ok c.in-Ok-GoOn.field-0-is)).0.1
 
 pub returns-in-Ok-Done-clause-done : goal.returns-in-Ok-Done-clause-done
 returns-in-Ok-Done-clause-done g c =

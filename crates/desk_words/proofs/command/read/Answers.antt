@@ -3,7 +3,7 @@ use Rattle.clap.specs.Words.{FailsBy}
 use Rattle.desk_words.specs.declared.options.Options.{Options}
 use Rattle.desk_words.specs.Command.{Chooses, faults}
 use Rattle.desk_words.proofs.Given.{given_reads}
-use Rattle.desk_words.proofs.Requests.{alone_reads, help_answers}
+use Rattle.desk_words.proofs.Requests.{alone_reads, help_answers, plain_refused}
 use Rattle.desk_words.proofs.command.read.Goals as goal
 
 pub returns-in_err-matches-clause-alone : goal.returns-in_err-matches-clause-alone
@@ -39,3 +39,13 @@ pub returns-clause-help : goal.returns-clause-help
 returns-clause-help g c asks =
     let reads : faults (map g.S.AsStr.text c.args.words.now) ≡ [] = c.in_ok-matches.ensures.faults in
     help_answers (map g.S.AsStr.text c.args.words.now) (Ok (tt {0})) reads asks
+
+pub returns-in_err-matches-clause-plain : goal.returns-in_err-matches-clause-plain
+returns-in_err-matches-clause-plain g c =
+    let fails : FailsBy (faults (map g.S.AsStr.text c.args.words.now)) c.from_residual.result = search rules in
+    plain_refused (map g.S.AsStr.text c.args.words.now) c.from_residual.result fails
+
+pub returns-clause-plain : goal.returns-clause-plain
+returns-clause-plain g c plain =
+    let reads : faults (map g.S.AsStr.text c.args.words.now) ≡ [] = c.in_ok-matches.ensures.faults in
+    plain_refused (map g.S.AsStr.text c.args.words.now) (Ok (tt {0})) reads plain

@@ -1,8 +1,10 @@
-use Rattle.std.proofs.Common.{◌≤◌}
+use Rattle.std.proofs.Common.{◌≡◌, ◌≤◌, length}
+use Rattle.hash_engine.specs.Asked.{is_put, picked}
 use Rattle.hash_engine.proofs.counts.count_squares.Given as goal
 
 abbrev pub invariant-loop-place : goal.invariant-loop-place
 invariant-loop-place l = record {
+  put : l.counts.base ≡ length (picked (is_put l.table.rows l.memo) l.place);
   base : l.counts.base ≤ l.counts.fours;
   fours : l.counts.fours ≤ l.place;
 }

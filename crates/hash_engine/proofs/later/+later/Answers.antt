@@ -1,4 +1,4 @@
-use Rattle.std.proofs.Common.{◌≡◌, ℕ, suc, ◌-◌, ◌^◌, ◌<◌, min, length, map, get_or, ◌∙◌, ap, subst, arith, rules}
+use Rattle.std.proofs.Common.{◌≡◌, ℕ, [], ◌∷◌, suc, ◌-◌, ◌^◌, ◌<◌, min, length, map, get_or, ◌∙◌, ap, subst, arith, rules}
 use Rattle.std.specs.Prelude.{All}
 use Rattle.std.proofs.lemmas.List.{length-set}
 use Rattle.square_table.specs.Squares.{square_in}
@@ -7,10 +7,13 @@ use Rattle.hash_life.specs.Result as hash_life
 use Rattle.hash_life.specs.Puts.{nine_of, fours_of}
 use Rattle.hash_engine.specs.Standing.{StandForAll, IsReady}
 use Rattle.hash_engine.specs.Memo.{IsRight}
+use Rattle.hash_engine.specs.Asked.{AsksForMore}
 use Rattle.hash_engine.proofs.Standing.{above}
-use Rattle.hash_engine.proofs.Memos.{IsRight-grows}
-use Rattle.hash_engine.proofs.Computed.{IsReady-lower, IsReady-same, IsRight-same, IsRight-back, IsSameRule-then, nine_stand, nine_ready, fours_ready, StandsFor-computed, StandsFor-higher, base_below, base_stands, none_stands, stands_grown}
-use Rattle.hash_engine.proofs.Turns.{IsReady-turn, result-turn, done_more, rest_more, StandForAll-done}
+use Rattle.hash_engine.proofs.Memos.{IsRight-grows, IsResult-made}
+use Rattle.hash_engine.proofs.Computed.{IsReady-lower, IsReady-same, IsRight-same, IsRight-back, IsSameRule-then, nine_stand, nine_ready, fours_ready, StandsFor-computed, StandsFor-higher, none_stands}
+use Rattle.hash_engine.proofs.Puts.{none_put, higher_remembered}
+use Rattle.hash_engine.proofs.Once.{asked_in_two, asked_turn}
+use Rattle.hash_engine.proofs.Turns.{IsReady-turn, square_in-turn, result-turn, done_more, rest_more, StandForAll-done}
 use Rattle.hash_engine.proofs.later.+later.Goals as goal
 
 pub all_later-later-requires : goal.all_later-later-requires
@@ -32,25 +35,21 @@ all_later-loop-number-preserved g t c =
       went_on = c.in_ok-number.ensures.end.went_on (λ e. search rules) ∙ c.loop-number.invariant.went_on;
       count = length-set c.loop-number.numbers i c.in_ok-number.field-0 ∙ c.loop-number.invariant.count;
       done = done_more (g.Q.Ask.meaning c.args.rule.now) c.args.table.now c.loop-number.table c.later.new.table c.args.k c.args.generations c.args.numbers.now c.loop-number.numbers i c.in_ok-number.field-0 (omega (arith, below, c.loop-number.invariant.count)) c.in_ok-number.ensures.grows c.loop-number.invariant.done
-          (result-turn (g.Q.Ask.meaning c.args.rule.now) (g.Q.Ask.meaning c.loop-number.rule) (g.Q.Ask.state_count c.args.rule.now) (g.Q.Ask.state_count c.loop-number.rule) c.args.table.now c.loop-number.table c.later.new.table.rows c.args.k c.args.generations c.args.numbers.now c.loop-number.numbers i c.in_ok-number.field-0 _ c.loop-number.invariant.rule c.loop-number.invariant.grows c.requires.numbers below c.loop-number.invariant.rest c.in_ok-number.ensures.square);
+          (result-turn (g.Q.Ask.meaning c.args.rule.now) (g.Q.Ask.meaning c.loop-number.rule) (g.Q.Ask.state_count c.args.rule.now) (g.Q.Ask.state_count c.loop-number.rule) c.args.table.now c.loop-number.table c.later.new.table.rows c.args.k c.args.generations c.args.numbers.now c.loop-number.numbers i c.in_ok-number.field-0 _ c.loop-number.invariant.rule c.loop-number.invariant.grows c.requires.numbers below c.loop-number.invariant.rest c.in_ok-number.ensures.found.0);
+      asks =
+          let more = subst (λ f. AsksForMore f c.args.k c.args.generations (get_or c.loop-number.numbers i 0 ∷ []) c.loop-number.table c.later.new.table c.loop-number.memo c.later.new.memo (g.Q.Ask.asks c.loop-number.rule) (g.Q.Ask.asks c.later.new.rule)) c.loop-number.invariant.rule.meaning c.in_ok-number.ensures.found.1 in
+          asked_turn (g.Q.Ask.meaning c.args.rule.now) c.args.k c.args.generations c.args.numbers.now i _ c.args.table.now c.loop-number.table c.later.new.table c.args.memo.now c.loop-number.memo c.later.new.memo _ _ _ below
+          (square_in-turn (g.Q.Ask.meaning c.args.rule.now) (g.Q.Ask.state_count c.args.rule.now) c.args.table.now c.loop-number.table c.args.k c.args.generations c.args.numbers.now c.loop-number.numbers i 0 c.loop-number.invariant.grows c.requires.numbers below c.loop-number.invariant.rest)
+          c.loop-number.invariant.asks more;
       rest = rest_more c.args.numbers.now c.loop-number.numbers i c.in_ok-number.field-0 c.loop-number.invariant.rest;
     }
 
-pub all_later-returns-clause-squares : goal.all_later-returns-clause-squares
-all_later-returns-clause-squares g t c = λ ss are.
-    StandForAll-done (g.Q.Ask.meaning c.args.rule.now) c.args.table.now c.loop-number.table c.args.k c.args.generations c.args.numbers.now c.loop-number.numbers c.loop-number.number-index ss c.loop-number-test.false c.loop-number.invariant.count c.loop-number.invariant.done are
-
-pub compute-later-requires-clause-below : goal.compute-later-requires-clause-below
-compute-later-requires-clause-below g t c = base_below (g.Q.Ask.meaning c.args.rule.now) (g.Q.Ask.state_count c.args.rule.now) c.args.table.now.rows c.args.k c.args.generations c.args.number c.requires.some c.if-k-eq0.true c.requires.number
-
-pub compute-returns-in_err-later-clause-memo : goal.compute-returns-in_err-later-clause-memo
-compute-returns-in_err-later-clause-memo g t c = IsRight-grows (g.Q.Ask.meaning c.args.rule.now) c.args.table.now c.later.new.table c.args.memo.now c.later.ensures.grows c.requires.memo
-
-pub compute-returns-then-k-eq0-clause-memo : goal.compute-returns-then-k-eq0-clause-memo
-compute-returns-then-k-eq0-clause-memo g t c = IsRight-grows (g.Q.Ask.meaning c.args.rule.now) c.args.table.now c.later.new.table c.args.memo.now c.later.ensures.grows c.requires.memo
-
-pub compute-returns-then-k-eq0-clause-square : goal.compute-returns-then-k-eq0-clause-square
-compute-returns-then-k-eq0-clause-square g t c = base_stands (g.Q.Ask.meaning c.args.rule.now) c.args.table.now.rows c.later.new.table.rows c.args.k c.args.generations c.args.number c.in_ok-later.field-0 c.requires.some c.if-k-eq0.true c.in_ok-later.ensures.square
+pub all_later-returns-clause-found : goal.all_later-returns-clause-found
+all_later-returns-clause-found g t c = (
+  (λ ss are.
+      StandForAll-done (g.Q.Ask.meaning c.args.rule.now) c.args.table.now c.loop-number.table c.args.k c.args.generations c.args.numbers.now c.loop-number.numbers c.loop-number.number-index ss c.loop-number-test.false c.loop-number.invariant.count c.loop-number.invariant.done are),
+  c.loop-number.invariant.asks,
+)
 
 pub compute-returns-in_err-nine-clause-memo : goal.compute-returns-in_err-nine-clause-memo
 compute-returns-in_err-nine-clause-memo g t c = IsRight-grows (g.Q.Ask.meaning c.args.rule.now) c.args.table.now c.nine.new.table c.args.memo.now c.nine.ensures.grows c.requires.memo
@@ -58,7 +57,7 @@ compute-returns-in_err-nine-clause-memo g t c = IsRight-grows (g.Q.Ask.meaning c
 pub compute-all_later-requires : goal.compute-all_later-requires
 compute-all_later-requires g t c κs within =
     let j = c.args.k - 1 in
-    let level : suc j ≡ c.args.k = omega (arith, c.if-k-eq0.false) in
+    let level : suc j ≡ c.args.k = omega (arith, c.requires.k.0) in
     let first : c.min-first.result ≡ min c.args.generations (2 ^ j) = c.min-first.ensures ∙ ap (min c.args.generations) c.full.ensures in
     let lower : IsReady (g.Q.Ask.meaning c.args.rule.now) (g.Q.Ask.state_count c.args.rule.now) c.args.table.now.rows (suc j) c.args.generations c.args.number = IsReady-lower (g.Q.Ask.meaning c.args.rule.now) (g.Q.Ask.state_count c.args.rule.now) c.args.table.now.rows c.args.k j c.args.generations c.args.number level c.requires.number in
     let nine = nine_stand c.args.table.now c.nine.new.table j c.args.number _ lower.numbered c.in_ok-nine.ensures.squares in
@@ -72,11 +71,11 @@ compute-returns-in_err-fours-clause-memo g t c = IsRight-grows (g.Q.Ask.meaning 
 pub compute-all_later-requires-2 : goal.compute-all_later-requires-2
 compute-all_later-requires-2 g t c κs within =
     let j = c.args.k - 1 in
-    let level : suc j ≡ c.args.k = omega (arith, c.if-k-eq0.false) in
+    let level : suc j ≡ c.args.k = omega (arith, c.requires.k.0) in
     let first : c.min-first.result ≡ min c.args.generations (2 ^ j) = c.min-first.ensures ∙ ap (min c.args.generations) c.full.ensures in
     let lower : IsReady (g.Q.Ask.meaning c.args.rule.now) (g.Q.Ask.state_count c.args.rule.now) c.args.table.now.rows (suc j) c.args.generations c.args.number = IsReady-lower (g.Q.Ask.meaning c.args.rule.now) (g.Q.Ask.state_count c.args.rule.now) c.args.table.now.rows c.args.k j c.args.generations c.args.number level c.requires.number in
     let nine = nine_stand c.args.table.now c.nine.new.table j c.args.number _ lower.numbered c.in_ok-nine.ensures.squares in
-    let fours = c.in_ok-fours.ensures.squares (suc j) _ (c.in_ok-all_later.ensures.squares _ nine) in
+    let fours = c.in_ok-fours.ensures.squares (suc j) _ (c.in_ok-all_later.ensures.found.0 _ nine) in
     let ready : All (IsReady (g.Q.Ask.meaning c.all_later.new.rule) (g.Q.Ask.state_count c.all_later.new.rule) c.fours.new.table.rows j (c.args.generations - c.min-first.result)) c.in_ok-fours.fours =
     IsReady-same (g.Q.Ask.meaning c.args.rule.now) (g.Q.Ask.meaning c.all_later.new.rule) (g.Q.Ask.state_count c.args.rule.now) (g.Q.Ask.state_count c.all_later.new.rule) c.fours.new.table.rows j (c.args.generations - c.min-first.result) _ c.in_ok-all_later.ensures.rule
     (fours_ready (g.Q.Ask.meaning c.args.rule.now) (g.Q.Ask.state_count c.args.rule.now) c.args.table.now c.fours.new.table j c.args.generations c.min-first.result c.args.number _ c.requires.some first lower fours) in
@@ -89,20 +88,27 @@ compute-returns-clause-memo g t c =
     IsRight-grows (g.Q.Ask.meaning c.args.rule.now) c.all_later-2.new.table c.join_numbers.new.self c.all_later-2.new.memo c.in_ok-join_numbers.ensures.grows
     (IsRight-back (g.Q.Ask.meaning c.args.rule.now) (g.Q.Ask.meaning c.all_later.new.rule) (g.Q.Ask.state_count c.args.rule.now) (g.Q.Ask.state_count c.all_later.new.rule) c.all_later-2.new.table.rows c.all_later-2.new.memo c.in_ok-all_later.ensures.rule c.in_ok-all_later-2.ensures.memo)
 
-pub compute-returns-clause-square : goal.compute-returns-clause-square
-compute-returns-clause-square g t c =
+pub compute-returns-clause-found : goal.compute-returns-clause-found
+compute-returns-clause-found g t c =
     let j = c.args.k - 1 in
-    let level : suc j ≡ c.args.k = omega (arith, c.if-k-eq0.false) in
+    let level : suc j ≡ c.args.k = omega (arith, c.requires.k.0) in
     let first : c.min-first.result ≡ min c.args.generations (2 ^ j) = c.min-first.ensures ∙ ap (min c.args.generations) c.full.ensures in
     let lower : IsReady (g.Q.Ask.meaning c.args.rule.now) (g.Q.Ask.state_count c.args.rule.now) c.args.table.now.rows (suc j) c.args.generations c.args.number = IsReady-lower (g.Q.Ask.meaning c.args.rule.now) (g.Q.Ask.state_count c.args.rule.now) c.args.table.now.rows c.args.k j c.args.generations c.args.number level c.requires.number in
     let nine = nine_stand c.args.table.now c.nine.new.table j c.args.number _ lower.numbered c.in_ok-nine.ensures.squares in
-    let fours = c.in_ok-fours.ensures.squares (suc j) _ (c.in_ok-all_later.ensures.squares _ nine) in
-    let then = c.in_ok-all_later-2.ensures.squares _ fours in
+    let fours = c.in_ok-fours.ensures.squares (suc j) _ (c.in_ok-all_later.ensures.found.0 _ nine) in
+    let later = c.in_ok-all_later-2.ensures.found.0 _ fours in
     let same : (g.Q.Ask.meaning c.all_later.new.rule) ≡ (g.Q.Ask.meaning c.args.rule.now) = c.in_ok-all_later.ensures.rule.meaning in
-    StandsFor-higher (g.Q.Ask.meaning c.args.rule.now) c.args.table.now.rows c.join_numbers.new.self.rows c.args.k j c.args.generations c.args.number c.in_ok-join_numbers.field-0 level
-    (StandsFor-computed (g.Q.Ask.meaning c.args.rule.now) j c.args.generations c.min-first.result c.args.table.now c.all_later-2.new.table c.join_numbers.new.self c.args.number c.in_ok-join_numbers.field-0 c.all_later-2.new.numbers c.requires.some first lower.numbered
-    c.in_ok-join_numbers.ensures.grows c.in_ok-join_numbers.ensures.square
-    (subst (λ f. StandForAll c.all_later-2.new.table.rows (suc j) c.all_later-2.new.numbers (map (hash_life.result f j (c.args.generations - c.min-first.result)) (fours_of (map (hash_life.result (g.Q.Ask.meaning c.args.rule.now) j c.min-first.result) (nine_of (square_in c.args.table.now.rows (suc (suc (suc j))) c.args.number)))))) same then))
+    let then = subst (λ f. AsksForMore f j (c.args.generations - c.min-first.result) c.in_ok-fours.fours c.fours.new.table c.all_later-2.new.table c.all_later.new.memo c.all_later-2.new.memo (g.Q.Ask.asks c.all_later.new.rule) (g.Q.Ask.asks c.all_later-2.new.rule)) c.in_ok-all_later.ensures.rule.meaning c.in_ok-all_later-2.ensures.found.1 in (
+      StandsFor-higher (g.Q.Ask.meaning c.args.rule.now) c.args.table.now.rows c.join_numbers.new.self.rows c.args.k j c.args.generations c.args.number c.in_ok-join_numbers.field-0 level
+          (StandsFor-computed (g.Q.Ask.meaning c.args.rule.now) j c.args.generations c.min-first.result c.args.table.now c.all_later-2.new.table c.join_numbers.new.self c.args.number c.in_ok-join_numbers.field-0 c.all_later-2.new.numbers c.requires.some first lower.numbered
+          c.in_ok-join_numbers.ensures.grows c.in_ok-join_numbers.ensures.square
+          (subst (λ f. StandForAll c.all_later-2.new.table.rows (suc j) c.all_later-2.new.numbers (map (hash_life.result f j (c.args.generations - c.min-first.result)) (fours_of (map (hash_life.result (g.Q.Ask.meaning c.args.rule.now) j c.min-first.result) (nine_of (square_in c.args.table.now.rows (suc (suc (suc j))) c.args.number)))))) same later)),
+      asked_in_two (g.Q.Ask.meaning c.args.rule.now) c.args.k j c.args.generations c.min-first.result c.args.number _ _ c.args.table.now c.nine.new.table c.all_later.new.table c.fours.new.table c.all_later-2.new.table c.join_numbers.new.self
+          c.args.memo.now c.all_later.new.memo c.all_later-2.new.memo _ _ _ level c.requires.some first nine fours c.in_ok-nine.ensures.grows c.in_ok-fours.ensures.grows c.in_ok-join_numbers.ensures.grows
+          c.requires.memo c.in_ok-all_later.ensures.memo
+          (IsRight-back (g.Q.Ask.meaning c.args.rule.now) (g.Q.Ask.meaning c.all_later.new.rule) (g.Q.Ask.state_count c.args.rule.now) (g.Q.Ask.state_count c.all_later.new.rule) c.all_later-2.new.table.rows c.all_later-2.new.memo c.in_ok-all_later.ensures.rule c.in_ok-all_later-2.ensures.memo)
+          c.in_ok-all_later.ensures.found.1 then,
+    )
 
 pub later-returns-in_err-middle-clause-memo : goal.later-returns-in_err-middle-clause-memo
 later-returns-in_err-middle-clause-memo g t c = IsRight-grows (g.Q.Ask.meaning c.args.rule.now) c.args.table.now c.middle.new.table c.args.memo.now c.middle.ensures.grows c.requires.memo
@@ -110,8 +116,11 @@ later-returns-in_err-middle-clause-memo g t c = IsRight-grows (g.Q.Ask.meaning c
 pub later-returns-then-generations-eq0-clause-memo : goal.later-returns-then-generations-eq0-clause-memo
 later-returns-then-generations-eq0-clause-memo g t c = IsRight-grows (g.Q.Ask.meaning c.args.rule.now) c.args.table.now c.middle.new.table c.args.memo.now c.middle.ensures.grows c.requires.memo
 
-pub later-returns-then-generations-eq0-clause-square : goal.later-returns-then-generations-eq0-clause-square
-later-returns-then-generations-eq0-clause-square g t c = none_stands (g.Q.Ask.meaning c.args.rule.now) c.args.table.now c.middle.new.table c.args.k c.args.generations c.args.number c.in_ok-middle.field-0 c.if-generations-eq0.true c.requires.number.numbered c.in_ok-middle.ensures.square
+pub later-returns-then-generations-eq0-clause-found : goal.later-returns-then-generations-eq0-clause-found
+later-returns-then-generations-eq0-clause-found g t c = (
+  none_stands (g.Q.Ask.meaning c.args.rule.now) c.args.table.now c.middle.new.table c.args.k c.args.generations c.args.number c.in_ok-middle.field-0 c.if-generations-eq0.true c.requires.number.numbered c.in_ok-middle.ensures.square,
+  none_put (g.Q.Ask.meaning c.args.rule.now) c.args.k c.args.generations (c.args.number ∷ []) c.args.table.now c.middle.new.table c.args.memo.now (g.Q.Ask.asks c.args.rule.now) c.in_ok-middle.ensures.grows c.requires.memo,
+)
 
 pub later-recall-requires-clause-number : goal.later-recall-requires-clause-number
 later-recall-requires-clause-number g t c = above _ (suc c.args.k) _ c.requires.number.numbered
@@ -122,17 +131,18 @@ later-remember-requires-clause-number g t c = above _ (suc c.args.k) _ c.require
 pub later-returns-in_err-remember-clause-memo : goal.later-returns-in_err-remember-clause-memo
 later-returns-in_err-remember-clause-memo g t c =
     let grown = c.in_ok-made.ensures.grows in
-    c.remember.ensures (g.Q.Ask.meaning c.args.rule.now) c.compute.new.table.rows c.in_ok-made.ensures.memo
-    (record {
-      numbered = IsNumber-grows c.args.table.now c.compute.new.table (suc (suc c.args.k)) c.args.number grown c.requires.number.numbered;
-      result = stands_grown (g.Q.Ask.meaning c.args.rule.now) c.args.table.now c.compute.new.table c.args.k c.args.generations c.args.number c.in_ok-made.made grown c.requires.number.numbered c.in_ok-made.ensures.square;
-    })
+    c.remember.ensures.right (g.Q.Ask.meaning c.args.rule.now) c.compute.new.table.rows c.in_ok-made.ensures.memo
+    (IsResult-made (g.Q.Ask.meaning c.args.rule.now) c.args.table.now c.compute.new.table c.args.k c.args.generations c.args.number c.in_ok-made.made grown c.requires.number.numbered c.in_ok-made.ensures.found.0)
 
 pub later-returns-clause-memo : goal.later-returns-clause-memo
 later-returns-clause-memo g t c =
     let grown = c.in_ok-made.ensures.grows in
-    c.remember.ensures (g.Q.Ask.meaning c.args.rule.now) c.compute.new.table.rows c.in_ok-made.ensures.memo
-    (record {
-      numbered = IsNumber-grows c.args.table.now c.compute.new.table (suc (suc c.args.k)) c.args.number grown c.requires.number.numbered;
-      result = stands_grown (g.Q.Ask.meaning c.args.rule.now) c.args.table.now c.compute.new.table c.args.k c.args.generations c.args.number c.in_ok-made.made grown c.requires.number.numbered c.in_ok-made.ensures.square;
-    })
+    c.remember.ensures.right (g.Q.Ask.meaning c.args.rule.now) c.compute.new.table.rows c.in_ok-made.ensures.memo
+    (IsResult-made (g.Q.Ask.meaning c.args.rule.now) c.args.table.now c.compute.new.table c.args.k c.args.generations c.args.number c.in_ok-made.made grown c.requires.number.numbered c.in_ok-made.ensures.found.0)
+
+pub later-returns-clause-found : goal.later-returns-clause-found
+later-returns-clause-found g t c = (
+  c.in_ok-made.ensures.found.0,
+  higher_remembered (g.Q.Ask.meaning c.args.rule.now) c.args.k c.args.generations c.args.number c.in_ok-made.made (c.args.number ∷ []) c.args.table.now c.compute.new.table c.args.memo.now c.compute.new.memo c.remember.new.self (g.Q.Ask.asks c.args.rule.now) (g.Q.Ask.asks c.compute.new.rule)
+      (omega (arith, c.if-k-eq0.false)) (IsNumber-grows c.args.table.now c.compute.new.table (suc (suc c.args.k)) c.args.number c.in_ok-made.ensures.grows c.requires.number.numbered) c.in_ok-remember.ensures.noted c.in_ok-made.ensures.found.1,
+)

@@ -16,6 +16,6 @@ quadrants-requires-2-clause-there c = within _ c.requires.south.0 _ c.requires.s
 
 pub returns-clause-square : goal.returns-clause-square
 returns-clause-square c =
-    IfOk-weaker c.join_numbers.result _ _
-    (λ n is k s t first second. StandsFor-amid c.args.table.now c.join_numbers.new.self k c.args.north c.args.south n c.quadrants.result c.quadrants-2.result s t c.quadrants.ensures c.quadrants-2.ensures c.join_numbers.ensures.grows is first second)
-    c.join_numbers.ensures.square
+    IfOk-weaker c.join_guessed.result _ _
+    (λ n is k s t first second. StandsFor-amid c.args.table.now c.join_guessed.new.self k c.args.north c.args.south n c.quadrants.result c.quadrants-2.result s t c.quadrants.ensures c.quadrants-2.ensures c.join_guessed.ensures.grows is first second)
+    c.join_guessed.ensures.square

@@ -8,9 +8,9 @@ use Rattle.hash_engine.proofs.parts.fours.Goals as goal
 pub returns-clause-squares : goal.returns-clause-squares
 returns-clause-squares c = λ k ss are.
     let count : length c.args.nine ≡ 9 = search rules in
-    subst (StandForAll c.join_numbers-4.new.self.rows (suc k) _) (sym (fours_at ss (one 0) (sym are.count ∙ count)))
-    (StandForAll-four c.join_numbers-4.new.self.rows (suc k) _ _ _ _ _ _ _ _
-    (StandsFor-of_nine c.args.table.now c.join_numbers.new.self c.join_numbers-4.new.self k _ c.args.nine ss 0 1 3 4 count (lit< tt) (lit< tt) (lit< tt) (lit< tt) are c.in_ok-nw.ensures.grows (Grows-then c.join_numbers.new.self c.join_numbers-3.new.self c.join_numbers-4.new.self (Grows-then c.join_numbers.new.self c.join_numbers-2.new.self c.join_numbers-3.new.self c.in_ok-ne.ensures.grows c.in_ok-sw.ensures.grows) c.in_ok-se.ensures.grows) c.in_ok-nw.ensures.square)
-    (StandsFor-of_nine c.args.table.now c.join_numbers-2.new.self c.join_numbers-4.new.self k _ c.args.nine ss 1 2 4 5 count (lit< tt) (lit< tt) (lit< tt) (lit< tt) are (Grows-then c.args.table.now c.join_numbers.new.self c.join_numbers-2.new.self c.in_ok-nw.ensures.grows c.in_ok-ne.ensures.grows) (Grows-then c.join_numbers-2.new.self c.join_numbers-3.new.self c.join_numbers-4.new.self c.in_ok-sw.ensures.grows c.in_ok-se.ensures.grows) c.in_ok-ne.ensures.square)
-    (StandsFor-of_nine c.args.table.now c.join_numbers-3.new.self c.join_numbers-4.new.self k _ c.args.nine ss 3 4 6 7 count (lit< tt) (lit< tt) (lit< tt) (lit< tt) are (Grows-then c.args.table.now c.join_numbers-2.new.self c.join_numbers-3.new.self (Grows-then c.args.table.now c.join_numbers.new.self c.join_numbers-2.new.self c.in_ok-nw.ensures.grows c.in_ok-ne.ensures.grows) c.in_ok-sw.ensures.grows) c.in_ok-se.ensures.grows c.in_ok-sw.ensures.square)
-    (StandsFor-of_nine c.args.table.now c.join_numbers-4.new.self c.join_numbers-4.new.self k _ c.args.nine ss 4 5 7 8 count (lit< tt) (lit< tt) (lit< tt) (lit< tt) are (Grows-then c.args.table.now c.join_numbers-3.new.self c.join_numbers-4.new.self (Grows-then c.args.table.now c.join_numbers-2.new.self c.join_numbers-3.new.self (Grows-then c.args.table.now c.join_numbers.new.self c.join_numbers-2.new.self c.in_ok-nw.ensures.grows c.in_ok-ne.ensures.grows) c.in_ok-sw.ensures.grows) c.in_ok-se.ensures.grows) (Grows-same c.join_numbers-4.new.self) c.in_ok-se.ensures.square))
+    subst (StandForAll c.join_guessed-4.new.self.rows (suc k) _) (sym (fours_at ss (one 0) (sym are.count ∙ count)))
+    (StandForAll-four c.join_guessed-4.new.self.rows (suc k) _ _ _ _ _ _ _ _
+    (StandsFor-of_nine c.args.table.now c.join_guessed.new.self c.join_guessed-4.new.self k _ c.args.nine ss 0 1 3 4 count (lit< tt) (lit< tt) (lit< tt) (lit< tt) are c.in_ok-nw.ensures.grows (Grows-then c.join_guessed.new.self c.join_guessed-3.new.self c.join_guessed-4.new.self (Grows-then c.join_guessed.new.self c.join_guessed-2.new.self c.join_guessed-3.new.self c.in_ok-ne.ensures.grows c.in_ok-sw.ensures.grows) c.in_ok-se.ensures.grows) c.in_ok-nw.ensures.square)
+    (StandsFor-of_nine c.args.table.now c.join_guessed-2.new.self c.join_guessed-4.new.self k _ c.args.nine ss 1 2 4 5 count (lit< tt) (lit< tt) (lit< tt) (lit< tt) are (Grows-then c.args.table.now c.join_guessed.new.self c.join_guessed-2.new.self c.in_ok-nw.ensures.grows c.in_ok-ne.ensures.grows) (Grows-then c.join_guessed-2.new.self c.join_guessed-3.new.self c.join_guessed-4.new.self c.in_ok-sw.ensures.grows c.in_ok-se.ensures.grows) c.in_ok-ne.ensures.square)
+    (StandsFor-of_nine c.args.table.now c.join_guessed-3.new.self c.join_guessed-4.new.self k _ c.args.nine ss 3 4 6 7 count (lit< tt) (lit< tt) (lit< tt) (lit< tt) are (Grows-then c.args.table.now c.join_guessed-2.new.self c.join_guessed-3.new.self (Grows-then c.args.table.now c.join_guessed.new.self c.join_guessed-2.new.self c.in_ok-nw.ensures.grows c.in_ok-ne.ensures.grows) c.in_ok-sw.ensures.grows) c.in_ok-se.ensures.grows c.in_ok-sw.ensures.square)
+    (StandsFor-of_nine c.args.table.now c.join_guessed-4.new.self c.join_guessed-4.new.self k _ c.args.nine ss 4 5 7 8 count (lit< tt) (lit< tt) (lit< tt) (lit< tt) are (Grows-then c.args.table.now c.join_guessed-3.new.self c.join_guessed-4.new.self (Grows-then c.args.table.now c.join_guessed-2.new.self c.join_guessed-3.new.self (Grows-then c.args.table.now c.join_guessed.new.self c.join_guessed-2.new.self c.in_ok-nw.ensures.grows c.in_ok-ne.ensures.grows) c.in_ok-sw.ensures.grows) c.in_ok-se.ensures.grows) (Grows-same c.join_guessed-4.new.self) c.in_ok-se.ensures.square))

@@ -21,31 +21,31 @@ amid-requires-clause-north c = (c.requires.0, IsNumber-grows c.args.table.now c.
 pub amid-requires-clause-south : goal.amid-requires-clause-south
 amid-requires-clause-south c = (c.requires.0, IsNumber-grows c.args.table.now c.between.new.table _ _ c.in_ok-north.ensures.grows (quadrant_numbers _ (suc c.requires.0) _ _ c.quadrants.ensures c.requires.1).sw)
 
-pub middle-requires : goal.middle-requires
-middle-requires c = (c.requires.0, IsNumber-grows c.args.table.now c.amid.new.table _ _ (Grows-then c.args.table.now c.between.new.table c.amid.new.table c.in_ok-north.ensures.grows c.in_ok-west.ensures.grows) c.requires.1)
+pub centre-requires : goal.centre-requires
+centre-requires c = (c.requires.0, IsNumber-grows c.args.table.now c.amid.new.table _ _ (Grows-then c.args.table.now c.between.new.table c.amid.new.table c.in_ok-north.ensures.grows c.in_ok-west.ensures.grows) c.requires.1)
 
 pub amid-requires-2-clause-north : goal.amid-requires-2-clause-north
-amid-requires-2-clause-north c = (c.requires.0, IsNumber-grows c.args.table.now c.middle.new.table _ _ (Grows-then c.args.table.now c.amid.new.table c.middle.new.table (Grows-then c.args.table.now c.between.new.table c.amid.new.table c.in_ok-north.ensures.grows c.in_ok-west.ensures.grows) c.in_ok-centre.ensures.grows) (quadrant_numbers _ (suc c.requires.0) _ _ c.quadrants.ensures c.requires.1).ne)
+amid-requires-2-clause-north c = (c.requires.0, IsNumber-grows c.args.table.now c.centre.new.table _ _ (Grows-then c.args.table.now c.amid.new.table c.centre.new.table (Grows-then c.args.table.now c.between.new.table c.amid.new.table c.in_ok-north.ensures.grows c.in_ok-west.ensures.grows) c.in_ok-centre.ensures.grows) (quadrant_numbers _ (suc c.requires.0) _ _ c.quadrants.ensures c.requires.1).ne)
 
 pub amid-requires-2-clause-south : goal.amid-requires-2-clause-south
-amid-requires-2-clause-south c = (c.requires.0, IsNumber-grows c.args.table.now c.middle.new.table _ _ (Grows-then c.args.table.now c.amid.new.table c.middle.new.table (Grows-then c.args.table.now c.between.new.table c.amid.new.table c.in_ok-north.ensures.grows c.in_ok-west.ensures.grows) c.in_ok-centre.ensures.grows) (quadrant_numbers _ (suc c.requires.0) _ _ c.quadrants.ensures c.requires.1).se)
+amid-requires-2-clause-south c = (c.requires.0, IsNumber-grows c.args.table.now c.centre.new.table _ _ (Grows-then c.args.table.now c.amid.new.table c.centre.new.table (Grows-then c.args.table.now c.between.new.table c.amid.new.table c.in_ok-north.ensures.grows c.in_ok-west.ensures.grows) c.in_ok-centre.ensures.grows) (quadrant_numbers _ (suc c.requires.0) _ _ c.quadrants.ensures c.requires.1).se)
 
 pub between-requires-2-clause-west : goal.between-requires-2-clause-west
-between-requires-2-clause-west c = (c.requires.0, IsNumber-grows c.args.table.now c.amid-2.new.table _ _ (Grows-then c.args.table.now c.middle.new.table c.amid-2.new.table (Grows-then c.args.table.now c.amid.new.table c.middle.new.table (Grows-then c.args.table.now c.between.new.table c.amid.new.table c.in_ok-north.ensures.grows c.in_ok-west.ensures.grows) c.in_ok-centre.ensures.grows) c.in_ok-east.ensures.grows) (quadrant_numbers _ (suc c.requires.0) _ _ c.quadrants.ensures c.requires.1).sw)
+between-requires-2-clause-west c = (c.requires.0, IsNumber-grows c.args.table.now c.amid-2.new.table _ _ (Grows-then c.args.table.now c.centre.new.table c.amid-2.new.table (Grows-then c.args.table.now c.amid.new.table c.centre.new.table (Grows-then c.args.table.now c.between.new.table c.amid.new.table c.in_ok-north.ensures.grows c.in_ok-west.ensures.grows) c.in_ok-centre.ensures.grows) c.in_ok-east.ensures.grows) (quadrant_numbers _ (suc c.requires.0) _ _ c.quadrants.ensures c.requires.1).sw)
 
 pub between-requires-2-clause-east : goal.between-requires-2-clause-east
-between-requires-2-clause-east c = (c.requires.0, IsNumber-grows c.args.table.now c.amid-2.new.table _ _ (Grows-then c.args.table.now c.middle.new.table c.amid-2.new.table (Grows-then c.args.table.now c.amid.new.table c.middle.new.table (Grows-then c.args.table.now c.between.new.table c.amid.new.table c.in_ok-north.ensures.grows c.in_ok-west.ensures.grows) c.in_ok-centre.ensures.grows) c.in_ok-east.ensures.grows) (quadrant_numbers _ (suc c.requires.0) _ _ c.quadrants.ensures c.requires.1).se)
+between-requires-2-clause-east c = (c.requires.0, IsNumber-grows c.args.table.now c.amid-2.new.table _ _ (Grows-then c.args.table.now c.centre.new.table c.amid-2.new.table (Grows-then c.args.table.now c.amid.new.table c.centre.new.table (Grows-then c.args.table.now c.between.new.table c.amid.new.table c.in_ok-north.ensures.grows c.in_ok-west.ensures.grows) c.in_ok-centre.ensures.grows) c.in_ok-east.ensures.grows) (quadrant_numbers _ (suc c.requires.0) _ _ c.quadrants.ensures c.requires.1).se)
 
 pub returns-clause-squares : goal.returns-clause-squares
 returns-clause-squares c = λ k s whole.
-    StandForAll-nine_of c.args.table.now k c.args.number _ _ _ _ _ c.between.new.table c.amid.new.table c.middle.new.table c.amid-2.new.table c.between-2.new.table c.quadrants.result s whole c.quadrants.ensures
-    (Grows-then c.args.table.now c.amid-2.new.table c.between-2.new.table (Grows-then c.args.table.now c.middle.new.table c.amid-2.new.table (Grows-then c.args.table.now c.amid.new.table c.middle.new.table (Grows-then c.args.table.now c.between.new.table c.amid.new.table c.in_ok-north.ensures.grows c.in_ok-west.ensures.grows) c.in_ok-centre.ensures.grows) c.in_ok-east.ensures.grows) c.in_ok-south.ensures.grows)
-    (Grows-then c.between.new.table c.amid-2.new.table c.between-2.new.table (Grows-then c.between.new.table c.middle.new.table c.amid-2.new.table (Grows-then c.between.new.table c.amid.new.table c.middle.new.table c.in_ok-west.ensures.grows c.in_ok-centre.ensures.grows) c.in_ok-east.ensures.grows) c.in_ok-south.ensures.grows)
-    (Grows-then c.amid.new.table c.amid-2.new.table c.between-2.new.table (Grows-then c.amid.new.table c.middle.new.table c.amid-2.new.table c.in_ok-centre.ensures.grows c.in_ok-east.ensures.grows) c.in_ok-south.ensures.grows)
-    (Grows-then c.middle.new.table c.amid-2.new.table c.between-2.new.table c.in_ok-east.ensures.grows c.in_ok-south.ensures.grows)
+    StandForAll-nine_of c.args.table.now k c.args.number _ _ _ _ _ c.between.new.table c.amid.new.table c.centre.new.table c.amid-2.new.table c.between-2.new.table c.quadrants.result s whole c.quadrants.ensures
+    (Grows-then c.args.table.now c.amid-2.new.table c.between-2.new.table (Grows-then c.args.table.now c.centre.new.table c.amid-2.new.table (Grows-then c.args.table.now c.amid.new.table c.centre.new.table (Grows-then c.args.table.now c.between.new.table c.amid.new.table c.in_ok-north.ensures.grows c.in_ok-west.ensures.grows) c.in_ok-centre.ensures.grows) c.in_ok-east.ensures.grows) c.in_ok-south.ensures.grows)
+    (Grows-then c.between.new.table c.amid-2.new.table c.between-2.new.table (Grows-then c.between.new.table c.centre.new.table c.amid-2.new.table (Grows-then c.between.new.table c.amid.new.table c.centre.new.table c.in_ok-west.ensures.grows c.in_ok-centre.ensures.grows) c.in_ok-east.ensures.grows) c.in_ok-south.ensures.grows)
+    (Grows-then c.amid.new.table c.amid-2.new.table c.between-2.new.table (Grows-then c.amid.new.table c.centre.new.table c.amid-2.new.table c.in_ok-centre.ensures.grows c.in_ok-east.ensures.grows) c.in_ok-south.ensures.grows)
+    (Grows-then c.centre.new.table c.amid-2.new.table c.between-2.new.table c.in_ok-east.ensures.grows c.in_ok-south.ensures.grows)
     c.in_ok-south.ensures.grows
     (λ a b first second. c.in_ok-north.ensures.square k a b first second)
     (λ a b first second. c.in_ok-west.ensures.square k a b (StandsFor-grows c.args.table.now c.between.new.table _ _ a c.in_ok-north.ensures.grows first) (StandsFor-grows c.args.table.now c.between.new.table _ _ b c.in_ok-north.ensures.grows second))
     (c.in_ok-centre.ensures.square k s (StandsFor-grows c.args.table.now c.amid.new.table _ _ s (Grows-then c.args.table.now c.between.new.table c.amid.new.table c.in_ok-north.ensures.grows c.in_ok-west.ensures.grows) whole))
-    (λ a b first second. c.in_ok-east.ensures.square k a b (StandsFor-grows c.args.table.now c.middle.new.table _ _ a (Grows-then c.args.table.now c.amid.new.table c.middle.new.table (Grows-then c.args.table.now c.between.new.table c.amid.new.table c.in_ok-north.ensures.grows c.in_ok-west.ensures.grows) c.in_ok-centre.ensures.grows) first) (StandsFor-grows c.args.table.now c.middle.new.table _ _ b (Grows-then c.args.table.now c.amid.new.table c.middle.new.table (Grows-then c.args.table.now c.between.new.table c.amid.new.table c.in_ok-north.ensures.grows c.in_ok-west.ensures.grows) c.in_ok-centre.ensures.grows) second))
-    (λ a b first second. c.in_ok-south.ensures.square k a b (StandsFor-grows c.args.table.now c.amid-2.new.table _ _ a (Grows-then c.args.table.now c.middle.new.table c.amid-2.new.table (Grows-then c.args.table.now c.amid.new.table c.middle.new.table (Grows-then c.args.table.now c.between.new.table c.amid.new.table c.in_ok-north.ensures.grows c.in_ok-west.ensures.grows) c.in_ok-centre.ensures.grows) c.in_ok-east.ensures.grows) first) (StandsFor-grows c.args.table.now c.amid-2.new.table _ _ b (Grows-then c.args.table.now c.middle.new.table c.amid-2.new.table (Grows-then c.args.table.now c.amid.new.table c.middle.new.table (Grows-then c.args.table.now c.between.new.table c.amid.new.table c.in_ok-north.ensures.grows c.in_ok-west.ensures.grows) c.in_ok-centre.ensures.grows) c.in_ok-east.ensures.grows) second))
+    (λ a b first second. c.in_ok-east.ensures.square k a b (StandsFor-grows c.args.table.now c.centre.new.table _ _ a (Grows-then c.args.table.now c.amid.new.table c.centre.new.table (Grows-then c.args.table.now c.between.new.table c.amid.new.table c.in_ok-north.ensures.grows c.in_ok-west.ensures.grows) c.in_ok-centre.ensures.grows) first) (StandsFor-grows c.args.table.now c.centre.new.table _ _ b (Grows-then c.args.table.now c.amid.new.table c.centre.new.table (Grows-then c.args.table.now c.between.new.table c.amid.new.table c.in_ok-north.ensures.grows c.in_ok-west.ensures.grows) c.in_ok-centre.ensures.grows) second))
+    (λ a b first second. c.in_ok-south.ensures.square k a b (StandsFor-grows c.args.table.now c.amid-2.new.table _ _ a (Grows-then c.args.table.now c.centre.new.table c.amid-2.new.table (Grows-then c.args.table.now c.amid.new.table c.centre.new.table (Grows-then c.args.table.now c.between.new.table c.amid.new.table c.in_ok-north.ensures.grows c.in_ok-west.ensures.grows) c.in_ok-centre.ensures.grows) c.in_ok-east.ensures.grows) first) (StandsFor-grows c.args.table.now c.amid-2.new.table _ _ b (Grows-then c.args.table.now c.centre.new.table c.amid-2.new.table (Grows-then c.args.table.now c.amid.new.table c.centre.new.table (Grows-then c.args.table.now c.between.new.table c.amid.new.table c.in_ok-north.ensures.grows c.in_ok-west.ensures.grows) c.in_ok-centre.ensures.grows) c.in_ok-east.ensures.grows) second))

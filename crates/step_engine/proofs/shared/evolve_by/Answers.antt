@@ -16,7 +16,7 @@ pack-requires-clause-world g c =
       iterate c.args.generations (step (g.Q.Ask.meaning c.args.rule.now)) c.args.plane.now,
       HasMargin-iterate c.args.generations _ c.args.plane.now (g.met.Q.Ask.quiet c.args.rule.now) c.requires.fits,
       IsCentred-later (g.Q.Ask.meaning c.args.rule.now) (g.met.Q.Ask.quiet c.args.rule.now) c.args.plane.now _ _ c.args.generations _ _
-          ready.level.0 c.in_ok-found.ensures.held.1 ready.room ready.centred c.in_ok-found.ensures.cells,
+          ready.level.0 c.in_ok-found.ensures.square.level ready.room ready.centred c.in_ok-found.ensures.square.cells,
     )
 
 pub returns-clause-plane : goal.returns-clause-plane
@@ -24,4 +24,9 @@ returns-clause-plane g c =
     let ready = c.in_ok-root.ensures.ready in
     one_world c.in_ok-plane.plane _ _ _ c.in_ok-plane.ensures (
     IsCentred-later (g.Q.Ask.meaning c.args.rule.now) (g.met.Q.Ask.quiet c.args.rule.now) c.args.plane.now _ _ c.args.generations _ _
-    ready.level.0 c.in_ok-found.ensures.held.1 ready.room ready.centred c.in_ok-found.ensures.cells)
+    ready.level.0 c.in_ok-found.ensures.square.level ready.room ready.centred c.in_ok-found.ensures.square.cells)
+
+pub returns-clause-asks : goal.returns-clause-asks
+returns-clause-asks g c =
+    let ready = c.in_ok-root.ensures.ready in
+    c.in_ok-found.ensures.asks c.args.plane.now _ _ ready.room.few ready.centred.square

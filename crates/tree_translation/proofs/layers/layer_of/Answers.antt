@@ -3,7 +3,7 @@ use Rattle.std.proofs.lemmas.List.{length_push}
 use Rattle.std.proofs.lemmas.Option.{slice_get_within}
 use Rattle.std.proofs.lemmas.Slice.Zip.{zip_end, zip_turn}
 use Rattle.tree_translation.specs.declared.layers.Tail.{Tail}
-use Rattle.tree_translation.specs.Layers.{asked_at}
+use Rattle.tree_translation.specs.Layers.{asked_at, same_asked}
 use Rattle.tree_translation.proofs.Layering.{AreTails, AreTails-more, IsLayerOf-all, IsNextTail, grown-insert_key, same_from_tail, same_tail}
 use Rattle.tree_translation.proofs.layers.layer_of.Goals as goal
 
@@ -14,7 +14,7 @@ loop-row-preserved c =
     let turn = zip_turn c.args.rows.now c.args.rests.now c.loop-row.yielded c.into_iter-row-iterator.result c.loop-row.row-iterator c.next.new.self (Some (c.in-Some.row, c.in-Some.rest)) (ap (λ z. z.a.rest.now) same ∙ ap (λ z. z.rest.now) c.zip-row-items.ensures.first ∙ c.iter.ensures.rest) (ap (λ z. z.b.rest.now) same ∙ c.zip-row-items.ensures.second.0) c.loop-row.yielded_by (c.in-Some.row, c.in-Some.rest) refl c.in-Some.ensures.steps in
     let stored = c.in-Ok.ensures.stored in
     let next : IsNextTail c.args.place c.args.rows.now c.args.rests.now c.loop-row.sets.items c.number_of.new.sets.items c.loop-row.tails.keys c.insert_full.new.self.keys (length c.loop-row.yielded) c.in-Ok.number c.asked.result tail = record {
-      set_grown = c.in_ok-set.ensures.grown;
+      set_grown = grown-insert_key same_asked c.loop-row.sets.items c.number_of.new.sets.items c.asked.result c.in_ok-set.ensures.grown;
       set_inside = c.in_ok-set.ensures.inside;
       set_there = c.in_ok-set.ensures.set;
       tail_grown = grown-insert_key same_tail c.loop-row.tails.keys c.insert_full.new.self.keys tail c.in-Ok.ensures.keys;

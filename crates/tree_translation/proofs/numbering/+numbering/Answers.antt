@@ -9,12 +9,13 @@ use Rattle.tree_translation.specs.Numbering.{AreFit, AreTailsAt, Grows, IsEntry,
 use Rattle.tree_translation.specs.Translation.{LeftOf}
 use Rattle.tree_translation.proofs.Apart.{passed-on}
 use Rattle.tree_translation.proofs.MadeNodes.{Grows-behind, IsEntry-append, NeedsTooMany-behind, layer-before, layer-last, layer-room, made-grows, made-last, made-number, remembered-last, too-many}
-use Rattle.tree_translation.proofs.NodeLists.{each-push, other_default}
+use Rattle.std.proofs.lemmas.List.{get_or_default}
+use Rattle.tree_translation.proofs.NodeLists.{each-push}
 use Rattle.tree_translation.proofs.numbering.+numbering.Goals as goal
 
 -- what is left of a layer that was read is left of it wherever it is looked at
 left-anywhere : (layers : List Layer) (input : ℕ) (layer : Layer) (state : ℕ) (list left : List ℕ) → input < length layers → layer ≡ slice_index_or layers input layer → LeftOf layer state list left → (d : Layer) → LeftOf (slice_index_or layers input d) state list left
-left-anywhere layers input layer state list left there is known d = subst (λ l. LeftOf l state list left) (is ∙ other_default layers input layer d there) known
+left-anywhere layers input layer state list left there is known d = subst (λ l. LeftOf l state list left) (is ∙ get_or_default layers input layer d there) known
 
 pub entries_of-leaf_of-requires-clause-layer : goal.entries_of-leaf_of-requires-clause-layer
 entries_of-leaf_of-requires-clause-layer t c =
@@ -40,7 +41,7 @@ entries_of-number_again-requires t c =
       inside = λ d. subst (All (λ n. n < length (slice_index_or layers (c.args.input + 1) d).tails.items)) (sym c.deref.ensures.value)
           (c.in_ok-left.ensures.inside (length (slice_index_or layers (c.args.input + 1) d).tails.items) (subst (λ l. IsLayer l (length (slice_index_or layers (c.args.input + 1) d).tails.items)) (sym c.index-layers-input.is) (layer-before c.args.states layers c.args.input layer d c.requires.fit.fit more)));
     } in
-    (search (rules), (fit, (tails, (c.in_ok-left.ensures.clear, (c.loop-state.invariant.grows.known, search (rules))))))
+    (search (rules), (record { fit = fit; tails = tails; clear = c.in_ok-left.ensures.clear; known = c.loop-state.invariant.grows.known }, search (rules)))
 
 pub entries_of-returns-in_err-number-clause-large : goal.entries_of-returns-in_err-number-clause-large
 entries_of-returns-in_err-number-clause-large t c =

@@ -14,8 +14,8 @@ use Rattle.tree_translation.proofs.Beginnings.{needs-nodes}
 use Rattle.tree_translation.proofs.Translating.{next-rows}
 use Rattle.tree_translation.proofs.translation.from_rows.Goals as goal
 
-pub finish-requires-clause-same : goal.finish-requires-clause-same
-finish-requires-clause-same c =
+pub finish-requires-clause-does : goal.finish-requires-clause-does
+finish-requires-clause-does c =
     let table = c.args.table.now in
     let rows = c.args.rows.now in
     let nodes : List Entries = entries_in c.as_slice.result.now in
@@ -24,7 +24,14 @@ finish-requires-clause-same c =
     subst (λ n. DoesRows n (order_of table.neighborhood) rows nodes) c.states.ensures.count
     (subst (λ (o : List (Option ℕ)). DoesRows c.states.result o rows nodes) order
     (subst (λ ns. DoesRows c.states.result c.order_of-order.result.now rows (entries_in ns)) (sym c.as_slice.ensures.keys) c.in_ok-nodes.ensures.does)) in
-    next-rows table rows nodes (omega (arith, c.states.ensures.count, c.states.ensures.at_least)) does c.requires.full c.requires.first
+    let wide : All (λ (node : Entries). length node ≡ table.states) nodes =
+    subst (λ n. All (λ (node : Entries). length node ≡ n) nodes) c.states.ensures.count
+    (subst (λ ns. All (λ (node : Entries). length node ≡ c.states.result) (entries_in ns)) (sym c.as_slice.ensures.keys) c.in_ok-nodes.ensures.width) in
+    record {
+      width = wide;
+      leading = does.leading;
+      same = next-rows table rows nodes (omega (arith, c.states.ensures.count, c.states.ensures.at_least)) does c.requires.full c.requires.first;
+    }
 
 -- what a table's rows need, in whatever form they are handed on, the table needs
 table-needs : (table : Table) (states : ℕ) (order : List (Option ℕ)) (rows slice : List Expanded) (count : ℕ) → 0 < states → states ≡ table.states → order ≡ order_of table.neighborhood → slice ≡ rows → All (λ (row : Expanded). length row.inputs ≡ length (table_rule.places_of table.neighborhood) + 1) rows → ((around : List ℕ) → unwrap_or (first_match rows (table_rule.inputs_of table.neighborhood around)) (slice_index around 0) ≡ table_rule.next table around) → NeedStarts states (length order) (λ k inputs. rows_give order slice inputs) 1 count → NeedsNodes table count

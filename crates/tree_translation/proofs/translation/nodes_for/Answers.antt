@@ -1,5 +1,5 @@
-use Rattle.std.proofs.Common.{Option, ◌≡◌, ◌<◌, ◌+◌, ◌-◌, ◌∙◌, List, [], ℕ, All, length, sym, ap, subst, arith, rules}
-use Rattle.std.proofs.lemmas.List.Elements.{All-nil}
+use Rattle.std.proofs.Common.{Bool, Option, false, refl, ◌≡◌, ◌<◌, ◌+◌, ◌-◌, ◌∙◌, List, [], ℕ, All, length, sym, ap, subst, arith, rules}
+use Rattle.std.proofs.lemmas.List.Elements.{All-nil, All-replicate}
 use Rattle.table_symmetry.specs.declared.expansion.Expanded.{Expanded}
 use Rattle.tree_translation.specs.declared.layers.Layer.{Layer}
 use Rattle.tree_translation.specs.declared.listed.Listed.{Listed}
@@ -12,18 +12,18 @@ use Rattle.tree_translation.proofs.MadeNodes.{AreBegun-none, IsLeft-first, lengt
 use Rattle.tree_translation.proofs.Translating.{DoesRows-root, rows-outcome}
 use Rattle.tree_translation.proofs.translation.nodes_for.Goals as goal
 
-pub number_of-requires-clause-fit : goal.number_of-requires-clause-fit
-number_of-requires-clause-fit c =
+pub number_of-requires : goal.number_of-requires
+number_of-requires c =
     let are : AreLayersOf c.args.states c.args.order.now c.args.rows.now c.in_ok-layers.layers.items c.in_ok-layers.numbers.items = c.in_ok-layers.ensures.layers c.args.states c.requires.below in
     let room : length c.args.rows.now ≡ length c.as_mut_slice.result.now = search (rules) in
-    subst (λ (ls : List Layer). AreFit c.args.states ls (length c.as_mut_slice.result.now)) (sym c.deref.ensures.value)
-    (subst (AreFit c.args.states c.in_ok-layers.layers.items) room (record { some = c.requires.some; at_most = c.requires.at_most; fit = are.fit; few = are.few }))
-
-pub number_of-requires-clause-tails : goal.number_of-requires-clause-tails
-number_of-requires-clause-tails c =
-    let are : AreLayersOf c.args.states c.args.order.now c.args.rows.now c.in_ok-layers.layers.items c.in_ok-layers.numbers.items = c.in_ok-layers.ensures.layers c.args.states c.requires.below in
-    subst (λ (ls : List Layer). AreTailsAt ls 0 c.deref-2.result.now) (sym c.deref.ensures.value)
-    (subst (AreTailsAt c.in_ok-layers.layers.items 0) (sym c.deref-2.ensures.value) (tails-first c.args.states c.in_ok-layers.layers.items c.in_ok-layers.numbers.items (omega (arith, are.depth, c.requires.order)) are.inside))
+    record {
+      fit = subst (λ (ls : List Layer). AreFit c.args.states ls (length c.as_mut_slice.result.now)) (sym c.deref.ensures.value)
+          (subst (AreFit c.args.states c.in_ok-layers.layers.items) room (record { some = c.requires.some; at_most = c.requires.at_most; fit = are.fit; few = are.few }));
+      tails = subst (λ (ls : List Layer). AreTailsAt ls 0 c.deref-2.result.now) (sym c.deref.ensures.value)
+          (subst (AreTailsAt c.in_ok-layers.layers.items 0) (sym c.deref-2.ensures.value) (tails-first c.args.states c.in_ok-layers.layers.items c.in_ok-layers.numbers.items (omega (arith, are.depth, c.requires.asked)) are.inside));
+      clear = subst (All (λ (b : Bool). b ≡ false)) (sym (c.as_mut_slice.ensures.value ∙ c.in_ok-marks.ensures.items_if_clones_equal (λ y h. h))) (All-replicate (λ (b : Bool). b ≡ false) (length c.args.rows.now) false refl);
+      known = search (rules);
+    }
 
 -- the tails of all rows give what the rows give
 rows-left : (states : ℕ) (order : List (Option ℕ)) (rows : List Expanded) (layers slice : List Layer) (numbers list : List ℕ) → AreLayersOf states order rows layers numbers → slice ≡ layers → list ≡ numbers → IsLeft states slice (rows_give order rows) 0 list

@@ -28,7 +28,7 @@ returns-in-Some c =
     let r : TextRow = c.row-item.result in
     let item : r ≡ get_or d.texts k r = c.row-item.is ∙ ap (λ (rs : List TextRow). get_or rs k r) is in
     let low : k < length d.texts = subst (λ (rs : List TextRow). k < length rs) is c.loop-row-test.true in
-    subst (IsCurrent d c.args.id) (sym c.as_slice.ensures) (IsCurrent-found d c.args.id k r c.in-Some.text right low item c.if-row-id.true c.loop-row.invariant c.in-Some.is)
+    subst (IsCurrent d c.args.id) (sym c.as_slice.ensures) (IsCurrent-found d c.args.id k r c.in-Some.text.now right low item c.if-row-id.true c.loop-row.invariant c.in-Some.ensures)
 
 pub returns-in-None : goal.returns-in-None
 returns-in-None c =
@@ -39,7 +39,7 @@ returns-in-None c =
     let r : TextRow = c.row-item.result in
     let item : r ≡ get_or d.texts k r = c.row-item.is ∙ ap (λ (rs : List TextRow). get_or rs k r) is in
     let low : k < length d.texts = subst (λ (rs : List TextRow). k < length rs) is c.loop-row-test.true in
-    IsPending-found d c.args.id k r right low item c.if-row-id.true c.loop-row.invariant c.in-None.is
+    IsPending-found d c.args.id k r right low item c.if-row-id.true c.loop-row.invariant c.in-None.ensures
 
 pub returns : goal.returns
 returns c =

@@ -4,16 +4,16 @@ use Rattle.hash_engine.specs.Memo.{AreKnown}
 use Rattle.hash_engine.proofs.Memos.{recalled}
 use Rattle.hash_engine.proofs.memo.Memo.recall.Goals as goal
 
-pub returns-then-generations-full : goal.returns-then-generations-full
-returns-then-generations-full c =
-    IfSome_then c.found.result c.found.ensures
+pub returns-then-generations-full-clause-some : goal.returns-then-generations-full-clause-some
+returns-then-generations-full-clause-some c =
+    IfSome_then c.found.result c.found.ensures.some
     (λ r is next rows right number.
     recalled next (λ k. 2 ^ k) rows c.deref.result.now c.args.k c.args.generations c.args.number r (c.if-generations-full.true ∙ c.full.ensures) c.requires.number is.0 is.1
     (subst (AreKnown next (λ k. 2 ^ k) rows) (sym c.deref.ensures.value) right.full) number)
 
-pub returns-then-generations-self : goal.returns-then-generations-self
-returns-then-generations-self c =
-    IfSome_then c.found-then-generations-self.result c.found-then-generations-self.ensures
+pub returns-then-generations-self-clause-some : goal.returns-then-generations-self-clause-some
+returns-then-generations-self-clause-some c =
+    IfSome_then c.found-then-generations-self.result c.found-then-generations-self.ensures.some
     (λ r is next rows right number.
     recalled next (λ k. get_or c.args.self.now.counts k 0) rows c.deref-then-generations-self.result.now c.args.k c.args.generations c.args.number r (c.if-generations-self.true ∙ ap (λ k. get_or c.args.self.now.counts k 0) c.from.ensures) c.requires.number is.0 is.1
     (subst (AreKnown next (λ k. get_or c.args.self.now.counts k 0) rows) (sym c.deref-then-generations-self.ensures.value) right.part) number)

@@ -16,5 +16,5 @@ returns-clause-grows c = blank_grows c.args.self.now c.join_numbers.new.self (0 
 
 pub returns-clause-cells : goal.returns-clause-cells
 returns-clause-cells c =
-    ap₂ (square_in c.join_numbers.new.self.rows) c.square.ensures.level c.square.ensures.number
+    ap₂ (square_in c.join_numbers.new.self.rows) c.in_ok-square.ensures.level c.in_ok-square.ensures.number
     ∙ (blanks c.args.self.now c.join_numbers.new.self c.in_ok-number.number c.in_ok-number.ensures.grows c.in_ok-number.ensures.square).empty 1 (lit< tt)

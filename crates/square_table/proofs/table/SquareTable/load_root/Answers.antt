@@ -66,10 +66,10 @@ root rows table numbers n k some level count known read =
     ap (λ j. square_in table j n) (level ∙ sym high) ∙ loaded.square ∙ ap (λ j. listed.square_in rows j (suc i)) high ∙ ap (listed.square_in rows (root_level rows)) last_is
 
 pub returns-clause-level : goal.returns-clause-level
-returns-clause-level c = c.square.ensures.level ∙ (last c.args.squares.now c.in-Some.root.now (sym c.in-Some.ensures.value)).level
+returns-clause-level c = c.in_ok-square.ensures.level ∙ (last c.args.squares.now c.in-Some.root.now (sym c.in-Some.ensures.value)).level
 
 pub returns-clause-cells : goal.returns-clause-cells
 returns-clause-cells c =
     let is = last c.args.squares.now c.in-Some.root.now (sym c.in-Some.ensures.value) in
-    ap₂ (square_in c.load_rows.new.self.rows) c.square.ensures.level c.square.ensures.number
+    ap₂ (square_in c.load_rows.new.self.rows) c.in_ok-square.ensures.level c.in_ok-square.ensures.number
     ∙ root c.args.squares.now c.load_rows.new.self.rows c.in_ok-numbers.numbers.items c.index-number.result.now c.in-Some.root.now.level is.some is.level c.in_ok-numbers.ensures.count c.in_ok-numbers.ensures.loaded c.index-number.ensures

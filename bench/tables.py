@@ -1,0 +1,47 @@
+#!/usr/bin/env python3
+"""Times how desk reads a table whose tree would be too large.
+
+    bench/tables.py [--desk PROGRAM]
+
+The table has four lines and leaves all its lists behind the corners of a Moore neighbourhood, so
+that a tree of it needs about n^4 nodes for n states. It is legal, and read and kept as a table; the
+processor seconds and the peak of memory are those of finding that out.
+"""
+import argparse
+import os
+import sys
+
+from bench import HERE, measured
+
+LINES = (
+    "0,z1,z2,z3,z4,a,z5,z6,a,1",
+    "0,z1,a,a,z2,z3,z4,z5,z6,1",
+    "0,z1,z2,z3,z4,z5,a,a,z6,1",
+    "0,a,z1,z2,a,z3,z4,z5,z6,1",
+)
+
+
+def table(states):
+    """A script's command for the table of so many states."""
+    every = ",".join(map(str, range(states)))
+    alive = ",".join(map(str, range(1, states)))
+    variables = [f"var a={{{alive}}}"] + [f"var z{k}={{{every}}}" for k in range(1, 7)]
+    head = ["rule", "@RULE Corners", "@TABLE", f"n_states:{states}", "neighborhood:Moore", "symmetries:none"]
+    return "\n".join([*head, *variables, *LINES, "end", "quit"]) + "\n"
+
+
+def main():
+    words = argparse.ArgumentParser(description=__doc__.splitlines()[0])
+    words.add_argument("--desk", default=f"{HERE}/../crates/desk/out/desk")
+    given = words.parse_args()
+    print("| states | s | MB |")
+    print("|---|---|---|")
+    for states in (32, 48, 64, 255):
+        seconds, peak, said = measured([os.path.abspath(given.desk)], table(states))
+        kept = "" if said.startswith("ok 1") else f" ({said.splitlines()[0]})"
+        print(f"| {states}{kept} | {seconds:.1f} | {peak:.0f} |", flush=True)
+    return 0
+
+
+if __name__ == "__main__":
+    sys.exit(main())

@@ -1,0 +1,78 @@
+-- What jobs and their answers change in the rows of a book.
+use Rattle.std.specs.Prelude.{◌≡◌, ℕ, ◌≤◌, Bool, false, ◌&&◌, Option, None, Some, IfSome, Result, Ok, Err, length, if◌then◌else◌, ◌==◌, true}
+use Rattle.std.specs.Result.{IsOk}
+use Rattle.step_engine.specs.declared.evolved.EvolveFault.{EvolveFault}
+use Rattle.revision_jobs.specs.declared.answer.Job.{Job}
+use Rattle.revision_jobs.specs.declared.entries.Place.{Place}
+use Rattle.revision_jobs.specs.Answered.{Answered}
+use Rattle.revision_jobs.specs.Entries.{IsOf, index_of}
+use Rattle.revision_jobs.specs.Value.{Value}
+use Rattle.dependency_book.specs.declared.filled.Filled.{Filled}
+use Rattle.dependency_book.specs.declared.filled.Filled.TheVariants.{Row, Released, NotExpected}
+use Rattle.dependency_book.specs.declared.finding.Finding.{Finding}
+use Rattle.dependency_book.specs.declared.finding.Finding.TheVariants.{Expected, Found}
+use Rattle.dependency_book.specs.declared.need.Need.{Need}
+use Rattle.dependency_book.specs.declared.need.Need.TheVariants.{Step, View}
+use Rattle.dependency_book.specs.Findings.{job_of, has_number}
+use Rattle.dependency_book.specs.Known.{Known, expected}
+
+-- whether two needs are one
+abbrev pub is_need : Need → Need → Bool
+is_need (Step m) (Step n) = m == n
+is_need (Step m) (View id) = false
+is_need (View id) (Step m) = false
+is_need (View id) (View other) = id == other
+
+-- whether a job that is out is this one: its number, at its place
+abbrev pub is_job : Job → Option Job → Bool
+is_job job None = false
+is_job job (Some other) = other.number == job.number && index_of other.place == index_of job.place
+
+-- what an answer gives a row: the value, or nothing where the job gave up
+abbrev pub given_by : Result Value EvolveFault → Option (Finding Value)
+given_by (Ok found) = Some (Found found)
+given_by (Err fault) = None
+
+-- what stands in a row after an answer: what the answer gives, if the row expects its job
+abbrev pub answered : Answered → Option (Finding Value) → Option (Finding Value)
+answered answer row = if is_job answer.job (job_of row) then given_by answer.outcome else row
+
+-- what stands in a row after the job of this number was cancelled: nothing, if the row expects it
+abbrev pub cancelled : ℕ → Option (Finding Value) → Option (Finding Value)
+cancelled number row = if has_number number (job_of row) then None else row
+
+-- what stands in another row, or in the same, after a job was issued for a need
+abbrev pub issued : Need → Job → Need → Option (Finding Value) → Option (Finding Value)
+issued need job other row = if is_need need other then Some (Expected job) else row
+
+-- a row expects the job
+abbrev pub IsExpected : Known → Job → Type 0
+IsExpected d job = (need : Need) × (is_job job (expected d need) ≡ true)
+
+-- what came of an answer: a row was filled, or expects nothing any more because the job gave up; or no row expects the job
+abbrev pub IsFilled : Known → Answered → Filled → Type 0
+IsFilled d answer Row = IsExpected d answer.job × IsOk answer.outcome
+IsFilled d answer (Released fault) = IsExpected d answer.job × (answer.outcome ≡ Err fault)
+IsFilled d answer NotExpected = (need : Need) → is_job answer.job (expected d need) ≡ false
+
+-- the place is one of the table, and that of the job of this number that a row expects; or no row expects one
+abbrev pub IsForgotten : Known → ℕ → Option Place → Type 0
+IsForgotten d number None = (need : Need) → has_number number (expected d need) ≡ false
+IsForgotten d number (Some place) = IsOf d.table place × ((need : Need) × (expected d need ≡ Some (record { number = number; place = place })))
+
+-- the number is the least of the jobs that are out; or none is out
+abbrev pub IsFirstOut : Known → Option ℕ → Type 0
+IsFirstOut d None = (need : Need) → expected d need ≡ None
+IsFirstOut d (Some number) = ((need : Need) × (has_number number (expected d need) ≡ true)) × ((need : Need) → IfSome (expected d need) (λ job. number ≤ job.number))
+
+-- the document, the table and how many rows there are are the same
+pub record SameDocument (old new : Known) : Type 0 where
+  pub table : new.table ≡ old.table
+  pub plan : new.plan ≡ old.plan
+  pub marks : length new.arrivals ≡ length old.arrivals
+  pub bookmarks : length new.texts ≡ length old.texts
+
+-- so are they, and how many numbers were given
+pub record SameBook (old new : Known) : Type 0 where
+  pub document : SameDocument old new
+  pub given : new.given ≡ old.given

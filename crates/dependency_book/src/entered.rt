@@ -1,0 +1,132 @@
+//! What is to be computed for a row.
+ghost use Rattle.std.specs.Prelude.{◌≡◌, ◌<◌, IfOk, Some, true};
+ghost use Rattle.std.specs.Arc.{arc_value};
+ghost use Rattle.schedule.specs.Scratch.{cells_at};
+ghost use Rattle.revision_jobs.specs.Value.{CanBeWorked};
+ghost use Rattle.dependency_book.specs.Entered.{IsEntryOf, mark_before};
+ghost use Rattle.dependency_book.specs.Known.{arrival_known};
+ghost use Rattle.dependency_book.specs.Needs.{has_arrival, next_need};
+
+use crate::book::Book;
+use crate::finding::found;
+use crate::marks::{arrival_in, place_for};
+use crate::need::Need;
+use crate::texts::place_of;
+use revision_jobs::Entry;
+use schedule::{CellSet, Intervention, Listing, Next, Plane};
+use std::alloc::{AllocError, Global};
+use std::sync::Arc;
+
+impl Book<'_> {
+    /// What is to be computed for what is needed next: the step to a mark from what arrives at the
+    /// mark before it, on which that mark's cells are laid, or the view of a bookmark. The need is
+    /// the one that `next_need` answers. Rule and pattern are shared and not copied.
+    pub fn entry(&self, need: &Need) -> Result<Entry, AllocError>
+        requires { next_need self.now ≡ Some need.now }
+        ensures entry { IfOk result (λ entry. IsEntryOf self.now need.now entry) }
+        ensures workable { IfOk result CanBeWorked }
+    {
+        match need {
+            Need::Step { mark } => self.step_to(*mark),
+            Need::View { id } => self.view_of(*id),
+        }
+    }
+
+    // The step to a mark.
+    fn step_to(&self, mark: u64) -> Result<Entry, AllocError>
+        requires { next_need self.now ≡ Some (Need.Step mark) }
+        ensures entry { IfOk result (λ entry. IsEntryOf self.now (Need.Step mark) entry) }
+        ensures workable { IfOk result CanBeWorked }
+    {
+        // The document's limits bound the states and the margin of the pattern.
+        let _start = self.document.start();
+        let (before, from) = self.before(mark);
+        let interventions = self.document.interventions();
+        Ok(Entry::Step {
+            rule: Arc::try_clone(self.document.rule())?,
+            from: Arc::try_clone(from)?,
+            cells: cells_at(self.alloc, interventions, before)?,
+            gens: mark - before,
+        })
+    }
+
+    // The mark before a mark, and what arrives there.
+    fn before(&self, mark: u64) -> (u64, &Arc<Plane>)
+        requires { next_need self.now ≡ Some (Need.Step mark) }
+        ensures mark { result.0 ≡ mark_before self.now mark }
+        ensures below { result.0 < mark }
+        ensures known { arrival_known self.now result.0 ≡ Some (arc_value result.1.now) }
+    {
+        let place = place_for(&self.arrivals, mark);
+        if place == 0 {
+            return (0, self.document.start());
+        }
+        let row = &self.arrivals[place - 1];
+        match found(&row.value) {
+            Some(arrival) => (row.key.generation, arrival.plane()),
+            None => unreachable!("what arrives at the mark before is known"),
+        }
+    }
+
+    // The view of a bookmark.
+    fn view_of(&self, id: u64) -> Result<Entry, AllocError>
+        requires { next_need self.now ≡ Some (Need.View id) }
+        ensures entry { IfOk result (λ entry. IsEntryOf self.now (Need.View id) entry) }
+        ensures workable { IfOk result CanBeWorked }
+    {
+        // The document's limits bound the states of the pattern.
+        let _start = self.document.start();
+        let place = place_of(&self.texts, id);
+        let bookmark = self.texts[place].key;
+        let rule = self.document.rule();
+        let interventions = self.document.interventions();
+        Ok(Entry::View {
+            view: bookmark.view,
+            from: Arc::try_clone(self.arrived(bookmark.generation))?,
+            cells: cells_at(self.alloc, interventions, bookmark.generation)?,
+            name: copied(self.alloc, rule.name())?,
+            states: rule.states(),
+            generation: bookmark.generation,
+        })
+    }
+
+    // What arrives at a generation, where that is known.
+    fn arrived(&self, generation: u64) -> &Arc<Plane>
+        requires { has_arrival self.now.arrivals generation ≡ true }
+        ensures { arrival_known self.now generation ≡ Some (arc_value result.now) }
+    {
+        if generation == 0 {
+            return self.document.start();
+        }
+        match arrival_in(&self.arrivals, generation) {
+            Some(plane) => plane,
+            None => unreachable!("what arrives at the generation is known"),
+        }
+    }
+}
+
+// The cells that the interventions of a generation set, by rising id.
+fn cells_at(
+    alloc: Global,
+    interventions: &[Intervention],
+    generation: u64,
+) -> Result<Listing<CellSet>, AllocError>
+    ensures { IfOk result (λ cells. cells ≡ cells_at interventions.now generation) }
+{
+    let mut cells = Vec::new(alloc);
+    for intervention in interventions {
+        if intervention.acts_at(generation) {
+            cells.extend_from_slice(intervention.cells.as_slice())?;
+        }
+    }
+    Ok(Listing::from_vec(cells))
+}
+
+// The same bytes.
+fn copied(alloc: Global, bytes: &[u8]) -> Result<Listing<u8>, AllocError>
+    ensures { IfOk result (λ copy. copy ≡ bytes.now) }
+{
+    let mut copy = Vec::new(alloc);
+    copy.extend_from_slice(bytes)?;
+    Ok(Listing::from_vec(copy))
+}

@@ -1,0 +1,191 @@
+//! Jobs for the rows of a book, and what their answers change.
+ghost use Rattle.std.specs.Prelude.{◌≡◌, ◌+◌, ◌<◌, ℕ, MatchOption, IfSome, None, Some, true, false};
+ghost use Rattle.std.specs.Arc.{arc_value};
+ghost use Rattle.revision_jobs.specs.Answered.{said};
+ghost use Rattle.revision_jobs.specs.Entries.{IsOf, entry_of};
+ghost use Rattle.revision_jobs.specs.Value.{pattern, text};
+ghost use Rattle.dependency_book.specs.declared.finding.Finding.TheVariants.{Found};
+ghost use Rattle.dependency_book.specs.Entered.{IsEntryOf};
+ghost use Rattle.dependency_book.specs.Findings.{has_number, finding_map};
+ghost use Rattle.dependency_book.specs.Jobs.{issued, answered, cancelled, given_by};
+ghost use Rattle.dependency_book.specs.Jobs.{IsFilled, IsForgotten, IsFirstOut, SameBook, SameDocument};
+ghost use Rattle.dependency_book.specs.Known.{row_of, expected, wanting_of};
+ghost use Rattle.dependency_book.specs.Needs.{next_need};
+ghost use Rattle.dependency_book.specs.Right.{AreNumbered};
+ghost use Rattle.dependency_book.specs.Puts.{MayStand, Puts, filled_by, has_row};
+
+use crate::arrival::Arrival;
+use crate::book::Book;
+use crate::filled::Filled;
+use crate::finding::{Finding, least_out, lesser, row_for};
+use crate::marks::put_arrival;
+use crate::need::Need;
+use crate::texts::put_text;
+use revision_jobs::{Answer, Job, Outcome, Place};
+use schedule::{Listing, Plane};
+use std::sync::Arc;
+
+impl Book<'_> {
+    /// How many numbers of jobs were given.
+    pub fn given(&self) -> u32
+        ensures { result ≡ self.now.given }
+    {
+        self.given
+    }
+
+    /// Notes that a job is out for what is needed next. Its number is the next that is given, which
+    /// is below 16,777,216, and its entry is what is to be computed for the row.
+    pub fn expect(&mut self, need: &Need, job: Job)
+        requires next { next_need self.old ≡ Some need.now }
+        requires own { IsOf self.old.table job.place }
+        requires entry { IsEntryOf self.old need.now (entry_of job.place) }
+        requires number { (job.number ≡ self.old.given) × (job.number < 16777216) }
+        ensures rows { (other : Need) →
+            row_of self.new other ≡ issued need.now job other (row_of self.old other) }
+        ensures document { SameDocument self.old self.new }
+        ensures given { self.new.given ≡ self.old.given + 1 }
+        ensures fewer { wanting_of self.new + 1 ≡ wanting_of self.old }
+    {
+        // The document's limits bound what the entry starts from.
+        let _start = self.document.start();
+        self.given += 1;
+        match need {
+            Need::Step { mark } => self.put_arrival(*mark, Some(Finding::Expected(job))),
+            Need::View { id } => self.put_text(*id, Some(Finding::Expected(job))),
+        }
+    }
+
+    /// Takes an answer of the book's table. Where a row expects its job, the row has the answer's
+    /// value, or expects nothing any more where the job gave up; no other row changes. It takes no
+    /// memory.
+    pub fn fill(&mut self, answer: Answer) -> Filled
+        requires own { IsOf self.old.table answer.job.place }
+        ensures filled { IsFilled self.old answer result }
+        ensures rows { (need : Need) →
+            row_of self.new need ≡ answered answer (row_of self.old need) }
+        ensures book { SameBook self.old self.new }
+        ensures wanting { result ≡ Filled.Row → wanting_of self.new ≡ wanting_of self.old }
+        ensures kept { result ≡ Filled.NotExpected → self.new ≡ self.old }
+    {
+        let (job, outcome) = answer.into_parts();
+        match self.expecting(job.number) {
+            Some((need, place)) if self.entries.same(place, &job.place) => {
+                self.fill_row(need, outcome)
+            }
+            _ => Filled::NotExpected,
+        }
+    }
+
+    /// Expects the job of this number no more, and gives the place of its entry, where a row
+    /// expects it. No other row changes.
+    pub fn forget(&mut self, number: u32) -> Option<Place>
+        ensures place { IsForgotten self.old number result }
+        ensures rows { (need : Need) →
+            row_of self.new need ≡ cancelled number (row_of self.old need) }
+        ensures book { SameBook self.old self.new }
+    {
+        let (need, place) = self.expecting(number)?;
+        let place = place.share();
+        self.release(need);
+        Some(place)
+    }
+
+    /// The least number of the jobs that are out.
+    pub fn first_out(&self) -> Option<u32>
+        ensures { IsFirstOut self.now result }
+    {
+        // The document's bookmarks have rising ids.
+        let _bookmarks = self.document.bookmarks();
+        lesser(least_out(&self.arrivals), least_out(&self.texts))
+    }
+
+    // The need whose row expects the job of this number, with the place of the job's entry.
+    fn expecting(&self, number: u32) -> Option<(Need, &Place)>
+        ensures numbers { AreNumbered self.now }
+        ensures row { MatchOption result
+            ((need : Need) → has_number number (expected self.now need) ≡ false)
+            (λ row. expected self.now row.0
+            ≡ Some (record { number = number; place = row.1.now })) }
+        ensures own { IfSome result (λ row. IsOf self.now.table row.1.now) }
+    {
+        // The document's bookmarks have rising ids.
+        let _bookmarks = self.document.bookmarks();
+        if let Some((mark, place)) = row_for(&self.arrivals, number) {
+            let mark = mark.generation;
+            return Some((Need::Step { mark }, place));
+        }
+        let (bookmark, place) = row_for(&self.texts, number)?;
+        Some((Need::View { id: bookmark.id }, place))
+    }
+
+    // Puts an outcome in the row of a need: a value, or nothing where there is none.
+    fn fill_row(&mut self, need: Need, outcome: Outcome) -> Filled
+        requires there { has_row self.old need ≡ true }
+        requires right { MayStand self.old need (given_by (said outcome)) }
+        ensures filled { result ≡ filled_by (said outcome) }
+        ensures row { Puts need (given_by (said outcome)) self.old self.new }
+    {
+        match outcome {
+            Outcome::Plane(plane) => self.put_plane(need, plane),
+            Outcome::Text(text) => self.put_bytes(need, text),
+            Outcome::Gave(fault) => {
+                self.release(need);
+                return Filled::Released(fault);
+            }
+        }
+        Filled::Row
+    }
+
+    // Puts a pattern in the row of a need, which is a step.
+    fn put_plane(&mut self, need: Need, plane: Arc<Plane>)
+        requires there { has_row self.old need ≡ true }
+        requires right { MayStand self.old need (Some (Found (pattern (arc_value plane)))) }
+        ensures { Puts need (Some (Found (pattern (arc_value plane)))) self.old self.new }
+    {
+        let Need::Step { mark } = need else {
+            unreachable!("a view has a text")
+        };
+        self.put_arrival(mark, Some(Finding::Found(Arrival::of(plane))));
+    }
+
+    // Puts a text in the row of a need, which is a view.
+    fn put_bytes(&mut self, need: Need, bytes: Listing<u8>)
+        requires there { has_row self.old need ≡ true }
+        requires right { MayStand self.old need (Some (Found (text bytes))) }
+        ensures { Puts need (Some (Found (text bytes))) self.old self.new }
+    {
+        let Need::View { id } = need else {
+            unreachable!("a step has a pattern")
+        };
+        self.put_text(id, Some(Finding::Found(bytes)));
+    }
+
+    // Expects nothing in the row of a need any more.
+    fn release(&mut self, need: Need)
+        requires { has_row self.old need ≡ true }
+        ensures { Puts need None self.old self.new }
+    {
+        match need {
+            Need::Step { mark } => self.put_arrival(mark, None),
+            Need::View { id } => self.put_text(id, None),
+        }
+    }
+
+    // Puts what is known, or out, in the row of a mark.
+    fn put_arrival(&mut self, mark: u64, finding: Option<Finding<Arrival>>)
+        requires there { has_row self.old (Need.Step mark) ≡ true }
+        requires right { MayStand self.old (Need.Step mark) (finding_map pattern finding) }
+        ensures { Puts (Need.Step mark) (finding_map pattern finding) self.old self.new }
+    {
+        put_arrival(&mut self.arrivals, mark, finding);
+    }
+
+    // Puts what is known, or out, in the row of a bookmark.
+    fn put_text(&mut self, id: u64, finding: Option<Finding<Listing<u8>>>)
+        requires there { has_row self.old (Need.View id) ≡ true }
+        requires right { MayStand self.old (Need.View id) (finding_map text finding) }
+        ensures { Puts (Need.View id) (finding_map text finding) self.old self.new }
+    {
+        put_text(&mut self.texts, id, finding);
+    }
+}

@@ -1,0 +1,124 @@
+-- How a settling goes on by what is issued, answered and cancelled.
+use Rattle.std.proofs.Common.{◌≡◌, ℕ, ◌+◌, ◌*◌, ◌≤◌, ◌∙◌, length, refl, sym, ap, subst, arith, Option, None, Some}
+use Rattle.std.specs.Prelude.{IfSome}
+use Rattle.step_engine.specs.declared.evolved.EvolveFault.{EvolveFault}
+use Rattle.revision_jobs.specs.declared.answer.Job.{Job}
+use Rattle.revision_jobs.specs.declared.entries.Entries.{Entries}
+use Rattle.revision_jobs.specs.Answered.{Answered}
+use Rattle.revision_jobs.specs.Entries.{IsOf}
+use Rattle.dependency_book.specs.declared.need.Need.{Need}
+use Rattle.dependency_book.specs.Jobs.{SameBook, SameDocument, answered}
+use Rattle.dependency_book.specs.Known.{Known, row_of, wanting_of}
+use Rattle.desk_core.specs.declared.cause.Cause.{Cause}
+use Rattle.desk_core.specs.declared.collect.Collected.{Collected}
+use Rattle.desk_core.specs.declared.collect.Collected.TheVariants.{Accepted, Released, Stale}
+use Rattle.desk_core.specs.Collected.{IsCollected}
+use Rattle.desk_core.specs.Course.{CanBeSent, Cancels, Fits, GivesUp, GoesOnBy, IsAtHand}
+use Rattle.desk_core.specs.Issued.{IssuesFor}
+use Rattle.desk_core.specs.Shown.{IsHeld, Settles, rows_of}
+use Rattle.desk_core.proofs.Out.{IsAtHand-cancelled, IsHeld-at_hand}
+use Rattle.desk_core.proofs.Texts.{KeepsTexts-same, KeepsTexts-on, KeepsTexts-issued, KeepsTexts-answered, KeepsTexts-cancelled}
+
+SameDocument-on : (c d e : Known) → SameDocument c d → SameDocument d e → SameDocument c e
+SameDocument-on c d e h k = record {
+  table = cc;
+  plan = cc;
+  marks = cc;
+  bookmarks = cc;
+}
+
+pub GoesOnBy-same : (d : Known) (before after : Option Cause) → (after ≡ None → before ≡ None) → GoesOnBy d d before after
+GoesOnBy-same d before after h = record {
+  texts = KeepsTexts-same d;
+  document = record { table = refl; plan = refl; marks = refl; bookmarks = refl };
+  given = omega arith;
+  cause = h;
+}
+
+pub GoesOnBy-on : (c d e : Known) (first second third : Option Cause) → GoesOnBy c d first second → GoesOnBy d e second third → GoesOnBy c e first third
+GoesOnBy-on c d e first second third h k = record {
+  texts = KeepsTexts-on c d e h.texts k.texts;
+  document = SameDocument-on c d e h.document k.document;
+  given = omega arith;
+  cause = λ none. h.cause (k.cause none);
+}
+
+pub GoesOnBy-issued : (old new : Known) (need : Need) (job : Job) (cause : Option Cause) → IssuesFor old new job need → GoesOnBy old new cause cause
+GoesOnBy-issued old new need job cause h = record {
+  texts = KeepsTexts-issued old new need job h.empty h.rows;
+  document = h.document;
+  given = omega (arith, h.given);
+  cause = λ none. none;
+}
+
+pub GoesOnBy-answered : (old new : Known) (answer : Answered) (before after : Option Cause) → ((need : Need) → row_of new need ≡ answered answer (row_of old need)) → SameBook old new → (after ≡ None → before ≡ None) → GoesOnBy old new before after
+GoesOnBy-answered old new answer before after rows same h = record {
+  texts = KeepsTexts-answered old new answer rows;
+  document = same.document;
+  given = omega (arith, same.given);
+  cause = h;
+}
+
+pub GoesOnBy-cancelled : (old new : Known) (number : ℕ) (cause : Option Cause) → Cancels number old new → GoesOnBy old new cause cause
+GoesOnBy-cancelled old new number cause h = record {
+  texts = KeepsTexts-cancelled old new number h.rows;
+  document = h.book.document;
+  given = omega (arith, h.book.given);
+  cause = λ none. none;
+}
+
+pub GoesOnBy-given_up : (hand : Option Job) (old new : Known) (cause : Option Cause) → GivesUp hand old new → GoesOnBy old new cause cause
+GoesOnBy-given_up None old new cause h = subst (λ d. GoesOnBy old d cause cause) (sym h) (GoesOnBy-same old cause cause (λ none. none))
+GoesOnBy-given_up (Some job) old new cause h = GoesOnBy-cancelled old new job.number cause h
+
+pub IsAtHand-given_up : (hand held : Option Job) (old new : Known) → GivesUp hand old new → IsAtHand hand held old → IsAtHand None held new
+IsAtHand-given_up None held old new h at_hand = subst (IsAtHand None held) (sym h) at_hand
+IsAtHand-given_up (Some job) held old new h at_hand = IsAtHand-cancelled old new job held h.rows at_hand
+
+pub IsHeld-given_up : (hand held : Option Job) (old new : Known) → GivesUp hand old new → IsAtHand hand held old → IsHeld held new
+IsHeld-given_up hand held old new h at_hand = IsHeld-at_hand held new (IsAtHand-given_up hand held old new h at_hand)
+
+sent_on : (old new : Known) (floor : ℕ) (hand : Option Job) → SameBook old new → IfSome hand (CanBeSent old floor) → IfSome hand (CanBeSent new floor)
+sent_on old new floor None same h = tt
+sent_on old new floor (Some job) same h = record {
+  own = subst (λ table. IsOf table job.place) (sym same.document.table) h.own;
+  rises = h.rises;
+  given = omega (arith, h.given, same.given);
+}
+
+pub Fits-book : (old new : Known) (entries : Entries) (floor : ℕ) (hand : Option Job) → SameBook old new → Fits old entries floor hand → Fits new entries floor hand
+Fits-book old new entries floor hand same h = record {
+  table = let e = h.table in let f = same.document.table in cc;
+  numbers = omega (arith, h.numbers, same.given);
+  hand = sent_on old new floor hand same h.hand;
+}
+
+pub Fits-post : (d : Known) (before after : Entries) (floor higher : ℕ) (hand : Option Job) → after ≡ before → higher ≡ floor → Fits d before floor hand → Fits d after higher hand
+Fits-post d before after floor higher hand same_table same_floor h = subst (λ t. Fits d t higher hand) (sym same_table) (subst (λ f. Fits d before f hand) (sym same_floor) h)
+
+-- an answer that isn't that a job gave up leaves as many rows wanting
+pub wanting-collected : (old new : Known) (answer : Answered) (collected : Collected) → ((fault : EvolveFault) → collected ≡ Released fault → ⊥) → IsCollected old new answer collected → wanting_of new ≡ wanting_of old
+wanting-collected old new answer Accepted kept h = h.2
+wanting-collected old new answer (Released fault) kept h = absurd (kept fault refl)
+wanting-collected old new answer (Stale number revision) kept h = ap wanting_of h.same
+
+-- a settling from its first desk to its last, over the one with which its turns end
+module _ (first mid last : Known) (hand : Option Job) (cause : Option Cause) (goes : GoesOnBy first mid None cause) (given_up : GivesUp hand mid last) where
+  whole : GoesOnBy first last None cause
+  whole = GoesOnBy-on first mid last None cause cause goes (GoesOnBy-given_up hand mid last cause given_up)
+
+  pub settles-whole : Settles first last
+  settles-whole = record {
+    texts = whole.texts;
+    plan = whole.document.plan;
+    table = whole.document.table;
+  }
+
+  pub table-whole : (before after : Entries) → before ≡ first.table → after ≡ mid.table → after ≡ before
+  table-whole before after was is = is ∙ goes.document.table ∙ sym was
+
+  pub numbers-whole : (floor : ℕ) → floor ≤ mid.given → floor ≤ last.given
+  numbers-whole floor h = let k = (GoesOnBy-given_up hand mid last cause given_up).given in omega arith
+
+  pub enough-whole : length last.arrivals + length last.texts ≤ 12288 → 4 * rows_of first ≤ 1000000
+  enough-whole few = let marks = whole.document.marks in let bookmarks = whole.document.bookmarks in omega arith

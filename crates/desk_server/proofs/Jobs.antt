@@ -1,0 +1,138 @@
+-- What is out after jobs were dropped.
+use Rattle.std.proofs.Common.{◌≡◌, ℕ, ◌-◌, ◌^◌, ◌<◌, ◌≤◌, Bool, true, false, cond, Option, None, Some, IfSome, ◌==◌, ◌&&◌, sym, ap, refl, subst, ◌∙◌, arith}
+use Rattle.std.proofs.lemmas.Bool.Decides.{nat_tests}
+use Rattle.worlds.specs.World.{World}
+use Rattle.schedule.specs.Plan.{Plan, opening}
+use Rattle.schedule.specs.Asked.{Asked}
+use Rattle.schedule.specs.declared.document.Bookmark.{Bookmark}
+use Rattle.revision_jobs.specs.declared.entries.Entries.{Entries}
+use Rattle.revision_jobs.specs.declared.answer.Job.{Job}
+use Rattle.revision_jobs.specs.Value.{pattern, text}
+use Rattle.dependency_book.specs.declared.finding.Finding.{Finding}
+use Rattle.dependency_book.specs.declared.finding.Finding.TheVariants.{Expected, Found}
+use Rattle.dependency_book.specs.declared.need.Need.{Need}
+use Rattle.dependency_book.specs.declared.need.Need.TheVariants.{Step, View}
+use Rattle.dependency_book.specs.Findings.{job_of, has_number, finding_map}
+use Rattle.dependency_book.specs.Jobs.{cancelled, IsFirstOut, SameBook}
+use Rattle.dependency_book.specs.Kept.{KeepsRows, text_kept, keeps_text, keeps_arrival}
+use Rattle.dependency_book.specs.Marks.{is_noted}
+use Rattle.dependency_book.specs.Known.{Known, row_of, expected, opened, arrival_row, text_row, bookmark_in}
+use Rattle.desk_core.specs.Shown.{IsHeld}
+use Rattle.desk_server.specs.Jobs.{Carries, IsFresh, DropsJobs}
+
+-- where nothing is dropped
+pub drops_none : (old new : Known) → new ≡ old → DropsJobs old new
+drops_none old new same = record {
+  table = ap (λ (d : Known). d.table) same;
+  given = ap (λ (d : Known). d.given) same;
+  out = λ need job e. subst (λ (d : Known). expected d need ≡ Some job) same e;
+}
+
+pub drops_drops : (a b c : Known) → DropsJobs a b → DropsJobs b c → DropsJobs a c
+drops_drops a b c f g = record {
+  table = g.table ∙ f.table;
+  given = g.given ∙ f.given;
+  out = λ need job e. f.out need job (g.out need job e);
+}
+
+-- what is out of a row that was emptied or not
+left_out : {V : Type 0} (b : Bool) (row : Option (Finding V)) (job : Job) → job_of (cond b None row) ≡ Some job → (job_of row ≡ Some job) × (b ≡ false)
+left_out true row job e = absurd (cc)
+left_out false row job e = (e, refl)
+
+-- cancelling
+cancelled_out : (n : ℕ) (old new : Known) → ((need : Need) → row_of new need ≡ cancelled n (row_of old need)) → (need : Need) (job : Job) → expected new need ≡ Some job
+    → (expected old need ≡ Some job) × (has_number n (expected old need) ≡ false)
+cancelled_out n old new rows need job e = left_out (has_number n (expected old need)) (row_of old need) job (sym (ap job_of (rows need)) ∙ e)
+
+pub cancel_drops : (n : ℕ) (old new : Known) → ((need : Need) → row_of new need ≡ cancelled n (row_of old need)) → SameBook old new → DropsJobs old new
+cancel_drops n old new rows same = record {
+  table = same.document.table;
+  given = same.given;
+  out = λ need job e. (cancelled_out n old new rows need job e).0;
+}
+
+-- the first number that is out rises
+other_number : (n : ℕ) (o : Option Job) (job : Job) → o ≡ Some job → has_number n o ≡ false → (job.number == n) ≡ false
+other_number n o job e h = sym (ap (has_number n) e) ∙ h
+
+its_number : (n : ℕ) (o : Option Job) → has_number n o ≡ true → (job : Job) × (o ≡ Some job) × ((job.number == n) ≡ true)
+its_number n None h = absurd (cc)
+its_number n (Some job) h = (job, refl, h)
+
+at_least : (n : ℕ) (o : Option Job) (job : Job) → o ≡ Some job → IfSome o (λ other. n ≤ other.number) → n ≤ job.number
+at_least n o job e h = subst (λ v. IfSome v (λ other. n ≤ other.number)) e h
+
+above : (n m k : ℕ) → n ≤ k → (k == n) ≡ false → (k == m) ≡ true → n < m
+above n m k few other same = grind (arith, nat_tests)
+
+first_rises : (n m : ℕ) (old new : Known) → ((need : Need) → row_of new need ≡ cancelled n (row_of old need)) → IsFirstOut old (Some n) → IsFirstOut new (Some m) → n < m
+first_rises n m old new rows before after =
+    let need = after.0.0 in
+    let its = its_number m (expected new need) after.0.1 in
+    let left = cancelled_out n old new rows need its.0 its.1 in
+    above n m its.0.number (at_least n (expected old need) its.0 left.0 (before.1 need)) (other_number n (expected old need) its.0 left.0 left.1) its.2
+
+-- how many numbers are from the first one on
+abbrev pub numbers_from : Option ℕ → ℕ
+numbers_from None = 0
+numbers_from (Some n) = 2 ^ 32 - n
+
+fewer : (n m : ℕ) → n < 2 ^ 32 → n < m → 2 ^ 32 - m < 2 ^ 32 - n
+fewer n m few rises = omega arith
+
+some_left : (n : ℕ) → n < 2 ^ 32 → 0 < 2 ^ 32 - n
+some_left n few = omega arith
+
+pub first_falls : (n : ℕ) (next : Option ℕ) (old new : Known) → n < 2 ^ 32 → ((need : Need) → row_of new need ≡ cancelled n (row_of old need)) → IsFirstOut old (Some n) → IsFirstOut new next
+    → numbers_from next < numbers_from (Some n)
+first_falls n None old new few rows before after = some_left n few
+first_falls n (Some m) old new few rows before after = fewer n m few (first_rises n m old new rows before after)
+
+-- an edit
+out_of_map : {V W : Type 0} (f : V → W) (row : Option (Finding V)) → job_of (finding_map f row) ≡ job_of row
+out_of_map f None = refl
+out_of_map f (Some (Expected job)) = refl
+out_of_map f (Some (Found value)) = refl
+
+kept_arrival : (at_start keeps : Bool) (world : World) (row : Option (Finding World)) (job : Job) → job_of (cond at_start (Some (Found world)) (cond keeps row None)) ≡ Some job → job_of row ≡ Some job
+kept_arrival true keeps world row job e = absurd (cc)
+kept_arrival false true world row job e = e
+kept_arrival false false world row job e = absurd (cc)
+
+kept_text : {V : Type 0} (keeps : Bool) (row : Option (Finding V)) (job : Job) → job_of (cond keeps row None) ≡ Some job → job_of row ≡ Some job
+kept_text true row job e = e
+kept_text false row job e = absurd (cc)
+
+kept_of : {V : Type 0} (p : Plan) (asked : Asked) (bookmark : Option Bookmark) (row : Option (Finding V)) (job : Job) → job_of (text_kept p asked bookmark row) ≡ Some job → job_of row ≡ Some job
+kept_of p asked None row job e = absurd (cc)
+kept_of p asked (Some b) row job e = kept_text (keeps_text p asked b) row job e
+
+edit_keeps_out : (asked : Asked) (old new : Known) → KeepsRows asked old new → (need : Need) (job : Job) → expected new need ≡ Some job → expected old need ≡ Some job
+edit_keeps_out asked old new keeps (Step g) job e =
+    out_of_map pattern (arrival_row old g)
+    ∙ kept_arrival (g == 0) (is_noted new.plan g && keeps_arrival old.plan asked g) new.plan.start (arrival_row old g) job (sym (ap job_of (keeps.arrivals g)) ∙ (sym (out_of_map pattern (arrival_row new g)) ∙ e))
+edit_keeps_out asked old new keeps (View id) job e =
+    out_of_map text (text_row old id)
+    ∙ kept_of old.plan asked (bookmark_in old.plan.bookmarks id) (text_row old id) job (sym (ap job_of (keeps.texts id)) ∙ (sym (out_of_map text (text_row new id)) ∙ e))
+
+pub edit_drops : (asked : Asked) (old new : Known) → KeepsRows asked old new → DropsJobs old new
+edit_drops asked old new keeps = record { table = keeps.table; given = keeps.given; out = edit_keeps_out asked old new keeps }
+
+-- at the beginning
+none_at : (at_start : Bool) (world : World) (job : Job) → job_of (cond at_start (Some (Found world)) None) ≡ Some job → ⊥
+none_at true world job e = cc
+none_at false world job e = cc
+
+none_opened : (table : Entries) (held : Option Job) → IsHeld held (opened table 0)
+none_opened table held (Step g) job e = absurd (none_at (g == 0) (opening 0).start job (sym (out_of_map pattern (arrival_row (opened table 0) g)) ∙ e))
+none_opened table held (View id) job e = absurd (cc)
+
+pub carries_first : {P : Type 0} (table : P → Entries) (floor : P → ℕ) (is_prompt : P → Bool) (held : P → Option Job) (post : P) (entries : Entries) (d : Known) → d ≡ opened entries 0
+    → IsFresh table floor is_prompt post entries → Carries table floor is_prompt held post d
+carries_first table floor is_prompt held post entries d same fresh = rw same (record {
+  own = fresh.own;
+  numbers = subst (λ n. n ≤ 0) (sym fresh.none) (omega arith);
+  prompt = fresh.prompt;
+  out = none_opened entries (held post);
+})

@@ -1,0 +1,35 @@
+-- Which squares were put to the rule, and how often it was asked.
+use Rattle.std.specs.Prelude.{◌≡◌, ◌&&◌, not, Bool, true, cond, nat_lt, ℕ, zero, suc, ◌+◌, ◌*◌, ◌^◌, ◌<◌, ◌≤◌, List, [], ◌∷◌, All, length, get_or}
+use Rattle.worlds.specs.World.{World}
+use Rattle.square_table.specs.Squares.{Table, square_in, kid_at, first_number}
+use Rattle.hash_life.specs.Puts.{Puts, Stands}
+use Rattle.hash_engine.specs.declared.memo.Memo.{Memo}
+
+-- whether n is the number of a square of 4 by 4 cells: its first quadrant is a square, whose first quadrant is a cell
+abbrev pub is_four : List (List ℕ) → ℕ → Bool
+is_four rows n =
+    let quadrant = kid_at rows n 0 in
+    not (nat_lt quadrant first_number) && nat_lt quadrant (first_number + length rows) && nat_lt (kid_at rows quadrant 0) first_number
+
+-- whether the square at the place i was put to the rule: its result one generation later is known
+unfoldable pub is_put : List (List ℕ) → Memo → ℕ → Bool
+is_put rows memo i = is_four rows (first_number + i) && nat_lt 0 (get_or memo.full.items i 0)
+
+-- the numbers below n that pass a test, the greatest first
+unfoldable pub picked : (ℕ → Bool) → ℕ → List ℕ
+picked test zero = []
+picked test (suc i) = cond (test i) (i ∷ picked test i) (picked test i)
+
+-- the places of the squares that were put to the rule
+unfoldable pub places_put : List (List ℕ) → Memo → List ℕ
+places_put rows memo = picked (is_put rows memo) (length rows)
+
+-- each of these squares stands in the world at one of its first n generations
+abbrev pub AllStand : (List ℕ → ℕ) → World → ℕ → List (List ℕ) → Memo → Type 0
+AllStand next w n rows memo = (i : ℕ) → i < length rows → is_put rows memo i ≡ true → Stands next w n (square_in rows 2 (first_number + i))
+
+-- on the way to the results of these squares of level k + 2: four asks for each more that was put to the rule, and all that were stand in a world where those stand that are to be
+pub record AsksForMore (next : List ℕ → ℕ) (k generations : ℕ) (numbers : List ℕ) (t u : Table) (old new : Memo) (asks new_asks : ℕ) : Type 0 where
+  pub four : generations ≤ 2 ^ k → new_asks + 4 * length (places_put t.rows old) ≡ asks + 4 * length (places_put u.rows new)
+  pub stand : (w : World) (n : ℕ) → All (λ i. Puts next k generations (square_in t.rows (suc (suc k)) i) (Stands next w n)) numbers →
+      AllStand next w n t.rows old → AllStand next w n u.rows new
