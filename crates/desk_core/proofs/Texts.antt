@@ -46,7 +46,7 @@ KeepsTexts-on c d e h k id = kept_on (text_known c id) (text_known d id) (text_k
 KeepsTexts-rows : (old new : Known) → ((id : ℕ) → IfSome (text_in (row_of old (View id))) (λ bytes. text_in (row_of new (View id)) ≡ Some bytes)) → KeepsTexts old new
 KeepsTexts-rows old new h id =
     subst (λ o. IfSome o (λ bytes. text_known new id ≡ Some bytes)) (text_in-row old id)
-        (subst (λ p. IfSome (text_in (row_of old (View id))) (λ bytes. p ≡ Some bytes)) (text_in-row new id) (h id))
+    (subst (λ p. IfSome (text_in (row_of old (View id))) (λ bytes. p ≡ Some bytes)) (text_in-row new id) (h id))
 
 same_number : (m n : ℕ) → (m == n) ≡ true → m ≡ n
 same_number m n h = grind (arith, nat_tests)
@@ -65,7 +65,7 @@ issued_kept false row job empty = same_kept (text_in row) (text_in row) refl
 pub KeepsTexts-issued : (old new : Known) (need : Need) (job : Job) → row_of old need ≡ None → ((other : Need) → row_of new other ≡ issued need job other (row_of old other)) → KeepsTexts old new
 KeepsTexts-issued old new need job empty rows = KeepsTexts-rows old new (λ id.
     subst (λ r. IfSome (text_in (row_of old (View id))) (λ bytes. text_in r ≡ Some bytes)) (sym (rows (View id)))
-        (issued_kept (is_need need (View id)) (row_of old (View id)) job (λ h. ap (row_of old) (sym (same_need need (View id) h)) ∙ empty)))
+    (issued_kept (is_need need (View id)) (row_of old (View id)) job (λ h. ap (row_of old) (sym (same_need need (View id) h)) ∙ empty)))
 
 answered_kept : (answer : Answered) (row : Option (Finding Value)) → IfSome (text_in row) (λ bytes. text_in (answered answer row) ≡ Some bytes)
 answered_kept answer None = tt
@@ -77,7 +77,7 @@ answered_kept answer (Some (Found (text bytes))) = refl
 pub KeepsTexts-answered : (old new : Known) (answer : Answered) → ((need : Need) → row_of new need ≡ answered answer (row_of old need)) → KeepsTexts old new
 KeepsTexts-answered old new answer rows = KeepsTexts-rows old new (λ id.
     subst (λ r. IfSome (text_in (row_of old (View id))) (λ bytes. text_in r ≡ Some bytes)) (sym (rows (View id)))
-        (answered_kept answer (row_of old (View id))))
+    (answered_kept answer (row_of old (View id))))
 
 cancelled_kept : (number : ℕ) (row : Option (Finding Value)) → IfSome (text_in row) (λ bytes. text_in (cancelled number row) ≡ Some bytes)
 cancelled_kept number None = tt
@@ -89,4 +89,4 @@ cancelled_kept number (Some (Found (text bytes))) = refl
 pub KeepsTexts-cancelled : (old new : Known) (number : ℕ) → ((need : Need) → row_of new need ≡ cancelled number (row_of old need)) → KeepsTexts old new
 KeepsTexts-cancelled old new number rows = KeepsTexts-rows old new (λ id.
     subst (λ r. IfSome (text_in (row_of old (View id))) (λ bytes. text_in r ≡ Some bytes)) (sym (rows (View id)))
-        (cancelled_kept number (row_of old (View id))))
+    (cancelled_kept number (row_of old (View id))))

@@ -10,16 +10,16 @@ returns-in-Released-clause-goes c =
     let after = Some c.unwrap_or.result in
     let answered = GoesOnBy-answered c.args.desk.now c.collect.new.self c.args.answer before after c.collect.ensures.rows c.collect.ensures.book (λ h. absurd (cc)) in
     GoesOnBy-on c.args.desk.now c.collect.new.self c.give_up.new.desk before after after answered
-        (GoesOnBy-given_up (job_in c.replace.result) c.collect.new.self c.give_up.new.desk after c.give_up.ensures)
+    (GoesOnBy-given_up (job_in c.replace.result) c.collect.new.self c.give_up.new.desk after c.give_up.ensures)
 
 pub returns-in-Released-clause-out : goal.returns-in-Released-clause-out
 returns-in-Released-clause-out c =
     let hand = job_in c.args.self.now.hand in
     let given_up : GivesUp hand c.collect.new.self c.give_up.new.desk =
-        subst (λ h. GivesUp (job_in h) c.collect.new.self c.give_up.new.desk) c.replace.ensures.value c.give_up.ensures in
+    subst (λ h. GivesUp (job_in h) c.collect.new.self c.give_up.new.desk) c.replace.ensures.value c.give_up.ensures in
     subst (λ h. IsAtHand hand (Some c.args.answer.job) c.args.desk.now → IsAtHand (job_in h) None c.give_up.new.desk) (sym c.replace.ensures.after)
-        (λ at_hand. IsAtHand-given_up hand None c.collect.new.self c.give_up.new.desk given_up
-            (IsAtHand-answered c.args.desk.now c.collect.new.self c.args.answer hand c.collect.ensures.rows at_hand))
+    (λ at_hand. IsAtHand-given_up hand None c.collect.new.self c.give_up.new.desk given_up
+    (IsAtHand-answered c.args.desk.now c.collect.new.self c.args.answer hand c.collect.ensures.rows at_hand))
 
 pub returns-in_default : goal.returns-in_default
 returns-in_default c = record {

@@ -7,8 +7,8 @@ use Rattle.desk_core.proofs.course.Course.receive.Goals as goal
 pub returns-in-Answer-clause-fits : goal.returns-in-Answer-clause-fits
 returns-in-Answer-clause-fits g c =
     c.collect.ensures.fits (g.P.Post.table c.receive.new.self) (g.P.Post.floor c.receive.new.self)
-        (Fits-post c.args.desk.now (g.P.Post.table c.args.post.now) (g.P.Post.table c.receive.new.self) (g.P.Post.floor c.args.post.now) (g.P.Post.floor c.receive.new.self)
-            (job_in c.args.self.now.hand) c.receive.ensures.table c.receive.ensures.floor c.requires)
+    (Fits-post c.args.desk.now (g.P.Post.table c.args.post.now) (g.P.Post.table c.receive.new.self) (g.P.Post.floor c.args.post.now) (g.P.Post.floor c.receive.new.self)
+    (job_in c.args.self.now.hand) c.receive.ensures.table c.receive.ensures.floor c.requires)
 
 pub returns-in-Answer-clause-prompt : goal.returns-in-Answer-clause-prompt
 returns-in-Answer-clause-prompt g c = λ prompt.

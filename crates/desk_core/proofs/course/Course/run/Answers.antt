@@ -25,10 +25,10 @@ returns-in-Ends-clause-out g c = λ prompt held. (c.turn.ensures.prompt (c.loop.
 pub returns-in-Ends-clause-done : goal.returns-in-Ends-clause-done
 returns-in-Ends-clause-done g c = λ prompt held enough none.
     done-at_end
-        (record { desk = c.loop.desk; hand = c.loop.course.hand; held = g.P.Post.held c.loop.post })
-        (record { desk = c.turn.new.desk; hand = c.turn.new.self.hand; held = g.P.Post.held c.turn.new.post })
-        c.turn.result c.in-Ends.is
-        ((c.turn.ensures.prompt (c.loop.invariant.kind ∙ prompt)).nears (c.loop.invariant.out prompt held) none)
+    (record { desk = c.loop.desk; hand = c.loop.course.hand; held = g.P.Post.held c.loop.post })
+    (record { desk = c.turn.new.desk; hand = c.turn.new.self.hand; held = g.P.Post.held c.turn.new.post })
+    c.turn.result c.in-Ends.is
+    ((c.turn.ensures.prompt (c.loop.invariant.kind ∙ prompt)).nears (c.loop.invariant.out prompt held) none)
 
 pub loop-preserved : goal.loop-preserved
 loop-preserved g c = record {
@@ -50,4 +50,4 @@ returns-clause-goes g c = c.loop.invariant.goes
 pub returns-clause-done : goal.returns-clause-done
 returns-clause-done g c = λ prompt held enough none.
     turns-spent (record { desk = c.loop.desk; hand = c.loop.course.hand; held = g.P.Post.held c.loop.post }) c.loop.counter c.args.turns
-        c.loop-test.false (c.loop.invariant.out prompt held) (c.loop.invariant.turns prompt held enough none)
+    c.loop-test.false (c.loop.invariant.out prompt held) (c.loop.invariant.turns prompt held enough none)
