@@ -6,7 +6,7 @@ use Rattle.square_rows.specs.declared.row.SquareRow.{SquareRow}
 use Rattle.worlds.specs.Square.{Square, four, empty_square}
 use Rattle.square_rows.specs.Rows.{no_row, row_at, kid, IsNumber, IsRow, AreRows, square_in, root_level, world_of_rows}
 use Rattle.square_rows.specs.Centre.{cornered, centred}
-use Rattle.square_rows.specs.Laid.{square_of, AreQuadrants, Keeps, IsAdded}
+use Rattle.square_rows.specs.Laid.{square_of, AreQuadrants, Keeps, IsAdded, IsRaised}
 use Rattle.square_rows.proofs.Numbering.{Grows, Grows-more}
 use Rattle.square_rows.proofs.Sound.{IsNumber-level, IsNumber-from, IsNumber-grown, Grows-length, square_in-none, square_in-row, square_in-grown, AreRows-push}
 use Rattle.square_rows.proofs.Roots.{root_level-some, square_in-IsSquare}
@@ -129,13 +129,6 @@ root_added old new k n s a =
     let last : n ≡ length new = a.last in
     let live : 0 < length new = omega (arith, some, last) in
     (root_level-some new live ∙ ap (λ m. (row_at new m).level) (sym last) ∙ (IsNumber-level new k n a.number some).1, ap (square_in new (suc k)) (sym last) ∙ a.square)
-
--- a root of one level more, of the same world
-pub record IsRaised (rows new : List SquareRow) : Type 0 where
-  pub valid : AreRows new
-  pub few : length new < 2 ^ 32
-  pub level : root_level new ≡ suc (root_level rows)
-  pub world : world_of_rows new ≡ world_of_rows rows
 
 module _ (rows r1 r2 r3 r4 r5 : List SquareRow) (k : ℕ) (kids : List ℕ) (nw ne sw se n : ℕ) (valid : AreRows rows) (level : root_level rows ≡ suc k) (parts : AreQuadrants rows k (length rows) kids)
     (a1 : IsAdded rows r1 (suc k) nw (cornered k 3 (square_in rows k (get_or kids 0 0)))) (a2 : IsAdded r1 r2 (suc k) ne (cornered k 2 (square_in r1 k (get_or kids 1 0))))

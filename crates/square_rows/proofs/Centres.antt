@@ -9,7 +9,7 @@ use Rattle.square_rows.specs.declared.row.SquareRow.{SquareRow}
 use Rattle.worlds.specs.Square.{Square, one, four, empty_square, IsSquare}
 use Rattle.square_rows.specs.Rows.{no_row, row_at, kid, IsNumber, AreRows, square_in, root_level, world_of_rows, Fits, IsLeastLevel}
 use Rattle.square_rows.specs.Walks.{Has, AreWalked}
-use Rattle.square_rows.specs.Centre.{cornered, centred, is_passed, is_alone, NoneEmpty, IsCorner, IsCentre}
+use Rattle.square_rows.specs.Centre.{cornered, centred, is_passed, is_alone, NoneEmpty, AreFilled, IsCorner, IsCentre}
 use Rattle.square_rows.proofs.Numbering.{Grows, Grows-more, Has-empty, Has-one}
 use Rattle.square_rows.proofs.Sound.{row_of, IsNumber-level, IsNumber-from, IsNumber-state, square_in-none, square_in-state, square_in-row, square_in-grown, AreRows-push, row_kept}
 use Rattle.square_rows.proofs.Roots.{rooted, root-IsSquare, root-Fits, root_level-none, root_level-some, root-side, square_in-IsSquare}
@@ -23,9 +23,11 @@ IfNone_from None P p = p
 IfNone_from (Some x) P p = tt
 
 -- walked rows have no row of an empty square
-pub walked-none_empty : (rows : List SquareRow) → AreWalked rows → NoneEmpty rows
-walked-none_empty rows w k n h e =
-    Has-one k (square_in rows k n) rows n 0 (w.each k n h) (subst (λ (t : Square). Has k t rows 0) (sym e) (Has-empty k rows))
+pub walked-filled : (rows : List SquareRow) → AreWalked rows → AreFilled rows
+walked-filled rows w = record {
+  valid = w.valid;
+  none_empty = λ k n h e. Has-one k (square_in rows k n) rows n 0 (w.each k n h) (subst (λ (t : Square). Has k t rows 0) (sym e) (Has-empty k rows));
+}
 
 -- the q-th quadrant
 part : ℕ → Square → Square
@@ -296,7 +298,7 @@ module _ (rows : List SquareRow) (k a b c d : ℕ) (valid : AreRows rows) (none 
 
   -- the root in the middle is one of the same world
   is_centre : IsCentre rows (row_of (suc k) a b c d)
-  is_centre = record { fits = middle_valid; level = sym ek; root = middle_level; world = middle_world; none_empty = middle_none }
+  is_centre = record { filled = record { valid = middle_valid; none_empty = middle_none }; level = sym ek; root = middle_level; world = middle_world }
 
 -- the row of the square in the middle of a root
 pub centre-is : (rows : List SquareRow) (k a b c d : ℕ) → AreRows rows → NoneEmpty rows → (root_level rows ≡ 1 → ⊥) → k ≡ root_level rows - 1 → HasMiddle rows (k - 1) a b c d → IsCentre rows (row_of k a b c d)

@@ -25,6 +25,11 @@ is_alone corner kids = is_passed corner 0 (get_or kids 0 0) && (is_passed corner
 abbrev pub NoneEmpty : List SquareRow → Type 0
 NoneEmpty rows = (k n : ℕ) → IsNumber rows k n → square_in rows k n ≡ empty_square k → n ≡ 0
 
+-- rows none of which is of an empty square
+pub record AreFilled (rows : List SquareRow) : Type 0 where
+  pub valid : AreRows rows
+  pub none_empty : NoneEmpty rows
+
 -- the square of level k + 1 that a number names has live cells in this quadrant alone, and inner names that quadrant
 pub record IsCorner (rows : List SquareRow) (k number corner inner : ℕ) : Type 0 where
   pub names : IsNumber rows k inner
@@ -32,8 +37,7 @@ pub record IsCorner (rows : List SquareRow) (k number corner inner : ℕ) : Type
 
 -- the row of a smaller root of the same world
 pub record IsCentre (rows : List SquareRow) (row : SquareRow) : Type 0 where
-  pub fits : AreRows (rows ++ row ∷ [])
+  pub filled : AreFilled (rows ++ row ∷ [])
   pub level : suc row.level ≡ root_level rows
   pub root : root_level (rows ++ row ∷ []) ≡ row.level
   pub world : world_of_rows (rows ++ row ∷ []) ≡ world_of_rows rows
-  pub none_empty : NoneEmpty (rows ++ row ∷ [])

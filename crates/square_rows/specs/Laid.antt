@@ -6,7 +6,7 @@ use Rattle.worlds.specs.Lay.{last_mention}
 use Rattle.square_rows.specs.declared.row.SquareRow.{SquareRow}
 use Rattle.square_rows.specs.declared.lay.Parts.{Parts}
 use Rattle.worlds.specs.Square.{Square, four, cell_in, IsIn}
-use Rattle.square_rows.specs.Rows.{IsNumber, AreRows, square_in, root_level, edge_of}
+use Rattle.square_rows.specs.Rows.{IsNumber, AreRows, square_in, root_level, edge_of, world_of_rows}
 
 -- the square whose quadrants these numbers name
 abbrev pub square_of : List SquareRow → ℕ → List ℕ → Square
@@ -32,6 +32,13 @@ pub record IsAdded (old new : List SquareRow) (k n : ℕ) (s : Square) : Type 0 
   pub square : square_in new k n ≡ s
   pub last : n ≡ length new
   pub some : 0 < n
+
+-- the new rows have a root of one level more, of the same world
+pub record IsRaised (old new : List SquareRow) : Type 0 where
+  pub valid : AreRows new
+  pub few : length new < 2 ^ 32
+  pub level : root_level new ≡ suc (root_level old)
+  pub world : world_of_rows new ≡ world_of_rows old
 
 -- a coordinate in the range of planes, with so far to go in it
 pub record IsFrom (start : ℤ) (far : ℕ) : Type 0 where

@@ -1,8 +1,8 @@
 //! A root that is larger than its pattern needs, and the smaller one in its middle.
 ghost use Rattle.std.specs.Prelude.{◌≡◌, ◌-◌, ◌<◌, ◌≤◌, ◌^◌, suc, length, IfSome, IfNone, OnOk};
 ghost use Rattle.worlds.specs.Square.{Square};
-ghost use Rattle.square_rows.specs.Rows.{AreRows, IsNumber, IsLeastLevel, square_in, root_level, world_of_rows};
-ghost use Rattle.square_rows.specs.Centre.{is_passed, is_alone, IsCorner, IsCentre, NoneEmpty, cornered};
+ghost use Rattle.square_rows.specs.Rows.{IsNumber, IsLeastLevel, square_in, root_level, world_of_rows};
+ghost use Rattle.square_rows.specs.Centre.{is_passed, is_alone, IsCorner, IsCentre, AreFilled, cornered};
 
 use crate::descent::root_level;
 use crate::row::SquareRow;
@@ -27,8 +27,7 @@ fn is_alone(kids: [u32; 4], corner: usize) -> bool
 
 // The number of the quadrant at the corner of a square, if the others are empty.
 fn inner(rows: &[SquareRow], level: u8, number: u32, corner: usize) -> Option<u32>
-    requires rows { AreRows rows.now }
-    requires none_empty { NoneEmpty rows.now }
+    requires rows { AreFilled rows.now }
     requires level { 1 ≤ level }
     requires number { IsNumber rows.now level number }
     requires corner { corner < 4 }
@@ -49,8 +48,7 @@ fn inner(rows: &[SquareRow], level: u8, number: u32, corner: usize) -> Option<u3
 
 // The square in the middle of the root, if it holds the live cells and has a level of at least 1.
 fn centre(rows: &[SquareRow]) -> Option<SquareRow>
-    requires rows { AreRows rows.now }
-    requires none_empty { NoneEmpty rows.now }
+    requires rows { AreFilled rows.now }
     ensures some { IfSome result (IsCentre rows.now) }
     ensures none { IfNone result (IsLeastLevel (root_level rows.now) (world_of_rows rows.now)) }
 {
@@ -71,10 +69,9 @@ fn centre(rows: &[SquareRow]) -> Option<SquareRow>
 
 /// Adds smaller roots behind the root until one is the least that holds the live cells.
 pub fn add_centres(rows: &mut Vec<SquareRow>) -> Result<(), AllocError>
-    requires rows { AreRows rows.old.items }
-    requires none_empty { NoneEmpty rows.old.items }
+    requires rows { AreFilled rows.old.items }
     requires few { length rows.old.items < 2 ^ 32 }
-    ensures rows { OnOk result (AreRows rows.new.items) }
+    ensures rows { OnOk result (AreFilled rows.new.items) }
     ensures world { OnOk result (world_of_rows rows.new.items ≡ world_of_rows rows.old.items) }
     ensures least { OnOk result (IsLeastLevel (root_level rows.new.items) (world_of_rows rows.new.items)) }
     ensures few { OnOk result (length rows.new.items < 2 ^ 32) }

@@ -2,7 +2,7 @@
 ghost use Rattle.std.specs.Prelude.{◌≡◌, ◌-◌, ◌<◌, ◌≤◌, ◌^◌, suc, length, IfOk, OnOk};
 ghost use Rattle.square_rows.specs.Rows.{AreRows, IsNumber, IsRow, square_in, root_level, world_of_rows};
 ghost use Rattle.square_rows.specs.Centre.{cornered};
-ghost use Rattle.square_rows.specs.Laid.{AreQuadrants, IsAdded, square_of};
+ghost use Rattle.square_rows.specs.Laid.{AreQuadrants, IsAdded, IsRaised, square_of};
 
 use crate::descent::root_level;
 use crate::row::SquareRow;
@@ -59,10 +59,7 @@ pub fn raise(rows: &mut Vec<SquareRow>) -> Result<(), AllocError>
     requires rows { AreRows rows.old.items }
     requires few { length rows.old.items < 2 ^ 32 }
     requires level { root_level rows.old.items < 62 }
-    ensures rows { OnOk result (AreRows rows.new.items) }
-    ensures few { OnOk result (length rows.new.items < 2 ^ 32) }
-    ensures level { OnOk result (root_level rows.new.items ≡ suc (root_level rows.old.items)) }
-    ensures world { OnOk result (world_of_rows rows.new.items ≡ world_of_rows rows.old.items) }
+    ensures { OnOk result (IsRaised rows.old.items rows.new.items) }
 {
     let level = root_level(rows);
     let kids = quadrants(rows, level, rows.len() as u32);

@@ -44,11 +44,9 @@ fn walk_square(
     requires rows { AreRows rows.now }
     requires number { IsNumber rows.now level number }
     requires remembers { Remembers rows.now walk.old.done.keys walk.old.numbers.items }
-    requires few { length walk.old.done.keys < 2 ^ 32 }
     ensures walks { IfOk result
         (Walks level (square_in rows.now level number) walk.old.done.keys walk.new.done.keys) }
     ensures remembers { OnOk result (Remembers rows.now walk.new.done.keys walk.new.numbers.items) }
-    ensures few { OnOk result (length walk.new.done.keys < 2 ^ 32) }
 {
     if level == 0 {
         return Ok(number);

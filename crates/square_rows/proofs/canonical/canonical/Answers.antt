@@ -2,26 +2,23 @@ use Rattle.std.proofs.Common.{◌≡◌, List, sym, subst, ◌∙◌}
 use Rattle.square_rows.specs.declared.row.SquareRow.{SquareRow}
 use Rattle.square_rows.specs.Rows.{AreRows, IsLeastLevel, root_level, world_of_rows}
 use Rattle.square_rows.proofs.Tidy.{IfOk_then, tidied, canonical-walked}
-use Rattle.square_rows.proofs.Centres.{walked-none_empty}
+use Rattle.square_rows.proofs.Centres.{walked-filled}
 use Rattle.square_rows.proofs.canonical.canonical.Goals as goal
 
 pub add_centres-requires-clause-rows : goal.add_centres-requires-clause-rows
-add_centres-requires-clause-rows c = (tidied c.args.rows.now c.in_ok-rooted.rooted.items c.requires.rows c.in_ok-rooted.ensures.rows).walked.valid
-
-pub add_centres-requires-clause-none_empty : goal.add_centres-requires-clause-none_empty
-add_centres-requires-clause-none_empty c = walked-none_empty c.in_ok-rooted.rooted.items (tidied c.args.rows.now c.in_ok-rooted.rooted.items c.requires.rows c.in_ok-rooted.ensures.rows).walked
+add_centres-requires-clause-rows c = walked-filled c.in_ok-rooted.rooted.items (tidied c.args.rows.now c.in_ok-rooted.rooted.items c.requires.rows c.in_ok-rooted.ensures.rows).walked
 
 pub returns-clause-canonical : goal.returns-clause-canonical
 returns-clause-canonical c =
     let rows = c.deref.result.now in
-    let valid : AreRows rows = subst AreRows (sym c.deref.ensures.value) c.in_ok-add_centres.ensures.rows in
+    let valid : AreRows rows = subst AreRows (sym c.deref.ensures.value) c.in_ok-add_centres.ensures.rows.valid in
     let least : IsLeastLevel (root_level rows) (world_of_rows rows) = subst (λ (rs : List SquareRow). IsLeastLevel (root_level rs) (world_of_rows rs)) (sym c.deref.ensures.value) c.in_ok-add_centres.ensures.least in
     IfOk_then c.walked-2.result c.walked-2.ensures.rows (λ all e. canonical-walked rows all.items (tidied rows all.items valid e) least)
 
 pub returns-clause-world : goal.returns-clause-world
 returns-clause-world c =
     let rows = c.deref.result.now in
-    let valid : AreRows rows = subst AreRows (sym c.deref.ensures.value) c.in_ok-add_centres.ensures.rows in
+    let valid : AreRows rows = subst AreRows (sym c.deref.ensures.value) c.in_ok-add_centres.ensures.rows.valid in
     let first = tidied c.args.rows.now c.in_ok-rooted.rooted.items c.requires.rows c.in_ok-rooted.ensures.rows in
     let grown : world_of_rows rows ≡ world_of_rows c.in_ok-rooted.rooted.items = subst (λ (rs : List SquareRow). world_of_rows rs ≡ world_of_rows c.in_ok-rooted.rooted.items) (sym c.deref.ensures.value) c.in_ok-add_centres.ensures.world in
     IfOk_then c.walked-2.result c.walked-2.ensures.rows (λ all e. (tidied rows all.items valid e).world ∙ grown ∙ first.world)

@@ -1,12 +1,11 @@
 use Rattle.std.proofs.Common.{◌≡◌, ◌<◌, ◌^◌, length}
-use Rattle.square_rows.specs.Rows.{AreRows, root_level, world_of_rows}
-use Rattle.square_rows.specs.Centre.{NoneEmpty}
+use Rattle.square_rows.specs.Rows.{root_level, world_of_rows}
+use Rattle.square_rows.specs.Centre.{AreFilled}
 use Rattle.square_rows.proofs.centre.add_centres.Given as goal
 
 abbrev pub invariant-loop-row : goal.invariant-loop-row
 invariant-loop-row l = record {
-  valid : AreRows l.rows.items;
-  none_empty : NoneEmpty l.rows.items;
+  filled : AreFilled l.rows.items;
   few : length l.rows.items < 2 ^ 32;
   world : world_of_rows l.rows.items ≡ world_of_rows l.initial.rows.items;
 }

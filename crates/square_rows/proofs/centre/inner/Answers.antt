@@ -16,8 +16,8 @@ bounds-rows-number c =
 
 pub returns-then-is_alone-clause-some : goal.returns-then-is_alone-clause-some
 returns-then-is_alone-clause-some c =
-    corner-alone c.args.rows.now c.args.level c.args.number c.args.corner c.requires.rows (omega arith) (omega arith) c.requires.number c.requires.corner (sym c.is_alone.ensures ∙ c.if-is_alone.true)
+    corner-alone c.args.rows.now c.args.level c.args.number c.args.corner c.requires.rows.valid (omega arith) (omega arith) c.requires.number c.requires.corner (sym c.is_alone.ensures ∙ c.if-is_alone.true)
 
 pub returns-else-is_alone-clause-none : goal.returns-else-is_alone-clause-none
 returns-else-is_alone-clause-none c =
-    corner-only c.args.rows.now c.args.level c.args.number c.args.corner c.requires.rows c.requires.none_empty (omega arith) (omega arith) c.requires.number (sym c.is_alone.ensures ∙ c.if-is_alone.false)
+    corner-only c.args.rows.now c.args.level c.args.number c.args.corner c.requires.rows.valid c.requires.rows.none_empty (omega arith) (omega arith) c.requires.number (sym c.is_alone.ensures ∙ c.if-is_alone.false)

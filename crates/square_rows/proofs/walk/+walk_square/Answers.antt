@@ -37,16 +37,16 @@ bounds-rows-place t c =
     omega arith
 
 pub walk_square-requires : goal.walk_square-requires
-walk_square-requires t c = (omega (arith, c.decreases), (c.requires.rows, (number-kid c.args.rows.now c.args.level c.args.number 0 c.requires.rows (omega arith) (omega arith) c.requires.number (lit< tt), (c.requires.remembers, c.requires.few))))
+walk_square-requires t c = (omega (arith, c.decreases), (c.requires.rows, (number-kid c.args.rows.now c.args.level c.args.number 0 c.requires.rows (omega arith) (omega arith) c.requires.number (lit< tt), c.requires.remembers)))
 
 pub walk_square-requires-2 : goal.walk_square-requires-2
-walk_square-requires-2 t c = (omega (arith, c.decreases), (c.requires.rows, (number-kid c.args.rows.now c.args.level c.args.number 1 c.requires.rows (omega arith) (omega arith) c.requires.number (lit< tt), (c.in_ok-nw.ensures.remembers, c.in_ok-nw.ensures.few))))
+walk_square-requires-2 t c = (omega (arith, c.decreases), (c.requires.rows, (number-kid c.args.rows.now c.args.level c.args.number 1 c.requires.rows (omega arith) (omega arith) c.requires.number (lit< tt), c.in_ok-nw.ensures.remembers)))
 
 pub walk_square-requires-3 : goal.walk_square-requires-3
-walk_square-requires-3 t c = (omega (arith, c.decreases), (c.requires.rows, (number-kid c.args.rows.now c.args.level c.args.number 2 c.requires.rows (omega arith) (omega arith) c.requires.number (lit< tt), (c.in_ok-ne.ensures.remembers, c.in_ok-ne.ensures.few))))
+walk_square-requires-3 t c = (omega (arith, c.decreases), (c.requires.rows, (number-kid c.args.rows.now c.args.level c.args.number 2 c.requires.rows (omega arith) (omega arith) c.requires.number (lit< tt), c.in_ok-ne.ensures.remembers)))
 
 pub walk_square-requires-4 : goal.walk_square-requires-4
-walk_square-requires-4 t c = (omega (arith, c.decreases), (c.requires.rows, (number-kid c.args.rows.now c.args.level c.args.number 3 c.requires.rows (omega arith) (omega arith) c.requires.number (lit< tt), (c.in_ok-sw.ensures.remembers, c.in_ok-sw.ensures.few))))
+walk_square-requires-4 t c = (omega (arith, c.decreases), (c.requires.rows, (number-kid c.args.rows.now c.args.level c.args.number 3 c.requires.rows (omega arith) (omega arith) c.requires.number (lit< tt), c.in_ok-sw.ensures.remembers)))
 
 pub index_mut-requires : goal.index_mut-requires
 index_mut-requires t c =
@@ -64,7 +64,7 @@ pub returns-clause-remembers : goal.returns-clause-remembers
 returns-clause-remembers t c =
     remembers-more c.args.rows.now c.args.walk.now.done.keys c.walk_square-4.new.walk.done.keys c.complete.new.done.keys c.walk_square-4.new.walk.numbers.items
     c.args.level c.args.number c.in_ok-known.known (omega arith) (omega arith) c.requires.number c.in_ok-se.ensures.remembers
-    (grows-complete _ c.walk_square-4.new.walk.done.keys c.complete.new.done.keys c.in_ok-known.ensures.rows)
+    (grows-complete _ c.walk_square-4.new.walk.done.keys c.complete.new.done.keys c.in_ok-known.ensures.rows) c.in_ok-known.ensures.few
     (walks-four c.args.rows.now c.args.walk.now.done.keys c.walk_square.new.walk.done.keys c.walk_square-2.new.walk.done.keys c.walk_square-3.new.walk.done.keys c.walk_square-4.new.walk.done.keys c.complete.new.done.keys
     c.args.level c.args.number c.in_ok-nw.nw c.in_ok-ne.ne c.in_ok-sw.sw c.in_ok-se.se c.in_ok-known.known (omega arith) (omega arith)
     c.in_ok-nw.ensures.walks c.in_ok-ne.ensures.walks c.in_ok-sw.ensures.walks c.in_ok-se.ensures.walks c.in_ok-known.ensures.rows c.in_ok-known.ensures.number)
