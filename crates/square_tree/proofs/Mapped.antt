@@ -10,6 +10,7 @@ use Rattle.square_tree.specs.Change.{IsSet}
 use Rattle.square_tree.specs.Laid.{IsLaid, IsPartlyLaid, at_from}
 use Rattle.square_tree.specs.Cells.{Cells, least, reach, overlaid, IsPartlyOverlaid}
 use Rattle.square_tree.specs.Entries.{entries, states_of, cells_of}
+use Rattle.square_tree.specs.TreeOf.{IsTreeOf}
 use Rattle.square_tree.proofs.Placed.{split}
 use Rattle.square_tree.proofs.Shown.{places_total, places_exact, same_is, is_same, find-append, find_west, find_north, find_at}
 
@@ -30,6 +31,15 @@ get_west l t x y p = finite.get-from_entries places_total (entries t l (least l)
 pub get_north : (l : ℕ) (t : Quadtree) (x y : ℤ) → y <ℤ least l → finite.get (states_of l t) (y, x) ≡ None
 unfolding states_of
 get_north l t x y p = finite.get-from_entries places_total (entries t l (least l) (least l)) (y, x) ∙ find_north t l (least l) (least l) x y p
+
+-- a quadtree says what contracts see of it
+pub tree_of : (l : ℕ) (t : Quadtree) → HasLevel l t → IsTreeOf (cells_of l t) l t
+tree_of l t h = record {
+  level = h;
+  says = λ x y. sym (get_at l t (least l +ℤ pos x) (least l +ℤ pos y) x y h refl refl);
+  west = get_west l t;
+  north = get_north l t;
+}
 
 -- a coordinate lies before another, or so far behind it
 pub place_of : (w z : ℤ) → (z <ℤ w) ⊎ ((u : ℕ) × (z ≡ (w +ℤ pos u)))

@@ -5,3 +5,4 @@ pub mod Laid
 pub mod Over
 pub mod Place
 pub mod Quadtree
+pub mod TreeOf

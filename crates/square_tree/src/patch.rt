@@ -1,6 +1,8 @@
 //! Patches.
 ghost use Rattle.std.specs.Prelude.{◌≡◌, ℕ, ◌<◌, ◌≤◌, ◌^◌, ◌/◌, ◌++◌, pos, ◌+ℤ◌, OnOk, OnErr, IfOk, IsTrue, ◌↔◌};
 ghost use Rattle.square_tree.specs.Cells.{SpansSquare, IsHeld, least, blank, state_at, put, overlaid, IsPartlyOverlaid, row_states, window_states};
+ghost use Rattle.square_tree.specs.Quadtree.{quadtree};
+ghost use Rattle.square_tree.specs.TreeOf.{IsTreeOf};
 
 use crate::tree::{PatchTree, side};
 use std::alloc::{AllocError, Allocator};
@@ -90,6 +92,21 @@ impl<A: Allocator> Patch<A> {
     {
         self.tree
             .get(self.level, offset(self.level, x), offset(self.level, y))
+    }
+
+    /// The level of its square.
+    pub fn level(&self) -> u8
+        ensures { result ≡ self.now.level }
+    {
+        self.level
+    }
+
+    /// What it says, as the tree of its square: for those who go through its quadrants, as a table
+    /// of squares does where a patch is laid on one.
+    pub fn tree(&self) -> &PatchTree<A>
+        ensures { IsTreeOf self.now self.now.level (quadtree result.now) }
+    {
+        &self.tree
     }
 
     /// An equal patch with the memory of `alloc`.
