@@ -4,7 +4,7 @@ use super::{expect_next, next, nine_bits, same};
 use basics::Refusal;
 use plane_core::Next;
 use rule_file::cut;
-use rule_tree::{Rule, TreeFault, TreeRule, from_table};
+use rule_tree::{TreeFault, TreeRule, from_table};
 use std::alloc::{AllocError, Global};
 use std::process::Abort;
 use table_symmetry::{TableRule, read_table};
@@ -306,6 +306,10 @@ fn four_pairs_table(rt: &impl Abort, alloc: Global, states: u16) -> TableRule {
     table_of(rt, alloc, &lines)
 }
 
+// Of 32 states 32 * 32 * 32 * 32 lists are left behind the corners, and no two of them do the same; of 64
+// states more than a million are left soon. Such tables a script of examples/ gives to the program: the
+// interpreter of `rt try` doesn't come to the end of a million nodes in the minute that a test has there.
+//
 // The nine states are C, N, NE, E, SE, S, SW, W, NW.
 #[test]
 fn pairs_of_eight_states(rt: HostRuntime) {
@@ -323,30 +327,4 @@ fn pairs_of_eight_states(rt: HostRuntime) {
     expect_next(&rt, &tree, [0, 1, 2, 3, 4, 5, 6, 7, 1], 0);
     expect_next(&rt, &tree, [0, 1, 2, 3, 4, 5, 7, 7, 1], 1);
     expect_next(&rt, &tree, [0, 2, 1, 2, 3, 3, 2, 1, 2], 0);
-}
-
-fn expect_too_large(rt: &impl Abort, alloc: Global, states: u16) {
-    let table = four_pairs_table(rt, alloc, states);
-    let fault = from_table(alloc, &table).err();
-    same(rt, &fault, &Some(TreeFault::TreeTooLarge), &states);
-}
-
-// Of 32 states 32 * 32 * 32 * 32 lists are left behind the corners, and no two of them do the same;
-// of 64 states more than a million are left soon. The nine states are C, N, NE, E, SE, S, SW, W, NW.
-//
-// The one test that goes up to the limit: the interpreter of `rt try` doesn't come to the end of a
-// million nodes in the minute that a test has there.
-#[test]
-fn trees_of_more_than_a_million_nodes_are_too_large(rt: HostRuntime) {
-    let alloc = rt.alloc();
-    expect_too_large(&rt, alloc, 64);
-    let lines = four_pairs(alloc, 32).expect(&rt, "memory");
-    let text = file_of(&rt, alloc, &lines);
-    let rule = Rule::read(alloc, text.as_bytes()).expect(&rt, "a rule");
-    same(&rt, &rule.states(), &32, &"states");
-    same(&rt, &rule.tree().is_some(), &false, &"a tree");
-    expect_next(&rt, &rule, [0, 0, 0, 0, 0, 31, 0, 0, 31], 1);
-    expect_next(&rt, &rule, [0, 0, 0, 0, 0, 31, 0, 0, 30], 0);
-    expect_next(&rt, &rule, [0, 9, 1, 2, 9, 3, 4, 5, 6], 1);
-    expect_next(&rt, &rule, [7, 9, 1, 2, 9, 3, 4, 5, 6], 7);
 }
