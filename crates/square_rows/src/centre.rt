@@ -73,7 +73,8 @@ pub fn add_centres(rows: &mut Vec<SquareRow>) -> Result<(), AllocError>
     requires few { length rows.old.items < 2 ^ 32 }
     ensures rows { OnOk result (AreFilled rows.new.items) }
     ensures world { OnOk result (world_of_rows rows.new.items ≡ world_of_rows rows.old.items) }
-    ensures least { OnOk result (IsLeastLevel (root_level rows.new.items) (world_of_rows rows.new.items)) }
+    ensures least { OnOk result
+        (IsLeastLevel (root_level rows.new.items) (world_of_rows rows.new.items)) }
     ensures few { OnOk result (length rows.new.items < 2 ^ 32) }
 {
     while let Some(row) = centre(rows) {

@@ -40,8 +40,10 @@ fn add_square(rows: &[SquareRow], tally: &mut Tally, level: u8, number: u32, tim
 fn add_quadrants(rows: &[SquareRow], tally: &mut Tally, times: u128)
     requires rows { AreRows rows.now }
     requires more { length tally.old.times.items < length rows.now }
-    requires room { HasRoom rows.now tally.old times (row_square rows.now (length tally.old.times.items)) }
-    ensures { Gains rows.now tally.old tally.new times (row_square rows.now (length tally.old.times.items)) }
+    requires room { HasRoom rows.now tally.old times
+        (row_square rows.now (length tally.old.times.items)) }
+    ensures { Gains rows.now tally.old tally.new times
+        (row_square rows.now (length tally.old.times.items)) }
 {
     let row = rows[tally.times.len()];
     let level = row.level - 1;

@@ -68,8 +68,10 @@ pub fn root_level(rows: &[SquareRow]) -> u8
 // Where a cell lies in the square of side `2 * half` with the cell (0, 0) in its middle.
 pub fn offset_in(half: u64, spot: Spot) -> Option<Offset>
     requires { half ≤ 2 ^ 61 }
-    ensures x { IfSome result (λ at. (spot.x ≡ neg_ℤ (pos half) +ℤ pos at.x) × (at.x < half + half)) }
-    ensures y { IfSome result (λ at. (spot.y ≡ neg_ℤ (pos half) +ℤ pos at.y) × (at.y < half + half)) }
+    ensures x { IfSome result (λ at.
+        (spot.x ≡ neg_ℤ (pos half) +ℤ pos at.x) × (at.x < half + half)) }
+    ensures y { IfSome result (λ at.
+        (spot.y ≡ neg_ℤ (pos half) +ℤ pos at.y) × (at.y < half + half)) }
     ensures outside { IfNone result
         (IsIn (half + half) (neg_ℤ (pos half)) (neg_ℤ (pos half)) spot.x spot.y → ⊥) }
 {

@@ -152,7 +152,8 @@ fn lay_batch(alloc: Global, rows: &mut Vec<SquareRow>, cells: &[CellSet]) -> Res
     requires rows { AreRows rows.old.items × (length rows.old.items < 2 ^ 32) }
     requires cells { All CanBeLaid cells.now }
     ensures rows { OnOk result (AreRows rows.new.items × (length rows.new.items < 2 ^ 32)) }
-    ensures world { OnOk result (world_of_rows rows.new.items ≡ lay cells.now (world_of_rows rows.old.items)) }
+    ensures world { OnOk result
+        (world_of_rows rows.new.items ≡ lay cells.now (world_of_rows rows.old.items)) }
 {
     raise_around(rows, cells)?;
     let level = root_level(rows);
@@ -177,7 +178,8 @@ pub fn lay_rows(
     requires rows { AreRows rows.old.items × (length rows.old.items < 2 ^ 32) }
     requires cells { All CanBeLaid cells.now }
     ensures rows { OnOk result (AreRows rows.new.items × (length rows.new.items < 2 ^ 32)) }
-    ensures world { OnOk result (world_of_rows rows.new.items ≡ lay cells.now (world_of_rows rows.old.items)) }
+    ensures world { OnOk result
+        (world_of_rows rows.new.items ≡ lay cells.now (world_of_rows rows.old.items)) }
 {
     let mut rest = cells;
     while rest.len() > BATCH {

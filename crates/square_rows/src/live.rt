@@ -27,7 +27,8 @@ fn gather(
     requires clear { IsClear (2 ^ level) corner.x corner.y (world_of found.old.entries) }
     ensures kept { OnOk result (AllKept found.new.entries) }
     ensures world { OnOk result (world_of found.new.entries ≡
-        put_square level (square_in rows.now level number) corner.x corner.y (world_of found.old.entries)) }
+        put_square level (square_in rows.now level number) corner.x corner.y
+        (world_of found.old.entries)) }
 {
     if number == 0 {
         return Ok(());

@@ -158,7 +158,8 @@ impl Plane {
 
     /// How many live cells have each state, by state; the first count, that of the state 0, is 0.
     pub fn counts(&self) -> Result<[u128; 256], AllocError>
-        ensures { IfOk result (λ counts. (s : ℕ) → s < 256 → slice_index counts s ≡ count_of self.now s) }
+        ensures { IfOk result (λ counts.
+            (s : ℕ) → s < 256 → slice_index counts s ≡ count_of self.now s) }
     {
         counts(self.alloc, &self.rows)
     }

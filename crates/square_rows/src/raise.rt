@@ -26,7 +26,8 @@ pub fn push_row(rows: &mut Vec<SquareRow>, row: SquareRow) -> Result<u32, AllocE
     requires rows { AreRows rows.old.items }
     requires row { IsRow rows.old.items row }
     ensures { IfOk result (λ n.
-        IsAdded rows.old.items rows.new.items row.level n (square_of rows.old.items (row.level - 1) row.kids)) }
+        IsAdded rows.old.items rows.new.items row.level n
+        (square_of rows.old.items (row.level - 1) row.kids)) }
 {
     if rows.len() >= u32::MAX as usize {
         return Err(AllocError);
@@ -47,7 +48,8 @@ fn push_cornered(
     requires number { IsNumber rows.old.items (level - 1) number }
     requires corner { corner < 4 }
     ensures { IfOk result (λ n.
-        IsAdded rows.old.items rows.new.items level n (cornered (level - 1) corner (square_in rows.old.items (level - 1) number))) }
+        IsAdded rows.old.items rows.new.items level n
+        (cornered (level - 1) corner (square_in rows.old.items (level - 1) number))) }
 {
     let mut kids = [0; 4];
     kids[corner] = number;
