@@ -12,7 +12,7 @@ use std::marker::Model;
 /// A prompt post, which works the job that it holds in the caller's thread, when its answer is
 /// asked for.
 ///
-/// Contracts see its table, its floor and the job that it holds.
+/// Contracts see its table, its floor, the job that it holds, and how many squares a step may keep.
 #[derive(Drop)]
 pub struct InlinePost<'a> {
     entries: &'a Entries,
@@ -33,7 +33,12 @@ impl<'a> Model for InlinePost<'a> {
 
     ghost use Rattle.revision_jobs.specs.Inline.{IsKept};
 
-    ghost view = { λ p. record { table = p.entries.now; floor = p.floor; held = p.held } };
+    ghost view = { λ p. record {
+      table = p.entries.now;
+      floor = p.floor;
+      held = p.held;
+      squares = p.squares;
+    } };
 
     ghost invariant = { λ p. IsKept p.entries.now p.held p.squares };
 }
@@ -42,7 +47,12 @@ impl<'a> InlinePost<'a> {
     /// A post that holds no job. A step may keep at most `squares` squares, 16,777,216 or less.
     pub fn new(alloc: Global, entries: &'a Entries, squares: u32) -> InlinePost<'a>
         requires { squares ≤ 16777216 }
-        ensures { result ≡ record { table = entries.now; floor = 0; held = None } }
+        ensures { result ≡ record {
+          table = entries.now;
+          floor = 0;
+          held = None;
+          squares = squares;
+        } }
     {
         InlinePost {
             entries,

@@ -1,12 +1,12 @@
 //! Working a job.
-ghost use Rattle.std.specs.Prelude.{◌≡◌, ◌≢◌, ◌≤◌, ◌+◌, All, Err, IfOk, Ok};
+ghost use Rattle.std.specs.Prelude.{◌≡◌, ◌≤◌, All, Err, IfOk, Ok};
 ghost use Rattle.std.specs.Arc.{arc_value};
 ghost use Rattle.worlds.specs.Iterate.{iterate};
 ghost use Rattle.worlds.specs.Lay.{lay};
 ghost use Rattle.worlds.specs.Range.{CanBeLaid};
 ghost use Rattle.worlds.specs.Step.{step};
 ghost use Rattle.rule_tree.specs.Rule.{next_of, states_of};
-ghost use Rattle.revision_jobs.specs.Answered.{IsRight, said};
+ghost use Rattle.revision_jobs.specs.Answered.{CountsStop, IsRight, said};
 ghost use Rattle.revision_jobs.specs.Entries.{IsOf, entry_of};
 ghost use Rattle.revision_jobs.specs.Value.{CanBeWorked, CanEvolve, IsStep, value};
 
@@ -43,10 +43,7 @@ pub fn work<G: Gate, S: Stop>(
     ensures room { result.outcome ≡ Err EvolveFault.NoRoom → IsStep (entry_of job.place) }
 
     // It gave up for a stop exactly where the stop said yes.
-    ensures stopped { result.outcome ≡ Err EvolveFault.Stopped →
-        S.yes_count stop.new ≡ S.yes_count stop.old + 1 }
-    ensures went_on { result.outcome ≢ Err EvolveFault.Stopped →
-        S.yes_count stop.new ≡ S.yes_count stop.old }
+    ensures stop { CountsStop result.outcome (S.yes_count stop.old) (S.yes_count stop.new) }
 {
     gate.begin(job.number);
     let outcome = match found(alloc, entries.at(&job.place), stop, limit) {
@@ -68,10 +65,7 @@ fn found<S: Stop>(
     requires limit { limit ≤ 16777216 }
     ensures value { IfOk result (λ outcome. said outcome ≡ Ok (value entry.now)) }
     ensures room { result ≡ Err EvolveFault.NoRoom → IsStep entry.now }
-    ensures stopped { result ≡ Err EvolveFault.Stopped →
-        S.yes_count stop.new ≡ S.yes_count stop.old + 1 }
-    ensures went_on { result ≢ Err EvolveFault.Stopped →
-        S.yes_count stop.new ≡ S.yes_count stop.old }
+    ensures stop { CountsStop result (S.yes_count stop.old) (S.yes_count stop.new) }
 {
     match entry {
         Entry::Step {
@@ -114,10 +108,7 @@ fn later<S: Stop>(
     requires limit { limit ≤ 16777216 }
     ensures plane { IfOk result (λ plane.
         plane ≡ iterate gens (step (next_of rule.now)) (lay cells.now from.now)) }
-    ensures stopped { result ≡ Err EvolveFault.Stopped →
-        S.yes_count stop.new ≡ S.yes_count stop.old + 1 }
-    ensures went_on { result ≢ Err EvolveFault.Stopped →
-        S.yes_count stop.new ≡ S.yes_count stop.old }
+    ensures stop { CountsStop result (S.yes_count stop.old) (S.yes_count stop.new) }
 {
     let laid = Laid::on(from, cells)?;
     let evolved = evolve(alloc, rule, laid.plane(), gens, stop, limit)?;
