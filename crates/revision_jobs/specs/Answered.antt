@@ -11,7 +11,7 @@ use Rattle.revision_jobs.specs.Value.{Value, pattern, text, value}
 -- the value in an outcome, or why there is none
 abbrev pub said : Outcome → Result Value EvolveFault
 said (Plane plane) = Ok (pattern (arc_value plane))
-said (Text bytes) = Ok (text bytes)
+said (Text bytes) = Ok (text (arc_value bytes))
 said (Gave fault) = Err fault
 
 -- a job, and the value that was found for it or why there is none

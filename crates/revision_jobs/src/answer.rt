@@ -5,7 +5,7 @@ ghost use Rattle.revision_jobs.specs.Answered.{IsRight, said};
 use crate::entries::Place;
 use basics::Listing;
 use plane_core::Plane;
-use std::alloc::{AllocError, Global};
+use std::alloc::AllocError;
 use std::marker::Model;
 use std::sync::Arc;
 use step_engine::EvolveFault;
@@ -23,7 +23,7 @@ pub enum Outcome {
     /// The pattern of a step.
     Plane(Arc<Plane>),
     /// The text of a view.
-    Text(Listing<u8>),
+    Text(Arc<Listing<u8>>),
     /// Why there is none: no room, which is said of a step alone, a stop, or want of memory.
     Gave(EvolveFault),
 }
@@ -67,13 +67,13 @@ impl Job {
 }
 
 impl Outcome {
-    // An equal outcome.
-    fn again(&self, alloc: Global) -> Result<Outcome, AllocError>
+    // An equal outcome, which shares what this one has.
+    fn again(&self) -> Result<Outcome, AllocError>
         ensures { IfOk result (λ outcome. said outcome ≡ said self.now) }
     {
         match self {
             Outcome::Plane(plane) => Ok(Outcome::Plane(Arc::try_clone(plane)?)),
-            Outcome::Text(text) => Ok(Outcome::Text(text.copy(alloc)?)),
+            Outcome::Text(text) => Ok(Outcome::Text(Arc::try_clone(text)?)),
             Outcome::Gave(fault) => Ok(Outcome::Gave(*fault)),
         }
     }
@@ -104,13 +104,14 @@ impl Answer {
         (job, outcome)
     }
 
-    /// The same answer once more, unless memory is wanted.
-    pub fn again(&self, alloc: Global) -> Result<Answer, AllocError>
+    /// The same answer once more. It takes no memory: pattern and text are shared, which is refused
+    /// only where no more owners can be counted.
+    pub fn again(&self) -> Result<Answer, AllocError>
         ensures { IfOk result (λ answer. answer ≡ self.now) }
     {
         Ok(Answer {
             job: self.job.again(),
-            outcome: self.outcome.again(alloc)?,
+            outcome: self.outcome.again()?,
         })
     }
 }

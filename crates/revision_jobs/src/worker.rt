@@ -88,7 +88,7 @@ fn found<S: Stop>(
             let laid = Laid::on(from, cells.as_slice())?;
             let plane = laid.plane();
             let text = render(alloc, view, plane, name.as_slice(), *states, *generation)?;
-            Ok(Outcome::Text(Listing::from_vec(text)))
+            Ok(Outcome::Text(shared(alloc, Listing::from_vec(text))?))
         }
     }
 }
@@ -115,8 +115,8 @@ fn later<S: Stop>(
     Ok(evolved.plane)
 }
 
-fn shared(alloc: Global, plane: Plane) -> Result<Arc<Plane>, AllocError>
-    ensures { IfOk result (λ shared. arc_value shared ≡ plane) }
+fn shared<T: Drop>(alloc: Global, value: T) -> Result<Arc<T>, AllocError>
+    ensures { IfOk result (λ shared. arc_value shared ≡ value) }
 {
-    Ok(Arc::new(alloc, plane)?)
+    Ok(Arc::new(alloc, value)?)
 }

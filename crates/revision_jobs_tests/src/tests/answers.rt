@@ -31,7 +31,7 @@ fn plane_in(rt: &impl Abort, answer: Answer) -> Arc<Plane> {
     }
 }
 
-fn text_in(rt: &impl Abort, answer: Answer) -> Listing<u8> {
+fn text_in(rt: &impl Abort, answer: Answer) -> Arc<Listing<u8>> {
     let (_, outcome) = answer.into_parts();
     match outcome {
         Outcome::Text(text) => text,
@@ -120,7 +120,7 @@ fn answers_again(rt: HostRuntime) {
     let entries = table(&rt, alloc);
     let place = push_from_one(&rt, alloc, &entries, 8);
     let answer = worked(alloc, &entries, 7, place.share());
-    let again = answer.again(alloc).expect(&rt, "memory");
+    let again = answer.again().expect(&rt, "memory");
     same(&rt, &again.number(), &7, &"number");
     assert!(rt; entries.same(again.place(), &place));
     let once = plane_in(&rt, answer);
@@ -135,7 +135,7 @@ fn texts_again(rt: HostRuntime) {
     let none = cells_of(&rt, alloc, &[]);
     let place = push_view(&rt, alloc, &entries, View::Counts, from, none, 4);
     let answer = worked(alloc, &entries, 1, place);
-    expect_text(&rt, answer.again(alloc).expect(&rt, "memory"), "1 2\n");
+    expect_text(&rt, answer.again().expect(&rt, "memory"), "1 2\n");
     expect_text(&rt, answer, "1 2\n");
 }
 
@@ -159,8 +159,29 @@ fn gives_up_at_a_raised_flag(rt: HostRuntime) {
     let mut stop = entries.stop(&job.place);
     let answer = work(alloc, job, &entries, &mut NoGate, &mut stop, SQUARES);
     same(&rt, &answer.number(), &3, &"number");
-    expect_gave(&rt, answer.again(alloc).expect(&rt, "memory"), 72);
+    expect_gave(&rt, answer.again().expect(&rt, "memory"), 72);
     expect_gave(&rt, answer, 72);
+}
+
+/// Stops the test where a step far on isn't given up for want of room with so many squares.
+fn expect_no_room<R: Abort + Wait>(rt: &R, alloc: Global, squares: u32)
+    requires { squares ≤ 16777216 }
+{
+    let entries = table(rt, alloc);
+    let place = push_from_one(rt, alloc, &entries, 1 << 60);
+    let job = Job { number: 4, place };
+    let answer = work(alloc, job, &entries, &mut NoGate, &mut NoStop, squares);
+    expect_gave(rt, answer, 71);
+}
+
+// The same step takes no more than `SQUARES` of them.
+#[test]
+fn keeps_to_its_limit(rt: HostRuntime) {
+    let alloc = rt.alloc();
+    expect_no_room(&rt, alloc, 0);
+    expect_no_room(&rt, alloc, 64);
+    let ends = [(-(1 << 60), 1), (1 << 60, 1)];
+    expect_steps(&rt, alloc, 1 << 60, &ends);
 }
 
 /// Notes the numbers with which it was passed, as digits.

@@ -2,6 +2,7 @@ ghost use Rattle.std.specs.Prelude.{◌≡◌};
 ghost use Rattle.revision_jobs.specs.Entries.{IsOf};
 
 use super::{push_from_one, same, table};
+use basics::Refusal;
 use revision_jobs::{Answer, InlinePost, Job, Outcome, Place, Post, Received, Sent};
 use std::process::Abort;
 
@@ -69,4 +70,47 @@ fn holds_one_job(rt: HostRuntime) {
     same(&rt, &received(&rt, &mut post), &None, &"nothing more");
     same(&rt, &sent(&rt, &mut post, 6, place), &None, &"taken next");
     same(&rt, &received(&rt, &mut post), &Some(6), &"answered next");
+}
+
+/// Stops the test where the job that the post holds isn't given up by the refusal of this number.
+fn expect_gave<P: Post>(rt: &impl Abort, post: &mut P, number: u8)
+    ensures { P.table post.new ≡ P.table post.old }
+{
+    let outcome = match post.receive() {
+        Received::Answer(answer) => answer.into_parts().1,
+        Received::Nothing => panic!(rt; "nothing"),
+        Received::Ended => panic!(rt; "ended"),
+    };
+    match outcome {
+        Outcome::Gave(fault) => same(rt, &fault.number(), &number, &"fault"),
+        Outcome::Plane(_) => panic!(rt; "a plane"),
+        Outcome::Text(_) => panic!(rt; "a text"),
+    }
+}
+
+#[test]
+fn stops_a_job_whose_flag_is_raised(rt: HostRuntime) {
+    let alloc = rt.alloc();
+    let entries = table(&rt, alloc);
+    let place = push_from_one(&rt, alloc, &entries, 8);
+    let other = push_from_one(&rt, alloc, &entries, 8);
+    let mut post = InlinePost::new(alloc, &entries, SQUARES);
+    same(&rt, &sent(&rt, &mut post, 0, place.share()), &None, &"sent");
+    entries.raise(&place);
+    expect_gave(&rt, &mut post, 72);
+    same(&rt, &sent(&rt, &mut post, 1, other), &None, &"the other");
+    same(&rt, &received(&rt, &mut post), &Some(1), &"the other");
+}
+
+#[test]
+fn keeps_to_its_squares(rt: HostRuntime) {
+    let alloc = rt.alloc();
+    let entries = table(&rt, alloc);
+    let place = push_from_one(&rt, alloc, &entries, 1 << 60);
+    let mut few = InlinePost::new(alloc, &entries, 64);
+    same(&rt, &sent(&rt, &mut few, 0, place.share()), &None, &"few");
+    expect_gave(&rt, &mut few, 71);
+    let mut enough = InlinePost::new(alloc, &entries, SQUARES);
+    same(&rt, &sent(&rt, &mut enough, 0, place), &None, &"enough");
+    same(&rt, &received(&rt, &mut enough), &Some(0), &"enough");
 }
