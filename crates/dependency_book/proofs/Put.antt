@@ -194,7 +194,8 @@ arrival_put d m g f right there =
     ap (λ (o : Option (Finding World)). if g == 0 then start else o) (value_at-put_other (at_generation m) (at_generation g) f d.arrivals (apart_marks m g miss))
     ∙ sym (cond-false (m == g) f (arrival_row d g) miss))
 
-map_if : {V W : Type 0} (h : V → W) (b : Bool) (f o : Option (Finding V)) → finding_map h (if b then f else o) ≡ (if b then finding_map h f else finding_map h o)
+-- what is made of the one of two that a test picks is the one of what is made of them
+pub map_if : {V W : Type 0} (h : V → W) (b : Bool) (f o : Option (Finding V)) → finding_map h (if b then f else o) ≡ (if b then finding_map h f else finding_map h o)
 map_if h true f o = refl
 map_if h false f o = refl
 

@@ -11,7 +11,7 @@ use Rattle.schedule.specs.Sound.{IsSound}
 use Rattle.revision_jobs.specs.declared.answer.Job.{Job}
 use Rattle.revision_jobs.specs.declared.entries.Place.{Place}
 use Rattle.revision_jobs.specs.Answered.{Answered, IsRight as IsRightAnswer}
-use Rattle.revision_jobs.specs.Entries.{IsOf, entry_of, index_of}
+use Rattle.revision_jobs.specs.Entries.{entry_of, index_of}
 use Rattle.revision_jobs.specs.Value.{Value, pattern, text, value}
 use Rattle.dependency_book.specs.declared.filled.Filled.TheVariants.{Row as Filled_Row}
 use Rattle.dependency_book.specs.declared.finding.Finding.{Finding}
@@ -22,8 +22,7 @@ use Rattle.dependency_book.specs.Findings.{job_of, finding_map, has_number}
 use Rattle.dependency_book.specs.Rows.{ArrivalRow, TextRow, value_at, keys, at_generation, of_id}
 use Rattle.dependency_book.specs.Known.{Known, row_of, expected, wanting_of, bookmark_in}
 use Rattle.dependency_book.specs.Right.{IsRight, AreNumbered, IsArrival, IsScratch}
-use Rattle.dependency_book.specs.Entered.{IsEntryOf}
-use Rattle.dependency_book.specs.Jobs.{is_need, is_job, given_by, answered, cancelled, IsFilled, SameDocument}
+use Rattle.dependency_book.specs.Jobs.{is_need, is_job, given_by, answered, cancelled, IsFilled, IsNextJob, SameDocument}
 use Rattle.dependency_book.specs.Needs.{next_need}
 use Rattle.dependency_book.specs.Puts.{has_row, text_wanted, GivesWanted, MayExpect, MayStand, missing, Puts, filled_by}
 use Rattle.dependency_book.proofs.Marked.{either_way, eq_true, eq_false, has}
@@ -239,11 +238,11 @@ pub raised_document : (old new : Known) → SameDocument (raised old) new → Sa
 raised_document old new same = record { table = same.table; plan = same.plan; marks = same.marks; bookmarks = same.bookmarks }
 
 -- the job may be expected in it
-pub may_expect : (d : Known) (need : Need) (job : Job) → IsSound d.plan → IsRight d → next_need d ≡ Some need → IsOf d.table job.place → IsEntryOf d need (entry_of job.place) → job.number ≡ d.given → MayExpect (raised d) need job
-may_expect d need job sound right next own is number = record {
-  right = record { own = own; gives = entry_gives d need (entry_of job.place) sound right next is };
-  given = omega (arith, number);
-  fresh = λ other. below_none (expected d other) job.number (λ j out. let low : j.number < d.given = right.numbered.given other j out in omega (arith, low, number));
+pub may_expect : (d : Known) (need : Need) (job : Job) → IsSound d.plan → IsRight d → IsNextJob d need job → MayExpect (raised d) need job
+may_expect d need job sound right next = record {
+  right = record { own = next.own; gives = entry_gives d need (entry_of job.place) sound right next.next next.entry };
+  given = let number = next.number in omega (arith, number);
+  fresh = λ other. below_none (expected d other) job.number (λ j out. let low : j.number < d.given = right.numbered.given other j out in let number = next.number in omega (arith, low, number));
 }
   where
     below_none : (o : Option Job) (n : ℕ) → ((j : Job) → o ≡ Some j → j.number < n) → has_number n o ≡ false

@@ -1,11 +1,11 @@
 -- What jobs and their answers change in the rows of a book.
-use Rattle.std.specs.Prelude.{◌≡◌, ℕ, ◌≤◌, Bool, false, ◌&&◌, Option, None, Some, IfSome, Result, Ok, Err, length, if◌then◌else◌, ◌==◌, true}
+use Rattle.std.specs.Prelude.{◌≡◌, ℕ, ◌≤◌, ◌<◌, Bool, false, ◌&&◌, Option, None, Some, IfSome, Result, Ok, Err, length, if◌then◌else◌, ◌==◌, true}
 use Rattle.std.specs.Result.{IsOk}
 use Rattle.step_engine.specs.declared.evolved.EvolveFault.{EvolveFault}
 use Rattle.revision_jobs.specs.declared.answer.Job.{Job}
 use Rattle.revision_jobs.specs.declared.entries.Place.{Place}
 use Rattle.revision_jobs.specs.Answered.{Answered}
-use Rattle.revision_jobs.specs.Entries.{IsOf, index_of}
+use Rattle.revision_jobs.specs.Entries.{IsOf, entry_of, index_of}
 use Rattle.revision_jobs.specs.Value.{Value}
 use Rattle.dependency_book.specs.declared.filled.Filled.{Filled}
 use Rattle.dependency_book.specs.declared.filled.Filled.TheVariants.{Row, Released, NotExpected}
@@ -13,8 +13,10 @@ use Rattle.dependency_book.specs.declared.finding.Finding.{Finding}
 use Rattle.dependency_book.specs.declared.finding.Finding.TheVariants.{Expected, Found}
 use Rattle.dependency_book.specs.declared.need.Need.{Need}
 use Rattle.dependency_book.specs.declared.need.Need.TheVariants.{Step, View}
+use Rattle.dependency_book.specs.Entered.{IsEntryOf}
 use Rattle.dependency_book.specs.Findings.{job_of, has_number}
 use Rattle.dependency_book.specs.Known.{Known, expected}
+use Rattle.dependency_book.specs.Needs.{next_need}
 
 -- whether two needs are one
 abbrev pub is_need : Need → Need → Bool
@@ -44,6 +46,14 @@ cancelled number row = if has_number number (job_of row) then None else row
 -- what stands in another row, or in the same, after a job was issued for a need
 abbrev pub issued : Need → Job → Need → Option (Finding Value) → Option (Finding Value)
 issued need job other row = if is_need need other then Some (Expected job) else row
+
+-- a job for what is needed next: its entry, in the table, is what is to be computed for that row, and its number is the next that is given, below 16,777,216
+pub record IsNextJob (d : Known) (need : Need) (job : Job) : Type 0 where
+  pub next : next_need d ≡ Some need
+  pub own : IsOf d.table job.place
+  pub entry : IsEntryOf d need (entry_of job.place)
+  pub number : job.number ≡ d.given
+  pub few : job.number < 16777216
 
 -- a row expects the job
 abbrev pub IsExpected : Known → Job → Type 0

@@ -1,16 +1,14 @@
 //! Jobs for the rows of a book, and what their answers change.
-ghost use Rattle.std.specs.Prelude.{◌≡◌, ◌+◌, ◌<◌, ℕ, MatchOption, IfSome, None, Some, true, false};
+ghost use Rattle.std.specs.Prelude.{◌≡◌, ◌+◌, ℕ, MatchOption, IfSome, None, Some, true, false};
 ghost use Rattle.std.specs.Arc.{arc_value};
 ghost use Rattle.revision_jobs.specs.Answered.{said};
-ghost use Rattle.revision_jobs.specs.Entries.{IsOf, entry_of};
+ghost use Rattle.revision_jobs.specs.Entries.{IsOf};
 ghost use Rattle.revision_jobs.specs.Value.{pattern, text};
 ghost use Rattle.dependency_book.specs.declared.finding.Finding.TheVariants.{Found};
-ghost use Rattle.dependency_book.specs.Entered.{IsEntryOf};
 ghost use Rattle.dependency_book.specs.Findings.{has_number, finding_map};
 ghost use Rattle.dependency_book.specs.Jobs.{issued, answered, cancelled, given_by};
-ghost use Rattle.dependency_book.specs.Jobs.{IsFilled, IsForgotten, IsFirstOut, SameBook, SameDocument};
+ghost use Rattle.dependency_book.specs.Jobs.{IsFilled, IsFirstOut, IsForgotten, IsNextJob, SameBook, SameDocument};
 ghost use Rattle.dependency_book.specs.Known.{row_of, expected, wanting_of};
-ghost use Rattle.dependency_book.specs.Needs.{next_need};
 ghost use Rattle.dependency_book.specs.Right.{AreNumbered};
 ghost use Rattle.dependency_book.specs.Puts.{MayStand, Puts, filled_by, has_row};
 
@@ -20,6 +18,7 @@ use crate::filled::Filled;
 use crate::finding::{Finding, least_out, lesser, row_for};
 use crate::marks::put_arrival;
 use crate::need::Need;
+use crate::text::Text;
 use crate::texts::put_text;
 use revision_jobs::{Answer, Job, Outcome, Place};
 use schedule::{Listing, Plane};
@@ -36,10 +35,7 @@ impl Book<'_> {
     /// Notes that a job is out for what is needed next. Its number is the next that is given, which
     /// is below 16,777,216, and its entry is what is to be computed for the row.
     pub fn expect(&mut self, need: &Need, job: Job)
-        requires next { next_need self.old ≡ Some need.now }
-        requires own { IsOf self.old.table job.place }
-        requires entry { IsEntryOf self.old need.now (entry_of job.place) }
-        requires number { (job.number ≡ self.old.given) × (job.number < 16777216) }
+        requires { IsNextJob self.old need.now job }
         ensures rows { (other : Need) →
             row_of self.new other ≡ issued need.now job other (row_of self.old other) }
         ensures document { SameDocument self.old self.new }
@@ -149,15 +145,15 @@ impl Book<'_> {
     }
 
     // Puts a text in the row of a need, which is a view.
-    fn put_bytes(&mut self, need: Need, bytes: Listing<u8>)
+    fn put_bytes(&mut self, need: Need, bytes: Arc<Listing<u8>>)
         requires there { has_row self.old need ≡ true }
-        requires right { MayStand self.old need (Some (Found (text bytes))) }
-        ensures { Puts need (Some (Found (text bytes))) self.old self.new }
+        requires right { MayStand self.old need (Some (Found (text (arc_value bytes)))) }
+        ensures { Puts need (Some (Found (text (arc_value bytes)))) self.old self.new }
     {
         let Need::View { id } = need else {
             unreachable!("a step has a pattern")
         };
-        self.put_text(id, Some(Finding::Found(bytes)));
+        self.put_text(id, Some(Finding::Found(Text::of(bytes))));
     }
 
     // Expects nothing in the row of a need any more.
@@ -181,7 +177,7 @@ impl Book<'_> {
     }
 
     // Puts what is known, or out, in the row of a bookmark.
-    fn put_text(&mut self, id: u64, finding: Option<Finding<Listing<u8>>>)
+    fn put_text(&mut self, id: u64, finding: Option<Finding<Text>>)
         requires there { has_row self.old (Need.View id) ≡ true }
         requires right { MayStand self.old (Need.View id) (finding_map text finding) }
         ensures { Puts (Need.View id) (finding_map text finding) self.old self.new }

@@ -26,6 +26,7 @@ mod need;
 mod revise;
 mod row;
 mod shown;
+mod text;
 mod texts;
 mod touch;
 

@@ -6,10 +6,11 @@ ghost use Rattle.dependency_book.specs.Rearranged.{at_or_above, rows_before, mov
 
 use crate::finding::{Finding, is_found};
 use crate::row::Row;
-use schedule::{Bookmark, Listing};
+use crate::text::Text;
+use schedule::Bookmark;
 
 /// A bookmark with its text, or the job that is out for it.
-pub(crate) type TextRow = Row<Bookmark, Listing<u8>>;
+pub(crate) type TextRow = Row<Bookmark, Text>;
 
 /// How many rows stand before the one of an id.
 pub(crate) fn place_of(rows: &[TextRow], id: u64) -> usize
@@ -24,7 +25,7 @@ pub(crate) fn place_of(rows: &[TextRow], id: u64) -> usize
 }
 
 /// Puts what is known, or out, in the row of a bookmark.
-pub(crate) fn put_text(rows: &mut [TextRow], id: u64, finding: Option<Finding<Listing<u8>>>)
+pub(crate) fn put_text(rows: &mut [TextRow], id: u64, finding: Option<Finding<Text>>)
     ensures { rows.new ≡ put (of_id id) finding rows.old }
 {
     for row in rows.iter_mut() {

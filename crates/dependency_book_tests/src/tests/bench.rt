@@ -226,7 +226,7 @@ impl<'e> Bench<'e> {
     // Where memory is wanted the row is needed still.
     fn fill(&mut self, rt: &impl Abort, wanted: &Filled) {
         let last = self.last.as_ref().expect(rt, "an answer");
-        let answer = last.again(self.alloc).expect(rt, "memory");
+        let answer = last.again().expect(rt, "memory");
         let filled = self.book.fill(answer);
         if filled == Filled::Released(EvolveFault::NoMemory) {
             assert!(rt; self.book.next_need().is_some(), "still needed");
