@@ -1,5 +1,5 @@
 -- What each call makes of a desk is what its event does.
-use Rattle.std.proofs.Common.{◌≡◌, ℕ, ◌+◌, ◌∙◌, Bool, true, false, ◌&&◌, refl, sym, ap, List, Option, None, Some, Result, Ok, Err}
+use Rattle.std.proofs.Common.{◌≡◌, ℕ, ◌+◌, ◌∙◌, ◌&&◌, refl, sym, ap, List, Option, None, Some, Result, Ok, Err}
 use Rattle.std.specs.Prelude.{if◌then◌else◌, ◌==◌, IfOk, OnOk}
 use Rattle.std.proofs.Math.Path.{fun_ext}
 use Rattle.worlds.specs.World.{World}
@@ -21,6 +21,7 @@ use Rattle.dependency_book.specs.Jobs.{issued, answered, cancelled, SameBook}
 use Rattle.dependency_book.specs.Kept.{KeepsRows, keeps_arrival, keeps_text, text_kept}
 use Rattle.dependency_book.specs.Known.{Known, arrival_row, text_row, row_of, bookmark_in}
 use Rattle.dependency_book.specs.Marks.{is_noted}
+use Rattle.dependency_book.proofs.Put.{map_if}
 use Rattle.desk_core.specs.Events.{Core, core_of, kept_row, after_edit, after_event, edits, issues, collects, cancels}
 
 abbrev core : Plan → ℕ → (Need → Option (Finding Value)) → Core
@@ -43,10 +44,6 @@ pub issues-core : (old new : Known) (need : Need) (job : Job) → job.number ≡
 issues-core old new need job number plan given rows =
     same_core new.plan old.plan new.given (old.given + 1) (λ other. row_of new other) (λ other. issued need (record { number = old.given; place = job.place }) other (row_of old other)) plan given
     (λ other. rows other ∙ ap (λ j. issued need j other (row_of old other)) (job_of_number job old.given number))
-
-map_if : {V W : Type 0} (h : V → W) (b : Bool) (f o : Option (Finding V)) → finding_map h (if b then f else o) ≡ (if b then finding_map h f else finding_map h o)
-map_if h true f o = refl
-map_if h false f o = refl
 
 map_kept : (p : Plan) (asked : Asked) (o : Option Bookmark) (row : Option (Finding (List ℕ))) → finding_map text (text_kept p asked o row) ≡ text_kept p asked o (finding_map text row)
 map_kept p asked None row = refl

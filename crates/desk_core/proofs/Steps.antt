@@ -15,7 +15,7 @@ use Rattle.desk_core.specs.declared.collect.Collected.TheVariants.{Accepted, Rel
 use Rattle.desk_core.specs.Collected.{IsCollected}
 use Rattle.desk_core.specs.Course.{CanBeSent, Cancels, Fits, GivesUp, GoesOnBy, IsAtHand}
 use Rattle.desk_core.specs.Issued.{IssuesFor}
-use Rattle.desk_core.specs.Shown.{IsHeld, Settles, rows_of}
+use Rattle.desk_core.specs.Shown.{IsHeld, Serves, Settles, rows_of}
 use Rattle.desk_core.proofs.Out.{IsAtHand-cancelled, IsHeld-at_hand}
 use Rattle.desk_core.proofs.Texts.{KeepsTexts-same, KeepsTexts-on, KeepsTexts-issued, KeepsTexts-answered, KeepsTexts-cancelled}
 
@@ -88,8 +88,10 @@ sent_on old new floor (Some job) same h = record {
 
 pub Fits-book : (old new : Known) (entries : Entries) (floor : ℕ) (hand : Option Job) → SameBook old new → Fits old entries floor hand → Fits new entries floor hand
 Fits-book old new entries floor hand same h = record {
-  table = let e = h.table in let f = same.document.table in cc;
-  numbers = omega (arith, h.numbers, same.given);
+  serves = record {
+    table = h.serves.table ∙ sym same.document.table;
+    numbers = let least = h.serves.numbers in omega (arith, least, same.given);
+  };
   hand = sent_on old new floor hand same h.hand;
 }
 
@@ -114,11 +116,15 @@ module _ (first mid last : Known) (hand : Option Job) (cause : Option Cause) (go
     table = whole.document.table;
   }
 
-  pub table-whole : (before after : Entries) → before ≡ first.table → after ≡ mid.table → after ≡ before
-  table-whole before after was is = is ∙ goes.document.table ∙ sym was
-
-  pub numbers-whole : (floor : ℕ) → floor ≤ mid.given → floor ≤ last.given
-  numbers-whole floor h = let k = (GoesOnBy-given_up hand mid last cause given_up).given in omega arith
+  pub serves-whole : (entries : Entries) (floor : ℕ) → Serves mid entries floor → Serves last entries floor
+  serves-whole entries floor h =
+      let end = GoesOnBy-given_up hand mid last cause given_up in
+      let least = h.numbers in
+      let more = end.given in
+      record {
+        table = h.table ∙ sym end.document.table;
+        numbers = omega (arith, least, more);
+      }
 
   pub enough-whole : length last.arrivals + length last.texts ≤ 12288 → 4 * rows_of first ≤ 1000000
   enough-whole few = let marks = whole.document.marks in let bookmarks = whole.document.bookmarks in omega arith

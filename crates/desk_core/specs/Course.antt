@@ -12,6 +12,7 @@ use Rattle.desk_core.specs.declared.course.Outlook.{Outlook}
 use Rattle.desk_core.specs.declared.course.Outlook.TheVariants.{GoesOn, Ends}
 use Rattle.desk_core.specs.declared.hand.Hand.{Hand}
 use Rattle.desk_core.specs.declared.hand.Hand.TheVariants.{Empty, Ready, Waiting}
+use Rattle.desk_core.specs.Shown.{Serves}
 
 -- the job in hand, if there is one
 abbrev pub job_in : Hand → Option Job
@@ -35,10 +36,9 @@ pub record CanBeSent (d : Known) (floor : ℕ) (job : Job) : Type 0 where
   pub rises : floor ≤ job.number
   pub given : job.number < d.given
 
--- the post is of the desk's table, no number that it took is still to be given, and what is in hand can be sent to it
+-- the post serves the desk, and what is in hand can be sent to it
 pub record Fits (d : Known) (entries : Entries) (floor : ℕ) (job : Option Job) : Type 0 where
-  pub table : entries ≡ d.table
-  pub numbers : floor ≤ d.given
+  pub serves : Serves d entries floor
   pub hand : IfSome job (CanBeSent d floor)
 
 -- each job that is out is in hand or held by the post

@@ -1,23 +1,18 @@
 -- What issuing a job does.
 use Rattle.std.specs.Prelude.{◌≡◌, ◌≢◌, ◌+◌, ◌<◌, ◌≤◌, ⊤, Option, None, Some}
 use Rattle.revision_jobs.specs.declared.answer.Job.{Job}
-use Rattle.revision_jobs.specs.Entries.{IsOf, entry_of}
 use Rattle.dependency_book.specs.declared.need.Need.{Need}
-use Rattle.dependency_book.specs.Entered.{IsEntryOf}
-use Rattle.dependency_book.specs.Jobs.{issued, SameDocument}
+use Rattle.dependency_book.specs.Jobs.{issued, IsNextJob, SameDocument}
 use Rattle.dependency_book.specs.Known.{Known, row_of, wanting_of, pending_of, NothingOut}
 use Rattle.dependency_book.specs.Needs.{next_need}
 use Rattle.desk_core.specs.Events.{core_of, after_event, issues}
 use Rattle.desk_core.specs.declared.issue.IssueFault.{IssueFault}
 use Rattle.desk_core.specs.declared.issue.IssueFault.TheVariants.{NumbersSpent, NoMemory}
 
--- a job of the next number for what is needed next: its entry is what is to be computed for that row, in which nothing stood, the row expects it, and no other row changes
+-- the next job is that of this row, in which nothing stood; the row expects it, and no other row changes
 pub record IssuesFor (old new : Known) (job : Job) (need : Need) : Type 0 where
-  pub next : next_need old ≡ Some need
+  pub next : IsNextJob old need job
   pub empty : row_of old need ≡ None
-  pub number : job.number ≡ old.given
-  pub own : IsOf old.table job.place
-  pub entry : IsEntryOf old need (entry_of job.place)
   pub rows : (other : Need) → row_of new other ≡ issued need job other (row_of old other)
   pub document : SameDocument old new
   pub given : new.given ≡ old.given + 1

@@ -1,6 +1,7 @@
 -- What a desk shows, and how settling ends.
 use Rattle.std.specs.Prelude.{◌≡◌, ℕ, ◌+◌, ◌<◌, ◌≤◌, length, Option, Some, IsSome, ⊤}
 use Rattle.revision_jobs.specs.declared.answer.Job.{Job}
+use Rattle.revision_jobs.specs.declared.entries.Entries.{Entries}
 use Rattle.dependency_book.specs.declared.need.Need.{Need}
 use Rattle.desk_core.specs.Rows.{Known, pending_of, expected, KeepsTexts}
 use Rattle.desk_core.specs.declared.shown.Settling.{Settling}
@@ -16,6 +17,11 @@ Ends d (Unsettled pending cause) = (pending ≡ pending_of d) × (0 < pending) �
 abbrev pub HasCause : Settling → Type 0
 HasCause Settled = ⊤
 HasCause (Unsettled pending cause) = IsSome cause
+
+-- a post serves a desk: it is of the desk's table, and no number that it took is still to be given
+pub record Serves (d : Known) (entries : Entries) (floor : ℕ) : Type 0 where
+  pub table : entries ≡ d.table
+  pub numbers : floor ≤ d.given
 
 -- each job that is out is the one that a post holds
 abbrev pub IsHeld : Option Job → Known → Type 0

@@ -1,6 +1,6 @@
 //! Settling: issuing, sending and collecting until every bookmark is current.
 ghost use Rattle.std.specs.Prelude.{◌≡◌, ◌≤◌, ◌*◌, true};
-ghost use Rattle.desk_core.specs.Shown.{Ends, HasCause, IsHeld, Settles, rows_of};
+ghost use Rattle.desk_core.specs.Shown.{Ends, HasCause, IsHeld, Serves, Settles, rows_of};
 
 use crate::course::Course;
 use crate::desk::Desk;
@@ -16,16 +16,13 @@ use std::sync::Wait;
 /// Over a prompt post that holds whatever is out, four turns for each mark and bookmark are always
 /// enough: it settles, or tells a cause. So are 1,000,000. It may wait where the post does.
 pub fn settle<P: Post>(rt: &impl Wait, desk: &mut Desk<'_>, post: &mut P, turns: u32) -> Settling
-    requires own { P.table post.old ≡ desk.old.table }
-    requires numbers { P.floor post.old ≤ desk.old.given }
+    requires { Serves desk.old (P.table post.old) (P.floor post.old) }
     ensures ends { Ends desk.new result }
     ensures settles { Settles desk.old desk.new }
-    ensures post { (P.table post.new ≡ P.table post.old) × (P.floor post.new ≤ desk.new.given)
+    ensures post { Serves desk.new (P.table post.new) (P.floor post.new)
         × (P.is_prompt post.new ≡ P.is_prompt post.old) }
-    ensures held { P.is_prompt post.old ≡ true → IsHeld (P.held post.old) desk.old
-        → IsHeld (P.held post.new) desk.new }
-    ensures prompt { P.is_prompt post.old ≡ true → IsHeld (P.held post.old) desk.old
-        → 4 * rows_of desk.old ≤ turns → HasCause result }
+    ensures prompt { P.is_prompt post.old ≡ true → IsHeld (P.held post.old) desk.old →
+        IsHeld (P.held post.new) desk.new × (4 * rows_of desk.old ≤ turns → HasCause result) }
     ensures enough { 4 * rows_of desk.old ≤ 1000000 }
 {
     let Course { hand, cause } = Course::run(rt, desk, post, turns);
