@@ -260,52 +260,17 @@ fn edits_forget_what_they_touch(rt: HostRuntime) {
     let entries = table(&rt, alloc);
     let mut desk = desk_of_x(&rt, alloc, &entries);
     edit(&rt, &mut desk, &mark(2));
-    check_edit(
-        &rt,
-        alloc,
-        &mut desk,
-        &entries,
-        &set(&rt, alloc, &[]),
-        1,
-        "1 2\n",
-    );
-    check_edit(
-        &rt,
-        alloc,
-        &mut desk,
-        &entries,
-        &set(&rt, alloc, &[(100, 0, 1)]),
-        1,
-        "1 4\n",
-    );
+    let change = set(&rt, alloc, &[]);
+    check_edit(&rt, alloc, &mut desk, &entries, &change, 1, "1 2\n");
+    let change = set(&rt, alloc, &[(100, 0, 1)]);
+    check_edit(&rt, alloc, &mut desk, &entries, &change, 1, "1 4\n");
     check_edit(&rt, alloc, &mut desk, &entries, &mark(3), 1, "1 4\n");
-    check_edit(
-        &rt,
-        alloc,
-        &mut desk,
-        &entries,
-        &rule_x(&rt, alloc),
-        2,
-        "1 4\n",
-    );
-    check_edit(
-        &rt,
-        alloc,
-        &mut desk,
-        &entries,
-        &insert(&rt, alloc, 3),
-        1,
-        "1 4\n",
-    );
-    check_edit(
-        &rt,
-        alloc,
-        &mut desk,
-        &entries,
-        &set(&rt, alloc, &[(0, 0, 0)]),
-        2,
-        "1 2\n",
-    );
+    let change = rule_x(&rt, alloc);
+    check_edit(&rt, alloc, &mut desk, &entries, &change, 2, "1 4\n");
+    let change = insert(&rt, alloc, 3);
+    check_edit(&rt, alloc, &mut desk, &entries, &change, 1, "1 4\n");
+    let change = set(&rt, alloc, &[(0, 0, 0)]);
+    check_edit(&rt, alloc, &mut desk, &entries, &change, 2, "1 2\n");
 }
 
 fn check_refused(rt: &impl Abort, desk: &mut Desk, refused: &Edit, fault: EditFault, pending: u32)

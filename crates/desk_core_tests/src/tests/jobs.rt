@@ -4,7 +4,8 @@ ghost use Rattle.revision_jobs.specs.Entries.{IsOf};
 
 use super::{SQUARES, desk_of_x, edit, expect_pending, expect_text, insert, mark, same, table};
 use desk_core::{
-    Answer, Collected, Desk, Edit, Entries, Entry, EvolveFault, Job, NoGate, Place, Shown, work,
+    Answer, Collected, Desk, Edit, Entries, Entry, EvolveFault, Job, NoGate, Outcome, Place, Shown,
+    work,
 };
 use std::alloc::Global;
 use std::process::Abort;
@@ -70,6 +71,16 @@ fn stale(number: u32, revision: u64) -> Collected {
     Collected::Stale { number, revision }
 }
 
+/// Stops the test where the job of the answer wasn't given up for a stop.
+fn expect_stopped(rt: &impl Abort, answer: Answer) {
+    let (_, outcome) = answer.into_parts();
+    match outcome {
+        Outcome::Gave(fault) => same(rt, &fault, &EvolveFault::Stopped, &"fault"),
+        Outcome::Plane(_) => panic!(rt; "a plane"),
+        Outcome::Text(_) => panic!(rt; "a text"),
+    }
+}
+
 #[test]
 fn touched_row_expects_nothing(rt: HostRuntime) {
     let alloc = rt.alloc();
@@ -92,7 +103,7 @@ fn kept_row_takes_a_late_answer_once(rt: HostRuntime) {
     edit(&rt, &mut desk, &mark(4));
     same(&rt, &desk.first_out(), &Some(0), &"still out");
     let once = worked(alloc, &entries, job);
-    let twice = once.again(alloc).expect(&rt, "memory");
+    let twice = once.again().expect(&rt, "memory");
     same(&rt, &desk.collect(once), &Collected::Accepted, &"once");
     same(&rt, &desk.collect(twice), &stale(0, 4), &"twice");
     let view = issue(&rt, &mut desk);
@@ -129,8 +140,13 @@ fn cancelled_job_is_stale(rt: HostRuntime) {
     assert!(&rt; !desk.cancel(0), "it was cancelled");
     same(&rt, &desk.first_out(), &None, &"cancelled");
     let answer = worked(alloc, &entries, job);
+    // Whoever works it is asked to stop.
+    expect_stopped(&rt, answer.again().expect(&rt, "memory"));
     same(&rt, &desk.collect(answer), &stale(0, 3), &"cancelled");
-    issue_step(&rt, &mut desk, &entries, 1);
+    // Nobody is asked to stop the job that is issued in its place.
+    let next = issue_step(&rt, &mut desk, &entries, 1);
+    let answer = worked(alloc, &entries, next);
+    same(&rt, &desk.collect(answer), &Collected::Accepted, &"next");
 }
 
 #[test]

@@ -1,8 +1,11 @@
-//! Settling over posts that lose jobs or find too little room.
+//! Settling over posts that lose jobs, take none, or find too little room.
 ghost use Rattle.std.specs.Prelude.{◌≡◌};
 
 use super::{SQUARES, TURNS, desk_of_x, edit, expect_text, mark, same, settle, table};
 use desk_core::{Cause, Entries, InlinePost, Job, Post, Received, Sent, Settling};
+use std::alloc::Global;
+use std::process::Abort;
+use std::sync::Wait;
 
 /// A post that takes every job and never answers one.
 #[derive(Drop)]
@@ -34,6 +37,68 @@ impl<'a> Post for LosingPost<'a> {
     fn floor(&self) -> u64 {
         self.floor
     }
+}
+
+/// A post that takes no job: it is closed, or holds as many as it may.
+#[derive(Drop)]
+struct RefusingPost<'a> {
+    entries: &'a Entries,
+    is_closed: bool,
+}
+
+impl<'a> Post for RefusingPost<'a> {
+    ghost use Rattle.std.specs.Prelude.{false, None};
+
+    ghost table = { λ post. post.entries.now };
+
+    ghost floor = { λ _. 0 };
+
+    ghost is_prompt = { λ _. false };
+
+    ghost held = { λ _. None };
+
+    fn send(&mut self, job: Job) -> Sent {
+        if self.is_closed {
+            Sent::Closed(job)
+        } else {
+            Sent::Full(job)
+        }
+    }
+
+    fn receive(&mut self) -> Received {
+        Received::Nothing
+    }
+
+    fn floor(&self) -> u64 {
+        0
+    }
+}
+
+/// Stops the test where a settling whose job is never taken leaves it out.
+fn check_refused<R: Abort + Wait>(rt: &R, alloc: Global, is_closed: bool, turns: u32) {
+    let entries = table(rt, alloc);
+    let mut desk = desk_of_x(rt, alloc, &entries);
+    edit(rt, &mut desk, &mark(8));
+    let mut post = RefusingPost {
+        entries: &entries,
+        is_closed,
+    };
+    let left = desk_core::settle(rt, &mut desk, &mut post, turns);
+    let unsettled = Settling::Unsettled {
+        pending: 1,
+        cause: None,
+    };
+    same(rt, &left, &unsettled, &turns);
+    same(rt, &desk.first_out(), &None, &turns);
+    same(rt, &desk.given(), &1, &turns);
+}
+
+#[test]
+fn refused_job_is_cancelled(rt: HostRuntime) {
+    let alloc = rt.alloc();
+    check_refused(&rt, alloc, true, TURNS);
+    check_refused(&rt, alloc, false, 1);
+    check_refused(&rt, alloc, false, 2);
 }
 
 #[test]
