@@ -6,7 +6,6 @@ use Rattle.std.proofs.lemmas.List.{drop_all}
 use Rattle.dependency_book.specs.declared.finding.Finding.{Finding}
 use Rattle.dependency_book.specs.declared.row.Row.{Row}
 use Rattle.dependency_book.specs.Rows.{put}
-use Rattle.dependency_book.proofs.Marked.{either_way}
 use Rattle.dependency_book.proofs.Put.{length-put}
 
 -- the first k rows don't fit

@@ -3,16 +3,20 @@ use Rattle.std.proofs.Common.{◌≡◌, ℕ, ◌+◌, ◌<◌, ◌∙◌, Bool,
 use Rattle.std.specs.Prelude.{◌==◌}
 use Rattle.std.specs.List.{list_any}
 use Rattle.std.proofs.lemmas.Bool.{cond-true, cond-false, and_from}
+use Rattle.std.proofs.lemmas.Bool.Decides.{nat_tests}
 use Rattle.worlds.specs.World.{World}
 use Rattle.step_engine.specs.declared.evolved.EvolveFault.{EvolveFault}
 use Rattle.schedule.specs.declared.document.Bookmark.{Bookmark}
+use Rattle.schedule.specs.Plan.{Plan}
 use Rattle.schedule.specs.Scratch.{arrival}
 use Rattle.schedule.specs.Sound.{IsSound}
 use Rattle.revision_jobs.specs.declared.answer.Job.{Job}
 use Rattle.revision_jobs.specs.declared.entries.Place.{Place}
+use Rattle.revision_jobs.specs.declared.entry.Entry.{Entry}
+use Rattle.revision_jobs.specs.declared.entry.Entry.TheVariants as entry
 use Rattle.revision_jobs.specs.Answered.{Answered, IsRight as IsRightAnswer}
 use Rattle.revision_jobs.specs.Entries.{entry_of, index_of}
-use Rattle.revision_jobs.specs.Value.{Value, pattern, text, value}
+use Rattle.revision_jobs.specs.Value.{Value, IsStep, pattern, text, value}
 use Rattle.dependency_book.specs.declared.filled.Filled.TheVariants.{Row as Filled_Row}
 use Rattle.dependency_book.specs.declared.finding.Finding.{Finding}
 use Rattle.dependency_book.specs.declared.finding.Finding.TheVariants.{Expected, Found}
@@ -22,7 +26,7 @@ use Rattle.dependency_book.specs.Findings.{job_of, finding_map, has_number}
 use Rattle.dependency_book.specs.Rows.{ArrivalRow, TextRow, value_at, keys, at_generation, of_id}
 use Rattle.dependency_book.specs.Known.{Known, row_of, expected, wanting_of, bookmark_in}
 use Rattle.dependency_book.specs.Right.{IsRight, AreNumbered, IsArrival, IsScratch}
-use Rattle.dependency_book.specs.Jobs.{is_need, is_job, given_by, answered, cancelled, IsFilled, IsNextJob, SameDocument}
+use Rattle.dependency_book.specs.Jobs.{is_need, is_job, given_by, answered, cancelled, IsFilled, IsNextJob, SameDocument, StepExpects}
 use Rattle.dependency_book.specs.Needs.{next_need}
 use Rattle.dependency_book.specs.Puts.{has_row, text_wanted, GivesWanted, MayExpect, MayStand, missing, Puts, filled_by}
 use Rattle.dependency_book.proofs.Marked.{either_way, eq_true, eq_false, has}
@@ -115,11 +119,37 @@ pub gives_wanted : (d : Known) (need : Need) (place : Place) (job : Job) (outcom
 gives_wanted d need place job (Err fault) right out same h = tt
 gives_wanted d need place job (Ok v) right out same h =
     let g = expected_gives d need (record { number = job.number; place = place }) right out in
-    g.gives ∙ ap (λ e. Some (value e)) same ∙ ap (λ x. Some x) (sym h)
+    g.gives ∙ ap (λ e. Some (value e)) same ∙ ap (λ x. Some x) (sym h.0)
 
-pub filled_is : (d : Known) (need : Need) (place : Place) (job : Job) (outcome : Result Value EvolveFault) → expected d need ≡ numbered job.number place → index_of place ≡ index_of job.place → IsFilled d (record { job = job; outcome = outcome }) (filled_by outcome)
-filled_is d need place job (Ok v) out same = ((need, is_the_job d need place job out same), refl)
-filled_is d need place job (Err fault) out same = ((need, is_the_job d need place job out same), refl)
+-- a text is no value of a step
+text_no_step : (p : Plan) (b : Option Bookmark) (e : Entry) → text_wanted p b ≡ Some (value e) → IsStep e → ⊥
+text_no_step p None e h is = absurd cc
+text_no_step p (Some b) (entry.Step rule from cells gens) h is = absurd cc
+text_no_step p (Some b) (entry.View view from cells name states generation) h is = is
+
+-- only a row of a step expects a job whose entry is a step
+step_expects : (d : Known) (need : Need) (place : Place) (job : Job) → IsRight d → expected d need ≡ numbered job.number place → is_job job (expected d need) ≡ true → IsStep (entry_of place) → StepExpects d job
+step_expects d (Step g) place job right out row is = record {
+  mark = g;
+  above = above;
+  noted = sym (right.arrivals.marks g above) ∙ expected_row d (Step g) (record { number = job.number; place = place }) out;
+  row = row;
+}
+  where
+    above : 0 < g
+    above = either_way (g == 0)
+        (λ hit. let clash = sym (none_at d g hit) ∙ out in absurd cc)
+        (λ miss. grind (arith, nat_tests, miss))
+step_expects d (View id) place job right out row is =
+    let g = expected_gives d (View id) (record { number = job.number; place = place }) right out in
+    absurd (text_no_step d.plan (bookmark_in d.plan.bookmarks id) (entry_of place) g.gives is)
+
+pub filled_is : (d : Known) (need : Need) (place : Place) (job : Job) (outcome : Result Value EvolveFault) → IsRight d → expected d need ≡ numbered job.number place → index_of place ≡ index_of job.place → entry_of place ≡ entry_of job.place → IsRightAnswer job outcome
+    → IsFilled d (record { job = job; outcome = outcome }) (filled_by outcome)
+filled_is d need place job (Ok v) right out same entry h = ((need, is_the_job d need place job out same), refl)
+filled_is d need place job (Err fault) right out same entry h =
+    let row = is_the_job d need place job out same in
+    ((need, row), refl, λ room. step_expects d need place job right out row (subst IsStep (sym entry) (h.1 (ap Err room))))
 
 pub filled_rows : (old new : Known) (need : Need) (place : Place) (job : Job) (outcome : Result Value EvolveFault) → AreNumbered old → expected old need ≡ numbered job.number place → index_of place ≡ index_of job.place → Puts need (given_by outcome) old new
     → (other : Need) → row_of new other ≡ answered (record { job = job; outcome = outcome }) (row_of old other)

@@ -16,6 +16,7 @@ use Rattle.dependency_book.specs.declared.need.Need.TheVariants.{Step, View}
 use Rattle.dependency_book.specs.Entered.{IsEntryOf}
 use Rattle.dependency_book.specs.Findings.{job_of, has_number}
 use Rattle.dependency_book.specs.Known.{Known, expected}
+use Rattle.dependency_book.specs.Marks.{is_noted}
 use Rattle.dependency_book.specs.Needs.{next_need}
 
 -- whether two needs are one
@@ -59,10 +60,17 @@ pub record IsNextJob (d : Known) (need : Need) (job : Job) : Type 0 where
 abbrev pub IsExpected : Known → Job → Type 0
 IsExpected d job = (need : Need) × (is_job job (expected d need) ≡ true)
 
--- what came of an answer: a row was filled, or expects nothing any more because the job gave up; or no row expects the job
+-- the row of a step expects the job: that of a generation above 0 at which an intervention or a bookmark is
+pub record StepExpects (d : Known) (job : Job) : Type 0 where
+  pub mark : ℕ
+  pub above : 0 < mark
+  pub noted : is_noted d.plan mark ≡ true
+  pub row : is_job job (expected d (Step mark)) ≡ true
+
+-- what came of an answer: a row was filled, or expects nothing any more because the job gave up, for want of room if it is a step's; or no row expects the job
 abbrev pub IsFilled : Known → Answered → Filled → Type 0
 IsFilled d answer Row = IsExpected d answer.job × IsOk answer.outcome
-IsFilled d answer (Released fault) = IsExpected d answer.job × (answer.outcome ≡ Err fault)
+IsFilled d answer (Released fault) = IsExpected d answer.job × (answer.outcome ≡ Err fault) × (fault ≡ EvolveFault.NoRoom → StepExpects d answer.job)
 IsFilled d answer NotExpected = (need : Need) → is_job answer.job (expected d need) ≡ false
 
 -- the place is one of the table, and that of the job of this number that a row expects; or no row expects one

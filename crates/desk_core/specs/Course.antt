@@ -12,7 +12,7 @@ use Rattle.desk_core.specs.declared.course.Outlook.{Outlook}
 use Rattle.desk_core.specs.declared.course.Outlook.TheVariants.{GoesOn, Ends}
 use Rattle.desk_core.specs.declared.hand.Hand.{Hand}
 use Rattle.desk_core.specs.declared.hand.Hand.TheVariants.{Empty, Ready, Waiting}
-use Rattle.desk_core.specs.Shown.{Serves}
+use Rattle.desk_core.specs.Shown.{Explains, Serves}
 
 -- the job in hand, if there is one
 abbrev pub job_in : Hand → Option Job
@@ -89,9 +89,10 @@ pub record Receives (before after : Moment) (cause : Option Cause) (next : Outlo
 abbrev pub IsDoneBy : Known → Course → Type 0
 IsDoneBy d course = course.cause ≡ None → (course.hand ≡ Empty) × IsDone d
 
--- each text that was known still is, the document and the table are the same, numbers are at most added, and a cause stays
+-- each text that was known still is, the document and the table are the same, numbers are at most added, and a cause stays and fits
 pub record GoesOnBy (old new : Known) (before after : Option Cause) : Type 0 where
   pub texts : KeepsTexts old new
   pub document : SameDocument old new
   pub given : old.given ≤ new.given
   pub cause : after ≡ None → before ≡ None
+  pub explains : IfSome before (Explains old) → IfSome after (Explains new)

@@ -6,7 +6,7 @@ use Rattle.revision_jobs.specs.declared.answer.Job.{Job}
 use Rattle.revision_jobs.specs.declared.answer.Outcome.{Outcome}
 use Rattle.revision_jobs.specs.declared.answer.Outcome.TheVariants.{Plane, Text, Gave}
 use Rattle.revision_jobs.specs.Entries.{entry_of}
-use Rattle.revision_jobs.specs.Value.{Value, pattern, text, value}
+use Rattle.revision_jobs.specs.Value.{Value, IsStep, pattern, text, value}
 
 -- the value in an outcome, or why there is none
 abbrev pub said : Outcome → Result Value EvolveFault
@@ -19,9 +19,9 @@ pub record Answered : Type 0 where
   pub job : Job
   pub outcome : Result Value EvolveFault
 
--- a value in the answer to a job is that of the job's entry
+-- a value in the answer to a job is that of the job's entry, and only of a step it is said that there was no room
 abbrev pub IsRight : Job → Result Value EvolveFault → Type 0
-IsRight job outcome = IfOk outcome (λ found. found ≡ value (entry_of job.place))
+IsRight job outcome = IfOk outcome (λ found. found ≡ value (entry_of job.place)) × (outcome ≡ Err EvolveFault.NoRoom → IsStep (entry_of job.place))
 
 -- where a job gave up for a stop, the stop said yes once more than before; where it didn't, just as often
 pub record CountsStop {A : Type 0} (outcome : Result A EvolveFault) (before after : ℕ) : Type 0 where

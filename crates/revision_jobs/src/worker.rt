@@ -40,7 +40,6 @@ pub fn work<G: Gate, S: Stop>(
     requires limit { limit ≤ 16777216 }
     ensures job { result.job ≡ job }
     ensures right { IsRight result.job result.outcome }
-    ensures room { result.outcome ≡ Err EvolveFault.NoRoom → IsStep (entry_of job.place) }
 
     // It gave up for a stop exactly where the stop said yes.
     ensures stop { CountsStop result.outcome (S.yes_count stop.old) (S.yes_count stop.new) }

@@ -1,6 +1,6 @@
 use Rattle.std.proofs.Common.{◌<◌, rules}
 use Rattle.desk_core.specs.Course.{job_in}
-use Rattle.desk_core.proofs.Steps.{IsHeld-given_up, enough-whole, serves-whole, settles-whole}
+use Rattle.desk_core.proofs.Steps.{IsHeld-given_up, enough-whole, explains-whole, serves-whole, settles-whole}
 use Rattle.desk_core.proofs.Turns.{cause-left}
 use Rattle.desk_core.proofs.settling.settle.Goals as goal
 
@@ -24,6 +24,15 @@ returns-in-0-clause-prompt g c = λ prompt held. (
 pub returns-in-0-clause-enough : goal.returns-in-0-clause-enough
 returns-in-0-clause-enough g c =
     enough-whole c.args.desk.now c.run-hand.new.desk c.give_up.new.desk (job_in c.run-hand.result.hand) c.run-hand.result.cause c.run-hand.ensures.goes c.give_up.ensures c.pending.ensures.few
+
+pub returns-in_default-clause-ends : goal.returns-in_default-clause-ends
+returns-in_default-clause-ends g c =
+    let some : 0 < c.pending.result = search rules in (
+      c.pending.ensures.count,
+      some,
+      c.pending.ensures.bound,
+      explains-whole c.args.desk.now c.run-hand.new.desk c.give_up.new.desk (job_in c.run-hand.result.hand) c.run-hand.result.cause c.run-hand.ensures.goes c.give_up.ensures,
+    )
 
 pub returns-in_default-clause-settles : goal.returns-in_default-clause-settles
 returns-in_default-clause-settles g c =

@@ -11,7 +11,7 @@ use Rattle.dependency_book.specs.Jobs.{is_job, answered, IsFilled}
 use Rattle.dependency_book.specs.Known.{Known, expected, row_of}
 use Rattle.dependency_book.specs.Right.{IsRight, AreNumbered}
 use Rattle.dependency_book.specs.Puts.{filled_by}
-use Rattle.dependency_book.proofs.Working.{expected_row, expected_gives, gives_wanted, filled_rows, kept_rows, none_numbered, elsewhere}
+use Rattle.dependency_book.proofs.Working.{expected_row, expected_gives, gives_wanted, filled_is, filled_rows, kept_rows, none_numbered, elsewhere}
 use Rattle.dependency_book.proofs.book.Book.fill.Goals as goal
 use Rattle.dependency_book.proofs.book.Book.fill.Goals.{in_default-2, in_default}
 
@@ -41,6 +41,16 @@ not_true h = cc
 
 abbrev answer_of : Job → Result Value EvolveFault → Answered
 answer_of job outcome = record { job = job; outcome = outcome }
+
+pub returns-in-Some-clause-filled : goal.returns-in-Some-clause-filled
+returns-in-Some-clause-filled c =
+    let d : Known = c.args.self.now in
+    let job : Job = c.into_parts-job.result.0 in
+    let outcome = said c.into_parts-job.result.1 in
+    let right = subst IsRight c.self.view_is c.self.invariant in
+    let filled = filled_is d c.in-Some.need c.in-Some.place.now job outcome right c.in-Some.ensures.row (c.if-same.ensures.index.0 refl) (c.if-same.ensures.entry refl) c.into_parts-job.ensures.right in
+    subst (λ (a : Answered). IsFilled d a c.fill_row.result) (ap₂ answer_of c.into_parts-job.ensures.job c.into_parts-job.ensures.outcome)
+    (subst (IsFilled d (answer_of job outcome)) (sym c.fill_row.ensures.filled) filled)
 
 pub returns-in-Some-clause-rows : goal.returns-in-Some-clause-rows
 returns-in-Some-clause-rows c = λ other.

@@ -7,7 +7,7 @@ use Rattle.desk_core.proofs.course.Course.run.Goals as goal
 pub loop-init : goal.loop-init
 loop-init g c = record {
   fits = c.requires;
-  goes = GoesOnBy-same c.args.desk.now None None (λ none. none);
+  goes = GoesOnBy-same c.args.desk.now None None (λ none. none) (λ fits. fits);
   kind = refl;
   out = λ prompt held. IsAtHand-held (g.P.Post.held c.args.post.now) c.args.desk.now held;
   turns = λ prompt held enough none. turns-at_first c.args.desk.now (g.P.Post.held c.args.post.now) c.args.turns enough;
