@@ -11,4 +11,4 @@ mod options;
 mod words;
 
 pub use options::Options;
-pub use words::{WordsFault, check_words, read_words};
+pub use words::{WordsFault, check_words, given_words, read_words};

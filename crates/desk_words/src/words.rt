@@ -11,7 +11,8 @@ use clap::Error;
 use clap::error::ErrorKind;
 use std::alloc::Global;
 use std::convert::AsStr;
-use std::io;
+use std::rt::Env;
+use std::{env, io};
 
 /// Why the words start no run.
 #[derive(Debug, Drop)]
@@ -66,6 +67,11 @@ fn refused(alloc: Global) -> WordsFault
         Ok(error) => fault_of(alloc, &error),
         Err(_) => WordsFault::NoMemory,
     }
+}
+
+/// The words that a program is started with. One that is no UTF-8 is an error.
+pub fn given_words<R: Env + AllocGlobal>(rt: &R) -> io::Result<Vec<String>> {
+    Ok(env::args(rt)?.collect(rt.alloc())?)
 }
 
 /// Reads the words that a program was started with, or refuses them where one is no UTF-8.

@@ -1,11 +1,10 @@
 //! Words, and the beginnings and ends of the texts about them.
-use desk_words::{Options, WordsFault, check_words, read_words};
+use desk_words::{Options, WordsFault, check_words, given_words, read_words};
 use std::alloc::Global;
 use std::env::FillError;
 use std::fmt::Debug;
 use std::process::Abort;
 use std::rt::Env;
-use std::{env, io};
 
 // The words that a program is started with, as bytes.
 #[derive(Drop)]
@@ -208,12 +207,8 @@ fn words_are_read(rt: HostRuntime) {
     }
 }
 
-fn given<R: Env + AllocGlobal>(rt: &R) -> io::Result<Vec<String>> {
-    Ok(env::args(rt)?.collect(rt.alloc())?)
-}
-
 fn starts(rt: &impl Abort, alloc: Global, words: &'static [&'static [u8]], wanted: Verdict) {
-    let given = given(&(Started { words }, alloc));
+    let given = given_words(&(Started { words }, alloc));
     same(rt, &said(&check_words(alloc, &given)), &wanted, &words);
 }
 
