@@ -5,30 +5,37 @@ use Rattle.script_lines.specs.Counted.{CountedWriting}
 use Rattle.desk_core.specs.Rows.{Known}
 use Rattle.desk_server.specs.Heard.{BreaksOff, ReadFails}
 use Rattle.desk_server.specs.Script.{Between}
-use Rattle.desk_server.specs.Run.{Answers, StopsTelling, AnswersFront}
+use Rattle.desk_server.specs.Run.{Answers, StopsTelling, AnswersWhole, AnswersFront}
 
 -- something was heard and answered, and fewer bytes can come
-abbrev pub GoesOn : {R W : Type 0} → LineReading R → LineReading R → CountedWriting W → CountedWriting W → Known → Known → Type 0
-GoesOn r s w x j k =
-    Answers r.ahead s.ahead w.contents x.contents j.plan k.plan (r.lines + 1) (s.lines + 1)
-    × (s.ahead.room < r.ahead.room)
+pub record GoesOn {R W : Type 0} (r s : LineReading R) (w x : CountedWriting W) (j k : Known) : Type 0 where
+  pub answered : Answers r.ahead s.ahead w.contents x.contents j.plan k.plan (r.lines + 1) (s.lines + 1)
+  pub fewer : s.ahead.room < r.ahead.room
 
 -- no failure was counted, and what was written was handed on
-abbrev pub Works : {R W : Type 0} → LineReading R → LineReading R → CountedWriting W → CountedWriting W → Type 0
-Works r s w x = (s.failures ≡ r.failures) × (x.failures ≡ w.failures) × (w.flushed ≡ true → x.flushed ≡ true)
+pub record Works {R W : Type 0} (r s : LineReading R) (w x : CountedWriting W) : Type 0 where
+  pub reads : s.failures ≡ r.failures
+  pub writes : x.failures ≡ w.failures
+  pub flushed : w.flushed ≡ true → x.flushed ≡ true
 
 -- the reading broke off, and nothing was written
-abbrev pub ReadBreaks : {R W : Type 0} → (R → Option (List ℕ)) → LineReading R → LineReading R → CountedWriting W → CountedWriting W → Type 0
-ReadBreaks remaining r s w x = BreaksOff r.ahead s.ahead Between (r.lines + 1) × (x ≡ w) × ReadFails remaining r s
+pub record ReadBreaks {R W : Type 0} (remaining : R → Option (List ℕ)) (r s : LineReading R) (w x : CountedWriting W) : Type 0 where
+  pub broken : BreaksOff r.ahead s.ahead Between (r.lines + 1)
+  pub silent : x ≡ w
+  pub fails : ReadFails remaining r s
 
 -- a write failed within a reply
-abbrev pub WriteBreaks : {R W : Type 0} → LineReading R → LineReading R → CountedWriting W → CountedWriting W → Known → Type 0
-WriteBreaks r s w x j = StopsTelling r.ahead s.ahead w.contents x.contents j.plan (r.lines + 1) × (x.failures ≡ w.failures + 1)
+pub record WriteBreaks {R W : Type 0} (r s : LineReading R) (w x : CountedWriting W) (j : Known) : Type 0 where
+  pub stopped : StopsTelling r.ahead s.ahead w.contents x.contents j.plan (r.lines + 1)
+  pub fails : x.failures ≡ w.failures + 1
 
--- the reading stopped, and what was written was handed on
-abbrev pub ReadStops : {R W : Type 0} → (R → Option (List ℕ)) → LineReading R → LineReading R → CountedWriting W → CountedWriting W → Type 0
-ReadStops remaining r s w x = ReadFails remaining r s × (w.flushed ≡ true → x.flushed ≡ true)
+-- the reading stopped: the commands that were read whole were answered, and what was written was handed on
+pub record ReadStops {R W : Type 0} (remaining : R → Option (List ℕ)) (r s : LineReading R) (w x : CountedWriting W) : Type 0 where
+  pub answered : AnswersWhole r.ahead s.ahead w.contents x.contents
+  pub fails : ReadFails remaining r s
+  pub flushed : w.flushed ≡ true → x.flushed ≡ true
 
 -- the writing stopped within the replies to the script
-abbrev pub WriteStops : {R W : Type 0} → LineReading R → CountedWriting W → CountedWriting W → Type 0
-WriteStops r w x = IfSome r.ahead.bytes (AnswersFront w.contents x.contents) × (x.failures ≡ w.failures + 1)
+pub record WriteStops {R W : Type 0} (r : LineReading R) (w x : CountedWriting W) : Type 0 where
+  pub answered : IfSome r.ahead.bytes (AnswersFront w.contents x.contents)
+  pub fails : x.failures ≡ w.failures + 1

@@ -2,7 +2,7 @@
 use Rattle.std.specs.Prelude.{◌≡◌, ℕ, List, [], ◌∷◌, ◌++◌, Bool, true, false, Option, None, Some, decimal}
 use Rattle.schedule.specs.declared.document.Bookmark.{Bookmark}
 use Rattle.schedule.specs.declared.fault.EditFault.TheVariants.{NoSuchBookmark}
-use Rattle.desk_core.specs.Rows.{Known, bookmark_in, text_known, pending_of}
+use Rattle.desk_core.specs.Rows.{Known, bookmark_in, text_known, pending_of, NothingOut}
 use Rattle.desk_server.specs.declared.reply.Reply.{Reply}
 use Rattle.desk_server.specs.declared.reply.Reply.TheVariants as reply
 use Rattle.desk_server.specs.declared.reply.Part.{Part}
@@ -29,11 +29,11 @@ abbrev pub ends : Reply → Bool
 ends reply.Bye = true
 ends _ = false
 
--- how many texts aren't known, if the reply says so
-abbrev pub CountsPending : Reply → Known → Type 0
-CountsPending reply.Settled known = pending_of known ≡ 0
-CountsPending (reply.Unsettled pending cause) known = pending ≡ pending_of known
-CountsPending _ known = Unit {0}
+-- what a settling leaves, by its reply: every text known, or so many that aren't, and then no job out
+abbrev pub Leaves : Reply → Known → Type 0
+Leaves reply.Settled known = pending_of known ≡ 0
+Leaves (reply.Unsettled pending cause) known = (pending ≡ pending_of known) × NothingOut known
+Leaves _ known = Unit {0}
 
 -- the bytes of one part after the other
 abbrev pub part_text : Part → List ℕ

@@ -1,13 +1,13 @@
 //! What the desk does when something is asked.
-ghost use Rattle.std.specs.Prelude.{◌≡◌, IfNone};
+ghost use Rattle.std.specs.Prelude.{◌≡◌, IfNone, IfSome};
 ghost use Rattle.std.specs.Arc.{arc_value};
 ghost use Rattle.schedule.specs.Asked.{asked_of};
-ghost use Rattle.desk_core.specs.Rows.{bookmark_in, pending_of};
+ghost use Rattle.desk_core.specs.Rows.{NothingOut, bookmark_in, pending_of};
 ghost use Rattle.desk_server.specs.Answer.{Ask, answer, id_word, obeyed};
 ghost use Rattle.desk_server.specs.Answer.{edited, started, taken, settled, shown};
 ghost use Rattle.desk_server.specs.Heard.{AsksFor, GivesBy, GivesOrWants};
 ghost use Rattle.desk_server.specs.Jobs.{Carries, DropsJobs};
-ghost use Rattle.desk_server.specs.Told.{CountsPending};
+ghost use Rattle.desk_server.specs.Told.{Leaves};
 
 use crate::command::Command;
 use crate::format::Format;
@@ -137,6 +137,7 @@ fn take(alloc: Global, desk: &mut Desk<'_>, format: Format, text: &[u8]) -> Repl
 fn give_up(desk: &mut Desk<'_>)
     ensures plan { desk.new.plan ≡ desk.old.plan }
     ensures jobs { DropsJobs desk.old desk.new }
+    ensures none { NothingOut desk.new }
 {
     let mut first = desk.first_out();
     while let Some(number) = first {
@@ -151,6 +152,7 @@ fn compute<P: Post>(rt: &impl Wait, desk: &mut Desk<'_>, post: &mut P) -> Option
     requires { Carries P.table P.floor P.is_prompt P.held post.old desk.old }
     ensures plan { desk.new.plan ≡ desk.old.plan }
     ensures settled { IfNone result (pending_of desk.new ≡ 0) }
+    ensures given_up { IfSome result (λ _. NothingOut desk.new) }
     ensures post { Carries P.table P.floor P.is_prompt P.held post.new desk.new }
 {
     match desk_core::settle(rt, desk, post, TURNS) {
@@ -165,7 +167,7 @@ fn compute<P: Post>(rt: &impl Wait, desk: &mut Desk<'_>, post: &mut P) -> Option
 fn settle<P: Post>(rt: &impl Wait, desk: &mut Desk<'_>, post: &mut P) -> Reply
     requires { Carries P.table P.floor P.is_prompt P.held post.old desk.old }
     ensures answer { GivesBy (λ want. settled want desk.old.plan) result desk.new }
-    ensures counts { CountsPending result desk.new }
+    ensures leaves { Leaves result desk.new }
     ensures post { Carries P.table P.floor P.is_prompt P.held post.new desk.new }
 {
     let cause = compute(rt, desk, post);
@@ -193,7 +195,7 @@ fn show<P: Post>(rt: &impl Wait, desk: &mut Desk<'_>, post: &mut P, id: u64) -> 
 fn obey<P: Post>(rt: &impl Wait, desk: &mut Desk<'_>, post: &mut P, command: Command) -> Reply
     requires { Carries P.table P.floor P.is_prompt P.held post.old desk.old }
     ensures answer { GivesBy (λ want. obeyed want desk.old.plan command) result desk.new }
-    ensures counts { command ≡ Command.Settle → CountsPending result desk.new }
+    ensures leaves { command ≡ Command.Settle → Leaves result desk.new }
     ensures post { Carries P.table P.floor P.is_prompt P.held post.new desk.new }
 {
     match command {
@@ -215,7 +217,7 @@ pub(crate) fn serve<P: Post>(
     requires { Carries P.table P.floor P.is_prompt P.held post.old desk.old }
     ensures answer { (ask : Ask) → AsksFor request ask
         → GivesBy (λ want. answer want desk.old.plan ask) result desk.new }
-    ensures counts { request ≡ Request.Obey Command.Settle → CountsPending result desk.new }
+    ensures leaves { request ≡ Request.Obey Command.Settle → Leaves result desk.new }
     ensures post { Carries P.table P.floor P.is_prompt P.held post.new desk.new }
 {
     match request {

@@ -1,7 +1,7 @@
 //! A script, answered while it is read.
-ghost use Rattle.std.specs.Prelude.{◌≡◌, ◌≢◌, ◌+◌, IfSome, OnOk, Ok, Err};
+ghost use Rattle.std.specs.Prelude.{◌≡◌, ◌+◌, IfSome, OnOk, Ok, Err};
 ghost use Rattle.desk_server.specs.Jobs.{Carries, IsFresh};
-ghost use Rattle.desk_server.specs.Run.{Finishes, AnswersAll, AnswersWhole};
+ghost use Rattle.desk_server.specs.Run.{Finishes, AnswersAll};
 ghost use Rattle.desk_server.specs.Round.{GoesOn, Works, ReadBreaks, WriteBreaks, ReadStops, WriteStops};
 
 use crate::asked::serve;
@@ -32,6 +32,13 @@ enum Rest {
     Done,
 }
 
+// The device that a round failed at.
+#[derive(Clone, Copy, Debug, PartialEq, Eq)]
+enum Device {
+    Reader,
+    Writer,
+}
+
 // Hears one command, and answers it.
 fn round<R: Read, W: Write, L: Ledger, M: Ledger, P: Post>(
     rt: &impl Wait,
@@ -41,7 +48,7 @@ fn round<R: Read, W: Write, L: Ledger, M: Ledger, P: Post>(
     line: &mut KeptLine,
     desk: &mut Desk<'_>,
     post: &mut P,
-) -> Result<Rest, RunFault>
+) -> Result<Rest, Device>
     requires { Carries P.table P.floor P.is_prompt P.held post.old desk.old }
     ensures goes_on { result ≡ Ok Rest.GoOn
         → GoesOn reader.old reader.new writer.old writer.new desk.old desk.new
@@ -49,14 +56,13 @@ fn round<R: Read, W: Write, L: Ledger, M: Ledger, P: Post>(
     ensures done { result ≡ Ok Rest.Done → Finishes reader.old.ahead reader.new.ahead
         writer.old.contents writer.new.contents desk.old.plan (reader.old.lines + 1) }
     ensures works { OnOk result (Works reader.old reader.new writer.old writer.new) }
-    ensures read { result ≡ Err RunFault.Read
+    ensures read { result ≡ Err Device.Reader
         → ReadBreaks R.remaining reader.old reader.new writer.old writer.new }
-    ensures write { result ≡ Err RunFault.Write
+    ensures write { result ≡ Err Device.Writer
         → WriteBreaks reader.old reader.new writer.old writer.new desk.old }
-    ensures memory { result ≢ Err RunFault.NoMemory }
 {
     let Ok(heard) = listen(alloc, reader, line) else {
-        return Err(RunFault::Read);
+        return Err(Device::Reader);
     };
     let Heard { request, last } = heard;
     let Some(request) = request else {
@@ -64,7 +70,7 @@ fn round<R: Read, W: Write, L: Ledger, M: Ledger, P: Post>(
     };
     let reply = serve(rt, alloc, desk, post, request);
     if send(writer, desk, reply).is_err() {
-        return Err(RunFault::Write);
+        return Err(Device::Writer);
     }
     if last {
         return Ok(Rest::Done);
@@ -99,12 +105,9 @@ pub fn run<R: Read, W: Write, L: Ledger, M: Ledger, P: Post>(
     // No failure was counted, and what was written was handed on.
     ensures works { OnOk result (Works reader.old reader.new writer.old writer.new) }
 
-    // Where a read failed, or 2^64 - 1 bytes came, the commands that were read whole were answered.
-    ensures read { result ≡ Err RunFault.Read → AnswersWhole reader.old.ahead reader.new.ahead
-        writer.old.contents writer.new.contents }
-
-    // All that was read was taken then, and what was written was handed on.
-    ensures read_failed { result ≡ Err RunFault.Read
+    // Where a read failed, or 2^64 - 1 bytes came, all that was read was taken, and the commands
+    // that were read whole were answered.
+    ensures read { result ≡ Err RunFault.Read
         → ReadStops R.remaining reader.old reader.new writer.old writer.new }
 
     // Where a write failed, a beginning of the replies was written.
@@ -126,7 +129,8 @@ pub fn run<R: Read, W: Write, L: Ledger, M: Ledger, P: Post>(
         match round(rt, alloc, reader, writer, &mut line, &mut desk, post) {
             Ok(Rest::GoOn) => {}
             Ok(Rest::Done) => return Ok(()),
-            Err(fault) => return Err(fault),
+            Err(Device::Reader) => return Err(RunFault::Read),
+            Err(Device::Writer) => return Err(RunFault::Write),
         }
     }
 }

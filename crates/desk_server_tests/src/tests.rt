@@ -1,10 +1,11 @@
 //! Scripts, their replies, and devices that fail.
-ghost use Rattle.std.specs.Prelude.{◌≡◌, ◌<◌};
+ghost use Rattle.std.specs.Prelude.{◌≡◌, ◌<◌, ◌≤◌};
 
 mod devices;
 mod edits;
 mod faults;
 mod first;
+mod room;
 mod scripts;
 mod starts;
 mod views;
@@ -29,9 +30,13 @@ pub fn same<T: PartialEq + Debug, A: Debug>(rt: &impl Abort, found: &T, wanted: 
     assert_eq!(rt; *found, *wanted, "at {at:?}");
 }
 
+// How many squares a step may keep, unless a test says otherwise.
+pub const SQUARES: u32 = 4096;
+
 fn answer_counted<W: Write, L: Ledger, M: Ledger>(
     rt: &(impl Abort + Wait),
     alloc: Global,
+    squares: u32,
     pieces: Pieces<'_>,
     writer: W,
     reader_blank: Blank,
@@ -43,23 +48,35 @@ fn answer_counted<W: Write, L: Ledger, M: Ledger>(
     requires writer_name { writer_blank.name ≡ M.name }
     requires writer_parts { writer_blank.parts ≡ M.parts }
     requires writer_some { 0 < writer_blank.parts }
+    requires bound { squares ≤ 16777216 }
 {
     let mut reader = CountedReader::<_, L>::new(pieces, reader_blank);
     let mut writer = CountedWriter::<_, M>::new(writer, writer_blank);
     let entries = Entries::new(alloc).expect(rt, "memory");
-    let mut post = InlinePost::new(alloc, &entries, 4096);
+    let mut post = InlinePost::new(alloc, &entries, squares);
     let answered = run(rt, alloc, &entries, 64, &mut reader, &mut writer, &mut post);
     (answered, writer.into_inner())
 }
 
-// How a run over this writer ended, and the writer after it.
+// How a run over this writer ended where a step may keep so many squares, and the writer after it.
 pub fn answer_to<W: Write>(
     rt: &(impl Abort + Wait),
     alloc: Global,
+    squares: u32,
     pieces: Pieces<'_>,
     writer: W,
-) -> (Result<(), RunFault>, W) {
-    answer_counted::<_, Brand, Brand>(rt, alloc, pieces, writer, Blank::new(1), Blank::new(1))
+) -> (Result<(), RunFault>, W)
+    requires { squares ≤ 16777216 }
+{
+    answer_counted::<_, Brand, Brand>(
+        rt,
+        alloc,
+        squares,
+        pieces,
+        writer,
+        Blank::new(1),
+        Blank::new(1),
+    )
 }
 
 // How a run ended, and what was written where so many bytes may be.
@@ -73,7 +90,7 @@ pub fn answer(
         taken: Vec::new(alloc),
         limit,
     };
-    let (answered, narrow) = answer_to(rt, alloc, pieces, narrow);
+    let (answered, narrow) = answer_to(rt, alloc, SQUARES, pieces, narrow);
     (answered, narrow.taken)
 }
 

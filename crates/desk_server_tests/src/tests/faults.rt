@@ -1,7 +1,7 @@
 //! Devices that fail at each place of the first script.
 use crate::tests::devices::{Flushes, Pieces};
 use crate::tests::first::{FIRST, FIRST_REPLIES};
-use crate::tests::{answer, answer_to, same};
+use crate::tests::{SQUARES, answer, answer_to, same};
 use desk_server::RunFault;
 use std::alloc::Global;
 use std::process::Abort;
@@ -107,7 +107,7 @@ fn flushing_fails(
     count: usize,
 ) {
     let flushes = Flushes { count: 0, limit };
-    let (answered, flushes) = answer_to(rt, alloc, Pieces::whole(FIRST), flushes);
+    let (answered, flushes) = answer_to(rt, alloc, SQUARES, Pieces::whole(FIRST), flushes);
     same(rt, &answered, &wanted, &limit);
     same(rt, &flushes.count, &count, &limit);
 }

@@ -12,12 +12,12 @@ returns-then-last-clause-done g c = λ _.
 pub returns-else-last-clause-goes_on : goal.returns-else-last-clause-goes_on
 returns-else-last-clause-goes_on g c = λ _.
     let h = c.in-Ok.ensures.heard in
-    ((goes_on_silent _ _ _ _ _ c.args.desk.now _ _ c.in_default-request.is c.if-last.false h, c.in-Ok.ensures.falls c.if-last.false), c.requires)
+    (record { answered = goes_on_silent _ _ _ _ _ c.args.desk.now _ _ c.in_default-request.is c.if-last.false h; fewer = c.in-Ok.ensures.falls c.if-last.false }, c.requires)
 
 pub returns-then-is_err-clause-write : goal.returns-then-is_err-clause-write
 returns-then-is_err-clause-write g c = λ _.
     let h = c.in-Ok.ensures.heard in
-    (stops_telling _ _ _ _ _ _ c.args.desk.now c.serve-reply.new.desk _ _ c.serve-reply.result h (served c.in-Ok.heard.request c.in-Some.request h.asked c.args.desk.now c.serve-reply.new.desk c.serve-reply.result c.in-Some.is h.is c.serve-reply.ensures.answer) (wrote_is_err _ _ c.send.result _ (sym c.is_err.ensures.value ∙ c.if-is_err.true) c.send.ensures.bytes), search rules)
+    record { stopped = stops_telling _ _ _ _ _ _ c.args.desk.now c.serve-reply.new.desk _ _ c.serve-reply.result h (served c.in-Ok.heard.request c.in-Some.request h.asked c.args.desk.now c.serve-reply.new.desk c.serve-reply.result c.in-Some.is h.is c.serve-reply.ensures.answer) (wrote_is_err _ _ c.send.result _ (sym c.is_err.ensures.value ∙ c.if-is_err.true) c.send.ensures.bytes); fails = search rules }
 
 pub returns-then-last-2-clause-done : goal.returns-then-last-2-clause-done
 returns-then-last-2-clause-done g c = λ _.
@@ -34,4 +34,4 @@ pub returns-else-eq-clause-goes_on : goal.returns-else-eq-clause-goes_on
 returns-else-eq-clause-goes_on g c = λ _.
     let h = c.in-Ok.ensures.heard in
     let other : c.serve-reply.result ≢ reply.Bye = search rules in
-    ((goes_on_told _ _ _ _ _ _ c.args.desk.now c.serve-reply.new.desk _ _ c.serve-reply.result c.if-last-2.false other h (served c.in-Ok.heard.request c.in-Some.request h.asked c.args.desk.now c.serve-reply.new.desk c.serve-reply.result c.in-Some.is h.is c.serve-reply.ensures.answer) (wrote_is_ok _ _ c.send.result _ (sym c.is_err.ensures.value ∙ c.if-is_err.false) c.send.ensures.bytes), c.in-Ok.ensures.falls c.if-last-2.false), c.serve-reply.ensures.post)
+    (record { answered = goes_on_told _ _ _ _ _ _ c.args.desk.now c.serve-reply.new.desk _ _ c.serve-reply.result c.if-last-2.false other h (served c.in-Ok.heard.request c.in-Some.request h.asked c.args.desk.now c.serve-reply.new.desk c.serve-reply.result c.in-Some.is h.is c.serve-reply.ensures.answer) (wrote_is_ok _ _ c.send.result _ (sym c.is_err.ensures.value ∙ c.if-is_err.false) c.send.ensures.bytes); fewer = c.in-Ok.ensures.falls c.if-last-2.false }, c.serve-reply.ensures.post)

@@ -1,8 +1,7 @@
-use Rattle.std.proofs.Common.{◌≡◌, ◌+◌, ◌∙◌, ap, subst, refl, Ok, Err}
+use Rattle.std.proofs.Common.{◌+◌, ◌∙◌, ap, subst, refl, Ok, Err}
 use Rattle.schedule.specs.Plan.{opening}
 use Rattle.desk_core.specs.Rows.{Known}
 use Rattle.script_lines.specs.Input.{FailsOrFull}
-use Rattle.desk_server.specs.declared.server.RunFault.TheVariants as fault
 use Rattle.desk_server.proofs.Jobs.{carries_first}
 use Rattle.desk_server.proofs.Rounds.{answers_none, answers_answers, answers_finishes, answers_stops, answers_breaks, finishes_all, stops_front}
 use Rattle.desk_server.proofs.server.run.Goals as goal
@@ -20,15 +19,15 @@ pub script-preserved : goal.script-preserved
 script-preserved g c =
     let next = c.in-Ok-GoOn.ensures in
     record {
-      answered = answers_answers _ _ _ _ _ _ _ _ _ _ _ _ c.script.invariant.answered (next.goes_on (ap Ok c.in-Ok-GoOn.field-0-is)).0.0;
+      answered = answers_answers _ _ _ _ _ _ _ _ _ _ _ _ c.script.invariant.answered (next.goes_on (ap Ok c.in-Ok-GoOn.field-0-is)).0.answered;
       carries = (next.goes_on (ap Ok c.in-Ok-GoOn.field-0-is)).1;
-      flushed = λ h. next.works.2 (c.script.invariant.flushed h);
-      reads = next.works.0 ∙ c.script.invariant.reads;
-      writes = next.works.1 ∙ c.script.invariant.writes;
+      flushed = λ h. next.works.flushed (c.script.invariant.flushed h);
+      reads = next.works.reads ∙ c.script.invariant.reads;
+      writes = next.works.writes ∙ c.script.invariant.writes;
     }
 
 pub script-smaller : goal.script-smaller
-script-smaller g c = (c.in-Ok-GoOn.ensures.goes_on (ap Ok c.in-Ok-GoOn.field-0-is)).0.1
+script-smaller g c = (c.in-Ok-GoOn.ensures.goes_on (ap Ok c.in-Ok-GoOn.field-0-is)).0.fewer
 
 pub returns-in-Ok-Done-clause-done : goal.returns-in-Ok-Done-clause-done
 returns-in-Ok-Done-clause-done g c =
@@ -37,22 +36,25 @@ returns-in-Ok-Done-clause-done g c =
 pub returns-in-Ok-Done-clause-works : goal.returns-in-Ok-Done-clause-works
 returns-in-Ok-Done-clause-works g c =
     let works = c.in-Ok-Done.ensures.works in
-    (works.0 ∙ c.script.invariant.reads, works.1 ∙ c.script.invariant.writes, λ h. works.2 (c.script.invariant.flushed h))
+    record {
+      reads = works.reads ∙ c.script.invariant.reads;
+      writes = works.writes ∙ c.script.invariant.writes;
+      flushed = λ h. works.flushed (c.script.invariant.flushed h);
+    }
 
-pub returns-in-Err-clause-read : goal.returns-in-Err-clause-read
-returns-in-Err-clause-read g c = λ e.
-    let read : c.in-Err.fault ≡ fault.Read = cc in
-    let breaks = c.in-Err.ensures.read (ap Err read) in
-    rw breaks.1 (answers_breaks _ _ _ _ _ _ _ c.script.invariant.answered breaks.0)
+pub returns-in-Err-Reader-clause-read : goal.returns-in-Err-Reader-clause-read
+returns-in-Err-Reader-clause-read g c = λ _.
+    let breaks = c.in-Err-Reader.ensures.read (ap Err c.in-Err-Reader.field-0-is) in
+    rw breaks.silent (record {
+      answered = answers_breaks _ _ _ _ _ _ _ c.script.invariant.answered breaks.broken;
+      fails = (subst (λ n. FailsOrFull n c.round.new.reader.failures c.round.new.reader.given) c.script.invariant.reads breaks.fails.0, breaks.fails.1);
+      flushed = c.script.invariant.flushed;
+    })
 
-pub returns-in-Err-clause-read_failed : goal.returns-in-Err-clause-read_failed
-returns-in-Err-clause-read_failed g c = λ e.
-    let read : c.in-Err.fault ≡ fault.Read = cc in
-    let breaks = c.in-Err.ensures.read (ap Err read) in
-    rw breaks.1 ((subst (λ n. FailsOrFull n c.round.new.reader.failures c.round.new.reader.given) c.script.invariant.reads breaks.2.0, breaks.2.1), c.script.invariant.flushed)
-
-pub returns-in-Err-clause-write : goal.returns-in-Err-clause-write
-returns-in-Err-clause-write g c = λ e.
-    let write : c.in-Err.fault ≡ fault.Write = cc in
-    let breaks = c.in-Err.ensures.write (ap Err write) in
-    (stops_front _ _ _ _ (answers_stops _ _ _ _ _ _ _ _ _ _ c.script.invariant.answered breaks.0), breaks.1 ∙ ap (λ n. n + 1) c.script.invariant.writes)
+pub returns-in-Err-Writer-clause-write : goal.returns-in-Err-Writer-clause-write
+returns-in-Err-Writer-clause-write g c = λ _.
+    let breaks = c.in-Err-Writer.ensures.write (ap Err c.in-Err-Writer.field-0-is) in
+    record {
+      answered = stops_front _ _ _ _ (answers_stops _ _ _ _ _ _ _ _ _ _ c.script.invariant.answered breaks.stopped);
+      fails = breaks.fails ∙ ap (λ n. n + 1) c.script.invariant.writes;
+    }
