@@ -10,7 +10,7 @@ use Rattle.text_lines.specs.Numbers.{number_of}
 use Rattle.basics.specs.Results.{◌>>=◌}
 use Rattle.rule_file.specs.declared.fault.RuleFault.TheVariants.{BadTree, NotQuiescent}
 use Rattle.rule_file.proofs.Readings.{if-some, map-some, some-ok, then-ok, then-some}
-use Rattle.rule_file.specs.States.{least_states, most_states, states_in}
+use Rattle.rule_file.specs.States.{least_states, most_states, number_within, states_in}
 use Rattle.rule_file.specs.RuleFile.{NumberedLine, Section}
 use Rattle.decision_tree.specs.declared.descriptors.Descriptor.{Descriptor}
 use Rattle.decision_tree.specs.declared.descriptors.Descriptor.TheVariants as descriptor
@@ -152,99 +152,61 @@ said-from last head nodes (line ∷ lines) found said h =
     let node = map-some (λ (n : Node). nodes ++ n ∷ []) (node_of head nodes line.text) more.0 (some-ok (option_map (λ (n : Node). nodes ++ n ∷ []) (node_of head nodes line.text)) (BadTree line.number) more.0 more.1) in
     said-from last head more.0 lines found (subst (AreSaid head) node.2 (said-push head nodes node.0 said (said-next head nodes line.text node.0 node.1))) more.2
 
--- a count that is described is of one node at least
-abbrev SomeNodes : Described → Type 0
-SomeNodes d = (n : ℕ) → d.node_count ≡ Some n → 1 ≤ n
+-- what is described so far is of one node and two states at least
+record AreEnough (d : Described) : Type 0 where
+  some : (n : ℕ) → d.node_count ≡ Some n → 1 ≤ n
+  two : (n : ℕ) → d.states ≡ Some n → 2 ≤ n
 
 once-some : {X : Type 0} (old : Option X) (described : Option Described) (d : Described) → once old described ≡ Some d → described ≡ Some d
 once-some None described d h = h
 once-some (Some x) described d h = absurd cc
 
-some-counted : (value : List ℕ) (n : ℕ) → node_count_in value ≡ Some n → 1 ≤ n
-some-counted value n h =
-    let read = then-some (λ m. if nat_le 1 m && nat_le m most_nodes then Some m else None) (number_of value) n h in
-    let is = if-some (nat_le 1 read.0 && nat_le read.0 most_nodes) read.0 n read.2 in
-    let least : nat_le 1 read.0 ≡ true = (and_parts (nat_le 1 read.0) (nat_le read.0 most_nodes) is.0).0 in
-    let some : 1 ≤ read.0 = search (rules, tests) in
-    subst (λ m. 1 ≤ m) is.1 some
+-- a number that is read within limits is the least of them at least
+least-read : (least most : ℕ) (value : List ℕ) (n : ℕ) → number_within least most value ≡ Some n → least ≤ n
+least-read least most value n h =
+    let read = then-some (λ m. if nat_le least m && nat_le m most then Some m else None) (number_of value) n h in
+    let is = if-some (nat_le least read.0 && nat_le read.0 most) read.0 n read.2 in
+    let within : nat_le least read.0 ≡ true = (and_parts (nat_le least read.0) (nat_le read.0 most) is.0).0 in
+    let some : least ≤ read.0 = search (rules, tests) in
+    subst (λ m. least ≤ m) is.1 some
 
-some-described : (d : Described) (x : Descriptor) (value : List ℕ) (e : Described) → SomeNodes d → describe d x value ≡ Some e → SomeNodes e
-some-described d descriptor.States value e some h n at =
+described-enough : (d : Described) (x : Descriptor) (value : List ℕ) (e : Described) → AreEnough d → describe d x value ≡ Some e → AreEnough e
+described-enough d descriptor.States value e enough h =
     let made = map-some (λ m. record d { states = Some m }) (states_in value) e (once-some d.states (option_map (λ m. record d { states = Some m }) (states_in value)) e h) in
-    some n (ap (λ (f : Described). f.node_count) made.2 ∙ at)
-some-described d descriptor.Neighbors value e some h n at =
+    record {
+      some = λ n at. enough.some n (ap (λ (f : Described). f.node_count) made.2 ∙ at);
+      two = λ n at. let is : Some made.0 ≡ Some n = ap (λ (f : Described). f.states) made.2 ∙ at in least-read least_states most_states value n (made.1 ∙ is);
+    }
+described-enough d descriptor.Neighbors value e enough h =
     let made = map-some (λ m. record d { neighbors = Some m }) (neighbors_in value) e (once-some d.neighbors (option_map (λ m. record d { neighbors = Some m }) (neighbors_in value)) e h) in
-    some n (ap (λ (f : Described). f.node_count) made.2 ∙ at)
-some-described d descriptor.Nodes value e some h n at =
+    record { some = λ n at. enough.some n (ap (λ (f : Described). f.node_count) made.2 ∙ at); two = λ n at. enough.two n (ap (λ (f : Described). f.states) made.2 ∙ at) }
+described-enough d descriptor.Nodes value e enough h =
     let made = map-some (λ m. record d { node_count = Some m }) (node_count_in value) e (once-some d.node_count (option_map (λ m. record d { node_count = Some m }) (node_count_in value)) e h) in
-    let is : Some made.0 ≡ Some n = ap (λ (f : Described). f.node_count) made.2 ∙ at in
-    some-counted value n (made.1 ∙ is)
+    record {
+      some = λ n at. let is : Some made.0 ≡ Some n = ap (λ (f : Described). f.node_count) made.2 ∙ at in least-read 1 most_nodes value n (made.1 ∙ is);
+      two = λ n at. enough.two n (ap (λ (f : Described). f.states) made.2 ∙ at);
+    }
 
-some-head : (d : Described) (head : TreeHead) → SomeNodes d → head_of d ≡ Some head → 1 ≤ head.node_count
-some-head d head some h =
+head-enough : (d : Described) (head : TreeHead) → AreEnough d → head_of d ≡ Some head → (1 ≤ head.node_count) × (2 ≤ head.states)
+head-enough d head enough h =
     let one = then-some (λ states. option_and_then (λ neighbors. option_map (λ count. record { states = states; neighbors = neighbors; node_count = count }) d.node_count) d.neighbors) d.states head h in
     let two = then-some (λ neighbors. option_map (λ count. record { states = one.0; neighbors = neighbors; node_count = count }) d.node_count) d.neighbors head one.2 in
     let three = map-some (λ count. record { states = one.0; neighbors = two.0; node_count = count }) d.node_count head two.2 in
-    subst (λ n. 1 ≤ n) (ap (λ (t : TreeHead). t.node_count) three.2) (some three.0 three.1)
+    subst (λ (t : TreeHead). (1 ≤ t.node_count) × (2 ≤ t.states)) three.2 (enough.some three.0 three.1, enough.two one.0 one.1)
 
--- the head of a section has one too
-some-found : (last : ℕ) (d : Described) (lines : List NumberedLine) (found : TreeHead × List NumberedLine) → SomeNodes d → head_from last d lines ≡ Ok found → 1 ≤ found.0.node_count
-some-found last d [] found some h = absurd cc
-some-found last d (line ∷ lines) found some h = by (descriptor_of line.text) h (λ e. some-found last e lines found)
+-- and so is the head of a section
+found-enough : (last : ℕ) (d : Described) (lines : List NumberedLine) (found : TreeHead × List NumberedLine) → AreEnough d → head_from last d lines ≡ Ok found → (1 ≤ found.0.node_count) × (2 ≤ found.0.states)
+found-enough last d [] found enough h = absurd cc
+found-enough last d (line ∷ lines) found enough h = by (descriptor_of line.text) h (λ e. found-enough last e lines found)
   where
-    by : (o : Option (Descriptor × List ℕ)) → option_map_or (λ x. ok_or (describe d x.0 x.1) (BadTree line.number) >>= λ e. head_from last e lines) o (ok_or (head_of d) (BadTree line.number) >>= λ head. Ok (head, line ∷ lines)) ≡ Ok found → ((e : Described) → SomeNodes e → head_from last e lines ≡ Ok found → 1 ≤ found.0.node_count) → 1 ≤ found.0.node_count
+    by : (o : Option (Descriptor × List ℕ)) → option_map_or (λ x. ok_or (describe d x.0 x.1) (BadTree line.number) >>= λ e. head_from last e lines) o (ok_or (head_of d) (BadTree line.number) >>= λ head. Ok (head, line ∷ lines)) ≡ Ok found → ((e : Described) → AreEnough e → head_from last e lines ≡ Ok found → (1 ≤ found.0.node_count) × (2 ≤ found.0.states)) → (1 ≤ found.0.node_count) × (2 ≤ found.0.states)
     by None ok rest =
         let head = then-ok (ok_or (head_of d) (BadTree line.number)) (λ (head : TreeHead). Ok (head, line ∷ lines)) found ok in
         let is : (head.0, line ∷ lines) ≡ found = cc in
-        subst (λ (x : TreeHead × List NumberedLine). 1 ≤ x.0.node_count) is (some-head d head.0 some (some-ok (head_of d) (BadTree line.number) head.0 head.1))
+        subst (λ (x : TreeHead × List NumberedLine). (1 ≤ x.0.node_count) × (2 ≤ x.0.states)) is (head-enough d head.0 enough (some-ok (head_of d) (BadTree line.number) head.0 head.1))
     by (Some x) ok rest =
         let e = then-ok (ok_or (describe d x.0 x.1) (BadTree line.number)) (λ e. head_from last e lines) found ok in
-        rest e.0 (some-described d x.0 x.1 e.0 some (some-ok (describe d x.0 x.1) (BadTree line.number) e.0 e.1)) e.2
-
--- states that are described are two at least
-abbrev TwoStates : Described → Type 0
-TwoStates d = (n : ℕ) → d.states ≡ Some n → 2 ≤ n
-
-two-counted : (value : List ℕ) (n : ℕ) → states_in value ≡ Some n → 2 ≤ n
-two-counted value n h =
-    let read = then-some (λ m. if nat_le least_states m && nat_le m most_states then Some m else None) (number_of value) n h in
-    let is = if-some (nat_le least_states read.0 && nat_le read.0 most_states) read.0 n read.2 in
-    let least : nat_le least_states read.0 ≡ true = (and_parts (nat_le least_states read.0) (nat_le read.0 most_states) is.0).0 in
-    let some : 2 ≤ read.0 = search (rules, tests) in
-    subst (λ m. 2 ≤ m) is.1 some
-
-two-described : (d : Described) (x : Descriptor) (value : List ℕ) (e : Described) → TwoStates d → describe d x value ≡ Some e → TwoStates e
-two-described d descriptor.States value e two h n at =
-    let made = map-some (λ m. record d { states = Some m }) (states_in value) e (once-some d.states (option_map (λ m. record d { states = Some m }) (states_in value)) e h) in
-    let is : Some made.0 ≡ Some n = ap (λ (f : Described). f.states) made.2 ∙ at in
-    two-counted value n (made.1 ∙ is)
-two-described d descriptor.Neighbors value e two h n at =
-    let made = map-some (λ m. record d { neighbors = Some m }) (neighbors_in value) e (once-some d.neighbors (option_map (λ m. record d { neighbors = Some m }) (neighbors_in value)) e h) in
-    two n (ap (λ (f : Described). f.states) made.2 ∙ at)
-two-described d descriptor.Nodes value e two h n at =
-    let made = map-some (λ m. record d { node_count = Some m }) (node_count_in value) e (once-some d.node_count (option_map (λ m. record d { node_count = Some m }) (node_count_in value)) e h) in
-    two n (ap (λ (f : Described). f.states) made.2 ∙ at)
-
-two-head : (d : Described) (head : TreeHead) → TwoStates d → head_of d ≡ Some head → 2 ≤ head.states
-two-head d head two h =
-    let one = then-some (λ states. option_and_then (λ neighbors. option_map (λ count. record { states = states; neighbors = neighbors; node_count = count }) d.node_count) d.neighbors) d.states head h in
-    let second = then-some (λ neighbors. option_map (λ count. record { states = one.0; neighbors = neighbors; node_count = count }) d.node_count) d.neighbors head one.2 in
-    let three = map-some (λ count. record { states = one.0; neighbors = second.0; node_count = count }) d.node_count head second.2 in
-    subst (λ n. 2 ≤ n) (ap (λ (t : TreeHead). t.states) three.2) (two one.0 one.1)
-
--- the head of a section has two too
-two-found : (last : ℕ) (d : Described) (lines : List NumberedLine) (found : TreeHead × List NumberedLine) → TwoStates d → head_from last d lines ≡ Ok found → 2 ≤ found.0.states
-two-found last d [] found two h = absurd cc
-two-found last d (line ∷ lines) found two h = by (descriptor_of line.text) h (λ e. two-found last e lines found)
-  where
-    by : (o : Option (Descriptor × List ℕ)) → option_map_or (λ x. ok_or (describe d x.0 x.1) (BadTree line.number) >>= λ e. head_from last e lines) o (ok_or (head_of d) (BadTree line.number) >>= λ head. Ok (head, line ∷ lines)) ≡ Ok found → ((e : Described) → TwoStates e → head_from last e lines ≡ Ok found → 2 ≤ found.0.states) → 2 ≤ found.0.states
-    by None ok rest =
-        let head = then-ok (ok_or (head_of d) (BadTree line.number)) (λ (head : TreeHead). Ok (head, line ∷ lines)) found ok in
-        let is : (head.0, line ∷ lines) ≡ found = cc in
-        subst (λ (x : TreeHead × List NumberedLine). 2 ≤ x.0.states) is (two-head d head.0 two (some-ok (head_of d) (BadTree line.number) head.0 head.1))
-    by (Some x) ok rest =
-        let e = then-ok (ok_or (describe d x.0 x.1) (BadTree line.number)) (λ e. head_from last e lines) found ok in
-        rest e.0 (two-described d x.0 x.1 e.0 two (some-ok (describe d x.0 x.1) (BadTree line.number) e.0 e.1)) e.2
+        rest e.0 (described-enough d x.0 x.1 e.0 enough (some-ok (describe d x.0 x.1) (BadTree line.number) e.0 e.1)) e.2
 
 -- a tree that a section says, by its head and its nodes
 pub record IsSaid (tree : Tree) : Type 0 where
@@ -264,14 +226,15 @@ section-says section tree h =
     let nodes = then-ok (nodes_from last found.0.0 [] found.0.1) (λ ns. if_quiescent (tree_from found.0.0 ns)) tree found.2 in
     let none : AreSaid found.0.0 [] = record { graded = record { same = refl; inside = λ number input l. absurd (omega (arith, l)); down = λ number input l. absurd (omega (arith, l)) }; leading = λ least number inputs l. absurd (omega (arith, l)); rooted = λ some. absurd (omega (arith, some)) } in
     let said = said-from last found.0.0 [] found.0.1 nodes.0 none nodes.1 in
+    let enough = found-enough last undescribed section.lines found.0 (record { some = λ n e. absurd cc; two = λ n e. absurd cc }) found.1 in
     record {
       head = found.0.0;
       nodes = nodes.0;
       is = (quiet (tree_from found.0.0 nodes.0) tree nodes.2).0;
       said = said.0;
       all = said.1;
-      some = some-found last undescribed section.lines found.0 (λ n e. absurd cc) found.1;
-      two = two-found last undescribed section.lines found.0 (λ n e. absurd cc) found.1;
+      some = enough.0;
+      two = enough.1;
       quiet = (quiet (tree_from found.0.0 nodes.0) tree nodes.2).1;
     }
   where
