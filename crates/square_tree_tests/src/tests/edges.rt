@@ -1,7 +1,7 @@
 ghost use Rattle.std.specs.Prelude.{◌≡◌, ◌≤◌, ◌^◌};
 
 use super::same;
-use square_tree::Patch;
+use square_tree::{Patch, PatchTree};
 use std::alloc::Global;
 use std::process::Abort;
 
@@ -93,4 +93,35 @@ fn a_single_cell_is_laid_on_its_place(rt: HostRuntime) {
     patch.lay(&cell).expect(&rt, "memory");
     let all = patch.window(-1, -1, 2, 2).expect(&rt, "memory");
     same(&rt, &all.as_slice(), &[1u8, 2, 3, 9].as_slice(), &"all");
+}
+
+// Stops the test where a patch has another level.
+fn has_level(rt: &impl Abort, alloc: Global, level: u8)
+    requires { level ≤ 62 }
+{
+    same(rt, &Patch::new(alloc, level).level(), &level, &level);
+}
+
+#[test]
+fn a_patch_has_its_level(rt: HostRuntime) {
+    let alloc = rt.alloc();
+    has_level(&rt, alloc, 0);
+    has_level(&rt, alloc, 1);
+    has_level(&rt, alloc, 62);
+}
+
+#[test]
+fn a_tree_says_what_the_patch_says(rt: HostRuntime) {
+    let alloc = rt.alloc();
+    assert!(&rt; matches!(Patch::new(alloc, 1).tree(), PatchTree::Keep));
+    let patch = block(&rt, alloc);
+    match patch.tree() {
+        PatchTree::Quad(four) => {
+            assert!(&rt; matches!(&four.nw, PatchTree::Cell(1)));
+            assert!(&rt; matches!(&four.ne, PatchTree::Cell(2)));
+            assert!(&rt; matches!(&four.sw, PatchTree::Cell(3)));
+            assert!(&rt; matches!(&four.se, PatchTree::Cell(4)));
+        }
+        _ => assert!(&rt; false, "a divided square"),
+    }
 }
