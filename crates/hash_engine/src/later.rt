@@ -32,6 +32,7 @@ pub struct Found<'a> {
 }
 
 // The result of a square of level 2, by the rule, which isn't asked for it again.
+#[inline(never)]
 fn put<Q: Ask>(
     table: &mut SquareTable<'_>,
     memo: &mut Memo,
@@ -61,8 +62,10 @@ fn put<Q: Ask>(
     Ok(made)
 }
 
-// The result of a square of level k + 2, remembered or not.
+// The result of a square of level k + 2, remembered or not. Most are, so that the look-up stands in
+// the loop that asks for several, and what it leads to doesn't.
 #[cycle(later)]
+#[inline(always)]
 fn later<Q: Ask, S: Stop>(
     table: &mut SquareTable<'_>,
     memo: &mut Memo,
@@ -106,6 +109,7 @@ fn later<Q: Ask, S: Stop>(
 
 // The result of a square of level k + 2 above level 2, which isn't remembered.
 #[cycle(later)]
+#[inline(never)]
 fn compute<Q: Ask, S: Stop>(
     table: &mut SquareTable<'_>,
     memo: &mut Memo,

@@ -78,6 +78,7 @@ fn centre(table: &mut SquareTable<'_>, number: u32, guess: u32) -> Result<u32, T
 }
 
 /// The square of half the side in the middle.
+#[inline(never)]
 pub(crate) fn middle(table: &mut SquareTable<'_>, number: u32) -> Result<u32, TableFault>
     requires { (k : ℕ) × IsNumber table.old.rows (suc (suc k)) number }
     ensures grows { Grows table.old table.new }
