@@ -19,6 +19,11 @@ pub record IsRight (next : List ℕ → ℕ) (rows : List (List ℕ)) (memo : Me
   pub full : AreKnown next (λ k. 2 ^ k) rows memo.full.items
   pub part : AreKnown next (λ k. get_or memo.counts k 0) rows memo.part.items
 
+-- each result that is remembered is right, and none is of the square of 4 by 4 cells with the number n by one generation
+pub record IsAnew (next : List ℕ → ℕ) (rows : List (List ℕ)) (memo : Memo) (generations n : ℕ) : Type 0 where
+  pub right : IsRight next rows memo
+  pub anew : generations ≡ 1 → get_or memo.full.items (n - first_number) 0 ≡ 0
+
 -- the one list has this result at the place i, and is the other elsewhere
 pub record IsNoted (i r : ℕ) (old new : List ℕ) : Type 0 where
   pub here : get_or new i 0 ≡ r

@@ -23,3 +23,8 @@ of_four ss = four (one (get_or ss 0 0)) (one (get_or ss 1 0)) (one (get_or ss 2 
 pub record IsReady (next : List ℕ → ℕ) (state_count : ℕ) (rows : List (List ℕ)) (k generations n : ℕ) : Type 0 where
   pub numbered : IsNumber rows (suc (suc k)) n
   pub below : Puts next k generations (square_in rows (suc (suc k)) n) (IsBelow state_count)
+
+-- n is the number of a square of 4 by 4 cells with states of the rule
+pub record CanBePut (state_count : ℕ) (rows : List (List ℕ)) (n : ℕ) : Type 0 where
+  pub numbered : IsNumber rows 2 n
+  pub below : IsBelow state_count (square_in rows 2 n)

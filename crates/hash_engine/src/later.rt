@@ -8,9 +8,9 @@ ghost use Rattle.square_table.specs.Squares.{IsNumber, IsHeld, square_in, Grows,
 ghost use Rattle.hash_life.specs.Result as hash_life;
 ghost use Rattle.hash_life.specs.Puts.{IsBelow, AsksOnce};
 ghost use Rattle.hash_engine.specs.Standing.{StandsFor, StandForAll, IsReady};
-ghost use Rattle.hash_engine.specs.Memo.{IsRight};
+ghost use Rattle.hash_engine.specs.Memo.{IsRight, IsAnew};
 ghost use Rattle.hash_engine.specs.Asked.{AsksForMore};
-ghost use Rattle.hash_engine.specs.Found.{IsSameRule, IsLater, IsEnd};
+ghost use Rattle.hash_engine.specs.Found.{IsSameRule, StaysRight, CanBeAsked, IsLater, IsEnd, AreCounts};
 
 use crate::counts::count_squares;
 use crate::fault::ResultFault;
@@ -43,13 +43,9 @@ fn put<Q: Ask>(
     requires some { 0 < generations }
     requires number { IsReady (Q.meaning rule.old) (Q.state_count rule.old)
         table.old.rows 0 generations number }
-    requires memo { IsRight (Q.meaning rule.old) table.old.rows memo.old }
-    requires anew { generations ≡ 1 →
-        get_or memo.old.full.items (number - first_number) 0 ≡ 0 }
-    ensures grows { Grows table.old table.new }
-    ensures rule { IsSameRule (Q.meaning rule.old) (Q.meaning rule.new)
-        (Q.state_count rule.old) (Q.state_count rule.new) }
-    ensures memo { IsRight (Q.meaning rule.old) table.new.rows memo.new }
+    requires memo { IsAnew (Q.meaning rule.old) table.old.rows memo.old generations number }
+    ensures stays { StaysRight (Q.meaning rule.old) (Q.meaning rule.new) (Q.state_count rule.old)
+        (Q.state_count rule.new) table.old table.new memo.new }
     ensures found { IfOk result (λ n. StandsFor table.new.rows 1 n
         (hash_life.result (Q.meaning rule.old) 0 generations
         (square_in table.old.rows 2 number))
@@ -79,10 +75,8 @@ fn later<Q: Ask, S: Stop>(
     requires number { IsReady (Q.meaning rule.old) (Q.state_count rule.old)
         table.old.rows k generations number }
     requires memo { IsRight (Q.meaning rule.old) table.old.rows memo.old }
-    ensures grows { Grows table.old table.new }
-    ensures rule { IsSameRule (Q.meaning rule.old) (Q.meaning rule.new)
-        (Q.state_count rule.old) (Q.state_count rule.new) }
-    ensures memo { IsRight (Q.meaning rule.old) table.new.rows memo.new }
+    ensures stays { StaysRight (Q.meaning rule.old) (Q.meaning rule.new) (Q.state_count rule.old)
+        (Q.state_count rule.new) table.old table.new memo.new }
     ensures end { IsEnd table.new (S.yes_count stop.old) (S.yes_count stop.new) result }
     ensures found { IfOk result (λ n. StandsFor table.new.rows (suc k) n
         (hash_life.result (Q.meaning rule.old) k generations
@@ -119,15 +113,12 @@ fn compute<Q: Ask, S: Stop>(
     generations: u64,
     number: u32,
 ) -> Result<u32, ResultFault>
-    requires some { 0 < generations }
-    requires k { (0 < k) × (k ≤ 61) }
+    requires above { (0 < generations) × (0 < k) × (k ≤ 61) }
     requires number { IsReady (Q.meaning rule.old) (Q.state_count rule.old)
         table.old.rows k generations number }
     requires memo { IsRight (Q.meaning rule.old) table.old.rows memo.old }
-    ensures grows { Grows table.old table.new }
-    ensures rule { IsSameRule (Q.meaning rule.old) (Q.meaning rule.new)
-        (Q.state_count rule.old) (Q.state_count rule.new) }
-    ensures memo { IsRight (Q.meaning rule.old) table.new.rows memo.new }
+    ensures stays { StaysRight (Q.meaning rule.old) (Q.meaning rule.new) (Q.state_count rule.old)
+        (Q.state_count rule.new) table.old table.new memo.new }
     ensures end { IsEnd table.new (S.yes_count stop.old) (S.yes_count stop.new) result }
     ensures found { IfOk result (λ n. StandsFor table.new.rows (suc k) n
         (hash_life.result (Q.meaning rule.old) k generations
@@ -166,10 +157,8 @@ fn all_later<Q: Ask, S: Stop>(
     requires numbers { All (IsReady (Q.meaning rule.old) (Q.state_count rule.old)
         table.old.rows k generations) numbers.old }
     requires memo { IsRight (Q.meaning rule.old) table.old.rows memo.old }
-    ensures grows { Grows table.old table.new }
-    ensures rule { IsSameRule (Q.meaning rule.old) (Q.meaning rule.new)
-        (Q.state_count rule.old) (Q.state_count rule.new) }
-    ensures memo { IsRight (Q.meaning rule.old) table.new.rows memo.new }
+    ensures stays { StaysRight (Q.meaning rule.old) (Q.meaning rule.new) (Q.state_count rule.old)
+        (Q.state_count rule.new) table.old table.new memo.new }
     ensures end { IsEnd table.new (S.yes_count stop.old) (S.yes_count stop.new) result }
     ensures found { OnOk result (((ss : List squares.Square) →
         StandForAll table.old.rows (suc (suc k)) numbers.old ss →
@@ -194,20 +183,14 @@ pub fn result<'a, Q: Ask, S: Stop>(
     generations: u64,
     stop: &mut S,
 ) -> Result<Found<'a>, ResultFault>
-    requires held { IsHeld table.old root }
-    requires level { (2 ≤ level_of root) × (level_of root ≤ 63) }
-    requires below { IsBelow (Q.state_count rule.old) (cells_of table.old root) }
+    requires { CanBeAsked (Q.state_count rule.old) table.old root }
     ensures grows { Grows table.old table.new }
     ensures rule { IsSameRule (Q.meaning rule.old) (Q.meaning rule.new)
         (Q.state_count rule.old) (Q.state_count rule.new) }
     ensures square { IfOk result (λ found. IsLater (Q.meaning rule.old) generations
         table.old root.entry table.new found.square) }
-    ensures counts { IfOk result (λ found. (found.base ≤ found.fours)
-        × (found.fours ≤ length table.new.rows)) }
-    ensures asks { IfOk result (λ found. (w : World) (x y : ℤ) →
-        generations ≤ 2 ^ (level_of root.entry - 2) →
-        cells_of table.old root.entry ≡ square_at w (level_of root.entry) x y →
-        AsksOnce (Q.meaning rule.old) w generations found.base
+    ensures counts { IfOk result (λ found. AreCounts (Q.meaning rule.old) generations
+        table.old root.entry table.new found.fours found.base
         (Q.asks rule.old) (Q.asks rule.new)) }
     ensures end { IsEnd table.new (S.yes_count stop.old) (S.yes_count stop.new) result }
 {

@@ -6,7 +6,7 @@ ghost use Rattle.worlds.specs.Square.{four};
 ghost use Rattle.square_table.specs.Squares.{IsNumber, square_in, Grows, kids_at};
 ghost use Rattle.hash_life.specs.Result.{between, amid, middle, later};
 ghost use Rattle.hash_life.specs.Puts.{nine_of, fours_of, IsBelow};
-ghost use Rattle.hash_engine.specs.Standing.{StandsFor, StandForAll, of_four};
+ghost use Rattle.hash_engine.specs.Standing.{StandsFor, StandForAll, CanBePut, of_four};
 ghost use Rattle.hash_engine.specs.Found.{IsSameRule};
 
 use square_table::{SquareTable, TableFault};
@@ -167,8 +167,7 @@ pub(crate) fn later<Q: Ask>(
     rule: &mut Q,
     number: u32,
 ) -> Result<u32, TableFault>
-    requires number { IsNumber table.old.rows 2 number }
-    requires below { IsBelow (Q.state_count rule.old) (square_in table.old.rows 2 number) }
+    requires { CanBePut (Q.state_count rule.old) table.old.rows number }
     ensures grows { Grows table.old table.new }
     ensures square { IfOk result (λ n.
         StandsFor table.new.rows 1 n

@@ -1,5 +1,7 @@
 -- What an engine reports of its work, and why it refuses.
-use Rattle.std.specs.Prelude.{ℕ, ◌≤◌, List, codes}
+use Rattle.std.specs.Prelude.{ℕ, ◌≤◌, ◌^◌, List, codes}
+use Rattle.worlds.specs.World.{World}
+use Rattle.worlds.specs.Range.{HasMargin, AllBelow}
 use Rattle.square_table.specs.declared.fault.TableFault.{TableFault}
 use Rattle.square_table.specs.declared.fault.TableFault.TheVariants as table
 use Rattle.hash_engine.specs.declared.fault.ResultFault.{ResultFault}
@@ -7,6 +9,12 @@ use Rattle.hash_engine.specs.declared.fault.ResultFault.TheVariants as results
 use Rattle.step_engine.specs.declared.evolved.Report.{Report}
 use Rattle.step_engine.specs.declared.evolved.EvolveFault.{EvolveFault}
 use Rattle.step_engine.specs.declared.evolved.EvolveFault.TheVariants.{NoRoom, Stopped, NoMemory}
+
+-- a pattern with states of the rule, and with room for so many generations, which are at most 2^60
+pub record CanEvolve (state_count generations : ℕ) (w : World) : Type 0 where
+  pub below : AllBelow state_count w
+  pub few : generations ≤ 2 ^ 60
+  pub fits : HasMargin generations w
 
 -- the report of an engine that shares nothing
 abbrev pub nothing_shared : Report

@@ -1,9 +1,8 @@
 //! Many generations of a plane, one after another.
-ghost use Rattle.std.specs.Prelude.{◌≡◌, ◌≢◌, ◌≤◌, ◌^◌, ◌+◌, IfOk, Err};
+ghost use Rattle.std.specs.Prelude.{◌≡◌, ◌≢◌, ◌+◌, IfOk, Err};
 ghost use Rattle.worlds.specs.Iterate.{iterate};
 ghost use Rattle.worlds.specs.Step.{step};
-ghost use Rattle.worlds.specs.Range.{HasMargin, AllBelow};
-ghost use Rattle.step_engine.specs.Evolved.{nothing_shared};
+ghost use Rattle.step_engine.specs.Evolved.{CanEvolve, nothing_shared};
 
 use crate::evolved::{EvolveFault, Evolved, Report};
 use crate::generation::{Generation, next_generation};
@@ -31,9 +30,7 @@ pub fn evolve_plain<R: Next, S: Stop>(
     stop: &mut S,
     _limit: u32,
 ) -> Result<Evolved, EvolveFault>
-    requires below { AllBelow (R.state_count rule.now) plane.now }
-    requires few { generations ≤ 2 ^ 60 }
-    requires fits { HasMargin generations plane.now }
+    requires { CanEvolve (R.state_count rule.now) generations plane.now }
     ensures plane { IfOk result (λ evolved.
         evolved.plane ≡ iterate generations (step (R.meaning rule.now)) plane.now) }
     ensures report { IfOk result (λ evolved. evolved.report ≡ nothing_shared) }

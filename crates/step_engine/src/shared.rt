@@ -1,10 +1,9 @@
 //! Many generations of a plane at once, by squares that are shared.
-ghost use Rattle.std.specs.Prelude.{◌≡◌, ◌≢◌, ◌≤◌, ◌^◌, ◌+◌, IfOk, Err};
+ghost use Rattle.std.specs.Prelude.{◌≡◌, ◌≢◌, ◌+◌, IfOk, Err};
 ghost use Rattle.worlds.specs.Iterate.{iterate};
 ghost use Rattle.worlds.specs.Step.{step};
-ghost use Rattle.worlds.specs.Range.{HasMargin, AllBelow};
 ghost use Rattle.hash_life.specs.Puts.{AsksOnce};
-ghost use Rattle.step_engine.specs.Evolved.{IsWithin};
+ghost use Rattle.step_engine.specs.Evolved.{CanEvolve, IsWithin};
 
 use crate::evolved::{EvolveFault, Evolved, Report};
 use crate::padding::with_room;
@@ -34,9 +33,7 @@ pub fn evolve_by<Q: Ask, S: Stop>(
     stop: &mut S,
     limit: u32,
 ) -> Result<Evolved, EvolveFault>
-    requires below { AllBelow (Q.state_count rule.old) plane.now }
-    requires few { generations ≤ 2 ^ 60 }
-    requires fits { HasMargin generations plane.now }
+    requires { CanEvolve (Q.state_count rule.old) generations plane.now }
     ensures plane { IfOk result (λ evolved.
         evolved.plane ≡ iterate generations (step (Q.meaning rule.old)) plane.now) }
     ensures report { IfOk result (λ evolved. IsWithin limit evolved.report) }
@@ -74,9 +71,7 @@ pub fn evolve<R: Next, S: Stop>(
     stop: &mut S,
     limit: u32,
 ) -> Result<Evolved, EvolveFault>
-    requires below { AllBelow (R.state_count rule.now) plane.now }
-    requires few { generations ≤ 2 ^ 60 }
-    requires fits { HasMargin generations plane.now }
+    requires { CanEvolve (R.state_count rule.now) generations plane.now }
     ensures plane { IfOk result (λ evolved.
         evolved.plane ≡ iterate generations (step (R.meaning rule.now)) plane.now) }
     ensures report { IfOk result (λ evolved. IsWithin limit evolved.report) }

@@ -10,7 +10,7 @@ use Rattle.hash_engine.specs.Memo.{IsRight}
 use Rattle.hash_engine.specs.Asked.{AsksForMore}
 use Rattle.hash_engine.proofs.Standing.{above}
 use Rattle.hash_engine.proofs.Memos.{IsRight-grows, IsResult-made}
-use Rattle.hash_engine.proofs.Computed.{IsReady-lower, IsReady-same, IsRight-same, IsRight-back, IsSameRule-then, nine_stand, nine_ready, fours_ready, StandsFor-computed, StandsFor-higher, none_stands}
+use Rattle.hash_engine.proofs.Computed.{IsReady-lower, IsReady-same, IsRight-same, IsRight-back, IsSameRule-itself, IsSameRule-then, nine_stand, nine_ready, fours_ready, StandsFor-computed, StandsFor-higher, none_stands}
 use Rattle.hash_engine.proofs.Puts.{none_put, higher_remembered}
 use Rattle.hash_engine.proofs.Once.{asked_in_two, asked_turn}
 use Rattle.hash_engine.proofs.Turns.{IsReady-turn, square_in-turn, result-turn, done_more, rest_more, StandForAll-done}
@@ -29,12 +29,12 @@ all_later-loop-number-preserved g t c =
     let i = c.loop-number.number-index in
     let below : i < length c.args.numbers.now = c.loop-number-test.true in
     record {
-      grows = Grows-then c.args.table.now c.loop-number.table c.later.new.table c.loop-number.invariant.grows c.in_ok-number.ensures.grows;
-      rule = IsSameRule-then (g.Q.Ask.meaning c.args.rule.now) (g.Q.Ask.meaning c.loop-number.rule) (g.Q.Ask.meaning c.later.new.rule) (g.Q.Ask.state_count c.args.rule.now) (g.Q.Ask.state_count c.loop-number.rule) (g.Q.Ask.state_count c.later.new.rule) c.loop-number.invariant.rule c.in_ok-number.ensures.rule;
-      memo = IsRight-back (g.Q.Ask.meaning c.args.rule.now) (g.Q.Ask.meaning c.loop-number.rule) (g.Q.Ask.state_count c.args.rule.now) (g.Q.Ask.state_count c.loop-number.rule) c.later.new.table.rows c.later.new.memo c.loop-number.invariant.rule c.in_ok-number.ensures.memo;
+      grows = Grows-then c.args.table.now c.loop-number.table c.later.new.table c.loop-number.invariant.grows c.in_ok-number.ensures.stays.grows;
+      rule = IsSameRule-then (g.Q.Ask.meaning c.args.rule.now) (g.Q.Ask.meaning c.loop-number.rule) (g.Q.Ask.meaning c.later.new.rule) (g.Q.Ask.state_count c.args.rule.now) (g.Q.Ask.state_count c.loop-number.rule) (g.Q.Ask.state_count c.later.new.rule) c.loop-number.invariant.rule c.in_ok-number.ensures.stays.rule;
+      memo = IsRight-back (g.Q.Ask.meaning c.args.rule.now) (g.Q.Ask.meaning c.loop-number.rule) (g.Q.Ask.state_count c.args.rule.now) (g.Q.Ask.state_count c.loop-number.rule) c.later.new.table.rows c.later.new.memo c.loop-number.invariant.rule c.in_ok-number.ensures.stays.right;
       went_on = c.in_ok-number.ensures.end.went_on (λ e. search rules) ∙ c.loop-number.invariant.went_on;
       count = length-set c.loop-number.numbers i c.in_ok-number.field-0 ∙ c.loop-number.invariant.count;
-      done = done_more (g.Q.Ask.meaning c.args.rule.now) c.args.table.now c.loop-number.table c.later.new.table c.args.k c.args.generations c.args.numbers.now c.loop-number.numbers i c.in_ok-number.field-0 (omega (arith, below, c.loop-number.invariant.count)) c.in_ok-number.ensures.grows c.loop-number.invariant.done
+      done = done_more (g.Q.Ask.meaning c.args.rule.now) c.args.table.now c.loop-number.table c.later.new.table c.args.k c.args.generations c.args.numbers.now c.loop-number.numbers i c.in_ok-number.field-0 (omega (arith, below, c.loop-number.invariant.count)) c.in_ok-number.ensures.stays.grows c.loop-number.invariant.done
           (result-turn (g.Q.Ask.meaning c.args.rule.now) (g.Q.Ask.meaning c.loop-number.rule) (g.Q.Ask.state_count c.args.rule.now) (g.Q.Ask.state_count c.loop-number.rule) c.args.table.now c.loop-number.table c.later.new.table.rows c.args.k c.args.generations c.args.numbers.now c.loop-number.numbers i c.in_ok-number.field-0 _ c.loop-number.invariant.rule c.loop-number.invariant.grows c.requires.numbers below c.loop-number.invariant.rest c.in_ok-number.ensures.found.0);
       asks =
           let more = subst (λ f. AsksForMore f c.args.k c.args.generations (get_or c.loop-number.numbers i 0 ∷ []) c.loop-number.table c.later.new.table c.loop-number.memo c.later.new.memo (g.Q.Ask.asks c.loop-number.rule) (g.Q.Ask.asks c.later.new.rule)) c.loop-number.invariant.rule.meaning c.in_ok-number.ensures.found.1 in
@@ -51,70 +51,94 @@ all_later-returns-clause-found g t c = (
   c.loop-number.invariant.asks,
 )
 
-pub compute-returns-in_err-nine-clause-memo : goal.compute-returns-in_err-nine-clause-memo
-compute-returns-in_err-nine-clause-memo g t c = IsRight-grows (g.Q.Ask.meaning c.args.rule.now) c.args.table.now c.nine.new.table c.args.memo.now c.nine.ensures.grows c.requires.memo
+pub compute-returns-in_err-nine-clause-stays : goal.compute-returns-in_err-nine-clause-stays
+compute-returns-in_err-nine-clause-stays g t c = record {
+  grows = c.nine.ensures.grows;
+  rule = IsSameRule-itself (g.Q.Ask.meaning c.args.rule.now) (g.Q.Ask.state_count c.args.rule.now);
+  right =
+      IsRight-grows (g.Q.Ask.meaning c.args.rule.now) c.args.table.now c.nine.new.table c.args.memo.now c.nine.ensures.grows c.requires.memo;
+}
 
 pub compute-all_later-requires : goal.compute-all_later-requires
 compute-all_later-requires g t c κs within =
     let j = c.args.k - 1 in
-    let level : suc j ≡ c.args.k = omega (arith, c.requires.k.0) in
+    let level : suc j ≡ c.args.k = omega (arith, c.requires.above.1) in
     let first : c.min-first.result ≡ min c.args.generations (2 ^ j) = c.min-first.ensures ∙ ap (min c.args.generations) c.full.ensures in
     let lower : IsReady (g.Q.Ask.meaning c.args.rule.now) (g.Q.Ask.state_count c.args.rule.now) c.args.table.now.rows (suc j) c.args.generations c.args.number = IsReady-lower (g.Q.Ask.meaning c.args.rule.now) (g.Q.Ask.state_count c.args.rule.now) c.args.table.now.rows c.args.k j c.args.generations c.args.number level c.requires.number in
     let nine = nine_stand c.args.table.now c.nine.new.table j c.args.number _ lower.numbered c.in_ok-nine.ensures.squares in
-    let ready : All (IsReady (g.Q.Ask.meaning c.args.rule.now) (g.Q.Ask.state_count c.args.rule.now) c.nine.new.table.rows j c.min-first.result) c.in_ok-nine.nine = nine_ready (g.Q.Ask.meaning c.args.rule.now) (g.Q.Ask.state_count c.args.rule.now) c.args.table.now c.nine.new.table j c.args.generations c.min-first.result c.args.number _ c.requires.some first lower nine in
+    let ready : All (IsReady (g.Q.Ask.meaning c.args.rule.now) (g.Q.Ask.state_count c.args.rule.now) c.nine.new.table.rows j c.min-first.result) c.in_ok-nine.nine = nine_ready (g.Q.Ask.meaning c.args.rule.now) (g.Q.Ask.state_count c.args.rule.now) c.args.table.now c.nine.new.table j c.args.generations c.min-first.result c.args.number _ c.requires.above.0 first lower nine in
     let memo : IsRight (g.Q.Ask.meaning c.args.rule.now) c.nine.new.table.rows c.args.memo.now = IsRight-grows (g.Q.Ask.meaning c.args.rule.now) c.args.table.now c.nine.new.table c.args.memo.now c.in_ok-nine.ensures.grows c.requires.memo in
     search rules
 
-pub compute-returns-in_err-fours-clause-memo : goal.compute-returns-in_err-fours-clause-memo
-compute-returns-in_err-fours-clause-memo g t c = IsRight-grows (g.Q.Ask.meaning c.args.rule.now) c.all_later.new.table c.fours.new.table c.all_later.new.memo c.fours.ensures.grows c.in_ok-all_later.ensures.memo
+pub compute-returns-in_err-fours-clause-stays : goal.compute-returns-in_err-fours-clause-stays
+compute-returns-in_err-fours-clause-stays g t c = record {
+  grows = Grows-then c.args.table.now c.all_later.new.table c.fours.new.table (Grows-then c.args.table.now c.nine.new.table c.all_later.new.table c.in_ok-nine.ensures.grows c.in_ok-all_later.ensures.stays.grows) c.fours.ensures.grows;
+  rule = c.in_ok-all_later.ensures.stays.rule;
+  right =
+      IsRight-grows (g.Q.Ask.meaning c.args.rule.now) c.all_later.new.table c.fours.new.table c.all_later.new.memo c.fours.ensures.grows c.in_ok-all_later.ensures.stays.right;
+}
 
 pub compute-all_later-requires-2 : goal.compute-all_later-requires-2
 compute-all_later-requires-2 g t c κs within =
     let j = c.args.k - 1 in
-    let level : suc j ≡ c.args.k = omega (arith, c.requires.k.0) in
+    let level : suc j ≡ c.args.k = omega (arith, c.requires.above.1) in
     let first : c.min-first.result ≡ min c.args.generations (2 ^ j) = c.min-first.ensures ∙ ap (min c.args.generations) c.full.ensures in
     let lower : IsReady (g.Q.Ask.meaning c.args.rule.now) (g.Q.Ask.state_count c.args.rule.now) c.args.table.now.rows (suc j) c.args.generations c.args.number = IsReady-lower (g.Q.Ask.meaning c.args.rule.now) (g.Q.Ask.state_count c.args.rule.now) c.args.table.now.rows c.args.k j c.args.generations c.args.number level c.requires.number in
     let nine = nine_stand c.args.table.now c.nine.new.table j c.args.number _ lower.numbered c.in_ok-nine.ensures.squares in
     let fours = c.in_ok-fours.ensures.squares (suc j) _ (c.in_ok-all_later.ensures.found.0 _ nine) in
     let ready : All (IsReady (g.Q.Ask.meaning c.all_later.new.rule) (g.Q.Ask.state_count c.all_later.new.rule) c.fours.new.table.rows j (c.args.generations - c.min-first.result)) c.in_ok-fours.fours =
-    IsReady-same (g.Q.Ask.meaning c.args.rule.now) (g.Q.Ask.meaning c.all_later.new.rule) (g.Q.Ask.state_count c.args.rule.now) (g.Q.Ask.state_count c.all_later.new.rule) c.fours.new.table.rows j (c.args.generations - c.min-first.result) _ c.in_ok-all_later.ensures.rule
-    (fours_ready (g.Q.Ask.meaning c.args.rule.now) (g.Q.Ask.state_count c.args.rule.now) c.args.table.now c.fours.new.table j c.args.generations c.min-first.result c.args.number _ c.requires.some first lower fours) in
-    let memo : IsRight (g.Q.Ask.meaning c.all_later.new.rule) c.fours.new.table.rows c.all_later.new.memo = IsRight-same (g.Q.Ask.meaning c.args.rule.now) (g.Q.Ask.meaning c.all_later.new.rule) (g.Q.Ask.state_count c.args.rule.now) (g.Q.Ask.state_count c.all_later.new.rule) c.fours.new.table.rows c.all_later.new.memo c.in_ok-all_later.ensures.rule
-    (IsRight-grows (g.Q.Ask.meaning c.args.rule.now) c.all_later.new.table c.fours.new.table c.all_later.new.memo c.in_ok-fours.ensures.grows c.in_ok-all_later.ensures.memo) in
+    IsReady-same (g.Q.Ask.meaning c.args.rule.now) (g.Q.Ask.meaning c.all_later.new.rule) (g.Q.Ask.state_count c.args.rule.now) (g.Q.Ask.state_count c.all_later.new.rule) c.fours.new.table.rows j (c.args.generations - c.min-first.result) _ c.in_ok-all_later.ensures.stays.rule
+    (fours_ready (g.Q.Ask.meaning c.args.rule.now) (g.Q.Ask.state_count c.args.rule.now) c.args.table.now c.fours.new.table j c.args.generations c.min-first.result c.args.number _ c.requires.above.0 first lower fours) in
+    let memo : IsRight (g.Q.Ask.meaning c.all_later.new.rule) c.fours.new.table.rows c.all_later.new.memo = IsRight-same (g.Q.Ask.meaning c.args.rule.now) (g.Q.Ask.meaning c.all_later.new.rule) (g.Q.Ask.state_count c.args.rule.now) (g.Q.Ask.state_count c.all_later.new.rule) c.fours.new.table.rows c.all_later.new.memo c.in_ok-all_later.ensures.stays.rule
+    (IsRight-grows (g.Q.Ask.meaning c.args.rule.now) c.all_later.new.table c.fours.new.table c.all_later.new.memo c.in_ok-fours.ensures.grows c.in_ok-all_later.ensures.stays.right) in
     search rules
 
-pub compute-returns-clause-memo : goal.compute-returns-clause-memo
-compute-returns-clause-memo g t c =
-    IsRight-grows (g.Q.Ask.meaning c.args.rule.now) c.all_later-2.new.table c.join_numbers.new.self c.all_later-2.new.memo c.in_ok-join_numbers.ensures.grows
-    (IsRight-back (g.Q.Ask.meaning c.args.rule.now) (g.Q.Ask.meaning c.all_later.new.rule) (g.Q.Ask.state_count c.args.rule.now) (g.Q.Ask.state_count c.all_later.new.rule) c.all_later-2.new.table.rows c.all_later-2.new.memo c.in_ok-all_later.ensures.rule c.in_ok-all_later-2.ensures.memo)
+pub compute-returns-clause-stays : goal.compute-returns-clause-stays
+compute-returns-clause-stays g t c = record {
+  grows = Grows-then c.args.table.now c.all_later-2.new.table c.join_numbers.new.self (Grows-then c.args.table.now c.fours.new.table c.all_later-2.new.table (Grows-then c.args.table.now c.all_later.new.table c.fours.new.table (Grows-then c.args.table.now c.nine.new.table c.all_later.new.table c.in_ok-nine.ensures.grows c.in_ok-all_later.ensures.stays.grows) c.in_ok-fours.ensures.grows) c.in_ok-all_later-2.ensures.stays.grows) c.in_ok-join_numbers.ensures.grows;
+  rule = IsSameRule-then (g.Q.Ask.meaning c.args.rule.now) (g.Q.Ask.meaning c.all_later.new.rule) (g.Q.Ask.meaning c.all_later-2.new.rule) (g.Q.Ask.state_count c.args.rule.now) (g.Q.Ask.state_count c.all_later.new.rule) (g.Q.Ask.state_count c.all_later-2.new.rule) c.in_ok-all_later.ensures.stays.rule c.in_ok-all_later-2.ensures.stays.rule;
+  right =
+      IsRight-grows (g.Q.Ask.meaning c.args.rule.now) c.all_later-2.new.table c.join_numbers.new.self c.all_later-2.new.memo c.in_ok-join_numbers.ensures.grows
+      (IsRight-back (g.Q.Ask.meaning c.args.rule.now) (g.Q.Ask.meaning c.all_later.new.rule) (g.Q.Ask.state_count c.args.rule.now) (g.Q.Ask.state_count c.all_later.new.rule) c.all_later-2.new.table.rows c.all_later-2.new.memo c.in_ok-all_later.ensures.stays.rule c.in_ok-all_later-2.ensures.stays.right);
+}
 
 pub compute-returns-clause-found : goal.compute-returns-clause-found
 compute-returns-clause-found g t c =
     let j = c.args.k - 1 in
-    let level : suc j ≡ c.args.k = omega (arith, c.requires.k.0) in
+    let level : suc j ≡ c.args.k = omega (arith, c.requires.above.1) in
     let first : c.min-first.result ≡ min c.args.generations (2 ^ j) = c.min-first.ensures ∙ ap (min c.args.generations) c.full.ensures in
     let lower : IsReady (g.Q.Ask.meaning c.args.rule.now) (g.Q.Ask.state_count c.args.rule.now) c.args.table.now.rows (suc j) c.args.generations c.args.number = IsReady-lower (g.Q.Ask.meaning c.args.rule.now) (g.Q.Ask.state_count c.args.rule.now) c.args.table.now.rows c.args.k j c.args.generations c.args.number level c.requires.number in
     let nine = nine_stand c.args.table.now c.nine.new.table j c.args.number _ lower.numbered c.in_ok-nine.ensures.squares in
     let fours = c.in_ok-fours.ensures.squares (suc j) _ (c.in_ok-all_later.ensures.found.0 _ nine) in
     let later = c.in_ok-all_later-2.ensures.found.0 _ fours in
-    let same : (g.Q.Ask.meaning c.all_later.new.rule) ≡ (g.Q.Ask.meaning c.args.rule.now) = c.in_ok-all_later.ensures.rule.meaning in
-    let then = subst (λ f. AsksForMore f j (c.args.generations - c.min-first.result) c.in_ok-fours.fours c.fours.new.table c.all_later-2.new.table c.all_later.new.memo c.all_later-2.new.memo (g.Q.Ask.asks c.all_later.new.rule) (g.Q.Ask.asks c.all_later-2.new.rule)) c.in_ok-all_later.ensures.rule.meaning c.in_ok-all_later-2.ensures.found.1 in (
+    let same : (g.Q.Ask.meaning c.all_later.new.rule) ≡ (g.Q.Ask.meaning c.args.rule.now) = c.in_ok-all_later.ensures.stays.rule.meaning in
+    let then = subst (λ f. AsksForMore f j (c.args.generations - c.min-first.result) c.in_ok-fours.fours c.fours.new.table c.all_later-2.new.table c.all_later.new.memo c.all_later-2.new.memo (g.Q.Ask.asks c.all_later.new.rule) (g.Q.Ask.asks c.all_later-2.new.rule)) c.in_ok-all_later.ensures.stays.rule.meaning c.in_ok-all_later-2.ensures.found.1 in (
       StandsFor-higher (g.Q.Ask.meaning c.args.rule.now) c.args.table.now.rows c.join_numbers.new.self.rows c.args.k j c.args.generations c.args.number c.in_ok-join_numbers.field-0 level
-          (StandsFor-computed (g.Q.Ask.meaning c.args.rule.now) j c.args.generations c.min-first.result c.args.table.now c.all_later-2.new.table c.join_numbers.new.self c.args.number c.in_ok-join_numbers.field-0 c.all_later-2.new.numbers c.requires.some first lower.numbered
+          (StandsFor-computed (g.Q.Ask.meaning c.args.rule.now) j c.args.generations c.min-first.result c.args.table.now c.all_later-2.new.table c.join_numbers.new.self c.args.number c.in_ok-join_numbers.field-0 c.all_later-2.new.numbers c.requires.above.0 first lower.numbered
           c.in_ok-join_numbers.ensures.grows c.in_ok-join_numbers.ensures.square
           (subst (λ f. StandForAll c.all_later-2.new.table.rows (suc j) c.all_later-2.new.numbers (map (hash_life.result f j (c.args.generations - c.min-first.result)) (fours_of (map (hash_life.result (g.Q.Ask.meaning c.args.rule.now) j c.min-first.result) (nine_of (square_in c.args.table.now.rows (suc (suc (suc j))) c.args.number)))))) same later)),
       asked_in_two (g.Q.Ask.meaning c.args.rule.now) c.args.k j c.args.generations c.min-first.result c.args.number _ _ c.args.table.now c.nine.new.table c.all_later.new.table c.fours.new.table c.all_later-2.new.table c.join_numbers.new.self
-          c.args.memo.now c.all_later.new.memo c.all_later-2.new.memo _ _ _ level c.requires.some first nine fours c.in_ok-nine.ensures.grows c.in_ok-fours.ensures.grows c.in_ok-join_numbers.ensures.grows
-          c.requires.memo c.in_ok-all_later.ensures.memo
-          (IsRight-back (g.Q.Ask.meaning c.args.rule.now) (g.Q.Ask.meaning c.all_later.new.rule) (g.Q.Ask.state_count c.args.rule.now) (g.Q.Ask.state_count c.all_later.new.rule) c.all_later-2.new.table.rows c.all_later-2.new.memo c.in_ok-all_later.ensures.rule c.in_ok-all_later-2.ensures.memo)
+          c.args.memo.now c.all_later.new.memo c.all_later-2.new.memo _ _ _ level c.requires.above.0 first nine fours c.in_ok-nine.ensures.grows c.in_ok-fours.ensures.grows c.in_ok-join_numbers.ensures.grows
+          c.requires.memo c.in_ok-all_later.ensures.stays.right
+          (IsRight-back (g.Q.Ask.meaning c.args.rule.now) (g.Q.Ask.meaning c.all_later.new.rule) (g.Q.Ask.state_count c.args.rule.now) (g.Q.Ask.state_count c.all_later.new.rule) c.all_later-2.new.table.rows c.all_later-2.new.memo c.in_ok-all_later.ensures.stays.rule c.in_ok-all_later-2.ensures.stays.right)
           c.in_ok-all_later.ensures.found.1 then,
     )
 
-pub later-returns-in_err-middle-clause-memo : goal.later-returns-in_err-middle-clause-memo
-later-returns-in_err-middle-clause-memo g t c = IsRight-grows (g.Q.Ask.meaning c.args.rule.now) c.args.table.now c.middle.new.table c.args.memo.now c.middle.ensures.grows c.requires.memo
+pub later-returns-in_err-middle-clause-stays : goal.later-returns-in_err-middle-clause-stays
+later-returns-in_err-middle-clause-stays g t c = record {
+  grows = c.middle.ensures.grows;
+  rule = IsSameRule-itself (g.Q.Ask.meaning c.args.rule.now) (g.Q.Ask.state_count c.args.rule.now);
+  right =
+      IsRight-grows (g.Q.Ask.meaning c.args.rule.now) c.args.table.now c.middle.new.table c.args.memo.now c.middle.ensures.grows c.requires.memo;
+}
 
-pub later-returns-then-generations-eq0-clause-memo : goal.later-returns-then-generations-eq0-clause-memo
-later-returns-then-generations-eq0-clause-memo g t c = IsRight-grows (g.Q.Ask.meaning c.args.rule.now) c.args.table.now c.middle.new.table c.args.memo.now c.middle.ensures.grows c.requires.memo
+pub later-returns-then-generations-eq0-clause-stays : goal.later-returns-then-generations-eq0-clause-stays
+later-returns-then-generations-eq0-clause-stays g t c = record {
+  grows = c.in_ok-middle.ensures.grows;
+  rule = IsSameRule-itself (g.Q.Ask.meaning c.args.rule.now) (g.Q.Ask.state_count c.args.rule.now);
+  right =
+      IsRight-grows (g.Q.Ask.meaning c.args.rule.now) c.args.table.now c.middle.new.table c.args.memo.now c.middle.ensures.grows c.requires.memo;
+}
 
 pub later-returns-then-generations-eq0-clause-found : goal.later-returns-then-generations-eq0-clause-found
 later-returns-then-generations-eq0-clause-found g t c = (
@@ -128,21 +152,29 @@ later-recall-requires-clause-number g t c = above _ (suc c.args.k) _ c.requires.
 pub later-remember-requires-clause-number : goal.later-remember-requires-clause-number
 later-remember-requires-clause-number g t c = above _ (suc c.args.k) _ c.requires.number.numbered
 
-pub later-returns-in_err-remember-clause-memo : goal.later-returns-in_err-remember-clause-memo
-later-returns-in_err-remember-clause-memo g t c =
-    let grown = c.in_ok-made.ensures.grows in
-    c.remember.ensures.right (g.Q.Ask.meaning c.args.rule.now) c.compute.new.table.rows c.in_ok-made.ensures.memo
-    (IsResult-made (g.Q.Ask.meaning c.args.rule.now) c.args.table.now c.compute.new.table c.args.k c.args.generations c.args.number c.in_ok-made.made grown c.requires.number.numbered c.in_ok-made.ensures.found.0)
+pub later-returns-in_err-remember-clause-stays : goal.later-returns-in_err-remember-clause-stays
+later-returns-in_err-remember-clause-stays g t c = record {
+  grows = c.in_ok-made.ensures.stays.grows;
+  rule = c.in_ok-made.ensures.stays.rule;
+  right =
+      let grown = c.in_ok-made.ensures.stays.grows in
+      c.remember.ensures.right (g.Q.Ask.meaning c.args.rule.now) c.compute.new.table.rows c.in_ok-made.ensures.stays.right
+      (IsResult-made (g.Q.Ask.meaning c.args.rule.now) c.args.table.now c.compute.new.table c.args.k c.args.generations c.args.number c.in_ok-made.made grown c.requires.number.numbered c.in_ok-made.ensures.found.0);
+}
 
-pub later-returns-clause-memo : goal.later-returns-clause-memo
-later-returns-clause-memo g t c =
-    let grown = c.in_ok-made.ensures.grows in
-    c.remember.ensures.right (g.Q.Ask.meaning c.args.rule.now) c.compute.new.table.rows c.in_ok-made.ensures.memo
-    (IsResult-made (g.Q.Ask.meaning c.args.rule.now) c.args.table.now c.compute.new.table c.args.k c.args.generations c.args.number c.in_ok-made.made grown c.requires.number.numbered c.in_ok-made.ensures.found.0)
+pub later-returns-clause-stays : goal.later-returns-clause-stays
+later-returns-clause-stays g t c = record {
+  grows = c.in_ok-made.ensures.stays.grows;
+  rule = c.in_ok-made.ensures.stays.rule;
+  right =
+      let grown = c.in_ok-made.ensures.stays.grows in
+      c.remember.ensures.right (g.Q.Ask.meaning c.args.rule.now) c.compute.new.table.rows c.in_ok-made.ensures.stays.right
+      (IsResult-made (g.Q.Ask.meaning c.args.rule.now) c.args.table.now c.compute.new.table c.args.k c.args.generations c.args.number c.in_ok-made.made grown c.requires.number.numbered c.in_ok-made.ensures.found.0);
+}
 
 pub later-returns-clause-found : goal.later-returns-clause-found
 later-returns-clause-found g t c = (
   c.in_ok-made.ensures.found.0,
   higher_remembered (g.Q.Ask.meaning c.args.rule.now) c.args.k c.args.generations c.args.number c.in_ok-made.made (c.args.number ∷ []) c.args.table.now c.compute.new.table c.args.memo.now c.compute.new.memo c.remember.new.self (g.Q.Ask.asks c.args.rule.now) (g.Q.Ask.asks c.compute.new.rule)
-      (omega (arith, c.if-k-eq0.false)) (IsNumber-grows c.args.table.now c.compute.new.table (suc (suc c.args.k)) c.args.number c.in_ok-made.ensures.grows c.requires.number.numbered) c.in_ok-remember.ensures.noted c.in_ok-made.ensures.found.1,
+      (omega (arith, c.if-k-eq0.false)) (IsNumber-grows c.args.table.now c.compute.new.table (suc (suc c.args.k)) c.args.number c.in_ok-made.ensures.stays.grows c.requires.number.numbered) c.in_ok-remember.ensures.noted c.in_ok-made.ensures.found.1,
 )

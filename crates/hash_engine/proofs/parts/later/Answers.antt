@@ -9,22 +9,22 @@ use Rattle.hash_engine.proofs.Standing.{above, within, quadrant_numbers}
 use Rattle.hash_engine.proofs.parts.later.Goals as goal
 
 pub quadrants-requires-clause-above : goal.quadrants-requires-clause-above
-quadrants-requires-clause-above g c = above _ 1 _ c.requires.number
+quadrants-requires-clause-above g c = above _ 1 _ c.requires.numbered
 
 pub quadrants-requires-clause-there : goal.quadrants-requires-clause-there
-quadrants-requires-clause-there g c = within _ 1 _ c.requires.number
+quadrants-requires-clause-there g c = within _ 1 _ c.requires.numbered
 
 pub states-requires : goal.states-requires
-states-requires g c = (quadrant_numbers _ 1 _ _ c.quadrants.ensures c.requires.number).nw
+states-requires g c = (quadrant_numbers _ 1 _ _ c.quadrants.ensures c.requires.numbered).nw
 
 pub states-requires-2 : goal.states-requires-2
-states-requires-2 g c = (quadrant_numbers _ 1 _ _ c.quadrants.ensures c.requires.number).ne
+states-requires-2 g c = (quadrant_numbers _ 1 _ _ c.quadrants.ensures c.requires.numbered).ne
 
 pub states-requires-3 : goal.states-requires-3
-states-requires-3 g c = (quadrant_numbers _ 1 _ _ c.quadrants.ensures c.requires.number).sw
+states-requires-3 g c = (quadrant_numbers _ 1 _ _ c.quadrants.ensures c.requires.numbered).sw
 
 pub states-requires-4 : goal.states-requires-4
-states-requires-4 g c = (quadrant_numbers _ 1 _ _ c.quadrants.ensures c.requires.number).se
+states-requires-4 g c = (quadrant_numbers _ 1 _ _ c.quadrants.ensures c.requires.numbered).se
 
 pub ask_four-requires : goal.ask_four-requires
 ask_four-requires g c =

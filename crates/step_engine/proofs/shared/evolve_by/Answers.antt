@@ -7,8 +7,10 @@ use Rattle.square_table.proofs.Centring.{one_world}
 use Rattle.step_engine.proofs.Evolving.{IsBelow-centred, HasMargin-iterate, IsCentred-later}
 use Rattle.step_engine.proofs.shared.evolve_by.Goals as goal
 
-pub result-requires-clause-below : goal.result-requires-clause-below
-result-requires-clause-below g c = IsBelow-centred _ c.args.plane.now _ _ c.requires.below c.in_ok-root.ensures.ready.centred
+pub result-requires : goal.result-requires
+result-requires g c =
+    let ready = c.in_ok-root.ensures.ready in
+    record { held = ready.held; level = ready.level; below = IsBelow-centred _ c.args.plane.now _ _ c.requires.below ready.centred }
 
 pub pack-requires-clause-world : goal.pack-requires-clause-world
 pack-requires-clause-world g c =
@@ -29,4 +31,4 @@ returns-clause-plane g c =
 pub returns-clause-asks : goal.returns-clause-asks
 returns-clause-asks g c =
     let ready = c.in_ok-root.ensures.ready in
-    c.in_ok-found.ensures.asks c.args.plane.now _ _ ready.room.few ready.centred.square
+    c.in_ok-found.ensures.counts.once c.args.plane.now _ _ ready.room.few ready.centred.square
