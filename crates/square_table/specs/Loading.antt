@@ -3,7 +3,7 @@ use Rattle.std.specs.Prelude.{◌≡◌, ℕ, zero, suc, ◌<◌, ◌≤◌, Lis
 use Rattle.worlds.specs.Square.{empty_square}
 use Rattle.square_rows.specs.declared.row.SquareRow.{SquareRow}
 use Rattle.square_rows.specs.Rows as listed
-use Rattle.square_rows.specs.Rows.{no_row, kid}
+use Rattle.square_rows.specs.Rows.{no_row, kid, AreRows}
 use Rattle.square_table.specs.Squares.{Table, IsNumber, square_in, Grows, AllStatesBelow}
 
 -- the k-th is the number of the square of level k with no live cell
@@ -30,6 +30,13 @@ number_in blanks numbers (suc k) (suc i) = get_or numbers i 0
 -- no level is above n
 abbrev pub LevelsUpTo : ℕ → List SquareRow → Type 0
 LevelsUpTo n squares = (i : ℕ) → i < length squares → (get_or squares i no_row).level ≤ n
+
+-- the rows of a plane, of which the first have these numbers in the table, and the blank squares that they need
+pub record IsLoading (squares : List SquareRow) (blanks : List ℕ) (rows : List (List ℕ)) (numbers : List ℕ) : Type 0 where
+  pub valid : AreRows squares
+  pub levels : LevelsUpTo (length blanks) squares
+  pub blank : AreBlanks rows blanks
+  pub loaded : AreLoaded squares rows numbers
 
 -- each state in a plane's rows is below c
 abbrev pub CellsBelow : ℕ → List SquareRow → Type 0

@@ -97,6 +97,12 @@ pub record AreFour (t : Table) (level : ℕ) (quadrants : List Square) : Type 0 
 abbrev pub joined : Table → (ℕ → Square) → squares.Square
 joined t at = four (cells_of t (at 0)) (cells_of t (at 1)) (cells_of t (at 2)) (cells_of t (at 3))
 
+-- in the table that came of t the square s is the one that these four make
+pub record IsJoined (t : Table) (quadrants : List Square) (u : Table) (s : Square) : Type 0 where
+  pub held : IsHeld u s
+  pub level : (d : Square) → level_of s ≡ level_of (slice_index_or quadrants 0 d) + 1
+  pub cells : (d : Square) → cells_of u s ≡ joined t (λ q. slice_index_or quadrants q d)
+
 -- the table with one more row
 abbrev pub with_row : Table → List ℕ → Table
 with_row t kids = record { rows = t.rows ++ kids ∷ []; limit = t.limit }

@@ -5,7 +5,7 @@ ghost use Rattle.worlds.specs.Square.{empty_square};
 ghost use Rattle.square_rows.specs.Rows.{AreRows, root_level, root_of};
 ghost use Rattle.square_table.specs.Squares.{IsHeld, Grows, AllStatesBelow, level_of, cells_of};
 ghost use Rattle.square_table.specs.Centred.{IsCentred};
-ghost use Rattle.square_table.specs.Loading.{AreBlanks, AreLoaded, GrowsFrom, LevelsUpTo, number_in};
+ghost use Rattle.square_table.specs.Loading.{AreBlanks, AreLoaded, IsLoading, GrowsFrom, LevelsUpTo, number_in};
 
 use crate::fault::TableFault;
 use crate::square::Square;
@@ -74,10 +74,8 @@ impl<'a> SquareTable<'a> {
         blanks: &[u32],
         numbers: &mut Vec<u32>,
     ) -> Result<(), TableFault>
-        requires squares { AreRows squares.now × LevelsUpTo (length blanks.now) squares.now }
+        requires loading { IsLoading squares.now blanks.now self.old.rows numbers.old.items }
         requires more { length numbers.old.items < length squares.now }
-        requires known { AreBlanks self.old.rows blanks.now
-            × AreLoaded squares.now self.old.rows numbers.old.items }
         ensures grows { GrowsFrom squares.now self.old self.new }
         ensures loaded { OnOk result (AreLoaded squares.now self.new.rows numbers.new.items) }
         ensures count { OnOk result (length numbers.new.items ≡ length numbers.old.items + 1) }

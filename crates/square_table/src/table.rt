@@ -2,7 +2,7 @@
 ghost use Rattle.std.specs.Prelude.{◌≡◌, ℕ, ◌+◌, ◌-◌, ◌^◌, ◌<◌, ◌≤◌, length, map, slice_index_or, vec_len, [], ◌∷◌, ◌++◌, IfOk, IfSome, IfNone, OnOk, OnErr, Err};
 ghost use Rattle.worlds.specs.Square.{one, empty_square};
 ghost use Rattle.square_table.specs.Chains.{kids_of, IsChained, IsAbsent};
-ghost use Rattle.square_table.specs.Squares.{Table, IsNumber, IsHeld, IsSquareOf, Grows, GrowsBy, Keeps, AreFour, Lacks, with_row, joined, cells_of, first_number, kids_at, level_of, number_of, AreDistinct};
+ghost use Rattle.square_table.specs.Squares.{Table, IsNumber, IsHeld, IsSquareOf, Grows, GrowsBy, Keeps, AreFour, IsJoined, Lacks, with_row, cells_of, first_number, kids_at, level_of, number_of, AreDistinct};
 ghost use Rattle.square_table.specs.declared.square.Square.{Square};
 
 use crate::chains::{Row, chains, find, head, insert, is_same, widen};
@@ -228,11 +228,7 @@ impl<'a> SquareTable<'a> {
         requires four { (d : Square) → AreFour self.old (level_of (slice_index_or four 0 d)) four }
         requires level { (d : Square) → level_of (slice_index_or four 0 d) ≤ 63 }
         ensures keeps { Keeps self.old self.new }
-        ensures held { IfOk result (IsHeld self.new) }
-        ensures level { IfOk result (λ s. (d : Square) →
-            level_of s ≡ level_of (slice_index_or four.entry 0 d) + 1) }
-        ensures cells { IfOk result (λ s. (d : Square) →
-            cells_of self.new s ≡ joined self.old (λ q. slice_index_or four.entry q d)) }
+        ensures joined { IfOk result (IsJoined self.old four.entry self.new) }
         ensures unchanged { OnErr result (self.new ≡ self.old) }
         ensures full { result ≡ Err TableFault.NoRoom → length self.old.rows ≡ self.old.limit }
     {

@@ -24,7 +24,7 @@ loop-preserved c =
     let square = c.loop.square in
     record {
       keeps = Keeps-then _ _ _ c.loop.invariant.keeps c.in_ok-square.ensures.keeps;
-      held = c.in_ok-square.ensures.held;
-      level = c.in_ok-square.ensures.level square ∙ ap (λ n. n + 1) c.loop.invariant.level;
-      cells = alike (cells_of c.loop.self square) _ c.loop.counter c.loop.invariant.cells (c.in_ok-square.ensures.cells square);
+      held = c.in_ok-square.ensures.joined.held;
+      level = c.in_ok-square.ensures.joined.level square ∙ ap (λ n. n + 1) c.loop.invariant.level;
+      cells = alike (cells_of c.loop.self square) _ c.loop.counter c.loop.invariant.cells (c.in_ok-square.ensures.joined.cells square);
     }

@@ -14,19 +14,20 @@ keeps c = Keeps-grows c.args.self.now c.join_numbers.new.self c.join_numbers.ens
 pub returns-clause-keeps : goal.returns-clause-keeps
 returns-clause-keeps c = keeps c
 
-pub returns-clause-held : goal.returns-clause-held
-returns-clause-held c =
+pub returns-clause-joined : goal.returns-clause-joined
+returns-clause-joined c =
     let r = c.in_ok-number.ensures.square in
-    let d = slice_index_or c.args.four 0 _ in
-    IsHeld-joined c.join_numbers.new.self _ c.args.four (level_of d) (size c) (λ e. AreFour-kept c.args.self.now c.join_numbers.new.self (level_of d) c.args.four (keeps c) (c.requires.four _))
-    refl r.above r.there (r.listed ∙ c.numbers-kids.ensures) (c.in_ok-placed.ensures ∙ c.numbers-kids.ensures)
-
-pub returns-clause-cells : goal.returns-clause-cells
-returns-clause-cells c = λ d.
-    let r = c.in_ok-number.ensures.square in
-    let level = level_of (slice_index_or c.args.four 0 d) in
     let none : Square = record { kids = record { ref_ptr = (0, 0); now = [] }; number = 0; level = 0 } in
     let s : Square = record { kids = c.in_ok-placed.placed; number = c.in_ok-number.number; level = level_of (slice_index_or c.args.four 0 none) + 1 } in
-    cells-joined c.join_numbers.new.self s c.args.four level (size c) (λ e. AreFour-kept c.args.self.now c.join_numbers.new.self level c.args.four (keeps c) (c.requires.four d))
-    (ap (λ (q : Square). level_of q + 1) (same_first c.args.four none d (size c))) r.above r.there (r.listed ∙ c.numbers-kids.ensures) d
-    ∙ joined-kept c.args.self.now c.join_numbers.new.self level c.args.four d (keeps c) (c.requires.four d)
+    record {
+      held =
+          let d = slice_index_or c.args.four 0 _ in
+          IsHeld-joined c.join_numbers.new.self _ c.args.four (level_of d) (size c) (λ e. AreFour-kept c.args.self.now c.join_numbers.new.self (level_of d) c.args.four (keeps c) (c.requires.four _))
+          refl r.above r.there (r.listed ∙ c.numbers-kids.ensures) (c.in_ok-placed.ensures ∙ c.numbers-kids.ensures);
+      level = λ d. ap (λ (q : Square). level_of q + 1) (same_first c.args.four none d (size c));
+      cells = λ d.
+          let level = level_of (slice_index_or c.args.four 0 d) in
+          cells-joined c.join_numbers.new.self s c.args.four level (size c) (λ e. AreFour-kept c.args.self.now c.join_numbers.new.self level c.args.four (keeps c) (c.requires.four d))
+          (ap (λ (q : Square). level_of q + 1) (same_first c.args.four none d (size c))) r.above r.there (r.listed ∙ c.numbers-kids.ensures) d
+          ∙ joined-kept c.args.self.now c.join_numbers.new.self level c.args.four d (keeps c) (c.requires.four d);
+    }

@@ -7,3 +7,11 @@ loop-self-preserved c = record {
   blanks = AreBlanks-grows c.loop-self.self c.push_next.new.self c.args.blanks.now c.in_ok-push_next.ensures.grows.grows c.loop-self.invariant.blanks;
   loaded = c.in_ok-push_next.ensures.loaded;
 }
+
+pub push_next-requires-clause-loading : goal.push_next-requires-clause-loading
+push_next-requires-clause-loading c = record {
+  valid = c.requires.squares.0;
+  levels = c.requires.squares.1;
+  blank = c.loop-self.invariant.blanks;
+  loaded = c.loop-self.invariant.loaded;
+}

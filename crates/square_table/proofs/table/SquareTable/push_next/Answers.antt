@@ -1,7 +1,7 @@
 use Rattle.std.proofs.Common.{◌≡◌, ◌-◌, ◌<◌, ◌≤◌, ℕ, List, [], ◌∷◌, length, get_or, refl, ap, sym, ◌∙◌, subst, arith, lit<}
 use Rattle.square_rows.specs.declared.row.SquareRow.{SquareRow}
-use Rattle.square_rows.specs.Rows.{no_row, AreRows}
-use Rattle.square_table.specs.Loading.{AreBlanks, AreLoaded, LevelsUpTo, number_in}
+use Rattle.square_rows.specs.Rows.{no_row}
+use Rattle.square_table.specs.Loading.{AreLoaded, IsLoading, number_in}
 use Rattle.square_table.proofs.Loading.{IsNext, next_found, next_kid, next_kids, next_grows, next_loaded}
 use Rattle.square_table.proofs.table.SquareTable.push_next.Goals as goal
 
@@ -9,10 +9,10 @@ use Rattle.square_table.proofs.table.SquareTable.push_next.Goals as goal
 abbrev below : List SquareRow → ℕ → ℕ
 below squares i = (get_or squares i no_row).level - 1
 
-is_next : (squares : List SquareRow) (blanks numbers : List ℕ) (rows : List (List ℕ)) (i : ℕ) → i ≡ length numbers → AreRows squares × LevelsUpTo (length blanks) squares → length numbers < length squares → AreBlanks rows blanks × AreLoaded squares rows numbers
+is_next : (squares : List SquareRow) (blanks numbers : List ℕ) (rows : List (List ℕ)) (i : ℕ) → i ≡ length numbers → IsLoading squares blanks rows numbers → length numbers < length squares
     → IsNext squares blanks numbers rows i (below squares i)
-is_next squares blanks numbers rows i same valid more known =
-    record { at = same; valid = valid.0; levels = valid.1; more = omega (arith, same, more); blank = known.0; known = known.1; level = refl }
+is_next squares blanks numbers rows i same is more =
+    record { at = same; valid = is.valid; levels = is.levels; more = omega (arith, same, more); blank = is.blank; known = is.loaded; level = refl }
 
 -- the q-th kid is 0 or the number of a row that is loaded
 early : (squares : List SquareRow) (blanks numbers seen : List ℕ) (rows : List (List ℕ)) (i q : ℕ) → IsNext squares blanks numbers rows i (below squares i) → q < 4 → seen ≡ numbers → 1 ≤ below squares i → next_kid squares i q ≤ length seen
@@ -21,25 +21,25 @@ early squares blanks numbers seen rows i q next hq e h = subst (λ (ns : List �
 pub number_in-nw-requires-clause-listed : goal.number_in-nw-requires-clause-listed
 number_in-nw-requires-clause-listed c =
     early c.args.squares.now c.args.blanks.now c.args.numbers.now.items _ c.args.self.now.rows c.len.result 0
-    (is_next c.args.squares.now c.args.blanks.now c.args.numbers.now.items c.args.self.now.rows c.len.result (omega (arith, c.len.ensures, c.args.numbers.now.ok.0)) c.requires.squares c.requires.more c.requires.known)
+    (is_next c.args.squares.now c.args.blanks.now c.args.numbers.now.items c.args.self.now.rows c.len.result (omega (arith, c.len.ensures, c.args.numbers.now.ok.0)) c.requires.loading c.requires.more)
     (lit< tt) c.deref.ensures.value
 
 pub number_in-ne-requires-clause-listed : goal.number_in-ne-requires-clause-listed
 number_in-ne-requires-clause-listed c =
     early c.args.squares.now c.args.blanks.now c.args.numbers.now.items _ c.args.self.now.rows c.len.result 1
-    (is_next c.args.squares.now c.args.blanks.now c.args.numbers.now.items c.args.self.now.rows c.len.result (omega (arith, c.len.ensures, c.args.numbers.now.ok.0)) c.requires.squares c.requires.more c.requires.known)
+    (is_next c.args.squares.now c.args.blanks.now c.args.numbers.now.items c.args.self.now.rows c.len.result (omega (arith, c.len.ensures, c.args.numbers.now.ok.0)) c.requires.loading c.requires.more)
     (lit< tt) c.deref-2.ensures.value
 
 pub number_in-sw-requires-clause-listed : goal.number_in-sw-requires-clause-listed
 number_in-sw-requires-clause-listed c =
     early c.args.squares.now c.args.blanks.now c.args.numbers.now.items _ c.args.self.now.rows c.len.result 2
-    (is_next c.args.squares.now c.args.blanks.now c.args.numbers.now.items c.args.self.now.rows c.len.result (omega (arith, c.len.ensures, c.args.numbers.now.ok.0)) c.requires.squares c.requires.more c.requires.known)
+    (is_next c.args.squares.now c.args.blanks.now c.args.numbers.now.items c.args.self.now.rows c.len.result (omega (arith, c.len.ensures, c.args.numbers.now.ok.0)) c.requires.loading c.requires.more)
     (lit< tt) c.deref-3.ensures.value
 
 pub number_in-se-requires-clause-listed : goal.number_in-se-requires-clause-listed
 number_in-se-requires-clause-listed c =
     early c.args.squares.now c.args.blanks.now c.args.numbers.now.items _ c.args.self.now.rows c.len.result 3
-    (is_next c.args.squares.now c.args.blanks.now c.args.numbers.now.items c.args.self.now.rows c.len.result (omega (arith, c.len.ensures, c.args.numbers.now.ok.0)) c.requires.squares c.requires.more c.requires.known)
+    (is_next c.args.squares.now c.args.blanks.now c.args.numbers.now.items c.args.self.now.rows c.len.result (omega (arith, c.len.ensures, c.args.numbers.now.ok.0)) c.requires.loading c.requires.more)
     (lit< tt) c.deref-4.ensures.value
 
 -- the numbers that are joined
@@ -56,7 +56,7 @@ joined squares blanks numbers s0 s1 s2 s3 i m0 m1 m2 m3 e0 e1 e2 e3 h0 h1 h2 h3 
 pub returns-in_err-push-clause-grows : goal.returns-in_err-push-clause-grows
 returns-in_err-push-clause-grows c =
     next_grows c.args.squares.now c.args.blanks.now c.args.numbers.now.items _ c.args.self.now c.join_numbers.new.self c.len.result (below c.args.squares.now c.len.result)
-    (is_next c.args.squares.now c.args.blanks.now c.args.numbers.now.items c.args.self.now.rows c.len.result (omega (arith, c.len.ensures, c.args.numbers.now.ok.0)) c.requires.squares c.requires.more c.requires.known)
+    (is_next c.args.squares.now c.args.blanks.now c.args.numbers.now.items c.args.self.now.rows c.len.result (omega (arith, c.len.ensures, c.args.numbers.now.ok.0)) c.requires.loading c.requires.more)
     (joined c.args.squares.now c.args.blanks.now c.args.numbers.now.items _ _ _ _ c.len.result _ _ _ _ c.deref.ensures.value c.deref-2.ensures.value c.deref-3.ensures.value c.deref-4.ensures.value
     c.number_in-nw.ensures c.number_in-ne.ensures c.number_in-sw.ensures c.number_in-se.ensures)
     c.in_ok-next.ensures.grows c.in_ok-next.ensures.one
@@ -64,7 +64,7 @@ returns-in_err-push-clause-grows c =
 pub returns-clause-grows : goal.returns-clause-grows
 returns-clause-grows c =
     next_grows c.args.squares.now c.args.blanks.now c.args.numbers.now.items _ c.args.self.now c.join_numbers.new.self c.len.result (below c.args.squares.now c.len.result)
-    (is_next c.args.squares.now c.args.blanks.now c.args.numbers.now.items c.args.self.now.rows c.len.result (omega (arith, c.len.ensures, c.args.numbers.now.ok.0)) c.requires.squares c.requires.more c.requires.known)
+    (is_next c.args.squares.now c.args.blanks.now c.args.numbers.now.items c.args.self.now.rows c.len.result (omega (arith, c.len.ensures, c.args.numbers.now.ok.0)) c.requires.loading c.requires.more)
     (joined c.args.squares.now c.args.blanks.now c.args.numbers.now.items _ _ _ _ c.len.result _ _ _ _ c.deref.ensures.value c.deref-2.ensures.value c.deref-3.ensures.value c.deref-4.ensures.value
     c.number_in-nw.ensures c.number_in-ne.ensures c.number_in-sw.ensures c.number_in-se.ensures)
     c.in_ok-next.ensures.grows c.in_ok-next.ensures.one
@@ -73,7 +73,7 @@ pub returns-clause-loaded : goal.returns-clause-loaded
 returns-clause-loaded c =
     subst (AreLoaded c.args.squares.now c.join_numbers.new.self.rows) (sym c.in_ok-push.ensures)
     (next_loaded c.args.squares.now c.args.blanks.now c.args.numbers.now.items _ c.args.self.now c.join_numbers.new.self c.len.result (below c.args.squares.now c.len.result) c.in_ok-next.next
-    (is_next c.args.squares.now c.args.blanks.now c.args.numbers.now.items c.args.self.now.rows c.len.result (omega (arith, c.len.ensures, c.args.numbers.now.ok.0)) c.requires.squares c.requires.more c.requires.known)
+    (is_next c.args.squares.now c.args.blanks.now c.args.numbers.now.items c.args.self.now.rows c.len.result (omega (arith, c.len.ensures, c.args.numbers.now.ok.0)) c.requires.loading c.requires.more)
     (joined c.args.squares.now c.args.blanks.now c.args.numbers.now.items _ _ _ _ c.len.result _ _ _ _ c.deref.ensures.value c.deref-2.ensures.value c.deref-3.ensures.value c.deref-4.ensures.value
     c.number_in-nw.ensures c.number_in-ne.ensures c.number_in-sw.ensures c.number_in-se.ensures)
     c.in_ok-next.ensures.grows c.in_ok-next.ensures.square)
