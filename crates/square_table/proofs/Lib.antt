@@ -3,6 +3,8 @@ pub mod Numbers
 pub mod Tables
 pub mod Growth
 pub mod Loading
+pub mod Laying
+pub mod Middles
 pub mod Centring
 pub mod Canonical
 pub mod Packing

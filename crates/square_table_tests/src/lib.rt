@@ -2,6 +2,8 @@
 #![tactic(auto)]
 
 #[cfg(test)]
+mod lays;
+#[cfg(test)]
 mod planes;
 #[cfg(test)]
 mod tests;

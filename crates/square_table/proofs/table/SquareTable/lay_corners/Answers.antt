@@ -1,0 +1,33 @@
+use Rattle.std.proofs.Common.{◌≡◌, ◌-◌, ◌<◌, [], ◌∷◌, get_or, subst, arith, lit<}
+use Rattle.square_tree.specs.Quadtree.{quadtree, quadtree_of_four}
+use Rattle.square_table.specs.Laying.{AreLaidAs, in_corner, in_middle}
+use Rattle.square_table.proofs.Growth.{Grows-then, IsNumber-grows}
+use Rattle.square_table.proofs.Laying.{in_turn}
+use Rattle.square_table.proofs.table.SquareTable.lay_corners.Goals as goal
+
+pub lay_corner-requires-2-clause-number : goal.lay_corner-requires-2-clause-number
+lay_corner-requires-2-clause-number g c =
+    (IsNumber-grows c.args.self.now c.lay_corner.new.self (c.args.level - 1) (get_or c.args.kids 1 0) c.in_ok-nw.ensures.grows c.requires.kids.ne, lit< tt)
+
+pub lay_corner-requires-3-clause-number : goal.lay_corner-requires-3-clause-number
+lay_corner-requires-3-clause-number g c =
+    let grows = Grows-then c.args.self.now c.lay_corner.new.self c.lay_corner-2.new.self c.in_ok-nw.ensures.grows c.in_ok-ne.ensures.grows in
+    (IsNumber-grows c.args.self.now c.lay_corner-2.new.self (c.args.level - 1) (get_or c.args.kids 2 0) grows c.requires.kids.sw, lit< tt)
+
+pub lay_corner-requires-4-clause-number : goal.lay_corner-requires-4-clause-number
+lay_corner-requires-4-clause-number g c =
+    let grows = Grows-then c.args.self.now c.lay_corner.new.self c.lay_corner-2.new.self c.in_ok-nw.ensures.grows c.in_ok-ne.ensures.grows in
+    let more = Grows-then c.args.self.now c.lay_corner-2.new.self c.lay_corner-3.new.self grows c.in_ok-sw.ensures.grows in
+    (IsNumber-grows c.args.self.now c.lay_corner-3.new.self (c.args.level - 1) (get_or c.args.kids 3 0) more c.requires.kids.se, lit< tt)
+
+pub returns-clause-laid : goal.returns-clause-laid
+returns-clause-laid g c =
+    let four = c.args.four.now in
+    let d = c.args.level - 1 - (c.args.tree_level - 1) in
+    let low : 0 < c.args.tree_level = c.requires.levels.0.0 in
+    let same : d ≡ c.args.level - c.args.tree_level = omega (arith, low, c.requires.levels.1) in
+    subst (λ e. AreLaidAs (in_middle e (quadtree_of_four four)) c.args.self.now.rows (c.args.level - 1) c.args.kids c.lay_corner-4.new.self.rows (c.in_ok-nw.nw ∷ c.in_ok-ne.ne ∷ c.in_ok-sw.sw ∷ c.in_ok-se.se ∷ [])) same
+    (in_turn (in_corner 3 d (quadtree four.nw)) (in_corner 2 d (quadtree four.ne)) (in_corner 1 d (quadtree four.sw)) (in_corner 0 d (quadtree four.se))
+    c.args.self.now c.lay_corner.new.self c.lay_corner-2.new.self c.lay_corner-3.new.self c.lay_corner-4.new.self (c.args.level - 1) c.args.kids c.in_ok-nw.nw c.in_ok-ne.ne c.in_ok-sw.sw c.in_ok-se.se
+    c.requires.kids c.in_ok-nw.ensures.grows c.in_ok-ne.ensures.grows c.in_ok-sw.ensures.grows c.in_ok-se.ensures.grows
+    c.in_ok-nw.ensures.laid c.in_ok-ne.ensures.laid c.in_ok-sw.ensures.laid c.in_ok-se.ensures.laid)

@@ -1,0 +1,67 @@
+use Rattle.std.proofs.Common.{rules, ◌≡◌, ◌-◌, ◌<◌, suc, length, ap, sym, subst, arith, lit<}
+use Rattle.square_tree.specs.Quadtree.{quadtree, quadtree_of_four, cell, HasLevel}
+use Rattle.square_table.specs.Squares.{first_number}
+use Rattle.square_table.specs.Laying.{in_quadrant, in_corner, in_middle, IsLaidAs}
+use Rattle.square_table.proofs.Tables.{above_zero}
+use Rattle.square_table.proofs.Laying.{joined-laid, laid-cell, laid-quadrant, quadrants_of}
+use Rattle.square_table.proofs.Middles.{middle_cell, middle_zero}
+use Rattle.square_table.proofs.table.SquareTable.lay_middle.Goals as goal
+
+pub returns-then-level-eq0-clause-laid : goal.returns-then-level-eq0-clause-laid
+returns-then-level-eq0-clause-laid g c =
+    let rows = c.args.self.now.rows in
+    let same : quadtree c.args.tree.now ≡ cell c.from.result = search rules in
+    let few : c.from.result < first_number = search rules in
+    let none : c.args.level - c.args.tree_level ≡ 0 = omega (arith, c.if-level-eq0.true) in
+    subst (λ t. IsLaidAs t rows c.args.level c.args.number rows c.from.result) (sym (middle_zero (quadtree c.args.tree.now) c.from.result (c.args.level - c.args.tree_level) same none))
+    (laid-cell rows rows c.args.level c.args.number c.from.result c.if-level-eq0.true few)
+
+pub quadrants-kids-requires-clause-above : goal.quadrants-kids-requires-clause-above
+quadrants-kids-requires-clause-above g c = (above_zero c.args.self.now.rows c.args.level c.args.number (omega (arith, c.if-level-eq0.false)) c.requires.number).0
+
+pub quadrants-kids-requires-clause-there : goal.quadrants-kids-requires-clause-there
+quadrants-kids-requires-clause-there g c = (above_zero c.args.self.now.rows c.args.level c.args.number (omega (arith, c.if-level-eq0.false)) c.requires.number).1
+
+pub lay_corner-requires-clause-number : goal.lay_corner-requires-clause-number
+lay_corner-requires-clause-number g c =
+    let numbers = quadrants_of c.args.self.now.rows c.args.level (c.args.level - 1) c.args.number c.quadrants-kids.result (omega (arith, c.if-level-eq0.false)) c.requires.number c.quadrants-kids.ensures in
+    (numbers.se, lit< tt)
+
+pub quadrants-requires-clause-above : goal.quadrants-requires-clause-above
+quadrants-requires-clause-above g c =
+    let some : 0 < c.args.tree_level = search rules in
+    (above_zero c.args.self.now.rows c.args.level c.args.number (omega (arith, some, c.requires.levels.1)) c.requires.number).0
+
+pub quadrants-requires-clause-there : goal.quadrants-requires-clause-there
+quadrants-requires-clause-there g c =
+    let some : 0 < c.args.tree_level = search rules in
+    (above_zero c.args.self.now.rows c.args.level c.args.number (omega (arith, some, c.requires.levels.1)) c.requires.number).1
+
+pub lay_corners-requires-clause-kids : goal.lay_corners-requires-clause-kids
+lay_corners-requires-clause-kids g c =
+    let some : 0 < c.args.tree_level = search rules in
+    quadrants_of c.args.self.now.rows c.args.level (c.args.level - 1) c.args.number c.quadrants.result (omega (arith, some, c.requires.levels.1)) c.requires.number c.quadrants.ensures
+
+pub returns-in_ok-kids-in-Cell-clause-laid : goal.returns-in_ok-kids-in-Cell-clause-laid
+returns-in_ok-kids-in-Cell-clause-laid g c =
+    let tree = quadtree c.args.tree.now in
+    let up = c.args.level - 1 - c.args.tree_level in
+    let inner = in_corner 0 up tree in
+    let one : tree ≡ cell c.in-Cell.state = search rules in
+    let level : c.args.tree_level ≡ 0 = subst (HasLevel c.args.tree_level) one c.requires.levels.0 in
+    let more : c.args.level - c.args.tree_level ≡ suc up = omega (arith, level, c.if-level-eq0.false) in
+    let numbers = quadrants_of c.args.self.now.rows c.args.level (c.args.level - 1) c.args.number c.quadrants-kids.result (omega (arith, c.if-level-eq0.false)) c.requires.number c.quadrants-kids.ensures in
+    let size : length c.quadrants-kids.result ≡ 4 = search rules in
+    joined-laid c.join_numbers.result (in_quadrant 3 inner) (in_middle (c.args.level - c.args.tree_level) tree) c.args.self.now c.lay_corner.new.self c.join_numbers.new.self c.args.level c.args.number c.quadrants-kids.result _
+    (omega (arith, c.if-level-eq0.false)) (middle_cell tree c.in-Cell.state (c.args.level - c.args.tree_level) up one more) c.quadrants-kids.ensures
+    (laid-quadrant inner c.args.self.now c.lay_corner.new.self (c.args.level - 1) 3 _ c.quadrants-kids.result (lit< tt) size numbers c.in_ok-kids-in-Cell.ensures.grows c.in_ok-kids-in-Cell.ensures.laid)
+    c.join_numbers.ensures.grows c.join_numbers.ensures.square
+
+pub returns-in_ok-kids-in-Quad-clause-laid : goal.returns-in_ok-kids-in-Quad-clause-laid
+returns-in_ok-kids-in-Quad-clause-laid g c =
+    let some : 0 < c.args.tree_level = search rules in
+    let same : quadtree c.args.tree.now ≡ quadtree_of_four c.deref.result.now = search rules in
+    let d = c.args.level - c.args.tree_level in
+    joined-laid c.join_numbers-in-Quad.result (in_middle d (quadtree_of_four c.deref.result.now)) (in_middle d (quadtree c.args.tree.now)) c.args.self.now c.lay_corners.new.self c.join_numbers-in-Quad.new.self
+    c.args.level c.args.number c.quadrants.result c.in_ok-kids-in-Quad.kids
+    (omega (arith, some, c.requires.levels.1)) (ap (in_middle d) same) c.quadrants.ensures c.in_ok-kids-in-Quad.ensures.laid c.join_numbers-in-Quad.ensures.grows c.join_numbers-in-Quad.ensures.square
