@@ -1,11 +1,12 @@
 -- What an entry comes to, and when it can be worked.
-use Rattle.std.specs.Prelude.{ℕ, ◌≤◌, ◌^◌, List, All, ⊤}
+use Rattle.std.specs.Prelude.{ℕ, List, All, ⊤}
 use Rattle.std.specs.Arc.{arc_value}
 use Rattle.worlds.specs.World.{World}
 use Rattle.worlds.specs.Lay.{lay}
 use Rattle.worlds.specs.Iterate.{iterate}
 use Rattle.worlds.specs.Step.{step}
-use Rattle.worlds.specs.Range.{AllBelow, CanBeLaid, HasMargin}
+use Rattle.worlds.specs.Range.{AllBelow, CanBeLaid}
+use Rattle.step_engine.specs.Evolved.{CanEvolve}
 use Rattle.rule_tree.specs.Rule.{next_of, states_of}
 use Rattle.bookmarks.specs.Text.{text_of}
 use Rattle.bookmarks.specs.Within.{IsWithin}
@@ -21,12 +22,6 @@ pub data Value : Type 0 where
 abbrev pub value : Entry → Value
 value (Step rule from cells gens) = pattern (iterate gens (step (next_of (arc_value rule))) (lay cells (arc_value from)))
 value (View view from cells name states generation) = text (text_of view (lay cells (arc_value from)) name states generation)
-
--- a pattern with states of the rule and room for so many generations
-pub record CanEvolve (states gens : ℕ) (w : World) : Type 0 where
-  pub below : AllBelow states w
-  pub few : gens ≤ 2 ^ 60
-  pub fits : HasMargin gens w
 
 -- the cells can be laid; what they give can evolve so long, or has states of the rule and a view of it keeps the limits of views
 abbrev pub CanBeWorked : Entry → Type 0

@@ -5,10 +5,11 @@ ghost use Rattle.worlds.specs.Iterate.{iterate};
 ghost use Rattle.worlds.specs.Lay.{lay};
 ghost use Rattle.worlds.specs.Range.{CanBeLaid};
 ghost use Rattle.worlds.specs.Step.{step};
+ghost use Rattle.step_engine.specs.Evolved.{CanEvolve};
 ghost use Rattle.rule_tree.specs.Rule.{next_of, states_of};
 ghost use Rattle.revision_jobs.specs.Answered.{CountsStop, IsRight, said};
-ghost use Rattle.revision_jobs.specs.Entries.{IsOf, entry_of};
-ghost use Rattle.revision_jobs.specs.Value.{CanBeWorked, CanEvolve, IsStep, value};
+ghost use Rattle.revision_jobs.specs.Entries.{IsOf};
+ghost use Rattle.revision_jobs.specs.Value.{CanBeWorked, IsStep, value};
 
 use crate::answer::{Answer, Job, Outcome};
 use crate::entries::Entries;

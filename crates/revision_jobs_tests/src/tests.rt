@@ -3,7 +3,7 @@ ghost use Rattle.std.specs.Prelude.{◌<◌, All, IsTrue};
 ghost use Rattle.worlds.specs.Range.{AllBelow, CanBeLaid};
 ghost use Rattle.bookmarks.specs.Within.{IsWithin};
 ghost use Rattle.revision_jobs.specs.Entries.{IsOf};
-ghost use Rattle.revision_jobs.specs.Value.{CanEvolve};
+ghost use Rattle.step_engine.specs.Evolved.{CanEvolve};
 
 mod answers;
 mod entries;
