@@ -1,9 +1,11 @@
 //! How the program ends.
 ghost use Rattle.std.specs.Prelude.{◌≡◌, MatchResult, option_map};
+ghost use Rattle.std.specs.Process.{exit_status};
 ghost use Rattle.desk.specs.Ending.{EndsBy, status_of, text_of};
 
 use desk_server::RunFault;
 use desk_words::WordsFault;
+use std::process::ExitCode;
 
 /// How the program ends.
 #[derive(Clone, Copy, Debug, PartialEq, Eq)]
@@ -28,7 +30,8 @@ impl Ending {
         }
     }
 
-    /// The exit status: 0 where all went well, 1 for a device, 2 for the command line, 3 for memory.
+    /// The exit status: 0 where all went well, 1 for a device, 2 for the command line, 3 for
+    /// memory.
     pub fn status(self) -> u8
         ensures { result ≡ status_of self }
     {
@@ -73,4 +76,15 @@ pub fn report<R: Print + Eprint>(rt: &R, fault: &WordsFault) -> Ending
         }
         WordsFault::NoMemory => Ending::Failed(RunFault::NoMemory),
     }
+}
+
+/// Says why the program ends, where there is a fault, and gives its exit status.
+pub fn tell<R: Eprint>(rt: &R, ending: Ending) -> ExitCode
+    ensures { exit_status result ≡ status_of ending }
+{
+    if let Some(text) = ending.text() {
+        // Where standard error takes nothing, the status alone tells.
+        let _ = eprintln!(rt; "{text}");
+    }
+    ExitCode::from(ending.status())
 }

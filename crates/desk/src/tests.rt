@@ -1,6 +1,5 @@
 //! What is written where, and the endings.
-use crate::end;
-use crate::ending::{Ending, report};
+use crate::ending::{Ending, report, tell};
 use crate::start::start;
 use desk_server::RunFault;
 use desk_words::WordsFault;
@@ -18,25 +17,39 @@ fn same<T: PartialEq + Debug, A: Debug>(rt: &impl Abort, found: &T, wanted: &T, 
     assert_eq!(rt; *found, *wanted, "at {at:?}");
 }
 
-// Standard output and standard error that count what they are given, and take it or not.
+// Standard output and standard error that keep what they are given last, and take it or not.
 #[derive(Drop)]
 struct Outputs {
-    out: Cell<u8>,
-    err: Cell<u8>,
+    alloc: Global,
+    out: Cell<Option<String>>,
+    err: Cell<Option<String>>,
     fails: bool,
 }
 
 impl Outputs {
-    fn new(fails: bool) -> Outputs {
+    fn new(alloc: Global, fails: bool) -> Outputs {
         Outputs {
-            out: Cell::new(0),
-            err: Cell::new(0),
+            alloc,
+            out: Cell::new(None),
+            err: Cell::new(None),
             fails,
         }
     }
 
-    fn take(&self, device: &Cell<u8>) -> io::Result<()> {
-        device.set(device.get().saturating_add(1));
+    // A second text takes the place of the first, behind a mark.
+    fn take<D: Display>(
+        &self,
+        device: &Cell<Option<String>>,
+        value: &D,
+        end: &str,
+    ) -> io::Result<()> {
+        let before = if device.replace(None).is_some() {
+            "again "
+        } else {
+            ""
+        };
+        let text = format!(in self.alloc; "{before}{value}{end}")?;
+        device.set(Some(text));
         if self.fails {
             return Err(io::Error::from(io::ErrorKind::BrokenPipe));
         }
@@ -45,27 +58,33 @@ impl Outputs {
 }
 
 impl Print for Outputs {
-    fn print<D: Display + Drop>(&self, _value: D) -> io::Result<()> {
-        self.take(&self.out)
+    fn print<D: Display + Drop>(&self, value: D) -> io::Result<()> {
+        self.take(&self.out, &value, "")
     }
 
-    fn println<D: Display + Drop>(&self, _value: D) -> io::Result<()> {
-        self.take(&self.out)
+    fn println<D: Display + Drop>(&self, value: D) -> io::Result<()> {
+        self.take(&self.out, &value, "\n")
     }
 
     fn write_all(&self, _bytes: &[u8]) -> io::Result<()> {
-        self.take(&self.out)
+        self.take(&self.out, &"bytes", "")
     }
 }
 
 impl Eprint for Outputs {
-    fn eprint<D: Display + Drop>(&self, _value: D) -> io::Result<()> {
-        self.take(&self.err)
+    fn eprint<D: Display + Drop>(&self, value: D) -> io::Result<()> {
+        self.take(&self.err, &value, "")
     }
 
-    fn eprintln<D: Display + Drop>(&self, _value: D) -> io::Result<()> {
-        self.take(&self.err)
+    fn eprintln<D: Display + Drop>(&self, value: D) -> io::Result<()> {
+        self.take(&self.err, &value, "\n")
     }
+}
+
+// The outputs hold these texts.
+fn hold(rt: &impl Abort, outputs: &Outputs, out: Option<&str>, err: Option<&str>) {
+    same(rt, &outputs.out.replace(None).as_deref(), &out, &"out");
+    same(rt, &outputs.err.replace(None).as_deref(), &err, &"err");
 }
 
 // A device that fails at once.
@@ -88,12 +107,19 @@ impl Write for Broken {
     }
 }
 
-// How a fault of the words is told: the ending, and how often each device is given something.
-fn is_told(rt: &impl Abort, fault: &WordsFault, fails: bool, ending: Ending, out: u8, err: u8) {
-    let outputs = Outputs::new(fails);
+// What is told of a fault of the words: the ending, and what each device is given.
+fn is_told(
+    rt: &impl Abort,
+    alloc: Global,
+    fault: &WordsFault,
+    fails: bool,
+    ending: Ending,
+    out: Option<&str>,
+    err: Option<&str>,
+) {
+    let outputs = Outputs::new(alloc, fails);
     same(rt, &report(&outputs, fault), &ending, &fails);
-    same(rt, &outputs.out.get(), &out, &fails);
-    same(rt, &outputs.err.get(), &err, &fails);
+    hold(rt, &outputs, out, err);
 }
 
 fn text(rt: &impl Abort, alloc: Global) -> String {
@@ -102,35 +128,54 @@ fn text(rt: &impl Abort, alloc: Global) -> String {
 
 #[test]
 fn texts_are_written_where_they_belong(rt: HostRuntime) {
-    let help = WordsFault::Help(text(&rt, rt.alloc()));
-    is_told(&rt, &help, false, Ending::Done, 1, 0);
-    is_told(&rt, &help, true, Ending::Failed(RunFault::Write), 1, 0);
-    let refused = WordsFault::Refused(text(&rt, rt.alloc()));
-    is_told(&rt, &refused, false, Ending::Refused, 0, 1);
-    is_told(&rt, &refused, true, Ending::Refused, 0, 1);
-    let want = WordsFault::NoMemory;
-    is_told(&rt, &want, false, Ending::Failed(RunFault::NoMemory), 0, 0);
+    let alloc = rt.alloc();
+    let written = Some("text\n");
+    let unwritten = Ending::Failed(RunFault::Write);
+    let help = WordsFault::Help(text(&rt, alloc));
+    is_told(&rt, alloc, &help, false, Ending::Done, written, None);
+    is_told(&rt, alloc, &help, true, unwritten, written, None);
+    let refused = WordsFault::Refused(text(&rt, alloc));
+    is_told(&rt, alloc, &refused, false, Ending::Refused, None, written);
+    is_told(&rt, alloc, &refused, true, Ending::Refused, None, written);
+    let want = Ending::Failed(RunFault::NoMemory);
+    is_told(&rt, alloc, &WordsFault::NoMemory, false, want, None, None);
 }
 
-fn ends_with(rt: &impl Abort, ending: Ending, status: u8, lines: u8, fails: bool) {
-    let outputs = Outputs::new(fails);
-    same(rt, &end(&outputs, ending), &ExitCode::from(status), &ending);
-    same(rt, &outputs.out.get(), &0, &ending);
-    same(rt, &outputs.err.get(), &lines, &ending);
+fn tells(
+    rt: &impl Abort,
+    alloc: Global,
+    ending: Ending,
+    status: u8,
+    line: Option<&str>,
+    fails: bool,
+) {
+    let outputs = Outputs::new(alloc, fails);
+    same(
+        rt,
+        &tell(&outputs, ending),
+        &ExitCode::from(status),
+        &ending,
+    );
+    hold(rt, &outputs, None, line);
 }
 
-fn ends_once(rt: &impl Abort, ending: Ending, status: u8, lines: u8) {
-    ends_with(rt, ending, status, lines, false);
-    ends_with(rt, ending, status, lines, true);
+// An ending has this status and this line, whether or not standard error takes it.
+fn ends(rt: &impl Abort, alloc: Global, ending: Ending, status: u8, line: Option<&str>) {
+    tells(rt, alloc, ending, status, line, false);
+    tells(rt, alloc, ending, status, line, true);
 }
 
 #[test]
-fn an_ending_is_told_once(rt: HostRuntime) {
-    ends_once(&rt, Ending::Done, 0, 0);
-    ends_once(&rt, Ending::Failed(RunFault::Read), 1, 1);
-    ends_once(&rt, Ending::Failed(RunFault::Write), 1, 1);
-    ends_once(&rt, Ending::Refused, 2, 0);
-    ends_once(&rt, Ending::Failed(RunFault::NoMemory), 3, 1);
+fn each_ending_has_its_status_and_its_line(rt: HostRuntime) {
+    let alloc = rt.alloc();
+    ends(&rt, alloc, Ending::Done, 0, None);
+    let read = Ending::Failed(RunFault::Read);
+    ends(&rt, alloc, read, 1, Some("desk: reading failed\n"));
+    let write = Ending::Failed(RunFault::Write);
+    ends(&rt, alloc, write, 1, Some("desk: writing failed\n"));
+    ends(&rt, alloc, Ending::Refused, 2, None);
+    let memory = Ending::Failed(RunFault::NoMemory);
+    ends(&rt, alloc, memory, 3, Some("desk: no memory\n"));
 }
 
 fn words_of(rt: &impl Abort, alloc: Global, word: &str) -> Vec<String> {
@@ -144,85 +189,91 @@ fn words_of(rt: &impl Abort, alloc: Global, word: &str) -> Vec<String> {
     words
 }
 
-// How the program ends with this word, and what the writer then holds.
+// The program's status with this word, and what the writer then holds.
 fn started<R: Read + Drop, W: Write>(
     rt: &(impl Abort + Wait),
-    alloc: Global,
+    outputs: &Outputs,
     word: &str,
     reader: R,
     writer: W,
-) -> (Ending, W) {
-    let words = Ok(words_of(rt, alloc, word));
-    let (ending, _, written) = start::<_, _, _, Brand, Brand>(
+) -> (ExitCode, W) {
+    let words = Ok(words_of(rt, outputs.alloc, word));
+    let (status, _, written) = start::<_, _, _, Brand, Brand>(
         rt,
-        &Outputs::new(false),
-        alloc,
+        outputs,
+        outputs.alloc,
         &words,
         reader,
         writer,
         Blank::new(1),
         Blank::new(1),
     );
-    (ending, written)
+    (status, written)
 }
 
-fn writes(rt: &(impl Abort + Wait), alloc: Global, word: &str, ending: Ending, wanted: &[u8]) {
-    let script = b"quit\n".as_slice();
-    let (found, written) = started(rt, alloc, word, script, Vec::new(alloc));
-    same(rt, &found, &ending, &word);
+fn answers(
+    rt: &(impl Abort + Wait),
+    alloc: Global,
+    word: &str,
+    script: &[u8],
+    status: u8,
+    wanted: &[u8],
+) {
+    let outputs = Outputs::new(alloc, false);
+    let (found, written) = started(rt, &outputs, word, script, Vec::new(alloc));
+    same(rt, &found, &ExitCode::from(status), &word);
     same(rt, &written.as_slice(), &wanted, &word);
 }
 
 #[test]
 fn words_come_before_the_script(rt: HostRuntime) {
     let alloc = rt.alloc();
-    writes(&rt, alloc, "", Ending::Done, b"bye\n");
-    writes(&rt, alloc, "--squares=64", Ending::Done, b"bye\n");
-    writes(&rt, alloc, "--squares=63", Ending::Refused, b"");
-    writes(&rt, alloc, "--help", Ending::Done, b"");
-    writes(&rt, alloc, "work", Ending::Refused, b"");
+    answers(&rt, alloc, "", b"quit\n", 0, b"bye\n");
+    answers(&rt, alloc, "--squares=64", b"quit\n", 0, b"bye\n");
+    answers(&rt, alloc, "--squares=63", b"quit\n", 2, b"");
+    answers(&rt, alloc, "--help", b"quit\n", 0, b"");
+    answers(&rt, alloc, "work", b"quit\n", 2, b"");
+}
+
+// Cells far from each other: 64 squares are too few for their step.
+const WIDE: &[u8] =
+    b"set 0 0 1 1000 0 1 3000 7 1 7000 90 1 20000 300 1 -9999 -9999 1\nmark 1 counts\nsettle\n";
+
+#[test]
+fn words_choose_the_squares(rt: HostRuntime) {
+    let alloc = rt.alloc();
+    let settled = b"ok 1\nok 2 bookmark 1\nsettled\n";
+    let unsettled = b"ok 1\nok 2 bookmark 1\nunsettled 1 71\n";
+    answers(&rt, alloc, "", WIDE, 0, settled);
+    answers(&rt, alloc, "--squares=1000", WIDE, 0, settled);
+    answers(&rt, alloc, "--squares=64", WIDE, 0, unsettled);
+}
+
+// The program's status with this word, where both devices fail.
+fn breaks(rt: &(impl Abort + Wait), alloc: Global, word: &str, status: u8) {
+    let outputs = Outputs::new(alloc, false);
+    let (found, _) = started(rt, &outputs, word, Broken, Broken);
+    same(rt, &found, &ExitCode::from(status), &word);
 }
 
 #[test]
 fn words_come_before_the_devices(rt: HostRuntime) {
     let alloc = rt.alloc();
-    let (refused, _) = started(&rt, alloc, "work", Broken, Broken);
-    same(&rt, &refused, &Ending::Refused, &"refused");
-    let (helped, _) = started(&rt, alloc, "-h", Broken, Broken);
-    same(&rt, &helped, &Ending::Done, &"help");
+    breaks(&rt, alloc, "work", 2);
+    breaks(&rt, alloc, "-h", 0);
+    breaks(&rt, alloc, "", 1);
 }
 
 #[test]
 fn devices_fail(rt: HostRuntime) {
     let alloc = rt.alloc();
-    let (unread, written) = started(&rt, alloc, "", Broken, Vec::new(alloc));
-    same(&rt, &unread, &Ending::Failed(RunFault::Read), &"reader");
+    let failed = ExitCode::from(1);
+    let outputs = Outputs::new(alloc, false);
+    let (unread, written) = started(&rt, &outputs, "", Broken, Vec::new(alloc));
+    same(&rt, &unread, &failed, &"reader");
     same(&rt, &written.as_slice(), &b"".as_slice(), &"reader");
-    let (unwritten, _) = started(&rt, alloc, "", b"quit\n".as_slice(), Broken);
-    same(&rt, &unwritten, &Ending::Failed(RunFault::Write), &"writer");
-}
-
-fn says(rt: &impl Abort, ending: Ending, wanted: Option<&'static str>) {
-    same(rt, &ending.text(), &wanted, &ending);
-}
-
-#[test]
-fn each_ending_has_its_message(rt: HostRuntime) {
-    says(&rt, Ending::Done, None);
-    says(&rt, Ending::Refused, None);
-    says(
-        &rt,
-        Ending::Failed(RunFault::Read),
-        Some("desk: reading failed"),
-    );
-    says(
-        &rt,
-        Ending::Failed(RunFault::Write),
-        Some("desk: writing failed"),
-    );
-    says(
-        &rt,
-        Ending::Failed(RunFault::NoMemory),
-        Some("desk: no memory"),
-    );
+    hold(&rt, &outputs, None, Some("desk: reading failed\n"));
+    let (unwritten, _) = started(&rt, &outputs, "", b"quit\n".as_slice(), Broken);
+    same(&rt, &unwritten, &failed, &"writer");
+    hold(&rt, &outputs, None, Some("desk: writing failed\n"));
 }
