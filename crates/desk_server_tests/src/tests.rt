@@ -42,12 +42,10 @@ fn answer_counted<W: Write, L: Ledger, M: Ledger>(
     reader_blank: Blank,
     writer_blank: Blank,
 ) -> (Result<(), RunFault>, W)
-    requires reader_name { reader_blank.name ≡ L.name }
-    requires reader_parts { reader_blank.parts ≡ L.parts }
-    requires reader_some { 0 < reader_blank.parts }
-    requires writer_name { writer_blank.name ≡ M.name }
-    requires writer_parts { writer_blank.parts ≡ M.parts }
-    requires writer_some { 0 < writer_blank.parts }
+    requires reader { (reader_blank.name ≡ L.name) × (reader_blank.parts ≡ L.parts)
+        × (0 < reader_blank.parts) }
+    requires writer { (writer_blank.name ≡ M.name) × (writer_blank.parts ≡ M.parts)
+        × (0 < writer_blank.parts) }
     requires bound { squares ≤ 16777216 }
 {
     let mut reader = CountedReader::<_, L>::new(pieces, reader_blank);
