@@ -19,7 +19,9 @@ fn block<'a>(rt: &impl Abort, table: &mut SquareTable<'a>) -> Square<'a>
     ensures level { level_of result ≡ 1 }
 {
     let four = [table.cell(1), table.cell(2), table.cell(3), table.cell(4)];
-    table.join(four).expect(rt, "room")
+    let square = table.join(four).expect(rt, "room");
+    assert!(rt; square.level() == 1);
+    square
 }
 
 // The patch of the level 1 with the rows 5, 6 and 7, 8.
@@ -44,9 +46,7 @@ fn a_patch_that_keeps_all_leaves_the_square(rt: HostRuntime) {
         .lay(square, &Patch::new(alloc, 0))
         .expect(&rt, "memory");
     assert_eq!(&rt; laid.number(), square.number());
-    let laid = table
-        .lay(square, &Patch::new(alloc, 1))
-        .expect(&rt, "memory");
+    let laid = table.lay(laid, &Patch::new(alloc, 1)).expect(&rt, "memory");
     assert_eq!(&rt; laid.number(), square.number());
     assert_eq!(&rt; table.len(), 1);
 }
@@ -136,8 +136,10 @@ fn a_full_table_leaves_what_was_there(rt: HostRuntime) {
     let patch = block_patch(&rt, alloc);
     assert!(&rt; matches!(&table.lay(square, &patch), Err(TableFault::NoRoom)));
     assert_eq!(&rt; table.len(), 1);
+    let again = block(&rt, &mut table);
+    assert_eq!(&rt; again.number(), square.number());
     let again = table
-        .lay(square, &Patch::new(alloc, 1))
+        .lay(again, &Patch::new(alloc, 1))
         .expect(&rt, "memory");
     assert_eq!(&rt; again.number(), square.number());
     assert_eq!(&rt;
