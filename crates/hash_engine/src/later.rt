@@ -142,7 +142,8 @@ fn compute<Q: Ask, S: Stop>(
     Ok(table.join_numbers(fours)?)
 }
 
-// The results in place of squares of level k + 2.
+// The results in place of squares of level k + 2: most are remembered, and found here without a call.
+#[inline(always)]
 #[cycle(later)]
 fn all_later<Q: Ask, S: Stop>(
     table: &mut SquareTable<'_>,

@@ -1,3 +1,4 @@
+pub mod Chained
 pub mod Links
 pub mod Numbers
 pub mod Tables

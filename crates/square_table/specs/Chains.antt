@@ -17,26 +17,35 @@ hash_of k =
 unfoldable pub bucket_of : List ℕ → ℕ → ℕ
 bucket_of k count = bit_and (hash_of k) (count - 1)
 
--- each chain leads from the newest of its rows to the oldest, and the first n rows are on them; a link is a row's place and one more, or 0
-pub record IsChained (rows : List Row) (n : ℕ) (heads : List ℕ) : Type 0 where
+-- each chain leads from the oldest of its rows to the newest, and the rows from one on are on them; a link is a row's place and one more, or 0
+pub record IsChained (rows : List Row) (from : ℕ) (heads : List ℕ) : Type 0 where
   pub some : 0 < length heads
-  pub head_in : (b : ℕ) → b < length heads → slice_index heads b ≤ n
+  pub head_in : (b : ℕ) → b < length heads → slice_index heads b ≤ length rows
+  pub head_from : (b i : ℕ) → b < length heads → slice_index heads b ≡ i + 1 → from ≤ i
   pub head_own : (b i : ℕ) (d : Row) → b < length heads → slice_index heads b ≡ i + 1
       → bucket_of (kids_of (slice_index_or rows i d)) (length heads) ≡ b
-  pub head_all : (i : ℕ) (d : Row) → i < n
-      → i + 1 ≤ slice_index heads (bucket_of (kids_of (slice_index_or rows i d)) (length heads))
-  pub next_in : (i : ℕ) (d : Row) → i < n → (slice_index_or rows i d).next ≤ i
-  pub next_own : (i j : ℕ) (d e : Row) → i < n → (slice_index_or rows i d).next ≡ j + 1
+  pub head_some : (i : ℕ) (d : Row) → from ≤ i → i < length rows
+      → 0 < slice_index heads (bucket_of (kids_of (slice_index_or rows i d)) (length heads))
+  pub head_first : (i : ℕ) (d : Row) → from ≤ i → i < length rows
+      → slice_index heads (bucket_of (kids_of (slice_index_or rows i d)) (length heads)) ≤ i + 1
+  pub next_in : (i : ℕ) (d : Row) → from ≤ i → i < length rows → (slice_index_or rows i d).next ≤ length rows
+  pub next_later : (i j : ℕ) (d : Row) → from ≤ i → i < length rows → (slice_index_or rows i d).next ≡ j + 1 → i < j
+  pub next_own : (i j : ℕ) (d e : Row) → from ≤ i → i < length rows → (slice_index_or rows i d).next ≡ j + 1
       → bucket_of (kids_of (slice_index_or rows j e)) (length heads) ≡ bucket_of (kids_of (slice_index_or rows i d)) (length heads)
-  pub next_all : (i j : ℕ) (d e : Row) → i < j → j < n
+  pub next_some : (i j : ℕ) (d e : Row) → from ≤ i → i < j → j < length rows
       → bucket_of (kids_of (slice_index_or rows i d)) (length heads) ≡ bucket_of (kids_of (slice_index_or rows j e)) (length heads)
-      → i + 1 ≤ (slice_index_or rows j e).next
+      → 0 < (slice_index_or rows i d).next
+  pub next_first : (i j : ℕ) (d e : Row) → from ≤ i → i < j → j < length rows
+      → bucket_of (kids_of (slice_index_or rows i d)) (length heads) ≡ bucket_of (kids_of (slice_index_or rows j e)) (length heads)
+      → (slice_index_or rows i d).next ≤ j + 1
+
+-- the last row of a chain, by its place and one more; 0 where the chain is empty
+pub record IsLast (rows : List Row) (heads : List ℕ) (bucket last : ℕ) : Type 0 where
+  pub within : last ≤ length rows
+  pub none : last ≡ 0 → slice_index heads bucket ≡ 0
+  pub own : (i : ℕ) (d : Row) → last ≡ i + 1 → bucket_of (kids_of (slice_index_or rows i d)) (length heads) ≡ bucket
+  pub ends : (i : ℕ) (d : Row) → last ≡ i + 1 → (slice_index_or rows i d).next ≡ 0
 
 -- no row has these quadrants
 pub record IsAbsent (rows : List Row) (kids : List ℕ) : Type 0 where
   pub absent : (i : ℕ) (d : Row) → i < length rows → kids_of (slice_index_or rows i d) ≡ kids → ⊥
-
--- rows with the same quadrants, whatever their links
-pub record AreAlike (rows more : List Row) : Type 0 where
-  pub count : length more ≡ length rows
-  pub kids : (i : ℕ) (d e : Row) → i < length rows → kids_of (slice_index_or more i d) ≡ kids_of (slice_index_or rows i e)

@@ -1,6 +1,6 @@
 //! The rows of a table, and the chains of a hash table that lead to them.
-ghost use Rattle.std.specs.Prelude.{◌≡◌, ℕ, ◌+◌, ◌-◌, ◌^◌, ◌<◌, ◌≤◌, length, slice_index, slice_index_or, [], ◌∷◌, ◌++◌, OnOk, OnErr, IfOk, vec_len, IsTrue, ◌↔◌};
-ghost use Rattle.square_table.specs.Chains.{hash_of, bucket_of, kids_of, IsChained, IsAbsent, AreAlike};
+ghost use Rattle.std.specs.Prelude.{◌≡◌, ℕ, ◌+◌, ◌-◌, ◌^◌, ◌<◌, ◌≤◌, length, map, slice_index, slice_index_or, [], ◌∷◌, ◌++◌, OnOk, OnErr, IfOk, vec_len, IsTrue, ◌↔◌};
+ghost use Rattle.square_table.specs.Chains.{hash_of, bucket_of, kids_of, IsChained, IsAbsent, IsLast};
 ghost use Rattle.square_table.specs.declared.chains.Row.{Row};
 
 use std::alloc::{AllocError, Global};
@@ -45,7 +45,7 @@ pub fn is_same(a: [u32; 4], b: [u32; 4]) -> bool
     a[0] == b[0] && a[1] == b[1] && a[2] == b[2] && a[3] == b[3]
 }
 
-/// The newest row of the chain on which these quadrants stand, by its place and one more; 0 where
+/// The oldest row of the chain on which these quadrants stand, by its place and one more; 0 where
 /// that chain is empty.
 pub fn head(heads: &[u32], kids: [u32; 4]) -> u32
     requires { 0 < length heads.now }
@@ -56,7 +56,7 @@ pub fn head(heads: &[u32], kids: [u32; 4]) -> u32
 
 /// The place of the row of these quadrants and one more; 0 where there is none.
 pub fn find(rows: &[Row], heads: &[u32], kids: [u32; 4]) -> u32
-    requires { IsChained rows.now (length rows.now) heads.now }
+    requires { IsChained rows.now 0 heads.now }
     ensures within { result ≤ length rows.now }
     ensures absent { result ≡ 0 → IsAbsent rows.now kids }
     ensures found { (i : ℕ) (d : Row) → result ≡ i + 1 → kids_of (slice_index_or rows.now i d) ≡ kids }
@@ -72,35 +72,57 @@ pub fn find(rows: &[Row], heads: &[u32], kids: [u32; 4]) -> u32
     0
 }
 
-/// Adds a row for quadrants that have none.
+// The last row of a chain, by its place and one more; 0 where the chain is empty.
+fn last(rows: &[Row], heads: &[u32], slot: usize) -> u32
+    requires chained { IsChained rows.now 0 heads.now }
+    requires slot { slot < length heads.now }
+    ensures { IsLast rows.now heads.now slot result }
+{
+    let mut last = 0;
+    let mut at = heads[slot];
+    while at != 0 {
+        last = at;
+        at = rows[at as usize - 1].next;
+    }
+    last
+}
+
+/// Adds a row for quadrants that have none, at the end of its chain: what was made first is asked for
+/// most, so that most look-ups read one row.
 pub fn insert(rows: &mut Vec<Row>, heads: &mut [u32], kids: [u32; 4]) -> Result<(), AllocError>
-    requires chained { IsChained rows.old.items (vec_len rows.old) heads.old }
+    requires chained { IsChained rows.old.items 0 heads.old }
     requires room { vec_len rows.old + 1 < 2 ^ 32 }
-    ensures chained { IsChained rows.new.items (vec_len rows.new) heads.new }
+    ensures chained { IsChained rows.new.items 0 heads.new }
     ensures count { length heads.new ≡ length heads.old }
-    ensures ok { OnOk result ((r : Row) × (rows.new.items ≡ rows.old.items ++ r ∷ [])
-        × (kids_of r ≡ kids)) }
+    ensures ok { OnOk result (map kids_of rows.new.items ≡ map kids_of rows.old.items ++ kids ∷ []) }
     ensures err { OnErr result ((rows.new.items ≡ rows.old.items) × (heads.new ≡ heads.old)) }
 {
     let slot = bucket(kids, heads.len());
-    let next = heads[slot];
-    rows.push(Row { kids, next })?;
-    heads[slot] = rows.len() as u32;
+    let last = last(rows, heads, slot);
+    rows.push(Row { kids, next: 0 })?;
+    let added = rows.len() as u32;
+    if last == 0 {
+        heads[slot] = added;
+    } else {
+        rows[last as usize - 1].next = added;
+    }
     Ok(())
 }
 
-// Puts every row on a chain anew.
+// Puts every row on a chain anew, the newest first, so that each goes before those of its chain.
 fn chain_all(rows: &mut [Row], heads: &mut [u32])
     requires room { length rows.old < 2 ^ 32 }
     requires some { 0 < length heads.old }
     requires empty { (b : ℕ) → slice_index heads.old b ≡ 0 }
-    ensures chained { IsChained rows.new (length rows.new) heads.new }
-    ensures alike { AreAlike rows.old rows.new }
+    ensures chained { IsChained rows.new 0 heads.new }
+    ensures alike { map kids_of rows.new ≡ map kids_of rows.old }
 {
-    for i in 0..rows.len() {
-        let slot = bucket(rows[i].kids, heads.len());
-        rows[i].next = heads[slot];
-        heads[slot] = i as u32 + 1;
+    let mut left = rows.len();
+    while left > 0 {
+        left -= 1;
+        let slot = bucket(rows[left].kids, heads.len());
+        rows[left].next = heads[slot];
+        heads[slot] = left as u32 + 1;
     }
 }
 
@@ -114,10 +136,10 @@ pub fn chains(alloc: Global, count: usize) -> Result<Vec<u32>, AllocError>
 
 /// Twice as many chains, where there is memory for them; a table with too few is only slower.
 pub fn widen(alloc: Global, rows: &mut [Row], heads: &mut Vec<u32>)
-    requires chained { IsChained rows.old (length rows.old) heads.old.items }
+    requires chained { IsChained rows.old 0 heads.old.items }
     requires room { length rows.old < 2 ^ 32 }
-    ensures chained { IsChained rows.new (length rows.new) heads.new.items }
-    ensures alike { AreAlike rows.old rows.new }
+    ensures chained { IsChained rows.new 0 heads.new.items }
+    ensures alike { map kids_of rows.new ≡ map kids_of rows.old }
 {
     if heads.len() >= MOST_CHAINS {
         return;

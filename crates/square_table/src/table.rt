@@ -43,7 +43,7 @@ impl<'a> Model for SquareTable<'a> {
 
     ghost view = { λ t. record { rows = map kids_of t.rows.items; limit = t.limit } };
 
-    ghost invariant = { λ t. IsChained t.rows.items (length t.rows.items) t.heads.items × AreDistinct (map kids_of t.rows.items) × (length t.rows.items ≤ t.limit) × (t.limit ≤ 16777216) };
+    ghost invariant = { λ t. IsChained t.rows.items 0 t.heads.items × AreDistinct (map kids_of t.rows.items) × (length t.rows.items ≤ t.limit) × (t.limit ≤ 16777216) };
 }
 
 // Four numbers, placed in the arena for good.

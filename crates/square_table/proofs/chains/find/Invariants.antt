@@ -1,15 +1,17 @@
 use Rattle.std.proofs.Common.{◌≡◌, ℕ, ◌+◌, ◌<◌, ◌≤◌, length, slice_index_or}
 use Rattle.square_table.specs.Chains.{bucket_of, kids_of}
 use Rattle.square_table.specs.declared.chains.Row.{Row}
+use Rattle.square_table.proofs.Chained.{rows_left}
 use Rattle.square_table.proofs.chains.find.Given as goal
 
 abbrev pub invariant-loop-at : goal.invariant-loop-at
 invariant-loop-at l = record {
   within : l.at ≤ length l.rows;
-  left : (i : ℕ) (d : Row) → i < length l.rows → kids_of (slice_index_or l.rows i d) ≡ l.kids → i + 1 ≤ l.at;
+  here : (i : ℕ) (d : Row) → i < length l.rows → kids_of (slice_index_or l.rows i d) ≡ l.kids → 0 < l.at;
+  left : (i : ℕ) (d : Row) → i < length l.rows → kids_of (slice_index_or l.rows i d) ≡ l.kids → l.at ≤ i + 1;
   own : (i : ℕ) (d : Row) → l.at ≡ i + 1
       → bucket_of (kids_of (slice_index_or l.rows i d)) (length l.heads) ≡ bucket_of l.kids (length l.heads);
 }
 
 abbrev pub decreases-loop-at : goal.decreases-loop-at
-decreases-loop-at l = l.at
+decreases-loop-at l = rows_left (length l.rows) l.at
