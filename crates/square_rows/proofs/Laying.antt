@@ -12,7 +12,7 @@ use Rattle.worlds.specs.Lay.{lay, last_mention, cell-lay}
 use Rattle.square_rows.specs.declared.row.SquareRow.{SquareRow}
 use Rattle.worlds.specs.Square.{Square, cell_in, IsIn}
 use Rattle.square_rows.specs.Rows.{IsNumber, AreRows, square_in, row_at, root_level, edge_of, world_of_rows}
-use Rattle.square_rows.specs.Laid.{square_of, AreQuadrants, Keeps, IsAdded, IsFrom, IsOnPlane, AreThoseIn, IsCellOf, IsLaid, RootHolds}
+use Rattle.square_rows.specs.Laid.{square_of, AreQuadrants, Keeps, IsAdded, IsFrom, IsOnPlane, AreThoseIn, GoesOn, IsCellOf, IsLaid, RootHolds}
 use Rattle.square_rows.proofs.Sound.{IsNumber-level, IsNumber-state, square_in-state}
 use Rattle.square_rows.proofs.Cells.{double, cell_in-one, cell_in-nw, cell_in-ne, cell_in-sw, cell_in-se, in_or_out, offset}
 use Rattle.square_rows.proofs.Roots.{root_level-some, world-outside, root-cells, root-side, rooted}
@@ -323,6 +323,24 @@ high-holds rows cells valid high can =
     let at = (can i d h).0 in
     let left = at.left in let right = at.right in let top = at.top in let bottom = at.bottom in
     record { left = omega (arith, ints); right = omega (arith, ints); top = omega (arith, ints); bottom = omega (arith, ints) })
+
+-- a cell that lies in the square, and one that doesn't
+pub takes : (side : ℕ) (l t : ℤ) (c : CellSet) (old new : List CellSet) → IsIn side l t c.x c.y → new ≡ old ++ c ∷ [] → GoesOn side l t c old new
+takes side l t c old new within is = record { inside = λ h. is; outside = λ out. absurd (out within) }
+
+pub passes : (side : ℕ) (l t : ℤ) (c : CellSet) (old : List CellSet) → (IsIn side l t c.x c.y → ⊥) → GoesOn side l t c old old
+passes side l t c old out = record { inside = λ within. absurd (out within); outside = λ h. refl }
+
+-- one more of the cells, which the list takes where it lies in the square
+pub those-goes_on : (side : ℕ) (l t : ℤ) (cs here new : List CellSet) (i : ℕ) (d : CellSet) → i < length cs → (get_or cs i d).state < 256 → GoesOn side l t (get_or cs i d) here new
+    → AreThoseIn side l t (take i cs) here → AreThoseIn side l t (take (i + 1) cs) new
+those-goes_on side l t cs here new i d h small on those =
+    let c = get_or cs i d in
+    let after = AreThoseIn side l t (take (i + 1) cs) in
+    elim (in_or_out side l t c.x c.y) [
+      | inl within ↦ subst after (sym (on.inside within)) (those-more side l t cs here i d h within small those)
+      | inr out ↦ subst after (sym (on.outside out)) (those-passed side l t cs here i d h out those)
+    ]
 
 -- the same cells, with the square and the list as they are passed on
 pub those-passed_on : (side : ℕ) (l t x y : ℤ) (cells cs here : List CellSet) → x ≡ l → y ≡ t → cs ≡ cells → AreThoseIn side x y cs here → AreThoseIn side l t cells here

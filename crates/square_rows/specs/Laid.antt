@@ -1,5 +1,5 @@
 -- Rows that come behind others, and cells that are laid on the squares of rows.
-use Rattle.std.specs.Prelude.{◌≡◌, ℕ, suc, ◌<◌, ◌≤◌, ◌^◌, List, length, get_or, All, ℤ, pos, neg_ℤ, ◌+ℤ◌, ◌≤ℤ◌}
+use Rattle.std.specs.Prelude.{◌≡◌, ℕ, suc, ◌<◌, ◌≤◌, ◌^◌, List, [], ◌∷◌, ◌++◌, length, get_or, All, ℤ, pos, neg_ℤ, ◌+ℤ◌, ◌≤ℤ◌}
 use Rattle.worlds.specs.declared.cell.CellSet.{CellSet}
 use Rattle.worlds.specs.World.{World, cell}
 use Rattle.worlds.specs.Lay.{last_mention}
@@ -70,6 +70,18 @@ pub record AreParted (half : ℕ) (left top : ℤ) (cells : List CellSet) (parts
   pub ne : AreThoseIn half (left +ℤ pos half) top cells parts.ne.items
   pub sw : AreThoseIn half left (top +ℤ pos half) cells parts.sw.items
   pub se : AreThoseIn half (left +ℤ pos half) (top +ℤ pos half) cells parts.se.items
+
+-- a list that goes on with a cell where that lies in the square of this side, and else stays
+pub record GoesOn (side : ℕ) (left top : ℤ) (c : CellSet) (old new : List CellSet) : Type 0 where
+  pub inside : IsIn side left top c.x c.y → new ≡ old ++ c ∷ []
+  pub outside : (IsIn side left top c.x c.y → ⊥) → new ≡ old
+
+-- a cell of the square with the upper left cell (left, top) is put on the list of its quadrant, of side half
+pub record ArePut (half : ℕ) (left top : ℤ) (c : CellSet) (old new : Parts) : Type 0 where
+  pub nw : GoesOn half left top c old.nw.items new.nw.items
+  pub ne : GoesOn half (left +ℤ pos half) top c old.ne.items new.ne.items
+  pub sw : GoesOn half left (top +ℤ pos half) c old.sw.items new.sw.items
+  pub se : GoesOn half (left +ℤ pos half) (top +ℤ pos half) c old.se.items new.se.items
 
 -- after names the square of level k with the upper left cell (left, top) that before named, with the cells laid on it
 pub record IsLaid (old new : List SquareRow) (k before after : ℕ) (left top : ℤ) (cells : List CellSet) : Type 0 where

@@ -7,7 +7,7 @@ ghost use Rattle.worlds.specs.Lay.{lay};
 ghost use Rattle.worlds.specs.Range.{CanBeLaid};
 ghost use Rattle.worlds.specs.Square.{IsIn};
 ghost use Rattle.square_rows.specs.Rows.{AreRows, IsNumber, root_level, world_of_rows};
-ghost use Rattle.square_rows.specs.Laid.{IsCellOf, AreParted, AreThoseIn, IsLaid, IsOnPlane, RootHolds};
+ghost use Rattle.square_rows.specs.Laid.{IsCellOf, AreParted, ArePut, IsLaid, IsOnPlane, RootHolds};
 
 use crate::descent::{Spot, corner_of, root_level, shifted, side};
 use crate::raise::{push_row, quadrants, raise};
@@ -16,7 +16,7 @@ use std::alloc::{AllocError, Global};
 use worlds::CellSet;
 
 // So many cells are laid at a time, since they are copied for it.
-const BATCH: usize = 1 << 20;
+const BATCH: usize = 1 << 18;
 
 // Whether a cell lies in a square.
 fn is_in(side: u64, corner: Spot, cell: &CellSet) -> bool
@@ -44,26 +44,6 @@ fn are_in(side: u64, corner: Spot, cells: &[CellSet]) -> bool
     true
 }
 
-// The cells that lie in a square.
-fn those_in(
-    alloc: Global,
-    side: u64,
-    corner: Spot,
-    cells: &[CellSet],
-) -> Result<Vec<CellSet>, AllocError>
-    requires square { IsOnPlane side corner.x corner.y }
-    requires states { All (λ c. c.state < 256) cells.now }
-    ensures { IfOk result (λ here. AreThoseIn side corner.x corner.y cells.now here.items) }
-{
-    let mut here = Vec::new(alloc);
-    for cell in cells {
-        if is_in(side, corner, cell) {
-            here.push(*cell)?;
-        }
-    }
-    Ok(here)
-}
-
 // The cells that lie in each quadrant of a square.
 #[derive(Drop)]
 struct Parts {
@@ -73,19 +53,46 @@ struct Parts {
     se: Vec<CellSet>,
 }
 
+impl Parts {
+    // Puts a cell of the square with this upper left cell on the list of its quadrant, with this side.
+    fn put(&mut self, half: u64, corner: Spot, cell: CellSet) -> Result<(), AllocError>
+        requires square { IsOnPlane (half + half) corner.x corner.y }
+        requires cell { IsIn (half + half) corner.x corner.y cell.x cell.y }
+        ensures { OnOk result (ArePut half corner.x corner.y cell self.old self.new) }
+    {
+        let half = half as i64;
+        if cell.y < corner.y + half {
+            if cell.x < corner.x + half {
+                self.nw.push(cell)?;
+            } else {
+                self.ne.push(cell)?;
+            }
+        } else if cell.x < corner.x + half {
+            self.sw.push(cell)?;
+        } else {
+            self.se.push(cell)?;
+        }
+        Ok(())
+    }
+}
+
 // The cells by the quadrants, with this side, of the square with this upper left cell. The list
 // that held them together is let go.
 fn parted(alloc: Global, half: u64, corner: Spot, cells: Vec<CellSet>) -> Result<Parts, AllocError>
     requires square { IsOnPlane (half + half) corner.x corner.y }
-    requires states { All (λ c. c.state < 256) cells.items }
+    requires cells { All (IsCellOf (half + half) corner.x corner.y) cells.items }
     ensures { IfOk result (AreParted half corner.x corner.y cells.items) }
 {
-    Ok(Parts {
-        nw: those_in(alloc, half, corner, &cells)?,
-        ne: those_in(alloc, half, shifted(corner, half, 0), &cells)?,
-        sw: those_in(alloc, half, shifted(corner, 0, half), &cells)?,
-        se: those_in(alloc, half, shifted(corner, half, half), &cells)?,
-    })
+    let mut parts = Parts {
+        nw: Vec::new(alloc),
+        ne: Vec::new(alloc),
+        sw: Vec::new(alloc),
+        se: Vec::new(alloc),
+    };
+    for cell in &cells {
+        parts.put(half, corner, *cell)?;
+    }
+    Ok(parts)
 }
 
 // Lays the cells of the square with this upper left cell on it, and gives the number of what it

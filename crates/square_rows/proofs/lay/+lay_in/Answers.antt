@@ -1,9 +1,10 @@
-use Rattle.std.proofs.Common.{◌≡◌, ◌-◌, ◌<◌, ◌^◌, List, [], ◌∷◌, length, get_or, refl, sym, ap, ◌∙◌, subst, arith, lit<}
+use Rattle.std.proofs.Common.{◌≡◌, ◌-◌, ◌<◌, ◌^◌, List, [], ◌∷◌, length, get_or, All, refl, sym, ap, ◌∙◌, subst, arith, lit<}
 use Rattle.std.proofs.lemmas.Int.{ints}
 use Rattle.std.proofs.lemmas.Option.{slice_get_within, get_or_from_slice_get}
 use Rattle.worlds.specs.declared.cell.CellSet.{CellSet}
 use Rattle.square_rows.specs.declared.row.SquareRow.{SquareRow}
-use Rattle.square_rows.specs.Laid.{AreThoseIn, AreQuadrants, IsLaid, IsAdded, IsOnPlane, square_of}
+use Rattle.square_rows.specs.Laid.{AreThoseIn, AreQuadrants, IsCellOf, IsLaid, IsAdded, IsOnPlane, square_of}
+use Rattle.square_rows.proofs.Roots.{root-side}
 use Rattle.square_rows.proofs.Adding.{IfOk_then, Keeps-then, kid_numbers}
 use Rattle.square_rows.proofs.Laying.{laid-state, laid-quadrants, laid-those, those-all, those-at, those-of, quadrant-on_plane, half-from, square-from_halves}
 use Rattle.square_rows.proofs.lay.+lay_in.Goals as goal
@@ -26,6 +27,11 @@ returns-then-level-eq0 t c =
 
 pub parted-requires-clause-square : goal.parted-requires-clause-square
 parted-requires-clause-square t c = square-from_halves c.args.level c.side-half.result c.args.corner.x c.args.corner.y (omega arith) c.side-half.ensures.value c.requires.square
+
+pub parted-requires-clause-cells : goal.parted-requires-clause-cells
+parted-requires-clause-cells t c =
+    let side = root-side c.args.level (omega arith) in
+    subst (λ n. All (IsCellOf n c.args.corner.x c.args.corner.y) c.args.cells.items) (omega (arith, side, c.side-half.ensures.value)) c.requires.cells
 
 pub shifted-east-requires-clause-x : goal.shifted-east-requires-clause-x
 shifted-east-requires-clause-x t c = half-from c.args.level c.side-half.result c.args.corner.x (omega arith) c.side-half.ensures.value c.requires.square.across
