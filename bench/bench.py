@@ -1,11 +1,12 @@
 #!/usr/bin/env python3
 """Times desk beside bgolly, Golly's engine without a window, on the same rules and patterns.
 
-    bench/bench.py [--desk PROGRAM] [--golly FOLDER] [--only WORD]
+    bench/bench.py [--desk PROGRAM] [--golly FOLDER] [--only WORD] [--more]
 
 bgolly and its patterns come with Debian's package `golly`. Each program runs once for each pattern;
 the table has the processor seconds of the whole process and the peak of its memory, start-up
-included. bgolly runs its RuleLoader, and both get the rule as a table from the same file.
+included. bgolly runs its RuleLoader, and both get the rule as a table from the same file. With
+`--more` it runs other patterns of the package, and soups under other rules.
 """
 import argparse
 import gzip
@@ -39,6 +40,25 @@ var h={0,1}
 """
 
 
+# Other patterns of the package, their rules and how far they are followed.
+MORE = [
+    ("Loops/Byl-Loop.rle", "Byl-Loop", 2**14),
+    ("Loops/Chou-Reggia-Loop-1.rle", "Chou-Reggia-1", 2**14),
+    ("Loops/Evoloop.rle", "Evoloop", 2**14),
+    ("Loops/Perrier-Loop.rle", "Perrier", 2**14),
+    ("Loops/SDSR-Loop.rle", "SDSR-Loop", 2**13),
+    ("Loops/Tempesti-Loop.rle", "Tempesti", 2**13),
+    ("Margolus/Sand.rle", "Sand-Margolus-emulated", 2**10),
+    ("Margolus/TMGas_largeWithHole.rle", "TMGasMargolus_emulated", 2**9),
+    ("Patersons-Worms/worm-1042015.rle", "Worm-1042015", 2**16),
+    ("Self-Rep/Banks/Banks-IV-constructor.rle.gz", "Banks-IV", 2**12),
+    ("Self-Rep/Codd/golly-constructor.rle.gz", "Codd", 2**16),
+    ("Self-Rep/Codd/decoder-4bit-demo.rle.gz", "Codd", 2**14),
+    ("Self-Rep/Devore/Devore-rep.rle", "Devore", 2**14),
+    ("Turmites/LangtonsAnt_LLRR.rle", "LangtonsAnt_LLRR", 2**18),
+]
+
+
 def measured(words, given=None):
     """Processor seconds, peak in MB and output of a program."""
     with tempfile.TemporaryFile() as said, tempfile.TemporaryFile() as script:
@@ -51,11 +71,11 @@ def measured(words, given=None):
         return used.ru_utime + used.ru_stime, used.ru_maxrss / 1024, said.read().decode(errors="replace")
 
 
-def soup(side):
-    """A square of cells of which one in three lives, as RLE."""
+def soup(side, rule="LifeTable", dead="b", live="o"):
+    """A square of cells of which one in three lives, in one of some states, as RLE."""
     chance = random.Random(1)
-    rows = ["".join("o" if chance.random() < 1 / 3 else "b" for _ in range(side)) for _ in range(side)]
-    return f"x = {side}, y = {side}, rule = LifeTable\n" + "$\n".join(rows) + "!\n"
+    rows = ["".join(chance.choice(live) if chance.random() < 1 / 3 else dead for _ in range(side)) for _ in range(side)]
+    return f"x = {side}, y = {side}, rule = {rule}\n" + "$\n".join(rows) + "!\n"
 
 
 def text_of(path):
@@ -95,6 +115,22 @@ def cases(golly, desk):
     ]
 
 
+def more_cases(golly):
+    """The same of the other patterns, and of soups under other rules."""
+    patterns, rules = f"{golly}/Patterns", f"{golly}/Rules"
+    found = [
+        (f"{path.split('/')[-1].split('.')[0]} to {generations}", "rle", text_of(f"{patterns}/{path}"), text_of(f"{rules}/{rule}.rule"), generations)
+        for path, rule, generations in MORE
+    ]
+    brain = soup(256, "BriansBrain", ".", "AB")
+    wars = soup(256, "StarWars", ".", "ABC")
+    return [
+        *found,
+        ("a soup of Brian's Brain to 512", "rle", brain, text_of(f"{rules}/BriansBrain.rule"), 512),
+        ("a soup of Star Wars to 512", "rle", wars, text_of(f"{rules}/StarWars.rule"), 512),
+    ]
+
+
 def desk_script(form, pattern, rule, generations):
     return f"rule\n{rule.rstrip()}\nend\nstart {form}\n{pattern.rstrip()}\nend\nmark {generations} counts\nsettle\nshow 1\nquit\n"
 
@@ -104,12 +140,13 @@ def main():
     words.add_argument("--desk", default=f"{HERE}/../crates/desk/out/desk")
     words.add_argument("--golly", default="/usr/share/golly")
     words.add_argument("--only", default="")
+    words.add_argument("--more", action="store_true")
     given = words.parse_args()
     ratios = []
     print("| pattern | desk s | bgolly s | ratio | desk MB | bgolly MB | ratio |")
     print("|---|---|---|---|---|---|---|")
     with tempfile.TemporaryDirectory() as room:
-        for name, form, pattern, rule, generations in cases(given.golly, given.desk):
+        for name, form, pattern, rule, generations in more_cases(given.golly) if given.more else cases(given.golly, given.desk):
             if given.only not in name:
                 continue
             rule_name = rule.split()[1]
