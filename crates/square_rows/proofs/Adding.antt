@@ -4,7 +4,7 @@ use Rattle.std.specs.Prelude.{IfOk, Ok, Err}
 use Rattle.std.proofs.lemmas.List.{length_push, get_or_push}
 use Rattle.square_rows.specs.declared.row.SquareRow.{SquareRow}
 use Rattle.worlds.specs.Square.{Square, four, empty_square}
-use Rattle.square_rows.specs.Rows.{no_row, row_at, kid, IsNumber, IsRow, AreRows, square_in, root_level, world_of_rows}
+use Rattle.square_rows.specs.Rows.{no_row, row_at, kid, IsNumber, IsRow, AreRows, square_in, root_level}
 use Rattle.square_rows.specs.Centre.{cornered, centred}
 use Rattle.square_rows.specs.Laid.{square_of, AreQuadrants, Keeps, IsAdded, IsRaised}
 use Rattle.square_rows.proofs.Numbering.{Grows, Grows-more}

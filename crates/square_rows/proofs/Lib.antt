@@ -14,5 +14,6 @@ pub mod Centres
 pub mod Validity
 pub mod Adding
 pub mod Laying
+pub mod Blocks
 pub mod Gathering
 pub mod WorldRows

@@ -1,5 +1,5 @@
 -- Rows that come behind others, and cells that are laid on the squares of rows.
-use Rattle.std.specs.Prelude.{◌≡◌, ℕ, suc, ◌<◌, ◌≤◌, ◌^◌, List, [], ◌∷◌, ◌++◌, length, get_or, All, ℤ, pos, neg_ℤ, ◌+ℤ◌, ◌≤ℤ◌}
+use Rattle.std.specs.Prelude.{◌≡◌, ℕ, suc, ◌/◌, ◌%◌, ◌<◌, ◌≤◌, ◌^◌, List, [], ◌∷◌, ◌++◌, length, get_or, All, ℤ, pos, neg_ℤ, ◌+ℤ◌, ◌≤ℤ◌}
 use Rattle.worlds.specs.declared.cell.CellSet.{CellSet}
 use Rattle.worlds.specs.World.{World, cell}
 use Rattle.worlds.specs.Lay.{last_mention}
@@ -89,6 +89,12 @@ pub record IsLaid (old new : List SquareRow) (k before after : ℕ) (left top : 
   pub number : IsNumber new k after
   pub each : (i j : ℕ) → i < 2 ^ k → j < 2 ^ k → cell_in k (square_in new k after) i j ≡ last_mention cells (left +ℤ pos i) (top +ℤ pos j) (cell_in k (square_in old k before) i j)
   pub last : 0 < k → before ≡ length old → after ≡ length new
+
+-- new are the states old of the square of level 1 with the upper left cell (left, top), with the cells laid on it
+pub record AreLaidStates (left top : ℤ) (cells : List CellSet) (old new : List ℕ) : Type 0 where
+  pub count : length new ≡ length old
+  pub small : (q : ℕ) → q < 4 → get_or new q 0 < 256
+  pub each : (q : ℕ) → q < 4 → get_or new q 0 ≡ last_mention cells (left +ℤ pos (q % 2)) (top +ℤ pos (q / 2)) (get_or old q 0)
 
 -- each of the cells lies in the square of the root
 abbrev pub RootHolds : List SquareRow → List CellSet → Type 0

@@ -2,12 +2,12 @@
 //!
 //! Each square passes the cells that lie in it on to its quadrants, so cells that lie together
 //! share the rows of the squares around them. Scattered cells take at most 62 rows each.
-ghost use Rattle.std.specs.Prelude.{◌≡◌, ◌↔◌, ◌+◌, ◌<◌, ◌≤◌, ◌^◌, length, All, IfOk, OnOk, IsTrue};
+ghost use Rattle.std.specs.Prelude.{◌≡◌, ◌↔◌, ℕ, ◌+◌, ◌/◌, ◌%◌, ◌<◌, ◌≤◌, ◌^◌, length, get_or, All, IfOk, OnOk, IsTrue, pos, ◌+ℤ◌};
 ghost use Rattle.worlds.specs.Lay.{lay};
 ghost use Rattle.worlds.specs.Range.{CanBeLaid};
 ghost use Rattle.worlds.specs.Square.{IsIn};
 ghost use Rattle.square_rows.specs.Rows.{AreRows, IsNumber, root_level, world_of_rows};
-ghost use Rattle.square_rows.specs.Laid.{IsCellOf, AreParted, ArePut, IsLaid, IsOnPlane, RootHolds};
+ghost use Rattle.square_rows.specs.Laid.{IsCellOf, AreLaidStates, AreParted, ArePut, IsLaid, IsOnPlane, RootHolds};
 
 use crate::descent::{Spot, corner_of, root_level, shifted, side};
 use crate::raise::{push_row, quadrants, raise};
@@ -16,7 +16,7 @@ use std::alloc::{AllocError, Global};
 use worlds::CellSet;
 
 // So many cells are laid at a time, since they are copied for it.
-const BATCH: usize = 1 << 18;
+const BATCH: usize = 1 << 17;
 
 // Whether a cell lies in a square.
 fn is_in(side: u64, corner: Spot, cell: &CellSet) -> bool
@@ -95,6 +95,58 @@ fn parted(alloc: Global, half: u64, corner: Spot, cells: Vec<CellSet>) -> Result
     Ok(parts)
 }
 
+// Which cell of the square of level 1 with this upper left cell a cell is, in the order nw, ne, sw,
+// se.
+fn place_of(corner: Spot, cell: &CellSet) -> usize
+    requires { IsIn 2 corner.x corner.y cell.now.x cell.now.y }
+    ensures within { result < 4 }
+    ensures x { cell.now.x ≡ corner.x +ℤ pos (result % 2) }
+    ensures y { cell.now.y ≡ corner.y +ℤ pos (result / 2) }
+{
+    if cell.y == corner.y {
+        if cell.x == corner.x { 0 } else { 1 }
+    } else if cell.x == corner.x {
+        2
+    } else {
+        3
+    }
+}
+
+// The states of the square of level 1 with this upper left cell after its cells are set in turn.
+fn laid_states(states: [u32; 4], corner: Spot, cells: &[CellSet]) -> [u32; 4]
+    requires states { (q : ℕ) → q < 4 → get_or states q 0 < 256 }
+    requires cells { All (IsCellOf 2 corner.x corner.y) cells.now }
+    ensures { AreLaidStates corner.x corner.y cells.now states result }
+{
+    let mut laid = states;
+    for cell in cells {
+        laid[place_of(corner, cell)] = u32::from(cell.state);
+    }
+    laid
+}
+
+// Lays the cells of the square of level 1 with this upper left cell on it, and gives the number of
+// what it becomes.
+fn lay_block(
+    rows: &mut Vec<SquareRow>,
+    number: u32,
+    corner: Spot,
+    cells: &[CellSet],
+) -> Result<u32, AllocError>
+    requires rows { AreRows rows.old.items × (length rows.old.items < 2 ^ 32) }
+    requires number { IsNumber rows.old.items 1 number }
+    requires cells { All (IsCellOf 2 corner.x corner.y) cells.now }
+    ensures { IfOk result (λ n.
+        IsLaid rows.old.items rows.new.items 1 number n corner.x corner.y cells.now) }
+{
+    let states = quadrants(rows, 1, number);
+    let row = SquareRow {
+        level: 1,
+        kids: laid_states(states, corner, cells),
+    };
+    push_row(rows, row)
+}
+
 // Lays the cells of the square with this upper left cell on it, and gives the number of what it
 // becomes.
 fn lay_in(
@@ -118,6 +170,9 @@ fn lay_in(
     };
     if level == 0 {
         return Ok(u32::from(last.state));
+    }
+    if level == 1 {
+        return lay_block(rows, number, corner, &cells);
     }
     let half = side(level - 1);
     let kids = quadrants(rows, level, number);
