@@ -16,7 +16,7 @@ use std::alloc::{AllocError, Global};
 use worlds::CellSet;
 
 // So many cells are laid at a time, since they are copied for it.
-const BATCH: usize = 1 << 17;
+const BATCH: usize = 1 << 16;
 
 // Whether a cell lies in a square.
 fn is_in(side: u64, corner: Spot, cell: &CellSet) -> bool

@@ -14,6 +14,6 @@ loop-rest-preserved c =
     let batch : List CellSet = c.split_at.result.0.now in
     let more : List CellSet = c.split_at.result.1.now in
     let before = c.loop-rest.invariant in
-    let can : All CanBeLaid more = subst (All CanBeLaid) (sym c.split_at.ensures.back) (All-drop CanBeLaid 131072 rest before.2) in
+    let can : All CanBeLaid more = subst (All CanBeLaid) (sym c.split_at.ensures.back) (All-drop CanBeLaid 65536 rest before.2) in
     let laid = c.in_ok-lay_batch.ensures in
     (laid.rows.0, laid.rows.1, can, ap (lay more) laid.world ∙ sym (lay-append batch more w) ∙ ap (λ (cs : List CellSet). lay cs w) (sym c.split_at.ensures.by_index.0) ∙ before.3)
