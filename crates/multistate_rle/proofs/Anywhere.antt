@@ -1,5 +1,5 @@
 -- The faults of a body, wherever its pattern lies.
-use Rattle.std.proofs.Common.{◌≡◌, ◌≢◌, ◌⊎◌, ℕ, ◌+◌, ◌*◌, Bool, true, false, cond, max, List, [], ◌∷◌, Result, Ok, Err, nat_lt, refl, sym, subst, inl, inr}
+use Rattle.std.proofs.Common.{◌≡◌, ◌≢◌, ◌⊎◌, ◌∙◌, ℕ, Bool, true, false, cond, List, [], ◌∷◌, Result, Ok, Err, nat_lt, refl, sym, ap, inl, inr}
 use Rattle.std.specs.Prelude.{IsOk}
 use Rattle.std.specs.List.{flat_map, list_all}
 use Rattle.basics.specs.Results.{◌>>=◌}
@@ -7,98 +7,77 @@ use Rattle.worlds.specs.Lay.{lay}
 use Rattle.worlds.specs.World.{World, blank}
 use Rattle.multistate_rle.specs.declared.comment.Origin.{Origin}
 use Rattle.multistate_rle.specs.declared.fault.RleFault.{RleFault}
-use Rattle.multistate_rle.specs.declared.fault.RleFault.TheVariants.{NoHeader, BadHeader, BoundedGrid, BadRun, TooManyLive, CellOutOfRange, NoMemory}
+use Rattle.multistate_rle.specs.declared.fault.RleFault.TheVariants.{TooManyLive, CellOutOfRange, NoMemory}
 use Rattle.multistate_rle.specs.declared.symbol.Symbol.{Symbol}
 use Rattle.multistate_rle.specs.declared.symbol.Symbol.TheVariants.{Digit, Cell, RowEnd, End, Unknown}
-use Rattle.multistate_rle.specs.Pattern.{HasNoFaultAnywhere, IsFaultAnywhere, Run, cells_of, drawn_by, lies_inside, live_count, onto, runs_from, strips_from, unplaced, world_of}
-use Rattle.multistate_rle.specs.Pattern.Run.{Cells, RowEnds}
+use Rattle.multistate_rle.specs.Pattern.{HasNoFaultAnywhere, IsFaultAnywhere, Run, Strip, cells_of, drawn_by, lies_inside, live_count, onto, runs_from, strips_from, unplaced, world_of}
 
--- the world of strips, by two tests, of which the second alone asks where they lie
-abbrev outcome : Bool → Bool → World → Result World RleFault
-outcome many inside world = cond many (Err TooManyLive) (cond inside (Ok world) (Err CellOutOfRange))
+-- a fault in which no place has a part
+abbrev IsUnplaced : RleFault → Type 0
+IsUnplaced e = (unplaced e ≡ e) × (e ≢ NoMemory)
 
--- what is told of two ways to place a body
-record Alike (here there : Result World RleFault) : Type 0 where
-  fault : (e : RleFault) → e ≢ CellOutOfRange → here ≡ Err e → there ≡ Err e
-  none : IsOk here ⊎ (here ≡ Err CellOutOfRange) → IsOk there ⊎ (there ≡ Err CellOutOfRange)
+-- all places give one such fault, or none but cells out of range
+abbrev IsTold : (Origin → Result World RleFault) → Type 0
+IsTold drawn = ((e : RleFault) × IsUnplaced e × ((origin : Origin) → drawn origin ≡ Err e)) ⊎ ((origin : Origin) → IsOk (drawn origin) ⊎ (drawn origin ≡ Err CellOutOfRange))
 
-outcome-alike : (many here there : Bool) (v w : World) → Alike (outcome many here v) (outcome many there w)
-outcome-alike true here there v w = record { fault = λ e other is. is; none = λ h. h }
-outcome-alike false true true v w = record { fault = λ e other is. absurd cc; none = λ h. inl refl }
-outcome-alike false true false v w = record { fault = λ e other is. absurd cc; none = λ h. inr refl }
-outcome-alike false false true v w = record { fault = λ e other is. absurd (let same : CellOutOfRange ≡ e = cc in other (sym same)); none = λ h. inl refl }
-outcome-alike false false false v w = record { fault = λ e other is. is; none = λ h. inr refl }
+-- what is no list of runs is such a fault
+abbrev IsRead : Result (List Run) RleFault → Type 0
+IsRead (Ok runs) = Unit {0}
+IsRead (Err e) = IsUnplaced e
 
-drawn-alike : (here there : Origin) (ss : List Symbol) → Alike (drawn_by here ss) (drawn_by there ss)
-drawn-alike here there ss = by (runs_from 0 ss)
+onto-read : (run : Run) (read : Result (List Run) RleFault) → IsRead read → IsRead (onto run read)
+onto-read run (Ok runs) h = tt
+onto-read run (Err e) h = h
+
+runs-read : (n : ℕ) (ss : List Symbol) → IsRead (runs_from n ss)
+runs-read n [] = tt
+runs-read n (Digit d ∷ ss) = runs-read _ ss
+runs-read n (Cell s ∷ ss) = onto-read _ (runs_from 0 ss) (runs-read 0 ss)
+runs-read n (RowEnd ∷ ss) = onto-read _ (runs_from 0 ss) (runs-read 0 ss)
+runs-read n (End ∷ ss) = tt
+runs-read n (Unknown offset ∷ ss) = (refl, λ e. cc)
+
+-- the world of some cells, if they lie in the plane
+abbrev world_if : Bool → World → Result World RleFault
+world_if inside world = cond inside (Ok world) (Err CellOutOfRange)
+
+outcome-told : (many : Bool) (inside : Origin → Bool) (world : Origin → World) → IsTold (λ origin. cond many (Err TooManyLive) (world_if (inside origin) (world origin)))
+outcome-told true inside world = inl (TooManyLive, (refl, λ e. cc), λ origin. refl)
+outcome-told false inside world = inr (λ origin. by (inside origin) (world origin))
   where
-    by : (read : Result (List Run) RleFault) → Alike (read >>= λ runs. world_of here (strips_from 0 0 runs)) (read >>= λ runs. world_of there (strips_from 0 0 runs))
-    by (Err e) = record { fault = λ e other is. is; none = λ h. h }
-    by (Ok runs) = outcome-alike (nat_lt 16777216 (live_count (strips_from 0 0 runs))) (list_all (lies_inside here) (strips_from 0 0 runs)) (list_all (lies_inside there) (strips_from 0 0 runs)) (lay (flat_map (cells_of here) (strips_from 0 0 runs)) blank) (lay (flat_map (cells_of there) (strips_from 0 0 runs)) blank)
+    by : (b : Bool) (w : World) → IsOk (world_if b w) ⊎ (world_if b w ≡ Err CellOutOfRange)
+    by true w = inl refl
+    by false w = inr refl
 
--- a fault that a body may have
-abbrev IsOfBody : RleFault → Type 0
-IsOfBody (BadRun offset) = Unit {0}
-IsOfBody TooManyLive = Unit {0}
-IsOfBody CellOutOfRange = Unit {0}
-IsOfBody _ = ⊥
-
--- what is no world is such a fault
-abbrev OfBody : {A : Type 0} → Result A RleFault → Type 0
-OfBody (Ok a) = Unit {0}
-OfBody (Err e) = IsOfBody e
-
-onto-of_body : (run : Run) (read : Result (List Run) RleFault) → OfBody read → OfBody (onto run read)
-onto-of_body run (Ok runs) h = tt
-onto-of_body run (Err e) h = h
-
-runs-of_body : (n : ℕ) (ss : List Symbol) → OfBody (runs_from n ss)
-runs-of_body n [] = tt
-runs-of_body n (Digit d ∷ ss) = runs-of_body (n * 10 + d) ss
-runs-of_body n (Cell s ∷ ss) = onto-of_body (Cells (max n 1) s) (runs_from 0 ss) (runs-of_body 0 ss)
-runs-of_body n (RowEnd ∷ ss) = onto-of_body (RowEnds (max n 1)) (runs_from 0 ss) (runs-of_body 0 ss)
-runs-of_body n (End ∷ ss) = tt
-runs-of_body n (Unknown offset ∷ ss) = tt
-
-outcome-of_body : (many inside : Bool) (world : World) → OfBody (outcome many inside world)
-outcome-of_body true inside world = tt
-outcome-of_body false true world = tt
-outcome-of_body false false world = tt
-
-drawn-of_body : (origin : Origin) (ss : List Symbol) → OfBody (drawn_by origin ss)
-drawn-of_body origin ss = by (runs_from 0 ss) (runs-of_body 0 ss)
+drawn-told : (ss : List Symbol) → IsTold (λ origin. drawn_by origin ss)
+drawn-told ss = by (runs_from 0 ss) (runs-read 0 ss)
   where
-    by : (read : Result (List Run) RleFault) → OfBody read → OfBody (read >>= λ runs. world_of origin (strips_from 0 0 runs))
-    by (Err e) h = h
-    by (Ok runs) h = outcome-of_body (nat_lt 16777216 (live_count (strips_from 0 0 runs))) (list_all (lies_inside origin) (strips_from 0 0 runs)) (lay (flat_map (cells_of origin) (strips_from 0 0 runs)) blank)
+    by : (read : Result (List Run) RleFault) → IsRead read → IsTold (λ origin. read >>= λ runs. world_of origin (strips_from 0 0 runs))
+    by (Err e) h = inl (e, h, λ origin. refl)
+    by (Ok runs) h =
+        let strips : List Strip = strips_from 0 0 runs in
+        outcome-told (nat_lt 16777216 (live_count strips)) (λ origin. list_all (lies_inside origin) strips) (λ origin. lay (flat_map (cells_of origin) strips) blank)
 
-fault-of_body : (origin : Origin) (ss : List Symbol) (e : RleFault) → drawn_by origin ss ≡ Err e → IsOfBody e
-fault-of_body origin ss e h = subst OfBody h (drawn-of_body origin ss)
+-- what the fault at one place, if there is one, tells of the body
+pub record IsFault (e : RleFault) (ss : List Symbol) : Type 0 where
+  pub anywhere : IsFaultAnywhere (unplaced e) ss
+  pub none : unplaced e ≡ NoMemory → HasNoFaultAnywhere ss
 
--- the fault that a body has at one place, or none, tells what it has at all
-pub fault-anywhere : (origin : Origin) (ss : List Symbol) (e : RleFault) → (e ≡ NoMemory) ⊎ (drawn_by origin ss ≡ Err e) → IsFaultAnywhere (unplaced e) ss
-fault-anywhere origin ss (BadRun offset) (inl h) = absurd cc
-fault-anywhere origin ss (BadRun offset) (inr h) = λ there k. (drawn-alike origin there ss).fault (BadRun offset) (λ e. cc) h
-fault-anywhere origin ss TooManyLive (inl h) = absurd cc
-fault-anywhere origin ss TooManyLive (inr h) = λ there k. (drawn-alike origin there ss).fault TooManyLive (λ e. cc) h
-fault-anywhere origin ss NoHeader h = λ there k. absurd (k refl)
-fault-anywhere origin ss BadHeader h = λ there k. absurd (k refl)
-fault-anywhere origin ss BoundedGrid h = λ there k. absurd (k refl)
-fault-anywhere origin ss CellOutOfRange h = λ there k. absurd (k refl)
-fault-anywhere origin ss NoMemory h = λ there k. absurd (k refl)
+fault-told : (here : Result World RleFault) (e : RleFault) → (e ≡ NoMemory) ⊎ (here ≡ Err e) → IsOk here ⊎ (here ≡ Err CellOutOfRange) → unplaced e ≡ NoMemory
+fault-told here e (inl want) told = ap unplaced want
+fault-told here e (inr is) (inl ok) = absurd cc
+fault-told here e (inr is) (inr out) = ap unplaced (let same : e ≡ CellOutOfRange = cc in same)
 
-pub ok-anywhere : (origin : Origin) (ss : List Symbol) → IsOk (drawn_by origin ss) → HasNoFaultAnywhere ss
-ok-anywhere origin ss h = λ there. (drawn-alike origin there ss).none (inl h)
-
-pub none-anywhere : (origin : Origin) (ss : List Symbol) (e : RleFault) → (e ≡ NoMemory) ⊎ (drawn_by origin ss ≡ Err e) → (e ≡ NoMemory → IsOk (drawn_by origin ss)) → unplaced e ≡ NoMemory → HasNoFaultAnywhere ss
-none-anywhere origin ss (BadRun offset) h want is = absurd cc
-none-anywhere origin ss TooManyLive h want is = absurd cc
-none-anywhere origin ss CellOutOfRange (inl h) want is = absurd cc
-none-anywhere origin ss CellOutOfRange (inr h) want is = λ there. (drawn-alike origin there ss).none (inr h)
-none-anywhere origin ss NoMemory h want is = ok-anywhere origin ss (want refl)
-none-anywhere origin ss NoHeader (inl h) want is = absurd cc
-none-anywhere origin ss NoHeader (inr h) want is = absurd (fault-of_body origin ss NoHeader h)
-none-anywhere origin ss BadHeader (inl h) want is = absurd cc
-none-anywhere origin ss BadHeader (inr h) want is = absurd (fault-of_body origin ss BadHeader h)
-none-anywhere origin ss BoundedGrid (inl h) want is = absurd cc
-none-anywhere origin ss BoundedGrid (inr h) want is = absurd (fault-of_body origin ss BoundedGrid h)
+pub fault-anywhere : (origin : Origin) (ss : List Symbol) (e : RleFault) → (e ≡ NoMemory) ⊎ (drawn_by origin ss ≡ Err e) → (e ≡ NoMemory → IsOk (drawn_by origin ss)) → IsFault e ss
+fault-anywhere origin ss e given sound = by (drawn-told ss) given
+  where
+    by : IsTold (λ origin. drawn_by origin ss) → (e ≡ NoMemory) ⊎ (drawn_by origin ss ≡ Err e) → IsFault e ss
+    by (inr none) h = record { anywhere = λ there k. absurd (k (fault-told (drawn_by origin ss) e h (none origin))); none = λ k. none }
+    by (inl told) (inl want) = let ok = sound want in let all = told.2 origin in absurd cc
+    by (inl told) (inr is) =
+        let all = told.2 origin in
+        let same : told.0 ≡ e = cc in
+        record {
+          anywhere = λ there k. told.2 there ∙ ap Err (sym told.1.0 ∙ ap unplaced same);
+          none = λ k. absurd (told.1.1 (sym told.1.0 ∙ ap unplaced same ∙ k));
+        }

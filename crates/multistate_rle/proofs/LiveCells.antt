@@ -1,83 +1,63 @@
 -- The live cells of a world: their order, their tokens, and the world that they make.
-use Rattle.std.proofs.Common.{◌≡◌, ◌∙◌, sym, ap, subst, refl, ℕ, zero, suc, ◌+◌, ◌-◌, ◌<◌, ◌≤◌, ◌^◌, ◌==◌, ◌&&◌, Bool, true, false, cond, ℤ, pos, List, [], ◌∷◌, length, map, arith, Option, None, Some, T, inl, inr}
-use Rattle.std.specs.Prelude.{◌⊎◌, neg_ℤ, ◌≤ℤ◌, ◌<ℤ◌, unwrap_or}
+use Rattle.std.proofs.Common.{◌≡◌, ◌∙◌, sym, ap, subst, refl, ℕ, zero, suc, ◌+◌, ◌-◌, ◌<◌, ◌≤◌, ◌^◌, ◌&&◌, Bool, true, false, cond, ℤ, pos, ◌+ℤ◌, List, [], ◌∷◌, length, map, arith, None, Some, T, inl, inr}
+use Rattle.std.specs.Prelude.{◌⊎◌, ◌≤ℤ◌, ◌<ℤ◌, unwrap_or}
 use Rattle.std.specs.declared.cmp.Ordering.{Ordering}
 use Rattle.std.specs.declared.cmp.Ordering.TheVariants.{Less, Equal, Greater}
-use Rattle.std.specs.Ordering.{int_cmp, ordering_then, is_lt}
+use Rattle.std.specs.Ordering.{MatchOrdering, ordering_then, is_lt}
 use Rattle.std.specs.Cmp.{int_ranks}
-use Rattle.std.specs.Ordering.{MatchOrdering}
-use Rattle.std.specs.List.{AllByRecursion}
+use Rattle.std.specs.List.{All, AllByRecursion}
 use Rattle.std.specs.Map.{lookup}
 use Rattle.std.specs.FinMap as map
 use Rattle.std.specs.FinMap.Entries.{below_all, is_sorted}
 use Rattle.std.proofs.lemmas.Int.{ints, by_lt_z}
+use Rattle.std.proofs.lemmas.List.Elements.{All-from_recursion}
 use Rattle.basics.proofs.Lists.{all_append, all_so}
 use Rattle.basics.proofs.Tests.{first, second}
 use Rattle.worlds.specs.World.{World, Place, place_cmp, same_place, cell, blank, cell-blank, same_world}
-use Rattle.worlds.specs.Live.{live, live-entries, as_live, cell-state_at, live-states}
+use Rattle.worlds.specs.Live.{live, live-entries, as_live, cell-state_at, live-states, of_cell}
 use Rattle.worlds.specs.Lay.{lay, last_mention, cell-lay}
 use Rattle.worlds.specs.Fill.{same_is}
-use Rattle.worlds.specs.Range.{IsInside, HasMargin, IsBoundingBox}
-use Rattle.worlds.specs.Box.{grown}
-use Rattle.worlds.specs.declared.cell.Bounds.{Bounds}
-use Rattle.worlds.proofs.Walks.{Walked, Walked-none, Walked-more, some_walked, none_walked}
-use Rattle.multistate_rle.specs.declared.frame.Frame.{Frame}
+use Rattle.worlds.specs.Range.{IsInside, HasMargin}
+use Rattle.worlds.specs.declared.cell.Cell.{Cell}
 use Rattle.multistate_rle.specs.declared.token.Token.{Token}
 use Rattle.multistate_rle.specs.declared.token.Token.TheVariants as token
-use Rattle.multistate_rle.specs.Frame.{box_with, box_of, frame_of}
+use Rattle.multistate_rle.specs.Listed.{IsListed}
 use Rattle.multistate_rle.specs.Token.{distance, zeros, way_by, way, joined, tokens, behind}
 use Rattle.multistate_rle.proofs.BodyReads.{IsWritable}
+use Rattle.multistate_rle.proofs.Boxes.{IsNear, distance-near}
+use Rattle.multistate_rle.proofs.Runs.{Joins, joined-cases, joined-run}
 use Rattle.multistate_rle.proofs.StripCells.{set_of, IsAhead, AreAhead}
 
 -- a listed cell has its state in the world, and is live
 abbrev pub IsListedIn : World → Place × ℕ → Type 0
 IsListedIn w e = (cell w e.0.1 e.0.0 ≡ e.1) × (0 < e.1)
 
-stays : (w : World) (es : List (Place × ℕ)) (x y : ℤ) (s : ℕ) → AllByRecursion (IsListedIn w) es → s ≡ cell w x y → last_mention (map set_of es) x y s ≡ cell w x y
-stays w [] x y s h is = is
-stays w (e ∷ es) x y s h is =
-    stays w es x y (cond (same_place (y, x) e.0) e.1 s) h.1
-    (elim (same_place (y, x) e.0) as (λ b. same_place (y, x) e.0 ≡ b → cond b e.1 s ≡ cell w x y) [
-      | true ↦ λ same. sym h.0.0 ∙ sym (ap (λ (p : Place). cell w p.1 p.0) (same_is (y, x) e.0 same))
-      | false ↦ λ apart. is
-    ] refl)
-
-mentioned : (w : World) (es : List (Place × ℕ)) (x y : ℤ) (s n : ℕ) → AllByRecursion (IsListedIn w) es → lookup (same_place (y, x)) es ≡ Some n → last_mention (map set_of es) x y s ≡ cell w x y
-mentioned w [] x y s n h is = absurd (cc)
-mentioned w (e ∷ es) x y s n h is =
-    elim (same_place (y, x) e.0) as (λ b. same_place (y, x) e.0 ≡ b → cond b (Some e.1) (lookup (same_place (y, x)) es) ≡ Some n → last_mention (map set_of es) x y (cond b e.1 s) ≡ cell w x y) [
-      | true ↦ λ same k. stays w es x y e.1 h.1 (sym h.0.0 ∙ sym (ap (λ (p : Place). cell w p.1 p.0) (same_is (y, x) e.0 same)))
-      | false ↦ λ apart k. mentioned w es x y s n h.1 k
+-- what is mentioned last at a place is the state there, if it was the state before or is mentioned
+mentioned : (w : World) (es : List (Place × ℕ)) (x y : ℤ) (s : ℕ) → AllByRecursion (IsListedIn w) es → (lookup (same_place (y, x)) es ≡ None → s ≡ cell w x y)
+    → last_mention (map set_of es) x y s ≡ cell w x y
+mentioned w [] x y s h is = is refl
+mentioned w (e ∷ es) x y s h is =
+    elim (same_place (y, x) e.0) as (λ b. same_place (y, x) e.0 ≡ b → (cond b (Some e.1) (lookup (same_place (y, x)) es) ≡ None → s ≡ cell w x y)
+    → last_mention (map set_of es) x y (cond b e.1 s) ≡ cell w x y) [
+      | true ↦ λ same k. mentioned w es x y e.1 h.1 (λ none. sym h.0.0 ∙ sym (ap (λ (p : Place). cell w p.1 p.0) (same_is (y, x) e.0 same)))
+      | false ↦ λ apart k. mentioned w es x y s h.1 k
     ] refl is
-
-laid_at : (w : World) (x y : ℤ) (o : Option ℕ) → lookup (same_place (y, x)) (live w) ≡ o → cell w x y ≡ unwrap_or o 0 → last_mention (map set_of (live w)) x y 0 ≡ cell w x y
-laid_at w x y None is state = stays w (live w) x y 0 (live-states w) (sym state)
-laid_at w x y (Some n) is state = mentioned w (live w) x y 0 n (live-states w) is
 
 -- the live cells, laid on the blank world, make the world
 pub lay-live : (w : World) → lay (map set_of (live w)) blank ≡ w
 lay-live w = same_world (lay (map set_of (live w)) blank) w (λ x y.
     cell-lay (map set_of (live w)) blank x y
     ∙ ap (last_mention (map set_of (live w)) x y) (cell-blank x y)
-    ∙ laid_at w x y (lookup (same_place (y, x)) (live w)) refl (cell-state_at w x y))
+    ∙ mentioned w (live w) x y 0 (live-states w) (λ none. sym (cell-state_at w x y ∙ ap (λ o. unwrap_or o 0) none)))
 
-less_x : (p q : Place) (o : Ordering) → MatchOrdering o (p.1 <ℤ q.1) (p.1 ≡ q.1) (q.1 <ℤ p.1) → T (is_lt o) → p.1 <ℤ q.1
-less_x p q Less m h = m
-less_x p q Equal m h = absurd h
-less_x p q Greater m h = absurd h
-
-less_place : (p q : Place) (o : Ordering) → MatchOrdering o (p.0 <ℤ q.0) (p.0 ≡ q.0) (q.0 <ℤ p.0) → T (is_lt (ordering_then o (int_cmp p.1 q.1))) → (p.0 <ℤ q.0) ⊎ ((p.0 ≡ q.0) × (p.1 <ℤ q.1))
-less_place p q Less m h = inl m
-less_place p q Equal m h = inr (m, less_x p q (int_cmp p.1 q.1) (int_ranks p.1 q.1) h)
-less_place p q Greater m h = absurd h
-
--- places in order
-before : (p q : Place) → T (is_lt (place_cmp p q)) → (p.0 <ℤ q.0) ⊎ ((p.0 ≡ q.0) × (p.1 <ℤ q.1))
-before p q h = less_place p q (int_cmp p.0 q.0) (int_ranks p.0 q.0) h
-
-next_ahead : (left : ℤ) (p q : Place) → left ≤ℤ q.1 → (p.0 <ℤ q.0) ⊎ ((p.0 ≡ q.0) × (p.1 <ℤ q.1)) → IsAhead left (behind p) q
-next_ahead left p q edge (inl h) = (edge, inl h)
-next_ahead left p q edge (inr h) = (edge, inr (h.0, (let k : p.1 <ℤ q.1 = h.1 in omega (arith, ints, k))))
+-- a place behind another is ahead of the next one
+next_ahead : (left : ℤ) (p q : Place) (o r : Ordering) → MatchOrdering o (p.0 <ℤ q.0) (p.0 ≡ q.0) (q.0 <ℤ p.0) → MatchOrdering r (p.1 <ℤ q.1) (p.1 ≡ q.1) (q.1 <ℤ p.1)
+    → T (is_lt (ordering_then o r)) → left ≤ℤ q.1 → IsAhead left (behind p) q
+next_ahead left p q Less r m k h edge = (edge, inl m)
+next_ahead left p q Equal Less m k h edge = (edge, inr (m, omega (arith, ints, k)))
+next_ahead left p q Equal Equal m k h edge = absurd h
+next_ahead left p q Equal Greater m k h edge = absurd h
+next_ahead left p q Greater r m k h edge = absurd h
 
 -- right of the left edge, not above the top, and live
 abbrev pub IsFramed : ℤ → ℤ → Place × ℕ → Type 0
@@ -86,7 +66,7 @@ IsFramed left top e = (left ≤ℤ e.0.1) × (top ≤ℤ e.0.0) × (0 < e.1)
 ahead_next : (left top : ℤ) (e : Place × ℕ) (es : List (Place × ℕ)) → T (is_sorted place_cmp (e ∷ es)) → AllByRecursion (IsFramed left top) es → AreAhead left (behind e.0) es
 ahead_next left top e [] sorted h = tt
 ahead_next left top e (f ∷ fs) sorted h =
-    (next_ahead left e.0 f.0 h.0.0 (before e.0 f.0 (first _ _ (first _ _ sorted))), (h.0.2, ahead_next left top f fs (second _ _ sorted) h.1))
+    (next_ahead left e.0 f.0 _ _ (int_ranks e.0.0 f.0.0) (int_ranks e.0.1 f.0.1) (first _ _ (first _ _ sorted)) h.0.0, (h.0.2, ahead_next left top f fs (second _ _ sorted) h.1))
 
 -- sorted cells in a frame, from its corner on
 pub ahead : (left top : ℤ) (es : List (Place × ℕ)) → T (is_sorted place_cmp es) → AllByRecursion (IsFramed left top) es → AreAhead left (top, left) es
@@ -97,17 +77,13 @@ ahead left top (e ∷ es) sorted h =
     let here : (top <ℤ e.0.0) ⊎ ((top ≡ e.0.0) × (left ≤ℤ e.0.1)) = by_lt_z top e.0.0 (λ k. inl k) (λ (k : e.0.0 ≤ℤ top). inr ((omega (arith, ints, k, low)), edge)) in
     ((edge, here), (h.0.2, ahead_next left top e es sorted h.1))
 
-below_live : (p : Place) (es : List (Place × ℕ)) → T (below_all place_cmp p es) → T (below_all place_cmp p (map as_live es))
-below_live p [] h = tt
-below_live p (e ∷ es) h =
-    elim (is_lt (place_cmp p e.0)) as (λ b. T (b && below_all place_cmp p es) → T (b && below_all place_cmp p (map as_live es))) [
-      | true ↦ λ k. below_live p es k
-      | false ↦ λ k. absurd k
-    ] h
-
 both : (a b : Bool) → T a → T b → T (a && b)
 both true b p q = q
 both false b p q = p
+
+below_live : (p : Place) (es : List (Place × ℕ)) → T (below_all place_cmp p es) → T (below_all place_cmp p (map as_live es))
+below_live p [] h = tt
+below_live p (e ∷ es) h = both _ _ (first _ _ h) (below_live p es (second _ _ h))
 
 sorted_live : (es : List (Place × ℕ)) → T (is_sorted place_cmp es) → T (is_sorted place_cmp (map as_live es))
 sorted_live [] h = tt
@@ -117,59 +93,9 @@ sorted_live (e ∷ es) h = both _ _ (below_live e.0 es (first _ _ h)) (sorted_li
 pub live-sorted : (w : World) → T (is_sorted place_cmp (live w))
 live-sorted w = subst (λ es. T (is_sorted place_cmp es)) (sym (live-entries w)) (sorted_live (map.entries w) (map.entries_sorted w))
 
--- a frame that holds the live cells and lies in the range of planes
-pub record FrameFits (w : World) (f : Frame) : Type 0 where
-  pub left : (neg_ℤ (pos (2 ^ 61)) ≤ℤ f.left) × (f.left <ℤ pos (2 ^ 61))
-  pub top : (neg_ℤ (pos (2 ^ 61)) ≤ℤ f.top) × (f.top <ℤ pos (2 ^ 61))
-  pub width : f.width < 2 ^ 64
-  pub height : f.height < 2 ^ 64
-  pub holds : (x y : ℤ) → 0 < cell w x y → (f.left ≤ℤ x) × (f.top ≤ℤ y)
-
-walked : (w : World) (b : Option Bounds) (rest : List (Place × ℕ)) → Walked w b rest → Walked w (box_with b rest) []
-walked w b [] h = h
-walked w b (c ∷ cs) h = walked w (Some (grown b c.0.1 c.0.0)) cs (Walked-more w b (c ∷ cs) c cs refl h)
-
-distance-near : (a b : ℤ) → neg_ℤ (pos (2 ^ 61)) ≤ℤ a → a ≤ℤ pos (2 ^ 61) → neg_ℤ (pos (2 ^ 61)) ≤ℤ b → b ≤ℤ pos (2 ^ 61) → distance a b ≤ 2 ^ 62
-distance-near a b la ha lb hb = grind (arith, ints)
-
-fits_walked : (w : World) (o : Option Bounds) → HasMargin 0 w → Walked w o [] → FrameFits w (frame_of o)
-fits_walked w None inside h =
-    let is : w ≡ blank = (none_walked w None [] refl h).0 refl in
-    record {
-      left = (omega (arith, ints), omega (arith, ints));
-      top = (omega (arith, ints), omega (arith, ints));
-      width = omega arith;
-      height = omega arith;
-      holds = λ x y live. absurd (let k : cell w x y ≡ 0 = ap (λ v. cell v x y) is ∙ cell-blank x y in omega (arith, k, live));
-    }
-fits_walked w (Some b) inside h =
-    let box : IsBoundingBox b w = some_walked w (Some b) [] refl h in
-    let l = inside b.left box.touched_left.0 box.touched_left.1 in
-    let r = inside b.right box.touched_right.0 box.touched_right.1 in
-    let t = inside box.touched_top.0 b.top box.touched_top.1 in
-    let m = inside box.touched_bottom.0 b.bottom box.touched_bottom.1 in
-    let l0 = l.left in let l1 = l.right in let r0 = r.left in let r1 = r.right in
-    let t0 = t.top in let t1 = t.bottom in let m0 = m.top in let m1 = m.bottom in
-    let wide = distance-near b.left b.right (omega (arith, ints, l0)) (omega (arith, ints, l1)) (omega (arith, ints, r0)) (omega (arith, ints, r1)) in
-    let high = distance-near b.top b.bottom (omega (arith, ints, t0)) (omega (arith, ints, t1)) (omega (arith, ints, m0)) (omega (arith, ints, m1)) in
-    record {
-      left = (omega (arith, ints, l0), omega (arith, ints, l1));
-      top = (omega (arith, ints, t0), omega (arith, ints, t1));
-      width = omega (arith, wide);
-      height = omega (arith, high);
-      holds = λ x y live. ((box.holds x y live).left, (box.holds x y live).top);
-    }
-
--- the frame of a world's live cells
-pub frame-fits : (w : World) → HasMargin 0 w → FrameFits w (frame_of (box_of (live w)))
-frame-fits w inside = fits_walked w (box_of (live w)) inside (walked w None (live w) (Walked-none w (live w) refl))
-
 -- a place in or beside the range of planes
-pub record IsBeside (p : Place) : Type 0 where
-  pub y_low : neg_ℤ (pos (2 ^ 61)) ≤ℤ p.0
-  pub y_high : p.0 ≤ℤ pos (2 ^ 61)
-  pub x_low : neg_ℤ (pos (2 ^ 61)) ≤ℤ p.1
-  pub x_high : p.1 ≤ℤ pos (2 ^ 61)
+abbrev pub IsBeside : Place → Type 0
+IsBeside p = IsNear p.0 × IsNear p.1
 
 -- a cell in the range of planes, live, with a state below `states`
 abbrev pub IsCellOf : ℕ → Place × ℕ → Type 0
@@ -188,35 +114,41 @@ writable-more few most states (token.Run n s) le h = (h.0, (let k : n < few = h.
 writable-more few most states (token.RowEnds n) le h = (h.0, (let k : n < few = h.1 in omega arith), tt)
 writable-more few most states token.End le h = tt
 
-joined-writable : (few most states n s : ℕ) (ts : List Token) → 0 < n → 0 < few → few + n ≤ most → s < states → AllByRecursion (IsWritable few states) ts → AllByRecursion (IsWritable most states) (joined n s ts)
-joined-writable few most states n s [] one some le below h = ((one, omega arith, below), tt)
-joined-writable few most states n s (token.RowEnds m ∷ ts) one some le below h = ((one, omega arith, below), all_so (IsWritable few states) (IsWritable most states) (token.RowEnds m ∷ ts) (λ t k. writable-more few most states t (omega arith) k) h)
-joined-writable few most states n s (token.End ∷ ts) one some le below h = ((one, omega arith, below), all_so (IsWritable few states) (IsWritable most states) (token.End ∷ ts) (λ t k. writable-more few most states t (omega arith) k) h)
-joined-writable few most states n s (token.Run m t ∷ ts) one some le below h =
-    let later = all_so (IsWritable few states) (IsWritable most states) ts (λ t k. writable-more few most states t (omega arith) k) h.1 in
-    let m_some : 0 < m = h.0.0 in
-    let m_few : m < few = h.0.1 in
-    elim (s == t) as (λ v. AllByRecursion (IsWritable most states) (cond v (token.Run (n + m) t ∷ ts) (token.Run n s ∷ token.Run m t ∷ ts))) [
-      | true ↦ ((omega arith, omega arith, h.0.2), later)
-      | false ↦ ((one, omega arith, below), ((m_some, omega arith, h.0.2), later))
-    ]
+joined-writable : (few most states s : ℕ) (ts : List Token) → 0 < few → few < most → s < states → Joins s ts → AllByRecursion (IsWritable few states) ts
+    → AllByRecursion (IsWritable most states) (joined 1 s ts)
+joined-writable few most states s ts some less below (inl first) h =
+    rw (first 1) ((omega arith, omega arith, below), all_so (IsWritable few states) (IsWritable most states) ts (λ t k. writable-more few most states t (omega arith) k) h)
+joined-writable few most states s ts some less below (inr other) h =
+    let k = subst (AllByRecursion (IsWritable few states)) other.2 h in
+    let count : other.0 < few = k.0.1 in
+    rw (ap (joined 1 s) other.2 ∙ joined-run 1 other.0 s other.1)
+    ((omega arith, omega arith, below), all_so (IsWritable few states) (IsWritable most states) other.1 (λ t k. writable-more few most states t (omega arith) k) k.1)
 
 -- the tokens of cells can be written
-pub tokens-writable : (most states : ℕ) (left : ℤ) (from : Place) (cs : List (Place × ℕ)) → 0 < states → length cs + 2 ^ 62 < most → neg_ℤ (pos (2 ^ 61)) ≤ℤ left → left ≤ℤ pos (2 ^ 61) → IsBeside from → AllByRecursion (IsCellOf states) cs
-    → AllByRecursion (IsWritable most states) (tokens left from cs)
-tokens-writable most states left from [] some enough low high near h = (tt, tt)
-tokens-writable most states left from (c ∷ cs) some enough low high near h =
+pub tokens-writable : (most states : ℕ) (left : ℤ) (from : Place) (cs : List (Place × ℕ)) → 0 < states → length cs + 2 ^ 62 < most → IsNear left → IsBeside from
+    → AllByRecursion (IsCellOf states) cs → AllByRecursion (IsWritable most states) (tokens left from cs)
+tokens-writable most states left from [] some enough edge near h = (tt, tt)
+tokens-writable most states left from (c ∷ cs) some enough edge near h =
     let at = h.0.0 in
-    let a = at.left in let b = at.right in let d = at.top in let e = at.bottom in
-    let x_low : neg_ℤ (pos (2 ^ 61)) ≤ℤ c.0.1 = omega (arith, ints, a) in
-    let x_high : c.0.1 <ℤ pos (2 ^ 61) = omega (arith, ints, b) in
-    let y_low : neg_ℤ (pos (2 ^ 61)) ≤ℤ c.0.0 = omega (arith, ints, d) in
-    let y_high : c.0.0 <ℤ pos (2 ^ 61) = omega (arith, ints, e) in
-    let rows = distance-near from.0 c.0.0 near.y_low near.y_high y_low (omega (arith, ints, y_high)) in
-    let gap = distance-near from.1 c.0.1 near.x_low near.x_high x_low (omega (arith, ints, x_high)) in
-    let indent = distance-near left c.0.1 low high x_low (omega (arith, ints, x_high)) in
-    let next : IsBeside (behind c.0) = record { y_low = y_low; y_high = omega (arith, ints, y_high); x_low = omega (arith, ints, x_low); x_high = omega (arith, ints, x_high) } in
+    let x : IsNear c.0.1 = (omega (arith, ints), omega (arith, ints)) in
+    let y : IsNear c.0.0 = (omega (arith, ints), omega (arith, ints)) in
+    let beyond : IsNear (c.0.1 +ℤ pos 1) = (omega (arith, ints), omega (arith, ints)) in
+    let rows = distance-near from.0 c.0.0 near.0 y in
+    let gap = distance-near from.1 c.0.1 near.1 x in
+    let indent = distance-near left c.0.1 edge x in
     all_append (IsWritable most states) (way left from c.0) (joined 1 c.1 (tokens left (behind c.0) cs))
     (way-writable most states (distance from.0 c.0.0) left from c.0 some (omega arith) (omega arith) (omega arith))
-    (joined-writable (most - 1) most states 1 c.1 (tokens left (behind c.0) cs) (omega arith) (omega arith) (omega arith) h.0.1.1
-    (tokens-writable (most - 1) states left (behind c.0) cs some (omega arith) low high next h.1))
+    (joined-writable (most - 1) most states c.1 _ (omega arith) (omega arith) h.0.1.1 (joined-cases c.1 (tokens left (behind c.0) cs))
+    (tokens-writable (most - 1) states left (behind c.0) cs some (omega arith) edge (y, beyond) h.1))
+
+each_listed : (w : World) (cells : List Cell) → AllByRecursion (IsListedIn w) (map of_cell cells) → HasMargin 0 w → AllByRecursion IsListed cells
+each_listed w [] states inside = tt
+each_listed w (c ∷ cs) states inside =
+    let is : cell w c.x c.y ≡ c.state = states.0.0 in
+    let live : 0 < c.state = states.0.1 in
+    let at = inside c.x c.y (omega arith) in
+    ((live, omega (arith, ints)), each_listed w cs states.1 inside)
+
+-- the cells that a plane lists aren't empty, and lie left of the right edge of planes
+pub AllListed-live : (w : World) (cells : List Cell) → map of_cell cells ≡ live w → HasMargin 0 w → All IsListed cells
+AllListed-live w cells is inside = All-from_recursion IsListed cells (each_listed w cells (subst (AllByRecursion (IsListedIn w)) (sym is) (live-states w)) inside)

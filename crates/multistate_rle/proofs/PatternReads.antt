@@ -37,7 +37,8 @@ use Rattle.basics.proofs.Lists.{all_so}
 use Rattle.text_lines.proofs.LineEnds.{line-first}
 use Rattle.text_lines.proofs.PrintedLines.{ends-append, ends-visible, printed-one, strip-printed}
 use Rattle.multistate_rle.proofs.HeadReads.{IsPlain, IsCoordinate, comment_line, comment-reads, header_line, header-reads, comment-printed, header-printed, generation-visible}
-use Rattle.multistate_rle.proofs.LiveCells.{IsListedIn, IsFramed, IsCellOf, IsBeside, FrameFits, ahead, frame-fits, lay-live, live-sorted, tokens-writable}
+use Rattle.multistate_rle.proofs.Boxes.{IsNear, FrameFits, frame-fits}
+use Rattle.multistate_rle.proofs.LiveCells.{IsListedIn, IsFramed, IsCellOf, ahead, lay-live, live-sorted, tokens-writable}
 use Rattle.multistate_rle.proofs.StripCells.{set_of, drawn, IsLaidInside, drawn-tokens, live_count-drawn, drawn-inside}
 
 two_groups : (sign place left comma top blank age generation feed x width y height rule name body : List ℕ)
@@ -134,9 +135,11 @@ tokens_in f w = tokens f.left (f.top, f.left) (live w)
 
 tokens_in-writable : (w : World) (f : Frame) (states : ℕ) → FrameFits w f → HasMargin 0 w → AllBelow states w → 2 ≤ states → AllByRecursion (IsWritable (length (live w) + 2 ^ 62 + 1) states) (tokens_in f w)
 tokens_in-writable w f states fits inside below two =
-    let l0 = fits.left.0 in let l1 = fits.left.1 in let t0 = fits.top.0 in let t1 = fits.top.1 in
-    let near : IsBeside (f.top, f.left) = record { y_low = t0; y_high = omega (arith, ints, t1); x_low = l0; x_high = omega (arith, ints, l1) } in
-    tokens-writable (length (live w) + 2 ^ 62 + 1) states f.left (f.top, f.left) (live w) (omega arith) (omega arith) l0 (omega (arith, ints, l1)) near (cells_of_world w states inside below)
+    let left = fits.left in
+    let top = fits.top in
+    let x : IsNear f.left = (omega (arith, ints, left), omega (arith, ints, left)) in
+    let y : IsNear f.top = (omega (arith, ints, top), omega (arith, ints, top)) in
+    tokens-writable (length (live w) + 2 ^ 62 + 1) states f.left (f.top, f.left) (live w) (omega arith) (omega arith) x (y, x) (cells_of_world w states inside below)
 
 drawn_in : (w : World) (f : Frame) (n : ℕ) → FrameFits w f → drawn (record { x = f.left; y = f.top; generation = n }) 0 0 (tokens_in f w) ≡ map set_of (live w)
 drawn_in w f n fits = drawn-tokens (record { x = f.left; y = f.top; generation = n }) 0 0 (f.top, f.left) (live w) (omega (arith, ints)) (omega (arith, ints)) (ahead f.left f.top (live w) (live-sorted w) (framed_cells w f fits))
@@ -177,11 +180,9 @@ framed-means w f name n states fits named small two most can =
     let body : List ℕ = packed 70 (map (token_text states) (tokens_in f w)) in
     let first : List ℕ = comment_line f.left f.top n in
     let second : List ℕ = header_line f.width f.height name in
-    let x : IsCoordinate f.left = record { low = fits.left.0; high = fits.left.1 } in
-    let y : IsCoordinate f.top = record { low = fits.top.0; high = fits.top.1 } in
     ap pattern_of (regrouped (signed_decimal f.left) (signed_decimal f.top) (decimal n) (decimal f.width) (decimal f.height) name body)
     ∙ ap (λ (read : Result Head RleFault). read >>= λ head. (drawn_by head.origin (symbols (solid_from head.len (drop head.len (first ++ 10 ∷ (second ++ 10 ∷ body))))) >>= λ world. Ok (record { plane = world; rule_name = head.name; generation = head.origin.generation })))
-    (head-reads f.left f.top n f.width f.height name body x y small fits.width fits.height named.some (plain_name name named.bytes))
+    (head-reads f.left f.top n f.width f.height name body fits.left fits.top small fits.width fits.height named.some (plain_name name named.bytes))
     ∙ ap (λ bs. drawn_by origin (symbols (solid_from (two_lines first second) bs)) >>= λ world. Ok (record { plane = world; rule_name = name; generation = n })) (body-left first second body)
     ∙ ap (λ read. read >>= λ world. Ok (record { plane = world; rule_name = name; generation = n })) (body-reads w f n states (two_lines first second) fits can two most)
 

@@ -1,7 +1,8 @@
 -- The cells of a strip, one after another.
-use Rattle.std.proofs.Common.{◌≡◌, ℕ, ◌+◌, ◌-◌, ◌^◌, ◌&&◌, Bool, true, false, ℤ, pos, ◌+ℤ◌, List, [], ◌∷◌, ◌++◌, map, ap, sym, ◌∙◌, refl, arith, append_assoc}
+use Rattle.std.proofs.Common.{◌≡◌, ℕ, ◌+◌, ◌-◌, ◌^◌, ◌&&◌, Bool, true, ℤ, pos, ◌+ℤ◌, List, [], ◌∷◌, ◌++◌, map, ap, sym, ◌∙◌, arith, append_assoc}
 use Rattle.std.specs.Prelude.{int_le, int_lt, neg_ℤ, ◌≤ℤ◌, ◌<ℤ◌}
 use Rattle.std.specs.List.{range_with_len}
+use Rattle.std.proofs.lemmas.Bool.{and_parts}
 use Rattle.std.proofs.lemmas.Int.{ints}
 use Rattle.std.proofs.lemmas.List.FromFn.{map-range_with_len_more}
 use Rattle.worlds.specs.declared.cell.CellSet.{CellSet}
@@ -14,40 +15,27 @@ use Rattle.multistate_rle.specs.Drawing.{side_by_side}
 pub same_cell : (a b : CellSet) → a.x ≡ b.x → a.y ≡ b.y → a.state ≡ b.state → a ≡ b
 same_cell a b x y state = λ i. record { x = x i; y = y i; state = state i }
 
--- the parts of a test of two
-pub and_first : (b c : Bool) → (b && c) ≡ true → b ≡ true
-and_first true c h = refl
-and_first false c h = h
+bounds : (z : ℤ) → is_in_range z ≡ true → (neg_ℤ (pos (2 ^ 61)) ≤ℤ z) × (z <ℤ pos (2 ^ 61))
+bounds z h = let both = and_parts (int_le (neg_ℤ (pos (2 ^ 61))) z) (int_lt z (pos (2 ^ 61))) h in (record { le = rw both.0 tt }, record { lt = rw both.1 tt })
 
-pub and_second : (b c : Bool) → (b && c) ≡ true → c ≡ true
-and_second true c h = h
-and_second false c h = cc
+-- where a strip lies
+pub record IsWithin (origin : Origin) (strip : Strip) : Type 0 where
+  pub first : IsInside 0 (origin.x +ℤ pos strip.column) (origin.y +ℤ pos strip.row)
+  pub last : (origin.x +ℤ pos (strip.column + strip.count)) ≤ℤ pos (2 ^ 61)
 
-from_least : (z : ℤ) → is_in_range z ≡ true → neg_ℤ (pos (2 ^ 61)) ≤ℤ z
-from_least z h = record { le = let at_least : int_le (neg_ℤ (pos (2 ^ 61))) z ≡ true = and_first _ _ h in rw at_least tt }
-
-to_greatest : (z : ℤ) → is_in_range z ≡ true → z <ℤ pos (2 ^ 61)
-to_greatest z h = record { lt = let below : int_lt z (pos (2 ^ 61)) ≡ true = and_second _ _ h in rw below tt }
-
--- the first cell of a strip that lies in the plane
-pub starts_inside : (origin : Origin) (strip : Strip) → lies_inside origin strip ≡ true → IsInside 0 (origin.x +ℤ pos strip.column) (origin.y +ℤ pos strip.row)
-starts_inside origin strip inside =
-    let x : is_in_range (origin.x +ℤ pos strip.column) ≡ true = and_first _ _ inside in
-    let y : is_in_range (origin.y +ℤ pos strip.row) ≡ true = and_second _ _ (and_second _ _ inside) in
-    let left = from_least (origin.x +ℤ pos strip.column) x in
-    let right = to_greatest (origin.x +ℤ pos strip.column) x in
-    let top = from_least (origin.y +ℤ pos strip.row) y in
-    let bottom = to_greatest (origin.y +ℤ pos strip.row) y in
-    record { left = omega (arith, ints, left); right = omega (arith, ints, right); top = omega (arith, ints, top); bottom = omega (arith, ints, bottom) }
-
--- and where it ends
-pub ends_inside : (origin : Origin) (strip : Strip) → lies_inside origin strip ≡ true → (origin.x +ℤ pos (strip.column + strip.count)) ≤ℤ pos (2 ^ 61)
-ends_inside origin strip inside =
-    let x : is_in_range (origin.x +ℤ pos strip.column) ≡ true = and_first _ _ inside in
-    let z : is_in_range (origin.x +ℤ pos (strip.column + strip.count - 1)) ≡ true = and_first _ _ (and_second _ _ inside) in
-    let first = to_greatest (origin.x +ℤ pos strip.column) x in
-    let last = to_greatest (origin.x +ℤ pos (strip.column + strip.count - 1)) z in
-    omega (arith, ints, first, last)
+-- a strip that lies in the plane
+pub lies_within : (origin : Origin) (strip : Strip) → lies_inside origin strip ≡ true → IsWithin origin strip
+lies_within origin strip inside =
+    let right : ℤ = origin.x +ℤ pos (strip.column + strip.count - 1) in
+    let parts = and_parts (is_in_range (origin.x +ℤ pos strip.column)) (is_in_range right && is_in_range (origin.y +ℤ pos strip.row)) inside in
+    let others = and_parts (is_in_range right) (is_in_range (origin.y +ℤ pos strip.row)) parts.1 in
+    let x = bounds (origin.x +ℤ pos strip.column) parts.0 in
+    let z = bounds right others.0 in
+    let y = bounds (origin.y +ℤ pos strip.row) others.1 in
+    record {
+      first = record { left = omega (arith, ints, x.0); right = omega (arith, ints, x.1); top = omega (arith, ints, y.0); bottom = omega (arith, ints, y.1) };
+      last = omega (arith, ints, x.1, z.1);
+    }
 
 -- one cell more
 pub side_by_side-more : (first cell : CellSet) (k : ℕ) (new cells old : List CellSet) → new ≡ cells ++ cell ∷ [] → cells ≡ old ++ side_by_side first k → cell.x ≡ first.x +ℤ pos k → cell.y ≡ first.y → cell.state ≡ first.state → new ≡ old ++ side_by_side first (k + 1)

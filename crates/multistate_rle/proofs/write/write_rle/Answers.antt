@@ -1,10 +1,9 @@
-use Rattle.std.proofs.Common.{◌≡◌, map, rules, subst, sym}
+use Rattle.std.proofs.Common.{◌≡◌, List, map, rules, subst, sym}
 use Rattle.std.specs.List.{All}
 use Rattle.worlds.specs.Live.{live, of_cell}
 use Rattle.worlds.specs.declared.cell.Cell.{Cell}
-use Rattle.std.proofs.Common.{List}
 use Rattle.multistate_rle.specs.Listed.{IsListed}
-use Rattle.multistate_rle.proofs.Listed.{AllListed-live}
+use Rattle.multistate_rle.proofs.LiveCells.{AllListed-live}
 use Rattle.multistate_rle.proofs.write.write_rle.Goals as goal
 
 pub push_cells-requires : goal.push_cells-requires

@@ -1,17 +1,19 @@
-use Rattle.std.proofs.Common.{◌∙◌, ◌≡◌, sym, ap, ◌++◌, ◌∷◌, [], ℕ, List, map, rules, OnOk}
+use Rattle.std.proofs.Common.{◌∙◌, ◌≡◌, sym, ap, ◌++◌, ◌∷◌, [], ℕ, ◌≤◌, List, length, arith, map, rules, OnOk}
 use Rattle.std.proofs.lemmas.Result.{on_ok_weaker}
 use Rattle.worlds.specs.World.{Place}
 use Rattle.worlds.specs.Live.{of_cell, place_of}
 use Rattle.multistate_rle.specs.declared.token.Token.{Token}
 use Rattle.multistate_rle.specs.Token.{way, joined, tokens, behind}
 use Rattle.multistate_rle.specs.Writing.{finished, tokens_on}
-use Rattle.multistate_rle.proofs.Runs.{begins, first_cell, no_cells}
+use Rattle.multistate_rle.proofs.Runs.{begins, cells_done}
 use Rattle.multistate_rle.proofs.body.Body.push_cells.Goals as goal
 
 pub returns-in_default : goal.returns-in_default
 returns-in_default c =
+    let none : length c.args.cells.now ≤ 0 = omega (arith, c.in_default.ensures.cases) in
     on_ok_weaker c.push.result
-    (λ written. written [] ∙ ap (λ cells. finished c.args.self.now (tokens c.args.frame.now.left (c.args.frame.now.top, c.args.frame.now.left) cells)) (sym (no_cells c.args.cells.now (c.in_default.ensures.cases))))
+    (λ written. written []
+    ∙ ap (λ cells. finished c.args.self.now (tokens c.args.frame.now.left (c.args.frame.now.top, c.args.frame.now.left) cells)) (sym (cells_done c.args.cells.now 0 none)))
     c.push.ensures
 
 pub returns : goal.returns
@@ -28,5 +30,5 @@ returns c =
     written
     ∙ ap (finished c.push_way.new.self) (begins left c.of.result first cells c.of.ensures.place c.of.ensures.cells)
     ∙ way_written (joined 1 first.state (tokens left (behind (place_of first)) cells))
-    ∙ ap (λ cs. finished c.args.self.now (tokens left (top, left) cs)) (sym (first_cell c.args.cells.now first c.in-Some.rest.now split)))
+    ∙ ap (λ cs. finished c.args.self.now (tokens left (top, left) cs)) (sym (ap (map of_cell) split)))
     rest_written

@@ -5,29 +5,23 @@ use Rattle.std.proofs.lemmas.Result.{on_ok_weaker}
 use mir.Syntax.{w64}
 use mir.Val.{SFits}
 use Rattle.multistate_rle.specs.Pattern.{Strip, lies_inside}
-use Rattle.multistate_rle.proofs.Strips.{starts_inside, ends_inside, side_by_side-strip}
+use Rattle.multistate_rle.proofs.Strips.{lies_within, side_by_side-strip}
 use Rattle.multistate_rle.proofs.drawing.Drawing.keep_strip.Goals as goal
 
-pub push_strip-requires-clause-first : goal.push_strip-requires-clause-first
-push_strip-requires-clause-first c =
+pub push_strip-requires : goal.push_strip-requires
+push_strip-requires c =
     let d = c.self.inside in
     let x : SFits w64 d.origin.x = search rules in
     let y : SFits w64 d.origin.y = search rules in
     let strip : Strip = record { row = d.row; column = d.column; count = c.args.count; state = c.args.state } in
     let inside : lies_inside d.origin strip ≡ true = rw (← c.self.view_is) at c.requires.inside in
-    let start = starts_inside d.origin strip inside in
-    (record { left = omega (arith, ints); right = omega (arith, ints); top = omega (arith, ints); bottom = omega (arith, ints) }, omega arith)
-
-pub push_strip-requires-clause-last : goal.push_strip-requires-clause-last
-push_strip-requires-clause-last c =
-    let d = c.self.inside in
-    let x : SFits w64 d.origin.x = search rules in
-    let y : SFits w64 d.origin.y = search rules in
-    let strip : Strip = record { row = d.row; column = d.column; count = c.args.count; state = c.args.state } in
-    let inside : lies_inside d.origin strip ≡ true = rw (← c.self.view_is) at c.requires.inside in
-    let start = starts_inside d.origin strip inside in
-    let end = ends_inside d.origin strip inside in
-    omega (arith, ints)
+    let at = lies_within d.origin strip inside in
+    record {
+      few = search rules;
+      laid = search rules;
+      first = (record { left = omega (arith, ints); right = omega (arith, ints); top = omega (arith, ints); bottom = omega (arith, ints) }, omega arith);
+      last = omega (arith, ints);
+    }
 
 of_ok : {T E P : Type 0} (r : Result T E) → is_err r ≡ false → OnOk r P → P
 of_ok (Ok x) h p = p
@@ -40,7 +34,7 @@ returns-else-is_err c =
     let y : SFits w64 d.origin.y = search rules in
     let strip : Strip = record { row = d.row; column = d.column; count = c.args.count; state = c.args.state } in
     let inside : lies_inside d.origin strip ≡ true = rw (← c.self.view_is) at c.requires.inside in
-    let start = starts_inside d.origin strip inside in
+    let at = lies_within d.origin strip inside in
     let kept = on_ok_weaker c.push_strip.result
     (λ e. ap (λ cells. record { origin = d.origin; row = d.row; column = d.column; live = d.live; is_inside = d.is_inside; is_whole = d.is_whole; cells = cells })
     (e ∙ ap (λ cells. d.cells.items ++ cells) (side_by_side-strip d.origin strip _ (omega (arith, ints)) (omega (arith, ints)) (omega arith))))
