@@ -11,4 +11,3 @@ pub mod PatternReads
 pub mod Runs
 pub mod StripCells
 mod Strips
-mod VisibleBytes
