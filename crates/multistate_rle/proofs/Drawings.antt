@@ -17,7 +17,7 @@ use Rattle.multistate_rle.specs.declared.symbol.Symbol.TheVariants.{Digit, Cell,
 use Rattle.multistate_rle.specs.Pattern.{Run, Strip, onto, runs_from, strips_from, live_count, is_in_range, lies_inside, cells_of, world_of, drawn_by}
 use Rattle.multistate_rle.specs.Pattern.Run.{Cells, RowEnds}
 use Rattle.multistate_rle.specs.Drawing.{Drawn, IsLike, WantsAlone, capped, strip_at, with_strip, after_cells, after_rows, undrawn, world_drawn}
-use Rattle.multistate_rle.proofs.Capped.{IsPlaced, lies_inside-alike, capped-in_range}
+use Rattle.multistate_rle.proofs.Strips.{IsPlaced, lies_inside-alike, capped-in_range}
 
 -- a drawing stands for these strips, where the next run begins at this row and column; it has their cells, unless they were given up
 pub record Follows (origin : Origin) (d : Drawn) (r c : ℕ) (strips : List Strip) : Type 0 where

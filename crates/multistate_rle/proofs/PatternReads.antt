@@ -71,7 +71,8 @@ head-comment origin len line lines h = rw (or_right (length line.says == 0) (beg
 
 -- the header ends the head
 head-header : (origin : Origin) (len : ℕ) (line : Line) (lines : List Line) (name : List ℕ)
-    → 0 < length line.says → begins_with 35 line.says ≡ false → rule_name line.says ≡ Ok name → head_from origin len (line ∷ lines) ≡ Ok (record { origin = origin; name = name; len = len + length line.raw })
+    → 0 < length line.says → begins_with 35 line.says ≡ false → rule_name line.says ≡ Ok name
+    → head_from origin len (line ∷ lines) ≡ Ok (record { origin = origin; name = name; len = len + length line.raw })
 head-header origin len line lines name some h is = rw (or_from (length line.says == 0) (begins_with 35 line.says) (differs (length line.says) 0 (λ e. omega arith)) h) (rw is refl)
 
 -- how many bytes two lines have

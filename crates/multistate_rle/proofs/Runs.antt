@@ -59,14 +59,19 @@ joined-more n s ts (inr other) =
     ap (joined n s) (ap (joined 1 s) other.2 ∙ joined-run 1 other.0 s other.1) ∙ joined-run n (1 + other.0) s other.1
     ∙ ap (λ k. Run k s ∷ other.1) more ∙ sym (ap (joined (n + 1) s) other.2 ∙ joined-run (n + 1) other.0 s other.1)
 
+-- the run goes on with the cell
+abbrev pub GoesOn : OpenRun → Cell → Type 0
+GoesOn r c = (r.y ≡ c.y) × (r.next ≡ c.x) × (r.state ≡ c.state)
+
 -- a cell that goes on with a run
-pub goes_on : (left y x y' x' : ℤ) (n s s' : ℕ) (cs : List (Place × ℕ)) → y ≡ y' → x ≡ x' → s ≡ s'
-    → joined (n + 1) s (tokens left (y, x +ℤ pos 1) cs) ≡ joined n s (tokens left (y, x) (((y', x'), s') ∷ cs))
-goes_on left y x y' x' n s s' cs e f g =
-    let here : way left (y, x) (y, x) ≡ [] = ap (λ rows. way_by rows left (y, x) (y, x)) (distance-same y) ∙ ap zeros (distance-same x) in
-    sym (joined-more n s _ (joined-cases s (tokens left (y, x +ℤ pos 1) cs)))
-    ∙ ap (λ ts. joined n s (ts ++ joined 1 s (tokens left (y, x +ℤ pos 1) cs))) (sym here)
-    ∙ (λ i. joined n s (tokens left (y, x) (((e i, f i), g i) ∷ cs)))
+pub goes_on : (left : ℤ) (r : OpenRun) (c : Cell) (cs : List (Place × ℕ)) → GoesOn r c
+    → joined (r.count + 1) r.state (tokens left (r.y, r.next +ℤ pos 1) cs) ≡ tokens_on left r (of_cell c ∷ cs)
+goes_on left r c cs same =
+    let here : way left (r.y, r.next) (r.y, r.next) ≡ [] = ap (λ rows. way_by rows left (r.y, r.next) (r.y, r.next)) (distance-same r.y) ∙ ap zeros (distance-same r.next) in
+    let later : List Token = tokens left (r.y, r.next +ℤ pos 1) cs in
+    sym (joined-more r.count r.state later (joined-cases r.state later))
+    ∙ ap (λ ts. joined r.count r.state (ts ++ joined 1 r.state later)) (sym here)
+    ∙ (λ i. joined r.count r.state (tokens left (r.y, r.next) (((same.0 i, same.1 i), same.2 i) ∷ cs)))
 
 -- a run of another state stands before a cell
 apart : (n s s' : ℕ) (ts : List Token) → (s ≡ s' → ⊥) → Joins s' ts → joined n s (joined 1 s' ts) ≡ Run n s ∷ joined 1 s' ts
@@ -82,11 +87,12 @@ after_way n s zero left from to ts h k = after_gap n s (distance from.1 to.1) ts
 after_way n s (suc rows) left from to ts h k = refl
 
 -- a cell that doesn't go on with a run
-pub breaks : (left y x y' x' : ℤ) (n s s' : ℕ) (cs : List (Place × ℕ)) → 0 < s → ((y ≡ y') × (x ≡ x') × (s ≡ s') → ⊥)
-    → Run n s ∷ (way left (y, x) (y', x') ++ joined 1 s' (tokens left (y', x' +ℤ pos 1) cs)) ≡ joined n s (tokens left (y, x) (((y', x'), s') ∷ cs))
-breaks left y x y' x' n s s' cs live h =
-    sym (after_way n s (distance y y') left (y, x) (y', x') (joined 1 s' (tokens left (y', x' +ℤ pos 1) cs)) live
-    (λ rows gap. apart n s s' _ (λ e. h (distance-none y y' rows, distance-none x x' gap, e)) (joined-cases s' (tokens left (y', x' +ℤ pos 1) cs))))
+pub breaks : (left : ℤ) (r : OpenRun) (c : Cell) (cs : List (Place × ℕ)) → (GoesOn r c → ⊥)
+    → Run r.count r.state ∷ (way left (r.y, r.next) (place_of c) ++ joined 1 c.state (tokens left (behind (place_of c)) cs)) ≡ tokens_on left r (of_cell c ∷ cs)
+breaks left r c cs h =
+    let later : List Token = tokens left (behind (place_of c)) cs in
+    sym (after_way r.count r.state (distance r.y c.y) left (r.y, r.next) (place_of c) (joined 1 c.state later) r.live
+    (λ rows gap. apart r.count r.state c.state later (λ e. h (distance-none r.y c.y rows, distance-none r.next c.x gap, e)) (joined-cases c.state later)))
 
 -- the run of a first cell
 pub begins : (left : ℤ) (r : OpenRun) (c : Cell) (cs : List (Place × ℕ)) → (r.y ≡ c.y) × (r.next ≡ (c.x +ℤ pos 1)) → (r.count ≡ 1) × (r.state ≡ c.state) → tokens_on left r cs ≡ joined 1 c.state (tokens left (behind (place_of c)) cs)

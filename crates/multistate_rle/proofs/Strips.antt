@@ -1,15 +1,52 @@
--- The cells of a strip, one after another.
-use Rattle.std.proofs.Common.{◌≡◌, ℕ, ◌+◌, ◌-◌, ◌^◌, ◌&&◌, Bool, true, ℤ, pos, ◌+ℤ◌, List, [], ◌∷◌, ◌++◌, map, ap, sym, ◌∙◌, arith, append_assoc}
+-- Strips of cells: where they lie, also by numbers that stand at 2^64 - 1 where they are greater, and their cells one after another.
+use Rattle.std.proofs.Common.{◌≡◌, ℕ, ◌+◌, ◌-◌, ◌^◌, ◌<◌, ◌≤◌, ◌&&◌, Bool, true, false, min, ℤ, pos, ◌+ℤ◌, List, [], ◌∷◌, ◌++◌, map, ⊎_elim, ap, sym, ◌∙◌, arith, append_assoc}
 use Rattle.std.specs.Prelude.{int_le, int_lt, neg_ℤ, ◌≤ℤ◌, ◌<ℤ◌}
 use Rattle.std.specs.List.{range_with_len}
-use Rattle.std.proofs.lemmas.Bool.{and_parts}
+use Rattle.std.proofs.lemmas.Bool.{and_parts, and_right, both_ways, cases_lt}
 use Rattle.std.proofs.lemmas.Int.{ints}
 use Rattle.std.proofs.lemmas.List.FromFn.{map-range_with_len_more}
+use mir.Syntax.{w64}
+use mir.Val.{SFits}
 use Rattle.worlds.specs.declared.cell.CellSet.{CellSet}
 use Rattle.worlds.specs.Range.{IsInside}
 use Rattle.multistate_rle.specs.declared.comment.Origin.{Origin}
 use Rattle.multistate_rle.specs.Pattern.{Strip, is_in_range, lies_inside, cell_at, cells_of}
-use Rattle.multistate_rle.specs.Drawing.{side_by_side}
+use Rattle.multistate_rle.specs.Drawing.{capped, side_by_side}
+
+-- the place of an origin has 64 bits
+pub record IsPlaced (origin : Origin) : Type 0 where
+  pub x : SFits w64 origin.x
+  pub y : SFits w64 origin.y
+
+-- a number, or 2^64 - 2 if it is greater: from there on no coordinate is in range
+abbrev pub near : ℕ → ℕ
+near n = min n (2 ^ 64 - 2)
+
+far : (z : ℤ) (n : ℕ) → SFits w64 z → 2 ^ 64 - 2 ≤ n → is_in_range (z +ℤ pos n) ≡ false
+far z n fits past = and_right _ _ (let out : int_lt (z +ℤ pos n) (pos (2 ^ 61)) ≡ false = grind (arith, ints) in out)
+
+-- numbers that are alike as far as it matters
+same_range : (z : ℤ) (m n : ℕ) → SFits w64 z → near m ≡ near n → is_in_range (z +ℤ pos m) ≡ is_in_range (z +ℤ pos n)
+same_range z m n fits alike = ⊎_elim
+    (λ (below : m < 2 ^ 64 - 2). let same : m ≡ n = omega arith in ap (λ k. is_in_range (z +ℤ pos k)) same)
+    (λ (past : 2 ^ 64 - 2 ≤ m). far z m fits past ∙ sym (far z n fits (omega arith)))
+    (cases_lt m (2 ^ 64 - 2))
+
+-- strips that are alike as far as it matters
+pub lies_inside-alike : (origin : Origin) (p q : Strip) → IsPlaced origin
+    → near p.column ≡ near q.column → near (p.column + p.count - 1) ≡ near (q.column + q.count - 1) → near p.row ≡ near q.row → lies_inside origin p ≡ lies_inside origin q
+lies_inside-alike origin p q placed first last row =
+    let left = same_range origin.x p.column q.column placed.x first in
+    let right = same_range origin.x (p.column + p.count - 1) (q.column + q.count - 1) placed.x last in
+    let height = same_range origin.y p.row q.row placed.y row in
+    λ i. left i && (right i && height i)
+
+-- a number at which a coordinate is in range isn't beyond
+pub capped-in_range : (z : ℤ) (n : ℕ) → SFits w64 z → is_in_range (z +ℤ pos n) ≡ true → capped n ≡ n
+capped-in_range z n fits inside = ⊎_elim
+    (λ (below : n < 2 ^ 64 - 2). let same : capped n ≡ n = omega arith in same)
+    (λ (past : 2 ^ 64 - 2 ≤ n). absurd (both_ways _ (far z n fits past) inside))
+    (cases_lt n (2 ^ 64 - 2))
 
 -- cells of the same place and state
 pub same_cell : (a b : CellSet) → a.x ≡ b.x → a.y ≡ b.y → a.state ≡ b.state → a ≡ b

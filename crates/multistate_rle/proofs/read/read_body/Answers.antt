@@ -1,7 +1,7 @@
 use Rattle.std.proofs.Common.{◌≡◌, ◌∙◌, ◌∷◌, [], ℕ, Ok, inr, ap, arith, rules}
 use Rattle.multistate_rle.specs.Drawing.{world_drawn}
 use Rattle.multistate_rle.specs.Pattern.{drawn_by, runs_from}
-use Rattle.multistate_rle.proofs.Capped.{IsPlaced}
+use Rattle.multistate_rle.proofs.Strips.{IsPlaced}
 use Rattle.multistate_rle.proofs.Drawings.{IsEnd, begun, begun-digit, begun-rows, begun-cells, begun-end, drawn_on}
 use Rattle.multistate_rle.proofs.read.read_body.Goals as goal
 use Rattle.multistate_rle.proofs.read.read_body.Goals.{in-Some+in-End, in_default}

@@ -4,28 +4,25 @@ use Rattle.multistate_rle.specs.declared.open_run.OpenRun.{OpenRun}
 use Rattle.multistate_rle.specs.declared.token.Token.{Token}
 use Rattle.multistate_rle.specs.Token.{way, joined, tokens, behind}
 use Rattle.multistate_rle.specs.Writing.{finished, tokens_on}
-use Rattle.multistate_rle.proofs.Runs.{goes_on, breaks, begins}
+use Rattle.multistate_rle.proofs.Runs.{GoesOn, goes_on, breaks, begins}
 use Rattle.multistate_rle.proofs.body.Body.advance.Goals as goal
 
 pub returns-then-goes_on_with-clause-written : goal.returns-then-goes_on_with-clause-written
 returns-then-goes_on_with-clause-written c cells =
-    let left = c.args.left in
-    let run = c.args.run in
-    let cell = c.args.cell.now in
-    let same : (run.y ≡ cell.y) × (run.next ≡ cell.x) × (run.state ≡ cell.state) = search rules in
-    ap (λ (r : OpenRun). finished c.args.self.now (tokens_on left r cells)) c.extended.ensures
-    ∙ ap (finished c.args.self.now) (goes_on left run.y run.next cell.y cell.x run.count run.state cell.state cells same.0 same.1 same.2)
+    let same : GoesOn c.args.run c.args.cell.now = search rules in
+    ap (λ (r : OpenRun). finished c.args.self.now (tokens_on c.args.left r cells)) c.extended.ensures
+    ∙ ap (finished c.args.self.now) (goes_on c.args.left c.args.run c.args.cell.now cells same)
 
 pub returns-clause-written : goal.returns-clause-written
 returns-clause-written c cells =
     let left = c.args.left in
     let run = c.args.run in
     let cell = c.args.cell.now in
-    let apart : (run.y ≡ cell.y) × (run.next ≡ cell.x) × (run.state ≡ cell.state) → ⊥ = λ same. let hit = c.goes_on_with.ensures.1 same in cc in
+    let apart : GoesOn run cell → ⊥ = λ same. let hit = c.goes_on_with.ensures.1 same in cc in
     let rest = joined 1 cell.state (tokens left (behind (place_of cell)) cells) in
     let way_written : (ts : List Token) → finished c.push_way.new.self ts ≡ finished c.push.new.self (way left (run.y, run.next) (place_of cell) ++ ts) = search rules in
     ap (finished c.push_way.new.self) (begins left c.of.result cell cells c.of.ensures.place c.of.ensures.cells)
     ∙ way_written rest
     ∙ c.in_ok-push.ensures (way left (run.y, run.next) (place_of cell) ++ rest)
     ∙ ap (λ t. finished c.args.self.now (t ∷ (way left (run.y, run.next) (place_of cell) ++ rest))) c.token.ensures
-    ∙ ap (finished c.args.self.now) (breaks left run.y run.next cell.y cell.x run.count run.state cell.state cells run.live apart)
+    ∙ ap (finished c.args.self.now) (breaks left run cell cells apart)
