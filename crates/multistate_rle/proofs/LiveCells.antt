@@ -1,5 +1,5 @@
 -- The live cells of a world: their order, their tokens, and the world that they make.
-use Rattle.std.proofs.Common.{◌≡◌, ◌∙◌, sym, ap, subst, refl, ℕ, zero, suc, ◌+◌, ◌-◌, ◌<◌, ◌≤◌, ◌^◌, ◌&&◌, Bool, true, false, cond, ℤ, pos, ◌+ℤ◌, List, [], ◌∷◌, length, map, arith, None, Some, T, inl, inr}
+use Rattle.std.proofs.Common.{◌≡◌, ◌∙◌, sym, ap, subst, refl, ℕ, zero, suc, ◌+◌, ◌-◌, ◌<◌, ◌≤◌, ◌^◌, true, false, cond, ℤ, pos, ◌+ℤ◌, List, [], ◌∷◌, length, map, arith, None, Some, T, inl, inr}
 use Rattle.std.specs.Prelude.{◌⊎◌, ◌≤ℤ◌, ◌<ℤ◌, unwrap_or}
 use Rattle.std.specs.declared.cmp.Ordering.{Ordering}
 use Rattle.std.specs.declared.cmp.Ordering.TheVariants.{Less, Equal, Greater}
@@ -8,7 +8,7 @@ use Rattle.std.specs.Cmp.{int_ranks}
 use Rattle.std.specs.List.{All, AllByRecursion}
 use Rattle.std.specs.Map.{lookup}
 use Rattle.std.specs.FinMap as map
-use Rattle.std.specs.FinMap.Entries.{below_all, is_sorted}
+use Rattle.std.specs.FinMap.Entries.{is_sorted}
 use Rattle.std.proofs.lemmas.Int.{ints, by_lt_z}
 use Rattle.std.proofs.lemmas.List.Elements.{All-from_recursion}
 use Rattle.basics.proofs.Lists.{all_append, all_so}
@@ -59,47 +59,38 @@ next_ahead left p q Equal Equal m k h edge = absurd h
 next_ahead left p q Equal Greater m k h edge = absurd h
 next_ahead left p q Greater r m k h edge = absurd h
 
--- right of the left edge, not above the top, and live
-abbrev pub IsFramed : ℤ → ℤ → Place × ℕ → Type 0
-IsFramed left top e = (left ≤ℤ e.0.1) × (top ≤ℤ e.0.0) × (0 < e.1)
+-- a live cell in the range of planes, right of the left edge and not above the top, with a state below `states`
+pub record IsCellOf (states : ℕ) (left top : ℤ) (e : Place × ℕ) : Type 0 where
+  pub inside : IsInside 0 e.0.1 e.0.0
+  pub edge : left ≤ℤ e.0.1
+  pub low : top ≤ℤ e.0.0
+  pub live : 0 < e.1
+  pub below : e.1 < states
 
-ahead_next : (left top : ℤ) (e : Place × ℕ) (es : List (Place × ℕ)) → T (is_sorted place_cmp (e ∷ es)) → AllByRecursion (IsFramed left top) es → AreAhead left (behind e.0) es
-ahead_next left top e [] sorted h = tt
-ahead_next left top e (f ∷ fs) sorted h =
-    (next_ahead left e.0 f.0 _ _ (int_ranks e.0.0 f.0.0) (int_ranks e.0.1 f.0.1) (first _ _ (first _ _ sorted)) h.0.0, (h.0.2, ahead_next left top f fs (second _ _ sorted) h.1))
+ahead_next : (states : ℕ) (left top : ℤ) (e : Place × ℕ) (es : List (Place × ℕ)) → T (is_sorted place_cmp (e ∷ es)) → AllByRecursion (IsCellOf states left top) (map as_live es)
+    → AreAhead left (behind e.0) (map as_live es)
+ahead_next states left top e [] sorted h = tt
+ahead_next states left top e (f ∷ fs) sorted h = (
+  next_ahead left e.0 f.0 _ _ (int_ranks e.0.0 f.0.0) (int_ranks e.0.1 f.0.1) (first _ _ (first _ _ sorted)) h.0.edge,
+  (h.0.live, ahead_next states left top f fs (second _ _ sorted) h.1),
+)
 
--- sorted cells in a frame, from its corner on
-pub ahead : (left top : ℤ) (es : List (Place × ℕ)) → T (is_sorted place_cmp es) → AllByRecursion (IsFramed left top) es → AreAhead left (top, left) es
-ahead left top [] sorted h = tt
-ahead left top (e ∷ es) sorted h =
-    let edge : left ≤ℤ e.0.1 = h.0.0 in
-    let low : top ≤ℤ e.0.0 = h.0.1 in
-    let here : (top <ℤ e.0.0) ⊎ ((top ≡ e.0.0) × (left ≤ℤ e.0.1)) = by_lt_z top e.0.0 (λ k. inl k) (λ (k : e.0.0 ≤ℤ top). inr ((omega (arith, ints, k, low)), edge)) in
-    ((edge, here), (h.0.2, ahead_next left top e es sorted h.1))
+ahead : (states : ℕ) (left top : ℤ) (es : List (Place × ℕ)) → T (is_sorted place_cmp es) → AllByRecursion (IsCellOf states left top) (map as_live es)
+    → AreAhead left (top, left) (map as_live es)
+ahead states left top [] sorted h = tt
+ahead states left top (e ∷ es) sorted h =
+    let cell = h.0 in
+    let here : (top <ℤ e.0.0) ⊎ ((top ≡ e.0.0) × (left ≤ℤ e.0.1)) = by_lt_z top e.0.0 (λ k. inl k) (λ (k : e.0.0 ≤ℤ top). inr (omega (arith, ints, k), cell.edge)) in
+    ((cell.edge, here), (cell.live, ahead_next states left top e es sorted h.1))
 
-both : (a b : Bool) → T a → T b → T (a && b)
-both true b p q = q
-both false b p q = p
-
-below_live : (p : Place) (es : List (Place × ℕ)) → T (below_all place_cmp p es) → T (below_all place_cmp p (map as_live es))
-below_live p [] h = tt
-below_live p (e ∷ es) h = both _ _ (first _ _ h) (below_live p es (second _ _ h))
-
-sorted_live : (es : List (Place × ℕ)) → T (is_sorted place_cmp es) → T (is_sorted place_cmp (map as_live es))
-sorted_live [] h = tt
-sorted_live (e ∷ es) h = both _ _ (below_live e.0 es (first _ _ h)) (sorted_live es (second _ _ h))
-
--- the live cells are sorted
-pub live-sorted : (w : World) → T (is_sorted place_cmp (live w))
-live-sorted w = subst (λ es. T (is_sorted place_cmp es)) (sym (live-entries w)) (sorted_live (map.entries w) (map.entries_sorted w))
+-- the live cells, from the corner of their frame on
+pub live-ahead : (w : World) (states : ℕ) (left top : ℤ) → AllByRecursion (IsCellOf states left top) (live w) → AreAhead left (top, left) (live w)
+live-ahead w states left top h =
+    rw (live-entries w) (ahead states left top (map.entries w) (map.entries_sorted w) (subst (AllByRecursion (IsCellOf states left top)) (live-entries w) h))
 
 -- a place in or beside the range of planes
 abbrev pub IsBeside : Place → Type 0
 IsBeside p = IsNear p.0 × IsNear p.1
-
--- a cell in the range of planes, live, with a state below `states`
-abbrev pub IsCellOf : ℕ → Place × ℕ → Type 0
-IsCellOf states e = IsInside 0 e.0.1 e.0.0 × ((0 < e.1) × (e.1 < states))
 
 zeros-writable : (most states n : ℕ) → 0 < states → n < most → AllByRecursion (IsWritable most states) (zeros n)
 zeros-writable most states zero some h = tt
@@ -125,21 +116,22 @@ joined-writable few most states s ts some less below (inr other) h =
     ((omega arith, omega arith, below), all_so (IsWritable few states) (IsWritable most states) other.1 (λ t k. writable-more few most states t (omega arith) k) k.1)
 
 -- the tokens of cells can be written
-pub tokens-writable : (most states : ℕ) (left : ℤ) (from : Place) (cs : List (Place × ℕ)) → 0 < states → length cs + 2 ^ 62 < most → IsNear left → IsBeside from
-    → AllByRecursion (IsCellOf states) cs → AllByRecursion (IsWritable most states) (tokens left from cs)
-tokens-writable most states left from [] some enough edge near h = (tt, tt)
-tokens-writable most states left from (c ∷ cs) some enough edge near h =
-    let at = h.0.0 in
+pub tokens-writable : (most states : ℕ) (left top : ℤ) (from : Place) (cs : List (Place × ℕ)) → 0 < states → length cs + 2 ^ 62 < most → IsNear left → IsBeside from
+    → AllByRecursion (IsCellOf states left top) cs → AllByRecursion (IsWritable most states) (tokens left from cs)
+tokens-writable most states left top from [] some enough edge near h = (tt, tt)
+tokens-writable most states left top from (c ∷ cs) some enough edge near h =
+    let at = h.0.inside in
     let x : IsNear c.0.1 = (omega (arith, ints), omega (arith, ints)) in
     let y : IsNear c.0.0 = (omega (arith, ints), omega (arith, ints)) in
     let beyond : IsNear (c.0.1 +ℤ pos 1) = (omega (arith, ints), omega (arith, ints)) in
     let rows = distance-near from.0 c.0.0 near.0 y in
     let gap = distance-near from.1 c.0.1 near.1 x in
     let indent = distance-near left c.0.1 edge x in
-    all_append (IsWritable most states) (way left from c.0) (joined 1 c.1 (tokens left (behind c.0) cs))
+    let later : List Token = tokens left (behind c.0) cs in
+    all_append (IsWritable most states) (way left from c.0) (joined 1 c.1 later)
     (way-writable most states (distance from.0 c.0.0) left from c.0 some (omega arith) (omega arith) (omega arith))
-    (joined-writable (most - 1) most states c.1 _ (omega arith) (omega arith) h.0.1.1 (joined-cases c.1 (tokens left (behind c.0) cs))
-    (tokens-writable (most - 1) states left (behind c.0) cs some (omega arith) edge (y, beyond) h.1))
+    (joined-writable (most - 1) most states c.1 later (omega arith) (omega arith) h.0.below (joined-cases c.1 later)
+    (tokens-writable (most - 1) states left top (behind c.0) cs some (omega arith) edge (y, beyond) h.1))
 
 each_listed : (w : World) (cells : List Cell) → AllByRecursion (IsListedIn w) (map of_cell cells) → HasMargin 0 w → AllByRecursion IsListed cells
 each_listed w [] states inside = tt

@@ -37,7 +37,7 @@ use Rattle.text_lines.proofs.LineEnds.{line-first}
 use Rattle.text_lines.proofs.PrintedLines.{EndsSolid, ends-append, ends-behind, ends-visible, printed-one, strip-printed}
 use Rattle.multistate_rle.proofs.HeadReads.{IsCoordinate, comment_line, comment-reads, header_line, header-reads, comment-printed, header-printed, generation-visible, name-visible, place_part}
 use Rattle.multistate_rle.proofs.Boxes.{IsNear, FrameFits, frame-fits}
-use Rattle.multistate_rle.proofs.LiveCells.{IsListedIn, IsFramed, IsCellOf, ahead, lay-live, live-sorted, tokens-writable}
+use Rattle.multistate_rle.proofs.LiveCells.{IsListedIn, IsCellOf, lay-live, live-ahead, tokens-writable}
 use Rattle.multistate_rle.proofs.StripCells.{set_of, drawn, IsLaidInside, drawn-tokens, live_count-drawn, drawn-inside}
 
 -- the parts of a written pattern, as its two lines and the body behind them
@@ -103,9 +103,9 @@ head-reads x y n width height name body h k small wide high named =
     ∙ head-header origin len (full_line second) (lines_from Ended [] body) name
     (subst (λ bs. 0 < length bs) (sym says_then) (omega arith)) (ap (begins_with 35) says_then) (ap rule_name says_then ∙ header-reads width height name wide high named.bytes)
 
-laid-inside : (states : ℕ) (es : List (Place × ℕ)) → AllByRecursion (IsCellOf states) es → AllByRecursion IsLaidInside (map set_of es)
-laid-inside states [] h = tt
-laid-inside states (e ∷ es) h = (h.0.0, laid-inside states es h.1)
+laid-inside : (states : ℕ) (left top : ℤ) (es : List (Place × ℕ)) → AllByRecursion (IsCellOf states left top) es → AllByRecursion IsLaidInside (map set_of es)
+laid-inside states left top [] h = tt
+laid-inside states left top (e ∷ es) h = (h.0.inside, laid-inside states left top es h.1)
 
 -- a world that can be written, in a frame
 module _ (w : World) (f : Frame) (n states : ℕ) (fits : FrameFits w f) (can : CanBeWritten states w) (two : 2 ≤ states) where
@@ -119,17 +119,15 @@ module _ (w : World) (f : Frame) (n states : ℕ) (fits : FrameFits w f) (can : 
   abbrev most : ℕ
   most = length (live w) + 2 ^ 62 + 1
 
-  cells : AllByRecursion (IsCellOf states) (live w)
+  cells : AllByRecursion (IsCellOf states f.left f.top) (live w)
   cells =
-      all_so (IsListedIn w) (IsCellOf states) (live w)
-      (λ e h. let is : cell w e.0.1 e.0.0 ≡ e.1 = h.0 in let some : 0 < e.1 = h.1 in let less = can.below e.0.1 e.0.0 in
-      (can.inside e.0.1 e.0.0 (omega (arith, is, some)), (some, omega (arith, is, less))))
-      (live-states w)
-
-  framed : AllByRecursion (IsFramed f.left f.top) (live w)
-  framed =
-      all_so (IsListedIn w) (IsFramed f.left f.top) (live w)
-      (λ e h. let is : cell w e.0.1 e.0.0 ≡ e.1 = h.0 in let some : 0 < e.1 = h.1 in let at = fits.holds e.0.1 e.0.0 (omega (arith, is, some)) in (at.0, at.1, some))
+      all_so (IsListedIn w) (IsCellOf states f.left f.top) (live w)
+      (λ e h. let is : cell w e.0.1 e.0.0 ≡ e.1 = h.0 in
+      let some : 0 < e.1 = h.1 in
+      let live : 0 < cell w e.0.1 e.0.0 = omega arith in
+      let less = can.below e.0.1 e.0.0 in
+      let at = fits.holds e.0.1 e.0.0 live in
+      record { inside = can.inside e.0.1 e.0.0 live; edge = at.0; low = at.1; live = some; below = omega (arith, less) })
       (live-states w)
 
   writable : AllByRecursion (IsWritable most states) written
@@ -138,19 +136,19 @@ module _ (w : World) (f : Frame) (n states : ℕ) (fits : FrameFits w f) (can : 
       let top = fits.top in
       let x : IsNear f.left = (omega (arith, ints, left), omega (arith, ints, left)) in
       let y : IsNear f.top = (omega (arith, ints, top), omega (arith, ints, top)) in
-      tokens-writable most states f.left (f.top, f.left) (live w) (omega arith) (omega arith) x (y, x) cells
+      tokens-writable most states f.left f.top (f.top, f.left) (live w) (omega arith) (omega arith) x (y, x) cells
 
   -- the strips of its tokens draw the world
   world-drawn : world_of origin (strips_from 0 0 (runs_of written)) ≡ Ok w
   world-drawn =
       let strips : List Strip = strips_from 0 0 (runs_of written) in
-      let corner = ahead f.left f.top (live w) (live-sorted w) framed in
+      let corner = live-ahead w states f.left f.top cells in
       let same : drawn origin 0 0 written ≡ map set_of (live w) = drawn-tokens origin 0 0 (f.top, f.left) (live w) (omega (arith, ints)) (omega (arith, ints)) corner in
       let count : live_count strips ≡ length (live w) = live_count-drawn origin strips ∙ ap length same ∙ length-map (live w) set_of in
       let least : length (live w) ≤ 1000000 = can.few in
       let few : nat_lt 16777216 (live_count strips) ≡ false = grind (arith, nat_tests) in
       let inside : list_all (lies_inside origin) strips ≡ true =
-      drawn-inside most states 0 0 origin written writable (subst (AllByRecursion IsLaidInside) (sym same) (laid-inside states (live w) cells)) in
+      drawn-inside most states 0 0 origin written writable (subst (AllByRecursion IsLaidInside) (sym same) (laid-inside states f.left f.top (live w) cells)) in
       (λ i. cond (few i) (Err TooManyLive) (cond (inside i) (Ok (lay (same i) blank)) (Err CellOutOfRange))) ∙ ap (λ v. Ok v) (lay-live w)
 
   -- its body gives the world, wherever it stands

@@ -1,5 +1,5 @@
 -- Strips of cells: where they lie, also by numbers that stand at 2^64 - 1 where they are greater, and their cells one after another.
-use Rattle.std.proofs.Common.{◌≡◌, ℕ, ◌+◌, ◌-◌, ◌^◌, ◌<◌, ◌≤◌, ◌&&◌, Bool, true, false, min, ℤ, pos, ◌+ℤ◌, List, [], ◌∷◌, ◌++◌, map, ⊎_elim, ap, sym, ◌∙◌, arith, append_assoc}
+use Rattle.std.proofs.Common.{◌≡◌, ℕ, ◌+◌, ◌-◌, ◌^◌, ◌<◌, ◌≤◌, ◌&&◌, true, false, min, ℤ, pos, ◌+ℤ◌, List, [], ◌∷◌, ◌++◌, map, ⊎_elim, ap, sym, ◌∙◌, arith, append_assoc}
 use Rattle.std.specs.Prelude.{int_le, int_lt, neg_ℤ, ◌≤ℤ◌, ◌<ℤ◌}
 use Rattle.std.specs.List.{range_with_len}
 use Rattle.std.proofs.lemmas.Bool.{and_parts, and_right, both_ways, cases_lt}
@@ -90,7 +90,3 @@ side_by_side-strip origin strip first x y state =
     let each : (k : ℕ) → record { x = first.x +ℤ pos k; y = first.y; state = first.state } ≡ cell_at origin strip k =
     λ k. same_cell (record { x = first.x +ℤ pos k; y = first.y; state = first.state }) (cell_at origin strip k) (omega (arith, ints)) y state in
     λ i. map (λ k. each k i) (range_with_len 0 strip.count)
-
--- three coordinates that are told by others
-pub in_range-alike : (r : Bool) (a b c a' b' c' : ℤ) → r ≡ (is_in_range a && (is_in_range b && is_in_range c)) → a ≡ a' → b ≡ b' → c ≡ c' → r ≡ (is_in_range a' && (is_in_range b' && is_in_range c'))
-in_range-alike r a b c a' b' c' is first last y = is ∙ λ i. is_in_range (first i) && (is_in_range (last i) && is_in_range (y i))

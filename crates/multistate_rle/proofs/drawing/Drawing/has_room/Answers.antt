@@ -1,8 +1,8 @@
-use Rattle.std.proofs.Common.{ℤ, ◌+◌, ◌-◌, ◌+ℤ◌, ◌-ℤ◌, pos, arith, rules}
+use Rattle.std.proofs.Common.{◌≡◌, ◌∙◌, ◌&&◌, ℤ, ◌+◌, ◌-◌, ◌+ℤ◌, ◌-ℤ◌, pos, arith, rules}
 use Rattle.std.proofs.lemmas.Int.{ints}
 use mir.Syntax.{w64, w128}
 use mir.Val.{SFits, to_z, of_z}
-use Rattle.multistate_rle.proofs.Strips.{in_range-alike}
+use Rattle.multistate_rle.specs.Pattern.{is_in_range}
 use Rattle.multistate_rle.proofs.drawing.Drawing.has_room.Goals as goal
 
 -- a number of 128 bits, as the code passes it on
@@ -15,7 +15,7 @@ returns c =
     let x : SFits w64 d.origin.x = search rules in
     let y : SFits w64 d.origin.y = search rules in
     let first = c.shifted-first.result in
-    rw (← c.self.view_is) (in_range-alike c.are_in_range.result
-    (passed first) (passed (passed (passed first +ℤ passed c.from.result) -ℤ pos 1)) (passed c.shifted-y.result)
-    (d.origin.x +ℤ pos d.column) (d.origin.x +ℤ pos (d.column + c.args.count - 1)) (d.origin.y +ℤ pos d.row)
-    c.are_in_range.ensures (omega (arith, ints)) (omega (arith, ints)) (omega (arith, ints)))
+    let left : passed first ≡ d.origin.x +ℤ pos d.column = omega (arith, ints) in
+    let right : passed (passed (passed first +ℤ passed c.from.result) -ℤ pos 1) ≡ d.origin.x +ℤ pos (d.column + c.args.count - 1) = omega (arith, ints) in
+    let height : passed c.shifted-y.result ≡ d.origin.y +ℤ pos d.row = omega (arith, ints) in
+    rw (← c.self.view_is) (c.are_in_range.ensures ∙ λ i. is_in_range (left i) && (is_in_range (right i) && is_in_range (height i)))

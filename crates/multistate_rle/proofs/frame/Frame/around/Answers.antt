@@ -1,8 +1,7 @@
-use Rattle.std.proofs.Common.{◌≡◌, ◌∙◌, sym, ap, ◌+◌, rules, to_z, of_z, w64}
+use Rattle.std.proofs.Common.{◌≡◌, ◌∙◌, sym, ap, rules, to_z, of_z, w64}
 use Rattle.worlds.specs.World.{blank}
 use Rattle.worlds.specs.Range.{IsBoundingBox}
 use Rattle.multistate_rle.specs.Frame.{frame_of}
-use Rattle.multistate_rle.specs.Token.{distance}
 use Rattle.multistate_rle.proofs.Boxes.{box_of-blank, box_of-live, same_frame}
 use Rattle.multistate_rle.proofs.frame.Frame.around.Goals as goal
 
@@ -14,9 +13,7 @@ returns-in_default-clause-frame c =
 pub returns-clause-frame : goal.returns-clause-frame
 returns-clause-frame c =
     let box : IsBoundingBox c.in-Some.bounds c.args.plane.now = search rules in
-    let width : c.abs_diff.result ≡ distance c.in-Some.bounds.left c.in-Some.bounds.right = search rules in
-    let height : c.abs_diff-2.result ≡ distance c.in-Some.bounds.top c.in-Some.bounds.bottom = search rules in
     let left : to_z w64 (of_z w64 c.in-Some.bounds.left) ≡ c.in-Some.bounds.left = search rules in
     let top : to_z w64 (of_z w64 c.in-Some.bounds.top) ≡ c.in-Some.bounds.top = search rules in
-    same_frame left top (ap (λ n. n + 1) width) (ap (λ n. n + 1) height)
+    same_frame left top (search rules) (search rules)
     ∙ ap frame_of (sym (box_of-live c.args.plane.now c.in-Some.bounds box))
