@@ -1,6 +1,5 @@
 -- The faults of a body, wherever its pattern lies.
-use Rattle.std.proofs.Common.{◌≡◌, ◌≢◌, ◌⊎◌, ◌∙◌, ℕ, Bool, true, false, cond, List, [], ◌∷◌, Result, Ok, Err, nat_lt, refl, sym, ap, inl, inr}
-use Rattle.std.specs.Prelude.{IsOk}
+use Rattle.std.proofs.Common.{◌≡◌, ◌≢◌, ◌⊎◌, ◌∙◌, ℕ, Bool, true, false, cond, List, [], ◌∷◌, Result, Ok, Err, nat_lt, refl, sym, ap, inl, inr, IsOk}
 use Rattle.std.specs.List.{flat_map, list_all}
 use Rattle.basics.specs.Results.{◌>>=◌}
 use Rattle.worlds.specs.Lay.{lay}

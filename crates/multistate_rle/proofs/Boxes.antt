@@ -1,6 +1,5 @@
 -- The bounding box of a world is the box of its live cells.
-use Rattle.std.proofs.Common.{◌≡◌, ◌∙◌, ap, refl, ℕ, ◌<◌, ◌≤◌, ◌^◌, List, [], ◌∷◌, map, Option, None, Some, ℤ, pos, arith}
-use Rattle.std.specs.Prelude.{neg_ℤ, ◌≤ℤ◌}
+use Rattle.std.proofs.Common.{◌≡◌, ◌∙◌, ap, refl, ℕ, ◌<◌, ◌≤◌, ◌^◌, List, [], ◌∷◌, map, Option, None, Some, ℤ, pos, arith, neg_ℤ, ◌≤ℤ◌}
 use Rattle.std.proofs.lemmas.Int.{ints}
 use Rattle.worlds.specs.World.{World, Place, cell, blank, cell-blank, entries-blank}
 use Rattle.worlds.specs.Live.{live, live-entries, as_live}

@@ -1,6 +1,5 @@
 -- A drawing of the runs that were read: at its end it tells what their strips tell.
-use Rattle.std.proofs.Common.{◌≡◌, ℕ, ◌+◌, ◌*◌, ◌≤◌, ◌==◌, ◌&&◌, Bool, true, false, cond, max, inl, inr, pos, ◌+ℤ◌, List, [], ◌∷◌, ◌++◌, Result, Ok, Err, nat_le, nat_lt, refl, sym, ap, ap₂, subst, ◌∙◌, arith, tests, append_assoc, append-nil}
-use Rattle.std.specs.Prelude.{IsOk}
+use Rattle.std.proofs.Common.{◌≡◌, ℕ, ◌+◌, ◌*◌, ◌≤◌, ◌==◌, ◌&&◌, Bool, true, false, cond, max, inl, inr, pos, ◌+ℤ◌, List, [], ◌∷◌, ◌++◌, Result, Ok, Err, nat_le, nat_lt, refl, sym, ap, ap₂, subst, ◌∙◌, arith, tests, append_assoc, append-nil, IsOk}
 use Rattle.std.specs.List.{flat_map, list_all}
 use Rattle.std.proofs.lemmas.Bool.{and_parts, cond-true}
 use Rattle.std.proofs.lemmas.List.{flat_map_more}

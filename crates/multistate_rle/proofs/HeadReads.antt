@@ -1,10 +1,7 @@
 -- The two lines before a written body read back: the comment gives the place and the generation, the header the name.
-use Rattle.std.proofs.Common.{◌≡◌, ◌∙◌, sym, ap, ap₂, refl, ℕ, suc, ◌-◌, ◌^◌, ◌<◌, ◌≤◌, ◌==◌, ◌&&◌, ◌||◌, Bool, true, false, not, cond, min, ℤ, pos, List, [], ◌∷◌, ◌++◌, length, arith, None, Some, decimal, append-nil}
-use Rattle.std.specs.Prelude.{negsuc, neg_ℤ, ◌≤ℤ◌, ◌<ℤ◌, int_le, int_lt, codes, fold, Ok}
+use Rattle.std.proofs.Common.{◌≡◌, ◌∙◌, sym, ap, ap₂, refl, ℕ, suc, ◌-◌, ◌^◌, ◌<◌, ◌≤◌, ◌==◌, ◌&&◌, ◌||◌, Bool, true, false, not, cond, min, ℤ, pos, List, [], ◌∷◌, ◌++◌, length, arith, None, Some, decimal, append-nil, negsuc, neg_ℤ, ◌≤ℤ◌, ◌<ℤ◌, int_le, int_lt, codes, fold, Ok, option_map, bytes_eq}
 use Rattle.std.specs.Fmt.{signed_decimal}
 use Rattle.std.specs.List.{All, AllByRecursion, list_all, slice_split}
-use Rattle.std.specs.Option.{option_map}
-use Rattle.std.specs.Str.{bytes_eq}
 use Rattle.std.proofs.lemmas.Bool.{or_from}
 use Rattle.std.proofs.lemmas.Grind.{fold-append}
 use Rattle.std.proofs.lemmas.Int.{ints}
@@ -18,7 +15,7 @@ use Rattle.text_lines.proofs.Decimals.{decimal-bytes, decimal-some, number_of-de
 use Rattle.text_lines.proofs.PrintedLines.{trim-blank}
 use Rattle.multistate_rle.specs.Comments.{is_sign, starts_loose, tight, parts, signed_of, coordinate_of, place_in, generation_in, plain_origin, after_part, after_comment}
 use Rattle.multistate_rle.specs.Cut.{cut_at}
-use Rattle.multistate_rle.specs.Header.{value_in, size_in, name_after_width, name_in, rule_name}
+use Rattle.multistate_rle.specs.Header.{value_in, size_in, name_after_width, rule_name}
 use Rattle.multistate_rle.specs.Laws.{IsNameByte}
 use Rattle.multistate_rle.proofs.Cuts.{IsOther, others, cut-first, cut-none}
 
@@ -100,9 +97,7 @@ tight-words : (xs ys : List ℕ) (b : ℕ) → AllByRecursion IsVisible xs → j
 tight-words xs ys b h loosely k apart =
     let loose : starts_loose (b ∷ ys) ≡ false = ap₂ (λ c d. c || d) (visible-solid b k.0) apart in
     tight-visible true xs (32 ∷ b ∷ ys) h
-    ∙ ap (λ v. xs ++ tight v (32 ∷ b ∷ ys)) loosely
-    ∙ ap (λ v. xs ++ cond v (tight false (b ∷ ys)) (32 ∷ tight false (b ∷ ys))) loose
-    ∙ ap (λ bs. xs ++ 32 ∷ bs) (ap (tight false) (sym (append-nil (b ∷ ys))) ∙ tight-visible false (b ∷ ys) [] k ∙ append-nil (b ∷ ys))
+    ∙ rw loosely (rw loose (ap (λ bs. xs ++ 32 ∷ bs) (ap (tight false) (sym (append-nil (b ∷ ys))) ∙ tight-visible false (b ∷ ys) [] k ∙ append-nil (b ∷ ys))))
 
 solids : (bs : List ℕ) → AllByRecursion IsVisible bs → All (λ b. is_blank b ≡ false) bs
 solids bs h = All-from_recursion (λ b. is_blank b ≡ false) bs (all_so IsVisible (λ b. is_blank b ≡ false) bs visible-solid h)
@@ -119,14 +114,12 @@ place-visible x y h k =
 pub generation-visible : (n : ℕ) → n < 2 ^ 64 → AllByRecursion IsVisible (codes "Gen=" ++ decimal n)
 generation-visible n h = visible-text (codes "Gen=") (decimal n) refl (numeric-visible _ (decimal-numeric n h))
 
-place-open : (x y : ℤ) → IsCoordinate x → IsCoordinate y → joined_behind true (place_part x y) ≡ false
-place-open x y h k =
-    fold-append (λ (before : Bool) (b : ℕ). is_sign b) true (codes "Pos=" ++ signed_decimal x) (44 ∷ signed_decimal y)
-    ∙ joined-numeric (is_sign 44) (signed_decimal y) (signed-some y k) (signed-bytes y k)
-
 comment-parts : (x y : ℤ) (n : ℕ) → IsCoordinate x → IsCoordinate y → n < 2 ^ 64 → ◌≡◌ {A = List (List ℕ)} (parts (32 ∷ (place_part x y ++ 32 ∷ (codes "Gen=" ++ decimal n)))) (place_part x y ∷ (codes "Gen=" ++ decimal n) ∷ [])
 comment-parts x y n h k small =
-    ap (slice_split is_blank) (tight-words (place_part x y) (codes "en=" ++ decimal n) 71 (place-visible x y h k) (place-open x y h k) (generation-visible n small) refl)
+    let open_end : joined_behind true (place_part x y) ≡ false =
+    fold-append (λ (before : Bool) (b : ℕ). is_sign b) true (codes "Pos=" ++ signed_decimal x) (44 ∷ signed_decimal y)
+    ∙ joined-numeric (is_sign 44) (signed_decimal y) (signed-some y k) (signed-bytes y k) in
+    ap (slice_split is_blank) (tight-words (place_part x y) (codes "en=" ++ decimal n) 71 (place-visible x y h k) open_end (generation-visible n small) refl)
     ∙ slice_split_at is_blank (place_part x y) 32 (codes "Gen=" ++ decimal n) (solids (place_part x y) (place-visible x y h k)) refl
     ∙ ap (λ parts. place_part x y ∷ parts) (slice_split_none is_blank (codes "Gen=" ++ decimal n) (solids (codes "Gen=" ++ decimal n) (generation-visible n small)))
 
@@ -166,16 +159,12 @@ height-reads height name small h =
     (rw (size-reads (codes "y") (codes " y ") height (others 61 (codes " y ") refl) refl small)
     (value-reads (codes "rule") (codes " rule ") name (others 61 (codes " rule ") refl) refl (name-visible name h)))
 
-header-name : (width height : ℕ) (name : List ℕ) → width < 2 ^ 64 → height < 2 ^ 64 → AllByRecursion IsNameByte name → name_in (header_line width height name) ≡ Some name
-header-name width height name wide high h =
-    rw (field-cut (codes "x = ") (codes " y = " ++ decimal height ++ 44 ∷ (codes " rule = " ++ name)) width refl wide)
-    (rw (size-reads (codes "x") (codes "x ") width (others 61 (codes "x ") refl) refl wide) (height-reads height name high h))
-
 -- it gives the name
 pub header-reads : (width height : ℕ) (name : List ℕ) → width < 2 ^ 64 → height < 2 ^ 64 → AllByRecursion IsNameByte name → rule_name (header_line width height name) ≡ Ok name
 header-reads width height name wide high h =
-    rw (header-name width height name wide high h)
-    (rw (cut-none 58 name (all_so IsNameByte (IsOther 58) name (λ b k. differs b 58 k.other) h)) refl)
+    rw (field-cut (codes "x = ") (codes " y = " ++ decimal height ++ 44 ∷ (codes " rule = " ++ name)) width refl wide)
+    (rw (size-reads (codes "x") (codes "x ") width (others 61 (codes "x ") refl) refl wide)
+    (rw (height-reads height name high h) (rw (cut-none 58 name (all_so IsNameByte (IsOther 58) name (λ b k. differs b 58 k.other) h)) refl)))
 
 visibles-printed : (bs : List ℕ) → AllByRecursion IsVisible bs → AllByRecursion IsPrinted bs
 visibles-printed bs h = all_so IsVisible IsPrinted bs visible-printed h

@@ -1,8 +1,5 @@
 -- The live cells of a world: their order, their tokens, and the world that they make.
-use Rattle.std.proofs.Common.{◌≡◌, ◌∙◌, sym, ap, subst, refl, ℕ, zero, suc, ◌+◌, ◌-◌, ◌<◌, ◌≤◌, ◌^◌, true, false, cond, ℤ, pos, ◌+ℤ◌, List, [], ◌∷◌, length, map, arith, None, Some, T, inl, inr}
-use Rattle.std.specs.Prelude.{◌⊎◌, ◌≤ℤ◌, ◌<ℤ◌, unwrap_or}
-use Rattle.std.specs.declared.cmp.Ordering.{Ordering}
-use Rattle.std.specs.declared.cmp.Ordering.TheVariants.{Less, Equal, Greater}
+use Rattle.std.proofs.Common.{◌≡◌, ◌∙◌, sym, ap, subst, refl, ℕ, zero, suc, ◌+◌, ◌-◌, ◌<◌, ◌≤◌, ◌^◌, true, false, cond, ℤ, pos, ◌+ℤ◌, List, [], ◌∷◌, length, map, arith, None, Some, T, inl, inr, ◌⊎◌, ◌≤ℤ◌, ◌<ℤ◌, unwrap_or, Ordering, Less, Equal, Greater}
 use Rattle.std.specs.Ordering.{MatchOrdering, ordering_then, is_lt}
 use Rattle.std.specs.Cmp.{int_ranks}
 use Rattle.std.specs.List.{All, AllByRecursion}

@@ -1,13 +1,11 @@
 -- The strips that tokens draw, as cells: those that the tokens were made of.
-use Rattle.std.proofs.Common.{◌≡◌, ◌∙◌, sym, ap, ap₂, subst, refl, ℕ, zero, suc, ◌+◌, ◌-◌, ◌<◌, ◌^◌, ◌==◌, true, false, cond, ℤ, pos, ◌+ℤ◌, List, [], ◌∷◌, ◌++◌, length, map, arith, ⊎_elim, inl, inr}
-use Rattle.std.specs.Prelude.{◌⊎◌, neg_ℤ, ◌≤ℤ◌, ◌<ℤ◌}
+use Rattle.std.proofs.Common.{◌≡◌, ◌∙◌, sym, ap, ap₂, subst, refl, ℕ, zero, suc, ◌+◌, ◌-◌, ◌<◌, ◌^◌, ◌==◌, true, false, cond, ℤ, pos, ◌+ℤ◌, List, [], ◌∷◌, ◌++◌, length, map, arith, ⊎_elim, inl, inr, ◌⊎◌, neg_ℤ, ◌≤ℤ◌, ◌<ℤ◌, length-append}
 use Rattle.std.specs.List.{AllByRecursion, flat_map, list_all, range_with_len}
 use Rattle.std.proofs.lemmas.Bool.{and_from}
 use Rattle.std.proofs.lemmas.Int.{ints}
 use Rattle.std.proofs.lemmas.List.Elements.{All-from_recursion}
 use Rattle.std.proofs.lemmas.List.FromFn.{fill_by_all, get_or-map-range_with_len, length-map-range_with_len}
 use Rattle.std.proofs.lemmas.List.Sums.{sum_by-cons}
-use Rattle.std.proofs.Math.ListN.{length-append}
 use Rattle.worlds.specs.World.{Place}
 use Rattle.worlds.specs.declared.cell.CellSet.{CellSet}
 use Rattle.worlds.specs.Range.{IsInside}
@@ -81,56 +79,38 @@ AreAhead left from (c ∷ cs) = IsAhead left from c.0 × ((0 < c.1) × AreAhead 
 distance-to : (a b : ℤ) → a ≤ℤ b → (a +ℤ pos (distance a b)) ≡ b
 distance-to a b h = grind (arith, ints)
 
--- where a way leads
-record Arrives (origin : Origin) (row column : ℕ) (to : Place) (way ts : List Token) : Type 0 where
-  row_then : ℕ
-  column_then : ℕ
-  y : (origin.y +ℤ pos row_then) ≡ to.0
-  x : (origin.x +ℤ pos column_then) ≡ to.1
-  rest : drawn origin row column (way ++ ts) ≡ drawn origin row_then column_then ts
-
-way-arrives : (origin : Origin) (row column : ℕ) (from to : Place) (ts : List Token) → (origin.y +ℤ pos row) ≡ from.0 → (origin.x +ℤ pos column) ≡ from.1 → IsAhead origin.x from to
-    → Arrives origin row column to (way origin.x from to) ts
-way-arrives origin row column from to ts y x h =
+-- what follows a way is drawn from the place on to which it leads
+drawn-way : (origin : Origin) (row column : ℕ) (from to : Place) (ts : List Token) (cells : List CellSet) → (origin.y +ℤ pos row) ≡ from.0 → (origin.x +ℤ pos column) ≡ from.1
+    → IsAhead origin.x from to → ((r c : ℕ) → (origin.y +ℤ pos r) ≡ to.0 → (origin.x +ℤ pos c) ≡ to.1 → drawn origin r c ts ≡ cells)
+    → drawn origin row column (way origin.x from to ++ ts) ≡ cells
+drawn-way origin row column from to ts cells y x ahead arrive =
     let rows : ℕ = distance from.0 to.0 in
     ⊎_elim
     (λ (below : from.0 <ℤ to.0).
     let down = distance-to from.0 to.0 (omega (arith, ints, below)) in
-    let on = distance-to origin.x to.1 h.0 in
-    record {
-      row_then = row + rows;
-      column_then = 0 + distance origin.x to.1;
-      y = omega (arith, ints, down, y);
-      x = omega (arith, ints, on);
-      rest = ap (λ way. drawn origin row column (way ++ ts)) (way-rows rows origin.x from to (λ none. omega (arith, ints, down, below, none)))
-          ∙ drawn-zeros origin (row + rows) 0 (distance origin.x to.1) ts;
-    })
+    let on = distance-to origin.x to.1 ahead.0 in
+    ap (λ way. drawn origin row column (way ++ ts)) (way-rows rows origin.x from to (λ none. omega (arith, ints, down, below, none)))
+    ∙ drawn-zeros origin (row + rows) 0 (distance origin.x to.1) ts
+    ∙ arrive (row + rows) (0 + distance origin.x to.1) (omega (arith, ints, down, y)) (omega (arith, ints, on)))
     (λ (here : (from.0 ≡ to.0) × (from.1 ≤ℤ to.1)).
-    let same : from.0 ≡ to.0 = here.0 in
-    let down = distance-to from.0 to.0 (omega (arith, ints, same)) in
-    let none : rows ≡ 0 = omega (arith, ints, down, same) in
+    let down = distance-to from.0 to.0 (omega (arith, ints, here.0)) in
+    let none : rows ≡ 0 = omega (arith, ints, down, here.0) in
     let on = distance-to from.1 to.1 here.1 in
-    record {
-      row_then = row;
-      column_then = column + distance from.1 to.1;
-      y = y ∙ here.0;
-      x = omega (arith, ints, on, x);
-      rest = ap (λ n. drawn origin row column (way_by n origin.x from to ++ ts)) none ∙ drawn-zeros origin row column (distance from.1 to.1) ts;
-    })
-    h.1
+    ap (λ n. drawn origin row column (way_by n origin.x from to ++ ts)) none
+    ∙ drawn-zeros origin row column (distance from.1 to.1) ts
+    ∙ arrive row (column + distance from.1 to.1) (y ∙ here.0) (omega (arith, ints, on, x)))
+    ahead.1
 
 -- the cells that tokens draw are those of which they are the tokens
 pub drawn-tokens : (origin : Origin) (row column : ℕ) (from : Place) (cs : List (Place × ℕ)) → (origin.y +ℤ pos row) ≡ from.0 → (origin.x +ℤ pos column) ≡ from.1 → AreAhead origin.x from cs
     → drawn origin row column (tokens origin.x from cs) ≡ map set_of cs
 drawn-tokens origin row column from [] y x h = refl
 drawn-tokens origin row column from (c ∷ cs) y x h =
-    let to = way-arrives origin row column from c.0 (joined 1 c.1 (tokens origin.x (behind c.0) cs)) y x h.0 in
-    let at_y = to.y in
-    let at_x = to.x in
-    to.rest
-    ∙ drawn-joined origin to.row_then to.column_then c.1 (tokens origin.x (behind c.0) cs) h.1.0 (joined-cases c.1 (tokens origin.x (behind c.0) cs))
-    ∙ ap₂ (λ d ds. d ∷ ds) (same_cell (live_cell origin to.row_then to.column_then c.1) (set_of c) at_x at_y refl)
-    (drawn-tokens origin to.row_then (to.column_then + 1) (behind c.0) cs at_y (omega (arith, ints, at_x)) h.1.1)
+    let later : List Token = tokens origin.x (behind c.0) cs in
+    drawn-way origin row column from c.0 (joined 1 c.1 later) (set_of c ∷ map set_of cs) y x h.0 (λ r k at_y at_x.
+    drawn-joined origin r k c.1 later h.1.0 (joined-cases c.1 later)
+    ∙ ap₂ (λ d ds. d ∷ ds) (same_cell (live_cell origin r k c.1) (set_of c) at_x at_y refl)
+    (drawn-tokens origin r (k + 1) (behind c.0) cs at_y (omega (arith, ints, at_x)) h.1.1))
 
 -- so many cells are counted as are drawn
 pub live_count-drawn : (origin : Origin) (strips : List Strip) → live_count strips ≡ length (flat_map (cells_of origin) strips)

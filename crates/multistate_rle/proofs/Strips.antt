@@ -1,12 +1,9 @@
 -- Strips of cells: where they lie, also by numbers that stand at 2^64 - 1 where they are greater, and their cells one after another.
-use Rattle.std.proofs.Common.{◌≡◌, ℕ, ◌+◌, ◌-◌, ◌^◌, ◌<◌, ◌≤◌, ◌&&◌, true, false, min, ℤ, pos, ◌+ℤ◌, List, [], ◌∷◌, ◌++◌, map, ⊎_elim, ap, sym, ◌∙◌, arith, append_assoc}
-use Rattle.std.specs.Prelude.{int_le, int_lt, neg_ℤ, ◌≤ℤ◌, ◌<ℤ◌}
+use Rattle.std.proofs.Common.{◌≡◌, ℕ, ◌+◌, ◌-◌, ◌^◌, ◌<◌, ◌≤◌, ◌&&◌, true, false, min, ℤ, pos, ◌+ℤ◌, List, [], ◌∷◌, ◌++◌, map, ⊎_elim, ap, sym, ◌∙◌, arith, append_assoc, int_le, int_lt, neg_ℤ, ◌≤ℤ◌, ◌<ℤ◌, w64, SFits}
 use Rattle.std.specs.List.{range_with_len}
 use Rattle.std.proofs.lemmas.Bool.{and_parts, and_right, both_ways, cases_lt}
 use Rattle.std.proofs.lemmas.Int.{ints}
 use Rattle.std.proofs.lemmas.List.FromFn.{map-range_with_len_more}
-use mir.Syntax.{w64}
-use mir.Val.{SFits}
 use Rattle.worlds.specs.declared.cell.CellSet.{CellSet}
 use Rattle.worlds.specs.Range.{IsInside}
 use Rattle.multistate_rle.specs.declared.comment.Origin.{Origin}

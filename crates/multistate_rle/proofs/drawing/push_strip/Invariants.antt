@@ -1,5 +1,4 @@
-use Rattle.std.proofs.Common.{◌≡◌, ◌++◌}
-use Rattle.std.specs.List.{All}
+use Rattle.std.proofs.Common.{◌≡◌, ◌++◌, All}
 use Rattle.worlds.specs.Range.{CanBeLaid}
 use Rattle.multistate_rle.specs.Drawing.{side_by_side}
 use Rattle.multistate_rle.proofs.drawing.push_strip.Given as goal

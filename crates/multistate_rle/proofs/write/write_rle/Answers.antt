@@ -1,5 +1,4 @@
-use Rattle.std.proofs.Common.{◌≡◌, List, map, rules, subst, sym}
-use Rattle.std.specs.List.{All}
+use Rattle.std.proofs.Common.{◌≡◌, List, map, rules, subst, sym, All}
 use Rattle.worlds.specs.Live.{live, of_cell}
 use Rattle.worlds.specs.declared.cell.Cell.{Cell}
 use Rattle.multistate_rle.specs.Listed.{IsListed}

@@ -1,7 +1,6 @@
-use Rattle.std.proofs.Common.{◌≡◌, ◌∙◌, ◌&&◌, ℤ, ◌+◌, ◌-◌, ◌+ℤ◌, ◌-ℤ◌, pos, arith, rules}
+use Rattle.std.proofs.Common.{◌≡◌, ◌∙◌, ◌&&◌, ℤ, ◌+◌, ◌-◌, ◌+ℤ◌, ◌-ℤ◌, pos, arith, rules, SFits, to_z, of_z}
 use Rattle.std.proofs.lemmas.Int.{ints}
 use mir.Syntax.{w64, w128}
-use mir.Val.{SFits, to_z, of_z}
 use Rattle.multistate_rle.specs.Pattern.{is_in_range}
 use Rattle.multistate_rle.proofs.drawing.Drawing.has_room.Goals as goal
 

@@ -1,9 +1,6 @@
-use Rattle.std.proofs.Common.{◌≡◌, ◌∙◌, ◌++◌, true, false, inl, sym, ap, arith, rules, Result, Ok, Err, OnOk}
-use Rattle.std.specs.Result.{is_err}
+use Rattle.std.proofs.Common.{◌≡◌, ◌∙◌, ◌++◌, true, false, inl, sym, ap, arith, rules, Result, Ok, Err, OnOk, is_err, w64, SFits}
 use Rattle.std.proofs.lemmas.Int.{ints}
 use Rattle.std.proofs.lemmas.Result.{on_ok_weaker}
-use mir.Syntax.{w64}
-use mir.Val.{SFits}
 use Rattle.multistate_rle.specs.Pattern.{Strip, lies_inside}
 use Rattle.multistate_rle.proofs.Strips.{lies_within, side_by_side-strip}
 use Rattle.multistate_rle.proofs.drawing.Drawing.keep_strip.Goals as goal
