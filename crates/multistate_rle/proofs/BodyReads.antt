@@ -1,5 +1,5 @@
 -- A written body reads back: its bytes give the runs of its tokens.
-use Rattle.std.proofs.Common.{◌≡◌, ◌∙◌, sym, ap, subst, refl, ℕ, zero, suc, ◌+◌, ◌-◌, ◌*◌, ◌/◌, ◌%◌, ◌<◌, ◌≤◌, ◌^◌, ◌==◌, ◌&&◌, true, false, cond, List, [], ◌∷◌, ◌++◌, length, map, max, arith, decimal, append_assoc, Result, Ok, nat_le, codes}
+use Rattle.std.proofs.Common.{◌≡◌, ◌∙◌, sym, ap, subst, refl, ℕ, zero, suc, ◌+◌, ◌-◌, ◌*◌, ◌/◌, ◌%◌, ◌<◌, ◌≤◌, ◌^◌, ◌==◌, true, false, cond, List, [], ◌∷◌, ◌++◌, length, map, max, arith, decimal, append_assoc, Result, Ok, nat_le, codes}
 use Rattle.std.specs.List.{AllByRecursion}
 use Rattle.std.specs.Char.{digit_value}
 use Rattle.std.specs.Str.Parse.{digits_value_after}
@@ -14,7 +14,7 @@ use Rattle.multistate_rle.specs.declared.token.Token.TheVariants as token
 use Rattle.multistate_rle.specs.Pattern.{Run, runs_from, onto}
 use Rattle.multistate_rle.specs.Pattern.Run.{Cells, RowEnds}
 use Rattle.multistate_rle.specs.PatternText.{packed}
-use Rattle.multistate_rle.specs.Symbols.{is_passed, is_prefix, is_letter, plain_symbol, prefixed_state, prefixed_symbol, solid_from, symbols}
+use Rattle.multistate_rle.specs.Symbols.{is_passed, is_prefix, plain_symbol, prefixed_state, prefixed_symbol, solid_from, symbols}
 use Rattle.multistate_rle.specs.Token.{count_text, two_state_text, prefix_text, multi_state_text, state_text, token_text}
 use Rattle.text_lines.proofs.ByteRanges.{IsDigit, IsVisible}
 use Rattle.text_lines.proofs.Decimals.{decimal-bytes, decimal-value}
@@ -83,22 +83,18 @@ count-read n rest r some small read =
 cell-read : (n b s : ℕ) (rest : List ℕ) (runs : List Run) → Says b (symbol.Cell s) → ReadsAs 0 rest (Ok runs) → ReadsAs n (b ∷ rest) (Ok (Cells (max n 1) s ∷ runs))
 cell-read n b s rest runs h read = one-read n b (symbol.Cell s) rest _ h (λ offset. ap (onto (Cells (max n 1) s)) (read offset))
 
-prefixed-cell : (o p a c : ℕ) → a < 10 → c < 24 → (a + 1) * 24 + c + 1 < 256 → prefixed_symbol (record { offset = o; byte = 112 + a }) (record { offset = p; byte = 65 + c }) ≡ symbol.Cell ((a + 1) * 24 + c + 1)
-prefixed-cell o p a c few letter small =
-    let state : prefixed_state (112 + a) (65 + c) ≡ (a + 1) * 24 + c + 1 = omega arith in
-    let low : is_letter (65 + c) ≡ true = grind (arith, nat_tests) in
-    let fits : nat_le (prefixed_state (112 + a) (65 + c)) 255 ≡ true = grind (arith, nat_tests) in
-    (λ i. cond (low i && fits i) (symbol.Cell (prefixed_state (112 + a) (65 + c))) (symbol.Unknown o)) ∙ ap (λ s. symbol.Cell s) state
+prefixed-cell : (o p a c s : ℕ) → c < 24 → (a + 1) * 24 + c + 1 ≡ s → s < 256
+    → prefixed_symbol (record { offset = o; byte = 112 + a }) (record { offset = p; byte = 65 + c }) ≡ symbol.Cell s
+prefixed-cell o p a c s letter is small = let state : prefixed_state (112 + a) (65 + c) ≡ s = omega arith in grind (arith, nat_tests)
 
 -- a letter with its prefix
 letter-read : (n q c s : ℕ) (rest : List ℕ) (runs : List Run) → c < 24 → q * 24 + c + 1 ≡ s → s < 256 → ReadsAs 0 rest (Ok runs)
     → ReadsAs n ((prefix_text q ++ (65 + c) ∷ []) ++ rest) (Ok (Cells (max n 1) s ∷ runs))
 letter-read n zero c s rest runs letter is small read = cell-read n (65 + c) s rest runs (letter-says (65 + c) s (omega arith) (omega arith) (omega arith)) read
 letter-read n (suc a) c s rest runs letter is small read = λ offset.
-    let state : (a + 1) * 24 + c + 1 ≡ s = omega arith in
     let prefix : is_prefix (112 + a) ≡ true = grind (arith, nat_tests) in
     ap (runs_from n) (prefix-one offset (112 + a) (65 + c) rest (omega arith, omega arith) (omega arith, omega arith) prefix)
-    ∙ ap (λ x. runs_from n (x ∷ symbols (solid_from (offset + 1 + 1) rest))) (prefixed-cell offset (offset + 1) a c (omega arith) letter (omega arith) ∙ ap (λ s. symbol.Cell s) state)
+    ∙ ap (λ x. runs_from n (x ∷ symbols (solid_from (offset + 1 + 1) rest))) (prefixed-cell offset (offset + 1) a c s letter (omega arith) small)
     ∙ ap (onto (Cells (max n 1) s)) (read (offset + 1 + 1))
 
 -- the text of a state

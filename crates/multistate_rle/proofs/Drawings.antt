@@ -5,6 +5,7 @@ use Rattle.std.proofs.lemmas.Bool.{and_parts, cond-true}
 use Rattle.std.proofs.lemmas.List.{flat_map_more}
 use Rattle.std.proofs.lemmas.List.Folds.{list_all-append}
 use Rattle.std.proofs.lemmas.List.Sums.{sum_by_push}
+use Rattle.std.proofs.Math.Bool.{and-true}
 use Rattle.worlds.specs.Lay.{lay}
 use Rattle.worlds.specs.World.{World, blank}
 use Rattle.basics.specs.Results.{◌>>=◌, Gives}
@@ -18,33 +19,44 @@ use Rattle.multistate_rle.specs.Pattern.Run.{Cells, RowEnds}
 use Rattle.multistate_rle.specs.Drawing.{Drawn, IsLike, WantsAlone, capped, strip_at, with_strip, after_cells, after_rows, undrawn, world_drawn}
 use Rattle.multistate_rle.proofs.Strips.{IsPlaced, lies_inside-alike, capped-in_range}
 
--- a drawing stands for these strips, where the next run begins at this row and column; it has their cells, unless they were given up
-pub record Follows (origin : Origin) (d : Drawn) (r c : ℕ) (strips : List Strip) : Type 0 where
+-- where the next run begins, behind these strips
+pub record Front : Type 0 where
+  pub row : ℕ
+  pub column : ℕ
+  pub strips : List Strip
+
+-- a drawing stands for the strips, and has their cells, unless they were given up
+pub record Follows (origin : Origin) (d : Drawn) (front : Front) : Type 0 where
   pub begun : d.origin ≡ origin
-  pub row : d.row ≡ capped r
-  pub column : d.column ≡ capped c
-  pub live : d.live ≡ capped (live_count strips)
-  pub inside : d.is_inside ≡ list_all (lies_inside origin) strips
-  pub cells : d.is_whole ≡ true → live_count strips ≤ 16777216 → list_all (lies_inside origin) strips ≡ true → d.cells ≡ flat_map (cells_of origin) strips
+  pub row : d.row ≡ capped front.row
+  pub column : d.column ≡ capped front.column
+  pub live : d.live ≡ capped (live_count front.strips)
+  pub inside : d.is_inside ≡ list_all (lies_inside origin) front.strips
+  pub cells : d.is_whole ≡ true → live_count front.strips ≤ 16777216 → list_all (lies_inside origin) front.strips ≡ true → d.cells ≡ flat_map (cells_of origin) front.strips
+
+-- so many cells of a state, from there on
+abbrev strip_from : Front → ℕ → ℕ → Strip
+strip_from front n s = record { row = front.row; column = front.column; count = n; state = s }
+
+-- where the run behind them begins; cells of state 0 make no strip
+abbrev pub front_behind : Front → ℕ → ℕ → Front
+front_behind front n s = record front { column = front.column + n; strips = cond (s == 0) front.strips (front.strips ++ strip_from front n s ∷ []) }
 
 -- whether the strips lie in the plane, with one strip more
 inside-push : (origin : Origin) (strips : List Strip) (strip : Strip)
     → list_all (lies_inside origin) (strips ++ strip ∷ []) ≡ (list_all (lies_inside origin) strips && lies_inside origin strip)
 inside-push origin strips strip =
-    list_all-append (lies_inside origin) strips (strip ∷ []) ∙ ap (λ b. list_all (lies_inside origin) strips && b) (and_true (lies_inside origin strip))
-  where
-    and_true : (b : Bool) → (b && true) ≡ b
-    and_true true = refl
-    and_true false = refl
+    list_all-append (lies_inside origin) strips (strip ∷ []) ∙ ap (λ b. list_all (lies_inside origin) strips && b) (and-true (lies_inside origin strip))
 
 -- one strip more, of which the drawing counts the cells as far as it can
-follows-strip : {origin : Origin} {d : Drawn} {row column : ℕ} {strips : List Strip} (m n s : ℕ) → IsPlaced origin → n ≡ capped m → Follows origin d row column strips
-    → Follows origin (record (with_strip d (strip_at d n s)) { column = capped (d.column + n) }) row (column + m)
-    (strips ++ record { row = row; column = column; count = m; state = s } ∷ [])
-follows-strip {origin} {d} {row} {column} {strips} m n s placed some h =
-    let strip : Strip = record { row = row; column = column; count = m; state = s } in
-    let at : d.column ≡ capped column = h.column in
-    let down : d.row ≡ capped row = h.row in
+follows-strip : {origin : Origin} {d : Drawn} {front : Front} (m n s : ℕ) → IsPlaced origin → n ≡ capped m → Follows origin d front
+    → Follows origin (record (with_strip d (strip_at d n s)) { column = capped (d.column + n) })
+    (record front { column = front.column + m; strips = front.strips ++ strip_from front m s ∷ [] })
+follows-strip {origin} {d} {front} m n s placed some h =
+    let strip : Strip = strip_from front m s in
+    let strips : List Strip = front.strips in
+    let at : d.column ≡ capped front.column = h.column in
+    let down : d.row ≡ capped front.row = h.row in
     let many : d.live ≡ capped (live_count strips) = h.live in
     let count : live_count (strips ++ strip ∷ []) ≡ live_count strips + m = sum_by_push (λ (s : Strip). s.count) strips strip in
     let alike : lies_inside d.origin (strip_at d n s) ≡ lies_inside origin strip =
@@ -60,9 +72,9 @@ follows-strip {origin} {d} {row} {column} {strips} m n s placed some h =
       cells = λ whole few all.
           let parts = and_parts (list_all (lies_inside origin) strips) (lies_inside origin strip) (sym (inside-push origin strips strip) ∙ all) in
           let edges = and_parts _ _ parts.1 in
-          let inner = and_parts _ (is_in_range (origin.y +ℤ pos row)) edges.1 in
-          let c : d.column ≡ column = at ∙ capped-in_range origin.x column placed.x edges.0 in
-          let r : d.row ≡ row = down ∙ capped-in_range origin.y row placed.y inner.1 in
+          let inner = and_parts _ (is_in_range (origin.y +ℤ pos front.row)) edges.1 in
+          let c : d.column ≡ front.column = at ∙ capped-in_range origin.x front.column placed.x edges.0 in
+          let r : d.row ≡ front.row = down ∙ capped-in_range origin.y front.row placed.y inner.1 in
           let k : n ≡ m = omega arith in
           let fits : nat_le (capped (d.live + n)) 16777216 ≡ true = grind (arith, tests) in
           cond-true _ _ _ (λ i. whole i && (fits i && (inside ∙ all) i))
@@ -70,24 +82,19 @@ follows-strip {origin} {d} {row} {column} {strips} m n s placed some h =
           ∙ flat_map_more (cells_of origin) [] strips strip;
     }
 
--- the strips with those of one more run of cells
-abbrev pub strips_with : List Strip → Strip → List Strip
-strips_with strips strip = cond (strip.state == 0) strips (strips ++ strip ∷ [])
-
 -- one more run of cells
-follows-cells : {origin : Origin} {d : Drawn} {row column : ℕ} {strips : List Strip} (m n s : ℕ) → IsPlaced origin → n ≡ capped m → Follows origin d row column strips
-    → Follows origin (after_cells d n s) row (column + m) (strips_with strips (record { row = row; column = column; count = m; state = s }))
-follows-cells {origin} {d} {row} {column} {strips} m n s placed some h =
-    let at : d.column ≡ capped column = h.column in
-    let strip : Strip = record { row = row; column = column; count = m; state = s } in
-    elim (s == 0) as (λ b. Follows origin (record (cond b d (with_strip d (strip_at d n s))) { column = capped (d.column + n) }) row (column + m)
-    (cond b strips (strips ++ strip ∷ []))) [
+follows-cells : {origin : Origin} {d : Drawn} {front : Front} (m n s : ℕ) → IsPlaced origin → n ≡ capped m → Follows origin d front
+    → Follows origin (after_cells d n s) (front_behind front m s)
+follows-cells {origin} {d} {front} m n s placed some h =
+    let at : d.column ≡ capped front.column = h.column in
+    elim (s == 0) as (λ b. Follows origin (record (cond b d (with_strip d (strip_at d n s))) { column = capped (d.column + n) })
+    (record front { column = front.column + m; strips = cond b front.strips (front.strips ++ strip_from front m s ∷ []) })) [
       | true ↦ record { begun = h.begun; row = h.row; column = omega arith; live = h.live; inside = h.inside; cells = h.cells }
       | false ↦ follows-strip m n s placed some h
     ]
 
 -- the same where a growth may have been refused
-follows-like : {origin : Origin} {d e : Drawn} {row column : ℕ} {strips : List Strip} → IsLike d e → Follows origin d row column strips → Follows origin e row column strips
+follows-like : {origin : Origin} {d e : Drawn} {front : Front} → IsLike d e → Follows origin d front → Follows origin e front
 follows-like (inl same) h = rw same h
 follows-like (inr same) h = rw same (record { begun = h.begun; row = h.row; column = h.column; live = h.live; inside = h.inside; cells = λ whole few all. absurd cc })
 
@@ -110,34 +117,30 @@ ends false false whole v w same = record { gives = λ r h. h; sound = λ h. absu
 ends false true true v w same = record { gives = λ r h. subst (λ u. Gives NoMemory r (Ok u)) (same refl refl refl) h; sound = λ h. refl }
 ends false true false v w same = record { gives = wanted (Ok w); sound = λ h. refl }
 
-follows-end : {origin : Origin} {d : Drawn} {row column : ℕ} {strips : List Strip} → Follows origin d row column strips → IsEnd (world_drawn d) (world_of origin strips)
-follows-end {origin} {d} {row} {column} {strips} h =
-    let live : d.live ≡ capped (live_count strips) = h.live in
-    let many : nat_lt 16777216 d.live ≡ nat_lt 16777216 (live_count strips) = grind (arith, tests) in
-    subst (λ o. IsEnd o (world_of origin strips)) (sym (λ i. outcome (many i) (h.inside i) d.is_whole (lay d.cells blank)))
-    (ends _ _ d.is_whole (lay d.cells blank) (lay (flat_map (cells_of origin) strips) blank)
-    (λ few inside whole. ap (λ cells. lay cells blank) (h.cells whole (let m : live_count strips ≤ 16777216 = grind (arith, tests) in m) inside)))
+follows-end : {origin : Origin} {d : Drawn} {front : Front} → Follows origin d front → IsEnd (world_drawn d) (world_of origin front.strips)
+follows-end {origin} {d} {front} h =
+    let live : d.live ≡ capped (live_count front.strips) = h.live in
+    let many : nat_lt 16777216 d.live ≡ nat_lt 16777216 (live_count front.strips) = grind (arith, tests) in
+    subst (λ o. IsEnd o (world_of origin front.strips)) (sym (λ i. outcome (many i) (h.inside i) d.is_whole (lay d.cells blank)))
+    (ends _ _ d.is_whole (lay d.cells blank) (lay (flat_map (cells_of origin) front.strips) blank)
+    (λ few inside whole. ap (λ cells. lay cells blank) (h.cells whole (let m : live_count front.strips ≤ 16777216 = grind (arith, tests) in m) inside)))
 
--- what the symbols that are left draw behind these strips, where the digits before them write n
-abbrev pub drawn_on : Origin → List Strip → ℕ → ℕ → ℕ → List Symbol → Result World RleFault
-drawn_on origin strips row column n left = runs_from n left >>= λ runs. world_of origin (strips ++ strips_from row column runs)
+-- what the symbols that are left draw from there on, where the digits before them write n
+abbrev pub drawn_on : Origin → Front → ℕ → List Symbol → Result World RleFault
+drawn_on origin front n left = runs_from n left >>= λ runs. world_of origin (front.strips ++ strips_from front.row front.column runs)
 
 -- all symbols draw what those that are left draw behind the drawing so far
 pub record IsBegun (origin : Origin) (all : List Symbol) (d : Drawn) (count : ℕ) (left : List Symbol) : Type 0 where
   pub digits : ℕ
-  pub row : ℕ
-  pub column : ℕ
-  pub strips : List Strip
+  pub front : Front
   pub counted : count ≡ capped digits
-  pub follows : Follows origin d row column strips
-  pub drawn : drawn_by origin all ≡ drawn_on origin strips row column digits left
+  pub follows : Follows origin d front
+  pub drawn : drawn_by origin all ≡ drawn_on origin front digits left
 
 pub begun : (origin : Origin) (all : List Symbol) → IsBegun origin all (undrawn origin) 0 all
 begun origin all = record {
   digits = 0;
-  row = 0;
-  column = 0;
-  strips = [];
+  front = record { row = 0; column = 0; strips = [] };
   counted = refl;
   follows = record { begun = refl; row = refl; column = refl; live = refl; inside = refl; cells = λ whole few all. refl };
   drawn = refl;
@@ -148,15 +151,7 @@ pub begun-digit : {origin : Origin} {all left : List Symbol} {d : Drawn} {count 
     → next ≡ capped (count * 10 + digit) → left ≡ Digit digit ∷ rest → IsBegun origin all d count left → IsBegun origin all d next rest
 begun-digit {origin} {all} {left} {d} {count} next digit rest step is h =
     let counted : count ≡ capped h.digits = h.counted in
-    record {
-      digits = h.digits * 10 + digit;
-      row = h.row;
-      column = h.column;
-      strips = h.strips;
-      counted = omega arith;
-      follows = h.follows;
-      drawn = h.drawn ∙ ap (drawn_on origin h.strips h.row h.column h.digits) is;
-    }
+    record { digits = h.digits * 10 + digit; front = h.front; counted = omega arith; follows = h.follows; drawn = h.drawn ∙ ap (drawn_on origin h.front h.digits) is }
 
 -- one more run that is read is one more run for what is made of the runs
 first_run : (run : Run) (read : Result (List Run) RleFault) (made : List Run → Result World RleFault) → (onto run read >>= made) ≡ (read >>= λ runs. made (run ∷ runs))
@@ -169,16 +164,24 @@ pub begun-rows : {origin : Origin} {all left : List Symbol} {d : Drawn} {count :
 begun-rows {origin} {all} {left} {d} {count} e m rest some is ended h =
     let f = h.follows in
     let counted : count ≡ capped h.digits = h.counted in
-    let down : d.row ≡ capped h.row = f.row in
+    let down : d.row ≡ capped h.front.row = f.row in
     record {
       digits = 0;
-      row = h.row + max h.digits 1;
-      column = 0;
-      strips = h.strips;
+      front = record h.front { row = h.front.row + max h.digits 1; column = 0 };
       counted = refl;
       follows = rw ended (record { begun = f.begun; row = omega arith; column = refl; live = f.live; inside = f.inside; cells = f.cells });
-      drawn = h.drawn ∙ ap (drawn_on origin h.strips h.row h.column h.digits) is ∙ first_run (RowEnds (max h.digits 1)) (runs_from 0 rest) _;
+      drawn = h.drawn ∙ ap (drawn_on origin h.front h.digits) is ∙ first_run (RowEnds (max h.digits 1)) (runs_from 0 rest) _;
     }
+
+-- the strips of a run of cells and those behind it
+strips-behind : (front : Front) (n s : ℕ) (runs : List Run)
+    → front.strips ++ strips_from front.row front.column (Cells n s ∷ runs) ≡ (front_behind front n s).strips ++ strips_from front.row (front.column + n) runs
+strips-behind front n s runs =
+    let later : List Strip = strips_from front.row (front.column + n) runs in
+    elim (s == 0) as (λ b. front.strips ++ cond b later (strip_from front n s ∷ later) ≡ cond b front.strips (front.strips ++ strip_from front n s ∷ []) ++ later) [
+      | true ↦ refl
+      | false ↦ sym (append_assoc front.strips (strip_from front n s ∷ []) later)
+    ]
 
 -- one run of cells later
 pub begun-cells : {origin : Origin} {all left : List Symbol} {d : Drawn} {count : ℕ} (e : Drawn) (m s : ℕ) (rest : List Symbol)
@@ -186,28 +189,20 @@ pub begun-cells : {origin : Origin} {all left : List Symbol} {d : Drawn} {count 
 begun-cells {origin} {all} {left} {d} {count} e m s rest placed some is like h =
     let counted : count ≡ capped h.digits = h.counted in
     let n : ℕ = max h.digits 1 in
-    let strip : Strip = record { row = h.row; column = h.column; count = n; state = s } in
-    let later : List Run → List Strip = strips_from h.row (h.column + n) in
-    let placed_next : (runs : List Run) → h.strips ++ cond (s == 0) (later runs) (strip ∷ later runs) ≡ strips_with h.strips strip ++ later runs =
-    λ runs. elim (s == 0) as (λ b. h.strips ++ cond b (later runs) (strip ∷ later runs) ≡ cond b h.strips (h.strips ++ strip ∷ []) ++ later runs) [
-      | true ↦ refl
-      | false ↦ sym (append_assoc h.strips (strip ∷ []) (later runs))
-    ] in
     record {
       digits = 0;
-      row = h.row;
-      column = h.column + n;
-      strips = strips_with h.strips strip;
+      front = front_behind h.front n s;
       counted = refl;
       follows = follows-like like (follows-cells n m s placed (omega arith) h.follows);
-      drawn = h.drawn ∙ ap (drawn_on origin h.strips h.row h.column h.digits) is ∙ first_run (Cells n s) (runs_from 0 rest) _
-          ∙ (λ i. runs_from 0 rest >>= λ runs. world_of origin (placed_next runs i));
+      drawn = h.drawn ∙ ap (drawn_on origin h.front h.digits) is ∙ first_run (Cells n s) (runs_from 0 rest) _
+          ∙ (λ i. runs_from 0 rest >>= λ runs. world_of origin (strips-behind h.front n s runs i));
     }
 
 -- where no runs are left, the drawing tells what the symbols draw
 pub begun-end : {origin : Origin} {all left : List Symbol} {d : Drawn} {count : ℕ}
     → ((n : ℕ) → runs_from n left ≡ Ok []) → IsBegun origin all d count left → IsEnd (world_drawn d) (drawn_by origin all)
 begun-end {origin} {all} {left} {d} {count} none h =
-    let told : drawn_by origin all ≡ world_of origin h.strips =
-    h.drawn ∙ ap (λ read. read >>= λ runs. world_of origin (h.strips ++ strips_from h.row h.column runs)) (none h.digits) ∙ ap (world_of origin) (append-nil h.strips) in
+    let told : drawn_by origin all ≡ world_of origin h.front.strips =
+    h.drawn ∙ ap (λ read. read >>= λ runs. world_of origin (h.front.strips ++ strips_from h.front.row h.front.column runs)) (none h.digits)
+    ∙ ap (world_of origin) (append-nil h.front.strips) in
     subst (IsEnd (world_drawn d)) (sym told) (follows-end h.follows)

@@ -1,5 +1,5 @@
 -- The two lines before a written body read back: the comment gives the place and the generation, the header the name.
-use Rattle.std.proofs.Common.{◌≡◌, ◌∙◌, sym, ap, ap₂, refl, ℕ, suc, ◌-◌, ◌^◌, ◌<◌, ◌≤◌, ◌==◌, ◌&&◌, ◌||◌, Bool, true, false, not, cond, min, ℤ, pos, List, [], ◌∷◌, ◌++◌, length, arith, None, Some, decimal, append-nil, negsuc, neg_ℤ, ◌≤ℤ◌, ◌<ℤ◌, int_le, int_lt, codes, fold, Ok, option_map, bytes_eq}
+use Rattle.std.proofs.Common.{◌≡◌, ◌∙◌, sym, ap, ap₂, refl, ℕ, suc, ◌-◌, ◌^◌, ◌<◌, ◌≤◌, ◌==◌, ◌||◌, Bool, true, false, not, min, ℤ, pos, List, [], ◌∷◌, ◌++◌, length, arith, Some, decimal, append-nil, negsuc, neg_ℤ, ◌≤ℤ◌, ◌<ℤ◌, codes, fold, Ok, option_map, bytes_eq}
 use Rattle.std.specs.Fmt.{signed_decimal}
 use Rattle.std.specs.List.{All, AllByRecursion, list_all, slice_split}
 use Rattle.std.proofs.lemmas.Bool.{or_from}
@@ -60,12 +60,7 @@ signed_of-signed (negsuc n) h =
     ap (option_map (λ n. neg_ℤ (pos n))) (number_of-decimal (suc n) small)
 
 coordinate-reads : (z : ℤ) → IsCoordinate z → coordinate_of (signed_decimal z) ≡ Some z
-coordinate-reads z h =
-    let low = h.low in
-    let high = h.high in
-    let above : int_le (neg_ℤ (pos (2 ^ 63))) z ≡ true = grind (arith, ints, low) in
-    let below : int_lt z (pos (2 ^ 63)) ≡ true = grind (arith, ints, high) in
-    rw (signed_of-signed z h) (λ i. cond (above i && below i) (Some z) None)
+coordinate-reads z h = let low = h.low in let high = h.high in rw (signed_of-signed z h) (grind (arith, ints))
 
 -- the part of the place
 abbrev pub place_part : ℤ → ℤ → List ℕ
@@ -134,7 +129,7 @@ comment-reads x y n h k small = ap (fold after_part plain_origin) (comment-parts
 -- a field with a blank on either side of its sign
 value-reads : (key front value : List ℕ) → AllByRecursion (IsOther 61) front → bytes_eq (trim front) key ≡ true → AllByRecursion IsVisible value → value_in key (front ++ 61 ∷ 32 ∷ value) ≡ Some value
 value-reads key front value h is k =
-    rw (cut-first 61 front (32 ∷ value) h) (ap (λ v. cond v (Some (trim (32 ∷ value))) None) is ∙ ap (λ bs. Some bs) (trim-blank value k))
+    rw (cut-first 61 front (32 ∷ value) h) (rw is (ap (λ bs. Some bs) (trim-blank value k)))
 
 size-reads : (key front : List ℕ) (n : ℕ) → AllByRecursion (IsOther 61) front → bytes_eq (trim front) key ≡ true → n < 2 ^ 64 → size_in key (front ++ 61 ∷ 32 ∷ decimal n) ≡ Some n
 size-reads key front n h is small =

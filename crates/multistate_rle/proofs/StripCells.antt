@@ -47,9 +47,7 @@ cells_of-first origin row column n m s is =
 -- a run that isn't of state 0
 drawn-run : (origin : Origin) (row column n s : ℕ) (ts : List Token) → 0 < s
     → drawn origin row column (token.Run n s ∷ ts) ≡ cells_of origin (record { row = row; column = column; count = n; state = s }) ++ drawn origin row (column + n) ts
-drawn-run origin row column n s ts live =
-    let not_zero : (s == 0) ≡ false = differs s 0 (λ e. omega arith) in
-    ap (λ b. flat_map (cells_of origin) (cond b (strips_from row (column + n) (runs_of ts)) (record { row = row; column = column; count = n; state = s } ∷ strips_from row (column + n) (runs_of ts)))) not_zero
+drawn-run origin row column n s ts live = rw (differs s 0 (λ e. omega arith)) refl
 
 -- a cell that is joined with what follows
 drawn-joined : (origin : Origin) (row column s : ℕ) (ts : List Token) → 0 < s → Joins s ts

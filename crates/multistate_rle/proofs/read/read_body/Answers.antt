@@ -26,7 +26,7 @@ loop-symbol-preserved c =
 pub returns-in-Unknown-clause-plane : goal.returns-in-Unknown-clause-plane
 returns-in-Unknown-clause-plane c =
     let h = c.loop-symbol.invariant in
-    inr (h.drawn ∙ ap (drawn_on c.args.origin h.strips h.row h.column h.digits) (c.in-Some.ensures ∙ ap (λ s. s ∷ c.next.new.self) c.in-Unknown.is))
+    inr (h.drawn ∙ ap (drawn_on c.args.origin h.front h.digits) (c.in-Some.ensures ∙ ap (λ s. s ∷ c.next.new.self) c.in-Unknown.is))
 
 ended : (c : goal.After-plane) → IsEnd (world_drawn c.loop-symbol.drawing) (drawn_by c.args.origin c.args.symbols)
 ended c =
