@@ -12,11 +12,11 @@ use Rattle.text_lines.specs.Blanks.{is_blank, trim}
 use Rattle.text_lines.specs.Numbers.{number_of}
 use Rattle.text_lines.proofs.ByteRanges.{IsDigit, IsPrinted, IsVisible, is_printed, is_visible, differs, printed-tested, visible-printed, visible-solid, visible-tested}
 use Rattle.text_lines.proofs.Decimals.{decimal-bytes, decimal-some, number_of-decimal}
-use Rattle.text_lines.proofs.PrintedLines.{trim-blank}
+use Rattle.text_lines.proofs.PrintedLines.{IsLine, ends-append, ends-behind, ends-visible, trim-blank}
 use Rattle.multistate_rle.specs.Comments.{is_sign, starts_loose, tight, parts, signed_of, coordinate_of, place_in, generation_in, plain_origin, after_part, after_comment}
 use Rattle.multistate_rle.specs.Cut.{cut_at}
 use Rattle.multistate_rle.specs.Header.{value_in, size_in, name_after_width, rule_name}
-use Rattle.multistate_rle.specs.Laws.{IsNameByte}
+use Rattle.multistate_rle.specs.Laws.{IsName, IsNameByte}
 use Rattle.multistate_rle.proofs.Cuts.{IsOther, others, cut-first, cut-none}
 
 -- a digit or a minus
@@ -169,15 +169,24 @@ printed-text : (text bs rest : List ℕ) → list_all is_printed text ≡ true �
     → AllByRecursion IsPrinted (text ++ (bs ++ rest))
 printed-text text bs rest h visible k = all_append IsPrinted text (bs ++ rest) (printed-tested text h) (all_append IsPrinted bs rest (visibles-printed bs visible) k)
 
--- both lines are printed
-pub comment-printed : (x y : ℤ) (n : ℕ) → IsCoordinate x → IsCoordinate y → n < 2 ^ 64 → AllByRecursion IsPrinted (comment_line x y n)
-comment-printed x y n h k small =
-    printed-text (codes "#CXRLE ") (place_part x y) _ refl (place-visible x y h k)
-    (all_append IsPrinted (codes " ") (codes "Gen=" ++ decimal n) (printed-tested (codes " ") refl) (visibles-printed (codes "Gen=" ++ decimal n) (generation-visible n small)))
+-- both lines are printed, and have no blanks at their ends
+pub comment-is_line : (x y : ℤ) (n : ℕ) → IsCoordinate x → IsCoordinate y → n < 2 ^ 64 → IsLine (comment_line x y n)
+comment-is_line x y n h k small =
+    let age : List ℕ = codes "Gen=" ++ decimal n in
+    let visible = generation-visible n small in
+    record {
+      printed = printed-text (codes "#CXRLE ") (place_part x y) (32 ∷ age) refl (place-visible x y h k)
+          (all_append IsPrinted (codes " ") age (printed-tested (codes " ") refl) (visibles-printed age visible));
+      trimmed = (ends-append (codes "#CXRLE " ++ place_part x y) (32 ∷ age) (ends-behind 32 age (ends-visible age (omega arith) visible))).trimmed;
+    }
 
-pub header-printed : (width height : ℕ) (name : List ℕ) → width < 2 ^ 64 → height < 2 ^ 64 → AllByRecursion IsNameByte name
-    → AllByRecursion IsPrinted (header_line width height name)
-header-printed width height name wide high h =
-    printed-text (codes "x = ") (decimal width) _ refl (numeric-visible _ (decimal-numeric width wide))
-    (printed-text (codes ", y = ") (decimal height) _ refl (numeric-visible _ (decimal-numeric height high))
-    (all_append IsPrinted (codes ", rule = ") name (printed-tested (codes ", rule = ") refl) (visibles-printed name (name-visible name h))))
+pub header-is_line : (width height : ℕ) (name : List ℕ) → width < 2 ^ 64 → height < 2 ^ 64 → IsName name → IsLine (header_line width height name)
+header-is_line width height name wide high h =
+    let visible = name-visible name h.bytes in
+    let rule = ends-append (decimal height) (codes ", rule = " ++ name) (ends-append (codes ", rule = ") name (ends-visible name h.some visible)) in
+    record {
+      printed = printed-text (codes "x = ") (decimal width) _ refl (numeric-visible _ (decimal-numeric width wide))
+          (printed-text (codes ", y = ") (decimal height) _ refl (numeric-visible _ (decimal-numeric height high))
+          (all_append IsPrinted (codes ", rule = ") name (printed-tested (codes ", rule = ") refl) (visibles-printed name visible)));
+      trimmed = (ends-append (codes "x = " ++ decimal width) _ (ends-append (codes ", y = ") (decimal height ++ (codes ", rule = " ++ name)) rule)).trimmed;
+    }

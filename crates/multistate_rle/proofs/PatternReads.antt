@@ -10,7 +10,7 @@ use Rattle.std.proofs.Math.Seq.{drop-append_seam}
 use Rattle.worlds.specs.World.{World, Place, cell, blank}
 use Rattle.worlds.specs.Live.{live, live-states}
 use Rattle.worlds.specs.Lay.{lay}
-use Rattle.text_lines.specs.Blanks.{trim_start, trim_end, trim}
+use Rattle.text_lines.specs.Blanks.{trim}
 use Rattle.text_lines.specs.Lines.{Line, lines, lines_from, full_line, strip_carriage_return}
 use Rattle.text_lines.specs.Lines.End.{Ended}
 use Rattle.basics.specs.Results.{◌>>=◌}
@@ -29,11 +29,11 @@ use Rattle.multistate_rle.specs.PatternText.{packed, framed_text}
 use Rattle.multistate_rle.specs.Symbols.{solid_from, symbols}
 use Rattle.multistate_rle.specs.Token.{tokens, token_text}
 use Rattle.multistate_rle.proofs.BodyReads.{IsWritable, runs_of, packed-reads}
-use Rattle.text_lines.proofs.ByteRanges.{IsPrinted, differs}
+use Rattle.text_lines.proofs.ByteRanges.{differs}
 use Rattle.basics.proofs.Lists.{all_so}
 use Rattle.text_lines.proofs.LineEnds.{line-first}
-use Rattle.text_lines.proofs.PrintedLines.{EndsSolid, ends-append, ends-behind, ends-visible, printed-one, strip-printed}
-use Rattle.multistate_rle.proofs.HeadReads.{IsCoordinate, comment_line, comment-reads, header_line, header-reads, comment-printed, header-printed, generation-visible, name-visible, place_part}
+use Rattle.text_lines.proofs.PrintedLines.{IsLine, printed-one, strip-printed}
+use Rattle.multistate_rle.proofs.HeadReads.{IsCoordinate, comment_line, comment-reads, header_line, header-reads, comment-is_line, header-is_line}
 use Rattle.multistate_rle.proofs.Boxes.{IsNear, FrameFits, frame-fits}
 use Rattle.multistate_rle.proofs.LiveCells.{IsListedIn, IsCellOf, lay-live, live-ahead, tokens-writable}
 use Rattle.multistate_rle.proofs.StripCells.{set_of, drawn, IsLaidInside, drawn-tokens, live_count-drawn, drawn-inside}
@@ -45,22 +45,9 @@ regrouped : (sign place left comma top blank age generation feed x width y heigh
     ++ (feed ++ (((x ++ width) ++ (comma ++ ((y ++ height) ++ (comma ++ (rule ++ name))))) ++ (feed ++ body)))
 regrouped sign place left comma top blank age generation feed x width y height rule name body = simp append_assoc
 
--- what a line says that begins and ends with no blank
-says-line : (line : List ℕ) → trim_start line ≡ line → EndsSolid line → AllByRecursion IsPrinted line → trim (strip_carriage_return line) ≡ line
-says-line line start ends h = ap trim (strip-printed line h) ∙ ap trim_end start ∙ ends.trimmed
-
-comment-says : (x y : ℤ) (n : ℕ) → IsCoordinate x → IsCoordinate y → n < 2 ^ 64 → trim (strip_carriage_return (comment_line x y n)) ≡ comment_line x y n
-comment-says x y n h k small =
-    let age : List ℕ = codes "Gen=" ++ decimal n in
-    let ends = ends-append (codes "#CXRLE " ++ place_part x y) (32 ∷ age) (ends-behind 32 age (ends-visible age (omega arith) (generation-visible n small))) in
-    says-line (comment_line x y n) refl ends (comment-printed x y n h k small)
-
-header-says : (width height : ℕ) (name : List ℕ) → width < 2 ^ 64 → height < 2 ^ 64 → IsName name
-    → trim (strip_carriage_return (header_line width height name)) ≡ header_line width height name
-header-says width height name wide high h =
-    let rule = ends-append (codes ", rule = ") name (ends-visible name h.some (name-visible name h.bytes)) in
-    let sizes = ends-append (codes ", y = ") (decimal height ++ (codes ", rule = " ++ name)) (ends-append (decimal height) (codes ", rule = " ++ name) rule) in
-    says-line (header_line width height name) refl (ends-append (codes "x = " ++ decimal width) _ sizes) (header-printed width height name wide high h.bytes)
+-- such a line says itself
+line-says : (line : List ℕ) → IsLine line → trim (strip_carriage_return line) ≡ line
+line-says line h = ap trim (strip-printed line h.printed) ∙ h.trimmed
 
 -- a comment line goes to the origin
 head-comment : (origin : Origin) (len : ℕ) (line : Line) (lines : List Line) → begins_with 35 line.says ≡ true
@@ -92,12 +79,14 @@ head-reads x y n width height name body h k small wide high named =
     let second : List ℕ = header_line width height name in
     let origin : Origin = record { x = x; y = y; generation = n } in
     let len : ℕ = 0 + length (first ++ 10 ∷ []) in
-    let says : trim (strip_carriage_return first) ≡ first = comment-says x y n h k small in
-    let says_then : trim (strip_carriage_return second) ≡ second = header-says width height name wide high named in
-    ap (head_from plain_origin 0) (line-first Ended [] first (second ++ 10 ∷ body) (printed-one first (comment-printed x y n h k small)))
+    let line = comment-is_line x y n h k small in
+    let line_then = header-is_line width height name wide high named in
+    let says : trim (strip_carriage_return first) ≡ first = line-says first line in
+    let says_then : trim (strip_carriage_return second) ≡ second = line-says second line_then in
+    ap (head_from plain_origin 0) (line-first Ended [] first (second ++ 10 ∷ body) (printed-one first line.printed))
     ∙ head-comment plain_origin 0 (full_line first) (lines_from Ended [] (second ++ 10 ∷ body)) (ap (begins_with 35) says)
     ∙ ap₂ (λ o left. head_from o len left) (ap (after_comment plain_origin) says ∙ comment-reads x y n h k small)
-    (line-first Ended [] second body (printed-one second (header-printed width height name wide high named.bytes)))
+    (line-first Ended [] second body (printed-one second line_then.printed))
     ∙ head-header origin len (full_line second) (lines_from Ended [] body) name
     (subst (λ bs. 0 < length bs) (sym says_then) (omega arith)) (ap (begins_with 35) says_then) (ap rule_name says_then ∙ header-reads width height name wide high named.bytes)
 

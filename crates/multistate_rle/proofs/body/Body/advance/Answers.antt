@@ -9,9 +9,8 @@ use Rattle.multistate_rle.proofs.body.Body.advance.Goals as goal
 
 pub returns-then-goes_on_with-clause-written : goal.returns-then-goes_on_with-clause-written
 returns-then-goes_on_with-clause-written c cells =
-    let same : GoesOn c.args.run c.args.cell.now = search rules in
     ap (λ (r : OpenRun). finished c.args.self.now (tokens_on c.args.left r cells)) c.extended.ensures
-    ∙ ap (finished c.args.self.now) (goes_on c.args.left c.args.run c.args.cell.now cells same)
+    ∙ ap (finished c.args.self.now) (goes_on c.args.left c.args.run c.args.cell.now cells (search rules))
 
 pub returns-clause-written : goal.returns-clause-written
 returns-clause-written c cells =

@@ -1,6 +1,5 @@
-use Rattle.std.proofs.Common.{◌∙◌, ◌≡◌, sym, ap, ◌∷◌, [], length, ◌≤◌, arith, rules, map, drop}
+use Rattle.std.proofs.Common.{◌∙◌, sym, ap, ◌∷◌, [], length, ◌≤◌, arith, rules}
 use Rattle.std.proofs.lemmas.Result.{on_ok_weaker}
-use Rattle.worlds.specs.Live.{of_cell}
 use Rattle.multistate_rle.specs.declared.token.Token.TheVariants.{End}
 use Rattle.multistate_rle.specs.Writing.{finished, tokens_on}
 use Rattle.multistate_rle.proofs.Runs.{cells_done}
@@ -10,12 +9,11 @@ pub returns : goal.returns
 returns c =
     let body = c.loop-cell.self in
     let done : length c.args.cells.now ≤ c.loop-cell.cell-index = omega arith in
-    let before : finished body (tokens_on c.args.left c.loop-cell.run (map of_cell (drop c.loop-cell.cell-index c.args.cells.now))) ≡ finished c.args.self.now (tokens_on c.args.left c.args.run (map of_cell c.args.cells.now)) = search rules in
     on_ok_weaker c.push-2.result
     (λ written.
     written []
     ∙ c.in_ok-push.ensures (End ∷ [])
     ∙ ap (λ t. finished body (t ∷ End ∷ [])) c.token.ensures
     ∙ ap (λ cells. finished body (tokens_on c.args.left c.loop-cell.run cells)) (sym (cells_done c.args.cells.now c.loop-cell.cell-index done))
-    ∙ before)
+    ∙ search rules)
     c.push-2.ensures

@@ -1,7 +1,7 @@
-use Rattle.std.proofs.Common.{◌≡◌, ◌∙◌, ◌++◌, true, false, inl, sym, ap, arith, rules, Result, Ok, Err, OnOk, is_err, w64, SFits}
+use Rattle.std.proofs.Common.{◌≡◌, ◌∙◌, ◌++◌, false, inl, sym, ap, arith, rules, Result, Ok, Err, OnOk, is_err, w64, SFits}
 use Rattle.std.proofs.lemmas.Int.{ints}
 use Rattle.std.proofs.lemmas.Result.{on_ok_weaker}
-use Rattle.multistate_rle.specs.Pattern.{Strip, lies_inside}
+use Rattle.multistate_rle.specs.Pattern.{Strip}
 use Rattle.multistate_rle.proofs.Strips.{lies_within, side_by_side-strip}
 use Rattle.multistate_rle.proofs.drawing.Drawing.keep_strip.Goals as goal
 
@@ -11,8 +11,7 @@ push_strip-requires c =
     let x : SFits w64 d.origin.x = search rules in
     let y : SFits w64 d.origin.y = search rules in
     let strip : Strip = record { row = d.row; column = d.column; count = c.args.count; state = c.args.state } in
-    let inside : lies_inside d.origin strip ≡ true = rw (← c.self.view_is) at c.requires.inside in
-    let at = lies_within d.origin strip inside in
+    let at = lies_within d.origin strip (rw (← c.self.view_is) at c.requires.inside) in
     record {
       few = search rules;
       laid = search rules;
@@ -30,8 +29,7 @@ returns-else-is_err c =
     let x : SFits w64 d.origin.x = search rules in
     let y : SFits w64 d.origin.y = search rules in
     let strip : Strip = record { row = d.row; column = d.column; count = c.args.count; state = c.args.state } in
-    let inside : lies_inside d.origin strip ≡ true = rw (← c.self.view_is) at c.requires.inside in
-    let at = lies_within d.origin strip inside in
+    let at = lies_within d.origin strip (rw (← c.self.view_is) at c.requires.inside) in
     let kept = on_ok_weaker c.push_strip.result
     (λ e. ap (λ cells. record { origin = d.origin; row = d.row; column = d.column; live = d.live; is_inside = d.is_inside; is_whole = d.is_whole; cells = cells })
     (e ∙ ap (λ cells. d.cells.items ++ cells) (side_by_side-strip d.origin strip _ (omega (arith, ints)) (omega (arith, ints)) (omega arith))))

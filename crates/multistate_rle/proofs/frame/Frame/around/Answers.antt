@@ -1,19 +1,13 @@
-use Rattle.std.proofs.Common.{◌≡◌, ◌∙◌, sym, ap, rules, to_z, of_z, w64}
-use Rattle.worlds.specs.World.{blank}
+use Rattle.std.proofs.Common.{◌∙◌, sym, ap, rules}
 use Rattle.worlds.specs.Range.{IsBoundingBox}
 use Rattle.multistate_rle.specs.Frame.{frame_of}
 use Rattle.multistate_rle.proofs.Boxes.{box_of-blank, box_of-live, same_frame}
 use Rattle.multistate_rle.proofs.frame.Frame.around.Goals as goal
 
 pub returns-in_default-clause-frame : goal.returns-in_default-clause-frame
-returns-in_default-clause-frame c =
-    let empty : c.args.plane.now ≡ blank = search rules in
-    ap frame_of (sym (box_of-blank c.args.plane.now empty))
+returns-in_default-clause-frame c = ap frame_of (sym (box_of-blank c.args.plane.now (search rules)))
 
 pub returns-clause-frame : goal.returns-clause-frame
 returns-clause-frame c =
     let box : IsBoundingBox c.in-Some.bounds c.args.plane.now = search rules in
-    let left : to_z w64 (of_z w64 c.in-Some.bounds.left) ≡ c.in-Some.bounds.left = search rules in
-    let top : to_z w64 (of_z w64 c.in-Some.bounds.top) ≡ c.in-Some.bounds.top = search rules in
-    same_frame left top (search rules) (search rules)
-    ∙ ap frame_of (sym (box_of-live c.args.plane.now c.in-Some.bounds box))
+    same_frame (search rules) (search rules) (search rules) (search rules) ∙ ap frame_of (sym (box_of-live c.args.plane.now c.in-Some.bounds box))
