@@ -20,7 +20,7 @@ use Rattle.multistate_rle.specs.Laws.{IsName, IsNameByte}
 use Rattle.multistate_rle.proofs.Cuts.{IsOther, others, cut-first, cut-none}
 
 -- a digit or a minus
-abbrev pub IsNumeric : ℕ → Type 0
+abbrev IsNumeric : ℕ → Type 0
 IsNumeric b = (45 ≤ b) × (b ≤ 57)
 
 decimal-numeric : (n : ℕ) → n < 2 ^ 64 → AllByRecursion IsNumeric (decimal n)
@@ -41,7 +41,7 @@ signed-bytes : (z : ℤ) → IsCoordinate z → AllByRecursion IsNumeric (signed
 signed-bytes (pos n) h = let high = h.high in decimal-numeric n (omega (arith, ints, high))
 signed-bytes (negsuc n) h = let low = h.low in ((omega arith, omega arith), decimal-numeric (suc n) (omega (arith, ints, low)))
 
-pub signed-some : (z : ℤ) → IsCoordinate z → 0 < length (signed_decimal z)
+signed-some : (z : ℤ) → IsCoordinate z → 0 < length (signed_decimal z)
 signed-some (pos n) h = let high = h.high in decimal-some n (omega (arith, ints, high))
 signed-some (negsuc n) h = omega arith
 
@@ -63,7 +63,7 @@ coordinate-reads : (z : ℤ) → IsCoordinate z → coordinate_of (signed_decima
 coordinate-reads z h = let low = h.low in let high = h.high in rw (signed_of-signed z h) (grind (arith, ints))
 
 -- the part of the place
-abbrev pub place_part : ℤ → ℤ → List ℕ
+abbrev place_part : ℤ → ℤ → List ℕ
 place_part x y = codes "Pos=" ++ signed_decimal x ++ 44 ∷ signed_decimal y
 
 place-reads : (x y : ℤ) → IsCoordinate x → IsCoordinate y → place_in (place_part x y) ≡ Some (x, y)
@@ -106,7 +106,7 @@ place-visible x y h k =
     visible-text (codes "Pos=") _ refl
     (all_append IsVisible (signed_decimal x) _ (numeric-visible _ (signed-bytes x h)) (visible-text (codes ",") (signed_decimal y) refl (numeric-visible _ (signed-bytes y k))))
 
-pub generation-visible : (n : ℕ) → n < 2 ^ 64 → AllByRecursion IsVisible (codes "Gen=" ++ decimal n)
+generation-visible : (n : ℕ) → n < 2 ^ 64 → AllByRecursion IsVisible (codes "Gen=" ++ decimal n)
 generation-visible n h = visible-text (codes "Gen=") (decimal n) refl (numeric-visible _ (decimal-numeric n h))
 
 comment-parts : (x y : ℤ) (n : ℕ) → IsCoordinate x → IsCoordinate y → n < 2 ^ 64 → ◌≡◌ {A = List (List ℕ)} (parts (32 ∷ (place_part x y ++ 32 ∷ (codes "Gen=" ++ decimal n)))) (place_part x y ∷ (codes "Gen=" ++ decimal n) ∷ [])
@@ -139,7 +139,7 @@ size-reads key front n h is small =
 abbrev pub header_line : ℕ → ℕ → List ℕ → List ℕ
 header_line width height name = codes "x = " ++ decimal width ++ 44 ∷ (codes " y = " ++ decimal height ++ 44 ∷ (codes " rule = " ++ name))
 
-pub name-visible : (name : List ℕ) → AllByRecursion IsNameByte name → AllByRecursion IsVisible name
+name-visible : (name : List ℕ) → AllByRecursion IsNameByte name → AllByRecursion IsVisible name
 name-visible name h = all_so IsNameByte IsVisible name (λ b k. (k.low, k.high)) h
 
 -- the first field of some, which ends with a number
