@@ -42,19 +42,18 @@ var h={0,1}
 
 # Other patterns of the package, their rules and how far they are followed.
 MORE = [
-    ("Loops/Byl-Loop.rle", "Byl-Loop", 2**14),
-    ("Loops/Chou-Reggia-Loop-1.rle", "Chou-Reggia-1", 2**14),
-    ("Loops/Evoloop.rle", "Evoloop", 2**14),
-    ("Loops/Perrier-Loop.rle", "Perrier", 2**14),
+    ("Loops/Evoloop.rle", "Evoloop", 2**13),
     ("Loops/SDSR-Loop.rle", "SDSR-Loop", 2**13),
-    ("Loops/Tempesti-Loop.rle", "Tempesti", 2**13),
-    ("Margolus/Sand.rle", "Sand-Margolus-emulated", 2**10),
+    ("Loops/Tempesti-Loop.rle", "Tempesti", 2**14),
+    ("Margolus/DLA.rle", "DLA-Margolus-emulated", 2**9),
     ("Margolus/TMGas_largeWithHole.rle", "TMGasMargolus_emulated", 2**9),
-    ("Patersons-Worms/worm-1042015.rle", "Worm-1042015", 2**16),
+    ("Patersons-Worms/worm-1042015.rle", "Worm-1042015", 2**20),
+    ("Patersons-Worms/worm-1525115.rle", "Worm-1525115", 2**18),
     ("Self-Rep/Banks/Banks-IV-constructor.rle.gz", "Banks-IV", 2**12),
     ("Self-Rep/Codd/golly-constructor.rle.gz", "Codd", 2**16),
     ("Self-Rep/Codd/decoder-4bit-demo.rle.gz", "Codd", 2**14),
-    ("Self-Rep/Devore/Devore-rep.rle", "Devore", 2**14),
+    ("Self-Rep/Devore/Devore-rep.rle", "Devore", 2**16),
+    ("Turmites/ComputerArt.rle", "Turmite_180121020081", 2**18),
     ("Turmites/LangtonsAnt_LLRR.rle", "LangtonsAnt_LLRR", 2**18),
 ]
 
@@ -158,10 +157,10 @@ def main():
             theirs, their_peak, _ = measured(
                 ["bgolly", "-a", "RuleLoader", "-s", f"{room}/", "-q", "-q", "-m", str(generations), "-i", str(generations), f"{room}/pattern.{form}"]
             )
-            done = "settled" in said.split()
+            done = "settled" in said.split() and "refused" not in said
             if done:
                 ratios.append(seconds / theirs)
-            print(f"| {name} | {seconds:.2f}{'' if done else ' (unsettled)'} | {theirs:.2f} | {seconds / theirs:.2f} | {peak:.0f} | {their_peak:.0f} | {peak / their_peak:.2f} |", flush=True)
+            print(f"| {name} | {seconds:.2f}{'' if done else ' (not computed)'} | {theirs:.2f} | {seconds / theirs:.2f} | {peak:.0f} | {their_peak:.0f} | {peak / their_peak:.2f} |", flush=True)
     if ratios:
         print(f"\nGeometric mean of the times: {math.exp(sum(map(math.log, ratios)) / len(ratios)):.2f}")
     return 0
