@@ -1,4 +1,4 @@
-mod FullLines
+mod SaidHeads
 mod HeadFaults
 mod Names
 pub mod Renumbered
@@ -7,6 +7,7 @@ mod SameNames
 pub mod SaidTables
 pub mod Sets
 mod Splits
+mod Steps
 mod Unions
 mod WrittenEntries
 pub mod WrittenFiles

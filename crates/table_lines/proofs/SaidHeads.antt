@@ -1,0 +1,58 @@
+-- The head that lines describe: how many states it has, and that its symmetry is one of its neighbourhood.
+use Rattle.std.proofs.Common.{◌≡◌, ℕ, ◌≤◌, Bool, true, List, [], ◌∷◌, length, Some, Ok, arith}
+use Rattle.std.specs.Prelude.{find, IfSome}
+use Rattle.std.specs.Str.{bytes_eq}
+use lib.Pointwise.{bytes_decides}
+use Rattle.std.proofs.lemmas.Bool.Decides.{nat_tests}
+use Rattle.basics.specs.Results.{◌>>=◌}
+use Rattle.rule_file.specs.RuleFile.{NumberedLine}
+use Rattle.rule_file.specs.States.{MayHaveStates, states_in}
+use Rattle.table_lines.specs.declared.descriptors.Descriptor.{Descriptor}
+use Rattle.table_lines.specs.declared.descriptors.Head.{Head}
+use Rattle.table_lines.specs.Descriptors.{Described, describe, descriptor_of, head_from, head_of}
+use Rattle.table_lines.specs.declared.symmetry.Symmetry.{Symmetry}
+use Rattle.table_lines.specs.declared.neighborhood.Neighborhood.{Neighborhood}
+use Rattle.table_lines.proofs.Steps.{by_step}
+use Rattle.table_lines.specs.Symmetry.{name_of_symmetry, symmetries_of, symmetry_named}
+
+-- what was described of the states is within the limits
+abbrev pub HasStates : Described → Type 0
+HasStates d = IfSome d.states MayHaveStates
+
+states_in-within : (value : List ℕ) (n : ℕ) → states_in value ≡ Some n → MayHaveStates n
+states_in-within value n h = grind (arith, nat_tests)
+
+described-within : (d : Described) (number : ℕ) (x : Descriptor) (value : List ℕ) (e : Described) → HasStates d → describe d number x value ≡ Ok e → HasStates e
+described-within d number x value e within h = grind (arith, states_in-within)
+
+find-passes : {A : Type 0} (p : A → Bool) (xs : List A) (x : A) → find p xs ≡ Some x → p x ≡ true
+find-passes p [] x h = absurd cc
+find-passes p (y ∷ ys) x h = grind (arith, find-passes p ys x)
+
+-- the symmetry of a head is one of its neighbourhood's
+abbrev HasSymmetry : Head → Type 0
+HasSymmetry head = symmetry_named head.neighborhood (name_of_symmetry head.symmetry) ≡ Some head.symmetry
+
+symmetry_named-again : (m : Neighborhood) (name : List ℕ) (s : Symmetry) → symmetry_named m name ≡ Some s → symmetry_named m (name_of_symmetry s) ≡ Some s
+symmetry_named-again m name s h =
+    let same : name ≡ name_of_symmetry s = (bytes_decides name (name_of_symmetry s)).0 (find-passes (λ t. bytes_eq name (name_of_symmetry t)) (symmetries_of m) s h) in
+    rw (← same) h
+
+-- such a head, and no more lines are left than there were
+pub record IsHead (count : ℕ) (found : Head × List NumberedLine) : Type 0 where
+  pub states : MayHaveStates found.0.states
+  pub symmetry : HasSymmetry found.0
+  pub fewer : length found.1 ≤ count
+
+head_of-is : (count : ℕ) (d : Described) (lines : List NumberedLine) (found : Head × List NumberedLine) → length lines ≤ count → HasStates d
+    → (head_of d >>= λ head. Ok (head, lines)) ≡ Ok found → IsHead count found
+head_of-is count d lines found few within h = record { states = grind arith; symmetry = grind (arith, symmetry_named-again); fewer = grind arith }
+
+pub head_from-is : (count : ℕ) (d : Described) (lines : List NumberedLine) (found : Head × List NumberedLine) → length lines ≤ count → HasStates d
+    → head_from d lines ≡ Ok found → IsHead count found
+head_from-is count d [] found few within = head_of-is count d [] found few within
+head_from-is count d (line ∷ lines) found few within =
+    by_step (descriptor_of line.text) _ (λ e. head_from e lines) _ (IsHead count) HasStates found
+    (λ x e. described-within d line.number x.0 x.1 e within)
+    (λ e. head_from-is count e lines found (omega arith))
+    (head_of-is count d (line ∷ lines) found few within)
