@@ -1,11 +1,9 @@
-use Rattle.std.proofs.Common.{◌≡◌, ◌+◌, ◌∙◌, Some, Ok, List, ℕ, sym, ap, rules}
+use Rattle.std.proofs.Common.{◌≡◌, ◌+◌, ◌∙◌, Some, Ok, sym, ap, rules}
 use Rattle.basics.specs.Results.{◌>>=◌}
-use Rattle.std.specs.List.{list_all}
-use Rattle.table_lines.specs.declared.transition.Variable.{Variable}
-use Rattle.table_lines.specs.Below.{all_below, variables_below}
+use Rattle.table_lines.specs.Below.{variables_below}
 use Rattle.table_lines.specs.Definitions.{set_of}
 use Rattle.table_lines.specs.Variables.{definition_in, variable_named, with_definition}
-use Rattle.table_lines.proofs.Names.{definitions, same-inserted, below-inserted, variables_after-set, Defines-fault}
+use Rattle.table_lines.proofs.Names.{same-inserted, below-inserted, variables_after-set, Defines-fault}
 use Rattle.table_lines.proofs.variables.Variables.define.Goals as goal
 
 pub returns-in_err-set-clause-read : goal.returns-in_err-set-clause-read
@@ -38,5 +36,5 @@ pub returns-clause-below : goal.returns-clause-below
 returns-clause-below c =
     let n = c.args.head.states in
     let known = ap (variables_below n) c.self.view_is ∙ c.requires.below in
-    ap (λ entries. list_all (λ (d : List ℕ × Variable). all_below n d.1.states) (definitions entries)) c.in-Ok.ensures.entries
-    ∙ below-inserted n c.self.inside.by_name.entries c.in-Some.name (record { number = c.self.inside.defined; states = c.in_ok-set.set }) known c.in_ok-set.ensures.below
+    rw c.in-Ok.ensures.entries
+    (below-inserted n c.self.inside.by_name.entries c.in-Some.name (record { number = c.self.inside.defined; states = c.in_ok-set.set }) known c.in_ok-set.ensures.below)
