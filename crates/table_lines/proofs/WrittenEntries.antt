@@ -1,22 +1,20 @@
 -- Entries that are written read back.
-use Rattle.std.proofs.Common.{◌≡◌, ◌∙◌, sym, ap, ap₂, refl, ℕ, ◌<◌, ◌≤◌, ◌^◌, ◌==◌, ◌&&◌, ◌||◌, Bool, true, false, not, cond, List, [], ◌∷◌, ◌++◌, length, map, Some, Ok, Err, nat_lt, nat_le, decimal, arith}
+use Rattle.std.proofs.Common.{◌≡◌, refl, ℕ, ◌<◌, ◌≤◌, ◌^◌, ◌==◌, false, List, [], ◌∷◌, ◌++◌, length, map, Some, Ok, decimal, arith}
 use Rattle.std.specs.Prelude.{slice_index_or}
-use Rattle.std.specs.List.{All, AllByRecursion, join_with_byte, list_any}
-use Rattle.std.specs.Option.{option_map, option_map_or, ok_or}
+use Rattle.std.specs.List.{All, AllByRecursion, join_with_byte}
+use Rattle.std.proofs.Math.Bool.{and-false, or-true}
 use Rattle.std.proofs.lemmas.Bool.Decides.{nat_tests}
 use Rattle.std.proofs.lemmas.List.Elements.{All-from_recursion}
 use Rattle.std.proofs.lemmas.List.Folds.{list_any-append}
 use Rattle.std.proofs.lemmas.List.Splits.{slice_split_at, slice_split_none}
-use Rattle.basics.specs.Results.{◌>>=◌}
 use Rattle.basics.proofs.Lists.{all_append, all_so}
 use Rattle.text_lines.specs.Blanks.{trim}
 use Rattle.text_lines.proofs.ByteRanges.{IsDigit, IsVisible, differs, digit-visible}
 use Rattle.text_lines.proofs.Decimals.{IsNumeral, IsWide, decimal-bytes, decimal-numeral, decimal-some, number_of-decimal}
 use Rattle.text_lines.proofs.PrintedLines.{line-visible}
-use Rattle.rule_file.specs.declared.fault.RuleFault.TheVariants.{BadTransition, StateTooHigh}
 use Rattle.table_lines.specs.declared.transition.Entry.{Entry}
 use Rattle.table_lines.specs.declared.transition.Entry.TheVariants.{State, OneOf}
-use Rattle.table_lines.specs.Fields.{fields, parts, single_bytes}
+use Rattle.table_lines.specs.Fields.{fields, parts}
 use Rattle.table_lines.specs.Transitions.{entry_of}
 use Rattle.table_lines.specs.Variables.{Variables, defines_variable, each, variable_named}
 use Rattle.table_lines.specs.WrittenTable.{IsEntryOf, entry_text, variable_name}
@@ -53,9 +51,21 @@ entry-field n sets (OneOf w) low few is = record {
   whole = (refl, decimal-each (λ b. (b == 44) ≡ false) (λ b h. digit-above 44 b (omega arith) h) w.number (omega (arith, is.0)));
 }
 
+-- what holds of the images of all
+pub all-map : {A B : Type 0} (P : A → Type 0) (Q : B → Type 0) (f : A → B) → ((x : A) → P x → Q (f x)) → (xs : List A) → AllByRecursion P xs → AllByRecursion Q (map f xs)
+all-map P Q f one [] h = tt
+all-map P Q f one (x ∷ xs) h = (one x h.0, all-map P Q f one xs h.1)
+
+-- what holds of a comma and of each word's bytes holds of all bytes
+pub joined-each : (P : ℕ → Type 0) → P 44 → (words : List (List ℕ)) → AllByRecursion (AllByRecursion P) words → AllByRecursion P (join_with_byte 44 words)
+joined-each P comma [] h = tt
+joined-each P comma (w ∷ []) h = h.0
+joined-each P comma (w ∷ x ∷ words) h = all_append P w (44 ∷ join_with_byte 44 (x ∷ words)) h.0 (comma, joined-each P comma (x ∷ words) h.1)
+
 -- words between commas come back
-pub parts-joined : (word : List ℕ) (words : List (List ℕ)) → AllByRecursion IsField (word ∷ words) → parts (join_with_byte 44 (word ∷ words)) ≡ word ∷ words
-parts-joined word words h = split word words h
+pub parts-joined : (words : List (List ℕ)) → 0 < length words → AllByRecursion IsField words → parts (join_with_byte 44 words) ≡ words
+parts-joined [] some h = absurd (omega arith)
+parts-joined (w ∷ words) some h = split w words h
   where
     trimmed : (w : List ℕ) → IsField w → trim w ≡ w
     trimmed w k = let line = line-visible w k.some k.visible in line.trimmed
@@ -64,32 +74,15 @@ parts-joined word words h = split word words h
     none w k = All-from_recursion (λ b. (b == 44) ≡ false) w k.whole
 
     split : (w : List ℕ) (ws : List (List ℕ)) → AllByRecursion IsField (w ∷ ws) → parts (join_with_byte 44 (w ∷ ws)) ≡ w ∷ ws
-    split w [] k = ap (map trim) (slice_split_none (λ b. b == 44) w (none w k.0)) ∙ ap (λ (x : List ℕ). x ∷ []) (trimmed w k.0)
-    split w (x ∷ ws) k =
-        ap (map trim) (slice_split_at (λ b. b == 44) w 44 (join_with_byte 44 (x ∷ ws)) (none w k.0) refl)
-        ∙ ap₂ (λ (first : List ℕ) (others : List (List ℕ)). first ∷ others) (trimmed w k.0) (split x ws k.1)
-
--- what holds of a comma and of each word's bytes holds of all bytes
-pub joined-each : (P : ℕ → Type 0) → P 44 → (word : List ℕ) (words : List (List ℕ)) → AllByRecursion (AllByRecursion P) (word ∷ words) → AllByRecursion P (join_with_byte 44 (word ∷ words))
-joined-each P comma word [] h = h.0
-joined-each P comma word (w ∷ words) h = all_append P word (44 ∷ join_with_byte 44 (w ∷ words)) h.0 (comma, joined-each P comma w words h.1)
+    split w [] k = rw (slice_split_none (λ b. b == 44) w (none w k.0), trimmed w k.0)
+    split w (x ∷ ws) k = rw (slice_split_at (λ b. b == 44) w 44 (join_with_byte 44 (x ∷ ws)) (none w k.0) refl, trimmed w k.0, split x ws k.1)
 
 -- words with a comma between them are fields
-or_true : (b : Bool) → (b || true) ≡ true
-or_true true = refl
-or_true false = refl
-
-and_false : (b : Bool) → (b && false) ≡ false
-and_false true = refl
-and_false false = refl
-
-pub fields-joined : (states : ℕ) (word next : List ℕ) (words : List (List ℕ)) → AllByRecursion IsField (word ∷ next ∷ words) → fields states (join_with_byte 44 (word ∷ next ∷ words)) ≡ word ∷ next ∷ words
-fields-joined states word next words h =
-    let line = join_with_byte 44 (word ∷ next ∷ words) in
-    let comma : list_any (λ b. b == 44) line ≡ true = list_any-append (λ b. b == 44) word (44 ∷ join_with_byte 44 (next ∷ words)) ∙ or_true (list_any (λ b. b == 44) word) in
-    ap (λ v. cond (nat_le states 10 && not v) (single_bytes line) (parts line)) comma
-    ∙ ap (λ v. cond v (single_bytes line) (parts line)) (and_false (nat_le states 10))
-    ∙ parts-joined word (next ∷ words) h
+pub fields-joined : (states : ℕ) (words : List (List ℕ)) → 2 ≤ length words → AllByRecursion IsField words → fields states (join_with_byte 44 words) ≡ words
+fields-joined states [] some h = absurd (omega arith)
+fields-joined states (word ∷ []) some h = absurd (omega arith)
+fields-joined states (word ∷ next ∷ words) some h =
+    rw (list_any-append (λ b. b == 44) word (44 ∷ join_with_byte 44 (next ∷ words)), or-true, and-false) (parts-joined (word ∷ next ∷ words) (omega arith) h)
 
 -- the variables are these sets, by the names that are written
 abbrev pub AreNamed : Variables → List (List ℕ) → Type 0
@@ -97,19 +90,12 @@ AreNamed variables sets = (number : ℕ) → number < length sets → variable_n
 
 -- an entry reads back
 pub entry-read : (n number : ℕ) (variables : Variables) (sets : List (List ℕ)) (e : Entry) → n ≤ 256 → AreNamed variables sets → IsEntryOf n sets e → entry_of n variables number (entry_text e) ≡ Ok e
-entry-read n number variables sets (State s) low named is =
-    let test : nat_lt s n ≡ true = grind (arith, nat_tests, is) in
-    ap (λ read. option_map_or (λ k. cond (nat_lt k n) (Ok (State k)) (Err (StateTooHigh number))) read (ok_or (option_map OneOf (variable_named variables (decimal s))) (BadTransition number))) (number_of-decimal s (omega (arith, is)))
-    ∙ ap (λ v. cond v (Ok (State s)) (Err (StateTooHigh number))) test
-entry-read n number variables sets (OneOf v) low named is =
-    ap (λ found. ok_or (option_map OneOf found) (BadTransition number)) (named v.number is.0)
-    ∙ ap (λ (states : List ℕ). Ok (OneOf (record { number = v.number; states = states }))) (sym is.1)
+entry-read n number variables sets (State s) low named is = grind (arith, nat_tests, number_of-decimal s (omega (arith, is)))
+entry-read n number variables sets (OneOf v) low named is = rw (named v.number is.0, is.1)
 
 pub entries-read : (n number : ℕ) (variables : Variables) (sets : List (List ℕ)) (entries : List Entry) → n ≤ 256 → AreNamed variables sets → AllByRecursion (IsEntryOf n sets) entries → each (entry_of n variables number) (map entry_text entries) ≡ Ok entries
 entries-read n number variables sets [] low named h = refl
-entries-read n number variables sets (e ∷ entries) low named h =
-    ap (λ read. read >>= λ y. each (entry_of n variables number) (map entry_text entries) >>= λ ys. Ok (y ∷ ys)) (entry-read n number variables sets e low named h.0)
-    ∙ ap (λ read. read >>= λ ys. Ok (e ∷ ys)) (entries-read n number variables sets entries low named h.1)
+entries-read n number variables sets (e ∷ entries) low named h = rw (entry-read n number variables sets e low named h.0, entries-read n number variables sets entries low named h.1)
 
 -- a line that begins with an entry defines no variable
 digits-define_none : (ds rest : List ℕ) → IsNumeral ds → defines_variable (ds ++ rest) ≡ false

@@ -1,6 +1,6 @@
 -- Tables that are written read back.
-use Rattle.std.proofs.Common.{◌≡◌, ◌≢◌, ◌∙◌, sym, ap, ap₂, refl, subst, ℕ, suc, ◌+◌, ◌-◌, ◌<◌, ◌≤◌, ◌^◌, ◌==◌, ◌&&◌, ◌||◌, Bool, true, false, not, cond, List, [], ◌∷◌, ◌++◌, length, map, take, drop, Option, Some, None, Result, Ok, Err, is_some, inl, inr, nat_lt, decimal, arith, append-nil, append_assoc, length-append}
-use Rattle.std.specs.Prelude.{codes, nat_eq, slice_index_or, is_none, option_and_then, find}
+use Rattle.std.proofs.Common.{◌≡◌, ◌∙◌, sym, ap, ap₂, refl, subst, ℕ, suc, ◌+◌, ◌-◌, ◌<◌, ◌≤◌, ◌^◌, ◌==◌, ◌&&◌, ◌||◌, true, false, not, cond, List, [], ◌∷◌, ◌++◌, length, map, take, drop, Option, Some, None, Ok, Err, inl, inr, nat_lt, decimal, arith, append-nil, append_assoc, length-append}
+use Rattle.std.specs.Prelude.{codes, nat_eq, is_none, option_and_then}
 use Rattle.std.specs.List.{AllByRecursion, join_with_byte, list_all, list_any}
 use Rattle.std.specs.Option.{option_map, option_map_or, ok_or}
 use Rattle.std.specs.Str.{bytes_eq}
@@ -8,10 +8,10 @@ use lib.Pointwise.{bytes_decides}
 use Rattle.std.proofs.Math.ListN.{get_or-append}
 use Rattle.std.proofs.Math.Seq.{drop-append_seam, drop-append-add, get_or-append_seam, take-append_seam}
 use Rattle.std.specs.Cmp.Lexicographic.{pointwise}
-use Rattle.table_lines.specs.declared.transition.Variable.{Variable}
 use Rattle.std.proofs.lemmas.Bool.{and_parts, and_from, eq-eqb, eqb-true, cases_eq}
 use Rattle.std.proofs.lemmas.Bool.Decides.{nat_tests}
 use Rattle.std.proofs.lemmas.List.{length-map}
+use Rattle.std.proofs.Math.Bool.{and-true, or-false}
 use Rattle.basics.specs.Results.{◌>>=◌}
 use Rattle.basics.proofs.Lists.{all_append}
 use Rattle.text_lines.specs.Blanks.{trim, trim_end, trim_start}
@@ -21,17 +21,14 @@ use Rattle.text_lines.proofs.Decimals.{IsWide, decimal-bytes, decimal-numeral, n
 use Rattle.text_lines.proofs.Pieces.{position-at, position-none}
 use Rattle.text_lines.proofs.PrintedLines.{line-visible, trim-blank}
 use Rattle.rule_file.proofs.WrittenFiles.{trim_start-digits, within-read}
-use Rattle.rule_file.specs.declared.fault.RuleFault.{RuleFault}
-use Rattle.rule_file.specs.declared.fault.RuleFault.TheVariants.{BadNeighborhood, BadStates, BadSymmetry, BadTransition, BadVariable, FreeResult, StateTooHigh}
+use Rattle.rule_file.specs.declared.fault.RuleFault.TheVariants.{BadNeighborhood, BadStates, BadSymmetry, BadVariable}
 use Rattle.rule_file.specs.States.{least_states, most_states}
 use Rattle.rule_file.specs.RuleFile.{NumberedLine, numbered_from}
 use Rattle.table_lines.specs.declared.descriptors.Descriptor.{Descriptor}
 use Rattle.table_lines.specs.declared.descriptors.Descriptor.TheVariants as descriptor
 use Rattle.table_lines.specs.declared.descriptors.Head.{Head}
 use Rattle.table_lines.specs.declared.neighborhood.Neighborhood.{Neighborhood}
-use Rattle.table_lines.specs.declared.neighborhood.Neighborhood.TheVariants.{VonNeumann, Moore, Hexagonal, OneDimensional}
 use Rattle.table_lines.specs.declared.symmetry.Symmetry.{Symmetry}
-use Rattle.table_lines.specs.declared.symmetry.Symmetry.TheVariants as symmetry
 use Rattle.table_lines.specs.declared.transition.Entry.{Entry}
 use Rattle.table_lines.specs.declared.transition.Entry.TheVariants.{State}
 use Rattle.table_lines.specs.declared.transition.Transition.{Transition}
@@ -44,11 +41,11 @@ use Rattle.table_lines.specs.Neighborhood.{neighborhood_named, places_of}
 use Rattle.table_lines.specs.States.{has, rising}
 use Rattle.table_lines.specs.StateWords.{rising-agree}
 use Rattle.table_lines.specs.Symmetry.{name_of_symmetry, symmetry_named}
-use Rattle.table_lines.specs.Table.{Table, headed}
-use Rattle.table_lines.specs.Transitions.{entry_of, transition_from, transition_of, transitions_of, unless_free}
+use Rattle.table_lines.specs.Table.{Table}
+use Rattle.table_lines.specs.Transitions.{transition_of, transitions_of}
 use Rattle.table_lines.specs.Variables.{Variables, are_below, defines_variable, definition_in, each, is_variable_byte, is_variable_name, member_states, no_variables, unbraced, variable_named, variables_after, with_definition}
 use Rattle.table_lines.specs.WrittenTable.{IsEntryOf, IsSet, IsTableOf, IsTransitionOf, definition_line, definition_lines, entry_text, name_of_neighborhood, set_text, transition_line, variable_name}
-use Rattle.table_lines.proofs.WrittenEntries.{AreNamed, IsField, decimal-each, decimal-field, entries-read, entry-defines_none, entry-each, entry-field, fields-joined, joined-each, parts-joined}
+use Rattle.table_lines.proofs.WrittenEntries.{AreNamed, IsField, all-map, decimal-each, decimal-field, entries-read, entry-defines_none, entry-each, entry-field, fields-joined, joined-each, parts-joined}
 
 -- the set that a definition lists, between its braces
 abbrev pub listed : List ℕ → List ℕ
@@ -60,26 +57,18 @@ name-number i j wide other h =
     let same : Some i ≡ Some j = sym (number_of-decimal i wide) ∙ ap (λ (name : List ℕ). number_of (drop 1 name)) h ∙ number_of-decimal j other in
     cc
 
-not-true : (v : Bool) → v ≢ true → v ≡ false
-not-true true h = absurd (h refl)
-not-true false h = refl
-
 -- the variables after one more definition by its written name
 named-more : (variables : Variables) (done : List (List ℕ)) (set : List ℕ) → variables.defined ≡ length done → length done < 2 ^ 64 → AreNamed variables done → AreNamed (with_definition variables (variable_name (length done)) set) (done ++ set ∷ [])
 named-more variables done set count few named number low =
-    let more = with_definition variables (variable_name (length done)) set in
     let long : length (done ++ set ∷ []) ≡ length done + 1 = length-append done (set ∷ []) in
+    let name = bytes_decides (variable_name (length done)) (variable_name number) in
     elim (cases_eq number (length done)) [
-      | inl same ↦
-          ap (λ k. variable_named more (variable_name k)) same
-          ∙ ap (λ v. option_map (λ (d : List ℕ × Variable). d.1) (cond v (Some (variable_name (length done), record { number = variables.defined; states = set })) (find (λ (d : List ℕ × Variable). bytes_eq d.0 (variable_name (length done))) variables.by_name))) ((bytes_decides (variable_name (length done)) (variable_name (length done))).1 refl)
-          ∙ ap₂ (λ (k : ℕ) (states : List ℕ). Some (record { number = k; states = states })) (count ∙ sym same) (sym (ap (λ k. slice_index_or (done ++ set ∷ []) k []) same ∙ get_or-append_seam done set [] []))
+      | inl same ↦ rw (same, (bytes_decides (variable_name (length done)) (variable_name (length done))).1 refl, count, get_or-append_seam done set [] [])
       | inr other ↦
           let before : number < length done = omega (arith, long, low) in
-          ap (λ v. option_map (λ (d : List ℕ × Variable). d.1) (cond v (Some (variable_name (length done), record { number = variables.defined; states = set })) (find (λ (d : List ℕ × Variable). bytes_eq d.0 (variable_name number)) variables.by_name)))
-          (not-true (bytes_eq (variable_name (length done)) (variable_name number)) (λ e. other (sym (name-number (length done) number few (omega arith) ((bytes_decides (variable_name (length done)) (variable_name number)).0 e)))))
-          ∙ named number before
-          ∙ ap (λ (states : List ℕ). Some (record { number = number; states = states })) (sym (get_or-append done (set ∷ []) [] number before))
+          let same = λ (e : bytes_eq (variable_name (length done)) (variable_name number) ≡ true). name-number (length done) number few (omega arith) (name.0 e) in
+          let apart : bytes_eq (variable_name (length done)) (variable_name number) ≡ false = grind (arith, same) in
+          rw (apart, get_or-append done (set ∷ []) [] number before) (named number before)
     ]
 
 -- the states of a set are written in full
@@ -91,22 +80,16 @@ set-wide n (s ∷ set) few h =
     let low : s < n = grind (arith, nat_tests) in
     (omega arith, set-wide n set few both.1)
 
-set-fields : (set : List ℕ) → AllByRecursion IsWide set → AllByRecursion IsField (map decimal set)
-set-fields [] h = tt
-set-fields (s ∷ set) h = (decimal-field s h.0, set-fields set h.1)
-
 -- each byte of the states with commas between them is a digit or a comma
-pub listed-each : (P : ℕ → Type 0) → P 44 → ((b : ℕ) → IsDigit b → P b) → (set : List ℕ) → 0 < length set → AllByRecursion IsWide set → AllByRecursion P (listed set)
-listed-each P comma digit [] some h = absurd (omega arith)
-listed-each P comma digit (s ∷ set) some h = joined-each P comma (decimal s) (map decimal set) (words (s ∷ set) h)
-  where
-    words : (ss : List ℕ) → AllByRecursion IsWide ss → AllByRecursion (AllByRecursion P) (map decimal ss)
-    words [] k = tt
-    words (t ∷ ss) k = (decimal-each P digit t k.0, words ss k.1)
+pub listed-each : (P : ℕ → Type 0) → P 44 → ((b : ℕ) → IsDigit b → P b) → (set : List ℕ) → AllByRecursion IsWide set → AllByRecursion P (listed set)
+listed-each P comma digit set h = joined-each P comma (map decimal set) (all-map IsWide (AllByRecursion P) decimal (decimal-each P digit) set h)
+
+-- so is each byte of the set's text, but for its equals sign and its braces
+pub set_text-each : (P : ℕ → Type 0) → P 44 → P 61 → P 123 → P 125 → ((b : ℕ) → IsDigit b → P b) → (set : List ℕ) → AllByRecursion IsWide set → AllByRecursion P (set_text set)
+set_text-each P comma sign left right digit set h = (sign, (left, all_append P (listed set) (125 ∷ []) (listed-each P comma digit set h) (right, tt)))
 
 listed-parts : (set : List ℕ) → 0 < length set → AllByRecursion IsWide set → parts (listed set) ≡ map decimal set
-listed-parts [] some h = absurd (omega arith)
-listed-parts (s ∷ set) some h = parts-joined (decimal s) (map decimal set) (set-fields (s ∷ set) h)
+listed-parts set some h = parts-joined (map decimal set) (omega (arith, length-map set decimal)) (all-map IsWide IsField decimal decimal-field set h)
 
 -- what stands between braces
 unbraced-between : (inner : List ℕ) → unbraced (123 ∷ inner ++ 125 ∷ []) ≡ Some inner
@@ -140,8 +123,8 @@ definition-read number set wide some low =
     let front = codes "var " ++ name in
     let braced = 123 ∷ listed set ++ 125 ∷ [] in
     let of : List ℕ → List ℕ → Option (List ℕ × List (List ℕ)) = λ before behind. option_and_then (λ inner. cond (is_variable_name (trim (drop 3 before))) (Some (trim (drop 3 before), parts inner)) None) (unbraced (trim behind)) in
-    let visible : AllByRecursion IsVisible braced = ((omega arith, omega arith), all_append IsVisible (listed set) (125 ∷ []) (listed-each IsVisible (omega arith, omega arith) digit-visible set some low) ((omega arith, omega arith), tt)) in
-    let line = line-visible braced (omega arith) visible in
+    let visible = set_text-each IsVisible (omega arith, omega arith) (omega arith, omega arith) (omega arith, omega arith) (omega arith, omega arith) digit-visible set low in
+    let line = line-visible braced (omega arith) visible.1 in
     ap (option_and_then (λ sign. of (take sign (front ++ 61 ∷ braced)) (drop (sign + 1) (front ++ 61 ∷ braced))))
     (position-at (λ b. b == 61) front 61 braced (refl, (refl, (refl, (refl, (refl, decimal-each (λ b. (b == 61) ≡ false) (λ b k. let high : b ≤ 57 = k.1 in differs b 61 (λ e. omega arith)) number wide))))) refl)
     ∙ ap₂ of (take-append_seam front (61 ∷ braced)) (drop-append-add front (61 ∷ braced) 1)
@@ -161,21 +144,13 @@ members-read variables number (s ∷ set) h =
     ap (λ read. ok_or (option_map_or (λ n. Some (n ∷ [])) read (option_map (λ v. v.states) (variable_named variables (decimal s)))) (BadVariable number) >>= λ y. each (λ member. ok_or (member_states variables member) (BadVariable number)) (map decimal set) >>= λ ys. Ok (y ∷ ys)) (number_of-decimal s h.0)
     ∙ ap (λ read. read >>= λ ys. Ok ((s ∷ []) ∷ ys)) (members-read variables number set h.1)
 
-or_false : (b : Bool) → (b || false) ≡ b
-or_false true = refl
-or_false false = refl
-
-and_true : (b : Bool) → (b && true) ≡ b
-and_true true = refl
-and_true false = refl
-
 has-singles : (set : List ℕ) (s : ℕ) → list_any (λ single. has single s) (singles set) ≡ has set s
 has-singles [] s = refl
-has-singles (t ∷ set) s = ap₂ (λ a b. a || b) (or_false (nat_eq s t)) (has-singles set s)
+has-singles (t ∷ set) s = ap₂ (λ a b. a || b) (or-false (nat_eq s t)) (has-singles set s)
 
 below-singles : (n : ℕ) (set : List ℕ) → are_below n (singles set) ≡ all_below n set
 below-singles n [] = refl
-below-singles n (s ∷ set) = ap₂ (λ a b. a && b) (and_true (nat_lt s n)) (below-singles n set)
+below-singles n (s ∷ set) = ap₂ (λ a b. a && b) (and-true (nat_lt s n)) (below-singles n set)
 
 union-singles : (set : List ℕ) → rising (has set) ≡ set → union (singles set) ≡ set
 union-singles set h = rising-agree (λ s. list_any (λ single. has single s) (singles set)) (has set) (λ s _. has-singles set s) ∙ h
@@ -184,12 +159,7 @@ union-singles set h = rising-agree (λ s. list_any (λ single. has single s) (si
 defined-read : (head : Head) (variables : Variables) (line number : ℕ) (set : List ℕ) → head.states ≤ 256 → IsWide number → IsSet head.states set → variables_after head variables (record { number = line; text = definition_line number set }) ≡ Ok (with_definition variables (variable_name number) set)
 defined-read head variables line number set few wide is =
     let low = set-wide head.states set few is.below in
-    ap (λ found. ok_or found (BadVariable line) >>= λ definition. each (λ member. ok_or (member_states variables member) (BadVariable line)) definition.1 >>= λ sets. cond (are_below head.states sets) (Ok (with_definition variables definition.0 (union sets))) (Err (StateTooHigh line)))
-    (definition-read number set wide is.some low)
-    ∙ ap (λ read. read >>= λ sets. cond (are_below head.states sets) (Ok (with_definition variables (variable_name number) (union sets))) (Err (StateTooHigh line)))
-    (members-read variables line set low)
-    ∙ ap (λ v. cond v (Ok (with_definition variables (variable_name number) (union (singles set)))) (Err (StateTooHigh line))) (below-singles head.states set ∙ is.below)
-    ∙ ap (λ (states : List ℕ). Ok (with_definition variables (variable_name number) states)) (union-singles set is.rising)
+    rw (definition-read number set wide is.some low, members-read variables line set low, below-singles head.states set, is.below, union-singles set is.rising)
 
 -- a line without a colon is no descriptor
 line-undescribed : (line : List ℕ) → AllByRecursion (λ b. (b == 58) ≡ false) line → descriptor_of line ≡ None
@@ -205,7 +175,7 @@ definition-undescribed n number set few wide is =
     line-undescribed (definition_line number set)
     (all_append P (codes "var " ++ variable_name number) (set_text set)
     (refl, (refl, (refl, (refl, (refl, decimal-each P no_colon number wide)))))
-    (refl, (refl, all_append P (listed set) (125 ∷ []) (listed-each P refl no_colon set is.some low) (refl, tt))))
+    (set_text-each P refl refl refl refl no_colon set low))
 
 -- the entries of a transition, its result last
 abbrev pub entries_of : Transition → List Entry
@@ -215,33 +185,24 @@ abbrev pub line_of : List Entry → List ℕ
 line_of entries = join_with_byte 44 (map entry_text entries)
 
 module _ (n : ℕ) (sets : List (List ℕ)) (low : n ≤ 256) (few : length sets ≤ 2 ^ 64) where
-  words-fields : (entries : List Entry) → AllByRecursion (IsEntryOf n sets) entries → AllByRecursion IsField (map entry_text entries)
-  words-fields [] h = tt
-  words-fields (e ∷ entries) h = (entry-field n sets e low few h.0, words-fields entries h.1)
-
-  words-uncoloned : (entries : List Entry) → AllByRecursion (IsEntryOf n sets) entries → AllByRecursion (AllByRecursion (λ b. (b == 58) ≡ false)) (map entry_text entries)
-  words-uncoloned [] h = tt
-  words-uncoloned (e ∷ entries) h = (entry-each n sets e low few h.0 (λ b. (b == 58) ≡ false) refl no_colon, words-uncoloned entries h.1)
-
   line-fields : (states : ℕ) (entries : List Entry) → 2 ≤ length entries → AllByRecursion (IsEntryOf n sets) entries → fields states (line_of entries) ≡ map entry_text entries
-  line-fields states [] some h = absurd (omega arith)
-  line-fields states (e ∷ []) some h = absurd (omega arith)
-  line-fields states (e ∷ f ∷ entries) some h = fields-joined states (entry_text e) (entry_text f) (map entry_text entries) (words-fields (e ∷ f ∷ entries) h)
+  line-fields states entries some h =
+      fields-joined states (map entry_text entries) (omega (arith, some, length-map entries entry_text))
+      (all-map (IsEntryOf n sets) IsField entry_text (λ e. entry-field n sets e low few) entries h)
+
+  -- what holds of commas, of digits and of v holds of a line's bytes
+  pub line-each : (P : ℕ → Type 0) → P 44 → P 118 → ((b : ℕ) → IsDigit b → P b) → (entries : List Entry) → AllByRecursion (IsEntryOf n sets) entries
+      → AllByRecursion P (line_of entries)
+  line-each P comma v digit entries h =
+      joined-each P comma (map entry_text entries) (all-map (IsEntryOf n sets) (AllByRecursion P) entry_text (λ e is. entry-each n sets e low few is P v digit) entries h)
 
   line-plain : (entries : List Entry) → 2 ≤ length entries → AllByRecursion (IsEntryOf n sets) entries → (descriptor_of (line_of entries) ≡ None) × (defines_variable (line_of entries) ≡ false)
   line-plain [] some h = absurd (omega arith)
   line-plain (e ∷ []) some h = absurd (omega arith)
   line-plain (e ∷ f ∷ entries) some h = (
-    line-undescribed (line_of (e ∷ f ∷ entries)) (joined-each (λ b. (b == 58) ≡ false) refl (entry_text e) (map entry_text (f ∷ entries)) (words-uncoloned (e ∷ f ∷ entries) h)),
+    line-undescribed (line_of (e ∷ f ∷ entries)) (line-each (λ b. (b == 58) ≡ false) refl refl no_colon (e ∷ f ∷ entries) h),
     entry-defines_none n sets e (44 ∷ line_of (f ∷ entries)) low few h.0,
   )
-
--- the entries of a transition make it
-transition-made : (t : Transition) → transition_from (entries_of t) ≡ t
-transition-made t =
-    let last : length (entries_of t) - 1 ≡ length t.inputs = omega (arith, length-append t.inputs (t.result ∷ [])) in
-    ap (λ (k : ℕ). record { inputs = take k (entries_of t); result = slice_index_or (entries_of t) k (State 0) }) last
-    ∙ ap₂ (λ (inputs : List Entry) (result : Entry). record { inputs = inputs; result = result }) (take-append_seam t.inputs (t.result ∷ [])) (get_or-append_seam t.inputs t.result [] (State 0))
 
 pub entries-are : (n : ℕ) (neighborhood : Neighborhood) (sets : List (List ℕ)) (t : Transition) → IsTransitionOf n neighborhood sets t → AllByRecursion (IsEntryOf n sets) (entries_of t)
 entries-are n neighborhood sets t is = all_append (IsEntryOf n sets) t.inputs (t.result ∷ []) is.inputs (is.result, tt)
@@ -251,35 +212,30 @@ entries-many n neighborhood sets t is =
     let full : length t.inputs ≡ length (places_of neighborhood) + 1 = eqb-true (length t.inputs) (length (places_of neighborhood) + 1) is.full in
     omega (arith, full, length-append t.inputs (t.result ∷ []))
 
+-- a transition's line is no descriptor and defines no variable
+transition-undefined : (n : ℕ) (neighborhood : Neighborhood) (sets : List (List ℕ)) (t : Transition) → n ≤ 256 → length sets ≤ 2 ^ 64 → IsTransitionOf n neighborhood sets t
+    → (descriptor_of (transition_line t) ≡ None) × (defines_variable (transition_line t) ≡ false)
+transition-undefined n neighborhood sets t low few is =
+    line-plain n sets low few (entries_of t) (omega (arith, entries-many n neighborhood sets t is)) (entries-are n neighborhood sets t is)
+
 -- a transition reads back
 transition-read : (head : Head) (variables : Variables) (sets : List (List ℕ)) (number : ℕ) (t : Transition) → head.states ≤ 256 → length sets ≤ 2 ^ 64 → AreNamed variables sets → IsTransitionOf head.states head.neighborhood sets t → transition_of head variables (record { number = number; text = transition_line t }) ≡ Ok t
 transition-read head variables sets number t low few named is =
     let n = head.states in
     let places = length (places_of head.neighborhood) in
-    let entries = entries_of t in
     let are = entries-are n head.neighborhood sets t is in
     let many = entries-many n head.neighborhood sets t is in
-    let counted : length (map entry_text entries) ≡ places + 2 = length-map entries entry_text ∙ many in
-    ap (λ (fs : List (List ℕ)). cond (length fs == places + 2) (each (entry_of n variables number) fs >>= λ es. unless_free number (transition_from es)) (Err (BadTransition number)))
-    (line-fields n sets low few n entries (omega (arith, many)) are)
-    ∙ ap (λ v. cond v (each (entry_of n variables number) (map entry_text entries) >>= λ es. unless_free number (transition_from es)) (Err (BadTransition number)))
-    (eq-eqb (length (map entry_text entries)) (places + 2) counted)
-    ∙ ap (λ read. read >>= λ es. unless_free number (transition_from es)) (entries-read n number variables sets entries low named are)
-    ∙ ap (unless_free number) (transition-made t)
-    ∙ ap (λ v. cond v (Err (FreeResult number)) (Ok t)) is.bound
+    let last : length (entries_of t) - 1 ≡ length t.inputs = omega (arith, length-append t.inputs (t.result ∷ [])) in
+    let counted = eq-eqb (length (map entry_text (entries_of t))) (places + 2) (length-map (entries_of t) entry_text ∙ many) in
+    rw (line-fields n sets low few n (entries_of t) (omega (arith, many)) are, counted, entries-read n number variables sets (entries_of t) low named are, last)
+    (rw (take-append_seam t.inputs (t.result ∷ []), get_or-append_seam t.inputs t.result [] (State 0), is.bound))
 
 -- all transitions read back, one after another
 transitions-read : (head : Head) (variables : Variables) (sets : List (List ℕ)) (number : ℕ) (ts : List Transition) → head.states ≤ 256 → length sets ≤ 2 ^ 64 → AreNamed variables sets → AllByRecursion (IsTransitionOf head.states head.neighborhood sets) ts → transitions_of head variables (numbered_from number (map transition_line ts)) ≡ Ok ts
 transitions-read head variables sets number [] low few named h = refl
 transitions-read head variables sets number (t ∷ ts) low few named h =
-    let entries = entries_of t in
-    let plain = line-plain head.states sets low few entries (omega (arith, entries-many head.states head.neighborhood sets t h.0)) (entries-are head.states head.neighborhood sets t h.0) in
-    let line : NumberedLine = record { number = number; text = transition_line t } in
-    let lines = numbered_from (number + 1) (map transition_line ts) in
-    let read = transition_of head variables line >>= λ t. transitions_of head variables lines >>= λ ts. Ok (t ∷ ts) in
-    ap₂ (λ (described : Option (Descriptor × List ℕ)) (defines : Bool). cond (is_some described) (Err (BadTransition number)) (cond defines (variables_after head variables line >>= λ more. transitions_of head more lines) read)) plain.0 plain.1
-    ∙ ap₂ (λ (first : Result Transition RuleFault) (others : Result (List Transition) RuleFault). first >>= λ t. others >>= λ ts. Ok (t ∷ ts))
-    (transition-read head variables sets number t low few named h.0) (transitions-read head variables sets (number + 1) ts low few named h.1)
+    let plain = transition-undefined head.states head.neighborhood sets t low few h.0 in
+    rw (plain.0, plain.1, transition-read head variables sets number t low few named h.0, transitions-read head variables sets (number + 1) ts low few named h.1)
 
 -- behind the definitions that are written, lines read as they do where the variables are named
 definitions-read : (head : Head) (variables : Variables) (done sets : List (List ℕ)) (count number : ℕ) (others : List (List ℕ)) (ts : List Transition) → head.states ≤ 256 → length (done ++ sets) ≤ 2 ^ 64 → count ≡ length done → variables.defined ≡ count → AreNamed variables done → AllByRecursion (IsSet head.states) sets
@@ -293,17 +249,14 @@ definitions-read head variables done (set ∷ sets) count number others ts low f
     let long : length (done ++ set ∷ sets) ≡ length done + suc (length sets) = length-append done (set ∷ sets) in
     let whole = append_assoc done (set ∷ []) sets in
     let wide : IsWide count = omega (arith, is, few, long) in
-    let here : transitions_of head variables (line ∷ lines) ≡ transitions_of head more lines =
-    ap (λ (described : Option (Descriptor × List ℕ)). cond (is_some described) (Err (BadTransition number)) (variables_after head variables line >>= λ more. transitions_of head more lines)) (definition-undescribed head.states count set low wide h.0)
-    ∙ ap (λ read. read >>= λ more. transitions_of head more lines) (defined-read head variables number count set low wide h.0) in
-    here
-    ∙ definitions-read head more (done ++ set ∷ []) sets (count + 1) (number + 1) others ts low
+    rw (definition-undescribed head.states count set low wide h.0, defined-read head variables number count set low wide h.0)
+    (definitions-read head more (done ++ set ∷ []) sets (count + 1) (number + 1) others ts low
     (subst (λ (all : List (List ℕ)). length all ≤ 2 ^ 64) (sym whole) few)
     (omega (arith, is, length-append done (set ∷ [])))
     (omega (arith, defined))
     (subst (λ k. AreNamed (with_definition variables (variable_name k) set) (done ++ set ∷ [])) (sym is) (named-more variables done set (defined ∙ is) (omega (arith, few, long)) named))
     h.1
-    (λ first all are. read first all (subst (AreNamed all) whole are))
+    (λ first all are. read first all (subst (AreNamed all) whole are)))
 
 -- the first of some lines is no descriptor
 abbrev FirstUndescribed : List NumberedLine → Type 0
@@ -312,15 +265,11 @@ FirstUndescribed (line ∷ lines) = descriptor_of line.text ≡ None
 
 -- one descriptor after another, and the lines behind them
 head-step : (d e : Described) (line : NumberedLine) (lines : List NumberedLine) (x : Descriptor) (value : List ℕ) → descriptor_of line.text ≡ Some (x, value) → describe d line.number x value ≡ Ok e → head_from d (line ∷ lines) ≡ head_from e lines
-head-step d e line lines x value is said =
-    ap (λ read. option_map_or (λ x. describe d line.number x.0 x.1 >>= λ e. head_from e lines) read (head_of d >>= λ head. Ok (head, line ∷ lines))) is
-    ∙ ap (λ read. read >>= λ e. head_from e lines) said
+head-step d e line lines x value is said = rw (is, said)
 
 head-end : (d : Described) (head : Head) (lines : List NumberedLine) → FirstUndescribed lines → head_of d ≡ Ok head → head_from d lines ≡ Ok (head, lines)
-head-end d head [] plain said = ap (λ read. read >>= λ head. Ok (head, [])) said
-head-end d head (line ∷ lines) plain said =
-    ap (λ read. option_map_or (λ x. describe d line.number x.0 x.1 >>= λ e. head_from e lines) read (head_of d >>= λ head. Ok (head, line ∷ lines))) plain
-    ∙ ap (λ read. read >>= λ head. Ok (head, line ∷ lines)) said
+head-end d head [] plain said = rw said
+head-end d head (line ∷ lines) plain said = rw (plain, said)
 
 states-line : (n : ℕ) → IsWide n → descriptor_of (codes "n_states:" ++ decimal n) ≡ Some (descriptor.States, decimal n)
 states-line n wide =
@@ -330,30 +279,13 @@ states-line n wide =
     ∙ ap (λ (value : List ℕ). Some (descriptor.States, value)) (trim_start-digits (decimal n) (decimal-numeral n wide))
 
 neighborhood-line : (m : Neighborhood) → descriptor_of (codes "neighborhood:" ++ name_of_neighborhood m) ≡ Some (descriptor.Neighborhood, name_of_neighborhood m)
-neighborhood-line VonNeumann = refl
-neighborhood-line Moore = refl
-neighborhood-line Hexagonal = refl
-neighborhood-line OneDimensional = refl
+neighborhood-line m = grind arith
 
 neighborhood-read : (m : Neighborhood) → neighborhood_named (name_of_neighborhood m) ≡ Some m
-neighborhood-read VonNeumann = refl
-neighborhood-read Moore = refl
-neighborhood-read Hexagonal = refl
-neighborhood-read OneDimensional = refl
+neighborhood-read m = grind arith
 
 symmetry-line : (s : Symmetry) → descriptor_of (codes "symmetries:" ++ name_of_symmetry s) ≡ Some (descriptor.Symmetries, name_of_symmetry s)
-symmetry-line symmetry.None = refl
-symmetry-line symmetry.Rotate2 = refl
-symmetry-line symmetry.Rotate3 = refl
-symmetry-line symmetry.Rotate4 = refl
-symmetry-line symmetry.Rotate6 = refl
-symmetry-line symmetry.Rotate8 = refl
-symmetry-line symmetry.Rotate4Reflect = refl
-symmetry-line symmetry.Rotate6Reflect = refl
-symmetry-line symmetry.Rotate8Reflect = refl
-symmetry-line symmetry.ReflectHorizontal = refl
-symmetry-line symmetry.Reflect = refl
-symmetry-line symmetry.Permute = refl
+symmetry-line s = grind arith
 
 -- the head that is written reads back
 head-read : (head : Head) (number : ℕ) (lines : List NumberedLine) → 2 ≤ head.states → head.states ≤ 256 → symmetry_named head.neighborhood (name_of_symmetry head.symmetry) ≡ Some head.symmetry → FirstUndescribed lines
@@ -382,16 +314,15 @@ first-plain number [] table is = by table.transitions is.transitions
   where
     by : (ts : List Transition) → AllByRecursion (IsTransitionOf table.states table.neighborhood []) ts → FirstUndescribed (numbered_from number (map transition_line ts))
     by [] h = tt
-    by (t ∷ ts) h = (line-plain table.states [] is.at_most is.few (entries_of t) (omega (arith, entries-many table.states table.neighborhood [] t h.0)) (entries-are table.states table.neighborhood [] t h.0)).0
+    by (t ∷ ts) h = (transition-undefined table.states table.neighborhood [] t is.at_most is.few h.0).0
 
 -- what is written says the table
 pub written-read : WrittenTablesAreRead
 written-read number sets table is =
     let head : Head = record { states = table.states; neighborhood = table.neighborhood; symmetry = table.symmetry } in
-    let low = is.at_most in
-    let few = is.few in
-    ap (λ found. found >>= λ f. transitions_of f.0 no_variables f.1 >>= λ ts. Ok (headed f.0 ts))
-    (head-read head number (numbered_from (number + 1 + 1 + 1) (definition_lines 0 sets ++ map transition_line table.transitions)) is.at_least low is.symmetry (first-plain (number + 1 + 1 + 1) sets table is))
-    ∙ ap (λ read. read >>= λ ts. Ok (headed head ts))
-    (definitions-read head no_variables [] sets 0 (number + 1 + 1 + 1) (map transition_line table.transitions) table.transitions low few refl refl (λ k h. absurd (omega (arith, h))) is.defined
-    (λ first all are. transitions-read head all sets first table.transitions low few are is.transitions))
+    let ts = map transition_line table.transitions in
+    let first = number + 1 + 1 + 1 in
+    let plain = first-plain first sets table is in
+    rw (head-read head number (numbered_from first (definition_lines 0 sets ++ ts)) is.at_least is.at_most is.symmetry plain)
+    (rw (definitions-read head no_variables [] sets 0 first ts table.transitions is.at_most is.few refl refl (λ k h. absurd (omega (arith, h))) is.defined
+    (λ later all are. transitions-read head all sets later table.transitions is.at_most is.few are is.transitions)))
