@@ -1,5 +1,5 @@
 -- Lists of sets, compared.
-use Rattle.std.proofs.Common.{◌≡◌, ℕ, ◌+◌, ◌-◌, ◌<◌, ◌≤◌, Bool, true, false, cond, ◌||◌, List, [], ◌∷◌, ◌++◌, Vec, Global, length, take, drop, get_or, refl, sym, ap, ◌∙◌, arith}
+use Rattle.std.proofs.Common.{◌≡◌, ℕ, ◌+◌, ◌-◌, ◌<◌, ◌≤◌, true, ◌||◌, List, [], ◌∷◌, ◌++◌, Vec, Global, length, take, drop, get_or, refl, sym, ap, ◌∙◌, arith}
 use Rattle.std.specs.List.{list_any}
 use Rattle.std.proofs.lemmas.List.{length-map, map-append, nil_from_length, take_all, take_more, take_rest}
 use Rattle.std.proofs.Math.ListN.{get_or-map}
@@ -42,24 +42,14 @@ lists-all keys i h = take_all i (lists_in keys) (rw length-map h)
 -- one more list, unless it is there
 
 same_sets-sym : (x y : List (List ℕ)) → same_sets x y ≡ same_sets y x
-same_sets-sym x y = same_answer (same_sets x y) (same_sets y x)
-    (λ h. (same_sets_decides y x).1 (sym ((same_sets_decides x y).0 h)))
-    (λ h. (same_sets_decides x y).1 (sym ((same_sets_decides y x).0 h)))
-  where
-    same_answer : (a b : Bool) → (a ≡ true → b ≡ true) → (b ≡ true → a ≡ true) → a ≡ b
-    same_answer true b f g = sym (f refl)
-    same_answer false true f g = g refl
-    same_answer false false f g = refl
+same_sets-sym x y =
+    let there = λ (h : same_sets x y ≡ true). (same_sets_decides y x).1 (sym ((same_sets_decides x y).0 h)) in
+    let back = λ (h : same_sets y x ≡ true). (same_sets_decides x y).1 (sym ((same_sets_decides y x).0 h)) in
+    grind (arith, there, back)
 
 any-list : (keys : List (Vec (List ℕ) Global)) (list : List (List ℕ)) → list_any (λ key. same_sets list key.items) keys ≡ list_any (λ other. same_sets other list) (lists_in keys)
 any-list [] list = refl
 any-list (key ∷ keys) list = λ i. same_sets-sym list key.items i || any-list keys list i
 
 pub key-inserted : (keys : List (Vec (List ℕ) Global)) (key : Vec (List ℕ) Global) → lists_in (insert_key (λ a b. same_sets a.items b.items) keys key) ≡ with_one same_sets (lists_in keys) key.items
-key-inserted keys key =
-    by_test (list_any (λ other. same_sets key.items other.items) keys)
-    ∙ ap (λ b. cond b (lists_in keys) (lists_in keys ++ key.items ∷ [])) (any-list keys key.items)
-  where
-    by_test : (b : Bool) → lists_in (cond b keys (keys ++ key ∷ [])) ≡ cond b (lists_in keys) (lists_in keys ++ key.items ∷ [])
-    by_test true = refl
-    by_test false = map-append (λ v. v.items) keys (key ∷ [])
+key-inserted keys key = rw (← any-list keys key.items) (grind (arith, map-append (λ (v : Vec (List ℕ) Global). v.items) keys (key ∷ [])))

@@ -1,30 +1,22 @@
 -- Columns of bits, a bit a row, 64 in a word.
-use Rattle.std.proofs.Common.{◌≡◌, ◌≢◌, ℕ, zero, suc, ◌+◌, ◌-◌, ◌*◌, ◌/◌, ◌%◌, ◌^◌, ◌<◌, ◌≤◌, min, max, List, [], ◌∷◌, ◌++◌, length, get_or, map, take, drop, refl, sym, ap, ◌∙◌, subst, inl, inr, arith}
+use Rattle.std.proofs.Common.{◌≡◌, ◌≢◌, ℕ, zero, suc, ◌+◌, ◌-◌, ◌*◌, ◌/◌, ◌%◌, ◌^◌, ◌<◌, ◌≤◌, min, List, [], ◌∷◌, ◌++◌, length, get_or, map, take, drop, refl, sym, ap, ◌∙◌, inl, inr, arith}
 use Rattle.std.specs.Int.{bit_at}
 use Rattle.std.specs.Int.RustNames.{bit_or}
-use Rattle.std.proofs.lemmas.Bool.{cases_eq, cases_lt}
+use Rattle.std.proofs.lemmas.Bool.{cases_lt}
 use Rattle.std.proofs.lemmas.List.{get_or_past, get_or_append_left, get_or_push, get_or-take, get_or-drop, length-drop, length-take, length-append, length-map, get_or-map}
 use Rattle.std.proofs.lemmas.Nat.Bits.{bit_at_or, bit_at_set_same, bit_at_set_other, bit_at-zero, bit_at-lt}
-use Rattle.std.specs.Prelude.{◌==◌}
 use Rattle.table_symmetry.specs.declared.expansion.Expanded.{Expanded}
-use Rattle.table_symmetry.specs.Lookup.{HasColumns, is_bit_set, words_at}
+use Rattle.table_symmetry.specs.Lookup.{HasColumns, words_at}
 use mir.Syntax.{w64}
 
--- a bit put at a place of a word
-
-nothing_put : (n p i : ℕ) → bit_at (bit_or n (0 * 2 ^ p % 18446744073709551616)) i ≡ bit_at n i
-nothing_put n p i =
-    let none : 0 * 2 ^ p % 18446744073709551616 ≡ 0 = omega arith in
-    let most : max (bit_at n i) 0 ≡ bit_at n i = omega arith in
-    bit_at_or n (0 * 2 ^ p % 18446744073709551616) i ∙ ap (λ (w : ℕ). max (bit_at n i) (bit_at w i)) none ∙ ap (λ (b : ℕ). max (bit_at n i) b) (bit_at-zero i) ∙ most
-
+-- a bit put at a place of a word where there is none
 put_same : (n b p : ℕ) → b < 2 → p < 64 → bit_at n p ≡ 0 → bit_at (bit_or n (b * 2 ^ p % 18446744073709551616)) p ≡ b
-put_same n zero p h k e = nothing_put n p p ∙ e
+put_same n zero p h k e = grind (arith, bit_at_or n 0 p, bit_at-zero p)
 put_same n (suc zero) p h k e = bit_at_set_same w64 n p k
 put_same n (suc (suc b)) p h k e = absurd (omega arith)
 
 put_other : (n b p i : ℕ) → b < 2 → p < 64 → i ≢ p → bit_at (bit_or n (b * 2 ^ p % 18446744073709551616)) i ≡ bit_at n i
-put_other n zero p i h k ne = nothing_put n p i
+put_other n zero p i h k ne = grind (arith, bit_at_or n 0 i, bit_at-zero i)
 put_other n (suc zero) p i h k ne = bit_at_set_other w64 n p k i ne
 put_other n (suc (suc b)) p i h k ne = absurd (omega arith)
 
@@ -36,55 +28,41 @@ pub record IsPacked (words : List ℕ) (bit : ℕ) (packed count : ℕ) : Type 0
 pub IsPacked-none : (words : List ℕ) (bit : ℕ) → IsPacked words bit 0 0
 IsPacked-none words bit = record { low = λ k h. absurd (omega arith); high = λ k h. bit_at-zero k }
 
-pub IsPacked-more : (words : List ℕ) (bit packed count b : ℕ) → count < 64 → b ≡ bit_at (get_or words count 0) bit → IsPacked words bit packed count → IsPacked words bit (bit_or packed (b * 2 ^ count % 18446744073709551616)) (count + 1)
+pub IsPacked-more : (words : List ℕ) (bit packed count b : ℕ) → count < 64 → b ≡ bit_at (get_or words count 0) bit → IsPacked words bit packed count
+    → IsPacked words bit (bit_or packed (b * 2 ^ count % 18446744073709551616)) (count + 1)
 IsPacked-more words bit packed count b h e p =
-    let two : b < 2 = subst (λ x. x < 2) (sym e) (bit_at-lt _ _) in
-    record {
-      low = λ k l. elim (cases_eq k count) [
-        | inl same ↦ subst (λ i. bit_at (bit_or packed (b * 2 ^ count % 18446744073709551616)) i ≡ bit_at (get_or words i 0) bit) (sym same) (put_same packed b count two h (p.high count (omega arith)) ∙ e)
-        | inr other ↦ put_other packed b count k two h other ∙ p.low k (omega arith)
-      ];
-      high = λ k l. put_other packed b count k two h (omega arith) ∙ p.high k (omega arith);
-    }
+    let two : b < 2 = rw e (bit_at-lt _ _) in
+    let same = put_same packed b count two h (p.high count (omega arith)) in
+    let other = put_other packed b count in
+    record { low = λ k l. grind (arith, same, other k, p.low k); high = λ k l. grind (arith, other k, p.high k) }
 
 pub IsPacked-all : (words : List ℕ) (bit packed count : ℕ) → length words ≤ count → IsPacked words bit packed count → (k : ℕ) → bit_at packed k ≡ bit_at (get_or words k 0) bit
-IsPacked-all words bit packed count h p k =
-    elim (cases_lt k count) [
-      | inl l ↦ p.low k l
-      | inr m ↦ p.high k m ∙ sym (ap (λ w. bit_at w bit) (get_or_past words k 0 (omega arith)) ∙ bit_at-zero bit)
-    ]
+IsPacked-all words bit packed count h p k = grind (arith, p.low k, p.high k, get_or_past words k 0, bit_at-zero bit)
 
 -- a column of n words has one bit of each of the first 64 * n words
 pub record IsColumn (words : List ℕ) (bit : ℕ) (column : List ℕ) (n : ℕ) : Type 0 where
   pub long : length column ≡ n
   pub bits : (row : ℕ) → row < 64 * n → bit_at (get_or column (row / 64) 0) (row % 64) ≡ bit_at (get_or words row 0) bit
 
-pub IsColumn-none : (words : List ℕ) (bit : ℕ) → IsColumn words bit [] 0
-IsColumn-none words bit = record { long = refl; bits = λ row h. absurd (omega arith) }
-
 -- the words from 64 * n on, at most 64 of them
 chunk_at : (words : List ℕ) (n m k : ℕ) → k < 64 → m ≡ min (length words - 64 * n) 64 → get_or (take m (drop (64 * n) words)) k 0 ≡ get_or words (64 * n + k) 0
-chunk_at words n m k h e =
-    elim (cases_lt k m) [
-      | inl l ↦ get_or-take m (drop (64 * n) words) k 0 l ∙ get_or-drop (64 * n) words k 0
-      | inr past ↦
-          get_or_past (take m (drop (64 * n) words)) k 0 (simp (length-take, length-drop) (omega arith))
-          ∙ sym (get_or_past words (64 * n + k) 0 (omega arith))
-    ]
+chunk_at words n m k h e = elim (cases_lt k m) [
+  | inl l ↦ get_or-take m (drop (64 * n) words) k 0 l ∙ get_or-drop (64 * n) words k 0
+  | inr past ↦ get_or_past (take m (drop (64 * n) words)) k 0 (simp (length-take, length-drop) (omega arith)) ∙ sym (get_or_past words (64 * n + k) 0 (omega arith))
+]
 
-pub IsColumn-more : (words : List ℕ) (bit : ℕ) (column : List ℕ) (n m packed : ℕ) → m ≡ min (length words - 64 * n) 64 → ((k : ℕ) → bit_at packed k ≡ bit_at (get_or (take m (drop (64 * n) words)) k 0) bit) → IsColumn words bit column n → IsColumn words bit (column ++ packed ∷ []) (n + 1)
+pub IsColumn-more : (words : List ℕ) (bit : ℕ) (column : List ℕ) (n m packed : ℕ) → m ≡ min (length words - 64 * n) 64
+    → ((k : ℕ) → bit_at packed k ≡ bit_at (get_or (take m (drop (64 * n) words)) k 0) bit) → IsColumn words bit column n → IsColumn words bit (column ++ packed ∷ []) (n + 1)
 IsColumn-more words bit column n m packed e is c = record {
   long = simp (length-append) (omega (arith, c.long));
   bits = λ row h. elim (cases_lt row (64 * n)) [
     | inl l ↦
         let there : row / 64 < length column = omega (arith, c.long) in
-        ap (λ w. bit_at w (row % 64)) (get_or_append_left column (packed ∷ []) 0 (row / 64) there) ∙ c.bits row l
+        rw (get_or_append_left column (packed ∷ []) 0 (row / 64) there) (c.bits row l)
     | inr new ↦
         let number : length column ≡ row / 64 = omega (arith, c.long) in
         let place : 64 * n + row % 64 ≡ row = omega arith in
-        ap (λ w. bit_at w (row % 64)) (get_or_push column packed 0 (row / 64) number)
-        ∙ is (row % 64)
-        ∙ ap (λ w. bit_at w bit) (chunk_at words n m (row % 64) (omega arith) e ∙ ap (λ i. get_or words i 0) place)
+        rw (get_or_push column packed 0 (row / 64) number, is (row % 64), chunk_at words n m (row % 64) (omega arith) e, place)
   ];
 }
 
@@ -104,18 +82,16 @@ AreColumns-none place rows columns words e = record {
 pub AreColumns-more : (place : ℕ) (rows : List Expanded) (columns : List (List ℕ)) (words more column : List ℕ) (after : List (List ℕ)) (state : ℕ) → more ≡ map (λ row. get_or (words_at place row) (state / 64) 0) rows → ((row : ℕ) → row < length more → bit_at (get_or column (row / 64) 0) (row % 64) ≡ bit_at (get_or more row 0) (state % 64)) → after ≡ columns ++ column ∷ [] → AreColumns place rows columns words state → AreColumns place rows after more (state + 1)
 AreColumns-more place rows columns words more column after state is bits same a = record {
   long = ap length same ∙ simp (length-append) (omega (arith, a.long));
-  right = λ s row d l m. ap (λ (cs : List (List ℕ)). is_bit_set (get_or cs s []) row) same ∙ elim (cases_lt s state) [
+  right = λ s row d l m. rw same (elim (cases_lt s state) [
     | inl low ↦
         let there : s < length columns = omega (arith, a.long) in
-        ap (λ (c : List ℕ). is_bit_set c row) (get_or_append_left columns (column ∷ []) [] s there) ∙ a.right s row d low m
+        rw (get_or_append_left columns (column ∷ []) [] s there) (a.right s row d low m)
     | inr high ↦
         let number : length columns ≡ s = omega (arith, a.long) in
         let last : state ≡ s = omega arith in
-        let word : get_or more row 0 ≡ get_or (words_at place (get_or rows row d)) (state / 64) 0 = ap (λ (ws : List ℕ). get_or ws row 0) is ∙ get_or-map (λ r. get_or (words_at place r) (state / 64) 0) rows row d 0 m in
         let within : row < length more = rw (is, length-map) m in
-        ap (λ (c : List ℕ). is_bit_set c row) (get_or_push columns column [] s number)
-        ∙ ap (λ (b : ℕ). b == 1) (bits row within ∙ ap (λ (w : ℕ). bit_at w (state % 64)) word)
-        ∙ ap (λ (t : ℕ). is_bit_set (words_at place (get_or rows row d)) t) last
-  ];
-  ready = λ ne. let quarter : state / 64 ≡ (state + 1) / 64 = omega arith in is ∙ ap (λ (q : ℕ). map (λ row. get_or (words_at place row) q 0) rows) quarter;
+        let word = get_or-map (λ r. get_or (words_at place r) (state / 64) 0) rows row d 0 m in
+        rw (get_or_push columns column [] s number, bits row within, is, word, last)
+  ]);
+  ready = λ ne. let quarter : (state + 1) / 64 ≡ state / 64 = omega arith in rw quarter is;
 }

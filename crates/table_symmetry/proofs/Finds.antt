@@ -1,15 +1,15 @@
 -- A look-up finds what the first row that matches gives.
-use Rattle.std.proofs.Common.{◌≡◌, ℕ, zero, suc, ◌+◌, ◌<◌, ◌≤◌, Bool, true, ◌&&◌, List, [], ◌∷◌, ◌++◌, length, get_or, map, refl, sym, ap, ◌∙◌, subst, inl, inr, arith, zero-add}
+use Rattle.std.proofs.Common.{◌≡◌, ℕ, zero, suc, ◌+◌, ◌<◌, ◌≤◌, true, ◌&&◌, List, [], ◌∷◌, ◌++◌, length, get_or, map, refl, sym, ap, ◌∙◌, subst, inl, inr, arith, zero-add}
 use Rattle.std.specs.Prelude.{All, find, slice_index, nat_lt}
 use Rattle.std.specs.List.{list_all, range_with_len}
 use Rattle.std.specs.Option.{option_map}
-use Rattle.std.proofs.lemmas.Bool.{cases_lt, and_parts, ltb-true}
+use Rattle.std.proofs.lemmas.Bool.{cases_lt}
+use Rattle.std.proofs.lemmas.Bool.Decides.{nat_tests}
 use Rattle.std.proofs.lemmas.List.{length-append, length-map, get_or-map, get_or_append_left, get_or_push}
 use Rattle.std.proofs.lemmas.List.Elements.{All-get_or}
 use Rattle.worlds.specs.Step.{AreNineBelow}
 use Rattle.table_symmetry.specs.declared.expansion.Expanded.{Expanded}
 use Rattle.table_lines.specs.declared.neighborhood.Neighborhood.{Neighborhood}
-use Rattle.table_lines.specs.declared.neighborhood.Neighborhood.TheVariants.{VonNeumann, Moore, Hexagonal, OneDimensional}
 use Rattle.table_symmetry.specs.Expanded.{all_have, first_match}
 use Rattle.table_symmetry.specs.Lookup.{row_has, is_bit_set, HasColumns}
 use Rattle.table_symmetry.specs.NextState.{inputs_of, places_of}
@@ -22,59 +22,47 @@ pub record ArePlaces (rows : List Expanded) (states : ℕ) (columns : List (List
   pub long : length columns ≡ place
   pub right : (p : ℕ) → p < place → HasColumns (get_or columns p []) states p rows
 
-pub ArePlaces-none : (rows : List Expanded) (states : ℕ) (columns : List (List (List ℕ))) → columns ≡ [] → ArePlaces rows states columns 0
-ArePlaces-none rows states columns e = record { long = ap length e; right = λ p h. absurd (omega arith) }
-
-pub ArePlaces-more : (rows : List Expanded) (states : ℕ) (columns : List (List (List ℕ))) (more : List (List ℕ)) (after : List (List (List ℕ))) (place : ℕ) → HasColumns more states place rows → after ≡ columns ++ more ∷ [] → ArePlaces rows states columns place → ArePlaces rows states after (place + 1)
+pub ArePlaces-more : (rows : List Expanded) (states : ℕ) (columns : List (List (List ℕ))) (more : List (List ℕ)) (after : List (List (List ℕ))) (place : ℕ)
+    → HasColumns more states place rows
+    → after ≡ columns ++ more ∷ [] → ArePlaces rows states columns place → ArePlaces rows states after (place + 1)
 ArePlaces-more rows states columns more after place h same a = record {
   long = ap length same ∙ simp (length-append) (omega (arith, a.long));
-  right = λ p l. subst (λ (cs : List (List (List ℕ))). HasColumns (get_or cs p []) states p rows) (sym same) (elim (cases_lt p place) [
+  right = λ p l. rw same (elim (cases_lt p place) [
     | inl low ↦
         let there : p < length columns = omega (arith, a.long) in
-        subst (λ (c : List (List ℕ)). HasColumns c states p rows) (sym (get_or_append_left columns (more ∷ []) [] p there)) (a.right p low)
+        rw (get_or_append_left columns (more ∷ []) [] p there) (a.right p low)
     | inr high ↦
         let number : length columns ≡ p = omega (arith, a.long) in
         let last : place ≡ p = omega arith in
-        subst (λ (c : List (List ℕ)). HasColumns c states p rows) (sym (get_or_push columns more [] p number)) (subst (λ (q : ℕ). HasColumns more states q rows) last h)
+        rw (get_or_push columns more [] p number, ← last) h
   ]);
 }
 
 -- the states of the inputs are among those around
 
-places_below : (neighborhood : Neighborhood) → list_all (λ place. nat_lt place 9) (0 ∷ places_of neighborhood) ≡ true
-places_below VonNeumann = refl
-places_below Moore = refl
-places_below Hexagonal = refl
-places_below OneDimensional = refl
-
-picked_below : (n : ℕ) (around : List ℕ) (places : List ℕ) → AreNineBelow n around → list_all (λ place. nat_lt place 9) places ≡ true → (k : ℕ) → k < length (map (λ place. slice_index around place) places) → get_or (map (λ place. slice_index around place) places) k 0 < n
+picked_below : (n : ℕ) (around : List ℕ) (places : List ℕ) → AreNineBelow n around → list_all (λ place. nat_lt place 9) places ≡ true
+    → (k : ℕ) → k < length (map (λ place. slice_index around place) places) → get_or (map (λ place. slice_index around place) places) k 0 < n
 picked_below n around [] nine h k l = absurd (omega arith)
 picked_below n around (p ∷ places) nine h zero l =
-    let parts = and_parts (nat_lt p 9) (list_all (λ place. nat_lt place 9) places) h in
-    let near : p < 9 = ltb-true p 9 parts.0 in
+    let near : p < 9 = grind (arith, nat_tests) in
     All-get_or (λ s. s < n) around p 0 (omega (arith, nine.nine)) nine.below
-picked_below n around (p ∷ places) nine h (suc k) l =
-    picked_below n around places nine (and_parts (nat_lt p 9) (list_all (λ place. nat_lt place 9) places) h).1 k (omega arith)
+picked_below n around (p ∷ places) nine h (suc k) l = picked_below n around places nine (grind arith) k (omega arith)
 
 inputs_below : (n : ℕ) (neighborhood : Neighborhood) (around : List ℕ) → AreNineBelow n around → (k : ℕ) → k < length (inputs_of neighborhood around) → get_or (inputs_of neighborhood around) k 0 < n
-inputs_below n neighborhood around nine k l = picked_below n around (0 ∷ places_of neighborhood) nine (places_below neighborhood) k l
+inputs_below n neighborhood around nine = picked_below n around (0 ∷ places_of neighborhood) nine (grind arith)
 
 length-inputs : (neighborhood : Neighborhood) (around : List ℕ) → length (inputs_of neighborhood around) ≡ length (inputs_of neighborhood [])
 length-inputs neighborhood around =
     length-map (0 ∷ places_of neighborhood) (λ place. slice_index around place) ∙ sym (length-map (0 ∷ places_of neighborhood) (λ place. slice_index [] place))
 
 -- the columns tell whether the sets have the states
-row_has-all : (columns : List (List (List ℕ))) (sets : List (List ℕ)) (inputs : List ℕ) (row : ℕ) → length columns ≡ length inputs → length sets ≡ length inputs → ((p : ℕ) → p < length inputs → is_bit_set (get_or (get_or columns p []) (get_or inputs p 0) []) row ≡ has (get_or sets p []) (get_or inputs p 0)) → row_has columns inputs row ≡ all_have sets inputs
+row_has-all : (columns : List (List (List ℕ))) (sets : List (List ℕ)) (inputs : List ℕ) (row : ℕ) → length columns ≡ length inputs → length sets ≡ length inputs
+    → ((p : ℕ) → p < length inputs → is_bit_set (get_or (get_or columns p []) (get_or inputs p 0) []) row ≡ has (get_or sets p []) (get_or inputs p 0))
+    → row_has columns inputs row ≡ all_have sets inputs
 row_has-all [] [] [] row l m h = refl
-row_has-all [] [] (s ∷ inputs) row l m h = absurd (omega arith)
-row_has-all [] (x ∷ sets) [] row l m h = absurd (omega arith)
-row_has-all [] (x ∷ sets) (s ∷ inputs) row l m h = absurd (omega arith)
-row_has-all (c ∷ columns) [] [] row l m h = absurd (omega arith)
-row_has-all (c ∷ columns) [] (s ∷ inputs) row l m h = absurd (omega arith)
-row_has-all (c ∷ columns) (x ∷ sets) [] row l m h = absurd (omega arith)
 row_has-all (c ∷ columns) (x ∷ sets) (s ∷ inputs) row l m h =
-    ap (λ (b : Bool). b && row_has columns inputs row) (h 0 (omega arith))
-    ∙ ap (λ (b : Bool). has x s && b) (row_has-all columns sets inputs row (omega arith) (omega arith) (λ p k. h (suc p) (omega arith)))
+    λ i. h 0 (omega arith) i && row_has-all columns sets inputs row (omega arith) (omega arith) (λ p k. h (suc p) (omega arith)) i
+row_has-all columns sets inputs row l m h = absurd (omega arith)
 
 pub finds_first : (neighborhood : Neighborhood) (columns : List (List (List ℕ))) (results : List ℕ) (rows : List Expanded) (states : ℕ) → states ≤ 256 → All (λ row. length row.inputs ≡ length (inputs_of neighborhood [])) rows → results ≡ map (λ row. row.result) rows → ArePlaces rows states columns (length (inputs_of neighborhood [])) → (around : List ℕ) → AreNineBelow states around → option_map (slice_index results) (find (row_has columns (inputs_of neighborhood around)) (range_with_len 0 (length results))) ≡ first_match rows (inputs_of neighborhood around)
 finds_first neighborhood columns results rows states few long e a around nine =

@@ -1,8 +1,8 @@
 -- The first expanded transition that matches gives the next state.
-use Rattle.std.specs.Prelude.{◌≡◌, ℕ, ◌&&◌, ◌||◌, Bool, true, false, cond, List, [], ◌∷◌, ◌++◌, map, take, drop, find, slice_index, unwrap_or, Option, Some, None}
+use Rattle.std.specs.Prelude.{◌≡◌, ℕ, ◌&&◌, ◌||◌, Bool, cond, List, [], ◌∷◌, ◌++◌, map, take, drop, find, slice_index, unwrap_or, Option, Some, None}
 use Rattle.std.specs.List.{flat_map, list_any, take-map, drop-map}
 use Rattle.std.specs.Option.{option_map, option_or}
-use Rattle.std.proofs.Common.{refl, sym, ap, ◌∙◌}
+use Rattle.std.proofs.Common.{arith, refl, sym, ap, ◌∙◌}
 use Rattle.std.proofs.lemmas.List.{map-append}
 use Rattle.table_symmetry.specs.declared.expansion.Expanded.{Expanded}
 use Rattle.table_lines.specs.declared.transition.Entry.{Entry}
@@ -41,19 +41,11 @@ matches-sets table around t =
 -- rows of one result give it, if one of them matches
 one_result : (row : List (List ℕ) → Expanded) (result : ℕ) (inputs : List ℕ) → ((sets : List (List ℕ)) → (row sets).result ≡ result) → (lists : List (List (List ℕ))) → first_match (map row lists) inputs ≡ cond (list_any (λ sets. all_have (row sets).inputs inputs) lists) (Some result) None
 one_result row result inputs e [] = refl
-one_result row result inputs e (x ∷ lists) = by_first (all_have (row x).inputs inputs) (e x) (one_result row result inputs e lists)
-  where
-    by_first : (b : Bool) → (row x).result ≡ result → first_match (map row lists) inputs ≡ cond (list_any (λ sets. all_have (row sets).inputs inputs) lists) (Some result) None → option_map (λ (r : Expanded). r.result) (cond b (Some (row x)) (find (λ (r : Expanded). all_have r.inputs inputs) (map row lists))) ≡ cond (b || list_any (λ sets. all_have (row sets).inputs inputs) lists) (Some result) None
-    by_first true e rest = ap Some e
-    by_first false e rest = rest
+one_result row result inputs e (x ∷ lists) = grind (arith, e x, one_result row result inputs e lists)
 
 first_match-append : (xs ys : List Expanded) (inputs : List ℕ) → first_match (xs ++ ys) inputs ≡ option_or (first_match xs inputs) (first_match ys inputs)
 first_match-append [] ys inputs = refl
-first_match-append (x ∷ xs) ys inputs = by_first (all_have x.inputs inputs) (first_match-append xs ys inputs)
-  where
-    by_first : (b : Bool) → first_match (xs ++ ys) inputs ≡ option_or (first_match xs inputs) (first_match ys inputs) → option_map (λ (r : Expanded). r.result) (cond b (Some x) (find (λ (r : Expanded). all_have r.inputs inputs) (xs ++ ys))) ≡ option_or (option_map (λ (r : Expanded). r.result) (cond b (Some x) (find (λ (r : Expanded). all_have r.inputs inputs) xs))) (first_match ys inputs)
-    by_first true rest = refl
-    by_first false rest = rest
+first_match-append (x ∷ xs) ys inputs = grind (arith, first_match-append xs ys inputs)
 
 first_match-one : (table : Table) (around : List ℕ) (t : Transition) → first_match (expanded_one table.symmetry t) (inputs_of table.neighborhood around) ≡ cond (matches table around t) (Some (given t.result)) None
 first_match-one table around t =
@@ -63,13 +55,12 @@ first_match-one table around t =
 first_match-all : (table : Table) (around : List ℕ) (ts : List Transition) → first_match (flat_map (expanded_one table.symmetry) ts) (inputs_of table.neighborhood around) ≡ option_map (λ (u : Transition). given u.result) (find (matches table around) ts)
 first_match-all table around [] = refl
 first_match-all table around (t ∷ ts) =
-    first_match-append (expanded_one table.symmetry t) (flat_map (expanded_one table.symmetry) ts) (inputs_of table.neighborhood around)
-    ∙ (λ i. option_or (first_match-one table around t i) (first_match-all table around ts i))
-    ∙ by_first (matches table around t)
+    let append = first_match-append (expanded_one table.symmetry t) (flat_map (expanded_one table.symmetry) ts) (inputs_of table.neighborhood around) in
+    rw (append, first_match-one table around t, first_match-all table around ts) (chosen (matches table around t) (find (matches table around) ts))
   where
-    by_first : (b : Bool) → option_or (cond b (Some (given t.result)) None) (option_map (λ (u : Transition). given u.result) (find (matches table around) ts)) ≡ option_map (λ (u : Transition). given u.result) (cond b (Some t) (find (matches table around) ts))
-    by_first true = refl
-    by_first false = refl
+    chosen : (b : Bool) (o : Option Transition)
+        → option_or (cond b (Some (given t.result)) None) (option_map (λ (u : Transition). given u.result) o) ≡ option_map (λ (u : Transition). given u.result) (cond b (Some t) o)
+    chosen b o = grind arith
 
 unwrap-option_or : (a b : Option ℕ) (d : ℕ) → unwrap_or (option_or a b) d ≡ unwrap_or a (unwrap_or b d)
 unwrap-option_or (Some x) b d = refl
@@ -78,9 +69,8 @@ unwrap-option_or None b d = refl
 first_result-expanded : (table : Table) (around : List ℕ) (ts : List Transition) → unwrap_or (first_match (flat_map (expanded_of table.symmetry) ts) (inputs_of table.neighborhood around)) (slice_index around 0) ≡ first_result table around ts
 first_result-expanded table around [] = refl
 first_result-expanded table around (t ∷ ts) =
-    ap (λ o. unwrap_or o (slice_index around 0)) (first_match-append (expanded_of table.symmetry t) (flat_map (expanded_of table.symmetry) ts) (inputs_of table.neighborhood around))
-    ∙ unwrap-option_or (first_match (expanded_of table.symmetry t) (inputs_of table.neighborhood around)) (first_match (flat_map (expanded_of table.symmetry) ts) (inputs_of table.neighborhood around)) (slice_index around 0)
-    ∙ (λ i. unwrap_or (first_match-all table around (assignments t) i) (first_result-expanded table around ts i))
+    let append = first_match-append (expanded_of table.symmetry t) (flat_map (expanded_of table.symmetry) ts) (inputs_of table.neighborhood around) in
+    rw (append, unwrap-option_or, first_match-all table around (assignments t), first_result-expanded table around ts)
 
 -- the first expanded transition that matches gives the next state, and where none does the cell keeps its own
 pub next-expanded : (table : Table) (around : List ℕ) → unwrap_or (first_match (expanded table) (inputs_of table.neighborhood around)) (slice_index around 0) ≡ next table around

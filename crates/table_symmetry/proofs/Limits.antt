@@ -1,16 +1,12 @@
 -- A table within the limits, and one that isn't.
-use Rattle.std.proofs.Common.{◌≡◌, unwrap_or, ◌+◌, ◌<◌, ◌≤◌, true, false, cond, nat_lt, List, length, Result, Ok, Err, refl, sym, subst, ap, ◌∙◌, inl, inr, arith}
+use Rattle.std.proofs.Common.{◌≡◌, unwrap_or, ◌+◌, ◌<◌, ◌≤◌, true, false, nat_lt, List, length, Err, refl, sym, subst, ap, ◌∙◌, arith}
 use Rattle.std.specs.List.{list_all}
-use Rattle.std.specs.Result.{IsErrAnd}
 use Rattle.std.proofs.lemmas.Bool.{and_from, eq-eqb, ne_eqb}
 use Rattle.worlds.specs.Step.{nine_zeros}
 use Rattle.std.proofs.lemmas.Bool.Decides.{nat_tests}
-use Rattle.rule_file.specs.declared.fault.RuleFault.{RuleFault}
-use Rattle.rule_file.specs.declared.fault.RuleFault.TheVariants.{TooManyTransitions, NotQuiescent}
-use Rattle.rule_file.specs.Results.{Gives}
+use Rattle.rule_file.specs.declared.fault.RuleFault.TheVariants.{NotQuiescent}
 use Rattle.table_symmetry.specs.declared.expansion.Expanded.{Expanded}
 use Rattle.table_symmetry.specs.Expanded.{expanded, transition_limit}
-use Rattle.table_symmetry.specs.Grown.{IsTooLong}
 use Rattle.table_symmetry.specs.declared.lookup.Lookup.{Lookup}
 use Rattle.table_symmetry.specs.Kept.{IsKept, LooksUp}
 use Rattle.table_symmetry.specs.Lookup.{FindsFirst, found}
@@ -24,27 +20,10 @@ use Rattle.table_symmetry.proofs.FirstMatch.{next-expanded}
 use Rattle.table_symmetry.proofs.Lengths.{expanded-length}
 use Rattle.table_symmetry.proofs.SoundTables.{all_give_states, expanded-below}
 
-within_limits-many : (table : Table) → transition_limit < length (expanded table) → within_limits table ≡ Err TooManyTransitions
-within_limits-many table h =
-    let many : nat_lt transition_limit (length (expanded table)) ≡ true = grind (arith, nat_tests, h) in
-    ap (λ b. cond b (Err TooManyTransitions) (cond (is_quiescent table) (Ok table) (Err NotQuiescent))) many
-
-few_pass : (table : Table) → length (expanded table) ≤ transition_limit → within_limits table ≡ cond (is_quiescent table) (Ok table) (Err NotQuiescent)
-few_pass table h =
-    let few : nat_lt transition_limit (length (expanded table)) ≡ false = grind (arith, nat_tests, h) in
-    ap (λ b. cond b (Err TooManyTransitions) (cond (is_quiescent table) (Ok table) (Err NotQuiescent))) few
-
 pub within_limits-restless : (table : Table) → length (expanded table) ≤ transition_limit → is_quiescent table ≡ false → within_limits table ≡ Err NotQuiescent
-within_limits-restless table h restless = few_pass table h ∙ ap (λ b. cond b (Ok table) (Err NotQuiescent)) restless
-
-pub within_limits-kept : (table : Table) → length (expanded table) ≤ transition_limit → is_quiescent table ≡ true → within_limits table ≡ Ok table
-within_limits-kept table h quiet = few_pass table h ∙ ap (λ b. cond b (Ok table) (Err NotQuiescent)) quiet
-
--- a fault of the expansion, handed on
-pub Gives-too-long : (result : Result Table RuleFault) (table : Table) (e : RuleFault) → IsErrAnd result (λ f. f ≡ e) → IsTooLong e (length (expanded table)) → Gives result (within_limits table)
-Gives-too-long (Ok x) table e h k = absurd h
-Gives-too-long (Err f) table e h (inl wanted) = inl (h ∙ wanted)
-Gives-too-long (Err f) table e h (inr (many, beyond)) = inr (within_limits-many table beyond ∙ ap Err (sym many ∙ sym h))
+within_limits-restless table h restless =
+    let few : nat_lt transition_limit (length (expanded table)) ≡ false = grind (arith, nat_tests, h) in
+    rw (few, restless)
 
 -- what a look-up of the expanded transitions gives for nine zeros
 pub next_of_zeros : (table : Table) (lookup : Lookup) → FindsFirst lookup table.states table.neighborhood (expanded table) → 0 < table.states → unwrap_or (found lookup nine_zeros) 0 ≡ next table nine_zeros

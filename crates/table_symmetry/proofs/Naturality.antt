@@ -1,15 +1,14 @@
 -- The maps of a symmetry put places, whatever stands there.
-use Rattle.std.proofs.Common.{◌≡◌, ℕ, ◌+◌, ◌*◌, ◌/◌, List, [], ◌∷◌, ◌++◌, length, map, take, drop, reverse, refl, sym, ap, ◌∙◌}
+use Rattle.std.proofs.Common.{◌≡◌, ℕ, ◌+◌, ◌*◌, ◌/◌, List, [], ◌∷◌, ◌++◌, length, map, take, drop, reverse, arith, refl, sym, ap, ◌∙◌}
 use Rattle.std.specs.List.{flat_map, range_with_len, take-map, drop-map}
 use Rattle.indexmap.proofs.ReorderLemmas.{map-reverse}
 use Rattle.std.proofs.lemmas.List.{map-append, length-map}
+use Rattle.std.proofs.lemmas.Simd.{map-map}
 use Rattle.table_lines.specs.declared.symmetry.Symmetry.{Symmetry}
-use Rattle.table_lines.specs.declared.symmetry.Symmetry.TheVariants.{None, Rotate2, Rotate3, Rotate4, Rotate6, Rotate8, Rotate4Reflect, Rotate6Reflect, Rotate8Reflect, ReflectHorizontal, Reflect, Permute}
 use Rattle.table_symmetry.specs.Circle.{turned, turns, mirrored, insertions, permutations, arrangements}
 
 map_both : {A B C : Type 0} (g : A → C) (f : B → C) (h : A → B) → ((x : A) → g x ≡ f (h x)) → (xs : List A) → map g xs ≡ map f (map h xs)
-map_both g f h e [] = refl
-map_both g f h e (x ∷ xs) = λ i. e x i ∷ map_both g f h e xs i
+map_both g f h e xs = (λ i. map (λ x. e x i) xs) ∙ sym (map-map f h xs)
 
 flat_map_both : {A B C D : Type 0} (g : B → List D) (f : A → B) (h : C → D) (k : A → List C) → ((x : A) → g (f x) ≡ map h (k x)) → (xs : List A) → flat_map g (map f xs) ≡ map h (flat_map k xs)
 flat_map_both g f h k e [] = refl
@@ -52,15 +51,7 @@ module _ {X Y : Type 0} (f : X → Y) where
 
   -- arrangements of what stands for each
   pub arrangements-map : (symmetry : Symmetry) (xs : List X) → arrangements symmetry (map f xs) ≡ map (map f) (arrangements symmetry xs)
-  arrangements-map None xs = turns-map 1 xs
-  arrangements-map Rotate2 xs = turns-map 2 xs
-  arrangements-map Rotate3 xs = turns-map 3 xs
-  arrangements-map Rotate4 xs = turns-map 4 xs
-  arrangements-map Rotate6 xs = turns-map 6 xs
-  arrangements-map Rotate8 xs = turns-map 8 xs
-  arrangements-map Rotate4Reflect xs = both_turns-map 4 xs
-  arrangements-map Rotate6Reflect xs = both_turns-map 6 xs
-  arrangements-map Rotate8Reflect xs = both_turns-map 8 xs
-  arrangements-map ReflectHorizontal xs = both_turns-map 1 xs
-  arrangements-map Reflect xs = turns-map 2 xs
-  arrangements-map Permute xs = permutations-map xs
+  arrangements-map symmetry xs =
+      let one = λ (n : ℕ). turns-map n xs in
+      let both = λ (n : ℕ). both_turns-map n xs in
+      grind (arith, one 1, one 2, one 3, one 4, one 6, one 8, both 1, both 4, both 6, both 8, permutations-map xs)

@@ -1,12 +1,13 @@
 -- The permutations of a list are exactly its orders.
-use Rattle.std.proofs.Common.{◌≡◌, ℕ, zero, suc, ◌+◌, ◌<◌, ◌≤◌, ◌==◌, ◌&&◌, ◌||◌, Bool, true, false, not, List, [], ◌∷◌, ◌++◌, length, map, take, drop, refl, sym, ap, ◌∙◌, subst, inl, inr, arith}
+use Rattle.std.proofs.Common.{◌≡◌, ℕ, zero, suc, ◌+◌, ◌<◌, ◌≤◌, ◌&&◌, ◌||◌, Bool, true, false, not, List, [], ◌∷◌, ◌++◌, length, take, drop, refl, sym, ap, ◌∙◌, inl, inr, arith}
 use Rattle.std.specs.Prelude.{nat_eq}
-use Rattle.std.specs.List.{flat_map, list_all, list_any, range_with_len}
+use Rattle.std.specs.List.{flat_map, list_all, list_any}
 use Rattle.std.specs.Str.{bytes_eq}
-use Rattle.std.proofs.lemmas.Bool.{and_from, and_parts, cases_eq, eq-eqb, ne_eqb, eqb-true}
-use Rattle.std.proofs.lemmas.List.Folds.{list_any-append}
+use Rattle.std.proofs.lemmas.Bool.{cases_eq}
+use Rattle.std.proofs.lemmas.Bool.Decides.{nat_tests}
+use Rattle.std.proofs.lemmas.List.Folds.{Any-from_list_any, list_any-append, list_any_at}
+use Rattle.std.proofs.lemmas.List.FromFn.{get_or-map-range_with_len, length-map-range_with_len}
 use lib.Pointwise.{bytes_decides}
-use Rattle.table_lines.specs.declared.neighborhood.Neighborhood.TheVariants.{VonNeumann, Moore, Hexagonal, OneDimensional}
 use Rattle.table_lines.specs.Neighborhood.{places_of}
 use Rattle.table_lines.specs.States.{has}
 use Rattle.table_symmetry.specs.Circle.{insertions, permutations}
@@ -14,21 +15,7 @@ use Rattle.table_symmetry.specs.Generators.{PermuteTakesAllOrders, is_among, is_
 
 -- tests with the same answers where either says yes
 same_test : (a b : Bool) → (a ≡ true → b ≡ true) → (b ≡ true → a ≡ true) → a ≡ b
-same_test true b f g = sym (f refl)
-same_test false true f g = g refl
-same_test false false f g = refl
-
-or_parts : (a b : Bool) (P : Type 0) → (a || b) ≡ true → (a ≡ true → P) → (b ≡ true → P) → P
-or_parts true b P h left right = left refl
-or_parts false b P h left right = right h
-
-or_left : (a b : Bool) → a ≡ true → (a || b) ≡ true
-or_left true b h = refl
-or_left false b h = absurd cc
-
-or_right : (a b : Bool) → b ≡ true → (a || b) ≡ true
-or_right true b h = refl
-or_right false b h = h
+same_test a b f g = grind arith
 
 -- a list with one more at a place that two parts say
 data Split (x : ℕ) : List ℕ → List ℕ → Type 0 where
@@ -39,16 +26,9 @@ length-split : {x : ℕ} {xs ys : List ℕ} → Split x xs ys → length ys ≡ 
 length-split here = refl
 length-split (later s) = ap suc (length-split s)
 
--- either of three, in another order
-swapped : (a b c : Bool) → (a || (b || c)) ≡ (b || (a || c))
-swapped true true c = refl
-swapped true false c = refl
-swapped false true c = refl
-swapped false false c = refl
-
 has-split : {x : ℕ} {xs ys : List ℕ} (z : ℕ) → Split x xs ys → has ys z ≡ (nat_eq z x || has xs z)
 has-split z here = refl
-has-split {x = x} z (later {y = y} {xs = xs} s) = ap (λ b. nat_eq z y || b) (has-split z s) ∙ swapped (nat_eq z y) (nat_eq z x) (has xs z)
+has-split z (later s) = grind (arith, has-split z s)
 
 -- the insertions are the lists with one more
 
@@ -63,125 +43,71 @@ place_of (later {y = y} s) =
     let found = place_of s in
     (suc found.0, omega (arith, found.1), ap (λ zs. y ∷ zs) found.2)
 
-any_map : {X Y : Type 0} (p : Y → Bool) (f : X → Y) (xs : List X) → list_any p (map f xs) ≡ list_any (λ x. p (f x)) xs
-any_map p f [] = refl
-any_map p f (x ∷ xs) = ap (λ b. p (f x) || b) (any_map p f xs)
-
 any_flat_map : {X Y : Type 0} (p : Y → Bool) (f : X → List Y) (xs : List X) → list_any p (flat_map f xs) ≡ list_any (λ x. list_any p (f x)) xs
 any_flat_map p f [] = refl
 any_flat_map p f (x ∷ xs) = list_any-append p (f x) (flat_map f xs) ∙ ap (λ b. list_any p (f x) || b) (any_flat_map p f xs)
 
-in_range : (p : ℕ → Bool) (a n : ℕ) → list_any p (range_with_len a n) ≡ true → (i : ℕ) × (p i ≡ true)
-in_range p a zero h = absurd cc
-in_range p a (suc n) h = or_parts (p a) (list_any p (range_with_len (a + 1) n)) _ h (λ e. (a, e)) (λ rest. in_range p (a + 1) n rest)
-
-of_range : (p : ℕ → Bool) (a n i : ℕ) → a ≤ i → i < a + n → p i ≡ true → list_any p (range_with_len a n) ≡ true
-of_range p a zero i low high h = absurd (omega (arith, low, high))
-of_range p a (suc n) i low high h = elim (cases_eq i a) [
-  | inl same ↦ or_left (p a) _ (ap p (sym same) ∙ h)
-  | inr other ↦ or_right (p a) _ (of_range p (a + 1) n i (omega (arith, low, other)) (omega (arith, high)) h)
-]
-
 split_of : (x : ℕ) (xs ys : List ℕ) → is_among (insertions x xs) ys ≡ true → Split x xs ys
 split_of x xs ys h =
-    let at : ℕ → List ℕ = λ i. take i xs ++ x ∷ drop i xs in
-    let found = in_range (λ i. bytes_eq ys (at i)) 0 (length xs + 1) (sym (any_map (bytes_eq ys) at (range_with_len 0 (length xs + 1))) ∙ h) in
-    subst (Split x xs) (sym ((bytes_decides ys (at found.0)).0 found.1)) (at_place x found.0 xs)
+    let found = Any-from_list_any (bytes_eq ys) (insertions x xs) h in
+    let low : found.0 < length xs + 1 = rw length-map-range_with_len at found.2 in
+    let made = get_or-map-range_with_len (λ i. take i xs ++ x ∷ drop i xs) 0 (length xs + 1) found.0 found.0 found.1 low (omega arith) in
+    rw ((bytes_decides ys found.1).0 found.4, ← found.3, made) (at_place x found.0 xs)
 
 inserted_of : (x : ℕ) (xs ys : List ℕ) → Split x xs ys → is_among (insertions x xs) ys ≡ true
 inserted_of x xs ys s =
-    let at : ℕ → List ℕ = λ i. take i xs ++ x ∷ drop i xs in
     let found = place_of s in
-    any_map (bytes_eq ys) at (range_with_len 0 (length xs + 1))
-    ∙ of_range (λ i. bytes_eq ys (at i)) 0 (length xs + 1) found.0 (omega arith) (omega (arith, found.1)) ((bytes_decides ys (at found.0)).1 found.2)
+    let made = get_or-map-range_with_len (λ i. take i xs ++ x ∷ drop i xs) 0 (length xs + 1) found.0 found.0 [] (omega (arith, found.1)) (omega arith) in
+    list_any_at (bytes_eq ys) (insertions x xs) found.0 [] (rw length-map-range_with_len (omega (arith, found.1))) (rw made ((bytes_decides ys _).1 found.2))
 
 -- one of some lists, that passes a test
 one_of : (q : List ℕ → Bool) (lists : List (List ℕ)) → list_any q lists ≡ true → (list : List ℕ) × (is_among lists list ≡ true) × (q list ≡ true)
-one_of q [] h = absurd cc
-one_of q (list ∷ lists) h = or_parts (q list) (list_any q lists) _ h
-    (λ e. (list, or_left (bytes_eq list list) _ ((bytes_decides list list).1 refl), e))
-    (λ rest. let found = one_of q lists rest in (found.0, or_right (bytes_eq found.0 list) _ found.1, found.2))
+one_of q lists h =
+    let found = Any-from_list_any q lists h in
+    (found.1, list_any_at (bytes_eq found.1) lists found.0 found.1 found.2 ((bytes_decides found.1 _).1 (sym found.3)), found.4)
 
 passing_of : (q : List ℕ → Bool) (lists : List (List ℕ)) (list : List ℕ) → is_among lists list ≡ true → q list ≡ true → list_any q lists ≡ true
 passing_of q [] list h k = absurd cc
-passing_of q (other ∷ lists) list h k = or_parts (bytes_eq list other) (is_among lists list) _ h
-    (λ e. or_left (q other) _ (ap q (sym ((bytes_decides list other).0 e)) ∙ k))
-    (λ rest. or_right (q other) _ (passing_of q lists list rest k))
+passing_of q (other ∷ lists) list h k = grind (arith, (bytes_decides list other).0, passing_of q lists list)
 
 -- what stands in a list stands in it with one more
 all_more : (x : ℕ) (xs ys zs : List ℕ) → Split x zs ys → list_all (has zs) xs ≡ true → list_all (has ys) xs ≡ true
 all_more x [] ys zs s h = refl
-all_more x (y ∷ xs) ys zs s h =
-    let parts = and_parts (has zs y) (list_all (has zs) xs) h in
-    and_from (has ys y) (list_all (has ys) xs) (has-split y s ∙ or_right (nat_eq y x) (has zs y) parts.0) (all_more x xs ys zs s parts.1)
-
-other_one : (a b : Bool) → (a || b) ≡ true → a ≡ false → b ≡ true
-other_one true b h k = absurd cc
-other_one false b h k = h
-
-neither : (a b : Bool) → (a || b) ≡ false → (a ≡ false) × (b ≡ false)
-neither true b h = absurd cc
-neither false b h = (refl, h)
-
-nat_eq-sym : (a b : ℕ) → nat_eq a b ≡ nat_eq b a
-nat_eq-sym a b = elim (cases_eq a b) [
-  | inl same ↦ eq-eqb a b same ∙ sym (eq-eqb b a (sym same))
-  | inr other ↦ ne_eqb a b other ∙ sym (ne_eqb b a (λ e. other (sym e)))
-]
+all_more x (y ∷ xs) ys zs s h = grind (arith, has-split y s, all_more x xs ys zs s)
 
 -- and all but that one stand in it without it
 all_fewer : (x : ℕ) (xs ys zs : List ℕ) → Split x zs ys → has xs x ≡ false → list_all (has ys) xs ≡ true → list_all (has zs) xs ≡ true
 all_fewer x [] ys zs s apart h = refl
-all_fewer x (y ∷ xs) ys zs s apart h =
-    let parts = and_parts (has ys y) (list_all (has ys) xs) h in
-    let others = neither (nat_eq x y) (has xs x) apart in
-    and_from (has zs y) (list_all (has zs) xs)
-    (other_one (nat_eq y x) (has zs y) (sym (has-split y s) ∙ parts.0) (nat_eq-sym y x ∙ others.0))
-    (all_fewer x xs ys zs s others.1 parts.1)
+all_fewer x (y ∷ xs) ys zs s apart h = grind (arith, nat_tests, has-split y s, all_fewer x xs ys zs s)
 
 -- a list without one of its elements
 without_one : (x : ℕ) (ys : List ℕ) → has ys x ≡ true → (zs : List ℕ) × Split x zs ys
 without_one x [] h = absurd cc
-without_one x (y ∷ ys) h = or_parts (nat_eq x y) (has ys x) _ h
-    (λ e. (ys, subst (λ z. Split x ys (z ∷ ys)) (eqb-true x y e) here))
-    (λ rest. let found = without_one x ys rest in (y ∷ found.0, later found.1))
-
-empty_list : (ys : List ℕ) → length ys ≡ 0 → ys ≡ []
-empty_list [] h = refl
-empty_list (y ∷ ys) h = absurd (omega (arith, h))
+without_one x (y ∷ ys) h = elim (cases_eq x y) [
+  | inl same ↦ (ys, rw same here)
+  | inr other ↦ let found = without_one x ys (grind (arith, nat_tests)) in (y ∷ found.0, later found.1)
+]
 
 -- no element stands twice
 abbrev are_distinct : List ℕ → Bool
 are_distinct [] = true
 are_distinct (x ∷ xs) = not (has xs x) && are_distinct xs
 
-not_true : (b : Bool) → not b ≡ true → b ≡ false
-not_true true h = absurd cc
-not_true false h = refl
-
 order_of : (xs ys : List ℕ) → is_among (permutations xs) ys ≡ true → is_order xs ys ≡ true
-order_of [] ys h =
-    let none : ys ≡ [] = or_parts (bytes_eq ys []) false _ h (λ e. (bytes_decides ys []).0 e) (λ e. absurd cc) in
-    ap (is_order []) none
+order_of [] ys h = grind (arith, nat_tests, (bytes_decides ys []).0)
 order_of (x ∷ xs) ys h =
     let found = one_of (λ zs. is_among (insertions x zs) ys) (permutations xs) (sym (any_flat_map (bytes_eq ys) (insertions x) (permutations xs)) ∙ h) in
     let s = split_of x found.0 ys found.2 in
-    let rest = and_parts (length found.0 == length xs) (list_all (has found.0) xs) (order_of xs found.0 found.1) in
-    and_from (length ys == suc (length xs)) (list_all (has ys) (x ∷ xs))
-    (eq-eqb (length ys) (suc (length xs)) (length-split s ∙ ap suc (eqb-true (length found.0) (length xs) rest.0)))
-    (and_from (has ys x) (list_all (has ys) xs) (has-split x s ∙ or_left (nat_eq x x) (has found.0 x) (eq-eqb x x refl)) (all_more x xs ys found.0 s rest.1))
+    grind (arith, nat_tests, length-split s, has-split x s, all_more x xs ys found.0 s, order_of xs found.0 found.1)
 
 among_orders : (xs ys : List ℕ) → are_distinct xs ≡ true → is_order xs ys ≡ true → is_among (permutations xs) ys ≡ true
-among_orders [] ys apart h =
-    let parts = and_parts (length ys == 0) true h in
-    or_left (bytes_eq ys []) false ((bytes_decides ys []).1 (empty_list ys (eqb-true (length ys) 0 parts.0)))
+among_orders [] [] apart h = refl
+among_orders [] (y ∷ ys) apart h = grind (arith, nat_tests)
 among_orders (x ∷ xs) ys apart h =
-    let parts = and_parts (length ys == suc (length xs)) (list_all (has ys) (x ∷ xs)) h in
-    let each = and_parts (has ys x) (list_all (has ys) xs) parts.1 in
-    let alone = and_parts (not (has xs x)) (are_distinct xs) apart in
-    let found = without_one x ys each.0 in
-    let count : length found.0 ≡ length xs = omega (arith, length-split found.1, eqb-true (length ys) (suc (length xs)) parts.0) in
-    let rest = among_orders xs found.0 alone.1 (and_from (length found.0 == length xs) (list_all (has found.0) xs) (eq-eqb (length found.0) (length xs) count) (all_fewer x xs ys found.0 found.1 (not_true (has xs x) alone.0) each.1)) in
+    let there : has ys x ≡ true = grind arith in
+    let found = without_one x ys there in
+    let order : is_order xs found.0 ≡ true = grind (arith, nat_tests, length-split found.1, all_fewer x xs ys found.0 found.1) in
+    let rest = among_orders xs found.0 (grind arith) order in
     any_flat_map (bytes_eq ys) (insertions x) (permutations xs)
     ∙ passing_of (λ zs. is_among (insertions x zs) ys) (permutations xs) found.0 rest (inserted_of x found.0 ys found.1)
 
@@ -189,7 +115,4 @@ permutations-orders : (xs ys : List ℕ) → are_distinct xs ≡ true → is_amo
 permutations-orders xs ys apart = same_test _ _ (order_of xs ys) (among_orders xs ys apart)
 
 pub permute-orders : PermuteTakesAllOrders
-permute-orders VonNeumann ys = permutations-orders (places_of VonNeumann) ys refl
-permute-orders Moore ys = permutations-orders (places_of Moore) ys refl
-permute-orders Hexagonal ys = permutations-orders (places_of Hexagonal) ys refl
-permute-orders OneDimensional ys = permutations-orders (places_of OneDimensional) ys refl
+permute-orders m ys = permutations-orders (places_of m) ys (grind arith)

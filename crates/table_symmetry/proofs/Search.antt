@@ -1,5 +1,5 @@
 -- The first number that passes a test, and the first row.
-use Rattle.std.proofs.Common.{◌≡◌, ◌≢◌, ℕ, zero, suc, ◌+◌, ◌-◌, ◌*◌, ◌<◌, ◌≤◌, ◌^◌, Bool, true, false, cond, List, [], ◌∷◌, length, get_or, Option, Some, None, refl, sym, ap, ◌∙◌, inl, inr, arith}
+use Rattle.std.proofs.Common.{◌≡◌, ◌≢◌, ℕ, zero, suc, ◌+◌, ◌-◌, ◌*◌, ◌<◌, ◌≤◌, ◌^◌, Bool, true, false, List, [], ◌∷◌, length, get_or, Option, Some, None, refl, sym, ap, ◌∙◌, inl, inr, arith}
 use Rattle.std.specs.Prelude.{◌==◌, find, slice_index, MatchOption}
 use Rattle.std.specs.Borrow.{Bor}
 use Rattle.std.specs.Int.{bit_at, trailing_zeros}
@@ -28,32 +28,34 @@ pub record IsFirst (p : ℕ → Bool) (row : ℕ) : Type 0 where
   pub passes : p row ≡ true
   pub first : (k : ℕ) → k < row → p k ≡ false
 
-pub IsFirst-lowest : (p : ℕ → Bool) (word rows : ℕ) → rows ≢ 0 → rows < 2 ^ 64 → ((bit : ℕ) → bit < 64 → (bit_at rows bit == 1) ≡ p (64 * word + bit)) → ((k : ℕ) → k < 64 * word → p k ≡ false) → IsFirst p (64 * word + trailing_zeros w64 rows)
+abbrev TellsRows : (ℕ → Bool) → ℕ → ℕ → Type 0
+TellsRows p word rows = (bit : ℕ) → bit < 64 → (bit_at rows bit == 1) ≡ p (64 * word + bit)
+
+-- a row of the word doesn't pass where its bit isn't set
+unset : (p : ℕ → Bool) (word rows k : ℕ) → TellsRows p word rows → 64 * word ≤ k → k < 64 * (word + 1) → bit_at rows (k - 64 * word) ≡ 0 → p k ≡ false
+unset p word rows k bits low high none =
+    let same : 64 * word + (k - 64 * word) ≡ k = omega arith in
+    grind (arith, bits (k - 64 * word) (omega arith))
+
+pub IsFirst-lowest : (p : ℕ → Bool) (word rows : ℕ) → rows ≢ 0 → rows < 2 ^ 64 → TellsRows p word rows → ((k : ℕ) → k < 64 * word → p k ≡ false)
+    → IsFirst p (64 * word + trailing_zeros w64 rows)
 IsFirst-lowest p word rows ne fits bits before =
-    let some : 0 < rows = omega arith in
-    let lowest = bit_at-trailing_zeros w64 rows some fits in
+    let lowest = bit_at-trailing_zeros w64 rows (omega arith) fits in
+    let few : trailing_zeros w64 rows < 64 = lowest.0 in
     record {
-      passes = sym (bits (trailing_zeros w64 rows) lowest.0) ∙ eq-eqb _ 1 lowest.1;
+      passes = sym (bits (trailing_zeros w64 rows) few) ∙ eq-eqb _ 1 lowest.1;
       first = λ k l. elim (cases_lt k (64 * word)) [
         | inl low ↦ before k low
-        | inr high ↦
-            let below : k - 64 * word < trailing_zeros w64 rows = omega arith in
-            let same : 64 * word + (k - 64 * word) ≡ k = omega arith in
-            let few : trailing_zeros w64 rows < 64 = lowest.0 in
-            let unset : bit_at rows (k - 64 * word) ≡ 0 = lowest.2 (k - 64 * word) below in
-            sym (sym (ap (λ (b : ℕ). b == 1) unset) ∙ bits (k - 64 * word) (omega arith) ∙ ap p same)
+        | inr high ↦ unset p word rows k bits high (omega arith) (lowest.2 (k - 64 * word) (omega arith))
       ];
     }
 
 -- no bit is set, so none of the 64 rows passes either
-pub none_of_word : (p : ℕ → Bool) (word rows : ℕ) → rows ≡ 0 → ((bit : ℕ) → bit < 64 → (bit_at rows bit == 1) ≡ p (64 * word + bit)) → ((k : ℕ) → k < 64 * word → p k ≡ false) → (k : ℕ) → k < 64 * (word + 1) → p k ≡ false
+pub none_of_word : (p : ℕ → Bool) (word rows : ℕ) → rows ≡ 0 → TellsRows p word rows → ((k : ℕ) → k < 64 * word → p k ≡ false) → (k : ℕ) → k < 64 * (word + 1) → p k ≡ false
 none_of_word p word rows e bits before k l =
     elim (cases_lt k (64 * word)) [
       | inl low ↦ before k low
-      | inr high ↦
-          let same : 64 * word + (k - 64 * word) ≡ k = omega arith in
-          let unset : bit_at rows (k - 64 * word) ≡ 0 = ap (λ (w : ℕ). bit_at w (k - 64 * word)) e ∙ bit_at-zero (k - 64 * word) in
-          sym (sym (ap (λ (b : ℕ). b == 1) unset) ∙ bits (k - 64 * word) (omega arith) ∙ ap p same)
+      | inr high ↦ unset p word rows k bits high l (rw e (bit_at-zero (k - 64 * word)))
     ]
 
 -- the result of the first row, where it is a row
@@ -68,14 +70,8 @@ found_none p results h = sym (ap (option_map (slice_index results)) (find_none p
 -- the first row, by its number
 pub find_numbered : {X B : Type 0} (f : ℕ → B) (g : X → B) (p : ℕ → Bool) (q : X → Bool) (xs : List X) (a : ℕ) → ((k : ℕ) (d : X) → k < length xs → (p (a + k) ≡ q (get_or xs k d)) × (f (a + k) ≡ g (get_or xs k d))) → option_map f (find p (range_with_len a (length xs))) ≡ option_map g (find q xs)
 find_numbered f g p q [] a each = refl
-find_numbered {X} {B} f g p q (x ∷ xs) a each =
-    let here = each 0 x (omega arith) in
+find_numbered f g p q (x ∷ xs) a each =
     let start : a + 0 ≡ a = omega arith in
-    let test : p a ≡ q x = sym (ap p start) ∙ here.0 in
-    let value : f a ≡ g x = sym (ap f start) ∙ here.1 in
-    let rest = find_numbered f g p q xs (a + 1) (λ k d l. let next : a + 1 + k ≡ a + suc k = omega arith in let there = each (suc k) d (omega arith) in (ap p next ∙ there.0, ap f next ∙ there.1)) in
-    ap (λ (b : Bool). option_map f (cond b (Some a) (find p (range_with_len (a + 1) (length xs))))) test
-    ∙ elim (q x) as (λ b. option_map f (cond b (Some a) (find p (range_with_len (a + 1) (length xs)))) ≡ option_map g (cond b (Some x) (find q xs))) [
-      | true ↦ ap (λ (v : B). Some v) value
-      | false ↦ rest
-    ]
+    let here = rw start at (each 0 x (omega arith)) in
+    let rest = find_numbered f g p q xs (a + 1) (λ k d l. let next : a + 1 + k ≡ a + suc k = omega arith in rw next (each (suc k) d (omega arith))) in
+    grind (arith, here, rest)

@@ -1,33 +1,29 @@
 -- The words of a set tell which states it has.
-use Rattle.std.proofs.Common.{◌≡◌, ℕ, zero, suc, ◌+◌, ◌*◌, ◌/◌, ◌%◌, ◌<◌, Bool, true, false, cond, List, map, refl, ap, ◌∙◌, arith}
+use Rattle.std.proofs.Common.{◌≡◌, ℕ, zero, suc, ◌+◌, ◌*◌, ◌/◌, ◌%◌, ◌<◌, Bool, cond, List, map, refl, ap, ◌∙◌, arith}
 use Rattle.std.specs.Prelude.{◌==◌, slice_index}
 use Rattle.std.specs.Int.{bit_at}
 use Rattle.std.specs.List.{range_with_len}
+use Rattle.std.proofs.lemmas.Bool.Decides.{nat_tests}
 use Rattle.std.proofs.lemmas.Nat.Bits.{bit_at-suc, bit_at_lowest}
 use Rattle.table_lines.specs.States.{has, is_bit_set, number_of_bits, word_of, words_of}
 
-lowest_digit : (b : Bool) (n : ℕ) → (cond b 1 0 + 2 * n) % 2 ≡ cond b 1 0
-lowest_digit true n = omega arith
-lowest_digit false n = omega arith
+halved : (b : Bool) (n : ℕ) → (cond b 1 0 + 2 * n) / 2 ≡ n
+halved b n = grind arith
 
-other_digits : (b : Bool) (n : ℕ) → (cond b 1 0 + 2 * n) / 2 ≡ n
-other_digits true n = omega arith
-other_digits false n = omega arith
-
-digit_is_set : (b : Bool) → (cond b 1 0 == 1) ≡ b
-digit_is_set true = refl
-digit_is_set false = refl
+lowest_digit : (b : Bool) (n : ℕ) → ((cond b 1 0 + 2 * n) % 2 == 1) ≡ b
+lowest_digit b n = grind (arith, nat_tests)
 
 -- the bits of a number are the digits that it was made of
 bit-number : (f : ℕ → Bool) (a n i : ℕ) → i < n → (bit_at (number_of_bits (map f (range_with_len a n))) i == 1) ≡ f (a + i)
 unfolding number_of_bits
 bit-number f a zero i h = absurd (omega arith)
 bit-number f a (suc n) zero h =
-    let here : a ≡ a + 0 = omega arith in
-    ap (λ d. d == 1) (bit_at_lowest _ ∙ lowest_digit (f a) _) ∙ digit_is_set (f a) ∙ ap f here
+    let here : a + 0 ≡ a = omega arith in
+    rw (bit_at_lowest, lowest_digit (f a), here)
 bit-number f a (suc n) (suc i) h =
     let there : a + 1 + i ≡ a + suc i = omega arith in
-    ap (λ d. d == 1) (bit_at-suc _ i ∙ ap (λ m. bit_at m i) (other_digits (f a) _)) ∙ bit-number f (a + 1) n i (omega arith) ∙ ap f there
+    let half = halved (f a) (number_of_bits (map f (range_with_len (a + 1) n))) in
+    rw (bit_at-suc, half, ← there) (bit-number f (a + 1) n i (omega arith))
 
 -- a word tells which of 64 states a set has
 bit-word : (states : List ℕ) (q i : ℕ) → i < 64 → (bit_at (word_of states q) i == 1) ≡ has states (64 * q + i)

@@ -1,7 +1,6 @@
 -- Tables within the limits that are written.
-use Rattle.std.proofs.Common.{◌≡◌, ◌∙◌, ap, subst, ◌≤◌, ◌^◌, List, Ok, nat_lt, length}
+use Rattle.std.proofs.Common.{◌≡◌, ◌∙◌, ap, subst, Ok, nat_lt, length}
 use Rattle.basics.specs.Results.{◌>>=◌}
-use Rattle.rule_file.specs.RuleFile.{NumberedLine}
 use Rattle.rule_file.proofs.Readings.{then-ok}
 use Rattle.table_lines.specs.Lines.{lines_of}
 use Rattle.table_lines.specs.WrittenTable.{IsTableOf}
@@ -11,7 +10,7 @@ use Rattle.table_symmetry.specs.Expanded.{expanded, transition_limit}
 use Rattle.table_symmetry.specs.Laws.{TablesOfFilesAreWritten, WrittenMeansTheSame}
 use Rattle.table_symmetry.specs.NextState.{is_quiescent}
 use Rattle.table_symmetry.specs.Table.{Table}
-use Rattle.table_symmetry.specs.TableLines.{table_of, within_limits}
+use Rattle.table_symmetry.specs.TableLines.{within_limits}
 use Rattle.table_symmetry.proofs.SaidTables.{passed}
 
 pub written-means : WrittenMeansTheSame

@@ -1,12 +1,11 @@
-use Rattle.std.proofs.Common.{[], ap, ◌∙◌}
+use Rattle.std.proofs.Common.{[], ◌∙◌}
 use Rattle.table_symmetry.specs.Circle as maps
 use Rattle.table_symmetry.specs.Expanded.{same_sets}
-use Rattle.table_symmetry.specs.Grown.{with_all}
 use Rattle.table_symmetry.proofs.Arranged.{no_lists, same_sets_decides}
 use Rattle.table_symmetry.proofs.Distinct.{with_all-distinct}
 use Rattle.table_symmetry.proofs.arrangement.turns.Goals as goal
 
 pub returns : goal.returns
 returns c =
-    let turns = maps.turns c.args.count c.args.circle.now in
-    c.in_ok-add_turns.ensures ∙ ap (λ xs. with_all same_sets xs turns) (no_lists c.new-lists.result.keys c.new-lists.ensures.len) ∙ with_all-distinct same_sets same_sets_decides [] turns
+    rw (no_lists c.new-lists.result.keys c.new-lists.ensures.len) at c.in_ok-add_turns.ensures
+    ∙ with_all-distinct same_sets same_sets_decides [] (maps.turns c.args.count c.args.circle.now)

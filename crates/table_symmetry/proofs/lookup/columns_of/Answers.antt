@@ -1,6 +1,5 @@
-use Rattle.std.proofs.Common.{arith, ◌≡◌, ◌/◌, ◌<◌, ◌++◌, ◌∷◌, [], ℕ, List, length, get_or, map, ap, sym, subst, ◌∙◌}
-use Rattle.std.specs.Int.{bit_at}
-use Rattle.table_symmetry.specs.Lookup.{is_bit_set, words_at}
+use Rattle.std.proofs.Common.{arith, ◌≡◌, ◌/◌, ℕ, List, get_or, map, ap, ◌∙◌}
+use Rattle.table_symmetry.specs.Lookup.{words_at}
 use Rattle.table_symmetry.proofs.Columns.{AreColumns-none, AreColumns-more}
 use Rattle.table_symmetry.proofs.lookup.columns_of.Goals as goal
 use Rattle.table_symmetry.proofs.lookup.columns_of.Goals.{then-state-eq0+in_ok-words, else-state-eq0}
@@ -19,13 +18,9 @@ loop-state-preserved c =
     ]
     in
     AreColumns-more c.args.place c.args.rows.now c.loop-state.columns.items c.loop-state.words.items words c.in_ok-column.field-0.items c.push.new.self.items c.loop-state.state ready
-    (λ row l.
-    c.in_ok-column.ensures row (subst (λ (ws : List ℕ). row < length ws) (sym c.deref.ensures.value) l)
-    ∙ ap (λ (ws : List ℕ). bit_at (get_or ws row 0) c.from-in-loop-state.result) c.deref.ensures.value
-    ∙ ap (λ (b : ℕ). bit_at (get_or words row 0) b) c.from-in-loop-state.ensures)
-    (c.in_ok-push.ensures.items ∙ ap (λ (column : List ℕ). c.loop-state.columns.items ++ column ∷ []) c.from_vec.ensures)
+    (λ row l. rw (c.deref.ensures.value, c.from-in-loop-state.ensures) at (c.in_ok-column.ensures row (rw c.deref.ensures.value l)))
+    (rw c.from_vec.ensures at c.in_ok-push.ensures.items)
     c.loop-state.invariant
 
 pub returns : goal.returns
-returns c = λ state row d l m.
-    ap (λ (cs : List (List ℕ)). is_bit_set (get_or cs state []) row) c.from_vec-2.ensures ∙ c.loop-state.invariant.right state row d (omega arith) m
+returns c = λ state row d l m. rw c.from_vec-2.ensures (c.loop-state.invariant.right state row d (omega arith) m)

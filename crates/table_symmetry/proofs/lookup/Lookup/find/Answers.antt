@@ -1,7 +1,4 @@
-use Rattle.std.proofs.Common.{arith, ◌≡◌, length, take, ap, ◌∙◌, ℕ, List}
-use Rattle.std.specs.Prelude.{find, slice_index}
-use Rattle.std.specs.List.{range_with_len}
-use Rattle.std.specs.Option.{option_map}
+use Rattle.std.proofs.Common.{arith, ◌≡◌, length, take, ap, ◌∙◌}
 use Rattle.table_symmetry.specs.NextState.{inputs_of}
 use Rattle.table_symmetry.specs.Lookup.{found, row_has}
 use Rattle.table_symmetry.proofs.Search.{found_first, found_none, IsFirst-lowest, none_of_word}
@@ -13,19 +10,19 @@ loop-word-init c = λ row h. absurd (omega arith)
 pub returns-then-rows-ne0 : goal.returns-then-rows-ne0
 unfolding found
 returns-then-rows-ne0 c =
-    let inputs : take c.input_count.result c.picked-picked.result ≡ inputs_of c.args.self.now.neighborhood c.args.around.now.0 = ap (λ (n : ℕ). take n c.picked-picked.result) c.input_count.ensures ∙ c.picked-picked.ensures in
-    let first = IsFirst-lowest (row_has c.args.self.now.columns (take c.input_count.result c.picked-picked.result)) c.loop-word.word c.matching-rows.result c.if-rows-ne0.true c.matching-rows.type_inv c.matching-rows.ensures c.loop-word.invariant in
-    c.copied.ensures
-    ∙ found_first _ c.as_slice-results.result.now _ c.get.result first c.get.ensures.lookup.3
-    ∙ ap (λ (results : List ℕ). option_map (slice_index results) (find (row_has c.args.self.now.columns (take c.input_count.result c.picked-picked.result)) (range_with_len 0 (length results)))) c.as_slice-results.ensures
-    ∙ ap (λ (states : List ℕ). option_map (slice_index c.args.self.now.results) (find (row_has c.args.self.now.columns states) (range_with_len 0 (length c.args.self.now.results)))) inputs
+    let passes = row_has c.args.self.now.columns (take c.input_count.result c.picked-picked.result) in
+    let inputs : take c.input_count.result c.picked-picked.result ≡ inputs_of c.args.self.now.neighborhood c.args.around.now.0 = rw c.input_count.ensures c.picked-picked.ensures in
+    let first = IsFirst-lowest passes c.loop-word.word c.matching-rows.result c.if-rows-ne0.true c.matching-rows.type_inv c.matching-rows.ensures c.loop-word.invariant in
+    c.copied.ensures ∙ rw (c.as_slice-results.ensures, inputs) at (found_first passes c.as_slice-results.result.now _ c.get.result first c.get.ensures.lookup.3)
 
 pub loop-word-preserved : goal.loop-word-preserved
-loop-word-preserved c = none_of_word (row_has c.args.self.now.columns (take c.input_count.result c.picked-picked.result)) c.loop-word.word c.matching-rows.result c.if-rows-ne0.false c.matching-rows.ensures c.loop-word.invariant
+loop-word-preserved c =
+    let passes = row_has c.args.self.now.columns (take c.input_count.result c.picked-picked.result) in
+    none_of_word passes c.loop-word.word c.matching-rows.result c.if-rows-ne0.false c.matching-rows.ensures c.loop-word.invariant
 
 pub returns : goal.returns
 unfolding found
 returns c =
-    let inputs : take c.input_count.result c.picked-picked.result ≡ inputs_of c.args.self.now.neighborhood c.args.around.now.0 = ap (λ (n : ℕ). take n c.picked-picked.result) c.input_count.ensures ∙ c.picked-picked.ensures in
-    found_none (row_has c.args.self.now.columns (take c.input_count.result c.picked-picked.result)) c.args.self.now.results (λ k l. c.loop-word.invariant k (omega (arith, ap length c.as_slice-results.ensures)))
-    ∙ ap (λ (states : List ℕ). option_map (slice_index c.args.self.now.results) (find (row_has c.args.self.now.columns states) (range_with_len 0 (length c.args.self.now.results)))) inputs
+    let passes = row_has c.args.self.now.columns (take c.input_count.result c.picked-picked.result) in
+    let inputs : take c.input_count.result c.picked-picked.result ≡ inputs_of c.args.self.now.neighborhood c.args.around.now.0 = rw c.input_count.ensures c.picked-picked.ensures in
+    rw inputs at (found_none passes c.args.self.now.results (λ k l. c.loop-word.invariant k (omega (arith, ap length c.as_slice-results.ensures))))

@@ -1,7 +1,7 @@
-use Rattle.std.proofs.Common.{arith, rules, ◌≡◌, ℕ, List, [], length, map, sym, subst, ◌∙◌}
+use Rattle.std.proofs.Common.{arith, rules, ◌≡◌, [], length, map, ◌∙◌}
 use Rattle.table_symmetry.specs.Lookup.{found}
 use Rattle.table_symmetry.specs.NextState.{inputs_of}
-use Rattle.table_symmetry.proofs.Finds.{ArePlaces, ArePlaces-more, finds_first}
+use Rattle.table_symmetry.proofs.Finds.{ArePlaces-more, finds_first}
 use Rattle.table_symmetry.proofs.lookup.Lookup.new.Goals as goal
 
 pub loop-place-preserved : goal.loop-place-preserved
@@ -10,11 +10,7 @@ loop-place-preserved c = ArePlaces-more c.args.rows.now c.args.states c.loop-pla
 pub returns : goal.returns
 unfolding found
 returns c =
-    let count : ℕ = length (inputs_of c.args.neighborhood []) in
     let results : c.in_ok-results.results.items ≡ map (λ row. row.result) c.args.rows.now = search rules in
-    let all : c.loop-place.place ≡ count = omega (arith, c.input_count-place-end.ensures) in
-    let places : ArePlaces c.args.rows.now c.args.states c.from_vec.result count =
-    subst (λ (columns : List (List (List ℕ))). ArePlaces c.args.rows.now c.args.states columns count) (sym c.from_vec.ensures)
-    (subst (λ (n : ℕ). ArePlaces c.args.rows.now c.args.states c.loop-place.columns.items n) all c.loop-place.invariant)
-    in
+    let all : c.loop-place.place ≡ length (inputs_of c.args.neighborhood []) = omega (arith, c.input_count-place-end.ensures) in
+    let places = rw (all, ← c.from_vec.ensures) at c.loop-place.invariant in
     finds_first c.args.neighborhood c.from_vec.result c.from_vec-2.result c.args.rows.now c.args.states c.requires.states c.requires.inputs (c.from_vec-2.ensures ∙ results) places
