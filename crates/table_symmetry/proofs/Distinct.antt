@@ -31,10 +31,7 @@ module _ {X : Type 0} (E : X → X → Bool) (decides : (x y : X) → (E x y ≡
   -- some more
   pub with_all-distinct : (xs ys : List X) → with_all E (distinct E xs) ys ≡ distinct E (xs ++ ys)
   with_all-distinct xs [] = ap (distinct E) (sym (append-nil xs))
-  with_all-distinct xs (y ∷ ys) =
-      ap (λ zs. with_all E zs ys) (with_one-distinct xs y)
-      ∙ with_all-distinct (xs ++ y ∷ []) ys
-      ∙ ap (distinct E) (append_assoc xs (y ∷ []) ys)
+  with_all-distinct xs (y ∷ ys) = rw (with_one-distinct xs y, with_all-distinct (xs ++ y ∷ []) ys, append_assoc)
 
   -- adding in two parts
   pub with_all-append : (xs ys zs : List X) → with_all E xs (ys ++ zs) ≡ with_all E (with_all E xs ys) zs
@@ -43,10 +40,7 @@ module _ {X : Type 0} (E : X → X → Bool) (decides : (x y : X) → (E x y ≡
 
   -- adding what comes of one element more
   pub with_all-flat_map-more : {Y : Type 0} (f : Y → List X) (xs : List X) (ys : List Y) (k : ℕ) (d : Y) → k < length ys → with_all E xs (flat_map f (take (k + 1) ys)) ≡ with_all E (with_all E xs (flat_map f (take k ys))) (f (get_or ys k d))
-  with_all-flat_map-more f xs ys k d h =
-      ap (λ zs. with_all E xs (flat_map f zs)) (take_more ys k d h)
-      ∙ ap (with_all E xs) (flat_map-append f (take k ys) (get_or ys k d ∷ []) ∙ ap (λ zs. flat_map f (take k ys) ++ zs) (append-nil (f (get_or ys k d))))
-      ∙ with_all-append xs (flat_map f (take k ys)) (f (get_or ys k d))
+  with_all-flat_map-more f xs ys k d h = rw (take_more ys k d h, flat_map-append, append-nil) (with_all-append xs (flat_map f (take k ys)) (f (get_or ys k d)))
 
   -- all of these are among those
   abbrev among : List X → List X → Type 0
@@ -83,10 +77,9 @@ module _ {Y X : Type 0} (F : Y → Y → Bool) (known : (x y : Y) → (F x y ≡
   distinct-flat_map-front : (front : List X) (ys : List Y) → distinct E (front ++ flat_map f (distinct F ys)) ≡ distinct E (front ++ flat_map f ys)
   distinct-flat_map-front front [] = refl
   distinct-flat_map-front front (y ∷ ys) =
-      ap (distinct E) (sym (append_assoc front (f y) (flat_map f (filter (λ z. not (F y z)) (distinct F ys)))))
-      ∙ without_one (front ++ f y) y (distinct F ys) (among-back E decides front (f y))
-      ∙ distinct-flat_map-front (front ++ f y) ys
-      ∙ ap (distinct E) (append_assoc front (f y) (flat_map f ys))
+      let others = filter (λ z. not (F y z)) (distinct F ys) in
+      rw (← append_assoc front (f y) (flat_map f others), without_one (front ++ f y) y (distinct F ys) (among-back E decides front (f y)))
+      (rw (distinct-flat_map-front (front ++ f y) ys, append_assoc))
 
   -- what comes of each element once
   pub distinct-flat_map : (ys : List Y) → distinct E (flat_map f (distinct F ys)) ≡ distinct E (flat_map f ys)

@@ -20,15 +20,9 @@ use Rattle.table_symmetry.proofs.SoundTables.{list_all-filter, list_all-flat_map
 abbrev has_length : {X : Type 0} → ℕ → List X → Bool
 has_length n xs = length xs == n
 
-is_length : {X : Type 0} (n : ℕ) (xs : List X) → length xs ≡ n → has_length n xs ≡ true
-is_length n xs h = eq-eqb (length xs) n h
-
-of_length : {X : Type 0} (n : ℕ) (xs : List X) → has_length n xs ≡ true → length xs ≡ n
-of_length n xs h = eqb-true (length xs) n h
-
 each_made : {A X : Type 0} (n : ℕ) (f : A → List X) (xs : List A) → ((x : A) → length (f x) ≡ n) → list_all (has_length n) (map f xs) ≡ true
 each_made n f [] h = refl
-each_made n f (x ∷ xs) h = λ i. is_length n (f x) (h x) i && each_made n f xs h i
+each_made n f (x ∷ xs) h = λ i. eq-eqb (length (f x)) n (h x) i && each_made n f xs h i
 
 module _ {X : Type 0} where
   split_length : (k : ℕ) (xs : List X) → length (take k xs) + length (drop k xs) ≡ length xs
@@ -53,7 +47,7 @@ module _ {X : Type 0} where
   permutations-length [] = refl
   permutations-length (x ∷ xs) =
       list_all-flat_map (has_length (length xs)) (has_length (suc (length xs))) (insertions x) (permutations xs)
-      (λ ys h. insertions-length (length xs) x ys (of_length (length xs) ys h)) (permutations-length xs)
+      (λ ys h. insertions-length (length xs) x ys (eqb-true (length ys) (length xs) h)) (permutations-length xs)
 
   arrangements-length : (symmetry : Symmetry) (xs : List X) → list_all (has_length (length xs)) (arrangements symmetry xs) ≡ true
   arrangements-length symmetry xs =
@@ -82,7 +76,7 @@ one-length symmetry t =
     (rows-length (length (drop 1 sets)) (take 1 sets) (given t.result) (distinct same_sets lists) (distinct-all same_sets (has_length (length (drop 1 sets))) lists (arrangements-length symmetry (drop 1 sets))))
 
 assigned-length : (n : ℕ) (vs : List Variable) (t : Transition) → length t.inputs ≡ n → list_all (λ (u : Transition). has_length n u.inputs) (assigned vs t) ≡ true
-assigned-length n [] t h = ap (λ b. b && true) (is_length n t.inputs h)
+assigned-length n [] t h = ap (λ b. b && true) (eq-eqb (length t.inputs) n h)
 assigned-length n (v ∷ vs) t h =
     list_all-flat_map (λ (s : ℕ). true) (λ (u : Transition). has_length n u.inputs) (λ state. assigned vs (valued v state t)) v.states
     (λ state e. assigned-length n vs (valued v state t) (length-map t.inputs (valued_entry v state) ∙ h)) (all_true v.states)
@@ -94,11 +88,12 @@ assigned-length n (v ∷ vs) t h =
 of-length : (n : ℕ) (symmetry : Symmetry) (t : Transition) → length t.inputs ≡ n → list_all (row_length n) (expanded_of symmetry t) ≡ true
 of-length n symmetry t h =
     list_all-flat_map (λ (u : Transition). has_length n u.inputs) (row_length n) (expanded_one symmetry) (assignments t)
-    (λ u e. subst (λ m. list_all (row_length m) (expanded_one symmetry u) ≡ true) (of_length n u.inputs e) (one-length symmetry u))
+    (λ u e. subst (λ m. list_all (row_length m) (expanded_one symmetry u) ≡ true) (eqb-true (length u.inputs) n e) (one-length symmetry u))
     (assigned-length n (bound_in t) t h)
 
 -- the expanded transitions of transitions of n inputs have n inputs
 pub expanded-length : (n : ℕ) (symmetry : Symmetry) (ts : List Transition) → list_all (λ (t : Transition). length t.inputs == n) ts ≡ true → All (λ (row : Expanded). length row.inputs ≡ n) (flat_map (expanded_of symmetry) ts)
 expanded-length n symmetry ts h =
-    let pass = list_all-flat_map (λ (t : Transition). has_length n t.inputs) (row_length n) (expanded_of symmetry) ts (λ t e. of-length n symmetry t (of_length n t.inputs e)) h in
-    λ k d l. of_length n _ (AllPass-from_list_all (row_length n) (flat_map (expanded_of symmetry) ts) pass k d l)
+    let pass = list_all-flat_map (λ (t : Transition). has_length n t.inputs) (row_length n) (expanded_of symmetry) ts
+    (λ t e. of-length n symmetry t (eqb-true (length t.inputs) n e)) h in
+    λ k d l. eqb-true _ n (AllPass-from_list_all (row_length n) (flat_map (expanded_of symmetry) ts) pass k d l)

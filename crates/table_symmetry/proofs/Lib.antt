@@ -1,5 +1,4 @@
 mod Arranged
-mod Bound
 mod Columns
 mod Distinct
 mod Finds
