@@ -74,9 +74,11 @@ transitions_of-too head (line ∷ lines) (other ∷ others) variables same =
     (then_too (transition_of head variables line) _ _ _ (transition_of-too head variables line.number other.number line.text) (λ u.
     then_too (transitions_of head variables lines) (transitions_of head variables others) _ _ (transitions_of-too head lines others variables rest) (λ us ws k. k))))
 
+-- the table of a head and of the lines behind it
 abbrev after : Head × List NumberedLine → Result Table RuleFault
 after found = transitions_of found.0 no_variables found.1 >>= λ ts. Ok (headed found.0 ts)
 
+-- other lines behind the same head say it too
 after-too : (r : Result Head RuleFault) (lines others : List NumberedLine) → texts lines ≡ texts others
     → GivesToo ((r >>= λ head. Ok (head, lines)) >>= after) ((r >>= λ head. Ok (head, others)) >>= after)
 after-too (Err e) lines others same = λ t h. absurd cc

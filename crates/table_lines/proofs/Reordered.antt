@@ -21,9 +21,11 @@ module _ {A : Type 0} (k : Described → Result A RuleFault) where
   abbrev two : Described → ℕ → Descriptor → List ℕ → ℕ → Descriptor → List ℕ → Result A RuleFault
   two d m v value n w other = describe d m v value >>= λ e. describe e n w other >>= k
 
+  -- what is made of two such descriptors is made of them in the other order too
   abbrev MaySwap : Descriptor → Descriptor → Type 0
   MaySwap v w = (d : Described) (m n : ℕ) (value other : List ℕ) → GivesToo (two d m v value n w other) (two d n w other m v value)
 
+  -- the orders one by one, and any of them
   states_first : (w : Descriptor) → MaySwap descriptor.States w
   states_first w d m n value other x h = grind arith
 

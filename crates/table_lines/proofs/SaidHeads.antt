@@ -33,6 +33,7 @@ find-passes p (y ∷ ys) x h = grind (arith, find-passes p ys x)
 abbrev HasSymmetry : Head → Type 0
 HasSymmetry head = symmetry_named head.neighborhood (name_of_symmetry head.symmetry) ≡ Some head.symmetry
 
+-- a symmetry that was found by a name is found by its own
 symmetry_named-again : (m : Neighborhood) (name : List ℕ) (s : Symmetry) → symmetry_named m name ≡ Some s → symmetry_named m (name_of_symmetry s) ≡ Some s
 symmetry_named-again m name s h =
     let same : name ≡ name_of_symmetry s = (bytes_decides name (name_of_symmetry s)).0 (find-passes (λ t. bytes_eq name (name_of_symmetry t)) (symmetries_of m) s h) in
@@ -44,6 +45,7 @@ pub record IsHead (count : ℕ) (found : Head × List NumberedLine) : Type 0 whe
   pub symmetry : HasSymmetry found.0
   pub fewer : length found.1 ≤ count
 
+-- so is a head that was described, whatever lines are left
 head_of-is : (count : ℕ) (d : Described) (lines : List NumberedLine) (found : Head × List NumberedLine) → length lines ≤ count → HasStates d
     → (head_of d >>= λ head. Ok (head, lines)) ≡ Ok found → IsHead count found
 head_of-is count d lines found few within h = record { states = grind arith; symmetry = grind (arith, symmetry_named-again); fewer = grind arith }

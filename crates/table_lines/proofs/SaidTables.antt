@@ -17,6 +17,7 @@ use Rattle.table_lines.specs.Transitions.{is_full}
 use Rattle.table_lines.specs.WrittenTable.{IsEntryOf, IsSet, IsTransitionOf}
 use Rattle.table_lines.proofs.WrittenSets.{all-at, lines-said}
 
+-- what holds of each is what a test of all says
 all-tested : {A : Type 0} (P : A → Type 0) (p : A → Bool) → ((x : A) → P x → p x ≡ true) → (xs : List A) → AllByRecursion P xs → list_all p xs ≡ true
 all-tested P p tested [] h = refl
 all-tested P p tested (x ∷ xs) h = (λ i. tested x h.0 i && all-tested P p tested xs h.1 i)
@@ -32,6 +33,7 @@ entry-below n sets are (State s) is = grind (arith, nat_tests)
 entry-below n sets are (OneOf v) is =
     rw is.1 (all-at (λ set. all_below n set ≡ true) sets v.number [] (all_so (IsSet n) (λ set. all_below n set ≡ true) sets (λ set of. of.below) are) refl)
 
+-- so do all transitions
 transitions-below : (n : ℕ) (neighborhood : Neighborhood) (sets : List (List ℕ)) → AllByRecursion (IsSet n) sets → (ts : List Transition)
     → AllByRecursion (IsTransitionOf n neighborhood sets) ts → list_all (admits_below n) ts ≡ true
 transitions-below n neighborhood sets are =

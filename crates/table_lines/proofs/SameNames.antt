@@ -23,6 +23,7 @@ same-more name states a b h = (ap (λ n. n + 1) h.0, λ q. grind (arith, h.0, h.
 each-same : {A B : Type 0} (f g : A → Result B RuleFault) (xs : List A) → ((x : A) → f x ≡ g x) → each f xs ≡ each g xs
 each-same f g xs same = ap (λ h. each h xs) (λ i x. same x i)
 
+-- a line says the same transition where the names find the same variables
 transition_of-same : (head : Head) (a b : Variables) (line : NumberedLine) → SameByName a b → transition_of head a line ≡ transition_of head b line
 transition_of-same head a b line same =
     rw (each-same (entry_of head.states a line.number) (entry_of head.states b line.number) (fields head.states line.text) (λ field. grind (arith, same.1 field)))

@@ -50,6 +50,7 @@ AreWords-set words q word h low = record {
 bit-or : (a b i : ℕ) → (bit_at (bit_or a b) i == 1) ≡ ((bit_at a i == 1) || (bit_at b i == 1))
 bit-or a b i = grind (arith, nat_tests, bit_at_or a b i, bit_at-lt a i, bit_at-lt b i)
 
+-- the words of two sets, one by one
 abbrev pub united_words : List ℕ → List ℕ → List ℕ
 united_words v w = bit_or (get_or v 0 0) (get_or w 0 0) ∷ bit_or (get_or v 1 0) (get_or w 1 0) ∷ bit_or (get_or v 2 0) (get_or w 2 0) ∷ bit_or (get_or v 3 0) (get_or w 3 0) ∷ []
 

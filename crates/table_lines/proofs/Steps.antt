@@ -6,6 +6,7 @@ use Rattle.rule_file.specs.declared.fault.RuleFault.{RuleFault}
 use Rattle.rule_file.proofs.Readings.{GivesToo, WantsNone}
 use Rattle.table_lines.specs.Descriptors.{Described}
 
+-- the reading of such a line
 abbrev pub step : {A X : Type 0} → Option X → (X → Result Described RuleFault) → (Described → Result A RuleFault) → Result A RuleFault → Result A RuleFault
 step o first later other = option_map_or (λ x. first x >>= later) o other
 

@@ -156,6 +156,7 @@ record DefinesOne (n : ℕ) (sets : List (List ℕ)) (more : Variables) : Type 0
   set : List ℕ
   defined : AreDefined n (sets ++ set ∷ []) more
 
+-- more sets behind
 extends-append : (sets more : List (List ℕ)) → Extends sets (sets ++ more)
 extends-append sets more k h = (omega (arith, length-append sets more), get_or-append sets more [] k h)
 
@@ -229,6 +230,7 @@ transitions-are head sets variables (line ∷ lines) ts some few defined h =
     })
     h
 
+-- the lines behind a head, from no variables on
 pub transitions-said : (head : Head) (lines : List NumberedLine) (ts : List Transition) → MayHaveStates head.states → transitions_of head no_variables lines ≡ Ok ts
     → AreSaid head [] (length lines) ts
 transitions-said head lines ts within = transitions-are head [] no_variables lines ts (omega (arith, within.0)) within.1 (record { count = refl; each = tt; are = tt })
@@ -242,6 +244,7 @@ pub record IsSaid (count : ℕ) (table : Table) : Type 0 where
   pub defined : AllByRecursion (IsSet table.states) sets
   pub transitions : AllByRecursion (IsTransitionOf table.states table.neighborhood sets) table.transitions
 
+-- a table that lines say has as many sets as there are lines, or fewer
 pub lines-said : (lines : List NumberedLine) (table : Table) → lines_of lines ≡ Ok table → IsSaid (length lines) table
 lines-said lines table h =
     let found = then-ok (head_from undescribed lines) (λ f. transitions_of f.0 no_variables f.1 >>= λ ts. Ok (headed f.0 ts)) table h in
