@@ -1,9 +1,9 @@
 -- Columns of bits, a bit a row, 64 in a word.
-use Rattle.std.proofs.Common.{◌≡◌, ◌≢◌, ℕ, zero, suc, ◌+◌, ◌-◌, ◌*◌, ◌/◌, ◌%◌, ◌^◌, ◌<◌, ◌≤◌, min, List, [], ◌∷◌, ◌++◌, length, get_or, map, take, drop, refl, sym, ap, ◌∙◌, inl, inr, arith}
+use Rattle.std.proofs.Common.{◌≡◌, ◌≢◌, ℕ, zero, suc, ◌+◌, ◌*◌, ◌/◌, ◌%◌, ◌^◌, ◌<◌, ◌≤◌, List, [], ◌∷◌, ◌++◌, length, get_or, map, refl, ap, ◌∙◌, inl, inr, arith}
 use Rattle.std.specs.Int.{bit_at}
 use Rattle.std.specs.Int.RustNames.{bit_or}
 use Rattle.std.proofs.lemmas.Bool.{cases_lt}
-use Rattle.std.proofs.lemmas.List.{get_or_past, get_or_append_left, get_or_push, get_or-take, get_or-drop, length-drop, length-take, length-append, length-map, get_or-map}
+use Rattle.std.proofs.lemmas.List.{get_or_past, get_or_append_left, get_or_push, length-append, length-map, get_or-map}
 use Rattle.std.proofs.lemmas.Nat.Bits.{bit_at_or, bit_at_set_same, bit_at_set_other, bit_at-zero, bit_at-lt}
 use Rattle.table_symmetry.specs.declared.expansion.Expanded.{Expanded}
 use Rattle.table_symmetry.specs.Lookup.{HasColumns, words_at}
@@ -43,28 +43,6 @@ IsPacked-all words bit packed count h p k = grind (arith, p.low k, p.high k, get
 pub record IsColumn (words : List ℕ) (bit : ℕ) (column : List ℕ) (n : ℕ) : Type 0 where
   pub long : length column ≡ n
   pub bits : (row : ℕ) → row < 64 * n → bit_at (get_or column (row / 64) 0) (row % 64) ≡ bit_at (get_or words row 0) bit
-
--- the words from 64 * n on, at most 64 of them
-chunk_at : (words : List ℕ) (n m k : ℕ) → k < 64 → m ≡ min (length words - 64 * n) 64 → get_or (take m (drop (64 * n) words)) k 0 ≡ get_or words (64 * n + k) 0
-chunk_at words n m k h e = elim (cases_lt k m) [
-  | inl l ↦ get_or-take m (drop (64 * n) words) k 0 l ∙ get_or-drop (64 * n) words k 0
-  | inr past ↦ get_or_past (take m (drop (64 * n) words)) k 0 (simp (length-take, length-drop) (omega arith)) ∙ sym (get_or_past words (64 * n + k) 0 (omega arith))
-]
-
-pub IsColumn-more : (words : List ℕ) (bit : ℕ) (column : List ℕ) (n m packed : ℕ) → m ≡ min (length words - 64 * n) 64
-    → ((k : ℕ) → bit_at packed k ≡ bit_at (get_or (take m (drop (64 * n) words)) k 0) bit) → IsColumn words bit column n → IsColumn words bit (column ++ packed ∷ []) (n + 1)
-IsColumn-more words bit column n m packed e is c = record {
-  long = simp (length-append) (omega (arith, c.long));
-  bits = λ row h. elim (cases_lt row (64 * n)) [
-    | inl l ↦
-        let there : row / 64 < length column = omega (arith, c.long) in
-        rw (get_or_append_left column (packed ∷ []) 0 (row / 64) there) (c.bits row l)
-    | inr new ↦
-        let number : length column ≡ row / 64 = omega (arith, c.long) in
-        let place : 64 * n + row % 64 ≡ row = omega arith in
-        rw (get_or_push column packed 0 (row / 64) number, is (row % 64), chunk_at words n m (row % 64) (omega arith) e, place)
-  ];
-}
 
 -- the columns of the first states, and the words for the next where it isn't the first of a quarter
 pub record AreColumns (place : ℕ) (rows : List Expanded) (columns : List (List ℕ)) (words : List ℕ) (state : ℕ) : Type 0 where

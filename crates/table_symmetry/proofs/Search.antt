@@ -28,6 +28,7 @@ pub record IsFirst (p : ℕ → Bool) (row : ℕ) : Type 0 where
   pub passes : p row ≡ true
   pub first : (k : ℕ) → k < row → p k ≡ false
 
+-- the bits of a word tell which of 64 rows pass
 abbrev TellsRows : (ℕ → Bool) → ℕ → ℕ → Type 0
 TellsRows p word rows = (bit : ℕ) → bit < 64 → (bit_at rows bit == 1) ≡ p (64 * word + bit)
 

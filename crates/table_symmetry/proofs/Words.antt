@@ -7,6 +7,7 @@ use Rattle.std.proofs.lemmas.Bool.Decides.{nat_tests}
 use Rattle.std.proofs.lemmas.Nat.Bits.{bit_at-suc, bit_at_lowest}
 use Rattle.table_lines.specs.States.{has, is_bit_set, number_of_bits, word_of, words_of}
 
+-- a number by its lowest digit and the others
 halved : (b : Bool) (n : ℕ) → (cond b 1 0 + 2 * n) / 2 ≡ n
 halved b n = grind arith
 
