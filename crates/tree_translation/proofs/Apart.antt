@@ -1,5 +1,5 @@
 -- Lists that differ at a place, and faults that are passed on.
-use Rattle.std.proofs.Common.{◌≡◌, ◌≢◌, ◌⊎◌, inl, inr, ℕ, suc, ◌<◌, List, [], ◌∷◌, length, slice_index, refl, sym, ap, subst, ◌∙◌, arith}
+use Rattle.std.proofs.Common.{◌≡◌, ◌≢◌, inl, inr, ℕ, suc, ◌<◌, List, [], ◌∷◌, length, slice_index, refl, sym, subst, arith}
 use Rattle.std.proofs.lemmas.Bool.{cases_eq}
 use Rattle.std.specs.Prelude.{Result, Ok, Err, IfErr, IsErrAnd}
 
@@ -14,13 +14,12 @@ pub different-at : (xs ys : List ℕ) → length xs ≡ length ys → xs ≢ ys 
 different-at [] [] long other = absurd (other refl)
 different-at [] (y ∷ ys) long other = absurd (omega (arith, long))
 different-at (x ∷ xs) [] long other = absurd (omega (arith, long))
-different-at (x ∷ xs) (y ∷ ys) long other = by (cases_eq x y) (different-at xs ys (omega (arith, long)))
-  where
-    by : (x ≡ y) ⊎ (x ≢ y) → (xs ≢ ys → DifferAt xs ys) → DifferAt (x ∷ xs) (y ∷ ys)
-    by (inl same) behind =
-        let later : DifferAt xs ys = behind (λ rest. other (ap (λ z. z ∷ xs) same ∙ ap (λ zs. y ∷ zs) rest)) in
-        record { place = suc later.place; inside = omega (arith, later.inside); differ = later.differ }
-    by (inr not) behind = record { place = 0; inside = omega arith; differ = not }
+different-at (x ∷ xs) (y ∷ ys) long other = elim (cases_eq x y) [
+  | inl same ↦
+      let later = different-at xs ys (omega (arith, long)) (λ rest. other (λ i. same i ∷ rest i)) in
+      record { place = suc later.place; inside = omega (arith, later.inside); differ = later.differ }
+  | inr not ↦ record { place = 0; inside = omega arith; differ = not }
+]
 
 -- what is said of a fault that is passed on
 pub passed-on : {A B : Type 0} (result : Result A B) (fault : B) (Q : B → Type 0) → IsErrAnd result (λ f. f ≡ fault) → Q fault → IfErr result Q

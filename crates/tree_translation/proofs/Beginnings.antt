@@ -14,6 +14,7 @@ use Rattle.tree_translation.specs.Starts.{NeedStarts, Start, StartsApart, start_
 use Rattle.tree_translation.specs.Translation.{neighbors_of, order_of, rows_give}
 use Rattle.decision_tree.specs.Tree.{inputs_of, places_of}
 use Rattle.decision_tree.specs.TreeLaws.{state-below}
+use Rattle.tree_translation.proofs.NodeLists.{firsts-all}
 use Rattle.tree_translation.proofs.Translating.{places-many, rows-next}
 
 -- states at and around a cell, of which these are a tree's inputs
@@ -22,24 +23,8 @@ around_of Four inputs = slice_index inputs 4 ∷ slice_index inputs 0 ∷ 0 ∷ 
 around_of Eight inputs = slice_index inputs 8 ∷ slice_index inputs 4 ∷ slice_index inputs 1 ∷ slice_index inputs 6 ∷ slice_index inputs 3 ∷ slice_index inputs 7 ∷ slice_index inputs 2 ∷ slice_index inputs 5 ∷ slice_index inputs 0 ∷ []
 
 inputs-around : (neighbors : Neighbors) (inputs : List ℕ) → length inputs ≡ length (places_of neighbors) → inputs_of neighbors (around_of neighbors inputs) ≡ inputs
-inputs-around Four (n ∷ w ∷ e ∷ s ∷ c ∷ []) long = refl
-inputs-around Four [] long = absurd (omega (arith, long))
-inputs-around Four (n ∷ []) long = absurd (omega (arith, long))
-inputs-around Four (n ∷ w ∷ []) long = absurd (omega (arith, long))
-inputs-around Four (n ∷ w ∷ e ∷ []) long = absurd (omega (arith, long))
-inputs-around Four (n ∷ w ∷ e ∷ s ∷ []) long = absurd (omega (arith, long))
-inputs-around Four (n ∷ w ∷ e ∷ s ∷ c ∷ more ∷ others) long = absurd (omega (arith, long))
-inputs-around Eight (nw ∷ ne ∷ sw ∷ se ∷ n ∷ w ∷ e ∷ s ∷ c ∷ []) long = refl
-inputs-around Eight [] long = absurd (omega (arith, long))
-inputs-around Eight (nw ∷ []) long = absurd (omega (arith, long))
-inputs-around Eight (nw ∷ ne ∷ []) long = absurd (omega (arith, long))
-inputs-around Eight (nw ∷ ne ∷ sw ∷ []) long = absurd (omega (arith, long))
-inputs-around Eight (nw ∷ ne ∷ sw ∷ se ∷ []) long = absurd (omega (arith, long))
-inputs-around Eight (nw ∷ ne ∷ sw ∷ se ∷ n ∷ []) long = absurd (omega (arith, long))
-inputs-around Eight (nw ∷ ne ∷ sw ∷ se ∷ n ∷ w ∷ []) long = absurd (omega (arith, long))
-inputs-around Eight (nw ∷ ne ∷ sw ∷ se ∷ n ∷ w ∷ e ∷ []) long = absurd (omega (arith, long))
-inputs-around Eight (nw ∷ ne ∷ sw ∷ se ∷ n ∷ w ∷ e ∷ s ∷ []) long = absurd (omega (arith, long))
-inputs-around Eight (nw ∷ ne ∷ sw ∷ se ∷ n ∷ w ∷ e ∷ s ∷ c ∷ more ∷ others) long = absurd (omega (arith, long))
+inputs-around Four inputs long = subst (λ xs. inputs_of Four (around_of Four xs) ≡ xs) (firsts-all 0 5 inputs long) refl
+inputs-around Eight inputs long = subst (λ xs. inputs_of Eight (around_of Eight xs) ≡ xs) (firsts-all 0 9 inputs long) refl
 
 -- they are nine states where the inputs are states
 around-below : (n : ℕ) (neighbors : Neighbors) (inputs : List ℕ) → 0 < n → All (λ s. s < n) inputs → AreNineBelow n (around_of neighbors inputs)

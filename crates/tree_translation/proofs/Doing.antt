@@ -1,20 +1,21 @@
 -- Nodes that do what lists of tails do.
-use Rattle.std.proofs.Common.{◌≡◌, ℕ, suc, ◌<◌, Bool, true, false, cond, nat_lt, List, [], ◌∷◌, ◌++◌, length, get_or, slice_index, Option, Some, None, unwrap_or, refl, sym, ap, subst, ◌∙◌, arith, rules, tests}
+use Rattle.std.proofs.Common.{◌≡◌, ℕ, suc, ◌<◌, true, cond, nat_lt, List, [], ◌∷◌, ◌++◌, length, slice_index, Option, Some, None, unwrap_or, refl, ap, subst, ◌∙◌, arith, rules, tests}
 use Rattle.std.specs.Prelude.{All}
 use Rattle.std.specs.List.{list_all}
 use Rattle.std.proofs.lemmas.Bool.{and_parts}
-use Rattle.std.specs.Option.{option_or}
 use Rattle.std.proofs.lemmas.Bool.Decides.{nat_tests}
 use Rattle.std.proofs.lemmas.List.{get_or_append_left}
 use Rattle.std.proofs.lemmas.List.Sums.{list_all-from_AllPass}
 use Rattle.tree_translation.specs.declared.layers.Layer.{Layer}
+use Rattle.tree_translation.specs.declared.layers.Tail.{Tail}
 use Rattle.tree_translation.specs.Layers.{IsLayer, lets, rest_at, result_of}
-use Rattle.tree_translation.specs.Translation.{AreLeaves, Does, LeftOf, first_some, last_of, outcome}
+use Rattle.tree_translation.specs.Translation.{AreLeaves, Does, LeftOf, first_some, outcome}
 use Rattle.decision_tree.specs.Tree.{Entries, follow, leads, node_at}
 use Rattle.decision_tree.specs.TreeLaws.{leads-on, leads-width}
 use Rattle.decision_tree.proofs.Growing.{leads-append, leads-node}
 use Rattle.decision_tree.proofs.KeptNodes.{none-past}
 use Rattle.std.proofs.lemmas.List.{get_or_default}
+use Rattle.tree_translation.proofs.NodeLists.{firsts-all}
 
 -- more nodes change nothing of what is followed from those before
 follow-append : (n : ℕ) (nodes more : List Entries) (number : ℕ) (inputs : List ℕ) → leads n nodes number inputs ≡ true → list_all (λ s. nat_lt s n) inputs ≡ true → follow (nodes ++ more) number inputs ≡ follow nodes number inputs
@@ -24,9 +25,7 @@ follow-append n nodes more number (input ∷ inputs) h low =
     let first : nat_lt input n ≡ true = parts.0 in
     let under : input < n = search (rules, tests) in
     let inside : number < length nodes = none-past nodes number n (omega (arith, under)) (leads-width n nodes number input inputs h) in
-    let same : node_at (nodes ++ more) number ≡ node_at nodes number = get_or_append_left nodes more [] number inside in
-    ap (λ node. follow (nodes ++ more) (slice_index node input) inputs) same
-    ∙ follow-append n nodes more (slice_index (node_at nodes number) input) inputs (leads-on n nodes number input inputs h under) parts.1
+    rw (get_or_append_left nodes more [] number inside) (follow-append n nodes more _ inputs (leads-on n nodes number input inputs h under) parts.1)
 
 -- nor of what they do
 pub Does-append : (states : ℕ) (layers : List Layer) (nodes more : List Entries) (list : List ℕ) (number : ℕ) → 0 < states → Does states layers nodes list number → Does states layers (nodes ++ more) list number
@@ -39,42 +38,28 @@ Does-append states layers nodes more list number some does = record {
 first-below : (layer : Layer) (states state : ℕ) (list : List ℕ) → IsLayer layer states → All (λ n. n < length layer.tails.items) list → state < states → unwrap_or (first_some (λ number. cond (lets layer number state) (Some (rest_at layer number)) None) list) state < states
 first-below layer states state [] fits inside low = low
 first-below layer states state (number ∷ list) fits inside low =
-    by_first (lets layer number state) (fits.rests number _ (inside 0 0 (omega arith))) (first-below layer states state list fits (λ k d l. inside (suc k) d (omega (arith, l))) low)
+    grind (arith, fits.rests number none (inside 0 0 (omega arith)), first-below layer states state list fits (λ k d l. inside (suc k) d (omega (arith, l))) low)
   where
-    by_first : (b : Bool) → rest_at layer number < states → unwrap_or (first_some (λ n. cond (lets layer n state) (Some (rest_at layer n)) None) list) state < states → unwrap_or (option_or (cond b (Some (rest_at layer number)) None) (first_some (λ n. cond (lets layer n state) (Some (rest_at layer n)) None) list)) state < states
-    by_first true here later = here
-    by_first false here later = later
+    none : Tail
+    none = record { set = 0; rest = 0 }
 
 pub leaves-below : (states : ℕ) (layer : Layer) (list leaf : List ℕ) → IsLayer layer states → All (λ n. n < length layer.tails.items) list → AreLeaves states layer list leaf → list_all (λ s. nat_lt s states) leaf ≡ true
 leaves-below states layer list leaf fits inside leaves =
     list_all-from_AllPass (λ s. nat_lt s states) leaf (λ k d l.
-    let under : k < states = omega (arith, l, leaves.width) in
-    let low : slice_index leaf k < states = subst (λ s. s < states) (sym (leaves.each k under)) (first-below layer states k list fits inside under) in
-    let there : get_or leaf k d ≡ slice_index leaf k = get_or_default leaf k d 0 l in
-    grind (arith, nat_tests, low, there))
+    grind (arith, nat_tests, leaves.width, leaves.each k, first-below layer states k list fits inside, get_or_default leaf k d 0 l))
 
 -- a node of these entries does what the list does at the last input
 pub Does-leaf : (states : ℕ) (layer : Layer) (nodes : List Entries) (list leaf : List ℕ) (number : ℕ) → IsLayer layer states → All (λ n. n < length layer.tails.items) list → AreLeaves states layer list leaf → node_at nodes number ≡ leaf → Does states (layer ∷ []) nodes list number
-Does-leaf states layer nodes list leaf number fits inside leaves at = record { leading = leading; follows = follows }
-  where
-    leading : (inputs : List ℕ) → length inputs ≡ 1 → leads states nodes number inputs ≡ true
-    leading [] long = absurd (omega (arith, long))
-    leading (input ∷ []) long = leads-node states nodes number leaf input [] at leaves.width (leaves-below states layer list leaf fits inside leaves)
-    leading (input ∷ second ∷ inputs) long = absurd (omega (arith, long))
-
-    follows : (inputs : List ℕ) → length inputs ≡ 1 → list_all (λ s. nat_lt s states) inputs ≡ true → follow nodes number inputs ≡ outcome (layer ∷ []) list inputs
-    follows [] long low = absurd (omega (arith, long))
-    follows (input ∷ []) long low =
-        let first : nat_lt input states ≡ true = (and_parts (nat_lt input states) true low).0 in
-        let under : input < states = search (rules, tests) in
-        ap (λ node. slice_index node input) at ∙ leaves.each input under
-    follows (input ∷ second ∷ inputs) long low = absurd (omega (arith, long))
+Does-leaf states layer nodes list leaf number fits inside leaves at = record {
+  leading = λ inputs long. subst (λ xs. leads states nodes number xs ≡ true) (firsts-all 0 1 inputs long)
+      (leads-node states nodes number leaf (slice_index inputs 0) [] at leaves.width (leaves-below states layer list leaf fits inside leaves));
+  follows = λ inputs long. subst (λ xs. list_all (λ s. nat_lt s states) xs ≡ true → follow nodes number xs ≡ outcome (layer ∷ []) list xs) (firsts-all 0 1 inputs long)
+      (λ low. grind (arith, nat_tests, at, leaves.each (slice_index inputs 0)));
+}
 
 -- behind an input the tails that are left have the outcome
 pub outcome-left : (layer next : Layer) (deeper : List Layer) (list left : List ℕ) (state : ℕ) (inputs : List ℕ) → length inputs ≡ suc (length deeper) → ((f : ℕ → Option ℕ) → first_some f left ≡ first_some (λ number. cond (lets layer number state) (f (rest_at layer number)) None) list) → outcome (next ∷ deeper) left inputs ≡ outcome (layer ∷ next ∷ deeper) list (state ∷ inputs)
-outcome-left layer next deeper list left state [] long same = absurd (omega (arith, long))
-outcome-left layer next deeper list left state (input ∷ inputs) long same =
-    ap (λ o. unwrap_or o (last_of (input ∷ inputs))) (same (λ number. result_of (next ∷ deeper) number (input ∷ inputs)))
+outcome-left layer next deeper list left state inputs long same = grind (arith, same (λ number. result_of (next ∷ deeper) number inputs))
 
 -- what an entry of a node leads to does what is left behind its state
 pub record BranchAt (states : ℕ) (layer next : Layer) (deeper : List Layer) (nodes : List Entries) (list : List ℕ) (state number : ℕ) : Type 0 where
@@ -100,6 +85,4 @@ Does-branch states layer next deeper nodes list entries number wide each at = re
         let first : nat_lt input states ≡ true = parts.0 in
         let under : input < states = search (rules, tests) in
         let rest : length inputs ≡ suc (length deeper) = omega (arith, long) in
-        ap (λ node. follow nodes (slice_index node input) inputs) at
-        ∙ (each input under).does.follows inputs rest parts.1
-        ∙ outcome-left layer next deeper list (each input under).left input inputs rest (each input under).is
+        rw at ((each input under).does.follows inputs rest parts.1 ∙ outcome-left layer next deeper list (each input under).left input inputs rest (each input under).is)

@@ -1,7 +1,7 @@
 -- A table's rows, and the inputs of its tree.
-use Rattle.std.proofs.Common.{◌≡◌, ℕ, suc, ◌+◌, ◌*◌, ◌-◌, ◌<◌, ◌≤◌, ◌&&◌, Bool, true, false, cond, List, [], ◌∷◌, length, slice_index, Option, Some, None, unwrap_or, refl, sym, ap, subst, ◌∙◌, arith}
-use Rattle.std.specs.Prelude.{All, slice_index_or, find}
-use Rattle.std.specs.Option.{option_map, option_or}
+use Rattle.std.proofs.Common.{◌≡◌, ℕ, suc, ◌+◌, ◌*◌, ◌-◌, ◌<◌, ◌≤◌, true, cond, List, [], ◌∷◌, length, slice_index, Option, Some, None, unwrap_or, refl, sym, ap, subst, ◌∙◌, arith}
+use Rattle.std.specs.Prelude.{All, slice_index_or}
+use Rattle.std.specs.Option.{option_or}
 use Rattle.std.proofs.lemmas.Bool.{and_from, eq-eqb}
 use Rattle.worlds.specs.Step.{nine_zeros}
 use Rattle.table_symmetry.specs.declared.expansion.Expanded.{Expanded}
@@ -9,7 +9,6 @@ use Rattle.table_lines.specs.declared.neighborhood.Neighborhood.{Neighborhood}
 use Rattle.table_lines.specs.declared.neighborhood.Neighborhood.TheVariants.{VonNeumann, Moore, Hexagonal, OneDimensional}
 use Rattle.table_symmetry.specs.Expanded.{all_have, first_match}
 use Rattle.table_symmetry.specs.NextState as table_rule
-use Rattle.table_symmetry.specs.States.{has}
 use Rattle.table_symmetry.specs.Table.{Table}
 use Rattle.tree_translation.specs.declared.layers.Layer.{Layer}
 use Rattle.decision_tree.specs.Kept.{IsKeptTree, nodes_in, tree_of_kept}
@@ -19,6 +18,7 @@ use Rattle.decision_tree.specs.Tree.{Entries, Tree, inputs_of, is_quiescent, is_
 use Rattle.decision_tree.specs.TreeLaws.{inputs-below, leads-width}
 use Rattle.decision_tree.proofs.KeptNodes.{none-past}
 use Rattle.std.proofs.lemmas.List.{get_or_default}
+use Rattle.tree_translation.proofs.NodeLists.{firsts, firsts-all}
 
 -- functions that agree place by place give the same first answer
 first_some-pairs : {X Y : Type 0} (f : X → Option ℕ) (g : Y → Option ℕ) (xs : List X) (ys : List Y) → length xs ≡ length ys → ((k : ℕ) (d : X) (e : Y) → k < length ys → f (slice_index_or xs k d) ≡ g (slice_index_or ys k e)) → first_some f xs ≡ first_some g ys
@@ -44,131 +44,32 @@ DoesRows-root states order rows layers numbers nodes are does = record {
 -- the first row that has the inputs gives the first answer
 first_some-match : (rows : List Expanded) (inputs : List ℕ) → first_some (λ (row : Expanded). cond (all_have row.inputs inputs) (Some row.result) None) rows ≡ first_match rows inputs
 first_some-match [] inputs = refl
-first_some-match (row ∷ rows) inputs = by_first (all_have row.inputs inputs) (first_some-match rows inputs)
-  where
-    by_first : (b : Bool) → first_some (λ (r : Expanded). cond (all_have r.inputs inputs) (Some r.result) None) rows ≡ first_match rows inputs → option_or (cond b (Some row.result) None) (first_some (λ (r : Expanded). cond (all_have r.inputs inputs) (Some r.result) None) rows) ≡ option_map (λ (r : Expanded). r.result) (cond b (Some row) (find (λ (r : Expanded). all_have r.inputs inputs) rows))
-    by_first true rest = refl
-    by_first false rest = rest
+first_some-match (row ∷ rows) inputs = grind (arith, first_some-match rows inputs)
 
-one_dimensional : (c w e : Bool) → (w && (e && (c && true))) ≡ (c && (w && (e && true)))
-one_dimensional true true true = refl
-one_dimensional true true false = refl
-one_dimensional true false e = refl
-one_dimensional false true true = refl
-one_dimensional false true false = refl
-one_dimensional false false e = refl
-
-four : (c n e s w : Bool) → (n && (w && (e && (s && (c && true))))) ≡ (c && (n && (e && (s && (w && true)))))
-four true true true true true = refl
-four true true true true false = refl
-four true true true false true = refl
-four true true true false false = refl
-four true true false s true = refl
-four true true false s false = refl
-four true false e s w = refl
-four false true true true true = refl
-four false true true true false = refl
-four false true true false true = refl
-four false true true false false = refl
-four false true false s true = refl
-four false true false s false = refl
-four false false e s w = refl
-
--- a test among others comes to the front
-swap : (a b r : Bool) → (a && (b && r)) ≡ (b && (a && r))
-swap true b r = refl
-swap false true r = refl
-swap false false r = refl
-
-hexagonal : (c n e se s w nw : Bool) → (nw && (se && (n && (w && (e && (s && (c && true))))))) ≡ (c && (n && (e && (se && (s && (w && (nw && true)))))))
-hexagonal c n e se s w true =
-    (λ i. se && four c n e s w i) ∙ swap se c _ ∙ (λ i. c && swap se n (e && (s && (w && true))) i) ∙ (λ i. c && (n && swap se e (s && (w && true)) i))
-hexagonal c n e se s w false = sym (none c n e se s w)
-  where
-    none : (c n e se s w : Bool) → (c && (n && (e && (se && (s && (w && false)))))) ≡ false
-    none false n e se s w = refl
-    none true false e se s w = refl
-    none true true false se s w = refl
-    none true true true false s w = refl
-    none true true true true false w = refl
-    none true true true true true false = refl
-    none true true true true true true = refl
-
-moore : (c n ne e se s sw w nw : Bool) → (nw && (ne && (sw && (se && (n && (w && (e && (s && (c && true))))))))) ≡ (c && (n && (ne && (e && (se && (s && (sw && (w && (nw && true)))))))))
-moore c n ne e se s sw w nw =
-    (λ i. nw && (ne && swap sw se (n && (w && (e && (s && (c && true))))) i))
-    ∙ (λ i. swap nw ne (se && (sw && (n && (w && (e && (s && (c && true))))))) i)
-    ∙ (λ i. ne && swap nw se (sw && (n && (w && (e && (s && (c && true)))))) i)
-    ∙ (λ i. ne && (se && swap nw sw (n && (w && (e && (s && (c && true))))) i))
-    ∙ (λ i. ne && swap se sw (nw && (n && (w && (e && (s && (c && true)))))) i)
-    ∙ (λ i. ne && (sw && hexagonal_part i))
-    ∙ (λ i. ne && swap sw c (n && (e && (se && (s && (w && (nw && true)))))) i)
-    ∙ (λ i. ne && (c && swap sw n (e && (se && (s && (w && (nw && true))))) i))
-    ∙ (λ i. ne && (c && (n && swap sw e (se && (s && (w && (nw && true)))) i)))
-    ∙ (λ i. ne && (c && (n && (e && swap sw se (s && (w && (nw && true))) i))))
-    ∙ (λ i. ne && (c && (n && (e && (se && swap sw s (w && (nw && true)) i)))))
-    ∙ swap ne c (n && (e && (se && (s && (sw && (w && (nw && true)))))))
-    ∙ (λ i. c && swap ne n (e && (se && (s && (sw && (w && (nw && true)))))) i)
-  where
-    hexagonal_part : (se && (nw && (n && (w && (e && (s && (c && true))))))) ≡ (c && (n && (e && (se && (s && (w && (nw && true)))))))
-    hexagonal_part = swap se nw (n && (w && (e && (s && (c && true))))) ∙ hexagonal c n e se s w nw
+-- a row with these sets is asked the same in the order of the tree and in that of the table
+abbrev IsAskedAlike : Neighborhood → List ℕ → List (List ℕ) → Type 0
+IsAskedAlike neighborhood around sets = all_allow (asked (order_of neighborhood) sets) (inputs_of (neighbors_of neighborhood) around) ≡ all_have sets (table_rule.inputs_of neighborhood around)
 
 -- what is asked of the inputs of a tree is what the sets of a row have
-pub asked-have : (neighborhood : Neighborhood) (sets : List (List ℕ)) (around : List ℕ) → length sets ≡ length (table_rule.places_of neighborhood) + 1 → all_allow (asked (order_of neighborhood) sets) (inputs_of (neighbors_of neighborhood) around) ≡ all_have sets (table_rule.inputs_of neighborhood around)
-asked-have VonNeumann (c ∷ n ∷ e ∷ s ∷ w ∷ []) around full = four (has c (slice_index around 0)) (has n (slice_index around 1)) (has e (slice_index around 3)) (has s (slice_index around 5)) (has w (slice_index around 7))
-asked-have VonNeumann [] around full = absurd (omega (arith, full))
-asked-have VonNeumann (a ∷ []) around full = absurd (omega (arith, full))
-asked-have VonNeumann (a ∷ b ∷ []) around full = absurd (omega (arith, full))
-asked-have VonNeumann (a ∷ b ∷ c ∷ []) around full = absurd (omega (arith, full))
-asked-have VonNeumann (a ∷ b ∷ c ∷ d ∷ []) around full = absurd (omega (arith, full))
-asked-have VonNeumann (a ∷ b ∷ c ∷ d ∷ e ∷ f ∷ more) around full = absurd (omega (arith, full))
-asked-have Moore (c ∷ n ∷ ne ∷ e ∷ se ∷ s ∷ sw ∷ w ∷ nw ∷ []) around full =
-    moore (has c (slice_index around 0)) (has n (slice_index around 1)) (has ne (slice_index around 2)) (has e (slice_index around 3)) (has se (slice_index around 4)) (has s (slice_index around 5)) (has sw (slice_index around 6)) (has w (slice_index around 7)) (has nw (slice_index around 8))
-asked-have Moore [] around full = absurd (omega (arith, full))
-asked-have Moore (a ∷ []) around full = absurd (omega (arith, full))
-asked-have Moore (a ∷ b ∷ []) around full = absurd (omega (arith, full))
-asked-have Moore (a ∷ b ∷ c ∷ []) around full = absurd (omega (arith, full))
-asked-have Moore (a ∷ b ∷ c ∷ d ∷ []) around full = absurd (omega (arith, full))
-asked-have Moore (a ∷ b ∷ c ∷ d ∷ e ∷ []) around full = absurd (omega (arith, full))
-asked-have Moore (a ∷ b ∷ c ∷ d ∷ e ∷ f ∷ []) around full = absurd (omega (arith, full))
-asked-have Moore (a ∷ b ∷ c ∷ d ∷ e ∷ f ∷ g ∷ []) around full = absurd (omega (arith, full))
-asked-have Moore (a ∷ b ∷ c ∷ d ∷ e ∷ f ∷ g ∷ h ∷ []) around full = absurd (omega (arith, full))
-asked-have Moore (a ∷ b ∷ c ∷ d ∷ e ∷ f ∷ g ∷ h ∷ i ∷ j ∷ more) around full = absurd (omega (arith, full))
-asked-have Hexagonal (c ∷ n ∷ e ∷ se ∷ s ∷ w ∷ nw ∷ []) around full =
-    hexagonal (has c (slice_index around 0)) (has n (slice_index around 1)) (has e (slice_index around 3)) (has se (slice_index around 4)) (has s (slice_index around 5)) (has w (slice_index around 7)) (has nw (slice_index around 8))
-asked-have Hexagonal [] around full = absurd (omega (arith, full))
-asked-have Hexagonal (a ∷ []) around full = absurd (omega (arith, full))
-asked-have Hexagonal (a ∷ b ∷ []) around full = absurd (omega (arith, full))
-asked-have Hexagonal (a ∷ b ∷ c ∷ []) around full = absurd (omega (arith, full))
-asked-have Hexagonal (a ∷ b ∷ c ∷ d ∷ []) around full = absurd (omega (arith, full))
-asked-have Hexagonal (a ∷ b ∷ c ∷ d ∷ e ∷ []) around full = absurd (omega (arith, full))
-asked-have Hexagonal (a ∷ b ∷ c ∷ d ∷ e ∷ f ∷ []) around full = absurd (omega (arith, full))
-asked-have Hexagonal (a ∷ b ∷ c ∷ d ∷ e ∷ f ∷ g ∷ h ∷ more) around full = absurd (omega (arith, full))
-asked-have OneDimensional (c ∷ w ∷ e ∷ []) around full = one_dimensional (has c (slice_index around 0)) (has w (slice_index around 7)) (has e (slice_index around 3))
-asked-have OneDimensional [] around full = absurd (omega (arith, full))
-asked-have OneDimensional (a ∷ []) around full = absurd (omega (arith, full))
-asked-have OneDimensional (a ∷ b ∷ []) around full = absurd (omega (arith, full))
-asked-have OneDimensional (a ∷ b ∷ c ∷ d ∷ more) around full = absurd (omega (arith, full))
+pub asked-have : (neighborhood : Neighborhood) (sets : List (List ℕ)) (around : List ℕ) → length sets ≡ length (table_rule.places_of neighborhood) + 1 → IsAskedAlike neighborhood around sets
+asked-have neighborhood sets around full = subst (IsAskedAlike neighborhood around) (firsts-all [] _ sets full) (by neighborhood)
+  where
+    by : (n : Neighborhood) → IsAskedAlike n around (firsts [] (length (table_rule.places_of n) + 1) sets)
+    by VonNeumann = grind arith
+    by Moore = grind arith
+    by Hexagonal = grind arith
+    by OneDimensional = grind arith
 
 -- the last input is the cell's state
 last-input : (neighborhood : Neighborhood) (around : List ℕ) → last_of (inputs_of (neighbors_of neighborhood) around) ≡ slice_index around 0
-last-input VonNeumann around = refl
-last-input Moore around = refl
-last-input Hexagonal around = refl
-last-input OneDimensional around = refl
+last-input neighborhood around = grind arith
 
 -- there is an input for each place of the order
 as_many : (neighborhood : Neighborhood) (around : List ℕ) → length (inputs_of (neighbors_of neighborhood) around) ≡ length (order_of neighborhood)
-as_many VonNeumann around = refl
-as_many Moore around = refl
-as_many Hexagonal around = refl
-as_many OneDimensional around = refl
+as_many neighborhood around = grind arith
 
 pub places-many : (neighborhood : Neighborhood) → length (places_of (neighbors_of neighborhood)) ≡ length (order_of neighborhood)
-places-many VonNeumann = refl
-places-many Moore = refl
-places-many Hexagonal = refl
-places-many OneDimensional = refl
+places-many neighborhood = grind arith
 
 -- the tree of these nodes
 abbrev tree_for : Table → List Entries → Tree
@@ -197,17 +98,13 @@ sound-tree table nodes zeros leading same quiet =
     (eq-eqb (next (tree_for table nodes) nine_zeros) 0 (same nine_zeros zeros ∙ quiet))
     (leading (places_of (neighbors_of table.neighborhood)) (places-many table.neighborhood))
 
-some_by : (states : ℕ) (nodes : List Entries) (input : ℕ) (inputs : List ℕ) → 0 < states → leads states nodes (length nodes - 1) (input ∷ inputs) ≡ true → 1 ≤ length nodes
-some_by states nodes input inputs some leading =
-    let inside : length nodes - 1 < length nodes = none-past nodes (length nodes - 1) states some (leads-width states nodes (length nodes - 1) input inputs leading) in
-    omega (arith, inside)
-
 -- there is a root
 pub some-nodes : (neighborhood : Neighborhood) (states : ℕ) (nodes : List Entries) → 0 < states → ((inputs : List ℕ) → length inputs ≡ length (order_of neighborhood) → leads states nodes (length nodes - 1) inputs ≡ true) → 1 ≤ length nodes
-some-nodes VonNeumann states nodes some leading = some_by states nodes 0 (0 ∷ 0 ∷ 0 ∷ 0 ∷ []) some (leading (0 ∷ 0 ∷ 0 ∷ 0 ∷ 0 ∷ []) refl)
-some-nodes Moore states nodes some leading = some_by states nodes 0 (0 ∷ 0 ∷ 0 ∷ 0 ∷ 0 ∷ 0 ∷ 0 ∷ 0 ∷ []) some (leading (0 ∷ 0 ∷ 0 ∷ 0 ∷ 0 ∷ 0 ∷ 0 ∷ 0 ∷ 0 ∷ []) refl)
-some-nodes Hexagonal states nodes some leading = some_by states nodes 0 (0 ∷ 0 ∷ 0 ∷ 0 ∷ 0 ∷ 0 ∷ 0 ∷ 0 ∷ []) some (leading (0 ∷ 0 ∷ 0 ∷ 0 ∷ 0 ∷ 0 ∷ 0 ∷ 0 ∷ 0 ∷ []) refl)
-some-nodes OneDimensional states nodes some leading = some_by states nodes 0 (0 ∷ 0 ∷ 0 ∷ 0 ∷ []) some (leading (0 ∷ 0 ∷ 0 ∷ 0 ∷ 0 ∷ []) refl)
+some-nodes neighborhood states nodes some leading = by (places_of (neighbors_of neighborhood)) (grind arith) (leading _ (places-many neighborhood))
+  where
+    by : (inputs : List ℕ) → 0 < length inputs → leads states nodes (length nodes - 1) inputs ≡ true → 1 ≤ length nodes
+    by [] more led = absurd (omega (arith, more))
+    by (input ∷ inputs) more led = omega (arith, none-past nodes (length nodes - 1) states some (leads-width states nodes (length nodes - 1) input inputs led))
 
 -- the tree that is kept has these nodes
 pub kept-for : (table : Table) (nodes : List Entries) (count : ℕ) (entries : List ℕ) → 1 ≤ count → nodes_in table.states count entries ≡ nodes → tree_of_kept table.states (neighbors_of table.neighborhood) (count - 1) entries ≡ tree_for table nodes
