@@ -1,11 +1,11 @@
 -- The tree of nodes that were read.
-use Rattle.std.proofs.Common.{◌≡◌, ◌≢◌, ℕ, ◌+◌, ◌*◌, ◌-◌, ◌==◌, true, false, cond, List, length, slice_index, Ok, Err, refl, sym, ap, ◌∙◌, arith, rules, tests}
+use Rattle.std.proofs.Common.{◌≡◌, ◌≢◌, ℕ, ◌+◌, ◌*◌, ◌-◌, ◌==◌, true, List, length, slice_index, Ok, Err, sym, ap, ◌∙◌, arith, rules, tests}
 use Rattle.std.proofs.lemmas.Bool.{and_from}
+use Rattle.std.proofs.lemmas.Bool.Decides.{nat_tests}
 use Rattle.worlds.specs.Step.{nine_zeros}
 use Rattle.rule_file.specs.declared.fault.RuleFault.TheVariants.{NotQuiescent}
 use Rattle.decision_tree.specs.declared.descriptors.TreeHead.{TreeHead}
 use Rattle.decision_tree.specs.declared.tree.Neighbors.{Neighbors}
-use Rattle.decision_tree.specs.declared.tree.Neighbors.TheVariants.{Four, Eight}
 use Rattle.decision_tree.specs.Kept.{AreKept, IsKeptTree, IsTreeHead, nodes_in, nodes_of, tree_of_kept}
 use Rattle.decision_tree.specs.Tree.{Tree, is_quiescent, leads, next, places_of, root_of}
 use Rattle.decision_tree.specs.TreeLines.{depth_of_root, if_quiescent, tree_from}
@@ -20,19 +20,14 @@ tree-kept head depths entries root whole =
     tree_with head nodes = record { states = head.states; neighbors = head.neighbors; nodes = nodes }
 
 pub if_quiescent-no : (tree : Tree) → next tree nine_zeros ≢ 0 → if_quiescent tree ≡ Err NotQuiescent
-if_quiescent-no tree restless =
-    let test : (next tree nine_zeros == 0) ≡ false = search (rules, tests) in
-    ap (λ b. cond b (Ok tree) (Err NotQuiescent)) test
+if_quiescent-no tree restless = grind (arith, nat_tests)
 
 pub if_quiescent-yes : (tree : Tree) → next tree nine_zeros ≡ 0 → if_quiescent tree ≡ Ok tree
-if_quiescent-yes tree still =
-    let test : (next tree nine_zeros == 0) ≡ true = search (rules, tests) in
-    ap (λ b. cond b (Ok tree) (Err NotQuiescent)) test
+if_quiescent-yes tree still = grind (arith, nat_tests)
 
 -- there is an input for each level
 pub levels : (neighbors : Neighbors) → length (places_of neighbors) ≡ depth_of_root neighbors
-levels Four = refl
-levels Eight = refl
+levels neighbors = grind arith
 
 -- the root leads to a state
 pub root-leads : (head : TreeHead) (depths entries : List ℕ) (root : ℕ) → AreKept head depths entries → length depths ≡ head.node_count → head.node_count ≡ root + 1 → leads head.states (nodes_in head.states (root + 1) entries) root (places_of head.neighbors) ≡ true

@@ -1,6 +1,7 @@
 -- Nodes stay what they are where one more comes behind them.
-use Rattle.std.proofs.Common.{◌≡◌, ◌≢◌, ℕ, ◌+◌, ◌*◌, ◌-◌, ◌<◌, ◌≤◌, ◌==◌, ◌&&◌, ◌||◌, Bool, true, false, cond, List, [], ◌∷◌, ◌++◌, length, slice_index, nat_lt, EachIndex, below_more, refl, sym, ap, ◌∙◌, arith, rules, tests, length-append}
-use Rattle.std.proofs.lemmas.Bool.{and_parts, and_from}
+use Rattle.std.proofs.Common.{◌≡◌, ◌≢◌, ℕ, ◌+◌, ◌*◌, ◌-◌, ◌<◌, ◌≤◌, ◌==◌, ◌&&◌, Bool, true, List, [], ◌∷◌, ◌++◌, length, slice_index, nat_lt, EachIndex, below_more, inl, inr, refl, sym, ap, ◌∙◌, arith, length-append}
+use Rattle.std.proofs.lemmas.Bool.{and_parts, cases_eq}
+use Rattle.std.proofs.lemmas.Bool.Decides.{nat_tests}
 use Rattle.std.specs.List.{list_all}
 use Rattle.std.proofs.lemmas.List.{get_or_append_left}
 use Rattle.std.proofs.Math.Seq.{get_or-append_seam}
@@ -15,15 +16,11 @@ use Rattle.decision_tree.proofs.KeptNodes.{length-nodes_in, none-past, nodes_in-
 -- what holds of each, holds of each what follows from it
 list_all-follows : (p q : ℕ → Bool) (xs : List ℕ) → list_all p xs ≡ true → ((x : ℕ) → p x ≡ true → q x ≡ true) → list_all q xs ≡ true
 list_all-follows p q [] h f = refl
-list_all-follows p q (x ∷ xs) h f =
-    let parts = and_parts (p x) (list_all p xs) h in
-    and_from (q x) (list_all q xs) (f x parts.0) (list_all-follows p q xs parts.1 f)
+list_all-follows p q (x ∷ xs) h f = grind (arith, f x, list_all-follows p q xs)
 
 -- a node of n entries leads on where each of them does
 pub leads-node : (n : ℕ) (nodes : List Entries) (number : ℕ) (node : List ℕ) (input : ℕ) (inputs : List ℕ) → node_at nodes number ≡ node → length node ≡ n → list_all (λ entry. leads n nodes entry inputs) node ≡ true → leads n nodes number (input ∷ inputs) ≡ true
-leads-node n nodes number node input inputs at width all =
-    let test : (length node == n) ≡ true = search (rules, tests) in
-    ap (λ x. (length x == n) && list_all (λ entry. leads n nodes entry inputs) x) at ∙ and_from (length node == n) _ test all
+leads-node n nodes number node input inputs at width all = rw at (grind (arith, nat_tests))
 
 -- more nodes change nothing for those before
 pub leads-append : (n : ℕ) (nodes more : List Entries) (number : ℕ) (inputs : List ℕ) → 0 < n → leads n nodes number inputs ≡ true → leads n (nodes ++ more) number inputs ≡ true
@@ -42,13 +39,11 @@ Leading n depths nodes = (number : ℕ) (inputs : List ℕ) → number < length 
 
 -- the entries of a node of depth 1 are states
 fits-low : (n : ℕ) (depths node : List ℕ) (depth : ℕ) → 1 ≡ depth → do_entries_fit n depths (record { depth = depth; entries = node }) ≡ true → list_all (λ s. nat_lt s n) node ≡ true
-fits-low n depths node depth one h = ap (λ d. do_entries_fit n depths (record { depth = d; entries = node })) one ∙ h
+fits-low n depths node depth one h = grind (arith, nat_tests)
 
 -- those of a deeper node are the numbers of nodes one less deep
 fits-high : (n : ℕ) (depths node : List ℕ) (depth : ℕ) → depth ≢ 1 → do_entries_fit n depths (record { depth = depth; entries = node }) ≡ true → list_all (λ k. nat_lt k (length depths) && (slice_index depths k + 1 == depth)) node ≡ true
-fits-high n depths node depth more h =
-    let test : (depth == 1) ≡ false = search (rules, tests) in
-    ap (λ b. cond b (list_all (λ s. nat_lt s n) node) (list_all (λ k. nat_lt k (length depths) && (slice_index depths k + 1 == depth)) node)) (sym test) ∙ h
+fits-high n depths node depth more h = grind (arith, nat_tests)
 
 -- a number of a node one less deep
 pub record IsBelow (depths : List ℕ) (depth k : ℕ) : Type 0 where
@@ -56,22 +51,17 @@ pub record IsBelow (depths : List ℕ) (depth k : ℕ) : Type 0 where
   pub less : slice_index depths k + 1 ≡ depth
 
 is-below : (depths : List ℕ) (depth k : ℕ) → (nat_lt k (length depths) && (slice_index depths k + 1 == depth)) ≡ true → IsBelow depths depth k
-is-below depths depth k h =
-    let parts = and_parts (nat_lt k (length depths)) (slice_index depths k + 1 == depth) h in
-    let first : nat_lt k (length depths) ≡ true = parts.0 in
-    let second : (slice_index depths k + 1 == depth) ≡ true = parts.1 in
-    record { earlier = search (rules, tests); less = search (rules, tests) }
+is-below depths depth k h = grind (arith, nat_tests)
 
--- a node that has entries and isn't of depth 1 is one deeper than another
-first-below : (n : ℕ) (depths node : List ℕ) (depth : ℕ) → 0 < length node → depth ≢ 1 → do_entries_fit n depths (record { depth = depth; entries = node }) ≡ true → IsBelow depths depth (slice_index node 0)
-first-below n depths node depth some more h =
-    is-below depths depth (slice_index node 0) (AllPass-from_list_all _ node (fits-high n depths node depth more h) 0 0 some)
+-- an entry of a node that isn't of depth 1 is such a number
+pub entry-below : (n : ℕ) (depths node : List ℕ) (depth k : ℕ) → k < length node → depth ≢ 1 → do_entries_fit n depths (record { depth = depth; entries = node }) ≡ true → IsBelow depths depth (slice_index node k)
+entry-below n depths node depth k inside more h = is-below depths depth (slice_index node k) (AllPass-from_list_all _ node (fits-high n depths node depth more h) k 0 inside)
 
 -- the same of one more node, whose entries fit
 leads-fitting : (n : ℕ) (depths : List ℕ) (nodes : List Entries) (depth : ℕ) (node inputs : List ℕ) → 0 < n → length nodes ≡ length depths → Leading n depths nodes → length node ≡ n → do_entries_fit n depths (record { depth = depth; entries = node }) ≡ true → length inputs ≡ depth → leads n (nodes ++ node ∷ []) (length depths) inputs ≡ true
 leads-fitting n depths nodes depth node [] some count leading width fits long =
     let more : depth ≢ 1 = λ one. absurd (omega (arith, one, long)) in
-    let below : IsBelow depths depth (slice_index node 0) = first-below n depths node depth (omega arith) more fits in
+    let below : IsBelow depths depth (slice_index node 0) = entry-below n depths node depth 0 (omega arith) more fits in
     absurd (omega (arith, below.less, long))
 leads-fitting n depths nodes depth node (input ∷ []) some count leading width fits long =
     let at : node_at (nodes ++ node ∷ []) (length depths) ≡ node = ap (node_at (nodes ++ node ∷ [])) (sym count) ∙ get_or-append_seam nodes node [] [] in
@@ -92,12 +82,6 @@ leading-push n depths nodes depth node some count leading width fits number inpu
     (λ e. leads-fitting n depths nodes depth node inputs some count leading width fits (e ∙ get_or-append_seam depths depth [] 0))
     number (omega (arith, l, length-append depths (depth ∷ []))) long
 
-small-of : (s n : ℕ) → nat_lt s n ≡ true → n < 4294967295 → nat_lt s 4294967295 ≡ true
-small-of s n h few =
-    let low : s < n = search (rules, tests) in
-    let small : s < 4294967295 = omega arith in
-    search (rules, tests)
-
 -- what makes a node the next one
 pub record IsNextNode (head : TreeHead) (depths : List ℕ) (depth : ℕ) (node : List ℕ) : Type 0 where
   pub room : length depths < head.node_count
@@ -105,50 +89,24 @@ pub record IsNextNode (head : TreeHead) (depths : List ℕ) (depth : ℕ) (node 
   pub fits : do_entries_fit head.states depths (record { depth = depth; entries = node }) ≡ true
   pub rooted : length depths + 1 ≡ head.node_count → depth ≡ depth_of_root head.neighbors
 
-rooted_by : (early last : Bool) → (early || last) ≡ true → early ≡ false → last ≡ true
-rooted_by true last h e = absurd cc
-rooted_by false last h e = h
-
 pub is_next-node : (head : TreeHead) (depths : List ℕ) (depth : ℕ) (node : List ℕ) → is_next head depths (record { depth = depth; entries = node }) ≡ true → IsNextNode head depths depth node
-is_next-node head depths depth node h =
-    let a = and_parts (nat_lt (length depths) head.node_count) _ h in
-    let b = and_parts (length node == head.states) _ a.1 in
-    let c = and_parts (do_entries_fit head.states depths (record { depth = depth; entries = node })) _ b.1 in
-    let room : nat_lt (length depths) head.node_count ≡ true = a.0 in
-    let width : (length node == head.states) ≡ true = b.0 in
-    record {
-      room = search (rules, tests);
-      width = search (rules, tests);
-      fits = c.0;
-      rooted = λ whole.
-          let early : nat_lt (length depths + 1) head.node_count ≡ false = search (rules, tests) in
-          let last : (depth == depth_of_root head.neighbors) ≡ true = rooted_by (nat_lt (length depths + 1) head.node_count) (depth == depth_of_root head.neighbors) c.1 early in
-          search (rules, tests);
-    }
+is_next-node head depths depth node h = grind (arith, nat_tests)
 
 -- the next node isn't deeper than there are nodes then
 pub depth-low : (head : TreeHead) (depths : List ℕ) (depth : ℕ) (node : List ℕ) → 2 ≤ head.states → EachIndex depths (λ k. slice_index depths k ≤ length depths) → IsNextNode head depths depth node → depth ≤ length depths + 1
-depth-low head depths depth node some low next =
-    elim (depth == 1) as (λ b. (depth == 1) ≡ b → depth ≤ length depths + 1) [
-      | true ↦ λ h. let one : depth ≡ 1 = search (rules, tests) in omega arith
-      | false ↦ λ h.
-          let more : depth ≢ 1 = search (rules, tests) in
-          let below = first-below head.states depths node depth (omega (arith, next.width)) more next.fits in
-          omega (arith, below.less, low (slice_index node 0) below.earlier)
-    ] refl
+depth-low head depths depth node some low next = elim (cases_eq depth 1) [
+  | inl one ↦ omega (arith, one)
+  | inr more ↦
+      let below = entry-below head.states depths node depth 0 (omega (arith, next.width, some)) more next.fits in
+      omega (arith, below.less, low (slice_index node 0) below.earlier)
+]
 
 -- its entries are small numbers
 pub entries-low : (head : TreeHead) (depths : List ℕ) (depth : ℕ) (node : List ℕ) → IsTreeHead head → IsNextNode head depths depth node → list_all (λ n. nat_lt n 4294967295) node ≡ true
-entries-low head depths depth node limits next =
-    elim (depth == 1) as (λ b. (depth == 1) ≡ b → list_all (λ n. nat_lt n 4294967295) node ≡ true) [
-      | true ↦ λ h.
-          let one : depth ≡ 1 = search (rules, tests) in
-          list_all-follows _ (λ n. nat_lt n 4294967295) node (fits-low head.states depths node depth (sym one) next.fits) (λ s k. small-of s head.states k (omega (arith, limits.at_most)))
-      | false ↦ λ h.
-          let more : depth ≢ 1 = search (rules, tests) in
-          list_all-follows _ (λ n. nat_lt n 4294967295) node (fits-high head.states depths node depth more next.fits)
-          (λ s k. small-of s (length depths) (and_parts (nat_lt s (length depths)) (slice_index depths s + 1 == depth) k).0 (omega (arith, next.room, limits.few)))
-    ] refl
+entries-low head depths depth node limits next = elim (cases_eq depth 1) [
+  | inl one ↦ list_all-follows _ _ node (fits-low head.states depths node depth (sym one) next.fits) (λ s k. grind (arith, nat_tests, k, limits.at_most))
+  | inr more ↦ list_all-follows _ _ node (fits-high head.states depths node depth more next.fits) (λ s k. grind (arith, nat_tests, k, next.room, limits.few))
+]
 
 -- the nodes with the next one
 pub kept-push : (head : TreeHead) (depths entries : List ℕ) (depth : ℕ) (node : List ℕ) → IsTreeHead head → AreKept head depths entries → IsNextNode head depths depth node → AreKept head (depths ++ depth ∷ []) (entries ++ node)

@@ -1,10 +1,9 @@
 -- The faults of a tree's head, of which none is a want of memory.
-use Rattle.std.proofs.Common.{◌≡◌, ◌≢◌, ℕ, List, [], ◌∷◌, Option, Some, None, Result, Ok, Err, ap, ◌∙◌}
+use Rattle.std.proofs.Common.{ℕ, List, [], ◌∷◌, Option, Some, None, Result, Ok, arith}
 use Rattle.std.specs.Option.{option_map_or, ok_or}
-use Rattle.std.specs.Result.{IsErrAnd}
 use Rattle.basics.specs.Results.{◌>>=◌}
 use Rattle.rule_file.specs.declared.fault.RuleFault.{RuleFault}
-use Rattle.rule_file.specs.declared.fault.RuleFault.TheVariants.{BadTree, NoMemory}
+use Rattle.rule_file.specs.declared.fault.RuleFault.TheVariants.{BadTree}
 use Rattle.rule_file.proofs.Readings.{WantsNone}
 use Rattle.rule_file.specs.RuleFile.{NumberedLine}
 use Rattle.decision_tree.specs.declared.descriptors.Descriptor.{Descriptor}
@@ -13,8 +12,7 @@ use Rattle.decision_tree.specs.TreeLines.{Described, describe, descriptor_of, he
 
 -- a line that isn't what a tree has there is no want of memory
 some-none : {A B : Type 0} (o : Option A) (number : ℕ) (f : A → Result B RuleFault) → ((x : A) → WantsNone (f x)) → WantsNone (ok_or o (BadTree number) >>= f)
-some-none None number f rest h = absurd cc
-some-none (Some x) number f rest h = rest x h
+some-none o number f rest h = grind (arith, rest)
 
 pub head_from-none : (last : ℕ) (d : Described) (lines : List NumberedLine) → WantsNone (head_from last d lines)
 head_from-none last d [] = λ h. absurd cc

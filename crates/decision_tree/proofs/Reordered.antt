@@ -1,6 +1,5 @@
 -- Two descriptors, one after the other, may stand in the other order.
-use Rattle.std.proofs.Common.{◌≡◌, ◌∙◌, ℕ, Bool, true, false, if◌then◌else◌, List, [], ◌∷◌, ◌++◌, Option, Some, None, Result, Ok, Err, is_some, refl, sym, subst, ap}
-use Rattle.std.specs.Prelude.{is_none}
+use Rattle.std.proofs.Common.{◌≡◌, ℕ, true, List, [], ◌∷◌, ◌++◌, Option, Some, None, Result, Ok, is_some, refl, arith}
 use Rattle.std.specs.List.{list_all}
 use Rattle.std.specs.Option.{ok_or, option_map, option_map_or}
 use Rattle.std.proofs.lemmas.Bool.{and_parts}
@@ -8,74 +7,45 @@ use Rattle.basics.specs.Results.{◌>>=◌}
 use Rattle.rule_file.specs.declared.fault.RuleFault.{RuleFault}
 use Rattle.rule_file.specs.declared.fault.RuleFault.TheVariants.{BadTree}
 use Rattle.rule_file.specs.States.{states_in}
-use Rattle.rule_file.specs.RuleFile.{NumberedLine, Section}
+use Rattle.rule_file.specs.RuleFile.{NumberedLine}
 use Rattle.rule_file.proofs.Readings.{GivesToo, then_too}
 use Rattle.decision_tree.specs.declared.descriptors.Descriptor.{Descriptor}
 use Rattle.decision_tree.specs.declared.descriptors.Descriptor.TheVariants as descriptor
-use Rattle.decision_tree.specs.declared.descriptors.TreeHead.{TreeHead}
 use Rattle.decision_tree.specs.declared.tree.Neighbors.{Neighbors}
 use Rattle.decision_tree.proofs.Renumbered.{Found, after_head, nodes_from-too}
 use Rattle.decision_tree.specs.Laws.{DescriptorsInAnyOrder, is_descriptor}
-use Rattle.decision_tree.specs.Tree.{Tree}
-use Rattle.decision_tree.specs.TreeLines.{Described, describe, descriptor_of, head_from, head_of, if_quiescent, last_number, neighbors_in, node_count_in, nodes_from, tree_from, undescribed}
+use Rattle.decision_tree.specs.TreeLines.{Described, describe, descriptor_of, head_from, head_of, if_quiescent, last_number, neighbors_in, node_count_in, nodes_from, once, tree_from, undescribed}
 
--- a value that is set where it wasn't yet, and where it can be read
-abbrev set : {X : Type 0} → Bool → Option X → (X → Described) → Option Described
-set free value s = if free then option_map s value else None
+-- what is read of a value, and what of it a descriptor puts where none is yet
+record Readings : Type 0 where
+  states : Option ℕ
+  neighbors : Option Neighbors
+  node_count : Option ℕ
 
--- two different values that are set may be set in the other order
-exchanged : {X Y A : Type 0} (free other : Bool) (r : Option X) (q : Option Y) (s : X → Described) (t : Y → Described) (both : X → Y → Described) (d e : RuleFault) (f g k l : Described → Result A RuleFault)
-    → ((x : X) → f (s x) ≡ (ok_or (set other q (both x)) e >>= k))
-    → ((y : Y) → g (t y) ≡ (ok_or (set free r (λ x. both x y)) d >>= l))
-    → ((c : Described) → GivesToo (k c) (l c))
-    → GivesToo (ok_or (set free r s) d >>= f) (ok_or (set other q t) e >>= g)
-exchanged false other r q s t both d e f g k l first second too z h = absurd cc
-exchanged true other None q s t both d e f g k l first second too z h = absurd cc
-exchanged {A = A} true false (Some x) q s t both d e f g k l first second too z h =
-    let bad : ◌≡◌ {A = Result A RuleFault} (Err e) (Ok z) = sym (first x) ∙ h in
-    absurd cc
-exchanged {A = A} true true (Some x) None s t both d e f g k l first second too z h =
-    let bad : ◌≡◌ {A = Result A RuleFault} (Err e) (Ok z) = sym (first x) ∙ h in
-    absurd cc
-exchanged true true (Some x) (Some y) s t both d e f g k l first second too z h = second y ∙ too (both x y) z (sym (first x) ∙ h)
+abbrev readings : List ℕ → Readings
+readings value = record { states = states_in value; neighbors = neighbors_in value; node_count = node_count_in value }
 
--- and none is set twice
-twice : {X A : Type 0} (free : Bool) (r : Option X) (s : X → Described) (d e : RuleFault) (f : Described → Result A RuleFault) (z : A) → ((x : X) → f (s x) ≡ Err e) → (ok_or (set free r s) d >>= f) ≡ Ok z → ⊥
-twice false r s d e f z never h = cc
-twice true None s d e f z never h = cc
-twice {A = A} true (Some x) s d e f z never h =
-    let bad : ◌≡◌ {A = Result A RuleFault} (Err e) (Ok z) = sym (never x) ∙ h in
-    cc
+abbrev put : Descriptor → Readings → Described → Option Described
+put descriptor.States read d = once d.states (option_map (λ n. record d { states = Some n }) read.states)
+put descriptor.Neighbors read d = once d.neighbors (option_map (λ n. record d { neighbors = Some n }) read.neighbors)
+put descriptor.Nodes read d = once d.node_count (option_map (λ n. record d { node_count = Some n }) read.node_count)
+
+describe-puts : (d : Described) (w : Descriptor) (value : List ℕ) → describe d w value ≡ put w (readings value) d
+describe-puts d descriptor.States value = refl
+describe-puts d descriptor.Neighbors value = refl
+describe-puts d descriptor.Nodes value = refl
+
+-- two may be put in the other order
+put-swapped : {A : Type 0} (k l : Described → Result A RuleFault) → ((c : Described) → GivesToo (k c) (l c)) → (v w : Descriptor) (first second : Readings) (e f : RuleFault) (d : Described)
+    → GivesToo (ok_or (put v first d) e >>= λ c. ok_or (put w second c) f >>= k) (ok_or (put w second d) f >>= λ c. ok_or (put v first c) e >>= l)
+put-swapped k l too v w first second e f d z h = grind (arith, too)
 
 -- what one more descriptor says, on the line of this number
 abbrev described : ℕ → Descriptor → List ℕ → Described → Result Described RuleFault
 described number w value d = ok_or (describe d w value) (BadTree number)
 
 swapped : {A : Type 0} (k l : Described → Result A RuleFault) → ((c : Described) → GivesToo (k c) (l c)) → (m n : ℕ) (d : Described) (v w : Descriptor) (value other : List ℕ) → GivesToo (described m v value d >>= λ e. described n w other e >>= k) (described n w other d >>= λ e. described m v value e >>= l)
-swapped k l too m n d descriptor.States descriptor.States value other =
-    λ x h. absurd (twice (is_none d.states) (states_in value) (λ a. record d { states = Some a }) (BadTree m) (BadTree n) (λ e. described n descriptor.States other e >>= k) x (λ a. refl) h)
-swapped k l too m n d descriptor.Neighbors descriptor.Neighbors value other =
-    λ x h. absurd (twice (is_none d.neighbors) (neighbors_in value) (λ a. record d { neighbors = Some a }) (BadTree m) (BadTree n) (λ e. described n descriptor.Neighbors other e >>= k) x (λ a. refl) h)
-swapped k l too m n d descriptor.Nodes descriptor.Nodes value other =
-    λ x h. absurd (twice (is_none d.node_count) (node_count_in value) (λ a. record d { node_count = Some a }) (BadTree m) (BadTree n) (λ e. described n descriptor.Nodes other e >>= k) x (λ a. refl) h)
-swapped k l too m n d descriptor.States descriptor.Neighbors value other =
-    exchanged (is_none d.states) (is_none d.neighbors) (states_in value) (neighbors_in other) (λ a. record d { states = Some a }) (λ b. record d { neighbors = Some b }) (λ a b. record d { states = Some a; neighbors = Some b }) (BadTree m) (BadTree n)
-    (λ e. described n descriptor.Neighbors other e >>= k) (λ e. described m descriptor.States value e >>= l) k l (λ a. refl) (λ b. refl) too
-swapped k l too m n d descriptor.Neighbors descriptor.States value other =
-    exchanged (is_none d.neighbors) (is_none d.states) (neighbors_in value) (states_in other) (λ b. record d { neighbors = Some b }) (λ a. record d { states = Some a }) (λ b a. record d { states = Some a; neighbors = Some b }) (BadTree m) (BadTree n)
-    (λ e. described n descriptor.States other e >>= k) (λ e. described m descriptor.Neighbors value e >>= l) k l (λ b. refl) (λ a. refl) too
-swapped k l too m n d descriptor.States descriptor.Nodes value other =
-    exchanged (is_none d.states) (is_none d.node_count) (states_in value) (node_count_in other) (λ a. record d { states = Some a }) (λ c. record d { node_count = Some c }) (λ a c. record d { states = Some a; node_count = Some c }) (BadTree m) (BadTree n)
-    (λ e. described n descriptor.Nodes other e >>= k) (λ e. described m descriptor.States value e >>= l) k l (λ a. refl) (λ c. refl) too
-swapped k l too m n d descriptor.Nodes descriptor.States value other =
-    exchanged (is_none d.node_count) (is_none d.states) (node_count_in value) (states_in other) (λ c. record d { node_count = Some c }) (λ a. record d { states = Some a }) (λ c a. record d { states = Some a; node_count = Some c }) (BadTree m) (BadTree n)
-    (λ e. described n descriptor.States other e >>= k) (λ e. described m descriptor.Nodes value e >>= l) k l (λ c. refl) (λ a. refl) too
-swapped k l too m n d descriptor.Neighbors descriptor.Nodes value other =
-    exchanged (is_none d.neighbors) (is_none d.node_count) (neighbors_in value) (node_count_in other) (λ b. record d { neighbors = Some b }) (λ c. record d { node_count = Some c }) (λ b c. record d { neighbors = Some b; node_count = Some c }) (BadTree m) (BadTree n)
-    (λ e. described n descriptor.Nodes other e >>= k) (λ e. described m descriptor.Neighbors value e >>= l) k l (λ b. refl) (λ c. refl) too
-swapped k l too m n d descriptor.Nodes descriptor.Neighbors value other =
-    exchanged (is_none d.node_count) (is_none d.neighbors) (node_count_in value) (neighbors_in other) (λ c. record d { node_count = Some c }) (λ b. record d { neighbors = Some b }) (λ c b. record d { neighbors = Some b; node_count = Some c }) (BadTree m) (BadTree n)
-    (λ e. described n descriptor.Neighbors other e >>= k) (λ e. described m descriptor.Nodes value e >>= l) k l (λ c. refl) (λ b. refl) too
+swapped k l too m n d v w value other = simp describe-puts (put-swapped k l too v w (readings value) (readings other) (BadTree m) (BadTree n) d)
 
 -- the head that follows a line, by the descriptor that the line is
 abbrev head_by : Described → ℕ → List NumberedLine → (Described → Result Found RuleFault) → Option (Descriptor × List ℕ) → Result Found RuleFault

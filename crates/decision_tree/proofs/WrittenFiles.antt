@@ -1,22 +1,14 @@
 -- Rule files of trees that are written.
-use Rattle.std.proofs.Common.{◌≡◌, ◌∙◌, sym, ap, ap₂, refl, subst, ℕ, ◌+◌, ◌<◌, ◌≤◌, ◌==◌, true, false, not, cond, List, [], ◌∷◌, ◌++◌, length, map, take, Some, None, Ok, decimal, length-append, arith}
+use Rattle.std.proofs.Common.{◌≡◌, sym, refl, subst, ℕ, ◌<◌, ◌≤◌, true, false, List, [], ◌∷◌, ◌++◌, length, map, decimal, length-append, arith}
 use Rattle.std.specs.Prelude.{codes}
 use Rattle.std.specs.List.{AllByRecursion, list_all}
-use Rattle.std.proofs.Math.Seq.{take-length}
-use Rattle.std.proofs.lemmas.Bool.{and_parts}
-use Rattle.std.proofs.lemmas.Bool.Decides.{nat_tests}
-use Rattle.basics.specs.Results.{◌>>=◌}
 use Rattle.basics.proofs.Lists.{all_append, all_so}
-use Rattle.text_lines.specs.Blanks.{trim}
-use Rattle.text_lines.proofs.ByteRanges.{IsDigit, IsPrinted, IsVisible, all_tested, differs, digit-visible, printed-tested, visible-printed, visible-tested}
+use Rattle.text_lines.proofs.ByteRanges.{IsDigit, differs, visible-tested}
 use Rattle.text_lines.proofs.Decimals.{IsWide, decimal-bytes}
 use Rattle.text_lines.proofs.NumberLines.{IsNumberLine, numbers-bytes, numbers-line, numbers-start}
-use Rattle.text_lines.proofs.Pieces.{all-past}
-use Rattle.text_lines.proofs.PrintedLines.{IsLine, ends-append, ends-visible, line-between, line-visible, says-lines}
-use Rattle.rule_file.specs.declared.fault.RuleFault.TheVariants.{NoRuleLine}
+use Rattle.text_lines.proofs.PrintedLines.{line-visible}
 use Rattle.rule_file.specs.declared.text.SectionKind.TheVariants.{Tree}
-use Rattle.std.specs.Option.{option_map, ok_or}
-use Rattle.rule_file.specs.RuleFile.{NumberedLine, is_name, is_name_byte, named, numbered_from, opens_section, rule_name, said, section_lines, section_of, unless_blank, without_comment}
+use Rattle.rule_file.specs.RuleFile.{opens_section}
 use Rattle.rule_file.proofs.WrittenFiles.{IsPlain, IsPlainLine, IsSolid, digit-plain, digit-solid, file-written, is_solid, solid-line, solid-tested}
 use Rattle.decision_tree.specs.declared.tree.Neighbors.{Neighbors}
 use Rattle.decision_tree.specs.declared.tree.Neighbors.TheVariants.{Four, Eight}

@@ -1,15 +1,14 @@
 -- Trees that are written read back.
-use Rattle.std.proofs.Common.{◌≡◌, ◌∙◌, sym, ap, refl, ℕ, ◌+◌, ◌<◌, ◌≤◌, ◌==◌, ◌&&◌, ◌||◌, Bool, true, false, cond, List, [], ◌∷◌, ◌++◌, length, map, take, drop, Option, Some, None, Ok, Err, nat_lt, nat_le, decimal, append-nil, append_assoc, length-append, arith}
+use Rattle.std.proofs.Common.{◌≡◌, ◌∙◌, sym, ap, refl, ℕ, ◌+◌, ◌<◌, ◌≤◌, ◌==◌, ◌&&◌, Bool, true, false, cond, List, [], ◌∷◌, ◌++◌, length, map, take, drop, Option, Some, None, Ok, Err, nat_lt, decimal, append-nil, append_assoc, length-append, arith}
 use Rattle.std.specs.Prelude.{codes, option_and_then, slice_index}
 use Rattle.std.specs.List.{AllByRecursion, list_all}
 use Rattle.std.specs.Option.{option_map, option_map_or, ok_or}
-use Rattle.std.proofs.lemmas.Bool.{and_parts}
 use Rattle.std.proofs.lemmas.Bool.Decides.{nat_tests}
 use Rattle.basics.specs.Results.{◌>>=◌}
 use Rattle.text_lines.specs.Blanks.{is_blank, trim_end, trim_start}
 use Rattle.text_lines.specs.Numbers.{numbers_line}
 use Rattle.text_lines.proofs.ByteRanges.{differs, digit-visible, visible-solid}
-use Rattle.text_lines.proofs.Decimals.{IsNumeral, IsWide, decimal-numeral, number_of-decimal}
+use Rattle.text_lines.proofs.Decimals.{IsWide, decimal-numeral, number_of-decimal}
 use Rattle.text_lines.proofs.NumberLines.{Parts, numbers-bytes, words-numbers}
 use Rattle.text_lines.proofs.Pieces.{position-at, position-none}
 use Rattle.rule_file.proofs.WrittenFiles.{trim_start-digits, within-read}
@@ -23,7 +22,8 @@ use Rattle.decision_tree.specs.declared.descriptors.Descriptor.TheVariants as de
 use Rattle.decision_tree.specs.declared.descriptors.TreeHead.{TreeHead}
 use Rattle.decision_tree.specs.Kept.{IsTreeHead}
 use Rattle.decision_tree.specs.Laws.{WrittenMeansTheSame}
-use Rattle.decision_tree.specs.TreeLines.{Described, Node, depth_of_root, describe, descriptor_named, descriptor_of, do_entries_fit, head_from, head_of, if_quiescent, is_next, last_number, most_nodes, node_from, node_of, nodes_from, numbers_in, tree_from, undescribed}
+use Rattle.decision_tree.specs.TreeLines.{Described, Node, describe, descriptor_named, descriptor_of, do_entries_fit, head_from, head_of, if_quiescent, is_next, last_number, most_nodes, node_from, node_of, nodes_from, numbers_in, tree_from, undescribed}
+use Rattle.decision_tree.proofs.Growing.{is_next-node}
 use Rattle.decision_tree.specs.WrittenTree.{EachIsNext, neighbors_text, node_line, written_lines, written_section}
 
 -- what a descriptor's line says, by its word
@@ -80,41 +80,23 @@ node-read head nodes node wide is =
     (ap numbers_in (words-numbers is_blank parts-blank node.depth node.entries wide) ∙ numbers-read (node.depth ∷ node.entries) wide)
     ∙ ap (λ v. cond v (Some node) None) is
 
--- states and numbers of nodes are written in full
-entries-low : (states : ℕ) (entries : List ℕ) → states ≤ 256 → list_all (λ state. nat_lt state states) entries ≡ true → AllByRecursion IsWide entries
-entries-low states [] few h = tt
-entries-low states (n ∷ ns) few h =
-    let both = and_parts (nat_lt n states) (list_all (λ state. nat_lt state states) ns) h in
-    let first : nat_lt n states ≡ true = both.0 in
-    let low : n < states = grind (arith, nat_tests) in
-    (omega arith, entries-low states ns few both.1)
-
-numbers-low : (count depth : ℕ) (depth_of : ℕ → ℕ) (entries : List ℕ) → count ≤ most_nodes → list_all (λ number. nat_lt number count && (depth_of number + 1 == depth)) entries ≡ true → AllByRecursion IsWide entries
-numbers-low count depth depth_of [] few h = tt
-numbers-low count depth depth_of (n ∷ ns) few h =
-    let both = and_parts (nat_lt n count && (depth_of n + 1 == depth)) (list_all (λ number. nat_lt number count && (depth_of number + 1 == depth)) ns) h in
-    let first : nat_lt n count ≡ true = (and_parts (nat_lt n count) (depth_of n + 1 == depth) both.0).0 in
-    let low : n < count = grind (arith, nat_tests) in
-    (omega arith, numbers-low count depth depth_of ns few both.1)
+-- numbers below the count of nodes are written in full
+all-wide : (p : ℕ → Bool) (entries : List ℕ) → ((n : ℕ) → p n ≡ true → n < most_nodes) → list_all p entries ≡ true → AllByRecursion IsWide entries
+all-wide p [] low h = tt
+all-wide p (n ∷ ns) low h = grind (arith, low n, all-wide p ns low)
 
 fits-low : (head : TreeHead) (depths : List ℕ) (node : Node) → IsTreeHead head → length depths < head.node_count → do_entries_fit head.states depths node ≡ true → AllByRecursion IsWide node.entries
 fits-low head depths node limits room h = by (node.depth == 1) h
   where
     by : (v : Bool) → cond v (list_all (λ state. nat_lt state head.states) node.entries) (list_all (λ number. nat_lt number (length depths) && (slice_index depths number + 1 == node.depth)) node.entries) ≡ true → AllByRecursion IsWide node.entries
-    by true h = entries-low head.states node.entries limits.at_most h
-    by false h = let few = limits.few in numbers-low (length depths) node.depth (slice_index depths) node.entries (omega arith) h
+    by true h = all-wide _ node.entries (λ n k. grind (arith, nat_tests, k, limits.at_most)) h
+    by false h = all-wide _ node.entries (λ n k. grind (arith, nat_tests, k, limits.few, room)) h
 
 pub node-wide : (head : TreeHead) (nodes : List Node) (node : Node) → IsTreeHead head → node.depth ≤ head.node_count → is_next head (map (λ n. n.depth) nodes) node ≡ true → AllByRecursion IsWide (node.depth ∷ node.entries)
 node-wide head nodes node limits low h =
     let depths = map (λ (n : Node). n.depth) nodes in
-    let last = nat_lt (length depths + 1) head.node_count || (node.depth == depth_of_root head.neighbors) in
-    let one = and_parts (nat_lt (length depths) head.node_count) ((length node.entries == head.states) && (do_entries_fit head.states depths node && last)) h in
-    let two = and_parts (length node.entries == head.states) (do_entries_fit head.states depths node && last) one.1 in
-    let three = and_parts (do_entries_fit head.states depths node) last two.1 in
-    let test : nat_lt (length depths) head.node_count ≡ true = one.0 in
-    let room : length depths < head.node_count = grind (arith, nat_tests) in
-    let few = limits.few in
-    (omega arith, fits-low head depths node limits room three.0)
+    let is = is_next-node head depths node.depth node.entries h in
+    (omega (arith, low, limits.few), fits-low head depths node limits is.room is.fits)
 
 -- all nodes read back, one behind another
 nodes-taken : (last number : ℕ) (head : TreeHead) (nodes others : List Node) → IsTreeHead head → length nodes + length others ≡ head.node_count → EachIsNext head nodes others → AllByRecursion (λ node. node.depth ≤ head.node_count) others → nodes_from last head nodes (numbered_from number (map node_line others)) ≡ Ok (nodes ++ others)

@@ -1,35 +1,31 @@
-use Rattle.std.proofs.Common.{◌≡◌, ◌∙◌, ◌+◌, ◌*◌, ◌<◌, length, get_or, ap, arith}
-use Rattle.decision_tree.proofs.Following.{one_step}
+use Rattle.std.proofs.Common.{◌≡◌, ◌∙◌, ◌+◌, ◌*◌, ℕ, get_or, arith}
+use Rattle.decision_tree.proofs.Following.{Step, one_step}
 use Rattle.decision_tree.proofs.tree.follow.Goals as goal
+use Rattle.decision_tree.proofs.tree.follow.Goals.{In-loop-input}
+
+-- what one more input does
+step : (c : In-loop-input) (place : ℕ) → place ≡ c.loop-input.number * c.args.states + get_or c.args.inputs.now c.loop-input.input-index 0 → Step c.args.states (c.args.root + 1) c.args.entries.now c.loop-input.number c.args.inputs.now c.loop-input.input-index place
+step c place at =
+    one_step c.args.states (c.args.root + 1) c.args.entries.now c.loop-input.number c.args.inputs.now c.loop-input.input-index place c.requires.stores.filled
+    c.loop-input.invariant.leading c.loop-input-test.true (c.requires.below c.loop-input.input-index 0 c.loop-input-test.true) at
 
 pub overflow_mul-number : goal.overflow_mul-number
 overflow_mul-number c =
-    let at : c.loop-input.number * c.from-width.result + get_or c.args.inputs.now c.loop-input.input-index 0 ≡ c.loop-input.number * c.args.states + get_or c.args.inputs.now c.loop-input.input-index 0 = ap (λ w. c.loop-input.number * w + get_or c.args.inputs.now c.loop-input.input-index 0) c.from-width.ensures in
-    let step = one_step c.args.states (c.args.root + 1) c.args.entries.now c.loop-input.number c.args.inputs.now c.loop-input.input-index _ c.requires.stores.filled c.loop-input.invariant.leading c.loop-input-test.true (c.requires.below c.loop-input.input-index 0 c.loop-input-test.true) at in
-    let inside : c.loop-input.number * c.from-width.result + get_or c.args.inputs.now c.loop-input.input-index 0 < length c.args.entries.now = step.inside in
-    omega arith
+    let place = c.loop-input.number * c.from-width.result + get_or c.args.inputs.now c.loop-input.input-index 0 in
+    omega (arith, (step (goal.at.overflow_mul-number c).In-loop-input place (rw c.from-width.ensures)).inside)
 
 pub overflow_add-number : goal.overflow_add-number
 overflow_add-number c =
-    let at : c.loop-input.number * c.from-width.result + c.from.result ≡ c.loop-input.number * c.args.states + get_or c.args.inputs.now c.loop-input.input-index 0 = rw (c.from-width.ensures, c.from.ensures) in
-    let step = one_step c.args.states (c.args.root + 1) c.args.entries.now c.loop-input.number c.args.inputs.now c.loop-input.input-index _ c.requires.stores.filled c.loop-input.invariant.leading c.loop-input-test.true (c.requires.below c.loop-input.input-index 0 c.loop-input-test.true) at in
-    let inside : c.loop-input.number * c.from-width.result + c.from.result < length c.args.entries.now = step.inside in
-    omega arith
+    omega (arith, (step (goal.at.overflow_add-number c).In-loop-input (c.loop-input.number * c.from-width.result + c.from.result) (rw (c.from-width.ensures, c.from.ensures))).inside)
 
 pub offset_bounds-entries-number : goal.offset_bounds-entries-number
 offset_bounds-entries-number c =
-    let at : c.loop-input.number * c.from-width.result + c.from.result ≡ c.loop-input.number * c.args.states + get_or c.args.inputs.now c.loop-input.input-index 0 = rw (c.from-width.ensures, c.from.ensures) in
-    let step = one_step c.args.states (c.args.root + 1) c.args.entries.now c.loop-input.number c.args.inputs.now c.loop-input.input-index _ c.requires.stores.filled c.loop-input.invariant.leading c.loop-input-test.true (c.requires.below c.loop-input.input-index 0 c.loop-input-test.true) at in
-    let inside : c.loop-input.number * c.from-width.result + c.from.result < length c.args.entries.now = step.inside in
-    omega arith
+    omega (arith, (step (goal.at.offset_bounds-entries-number c).In-loop-input (c.loop-input.number * c.from-width.result + c.from.result) (rw (c.from-width.ensures, c.from.ensures))).inside)
 
 pub bounds-entries-number : goal.bounds-entries-number
-bounds-entries-number c =
-    let at : c.loop-input.number * c.from-width.result + c.from.result ≡ c.loop-input.number * c.args.states + get_or c.args.inputs.now c.loop-input.input-index 0 = rw (c.from-width.ensures, c.from.ensures) in
-    (one_step c.args.states (c.args.root + 1) c.args.entries.now c.loop-input.number c.args.inputs.now c.loop-input.input-index _ c.requires.stores.filled c.loop-input.invariant.leading c.loop-input-test.true (c.requires.below c.loop-input.input-index 0 c.loop-input-test.true) at).inside
+bounds-entries-number c = (step (goal.at.bounds-entries-number c).In-loop-input _ (rw (c.from-width.ensures, c.from.ensures))).inside
 
 pub loop-input-preserved : goal.loop-input-preserved
 loop-input-preserved c =
-    let at : c.loop-input.number * c.from-width.result + c.from.result ≡ c.loop-input.number * c.args.states + get_or c.args.inputs.now c.loop-input.input-index 0 = rw (c.from-width.ensures, c.from.ensures) in
-    let step = one_step c.args.states (c.args.root + 1) c.args.entries.now c.loop-input.number c.args.inputs.now c.loop-input.input-index _ c.requires.stores.filled c.loop-input.invariant.leading c.loop-input-test.true (c.requires.below c.loop-input.input-index 0 c.loop-input-test.true) at in
-    record { leading = step.leading; found = step.found ∙ c.loop-input.invariant.found }
+    let one = step (goal.at.loop-input-preserved c).In-loop-input (c.loop-input.number * c.from-width.result + c.from.result) (rw (c.from-width.ensures, c.from.ensures)) in
+    record { leading = one.leading; found = one.found ∙ c.loop-input.invariant.found }
