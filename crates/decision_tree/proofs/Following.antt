@@ -1,5 +1,5 @@
 -- Following inputs through entries that are kept one after another.
-use Rattle.std.proofs.Common.{◌≡◌, ℕ, ◌+◌, ◌*◌, ◌<◌, true, cond, List, ◌∷◌, length, drop, get_or, slice_index, sym, ap, ◌∙◌, arith}
+use Rattle.std.proofs.Common.{◌≡◌, ℕ, ◌+◌, ◌*◌, ◌<◌, true, cond, List, ◌∷◌, length, drop, get_or, slice_index, sym, ap, arith}
 use Rattle.std.proofs.lemmas.Bool.{and_parts}
 use Rattle.std.proofs.lemmas.List.{drop_more}
 use Rattle.std.proofs.lemmas.Nat.{mul-add-lt}
@@ -21,17 +21,14 @@ one_step n count entries number inputs k place filled leading more low at =
     let input = get_or inputs k 0 in
     let later = drop (k + 1) inputs in
     let split : drop k inputs ≡ input ∷ later = drop_more inputs k 0 more in
-    let on : leads n nodes number (input ∷ later) ≡ true = ap (leads n nodes number) (sym split) ∙ leading in
-    let width : length (node_at nodes number) ≡ n = leads-width n nodes number input later on in
-    let count_is : length nodes ≡ count = length-nodes_in n count entries in
-    let among : number < length nodes = none-past nodes number n (omega arith) width in
-    let there : number < count = omega arith in
-    let chosen : slice_index (node_at nodes number) input ≡ slice_index entries place = entry-in n count entries number input there low ∙ ap (slice_index entries) (sym at) in
-    let bound : number * n + input < n * count = mul-add-lt number n input count there low in
+    let on : leads n nodes number (input ∷ later) ≡ true = rw split at leading in
+    let among : number < length nodes = none-past nodes number n (omega (arith, low)) (leads-width n nodes number input later on) in
+    let there : number < count = omega (arith, among, length-nodes_in n count entries) in
+    let chosen : slice_index entries place ≡ slice_index (node_at nodes number) input = rw at (sym (entry-in n count entries number input there low)) in
     record {
-      inside = omega arith;
-      leading = ap (λ e. leads n nodes e later) (sym chosen) ∙ leads-on n nodes number input later on low;
-      found = ap (λ e. follow nodes e later) (sym chosen) ∙ ap (follow nodes number) (sym split);
+      inside = omega (arith, at, filled, mul-add-lt number n input count there low);
+      leading = rw chosen (leads-on n nodes number input later on low);
+      found = rw (chosen, split);
     }
 
 -- the root of a kept tree is its last node
@@ -45,11 +42,10 @@ next-kept n neighbors root entries around =
 pub stores-kept : (n : ℕ) (neighbors : Neighbors) (root : ℕ) (entries : List ℕ) → IsKeptTree n neighbors root entries → Stores n (places_of neighbors) root entries
 stores-kept n neighbors root entries kept =
     let tree = tree_of_kept n neighbors root entries in
-    let leading : leads n tree.nodes (root_of tree) (places_of neighbors) ≡ true = (and_parts (is_quiescent tree) (leads n tree.nodes (root_of tree) (places_of neighbors)) kept.sound).1 in
     record {
       at_most = kept.at_most;
       filled = kept.filled;
-      leading = ap (λ r. leads n tree.nodes r (places_of neighbors)) (sym (root-kept n neighbors root entries)) ∙ leading;
+      leading = rw (root-kept n neighbors root entries) at (and_parts (is_quiescent tree) (leads n tree.nodes (root_of tree) (places_of neighbors)) kept.sound).1;
     }
 
 -- a sound tree

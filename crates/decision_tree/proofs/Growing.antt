@@ -1,9 +1,10 @@
 -- Nodes stay what they are where one more comes behind them.
-use Rattle.std.proofs.Common.{◌≡◌, ◌≢◌, ℕ, ◌+◌, ◌*◌, ◌-◌, ◌<◌, ◌≤◌, ◌==◌, ◌&&◌, Bool, true, List, [], ◌∷◌, ◌++◌, length, slice_index, nat_lt, EachIndex, below_more, inl, inr, refl, sym, ap, ◌∙◌, arith, length-append}
+use Rattle.std.proofs.Common.{◌≡◌, ◌≢◌, ℕ, ◌+◌, ◌*◌, ◌<◌, ◌≤◌, ◌==◌, ◌&&◌, Bool, true, List, [], ◌∷◌, ◌++◌, length, slice_index, nat_lt, EachIndex, below_more, inl, inr, refl, sym, ap, ◌∙◌, arith, length-append}
 use Rattle.std.proofs.lemmas.Bool.{and_parts, cases_eq}
 use Rattle.std.proofs.lemmas.Bool.Decides.{nat_tests}
+use Rattle.std.proofs.lemmas.Grind.{common_steps}
 use Rattle.std.specs.List.{list_all}
-use Rattle.std.proofs.lemmas.List.{get_or_append_left}
+use Rattle.std.proofs.lemmas.List.{get_or_append_left, get_or_push}
 use Rattle.std.proofs.Math.Seq.{get_or-append_seam}
 use Rattle.std.proofs.lemmas.List.Sums.{AllPass-from_list_all}
 use Rattle.decision_tree.specs.declared.descriptors.TreeHead.{TreeHead}
@@ -64,12 +65,10 @@ leads-fitting n depths nodes depth node [] some count leading width fits long =
     let below : IsBelow depths depth (slice_index node 0) = entry-below n depths node depth 0 (omega arith) more fits in
     absurd (omega (arith, below.less, long))
 leads-fitting n depths nodes depth node (input ∷ []) some count leading width fits long =
-    let at : node_at (nodes ++ node ∷ []) (length depths) ≡ node = ap (node_at (nodes ++ node ∷ [])) (sym count) ∙ get_or-append_seam nodes node [] [] in
-    leads-node n (nodes ++ node ∷ []) (length depths) node input [] at width (fits-low n depths node depth long fits)
+    leads-node n (nodes ++ node ∷ []) (length depths) node input [] (get_or_push nodes node [] (length depths) count) width (fits-low n depths node depth long fits)
 leads-fitting n depths nodes depth node (input ∷ second ∷ inputs) some count leading width fits long =
-    let at : node_at (nodes ++ node ∷ []) (length depths) ≡ node = ap (node_at (nodes ++ node ∷ [])) (sym count) ∙ get_or-append_seam nodes node [] [] in
     let more : depth ≢ 1 = λ one. absurd (omega (arith, one, long)) in
-    leads-node n (nodes ++ node ∷ []) (length depths) node input (second ∷ inputs) at width
+    leads-node n (nodes ++ node ∷ []) (length depths) node input (second ∷ inputs) (get_or_push nodes node [] (length depths) count) width
     (list_all-follows _ (λ k. leads n (nodes ++ node ∷ []) k (second ∷ inputs)) node (fits-high n depths node depth more fits)
     (λ k h. let below = is-below depths depth k h in
     leads-append n nodes (node ∷ []) k (second ∷ inputs) some (leading k (second ∷ inputs) below.earlier (omega (arith, below.less, long)))))
@@ -112,23 +111,14 @@ entries-low head depths depth node limits next = elim (cases_eq depth 1) [
 pub kept-push : (head : TreeHead) (depths entries : List ℕ) (depth : ℕ) (node : List ℕ) → IsTreeHead head → AreKept head depths entries → IsNextNode head depths depth node → AreKept head (depths ++ depth ∷ []) (entries ++ node)
 kept-push head depths entries depth node limits kept next =
     let n = head.states in
-    let longer : length (depths ++ depth ∷ []) ≡ length depths + 1 = length-append depths (depth ∷ []) in
-    let last : slice_index (depths ++ depth ∷ []) (length depths) ≡ depth = get_or-append_seam depths depth [] 0 in
-    let before : (k : ℕ) → k < length depths → slice_index (depths ++ depth ∷ []) k ≡ slice_index depths k = λ k h. get_or_append_left depths (depth ∷ []) 0 k h in
     let nodes = nodes_in n (length depths) entries in
-    let more : nodes_in n (length (depths ++ depth ∷ [])) (entries ++ node) ≡ nodes ++ node ∷ [] = ap (λ k. nodes_in n k (entries ++ node)) longer ∙ nodes_in-push n (length depths) entries node kept.filled next.width in
+    let longer : length (depths ++ depth ∷ []) ≡ length depths + 1 = length-append depths (depth ∷ []) in
+    let more : nodes_in n (length (depths ++ depth ∷ [])) (entries ++ node) ≡ nodes ++ node ∷ [] = rw longer (nodes_in-push n (length depths) entries node kept.filled next.width) in
     let low : depth ≤ length depths + 1 = depth-low head depths depth node limits.at_least kept.low next in
     record {
       filled = omega (arith, length-append entries node, longer, kept.filled, next.width, ap (λ k. k * n) longer);
       few = omega (arith, longer, next.room);
-      low = λ k h. below_more (λ k. slice_index (depths ++ depth ∷ []) k ≤ length (depths ++ depth ∷ [])) (length depths)
-          (λ k h. omega (arith, before k h, kept.low k h, longer)) (omega (arith, last, low, longer)) k (omega (arith, h, longer));
-      leading = λ number inputs h long. ap (λ ns. leads n ns number inputs) more
-          ∙ below_more (λ k. length inputs ≡ slice_index (depths ++ depth ∷ []) k → leads n (nodes ++ node ∷ []) k inputs ≡ true) (length depths)
-          (λ k h e. leads-append n nodes (node ∷ []) k inputs (omega (arith, limits.at_least)) (kept.leading k inputs h (e ∙ before k h)))
-          (λ e. leads-fitting n depths nodes depth node inputs (omega (arith, limits.at_least)) (length-nodes_in n (length depths) entries) kept.leading next.width next.fits (e ∙ last))
-          number (omega (arith, h, longer)) long;
-      rooted = λ whole.
-          let at : head.node_count - 1 ≡ length depths = omega (arith, whole, longer) in
-          ap (slice_index (depths ++ depth ∷ [])) at ∙ last ∙ next.rooted (sym longer ∙ whole);
+      low = λ k h. grind (arith, common_steps, kept.low k, low);
+      leading = rw more (leading-push n depths nodes depth node (omega (arith, limits.at_least)) (length-nodes_in n (length depths) entries) kept.leading next.width next.fits);
+      rooted = λ whole. grind (arith, common_steps, next.rooted, whole);
     }

@@ -1,5 +1,5 @@
 -- Lines that say a tree say it under other numbers too.
-use Rattle.std.proofs.Common.{◌≡◌, ℕ, ◌==◌, List, [], ◌∷◌, ◌++◌, length, map, Option, Some, None, Result, Ok, Err, refl, sym, ap, ◌∙◌, subst}
+use Rattle.std.proofs.Common.{◌≡◌, ℕ, ◌==◌, List, [], ◌∷◌, ◌++◌, length, map, Option, Some, None, Result, Ok, Err, refl, sym, ap, ◌∙◌, subst, arith}
 use Rattle.std.specs.Option.{option_map, option_map_or, ok_or}
 use Rattle.basics.specs.Results.{◌>>=◌}
 use Rattle.rule_file.specs.declared.fault.RuleFault.{RuleFault}
@@ -19,6 +19,14 @@ texts lines = map (λ line. line.text) lines
 abbrev pub Found : Type 0
 Found = TreeHead × List NumberedLine
 
+-- what one more descriptor says, on the line of this number
+abbrev pub described : ℕ → Descriptor → List ℕ → Described → Result Described RuleFault
+described number w value d = ok_or (describe d w value) (BadTree number)
+
+-- the head that follows a line, by the descriptor that the line is
+abbrev pub head_by : Described → ℕ → List NumberedLine → (Described → Result Found RuleFault) → Option (Descriptor × List ℕ) → Result Found RuleFault
+head_by d number all later o = option_map_or (λ x. described number x.0 x.1 d >>= later) o (ok_or (head_of d) (BadTree number) >>= λ head. Ok (head, all))
+
 -- a head is read from other lines too, and those left say the same
 abbrev LeavesToo : TreeHead → List NumberedLine → Result Found RuleFault → Type 0
 LeavesToo head left read = (others : List NumberedLine) × (texts left ≡ texts others) × (read ≡ Ok (head, others))
@@ -33,8 +41,7 @@ left_all (Some h) d e lines others head left same is =
 left_all None d e lines others head left same is = absurd cc
 
 left_later : (r q : Result Described RuleFault) (f g : Described → Result Found RuleFault) (head : TreeHead) (left : List NumberedLine) → GivesToo r q → ((d : Described) → f d ≡ Ok (head, left) → LeavesToo head left (g d)) → (r >>= f) ≡ Ok (head, left) → LeavesToo head left (q >>= g)
-left_later (Ok d) q f g head left both later h = subst (λ p. LeavesToo head left (p >>= g)) (sym (both d refl)) (later d h)
-left_later (Err e) q f g head left both later h = absurd cc
+left_later r q f g head left both later h = grind (arith, both, later)
 
 head_from-too : (last final : ℕ) (lines others : List NumberedLine) (d : Described) (head : TreeHead) (left : List NumberedLine) → texts lines ≡ texts others → head_from last d lines ≡ Ok (head, left) → LeavesToo head left (head_from final d others)
 head_from-too last final [] others d head left same h = absurd cc
@@ -42,19 +49,15 @@ head_from-too last final (line ∷ lines) [] d head left same h = absurd cc
 head_from-too last final (line ∷ lines) (other ∷ others) d head left same h =
     let text : line.text ≡ other.text = cc in
     let rest : texts lines ≡ texts others = cc in
-    subst (λ t. LeavesToo head left (by_found final other.number others (other ∷ others) (descriptor_of t))) text (found (descriptor_of line.text) (λ e. head_from-too last final lines others e head left rest) h)
+    subst (λ t. LeavesToo head left (head_by d other.number (other ∷ others) (λ e. head_from final e others) (descriptor_of t))) text (found (descriptor_of line.text) (λ e. head_from-too last final lines others e head left rest) h)
   where
-    by_found : ℕ → ℕ → List NumberedLine → List NumberedLine → Option (Descriptor × List ℕ) → Result Found RuleFault
-    by_found end number later all o = option_map_or (λ x. ok_or (describe d x.0 x.1) (BadTree number) >>= λ e. head_from end e later) o (ok_or (head_of d) (BadTree number) >>= λ head. Ok (head, all))
-
-    found : (o : Option (Descriptor × List ℕ)) → ((e : Described) → head_from last e lines ≡ Ok (head, left) → LeavesToo head left (head_from final e others)) → by_found last line.number lines (line ∷ lines) o ≡ Ok (head, left) → LeavesToo head left (by_found final other.number others (other ∷ others) o)
+    found : (o : Option (Descriptor × List ℕ)) → ((e : Described) → head_from last e lines ≡ Ok (head, left) → LeavesToo head left (head_from final e others)) → head_by d line.number (line ∷ lines) (λ e. head_from last e lines) o ≡ Ok (head, left) → LeavesToo head left (head_by d other.number (other ∷ others) (λ e. head_from final e others) o)
     found None later k = left_all (head_of d) (BadTree line.number) (BadTree other.number) (line ∷ lines) (other ∷ others) head left same k
-    found (Some x) later k = left_later (ok_or (describe d x.0 x.1) (BadTree line.number)) (ok_or (describe d x.0 x.1) (BadTree other.number)) (λ e. head_from last e lines) (λ e. head_from final e others) head left (ok_or-too (describe d x.0 x.1) _ _) later k
+    found (Some x) later k = left_later (described line.number x.0 x.1 d) (described other.number x.0 x.1 d) (λ e. head_from last e lines) (λ e. head_from final e others) head left (ok_or-too (describe d x.0 x.1) _ _) later k
 
 with_line-too : (head : TreeHead) (nodes : List Node) (line other : NumberedLine) → line.text ≡ other.text → GivesToo (with_line head nodes line) (with_line head nodes other)
 with_line-too head nodes line other text =
-    subst (λ t. GivesToo (with_line head nodes line) (with_line head nodes (record { number = other.number; text = t }))) text
-    (ok_or-too (option_map (λ node. nodes ++ node ∷ []) (node_of head nodes line.text)) _ _)
+    rw text (ok_or-too (option_map (λ node. nodes ++ node ∷ []) (node_of head nodes other.text)) _ _)
 
 pub nodes_from-too : (last final : ℕ) (head : TreeHead) (lines others : List NumberedLine) (nodes : List Node) → texts lines ≡ texts others → GivesToo (nodes_from last head nodes lines) (nodes_from final head nodes others)
 nodes_from-too last final head [] [] nodes same = unless-too (length nodes == head.node_count) (Ok nodes) (Ok nodes) _ _ (λ ns h. h)

@@ -1,7 +1,7 @@
 -- Two descriptors, one after the other, may stand in the other order.
-use Rattle.std.proofs.Common.{◌≡◌, ℕ, true, List, [], ◌∷◌, ◌++◌, Option, Some, None, Result, Ok, is_some, refl, arith}
+use Rattle.std.proofs.Common.{◌≡◌, ℕ, true, List, [], ◌∷◌, ◌++◌, Option, Some, None, Result, is_some, refl, arith}
 use Rattle.std.specs.List.{list_all}
-use Rattle.std.specs.Option.{ok_or, option_map, option_map_or}
+use Rattle.std.specs.Option.{ok_or, option_map}
 use Rattle.std.proofs.lemmas.Bool.{and_parts}
 use Rattle.basics.specs.Results.{◌>>=◌}
 use Rattle.rule_file.specs.declared.fault.RuleFault.{RuleFault}
@@ -12,9 +12,9 @@ use Rattle.rule_file.proofs.Readings.{GivesToo, then_too}
 use Rattle.decision_tree.specs.declared.descriptors.Descriptor.{Descriptor}
 use Rattle.decision_tree.specs.declared.descriptors.Descriptor.TheVariants as descriptor
 use Rattle.decision_tree.specs.declared.tree.Neighbors.{Neighbors}
-use Rattle.decision_tree.proofs.Renumbered.{Found, after_head, nodes_from-too}
+use Rattle.decision_tree.proofs.Renumbered.{after_head, described, head_by, nodes_from-too}
 use Rattle.decision_tree.specs.Laws.{DescriptorsInAnyOrder, is_descriptor}
-use Rattle.decision_tree.specs.TreeLines.{Described, describe, descriptor_of, head_from, head_of, if_quiescent, last_number, neighbors_in, node_count_in, nodes_from, once, tree_from, undescribed}
+use Rattle.decision_tree.specs.TreeLines.{Described, describe, descriptor_of, head_from, if_quiescent, last_number, neighbors_in, node_count_in, nodes_from, once, tree_from, undescribed}
 
 -- what is read of a value, and what of it a descriptor puts where none is yet
 record Readings : Type 0 where
@@ -40,16 +40,8 @@ put-swapped : {A : Type 0} (k l : Described → Result A RuleFault) → ((c : De
     → GivesToo (ok_or (put v first d) e >>= λ c. ok_or (put w second c) f >>= k) (ok_or (put w second d) f >>= λ c. ok_or (put v first c) e >>= l)
 put-swapped k l too v w first second e f d z h = grind (arith, too)
 
--- what one more descriptor says, on the line of this number
-abbrev described : ℕ → Descriptor → List ℕ → Described → Result Described RuleFault
-described number w value d = ok_or (describe d w value) (BadTree number)
-
 swapped : {A : Type 0} (k l : Described → Result A RuleFault) → ((c : Described) → GivesToo (k c) (l c)) → (m n : ℕ) (d : Described) (v w : Descriptor) (value other : List ℕ) → GivesToo (described m v value d >>= λ e. described n w other e >>= k) (described n w other d >>= λ e. described m v value e >>= l)
 swapped k l too m n d v w value other = simp describe-puts (put-swapped k l too v w (readings value) (readings other) (BadTree m) (BadTree n) d)
-
--- the head that follows a line, by the descriptor that the line is
-abbrev head_by : Described → ℕ → List NumberedLine → (Described → Result Found RuleFault) → Option (Descriptor × List ℕ) → Result Found RuleFault
-head_by d number all later o = option_map_or (λ x. described number x.0 x.1 d >>= later) o (ok_or (head_of d) (BadTree number) >>= λ head. Ok (head, all))
 
 -- where missing lines show doesn't matter to a head
 last-too : (last final : ℕ) (lines : List NumberedLine) (d : Described) → GivesToo (head_from last d lines) (head_from final d lines)
@@ -57,8 +49,7 @@ last-too last final [] d = λ head h. absurd cc
 last-too last final (line ∷ lines) d = by_found (descriptor_of line.text) (λ e. last-too last final lines e)
   where
     by_found : (o : Option (Descriptor × List ℕ)) → ((e : Described) → GivesToo (head_from last e lines) (head_from final e lines)) → GivesToo (head_by d line.number (line ∷ lines) (λ e. head_from last e lines) o) (head_by d line.number (line ∷ lines) (λ e. head_from final e lines) o)
-    by_found None later = λ head h. h
-    by_found (Some x) later = then_too (described line.number x.0 x.1 d) (described line.number x.0 x.1 d) _ _ (λ e is. is) later
+    by_found o later head h = grind (arith, later)
 
 two_swapped : (last final : ℕ) (o p : Option (Descriptor × List ℕ)) (d : Described) (m n : ℕ) (rest some others : List NumberedLine) (ends : List NumberedLine) (more : List NumberedLine) → is_some o ≡ true → is_some p ≡ true
     → GivesToo (head_by d m some (λ e. head_by e n ends (λ f. head_from last f rest) p) o) (head_by d n others (λ e. head_by e m more (λ f. head_from final f rest) o) p)
@@ -74,8 +65,7 @@ head_from-swapped last final (first ∷ front) rest line next d h k l =
   where
     by_found : (o : Option (Descriptor × List ℕ)) → is_some o ≡ true → ((e : Described) → GivesToo (head_from last e (front ++ line ∷ next ∷ rest)) (head_from final e (front ++ next ∷ line ∷ rest)))
         → GivesToo (head_by d first.number (first ∷ (front ++ line ∷ next ∷ rest)) (λ e. head_from last e (front ++ line ∷ next ∷ rest)) o) (head_by d first.number (first ∷ (front ++ next ∷ line ∷ rest)) (λ e. head_from final e (front ++ next ∷ line ∷ rest)) o)
-    by_found None is later = absurd cc
-    by_found (Some x) is later = then_too (described first.number x.0 x.1 d) (described first.number x.0 x.1 d) _ _ (λ e is. is) later
+    by_found o is later z h = grind (arith, is, later)
 
 pub descriptors-swapped : DescriptorsInAnyOrder
 descriptors-swapped section front line next rest tree h k l =

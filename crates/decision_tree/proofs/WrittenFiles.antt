@@ -1,5 +1,5 @@
 -- Rule files of trees that are written.
-use Rattle.std.proofs.Common.{◌≡◌, sym, refl, subst, ℕ, ◌<◌, ◌≤◌, true, false, List, [], ◌∷◌, ◌++◌, length, map, decimal, length-append, arith}
+use Rattle.std.proofs.Common.{◌≡◌, refl, ℕ, ◌<◌, ◌≤◌, true, false, List, [], ◌∷◌, ◌++◌, length, map, decimal, length-append, arith}
 use Rattle.std.specs.Prelude.{codes}
 use Rattle.std.specs.List.{AllByRecursion, list_all}
 use Rattle.basics.proofs.Lists.{all_append, all_so}
@@ -30,9 +30,7 @@ neighbors-plain Eight = solid-line (codes "num_neighbors=8") (omega arith) (soli
 
 starts-closed : (line : List ℕ) → IsNumberLine line → (0 < length line) × (opens_section line ≡ false)
 starts-closed line starts =
-    let low : 48 ≤ starts.digit = starts.is_digit.0 in
-    let high : starts.digit ≤ 57 = starts.is_digit.1 in
-    subst (λ l. (0 < length l) × (opens_section l ≡ false)) (sym starts.is) (omega arith, differs starts.digit 64 (λ e. omega arith))
+    rw starts.is (omega arith, differs starts.digit 64 (λ e. omega (arith, e, starts.is_digit)))
 
 numbers-plain : (n : ℕ) (ns : List ℕ) → AllByRecursion IsWide (n ∷ ns) → IsPlainLine (node_line (record { depth = n; entries = ns }))
 numbers-plain n ns h =
@@ -45,10 +43,13 @@ nodes-lines head nodes (node ∷ others) limits h low =
     (numbers-plain node.depth node.entries (node-wide head nodes node limits low.0 h.0), nodes-lines head (nodes ++ node ∷ []) others limits h.1 low.1)
 
 lines-plain : (head : TreeHead) (nodes : List Node) → IsTreeHead head → AreNodesOf head nodes → AllByRecursion IsPlainLine (written_lines head nodes)
-lines-plain head nodes limits are =
-    let high = limits.at_most in
-    let few = limits.few in
-    (numbered-plain (codes "num_states=") head.states (omega arith) refl (omega arith), (neighbors-plain head.neighbors, (numbered-plain (codes "num_nodes=") head.node_count (omega arith) refl (omega arith), nodes-lines head [] nodes limits are.each are.low)))
+lines-plain head nodes limits are = (
+  numbered-plain (codes "num_states=") head.states (omega arith) refl (omega (arith, limits.at_most)),
+  (
+    neighbors-plain head.neighbors,
+    (numbered-plain (codes "num_nodes=") head.node_count (omega arith) refl (omega (arith, limits.few)), nodes-lines head [] nodes limits are.each are.low),
+  ),
+)
 
 -- the file of a text that is written
 pub written-file : WrittenIsItsFile

@@ -1,8 +1,8 @@
 -- Trees that are written read back.
-use Rattle.std.proofs.Common.{◌≡◌, ◌∙◌, sym, ap, refl, ℕ, ◌+◌, ◌<◌, ◌≤◌, ◌==◌, ◌&&◌, Bool, true, false, cond, List, [], ◌∷◌, ◌++◌, length, map, take, drop, Option, Some, None, Ok, Err, nat_lt, decimal, append-nil, append_assoc, length-append, arith}
+use Rattle.std.proofs.Common.{◌≡◌, ◌∙◌, ap, refl, ℕ, ◌+◌, ◌<◌, ◌≤◌, ◌==◌, ◌&&◌, Bool, true, false, cond, List, [], ◌∷◌, ◌++◌, length, map, take, drop, Option, Some, None, Ok, Err, nat_lt, decimal, append-nil, append_assoc, length-append, arith}
 use Rattle.std.specs.Prelude.{codes, option_and_then, slice_index}
 use Rattle.std.specs.List.{AllByRecursion, list_all}
-use Rattle.std.specs.Option.{option_map, option_map_or, ok_or}
+use Rattle.std.specs.Option.{option_map, ok_or}
 use Rattle.std.proofs.lemmas.Bool.Decides.{nat_tests}
 use Rattle.basics.specs.Results.{◌>>=◌}
 use Rattle.text_lines.specs.Blanks.{is_blank, trim_end, trim_start}
@@ -22,7 +22,7 @@ use Rattle.decision_tree.specs.declared.descriptors.Descriptor.TheVariants as de
 use Rattle.decision_tree.specs.declared.descriptors.TreeHead.{TreeHead}
 use Rattle.decision_tree.specs.Kept.{IsTreeHead}
 use Rattle.decision_tree.specs.Laws.{WrittenMeansTheSame}
-use Rattle.decision_tree.specs.TreeLines.{Described, Node, describe, descriptor_named, descriptor_of, do_entries_fit, head_from, head_of, if_quiescent, is_next, last_number, most_nodes, node_from, node_of, nodes_from, numbers_in, tree_from, undescribed}
+use Rattle.decision_tree.specs.TreeLines.{Described, Node, describe, descriptor_named, descriptor_of, do_entries_fit, head_from, head_of, if_quiescent, is_next, last_number, most_nodes, node_of, nodes_from, numbers_in, tree_from, undescribed}
 use Rattle.decision_tree.proofs.Growing.{is_next-node}
 use Rattle.decision_tree.specs.WrittenTree.{EachIsNext, neighbors_text, node_line, written_lines, written_section}
 
@@ -44,15 +44,11 @@ nodes-line n h =
 
 -- one descriptor after another
 head-step : (last : ℕ) (d e : Described) (line : NumberedLine) (lines : List NumberedLine) (x : Descriptor) (value : List ℕ) → descriptor_of line.text ≡ Some (x, value) → describe d x value ≡ Some e → head_from last d (line ∷ lines) ≡ head_from last e lines
-head-step last d e line lines x value is said =
-    ap (λ read. option_map_or (λ x. ok_or (describe d x.0 x.1) (BadTree line.number) >>= λ e. head_from last e lines) read (ok_or (head_of d) (BadTree line.number) >>= λ head. Ok (head, line ∷ lines))) is
-    ∙ ap (λ read. ok_or read (BadTree line.number) >>= λ e. head_from last e lines) said
+head-step last d e line lines x value is said = rw (is, said)
 
 -- and the line behind them
 head-end : (last : ℕ) (d : Described) (head : TreeHead) (line : NumberedLine) (lines : List NumberedLine) → descriptor_of line.text ≡ None → head_of d ≡ Some head → head_from last d (line ∷ lines) ≡ Ok (head, line ∷ lines)
-head-end last d head line lines is said =
-    ap (λ read. option_map_or (λ x. ok_or (describe d x.0 x.1) (BadTree line.number) >>= λ e. head_from last e lines) read (ok_or (head_of d) (BadTree line.number) >>= λ head. Ok (head, line ∷ lines))) is
-    ∙ ap (λ read. ok_or read (BadTree line.number) >>= λ head. Ok (head, line ∷ lines)) said
+head-end last d head line lines is said = rw (is, said)
 
 neighbors-step : (last : ℕ) (states : ℕ) (neighbors : Neighbors) (number : ℕ) (lines : List NumberedLine) → head_from last (record undescribed { states = Some states }) (record { number = number; text = codes "num_neighbors=" ++ neighbors_text neighbors } ∷ lines) ≡ head_from last (record { states = Some states; neighbors = Some neighbors; node_count = None }) lines
 neighbors-step last states Four number lines = refl
@@ -69,16 +65,12 @@ parts-blank = record { space = refl; digit = λ b h. visible-solid b (digit-visi
 
 numbers-read : (ns : List ℕ) → AllByRecursion IsWide ns → numbers_in (map decimal ns) ≡ Some ns
 numbers-read [] h = refl
-numbers-read (n ∷ ns) h =
-    ap (λ read. option_and_then (λ n. option_map (λ ns. n ∷ ns) (numbers_in (map decimal ns))) read) (number_of-decimal n h.0)
-    ∙ ap (option_map (λ ns. n ∷ ns)) (numbers-read ns h.1)
+numbers-read (n ∷ ns) h = rw (number_of-decimal n h.0, numbers-read ns h.1)
 
 -- the line of a node that may stand there says it
 node-read : (head : TreeHead) (nodes : List Node) (node : Node) → AllByRecursion IsWide (node.depth ∷ node.entries) → is_next head (map (λ n. n.depth) nodes) node ≡ true → node_of head nodes (node_line node) ≡ Some node
 node-read head nodes node wide is =
-    ap (λ read. option_and_then (λ numbers. option_and_then (λ node. cond (is_next head (map (λ n. n.depth) nodes) node) (Some node) None) (node_from numbers)) read)
-    (ap numbers_in (words-numbers is_blank parts-blank node.depth node.entries wide) ∙ numbers-read (node.depth ∷ node.entries) wide)
-    ∙ ap (λ v. cond v (Some node) None) is
+    rw (words-numbers is_blank parts-blank node.depth node.entries wide, numbers-read (node.depth ∷ node.entries) wide, is)
 
 -- numbers below the count of nodes are written in full
 all-wide : (p : ℕ → Bool) (entries : List ℕ) → ((n : ℕ) → p n ≡ true → n < most_nodes) → list_all p entries ≡ true → AllByRecursion IsWide entries
@@ -101,8 +93,7 @@ node-wide head nodes node limits low h =
 -- all nodes read back, one behind another
 nodes-taken : (last number : ℕ) (head : TreeHead) (nodes others : List Node) → IsTreeHead head → length nodes + length others ≡ head.node_count → EachIsNext head nodes others → AllByRecursion (λ node. node.depth ≤ head.node_count) others → nodes_from last head nodes (numbered_from number (map node_line others)) ≡ Ok (nodes ++ others)
 nodes-taken last number head nodes [] limits all h low =
-    let is : (length nodes == head.node_count) ≡ true = grind (arith, nat_tests) in
-    ap (λ v. cond v (Ok nodes) (Err (BadTree last))) is ∙ ap Ok (sym (append-nil nodes))
+    grind (arith, nat_tests, append-nil nodes)
 nodes-taken last number head nodes (node ∷ others) limits all h low =
     ap (λ read. ok_or (option_map (λ node. nodes ++ node ∷ []) read) (BadTree number) >>= λ more. nodes_from last head more (numbered_from (number + 1) (map node_line others)))
     (node-read head nodes node (node-wide head nodes node limits low.0 h.0) h.0)
@@ -112,21 +103,17 @@ nodes-taken last number head nodes (node ∷ others) limits all h low =
 -- the head that is written reads back
 head-taken : (last number : ℕ) (head : TreeHead) (node : Node) (others : List Node) → IsTreeHead head → AllByRecursion IsWide (node.depth ∷ node.entries) → head_from last undescribed (numbered_from number (written_lines head (node ∷ others))) ≡ Ok (head, numbered_from (number + 1 + 1 + 1) (map node_line (node ∷ others)))
 head-taken last number head node others limits wide =
-    let low = limits.at_least in
-    let high = limits.at_most in
-    let some = limits.some in
-    let few = limits.few in
     let behind = numbered_from (number + 1 + 1 + 1) (map node_line (node ∷ others)) in
     let third : NumberedLine = record { number = number + 1 + 1; text = codes "num_nodes=" ++ decimal head.node_count } in
     let second : NumberedLine = record { number = number + 1; text = codes "num_neighbors=" ++ neighbors_text head.neighbors } in
     let first : NumberedLine = record { number = number; text = codes "num_states=" ++ decimal head.states } in
     head-step last undescribed (record undescribed { states = Some head.states }) first (second ∷ third ∷ behind) descriptor.States (decimal head.states)
-    (states-line head.states (omega arith))
-    (ap (option_map (λ n. record undescribed { states = Some n })) (within-read least_states most_states head.states (omega arith) low high))
+    (states-line head.states (omega (arith, limits.at_most)))
+    (ap (option_map (λ n. record undescribed { states = Some n })) (within-read least_states most_states head.states (omega (arith, limits.at_most)) limits.at_least limits.at_most))
     ∙ neighbors-step last head.states head.neighbors (number + 1) (third ∷ behind)
     ∙ head-step last (record { states = Some head.states; neighbors = Some head.neighbors; node_count = None }) (record { states = Some head.states; neighbors = Some head.neighbors; node_count = Some head.node_count }) third behind descriptor.Nodes (decimal head.node_count)
-    (nodes-line head.node_count (omega arith))
-    (ap (option_map (λ n. record { states = Some head.states; neighbors = Some head.neighbors; node_count = Some n })) (within-read 1 most_nodes head.node_count (omega arith) some few))
+    (nodes-line head.node_count (omega (arith, limits.few)))
+    (ap (option_map (λ n. record { states = Some head.states; neighbors = Some head.neighbors; node_count = Some n })) (within-read 1 most_nodes head.node_count (omega (arith, limits.few)) limits.some limits.few))
     ∙ head-end last (record { states = Some head.states; neighbors = Some head.neighbors; node_count = Some head.node_count }) head (record { number = number + 1 + 1 + 1; text = node_line node }) (numbered_from (number + 1 + 1 + 1 + 1) (map node_line others))
     (numbers-undescribed node.depth node.entries wide) refl
 
@@ -137,10 +124,8 @@ written-means opened head (node ∷ others) limits are quiet =
     let nodes = node ∷ others in
     let section = written_section opened head nodes in
     let last = last_number section.opened section.lines in
-    let each = are.each in
-    let low = are.low in
     ap (λ found. found >>= λ f. nodes_from last f.0 [] f.1 >>= λ ns. if_quiescent (tree_from f.0 ns))
-    (head-taken last (opened + 1) head node others limits (node-wide head [] node limits low.0 each.0))
+    (head-taken last (opened + 1) head node others limits (node-wide head [] node limits are.low.0 are.each.0))
     ∙ ap (λ read. read >>= λ ns. if_quiescent (tree_from head ns))
-    (nodes-taken last (opened + 1 + 1 + 1 + 1) head [] nodes limits (omega (arith, are.count)) each low)
+    (nodes-taken last (opened + 1 + 1 + 1 + 1) head [] nodes limits (omega (arith, are.count)) are.each are.low)
     ∙ ap (λ v. cond v (Ok (tree_from head nodes)) (Err NotQuiescent)) quiet
