@@ -263,6 +263,12 @@ is-later : (nodes : List Listed) (input number : ℕ) → All (λ (x : Listed). 
 is-later [] input number later inside at = absurd (omega (arith, inside))
 is-later (node ∷ nodes) input number later inside at = omega (arith, at, get_or-map (λ (n : Listed). n.input) (node ∷ nodes) number node 0 inside, later number node inside)
 
+-- what comes with the node that a list gets
+pub record IsMade (states : ℕ) (layers : List Layer) (input : ℕ) (list : List ℕ) (old new : Found) (number : ℕ) : Type 0 where
+  pub numbered : IsNumberOf states layers new.nodes.keys input list number
+  pub grows : Grows states layers input input list old new
+  pub last : All (λ (n : Listed). input < n.input) old.nodes.keys → number + 1 ≡ length new.nodes.keys
+
 module _ (states : ℕ) (layers : List Layer) (room input : ℕ) (list : List ℕ) (old mid : Found) (node : Listed) (fit : AreFit states layers room) (tails : AreTailsAt layers input list) (grown : Grows states layers input (input + 1) list old mid) (are : AreEntries states layers mid.nodes.keys input list node.numbers.items) (same : node.input ≡ input) where
   abbrev before : List Listed
   before = mid.nodes.keys
@@ -315,21 +321,21 @@ module _ (states : ℕ) (layers : List Layer) (room input : ℕ) (list : List �
       more = [];
       joined = e ∙ sym (append-nil before);
       late = All-nil (λ (n : Listed). input ≤ n.input);
-      nodes = subst (AreNodes states (length layers)) (sym e) grown.known.nodes;
-      begun = λ give begun left. subst (AreBegun states (length layers) give) (sym e) (grown.begun give begun left);
+      nodes = rw e grown.known.nodes;
+      begun = λ give begun left. rw e (grown.begun give begun left);
     }
     brings (inr e) = record {
       more = node ∷ [];
       joined = e;
       late = All-cons (λ (n : Listed). input ≤ n.input) node [] (omega (arith, same)) (All-nil (λ (n : Listed). input ≤ n.input));
-      nodes = subst (AreNodes states (length layers)) (sym e) (nodes-with (subst (IsDistinct same_listed) e apart));
-      begun = λ give begun left. subst (AreBegun states (length layers) give) (sym e) (begun-with give begun left);
+      nodes = rw e (nodes-with (rw e at apart));
+      begun = λ give begun left. rw e (begun-with give begun left);
     }
 
     brought : Brings
     brought = brings put
 
-    pub made-number : IsNumberOf states layers new.nodes.keys input list number
+    made-number : IsNumberOf states layers new.nodes.keys input list number
     made-number = number-made states layers new.nodes.keys node input list number fit.fit tails same
         (rw brought.joined (AreEntries-append before brought.more states layers input list node.numbers.items some are)) stored
 
@@ -343,7 +349,7 @@ module _ (states : ℕ) (layers : List Layer) (room input : ℕ) (list : List �
       | false ↦ λ e. rw brought.joined (IsNumberOf-append before brought.more states layers q.input q.numbers.items n some (grown.known.numbers q n (grind (arith, numbers q, is, e))))
     ] refl
 
-    pub made-grows : Grows states layers input input list old new
+    made-grows : Grows states layers input input list old new
     made-grows = record {
       known = record { few = few; nodes = brought.nodes; numbers = remembers };
       more = grown.more ++ brought.more;
@@ -353,7 +359,7 @@ module _ (states : ℕ) (layers : List Layer) (room input : ℕ) (list : List �
     }
 
     -- where no node is of this input yet, it is the last
-    pub made-last : All (λ (n : Listed). input < n.input) old.nodes.keys → number + 1 ≡ length new.nodes.keys
+    made-last : All (λ (n : Listed). input < n.input) old.nodes.keys → number + 1 ≡ length new.nodes.keys
     made-last later = by put
       where
         beyond : All (λ (n : Listed). input < n.input) before
@@ -365,6 +371,9 @@ module _ (states : ℕ) (layers : List Layer) (room input : ℕ) (list : List �
           | inl l ↦ absurd (is-later before input number beyond l (grind (arith, common_steps, map-append, e, stored.input, same)))
           | inr past ↦ grind (arith, common_steps, stored.inside, e)
         ]
+
+    pub made : IsMade states layers input list old new number
+    made = record { numbered = made-number; grows = made-grows; last = made-last }
 
 -- a number that is remembered is of no later input
 pub remembered-last : (states : ℕ) (layers : List Layer) (nodes : List Listed) (input : ℕ) (list : List ℕ) (number n : ℕ) → IsNumberOf states layers nodes input list number → All (λ (x : Listed). input < x.input) nodes → n + 1 ≡ length nodes
@@ -427,4 +436,4 @@ AreBegun-none states depth give nodes none k l = absurd (omega (arith, l, ap len
 
 -- a node's width, wherever it is looked at
 pub nodes-wide : (states depth : ℕ) (nodes : List Listed) → AreNodes states depth nodes → All (λ (node : Entries). length node ≡ states) (entries_in nodes)
-nodes-wide states depth nodes are k d l = ap length (get_or_default (entries_in nodes) k d [] l) ∙ (are.each k (omega (arith, l, length-listed nodes))).wide
+nodes-wide states depth nodes are k d l = rw (get_or_default (entries_in nodes) k d [] l) (are.each k (omega (arith, l, length-listed nodes))).wide

@@ -108,22 +108,15 @@ some-nodes neighborhood states nodes some leading = by (places_of (neighbors_of 
 
 -- the tree that is kept has these nodes
 pub kept-for : (table : Table) (nodes : List Entries) (count : ℕ) (entries : List ℕ) → 1 ≤ count → nodes_in table.states count entries ≡ nodes → tree_of_kept table.states (neighbors_of table.neighborhood) (count - 1) entries ≡ tree_for table nodes
-kept-for table nodes count entries some same =
-    let again : count - 1 + 1 ≡ count = omega (arith, some) in
-    ap (tree_for table) (ap (λ n. nodes_in table.states n entries) again ∙ same)
+kept-for table nodes count entries some same = let again : count - 1 + 1 ≡ count = omega (arith, some) in rw (again, same)
 
 -- it may be kept
 pub may-keep : (table : Table) (nodes : List Entries) (count : ℕ) (entries : List ℕ) → 2 ≤ table.states → table.states ≤ 256 → 1 ≤ count → length entries ≡ count * table.states → nodes_in table.states count entries ≡ nodes → is_sound (tree_for table nodes) ≡ true → IsKeptTree table.states (neighbors_of table.neighborhood) (count - 1) entries
 may-keep table nodes count entries least most some filled same sound =
     let again : count - 1 + 1 ≡ count = omega (arith, some) in
-    record {
-      at_least = least;
-      at_most = most;
-      filled = filled ∙ ap (λ n. n * table.states) (sym again);
-      sound = ap is_sound (kept-for table nodes count entries some same) ∙ sound;
-    }
+    record { at_least = least; at_most = most; filled = rw again filled; sound = ap is_sound (kept-for table nodes count entries some same) ∙ sound }
 
 -- and is a translation
 pub translates-kept : (table : Table) (nodes : List Entries) (count : ℕ) (entries : List ℕ) → 1 ≤ count → nodes_in table.states count entries ≡ nodes → ((around : List ℕ) → All (λ s. s < table.states) around → next (tree_for table nodes) around ≡ table_rule.next table around) → Translates table (tree_of_kept table.states (neighbors_of table.neighborhood) (count - 1) entries)
 translates-kept table nodes count entries some is same =
-    subst (Translates table) (sym (kept-for table nodes count entries some is)) (record { states = refl; neighbors = refl; same = same })
+    rw (kept-for table nodes count entries some is) (record { states = refl; neighbors = refl; same = same })
