@@ -1,11 +1,11 @@
 -- Beginnings of a table's inputs, by those of its rows.
-use Rattle.std.proofs.Common.{◌≡◌, inl, inr, ℕ, ◌+◌, ◌<◌, List, [], ◌∷◌, ◌++◌, All, length, map, slice_index, slice_index_or, unwrap_or, refl, sym, ap, subst, ◌∙◌, arith}
+use Rattle.std.proofs.Common.{◌≡◌, inl, inr, ℕ, ◌<◌, List, [], ◌∷◌, ◌++◌, All, length, map, slice_index, slice_index_or, refl, sym, ap, subst, ◌∙◌, arith}
 use Rattle.std.proofs.lemmas.List.{get_or-map, length-map}
-use Rattle.std.proofs.lemmas.List.Elements.{All-append, All-from_get_or, All-from_recursion, All-map}
+use Rattle.std.proofs.lemmas.List.Elements.{All-append, All-from_recursion}
 use Rattle.worlds.specs.Step.{AreNineBelow}
 use Rattle.table_symmetry.specs.declared.expansion.Expanded.{Expanded}
-use Rattle.table_symmetry.specs.Expanded.{first_match}
 use Rattle.table_symmetry.specs.NextState as table_rule
+use Rattle.table_symmetry.specs.Rows.{AreExpanded}
 use Rattle.table_symmetry.specs.Table.{Table}
 use Rattle.decision_tree.specs.declared.tree.Neighbors.{Neighbors}
 use Rattle.decision_tree.specs.declared.tree.Neighbors.TheVariants.{Four, Eight}
@@ -31,16 +31,10 @@ around-below : (n : ℕ) (neighbors : Neighbors) (inputs : List ℕ) → 0 < n �
 around-below n neighbors inputs some low = by neighbors (state-below n inputs some low)
   where
     by : (neighbors : Neighbors) → ((k : ℕ) → slice_index inputs k < n) → AreNineBelow n (around_of neighbors inputs)
-    by Four at = record {
-      nine = refl;
-      below = All-from_recursion (λ (s : ℕ). s < n) (around_of Four inputs) (at 4, (at 0, (some, (at 2, (some, (at 3, (some, (at 1, (some, tt)))))))));
-    }
-    by Eight at = record {
-      nine = refl;
-      below = All-from_recursion (λ (s : ℕ). s < n) (around_of Eight inputs) (at 8, (at 4, (at 1, (at 6, (at 3, (at 7, (at 2, (at 5, (at 0, tt)))))))));
-    }
+    by Four at = record { nine = refl; below = All-from_recursion (λ s. s < n) (around_of Four inputs) (at 4, (at 0, (some, (at 2, (some, (at 3, (some, (at 1, (some, tt))))))))) }
+    by Eight at = record { nine = refl; below = All-from_recursion (λ s. s < n) (around_of Eight inputs) (at 8, (at 4, (at 1, (at 6, (at 3, (at 7, (at 2, (at 5, (at 0, tt))))))))) }
 
-module _ (table : Table) (rows : List Expanded) (count : ℕ) (some : 0 < table.states) (full : All (λ (row : Expanded). length row.inputs ≡ length (table_rule.places_of table.neighborhood) + 1) rows) (first : (around : List ℕ) → unwrap_or (first_match rows (table_rule.inputs_of table.neighborhood around)) (slice_index around 0) ≡ table_rule.next table around) (needed : NeedStarts table.states (length (order_of table.neighborhood)) (λ k inputs. rows_give (order_of table.neighborhood) rows inputs) 1 count) where
+module _ (table : Table) (rows : List Expanded) (count : ℕ) (some : 0 < table.states) (are : AreExpanded table rows) (needed : NeedStarts table.states (length (order_of table.neighborhood)) (λ k inputs. rows_give (order_of table.neighborhood) rows inputs) 1 count) where
   abbrev depth : ℕ
   depth = length (order_of table.neighborhood)
 
@@ -53,7 +47,7 @@ module _ (table : Table) (rows : List Expanded) (count : ℕ) (some : 0 < table.
 
   -- what the rows give for inputs is the next state of such states
   rows-for : (inputs : List ℕ) → length inputs ≡ depth → rows_give (order_of table.neighborhood) rows inputs ≡ table_rule.next table (states_for inputs)
-  rows-for inputs long = ap (rows_give (order_of table.neighborhood) rows) (sym (inputs-for inputs long)) ∙ rows-next table rows full first (states_for inputs)
+  rows-for inputs long = ap (rows_give (order_of table.neighborhood) rows) (sym (inputs-for inputs long)) ∙ rows-next table rows are (states_for inputs)
 
   two-nodes : (i j : ℕ) → i < count → j < count → StartsApart table.states depth (λ k inputs. rows_give (order_of table.neighborhood) rows inputs) (start_at needed.starts i) (start_at needed.starts j) → NeedTwoNodes table (start_at needed.starts i).inputs (start_at needed.starts j).inputs
   two-nodes i j li lj (inl longer) = inl longer
@@ -75,13 +69,13 @@ module _ (table : Table) (rows : List Expanded) (count : ℕ) (some : 0 < table.
   pub needs-nodes : NeedsNodes table count
   needs-nodes =
       let beginnings = map (λ (start : Start). start.inputs) needed.starts in
-      let at : (k : ℕ) → k < count → slice_index_or beginnings k [] ≡ (start_at needed.starts k).inputs = λ k l. get_or-map (λ (start : Start). start.inputs) needed.starts k (record { number = 0; inputs = [] }) [] (omega (arith, l, needed.many)) in
+      let each : (k : ℕ) (d : List ℕ) → k < count → slice_index_or beginnings k d ≡ (start_at needed.starts k).inputs = λ k d l.
+      get_or-map (λ (start : Start). start.inputs) needed.starts k (record { number = 0; inputs = [] }) d (omega (arith, l, needed.many)) in
+      let many : length beginnings ≡ count = length-map needed.starts (λ (start : Start). start.inputs) ∙ needed.many in
       record {
         beginnings = beginnings;
-        many = length-map needed.starts (λ (start : Start). start.inputs) ∙ needed.many;
-        below = All-map (All (λ s. s < table.states)) (λ (start : Start). start.inputs) needed.starts (All-from_get_or (λ (start : Start). All (λ s. s < table.states) start.inputs) needed.starts (record { number = 0; inputs = [] }) (λ k l. (needed.are k (omega (arith, l, needed.many))).below));
-        short = All-map (λ (b : List ℕ). length b < length (places_of (neighbors_of table.neighborhood))) (λ (start : Start). start.inputs) needed.starts (All-from_get_or (λ (start : Start). length start.inputs < length (places_of (neighbors_of table.neighborhood))) needed.starts (record { number = 0; inputs = [] }) (λ k l. omega (arith, (needed.are k (omega (arith, l, needed.many))).short, places-many table.neighborhood)));
-        apart = λ i j less l.
-            let under : i < count = omega (arith, less, l) in
-            subst (NeedTwoNodes table (slice_index_or beginnings i [])) (sym (at j l)) (subst (λ b. NeedTwoNodes table b (start_at needed.starts j).inputs) (sym (at i under)) (two-nodes i j under l (needed.apart i j less l)));
+        many = many;
+        below = λ k d l. rw (each k d (omega (arith, l, many))) (needed.are k (omega (arith, l, many))).below;
+        short = λ k d l. rw (each k d (omega (arith, l, many))) (omega (arith, (needed.are k (omega (arith, l, many))).short, places-many table.neighborhood));
+        apart = λ i j less l. rw (each i [] (omega (arith, less, l)), each j [] l) (two-nodes i j (omega (arith, less, l)) l (needed.apart i j less l));
       }

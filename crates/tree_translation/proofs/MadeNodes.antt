@@ -4,7 +4,7 @@ use Rattle.std.specs.List.{IsDistinct, list_all, list_any, position_or_len, slic
 use Rattle.std.specs.HashMap.{get}
 use Rattle.std.proofs.lemmas.Bool.{and_from, and_parts, cases_eq, cases_lt, cases_order, eq-eqb, eqb-true}
 use Rattle.std.proofs.lemmas.List.{drop_more, get_or-map, length-append, length-drop, length-map, map-append, nil_from_length}
-use Rattle.std.proofs.lemmas.List.Elements.{All-append, All-cons, All-nil, All-push, All-tail, All-weaker}
+use Rattle.std.proofs.lemmas.List.Elements.{All-append, All-cons, All-nil, All-push, All-tail}
 use Rattle.std.proofs.lemmas.List.Sums.{list_all-from_AllPass}
 use Rattle.std.proofs.lemmas.Map.Keys.{apart_from_distinct}
 use Rattle.std.proofs.lemmas.Option.{get_or_from_slice_get, slice_get_within}
@@ -291,14 +291,12 @@ module _ (states : ℕ) (layers : List Layer) (room input : ℕ) (list : List �
   nodes-with : IsDistinct same_listed after → AreNodes states (length layers) after
   nodes-with apart = AreNodes-push states (length layers) before grown.known.nodes node is-node apart
 
-  entries-with : AreEntries states layers after input list node.numbers.items
-  entries-with = AreEntries-append before (node ∷ []) states layers input list node.numbers.items some are
-
   begun-with : (give : List ℕ → ℕ) → AreBegun states (length layers) give old.nodes.keys → IsLeft states layers give input list → AreBegun states (length layers) give after
   begun-with give begun left k l =
       below_more (IsBegun states (length layers) give after) (length before)
       (λ m h. IsBegun-append states (length layers) before grown.known.nodes give (node ∷ []) m h (grown.begun give begun left m h))
-      (IsBegun-left states layers after input list (length before) give left (number-made states layers after node input list (length before) fit.fit tails same entries-with (grind (arith, common_steps, map-append))))
+      (IsBegun-left states layers after input list (length before) give left (number-made states layers after node input list (length before) fit.fit tails same
+      (AreEntries-append before (node ∷ []) states layers input list node.numbers.items some are) (grind (arith, common_steps, map-append))))
       k (omega (arith, l, length-append before (node ∷ [])))
 
   -- where no more nodes may come, too many are needed
@@ -354,7 +352,7 @@ module _ (states : ℕ) (layers : List Layer) (room input : ℕ) (list : List �
       known = record { few = few; nodes = brought.nodes; numbers = remembers };
       more = grown.more ++ brought.more;
       joined = brought.joined ∙ ap (λ xs. xs ++ brought.more) grown.joined ∙ append_assoc old.nodes.keys grown.more brought.more;
-      late = All-append (λ (n : Listed). input ≤ n.input) grown.more brought.more (All-weaker (λ (n : Listed). input + 1 ≤ n.input) (λ (n : Listed). input ≤ n.input) (λ n h. omega (arith, h)) grown.more grown.late) brought.late;
+      late = All-append (λ (n : Listed). input ≤ n.input) grown.more brought.more (λ k d l. omega (arith, grown.late k d l)) brought.late;
       begun = brought.begun;
     }
 
@@ -363,7 +361,7 @@ module _ (states : ℕ) (layers : List Layer) (room input : ℕ) (list : List �
     made-last later = by put
       where
         beyond : All (λ (n : Listed). input < n.input) before
-        beyond = subst (All (λ (n : Listed). input < n.input)) (sym grown.joined) (All-append (λ (n : Listed). input < n.input) old.nodes.keys grown.more later (All-weaker (λ (n : Listed). input + 1 ≤ n.input) (λ (n : Listed). input < n.input) (λ n h. omega (arith, h)) grown.more grown.late))
+        beyond = rw grown.joined (All-append (λ (n : Listed). input < n.input) old.nodes.keys grown.more later (λ k d l. omega (arith, grown.late k d l)))
 
         by : IsGrownBy mid.nodes.keys node new.nodes.keys → number + 1 ≡ length new.nodes.keys
         by (inl e) = absurd (is-later before input number beyond (grind (arith, stored.inside, e)) (ap (λ ns. input_at ns number) (sym e) ∙ stored.input ∙ same))

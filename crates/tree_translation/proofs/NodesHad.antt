@@ -1,14 +1,13 @@
 -- Trees have as many nodes as their tables need.
-use Rattle.std.proofs.Common.{◌≡◌, ◌∙◌, ℕ, suc, ◌+◌, ◌-◌, ◌<◌, ◌≤◌, List, [], ◌∷◌, ◌++◌, All, Ok, length, slice_index, slice_index_or, refl, sym, ap, subst, inl, inr, arith}
+use Rattle.std.proofs.Common.{◌≡◌, ◌∙◌, ℕ, suc, ◌+◌, ◌-◌, ◌<◌, ◌≤◌, List, [], ◌∷◌, ◌++◌, All, Ok, length, slice_index, slice_index_or, refl, sym, ap, inl, inr, arith}
 use Rattle.std.proofs.lemmas.Bool.{cases_order}
 use Rattle.std.proofs.lemmas.List.{length-map}
-use Rattle.std.proofs.lemmas.List.Elements.{All-head, All-tail}
+use Rattle.std.proofs.lemmas.List.Elements.{All-tail}
 use Rattle.indexmap.proofs.IndexTableLemmas.Probe.{pigeonhole}
 use Rattle.rule_file.specs.RuleFile.{Section}
 use Rattle.table_symmetry.specs.NextState as table_rule
 use Rattle.table_symmetry.specs.Table.{Table}
 use Rattle.decision_tree.specs.declared.tree.Neighbors.{Neighbors}
-use Rattle.decision_tree.specs.declared.tree.Neighbors.TheVariants.{Four, Eight}
 use Rattle.tree_translation.specs.NodesNeeded.{NeedTwoNodes, NeedsNodes}
 use Rattle.tree_translation.specs.Translation.{Translates, neighbors_of}
 use Rattle.decision_tree.specs.Tree.{Entries, Tree, follow, inputs_of, places_of, root_of}
@@ -17,8 +16,7 @@ use Rattle.decision_tree.proofs.SaidNodes.{AreGraded, IsSaid, depths_of, entries
 
 -- the root is as deep as there are inputs
 deep-root : (neighbors : Neighbors) → depth_of_root neighbors ≡ length (places_of neighbors)
-deep-root Four = refl
-deep-root Eight = refl
+deep-root neighbors = grind arith
 
 -- what is followed for inputs and more inputs is followed for the latter from where the former lead
 follow-on : (nodes : List Entries) (number : ℕ) (first rest : List ℕ) → follow nodes number (first ++ rest) ≡ follow nodes (follow nodes number first) rest
@@ -34,9 +32,10 @@ module _ (states : ℕ) (depths : List ℕ) (nodes : List Entries) (graded : Are
   leads-to : (inputs : List ℕ) (number depth : ℕ) → number < length depths → slice_index depths number ≡ length inputs + suc depth → All (λ s. s < states) inputs → LeadsTo (follow nodes number inputs) depth
   leads-to [] number depth inside is below = record { inside = inside; deep = omega (arith, is) }
   leads-to (input ∷ inputs) number depth inside is below =
-      let under : input < states = All-head (λ s. s < states) input inputs below in
+      let under : input < states = below 0 input (omega arith) in
       let deep : 2 ≤ slice_index depths number = omega (arith, is) in
-      leads-to inputs (led nodes number input) depth (graded.inside number input inside under deep) (omega (arith, graded.down number input inside under deep, is)) (All-tail (λ s. s < states) input inputs below)
+      let next = graded.inside number input inside under deep in
+      leads-to inputs (led nodes number input) depth next (omega (arith, graded.down number input inside under deep, is)) (All-tail (λ s. s < states) input inputs below)
 
 module _ (table : Table) (count : ℕ) (needed : NeedsNodes table count) (tree : Tree) (said : IsSaid tree) (same : Translates table tree) where
   abbrev beginning : ℕ → List ℕ
@@ -58,13 +57,12 @@ module _ (table : Table) (count : ℕ) (needed : NeedsNodes table count) (tree :
   graded : AreGraded table.states (depths_of said.nodes) tree.nodes
   graded =
       let states : said.head.states ≡ table.states = ap (λ (t : Tree). t.states) said.is ∙ same.states in
-      subst (λ n. AreGraded n (depths_of said.nodes) tree.nodes) states (subst (AreGraded said.head.states (depths_of said.nodes)) nodes-said said.said.graded)
+      rw (nodes-said, states) at said.said.graded
 
   root-deep : slice_index (depths_of said.nodes) (root_of tree) ≡ length (places_of (neighbors_of table.neighborhood))
   root-deep =
-      let some : 0 < length said.nodes = omega (arith, said.all, said.some) in
       let neighbors : said.head.neighbors ≡ neighbors_of table.neighborhood = ap (λ (t : Tree). t.neighbors) said.is ∙ same.neighbors in
-      ap (λ n. slice_index (depths_of said.nodes) (n - 1)) many ∙ said.said.rooted some said.all ∙ deep-root said.head.neighbors ∙ ap (λ n. length (places_of n)) neighbors
+      rw (many, ← neighbors) (said.said.rooted (omega (arith, said.all, said.some)) said.all ∙ deep-root said.head.neighbors)
 
   short : (k : ℕ) → k < count → length (beginning k) < length (places_of (neighbors_of table.neighborhood))
   short k l = needed.short k [] (omega (arith, l, needed.many))

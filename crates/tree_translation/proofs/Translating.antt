@@ -1,7 +1,7 @@
 -- A table's rows, and the inputs of its tree.
-use Rattle.std.proofs.Common.{◌≡◌, ℕ, suc, ◌+◌, ◌*◌, ◌-◌, ◌<◌, ◌≤◌, true, cond, List, [], ◌∷◌, length, slice_index, Option, Some, None, unwrap_or, refl, sym, ap, subst, ◌∙◌, arith}
-use Rattle.std.specs.Prelude.{All, slice_index_or}
-use Rattle.std.specs.Option.{option_or}
+use Rattle.std.proofs.Common.{◌≡◌, ℕ, suc, ◌+◌, ◌*◌, ◌-◌, ◌<◌, ◌≤◌, Bool, true, cond, List, [], ◌∷◌, length, slice_index, Option, Some, None, unwrap_or, refl, sym, ap, subst, ◌∙◌, arith}
+use Rattle.std.specs.Prelude.{All, slice_index_or, find}
+use Rattle.std.specs.Option.{option_map, option_or}
 use Rattle.std.proofs.lemmas.Bool.{and_from, eq-eqb}
 use Rattle.worlds.specs.Step.{nine_zeros}
 use Rattle.table_symmetry.specs.declared.expansion.Expanded.{Expanded}
@@ -9,11 +9,12 @@ use Rattle.table_lines.specs.declared.neighborhood.Neighborhood.{Neighborhood}
 use Rattle.table_lines.specs.declared.neighborhood.Neighborhood.TheVariants.{VonNeumann, Moore, Hexagonal, OneDimensional}
 use Rattle.table_symmetry.specs.Expanded.{all_have, first_match}
 use Rattle.table_symmetry.specs.NextState as table_rule
+use Rattle.table_symmetry.specs.Rows.{AreExpanded}
 use Rattle.table_symmetry.specs.Table.{Table}
 use Rattle.tree_translation.specs.declared.layers.Layer.{Layer}
 use Rattle.decision_tree.specs.Kept.{IsKeptTree, nodes_in, tree_of_kept}
 use Rattle.tree_translation.specs.Layers.{AreLayersOf, all_allow, asked, result_of}
-use Rattle.tree_translation.specs.Translation.{Does, DoesRows, Translates, first_some, last_of, neighbors_of, order_of, outcome, rows_give}
+use Rattle.tree_translation.specs.Translation.{DoTable, Does, DoesRows, Translates, first_some, last_of, neighbors_of, order_of, outcome, rows_give}
 use Rattle.decision_tree.specs.Tree.{Entries, Tree, inputs_of, is_quiescent, is_sound, leads, next, places_of}
 use Rattle.decision_tree.specs.TreeLaws.{inputs-below, leads-width}
 use Rattle.decision_tree.proofs.KeptNodes.{none-past}
@@ -40,11 +41,6 @@ DoesRows-root states order rows layers numbers nodes are does = record {
   leading = λ inputs long. does.leading inputs (long ∙ sym are.depth);
   follows = λ inputs long low. does.follows inputs (long ∙ sym are.depth) low ∙ rows-outcome states order rows layers numbers inputs are long;
 }
-
--- the first row that has the inputs gives the first answer
-first_some-match : (rows : List Expanded) (inputs : List ℕ) → first_some (λ (row : Expanded). cond (all_have row.inputs inputs) (Some row.result) None) rows ≡ first_match rows inputs
-first_some-match [] inputs = refl
-first_some-match (row ∷ rows) inputs = grind (arith, first_some-match rows inputs)
 
 -- a row with these sets is asked the same in the order of the tree and in that of the table
 abbrev IsAskedAlike : Neighborhood → List ℕ → List (List ℕ) → Type 0
@@ -75,36 +71,45 @@ places-many neighborhood = grind arith
 abbrev tree_for : Table → List Entries → Tree
 tree_for table nodes = record { states = table.states; neighbors = neighbors_of table.neighborhood; nodes = nodes }
 
+-- the first row that allows the inputs of the tree is the first that has those of the table
+first-alike : (neighborhood : Neighborhood) (rows : List Expanded) (around : List ℕ) → All (λ (row : Expanded). length row.inputs ≡ length (table_rule.places_of neighborhood) + 1) rows
+    → first_some (λ (row : Expanded). cond (all_allow (asked (order_of neighborhood) row.inputs) (inputs_of (neighbors_of neighborhood) around)) (Some row.result) None) rows ≡ first_match rows (table_rule.inputs_of neighborhood around)
+first-alike neighborhood [] around full = refl
+first-alike neighborhood (row ∷ rows) around full =
+    let others : All (λ (r : Expanded). length r.inputs ≡ length (table_rule.places_of neighborhood) + 1) rows = λ k d l. full (suc k) d (omega (arith, l)) in
+    rw (asked-have neighborhood row.inputs around (full 0 row (omega arith)), first-alike neighborhood rows around others)
+    (by (all_have row.inputs (table_rule.inputs_of neighborhood around)))
+  where
+    by : (b : Bool) → option_or (cond b (Some row.result) None) (first_match rows (table_rule.inputs_of neighborhood around)) ≡ option_map (λ (r : Expanded). r.result) (cond b (Some row) (find (λ (r : Expanded). all_have r.inputs (table_rule.inputs_of neighborhood around)) rows))
+    by b = grind arith
+
 -- what the rows of a table give is its next state
-pub rows-next : (table : Table) (rows : List Expanded) → All (λ (row : Expanded). length row.inputs ≡ length (table_rule.places_of table.neighborhood) + 1) rows → ((around : List ℕ) → unwrap_or (first_match rows (table_rule.inputs_of table.neighborhood around)) (slice_index around 0) ≡ table_rule.next table around) → (around : List ℕ) → rows_give (order_of table.neighborhood) rows (inputs_of (neighbors_of table.neighborhood) around) ≡ table_rule.next table around
-rows-next table rows full first around =
-    let inputs = inputs_of (neighbors_of table.neighborhood) around in
-    let others = table_rule.inputs_of table.neighborhood around in
-    (λ i. unwrap_or (first_some-pairs (λ (row : Expanded). cond (all_allow (asked (order_of table.neighborhood) row.inputs) inputs) (Some row.result) None) (λ (row : Expanded). cond (all_have row.inputs others) (Some row.result) None) rows rows refl
-    (λ k d e l. ap (λ (row : Expanded). cond (all_allow (asked (order_of table.neighborhood) row.inputs) inputs) (Some row.result) None) (get_or_default rows k d e l) ∙ ap (λ b. cond b (Some (slice_index_or rows k e).result) None) (asked-have table.neighborhood (slice_index_or rows k e).inputs around (full k e l))) i) (last-input table.neighborhood around i))
-    ∙ ap (λ o. unwrap_or o (slice_index around 0)) (first_some-match rows others)
-    ∙ first around
+pub rows-next : (table : Table) (rows : List Expanded) → AreExpanded table rows → (around : List ℕ) → rows_give (order_of table.neighborhood) rows (inputs_of (neighbors_of table.neighborhood) around) ≡ table_rule.next table around
+rows-next table rows are around = rw (first-alike table.neighborhood rows around are.full, last-input table.neighborhood around) (are.first around)
 
 -- so it is what nodes give that do what the rows do
-pub next-rows : (table : Table) (rows : List Expanded) (nodes : List Entries) → 0 < table.states → DoesRows table.states (order_of table.neighborhood) rows nodes → All (λ (row : Expanded). length row.inputs ≡ length (table_rule.places_of table.neighborhood) + 1) rows → ((around : List ℕ) → unwrap_or (first_match rows (table_rule.inputs_of table.neighborhood around)) (slice_index around 0) ≡ table_rule.next table around) → (around : List ℕ) → All (λ s. s < table.states) around → next (tree_for table nodes) around ≡ table_rule.next table around
-next-rows table rows nodes some does full first around low =
+pub next-rows : (table : Table) (rows : List Expanded) (nodes : List Entries) → 0 < table.states → DoesRows table.states (order_of table.neighborhood) rows nodes → AreExpanded table rows → (around : List ℕ) → All (λ s. s < table.states) around → next (tree_for table nodes) around ≡ table_rule.next table around
+next-rows table rows nodes some does are around low =
     does.follows (inputs_of (neighbors_of table.neighborhood) around) (as_many table.neighborhood around) (inputs-below table.states (neighbors_of table.neighborhood) around some low)
-    ∙ rows-next table rows full first around
+    ∙ rows-next table rows are around
 
 -- such a tree is quiescent as its table is, and leads to states
-pub sound-tree : (table : Table) (nodes : List Entries) → All (λ s. s < table.states) nine_zeros → ((inputs : List ℕ) → length inputs ≡ length (order_of table.neighborhood) → leads table.states nodes (length nodes - 1) inputs ≡ true) → ((around : List ℕ) → All (λ s. s < table.states) around → next (tree_for table nodes) around ≡ table_rule.next table around) → table_rule.next table nine_zeros ≡ 0 → is_sound (tree_for table nodes) ≡ true
-sound-tree table nodes zeros leading same quiet =
+pub sound-tree : (table : Table) (nodes : List Entries) → All (λ s. s < table.states) nine_zeros → DoTable table nodes → table_rule.next table nine_zeros ≡ 0 → is_sound (tree_for table nodes) ≡ true
+sound-tree table nodes zeros does quiet =
     and_from (is_quiescent (tree_for table nodes)) (leads table.states nodes (length nodes - 1) (places_of (neighbors_of table.neighborhood)))
-    (eq-eqb (next (tree_for table nodes) nine_zeros) 0 (same nine_zeros zeros ∙ quiet))
-    (leading (places_of (neighbors_of table.neighborhood)) (places-many table.neighborhood))
+    (eq-eqb (next (tree_for table nodes) nine_zeros) 0 (does.same nine_zeros zeros ∙ quiet))
+    (does.leading (places_of (neighbors_of table.neighborhood)) (places-many table.neighborhood))
 
 -- there is a root
-pub some-nodes : (neighborhood : Neighborhood) (states : ℕ) (nodes : List Entries) → 0 < states → ((inputs : List ℕ) → length inputs ≡ length (order_of neighborhood) → leads states nodes (length nodes - 1) inputs ≡ true) → 1 ≤ length nodes
-some-nodes neighborhood states nodes some leading = by (places_of (neighbors_of neighborhood)) (grind arith) (leading _ (places-many neighborhood))
+pub some-nodes : (table : Table) (nodes : List Entries) → 0 < table.states → DoTable table nodes → 1 ≤ length nodes
+some-nodes table nodes some does = by (places_of (neighbors_of table.neighborhood)) (places-some table.neighborhood) (does.leading _ (places-many table.neighborhood))
   where
-    by : (inputs : List ℕ) → 0 < length inputs → leads states nodes (length nodes - 1) inputs ≡ true → 1 ≤ length nodes
+    places-some : (neighborhood : Neighborhood) → 0 < length (places_of (neighbors_of neighborhood))
+    places-some neighborhood = grind arith
+
+    by : (inputs : List ℕ) → 0 < length inputs → leads table.states nodes (length nodes - 1) inputs ≡ true → 1 ≤ length nodes
     by [] more led = absurd (omega (arith, more))
-    by (input ∷ inputs) more led = omega (arith, none-past nodes (length nodes - 1) states some (leads-width states nodes (length nodes - 1) input inputs led))
+    by (input ∷ inputs) more led = omega (arith, none-past nodes (length nodes - 1) table.states some (leads-width table.states nodes (length nodes - 1) input inputs led))
 
 -- the tree that is kept has these nodes
 pub kept-for : (table : Table) (nodes : List Entries) (count : ℕ) (entries : List ℕ) → 1 ≤ count → nodes_in table.states count entries ≡ nodes → tree_of_kept table.states (neighbors_of table.neighborhood) (count - 1) entries ≡ tree_for table nodes
@@ -117,6 +122,5 @@ may-keep table nodes count entries least most some filled same sound =
     record { at_least = least; at_most = most; filled = rw again filled; sound = ap is_sound (kept-for table nodes count entries some same) ∙ sound }
 
 -- and is a translation
-pub translates-kept : (table : Table) (nodes : List Entries) (count : ℕ) (entries : List ℕ) → 1 ≤ count → nodes_in table.states count entries ≡ nodes → ((around : List ℕ) → All (λ s. s < table.states) around → next (tree_for table nodes) around ≡ table_rule.next table around) → Translates table (tree_of_kept table.states (neighbors_of table.neighborhood) (count - 1) entries)
-translates-kept table nodes count entries some is same =
-    rw (kept-for table nodes count entries some is) (record { states = refl; neighbors = refl; same = same })
+pub translates-kept : (table : Table) (nodes : List Entries) (count : ℕ) (entries : List ℕ) → 1 ≤ count → nodes_in table.states count entries ≡ nodes → DoTable table nodes → Translates table (tree_of_kept table.states (neighbors_of table.neighborhood) (count - 1) entries)
+translates-kept table nodes count entries some is does = rw (kept-for table nodes count entries some is) (record { states = refl; neighbors = refl; same = does.same })

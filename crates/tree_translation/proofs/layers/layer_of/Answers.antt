@@ -1,10 +1,10 @@
-use Rattle.std.proofs.Common.{None, arith, rules, ◌≡◌, ◌∙◌, ◌∷◌, ◌++◌, [], List, ℕ, Some, length, sym, ap, subst, refl}
+use Rattle.std.proofs.Common.{None, arith, rules, ◌≡◌, ◌∙◌, Some, length, ap, refl}
 use Rattle.std.proofs.lemmas.List.{length_push}
 use Rattle.std.proofs.lemmas.Option.{slice_get_within}
 use Rattle.std.proofs.lemmas.Slice.Zip.{zip_end, zip_turn}
 use Rattle.tree_translation.specs.declared.layers.Tail.{Tail}
 use Rattle.tree_translation.specs.Layers.{asked_at, same_asked}
-use Rattle.tree_translation.proofs.Layering.{AreTails, AreTails-more, IsLayerOf-all, IsNextTail, grown-insert_key, same_from_tail, same_tail}
+use Rattle.tree_translation.proofs.Layering.{AreTails-more, IsLayerOf-all, IsNextTail, grown-insert_key, same_from_tail, same_tail}
 use Rattle.tree_translation.proofs.layers.layer_of.Goals as goal
 
 pub loop-row-preserved : goal.loop-row-preserved
@@ -25,8 +25,7 @@ loop-row-preserved c =
       leaves = turn.3 0;
     } in
     let more = AreTails-more c.args.place c.args.rows.now c.args.rests.now c.loop-row.sets.items c.number_of.new.sets.items c.loop-row.tails.keys c.insert_full.new.self.keys c.loop-row.numbers.items (length c.loop-row.yielded) c.in-Ok.number c.asked.result tail c.loop-row.invariant next in
-    subst (λ (numbers : List ℕ). AreTails c.args.place c.args.rows.now c.args.rests.now c.number_of.new.sets.items c.insert_full.new.self.keys numbers (length (c.loop-row.yielded ++ (c.in-Some.row, c.in-Some.rest) ∷ []))) (sym c.in_ok-push.ensures.items)
-    (subst (λ (n : ℕ). AreTails c.args.place c.args.rows.now c.args.rests.now c.number_of.new.sets.items c.insert_full.new.self.keys (c.loop-row.numbers.items ++ c.in-Ok.number ∷ []) n) (sym (length_push c.loop-row.yielded (c.in-Some.row, c.in-Some.rest))) more)
+    rw (c.in_ok-push.ensures.items, length_push c.loop-row.yielded (c.in-Some.row, c.in-Some.rest)) more
 
 pub returns-clause-rows : goal.returns-clause-rows
 returns-clause-rows c =

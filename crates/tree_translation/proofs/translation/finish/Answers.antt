@@ -13,7 +13,7 @@ some : (c : After-states) → 1 ≤ length c.args.nodes.now
 some c =
     let table = c.args.table.now in
     let states : 0 < table.states = omega (arith, c.states.ensures.count, c.states.ensures.at_least) in
-    omega (arith, some-nodes table.neighborhood table.states (entries_in c.args.nodes.now) states c.requires.does.leading, length-listed c.args.nodes.now)
+    omega (arith, some-nodes table (entries_in c.args.nodes.now) states c.requires.does, length-listed c.args.nodes.now)
 
 -- the entries hold the nodes
 same : (c : In_ok-entries) → nodes_in c.args.table.now.states (length c.args.nodes.now) c.in_ok-entries.entries.items ≡ entries_in c.args.nodes.now
@@ -31,7 +31,7 @@ new-requires c =
     let least : 2 ≤ table.states = omega (arith, c.states.ensures.count, c.states.ensures.at_least) in
     let most : table.states ≤ 256 = omega (arith, c.states.ensures.count, c.states.ensures.at_most) in
     let filled = rw c.states.ensures.count at c.in_ok-entries.ensures.filled in
-    let sound = sound-tree table (entries_in c.args.nodes.now) (zeros-below table.states (omega (arith, least))).below c.requires.does.leading c.requires.does.same c.requires.quiet in
+    let sound = sound-tree table (entries_in c.args.nodes.now) (zeros-below table.states (omega (arith, least))).below c.requires.does c.requires.quiet in
     rw (c.states-2.ensures.count, c.neighbors_of.ensures, c.neighborhood.ensures)
     (may-keep table (entries_in c.args.nodes.now) (length c.args.nodes.now) c.in_ok-entries.entries.items least most (some (goal.at.new-requires c).After-states) filled (same (goal.at.new-requires c).In_ok-entries) sound)
 
@@ -39,7 +39,7 @@ pub returns-clause-translates : goal.returns-clause-translates
 returns-clause-translates c =
     let at = goal.at.returns-clause-translates c in
     rw (c.new.ensures, c.states-2.ensures.count, c.neighbors_of.ensures, c.neighborhood.ensures)
-    (translates-kept c.args.table.now (entries_in c.args.nodes.now) (length c.args.nodes.now) c.in_ok-entries.entries.items (some at.After-states) (same at.In_ok-entries) c.requires.does.same)
+    (translates-kept c.args.table.now (entries_in c.args.nodes.now) (length c.args.nodes.now) c.in_ok-entries.entries.items (some at.After-states) (same at.In_ok-entries) c.requires.does)
 
 pub returns-clause-nodes : goal.returns-clause-nodes
 returns-clause-nodes c =

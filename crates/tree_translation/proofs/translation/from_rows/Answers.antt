@@ -18,7 +18,7 @@ order c = rw (c.order_of-order.ensures, c.neighborhood.ensures)
 -- what the rows need, the table needs
 needs : (c : After-states) (count : ℕ) → NeedStarts c.states.result (length c.order_of-order.result.now) (λ k inputs. rows_give c.order_of-order.result.now c.args.rows.now inputs) 1 count → NeedsNodes c.args.table.now count
 needs c count needed =
-    needs-nodes c.args.table.now c.args.rows.now count (omega (arith, c.states.ensures.count, c.states.ensures.at_least)) c.requires.full c.requires.first (rw (c.states.ensures.count, order c) at needed)
+    needs-nodes c.args.table.now c.args.rows.now count (omega (arith, c.states.ensures.count, c.states.ensures.at_least)) c.requires (rw (c.states.ensures.count, order c) at needed)
 
 pub finish-requires-clause-does : goal.finish-requires-clause-does
 finish-requires-clause-does c =
@@ -28,7 +28,7 @@ finish-requires-clause-does c =
     record {
       width = rw c.as_slice.ensures.keys (rw c.states.ensures.count at c.in_ok-nodes.ensures.width);
       leading = does.leading;
-      same = next-rows table c.args.rows.now (entries_in c.as_slice.result.now) (omega (arith, c.states.ensures.count, c.states.ensures.at_least)) does c.requires.full c.requires.first;
+      same = next-rows table c.args.rows.now (entries_in c.as_slice.result.now) (omega (arith, c.states.ensures.count, c.states.ensures.at_least)) does c.requires;
     }
 
 pub returns-clause-smallest : goal.returns-clause-smallest
