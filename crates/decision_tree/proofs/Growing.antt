@@ -55,7 +55,8 @@ is-below : (depths : List ℕ) (depth k : ℕ) → (nat_lt k (length depths) && 
 is-below depths depth k h = grind (arith, nat_tests)
 
 -- an entry of a node that isn't of depth 1 is such a number
-pub entry-below : (n : ℕ) (depths node : List ℕ) (depth k : ℕ) → k < length node → depth ≢ 1 → do_entries_fit n depths (record { depth = depth; entries = node }) ≡ true → IsBelow depths depth (slice_index node k)
+pub entry-below : (n : ℕ) (depths node : List ℕ) (depth k : ℕ) → k < length node → depth ≢ 1 → do_entries_fit n depths (record { depth = depth; entries = node }) ≡ true
+    → IsBelow depths depth (slice_index node k)
 entry-below n depths node depth k inside more h = is-below depths depth (slice_index node k) (AllPass-from_list_all _ node (fits-high n depths node depth more h) k 0 inside)
 
 -- the same of one more node, whose entries fit
@@ -113,7 +114,8 @@ kept-push head depths entries depth node limits kept next =
     let n = head.states in
     let nodes = nodes_in n (length depths) entries in
     let longer : length (depths ++ depth ∷ []) ≡ length depths + 1 = length-append depths (depth ∷ []) in
-    let more : nodes_in n (length (depths ++ depth ∷ [])) (entries ++ node) ≡ nodes ++ node ∷ [] = rw longer (nodes_in-push n (length depths) entries node kept.filled next.width) in
+    let more : nodes_in n (length (depths ++ depth ∷ [])) (entries ++ node) ≡ nodes ++ node ∷ [] =
+    rw longer (nodes_in-push n (length depths) entries node kept.filled next.width) in
     let low : depth ≤ length depths + 1 = depth-low head depths depth node limits.at_least kept.low next in
     record {
       filled = omega (arith, length-append entries node, longer, kept.filled, next.width, ap (λ k. k * n) longer);

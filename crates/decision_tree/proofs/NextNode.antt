@@ -46,9 +46,11 @@ same-said head depths entries n ns limits kept h =
 
 -- whether it is the next node is the same of a node as it is kept, and if it is, it is kept as it is
 next-kept : (head : TreeHead) (depths entries : List ℕ) (n : ℕ) (ns : List ℕ) → IsTreeHead head → AreKept head depths entries → is_next head depths (record { depth = saturated n; entries = map saturated ns }) ≡ is_next head depths (record { depth = n; entries = ns })
-next-kept head depths entries n ns limits kept = by (is_next head depths (record { depth = saturated n; entries = map saturated ns })) (is_next head depths (record { depth = n; entries = ns })) refl refl
+next-kept head depths entries n ns limits kept =
+    by (is_next head depths (record { depth = saturated n; entries = map saturated ns })) (is_next head depths (record { depth = n; entries = ns })) refl refl
   where
-    by : (a b : Bool) → is_next head depths (record { depth = saturated n; entries = map saturated ns }) ≡ a → is_next head depths (record { depth = n; entries = ns }) ≡ b → is_next head depths (record { depth = saturated n; entries = map saturated ns }) ≡ is_next head depths (record { depth = n; entries = ns })
+    by : (a b : Bool) → is_next head depths (record { depth = saturated n; entries = map saturated ns }) ≡ a → is_next head depths (record { depth = n; entries = ns }) ≡ b
+        → is_next head depths (record { depth = saturated n; entries = map saturated ns }) ≡ is_next head depths (record { depth = n; entries = ns })
     by true b h k = let same = same-kept head depths entries n ns limits kept h in rw (same.first, same.rest)
     by false true h k = let same = same-said head depths entries n ns limits kept k in rw (same.first, same.rest)
     by false false h k = h ∙ sym k
@@ -70,10 +72,12 @@ with_kept head depths entries number (Some (n ∷ ns)) depth node limits kept h 
     let depth_is : depth ≡ saturated n = cc in
     let node_is : node ≡ map saturated ns = cc in
     let as_kept : is_next head depths (record { depth = saturated n; entries = map saturated ns }) ≡ b = rw (← depth_is, ← node_is) next in
-    let test : is_next head (map (λ x. x.depth) nodes) said ≡ b = rw (depths-nodes_of head.states depths entries) (sym (next-kept head depths entries n ns limits kept) ∙ as_kept) in
+    let test : is_next head (map (λ x. x.depth) nodes) said ≡ b =
+    rw (depths-nodes_of head.states depths entries) (sym (next-kept head depths entries n ns limits kept) ∙ as_kept) in
     rw test (by b as_kept depth_is node_is)
   where
-    by : (b : Bool) → is_next head depths (record { depth = saturated n; entries = map saturated ns }) ≡ b → depth ≡ saturated n → node ≡ map saturated ns → if_next (nodes_of head.states depths entries) number (record { depth = n; entries = ns }) b ≡ if_next (nodes_of head.states depths entries) number (record { depth = depth; entries = node }) b
+    by : (b : Bool) → is_next head depths (record { depth = saturated n; entries = map saturated ns }) ≡ b → depth ≡ saturated n → node ≡ map saturated ns
+        → if_next (nodes_of head.states depths entries) number (record { depth = n; entries = ns }) b ≡ if_next (nodes_of head.states depths entries) number (record { depth = depth; entries = node }) b
     by true k depth_is node_is = let same = same-kept head depths entries n ns limits kept k in rw (depth_is, node_is, same.first, same.rest)
     by false k depth_is node_is = refl
 

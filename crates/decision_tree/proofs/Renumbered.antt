@@ -49,11 +49,16 @@ head_from-too last final (line ∷ lines) [] d head left same h = absurd cc
 head_from-too last final (line ∷ lines) (other ∷ others) d head left same h =
     let text : line.text ≡ other.text = cc in
     let rest : texts lines ≡ texts others = cc in
-    subst (λ t. LeavesToo head left (head_by d other.number (other ∷ others) (λ e. head_from final e others) (descriptor_of t))) text (found (descriptor_of line.text) (λ e. head_from-too last final lines others e head left rest) h)
+    subst (λ t. LeavesToo head left (head_by d other.number (other ∷ others) (λ e. head_from final e others) (descriptor_of t))) text
+    (found (descriptor_of line.text) (λ e. head_from-too last final lines others e head left rest) h)
   where
-    found : (o : Option (Descriptor × List ℕ)) → ((e : Described) → head_from last e lines ≡ Ok (head, left) → LeavesToo head left (head_from final e others)) → head_by d line.number (line ∷ lines) (λ e. head_from last e lines) o ≡ Ok (head, left) → LeavesToo head left (head_by d other.number (other ∷ others) (λ e. head_from final e others) o)
+    found : (o : Option (Descriptor × List ℕ)) → ((e : Described) → head_from last e lines ≡ Ok (head, left) → LeavesToo head left (head_from final e others))
+        → head_by d line.number (line ∷ lines) (λ e. head_from last e lines) o ≡ Ok (head, left)
+        → LeavesToo head left (head_by d other.number (other ∷ others) (λ e. head_from final e others) o)
     found None later k = left_all (head_of d) (BadTree line.number) (BadTree other.number) (line ∷ lines) (other ∷ others) head left same k
-    found (Some x) later k = left_later (described line.number x.0 x.1 d) (described other.number x.0 x.1 d) (λ e. head_from last e lines) (λ e. head_from final e others) head left (ok_or-too (describe d x.0 x.1) _ _) later k
+    found (Some x) later k =
+        left_later (described line.number x.0 x.1 d) (described other.number x.0 x.1 d) (λ e. head_from last e lines) (λ e. head_from final e others) head left
+        (ok_or-too (describe d x.0 x.1) _ _) later k
 
 with_line-too : (head : TreeHead) (nodes : List Node) (line other : NumberedLine) → line.text ≡ other.text → GivesToo (with_line head nodes line) (with_line head nodes other)
 with_line-too head nodes line other text =

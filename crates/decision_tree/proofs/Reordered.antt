@@ -36,11 +36,13 @@ describe-puts d descriptor.Neighbors value = refl
 describe-puts d descriptor.Nodes value = refl
 
 -- two may be put in the other order
-put-swapped : {A : Type 0} (k l : Described → Result A RuleFault) → ((c : Described) → GivesToo (k c) (l c)) → (v w : Descriptor) (first second : Readings) (e f : RuleFault) (d : Described)
+put-swapped : {A : Type 0} (k l : Described → Result A RuleFault) → ((c : Described) → GivesToo (k c) (l c))
+    → (v w : Descriptor) (first second : Readings) (e f : RuleFault) (d : Described)
     → GivesToo (ok_or (put v first d) e >>= λ c. ok_or (put w second c) f >>= k) (ok_or (put w second d) f >>= λ c. ok_or (put v first c) e >>= l)
 put-swapped k l too v w first second e f d z h = grind (arith, too)
 
-swapped : {A : Type 0} (k l : Described → Result A RuleFault) → ((c : Described) → GivesToo (k c) (l c)) → (m n : ℕ) (d : Described) (v w : Descriptor) (value other : List ℕ) → GivesToo (described m v value d >>= λ e. described n w other e >>= k) (described n w other d >>= λ e. described m v value e >>= l)
+swapped : {A : Type 0} (k l : Described → Result A RuleFault) → ((c : Described) → GivesToo (k c) (l c)) → (m n : ℕ) (d : Described) (v w : Descriptor) (value other : List ℕ)
+    → GivesToo (described m v value d >>= λ e. described n w other e >>= k) (described n w other d >>= λ e. described m v value e >>= l)
 swapped k l too m n d v w value other = simp describe-puts (put-swapped k l too v w (readings value) (readings other) (BadTree m) (BadTree n) d)
 
 -- where missing lines show doesn't matter to a head

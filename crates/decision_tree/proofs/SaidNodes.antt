@@ -26,9 +26,11 @@ pub record AreGraded (states : ℕ) (depths : List ℕ) (nodes : List Entries) :
   pub inside : (number input : ℕ) → number < length depths → input < states → 2 ≤ slice_index depths number → led nodes number input < length depths
   pub down : (number input : ℕ) → number < length depths → input < states → 2 ≤ slice_index depths number → slice_index depths (led nodes number input) + 1 ≡ slice_index depths number
 
-module _ (states : ℕ) (depths : List ℕ) (nodes : List Entries) (graded : AreGraded states depths nodes) (depth : ℕ) (node : Entries) (wide : length node ≡ states) (fit : 2 ≤ depth → (input : ℕ) → input < states → IsBelow depths depth (slice_index node input)) where
+module _ (states : ℕ) (depths : List ℕ) (nodes : List Entries) (graded : AreGraded states depths nodes) (depth : ℕ) (node : Entries) (wide : length node ≡ states)
+    (fit : 2 ≤ depth → (input : ℕ) → input < states → IsBelow depths depth (slice_index node input)) where
   -- what the entry of a node, old or new, leads to
-  fits-now : (number input : ℕ) → number < length depths + 1 → input < states → 2 ≤ slice_index (depths ++ depth ∷ []) number → IsBelow depths (slice_index (depths ++ depth ∷ []) number) (led (nodes ++ node ∷ []) number input)
+  fits-now : (number input : ℕ) → number < length depths + 1 → input < states → 2 ≤ slice_index (depths ++ depth ∷ []) number
+      → IsBelow depths (slice_index (depths ++ depth ∷ []) number) (led (nodes ++ node ∷ []) number input)
   fits-now number input l under deep = elim (cases_lt number (length depths)) [
     | inl before ↦ grind (arith, common_steps, graded.same, graded.inside number input, graded.down number input)
     | inr behind ↦
@@ -63,7 +65,8 @@ said-push head nodes node said next =
     let is = is_next-node head depths node.depth node.entries next in
     let more : depths_of (nodes ++ node ∷ []) ≡ depths ++ node.depth ∷ [] = map-append (λ n. n.depth) nodes (node ∷ []) in
     let entries : entries_in (nodes ++ node ∷ []) ≡ entries_in nodes ++ node.entries ∷ [] = map-append (λ n. n.entries) nodes (node ∷ []) in
-    let below = λ (deep : 2 ≤ node.depth) (input : ℕ) (under : input < head.states). entry-below head.states depths node.entries node.depth input (omega (arith, under, is.width)) (λ e. absurd (omega (arith, e, deep))) is.fits in
+    let below = λ (deep : 2 ≤ node.depth) (input : ℕ) (under : input < head.states). entry-below head.states depths node.entries node.depth input (omega (arith, under, is.width))
+    (λ e. absurd (omega (arith, e, deep))) is.fits in
     record {
       graded = rw (more, entries) (graded-push head.states depths (entries_in nodes) said.graded node.depth node.entries is.width below);
       leading = λ least. rw (more, entries)

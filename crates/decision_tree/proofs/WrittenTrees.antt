@@ -109,11 +109,13 @@ head-taken last number head node others limits wide =
     let first : NumberedLine = record { number = number; text = codes "num_states=" ++ decimal head.states } in
     head-step last undescribed (record undescribed { states = Some head.states }) first (second ∷ third ∷ behind) descriptor.States (decimal head.states)
     (states-line head.states (omega (arith, limits.at_most)))
-    (ap (option_map (λ n. record undescribed { states = Some n })) (within-read least_states most_states head.states (omega (arith, limits.at_most)) limits.at_least limits.at_most))
+    (ap (option_map (λ n. record undescribed { states = Some n }))
+    (within-read least_states most_states head.states (omega (arith, limits.at_most)) limits.at_least limits.at_most))
     ∙ neighbors-step last head.states head.neighbors (number + 1) (third ∷ behind)
     ∙ head-step last (record { states = Some head.states; neighbors = Some head.neighbors; node_count = None }) (record { states = Some head.states; neighbors = Some head.neighbors; node_count = Some head.node_count }) third behind descriptor.Nodes (decimal head.node_count)
     (nodes-line head.node_count (omega (arith, limits.few)))
-    (ap (option_map (λ n. record { states = Some head.states; neighbors = Some head.neighbors; node_count = Some n })) (within-read 1 most_nodes head.node_count (omega (arith, limits.few)) limits.some limits.few))
+    (ap (option_map (λ n. record { states = Some head.states; neighbors = Some head.neighbors; node_count = Some n }))
+    (within-read 1 most_nodes head.node_count (omega (arith, limits.few)) limits.some limits.few))
     ∙ head-end last (record { states = Some head.states; neighbors = Some head.neighbors; node_count = Some head.node_count }) head (record { number = number + 1 + 1 + 1; text = node_line node }) (numbered_from (number + 1 + 1 + 1 + 1) (map node_line others))
     (numbers-undescribed node.depth node.entries wide) refl
 

@@ -32,9 +32,11 @@ around-below n neighbors inputs some low = by neighbors (state-below n inputs so
   where
     by : (neighbors : Neighbors) → ((k : ℕ) → slice_index inputs k < n) → AreNineBelow n (around_of neighbors inputs)
     by Four at = record { nine = refl; below = All-from_recursion (λ s. s < n) (around_of Four inputs) (at 4, (at 0, (some, (at 2, (some, (at 3, (some, (at 1, (some, tt))))))))) }
-    by Eight at = record { nine = refl; below = All-from_recursion (λ s. s < n) (around_of Eight inputs) (at 8, (at 4, (at 1, (at 6, (at 3, (at 7, (at 2, (at 5, (at 0, tt))))))))) }
+    by Eight at =
+        record { nine = refl; below = All-from_recursion (λ s. s < n) (around_of Eight inputs) (at 8, (at 4, (at 1, (at 6, (at 3, (at 7, (at 2, (at 5, (at 0, tt))))))))) }
 
-module _ (table : Table) (rows : List Expanded) (count : ℕ) (some : 0 < table.states) (are : AreExpanded table rows) (needed : NeedStarts table.states (length (order_of table.neighborhood)) (λ k inputs. rows_give (order_of table.neighborhood) rows inputs) 1 count) where
+module _ (table : Table) (rows : List Expanded) (count : ℕ) (some : 0 < table.states) (are : AreExpanded table rows)
+    (needed : NeedStarts table.states (length (order_of table.neighborhood)) (λ k inputs. rows_give (order_of table.neighborhood) rows inputs) 1 count) where
   abbrev depth : ℕ
   depth = length (order_of table.neighborhood)
 

@@ -39,7 +39,8 @@ pub record FollowsDiffer (states depth : ℕ) (nodes : List Listed) (i j : ℕ) 
   pub differ : follow (entries_in nodes) i rest ≢ follow (entries_in nodes) j rest
 
 module _ (states depth : ℕ) (nodes : List Listed) (are : AreNodes states depth nodes) where
-  entries-differ : (i j : ℕ) → i < length nodes → j < length nodes → i ≢ j → input_at nodes i ≡ input_at nodes j → DifferAt (node_at (entries_in nodes) i) (node_at (entries_in nodes) j)
+  entries-differ : (i j : ℕ) → i < length nodes → j < length nodes → i ≢ j → input_at nodes i ≡ input_at nodes j
+      → DifferAt (node_at (entries_in nodes) i) (node_at (entries_in nodes) j)
   entries-differ i j l m other same =
       different-at (node_at (entries_in nodes) i) (node_at (entries_in nodes) j) ((are.each i l).wide ∙ sym (are.each j m).wide)
       (λ e. grind (arith, listed-apart nodes are.apart i j, listed-apart nodes are.apart j i, cases_order i j))
@@ -69,7 +70,8 @@ module _ (states depth : ℕ) (nodes : List Listed) (are : AreNodes states depth
       }
 
   -- what is followed from a node stays where more nodes come
-  follow-before : (more : List Listed) (k : ℕ) (rest : List ℕ) → k < length nodes → input_at nodes k + length rest ≡ depth → All (λ s. s < states) rest → follow (entries_in (nodes ++ more)) k rest ≡ follow (entries_in nodes) k rest
+  follow-before : (more : List Listed) (k : ℕ) (rest : List ℕ) → k < length nodes → input_at nodes k + length rest ≡ depth → All (λ s. s < states) rest
+      → follow (entries_in (nodes ++ more)) k rest ≡ follow (entries_in nodes) k rest
   follow-before more k [] l long low = refl
   follow-before more k (s ∷ []) l long low = grind (arith, common_steps, map-append)
   follow-before more k (s ∷ t ∷ rest) l long low =
@@ -90,7 +92,8 @@ module _ (states depth : ℕ) (nodes : List Listed) (are : AreNodes states depth
         same = λ rest long low. begun.same rest (omega (arith, long, same)) low ∙ sym (follow-before more k rest l (omega (arith, long, same)) low);
       }
 
-  AreNodes-push : (node : Listed) → IsNode states depth nodes node.input node.numbers.items → IsDistinct same_listed (nodes ++ node ∷ []) → AreNodes states depth (nodes ++ node ∷ [])
+  AreNodes-push : (node : Listed) → IsNode states depth nodes node.input node.numbers.items → IsDistinct same_listed (nodes ++ node ∷ [])
+      → AreNodes states depth (nodes ++ node ∷ [])
   AreNodes-push node is apart = grind (arith, common_steps, map-append)
 
 -- starts with what holds of each
@@ -205,7 +208,8 @@ does-made states layers nodes input list entries number fit tails are at = by (d
     by (here ∷ []) from =
         let last : input + 1 ≡ length layers = omega (arith, many-behind layers input here [] from tails.there) in
         let known = layer-here layers input here [] from in
-        Does-leaf states here (entries_in nodes) list entries number (rw from at (fit-drop states layers input fit)).0 (rw known at (tails.inside here)) (rw known at (are.leaves last here)) at
+        Does-leaf states here (entries_in nodes) list entries number (rw from at (fit-drop states layers input fit)).0 (rw known at (tails.inside here))
+        (rw known at (are.leaves last here)) at
     by (here ∷ next ∷ deeper) from =
         let more : input + 1 < length layers = omega (arith, many-behind layers input here (next ∷ deeper) from tails.there) in
         Does-branch states here next deeper (entries_in nodes) list entries number are.width
@@ -235,7 +239,8 @@ IsLeft-behind states layers give input list left s more under is before = record
       ∙ by (drop input layers) refl rest (omega (arith, long));
 }
   where
-    by : (ls : List Layer) → drop input layers ≡ ls → (rest : List ℕ) → input + 1 + length rest ≡ length layers → outcome (drop input layers) list (s ∷ rest) ≡ outcome (drop (input + 1) layers) left rest
+    by : (ls : List Layer) → drop input layers ≡ ls → (rest : List ℕ) → input + 1 + length rest ≡ length layers
+        → outcome (drop input layers) list (s ∷ rest) ≡ outcome (drop (input + 1) layers) left rest
     by [] from rest long = absurd (omega (arith, more, length-drop input layers, ap length from))
     by (here ∷ []) from rest long = absurd (omega (arith, more, many-behind layers input here [] from (omega (arith, more))))
     by (here ∷ next ∷ deeper) from rest long =
@@ -344,7 +349,8 @@ module _ (states : ℕ) (layers : List Layer) (room input : ℕ) (list : List �
           let q_input : q.input ≡ input = grind (arith, eqb-true, key_input, e) in
           let q_list : q.numbers.items ≡ list = grind (arith, and_parts, bytes_eq-Decides, key_list, e) in
           rw (this, q_input, q_list) made-number
-      | false ↦ λ e. rw brought.joined (IsNumberOf-append before brought.more states layers q.input q.numbers.items n some (grown.known.numbers q n (grind (arith, numbers q, is, e))))
+      | false ↦
+          λ e. rw brought.joined (IsNumberOf-append before brought.more states layers q.input q.numbers.items n some (grown.known.numbers q n (grind (arith, numbers q, is, e))))
     ] refl
 
     made-grows : Grows states layers input input list old new

@@ -44,10 +44,12 @@ DoesRows-root states order rows layers numbers nodes are does = record {
 
 -- a row with these sets is asked the same in the order of the tree and in that of the table
 abbrev IsAskedAlike : Neighborhood → List ℕ → List (List ℕ) → Type 0
-IsAskedAlike neighborhood around sets = all_allow (asked (order_of neighborhood) sets) (inputs_of (neighbors_of neighborhood) around) ≡ all_have sets (table_rule.inputs_of neighborhood around)
+IsAskedAlike neighborhood around sets =
+    all_allow (asked (order_of neighborhood) sets) (inputs_of (neighbors_of neighborhood) around) ≡ all_have sets (table_rule.inputs_of neighborhood around)
 
 -- what is asked of the inputs of a tree is what the sets of a row have
-pub asked-have : (neighborhood : Neighborhood) (sets : List (List ℕ)) (around : List ℕ) → length sets ≡ length (table_rule.places_of neighborhood) + 1 → IsAskedAlike neighborhood around sets
+pub asked-have : (neighborhood : Neighborhood) (sets : List (List ℕ)) (around : List ℕ) → length sets ≡ length (table_rule.places_of neighborhood) + 1
+    → IsAskedAlike neighborhood around sets
 asked-have neighborhood sets around full = subst (IsAskedAlike neighborhood around) (firsts-all [] _ sets full) (by neighborhood)
   where
     by : (n : Neighborhood) → IsAskedAlike n around (firsts [] (length (table_rule.places_of n) + 1) sets)
@@ -72,7 +74,8 @@ abbrev tree_for : Table → List Entries → Tree
 tree_for table nodes = record { states = table.states; neighbors = neighbors_of table.neighborhood; nodes = nodes }
 
 -- the first row that allows the inputs of the tree is the first that has those of the table
-first-alike : (neighborhood : Neighborhood) (rows : List Expanded) (around : List ℕ) → All (λ (row : Expanded). length row.inputs ≡ length (table_rule.places_of neighborhood) + 1) rows
+first-alike : (neighborhood : Neighborhood) (rows : List Expanded) (around : List ℕ)
+    → All (λ (row : Expanded). length row.inputs ≡ length (table_rule.places_of neighborhood) + 1) rows
     → first_some (λ (row : Expanded). cond (all_allow (asked (order_of neighborhood) row.inputs) (inputs_of (neighbors_of neighborhood) around)) (Some row.result) None) rows ≡ first_match rows (table_rule.inputs_of neighborhood around)
 first-alike neighborhood [] around full = refl
 first-alike neighborhood (row ∷ rows) around full =
@@ -80,21 +83,25 @@ first-alike neighborhood (row ∷ rows) around full =
     rw (asked-have neighborhood row.inputs around (full 0 row (omega arith)), first-alike neighborhood rows around others)
     (by (all_have row.inputs (table_rule.inputs_of neighborhood around)))
   where
-    by : (b : Bool) → option_or (cond b (Some row.result) None) (first_match rows (table_rule.inputs_of neighborhood around)) ≡ option_map (λ (r : Expanded). r.result) (cond b (Some row) (find (λ (r : Expanded). all_have r.inputs (table_rule.inputs_of neighborhood around)) rows))
+    by : (b : Bool)
+        → option_or (cond b (Some row.result) None) (first_match rows (table_rule.inputs_of neighborhood around)) ≡ option_map (λ (r : Expanded). r.result) (cond b (Some row) (find (λ (r : Expanded). all_have r.inputs (table_rule.inputs_of neighborhood around)) rows))
     by b = grind arith
 
 -- what the rows of a table give is its next state
-pub rows-next : (table : Table) (rows : List Expanded) → AreExpanded table rows → (around : List ℕ) → rows_give (order_of table.neighborhood) rows (inputs_of (neighbors_of table.neighborhood) around) ≡ table_rule.next table around
+pub rows-next : (table : Table) (rows : List Expanded) → AreExpanded table rows → (around : List ℕ)
+    → rows_give (order_of table.neighborhood) rows (inputs_of (neighbors_of table.neighborhood) around) ≡ table_rule.next table around
 rows-next table rows are around = rw (first-alike table.neighborhood rows around are.full, last-input table.neighborhood around) (are.first around)
 
 -- so it is what nodes give that do what the rows do
-pub next-rows : (table : Table) (rows : List Expanded) (nodes : List Entries) → 0 < table.states → DoesRows table.states (order_of table.neighborhood) rows nodes → AreExpanded table rows → (around : List ℕ) → All (λ s. s < table.states) around → next (tree_for table nodes) around ≡ table_rule.next table around
+pub next-rows : (table : Table) (rows : List Expanded) (nodes : List Entries) → 0 < table.states → DoesRows table.states (order_of table.neighborhood) rows nodes
+    → AreExpanded table rows → (around : List ℕ) → All (λ s. s < table.states) around → next (tree_for table nodes) around ≡ table_rule.next table around
 next-rows table rows nodes some does are around low =
     does.follows (inputs_of (neighbors_of table.neighborhood) around) (as_many table.neighborhood around) (inputs-below table.states (neighbors_of table.neighborhood) around some low)
     ∙ rows-next table rows are around
 
 -- such a tree is quiescent as its table is, and leads to states
-pub sound-tree : (table : Table) (nodes : List Entries) → All (λ s. s < table.states) nine_zeros → DoTable table nodes → table_rule.next table nine_zeros ≡ 0 → is_sound (tree_for table nodes) ≡ true
+pub sound-tree : (table : Table) (nodes : List Entries) → All (λ s. s < table.states) nine_zeros → DoTable table nodes → table_rule.next table nine_zeros ≡ 0
+    → is_sound (tree_for table nodes) ≡ true
 sound-tree table nodes zeros does quiet =
     and_from (is_quiescent (tree_for table nodes)) (leads table.states nodes (length nodes - 1) (places_of (neighbors_of table.neighborhood)))
     (eq-eqb (next (tree_for table nodes) nine_zeros) 0 (does.same nine_zeros zeros ∙ quiet))
@@ -122,5 +129,6 @@ may-keep table nodes count entries least most some filled same sound =
     record { at_least = least; at_most = most; filled = rw again filled; sound = ap is_sound (kept-for table nodes count entries some same) ∙ sound }
 
 -- and is a translation
-pub translates-kept : (table : Table) (nodes : List Entries) (count : ℕ) (entries : List ℕ) → 1 ≤ count → nodes_in table.states count entries ≡ nodes → DoTable table nodes → Translates table (tree_of_kept table.states (neighbors_of table.neighborhood) (count - 1) entries)
+pub translates-kept : (table : Table) (nodes : List Entries) (count : ℕ) (entries : List ℕ) → 1 ≤ count → nodes_in table.states count entries ≡ nodes → DoTable table nodes
+    → Translates table (tree_of_kept table.states (neighbors_of table.neighborhood) (count - 1) entries)
 translates-kept table nodes count entries some is does = rw (kept-for table nodes count entries some is) (record { states = refl; neighbors = refl; same = does.same })

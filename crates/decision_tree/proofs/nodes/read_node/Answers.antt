@@ -19,9 +19,11 @@ entries_in numbers = take (length numbers - 1) (drop 1 numbers)
 said : (c : After-is_next) → Some (depth_in c.as_slice.result.now ∷ entries_in c.as_slice.result.now) ≡ option_map (map saturated) (numbers_in (words c.args.line.now.text))
 said c =
     let kept : Some c.in-Some.numbers.items ≡ option_map (map saturated) (numbers_in (words c.text.result.now)) = rw c.in-Some.is at c.in_ok-numbers.ensures in
-    ap Some (sym (first-and-others c.as_slice.result.now 0 c.in-len1-up.len_at_least) ∙ c.as_slice.ensures.value) ∙ kept ∙ ap (λ text. option_map (map saturated) (numbers_in (words text))) c.text.ensures
+    ap Some (sym (first-and-others c.as_slice.result.now 0 c.in-len1-up.len_at_least) ∙ c.as_slice.ensures.value) ∙ kept ∙ ap
+    (λ text. option_map (map saturated) (numbers_in (words text))) c.text.ensures
 
-test : (c : After-is_next) → is_next c.args.head c.args.nodes.now.depths.items (record { depth = depth_in c.as_slice.result.now; entries = entries_in c.as_slice.result.now }) ≡ c.is_next.result
+test : (c : After-is_next)
+    → is_next c.args.head c.args.nodes.now.depths.items (record { depth = depth_in c.as_slice.result.now; entries = entries_in c.as_slice.result.now }) ≡ c.is_next.result
 test c = rw (← c.deref.ensures.value) (sym c.is_next.ensures)
 
 next : (c : Else-not-is_next) → IsNextNode c.args.head c.args.nodes.now.depths.items (depth_in c.as_slice.result.now) (entries_in c.as_slice.result.now)
@@ -31,7 +33,8 @@ pub returns-then-not-is_next-clause-read : goal.returns-then-not-is_next-clause-
 returns-then-not-is_next-clause-read c =
     let nodes = c.args.nodes.now in
     let at = (goal.at.returns-then-not-is_next-clause-read c).After-is_next in
-    inr (line-refused c.args.head nodes.depths.items nodes.entries.items c.args.line.now (depth_in c.as_slice.result.now) (entries_in c.as_slice.result.now) c.requires.head c.requires.kept (said at) (test at ∙ c.if-not-is_next.true)
+    inr (line-refused c.args.head nodes.depths.items nodes.entries.items c.args.line.now (depth_in c.as_slice.result.now)
+    (entries_in c.as_slice.result.now) c.requires.head c.requires.kept (said at) (test at ∙ c.if-not-is_next.true)
     ∙ ap (λ n. Err (BadTree n)) (sym c.number.ensures))
 
 pub returns-clause-read : goal.returns-clause-read
@@ -42,10 +45,12 @@ returns-clause-read c =
     let at = (goal.at.returns-clause-read c).After-is_next in
     rw (c.in_ok-push.ensures.items, c.in_ok-extend_from_slice.ensures.items)
     (line-taken c.args.head nodes.depths.items nodes.entries.items c.args.line.now depth node c.requires.head c.requires.kept (said at) (test at ∙ c.if-not-is_next.false)
-    ∙ ap Ok (sym (nodes_of-push c.args.head.states nodes.depths.items nodes.entries.items depth node c.requires.kept.filled (next (goal.at.returns-clause-read c).Else-not-is_next).width)))
+    ∙ ap Ok (sym (nodes_of-push c.args.head.states nodes.depths.items nodes.entries.items depth node c.requires.kept.filled
+    (next (goal.at.returns-clause-read c).Else-not-is_next).width)))
 
 pub returns-clause-kept : goal.returns-clause-kept
 returns-clause-kept c =
     let nodes = c.args.nodes.now in
     rw (c.in_ok-push.ensures.items, c.in_ok-extend_from_slice.ensures.items)
-    (kept-push c.args.head nodes.depths.items nodes.entries.items (depth_in c.as_slice.result.now) (entries_in c.as_slice.result.now) c.requires.head c.requires.kept (next (goal.at.returns-clause-kept c).Else-not-is_next))
+    (kept-push c.args.head nodes.depths.items nodes.entries.items (depth_in c.as_slice.result.now) (entries_in c.as_slice.result.now) c.requires.head c.requires.kept
+    (next (goal.at.returns-clause-kept c).Else-not-is_next))

@@ -8,7 +8,8 @@ pub returns-then-len-head-clause-read : goal.returns-then-len-head-clause-read
 returns-then-len-head-clause-read c =
     let nodes = c.loop-line.nodes in
     let none = drop_of_length-le c.args.lines.now c.loop-line-test.false in
-    inr (sym c.loop-line.invariant.read ∙ rw none (nodes_from-short c.args.last c.args.head nodes.depths.items nodes.entries.items (λ h. c.if-len-head.true (grind (arith, common_steps)))))
+    inr (sym c.loop-line.invariant.read ∙ rw none (nodes_from-short c.args.last c.args.head nodes.depths.items nodes.entries.items
+    (λ h. c.if-len-head.true (grind (arith, common_steps)))))
 
 pub returns-clause-read : goal.returns-clause-read
 returns-clause-read c =

@@ -4,7 +4,8 @@ use Rattle.decision_tree.proofs.tree.follow.Goals as goal
 use Rattle.decision_tree.proofs.tree.follow.Goals.{In-loop-input}
 
 -- what one more input does
-step : (c : In-loop-input) (place : ℕ) → place ≡ c.loop-input.number * c.args.states + get_or c.args.inputs.now c.loop-input.input-index 0 → Step c.args.states (c.args.root + 1) c.args.entries.now c.loop-input.number c.args.inputs.now c.loop-input.input-index place
+step : (c : In-loop-input) (place : ℕ) → place ≡ c.loop-input.number * c.args.states + get_or c.args.inputs.now c.loop-input.input-index 0
+    → Step c.args.states (c.args.root + 1) c.args.entries.now c.loop-input.number c.args.inputs.now c.loop-input.input-index place
 step c place at =
     one_step c.args.states (c.args.root + 1) c.args.entries.now c.loop-input.number c.args.inputs.now c.loop-input.input-index place c.requires.stores.filled
     c.loop-input.invariant.leading c.loop-input-test.true (c.requires.below c.loop-input.input-index 0 c.loop-input-test.true) at
@@ -16,11 +17,19 @@ overflow_mul-number c =
 
 pub overflow_add-number : goal.overflow_add-number
 overflow_add-number c =
-    omega (arith, (step (goal.at.overflow_add-number c).In-loop-input (c.loop-input.number * c.from-width.result + c.from.result) (rw (c.from-width.ensures, c.from.ensures))).inside)
+    omega (
+      arith,
+      (step (goal.at.overflow_add-number c).In-loop-input (c.loop-input.number * c.from-width.result + c.from.result)
+          (rw (c.from-width.ensures, c.from.ensures))).inside,
+    )
 
 pub offset_bounds-entries-number : goal.offset_bounds-entries-number
 offset_bounds-entries-number c =
-    omega (arith, (step (goal.at.offset_bounds-entries-number c).In-loop-input (c.loop-input.number * c.from-width.result + c.from.result) (rw (c.from-width.ensures, c.from.ensures))).inside)
+    omega (
+      arith,
+      (step (goal.at.offset_bounds-entries-number c).In-loop-input (c.loop-input.number * c.from-width.result + c.from.result)
+          (rw (c.from-width.ensures, c.from.ensures))).inside,
+    )
 
 pub bounds-entries-number : goal.bounds-entries-number
 bounds-entries-number c = (step (goal.at.bounds-entries-number c).In-loop-input _ (rw (c.from-width.ensures, c.from.ensures))).inside

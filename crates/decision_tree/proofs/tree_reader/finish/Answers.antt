@@ -13,18 +13,22 @@ found : (c : After-next_in) → c.next_in.result ≡ next (tree_of_kept c.args.h
 found c =
     let head = c.args.head in
     let root = head.node_count - 1 in
-    c.next_in.ensures ∙ ap (λ es. follow (nodes_in head.states (root + 1) es) root (inputs_of head.neighbors nine_zeros)) c.deref.ensures.value ∙ next-kept head.states head.neighbors root c.args.nodes.entries.items nine_zeros
+    c.next_in.ensures ∙ ap (λ es. follow (nodes_in head.states (root + 1) es) root (inputs_of head.neighbors nine_zeros)) c.deref.ensures.value
+    ∙ next-kept head.states head.neighbors root c.args.nodes.entries.items nine_zeros
 
 -- where it is 0 the tree is one that a file may have
 kept : (c : Else-next_in-ne0) → IsKeptTree c.args.head.states c.args.head.neighbors (c.args.head.node_count - 1) c.args.nodes.entries.items
-kept c = kept-tree c.args.head c.args.nodes.depths.items c.args.nodes.entries.items (c.args.head.node_count - 1) c.requires.head c.requires.kept c.requires.whole (omega (arith, c.requires.head.some)) (sym (found c.before) ∙ c.if-next_in-ne0.false)
+kept c =
+    kept-tree c.args.head c.args.nodes.depths.items c.args.nodes.entries.items (c.args.head.node_count - 1) c.requires.head c.requires.kept c.requires.whole
+    (omega (arith, c.requires.head.some)) (sym (found c.before) ∙ c.if-next_in-ne0.false)
 
 pub returns-then-next_in-ne0-clause-tree : goal.returns-then-next_in-ne0-clause-tree
 returns-then-next_in-ne0-clause-tree c =
     let head = c.args.head in
     let root = head.node_count - 1 in
     inr (ap if_quiescent (tree-kept head c.args.nodes.depths.items c.args.nodes.entries.items root (omega (arith, c.requires.whole, c.requires.head.some)))
-    ∙ if_quiescent-no (tree_of_kept head.states head.neighbors root c.args.nodes.entries.items) (λ still. c.if-next_in-ne0.true (found (goal.at.returns-then-next_in-ne0-clause-tree c).After-next_in ∙ still)))
+    ∙ if_quiescent-no (tree_of_kept head.states head.neighbors root c.args.nodes.entries.items)
+    (λ still. c.if-next_in-ne0.true (found (goal.at.returns-then-next_in-ne0-clause-tree c).After-next_in ∙ still)))
 
 pub new-requires : goal.new-requires
 new-requires c = kept (goal.at.new-requires c).Else-next_in-ne0
@@ -34,7 +38,8 @@ returns-clause-tree c =
     let head = c.args.head in
     let root = head.node_count - 1 in
     ap if_quiescent (tree-kept head c.args.nodes.depths.items c.args.nodes.entries.items root (omega (arith, c.requires.whole, c.requires.head.some)))
-    ∙ if_quiescent-yes (tree_of_kept head.states head.neighbors root c.args.nodes.entries.items) (sym (found (goal.at.returns-clause-tree c).After-next_in) ∙ c.if-next_in-ne0.false)
+    ∙ if_quiescent-yes (tree_of_kept head.states head.neighbors root c.args.nodes.entries.items)
+    (sym (found (goal.at.returns-clause-tree c).After-next_in) ∙ c.if-next_in-ne0.false)
     ∙ ap (λ tree. Ok tree) (sym c.new.ensures)
 
 pub returns-clause-sound : goal.returns-clause-sound

@@ -8,7 +8,8 @@ use Rattle.tree_translation.proofs.layers.+layers_of.Goals as goal
 pub returns-in_ok-results_of-in-empty-clause-layers : goal.returns-in_ok-results_of-in-empty-clause-layers
 returns-in_ok-results_of-in-empty-clause-layers t c = λ states below.
     let results = c.in_ok-results_of-in-empty in
-    rw (nil_from_length c.args.order.now (omega arith), c.new.ensures.items) (AreLayersOf-none states c.args.rows.now results.field-0.items results.ensures.count results.ensures.each below)
+    rw (nil_from_length c.args.order.now (omega arith), c.new.ensures.items)
+    (AreLayersOf-none states c.args.rows.now results.field-0.items results.ensures.count results.ensures.each below)
 
 pub returns-in_ok-insert-in-len1-up-clause-layers : goal.returns-in_ok-insert-in-len1-up-clause-layers
 returns-in_ok-insert-in-len1-up-clause-layers t c = λ states below.

@@ -28,7 +28,8 @@ entries_of-number_again-requires t c =
     let fit : AreFit c.args.states layers (length c.tails_left.new.is_there) = rw room c.requires.fit in
     let tails : AreTailsAt layers (c.args.input + 1) c.deref.result.now = record {
       there = more;
-      inside = λ d. rw c.deref.ensures.value (c.in_ok-left.ensures.inside _ (rw c.index-layers-input.is (layer-before c.args.states layers c.args.input c.index-layers-input.result d c.requires.fit.fit more)));
+      inside = λ d. rw c.deref.ensures.value (c.in_ok-left.ensures.inside _
+          (rw c.index-layers-input.is (layer-before c.args.states layers c.args.input c.index-layers-input.result d c.requires.fit.fit more)));
     } in
     (search (rules), (record { fit = fit; tails = tails; clear = c.in_ok-left.ensures.clear; known = c.loop-state.invariant.grows.known }, search (rules)))
 
@@ -40,7 +41,8 @@ pub entries_of-returns-in_err-number-clause-large : goal.entries_of-returns-in_e
 entries_of-returns-in_err-number-clause-large t c =
     let is = left t (goal.at.entries_of-returns-in_err-number-clause-large t c).In_ok-left in
     passed-on c.from_residual-in_err-number.result c.in_err-number.field-0.0 _ c.from_residual-in_err-number.ensures.1
-    (λ e. NeedsTooMany-behind c.args.states c.args.layers.now c.args.input c.args.list.now c.in_ok-left.left.items c.loop-state.state c.args.found.now c.loop-state.found (omega arith) c.loop-state-test.true is
+    (λ e. NeedsTooMany-behind c.args.states c.args.layers.now c.args.input c.args.list.now c.in_ok-left.left.items c.loop-state.state c.args.found.now c.loop-state.found
+    (omega arith) c.loop-state-test.true is
     c.loop-state.invariant.grows (rw c.deref.ensures.value at (c.in_err-number.ensures.large e)))
 
 pub entries_of-loop-state-preserved : goal.entries_of-loop-state-preserved
@@ -62,7 +64,8 @@ entries_of-loop-state-preserved t c =
     let here : IsEntry states layers new.nodes.keys input list state c.in_ok-number.number = record { left = c.in_ok-left.left.items; is = is; number_of = numbered } in
     record {
       width = search (rules);
-      each = λ s l. rw c.in_ok-push.ensures.items (each-push 0 (λ s e. IsEntry states layers new.nodes.keys input list s e) entries c.in_ok-number.number state known.width before here s l);
+      each = λ s l. rw c.in_ok-push.ensures.items (each-push 0
+          (λ s e. IsEntry states layers new.nodes.keys input list s e) entries c.in_ok-number.number state known.width before here s l);
       grows = Grows-behind states layers input list c.in_ok-left.left.items state c.args.found.now mid new (omega arith) c.loop-state-test.true is known.grows grown;
       clear = c.in_ok-number.ensures.clear;
       latest = numbered;
@@ -86,7 +89,8 @@ number_of-returns-in_err-number-clause-large t c =
     (c.in_err-number.ensures.large e))
 
 -- what comes with the node of the list
-new_node : (t : ℕ) (c : number_of-In_ok-insert t) → IsMade c.args.states c.args.layers.now c.args.input c.args.list.now c.args.found.now (record { numbers = c.insert.new.self; nodes = c.add_node.new.nodes }) c.in_ok-number.number
+new_node : (t : ℕ) (c : number_of-In_ok-insert t)
+    → IsMade c.args.states c.args.layers.now c.args.input c.args.list.now c.args.found.now (record { numbers = c.insert.new.self; nodes = c.add_node.new.nodes }) c.in_ok-number.number
 new_node t c =
     let node : Listed = record { input = c.args.input; numbers = c.in_ok-entries.entries } in
     let key : Listed = record { input = c.args.input; numbers = c.in_ok-to_vec.field-0 } in
@@ -94,7 +98,8 @@ new_node t c =
     let entries = c.in_ok-entries.ensures in
     let stored = c.in_ok-number.ensures in
     made c.args.states c.args.layers.now (length c.args.marks.now) c.args.input c.args.list.now c.args.found.now c.entries_of.new.found node c.requires.fit c.requires.tails entries.grows entries.entries refl
-    new c.in_ok-number.number key refl (c.in_ok-to_vec.ensures.items_if_clones_equal (λ x y h. h)) stored.stored stored.grown stored.apart stored.few c.in_ok-insert.ensures.updates.0
+    new c.in_ok-number.number key refl (c.in_ok-to_vec.ensures.items_if_clones_equal
+    (λ x y h. h)) stored.stored stored.grown stored.apart stored.few c.in_ok-insert.ensures.updates.0
 
 pub number_of-returns-clause-number : goal.number_of-returns-clause-number
 number_of-returns-clause-number t c = (new_node t (goal.at.number_of-returns-clause-number t c).In_ok-insert).numbered

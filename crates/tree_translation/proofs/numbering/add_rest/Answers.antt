@@ -17,7 +17,8 @@ pub returns-then-is_there-rest : goal.returns-then-is_there-rest
 returns-then-is_there-rest c = λ passed known.
     let rest = read (goal.at.returns-then-is_there-rest c).After-index in
     let marked = rw rest.0 at c.if-is_there-rest.true in
-    found-again c.args.layer.now c.args.state passed c.args.is_there.now c.args.found.now.items known c.args.number (known.marked.marked (rest_at c.args.layer.now c.args.number) rest.1 marked)
+    found-again c.args.layer.now c.args.state passed c.args.is_there.now c.args.found.now.items known c.args.number
+    (known.marked.marked (rest_at c.args.layer.now c.args.number) rest.1 marked)
 
 pub returns-then-not-lets : goal.returns-then-not-lets
 returns-then-not-lets c = λ passed known. found-passed c.args.layer.now c.args.state passed c.args.is_there.now c.args.found.now.items known c.args.number (sym c.if-not-lets.ensures)

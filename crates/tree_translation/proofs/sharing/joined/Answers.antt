@@ -16,7 +16,8 @@ loop-node-preserved c =
     let at : node_at (entries_in rows) i ≡ node.numbers.items = rw (listed-at rows i node c.loop-node-test.true, ← c.node-item.is) in
     let width : length node.numbers.items ≡ c.args.states = rw at at (c.requires.width i [] (omega (arith, c.loop-node-test.true, length-listed rows))) in
     let more : c.extend_from_slice.new.self.items ≡ old ++ node.numbers.items = rw c.deref.ensures.value at c.in_ok-extend_from_slice.ensures.items in
-    let kept : entries_in (take (i + 1) rows) ≡ entries_in (take i rows) ++ node.numbers.items ∷ [] = rw (map_more (λ (x : Listed). x.numbers.items) rows i node c.loop-node-test.true, ← c.node-item.is) in
+    let kept : entries_in (take (i + 1) rows) ≡ entries_in (take i rows) ++ node.numbers.items ∷ [] =
+    rw (map_more (λ (x : Listed). x.numbers.items) rows i node c.loop-node-test.true, ← c.node-item.is) in
     record {
       filled = rw more (length-append old node.numbers.items ∙ omega (arith, width, c.loop-node.invariant.filled));
       nodes = rw (more, kept, ← c.loop-node.invariant.nodes) (nodes_in-push c.args.states i old node.numbers.items c.loop-node.invariant.filled width);

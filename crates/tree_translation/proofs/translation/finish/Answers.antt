@@ -33,13 +33,15 @@ new-requires c =
     let filled = rw c.states.ensures.count at c.in_ok-entries.ensures.filled in
     let sound = sound-tree table (entries_in c.args.nodes.now) (zeros-below table.states (omega (arith, least))).below c.requires.does c.requires.quiet in
     rw (c.states-2.ensures.count, c.neighbors_of.ensures, c.neighborhood.ensures)
-    (may-keep table (entries_in c.args.nodes.now) (length c.args.nodes.now) c.in_ok-entries.entries.items least most (some (goal.at.new-requires c).After-states) filled (same (goal.at.new-requires c).In_ok-entries) sound)
+    (may-keep table (entries_in c.args.nodes.now) (length c.args.nodes.now) c.in_ok-entries.entries.items least most (some (goal.at.new-requires c).After-states) filled
+    (same (goal.at.new-requires c).In_ok-entries) sound)
 
 pub returns-clause-translates : goal.returns-clause-translates
 returns-clause-translates c =
     let at = goal.at.returns-clause-translates c in
     rw (c.new.ensures, c.states-2.ensures.count, c.neighbors_of.ensures, c.neighborhood.ensures)
-    (translates-kept c.args.table.now (entries_in c.args.nodes.now) (length c.args.nodes.now) c.in_ok-entries.entries.items (some at.After-states) (same at.In_ok-entries) c.requires.does)
+    (translates-kept c.args.table.now (entries_in c.args.nodes.now) (length c.args.nodes.now) c.in_ok-entries.entries.items (some at.After-states)
+    (same at.In_ok-entries) c.requires.does)
 
 pub returns-clause-nodes : goal.returns-clause-nodes
 returns-clause-nodes c =

@@ -16,7 +16,8 @@ are : (c : In_ok-layers) → AreLayersOf c.args.states c.args.order.now c.args.r
 are c = c.in_ok-layers.ensures.layers c.args.states c.requires.below
 
 -- the tails of all rows give what the rows give
-left : (c : After-deref-2) → AreLayersOf c.args.states c.args.order.now c.args.rows.now c.in_ok-layers.layers.items c.in_ok-layers.numbers.items → IsLeft c.args.states c.deref.result.now (rows_give c.args.order.now c.args.rows.now) 0 c.deref-2.result.now
+left : (c : After-deref-2) → AreLayersOf c.args.states c.args.order.now c.args.rows.now c.in_ok-layers.layers.items c.in_ok-layers.numbers.items
+    → IsLeft c.args.states c.deref.result.now (rows_give c.args.order.now c.args.rows.now) 0 c.deref-2.result.now
 left c made =
     let give = rows_give c.args.order.now c.args.rows.now in
     rw (c.deref.ensures.value, c.deref-2.ensures.value)
@@ -29,8 +30,10 @@ number_of-requires c =
     let room : length c.as_mut_slice.result.now ≡ length c.args.rows.now = search (rules) in
     record {
       fit = rw (c.deref.ensures.value, room) (record { some = c.requires.some; at_most = c.requires.at_most; fit = made.fit; few = made.few });
-      tails = rw (c.deref.ensures.value, c.deref-2.ensures.value) (tails-first c.args.states c.in_ok-layers.layers.items c.in_ok-layers.numbers.items (omega (arith, made.depth, c.requires.asked)) made.inside);
-      clear = rw (c.as_mut_slice.ensures.value, c.in_ok-marks.ensures.items_if_clones_equal (λ y h. h)) (All-replicate (λ (b : Bool). b ≡ false) (length c.args.rows.now) false refl);
+      tails = rw (c.deref.ensures.value, c.deref-2.ensures.value)
+          (tails-first c.args.states c.in_ok-layers.layers.items c.in_ok-layers.numbers.items (omega (arith, made.depth, c.requires.asked)) made.inside);
+      clear = rw (c.as_mut_slice.ensures.value, c.in_ok-marks.ensures.items_if_clones_equal (λ y h. h))
+          (All-replicate (λ (b : Bool). b ≡ false) (length c.args.rows.now) false refl);
       known = search (rules);
     }
 
