@@ -30,6 +30,7 @@ put descriptor.States read d = once d.states (option_map (λ n. record d { state
 put descriptor.Neighbors read d = once d.neighbors (option_map (λ n. record d { neighbors = Some n }) read.neighbors)
 put descriptor.Nodes read d = once d.node_count (option_map (λ n. record d { node_count = Some n }) read.node_count)
 
+-- so a descriptor does with what is read of its value
 describe-puts : (d : Described) (w : Descriptor) (value : List ℕ) → describe d w value ≡ put w (readings value) d
 describe-puts d descriptor.States value = refl
 describe-puts d descriptor.Neighbors value = refl
@@ -41,6 +42,7 @@ put-swapped : {A : Type 0} (k l : Described → Result A RuleFault) → ((c : De
     → GivesToo (ok_or (put v first d) e >>= λ c. ok_or (put w second c) f >>= k) (ok_or (put w second d) f >>= λ c. ok_or (put v first c) e >>= l)
 put-swapped k l too v w first second e f d z h = grind (arith, too)
 
+-- and said in the other order
 swapped : {A : Type 0} (k l : Described → Result A RuleFault) → ((c : Described) → GivesToo (k c) (l c)) → (m n : ℕ) (d : Described) (v w : Descriptor) (value other : List ℕ)
     → GivesToo (described m v value d >>= λ e. described n w other e >>= k) (described n w other d >>= λ e. described m v value e >>= l)
 swapped k l too m n d v w value other = simp describe-puts (put-swapped k l too v w (readings value) (readings other) (BadTree m) (BadTree n) d)

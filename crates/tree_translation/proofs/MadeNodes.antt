@@ -39,6 +39,7 @@ pub record FollowsDiffer (states depth : ℕ) (nodes : List Listed) (i j : ℕ) 
   pub differ : follow (entries_in nodes) i rest ≢ follow (entries_in nodes) j rest
 
 module _ (states depth : ℕ) (nodes : List Listed) (are : AreNodes states depth nodes) where
+  -- two nodes of an input have a place where their entries differ
   entries-differ : (i j : ℕ) → i < length nodes → j < length nodes → i ≢ j → input_at nodes i ≡ input_at nodes j
       → DifferAt (node_at (entries_in nodes) i) (node_at (entries_in nodes) j)
   entries-differ i j l m other same =
@@ -82,6 +83,7 @@ module _ (states depth : ℕ) (nodes : List Listed) (are : AreNodes states depth
       let entry = slice_index (node_at (entries_in nodes) k) s in
       rw at (follow-before more entry (t ∷ rest) (node.inside s under deeper) (omega (arith, node.down s under deeper, long)) (All-tail (λ s. s < states) s (t ∷ rest) low))
 
+  -- where more nodes come, a node still does what begins there
   IsBegun-append : (give : List ℕ → ℕ) (more : List Listed) (k : ℕ) → k < length nodes → IsBegun states depth give nodes k → IsBegun states depth give (nodes ++ more) k
   IsBegun-append give more k l begun =
       let same : input_at (nodes ++ more) k ≡ input_at nodes k = grind (arith, common_steps, map-append) in
@@ -92,6 +94,7 @@ module _ (states depth : ℕ) (nodes : List Listed) (are : AreNodes states depth
         same = λ rest long low. begun.same rest (omega (arith, long, same)) low ∙ sym (follow-before more k rest l (omega (arith, long, same)) low);
       }
 
+  -- they stay nodes where one more of its input comes
   AreNodes-push : (node : Listed) → IsNode states depth nodes node.input node.numbers.items → IsDistinct same_listed (nodes ++ node ∷ [])
       → AreNodes states depth (nodes ++ node ∷ [])
   AreNodes-push node is apart = grind (arith, common_steps, map-append)
@@ -188,7 +191,7 @@ fit-drop states layers zero fit = fit
 fit-drop states [] (suc input) fit = tt
 fit-drop states (layer ∷ layers) (suc input) fit = fit-drop states layers input fit.1
 
--- what layers from an input on say of the layers
+-- layers from an input on: the first is the layer there, and those behind it come from the next input on
 module _ (layers : List Layer) (input : ℕ) (here : Layer) (behind : List Layer) (from : drop input layers ≡ here ∷ behind) where
   layer-here : slice_index_or layers input here ≡ here
   layer-here = grind (arith, common_steps)

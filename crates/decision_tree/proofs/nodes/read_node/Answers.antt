@@ -9,6 +9,7 @@ use Rattle.decision_tree.proofs.NextNode.{line-refused, line-taken}
 use Rattle.decision_tree.proofs.nodes.read_node.Goals as goal
 use Rattle.decision_tree.proofs.nodes.read_node.Goals.{After-is_next, Else-not-is_next}
 
+-- the depth and the entries among a node's numbers
 abbrev depth_in : List ℕ → ℕ
 depth_in numbers = get_or numbers 0 0
 
@@ -22,10 +23,12 @@ said c =
     ap Some (sym (first-and-others c.as_slice.result.now 0 c.in-len1-up.len_at_least) ∙ c.as_slice.ensures.value) ∙ kept ∙ ap
     (λ text. option_map (map saturated) (numbers_in (words text))) c.text.ensures
 
+-- what the test says of them
 test : (c : After-is_next)
     → is_next c.args.head c.args.nodes.now.depths.items (record { depth = depth_in c.as_slice.result.now; entries = entries_in c.as_slice.result.now }) ≡ c.is_next.result
 test c = rw (← c.deref.ensures.value) (sym c.is_next.ensures)
 
+-- where it holds they are the next node
 next : (c : Else-not-is_next) → IsNextNode c.args.head c.args.nodes.now.depths.items (depth_in c.as_slice.result.now) (entries_in c.as_slice.result.now)
 next c = is_next-node c.args.head c.args.nodes.now.depths.items (depth_in c.as_slice.result.now) (entries_in c.as_slice.result.now) (test c.before ∙ c.if-not-is_next.false)
 
