@@ -1,5 +1,5 @@
 -- The tree of nodes that were read.
-use Rattle.std.proofs.Common.{◌≡◌, ◌≢◌, ℕ, ◌+◌, ◌*◌, ◌==◌, true, List, length, slice_index, Ok, Err, ap, ◌∙◌, arith, rules, tests}
+use Rattle.std.proofs.Common.{◌≡◌, ◌≢◌, ℕ, ◌+◌, ◌*◌, ◌-◌, ◌==◌, true, List, length, slice_index, Ok, Err, ap, ◌∙◌, sym, arith, rules, tests}
 use Rattle.std.proofs.lemmas.Bool.{and_from}
 use Rattle.std.proofs.lemmas.Bool.Decides.{nat_tests}
 use Rattle.worlds.specs.Step.{nine_zeros}
@@ -32,7 +32,8 @@ levels neighbors = grind arith
 -- the root leads to a state
 pub root-leads : (head : TreeHead) (depths entries : List ℕ) (root : ℕ) → AreKept head depths entries → length depths ≡ head.node_count → head.node_count ≡ root + 1 → leads head.states (nodes_in head.states (root + 1) entries) root (places_of head.neighbors) ≡ true
 root-leads head depths entries root kept whole last =
-    let deep : length (places_of head.neighbors) ≡ slice_index depths root = grind (arith, levels head.neighbors, kept.rooted whole, last) in
+    let at : head.node_count - 1 ≡ root = omega (arith, last) in
+    let deep : length (places_of head.neighbors) ≡ slice_index depths root = levels head.neighbors ∙ sym (kept.rooted whole) ∙ ap (slice_index depths) at in
     rw (← last, ← whole) (kept.leading root (places_of head.neighbors) (omega (arith, whole, last)) deep)
 
 -- such a tree is one that a file may have

@@ -93,7 +93,8 @@ node-wide head nodes node limits low h =
 -- all nodes read back, one behind another
 nodes-taken : (last number : ℕ) (head : TreeHead) (nodes others : List Node) → IsTreeHead head → length nodes + length others ≡ head.node_count → EachIsNext head nodes others → AllByRecursion (λ node. node.depth ≤ head.node_count) others → nodes_from last head nodes (numbered_from number (map node_line others)) ≡ Ok (nodes ++ others)
 nodes-taken last number head nodes [] limits all h low =
-    grind (arith, nat_tests, append-nil nodes)
+    let is : (length nodes == head.node_count) ≡ true = grind (arith, nat_tests) in
+    rw (is, append-nil nodes)
 nodes-taken last number head nodes (node ∷ others) limits all h low =
     ap (λ read. ok_or (option_map (λ node. nodes ++ node ∷ []) read) (BadTree number) >>= λ more. nodes_from last head more (numbered_from (number + 1) (map node_line others)))
     (node-read head nodes node (node-wide head nodes node limits low.0 h.0) h.0)
