@@ -1,6 +1,5 @@
 -- Readings, one after another: what they tell where they give a value, and where none wants memory.
 use Rattle.std.proofs.Common.{◌≡◌, ◌≢◌, Bool, true, false, Option, Some, None, Result, Ok, Err, if◌then◌else◌, refl, ap, ◌∙◌}
-use Rattle.std.specs.Prelude.{option_and_then}
 use Rattle.std.specs.Option.{option_map, ok_or}
 use Rattle.std.specs.Result.{IsErrAnd}
 use Rattle.basics.specs.Results.{◌>>=◌}
@@ -27,23 +26,6 @@ some-ok (Some y) e x h = ap Some (same_value y x h)
 pub map-some : {A B : Type 0} (f : A → B) (o : Option A) (y : B) → option_map f o ≡ Some y → (x : A) × (o ≡ Some x) × (f x ≡ y)
 map-some f None y h = absurd cc
 map-some f (Some x) y h = (x, refl, cc)
-
-pub then-some : {A B : Type 0} (f : A → Option B) (o : Option A) (y : B) → option_and_then f o ≡ Some y → (x : A) × (o ≡ Some x) × (f x ≡ Some y)
-then-some f None y h = absurd cc
-then-some f (Some x) y h = (x, refl, h)
-
-pub if-some : {A : Type 0} (b : Bool) (x y : A) → (if b then Some x else None) ≡ Some y → (b ≡ true) × (x ≡ y)
-if-some true x y h = (refl, cc)
-if-some false x y h = absurd cc
-
--- a value that is given where a test holds, and where it doesn't
-pub if-ok : {A : Type 0} (b : Bool) (r : Result A RuleFault) (e : RuleFault) (y : A) → (if b then r else Err e) ≡ Ok y → (b ≡ true) × (r ≡ Ok y)
-if-ok true r e y h = (refl, h)
-if-ok false r e y h = absurd cc
-
-pub else-ok : {A : Type 0} (b : Bool) (r : Result A RuleFault) (e : RuleFault) (y : A) → (if b then Err e else r) ≡ Ok y → (b ≡ false) × (r ≡ Ok y)
-else-ok true r e y h = absurd cc
-else-ok false r e y h = (refl, h)
 
 -- a reading that wants no memory
 abbrev pub WantsNone : {A : Type 0} → Result A RuleFault → Type 0
