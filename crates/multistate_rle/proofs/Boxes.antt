@@ -1,21 +1,88 @@
 -- The bounding box of a world is the box of its live cells.
-use Rattle.std.proofs.Common.{◌≡◌, ◌∙◌, ap, refl, ℕ, ◌<◌, ◌≤◌, ◌^◌, List, [], ◌∷◌, map, Option, None, Some, ℤ, pos, arith, neg_ℤ, ◌≤ℤ◌}
+use Rattle.std.proofs.Common.{◌≡◌, ◌∙◌, ap, refl, sym, subst, ℕ, ◌<◌, ◌≤◌, ◌^◌, Bool, true, false, cond, List, [], ◌∷◌, map, Option, None, Some, ℤ, pos, arith, neg_ℤ, ◌≤ℤ◌}
+use Rattle.std.specs.Prelude.{MatchOption}
+use Rattle.std.specs.List.{AllByRecursion}
 use Rattle.std.proofs.lemmas.Int.{ints}
-use Rattle.worlds.specs.World.{World, Place, cell, blank, cell-blank, entries-blank}
-use Rattle.worlds.specs.Live.{live, live-entries, as_live}
-use Rattle.worlds.specs.Range.{HasMargin, IsBoundingBox}
-use Rattle.worlds.specs.Box.{grown}
+use Rattle.worlds.specs.World.{World, Place, cell, blank, cell-blank, entries-blank, same_world}
+use Rattle.worlds.specs.Live.{live, live-entries, as_live, state_at, cell-state_at, live-states, by_place}
+use Rattle.worlds.specs.Range.{HasMargin, IsBoundingBox, IsInBox}
 use Rattle.worlds.specs.declared.cell.Bounds.{Bounds}
-use Rattle.worlds.proofs.Walks.{Walked, Walked-none, Walked-more, some_walked, none_walked}
 use Rattle.multistate_rle.specs.declared.frame.Frame.{Frame}
-use Rattle.multistate_rle.specs.Frame.{box_of, box_with, frame_of}
+use Rattle.multistate_rle.specs.Frame.{box_of, box_with, frame_of, grown}
 use Rattle.multistate_rle.specs.Token.{distance}
 use Rattle.multistate_rle.proofs.HeadReads.{IsCoordinate}
 
--- the walk to the end of the live cells
-walked : (w : World) (b : Option Bounds) (rest : List (Place × ℕ)) → Walked w b rest → Walked w (box_with b rest) []
-walked w b [] h = h
-walked w b (c ∷ cs) h = walked w (Some (grown b c.0.1 c.0.0)) cs (Walked-more w b (c ∷ cs) c cs refl h)
+-- each edge of the box touches a live cell
+record Touches (w : World) (b : Bounds) : Type 0 where
+  touched_left : (y : ℤ) × (0 < cell w b.left y)
+  touched_right : (y : ℤ) × (0 < cell w b.right y)
+  touched_top : (x : ℤ) × (0 < cell w x b.top)
+  touched_bottom : (x : ℤ) × (0 < cell w x b.bottom)
+
+either : (t : Bool) (a b : ℤ) (P : ℤ → Type 0) → P a → P b → P (cond t a b)
+either true a b P p q = p
+either false a b P p q = q
+
+grown-touches : (w : World) (b : Bounds) (x y : ℤ) → Touches w b → 0 < cell w x y → Touches w (grown (Some b) x y)
+grown-touches w b x y h live = record {
+  touched_left = either _ x b.left (λ z. (y : ℤ) × (0 < cell w z y)) (y, live) h.touched_left;
+  touched_right = either _ b.right x (λ z. (y : ℤ) × (0 < cell w z y)) h.touched_right (y, live);
+  touched_top = either _ y b.top (λ z. (x : ℤ) × (0 < cell w x z)) (x, live) h.touched_top;
+  touched_bottom = either _ b.bottom y (λ z. (x : ℤ) × (0 < cell w x z)) h.touched_bottom (x, live);
+}
+
+in_grown : (b : Bounds) (x y x' y' : ℤ) → IsInBox b x' y' → IsInBox (grown (Some b) x y) x' y'
+in_grown b x y x' y' h = grind (arith, ints)
+
+in_grown-new : (b : Bounds) (x y : ℤ) → IsInBox (grown (Some b) x y) x y
+in_grown-new b x y = grind (arith, ints)
+
+-- r is b, grown to hold these live cells
+record IsGrown (w : World) (b : Bounds) (cells : List (Place × ℕ)) (r : Bounds) : Type 0 where
+  is : box_with (Some b) cells ≡ Some r
+  holds_box : (x y : ℤ) → IsInBox b x y → IsInBox r x y
+  holds_cells : AllByRecursion (λ (c : Place × ℕ). IsInBox r c.0.1 c.0.0) cells
+  touches : Touches w r
+
+abbrev AreLive : World → List (Place × ℕ) → Type 0
+AreLive w cells = AllByRecursion (λ (c : Place × ℕ). (cell w c.0.1 c.0.0 ≡ c.1) × (0 < c.1)) cells
+
+grown-box : (w : World) (b : Bounds) (cells : List (Place × ℕ)) → Touches w b → AreLive w cells → (r : Bounds) × IsGrown w b cells r
+grown-box w b [] touches live = (b, record { is = refl; holds_box = λ x y h. h; holds_cells = tt; touches = touches })
+grown-box w b (c ∷ cells) touches live =
+    let x : ℤ = c.0.1 in
+    let y : ℤ = c.0.0 in
+    let all = grown-box w (grown (Some b) x y) cells (grown-touches w b x y touches (omega (arith, live.0.0, live.0.1))) live.1 in (
+      all.0,
+      record {
+        is = all.1.is;
+        holds_box = λ x' y' h. all.1.holds_box x' y' (in_grown b x y x' y' h);
+        holds_cells = (all.1.holds_box x y (in_grown-new b x y), all.1.holds_cells);
+        touches = all.1.touches;
+      },
+    )
+
+-- the box of a world's live cells: the bounding box, and none for the blank world
+abbrev IsBoxOf : World → Option Bounds → Type 0
+IsBoxOf w box = MatchOption box (w ≡ blank) (λ b. IsBoundingBox b w)
+
+is_box : (w : World) (cells : List (Place × ℕ)) → cells ≡ live w → IsBoxOf w (box_of cells)
+is_box w [] is = same_world w blank (λ x y. cell-state_at w x y ∙ ap (λ cells. state_at cells (y, x)) (sym is) ∙ sym (cell-blank x y))
+is_box w (c ∷ cells) is =
+    let x : ℤ = c.0.1 in
+    let y : ℤ = c.0.0 in
+    let live : AreLive w (c ∷ cells) = subst (AreLive w) (sym is) (live-states w) in
+    let here : 0 < cell w x y = omega (arith, live.0.0, live.0.1) in
+    let all = grown-box w (grown None x y) cells (record { touched_left = (y, here); touched_right = (y, here); touched_top = (x, here); touched_bottom = (x, here) }) live.1 in
+    let first = all.1.holds_box x y (record { left = omega (arith, ints); right = omega (arith, ints); top = omega (arith, ints); bottom = omega (arith, ints) }) in
+    subst (IsBoxOf w) (sym all.1.is) (record {
+      holds = λ x' y' k. by_place (c ∷ cells) (λ x y _. IsInBox all.0 x y) (first, all.1.holds_cells) x' y'
+          (subst (λ s. 0 < s) (cell-state_at w x' y' ∙ ap (λ cells. state_at cells (y', x')) (sym is)) k);
+      touched_left = all.1.touches.touched_left;
+      touched_right = all.1.touches.touched_right;
+      touched_top = all.1.touches.touched_top;
+      touched_bottom = all.1.touches.touched_bottom;
+    })
 
 same_edges : (a b : Bounds) → a.left ≡ b.left → a.top ≡ b.top → a.right ≡ b.right → a.bottom ≡ b.bottom → a ≡ b
 same_edges a b l t r m = λ i. record { left = l i; top = t i; right = r i; bottom = m i }
@@ -36,13 +103,13 @@ one_box w a b p q =
 dead-blank : (w : World) (x y : ℤ) → w ≡ blank → 0 < cell w x y → ⊥
 dead-blank w x y is live = let dead : cell w x y ≡ 0 = ap (λ v. cell v x y) is ∙ cell-blank x y in omega arith
 
-found_box : (w : World) (o : Option Bounds) (b : Bounds) → Walked w o [] → IsBoundingBox b w → o ≡ Some b
-found_box w None b h k = absurd (dead-blank w b.left k.touched_left.0 ((none_walked w None [] refl h).0 refl) k.touched_left.1)
-found_box w (Some a) b h k = ap (λ d. Some d) (one_box w a b (some_walked w (Some a) [] refl h) k)
+found_box : (w : World) (o : Option Bounds) (b : Bounds) → IsBoxOf w o → IsBoundingBox b w → o ≡ Some b
+found_box w None b h k = absurd (dead-blank w b.left k.touched_left.0 h k.touched_left.1)
+found_box w (Some a) b h k = ap (λ d. Some d) (one_box w a b h k)
 
 -- the box of the live cells is the bounding box
 pub box_of-live : (w : World) (b : Bounds) → IsBoundingBox b w → box_of (live w) ≡ Some b
-box_of-live w b k = found_box w (box_of (live w)) b (walked w None (live w) (Walked-none w (live w) refl)) k
+box_of-live w b k = found_box w (box_of (live w)) b (is_box w (live w) refl) k
 
 -- the box of the live cells of the blank world
 pub box_of-blank : (w : World) → w ≡ blank → box_of (live w) ≡ None
@@ -66,17 +133,16 @@ pub record FrameFits (w : World) (f : Frame) : Type 0 where
   pub height : f.height < 2 ^ 64
   pub holds : (x y : ℤ) → 0 < cell w x y → (f.left ≤ℤ x) × (f.top ≤ℤ y)
 
-fits_walked : (w : World) (o : Option Bounds) → HasMargin 0 w → Walked w o [] → FrameFits w (frame_of o)
-fits_walked w None inside h =
+fits_box : (w : World) (o : Option Bounds) → HasMargin 0 w → IsBoxOf w o → FrameFits w (frame_of o)
+fits_box w None inside blank =
     record {
       left = record { low = omega (arith, ints); high = omega (arith, ints) };
       top = record { low = omega (arith, ints); high = omega (arith, ints) };
       width = omega arith;
       height = omega arith;
-      holds = λ x y live. absurd (dead-blank w x y ((none_walked w None [] refl h).0 refl) live);
+      holds = λ x y live. absurd (dead-blank w x y blank live);
     }
-fits_walked w (Some b) inside h =
-    let box : IsBoundingBox b w = some_walked w (Some b) [] refl h in
+fits_box w (Some b) inside box =
     let l = inside b.left box.touched_left.0 box.touched_left.1 in
     let r = inside b.right box.touched_right.0 box.touched_right.1 in
     let t = inside box.touched_top.0 b.top box.touched_top.1 in
@@ -93,4 +159,4 @@ fits_walked w (Some b) inside h =
 
 -- the frame of a world's live cells
 pub frame-fits : (w : World) → HasMargin 0 w → FrameFits w (frame_of (box_of (live w)))
-frame-fits w inside = fits_walked w (box_of (live w)) inside (walked w None (live w) (Walked-none w (live w) refl))
+frame-fits w inside = fits_box w (box_of (live w)) inside (is_box w (live w) refl)

@@ -1,10 +1,15 @@
 -- The frame of a pattern: the place and the size of its bounding box.
-use Rattle.std.specs.Prelude.{ℕ, ◌+◌, List, [], ◌∷◌, pos, Option, None, Some}
+use Rattle.std.specs.Prelude.{ℕ, ◌+◌, List, [], ◌∷◌, ℤ, pos, Option, None, Some}
+use Rattle.std.specs.Int.{int_min, int_max}
 use Rattle.worlds.specs.World.{Place}
-use Rattle.worlds.specs.Box.{grown}
 use Rattle.worlds.specs.declared.cell.Bounds.{Bounds}
 use Rattle.multistate_rle.specs.declared.frame.Frame.{Frame}
 use Rattle.multistate_rle.specs.Token.{distance}
+
+-- the least box that holds the given one, if there is one, and (x, y)
+abbrev pub grown : Option Bounds → ℤ → ℤ → Bounds
+grown None x y = record { left = x; top = y; right = x; bottom = y }
+grown (Some b) x y = record { left = int_min b.left x; top = int_min b.top y; right = int_max b.right x; bottom = int_max b.bottom y }
 
 -- the least box that holds the given one, if there is one, and the listed cells
 abbrev pub box_with : Option Bounds → List (Place × ℕ) → Option Bounds

@@ -1,5 +1,5 @@
 -- What laying cells and letting generations pass keep of a world: room to the edges, and states below the rule's.
-use Rattle.std.proofs.Common.{◌≡◌, ℕ, zero, suc, ◌+◌, ◌-◌, ◌<◌, ◌≤◌, Bool, true, false, cond, List, [], ◌∷◌, sym, subst, arith, refl, ℤ}
+use Rattle.std.proofs.Common.{◌≡◌, ℕ, zero, suc, ◌-◌, ◌<◌, ◌≤◌, Bool, true, false, cond, List, [], ◌∷◌, sym, subst, arith, refl, ℤ}
 use Rattle.std.specs.List.{AllByRecursion}
 use Rattle.std.proofs.lemmas.Int.{ints}
 use Rattle.worlds.specs.declared.cell.CellSet.{CellSet}
@@ -8,7 +8,7 @@ use Rattle.worlds.specs.Fill.{same_is}
 use Rattle.worlds.specs.Lay.{lay, last_mention, cell-lay}
 use Rattle.worlds.specs.Step.{nine_zeros, AreNineBelow}
 use Rattle.worlds.specs.Range.{IsInside, HasMargin, AllBelow}
-use Rattle.worlds.specs.Arrival.{arrive, after, arrive-zero, arrive-one_more}
+use Rattle.worlds.specs.Arrival.{arrive, after}
 use Rattle.worlds.proofs.Stepped.{AllBelow-step, HasMargin-step}
 
 chosen : (b : Bool) (s t : ℕ) (P : ℕ → Type 0) → (b ≡ true → P s) → P t → P (cond b s t)
@@ -37,12 +37,7 @@ AllBelow-lay n cs w all h x y = subst (λ s. s < n) (sym (cell-lay cs w x y)) (b
 
 -- room is room for less
 pub IsInside-less : (m n : ℕ) (x y : ℤ) → m ≤ n → IsInside n x y → IsInside m x y
-IsInside-less m n x y le at = record {
-  left = (let k = at.left in omega (arith, ints));
-  right = (let k = at.right in omega (arith, ints));
-  top = (let k = at.top in omega (arith, ints));
-  bottom = (let k = at.bottom in omega (arith, ints));
-}
+IsInside-less m n x y le at = record { left = omega (arith, ints, at.left); right = omega (arith, ints, at.right); top = omega (arith, ints, at.top); bottom = omega (arith, ints, at.bottom) }
 
 pub AreInside-less : (cs : List CellSet) (m n : ℕ) → m ≤ n → AllByRecursion (λ c. IsInside n c.x c.y) cs → AllByRecursion (λ c. IsInside m c.x c.y) cs
 AreInside-less [] m n le h = tt
@@ -51,22 +46,18 @@ AreInside-less (c ∷ cs) m n le h = (IsInside-less m n c.x c.y le h.0, AreInsid
 -- at each generation up to `far` a pattern that began with that much room has what is left of it
 pub HasMargin-arrive : (next : List ℕ → ℕ) → next nine_zeros ≡ 0 → (cells : ℕ → List CellSet) (start : World) (far : ℕ) → ((k : ℕ) → AllByRecursion (λ c. IsInside far c.x c.y) (cells k)) → HasMargin far start
     → (g : ℕ) → g ≤ far → HasMargin (far - g) (arrive next cells start g)
-HasMargin-arrive next quiet cells start far inside h zero le = subst (HasMargin (far - 0)) (sym (arrive-zero next cells start)) (subst (λ m. HasMargin m start) (omega arith) h)
+unfolding arrive
+HasMargin-arrive next quiet cells start far inside h zero le = let all : far ≡ far - 0 = omega arith in subst (λ m. HasMargin m start) all h
 HasMargin-arrive next quiet cells start far inside h (suc g) le =
-    let k : suc g ≡ g + 1 = omega arith in
     let room : far - g ≡ suc (far - suc g) = omega arith in
-    let before : HasMargin (far - g) (arrive next cells start g) = HasMargin-arrive next quiet cells start far inside h g (omega arith) in
-    let laid : HasMargin (far - g) (after next cells start g) = HasMargin-lay (far - g) (cells g) _ (AreInside-less (cells g) (far - g) far (omega arith) (inside g)) before in
-    subst (λ i. HasMargin (far - suc g) (arrive next cells start i)) (sym k)
-    (subst (HasMargin (far - suc g)) (sym (arrive-one_more next cells start g))
-    (HasMargin-step (far - suc g) next (after next cells start g) quiet (subst (λ m. HasMargin m (after next cells start g)) room laid)))
+    let before = HasMargin-arrive next quiet cells start far inside h g (omega arith) in
+    let laid = HasMargin-lay (far - g) (cells g) _ (AreInside-less (cells g) (far - g) far (omega arith) (inside g)) before in
+    HasMargin-step (far - suc g) next (after next cells start g) quiet (subst (λ m. HasMargin m (after next cells start g)) room laid)
 
 -- at each generation the states are below the rule's
 pub AllBelow-arrive : (next : List ℕ → ℕ) → next nine_zeros ≡ 0 → (n : ℕ) → ((states : List ℕ) → AreNineBelow n states → next states < n)
     → (cells : ℕ → List CellSet) (start : World) → ((k : ℕ) → AllByRecursion (λ c. c.state < n) (cells k)) → AllBelow n start → (g : ℕ) → AllBelow n (arrive next cells start g)
-AllBelow-arrive next quiet n below cells start all h zero = subst (AllBelow n) (sym (arrive-zero next cells start)) h
+unfolding arrive
+AllBelow-arrive next quiet n below cells start all h zero = h
 AllBelow-arrive next quiet n below cells start all h (suc g) =
-    let k : suc g ≡ g + 1 = omega arith in
-    subst (λ i. AllBelow n (arrive next cells start i)) (sym k)
-    (subst (AllBelow n) (sym (arrive-one_more next cells start g))
-    (AllBelow-step n next (after next cells start g) quiet below (AllBelow-lay n (cells g) _ (all g) (AllBelow-arrive next quiet n below cells start all h g))))
+    AllBelow-step n next (after next cells start g) quiet below (AllBelow-lay n (cells g) _ (all g) (AllBelow-arrive next quiet n below cells start all h g))

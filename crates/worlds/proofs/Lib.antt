@@ -1,6 +1,5 @@
 pub mod Cells
 pub mod Local
 pub mod Steps
-pub mod Walks
 pub mod Stepped
 pub mod Keeps

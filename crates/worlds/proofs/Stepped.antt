@@ -36,9 +36,4 @@ HasMargin-step n next w quiet h x y live = record {
 pub HasMargin-less : (m n : ℕ) (w : World) → m ≤ n → HasMargin n w → HasMargin m w
 HasMargin-less m n w le h x y live =
     let at = h x y live in
-    record {
-      left = (let k = at.left in omega (arith, ints));
-      right = (let k = at.right in omega (arith, ints));
-      top = (let k = at.top in omega (arith, ints));
-      bottom = (let k = at.bottom in omega (arith, ints));
-    }
+    record { left = omega (arith, ints, at.left); right = omega (arith, ints, at.right); top = omega (arith, ints, at.top); bottom = omega (arith, ints, at.bottom) }

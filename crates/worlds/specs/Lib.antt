@@ -5,7 +5,6 @@ pub mod Step
 pub mod Iterate
 pub mod Live
 pub mod Range
-pub mod Box
 pub mod Arrival
 pub mod Moved
 pub mod Near
