@@ -1,8 +1,8 @@
 -- Steps of the text of counts.
-use Rattle.std.proofs.Common.{◌≡◌, ℕ, suc, ◌+◌, ◌-◌, ◌<◌, List, [], ◌∷◌, ◌++◌, ap, ap₂, ◌∙◌, sym, arith, append_assoc, append-nil, refl}
+use Rattle.std.proofs.Common.{◌≡◌, ℕ, suc, ◌+◌, ◌-◌, ◌<◌, List, ◌++◌, ap, ap₂, ◌∙◌, sym, arith, append_assoc, append-nil}
 use Rattle.worlds.specs.World.{World}
 use Rattle.worlds.specs.Live.{count_of}
-use Rattle.bookmarks.specs.Counts.{count_line, count_lines, count_lines-none, count_lines-more, or_empty}
+use Rattle.bookmarks.specs.Counts.{count_line, count_lines, count_lines-none, count_lines-more}
 
 -- one more state
 pub lines-more : (w : World) (text after : List ℕ) (below state count : ℕ) → below < 255 → state ≡ below + 1 → count ≡ count_of w state → after ≡ text ++ count_line state count
@@ -26,7 +26,3 @@ lines_all w text below none is =
     ∙ ap (λ bs. text ++ bs) (sym (count_lines-none w (below + 1)))
     ∙ ap (λ n. text ++ count_lines w (below + 1) n) (sym none)
     ∙ is
-
-pub or_empty-some : (text : List ℕ) (b : ℕ) (bs : List ℕ) → text ≡ b ∷ bs → text ≡ or_empty text
-or_empty-some [] b bs is = cc
-or_empty-some (c ∷ cs) b bs is = refl

@@ -22,10 +22,6 @@ use Rattle.dependency_book.specs.Kept.{generation_of, felt_from, leaves_arrival,
 use Rattle.dependency_book.proofs.Marked.{either_way, true_eq, eq_false, true_lt}
 use Rattle.dependency_book.proofs.Walk.{own_cells-other}
 
--- the same interventions lay the same below generation f
-SameBelow : ℕ → List Intervention → List Intervention → Type 0
-SameBelow f is js = (k : ℕ) → k < f → cells_at is k ≡ cells_at js k
-
 pub same_inserted : (is : List Intervention) (i : Intervention) (k : ℕ) → k < i.generation → cells_at is k ≡ cells_at (is ++ i ∷ []) k
 same_inserted is i k under =
     sym (flat_map-append (λ j. own_cells j k) is (i ∷ [])

@@ -17,7 +17,6 @@ use Rattle.revision_jobs.specs.declared.entry.Entry.TheVariants as entry
 use Rattle.revision_jobs.specs.Answered.{Answered, IsRight as IsRightAnswer}
 use Rattle.revision_jobs.specs.Entries.{entry_of, index_of}
 use Rattle.revision_jobs.specs.Value.{Value, IsStep, pattern, text, value}
-use Rattle.dependency_book.specs.declared.filled.Filled.TheVariants.{Row as Filled_Row}
 use Rattle.dependency_book.specs.declared.finding.Finding.{Finding}
 use Rattle.dependency_book.specs.declared.finding.Finding.TheVariants.{Expected, Found}
 use Rattle.dependency_book.specs.declared.need.Need.{Need}
@@ -170,18 +169,6 @@ filled_rows old new need place job outcome numbers out same puts other =
 pub kept_rows : (d : Known) (answer : Answered) → ((need : Need) → is_job answer.job (expected d need) ≡ false) → (other : Need) → row_of d other ≡ answered answer (row_of d other)
 kept_rows d answer none other = sym (cond-false (is_job answer.job (expected d other)) (given_by answer.outcome) (row_of d other) (none other))
 
-not_missing : {V : Type 0} (o : Option (Finding V)) (job : Job) → job_of o ≡ Some job → missing o ≡ 0
-not_missing None job h = absurd cc
-not_missing (Some (Expected other)) job h = refl
-not_missing (Some (Found v)) job h = refl
-
-pub filled_wanting : (old new : Known) (need : Need) (job : Job) (outcome : Result Value EvolveFault) → expected old need ≡ Some job → Puts need (given_by outcome) old new → filled_by outcome ≡ Filled_Row → wanting_of new ≡ wanting_of old
-filled_wanting old new need job (Err fault) out puts h = absurd cc
-filled_wanting old new need job (Ok v) out puts h =
-    let before = not_missing (row_of old need) job out in
-    let whole = puts.wanting in
-    omega (arith, before, whole)
-
 -- cancelled jobs
 
 pub cancelled_rows : (old new : Known) (need : Need) (place : Place) (n : ℕ) → AreNumbered old → expected old need ≡ numbered n place → Puts need None old new → (other : Need) → row_of new other ≡ cancelled n (row_of old other)
@@ -196,9 +183,6 @@ cancelled_rows old new need place n numbers out puts other =
     (λ miss.
     cond-false (is_need need other) None row miss
     ∙ sym (cond-false test None row (other_number old need other (record { number = n; place = place }) numbers out miss)))
-
-pub uncancelled_rows : (d : Known) (n : ℕ) → ((need : Need) → has_number n (expected d need) ≡ false) → (other : Need) → row_of d other ≡ cancelled n (row_of d other)
-uncancelled_rows d n none other = sym (cond-false (has_number n (expected d other)) None (row_of d other) (none other))
 
 -- a new job
 

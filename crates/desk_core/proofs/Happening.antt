@@ -17,12 +17,12 @@ use Rattle.dependency_book.specs.declared.finding.Finding.TheVariants.{Found}
 use Rattle.dependency_book.specs.declared.need.Need.{Need}
 use Rattle.dependency_book.specs.declared.need.Need.TheVariants.{Step, View}
 use Rattle.dependency_book.specs.Findings.{finding_map}
-use Rattle.dependency_book.specs.Jobs.{issued, answered, cancelled, SameBook}
+use Rattle.dependency_book.specs.Jobs.{issued, answered, SameBook}
 use Rattle.dependency_book.specs.Kept.{KeepsRows, keeps_arrival, keeps_text, text_kept}
 use Rattle.dependency_book.specs.Known.{Known, arrival_row, text_row, row_of, bookmark_in}
 use Rattle.dependency_book.specs.Marks.{is_noted}
 use Rattle.dependency_book.proofs.Put.{map_if}
-use Rattle.desk_core.specs.Events.{Core, core_of, kept_row, after_edit, after_event, edits, issues, collects, cancels}
+use Rattle.desk_core.specs.Events.{Core, core_of, kept_row, after_edit, after_event, edits, issues, collects}
 
 abbrev core : Plan → ℕ → (Need → Option (Finding Value)) → Core
 core p n rows = record { plan = p; given = n; rows = rows }
@@ -33,9 +33,6 @@ same_core p q m n r s plan given rows = ap (λ x. core x m r) plan ∙ ap (λ x.
 
 pub collects-core : (old new : Known) (answer : Answered) → SameBook old new → ((need : Need) → row_of new need ≡ answered answer (row_of old need)) → core_of new ≡ after_event (core_of old) (collects answer)
 collects-core old new answer book rows = same_core new.plan old.plan new.given old.given (λ need. row_of new need) (λ need. answered answer (row_of old need)) book.document.plan book.given rows
-
-pub cancels-core : (old new : Known) (number : ℕ) → SameBook old new → ((need : Need) → row_of new need ≡ cancelled number (row_of old need)) → core_of new ≡ after_event (core_of old) (cancels number)
-cancels-core old new number book rows = same_core new.plan old.plan new.given old.given (λ need. row_of new need) (λ need. cancelled number (row_of old need)) book.document.plan book.given rows
 
 job_of_number : (job : Job) (n : ℕ) → job.number ≡ n → job ≡ record { number = n; place = job.place }
 job_of_number job n is = ap (λ (m : ℕ). record { number = m; place = job.place }) is

@@ -11,7 +11,7 @@ use Rattle.dependency_book.specs.declared.finding.Finding.{Finding}
 use Rattle.dependency_book.specs.declared.finding.Finding.TheVariants.{Expected, Found}
 use Rattle.dependency_book.specs.declared.need.Need.{Need}
 use Rattle.dependency_book.specs.Findings.{job_of, has_number}
-use Rattle.dependency_book.specs.Jobs.{given_by, is_job, is_need, issued, answered, cancelled, IsFirstOut}
+use Rattle.dependency_book.specs.Jobs.{given_by, is_job, answered, cancelled, IsFirstOut}
 use Rattle.dependency_book.specs.Known.{Known, row_of, expected}
 use Rattle.desk_core.specs.Course.{IsAtHand}
 use Rattle.desk_core.specs.Shown.{IsHeld}
@@ -38,21 +38,6 @@ IsAtHand-held held d h need job out = inr (h need job out)
 
 pub IsHeld-at_hand : (held : Option Job) (d : Known) → IsAtHand None held d → IsHeld held d
 IsHeld-at_hand held d h need job out = held_alone held job (h need job out)
-
-issued_out : (b : Bool) (row : Option (Finding Value)) (job other : Job) → job_of (if b then Some (Expected job) else row) ≡ Some other → (Some job ≡ Some other) ⊎ (job_of row ≡ Some other)
-issued_out true row job other h = inl h
-issued_out false row job other h = inr h
-
-at_hand_or : (held : Option Job) (job other : Job) → ((None ≡ Some other) ⊎ (held ≡ Some other)) → (Some job ≡ Some other) ⊎ (held ≡ Some other)
-at_hand_or held job other h = inr (held_alone held other h)
-
--- a job that is issued is in hand
-pub IsAtHand-issued : (old new : Known) (need : Need) (job : Job) (held : Option Job) → ((other : Need) → row_of new other ≡ issued need job other (row_of old other)) → IsAtHand None held old → IsAtHand (Some job) held new
-IsAtHand-issued old new need job held rows at_hand row other out =
-    elim (issued_out (is_need need row) (row_of old row) job other (subst (λ r. job_of r ≡ Some other) (rows row) out)) [
-      | inl this ↦ inl this
-      | inr before ↦ at_hand_or held job other (at_hand row other before)
-    ]
 
 answered_by : (b : Bool) (outcome : Result Value EvolveFault) (job other : Job) → job_of (if b then given_by outcome else Some (Expected job)) ≡ Some other → (b ≡ false) × (Some job ≡ Some other)
 answered_by true (Ok found) job other h = absurd (cc)

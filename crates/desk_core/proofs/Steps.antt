@@ -18,9 +18,8 @@ use Rattle.desk_core.specs.declared.collect.Collected.{Collected}
 use Rattle.desk_core.specs.declared.collect.Collected.TheVariants.{Accepted, Released, Stale}
 use Rattle.desk_core.specs.Collected.{IsCollected}
 use Rattle.desk_core.specs.Course.{CanBeSent, Cancels, Fits, GivesUp, GoesOnBy, IsAtHand}
-use Rattle.desk_core.specs.declared.issue.IssueFault.{IssueFault}
-use Rattle.desk_core.specs.Cause.{cause_of_answer, cause_of_issue}
-use Rattle.desk_core.specs.Issued.{IssuesFor, RefusesIssue}
+use Rattle.desk_core.specs.Cause.{cause_of_answer}
+use Rattle.desk_core.specs.Issued.{IssuesFor}
 use Rattle.desk_core.specs.Shown.{Explains, IsHeld, Serves, Settles, WantsStep, rows_of}
 use Rattle.desk_core.proofs.Out.{IsAtHand-cancelled, IsHeld-at_hand}
 use Rattle.desk_core.proofs.Texts.{KeepsTexts-same, KeepsTexts-on, KeepsTexts-issued, KeepsTexts-answered, KeepsTexts-cancelled}
@@ -72,10 +71,6 @@ explains-first d (Some c) cause h first = first
 
 pub explains-collected : (old new : Known) (answer : Answered) (fault : EvolveFault) → ((need : Need) → row_of new need ≡ answered answer (row_of old need)) → SameBook old new → IsCollected old new answer (Released fault) → Explains new (cause_of_answer fault)
 explains-collected old new answer fault rows same collected = explains-released old new answer fault rows same.document collected.1 collected.2
-
-pub explains-issue : (d : Known) (fault : IssueFault) → RefusesIssue d fault → Explains d (cause_of_issue fault)
-explains-issue d IssueFault.NumbersSpent h = h.1
-explains-issue d IssueFault.NoMemory h = tt
 
 pub no_cause : (cause : Option Cause) → false ≡ is_some cause → cause ≡ None
 no_cause None h = refl

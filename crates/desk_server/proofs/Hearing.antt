@@ -5,7 +5,7 @@ use Rattle.script_lines.proofs.Ahead.{takes_then}
 use Rattle.script_lines.proofs.Taking.{line_falls}
 use Rattle.text_lines.specs.Lines.{End, Ended, Broken, Line, lines_until}
 use Rattle.script_lines.specs.ScriptLine.{NoneEnds, raw_bytes, is_end, is_passed_over}
-use Rattle.script_lines.specs.Script.{Follows, LineTaken, EndsHere, StopsInLine, TextTaken, NoEndAmong, ReadsText}
+use Rattle.script_lines.specs.Script.{Follows, LineTaken, TextTaken, NoEndAmong, ReadsText}
 use Rattle.script_lines.specs.declared.reader.TextFound.{TextFound}
 use Rattle.script_lines.specs.declared.reader.TextFound.TheVariants as found_text
 use Rattle.script_lines.specs.declared.kept_line.KeptLine.{KeptLine}
@@ -33,10 +33,6 @@ asks-open_text : (stop : End) (at : ℕ) (f : Format) (kept : List ℕ) (n : ℕ
 asks-open_text stop at f kept n [] inside = refl
 asks-open_text stop at f kept n (line ∷ lines) inside = rw inside.0 (asks-open_text stop at f (kept ++ line.raw) (n + 1) lines inside.1)
 
--- one line, and what follows it
-asks-passed : (stop : End) (n : ℕ) (line : Line) (rest : List Line) → is_passed_over line.says ≡ true → asks stop Between n (line ∷ rest) ≡ asks stop Between (n + 1) rest
-asks-passed stop n line rest passed = rw passed refl
-
 asks-command : (stop : End) (n : ℕ) (line : Line) (rest : List Line) → is_passed_over line.says ≡ false → format_of line.says ≡ None
     → asks stop Between n (line ∷ rest) ≡ asked_by n (command_of line.says) ∷ asks stop Between (n + 1) rest
 asks-command stop n line rest passed text = rw passed (rw text refl)
@@ -44,17 +40,6 @@ asks-command stop n line rest passed text = rw passed (rw text refl)
 asks-text_command : (stop : End) (n : ℕ) (f : Format) (line : Line) (rest : List Line) → is_passed_over line.says ≡ false → format_of line.says ≡ Some f
     → asks stop Between n (line ∷ rest) ≡ asks stop (InText n f []) (n + 1) rest
 asks-text_command stop n f line rest passed text = rw passed (rw text refl)
-
--- a line that begins no text
-pub hears-nothing : (old new : Ahead) (kept : KeptLine) (last : Bool) (n : ℕ) → (t : LineTaken last old new kept) → is_passed_over t.line.says ≡ true → Hears old new Between None last n (n + 1)
-hears-nothing old new kept last n t passed = record {
-  bytes = t.line.raw;
-  asked = [];
-  taken = t.taken;
-  law = λ stop more f. ap (asks stop Between n) (t.law stop more f) ∙ asks-passed stop n t.line (lines_until stop more) passed;
-  is = refl;
-  at_end = t.at_end;
-}
 
 pub hears-command : (old new : Ahead) (kept : KeptLine) (last : Bool) (r : Request) (n k : ℕ) → k ≡ n → (t : LineTaken last old new kept) → is_passed_over t.line.says ≡ false → format_of t.line.says ≡ None
     → AsksFor r (asked_by k (command_of t.line.says)) → Hears old new Between (Some r) last n (n + 1)
@@ -166,25 +151,6 @@ breaks-open_text format old new n t = record {
   bytes = t.bytes;
   taken = t.taken;
   law = asks-open_text Broken n format [] (n + 1) (lines_until Broken t.bytes) t.inside;
-}
-
--- the reading broke off within a line
-pub breaks-line : (old new : Ahead) (n : ℕ) → StopsInLine old new → BreaksOff old new Between n
-breaks-line old new n s = record { bytes = s.seen; taken = s.taken; law = ap (asks Broken Between n) s.none }
-
--- the script is at its end
-pub hears-end : (old new : Ahead) (n m : ℕ) → EndsHere old new → Hears old new Between None true n m
-hears-end old new n m e = record {
-  bytes = [];
-  asked = [];
-  taken = e.0;
-  law = λ stop more f.
-      ap (λ v. asks stop Between n (lines_until stop v)) f.1
-      ∙ ap (λ s. asks s Between n (lines_until s [])) f.0
-      ∙ sym (ap (λ s. asks s Between m (lines_until s [])) f.0)
-      ∙ sym (ap (λ v. asks stop Between m (lines_until stop v)) f.1);
-  is = refl;
-  at_end = λ _. e.1;
 }
 
 -- what follows from a clause

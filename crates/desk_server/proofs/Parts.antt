@@ -1,7 +1,6 @@
 -- The parts of a reply, one after the other.
-use Rattle.std.proofs.Common.{◌≡◌, ℕ, zero, suc, ◌+◌, ◌<◌, ◌≤◌, List, [], ◌∷◌, ◌++◌, length, drop, get_or, refl, sym, ap, ◌∙◌, append_assoc, append-nil, arith, add-one, subst, Option}
-use Rattle.std.proofs.lemmas.List.{drop_all}
-use Rattle.std.proofs.KnownBytes.{Appends-nil, Appends-trans}
+use Rattle.std.proofs.Common.{◌≡◌, ℕ, zero, suc, ◌+◌, ◌<◌, List, [], ◌∷◌, ◌++◌, length, drop, get_or, refl, sym, ap, ◌∙◌, append_assoc, arith, add-one, subst, Option}
+use Rattle.std.proofs.KnownBytes.{Appends-trans}
 use Rattle.std.specs.Io.KnownBytes.{Appends}
 use Rattle.script_lines.specs.Faults.{AppendsFront}
 use Rattle.script_lines.proofs.Told.{IsUnderWay, front_first, front_then}
@@ -17,9 +16,6 @@ next_suc (p ∷ ps) (suc k) d h = next_suc ps k d (omega (arith, h))
 next_part : (ps : List Part) (k : ℕ) (d : Part) → k < length ps → parts_text (drop k ps) ≡ part_text (get_or ps k d) ++ parts_text (drop (k + 1) ps)
 next_part ps k d h = next_suc ps k d h ∙ ap (λ j. part_text (get_or ps k d) ++ parts_text (drop j ps)) (sym (add-one k))
 
-pub parts_begun : (a : Option (List ℕ)) (ps : List Part) → IsUnderWay a a (parts_text ps) (parts_text ps)
-parts_begun a ps = record { written = []; split = refl; grew = Appends-nil a }
-
 pub parts_more : (a b c : Option (List ℕ)) (ps : List Part) (k : ℕ) (d : Part) → k < length ps → IsUnderWay a b (parts_text ps) (parts_text (drop k ps)) → Appends b c (part_text (get_or ps k d))
     → IsUnderWay a c (parts_text ps) (parts_text (drop (k + 1) ps))
 parts_more a b c ps k d low h w = record {
@@ -33,6 +29,3 @@ pub parts_broken : (a b c : Option (List ℕ)) (ps : List Part) (k : ℕ) (d : P
 parts_broken a b c ps k d low h w =
     subst (AppendsFront a c) (sym (h.split ∙ ap (λ t. h.written ++ t) (next_part ps k d low)))
     (front_then a b c h.written (part_text (get_or ps k d) ++ parts_text (drop (k + 1) ps)) h.grew (front_first b c (part_text (get_or ps k d)) (parts_text (drop (k + 1) ps)) w))
-
-pub parts_done : (a b : Option (List ℕ)) (ps : List Part) (k : ℕ) → length ps ≤ k → IsUnderWay a b (parts_text ps) (parts_text (drop k ps)) → Appends a b (parts_text ps)
-parts_done a b ps k past h = subst (Appends a b) (sym (h.split ∙ ap (λ t. h.written ++ parts_text t) (drop_all k ps past) ∙ append-nil h.written)) h.grew

@@ -7,12 +7,10 @@ use Rattle.schedule.specs.declared.fault.EditFault.TheVariants.{NoMemory}
 use Rattle.schedule.specs.declared.document.Bookmark.{Bookmark}
 use Rattle.desk_core.specs.Rows.{Known, bookmark_in, text_known, pending_of}
 use Rattle.desk_core.specs.declared.cause.Cause.{Cause}
-use Rattle.desk_core.specs.Shown.{Shows, IsPending}
-use Rattle.dependency_book.specs.declared.shown.Shown.{Shown}
-use Rattle.dependency_book.specs.declared.shown.Shown.TheVariants as found
+use Rattle.desk_core.specs.Shown.{IsPending}
 use Rattle.desk_server.specs.Faults.{Fault, of_edit}
-use Rattle.desk_server.specs.Answer.{Enough, Memory, Unsettled, Pending, After, only, unless_fault, settled, shown}
-use Rattle.desk_server.specs.Reply.{current_text, pending_text, refused_text, settled_text, unsettled_text}
+use Rattle.desk_server.specs.Answer.{Enough, Memory, Unsettled, After, only, unless_fault, settled}
+use Rattle.desk_server.specs.Reply.{pending_text, refused_text, settled_text, unsettled_text}
 use Rattle.desk_server.specs.Told.{text_of, ends, shown_text}
 use Rattle.desk_server.specs.Heard.{Gives, GivesBy, GivesOrWants}
 use Rattle.desk_server.specs.declared.reply.Reply.{Reply}
@@ -54,24 +52,6 @@ gives-pending p new n (Some why) same none is some few = gives-unsettled p new n
 some_of : (o : Option Bookmark) → IsSome o → (b : Bookmark) × (o ≡ Some b)
 some_of None h = absurd (cc)
 some_of (Some b) h = (b, refl)
-
-shown-here : (new : Known) (id : ℕ) (s : Shown) → Shows new id s → GivesBy (λ want. shown want new.plan id (bookmark_in new.plan.bookmarks id)) (reply.Shown id) new
-shown-here new id (found.Current text) h = (
-  Enough,
-  ap (shown Enough new.plan id) h.there
-      ∙ ap (only new.plan) (ap (current_text id) (sym h.scratch_text) ∙ sym (ap₂ (shown_text id) h.there h.known)),
-)
-shown-here new id found.Pending h =
-    let b = some_of (bookmark_in new.plan.bookmarks id) h.there in
-    (Pending, ap (shown Pending new.plan id) b.1 ∙ ap (only new.plan) (sym (ap₂ (shown_text id) b.1 h.unknown)))
-shown-here new id found.NoSuch h = (
-  Enough,
-  ap (shown Enough new.plan id) h ∙ ap (only new.plan) (sym (ap (λ o. shown_text id o (text_known new id)) h)),
-)
-
--- a bookmark that is shown
-pub gives-shown : (p : Plan) (new : Known) (id : ℕ) (s : Shown) → new.plan ≡ p → Shows new id s → GivesBy (λ want. shown want p id (bookmark_in p.bookmarks id)) (reply.Shown id) new
-gives-shown p new id s same h = let here = shown-here new id s h in (here.0, subst (λ q. Gives (shown here.0 q id (bookmark_in q.bookmarks id)) (reply.Shown id) new) same here.1)
 
 -- what is written of a pending one
 pub pending-shown : (known : Known) (id : ℕ) → IsPending known id → shown_text id (bookmark_in known.plan.bookmarks id) (text_known known id) ≡ pending_text id

@@ -1,12 +1,11 @@
 -- What is remembered stays right, and tells the result of the square that is asked for.
-use Rattle.std.proofs.Common.{◌≡◌, ℕ, suc, ◌+◌, ◌-◌, ◌<◌, ◌≤◌, ◌^◌, List, get_or, sym, ◌∙◌, ap, subst, arith, inl, inr}
-use Rattle.std.proofs.lemmas.Bool.{cases_eq}
+use Rattle.std.proofs.Common.{◌≡◌, ℕ, suc, ◌+◌, ◌-◌, ◌<◌, ◌≤◌, ◌^◌, List, get_or, sym, subst, arith}
 use Rattle.square_table.specs.Squares.{Table, IsNumber, square_in, first_number, Grows}
 use Rattle.square_table.proofs.Growth.{IsNumber-grows, square_in-grows}
 use Rattle.square_table.proofs.Numbers.{one_level}
 use Rattle.hash_life.specs.Result.{result}
 use Rattle.hash_engine.specs.Standing.{StandsFor}
-use Rattle.hash_engine.specs.Memo.{IsResult, AreKnown, IsRight, IsNoted}
+use Rattle.hash_engine.specs.Memo.{IsResult, AreKnown, IsRight}
 use Rattle.hash_engine.specs.declared.memo.Memo.{Memo}
 use Rattle.hash_engine.proofs.Standing.{StandsFor-grows}
 
@@ -48,19 +47,3 @@ recalled next count rows known k generations n r asked high some is are number =
     let levels = one_level rows (suc (suc h.0)) (suc (suc k)) n found_r.numbered number in
     let level : h.0 ≡ k = omega (arith, levels) in
     subst (λ g. IsResult next rows k g n r) (sym asked) (subst (λ j. IsResult next rows j (count j) n r) level found_r)
-
--- one more result
-pub AreKnown-noted : (next : List ℕ → ℕ) (count : ℕ → ℕ) (rows : List (List ℕ)) (known more : List ℕ) (k generations n r : ℕ) → generations ≡ count k → first_number ≤ n →
-    AreKnown next count rows known → IsResult next rows k generations n r → IsNoted (n - first_number) r known more → AreKnown next count rows more
-AreKnown-noted next count rows known more k generations n r asked high are is noted = record {
-  right = λ i some. elim (cases_eq i (n - first_number)) [
-    | inl here ↦
-        let place : n ≡ first_number + i = omega (arith, high, here) in
-        let r_is : r ≡ get_or more i 0 = sym noted.here ∙ ap (λ j. get_or more j 0) (sym here) in
-        (k, subst (λ g. IsResult next rows k g (first_number + i) (get_or more i 0)) asked (subst (λ m. IsResult next rows k generations m (get_or more i 0)) place (subst (λ v. IsResult next rows k generations n v) r_is is)))
-    | inr other ↦
-        let same = noted.others i other in
-        let h = are.right i (omega (arith, some, same)) in
-        (h.0, subst (λ v. IsResult next rows h.0 (count h.0) (first_number + i) v) (sym same) h.1)
-  ];
-}

@@ -25,12 +25,6 @@ StandsFor-grows t u k n s grows is = record {
   square = square_in-grows t u k n grows is.numbered ∙ is.square;
 }
 
-pub StandForAll-grows : (t u : Table) (k : ℕ) (ns : List ℕ) (ss : List Square) → Grows t u → StandForAll t.rows k ns ss → StandForAll u.rows k ns ss
-StandForAll-grows t u k ns ss grows are = record {
-  count = are.count;
-  each = λ j d e below. StandsFor-grows t u k _ _ grows (are.each j d e below);
-}
-
 -- the quadrants of a square, by their numbers
 pub record AreQuadrants (rows : List (List ℕ)) (k n : ℕ) (s : Square) : Type 0 where
   pub a : Square

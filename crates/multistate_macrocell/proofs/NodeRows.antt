@@ -9,7 +9,7 @@ use Rattle.worlds.specs.Square.{Square, one, four}
 use Rattle.square_rows.specs.Rows.{IsNumber, IsRow, kid, square_in}
 use Rattle.square_rows.proofs.Sound.{IsNumber-state, row_of, square_in-state}
 use Rattle.multistate_macrocell.specs.Quadtree.{drawn, square_of}
-use Rattle.multistate_macrocell.specs.Tables.{Adds, AreKnown, CanFollow, row_number, square_by, square_of_row}
+use Rattle.multistate_macrocell.specs.Tables.{Adds, CanFollow, row_number, square_by, square_of_row}
 
 state_kid : (rows : List SquareRow) (a b c d q : ℕ) → AreStates a b c d → q < 4 → IsNumber rows 0 (kid (row_of 1 a b c d) q)
 state_kid rows a b c d zero h q = IsNumber-state rows a h.nw_state
@@ -34,21 +34,6 @@ cells-added rows new numbers node a b c d n is adds =
     subst (λ (v : Node). Adds rows new (level_of v) n (square_by rows numbers v)) (sym is)
     (subst (λ (t : Square). Adds rows new 1 n t) (cells_square rows numbers a b c d) adds)
 
-known_kid : (rows : List SquareRow) (numbers : List ℕ) (level a b c d q : ℕ) → AreKnown rows numbers level a b c d → q < 4
-    → IsNumber rows (level - 1) (kid (row_of level (row_number numbers a) (row_number numbers b) (row_number numbers c) (row_number numbers d)) q)
-known_kid rows numbers level a b c d zero h q = h.nw_known.number
-known_kid rows numbers level a b c d (suc zero) h q = h.ne_known.number
-known_kid rows numbers level a b c d (suc (suc zero)) h q = h.sw_known.number
-known_kid rows numbers level a b c d (suc (suc (suc zero))) h q = h.se_known.number
-known_kid rows numbers level a b c d (suc (suc (suc (suc n)))) h q = absurd (omega (arith, q))
-
--- four known quadrants are a row
-pub quartered-row : (rows : List SquareRow) (numbers : List ℕ) (level a b c d : ℕ) → AreKnown rows numbers level a b c d
-    → IsRow rows (row_of level (row_number numbers a) (row_number numbers b) (row_number numbers c) (row_number numbers d))
-quartered-row rows numbers level a b c d h =
-    let low = h.low in
-    record { low = omega arith; high = h.high; kids = λ q k. known_kid rows numbers level a b c d q h k }
-
 -- that row stands for the square of the node
 pub quartered-added : (rows new : List SquareRow) (numbers : List ℕ) (node : Node) (level a b c d n : ℕ) → node ≡ Quartered level a b c d
     → Adds rows new level n (square_of_row rows (row_of level (row_number numbers a) (row_number numbers b) (row_number numbers c) (row_number numbers d)))
@@ -66,6 +51,3 @@ drawn-added rows new numbers node bitmap n is adds =
 -- what is asked of a node, by its kind
 pub cells-asked : (rows : List SquareRow) (numbers : List ℕ) (node : Node) (a b c d : ℕ) → node ≡ Cells a b c d → CanFollow rows numbers node → AreStates a b c d
 cells-asked rows numbers node a b c d is h = subst (CanFollow rows numbers) is h
-
-pub quartered-asked : (rows : List SquareRow) (numbers : List ℕ) (node : Node) (level a b c d : ℕ) → node ≡ Quartered level a b c d → CanFollow rows numbers node → AreKnown rows numbers level a b c d
-quartered-asked rows numbers node level a b c d is h = subst (CanFollow rows numbers) is h

@@ -1,8 +1,7 @@
 -- Texts of rows, piece by piece.
-use Rattle.std.proofs.Common.{◌≡◌, ◌∙◌, sym, ap, refl, ℕ, ◌+◌, ◌<◌, ◌==◌, Bool, true, false, cond, List, [], ◌∷◌, ◌++◌, length, map, take, get_or, append_assoc, append-nil, decimal}
+use Rattle.std.proofs.Common.{◌≡◌, ◌∙◌, sym, ap, refl, ℕ, ◌+◌, ◌==◌, Bool, true, false, cond, List, [], ◌∷◌, ◌++◌, map, append_assoc, append-nil, decimal}
 use Rattle.std.specs.Prelude.{codes, is_ok, OnOk, Result, Ok, Err}
 use Rattle.std.proofs.lemmas.Bool.{eqb-true}
-use Rattle.std.proofs.lemmas.List.{flat_map_more, map-append, take_more}
 use Rattle.square_rows.specs.declared.row.SquareRow.{SquareRow}
 use Rattle.square_rows.specs.Rows.{kid}
 use Rattle.macrocell_lines.specs.declared.node.Node.TheVariants.{Cells, Square as Quartered}
@@ -18,13 +17,6 @@ empty_row = record { level = 1; kids = 0 ∷ 0 ∷ 0 ∷ 0 ∷ [] }
 abbrev pub empty_line : List SquareRow → List ℕ
 empty_line [] = row_line empty_row ++ 10 ∷ []
 empty_line (row ∷ rows) = []
-
--- the text of one more row
-pub row_lines-more : (bs : List ℕ) (rows : List SquareRow) (i : ℕ) (d : SquareRow) → i < length rows → (bs ++ row_lines (take i rows)) ++ (row_line (get_or rows i d) ++ 10 ∷ []) ≡ bs ++ row_lines (take (i + 1) rows)
-row_lines-more bs rows i d h =
-    flat_map_more (λ (line : List ℕ). line ++ 10 ∷ []) bs (map row_line (take i rows)) (row_line (get_or rows i d))
-    ∙ ap (λ lines. bs ++ text_of_lines lines) (sym (map-append row_line (take i rows) (get_or rows i d ∷ [])))
-    ∙ ap (λ (rs : List SquareRow). bs ++ row_lines rs) (sym (take_more rows i d h))
 
 -- the lines before the rows
 apart : (a name b number c rest : List ℕ) → (a ++ name ++ b ++ number ++ c) ++ rest ≡ a ++ (name ++ (b ++ (number ++ (c ++ rest))))

@@ -48,11 +48,3 @@ laid_each n (c ∷ cells) few named below = ((IsInside-less 0 (2 ^ 60) c.x c.y (
 -- named cells of a rule's states can be laid on a plane
 pub CanBeLaid-named : (n : ℕ) (cells : List CellSet) → n ≤ 256 → AreNamed cells → SetBelow n cells → All CanBeLaid cells
 CanBeLaid-named n cells few named below = All-from_recursion CanBeLaid cells (laid_each n cells few named below)
-
-each_laid : (n : ℕ) (is : List Intervention) → n ≤ 256 → AllByRecursion (IsAllowed n) is → AllByRecursion (λ (i : Intervention). All CanBeLaid i.cells) is
-each_laid n [] few h = tt
-each_laid n (i ∷ is) few h = (CanBeLaid-named n i.cells few h.0.named h.0.below, each_laid n is few h.1)
-
--- so can those of every intervention
-pub CanBeLaid-interventions : (p : Plan) → IsSound p → All (λ (i : Intervention). All CanBeLaid i.cells) p.interventions
-CanBeLaid-interventions p sound = All-from_recursion (λ (i : Intervention). All CanBeLaid i.cells) p.interventions (each_laid (states_of p.rule) p.interventions sound.few_states sound.interventions_allowed)

@@ -1,5 +1,5 @@
 -- A line that is being kept, a byte at a time.
-use Rattle.std.proofs.Common.{◌≡◌, ◌≢◌, ℕ, ◌≤◌, ◌==◌, List, [], ◌∷◌, ◌++◌, length, Bool, true, false, cond, sym, ◌∙◌, ap, refl, append_assoc, append-nil, arith, subst, Some, None}
+use Rattle.std.proofs.Common.{◌≡◌, ◌≢◌, ℕ, ◌==◌, List, [], ◌∷◌, ◌++◌, length, Bool, true, false, cond, sym, ◌∙◌, ap, refl, append_assoc, append-nil, arith, subst, Some, None}
 use Rattle.std.specs.List.{slice_get}
 use Rattle.text_lines.specs.Blanks.{is_blank, trim_start, trim_end, trim}
 use Rattle.script_lines.specs.KeptLine.{Holds, IsRest, Took, Says, KeepsBy, squash, ends_in_space}
@@ -21,25 +21,6 @@ holds_lost tail after kept new bs b h n rest = subst (λ k. Holds after k (bs ++
   split = ap (λ s. s ++ b ∷ []) h.split ∙ append_assoc kept h.more (b ∷ []);
   rest = rest;
 })
-
-pub holds_whole : (tail : Tail) (kept new bs : List ℕ) (b : ℕ) → tail ≡ Whole → new ≡ kept ++ b ∷ [] → Holds tail kept bs → Holds tail new (bs ++ b ∷ [])
-holds_whole tail kept new bs b e n h =
-    let none : h.more ≡ [] = subst (λ v. IsRest v kept h.more) e h.rest in
-    let all : bs ≡ kept = h.split ∙ ap (λ m. kept ++ m) none ∙ append-nil kept in
-    record {
-      more = [];
-      split = ap (λ s. s ++ b ∷ []) all ∙ sym n ∙ sym (append-nil new);
-      rest = subst (λ v. IsRest v new []) (sym e) refl;
-    }
-
-pub holds_first : (tail after : Tail) (kept new bs : List ℕ) (b : ℕ) → tail ≡ Whole → after ≡ cond (is_blank b) Blank Cut → 64 ≤ length kept → new ≡ kept → Holds tail kept bs → Holds after new (bs ++ b ∷ [])
-holds_first tail after kept new bs b e a long n h =
-    let none : h.more ≡ [] = subst (λ v. IsRest v kept h.more) e h.rest in
-    holds_lost tail after kept new bs b h n (subst (λ v. IsRest v kept (h.more ++ b ∷ [])) (sym a) (by_blank (is_blank b) refl none))
-  where
-    by_blank : (v : Bool) → is_blank b ≡ v → h.more ≡ [] → IsRest (cond v Blank Cut) kept (h.more ++ b ∷ [])
-    by_blank true k none = (trim_end-push_blank h.more b k ∙ ap trim_end none, long)
-    by_blank false k none = ((λ f. push_not_nil h.more b (sym (trim_end-push h.more b k) ∙ f)), long)
 
 pub holds_blank : (tail : Tail) (kept bs : List ℕ) (b : ℕ) → tail ≡ Blank → is_blank b ≡ true → Holds tail kept bs → Holds tail kept (bs ++ b ∷ [])
 holds_blank tail kept bs b e k h =

@@ -1,7 +1,7 @@
 -- A line that is being read.
 use Rattle.std.proofs.Common.{◌≡◌, ◌≢◌, ℕ, ◌==◌, List, [], ◌∷◌, ◌++◌, true, false, Bool, sym, ◌∙◌, ap, refl, append_assoc, append-nil, Option, Some, None}
 use Rattle.script_lines.specs.Ahead.{Ahead, Takes}
-use Rattle.script_lines.proofs.Ahead.{takes_none, takes_then}
+use Rattle.script_lines.proofs.Ahead.{takes_then}
 use Rattle.text_lines.specs.Lines.{NoLineFeed, strip_carriage_return}
 use Rattle.script_lines.specs.KeptLine.{Took, Saw, waiting}
 use Rattle.script_lines.specs.Text.{Grows}
@@ -37,10 +37,6 @@ grows-trans a b None xs ys f g = tt
 grows-trans a None (Some z) xs ys f g = absurd g
 grows-trans None (Some y) (Some z) xs ys f g = absurd f
 grows-trans (Some x) (Some y) (Some z) xs ys f g = g ∙ ap (λ t. t ++ ys) f ∙ append_assoc x xs ys
-
-pub grows-refl : (a : Option (List ℕ)) → Grows a a []
-grows-refl None = tt
-grows-refl (Some x) = sym (append-nil x)
 
 -- one more byte
 pub reads_on : (old mid new : Ahead) (before between after : Option (List ℕ)) (line next : KeptLine) (empty : Bool) (b : ℕ) → (b == 10) ≡ false → Takes mid new (b ∷ []) → Grows between after (b ∷ [])

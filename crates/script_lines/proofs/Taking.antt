@@ -5,11 +5,11 @@ use Rattle.std.proofs.lemmas.List.{take-append-le}
 use Rattle.std.specs.Option.{option_map}
 use Rattle.std.specs.Io.KnownBytes.{IsAtEnd}
 use Rattle.script_lines.specs.Ahead.{Ahead, Takes}
-use Rattle.script_lines.proofs.Ahead.{takes_none, takes_then}
+use Rattle.script_lines.proofs.Ahead.{takes_then}
 use Rattle.text_lines.specs.Blanks.{trim}
 use Rattle.text_lines.specs.Lines.{End, Ended, Broken, Line, NoLineFeed, full_line, last_line, lines_from, lines_until}
 use Rattle.script_lines.specs.KeptLine.{TakesLine, raw_of, Says}
-use Rattle.script_lines.specs.Script.{Follows, LineTaken, EndsHere, TakesInto, Finds, StopsInLine, TextTaken, NoEndAmong, next_number}
+use Rattle.script_lines.specs.Script.{Follows, LineTaken, EndsHere, TakesInto, StopsInLine, TextTaken, NoEndAmong, next_number}
 use Rattle.script_lines.specs.ScriptLine.{NoneEnds, raw_bytes, is_end}
 use Rattle.script_lines.specs.Text.{Grows, IsText, len_of}
 use Rattle.script_lines.specs.declared.kept_line.KeptLine.{KeptLine}
@@ -98,12 +98,6 @@ numbers_line found.Line old new seen kept n t h = omega (arith, t.0.counted, len
 numbers_line found.Last old new seen kept n t h = let some = some_seen seen t.2 in omega (arith, t.0.counted, some, h)
 numbers_line found.End old new seen kept n t h = omega (arith, t.1.counted, h)
 
--- the text aside
-pub finds_only : (found : Found) (old new : Ahead) (before after : Option (List ℕ)) (kept : KeptLine) → TakesInto found old new kept before after → Finds found old new kept
-finds_only found.Line old new before after kept t = t.0
-finds_only found.Last old new before after kept t = t.0
-finds_only found.End old new before after kept t = t
-
 -- ---- the lines of a text
 
 -- the lines of a text so far
@@ -115,9 +109,6 @@ pub record TextSoFar (old new : Ahead) (text : Option (List ℕ)) (n m : ℕ) : 
   pub is : IsText text (raw_bytes lines)
   pub number : m ≡ n + length lines
 
-pub text_starts : (old : Ahead) (n : ℕ) → TextSoFar old old (Some []) n n
-text_starts old n = record { lines = []; taken = takes_none old; law = λ stop more. refl; inside = tt; is = refl; number = omega arith }
-
 raw_bytes-push : (lines : List Line) (line : Line) → raw_bytes (lines ++ line ∷ []) ≡ raw_bytes lines ++ line.raw
 raw_bytes-push [] line = append-nil line.raw
 raw_bytes-push (l ∷ lines) line = ap (λ t. l.raw ++ t) (raw_bytes-push lines line) ∙ sym (append_assoc l.raw (raw_bytes lines) line.raw)
@@ -125,10 +116,6 @@ raw_bytes-push (l ∷ lines) line = ap (λ t. l.raw ++ t) (raw_bytes-push lines 
 none_ends-push : (lines : List Line) (line : Line) → NoneEnds lines → is_end line.says ≡ false → NoneEnds (lines ++ line ∷ [])
 none_ends-push [] line h e = (e, tt)
 none_ends-push (l ∷ lines) line h e = (h.0, none_ends-push lines line h.1 e)
-
-none_ends-append : (lines more : List Line) → NoneEnds lines → NoneEnds more → NoneEnds (lines ++ more)
-none_ends-append [] more h k = k
-none_ends-append (l ∷ lines) more h k = (h.0, none_ends-append lines more h.1 k)
 
 is_text-grows : (before after : Option (List ℕ)) (bs raw : List ℕ) → Grows before after raw → IsText before bs → IsText after (bs ++ raw)
 is_text-grows before None bs raw g i = tt

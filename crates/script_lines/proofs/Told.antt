@@ -1,5 +1,5 @@
 -- Bytes that are written piece by piece.
-use Rattle.std.proofs.Common.{◌≡◌, ℕ, List, [], ◌++◌, take, drop, sym, ◌∙◌, ap, append_assoc, append-nil, take-append-drop, Option, Result, Ok, Err, IsErr, is_err, true, false}
+use Rattle.std.proofs.Common.{◌≡◌, ℕ, List, ◌++◌, take, drop, sym, ◌∙◌, ap, append_assoc, take-append-drop, Option, Result, Ok, Err, IsErr, is_err, true, false}
 use Rattle.std.specs.Io.KnownBytes.{Keeps, Appends}
 use Rattle.script_lines.specs.Faults.{AppendsFront, Wrote}
 use Rattle.std.proofs.KnownBytes.{Appends-trans as appends_appends, Appends-kept as appends_keeps}
@@ -27,17 +27,6 @@ front_first a b xs ys f = record { written = f.written; rest = f.rest ++ ys; spl
 -- the first part, and a beginning of the second
 pub front_then : (a b c : Option (List ℕ)) (xs ys : List ℕ) → Appends a b xs → AppendsFront b c ys → AppendsFront a c (xs ++ ys)
 front_then a b c xs ys w f = record { written = xs ++ f.written; rest = f.rest; split = ap (λ t. xs ++ t) f.split ∙ sym (append_assoc xs f.written f.rest); grew = appends_appends a b c xs f.written w f.grew }
-
-pub front_all : (a b : Option (List ℕ)) (xs : List ℕ) → Appends a b xs → AppendsFront a b xs
-front_all a b xs w = record { written = xs; rest = []; split = sym (append-nil xs); grew = w }
-
-pub wrote_then : {T E : Type 0} (a b c : Option (List ℕ)) (r : Result T E) (xs ys : List ℕ) → Appends a b xs → Wrote b c r ys → Wrote a c r (xs ++ ys)
-wrote_then a b c (Ok x) xs ys w h = appends_appends a b c xs ys w h
-wrote_then a b c (Err e) xs ys w h = front_then a b c xs ys w h
-
-pub wrote_flushed : {T E : Type 0} (a b c : Option (List ℕ)) (r : Result T E) (xs : List ℕ) → Appends a b xs → Keeps b c → Wrote a c r xs
-wrote_flushed a b c (Ok x) xs w k = appends_keeps a b c xs w k
-wrote_flushed a b c (Err e) xs w k = front_all a c xs (appends_keeps a b c xs w k)
 
 pub wrote_err : {T E : Type 0} (a b : Option (List ℕ)) (r : Result T E) (xs : List ℕ) → IsErr r → AppendsFront a b xs → Wrote a b r xs
 wrote_err a b (Ok x) xs e f = absurd (cc)

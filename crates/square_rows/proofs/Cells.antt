@@ -46,10 +46,6 @@ pub IsSquare-one : (s : ℕ) → s < 256 → IsSquare 0 (one s)
 unfolding IsSquare
 IsSquare-one s h = h
 
-pub one-below : (s : ℕ) → IsSquare 0 (one s) → s < 256
-unfolding IsSquare
-one-below s h = h
-
 pub IsSquare-empty : (k : ℕ) → IsSquare k (empty_square k)
 unfolding empty_square IsSquare
 IsSquare-empty zero = omega arith

@@ -1,5 +1,5 @@
 -- A step down from a square to the quadrant that holds a cell.
-use Rattle.std.proofs.Common.{◌≡◌, ℕ, zero, suc, ◌-◌, ◌<◌, ◌≤◌, ◌^◌, Bool, true, false, cond, List, length, get_or, refl, sym, ap, ap₂, ◌∙◌, subst, arith, lit<}
+use Rattle.std.proofs.Common.{◌≡◌, ℕ, zero, suc, ◌-◌, ◌<◌, ◌≤◌, ◌^◌, Bool, true, false, cond, List, length, get_or, refl, sym, ap, ap₂, ◌∙◌, subst, arith}
 use Rattle.std.specs.Prelude.{nat_le}
 use Rattle.square_rows.specs.declared.row.SquareRow.{SquareRow}
 use Rattle.worlds.specs.Square.{Square, cell_in, quadrant_at, within}
@@ -9,15 +9,6 @@ use Rattle.square_rows.proofs.Sound.{IsNumber-level, kid_number, square_in-row}
 pub number_within : (rows : List SquareRow) (k n : ℕ) → 0 < k → 0 < n → IsNumber rows k n → n ≤ length rows
 number_within rows zero n hk hn h = absurd (omega (arith, hk))
 number_within rows (suc k) n hk hn h = (IsNumber-level rows k n h hn).0
-
-pub quadrant_below : (half x y : ℕ) → quadrant_at half x y < 4
-quadrant_below half x y = by (nat_le half y) (nat_le half x)
-  where
-    by : (b r : Bool) → cond b (cond r 3 2) (cond r 1 0) < 4
-    by false false = lit< tt
-    by false true = lit< tt
-    by true false = lit< tt
-    by true true = lit< tt
 
 -- a kid of a row that a number names is a number of one level less
 pub number-kid : (rows : List SquareRow) (k n q : ℕ) → AreRows rows → 0 < k → 0 < n → IsNumber rows k n → q < 4 → IsNumber rows (k - 1) (kid (row_at rows n) q)

@@ -216,9 +216,6 @@ half-from level half l some is from =
     let low = from.low in let high = from.high in
     record { low = low; high = omega (arith, ints) }
 
-pub none-from : (side : ℕ) (l : ℤ) → IsFrom l side → IsFrom l 0
-none-from side l from = let low = from.low in let high = from.high in record { low = low; high = omega (arith, ints) }
-
 -- the square of a root lies in the range of planes
 pub root-on_plane : (level : ℕ) (x y : ℤ) → 1 ≤ level → level ≤ 62 → x ≡ edge_of level → y ≡ edge_of level → IsOnPlane (2 ^ level) x y
 root-on_plane level x y low high ex ey =

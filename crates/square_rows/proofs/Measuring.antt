@@ -1,9 +1,8 @@
 -- The measures of squares, row by row.
-use Rattle.std.proofs.Common.{◌≡◌, ℕ, zero, suc, ◌+◌, ◌-◌, ◌<◌, ◌≤◌, ◌^◌, List, [], ◌∷◌, ◌++◌, length, get_or, take, Option, None, Some, refl, sym, ap, ap₂, ◌∙◌, subst, arith, inl, inr, lit<, pow_mono, ℤ, pos, ◌+ℤ◌}
+use Rattle.std.proofs.Common.{◌≡◌, ℕ, zero, suc, ◌+◌, ◌-◌, ◌<◌, ◌≤◌, ◌^◌, List, length, get_or, take, Option, None, Some, refl, sym, ap, ap₂, ◌∙◌, subst, arith, inl, inr, lit<, pow_mono, ℤ, pos, ◌+ℤ◌}
 use Rattle.std.specs.Prelude.{IfSome, IsNone, ◌↔◌}
-use Rattle.std.proofs.lemmas.Bool.{cases_lt}
 use Rattle.std.proofs.lemmas.Int.{ints}
-use Rattle.std.proofs.lemmas.List.{length-take-le, length_push, get_or_append_left, get_or_push, nil_from_length}
+use Rattle.std.proofs.lemmas.List.{length-take-le, nil_from_length}
 use Rattle.worlds.specs.World.{World, cell, blank, cell-blank, same_world}
 use Rattle.worlds.specs.Live.{population}
 use Rattle.worlds.specs.Range.{IsGreatest, IsBoundingBox}
@@ -263,21 +262,6 @@ next_measured rows all k h valid known more ek eh =
     let M : Measures = joined (joined (joined (measures_in all k (kid (get_or rows i no_row) 0)) (placed (measures_in all k (kid (get_or rows i no_row) 1)) h (pos 0))) (placed (measures_in all k (kid (get_or rows i no_row) 2)) (pos 0) h)) (placed (measures_in all k (kid (get_or rows i no_row) 3)) h h) in
     subst (λ j. AreMeasuresOf (alone j (square_in rows j (suc i))) M) level
     (subst (λ (t : Square). AreMeasuresOf (alone (suc k) t) M) (sym (square_in-row rows k i)) m)
-
--- one more row is measured
-pub measured-more : (rows : List SquareRow) (all : List Measures) (m : Measures) → AreMeasured rows all → length all < length rows → AreMeasuresAt rows (length all) m → AreMeasured rows (all ++ m ∷ [])
-measured-more rows all m known more h = record {
-  few = omega (arith, length_push all m);
-  each = λ i lt. elim (cases_lt i (length all)) [
-    | inl before ↦ subst (AreMeasuresAt rows i) (sym (get_or_append_left all (m ∷ []) no_measures i before)) (known.each i before)
-    | inr after ↦
-        let last : i ≡ length all = omega (arith, length_push all m) in
-        subst (AreMeasuresAt rows i) (sym (get_or_push all m no_measures i (sym last))) (subst (λ j. AreMeasuresAt rows j m) (sym last) h)
-  ];
-}
-
-pub measured-none : (rows : List SquareRow) (all : List Measures) → length all ≡ 0 → AreMeasured rows all
-measured-none rows all none = record { few = omega arith; each = λ i lt. absurd (omega arith) }
 
 -- the measures of the root are those of the world
 pub root_measured : (rows : List SquareRow) (m : Measures) (h : ℤ) → AreRows rows → 0 < length rows → AreMeasuresAt rows (length rows - 1) m → h ≡ edge_of (root_level rows) → AreMeasuresOf (world_of_rows rows) (placed m h h)

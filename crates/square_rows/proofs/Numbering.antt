@@ -196,9 +196,6 @@ RowHas-again row rows =
 pub Has-grown : (k : ℕ) (t : Square) (old new : List SquareRow) (n : ℕ) → Grows old new → Has k t old n → Has k t new n
 Has-grown k t old new n g h = subst (λ (rows : List SquareRow). Has k t rows n) (sym g.is) (Has-kept k t old g.more n h)
 
-pub RowHas-grown : (row : SquareRow) (old new : List SquareRow) (n : ℕ) → Grows old new → RowHas row old n → RowHas row new n
-RowHas-grown row old new n g h = subst (λ (rows : List SquareRow). RowHas row rows n) (sym g.is) (RowHas-kept row old g.more n h)
-
 -- a square that was walked has its number
 pub Has-again : (k : ℕ) (t : Square) (rows : List SquareRow) → Has k t (number_square k t rows).rows (number_square k t rows).number
 unfolding number_square

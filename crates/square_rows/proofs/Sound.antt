@@ -272,14 +272,6 @@ number_row-sound rows k a b c d kids high =
     subst (IsSound (suc k) (four (square_in rows k a) (square_in rows k b) (square_in rows k c) (square_in rows k d))) (sym (number_row-is (row_of (suc k) a b c d) rows))
     (numbered-sound _ _ rows k a b c d kids high refl refl (number_row-is (row_of (suc k) a b c d) rows))
 
-square-four : (k : ℕ) (nw ne sw se : Square) → IsSquare (suc k) (four nw ne sw se) → IsSquare k nw × IsSquare k ne × IsSquare k sw × IsSquare k se
-unfolding IsSquare
-square-four k nw ne sw se h = h
-
-square-one : (s : ℕ) → IsSquare 0 (one s) → s < 256
-unfolding IsSquare
-square-one s h = h
-
 -- what a walk gives stands for what was walked
 pub number_square-sound : (k : ℕ) (t : Square) (rows : List SquareRow) → AreRows rows → EachHas rows → IsSquare k t → k ≤ 62 → IsSound k t (number_square k t rows)
 unfolding number_square IsSquare

@@ -1,7 +1,7 @@
 -- Which rows may stand in a list.
 use Rattle.std.proofs.Common.{◌≡◌, ℕ, zero, suc, ◌-◌, ◌<◌, ◌≤◌, List, length, arith}
 use Rattle.square_rows.specs.declared.row.SquareRow.{SquareRow}
-use Rattle.square_rows.specs.Rows.{row_at, kid, IsNumber, AreKidsOf}
+use Rattle.square_rows.specs.Rows.{row_at, IsNumber}
 use Rattle.square_rows.proofs.Sound.{IsNumber-level, IsNumber-from}
 
 -- a number of a level above 0, by its row
@@ -16,11 +16,3 @@ listed-number rows (suc k) n hk le e = IsNumber-from rows k n (λ live. (le, e))
 pub zero-number : (rows : List SquareRow) (k : ℕ) → 0 < k → IsNumber rows k 0
 zero-number rows zero h = absurd (omega (arith, h))
 zero-number rows (suc k) h = IsNumber-from rows k 0 (λ live. absurd (omega (arith, live)))
-
--- four kids, one by one
-pub kids-from : (rows : List SquareRow) (row : SquareRow) → IsNumber rows (row.level - 1) (kid row 0) → IsNumber rows (row.level - 1) (kid row 1) → IsNumber rows (row.level - 1) (kid row 2) → IsNumber rows (row.level - 1) (kid row 3) → AreKidsOf rows row
-kids-from rows row a b c d zero h = a
-kids-from rows row a b c d (suc zero) h = b
-kids-from rows row a b c d (suc (suc zero)) h = c
-kids-from rows row a b c d (suc (suc (suc zero))) h = d
-kids-from rows row a b c d (suc (suc (suc (suc q)))) h = absurd (omega (arith, h))

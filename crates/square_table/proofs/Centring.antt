@@ -6,7 +6,7 @@ use Rattle.worlds.specs.World.{World, cell, same_world}
 use Rattle.worlds.specs.Range.{HasMargin}
 use Rattle.worlds.specs.Square.{Square, one, four, IsSquare, IsIn, cell_in, square_at}
 use Rattle.square_rows.specs.declared.row.SquareRow.{SquareRow}
-use Rattle.square_rows.specs.Rows.{AreRows, root_level, root_of, edge_of, world_of_rows}
+use Rattle.square_rows.specs.Rows.{AreRows, root_level, root_of, world_of_rows}
 use Rattle.square_rows.proofs.Cells.{cell_in-ne, cell_in-nw, cell_in-one, cell_in-se, cell_in-sw, double, in_or_out, offset}
 use Rattle.square_rows.proofs.Roots.{root-IsSquare, root-Fits, root-cells}
 use Rattle.square_rows.specs.Rows as listed
@@ -212,9 +212,6 @@ quarters_alike rows zero n kids low e = absurd (omega (arith, low))
 quarters_alike rows (suc k) n kids low e = λ w margin is.
     let less : k ≡ suc k - 1 = omega arith in
     subst (λ j. IsCentred w (suc k) (square_of rows j kids)) less (subst (IsCentred w (suc k)) (square_in-quadrants rows k n ∙ ap (square_of rows k) (sym e)) is)
-
-pub alike_then : (i j k : ℕ) (r s t : Square) → CentredAlike i r j s → CentredAlike j s k t → CentredAlike i r k t
-alike_then i j k r s t first second w margin is = second w margin (first w margin is)
 
 -- the plane of rows whose root is centred on a world is that world
 pub rows_centred : (w : World) (rows : List SquareRow) (k : ℕ) (s : Square) → AreRowsOf k s rows → IsCentred w k s → world_of_rows rows ≡ w

@@ -33,20 +33,9 @@ pub square_in-grows : (t u : Table) (k n : ℕ) → Grows t u → IsNumber t.row
 square_in-grows t u k n grows h =
     (grown (λ rows. IsNumber rows k n × (square_in rows k n ≡ square_in t.rows k n)) (λ rows row g. (IsNumber-more rows row k n g.0, square_in-more rows row k n g.0 ∙ g.1)) t u grows (h, refl)).1
 
--- a number with a row, and its quadrants
-pub there-grows : (t u : Table) (n : ℕ) → Grows t u → n < first_number + length t.rows → n < first_number + length u.rows
-there-grows t u n grows h = grown (λ rows. n < first_number + length rows) (λ rows row g. let size = one_longer rows row in omega (arith, g, size)) t u grows h
-
 pub kids_at-grows : (t u : Table) (n : ℕ) → Grows t u → first_number ≤ n → n < first_number + length t.rows → kids_at u.rows n ≡ kids_at t.rows n
 kids_at-grows t u n grows above there =
     (grown (λ rows. (n < first_number + length rows) × (kids_at rows n ≡ kids_at t.rows n)) (λ rows row g. let size = one_longer rows row in (omega (arith, g.0, size), kept_row rows row (n - first_number) (omega (arith, above, g.0)) ∙ g.1)) t u grows (there, refl)).1
-
-pub IsSquareOf-grows : (t u : Table) (kids : List ℕ) (n : ℕ) → Grows t u → IsSquareOf t.rows kids n → IsSquareOf u.rows kids n
-IsSquareOf-grows t u kids n grows h = record {
-  above = h.above;
-  there = there-grows t u n grows h.there;
-  listed = kids_at-grows t u n grows h.above h.there ∙ h.listed;
-}
 
 pub AreNumbers-grows : (t u : Table) (k : ℕ) (kids : List ℕ) → Grows t u → AreNumbers t.rows k kids → AreNumbers u.rows k kids
 AreNumbers-grows t u k kids grows are = record {
@@ -89,10 +78,6 @@ square_in-joined rows k kids n is = ap (square_of rows k) is.listed
 pub AreNumbers-quadrants : (rows : List (List ℕ)) (k n : ℕ) → IsNumber rows (suc k) n → AreNumbers rows k (kids_at rows n)
 unfolding IsNumber
 AreNumbers-quadrants rows k n h = record { nw = h.2; ne = h.3; sw = h.4; se = h.5 }
-
-pub IsSquareOf-quadrants : (rows : List (List ℕ)) (k n : ℕ) → IsNumber rows (suc k) n → IsSquareOf rows (kids_at rows n) n
-unfolding IsNumber
-IsSquareOf-quadrants rows k n h = record { above = h.0; there = h.1; listed = refl }
 
 pub square_in-quadrants : (rows : List (List ℕ)) (k n : ℕ) → square_in rows (suc k) n ≡ square_of rows k (kids_at rows n)
 unfolding square_in

@@ -46,9 +46,6 @@ GrowsFrom-then squares t u v first second = record {
   states = λ c some below h. second.states c some below (first.states c some below h);
 }
 
-pub GrowsFrom-none : (squares : List SquareRow) (t u : Table) → GrowsFrom [] t u → GrowsFrom squares t u
-GrowsFrom-none squares t u g = record { grows = g.grows; states = λ c some below h. g.states c some (λ i q lt. absurd (omega (arith, lt))) h }
-
 states-more : (c : ℕ) (rows : List (List ℕ)) (kids : List ℕ) → ((q : ℕ) → q < 4 → get_or kids q 0 < first_number → get_or kids q 0 < c) → AllStatesBelow c rows → AllStatesBelow c (rows ++ kids ∷ [])
 states-more c rows kids new old = record {
   each = λ i q lt hq. elim (cases_lt i (length rows)) [
@@ -129,10 +126,6 @@ AreBlanks-more t u blanks b n e some are grows is =
             ap (square_in u.rows k) (get_or_push blanks n 0 k last) ∙ subst (λ i. square_in u.rows i n ≡ empty_square i) (next ∙ last) blank
       ];
     }
-
--- rows that are loaded
-pub AreLoaded-none : (squares : List SquareRow) (rows : List (List ℕ)) (numbers : List ℕ) → length numbers ≡ 0 → AreLoaded squares rows numbers
-AreLoaded-none squares rows numbers none = record { few = omega (arith, none); each = λ i h. absurd (omega (arith, h, none)) }
 
 IsLoadedAt-grows : (squares : List SquareRow) (t u : Table) (i n : ℕ) → Grows t u → IsLoadedAt squares t.rows i n → IsLoadedAt squares u.rows i n
 IsLoadedAt-grows squares t u i n grows at = record {

@@ -5,7 +5,7 @@ use Rattle.std.proofs.lemmas.Bool.{cases_lt}
 use Rattle.square_table.specs.declared.square.Square.{Square}
 use Rattle.square_table.specs.declared.chains.Row.{Row}
 use Rattle.square_table.specs.Chains.{kids_of, IsAbsent}
-use Rattle.square_table.specs.Squares.{Table, IsNumber, square_in, kid_at, kids_at, first_number, IsHeld, Keeps, AreFour, AreDistinct, Lacks, with_row, joined, level_of, number_of, cells_of}
+use Rattle.square_table.specs.Squares.{Table, IsNumber, square_in, kid_at, kids_at, first_number, IsHeld, Keeps, AreFour, AreDistinct, Lacks, joined, level_of, number_of, cells_of}
 
 -- the quadrants of a row
 pub row_kids : (rows : List Row) (i : ℕ) (d : Row) → i < length rows → get_or (map kids_of rows) i [] ≡ kids_of (slice_index_or rows i d)
@@ -59,17 +59,6 @@ pub above_zero : (rows : List (List ℕ)) (k n : ℕ) → 0 < k → IsNumber row
 unfolding IsNumber
 above_zero rows zero n some h = absurd (omega arith)
 above_zero rows (suc k) n some h = (h.0, h.1)
-
--- what was there stays
-pub Keeps-more : (t : Table) (row : List ℕ) → Keeps t (with_row t row)
-Keeps-more t row = record {
-  limit = refl;
-  held = λ s h. record {
-    numbered = IsNumber-more t.rows row (level_of s) (number_of s) h.numbered;
-    quadrants = λ some. let in_range = above_zero t.rows (level_of s) (number_of s) some h.numbered in h.quadrants some ∙ sym (kept_row t.rows row (number_of s - first_number) (omega (arith, in_range.0, in_range.1)));
-  };
-  cells = λ s h. square_in-more t.rows row (level_of s) (number_of s) h.numbered;
-}
 
 pub Keeps-same : (t : Table) → Keeps t t
 Keeps-same t = record { limit = refl; held = λ s h. h; cells = λ s h. refl }

@@ -1,9 +1,8 @@
 -- Places in a square with room around a cell, and in the greatest one.
-use Rattle.std.proofs.Common.{◌≡◌, ℕ, ◌^◌, ◌/◌, refl, sym, subst, arith, List, get_or, ℤ, pos, ◌+ℤ◌, ◌-ℤ◌, ◌≤ℤ◌}
+use Rattle.std.proofs.Common.{◌≡◌, ℕ, sym, subst, arith, List, get_or, ℤ, pos, ◌+ℤ◌, ◌-ℤ◌, ◌≤ℤ◌}
 use Rattle.std.specs.Prelude.{All}
 use Rattle.std.proofs.lemmas.Int.{ints}
 use Rattle.worlds.specs.declared.cell.CellSet.{CellSet}
-use Rattle.worlds.specs.Range.{IsInside}
 use Rattle.square_tree.specs.Cells.{SpansSquare, IsHeld}
 use Rattle.step_engine.specs.Room.{HasRoom, CellHasRoom}
 
@@ -18,18 +17,6 @@ between l a b z low high after before = record {
 pub held_near : (l : ℕ) (x y x' y' : ℤ) → HasRoom l x y → (x -ℤ pos 1) ≤ℤ x' → x' ≤ℤ (x +ℤ pos 1) → (y -ℤ pos 1) ≤ℤ y' → y' ≤ℤ (y +ℤ pos 1) → IsHeld l x' y'
 held_near l x y x' y' room left right top bottom =
     (between l (x -ℤ pos 1) (x +ℤ pos 1) x' room.corner.0 room.opposite.0 left right, between l (y -ℤ pos 1) (y +ℤ pos 1) y' room.corner.1 room.opposite.1 top bottom)
-
-half_side : 2 ^ 62 / 2 ≡ 2 ^ 61
-half_side = refl
-
--- the greatest square holds the range of planes
-pub room_in_greatest : (x y : ℤ) → IsInside 1 x y → HasRoom 62 x y
-room_in_greatest x y at =
-    let h = half_side in
-    record {
-      corner = (record { from = (let k = at.left in omega (arith, ints, h)); to = (let k = at.right in omega (arith, ints, h)) }, record { from = (let k = at.top in omega (arith, ints, h)); to = (let k = at.bottom in omega (arith, ints, h)) });
-      opposite = (record { from = (let k = at.left in omega (arith, ints, h)); to = (let k = at.right in omega (arith, ints, h)) }, record { from = (let k = at.top in omega (arith, ints, h)); to = (let k = at.bottom in omega (arith, ints, h)) });
-    }
 
 -- the same place
 pub same_held : (l : ℕ) (x y x' y' : ℤ) → x ≡ x' → y ≡ y' → IsHeld l x y → IsHeld l x' y'

@@ -27,11 +27,6 @@ dead_outside cells patch x y t out =
     let dead : 0 < cell (lay cells blank) x y → ⊥ = λ alive. out (held_live cells patch x y t alive) in
     omega (arith, dead)
 
--- the listed cells have the room that the live ones have
-pub inside_listed : (margin : ℕ) (cells : List CellSet) (patch : Cells) (w : World) → AreTogether cells patch → lay cells blank ≡ w → HasMargin margin w → All (λ c. IsInside margin c.x c.y) cells
-inside_listed margin cells patch w t is room k d at =
-    room (get_or cells k d).x (get_or cells k d).y (subst (λ v. 0 < cell v (get_or cells k d).x (get_or cells k d).y) is (t.listed k d at).live)
-
 live_by_recursion : (w : World) (cs : List Cell) → AllByRecursion (λ (e : Place × ℕ). (cell w e.0.1 e.0.0 ≡ e.1) × (0 < e.1)) (map of_cell cs) → AllByRecursion (λ (c : CellSet). 0 < cell w c.x c.y) (map as_set cs)
 live_by_recursion w [] h = tt
 live_by_recursion w (c ∷ cs) h = ((let is : cell w c.x c.y ≡ c.state = h.0.0 in let some : 0 < c.state = h.0.1 in omega (arith, is, some)), live_by_recursion w cs h.1)

@@ -36,10 +36,6 @@ pub record AreTails (place : Option ℕ) (rows : List Expanded) (lasts : List �
   pub asks : (k : ℕ) (d : Expanded) → k < n → get_or sets (get_or tails (get_or numbers k 0) none_left).set None ≡ asked_at place (get_or rows k d).inputs
   pub leaves : (k : ℕ) → k < n → (get_or tails (get_or numbers k 0) none_left).rest ≡ get_or lasts k 0
 
--- at the start there are none
-pub AreTails-none : (place : Option ℕ) (rows : List Expanded) (lasts : List ℕ) → AreTails place rows lasts [] [] [] 0
-AreTails-none place rows lasts = grind (arith, elements)
-
 -- a row more, whose tail asks for a set and leaves what is left of the row
 pub record IsNextTail (place : Option ℕ) (rows : List Expanded) (lasts : List ℕ) (sets more_sets : List (Option (List ℕ))) (tails more_tails : List Tail) (n number : ℕ) (set : Option (List ℕ)) (tail : Tail) : Type 0 where
   pub set_grown : IsGrownBy sets set more_sets

@@ -9,9 +9,6 @@ use Rattle.tree_translation.specs.Layers.{lets, rest_at}
 use Rattle.tree_translation.specs.TailsFound.{AreMarked, IsFound, is_in}
 use Rattle.tree_translation.specs.Translation.{first_some}
 
-option_or-none : (a : Option ℕ) → option_or a None ≡ a
-option_or-none a = grind arith
-
 -- one more is asked
 pub first_some-push : (f : ℕ → Option ℕ) (xs : List ℕ) (x : ℕ) → first_some f (xs ++ x ∷ []) ≡ option_or (first_some f xs) (f x)
 first_some-push f [] x = grind arith
