@@ -1,5 +1,5 @@
 -- What is read where a number of squares is given.
-use Rattle.std.proofs.Common.{◌≡◌, inl, inr, ◌∙◌, ◌+◌, ◌-◌, ◌<◌, ◌≤◌, ◌^◌, ℕ, zero, suc, refl, sym, ap, subst, arith, false, List, [], ◌∷◌, Result, Ok, Err, IfOk, Some, codes}
+use Rattle.std.proofs.Common.{◌≡◌, ◌⊎◌, inl, inr, ◌∙◌, ◌+◌, ◌-◌, ◌<◌, ◌≤◌, ◌^◌, ◌++◌, ℕ, zero, suc, refl, sym, ap, subst, arith, false, List, [], ◌∷◌, Result, Ok, Err, IfOk, Some, codes}
 use Rattle.std.specs.Prelude.{MatchResult, if◌then◌else◌}
 use Rattle.std.specs.Str.Parse.{IsNumeral, digits_value, without_leading_plus}
 use Rattle.std.proofs.lemmas.Str.Parse.{digit_from_value}
@@ -55,6 +55,10 @@ unfolding clap_on_literals
 apart_faults name ds =
     by_digit (IsTaken name ds) (λ none. rw none refl) (λ none. rw none refl) (λ none. rw none refl) (λ none. rw none refl) (λ none. rw none refl)
     (λ none. rw none refl) (λ none. rw none refl) (λ none. rw none refl) (λ none. rw none refl) (λ none. rw none refl)
+
+apart_text : (name ds : Text) (k : ℕ) → k < 10 → squares_text (name ∷ codes "--squares" ∷ ((48 + k) ∷ ds) ∷ []) ≡ Some ((48 + k) ∷ ds)
+unfolding clap_on_literals
+apart_text name ds = by_digit (λ x. squares_text (name ∷ codes "--squares" ∷ (x ∷ ds) ∷ []) ≡ Some (x ∷ ds)) refl refl refl refl refl refl refl refl refl refl
 
 no_sign : (ds : Text) (k : ℕ) → k < 10 → without_leading_plus ((48 + k) ∷ ds) ≡ (48 + k) ∷ ds
 no_sign ds = by_digit (λ x. without_leading_plus (x ∷ ds) ≡ x ∷ ds) refl refl refl refl refl refl refl refl refl refl
