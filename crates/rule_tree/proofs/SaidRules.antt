@@ -1,15 +1,12 @@
 -- The rule that a file means is sound.
-use Rattle.std.proofs.Common.{◌≡◌, ℕ, true, List, Result, Ok, Err, refl, ap, subst, ◌∙◌, sym}
+use Rattle.std.proofs.Common.{◌≡◌, ℕ, true, List, Ok, subst}
 use Rattle.basics.specs.Results.{◌>>=◌}
-use Rattle.rule_file.specs.declared.fault.RuleFault.{RuleFault}
 use Rattle.rule_file.specs.declared.text.SectionKind.{SectionKind}
 use Rattle.rule_file.specs.declared.text.SectionKind.TheVariants as section
 use Rattle.rule_file.proofs.Readings.{then-ok}
 use Rattle.rule_file.specs.RuleFile.{RuleFile, Section, file_of}
-use Rattle.table_symmetry.specs.Table as table_values
 use Rattle.table_symmetry.specs.TableLines.{table_of}
 use Rattle.table_symmetry.proofs.SaidTables.{table_of-sound}
-use Rattle.decision_tree.specs.Tree as tree_rule
 use Rattle.decision_tree.specs.TreeLines.{tree_of}
 use Rattle.decision_tree.proofs.SaidNodes.{section-sound}
 use Rattle.rule_tree.specs.declared.rule.Kind.{Kind}

@@ -1,5 +1,5 @@
 -- Texts that say the same mean the same rule.
-use Rattle.std.proofs.Common.{◌≡◌, ℕ, List, map, Result, Ok, Err, refl, ap, subst, sym, ◌∙◌}
+use Rattle.std.proofs.Common.{◌≡◌, ℕ, List, map, Result, Ok, ap, subst, sym, ◌∙◌}
 use Rattle.basics.specs.Results.{◌>>=◌}
 use Rattle.rule_file.specs.declared.fault.RuleFault.{RuleFault}
 use Rattle.rule_file.specs.declared.text.SectionKind.{SectionKind}
@@ -17,7 +17,7 @@ use Rattle.rule_tree.specs.declared.rule.Kind.{Kind}
 use Rattle.rule_tree.specs.declared.rule.Kind.TheVariants.{Table, Tree}
 use Rattle.rule_tree.specs.Laws.{RulesAreWhatIsSaid}
 use Rattle.rule_tree.specs.NamedRule.{NamedRule}
-use Rattle.rule_tree.specs.Rule.{kind_by, kind_of, rule_of}
+use Rattle.rule_tree.specs.Rule.{kind_by, kind_of}
 
 abbrev texts : List NumberedLine → List (List ℕ)
 texts lines = map (λ line. line.text) lines

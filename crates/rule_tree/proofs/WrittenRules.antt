@@ -1,5 +1,5 @@
 -- Rules that are written.
-use Rattle.std.proofs.Common.{◌≡◌, ◌∙◌, ap, ℕ, List, Ok}
+use Rattle.std.proofs.Common.{◌∙◌, ap, Ok}
 use Rattle.basics.specs.Results.{◌>>=◌}
 use Rattle.table_lines.proofs.WrittenFiles as table_files
 use Rattle.table_symmetry.proofs.WrittenTables.{written-means}

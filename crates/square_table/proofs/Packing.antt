@@ -7,7 +7,7 @@ use Rattle.std.proofs.lemmas.List.{length-set}
 use Rattle.worlds.specs.Square.{Square, four}
 use Rattle.square_rows.specs.declared.row.SquareRow.{SquareRow}
 use Rattle.square_rows.specs.Rows as listed
-use Rattle.square_rows.specs.Rows.{AreRows, IsRow}
+use Rattle.square_rows.specs.Rows.{AreRows}
 use Rattle.square_rows.specs.Laid as laid
 use Rattle.square_rows.specs.Laid.{Keeps, IsAdded}
 use Rattle.square_rows.proofs.Adding.{Keeps-then, quadrants-none, added, root_added}

@@ -1,6 +1,6 @@
 -- Squares round the origin: with more room round them, and some generations later.
-use Rattle.std.proofs.Common.{◌≡◌, ℕ, zero, suc, ◌+◌, ◌-◌, ◌<◌, ◌≤◌, ◌^◌, List, refl, sym, ap, ap₂, ◌∙◌, subst, arith, ℤ, pos, neg_ℤ, ◌+ℤ◌, ◌≤ℤ◌, ◌<ℤ◌}
-use Rattle.std.proofs.lemmas.Int.{ints, by_lt_z}
+use Rattle.std.proofs.Common.{◌≡◌, ℕ, zero, suc, ◌+◌, ◌-◌, ◌<◌, ◌≤◌, ◌^◌, List, refl, sym, ap, ap₂, ◌∙◌, subst, arith, ℤ, pos, neg_ℤ, ◌+ℤ◌, ◌≤ℤ◌}
+use Rattle.std.proofs.lemmas.Int.{ints}
 use Rattle.worlds.specs.World.{World, cell}
 use Rattle.worlds.specs.Step.{step, nine_zeros}
 use Rattle.worlds.specs.Iterate.{iterate}
@@ -11,7 +11,6 @@ use Rattle.hash_life.proofs.Steps.{result-steps}
 use Rattle.square_table.specs.Centred.{edge, IsCentred}
 use Rattle.step_engine.specs.Reach.{LiesWithin}
 use Rattle.step_engine.specs.Padded.{padded}
-use Rattle.step_engine.proofs.Reaching.{LiesWithin-iterate, LiesWithin-more}
 
 -- where no cell is live the square is empty
 pub square_at-empty : (w : World) (k : ℕ) (x y : ℤ) → ((a b : ℤ) → IsIn (2 ^ k) x y a b → 0 < cell w a b → ⊥) → square_at w k x y ≡ empty_square k

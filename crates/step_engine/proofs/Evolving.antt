@@ -1,5 +1,5 @@
 -- From the square of a plane to that of the plane some generations later.
-use Rattle.std.proofs.Common.{◌≡◌, ℕ, zero, suc, ◌+◌, ◌-◌, ◌<◌, ◌≤◌, ◌^◌, List, refl, sym, ap, ◌∙◌, subst, arith, ℤ, pos, ◌+ℤ◌}
+use Rattle.std.proofs.Common.{◌≡◌, ℕ, zero, suc, ◌+◌, ◌-◌, ◌≤◌, ◌^◌, List, sym, subst, arith, ℤ}
 use Rattle.worlds.specs.World.{World}
 use Rattle.worlds.specs.Step.{step, nine_zeros}
 use Rattle.worlds.specs.Iterate.{iterate}
@@ -11,7 +11,7 @@ use Rattle.hash_life.specs.Result.{result}
 use Rattle.hash_life.specs.Puts.{IsBelow}
 use Rattle.square_table.specs.Centred.{edge, IsCentred}
 use Rattle.step_engine.specs.Reach.{LiesWithin, HasRoomFor}
-use Rattle.step_engine.proofs.Reaching.{LiesWithin-iterate, LiesWithin-more}
+use Rattle.step_engine.proofs.Reaching.{LiesWithin-iterate}
 use Rattle.step_engine.proofs.Centring.{IsCentred-result}
 
 -- the states of a square of a world

@@ -1,5 +1,5 @@
 -- How far activity comes.
-use Rattle.std.proofs.Common.{◌≡◌, ℕ, zero, suc, ◌+◌, ◌<◌, ◌≤◌, List, refl, sym, ap, ◌∙◌, subst, arith, ℤ, pos, neg_ℤ, ◌+ℤ◌, ◌≤ℤ◌, ◌<ℤ◌}
+use Rattle.std.proofs.Common.{◌≡◌, ℕ, zero, suc, ◌+◌, ◌<◌, ◌≤◌, List, ap, ◌∙◌, arith, ℤ, pos, neg_ℤ, ◌+ℤ◌, ◌≤ℤ◌, ◌<ℤ◌}
 use Rattle.std.proofs.lemmas.Int.{ints, by_lt_z}
 use Rattle.worlds.specs.World.{World, cell, blank, cell-blank}
 use Rattle.worlds.specs.Range.{IsBoundingBox}
@@ -7,7 +7,6 @@ use Rattle.worlds.specs.declared.cell.Bounds.{Bounds}
 use Rattle.worlds.specs.Step.{step, nine_zeros}
 use Rattle.worlds.specs.Iterate.{iterate}
 use Rattle.worlds.specs.Near.{IsNear}
-use Rattle.worlds.specs.Square.{IsIn}
 use Rattle.worlds.proofs.Local.{cell-step-none}
 use Rattle.step_engine.specs.Reach.{LiesWithin, BoxLiesWithin}
 

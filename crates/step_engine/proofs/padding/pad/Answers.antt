@@ -1,7 +1,7 @@
 use Rattle.std.proofs.lemmas.Result.{IfOk-weaker}
-use Rattle.std.proofs.Common.{◌≡◌, ℕ, suc, ◌+◌, ◌-◌, ◌<◌, ◌≤◌, length, sym, ◌∙◌, ap, ap₂, subst, arith}
+use Rattle.std.proofs.Common.{◌≡◌, suc, ◌+◌, ◌-◌, ◌<◌, ◌≤◌, length, sym, ◌∙◌, ap, ap₂, subst, arith}
 use Rattle.worlds.specs.Square.{empty_square}
-use Rattle.square_table.specs.Squares.{IsNumber, IsHeld, square_in, first_number, level_of}
+use Rattle.square_table.specs.Squares.{IsNumber, square_in, first_number, level_of}
 use Rattle.square_table.proofs.Tables.{above_zero}
 use Rattle.step_engine.proofs.Joins.{Known, padded-made, padded-number}
 use Rattle.step_engine.proofs.padding.pad.Goals as goal

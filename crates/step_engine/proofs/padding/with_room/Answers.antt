@@ -1,4 +1,4 @@
-use Rattle.std.proofs.Common.{◌≡◌, ◌-◌, ◌≤◌, ◌∙◌, arith, inl, inr}
+use Rattle.std.proofs.Common.{◌-◌, ◌≤◌, ◌∙◌, arith, inl, inr}
 use Rattle.std.proofs.lemmas.Bool.{cases_lt}
 use Rattle.square_table.specs.Squares.{level_of}
 use Rattle.step_engine.proofs.Joins.{IsCentred-again}

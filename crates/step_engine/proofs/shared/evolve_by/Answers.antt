@@ -1,8 +1,5 @@
-use Rattle.std.proofs.Common.{◌≡◌, ◌∙◌, sym}
 use Rattle.worlds.specs.Step.{step}
 use Rattle.worlds.specs.Iterate.{iterate}
-use Rattle.square_table.specs.Squares.{cells_of, level_of}
-use Rattle.square_table.specs.Centred.{IsCentred}
 use Rattle.square_table.proofs.Centring.{one_world}
 use Rattle.step_engine.proofs.Evolving.{IsBelow-centred, HasMargin-iterate, IsCentred-later}
 use Rattle.step_engine.proofs.shared.evolve_by.Goals as goal

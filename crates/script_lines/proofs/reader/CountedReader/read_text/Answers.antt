@@ -1,4 +1,4 @@
-use Rattle.std.proofs.Common.{◌≡◌, ◌≢◌, true, false, rules, arith, ◌∙◌, sym, ap, take}
+use Rattle.std.proofs.Common.{◌≡◌, ◌≢◌, true, false, rules, ◌∙◌, sym, ap, take}
 use Rattle.std.specs.Option.{option_map}
 use Rattle.script_lines.specs.declared.kept_line.Found.TheVariants.{End, Last, Line}
 use Rattle.script_lines.proofs.Known.{on_err}
