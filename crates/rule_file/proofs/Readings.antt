@@ -1,18 +1,11 @@
 -- Readings, one after another: what they tell where they give a value, and where none wants memory.
-use Rattle.std.proofs.Common.{◌≡◌, ◌≢◌, Bool, true, false, Option, Some, None, Result, Ok, Err, if◌then◌else◌, refl, ap, ◌∙◌}
-use Rattle.std.specs.Option.{option_map, ok_or}
-use Rattle.std.specs.Result.{IsErrAnd}
+use Rattle.std.proofs.Common.{◌≡◌, ◌≢◌, Bool, true, false, Option, Some, None, Result, Ok, Err, IsErrAnd, option_map, ok_or, if◌then◌else◌, refl, ap, ◌∙◌}
 use Rattle.basics.specs.Results.{◌>>=◌}
 use Rattle.rule_file.specs.declared.fault.RuleFault.{RuleFault}
 use Rattle.rule_file.specs.declared.fault.RuleFault.TheVariants.{NoMemory}
 
--- the value of a reading, where it gives one
-abbrev value_or : {A E : Type 0} → Result A E → A → A
-value_or (Ok x) d = x
-value_or (Err e) d = d
-
 pub same_value : {A : Type 0} (x y : A) → ◌≡◌ {A = Result A RuleFault} (Ok x) (Ok y) → x ≡ y
-same_value x y h = ap (λ r. value_or r x) h
+same_value x y h = cc
 
 -- what was read before, where a reading gives a value
 pub then-ok : {A B : Type 0} (r : Result A RuleFault) (f : A → Result B RuleFault) (y : B) → (r >>= f) ≡ Ok y → (x : A) × (r ≡ Ok x) × (f x ≡ Ok y)
@@ -21,7 +14,7 @@ then-ok (Err e) f y h = absurd cc
 
 pub some-ok : {A : Type 0} (o : Option A) (e : RuleFault) (x : A) → ◌≡◌ {A = Result A RuleFault} (ok_or o e) (Ok x) → o ≡ Some x
 some-ok None e x h = absurd cc
-some-ok (Some y) e x h = ap Some (same_value y x h)
+some-ok (Some y) e x h = cc
 
 pub map-some : {A B : Type 0} (f : A → B) (o : Option A) (y : B) → option_map f o ≡ Some y → (x : A) × (o ≡ Some x) × (f x ≡ y)
 map-some f None y h = absurd cc

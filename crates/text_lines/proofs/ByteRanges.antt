@@ -1,9 +1,10 @@
 -- Bytes by their ranges, and tests on them.
-use Rattle.std.proofs.Common.{◌≡◌, ◌≢◌, ap₂, ℕ, ◌≤◌, ◌==◌, ◌&&◌, ◌||◌, Bool, true, false, List, [], ◌∷◌, arith}
-use Rattle.std.specs.Prelude.{nat_le}
+use Rattle.std.proofs.Common.{◌≡◌, ◌≢◌, ap₂, ℕ, ◌≤◌, ◌==◌, nat_le, ◌&&◌, ◌||◌, Bool, true, false, List, arith}
 use Rattle.std.specs.Char.{is_ascii_digit}
 use Rattle.std.specs.List.{AllByRecursion, list_all}
-use Rattle.std.proofs.lemmas.Bool.{and_parts}
+use Rattle.std.proofs.lemmas.List.Elements.{recursion_from_All}
+use Rattle.std.proofs.lemmas.List.Sums.{AllPass-from_list_all}
+use Rattle.basics.proofs.Lists.{all_so}
 use Rattle.std.proofs.lemmas.Bool.Decides.{nat_tests}
 use Rattle.text_lines.specs.Blanks.{is_blank}
 
@@ -31,22 +32,19 @@ is_visible b = nat_le 33 b && nat_le b 126
 
 -- what a test tells of each byte
 pub all_tested : (P : ℕ → Type 0) (test : ℕ → Bool) (bs : List ℕ) → ((b : ℕ) → test b ≡ true → P b) → list_all test bs ≡ true → AllByRecursion P bs
-all_tested P test [] f h = tt
-all_tested P test (b ∷ bs) f h =
-    let both = and_parts (test b) (list_all test bs) h in
-    (f b both.0, all_tested P test bs f both.1)
+all_tested P test bs f h = all_so (λ b. test b ≡ true) P bs f (recursion_from_All (λ b. test b ≡ true) bs (AllPass-from_list_all test bs h))
 
 pub printed-tested : (bs : List ℕ) → list_all is_printed bs ≡ true → AllByRecursion IsPrinted bs
-printed-tested bs h = all_tested IsPrinted is_printed bs (λ b k. (let low : 32 ≤ b = grind (arith, nat_tests) in low, let high : b ≤ 126 = grind (arith, nat_tests) in high)) h
+printed-tested bs h = all_tested IsPrinted is_printed bs (λ b k. (grind (arith, nat_tests), grind (arith, nat_tests))) h
 
 pub visible-tested : (bs : List ℕ) → list_all is_visible bs ≡ true → AllByRecursion IsVisible bs
-visible-tested bs h = all_tested IsVisible is_visible bs (λ b k. (let low : 33 ≤ b = grind (arith, nat_tests) in low, let high : b ≤ 126 = grind (arith, nat_tests) in high)) h
+visible-tested bs h = all_tested IsVisible is_visible bs (λ b k. (grind (arith, nat_tests), grind (arith, nat_tests))) h
 
 pub digit-visible : (b : ℕ) → IsDigit b → IsVisible b
-digit-visible b h = let low : 48 ≤ b = h.0 in let high : b ≤ 57 = h.1 in (omega arith, omega arith)
+digit-visible b h = (omega (arith, h.0), omega (arith, h.1))
 
 pub visible-printed : (b : ℕ) → IsVisible b → IsPrinted b
-visible-printed b h = let low : 33 ≤ b = h.0 in let high : b ≤ 126 = h.1 in (omega arith, omega arith)
+visible-printed b h = (omega (arith, h.0), omega (arith, h.1))
 
 pub visible-solid : (b : ℕ) → IsVisible b → is_blank b ≡ false
 visible-solid b h = let k : 33 ≤ b = h.0 in ap₂ (λ c d. c || d) (differs b 32 (λ e. omega arith)) (differs b 9 (λ e. omega arith))

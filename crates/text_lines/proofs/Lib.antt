@@ -1,6 +1,5 @@
 pub mod ByteRanges
 pub mod Decimals
-mod Digits
 pub mod FirstLine
 pub mod LineEnds
 pub mod NumberLines
