@@ -1,9 +1,7 @@
 mod SaidHeads
 mod HeadFaults
-mod Names
 pub mod Renumbered
 mod Reordered
-mod SameNames
 pub mod SaidTables
 pub mod Sets
 mod Splits

@@ -16,7 +16,7 @@ use Rattle.table_lines.specs.Table.{Table, headed}
 use Rattle.table_lines.specs.Transitions.{entry_of, transition_from, transition_of, transitions_of, unless_free}
 use Rattle.table_lines.proofs.Steps.{step-too}
 use Rattle.rule_file.proofs.Readings.{GivesToo, ok_or-too, then_too, unless-too}
-use Rattle.table_lines.specs.Variables.{Variables, are_below, definition_in, defines_variable, each, member_states, no_variables, variables_after}
+use Rattle.table_lines.specs.Variables.{Variables, are_below, definition_in, defines_variable, each, member_states, no_variables, set_of, states_or_fault, variables_after}
 
 each-too : {A B : Type 0} (f g : A → Result B RuleFault) → ((x : A) → GivesToo (f x) (g x)) → (xs : List A) → GivesToo (each f xs) (each g xs)
 each-too f g both [] = λ ys h. h
@@ -25,19 +25,16 @@ each-too f g both (x ∷ xs) = then_too (f x) (g x) _ _ (both x) (λ y. then_too
 describe-too : (d : Described) (m n : ℕ) (x : Descriptor) (value : List ℕ) → GivesToo (describe d m x value) (describe d n x value)
 describe-too d m n x value e h = grind arith
 
+set_of-too : (states : ℕ) (variables : Variables) (m n : ℕ) (members : List (List ℕ)) → GivesToo (set_of states variables m members) (set_of states variables n members)
+set_of-too states variables m n members =
+    then_too _ _ _ _ (each-too (states_or_fault variables m) (states_or_fault variables n) (λ member. ok_or-too (member_states variables member) _ _) members) (λ sets.
+    unless-too (are_below states sets) _ _ _ _ (λ set k. k))
+
 variables_after-too : (head : Head) (variables : Variables) (m n : ℕ) (text : List ℕ)
     → GivesToo (variables_after head variables (record { number = m; text = text })) (variables_after head variables (record { number = n; text = text }))
 variables_after-too head variables m n text =
-    then_too (ok_or found (BadVariable m)) (ok_or found (BadVariable n)) _ _ (ok_or-too found _ _) (λ definition.
-    then_too (each (states m) definition.1) (each (states n) definition.1) _ _
-    (each-too (states m) (states n) (λ member. ok_or-too (member_states variables member) _ _) definition.1) (λ sets.
-    unless-too (are_below head.states sets) _ _ _ _ (λ y k. k)))
-  where
-    found : Option (List ℕ × List (List ℕ))
-    found = definition_in text
-
-    states : ℕ → List ℕ → Result (List ℕ) RuleFault
-    states number member = ok_or (member_states variables member) (BadVariable number)
+    then_too _ _ _ _ (ok_or-too (definition_in text) (BadVariable m) (BadVariable n)) (λ definition.
+    then_too _ _ _ _ (set_of-too head.states variables m n definition.1) (λ set more k. k))
 
 entry_of-too : (states : ℕ) (variables : Variables) (m n : ℕ) (field : List ℕ) → GivesToo (entry_of states variables m field) (entry_of states variables n field)
 entry_of-too states variables m n field e h = grind arith

@@ -16,7 +16,7 @@ use Rattle.table_lines.specs.declared.transition.Entry.{Entry}
 use Rattle.table_lines.specs.declared.transition.Entry.TheVariants.{State, OneOf}
 use Rattle.table_lines.specs.Fields.{fields, parts}
 use Rattle.table_lines.specs.Transitions.{entry_of}
-use Rattle.table_lines.specs.Variables.{Variables, defines_variable, each, variable_named}
+use Rattle.table_lines.specs.Variables.{Variables, defines_variable, each}
 use Rattle.table_lines.specs.WrittenTable.{IsEntryOf, entry_text, variable_name}
 
 -- words of visible bytes, with no comma among them
@@ -86,7 +86,7 @@ fields-joined states (word ∷ next ∷ words) some h =
 
 -- the variables are these sets, by the names that are written
 abbrev pub AreNamed : Variables → List (List ℕ) → Type 0
-AreNamed variables sets = (number : ℕ) → number < length sets → variable_named variables (variable_name number) ≡ Some (record { number = number; states = slice_index_or sets number [] })
+AreNamed variables sets = (number : ℕ) → number < length sets → variables.named (variable_name number) ≡ Some (record { number = number; states = slice_index_or sets number [] })
 
 -- an entry reads back
 pub entry-read : (n number : ℕ) (variables : Variables) (sets : List (List ℕ)) (e : Entry) → n ≤ 256 → AreNamed variables sets → IsEntryOf n sets e → entry_of n variables number (entry_text e) ≡ Ok e

@@ -33,7 +33,6 @@ use Rattle.table_lines.specs.declared.transition.Entry.{Entry}
 use Rattle.table_lines.specs.declared.transition.Entry.TheVariants.{State}
 use Rattle.table_lines.specs.declared.transition.Transition.{Transition}
 use Rattle.table_lines.specs.Below.{all_below}
-use Rattle.table_lines.specs.Definitions.{union}
 use Rattle.table_lines.specs.Descriptors.{Described, describe, descriptor_named, descriptor_of, fitting, head_from, head_of, undescribed}
 use Rattle.table_lines.specs.Fields.{fields, parts}
 use Rattle.table_lines.specs.LineLaws.{WrittenTablesAreRead}
@@ -43,7 +42,7 @@ use Rattle.table_lines.specs.StateWords.{rising-agree}
 use Rattle.table_lines.specs.Symmetry.{name_of_symmetry, symmetry_named}
 use Rattle.table_lines.specs.Table.{Table}
 use Rattle.table_lines.specs.Transitions.{transition_of, transitions_of}
-use Rattle.table_lines.specs.Variables.{Variables, are_below, defines_variable, definition_in, each, is_variable_byte, is_variable_name, member_states, no_variables, unbraced, variable_named, variables_after, with_definition}
+use Rattle.table_lines.specs.Variables.{Variables, are_below, defines_variable, definition_in, each, is_variable_byte, is_variable_name, member_states, no_variables, states_or_fault, unbraced, union, variables_after, with_definition}
 use Rattle.table_lines.specs.WrittenTable.{IsEntryOf, IsSet, IsTableOf, IsTransitionOf, definition_line, definition_lines, entry_text, name_of_neighborhood, set_text, transition_line, variable_name}
 use Rattle.table_lines.proofs.WrittenEntries.{AreNamed, IsField, all-map, decimal-each, decimal-field, entries-read, entry-defines_none, entry-each, entry-field, fields-joined, joined-each, parts-joined}
 
@@ -138,10 +137,10 @@ definition-read number set wide some low =
 abbrev singles : List ℕ → List (List ℕ)
 singles set = map (λ s. s ∷ []) set
 
-members-read : (variables : Variables) (number : ℕ) (set : List ℕ) → AllByRecursion IsWide set → each (λ member. ok_or (member_states variables member) (BadVariable number)) (map decimal set) ≡ Ok (singles set)
+members-read : (variables : Variables) (number : ℕ) (set : List ℕ) → AllByRecursion IsWide set → each (states_or_fault variables number) (map decimal set) ≡ Ok (singles set)
 members-read variables number [] h = refl
 members-read variables number (s ∷ set) h =
-    ap (λ read. ok_or (option_map_or (λ n. Some (n ∷ [])) read (option_map (λ v. v.states) (variable_named variables (decimal s)))) (BadVariable number) >>= λ y. each (λ member. ok_or (member_states variables member) (BadVariable number)) (map decimal set) >>= λ ys. Ok (y ∷ ys)) (number_of-decimal s h.0)
+    ap (λ read. ok_or (option_map_or (λ n. Some (n ∷ [])) read (option_map (λ v. v.states) (variables.named (decimal s)))) (BadVariable number) >>= λ y. each (states_or_fault variables number) (map decimal set) >>= λ ys. Ok (y ∷ ys)) (number_of-decimal s h.0)
     ∙ ap (λ read. read >>= λ ys. Ok ((s ∷ []) ∷ ys)) (members-read variables number set h.1)
 
 has-singles : (set : List ℕ) (s : ℕ) → list_any (λ single. has single s) (singles set) ≡ has set s

@@ -1,8 +1,9 @@
 -- States that are below the count of states.
-use Rattle.std.specs.Prelude.{ℕ, ◌&&◌, Bool, nat_lt, List}
+use Rattle.std.specs.Prelude.{◌≡◌, ℕ, ◌&&◌, Bool, true, nat_lt, List, Some}
 use Rattle.std.specs.List.{list_all}
 use Rattle.table_lines.specs.declared.transition.Entry.{Entry}
 use Rattle.table_lines.specs.declared.transition.Transition.{Transition}
+use Rattle.table_lines.specs.declared.transition.Variable.{Variable}
 use Rattle.table_lines.specs.Transitions.{admitted}
 use Rattle.table_lines.specs.Variables.{Variables}
 
@@ -19,5 +20,5 @@ abbrev pub admits_below : ℕ → Transition → Bool
 admits_below n t = list_all (entry_below n) t.inputs && entry_below n t.result
 
 -- all states of these variables are below n
-abbrev pub variables_below : ℕ → Variables → Bool
-variables_below n variables = list_all (λ d. all_below n (d.1.states)) variables.by_name
+abbrev pub VariablesBelow : ℕ → Variables → Type 0
+VariablesBelow n variables = (name : List ℕ) (v : Variable) → variables.named name ≡ Some v → all_below n v.states ≡ true

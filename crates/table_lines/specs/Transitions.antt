@@ -16,7 +16,7 @@ use Rattle.table_lines.specs.declared.descriptors.Head.{Head}
 use Rattle.table_lines.specs.Neighborhood.{places_of}
 use Rattle.table_lines.specs.Descriptors.{descriptor_of}
 use Rattle.table_lines.specs.Fields.{fields}
-use Rattle.table_lines.specs.Variables.{defines_variable, Variables, variable_named, each, variables_after}
+use Rattle.table_lines.specs.Variables.{defines_variable, Variables, each, variables_after}
 
 -- whether an entry is this variable
 abbrev pub is_variable : Variable → Entry → Bool
@@ -30,7 +30,7 @@ admitted (OneOf v) = v.states
 
 -- a field is a state below the count of states, or a variable
 abbrev pub entry_of : ℕ → Variables → ℕ → List ℕ → Result Entry RuleFault
-entry_of states variables number field = option_map_or (λ n. if nat_lt n states then Ok (State n) else Err (StateTooHigh number)) (number_of field) (ok_or (option_map OneOf (variable_named variables field)) (BadTransition number))
+entry_of states variables number field = option_map_or (λ n. if nat_lt n states then Ok (State n) else Err (StateTooHigh number)) (number_of field) (ok_or (option_map OneOf (variables.named field)) (BadTransition number))
 
 -- the transition of some entries, whose last is the result
 abbrev pub transition_from : List Entry → Transition

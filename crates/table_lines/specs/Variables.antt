@@ -1,5 +1,5 @@
 -- The variables of a table, and the lines that define them.
-use Rattle.std.specs.Prelude.{ℕ, ◌==◌, ◌&&◌, Bool, false, not, nat_lt, if◌then◌else◌, List, [], ◌∷◌, take, drop, find, Option, ◌+◌, ◌-◌, ◌||◌, nat_eq, nat_le, length, codes, position, Some, None, Result, Ok, Err, is_none, option_and_then}
+use Rattle.std.specs.Prelude.{ℕ, ◌==◌, ◌&&◌, Bool, false, not, nat_lt, if◌then◌else◌, List, [], ◌∷◌, take, drop, Option, ◌+◌, ◌-◌, ◌||◌, nat_eq, nat_le, length, codes, position, Some, None, Result, Ok, Err, is_none, option_and_then}
 use Rattle.std.specs.List.{list_any, list_all, starts_with, ends_with}
 use Rattle.std.specs.Option.{option_map, option_map_or, ok_or}
 use Rattle.table_lines.specs.declared.transition.Variable.{Variable}
@@ -22,22 +22,14 @@ defines_variable line = option_map_or starts_blank (after (codes "var") line) fa
     starts_blank [] = false
     starts_blank (b ∷ bs) = is_blank b
 
--- the variables of a table: how many definitions there were, and what they define by names, of which the latest stands first
+-- the variables of a table: how many definitions there were, and the latest variable of each name
 pub record Variables : Type 0 where
   pub defined : ℕ
-  pub by_name : List (List ℕ × Variable)
+  pub named : List ℕ → Option Variable
 
 -- no variables yet
 abbrev pub no_variables : Variables
-no_variables = record { defined = 0; by_name = [] }
-
--- the first of some definitions that has this name
-abbrev pub named_in : List (List ℕ × Variable) → List ℕ → Option Variable
-named_in definitions name = option_map (λ d. d.1) (find (λ d. bytes_eq d.0 name) definitions)
-
--- the latest variable of this name
-abbrev pub variable_named : Variables → List ℕ → Option Variable
-variable_named variables name = named_in variables.by_name name
+no_variables = record { defined = 0; named = λ name. None }
 
 -- a byte that may stand in a variable's name: printable, and none of the signs , { } = # :
 abbrev pub is_variable_byte : ℕ → Bool
@@ -63,7 +55,7 @@ definition_in line = option_and_then (λ sign. option_and_then (λ set. if is_va
 
 -- the states that a member stands for: a number for itself, and a name for those of an earlier variable
 abbrev pub member_states : Variables → List ℕ → Option (List ℕ)
-member_states variables member = option_map_or (λ n. Some (n ∷ [])) (number_of member) (option_map (λ v. v.states) (variable_named variables member))
+member_states variables member = option_map_or (λ n. Some (n ∷ [])) (number_of member) (option_map (λ v. v.states) (variables.named member))
 
 -- whether all states of some sets are below the count of states
 abbrev pub are_below : ℕ → List (List ℕ) → Bool
@@ -77,13 +69,30 @@ each f (x ∷ xs) = do
   ys ← each f xs
   Ok (y ∷ ys)
 
+-- the states of a member, or its fault
+abbrev pub states_or_fault : Variables → ℕ → List ℕ → Result (List ℕ) RuleFault
+states_or_fault variables number member = ok_or (member_states variables member) (BadVariable number)
+
+-- all states of some sets
+abbrev pub union : List (List ℕ) → List ℕ
+union sets = rising (λ s. list_any (λ set. has set s) sets)
+
+-- the set of these members
+abbrev pub set_of : ℕ → Variables → ℕ → List (List ℕ) → Result (List ℕ) RuleFault
+set_of n variables number members = do
+  sets ← each (states_or_fault variables number) members
+  if are_below n sets then Ok (union sets) else Err (StateTooHigh number)
+
 -- the variables after one more definition, which has the next number
 abbrev pub with_definition : Variables → List ℕ → List ℕ → Variables
-with_definition variables name states = record { defined = variables.defined + 1; by_name = (name, record { number = variables.defined; states = states }) ∷ variables.by_name }
+with_definition variables name states = record {
+  defined = variables.defined + 1;
+  named = λ other. if bytes_eq name other then Some (record { number = variables.defined; states = states }) else variables.named other;
+}
 
 -- the variables after a line that is to define one
 abbrev pub variables_after : Head → Variables → NumberedLine → Result Variables RuleFault
 variables_after head variables line = do
   definition ← ok_or (definition_in line.text) (BadVariable line.number)
-  sets ← each (λ member. ok_or (member_states variables member) (BadVariable line.number)) definition.1
-  if are_below head.states sets then Ok (with_definition variables definition.0 (rising (λ s. list_any (λ set. has set s) sets))) else Err (StateTooHigh line.number)
+  set ← set_of head.states variables line.number definition.1
+  Ok (with_definition variables definition.0 set)

@@ -1,9 +1,8 @@
 //! The lines after the head of a table: variables and transitions.
-ghost use Rattle.std.specs.Prelude.{◌≡◌, ◌≤◌, ◌<◌, ◌+◌, length, IfOk, IsTrue};
-ghost use Rattle.std.specs.List.{list_all};
+ghost use Rattle.std.specs.Prelude.{◌≡◌, ◌≤◌, ◌<◌, ◌+◌, length, IfOk};
 ghost use Rattle.rule_file.specs.Results.{Gives, GivesBy};
 ghost use Rattle.rule_file.specs.States.{most_states};
-ghost use Rattle.table_lines.specs.Below.{admits_below, entry_below, variables_below};
+ghost use Rattle.table_lines.specs.Definitions.{variables_of};
 ghost use Rattle.table_lines.specs.Entries.{TakesOne, TakesSome};
 ghost use Rattle.table_lines.specs.Neighborhood.{places_of};
 ghost use Rattle.table_lines.specs.Transitions.{entry_of, is_free, transition_of, transitions_of, unless_free};
@@ -29,8 +28,7 @@ pub fn read_transitions(
     lines: &[RuleLine],
 ) -> Result<Vec<Transition>, RuleFault>
     requires { head.states ≤ most_states }
-    ensures read { GivesBy (λ ts. ts.items) result (transitions_of head no_variables lines.now) }
-    ensures below { IfOk result (λ ts. IsTrue (list_all (admits_below head.states) ts.items)) }
+    ensures { GivesBy (λ ts. ts.items) result (transitions_of head no_variables lines.now) }
 {
     let mut variables = Variables::new(alloc);
     let mut transitions = Vec::new(alloc);
@@ -64,10 +62,8 @@ fn read_transition(
     variables: &Variables,
     line: &RuleLine,
 ) -> Result<Transition, RuleFault>
-    requires at_most { head.states ≤ most_states }
-    requires below { IsTrue (variables_below head.states variables.now) }
-    ensures read { Gives result (transition_of head variables.now line.now) }
-    ensures below { IfOk result (λ t. IsTrue (admits_below head.states t)) }
+    requires { head.states ≤ most_states }
+    ensures { Gives result (transition_of head (variables_of variables.now) line.now) }
 {
     if entry_count(head.states, line.text()) != head.neighborhood.count() + 2 {
         return Err(RuleFault::BadTransition(line.number()));
@@ -92,12 +88,9 @@ fn take_inputs(
 ) -> Result<Vec<Entry>, RuleFault>
     requires enough { length fields.old ≡ length (places_of head.neighborhood) + 2 }
     requires at_most { head.states ≤ most_states }
-    requires below { IsTrue (variables_below head.states variables.now) }
     ensures read { TakesSome (λ entries. entries.items) result
-        (entry_of head.states variables.now line) fields.old fields.new }
+        (entry_of head.states (variables_of variables.now) line) fields.old fields.new }
     ensures left { IfOk result (λ entries. length fields.new ≡ 1) }
-    ensures below { IfOk result (λ entries.
-        IsTrue (list_all (entry_below head.states) entries.items)) }
 {
     let count = head.neighborhood.count() + 1;
     let mut entries = Vec::with_capacity(alloc, count)?;
@@ -116,9 +109,8 @@ fn take_entry(
 ) -> Result<Entry, RuleFault>
     requires enough { 0 < length fields.old }
     requires at_most { head.states ≤ most_states }
-    requires below { IsTrue (variables_below head.states variables.now) }
-    ensures read { TakesOne result (entry_of head.states variables.now line) fields.old fields.new }
-    ensures below { IfOk result (λ entry. IsTrue (entry_below head.states entry)) }
+    ensures { TakesOne result
+        (entry_of head.states (variables_of variables.now) line) fields.old fields.new }
 {
     read_entry(head.states, variables, line, fields.next().unwrap())
 }
@@ -130,10 +122,8 @@ fn read_entry(
     line: u64,
     field: &[u8],
 ) -> Result<Entry, RuleFault>
-    requires at_most { states ≤ most_states }
-    requires below { IsTrue (variables_below states variables.now) }
-    ensures read { result ≡ entry_of states variables.now line field.now }
-    ensures below { IfOk result (λ entry. IsTrue (entry_below states entry)) }
+    requires { states ≤ most_states }
+    ensures { result ≡ entry_of states (variables_of variables.now) line field.now }
 {
     match number(field) {
         Some(state) if state < u64::from(states) => Ok(Entry::State(state as u8)),

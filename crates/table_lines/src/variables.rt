@@ -1,12 +1,13 @@
 //! The variables of a table, and the lines that define them.
-ghost use Rattle.std.specs.Prelude.{◌≡◌, ◌≤◌, ◌<◌, ◌+◌, ◌^◌, IfOk, IsTrue, OnOk, OnErr};
+ghost use Rattle.std.specs.Prelude.{◌≡◌, ◌≤◌, ◌<◌, ◌+◌, ◌^◌, OnErr};
 ghost use Rattle.std.specs.List.{list_all};
 ghost use Rattle.std.specs.Option.{option_copied, option_map};
 ghost use Rattle.basics.specs.Results.{Reads};
+ghost use Rattle.rule_file.specs.Results.{GivesBy};
 ghost use Rattle.rule_file.specs.States.{most_states};
-ghost use Rattle.table_lines.specs.Below.{all_below, variables_below};
-ghost use Rattle.table_lines.specs.Definitions.{Defines, MayDefine, member_set, set_of};
-ghost use Rattle.table_lines.specs.Variables.{definition_in, is_variable_byte, is_variable_name, no_variables, unbraced, variable_named, variables_after};
+ghost use Rattle.table_lines.specs.Below.{VariablesBelow};
+ghost use Rattle.table_lines.specs.Definitions.{member_set, variables_of};
+ghost use Rattle.table_lines.specs.Variables.{definition_in, is_variable_byte, is_variable_name, no_variables, set_of, unbraced, variables_after};
 
 use crate::descriptors::Head;
 use crate::fields::Fields;
@@ -15,32 +16,20 @@ use crate::transition::Variable;
 use indexmap::IndexMap;
 use rule_file::{RuleFault, RuleLine};
 use std::alloc::Global;
-use std::marker::Model;
 use text_lines::{find_byte, number, trim};
 
-/// The variables of a table by their names, which stand in the text.
+/// The variables of a table by their names, which stand in the text. Contracts see `variables_of`
+/// them.
 #[derive(Debug, Drop)]
 pub struct Variables<'a> {
     defined: u64,
     by_name: IndexMap<&'a [u8], Variable>,
 }
 
-impl<'a> Model for Variables<'a> {
-    ghost use Rattle.std.specs.Prelude.{map};
-    ghost use Rattle.table_lines.specs.Variables.{Variables};
-
-    ghost Value = { Variables };
-
-    ghost view = { λ v. record {
-      defined = v.defined;
-      by_name = map (λ d. (d.0.now, d.1)) v.by_name.entries;
-    } };
-}
-
 impl<'a> Variables<'a> {
     /// No variables yet.
     pub fn new(alloc: Global) -> Variables<'a>
-        ensures { result ≡ no_variables }
+        ensures { variables_of result ≡ no_variables }
     {
         Variables {
             defined: 0,
@@ -50,7 +39,7 @@ impl<'a> Variables<'a> {
 
     /// The latest variable of this name.
     pub fn named(&self, name: &[u8]) -> Option<Variable>
-        ensures { result ≡ variable_named self.now name.now }
+        ensures { result ≡ (variables_of self.now).named name.now }
     {
         self.by_name.get(name).copied()
     }
@@ -60,11 +49,13 @@ impl<'a> Variables<'a> {
     /// BadVariable is answered for a line that isn't well formed or names an unknown variable, and
     /// only then StateTooHigh. NoMemory comes only where memory was wanted.
     pub fn define(&mut self, head: Head, line: &RuleLine<'a>) -> Result<(), RuleFault>
-        requires { MayDefine head.states self.old }
-        ensures read { Defines result self.new (variables_after head self.old line.now) }
-        ensures below { OnOk result (IsTrue (variables_below head.states self.new)) }
+        requires at_most { head.states ≤ most_states }
+        requires below { VariablesBelow head.states (variables_of self.old) }
+        requires room { self.old.defined + 1 < 2 ^ 64 }
+        ensures read { GivesBy (λ _. variables_of self.new) result
+            (variables_after head (variables_of self.old) line.now) }
         ensures count { self.new.defined ≤ self.old.defined + 1 }
-        ensures err { OnErr result (self.new ≡ self.old) }
+        ensures err { OnErr result (variables_of self.new ≡ variables_of self.old) }
     {
         let Some((name, members)) = definition_in(line.text()) else {
             return Err(RuleFault::BadVariable(line.number()));
@@ -84,9 +75,8 @@ impl<'a> Variables<'a> {
     // The states that the members of a set stand for.
     fn set_of(&self, states: u16, line: u64, mut members: Fields) -> Result<StateSet, RuleFault>
         requires at_most { states ≤ most_states }
-        requires below { IsTrue (variables_below states self.now) }
-        ensures read { Reads (λ set. set) result (set_of states self.now line members.entry) }
-        ensures below { IfOk result (λ set. IsTrue (all_below states set)) }
+        requires below { VariablesBelow states (variables_of self.now) }
+        ensures { Reads (λ set. set) result (set_of states (variables_of self.now) line members.entry) }
     {
         let mut set = StateSet::empty();
         let mut are_below = true;
@@ -111,8 +101,8 @@ impl<'a> Variables<'a> {
         member: &[u8],
     ) -> Result<Option<StateSet>, RuleFault>
         requires at_most { states ≤ most_states }
-        requires below { IsTrue (variables_below states self.now) }
-        ensures { Reads (λ set. set) result (member_set states self.now line member.now) }
+        requires below { VariablesBelow states (variables_of self.now) }
+        ensures { Reads (λ set. set) result (member_set states (variables_of self.now) line member.now) }
     {
         match number(member) {
             Some(state) if state < u64::from(states) => Ok(Some(StateSet::of(state as u8))),

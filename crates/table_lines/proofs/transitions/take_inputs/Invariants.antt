@@ -1,6 +1,5 @@
-use Rattle.std.proofs.Common.{◌≡◌, ◌+◌, length, true}
-use Rattle.std.specs.List.{list_all}
-use Rattle.table_lines.specs.Below.{entry_below}
+use Rattle.std.proofs.Common.{◌≡◌, ◌+◌, length}
+use Rattle.table_lines.specs.Definitions.{variables_of}
 use Rattle.table_lines.specs.Entries.{behind}
 use Rattle.table_lines.specs.Neighborhood.{places_of}
 use Rattle.table_lines.specs.Transitions.{entry_of}
@@ -9,7 +8,6 @@ use Rattle.table_lines.proofs.transitions.take_inputs.Given as goal
 
 abbrev pub invariant-loop : goal.invariant-loop
 invariant-loop l = record {
-  read : each (entry_of l.head.states l.variables l.line) l.fn.fields ≡ behind l.entries.items (each (entry_of l.head.states l.variables l.line) l.fields);
+  read : each (entry_of l.head.states (variables_of l.variables) l.line) l.fn.fields ≡ behind l.entries.items (each (entry_of l.head.states (variables_of l.variables) l.line) l.fields);
   left : length l.fields + l.counter ≡ length (places_of l.head.neighborhood) + 2;
-  below : list_all (entry_below l.head.states) l.entries.items ≡ true;
 }

@@ -1,9 +1,8 @@
 use Rattle.std.proofs.Common.{◌∙◌, arith, sym}
 use Rattle.std.proofs.lemmas.Grind.{common_steps}
-use Rattle.table_lines.proofs.Unions.{variable_named-below}
 use Rattle.table_lines.proofs.variables.Variables.member_set.Goals as goal
 
 pub returns-in-Some-named : goal.returns-in-Some-named
 returns-in-Some-named c =
-    let low = variable_named-below c.args.states c.args.self.now c.args.member.now c.in-Some-named.variable c.requires.below (sym c.named.ensures ∙ c.in-Some-named.is) in
+    let low = c.requires.below c.args.member.now c.in-Some-named.variable (sym c.named.ensures ∙ c.in-Some-named.is) in
     grind (arith, common_steps, low)

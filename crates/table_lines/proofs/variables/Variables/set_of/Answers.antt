@@ -1,5 +1,5 @@
 use Rattle.std.proofs.Common.{◌∙◌, Ok, ap}
-use Rattle.table_lines.proofs.Unions.{so_far-none, so_far-below, so_far-high, so_far-set_below}
+use Rattle.table_lines.proofs.Unions.{so_far-none, so_far-below, so_far-high, so_far-all}
 use Rattle.table_lines.proofs.variables.Variables.set_of.Goals as goal
 
 pub loop-member-init : goal.loop-member-init
@@ -12,5 +12,5 @@ loop-member-preserved-in-Some-2 c =
 pub loop-member-preserved : goal.loop-member-preserved
 loop-member-preserved c = so_far-high _ _ _ _ _ _ _ _ (rw c.in-Some.ensures at c.loop-member.invariant) (c.in_ok-more.ensures ∙ ap Ok c.in-None.is)
 
-pub returns-then-are_below-clause-below : goal.returns-then-are_below-clause-below
-returns-then-are_below-clause-below c = so_far-set_below _ _ _ _ _ (rw (c.in_default.ensures, c.if-are_below.true) at c.loop-member.invariant)
+pub returns-then-are_below : goal.returns-then-are_below
+returns-then-are_below c = so_far-all _ _ _ _ _ (rw (c.in_default.ensures, c.if-are_below.true) at c.loop-member.invariant)
