@@ -1,5 +1,5 @@
 -- The table that lines say: it has two states or more and 256 at most, and its transitions are of the sets that its variables are.
-use Rattle.std.proofs.Common.{◌≡◌, ◌∙◌, sym, ap, refl, subst, ℕ, zero, suc, ◌+◌, ◌-◌, ◌<◌, ◌≤◌, ◌==◌, ◌||◌, ◌&&◌, Bool, true, false, List, [], ◌∷◌, ◌++◌, length, take, drop, Option, Some, None, Result, Ok, Err, is_some, if◌then◌else◌, position, length-append, append_assoc, arith}
+use Rattle.std.proofs.Common.{◌≡◌, ◌∙◌, sym, ap, refl, ℕ, zero, suc, ◌+◌, ◌-◌, ◌<◌, ◌≤◌, ◌==◌, ◌||◌, ◌&&◌, Bool, true, false, List, [], ◌∷◌, ◌++◌, length, take, drop, Option, Some, None, Result, Ok, Err, is_some, if◌then◌else◌, position, length-append, append_assoc, arith}
 use Rattle.std.specs.Prelude.{option_and_then, slice_index_or}
 use Rattle.std.specs.List.{AllByRecursion, list_all, list_any}
 use Rattle.std.proofs.Math.ListN.{get_or-append}
@@ -31,7 +31,7 @@ use Rattle.table_lines.specs.StateWords.{has-rising, rising-agree}
 use Rattle.table_lines.specs.Symmetry.{name_of_symmetry, symmetry_named}
 use Rattle.table_lines.specs.Table.{Table, headed}
 use Rattle.table_lines.specs.Transitions.{entry_of, is_free, is_full, transition_from, transition_of, transitions_of}
-use Rattle.table_lines.specs.Variables.{Variables, are_below, defines_variable, definition_in, each, is_variable_name, member_states, no_variables, set_of, states_or_fault, unbraced, union, variables_after, with_definition}
+use Rattle.table_lines.specs.Variables.{Variables, are_below, defines_variable, definition_in, each, is_variable_name, member_states, no_variables, states_or_fault, unbraced, union, variables_after, with_definition}
 use Rattle.table_lines.specs.WrittenTable.{IsEntryOf, IsSet, IsTransitionOf}
 use Rattle.table_lines.proofs.SaidHeads.{head_from-is}
 use Rattle.table_lines.proofs.Splits.{length-parts}
@@ -49,7 +49,7 @@ all-take P (suc k) [] h = tt
 all-take P (suc k) (x ∷ xs) h = (h.0, all-take P k xs h.1)
 
 -- what holds of each is what a test of all says
-all-tested : {A : Type 0} (P : A → Type 0) (p : A → Bool) → ((x : A) → P x → p x ≡ true) → (xs : List A) → AllByRecursion P xs → list_all p xs ≡ true
+pub all-tested : {A : Type 0} (P : A → Type 0) (p : A → Bool) → ((x : A) → P x → p x ≡ true) → (xs : List A) → AllByRecursion P xs → list_all p xs ≡ true
 all-tested P p tested [] h = refl
 all-tested P p tested (x ∷ xs) h = (λ i. tested x h.0 i && all-tested P p tested xs h.1 i)
 

@@ -1,5 +1,6 @@
 -- Entries that are written read back.
-use Rattle.std.proofs.Common.{◌≡◌, refl, ℕ, ◌<◌, ◌≤◌, ◌^◌, ◌==◌, false, List, [], ◌∷◌, ◌++◌, length, map, Some, Ok, decimal, arith}
+use Rattle.std.proofs.Common.{◌≡◌, refl, ℕ, ◌<◌, ◌≤◌, ◌^◌, ◌==◌, false, List, [], ◌∷◌, length, map, Some, Ok, decimal, arith, length-append}
+use Rattle.std.specs.Char.{is_ascii_digit}
 use Rattle.std.specs.Prelude.{slice_index_or}
 use Rattle.std.specs.List.{All, AllByRecursion, join_with_byte}
 use Rattle.std.proofs.Math.Bool.{and-false, or-true}
@@ -9,8 +10,8 @@ use Rattle.std.proofs.lemmas.List.Folds.{list_any-append}
 use Rattle.std.proofs.lemmas.List.Splits.{slice_split_at, slice_split_none}
 use Rattle.basics.proofs.Lists.{all_append, all_so}
 use Rattle.text_lines.specs.Blanks.{trim}
-use Rattle.text_lines.proofs.ByteRanges.{IsDigit, IsVisible, differs, digit-visible}
-use Rattle.text_lines.proofs.Decimals.{IsNumeral, IsWide, decimal-bytes, decimal-numeral, decimal-some, number_of-decimal}
+use Rattle.text_lines.proofs.ByteRanges.{IsDigit, IsVisible, differs, digit-test, digit-visible}
+use Rattle.text_lines.proofs.Decimals.{IsWide, decimal-bytes, decimal-some, number_of-decimal}
 use Rattle.text_lines.proofs.PrintedLines.{line-visible}
 use Rattle.table_lines.specs.declared.transition.Entry.{Entry}
 use Rattle.table_lines.specs.declared.transition.Entry.TheVariants.{State, OneOf}
@@ -19,11 +20,20 @@ use Rattle.table_lines.specs.Transitions.{entry_of}
 use Rattle.table_lines.specs.Variables.{Variables, defines_variable, each}
 use Rattle.table_lines.specs.WrittenTable.{IsEntryOf, entry_text, variable_name}
 
--- words of visible bytes, with no comma among them
-pub record IsField (word : List ℕ) : Type 0 where
-  pub some : 0 < length word
-  pub visible : AllByRecursion IsVisible word
-  pub whole : AllByRecursion (λ b. (b == 44) ≡ false) word
+-- a digit is no other byte
+pub digit-apart : (c : ℕ) → is_ascii_digit c ≡ false → (b : ℕ) → IsDigit b → (b == c) ≡ false
+digit-apart c other b h = let digit = digit-test b h in differs b c (λ e. absurd cc)
+
+-- a visible byte that is no comma
+abbrev IsFieldByte : ℕ → Type 0
+IsFieldByte b = IsVisible b × ((b == 44) ≡ false)
+
+digit-field : (b : ℕ) → IsDigit b → IsFieldByte b
+digit-field b h = (digit-visible b h, digit-apart 44 refl b h)
+
+-- words of such bytes
+abbrev pub IsField : List ℕ → Type 0
+IsField word = (0 < length word) × AllByRecursion IsFieldByte word
 
 -- what holds of digits holds of a number's bytes, and with v of a variable's name
 pub decimal-each : (P : ℕ → Type 0) → ((b : ℕ) → IsDigit b → P b) → (n : ℕ) → IsWide n → AllByRecursion P (decimal n)
@@ -33,23 +43,12 @@ pub entry-each : (n : ℕ) (sets : List (List ℕ)) (e : Entry) → n ≤ 256 �
 entry-each n sets (State s) low few is P v digit = decimal-each P digit s (omega (arith, is))
 entry-each n sets (OneOf w) low few is P v digit = (v, decimal-each P digit w.number (omega (arith, is.0)))
 
-digit-above : (c b : ℕ) → c < 48 → IsDigit b → (b == c) ≡ false
-digit-above c b h is = let low : 48 ≤ b = is.0 in differs b c (λ e. omega arith)
-
 pub decimal-field : (n : ℕ) → IsWide n → IsField (decimal n)
-decimal-field n wide = record {
-  some = decimal-some n wide;
-  visible = decimal-each IsVisible digit-visible n wide;
-  whole = decimal-each (λ b. (b == 44) ≡ false) (λ b h. digit-above 44 b (omega arith) h) n wide;
-}
+decimal-field n wide = (decimal-some n wide, decimal-each IsFieldByte digit-field n wide)
 
 pub entry-field : (n : ℕ) (sets : List (List ℕ)) (e : Entry) → n ≤ 256 → length sets ≤ 2 ^ 64 → IsEntryOf n sets e → IsField (entry_text e)
 entry-field n sets (State s) low few is = decimal-field s (omega (arith, is))
-entry-field n sets (OneOf w) low few is = record {
-  some = omega arith;
-  visible = ((omega arith, omega arith), decimal-each IsVisible digit-visible w.number (omega (arith, is.0)));
-  whole = (refl, decimal-each (λ b. (b == 44) ≡ false) (λ b h. digit-above 44 b (omega arith) h) w.number (omega (arith, is.0)));
-}
+entry-field n sets (OneOf w) low few is = (omega arith, (((omega arith, omega arith), refl), decimal-each IsFieldByte digit-field w.number (omega (arith, is.0))))
 
 -- what holds of the images of all
 pub all-map : {A B : Type 0} (P : A → Type 0) (Q : B → Type 0) (f : A → B) → ((x : A) → P x → Q (f x)) → (xs : List A) → AllByRecursion P xs → AllByRecursion Q (map f xs)
@@ -62,16 +61,21 @@ joined-each P comma [] h = tt
 joined-each P comma (w ∷ []) h = h.0
 joined-each P comma (w ∷ x ∷ words) h = all_append P w (44 ∷ join_with_byte 44 (x ∷ words)) h.0 (comma, joined-each P comma (x ∷ words) h.1)
 
+pub joined-some : (words : List (List ℕ)) → 2 ≤ length words → 0 < length (join_with_byte 44 words)
+joined-some [] some = absurd (omega arith)
+joined-some (w ∷ []) some = absurd (omega arith)
+joined-some (w ∷ x ∷ words) some = omega (arith, length-append w (44 ∷ join_with_byte 44 (x ∷ words)))
+
 -- words between commas come back
 pub parts-joined : (words : List (List ℕ)) → 0 < length words → AllByRecursion IsField words → parts (join_with_byte 44 words) ≡ words
 parts-joined [] some h = absurd (omega arith)
 parts-joined (w ∷ words) some h = split w words h
   where
     trimmed : (w : List ℕ) → IsField w → trim w ≡ w
-    trimmed w k = let line = line-visible w k.some k.visible in line.trimmed
+    trimmed w k = let line = line-visible w k.0 (all_so IsFieldByte IsVisible w (λ b h. h.0) k.1) in line.trimmed
 
     none : (w : List ℕ) → IsField w → All (λ b. (b == 44) ≡ false) w
-    none w k = All-from_recursion (λ b. (b == 44) ≡ false) w k.whole
+    none w k = All-from_recursion (λ b. (b == 44) ≡ false) w (all_so IsFieldByte (λ b. (b == 44) ≡ false) w (λ b h. h.1) k.1)
 
     split : (w : List ℕ) (ws : List (List ℕ)) → AllByRecursion IsField (w ∷ ws) → parts (join_with_byte 44 (w ∷ ws)) ≡ w ∷ ws
     split w [] k = rw (slice_split_none (λ b. b == 44) w (none w k.0), trimmed w k.0)
@@ -85,33 +89,21 @@ fields-joined states (word ∷ next ∷ words) some h =
     rw (list_any-append (λ b. b == 44) word (44 ∷ join_with_byte 44 (next ∷ words)), or-true, and-false) (parts-joined (word ∷ next ∷ words) (omega arith) h)
 
 -- the variables are these sets, by the names that are written
-abbrev pub AreNamed : Variables → List (List ℕ) → Type 0
-AreNamed variables sets = (number : ℕ) → number < length sets → variables.named (variable_name number) ≡ Some (record { number = number; states = slice_index_or sets number [] })
+pub record AreNamed (variables : Variables) (sets : List (List ℕ)) : Type 0 where
+  pub count : variables.defined ≡ length sets
+  pub named : (number : ℕ) → number < length sets → variables.named (variable_name number) ≡ Some (record { number = number; states = slice_index_or sets number [] })
 
--- an entry reads back
-pub entry-read : (n number : ℕ) (variables : Variables) (sets : List (List ℕ)) (e : Entry) → n ≤ 256 → AreNamed variables sets → IsEntryOf n sets e → entry_of n variables number (entry_text e) ≡ Ok e
-entry-read n number variables sets (State s) low named is = grind (arith, nat_tests, number_of-decimal s (omega (arith, is)))
-entry-read n number variables sets (OneOf v) low named is = rw (named v.number is.0, is.1)
+-- entries read back
+entry-read : (n number : ℕ) (variables : Variables) (sets : List (List ℕ)) (e : Entry) → n ≤ 256 → AreNamed variables sets → IsEntryOf n sets e → entry_of n variables number (entry_text e) ≡ Ok e
+entry-read n number variables sets (State s) low are is = grind (arith, nat_tests, number_of-decimal s (omega (arith, is)))
+entry-read n number variables sets (OneOf v) low are is = rw (are.named v.number is.0, is.1)
 
 pub entries-read : (n number : ℕ) (variables : Variables) (sets : List (List ℕ)) (entries : List Entry) → n ≤ 256 → AreNamed variables sets → AllByRecursion (IsEntryOf n sets) entries → each (entry_of n variables number) (map entry_text entries) ≡ Ok entries
-entries-read n number variables sets [] low named h = refl
-entries-read n number variables sets (e ∷ entries) low named h = rw (entry-read n number variables sets e low named h.0, entries-read n number variables sets entries low named h.1)
+entries-read n number variables sets [] low are h = refl
+entries-read n number variables sets (e ∷ entries) low are h = rw (entry-read n number variables sets e low are h.0, entries-read n number variables sets entries low are h.1)
 
--- a line that begins with an entry defines no variable
-digits-define_none : (ds rest : List ℕ) → IsNumeral ds → defines_variable (ds ++ rest) ≡ false
-digits-define_none [] rest h = let some = h.some in absurd (omega arith)
-digits-define_none (d ∷ ds) rest h =
-    let digits = h.digits in
-    let high : d ≤ 57 = digits.0.1 in
-    rw (differs 118 d (λ e. omega arith)) refl
-
-name-defines_none : (ds rest : List ℕ) → IsNumeral ds → defines_variable (118 ∷ ds ++ rest) ≡ false
-name-defines_none [] rest h = let some = h.some in absurd (omega arith)
-name-defines_none (d ∷ ds) rest h =
-    let digits = h.digits in
-    let high : d ≤ 57 = digits.0.1 in
-    rw (differs 97 d (λ e. omega arith)) refl
-
-pub entry-defines_none : (n : ℕ) (sets : List (List ℕ)) (e : Entry) (rest : List ℕ) → n ≤ 256 → length sets ≤ 2 ^ 64 → IsEntryOf n sets e → defines_variable (entry_text e ++ rest) ≡ false
-entry-defines_none n sets (State s) rest low few is = digits-define_none (decimal s) rest (decimal-numeral s (omega (arith, is)))
-entry-defines_none n sets (OneOf v) rest low few is = name-defines_none (decimal v.number) rest (decimal-numeral v.number (omega (arith, is.0)))
+-- a line without an a defines no variable
+pub defines_none : (line : List ℕ) → AllByRecursion (λ b. (b == 97) ≡ false) line → defines_variable line ≡ false
+defines_none [] h = refl
+defines_none (b ∷ []) h = grind (arith, nat_tests)
+defines_none (b ∷ c ∷ line) h = grind (arith, nat_tests, h.1.0)

@@ -1,5 +1,5 @@
 -- Rule files of tables that are written.
-use Rattle.std.proofs.Common.{refl, ℕ, ◌+◌, ◌<◌, ◌≤◌, ◌^◌, List, [], ◌∷◌, ◌++◌, length, map, decimal, length-append, arith}
+use Rattle.std.proofs.Common.{refl, ℕ, ◌+◌, ◌≤◌, ◌^◌, List, [], ◌∷◌, ◌++◌, length, map, decimal, arith}
 use Rattle.std.specs.Prelude.{codes}
 use Rattle.std.specs.List.{AllByRecursion}
 use Rattle.basics.proofs.Lists.{all_append, all_so}
@@ -8,15 +8,15 @@ use Rattle.text_lines.proofs.Decimals.{IsWide}
 use Rattle.text_lines.proofs.PrintedLines.{ends-append, ends-visible, line-between, line-visible}
 use Rattle.rule_file.specs.declared.text.SectionKind.TheVariants as section_kind
 use Rattle.rule_file.proofs.WrittenFiles.{IsPlain, IsPlainLine, IsSolid, digit-plain, digit-solid, file-written, solid-line, solid-tested}
+use Rattle.table_lines.specs.declared.descriptors.Head.{Head}
 use Rattle.table_lines.specs.declared.neighborhood.Neighborhood.{Neighborhood}
 use Rattle.table_lines.specs.declared.symmetry.Symmetry.{Symmetry}
-use Rattle.table_lines.specs.declared.transition.Entry.{Entry}
 use Rattle.table_lines.specs.declared.transition.Transition.{Transition}
 use Rattle.table_lines.specs.LineLaws.{WrittenIsItsFile}
 use Rattle.table_lines.specs.Symmetry.{name_of_symmetry}
-use Rattle.table_lines.specs.WrittenTable.{IsSet, IsTransitionOf, definition_line, definition_lines, entry_text, name_of_neighborhood, set_text, transition_line, variable_name, written_lines}
+use Rattle.table_lines.specs.WrittenTable.{IsSet, IsTransitionOf, definition_line, definition_lines, name_of_neighborhood, set_text, transition_line, variable_name, written_lines}
 use Rattle.table_lines.proofs.WrittenEntries.{all-map, decimal-each}
-use Rattle.table_lines.proofs.WrittenTables.{entries-are, entries-many, entries_of, line-each, line_of, listed, set-wide, set_text-each}
+use Rattle.table_lines.proofs.WrittenTables.{line-each, line-some, listed, set-wide, set_text-each}
 
 states-plain : (n : ℕ) → IsWide n → IsPlainLine (codes "n_states:" ++ decimal n)
 states-plain n wide =
@@ -45,17 +45,11 @@ definition-plain n number set few wide is =
       closed = refl;
     }
 
-transition-plain : (n : ℕ) (neighborhood : Neighborhood) (sets : List (List ℕ)) (t : Transition) → n ≤ 256 → length sets ≤ 2 ^ 64 → IsTransitionOf n neighborhood sets t → IsPlainLine (transition_line t)
-transition-plain n neighborhood sets t low few is =
+transition-plain : (head : Head) (sets : List (List ℕ)) → head.states ≤ 256 → length sets ≤ 2 ^ 64 → (t : Transition) → IsTransitionOf head.states head.neighborhood sets t → IsPlainLine (transition_line t)
+transition-plain head sets low few t is =
     let comma : IsSolid 44 = record { visible = (omega arith, omega arith); plain = refl; closed = refl } in
     let v : IsSolid 118 = record { visible = (omega arith, omega arith); plain = refl; closed = refl } in
-    solid-line (transition_line t) (line-some (entries_of t) (omega (arith, entries-many n neighborhood sets t is)))
-    (line-each n sets low few IsSolid comma v digit-solid (entries_of t) (entries-are n neighborhood sets t is))
-  where
-    line-some : (entries : List Entry) → 2 ≤ length entries → 0 < length (line_of entries)
-    line-some [] some = absurd (omega arith)
-    line-some (e ∷ []) some = absurd (omega arith)
-    line-some (e ∷ f ∷ entries) some = omega (arith, length-append (entry_text e) (44 ∷ line_of (f ∷ entries)))
+    solid-line (transition_line t) (line-some head sets low few t is) (line-each head sets low few t is IsSolid comma v digit-solid)
 
 definitions-plain : (n count : ℕ) (sets : List (List ℕ)) → n ≤ 256 → count + length sets ≤ 2 ^ 64 → AllByRecursion (IsSet n) sets → AllByRecursion IsPlainLine (definition_lines count sets)
 definitions-plain n count [] low few h = tt
@@ -73,7 +67,7 @@ written-file name sets table h is =
           all_append IsPlainLine (definition_lines 0 sets) (map transition_line table.transitions)
               (definitions-plain table.states 0 sets is.at_most (omega (arith, is.few)) is.defined)
               (all-map (IsTransitionOf table.states table.neighborhood sets) IsPlainLine transition_line
-              (λ t. transition-plain table.states table.neighborhood sets t is.at_most is.few) table.transitions is.transitions),
+              (transition-plain (record { states = table.states; neighborhood = table.neighborhood; symmetry = table.symmetry }) sets is.at_most is.few) table.transitions is.transitions),
         ),
       ),
     )

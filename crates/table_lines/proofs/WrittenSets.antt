@@ -1,5 +1,5 @@
 -- A table that lines say is one for which lines are written.
-use Rattle.std.proofs.Common.{ℕ, ◌≤◌, ◌^◌, length, arith}
+use Rattle.std.proofs.Common.{◌≤◌, ◌^◌, length, arith}
 use Rattle.table_lines.specs.LineLaws.{TablesOfLinesAreWritten}
 use Rattle.table_lines.proofs.SaidTables.{lines-said}
 
