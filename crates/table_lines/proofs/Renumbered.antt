@@ -6,13 +6,12 @@ use Rattle.rule_file.specs.declared.fault.RuleFault.TheVariants.{BadVariable}
 use Rattle.rule_file.specs.RuleFile.{NumberedLine}
 use Rattle.table_lines.specs.declared.descriptors.Descriptor.{Descriptor}
 use Rattle.table_lines.specs.declared.descriptors.Head.{Head}
-use Rattle.table_lines.specs.declared.transition.Transition.{Transition}
 use Rattle.table_lines.specs.Descriptors.{Described, describe, descriptor_of, head_from, head_of, undescribed}
 use Rattle.table_lines.specs.Fields.{fields}
 use Rattle.table_lines.specs.LineLaws.{NumbersDoNotMatter}
 use Rattle.table_lines.specs.Neighborhood.{places_of}
 use Rattle.table_lines.specs.Table.{Table, headed}
-use Rattle.table_lines.specs.Transitions.{entry_of, transition_from, transition_of, transitions_of, unless_free}
+use Rattle.table_lines.specs.Transitions.{entry_of, transition_of, transitions_of}
 use Rattle.table_lines.proofs.Steps.{step-too}
 use Rattle.rule_file.proofs.Readings.{GivesToo, ok_or-too, then_too, unless-too}
 use Rattle.table_lines.specs.Variables.{Variables, are_below, definition_in, defines_variable, each, member_states, no_variables, set_of, states_or_fault, variables_after}
@@ -35,19 +34,13 @@ variables_after-too head variables m n text =
     then_too _ _ _ _ (ok_or-too (definition_in text) (BadVariable m) (BadVariable n)) (λ definition.
     then_too _ _ _ _ (set_of-too head.states variables m n definition.1) (λ set more k. k))
 
-entry_of-too : (states : ℕ) (variables : Variables) (m n : ℕ) (field : List ℕ) → GivesToo (entry_of states variables m field) (entry_of states variables n field)
-entry_of-too states variables m n field e h = grind arith
-
-unless_free-too : (m n : ℕ) (t : Transition) → GivesToo (unless_free m t) (unless_free n t)
-unless_free-too m n t u h = grind arith
-
 transition_of-too : (head : Head) (variables : Variables) (m n : ℕ) (text : List ℕ)
     → GivesToo (transition_of head variables (record { number = m; text = text })) (transition_of head variables (record { number = n; text = text }))
 transition_of-too head variables m n text =
     unless-too (length (fields head.states text) == length (places_of head.neighborhood) + 2) _ _ _ _
     (then_too (each (entry_of head.states variables m) (fields head.states text)) (each (entry_of head.states variables n) (fields head.states text)) _ _
-    (each-too (entry_of head.states variables m) (entry_of head.states variables n) (entry_of-too head.states variables m n) (fields head.states text))
-    (λ entries. unless_free-too m n (transition_from entries)))
+    (each-too (entry_of head.states variables m) (entry_of head.states variables n) (λ field e h. grind arith) (fields head.states text))
+    (λ entries t h. grind arith))
 
 abbrev texts : List NumberedLine → List (List ℕ)
 texts lines = map (λ line. line.text) lines

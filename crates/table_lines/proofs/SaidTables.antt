@@ -1,12 +1,13 @@
 -- The table that lines say: it has two states or more and 256 at most, and its transitions are of the sets that its variables are.
-use Rattle.std.proofs.Common.{◌≡◌, ◌∙◌, sym, ap, refl, ℕ, zero, suc, ◌+◌, ◌-◌, ◌<◌, ◌≤◌, ◌==◌, ◌||◌, ◌&&◌, Bool, true, false, List, [], ◌∷◌, ◌++◌, length, take, drop, Option, Some, None, Result, Ok, Err, is_some, if◌then◌else◌, position, length-append, append_assoc, arith}
-use Rattle.std.specs.Prelude.{option_and_then, slice_index_or}
-use Rattle.std.specs.List.{AllByRecursion, list_all, list_any}
+use Rattle.std.proofs.Common.{◌≡◌, ◌∙◌, sym, ap, refl, ℕ, ◌+◌, ◌-◌, ◌<◌, ◌≤◌, ◌==◌, ◌||◌, ◌&&◌, Bool, true, false, List, [], ◌∷◌, ◌++◌, length, take, drop, Option, Some, None, Result, Ok, Err, is_some, if◌then◌else◌, position, length-append, append_assoc, arith}
+use Rattle.std.specs.Prelude.{option_and_then}
+use Rattle.std.specs.List.{All, AllByRecursion, list_all, list_any}
 use Rattle.std.proofs.Math.ListN.{get_or-append}
 use Rattle.std.proofs.Math.Seq.{get_or-append_seam}
 use Rattle.std.proofs.lemmas.Bool.{eq-eqb}
 use Rattle.std.proofs.lemmas.Bool.Decides.{nat_tests}
 use Rattle.std.proofs.lemmas.List.{length-take-le}
+use Rattle.std.proofs.lemmas.List.Elements.{All-from_recursion, All-take, recursion_from_All}
 use Rattle.basics.specs.Results.{◌>>=◌}
 use Rattle.basics.proofs.Lists.{all_so}
 use Rattle.text_lines.specs.Blanks.{trim}
@@ -20,7 +21,7 @@ use Rattle.table_lines.specs.declared.transition.Entry.{Entry}
 use Rattle.table_lines.specs.declared.transition.Entry.TheVariants.{State, OneOf}
 use Rattle.table_lines.specs.declared.transition.Transition.{Transition}
 use Rattle.table_lines.specs.declared.transition.Variable.{Variable}
-use Rattle.table_lines.specs.Below.{admits_below, all_below, entry_below}
+use Rattle.table_lines.specs.Below.{admits_below, entry_below}
 use Rattle.table_lines.specs.Descriptors.{descriptor_of, head_from, undescribed}
 use Rattle.table_lines.specs.Fields.{fields, parts}
 use Rattle.table_lines.specs.Lines.{lines_of}
@@ -36,17 +37,6 @@ use Rattle.table_lines.specs.WrittenTable.{IsEntryOf, IsSet, IsTransitionOf}
 use Rattle.table_lines.proofs.SaidHeads.{head_from-is}
 use Rattle.table_lines.proofs.Splits.{length-parts}
 use Rattle.table_lines.proofs.Unions.{union-below}
-
--- what holds of all of a list, and of what is taken where there is none, holds of each
-all-at : {A : Type 0} (P : A → Type 0) (xs : List A) (k : ℕ) (d : A) → AllByRecursion P xs → P d → P (slice_index_or xs k d)
-all-at P [] k d h other = other
-all-at P (x ∷ xs) zero d h other = h.0
-all-at P (x ∷ xs) (suc k) d h other = all-at P xs k d h.1 other
-
-all-take : {A : Type 0} (P : A → Type 0) (k : ℕ) (xs : List A) → AllByRecursion P xs → AllByRecursion P (take k xs)
-all-take P zero xs h = tt
-all-take P (suc k) [] h = tt
-all-take P (suc k) (x ∷ xs) h = (h.0, all-take P k xs h.1)
 
 -- what holds of each is what a test of all says
 pub all-tested : {A : Type 0} (P : A → Type 0) (p : A → Bool) → ((x : A) → P x → p x ≡ true) → (xs : List A) → AllByRecursion P xs → list_all p xs ≡ true
@@ -88,14 +78,15 @@ by_entries : (P : Transition → Type 0) (head : Head) (variables : Variables) (
     → P (transition_from es)) → transition_of head variables line ≡ Ok t → P t
 by_entries P head variables line t made h = grind (arith, nat_tests)
 
-transition-is : (head : Head) (sets : List (List ℕ)) (variables : Variables) (line : NumberedLine) (t : Transition) → 0 < head.states → AreDefined head.states sets variables → transition_of head variables line ≡ Ok t → IsTransitionOf head.states head.neighborhood sets t
-transition-is head sets variables line t some defined = by_entries (IsTransitionOf head.states head.neighborhood sets) head variables line t (λ es read many bound.
+transition-is : (head : Head) (sets : List (List ℕ)) (variables : Variables) (line : NumberedLine) (t : Transition) → AreDefined head.states sets variables → transition_of head variables line ≡ Ok t → IsTransitionOf head.states head.neighborhood sets t
+transition-is head sets variables line t defined = by_entries (IsTransitionOf head.states head.neighborhood sets) head variables line t (λ es read many bound.
     let P : Entry → Type 0 = IsEntryOf head.states sets in
     let are = all-read P (entry_of head.states variables line.number) (fields head.states line.text) es
     (λ field e. entry-is head.states sets variables line.number field e defined) read in
+    let all : All P es = All-from_recursion P es are.0 in
     record {
-      inputs = all-take P (length es - 1) es are.0;
-      result = all-at P es (length es - 1) (State 0) are.0 some;
+      inputs = recursion_from_All P (take (length es - 1) es) (All-take P (length es - 1) es all);
+      result = all (length es - 1) (State 0) (omega (arith, are.1, many));
       full = eq-eqb _ _ (omega (arith, are.1, many, length-take-le (length es - 1) es (omega arith)));
       bound = bound;
     })
@@ -173,14 +164,14 @@ record AreSaid (head : Head) (sets : List (List ℕ)) (count : ℕ) (ts : List T
   defined : AllByRecursion (IsSet head.states) more
   transitions : AllByRecursion (IsTransitionOf head.states head.neighborhood (sets ++ more)) ts
 
-transitions-are : (head : Head) (sets : List (List ℕ)) (variables : Variables) (lines : List NumberedLine) (ts : List Transition) → 0 < head.states → head.states ≤ 256 → AreDefined head.states sets variables → transitions_of head variables lines ≡ Ok ts → AreSaid head sets (length lines) ts
-transitions-are head sets variables [] ts some few defined h = rw (← same_value [] ts h) (record { more = []; few = omega arith; defined = tt; transitions = tt })
-transitions-are head sets variables (line ∷ lines) ts some few defined h =
+transitions-are : (head : Head) (sets : List (List ℕ)) (variables : Variables) (lines : List NumberedLine) (ts : List Transition) → head.states ≤ 256 → AreDefined head.states sets variables → transitions_of head variables lines ≡ Ok ts → AreSaid head sets (length lines) ts
+transitions-are head sets variables [] ts few defined h = rw (← same_value [] ts h) (record { more = []; few = omega arith; defined = tt; transitions = tt })
+transitions-are head sets variables (line ∷ lines) ts few defined h =
     by_line (AreSaid head sets (length (line ∷ lines))) (is_some (descriptor_of line.text)) (defines_variable line.text) _ (variables_after head variables line)
     (λ more. transitions_of head more lines) (transition_of head variables line) (transitions_of head variables lines) ts
     (λ more defines is.
     let one = variables-are head sets variables line more few defined defines in
-    let rest = transitions-are head (sets ++ one.set ∷ []) more lines ts some few one.defined is in
+    let rest = transitions-are head (sets ++ one.set ∷ []) more lines ts few one.defined is in
     record {
       more = one.set ∷ rest.more;
       few = omega (arith, rest.few);
@@ -188,8 +179,8 @@ transitions-are head sets variables (line ∷ lines) ts some few defined h =
       transitions = rw (← append_assoc sets (one.set ∷ []) rest.more) rest.transitions;
     })
     (λ t us is others.
-    let rest = transitions-are head sets variables lines us some few defined others in
-    let here = transition-more head.states head.neighborhood sets rest.more t (transition-is head sets variables line t some defined is) in
+    let rest = transitions-are head sets variables lines us few defined others in
+    let here = transition-more head.states head.neighborhood sets rest.more t (transition-is head sets variables line t defined is) in
     record { more = rest.more; few = omega (arith, rest.few); defined = rest.defined; transitions = (here, rest.transitions) })
     h
 
@@ -209,7 +200,7 @@ lines-said lines table h =
     let head : Head = found.0.0 in
     let ts = then-ok (transitions_of head no_variables found.0.1) (λ ts. Ok (headed head ts)) table found.2 in
     let is = head_from-is (length lines) undescribed lines found.0 (omega arith) tt found.1 in
-    let said = transitions-are head [] no_variables found.0.1 ts.0 (omega (arith, is.states.0)) is.states.1 (record { count = refl; each = λ name v h. absurd cc }) ts.1 in
+    let said = transitions-are head [] no_variables found.0.1 ts.0 is.states.1 (record { count = refl; each = λ name v h. absurd cc }) ts.1 in
     rw (← same_value (headed head ts.0) table ts.2) (record {
       sets = said.more;
       states = is.states;
@@ -223,7 +214,8 @@ lines-said lines table h =
 entry-below : (n : ℕ) (sets : List (List ℕ)) → AllByRecursion (IsSet n) sets → (e : Entry) → IsEntryOf n sets e → entry_below n e ≡ true
 entry-below n sets are (State s) is = grind (arith, nat_tests)
 entry-below n sets are (OneOf v) is =
-    rw is.1 (all-at (λ set. all_below n set ≡ true) sets v.number [] (all_so (IsSet n) (λ set. all_below n set ≡ true) sets (λ set of. of.below) are) refl)
+    let set = All-from_recursion (IsSet n) sets are v.number [] is.0 in
+    rw is.1 set.below
 
 -- so the table that lines say is one that may be read
 pub lines-read : (lines : List NumberedLine) (table : Table) → lines_of lines ≡ Ok table → IsRead table

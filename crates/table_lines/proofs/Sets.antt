@@ -1,5 +1,5 @@
 -- What a change of its words does to a set.
-use Rattle.std.proofs.Common.{◌≡◌, ℕ, zero, suc, ◌+◌, ◌*◌, ◌/◌, ◌%◌, ◌^◌, ◌<◌, Bool, ◌||◌, ◌++◌, cond, List, [], ◌∷◌, length, get_or, add-one, refl, sym, ap, nat_eq, ◌∙◌, arith}
+use Rattle.std.proofs.Common.{◌≡◌, ℕ, zero, suc, ◌*◌, ◌/◌, ◌%◌, ◌^◌, ◌<◌, Bool, ◌||◌, List, [], ◌∷◌, length, get_or, refl, sym, ap, nat_eq, ◌∙◌, arith}
 use Rattle.std.specs.Prelude.{◌==◌}
 use Rattle.std.specs.Int.{bit_at}
 use Rattle.std.specs.Int.RustNames.{bit_or}
@@ -79,11 +79,3 @@ same_set-words v w h k =
       (λ same. ap (λ words. rising (is_bit_set words)) ((bytes_decides v w).0 same)),
       (λ same. (bytes_decides v w).1 (sym (words-kept v h) ∙ ap words_of same ∙ words-kept w k)),
     ) (bytes_eq-Decides _ _)
-
--- what passes among numbers, one more of which is looked at
-filter-suc : (p : ℕ → Bool) (a n m : ℕ) → a + n ≡ m → filter p (range_with_len a (suc n)) ≡ filter p (range_with_len a n) ++ cond (p m) (m ∷ []) []
-filter-suc p a zero m h = grind arith
-filter-suc p a (suc n) m h = grind (arith, filter-suc p (a + 1) n m)
-
-pub filter-next : (p : ℕ → Bool) (n : ℕ) → filter p (range_with_len 0 (n + 1)) ≡ filter p (range_with_len 0 n) ++ cond (p n) (n ∷ []) []
-filter-next p n = rw add-one (filter-suc p 0 n n (omega arith))

@@ -1,27 +1,24 @@
 -- Tables that are written read back.
-use Rattle.std.proofs.Common.{◌≡◌, ◌∙◌, sym, ap, ap₂, refl, subst, ℕ, suc, ◌+◌, ◌-◌, ◌<◌, ◌≤◌, ◌^◌, ◌==◌, ◌&&◌, ◌||◌, true, false, not, cond, List, [], ◌∷◌, ◌++◌, length, map, take, drop, Option, Some, None, Ok, inl, inr, nat_lt, decimal, arith, append-nil, append_assoc, length-append}
+use Rattle.std.proofs.Common.{◌≡◌, ◌∙◌, sym, ap, ap₂, refl, subst, ℕ, suc, ◌+◌, ◌-◌, ◌<◌, ◌≤◌, ◌^◌, ◌==◌, ◌&&◌, ◌||◌, true, false, not, List, [], ◌∷◌, ◌++◌, length, map, take, drop, Some, None, Ok, inl, inr, nat_lt, decimal, position, arith, append-nil, append_assoc, length-append}
 use Rattle.std.specs.Prelude.{codes, nat_eq, option_and_then}
 use Rattle.std.specs.List.{AllByRecursion, join_with_byte, list_any}
-use Rattle.std.specs.Option.{option_map, option_map_or, ok_or}
+use Rattle.std.specs.Option.{option_map}
 use Rattle.std.specs.Str.{bytes_eq}
 use lib.Pointwise.{bytes_decides}
 use Rattle.std.proofs.Math.ListN.{get_or-append}
 use Rattle.std.proofs.Math.Seq.{drop-append_seam, drop-append-add, get_or-append_seam, take-append_seam}
-use Rattle.std.specs.Cmp.Lexicographic.{pointwise}
-use Rattle.std.proofs.lemmas.Bool.{and_parts, eq-eqb, eqb-true, cases_eq}
+use Rattle.std.proofs.lemmas.Bool.{eq-eqb, eqb-true, cases_eq}
 use Rattle.std.proofs.lemmas.Bool.Decides.{nat_tests}
 use Rattle.std.proofs.lemmas.List.{length-map}
 use Rattle.std.proofs.Math.Bool.{and-true, or-false}
-use Rattle.basics.specs.Results.{◌>>=◌}
 use Rattle.basics.proofs.Lists.{all_append}
 use Rattle.text_lines.specs.Blanks.{trim, trim_end, trim_start}
 use Rattle.text_lines.specs.Numbers.{number_of}
-use Rattle.text_lines.proofs.ByteRanges.{IsDigit, IsVisible, differs, digit-visible}
+use Rattle.text_lines.proofs.ByteRanges.{IsDigit, IsVisible, all_tested, differs, digit-visible}
 use Rattle.text_lines.proofs.Decimals.{IsWide, decimal-bytes, decimal-numeral, number_of-decimal}
 use Rattle.text_lines.proofs.Pieces.{position-at, position-none}
 use Rattle.text_lines.proofs.PrintedLines.{line-visible, trim-blank}
 use Rattle.rule_file.proofs.WrittenFiles.{trim_start-digits, within-read}
-use Rattle.rule_file.specs.declared.fault.RuleFault.TheVariants.{BadVariable}
 use Rattle.rule_file.specs.States.{least_states, most_states, states_in}
 use Rattle.rule_file.specs.RuleFile.{NumberedLine, numbered_from}
 use Rattle.table_lines.specs.declared.descriptors.Descriptor.TheVariants as descriptor
@@ -74,20 +71,13 @@ named-more variables done set few are =
 
 -- the states of a set are written in full
 pub set-wide : (n : ℕ) (set : List ℕ) → n ≤ 256 → all_below n set ≡ true → AllByRecursion IsWide set
-set-wide n [] few h = tt
-set-wide n (s ∷ set) few h =
-    let both = and_parts (nat_lt s n) (all_below n set) h in
-    let test : nat_lt s n ≡ true = both.0 in
-    let low : s < n = grind (arith, nat_tests) in
-    (omega arith, set-wide n set few both.1)
+set-wide n set few h = all_tested IsWide (λ s. nat_lt s n) set (λ s test. let low : s < n = grind (arith, nat_tests) in omega arith) h
 
--- each byte of the states with commas between them is a digit or a comma
-pub listed-each : (P : ℕ → Type 0) → P 44 → ((b : ℕ) → IsDigit b → P b) → (set : List ℕ) → AllByRecursion IsWide set → AllByRecursion P (listed set)
-listed-each P comma digit set h = joined-each P comma (map decimal set) (all-map IsWide (AllByRecursion P) decimal (decimal-each P digit) set h)
-
--- so is each byte of the set's text, but for its equals sign and its braces
+-- what holds of digits and of these signs holds of each byte of a set's text
 pub set_text-each : (P : ℕ → Type 0) → P 44 → P 61 → P 123 → P 125 → ((b : ℕ) → IsDigit b → P b) → (set : List ℕ) → AllByRecursion IsWide set → AllByRecursion P (set_text set)
-set_text-each P comma sign left right digit set h = (sign, (left, all_append P (listed set) (125 ∷ []) (listed-each P comma digit set h) (right, tt)))
+set_text-each P comma sign left right digit set h =
+    let inner = joined-each P comma (map decimal set) (all-map IsWide (AllByRecursion P) decimal (decimal-each P digit) set h) in
+    (sign, (left, all_append P (listed set) (125 ∷ []) inner (right, tt)))
 
 listed-parts : (set : List ℕ) → 0 < length set → AllByRecursion IsWide set → parts (listed set) ≡ map decimal set
 listed-parts set some h = parts-joined (map decimal set) (omega (arith, length-map set decimal)) (all-map IsWide IsField decimal decimal-field set h)
@@ -97,9 +87,7 @@ unbraced-between : (inner : List ℕ) → unbraced (123 ∷ inner ++ 125 ∷ [])
 unbraced-between inner =
     let text = 123 ∷ inner ++ 125 ∷ [] in
     let before : length text - 1 ≡ length (123 ∷ inner) = omega (arith, length-append (123 ∷ inner) (125 ∷ [])) in
-    ap (λ n. cond (pointwise nat_eq (125 ∷ []) (drop n text)) (Some (drop 1 (take n text))) (cond true None (Some text))) before
-    ∙ ap (λ (end : List ℕ). cond (pointwise nat_eq (125 ∷ []) end) (Some (drop 1 (take (length (123 ∷ inner)) text))) (cond true None (Some text))) (drop-append_seam (123 ∷ inner) (125 ∷ []))
-    ∙ ap (λ (front : List ℕ). Some (drop 1 front)) (take-append_seam (123 ∷ inner) (125 ∷ []))
+    rw (before, drop-append_seam (123 ∷ inner) (125 ∷ []), take-append_seam inner (125 ∷ []))
 
 -- the name of a variable is one
 digit-variable : (d : ℕ) → IsDigit d → is_variable_byte d ≡ true
@@ -112,22 +100,24 @@ name-is number wide =
 name-visible : (number : ℕ) → IsWide number → AllByRecursion IsVisible (variable_name number)
 name-visible number wide = ((omega arith, omega arith), decimal-each IsVisible digit-visible number wide)
 
+-- what stands before the equals sign and behind it
+definition-said : (line : List ℕ) (sign : ℕ) (name inner : List ℕ) → position (λ b. b == 61) line ≡ Some sign → trim (drop 3 (take sign line)) ≡ name → is_variable_name name ≡ true
+    → unbraced (trim (drop (sign + 1) line)) ≡ Some inner → definition_in line ≡ Some (name, parts inner)
+definition-said line sign name inner at trimmed is between = rw (at, between, trimmed, is)
+
 -- a definition that is written is the one of its name and its states
 definition-read : (number : ℕ) (set : List ℕ) → IsWide number → 0 < length set → AllByRecursion IsWide set → definition_in (definition_line number set) ≡ Some (variable_name number, map decimal set)
 definition-read number set wide some low =
     let name = variable_name number in
     let front = codes "var " ++ name in
     let braced = 123 ∷ listed set ++ 125 ∷ [] in
-    let of : List ℕ → List ℕ → Option (List ℕ × List (List ℕ)) = λ before behind. option_and_then (λ inner. cond (is_variable_name (trim (drop 3 before))) (Some (trim (drop 3 before), parts inner)) None) (unbraced (trim behind)) in
     let visible = set_text-each IsVisible (omega arith, omega arith) (omega arith, omega arith) (omega arith, omega arith) (omega arith, omega arith) digit-visible set low in
     let line = line-visible braced (omega arith) visible.1 in
-    ap (option_and_then (λ sign. of (take sign (front ++ 61 ∷ braced)) (drop (sign + 1) (front ++ 61 ∷ braced))))
+    definition-said (definition_line number set) (length front) name (listed set)
     (position-at (λ b. b == 61) front 61 braced (refl, (refl, (refl, (refl, (refl, decimal-each (λ b. (b == 61) ≡ false) (digit-apart 61 refl) number wide))))) refl)
-    ∙ ap₂ of (take-append_seam front (61 ∷ braced)) (drop-append-add front (61 ∷ braced) 1)
-    ∙ ap (λ (bare : List ℕ). option_and_then (λ inner. cond (is_variable_name bare) (Some (bare, parts inner)) None) (unbraced (trim braced))) (trim-blank name (name-visible number wide))
-    ∙ ap (λ v. option_and_then (λ inner. cond v (Some (name, parts inner)) None) (unbraced (trim braced))) (name-is number wide)
-    ∙ ap (λ (text : List ℕ). option_and_then (λ inner. Some (name, parts inner)) (unbraced text)) line.trimmed
-    ∙ ap (option_and_then (λ inner. Some (name, parts inner))) (unbraced-between (listed set))
+    (ap (λ (before : List ℕ). trim (drop 3 before)) (take-append_seam front (61 ∷ braced)) ∙ trim-blank name (name-visible number wide))
+    (name-is number wide)
+    (ap (λ (behind : List ℕ). unbraced (trim behind)) (drop-append-add front (61 ∷ braced) 1) ∙ ap unbraced line.trimmed ∙ unbraced-between (listed set))
     ∙ ap (λ (members : List (List ℕ)). Some (name, members)) (listed-parts set some low)
 
 -- each state by itself
@@ -136,9 +126,7 @@ singles set = map (λ s. s ∷ []) set
 
 members-read : (variables : Variables) (number : ℕ) (set : List ℕ) → AllByRecursion IsWide set → each (states_or_fault variables number) (map decimal set) ≡ Ok (singles set)
 members-read variables number [] h = refl
-members-read variables number (s ∷ set) h =
-    ap (λ read. ok_or (option_map_or (λ n. Some (n ∷ [])) read (option_map (λ v. v.states) (variables.named (decimal s)))) (BadVariable number) >>= λ y. each (states_or_fault variables number) (map decimal set) >>= λ ys. Ok (y ∷ ys)) (number_of-decimal s h.0)
-    ∙ ap (λ read. read >>= λ ys. Ok ((s ∷ []) ∷ ys)) (members-read variables number set h.1)
+members-read variables number (s ∷ set) h = rw (number_of-decimal s h.0, members-read variables number set h.1)
 
 has-singles : (set : List ℕ) (s : ℕ) → list_any (λ single. has single s) (singles set) ≡ has set s
 has-singles [] s = refl
@@ -271,5 +259,8 @@ written-read number sets table is =
     let ts = table.transitions in
     let lines = numbered_from (number + 1 + 1 + 1) (definition_lines 0 sets ++ map transition_line ts) in
     let read : transitions_of head no_variables lines ≡ Ok ts = definitions-read head sets is.at_most is.few ts is.transitions no_variables [] sets _ refl (record { count = refl; named = λ k h. absurd (omega (arith, h)) }) is.defined in
-    rw (head-read head number _ _ _ (decimal table.states) lines ts (states-line table.states (omega (arith, is.at_most))) (within-read least_states most_states table.states (omega (arith, is.at_most)) is.at_least is.at_most)
-    (neighborhood-line table.neighborhood) (symmetry-line table.symmetry) is.symmetry read, read)
+    rw (
+      head-read head number _ _ _ (decimal table.states) lines ts (states-line table.states (omega (arith, is.at_most))) (within-read least_states most_states table.states (omega (arith, is.at_most)) is.at_least is.at_most)
+          (neighborhood-line table.neighborhood) (symmetry-line table.symmetry) is.symmetry read,
+      read,
+    )

@@ -1,12 +1,13 @@
 use Rattle.std.proofs.Common.{◌≡◌, ◌∙◌, arith, ℕ}
-use Rattle.std.proofs.lemmas.List.{append-nil}
+use Rattle.std.proofs.lemmas.List.{append-nil, map-id}
+use Rattle.std.proofs.lemmas.List.FromFn.{filter_of_map_range_with_len_more}
 use Rattle.table_lines.specs.States.{has, is_bit_set}
-use Rattle.table_lines.proofs.Sets.{filter_has, filter-next}
+use Rattle.table_lines.proofs.Sets.{filter_has}
 use Rattle.table_lines.proofs.state_set.StateSet.to_vec.Goals as goal
 
 pub loop-state-preserved : goal.loop-state-preserved
 loop-state-preserved c =
-    let next = filter-next (has c.args.self.now) c.loop-state.state in
+    let next = simp map-id at (filter_of_map_range_with_len_more (has c.args.self.now) (λ k. k) 0 c.loop-state.state c.loop-state.state (omega arith)) in
     grind (arith, next, append-nil {A = ℕ})
 
 pub returns : goal.returns
