@@ -78,7 +78,8 @@ by_entries : (P : Transition → Type 0) (head : Head) (variables : Variables) (
     → P (transition_from es)) → transition_of head variables line ≡ Ok t → P t
 by_entries P head variables line t made h = grind (arith, nat_tests)
 
-transition-is : (head : Head) (sets : List (List ℕ)) (variables : Variables) (line : NumberedLine) (t : Transition) → AreDefined head.states sets variables → transition_of head variables line ≡ Ok t → IsTransitionOf head.states head.neighborhood sets t
+transition-is : (head : Head) (sets : List (List ℕ)) (variables : Variables) (line : NumberedLine) (t : Transition) → AreDefined head.states sets variables
+    → transition_of head variables line ≡ Ok t → IsTransitionOf head.states head.neighborhood sets t
 transition-is head sets variables line t defined = by_entries (IsTransitionOf head.states head.neighborhood sets) head variables line t (λ es read many bound.
     let P : Entry → Type 0 = IsEntryOf head.states sets in
     let are = all-read P (entry_of head.states variables line.number) (fields head.states line.text) es
@@ -143,7 +144,8 @@ defined-one n sets variables name set defined is =
       each = λ other v h. grind (arith, long, last, is.some, defined.count, defined.each other v, entry-more n sets (set ∷ []) (OneOf v));
     }
 
-variables-are : (head : Head) (sets : List (List ℕ)) (variables : Variables) (line : NumberedLine) (more : Variables) → head.states ≤ 256 → AreDefined head.states sets variables → variables_after head variables line ≡ Ok more → DefinesOne head.states sets more
+variables-are : (head : Head) (sets : List (List ℕ)) (variables : Variables) (line : NumberedLine) (more : Variables) → head.states ≤ 256 → AreDefined head.states sets variables
+    → variables_after head variables line ≡ Ok more → DefinesOne head.states sets more
 variables-are head sets variables line more few defined = by_definition (DefinesOne head.states sets) head variables line more (λ d found named read below.
     let some = all-read (λ states. 0 < length states) (states_or_fault variables line.number) d.1 found
     (λ member states is. member-some head.states sets variables member states defined (some-ok (member_states variables member) _ states is)) read in
@@ -164,7 +166,8 @@ record AreSaid (head : Head) (sets : List (List ℕ)) (count : ℕ) (ts : List T
   defined : AllByRecursion (IsSet head.states) more
   transitions : AllByRecursion (IsTransitionOf head.states head.neighborhood (sets ++ more)) ts
 
-transitions-are : (head : Head) (sets : List (List ℕ)) (variables : Variables) (lines : List NumberedLine) (ts : List Transition) → head.states ≤ 256 → AreDefined head.states sets variables → transitions_of head variables lines ≡ Ok ts → AreSaid head sets (length lines) ts
+transitions-are : (head : Head) (sets : List (List ℕ)) (variables : Variables) (lines : List NumberedLine) (ts : List Transition) → head.states ≤ 256 → AreDefined head.states sets variables
+    → transitions_of head variables lines ≡ Ok ts → AreSaid head sets (length lines) ts
 transitions-are head sets variables [] ts few defined h = rw (← same_value [] ts h) (record { more = []; few = omega arith; defined = tt; transitions = tt })
 transitions-are head sets variables (line ∷ lines) ts few defined h =
     by_line (AreSaid head sets (length (line ∷ lines))) (is_some (descriptor_of line.text)) (defines_variable line.text) _ (variables_after head variables line)
@@ -222,10 +225,11 @@ pub lines-read : (lines : List NumberedLine) (table : Table) → lines_of lines 
 lines-read lines table h =
     let said = lines-said lines table h in
     let P : Transition → Type 0 = IsTransitionOf table.states table.neighborhood said.sets in
-    let below = entry-below table.states said.sets said.defined in
+    let low = entry-below table.states said.sets said.defined in
+    let inputs_low = all-tested (IsEntryOf table.states said.sets) (entry_below table.states) low in
     record {
       at_least = said.states.0;
       at_most = said.states.1;
-      below = all-tested P (admits_below table.states) (λ t is i. all-tested (IsEntryOf table.states said.sets) (entry_below table.states) below t.inputs is.inputs i && below t.result is.result i) table.transitions said.transitions;
+      below = all-tested P (admits_below table.states) (λ t is i. inputs_low t.inputs is.inputs i && low t.result is.result i) table.transitions said.transitions;
       full = all-tested P (is_full table.neighborhood) (λ t is. is.full) table.transitions said.transitions;
     }

@@ -53,7 +53,8 @@ name-number i j wide other h =
     cc
 
 -- the variables after one more definition by its written name
-named-more : (variables : Variables) (done : List (List ℕ)) (set : List ℕ) → length done < 2 ^ 64 → AreNamed variables done → AreNamed (with_definition variables (variable_name variables.defined) set) (done ++ set ∷ [])
+named-more : (variables : Variables) (done : List (List ℕ)) (set : List ℕ) → length done < 2 ^ 64 → AreNamed variables done
+    → AreNamed (with_definition variables (variable_name variables.defined) set) (done ++ set ∷ [])
 named-more variables done set few are =
     let long : length (done ++ set ∷ []) ≡ length done + 1 = length-append done (set ∷ []) in
     let new = variable_name variables.defined in
@@ -63,7 +64,8 @@ named-more variables done set few are =
         | inl same ↦ rw (same, (bytes_decides new new).1 refl, are.count, get_or-append_seam done set [] [])
         | inr other ↦
             let before : number < length done = omega (arith, long, low, are.count) in
-            let same = λ (e : bytes_eq new (variable_name number) ≡ true). name-number variables.defined number (omega (arith, are.count, few)) (omega (arith, few)) ((bytes_decides new (variable_name number)).0 e) in
+            let name = bytes_decides new (variable_name number) in
+            let same = λ (e : bytes_eq new (variable_name number) ≡ true). name-number variables.defined number (omega (arith, are.count, few)) (omega (arith, few)) (name.0 e) in
             let apart : bytes_eq new (variable_name number) ≡ false = grind (arith, same) in
             rw (apart, get_or-append done (set ∷ []) [] number before) (are.named number before)
       ];
@@ -202,7 +204,8 @@ module _ (head : Head) (sets : List (List ℕ)) (low : head.states ≤ 256) (few
         (rw (take-append_seam t.inputs (t.result ∷ []), get_or-append_seam t.inputs t.result [] (State 0), is.bound))
 
   -- all transitions read back, one after another
-  transitions-read : (variables : Variables) (number : ℕ) (ts : List Transition) → AreNamed variables sets → AllByRecursion (IsTransitionOf head.states head.neighborhood sets) ts → transitions_of head variables (numbered_from number (map transition_line ts)) ≡ Ok ts
+  transitions-read : (variables : Variables) (number : ℕ) (ts : List Transition) → AreNamed variables sets → AllByRecursion (IsTransitionOf head.states head.neighborhood sets) ts
+      → transitions_of head variables (numbered_from number (map transition_line ts)) ≡ Ok ts
   transitions-read variables number [] named h = refl
   transitions-read variables number (t ∷ ts) named h =
       let plain = line-plain t h.0 in
@@ -258,9 +261,8 @@ written-read number sets table is =
     let head : Head = record { states = table.states; neighborhood = table.neighborhood; symmetry = table.symmetry } in
     let ts = table.transitions in
     let lines = numbered_from (number + 1 + 1 + 1) (definition_lines 0 sets ++ map transition_line ts) in
-    let read : transitions_of head no_variables lines ≡ Ok ts = definitions-read head sets is.at_most is.few ts is.transitions no_variables [] sets _ refl (record { count = refl; named = λ k h. absurd (omega (arith, h)) }) is.defined in
-    rw (
-      head-read head number _ _ _ (decimal table.states) lines ts (states-line table.states (omega (arith, is.at_most))) (within-read least_states most_states table.states (omega (arith, is.at_most)) is.at_least is.at_most)
-          (neighborhood-line table.neighborhood) (symmetry-line table.symmetry) is.symmetry read,
-      read,
-    )
+    let wide : IsWide table.states = omega (arith, is.at_most) in
+    let none : AreNamed no_variables [] = record { count = refl; named = λ k h. absurd (omega (arith, h)) } in
+    let read : transitions_of head no_variables lines ≡ Ok ts = definitions-read head sets is.at_most is.few ts is.transitions no_variables [] sets _ refl none is.defined in
+    let states = within-read least_states most_states table.states wide is.at_least is.at_most in
+    rw (head-read head number _ _ _ (decimal table.states) lines ts (states-line table.states wide) states (neighborhood-line table.neighborhood) (symmetry-line table.symmetry) is.symmetry read, read)

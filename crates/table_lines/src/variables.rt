@@ -18,8 +18,8 @@ use rule_file::{RuleFault, RuleLine};
 use std::alloc::Global;
 use text_lines::{find_byte, number, trim};
 
-/// The variables of a table by their names, which stand in the text. Contracts see `variables_of`
-/// them.
+/// The variables of a table by their names, which stand in the text. Contracts see them by
+/// `variables_of`.
 #[derive(Debug, Drop)]
 pub struct Variables<'a> {
     defined: u64,

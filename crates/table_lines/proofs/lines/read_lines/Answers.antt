@@ -6,7 +6,9 @@ use Rattle.table_lines.proofs.SaidTables.{lines-read}
 use Rattle.table_lines.proofs.lines.read_lines.Goals as goal
 
 pub invariant_of-result : goal.invariant_of-result
-invariant_of-result c = rw c.from_vec.ensures (lines-read c.lines.result.now (headed c.in_ok-head.head c.in_ok-transitions.transitions.items) (rw (c.in_ok-head.ensures.head, c.in_ok-transitions.ensures)))
+invariant_of-result c =
+    let table = headed c.in_ok-head.head c.in_ok-transitions.transitions.items in
+    rw c.from_vec.ensures (lines-read c.lines.result.now table (rw (c.in_ok-head.ensures.head, c.in_ok-transitions.ensures)))
 
 pub returns-in_err-head-clause-no_memory : goal.returns-in_err-head-clause-no_memory
 returns-in_err-head-clause-no_memory c = λ h.
