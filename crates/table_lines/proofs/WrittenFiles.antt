@@ -33,8 +33,8 @@ definition-plain : (n number : ℕ) (set : List ℕ) → n ≤ 256 → IsWide nu
 definition-plain n number set few wide is =
     let name = variable_name number in
     let low = set-wide n set few is.below in
-    let visible = set_text-each IsVisible (omega arith, omega arith) (omega arith, omega arith) (omega arith, omega arith) (omega arith, omega arith) digit-visible set low in
-    let plain = set_text-each IsPlain refl refl refl refl digit-plain set low in
+    let visible = set_text-each IsVisible (visible-tested (codes ",={}") refl) digit-visible set low in
+    let plain = set_text-each IsPlain (refl, (refl, (refl, (refl, tt)))) digit-plain set low in
     let printed : (b : ℕ) → IsDigit b → IsPrinted b = λ b h. visible-printed b (digit-visible b h) in
     record {
       is_line = line-between 118 (codes "ar v" ++ decimal number ++ set_text set) (omega arith, omega arith)

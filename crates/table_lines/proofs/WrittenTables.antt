@@ -14,7 +14,7 @@ use Rattle.std.proofs.Math.Bool.{and-true, or-false}
 use Rattle.basics.proofs.Lists.{all_append}
 use Rattle.text_lines.specs.Blanks.{trim, trim_end, trim_start}
 use Rattle.text_lines.specs.Numbers.{number_of}
-use Rattle.text_lines.proofs.ByteRanges.{IsDigit, IsVisible, all_tested, differs, digit-visible}
+use Rattle.text_lines.proofs.ByteRanges.{IsDigit, IsVisible, all_tested, differs, digit-visible, visible-tested}
 use Rattle.text_lines.proofs.Decimals.{IsWide, decimal-bytes, decimal-numeral, number_of-decimal}
 use Rattle.text_lines.proofs.Pieces.{position-at, position-none}
 use Rattle.text_lines.proofs.PrintedLines.{line-visible, trim-blank}
@@ -75,11 +75,11 @@ named-more variables done set few are =
 pub set-wide : (n : ℕ) (set : List ℕ) → n ≤ 256 → all_below n set ≡ true → AllByRecursion IsWide set
 set-wide n set few h = all_tested IsWide (λ s. nat_lt s n) set (λ s test. let low : s < n = grind (arith, nat_tests) in omega arith) h
 
--- what holds of digits and of these signs holds of each byte of a set's text
-pub set_text-each : (P : ℕ → Type 0) → P 44 → P 61 → P 123 → P 125 → ((b : ℕ) → IsDigit b → P b) → (set : List ℕ) → AllByRecursion IsWide set → AllByRecursion P (set_text set)
-set_text-each P comma sign left right digit set h =
-    let inner = joined-each P comma (map decimal set) (all-map IsWide (AllByRecursion P) decimal (decimal-each P digit) set h) in
-    (sign, (left, all_append P (listed set) (125 ∷ []) inner (right, tt)))
+-- what holds of digits and of its signs holds of each byte of a set's text
+pub set_text-each : (P : ℕ → Type 0) → AllByRecursion P (codes ",={}") → ((b : ℕ) → IsDigit b → P b) → (set : List ℕ) → AllByRecursion IsWide set → AllByRecursion P (set_text set)
+set_text-each P signs digit set h =
+    let inner = joined-each P signs.0 (map decimal set) (all-map IsWide (AllByRecursion P) decimal (decimal-each P digit) set h) in
+    (signs.1.0, (signs.1.1.0, all_append P (listed set) (125 ∷ []) inner signs.1.1.1))
 
 listed-parts : (set : List ℕ) → 0 < length set → AllByRecursion IsWide set → parts (listed set) ≡ map decimal set
 listed-parts set some h = parts-joined (map decimal set) (omega (arith, length-map set decimal)) (all-map IsWide IsField decimal decimal-field set h)
@@ -113,7 +113,7 @@ definition-read number set wide some low =
     let name = variable_name number in
     let front = codes "var " ++ name in
     let braced = 123 ∷ listed set ++ 125 ∷ [] in
-    let visible = set_text-each IsVisible (omega arith, omega arith) (omega arith, omega arith) (omega arith, omega arith) (omega arith, omega arith) digit-visible set low in
+    let visible = set_text-each IsVisible (visible-tested (codes ",={}") refl) digit-visible set low in
     let line = line-visible braced (omega arith) visible.1 in
     definition-said (definition_line number set) (length front) name (listed set)
     (position-at (λ b. b == 61) front 61 braced (refl, (refl, (refl, (refl, (refl, decimal-each (λ b. (b == 61) ≡ false) (digit-apart 61 refl) number wide))))) refl)
@@ -158,7 +158,7 @@ definition-undescribed n number set few wide is =
     line-undescribed (definition_line number set)
     (all_append P (codes "var " ++ variable_name number) (set_text set)
     (refl, (refl, (refl, (refl, (refl, decimal-each P (digit-apart 58 refl) number wide)))))
-    (set_text-each P refl refl refl refl (digit-apart 58 refl) set low))
+    (set_text-each P (refl, (refl, (refl, (refl, tt)))) (digit-apart 58 refl) set low))
 
 -- the entries of a transition, its result last
 abbrev entries_of : Transition → List Entry
