@@ -1,6 +1,7 @@
 -- The table that lines say: it has two states or more and 256 at most, and its transitions are of the sets that its variables are.
 use Rattle.std.proofs.Common.{◌≡◌, ◌∙◌, sym, ap, refl, ℕ, ◌+◌, ◌-◌, ◌<◌, ◌≤◌, ◌==◌, ◌||◌, ◌&&◌, Bool, true, false, List, [], ◌∷◌, ◌++◌, length, take, drop, Option, Some, None, Result, Ok, Err, is_some, if◌then◌else◌, position, length-append, append_assoc, arith}
 use Rattle.std.specs.Prelude.{option_and_then}
+use Rattle.std.specs.Option.{ok_or}
 use Rattle.std.specs.List.{All, AllByRecursion, list_all, list_any}
 use Rattle.std.proofs.Math.ListN.{get_or-append}
 use Rattle.std.proofs.Math.Seq.{get_or-append_seam}
@@ -13,6 +14,7 @@ use Rattle.basics.proofs.Lists.{all_so}
 use Rattle.text_lines.specs.Blanks.{trim}
 use Rattle.rule_file.specs.States.{MayHaveStates}
 use Rattle.rule_file.specs.declared.fault.RuleFault.{RuleFault}
+use Rattle.rule_file.specs.declared.fault.RuleFault.TheVariants.{BadVariable, StateTooHigh}
 use Rattle.rule_file.specs.RuleFile.{NumberedLine}
 use Rattle.rule_file.proofs.Readings.{same_value, some-ok, then-ok}
 use Rattle.table_lines.specs.declared.descriptors.Head.{Head}
@@ -32,7 +34,7 @@ use Rattle.table_lines.specs.StateWords.{has-rising, rising-agree}
 use Rattle.table_lines.specs.Symmetry.{name_of_symmetry, symmetry_named}
 use Rattle.table_lines.specs.Table.{Table, headed}
 use Rattle.table_lines.specs.Transitions.{entry_of, is_free, is_full, transition_from, transition_of, transitions_of}
-use Rattle.table_lines.specs.Variables.{Variables, are_below, defines_variable, definition_in, each, is_variable_name, member_states, no_variables, states_or_fault, unbraced, union, variables_after, with_definition}
+use Rattle.table_lines.specs.Variables.{Variables, are_below, defines_variable, definition_in, each, is_variable_name, member_states, no_variables, set_of, states_or_fault, unbraced, union, with_definition}
 use Rattle.table_lines.specs.WrittenTable.{IsEntryOf, IsSet, IsTransitionOf}
 use Rattle.table_lines.proofs.SaidHeads.{head_from-is}
 use Rattle.table_lines.proofs.Splits.{length-parts}
@@ -122,19 +124,7 @@ union-is n ((x ∷ xs) ∷ sets) few some h below =
     has-some [] s k = absurd cc
     has-some (y ∷ ys) s k = omega arith
 
--- what a line defines
-by_definition : (P : Variables → Type 0) (head : Head) (variables : Variables) (line : NumberedLine) (more : Variables)
-    → ((d : List ℕ × List (List ℕ)) (sets : List (List ℕ)) → definition_in line.text ≡ Some d
-    → each (states_or_fault variables line.number) d.1 ≡ Ok sets → are_below head.states sets ≡ true
-    → P (with_definition variables d.0 (union sets))) → variables_after head variables line ≡ Ok more → P more
-by_definition P head variables line more made h = grind arith
-
 -- one more definition defines one more set
-record DefinesOne (n : ℕ) (sets : List (List ℕ)) (more : Variables) : Type 0 where
-  set : List ℕ
-  is : IsSet n set
-  defined : AreDefined n (sets ++ set ∷ []) more
-
 defined-one : (n : ℕ) (sets : List (List ℕ)) (variables : Variables) (name set : List ℕ) → AreDefined n sets variables → IsSet n set → AreDefined n (sets ++ set ∷ []) (with_definition variables name set)
 defined-one n sets variables name set defined is =
     let long : length (sets ++ set ∷ []) ≡ length sets + 1 = length-append sets (set ∷ []) in
@@ -144,20 +134,23 @@ defined-one n sets variables name set defined is =
       each = λ other v h. grind (arith, long, last, is.some, defined.count, defined.each other v, entry-more n sets (set ∷ []) (OneOf v));
     }
 
-variables-are : (head : Head) (sets : List (List ℕ)) (variables : Variables) (line : NumberedLine) (more : Variables) → head.states ≤ 256 → AreDefined head.states sets variables
-    → variables_after head variables line ≡ Ok more → DefinesOne head.states sets more
-variables-are head sets variables line more few defined = by_definition (DefinesOne head.states sets) head variables line more (λ d found named read below.
-    let some = all-read (λ states. 0 < length states) (states_or_fault variables line.number) d.1 found
-    (λ member states is. member-some head.states sets variables member states defined (some-ok (member_states variables member) _ states is)) read in
-    let is = union-is head.states found few (omega (arith, some.1, members-some line.text d named)) some.0 below in
-    record { set = union found; is = is; defined = defined-one head.states sets variables d.0 (union found) defined is })
+set-is : (n : ℕ) (sets : List (List ℕ)) (variables : Variables) (number : ℕ) (members : List (List ℕ)) (set : List ℕ) → n ≤ 256 → AreDefined n sets variables → 0 < length members
+    → set_of n variables number members ≡ Ok set → IsSet n set
+set-is n sets variables number members set few defined many made =
+    let found = then-ok (each (states_or_fault variables number) members) (λ read. if are_below n read then Ok (union read) else Err (StateTooHigh number)) set made in
+    let some = all-read (λ states. 0 < length states) (states_or_fault variables number) members found.0
+    (λ member states is. member-some n sets variables member states defined (some-ok (member_states variables member) _ states is)) found.1 in
+    let is = found.2 in
+    let below : are_below n found.0 ≡ true = grind arith in
+    let same : union found.0 ≡ set = grind arith in
+    rw (← same) (union-is n found.0 few (omega (arith, some.1, many)) some.0 below)
 
 -- what comes of a line, by what it is
-by_line : {T V : Type 0} (P : List T → Type 0) (b c : Bool) (fault : RuleFault) (define : Result V RuleFault) (later : V → Result (List T) RuleFault)
-    (one : Result T RuleFault) (others : Result (List T) RuleFault) (ts : List T)
-    → ((v : V) → define ≡ Ok v → later v ≡ Ok ts → P ts) → ((t : T) (us : List T) → one ≡ Ok t → others ≡ Ok us → P (t ∷ us))
-    → (if b then Err fault else (if c then (define >>= later) else (one >>= λ t. others >>= λ us. Ok (t ∷ us)))) ≡ Ok ts → P ts
-by_line P b c fault define later one others ts defining made h = grind arith
+by_line : {D S T V : Type 0} (P : List T → Type 0) (b c : Bool) (fault : RuleFault) (found : Result D RuleFault) (make : D → Result S RuleFault) (with : D → S → V)
+    (later : V → Result (List T) RuleFault) (one : Result T RuleFault) (others : Result (List T) RuleFault) (ts : List T)
+    → ((d : D) (s : S) → found ≡ Ok d → make d ≡ Ok s → later (with d s) ≡ Ok ts → P ts) → ((t : T) (us : List T) → one ≡ Ok t → others ≡ Ok us → P (t ∷ us))
+    → (if b then Err fault else (if c then ((found >>= λ d. make d >>= λ s. Ok (with d s)) >>= later) else (one >>= λ t. others >>= λ us. Ok (t ∷ us)))) ≡ Ok ts → P ts
+by_line P b c fault found make with later one others ts defining made h = grind arith
 
 -- the sets that lines define behind these, and transitions of them all
 record AreSaid (head : Head) (sets : List (List ℕ)) (count : ℕ) (ts : List Transition) : Type 0 where
@@ -170,16 +163,17 @@ transitions-are : (head : Head) (sets : List (List ℕ)) (variables : Variables)
     → transitions_of head variables lines ≡ Ok ts → AreSaid head sets (length lines) ts
 transitions-are head sets variables [] ts few defined h = rw (← same_value [] ts h) (record { more = []; few = omega arith; defined = tt; transitions = tt })
 transitions-are head sets variables (line ∷ lines) ts few defined h =
-    by_line (AreSaid head sets (length (line ∷ lines))) (is_some (descriptor_of line.text)) (defines_variable line.text) _ (variables_after head variables line)
-    (λ more. transitions_of head more lines) (transition_of head variables line) (transitions_of head variables lines) ts
-    (λ more defines is.
-    let one = variables-are head sets variables line more few defined defines in
-    let rest = transitions-are head (sets ++ one.set ∷ []) more lines ts few one.defined is in
+    by_line (AreSaid head sets (length (line ∷ lines))) (is_some (descriptor_of line.text)) (defines_variable line.text) _ (ok_or (definition_in line.text) (BadVariable line.number))
+    (λ d. set_of head.states variables line.number d.1) (λ d set. with_definition variables d.0 set) (λ more. transitions_of head more lines) (transition_of head variables line)
+    (transitions_of head variables lines) ts
+    (λ d set named made read.
+    let is = set-is head.states sets variables line.number d.1 set few defined (members-some line.text d (some-ok (definition_in line.text) _ d named)) made in
+    let rest = transitions-are head (sets ++ set ∷ []) (with_definition variables d.0 set) lines ts few (defined-one head.states sets variables d.0 set defined is) read in
     record {
-      more = one.set ∷ rest.more;
+      more = set ∷ rest.more;
       few = omega (arith, rest.few);
-      defined = (one.is, rest.defined);
-      transitions = rw (← append_assoc sets (one.set ∷ []) rest.more) rest.transitions;
+      defined = (is, rest.defined);
+      transitions = rw (← append_assoc sets (set ∷ []) rest.more) rest.transitions;
     })
     (λ t us is others.
     let rest = transitions-are head sets variables lines us few defined others in
