@@ -76,7 +76,8 @@ impl<'a> Variables<'a> {
     fn set_of(&self, states: u16, line: u64, mut members: Fields) -> Result<StateSet, RuleFault>
         requires at_most { states ≤ most_states }
         requires below { VariablesBelow states (variables_of self.now) }
-        ensures { Reads (λ set. set) result (set_of states (variables_of self.now) line members.entry) }
+        ensures { Reads (λ set. set) result
+            (set_of states (variables_of self.now) line members.entry) }
     {
         let mut set = StateSet::empty();
         let mut are_below = true;
@@ -102,7 +103,8 @@ impl<'a> Variables<'a> {
     ) -> Result<Option<StateSet>, RuleFault>
         requires at_most { states ≤ most_states }
         requires below { VariablesBelow states (variables_of self.now) }
-        ensures { Reads (λ set. set) result (member_set states (variables_of self.now) line member.now) }
+        ensures { Reads (λ set. set) result
+            (member_set states (variables_of self.now) line member.now) }
     {
         match number(member) {
             Some(state) if state < u64::from(states) => Ok(Some(StateSet::of(state as u8))),
