@@ -42,45 +42,37 @@ module _ {X : Type 0} (E : X → X → Bool) (decides : (x y : X) → (E x y ≡
   pub with_all-flat_map-more : {Y : Type 0} (f : Y → List X) (xs : List X) (ys : List Y) (k : ℕ) (d : Y) → k < length ys → with_all E xs (flat_map f (take (k + 1) ys)) ≡ with_all E (with_all E xs (flat_map f (take k ys))) (f (get_or ys k d))
   with_all-flat_map-more f xs ys k d h = rw (take_more ys k d h, flat_map-append, append-nil) (with_all-append xs (flat_map f (take k ys)) (f (get_or ys k d)))
 
-  -- all of these are among those
-  abbrev among : List X → List X → Type 0
-  among ys xs = (y : X) → list_any (λ z. E z y) ys ≡ true → list_any (λ z. E z y) xs ≡ true
-
   -- what is there isn't added
-  with_all-among : (xs ys : List X) → among ys xs → with_all E xs ys ≡ xs
+  pub with_all-among : (xs ys : List X) → ((y : X) → list_any (λ z. E z y) ys ≡ true → list_any (λ z. E z y) xs ≡ true) → with_all E xs ys ≡ xs
   with_all-among xs [] h = refl
   with_all-among xs (y ∷ ys) h =
       let there : list_any (λ z. E z y) xs ≡ true = h y (ap (λ b. b || list_any (λ z. E z y) ys) ((decides y y).1 refl)) in
       rw there (with_all-among xs ys (λ z k. h z (ap (λ b. E y z || b) k ∙ or-true (E y z))))
 
-  distinct-among : (xs ys zs : List X) → among ys xs → distinct E (xs ++ (ys ++ zs)) ≡ distinct E (xs ++ zs)
-  distinct-among xs ys zs h =
-      sym (with_all-distinct xs (ys ++ zs))
-      ∙ with_all-append (distinct E xs) ys zs
-      ∙ ap (λ us. with_all E us zs) (with_all-among (distinct E xs) ys (λ y k. any-distinct (λ z. E z y) xs ∙ h y k))
-      ∙ with_all-distinct xs zs
-
-  among-front : (xs ys zs : List X) → among ys xs → among ys (xs ++ zs)
-  among-front xs ys zs h y k = rw (list_any-append, h y k)
-
-  among-back : (xs ys : List X) → among ys (xs ++ ys)
-  among-back xs ys y k = rw (list_any-append, k) (or-true (list_any (λ z. E z y) xs))
+-- what comes of one of these comes of all
+pub any_flat_map : {X Y : Type 0} (is : Y → Bool) (y : Y) → ((z : Y) → is z ≡ true → y ≡ z) → (p : X → Bool) (f : Y → List X) (ys : List Y) → list_any is ys ≡ true → list_any p (f y) ≡ true
+    → list_any p (flat_map f ys) ≡ true
+any_flat_map is y same p f [] h k = absurd cc
+any_flat_map is y same p f (z ∷ ys) h k = rw list_any-append (grind (arith, same z, any_flat_map is y same p f ys))
 
 module _ {Y X : Type 0} (F : Y → Y → Bool) (known : (x y : Y) → (F x y ≡ true → x ≡ y) × (x ≡ y → F x y ≡ true)) (E : X → X → Bool) (decides : (x y : X) → (E x y ≡ true → x ≡ y) × (x ≡ y → E x y ≡ true)) (f : Y → List X) where
-  -- what comes of one element isn't wanted again
-  without_one : (front : List X) (y : Y) (zs : List Y) → among E decides (f y) front → distinct E (front ++ flat_map f (filter (λ z. not (F y z)) zs)) ≡ distinct E (front ++ flat_map f zs)
-  without_one front y [] h = refl
-  without_one front y (z ∷ zs) h =
-      let same = λ (e : F y z ≡ true). distinct-among E decides front (f z) (flat_map f zs) (subst (λ u. among E decides (f u) front) ((known y z).0 e) h) in
-      grind (arith, same, without_one front y zs h, without_one (front ++ f z) y zs (among-front E decides front (f y) (f z) h), append_assoc {A = X})
+  -- what comes of each element, where it comes of each once
+  abbrev comes_once : List Y → Type 0
+  comes_once ys = distinct E (flat_map f (distinct F ys)) ≡ distinct E (flat_map f ys)
 
-  distinct-flat_map-front : (front : List X) (ys : List Y) → distinct E (front ++ flat_map f (distinct F ys)) ≡ distinct E (front ++ flat_map f ys)
-  distinct-flat_map-front front [] = refl
-  distinct-flat_map-front front (y ∷ ys) =
-      let others = filter (λ z. not (F y z)) (distinct F ys) in
-      rw (← append_assoc front (f y) (flat_map f others), without_one (front ++ f y) y (distinct F ys) (among-back E decides front (f y)))
-      (rw (distinct-flat_map-front (front ++ f y) ys, append_assoc))
+  -- what comes of an element that was there isn't wanted again
+  one_more : (ys : List Y) (y : Y) → comes_once ys → comes_once (ys ++ y ∷ [])
+  one_more ys y h =
+      let there = λ (e : list_any (λ z. F z y) ys ≡ true). with_all-among E decides (distinct E (flat_map f ys)) (f y)
+      (λ x k. any-distinct E decides (λ z. E z x) (flat_map f ys) ∙ any_flat_map (λ z. F z y) y (λ z s. sym ((known z y).0 s)) (λ z. E z x) f ys e k) in
+      let last : (zs : List Y) → flat_map f (zs ++ y ∷ []) ≡ flat_map f zs ++ f y = λ zs. flat_map-append f zs (y ∷ []) ∙ ap (λ xs. flat_map f zs ++ xs) (append-nil (f y)) in
+      let added = λ (zs : List Y). with_all-distinct E decides (flat_map f zs) (f y) in
+      rw (← with_one-distinct F known ys y, any-distinct F known (λ z. F z y) ys, last ys, ← added ys) (grind (arith, there, h, last (distinct F ys), added (distinct F ys)))
+
+  all_more : (front ys : List Y) → comes_once front → comes_once (front ++ ys)
+  all_more front [] h = rw (append-nil front) h
+  all_more front (y ∷ ys) h = subst comes_once (append_assoc front (y ∷ []) ys) (all_more (front ++ y ∷ []) ys (one_more front y h))
 
   -- what comes of each element once
   pub distinct-flat_map : (ys : List Y) → distinct E (flat_map f (distinct F ys)) ≡ distinct E (flat_map f ys)
-  distinct-flat_map ys = distinct-flat_map-front [] ys
+  distinct-flat_map ys = all_more [] ys refl

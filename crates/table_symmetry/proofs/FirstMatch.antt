@@ -14,7 +14,7 @@ use Rattle.table_symmetry.specs.Table.{Table}
 use Rattle.table_symmetry.specs.States.{has}
 use Rattle.table_symmetry.proofs.Arranged.{same_sets_decides}
 use Rattle.table_symmetry.proofs.Distinct.{any-distinct}
-use Rattle.table_symmetry.proofs.Naturality.{arrangements-map}
+use Rattle.table_symmetry.proofs.Arrangements.{arrangements-map}
 
 any_both : {A B : Type 0} (p : B → Bool) (f : A → B) (q : A → Bool) → ((x : A) → p (f x) ≡ q x) → (xs : List A) → list_any p (map f xs) ≡ list_any q xs
 any_both p f q e [] = refl

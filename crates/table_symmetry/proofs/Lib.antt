@@ -1,16 +1,15 @@
 mod Arranged
+mod Arrangements
 mod Columns
 mod Distinct
+mod ExpandedRows
 mod Finds
 mod FirstMatch
 mod Growing
-mod Lengths
 mod Limits
 mod Matching
-mod Naturality
 mod Search
 pub mod SaidTables
-mod SoundTables
 mod Words
 mod Compositions
 mod Orders

@@ -17,8 +17,8 @@ use Rattle.table_lines.specs.Read.{IsRead}
 use Rattle.table_symmetry.specs.Table.{Table}
 use Rattle.table_symmetry.specs.TableLines.{within_limits}
 use Rattle.table_symmetry.proofs.FirstMatch.{next-expanded}
-use Rattle.table_symmetry.proofs.Lengths.{expanded-length}
-use Rattle.table_symmetry.proofs.SoundTables.{all_give_states, expanded-below}
+use Rattle.table_symmetry.proofs.ExpandedRows.{expanded-below, expanded-length}
+use Rattle.table_symmetry.proofs.SaidTables.{all_give_states}
 
 pub within_limits-restless : (table : Table) → length (expanded table) ≤ transition_limit → is_quiescent table ≡ false → within_limits table ≡ Err NotQuiescent
 within_limits-restless table h restless =

@@ -1,19 +1,61 @@
 -- The table that lines mean is sound.
-use Rattle.std.proofs.Common.{◌≡◌, ◌<◌, Bool, true, false, List, Ok, Err, if◌then◌else◌, nat_lt, length, refl, subst, arith}
+use Rattle.std.proofs.Common.{◌≡◌, ℕ, ◌<◌, ◌==◌, ◌&&◌, Bool, true, false, not, List, [], ◌∷◌, ◌++◌, Ok, Err, if◌then◌else◌, nat_lt, length, refl, ap, subst, arith}
 use Rattle.std.specs.List.{list_all}
-use Rattle.std.proofs.lemmas.Bool.{and_from}
+use Rattle.std.proofs.lemmas.Bool.{and_from, and_parts}
+use Rattle.std.proofs.lemmas.Bool.Decides.{nat_tests}
+use Rattle.std.proofs.lemmas.List.Folds.{list_all-append}
 use Rattle.rule_file.specs.declared.fault.RuleFault.TheVariants.{TooManyTransitions, NotQuiescent}
 use Rattle.rule_file.specs.RuleFile.{NumberedLine}
+use Rattle.table_lines.specs.declared.transition.Variable.{Variable}
+use Rattle.table_lines.specs.declared.transition.Entry.{Entry}
+use Rattle.table_lines.specs.declared.transition.Entry.TheVariants.{State, OneOf}
+use Rattle.table_lines.specs.declared.transition.Transition.{Transition}
+use Rattle.table_lines.specs.Below.{all_below, entry_below, admits_below}
 use Rattle.table_lines.specs.Lines.{lines_of}
 use Rattle.table_lines.specs.Read.{IsRead}
 use Rattle.rule_file.proofs.Readings.{then-ok}
 use Rattle.table_lines.proofs.SaidTables.{lines-read}
 use Rattle.table_symmetry.specs.Expanded.{expanded, transition_limit}
-use Rattle.table_symmetry.specs.NextState.{gives_states, is_quiescent}
+use Rattle.table_symmetry.specs.NextState.{assigned, bound_variables, gives_states, given, is_quiescent, valued, valued_entry}
 use Rattle.table_symmetry.specs.Rule.{is_sound}
 use Rattle.table_symmetry.specs.Table.{Table}
 use Rattle.table_symmetry.specs.TableLines.{table_of, within_limits}
-use Rattle.table_symmetry.proofs.SoundTables.{all_give_states}
+use Rattle.table_symmetry.proofs.Arrangements.{list_all-filter, list_all-flat_map}
+
+-- the states of bound variables are below n, where those of all entries are
+bound-below : (n : ℕ) (entries : List Entry) → list_all (entry_below n) entries ≡ true → list_all (λ v. all_below n v.states) (bound_variables entries) ≡ true
+bound-below n [] h = refl
+bound-below n (State s ∷ entries) h = grind (arith, bound-below n entries)
+bound-below n (OneOf v ∷ entries) h =
+    let others = list_all-filter (λ w. all_below n w.states) (λ w. not (v.number == w.number)) (bound_variables entries) in
+    grind (arith, others, bound-below n entries)
+
+given-below : (n : ℕ) (e : Entry) → 0 < n → entry_below n e ≡ true → nat_lt (given e) n ≡ true
+given-below n e some h = grind (arith, nat_tests)
+
+valued-below : (n : ℕ) (v : Variable) (state : ℕ) (e : Entry) → nat_lt state n ≡ true → entry_below n e ≡ true → entry_below n (valued_entry v state e) ≡ true
+valued-below n v state e low h = grind arith
+
+assigned-below : (n : ℕ) (vs : List Variable) (t : Transition) → 0 < n → list_all (λ v. all_below n v.states) vs ≡ true → entry_below n t.result ≡ true
+    → list_all (λ u. nat_lt (given u.result) n) (assigned vs t) ≡ true
+assigned-below n [] t some h e = ap (λ b. b && true) (given-below n t.result some e)
+assigned-below n (v ∷ vs) t some h e =
+    let parts = and_parts (all_below n v.states) (list_all (λ w. all_below n w.states) vs) h in
+    list_all-flat_map (λ s. nat_lt s n) (λ u. nat_lt (given u.result) n) (λ state. assigned vs (valued v state t)) v.states
+    (λ state low. assigned-below n vs (valued v state t) some parts.1 (valued-below n v state t.result low e)) parts.0
+
+gives_states-below : (n : ℕ) (t : Transition) → 0 < n → admits_below n t ≡ true → gives_states n t ≡ true
+gives_states-below n t some h =
+    let parts = and_parts (list_all (entry_below n) t.inputs) (entry_below n t.result) h in
+    let all : list_all (entry_below n) (t.inputs ++ t.result ∷ []) ≡ true = rw (list_all-append, parts.0, parts.1) in
+    assigned-below n (bound_variables (t.inputs ++ t.result ∷ [])) t some (bound-below n (t.inputs ++ t.result ∷ []) all) parts.1
+
+-- whatever transitions of states below n give is below n
+pub all_give_states : (n : ℕ) (ts : List Transition) → 0 < n → list_all (admits_below n) ts ≡ true → list_all (gives_states n) ts ≡ true
+all_give_states n [] some h = refl
+all_give_states n (t ∷ ts) some h =
+    let parts = and_parts (admits_below n t) (list_all (admits_below n) ts) h in
+    λ i. gives_states-below n t some parts.0 i && all_give_states n ts some parts.1 i
 
 -- a table within the limits is quiescent
 pub passed : (many quiet : Bool) (t table : Table) → (if many then Err TooManyTransitions else (if quiet then Ok t else Err NotQuiescent)) ≡ Ok table → (quiet ≡ true) × (t ≡ table)

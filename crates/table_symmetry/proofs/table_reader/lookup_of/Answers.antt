@@ -2,7 +2,7 @@ use Rattle.std.proofs.Common.{◌≡◌, ◌+◌, length, [], ◌∙◌, arith}
 use Rattle.std.proofs.lemmas.List.{length-map}
 use Rattle.std.specs.Prelude.{slice_index}
 use Rattle.table_symmetry.specs.NextState.{inputs_of, places_of}
-use Rattle.table_symmetry.proofs.Lengths.{expanded-length}
+use Rattle.table_symmetry.proofs.ExpandedRows.{expanded-length}
 use Rattle.table_symmetry.proofs.table_reader.lookup_of.Goals as goal
 
 pub new-requires-clause-inputs : goal.new-requires-clause-inputs
