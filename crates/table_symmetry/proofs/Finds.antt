@@ -1,59 +1,33 @@
 -- A look-up finds what the first row that matches gives.
-use Rattle.std.proofs.Common.{◌≡◌, ℕ, zero, suc, ◌+◌, ◌<◌, ◌≤◌, true, ◌&&◌, List, [], ◌∷◌, ◌++◌, length, get_or, map, refl, sym, ap, ◌∙◌, subst, inl, inr, arith, zero-add}
-use Rattle.std.specs.Prelude.{All, find, slice_index, nat_lt}
-use Rattle.std.specs.List.{list_all, range_with_len}
-use Rattle.std.specs.Option.{option_map}
+use Rattle.std.proofs.Common.{◌≡◌, ℕ, zero, suc, ◌+◌, ◌-◌, ◌*◌, ◌<◌, ◌≤◌, Bool, true, false, ◌&&◌, List, [], ◌∷◌, length, get_or, map, Option, Some, None, refl, sym, ap, ◌∙◌, inl, inr, arith}
+use Rattle.std.specs.Prelude.{◌==◌, All, find, slice_get, slice_index, nat_lt, MatchOption}
+use Rattle.std.specs.Borrow.{Bor}
+use Rattle.std.specs.Int.{bit_at}
+use Rattle.std.specs.List.{HoldsAt}
+use Rattle.std.specs.Option.{option_map, option_copied}
 use Rattle.std.proofs.lemmas.Bool.{cases_lt}
 use Rattle.std.proofs.lemmas.Bool.Decides.{nat_tests}
-use Rattle.std.proofs.lemmas.List.{length-append, length-map, get_or-map, get_or_append_left, get_or_push}
-use Rattle.std.proofs.lemmas.List.Elements.{All-get_or}
+use Rattle.std.proofs.lemmas.List.{length-map}
+use Rattle.std.proofs.lemmas.List.Elements.{All-get_or, All-map}
+use Rattle.std.proofs.lemmas.List.Sums.{AllPass-from_list_all}
+use Rattle.std.proofs.lemmas.Option.{slice_get-get_or, slice_get_past}
 use Rattle.worlds.specs.Step.{AreNineBelow}
 use Rattle.table_symmetry.specs.declared.expansion.Expanded.{Expanded}
+use Rattle.table_symmetry.specs.declared.lookup.Lookup.{Lookup}
 use Rattle.table_lines.specs.declared.neighborhood.Neighborhood.{Neighborhood}
 use Rattle.table_symmetry.specs.Expanded.{all_have, first_match}
-use Rattle.table_symmetry.specs.Lookup.{row_has, is_bit_set, HasColumns}
+use Rattle.table_symmetry.specs.Lookup.{HasColumns, HaveInputs, IsLookupOf, TellRows, row_has}
 use Rattle.table_symmetry.specs.NextState.{inputs_of, places_of}
-use Rattle.table_symmetry.specs.States.{has}
-use Rattle.table_symmetry.proofs.Search.{find_numbered}
-use Rattle.table_symmetry.proofs.Words.{has-words}
-
--- the columns of the first places
-pub record ArePlaces (rows : List Expanded) (states : ℕ) (columns : List (List (List ℕ))) (place : ℕ) : Type 0 where
-  pub long : length columns ≡ place
-  pub right : (p : ℕ) → p < place → HasColumns (get_or columns p []) states p rows
-
-pub ArePlaces-more : (rows : List Expanded) (states : ℕ) (columns : List (List (List ℕ))) (more : List (List ℕ)) (after : List (List (List ℕ))) (place : ℕ)
-    → HasColumns more states place rows
-    → after ≡ columns ++ more ∷ [] → ArePlaces rows states columns place → ArePlaces rows states after (place + 1)
-ArePlaces-more rows states columns more after place h same a = record {
-  long = ap length same ∙ simp (length-append) (omega (arith, a.long));
-  right = λ p l. rw same (elim (cases_lt p place) [
-    | inl low ↦
-        let there : p < length columns = omega (arith, a.long) in
-        rw (get_or_append_left columns (more ∷ []) [] p there) (a.right p low)
-    | inr high ↦
-        let number : length columns ≡ p = omega (arith, a.long) in
-        let last : place ≡ p = omega arith in
-        rw (get_or_push columns more [] p number, ← last) h
-  ]);
-}
+use Rattle.table_symmetry.specs.States.{has, is_bit_set}
+use Rattle.table_symmetry.proofs.Columns.{AreRight}
 
 -- the states of the inputs are among those around
-
-picked_below : (n : ℕ) (around : List ℕ) (places : List ℕ) → AreNineBelow n around → list_all (λ place. nat_lt place 9) places ≡ true
-    → (k : ℕ) → k < length (map (λ place. slice_index around place) places) → get_or (map (λ place. slice_index around place) places) k 0 < n
-picked_below n around [] nine h k l = absurd (omega arith)
-picked_below n around (p ∷ places) nine h zero l =
-    let near : p < 9 = grind (arith, nat_tests) in
-    All-get_or (λ s. s < n) around p 0 (omega (arith, nine.nine)) nine.below
-picked_below n around (p ∷ places) nine h (suc k) l = picked_below n around places nine (grind arith) k (omega arith)
-
-inputs_below : (n : ℕ) (neighborhood : Neighborhood) (around : List ℕ) → AreNineBelow n around → (k : ℕ) → k < length (inputs_of neighborhood around) → get_or (inputs_of neighborhood around) k 0 < n
-inputs_below n neighborhood around nine = picked_below n around (0 ∷ places_of neighborhood) nine (grind arith)
-
-length-inputs : (neighborhood : Neighborhood) (around : List ℕ) → length (inputs_of neighborhood around) ≡ length (inputs_of neighborhood [])
-length-inputs neighborhood around =
-    length-map (0 ∷ places_of neighborhood) (λ place. slice_index around place) ∙ sym (length-map (0 ∷ places_of neighborhood) (λ place. slice_index [] place))
+inputs_below : (n : ℕ) (neighborhood : Neighborhood) (around : List ℕ) → AreNineBelow n around → All (λ s. s < n) (inputs_of neighborhood around)
+inputs_below n neighborhood around nine =
+    let places = 0 ∷ places_of neighborhood in
+    All-map (λ s. s < n) (slice_index around) places (λ k d l.
+    let near : nat_lt (get_or places k d) 9 ≡ true = AllPass-from_list_all (λ p. nat_lt p 9) places (grind arith) k d l in
+    All-get_or (λ s. s < n) around (get_or places k d) 0 (grind (arith, nat_tests, near, nine.nine)) nine.below)
 
 -- the columns tell whether the sets have the states
 row_has-all : (columns : List (List (List ℕ))) (sets : List (List ℕ)) (inputs : List ℕ) (row : ℕ) → length columns ≡ length inputs → length sets ≡ length inputs
@@ -64,16 +38,40 @@ row_has-all (c ∷ columns) (x ∷ sets) (s ∷ inputs) row l m h =
     λ i. h 0 (omega arith) i && row_has-all columns sets inputs row (omega arith) (omega arith) (λ p k. h (suc p) (omega arith)) i
 row_has-all columns sets inputs row l m h = absurd (omega arith)
 
-pub finds_first : (neighborhood : Neighborhood) (columns : List (List (List ℕ))) (results : List ℕ) (rows : List Expanded) (states : ℕ) → states ≤ 256 → All (λ row. length row.inputs ≡ length (inputs_of neighborhood [])) rows → results ≡ map (λ row. row.result) rows → ArePlaces rows states columns (length (inputs_of neighborhood [])) → (around : List ℕ) → AreNineBelow states around → option_map (slice_index results) (find (row_has columns (inputs_of neighborhood around)) (range_with_len 0 (length results))) ≡ first_match rows (inputs_of neighborhood around)
-finds_first neighborhood columns results rows states few long e a around nine =
+pub columns_tell : (neighborhood : Neighborhood) (rows : List Expanded) (n : ℕ) (columns : List (List (List ℕ))) → HaveInputs neighborhood rows → AreRight (HasColumns rows n) [] columns (length (places_of neighborhood) + 1)
+    → (around : List ℕ) → AreNineBelow n around → (row : ℕ) (d : Expanded) → row < length rows → row_has columns (inputs_of neighborhood around) row ≡ all_have (get_or rows row d).inputs (inputs_of neighborhood around)
+columns_tell neighborhood rows n columns full right around nine row d l =
     let inputs : List ℕ = inputs_of neighborhood around in
-    let many : length results ≡ length rows = ap length e ∙ length-map rows (λ row. row.result) in
-    let count : length inputs ≡ length (inputs_of neighborhood []) = length-inputs neighborhood around in
-    ap (λ (n : ℕ). option_map (slice_index results) (find (row_has columns inputs) (range_with_len 0 n))) many
-    ∙ find_numbered (slice_index results) (λ row. row.result) (row_has columns inputs) (λ row. all_have row.inputs inputs) rows 0 (λ k d l. (
-      ap (row_has columns inputs) (zero-add k)
-          ∙ row_has-all columns (get_or rows k d).inputs inputs k (a.long ∙ sym count) (long k d l ∙ sym count) (λ p m.
-          let below : get_or inputs p 0 < states = inputs_below states neighborhood around nine p m in
-          a.right p (subst (λ (n : ℕ). p < n) count m) (get_or inputs p 0) k d below l ∙ has-words (get_or (get_or rows k d).inputs p []) (get_or inputs p 0) (omega arith)),
-      ap (slice_index results) (zero-add k) ∙ ap (λ (rs : List ℕ). get_or rs k 0) e ∙ get_or-map (λ row. row.result) rows k d 0 l,
-    ))
+    let count = length-map (places_of neighborhood) (λ place. slice_index around place) in
+    row_has-all columns (get_or rows row d).inputs inputs row (omega (arith, right.long, count)) (omega (arith, full row d l, count))
+    (λ p m. right.each p (omega (arith, m, count)) (get_or inputs p 0) (inputs_below n neighborhood around nine p 0 m) row d l)
+
+-- no row before a bit of a word passes, where none before the word does and the lower bits aren't set
+pub none_below : (columns : List (List (List ℕ))) (inputs : List ℕ) (word rows bit : ℕ) → TellRows columns inputs word rows → bit ≤ 64 → ((i : ℕ) → i < bit → bit_at rows i ≡ 0)
+    → ((row : ℕ) → row < 64 * word → row_has columns inputs row ≡ false) → (row : ℕ) → row < 64 * word + bit → row_has columns inputs row ≡ false
+none_below columns inputs word rows bit tells few unset before row l = elim (cases_lt row (64 * word)) [
+  | inl low ↦ before row low
+  | inr high ↦
+      let same : 64 * word + (row - 64 * word) ≡ row = omega arith in
+      grind (arith, tells (row - 64 * word) (omega arith), unset (row - 64 * word) (omega arith))
+]
+
+-- the first of some rows that passes, by its number; none does where that is past the end
+first_passing : (p : Expanded → Bool) (rows : List Expanded) (number : ℕ) → ((k : ℕ) (d : Expanded) → k < length rows → k < number → p (get_or rows k d) ≡ false)
+    → ((d : Expanded) → number < length rows → p (get_or rows number d) ≡ true) → option_map (λ row. row.result) (find p rows) ≡ slice_get (map (λ row. row.result) rows) number
+first_passing p [] number fails passes = refl
+first_passing p (x ∷ rows) zero fails passes = rw (passes x (omega arith)) refl
+first_passing p (x ∷ rows) (suc number) fails passes =
+    rw (fails 0 x (omega arith) (omega arith)) (first_passing p rows number (λ k d l m. fails (suc k) d (omega arith) (omega arith)) (λ d l. passes d (omega arith)))
+
+pub first_found : {lookup : Lookup} {n : ℕ} {neighborhood : Neighborhood} {around : List ℕ} (rows : List Expanded) (number : ℕ) → IsLookupOf rows n neighborhood lookup → AreNineBelow n around
+    → ((k : ℕ) → k < number → row_has lookup.columns (inputs_of neighborhood around) k ≡ false) → (number < length rows → row_has lookup.columns (inputs_of neighborhood around) number ≡ true)
+    → slice_get lookup.results number ≡ first_match rows (inputs_of neighborhood around)
+first_found {neighborhood = neighborhood} {around = around} rows number is nine fails passes =
+    ap (λ results. slice_get results number) is.results ∙ sym (first_passing (λ row. all_have row.inputs (inputs_of neighborhood around)) rows number
+    (λ k d l m. sym (is.tells around nine k d l) ∙ fails k m) (λ d l. sym (is.tells around nine number d l) ∙ passes l))
+
+-- what `get` and `copied` give
+pub slice_get-copied : (results : List ℕ) (number : ℕ) (o : Option (Bor ℕ)) → MatchOption o (length results ≤ number) (λ x. (number < length results) × HoldsAt (λ y. x.now ≡ y) results number) → option_copied o ≡ slice_get results number
+slice_get-copied results number None m = sym (slice_get_past results number m)
+slice_get-copied results number (Some x) m = ap (λ (r : ℕ). Some r) (m.1 0) ∙ sym (slice_get-get_or results number 0 m.0)

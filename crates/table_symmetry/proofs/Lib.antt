@@ -8,7 +8,6 @@ mod FirstMatch
 mod Growing
 mod Limits
 mod Matching
-mod Search
 pub mod SaidTables
 mod Words
 mod Compositions

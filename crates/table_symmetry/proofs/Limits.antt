@@ -1,5 +1,5 @@
 -- A table within the limits, and one that isn't.
-use Rattle.std.proofs.Common.{◌≡◌, unwrap_or, ◌+◌, ◌<◌, ◌≤◌, true, false, nat_lt, List, length, Err, refl, sym, subst, ap, ◌∙◌, arith}
+use Rattle.std.proofs.Common.{◌≡◌, ℕ, Option, unwrap_or, ◌+◌, ◌<◌, ◌≤◌, true, false, nat_lt, List, length, Err, refl, sym, subst, ap, ◌∙◌, arith}
 use Rattle.std.specs.List.{list_all}
 use Rattle.std.proofs.lemmas.Bool.{and_from, eq-eqb, ne_eqb}
 use Rattle.worlds.specs.Step.{nine_zeros}
@@ -9,7 +9,7 @@ use Rattle.table_symmetry.specs.declared.expansion.Expanded.{Expanded}
 use Rattle.table_symmetry.specs.Expanded.{expanded, transition_limit}
 use Rattle.table_symmetry.specs.declared.lookup.Lookup.{Lookup}
 use Rattle.table_symmetry.specs.Kept.{IsKept, LooksUp}
-use Rattle.table_symmetry.specs.Lookup.{FindsFirst, found}
+use Rattle.table_symmetry.specs.Lookup.{Finds}
 use Rattle.table_symmetry.specs.NextState.{gives_states, is_quiescent, next, places_of}
 use Rattle.table_symmetry.specs.Rows.{AreExpanded}
 use Rattle.table_symmetry.specs.RuleLaws.{zeros-below}
@@ -20,31 +20,29 @@ use Rattle.table_symmetry.proofs.FirstMatch.{next-expanded}
 use Rattle.table_symmetry.proofs.ExpandedRows.{expanded-below, expanded-length}
 use Rattle.table_symmetry.proofs.SaidTables.{all_give_states}
 
-pub within_limits-restless : (table : Table) → length (expanded table) ≤ transition_limit → is_quiescent table ≡ false → within_limits table ≡ Err NotQuiescent
-within_limits-restless table h restless =
-    let few : nat_lt transition_limit (length (expanded table)) ≡ false = grind (arith, nat_tests, h) in
-    rw (few, restless)
+-- what a look-up of the expanded transitions finds for nine zeros
+next_of_zeros : {found : Option ℕ} (table : Table) (lookup : Lookup) → Finds lookup nine_zeros found → LooksUp table lookup → 0 < table.states → unwrap_or found 0 ≡ next table nine_zeros
+next_of_zeros table lookup finds looked some = ap (λ o. unwrap_or o 0) (finds (expanded table) table.states table.neighborhood looked.listed (zeros-below table.states some)) ∙ next-expanded table nine_zeros
 
--- what a look-up of the expanded transitions gives for nine zeros
-pub next_of_zeros : (table : Table) (lookup : Lookup) → FindsFirst lookup table.states table.neighborhood (expanded table) → 0 < table.states → unwrap_or (found lookup nine_zeros) 0 ≡ next table nine_zeros
-next_of_zeros table lookup finds some = ap (λ o. unwrap_or o 0) (finds nine_zeros (zeros-below table.states some)) ∙ next-expanded table nine_zeros
-
--- a table that was read, whose few expanded transitions a look-up finds, and that is quiescent, is one that is kept
-pub is_kept : (table : Table) (lookup : Lookup) → IsRead table → LooksUp table lookup → unwrap_or (found lookup nine_zeros) 0 ≡ 0 → IsKept table lookup
-is_kept table lookup read looked quiet =
+-- a table that was read, whose few expanded transitions a look-up has, and that is quiescent, is one that is kept
+pub is_kept : {found : Option ℕ} (table : Table) (lookup : Lookup) → IsRead table → LooksUp table lookup → Finds lookup nine_zeros found → unwrap_or found 0 ≡ 0 → IsKept table lookup
+is_kept table lookup read looked finds quiet =
     let some : 0 < table.states = omega (arith, read.at_least) in
-    let still : is_quiescent table ≡ true = eq-eqb (next table nine_zeros) 0 (sym (next_of_zeros table lookup looked.finds some) ∙ quiet) in
+    let still : is_quiescent table ≡ true = eq-eqb (next table nine_zeros) 0 (sym (next_of_zeros table lookup finds looked some) ∙ quiet) in
     record {
       at_least = read.at_least;
       at_most = read.at_most;
       sound = and_from (is_quiescent table) (list_all (gives_states table.states) table.transitions) still (all_give_states table.states table.transitions some read.below);
       full = read.full;
       few = looked.few;
-      finds = looked.finds;
+      listed = looked.listed;
     }
 
-pub is_restless : (table : Table) (lookup : Lookup) → 0 < table.states → FindsFirst lookup table.states table.neighborhood (expanded table) → (unwrap_or (found lookup nine_zeros) 0 ≡ 0 → ⊥) → is_quiescent table ≡ false
-is_restless table lookup some finds moves = ne_eqb (next table nine_zeros) 0 (λ e. moves (next_of_zeros table lookup finds some ∙ e))
+pub within_limits-restless : {found : Option ℕ} (table : Table) (lookup : Lookup) → IsRead table → LooksUp table lookup → Finds lookup nine_zeros found → (unwrap_or found 0 ≡ 0 → ⊥) → within_limits table ≡ Err NotQuiescent
+within_limits-restless table lookup read looked finds moves =
+    let few : nat_lt transition_limit (length (expanded table)) ≡ false = grind (arith, nat_tests, looked.few) in
+    let restless : is_quiescent table ≡ false = ne_eqb (next table nine_zeros) 0 (λ e. moves (next_of_zeros table lookup finds looked (omega (arith, read.at_least)) ∙ e)) in
+    rw (few, restless)
 
 -- the expanded transitions of a table that is kept
 pub are_expanded : (table : Table) (lookup : Lookup) (rows : List Expanded) → IsKept table lookup → rows ≡ expanded table → AreExpanded table rows

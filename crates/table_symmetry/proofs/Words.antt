@@ -1,11 +1,11 @@
 -- The words of a set tell which states it has.
-use Rattle.std.proofs.Common.{◌≡◌, ℕ, zero, suc, ◌+◌, ◌*◌, ◌/◌, ◌%◌, ◌<◌, Bool, cond, List, map, refl, ap, ◌∙◌, arith}
-use Rattle.std.specs.Prelude.{◌==◌, slice_index}
+use Rattle.std.proofs.Common.{◌≡◌, ℕ, zero, suc, ◌+◌, ◌*◌, ◌/◌, ◌%◌, ◌<◌, Bool, cond, List, map, arith}
+use Rattle.std.specs.Prelude.{◌==◌}
 use Rattle.std.specs.Int.{bit_at}
 use Rattle.std.specs.List.{range_with_len}
 use Rattle.std.proofs.lemmas.Bool.Decides.{nat_tests}
 use Rattle.std.proofs.lemmas.Nat.Bits.{bit_at-suc, bit_at_lowest}
-use Rattle.table_lines.specs.States.{has, is_bit_set, number_of_bits, word_of, words_of}
+use Rattle.table_lines.specs.States.{has, number_of_bits, word_of}
 
 -- a number by its lowest digit and the others
 halved : (b : Bool) (n : ℕ) → (cond b 1 0 + 2 * n) / 2 ≡ n
@@ -27,19 +27,6 @@ bit-number f a (suc n) (suc i) h =
     rw (bit_at-suc, half, ← there) (bit-number f (a + 1) n i (omega arith))
 
 -- a word tells which of 64 states a set has
-bit-word : (states : List ℕ) (q i : ℕ) → i < 64 → (bit_at (word_of states q) i == 1) ≡ has states (64 * q + i)
+pub bit-word : (states : List ℕ) (q i : ℕ) → i < 64 → (bit_at (word_of states q) i == 1) ≡ has states (64 * q + i)
 unfolding word_of
 bit-word states q i h = bit-number (has states) (64 * q) 64 i h
-
-word_at_number : (states : List ℕ) (q : ℕ) → q < 4 → slice_index (words_of states) q ≡ word_of states q
-word_at_number states zero h = refl
-word_at_number states (suc zero) h = refl
-word_at_number states (suc (suc zero)) h = refl
-word_at_number states (suc (suc (suc zero))) h = refl
-word_at_number states (suc (suc (suc (suc q)))) h = absurd (omega arith)
-
--- the bits of the words tell which states a set has
-pub has-words : (states : List ℕ) (s : ℕ) → s < 256 → is_bit_set (words_of states) s ≡ has states s
-has-words states s h =
-    let state : 64 * (s / 64) + s % 64 ≡ s = omega arith in
-    ap (λ w. bit_at w (s % 64) == 1) (word_at_number states (s / 64) (omega arith)) ∙ bit-word states (s / 64) (s % 64) (omega arith) ∙ ap (has states) state

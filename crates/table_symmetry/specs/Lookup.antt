@@ -1,39 +1,38 @@
 -- A look-up of rows by the states that they have.
-use Rattle.std.specs.Prelude.{◌≡◌, ℕ, ◌+◌, ◌*◌, ◌<◌, ◌/◌, ◌%◌, ◌==◌, All, Bool, List, [], length, map, find, zip, slice_index, slice_index_or, Option}
-use Rattle.std.specs.List.{list_all, range_with_len}
+use Rattle.std.specs.Prelude.{◌≡◌, ℕ, ◌+◌, ◌*◌, ◌<◌, ◌/◌, ◌%◌, ◌==◌, All, Bool, List, [], length, map, zip, slice_index, slice_index_or, Option}
+use Rattle.std.specs.List.{list_all}
 use Rattle.std.specs.Int.{bit_at}
-use Rattle.std.specs.Option.{option_map}
 use Rattle.worlds.specs.Step.{AreNineBelow}
 use Rattle.table_symmetry.specs.declared.expansion.Expanded.{Expanded}
 use Rattle.table_symmetry.specs.declared.lookup.Lookup.{Lookup}
 use Rattle.table_lines.specs.declared.neighborhood.Neighborhood.{Neighborhood}
-use Rattle.table_symmetry.specs.Expanded.{first_match}
-use Rattle.table_symmetry.specs.NextState.{inputs_of}
-use Rattle.table_symmetry.specs.States.{words_of}
-
--- whether a bit of some words is set, of 64 in each
-abbrev pub is_bit_set : List ℕ → ℕ → Bool
-is_bit_set words bit = bit_at (slice_index words (bit / 64)) (bit % 64) == 1
-
--- the words of a row's set at a place
-abbrev pub words_at : ℕ → Expanded → List ℕ
-words_at place row = words_of (slice_index_or row.inputs place [])
-
--- one word of each row's set at a place
-abbrev pub word_of_each : ℕ → ℕ → List Expanded → List ℕ
-word_of_each place word rows = map (λ row. slice_index (words_at place row) word) rows
+use Rattle.table_symmetry.specs.Expanded.{all_have, first_match}
+use Rattle.table_symmetry.specs.NextState.{inputs_of, places_of}
+use Rattle.table_symmetry.specs.States.{has, is_bit_set, word_of}
 
 -- a column of bits has this bit of each word
 abbrev pub HasBits : List ℕ → List ℕ → ℕ → Type 0
 HasBits column words bit = (row : ℕ) → row < length words → bit_at (slice_index column (row / 64)) (row % 64) ≡ bit_at (slice_index words row) bit
 
+-- a row's set at a place
+abbrev pub set_at : ℕ → Expanded → List ℕ
+set_at place row = slice_index_or row.inputs place []
+
+-- one word of each row's set at a place
+abbrev pub word_of_each : ℕ → ℕ → List Expanded → List ℕ
+word_of_each place word rows = map (λ row. word_of (set_at place row) word) rows
+
 -- each row has a set for the cell and each neighbour
 abbrev pub HaveInputs : Neighborhood → List Expanded → Type 0
-HaveInputs neighborhood rows = All (λ (row : Expanded). length row.inputs ≡ length (inputs_of neighborhood [])) rows
+HaveInputs neighborhood rows = All (λ (row : Expanded). length row.inputs ≡ length (places_of neighborhood) + 1) rows
 
--- for each state below n a column of bits, which tell the rows whose sets at the place have the state
-abbrev pub HasColumns : List (List ℕ) → ℕ → ℕ → List Expanded → Type 0
-HasColumns columns n place rows = (state row : ℕ) (d : Expanded) → state < n → row < length rows → is_bit_set (slice_index_or columns state []) row ≡ is_bit_set (words_at place (slice_index_or rows row d)) state
+-- a column of bits tells which rows' sets at the place have the state
+abbrev pub TellsRows : List Expanded → ℕ → ℕ → List ℕ → Type 0
+TellsRows rows place state column = (row : ℕ) (d : Expanded) → row < length rows → is_bit_set column row ≡ has (set_at place (slice_index_or rows row d)) state
+
+-- for each state below n such a column
+abbrev pub HasColumns : List Expanded → ℕ → ℕ → List (List ℕ) → Type 0
+HasColumns rows n place columns = (state : ℕ) → state < n → TellsRows rows place state (slice_index_or columns state [])
 
 -- whether the row of this number has each state at its place, where each place has a column of bits for each state
 abbrev pub row_has : List (List (List ℕ)) → List ℕ → ℕ → Bool
@@ -43,10 +42,12 @@ row_has columns inputs row = list_all (λ p. is_bit_set (slice_index_or p.0 p.1 
 abbrev pub TellRows : List (List (List ℕ)) → List ℕ → ℕ → ℕ → Type 0
 TellRows columns inputs word bits = (bit : ℕ) → bit < 64 → (bit_at bits bit == 1) ≡ row_has columns inputs (64 * word + bit)
 
--- the result of the first row that has the states at and around a cell
-unfoldable pub found : Lookup → List ℕ → Option ℕ
-found lookup around = option_map (slice_index lookup.results) (find (row_has lookup.columns (inputs_of lookup.neighborhood around)) (range_with_len 0 (length lookup.results)))
+-- a look-up of these rows, for states below n: it has their results, and its columns tell which of them match the states at and around a cell
+pub record IsLookupOf (rows : List Expanded) (n : ℕ) (neighborhood : Neighborhood) (lookup : Lookup) : Type 0 where
+  pub around : lookup.neighborhood ≡ neighborhood
+  pub results : lookup.results ≡ map (λ row. row.result) rows
+  pub tells : (states : List ℕ) → AreNineBelow n states → (row : ℕ) (d : Expanded) → row < length rows → row_has lookup.columns (inputs_of neighborhood states) row ≡ all_have (slice_index_or rows row d).inputs (inputs_of neighborhood states)
 
--- a look-up finds what the first of these transitions that matches gives, whatever states below n are at and around a cell
-abbrev pub FindsFirst : Lookup → ℕ → Neighborhood → List Expanded → Type 0
-FindsFirst lookup n neighborhood rows = (around : List ℕ) → AreNineBelow n around → found lookup around ≡ first_match rows (inputs_of neighborhood around)
+-- what a look-up finds for the states at and around a cell: what the first row that matches gives, of whatever rows it is the look-up
+abbrev pub Finds : Lookup → List ℕ → Option ℕ → Type 0
+Finds lookup around found = (rows : List Expanded) (n : ℕ) (neighborhood : Neighborhood) → IsLookupOf rows n neighborhood lookup → AreNineBelow n around → found ≡ first_match rows (inputs_of neighborhood around)

@@ -1,9 +1,10 @@
 //! The fast search for the first of many rows that matches.
-ghost use Rattle.std.specs.Prelude.{◌≡◌, ◌≤◌, ◌<◌, ℕ, List, [], length, take, slice_index, slice_index_or, None, IfOk, All};
+ghost use Rattle.std.specs.Prelude.{◌≡◌, ◌≤◌, ◌<◌, ◌+◌, ℕ, [], length, take, slice_index, slice_index_or, IfOk, All};
 ghost use Rattle.std.specs.Int.{bit_at};
 ghost use Rattle.rule_file.specs.States.{most_states};
-ghost use Rattle.table_symmetry.specs.NextState.{inputs_of};
-ghost use Rattle.table_symmetry.specs.Lookup.{FindsFirst, HasBits, HasColumns, HaveInputs, TellRows, found, word_of_each, words_at};
+ghost use Rattle.table_symmetry.specs.NextState.{inputs_of, places_of};
+ghost use Rattle.table_symmetry.specs.States.{word_of};
+ghost use Rattle.table_symmetry.specs.Lookup.{Finds, HasBits, HasColumns, HaveInputs, IsLookupOf, TellRows, set_at, word_of_each};
 
 use crate::expansion::Expanded;
 use basics::Listing;
@@ -24,7 +25,7 @@ pub struct Lookup {
 impl Lookup {
     /// The look-up of no rows. Takes no memory.
     pub fn empty(alloc: Global, neighborhood: Neighborhood) -> Lookup
-        ensures { (around : List ℕ) → found result around ≡ None }
+        ensures { (states : ℕ) → IsLookupOf [] states neighborhood result }
     {
         Lookup {
             neighborhood,
@@ -43,7 +44,7 @@ impl Lookup {
     ) -> Result<Lookup, AllocError>
         requires states { states ≤ most_states }
         requires inputs { HaveInputs neighborhood rows.now }
-        ensures { IfOk result (λ lookup. FindsFirst lookup states neighborhood rows.now) }
+        ensures { IfOk result (λ lookup. IsLookupOf rows.now states neighborhood lookup) }
     {
         let mut columns = Vec::new(alloc);
         for place in 0..input_count(neighborhood) {
@@ -59,7 +60,7 @@ impl Lookup {
 
     /// The result of the first row that matches the states at and around a cell.
     pub fn find(&self, around: &Around) -> Option<u8>
-        ensures { result ≡ found self.now around.now.0 }
+        ensures { Finds self.now around.now.0 result }
     {
         let picked = picked(self.neighborhood, around);
         let inputs = &picked[..input_count(self.neighborhood)];
@@ -102,7 +103,7 @@ fn word_at(columns: &Listing<Listing<u64>>, state: u8, word: usize) -> u64
 
 /// How many inputs a row has: the cell and its neighbours.
 pub(crate) fn input_count(neighborhood: Neighborhood) -> usize
-    ensures { result ≡ length (inputs_of neighborhood []) }
+    ensures { result ≡ length (places_of neighborhood) + 1 }
 {
     match neighborhood {
         Neighborhood::VonNeumann => 5,
@@ -114,7 +115,7 @@ pub(crate) fn input_count(neighborhood: Neighborhood) -> usize
 
 /// The states of a row's inputs, before states that don't matter.
 fn picked(neighborhood: Neighborhood, around: &Around) -> [u8; 9]
-    ensures { take (length (inputs_of neighborhood [])) result
+    ensures { take (length (places_of neighborhood) + 1) result
         ≡ inputs_of neighborhood around.now.0 }
 {
     let [c, n, ne, e, se, s, sw, w, nw] = around.0;
@@ -135,7 +136,7 @@ fn columns_of(
 ) -> Result<Listing<Listing<u64>>, AllocError>
     requires states { states ≤ most_states }
     requires place { All (λ row. place < length row.inputs) rows.now }
-    ensures { IfOk result (λ columns. HasColumns columns states place rows.now) }
+    ensures { IfOk result (λ columns. HasColumns rows.now states place columns) }
 {
     let mut columns = Vec::new(alloc);
     let mut words = Vec::new(alloc);
@@ -169,7 +170,7 @@ fn words_of(
 fn word_in(row: &Expanded, place: usize, word: usize) -> u64
     requires word { word < 4 }
     requires place { place < length row.now.inputs }
-    ensures { result ≡ slice_index (words_at place row.now) word }
+    ensures { result ≡ word_of (set_at place row.now) word }
 {
     row.inputs.as_slice()[place].word(word)
 }

@@ -1,27 +1,26 @@
-use Rattle.std.proofs.Common.{ap, ◌∙◌, inl, inr}
+use Rattle.std.proofs.Common.{ap, sym, ◌+◌, ◌*◌, ◌∙◌, inl, inr}
+use Rattle.std.proofs.Math.Bool.{and-true}
 use Rattle.std.proofs.lemmas.List.{nil_from_length}
-use Rattle.table_symmetry.proofs.Matching.{IsNarrowed-none, IsNarrowed-more, IsNarrowed-empty, IsNarrowed-all}
+use Rattle.std.proofs.lemmas.Nat.Bits.{bit_at_ones, bit_at-zero}
+use Rattle.table_symmetry.proofs.Matching.{IsNarrowed-more, nothing_left}
 use Rattle.table_symmetry.proofs.lookup.Lookup.matching.Goals as goal
 
 pub loop-columns-init : goal.loop-columns-init
 loop-columns-init c =
     let same = c.into_iter-columns-iterator.ensures.into_iter_gives in
-    IsNarrowed-none c.args.self.now.columns c.args.inputs.now c.args.word _ _
-    (ap (λ z. z.a.rest.now) same ∙ ap (λ z. z.rest.now) c.zip-columns-items.ensures.first ∙ c.iter.ensures.rest ∙ c.as_slice.ensures)
-    (ap (λ z. z.b.rest.now) same ∙ c.zip-columns-items.ensures.second.0)
+    let columns = ap (λ z. z.a.rest.now) same ∙ ap (λ z. z.rest.now) c.zip-columns-items.ensures.first ∙ c.iter.ensures.rest ∙ c.as_slice.ensures in
+    let inputs = ap (λ z. z.b.rest.now) same ∙ c.zip-columns-items.ensures.second.0 in
+    record { narrowed = λ bit h. rw (columns, inputs, bit_at_ones 64 bit h) }
 
 pub returns-then-rows-eq0 : goal.returns-then-rows-eq0
-returns-then-rows-eq0 c =
-    let s = c.in-Some.ensures.steps in
-    IsNarrowed-empty _ _ c.args.word _ _ _ c.if-rows-eq0.true (IsNarrowed-more c.args.self.now.columns c.args.inputs.now c.args.word c.loop-columns.rows c.word_at-rows.result _ _ _ _ c.in-Some.columns.now c.in-Some.state.now s.0 s.1 c.word_at-rows.ensures c.loop-columns.invariant)
+returns-then-rows-eq0 c = λ bit h.
+    let narrowed = IsNarrowed-more c.in-Some.columns.now c.in-Some.state.now c.word_at-rows.result c.in-Some.ensures.steps.0 c.in-Some.ensures.steps.1 c.word_at-rows.ensures c.loop-columns.invariant in
+    rw (narrowed.narrowed bit h, c.if-rows-eq0.true, bit_at-zero bit)
 
 pub loop-columns-preserved : goal.loop-columns-preserved
-loop-columns-preserved c =
-    let s = c.in-Some.ensures.steps in
-    IsNarrowed-more c.args.self.now.columns c.args.inputs.now c.args.word c.loop-columns.rows c.word_at-rows.result _ _ _ _ c.in-Some.columns.now c.in-Some.state.now s.0 s.1 c.word_at-rows.ensures c.loop-columns.invariant
+loop-columns-preserved c = IsNarrowed-more c.in-Some.columns.now c.in-Some.state.now c.word_at-rows.result c.in-Some.ensures.steps.0 c.in-Some.ensures.steps.1 c.word_at-rows.ensures c.loop-columns.invariant
 
 pub returns : goal.returns
-returns c =
-    IsNarrowed-all c.args.self.now.columns c.args.inputs.now c.args.word c.loop-columns.rows _ _
-    (elim c.in-None.ensures.steps [ inl p ↦ inl (nil_from_length _ p.1.0) | inr p ↦ inr (nil_from_length _ p.1.0) ])
-    c.loop-columns.invariant
+returns c = λ bit h.
+    let all = nothing_left _ _ (64 * c.args.word + bit) (elim c.in-None.ensures.steps [ inl p ↦ inl (nil_from_length _ p.1.0) | inr p ↦ inr (nil_from_length _ p.1.0) ]) in
+    rw (c.loop-columns.invariant.narrowed bit h, all) (sym (and-true _))
