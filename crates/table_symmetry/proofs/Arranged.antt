@@ -1,8 +1,7 @@
 -- Lists of sets, compared.
-use Rattle.std.proofs.Common.{◌≡◌, ℕ, ◌+◌, ◌-◌, ◌<◌, ◌≤◌, true, ◌||◌, List, [], ◌∷◌, ◌++◌, Vec, Global, length, take, drop, get_or, refl, sym, ap, ◌∙◌, arith}
+use Rattle.std.proofs.Common.{◌≡◌, ℕ, ◌+◌, ◌<◌, true, ◌||◌, List, [], ◌∷◌, ◌++◌, Vec, Global, length, take, get_or, refl, sym, arith}
 use Rattle.std.specs.List.{list_any}
-use Rattle.std.proofs.lemmas.List.{length-map, map-append, nil_from_length, take_all, take_more, take_rest}
-use Rattle.std.proofs.Math.ListN.{get_or-map}
+use Rattle.std.proofs.lemmas.List.{map-append, take_more}
 use Rattle.indexmap.specs.IndexSet.{insert_key}
 use Rattle.table_symmetry.specs.States.{same_set}
 use Rattle.table_symmetry.specs.Expanded.{same_sets}
@@ -15,29 +14,9 @@ same_set_decides = bytes_decides
 pub same_sets_decides : (x y : List (List ℕ)) → (same_sets x y ≡ true → x ≡ y) × (x ≡ y → same_sets x y ≡ true)
 same_sets_decides = pointwise_decides same_set_decides
 
--- a list by its first element and the rest
-pub first_and_rest : {X : Type 0} (xs : List X) (d : X) → 1 ≤ length xs → get_or xs 0 d ∷ take (length xs - 1) (drop 1 xs) ≡ xs
-first_and_rest [] d h = absurd (omega (arith, h))
-first_and_rest (x ∷ xs) d h = ap (λ ys. x ∷ ys) (take_rest (x ∷ xs) 1)
-
--- lists that stand in others, by their place
-
-pub no_lists : {A : Type 0} (keys : List (Vec (List ℕ) A)) → length keys ≡ 0 → lists_in keys ≡ []
-no_lists keys h = ap lists_in (nil_from_length keys h)
-
-pub list_at : (keys : List (Vec (List ℕ) Global)) (i : ℕ) (key : Vec (List ℕ) Global) → key ≡ get_or keys i key → key.items ≡ get_or (lists_in keys) i key.items
-list_at keys i key is = ap (λ v. v.items) is ∙ sym (get_or-map (λ v. v.items) keys i key)
-
-pub lists-more : (keys : List (Vec (List ℕ) Global)) (i : ℕ) (key : Vec (List ℕ) Global) → i < length keys → key ≡ get_or keys i key → take (i + 1) (lists_in keys) ≡ take i (lists_in keys) ++ key.items ∷ []
-lists-more keys i key h is =
-    let inside : i < length (lists_in keys) = rw length-map h in
-    take_more (lists_in keys) i key.items inside ∙ ap (λ list. take i (lists_in keys) ++ list ∷ []) (sym (list_at keys i key is))
-
-pub lists-inside : (keys : List (Vec (List ℕ) Global)) (i : ℕ) → i < length keys → i < length (lists_in keys)
-lists-inside keys i h = rw length-map h
-
-pub lists-all : (keys : List (Vec (List ℕ) Global)) (i : ℕ) → length keys ≤ i → take i (lists_in keys) ≡ lists_in keys
-lists-all keys i h = take_all i (lists_in keys) (rw length-map h)
+-- of lists that stand in others, one more
+pub lists-more : (keys : List (Vec (List ℕ) Global)) (i : ℕ) (key : Vec (List ℕ) Global) → i < length keys → key ≡ get_or keys i key → lists_in (take (i + 1) keys) ≡ lists_in (take i keys) ++ key.items ∷ []
+lists-more keys i key h is = rw (take_more keys i key h, ← is) (map-append (λ v. v.items) (take i keys) (key ∷ []))
 
 -- one more list, unless it is there
 

@@ -1,9 +1,9 @@
 -- Lists in which each element stands once.
-use Rattle.std.proofs.Common.{◌≡◌, ℕ, ◌+◌, ◌<◌, length, take, get_or, Bool, true, false, not, cond, ◌||◌, List, [], ◌∷◌, ◌++◌, refl, sym, ap, subst, ◌∙◌, append_assoc, arith}
+use Rattle.std.proofs.Common.{◌≡◌, Bool, true, false, not, cond, ◌||◌, List, [], ◌∷◌, ◌++◌, refl, sym, ap, subst, ◌∙◌, append_assoc, arith}
 use Rattle.std.specs.List.{filter, list_any, flat_map}
 use Rattle.std.proofs.Math.Bool.{or-true}
 use Rattle.std.proofs.lemmas.Grind.{flat_map-append}
-use Rattle.std.proofs.lemmas.List.{append-nil, take_more}
+use Rattle.std.proofs.lemmas.List.{append-nil}
 use Rattle.std.proofs.lemmas.List.Elements.{filter-append}
 use Rattle.std.proofs.lemmas.List.Folds.{list_any-append}
 use Rattle.table_symmetry.specs.Expanded.{distinct}
@@ -37,10 +37,6 @@ module _ {X : Type 0} (E : X → X → Bool) (decides : (x y : X) → (E x y ≡
   pub with_all-append : (xs ys zs : List X) → with_all E xs (ys ++ zs) ≡ with_all E (with_all E xs ys) zs
   with_all-append xs [] zs = refl
   with_all-append xs (y ∷ ys) zs = with_all-append (with_one E xs y) ys zs
-
-  -- adding what comes of one element more
-  pub with_all-flat_map-more : {Y : Type 0} (f : Y → List X) (xs : List X) (ys : List Y) (k : ℕ) (d : Y) → k < length ys → with_all E xs (flat_map f (take (k + 1) ys)) ≡ with_all E (with_all E xs (flat_map f (take k ys))) (f (get_or ys k d))
-  with_all-flat_map-more f xs ys k d h = rw (take_more ys k d h, flat_map-append, append-nil) (with_all-append xs (flat_map f (take k ys)) (f (get_or ys k d)))
 
   -- what is there isn't added
   pub with_all-among : (xs ys : List X) → ((y : X) → list_any (λ z. E z y) ys ≡ true → list_any (λ z. E z y) xs ≡ true) → with_all E xs ys ≡ xs

@@ -1,5 +1,5 @@
 -- What holds of each expanded transition: it has the inputs of its transition, and its result is a state.
-use Rattle.std.proofs.Common.{◌≡◌, ℕ, ◌+◌, ◌<◌, ◌==◌, ◌&&◌, Bool, true, nat_lt, not, List, [], ◌∷◌, ◌++◌, length, take, drop, refl, ap, arith, rules, tests}
+use Rattle.std.proofs.Common.{◌≡◌, ℕ, ◌<◌, ◌==◌, ◌&&◌, Bool, true, nat_lt, not, List, [], ◌∷◌, length, take, drop, refl, ap, arith, rules, tests}
 use Rattle.std.specs.Prelude.{All, slice_index_or}
 use Rattle.std.specs.List.{flat_map, list_all}
 use Rattle.std.proofs.lemmas.Bool.{and_parts, eqb-true}
@@ -13,7 +13,7 @@ use Rattle.table_lines.specs.declared.transition.Transition.{Transition}
 use Rattle.table_symmetry.specs.Circle.{arrangements}
 use Rattle.table_symmetry.specs.Expanded.{distinct, expanded, expanded_of, expanded_one, same_sets, sets_of}
 use Rattle.table_symmetry.specs.Grown.{row_of}
-use Rattle.table_symmetry.specs.NextState.{admitted, assigned, assignments, bound_in, gives_states, given, is_quiescent, valued, valued_entry}
+use Rattle.table_symmetry.specs.NextState.{admitted, assigned, assignments, bound_in, gives_states, given, is_quiescent, valued}
 use Rattle.table_symmetry.specs.Rule.{is_sound}
 use Rattle.table_symmetry.specs.Table.{Table}
 use Rattle.table_symmetry.proofs.Arrangements.{arrangements-length, list_all-filter, list_all-flat_map, list_all-made}

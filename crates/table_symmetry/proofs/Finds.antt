@@ -1,6 +1,6 @@
 -- A look-up finds what the first row that matches gives.
 use Rattle.std.proofs.Common.{◌≡◌, ℕ, zero, suc, ◌+◌, ◌-◌, ◌*◌, ◌<◌, ◌≤◌, Bool, true, false, ◌&&◌, List, [], ◌∷◌, length, get_or, map, Option, Some, None, refl, sym, ap, ◌∙◌, inl, inr, arith}
-use Rattle.std.specs.Prelude.{◌==◌, All, find, slice_get, slice_index, nat_lt, MatchOption}
+use Rattle.std.specs.Prelude.{All, find, slice_get, slice_index, nat_lt, MatchOption}
 use Rattle.std.specs.Borrow.{Bor}
 use Rattle.std.specs.Int.{bit_at}
 use Rattle.std.specs.List.{HoldsAt}

@@ -1,5 +1,5 @@
 -- A table within the limits, and one that isn't.
-use Rattle.std.proofs.Common.{◌≡◌, ℕ, Option, unwrap_or, ◌+◌, ◌<◌, ◌≤◌, true, false, nat_lt, List, length, Err, refl, sym, subst, ap, ◌∙◌, arith}
+use Rattle.std.proofs.Common.{◌≡◌, ℕ, Option, unwrap_or, ◌+◌, ◌<◌, true, false, nat_lt, List, length, Err, refl, sym, subst, ap, ◌∙◌, arith}
 use Rattle.std.specs.List.{list_all}
 use Rattle.std.proofs.lemmas.Bool.{and_from, eq-eqb, ne_eqb}
 use Rattle.worlds.specs.Step.{nine_zeros}

@@ -63,8 +63,7 @@ fn turns_and_reflections(
         ≡ distinct same_sets
         (maps.turns count circle.now ++ maps.turns count (maps.mirrored circle.now))) }
 {
-    let mut lists = IndexSet::new(alloc);
-    add_turns(alloc, &mut lists, count, circle)?;
+    let mut lists = turns(alloc, count, circle)?;
     let image = mirrored(alloc, circle)?;
     add_turns(alloc, &mut lists, count, &image)?;
     Ok(lists)
@@ -113,13 +112,13 @@ fn orders(alloc: Global, circle: &[StateSet]) -> Result<Circles, AllocError>
     ensures { IfOk result (λ lists. lists_in lists.keys
         ≡ distinct same_sets (maps.permutations circle.now)) }
 {
-    match circle {
-        [] => {
+    match circle.split_first() {
+        None => {
             let mut lists = IndexSet::new(alloc);
             lists.insert(Vec::new(alloc))?;
             Ok(lists)
         }
-        [first, others @ ..] => {
+        Some((first, others)) => {
             let shorter = orders(alloc, others)?;
             longer_orders(alloc, *first, &shorter)
         }

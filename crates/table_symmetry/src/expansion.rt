@@ -59,9 +59,9 @@ fn push_assigned(
     ensures { Grows result rows.old.items rows.new.items
         (flat_map (expanded_one symmetry) (meaning.assigned bound.now transition.now)) }
 {
-    match bound {
-        [] => push_one(alloc, rows, symmetry, transition),
-        [variable, others @ ..] => {
+    match bound.split_first() {
+        None => push_one(alloc, rows, symmetry, transition),
+        Some((variable, others)) => {
             let states = variable.states.to_vec(alloc)?;
             for state in &states {
                 let valued = valued(alloc, variable, *state, transition)?;
@@ -117,11 +117,7 @@ fn push_lists(
 fn sets_of(alloc: Global, entries: &[Entry]) -> Result<Vec<StateSet>, AllocError>
     ensures { IfOk result (λ sets. sets.items ≡ map meaning.admitted entries.now) }
 {
-    let mut sets = Vec::with_capacity(alloc, entries.len())?;
-    for entry in entries {
-        sets.push(admitted(entry))?;
-    }
-    Ok(sets)
+    entries.iter().map(|entry| admitted(entry)).collect(alloc)
 }
 
 fn admitted(entry: &Entry) -> StateSet

@@ -6,4 +6,4 @@ use Rattle.table_symmetry.specs.Grown.{lists_in, with_all}
 use Rattle.table_symmetry.proofs.arrangement.longer_orders.Given as goal
 
 abbrev pub invariant-loop-list : goal.invariant-loop-list
-invariant-loop-list l = lists_in l.lists.keys ≡ with_all same_sets [] (flat_map (maps.insertions l.set) (take l.list-index (lists_in l.list-items)))
+invariant-loop-list l = lists_in l.lists.keys ≡ with_all same_sets [] (flat_map (maps.insertions l.set) (lists_in (take l.list-index l.list-items)))

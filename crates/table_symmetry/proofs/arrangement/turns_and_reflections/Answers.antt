@@ -1,13 +1,11 @@
-use Rattle.std.proofs.Common.{[], ◌∙◌}
+use Rattle.std.proofs.Common.{◌∙◌}
 use Rattle.table_symmetry.specs.Circle as maps
 use Rattle.table_symmetry.specs.Expanded.{same_sets}
-use Rattle.table_symmetry.proofs.Arranged.{no_lists, same_sets_decides}
+use Rattle.table_symmetry.proofs.Arranged.{same_sets_decides}
 use Rattle.table_symmetry.proofs.Distinct.{with_all-distinct}
 use Rattle.table_symmetry.proofs.arrangement.turns_and_reflections.Goals as goal
 
 pub returns : goal.returns
 returns c =
-    let turns = maps.turns c.args.count c.args.circle.now in
-    let reflections = maps.turns c.args.count (maps.mirrored c.args.circle.now) in
-    let first = rw (no_lists c.new-lists.result.keys c.new-lists.ensures.len) at c.in_ok-add_turns.ensures ∙ with_all-distinct same_sets same_sets_decides [] turns in
-    rw (c.deref.ensures.value, c.in_ok-image.ensures, first) at c.in_ok-add_turns-2.ensures ∙ with_all-distinct same_sets same_sets_decides turns reflections
+    rw (c.deref.ensures.value, c.in_ok-image.ensures, c.in_ok-lists.ensures) at c.in_ok-add_turns.ensures
+    ∙ with_all-distinct same_sets same_sets_decides (maps.turns c.args.count c.args.circle.now) (maps.turns c.args.count (maps.mirrored c.args.circle.now))

@@ -1,4 +1,4 @@
-use Rattle.std.proofs.Common.{◌≡◌, true, rules, ◌∙◌}
+use Rattle.std.proofs.Common.{◌≡◌, true, rules}
 use Rattle.worlds.specs.Step.{AreNineBelow}
 use Rattle.table_symmetry.specs.Rule.{is_sound}
 use Rattle.table_symmetry.proofs.FirstMatch.{next-expanded}
