@@ -21,25 +21,20 @@ flat_map_both g f h k e [] = refl
 flat_map_both g f h k e (x ∷ xs) = (λ i. e x i ++ flat_map_both g f h k e xs i) ∙ sym (map-append h (k x) (flat_map k xs))
 
 module _ {X Y : Type 0} (f : X → Y) where
-  turned-map : (k : ℕ) (xs : List X) → turned k (map f xs) ≡ map f (turned k xs)
-  turned-map k xs = (λ i. drop-map f k xs i ++ take-map f k xs i) ∙ sym (map-append f (drop k xs) (take k xs))
-
   turns-map : (n : ℕ) (xs : List X) → turns n (map f xs) ≡ map (map f) (turns n xs)
   turns-map n xs = map_both (λ i. turned (i * (length (map f xs) / n)) (map f xs)) (map f) (λ i. turned (i * (length xs / n)) xs)
-      (λ i. ap (λ l. turned (i * (l / n)) (map f xs)) (length-map xs f) ∙ turned-map (i * (length xs / n)) xs)
+      (λ i. let k = i * (length xs / n) in rw (length-map, drop-map, take-map) (sym (map-append f (drop k xs) (take k xs))))
       (range_with_len 0 n)
 
   mirrored-map : (xs : List X) → mirrored (map f xs) ≡ map f (mirrored xs)
   mirrored-map [] = refl
   mirrored-map (x ∷ xs) = ap (λ ys. f x ∷ ys) (sym (map-reverse f xs))
 
-  inserted-map : (x : X) (xs : List X) (i : ℕ) → take i (map f xs) ++ f x ∷ drop i (map f xs) ≡ map f (take i xs ++ x ∷ drop i xs)
-  inserted-map x xs i = (λ j. take-map f i xs j ++ f x ∷ drop-map f i xs j) ∙ sym (map-append f (take i xs) (x ∷ drop i xs))
-
   insertions-map : (x : X) (xs : List X) → insertions (f x) (map f xs) ≡ map (map f) (insertions x xs)
   insertions-map x xs =
       ap (λ l. map (λ i. take i (map f xs) ++ f x ∷ drop i (map f xs)) (range_with_len 0 (l + 1))) (length-map xs f)
-      ∙ map_both (λ i. take i (map f xs) ++ f x ∷ drop i (map f xs)) (map f) (λ i. take i xs ++ x ∷ drop i xs) (inserted-map x xs) (range_with_len 0 (length xs + 1))
+      ∙ map_both (λ i. take i (map f xs) ++ f x ∷ drop i (map f xs)) (map f) (λ i. take i xs ++ x ∷ drop i xs)
+      (λ i. rw (take-map, drop-map) (sym (map-append f (take i xs) (x ∷ drop i xs)))) (range_with_len 0 (length xs + 1))
 
   permutations-map : (xs : List X) → permutations (map f xs) ≡ map (map f) (permutations xs)
   permutations-map [] = refl

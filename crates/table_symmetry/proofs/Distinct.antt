@@ -1,10 +1,11 @@
 -- Lists in which each element stands once.
-use Rattle.std.proofs.Common.{◌≡◌, Bool, true, false, not, cond, ◌||◌, List, [], ◌∷◌, ◌++◌, refl, sym, ap, subst, ◌∙◌, append_assoc, arith}
-use Rattle.std.specs.List.{filter, list_any, flat_map}
+use Rattle.std.proofs.Common.{◌≡◌, ℕ, ◌+◌, map, Bool, true, false, not, cond, ◌||◌, List, [], ◌∷◌, ◌++◌, refl, sym, ap, subst, ◌∙◌, append_assoc, arith}
+use Rattle.std.specs.List.{filter, list_any, flat_map, range_with_len}
 use Rattle.std.proofs.Math.Bool.{or-true}
 use Rattle.std.proofs.lemmas.Grind.{flat_map-append}
 use Rattle.std.proofs.lemmas.List.{append-nil}
 use Rattle.std.proofs.lemmas.List.Elements.{filter-append}
+use Rattle.std.proofs.lemmas.List.FromFn.{map-range_with_len_more}
 use Rattle.std.proofs.lemmas.List.Folds.{list_any-append}
 use Rattle.table_symmetry.specs.Expanded.{distinct}
 use Rattle.table_symmetry.specs.Grown.{with_one, with_all}
@@ -37,6 +38,10 @@ module _ {X : Type 0} (E : X → X → Bool) (decides : (x y : X) → (E x y ≡
   pub with_all-append : (xs ys zs : List X) → with_all E xs (ys ++ zs) ≡ with_all E (with_all E xs ys) zs
   with_all-append xs [] zs = refl
   with_all-append xs (y ∷ ys) zs = with_all-append (with_one E xs y) ys zs
+
+  -- the next of those that are made in turn
+  pub with_all-next : (xs : List X) (at : ℕ → X) (n : ℕ) → with_all E xs (map at (range_with_len 0 (n + 1))) ≡ with_one E (with_all E xs (map at (range_with_len 0 n))) (at n)
+  with_all-next xs at n = rw (map-range_with_len_more at 0 n n (omega arith)) (with_all-append xs (map at (range_with_len 0 n)) (at n ∷ []))
 
   -- what is there isn't added
   pub with_all-among : (xs ys : List X) → ((y : X) → list_any (λ z. E z y) ys ≡ true → list_any (λ z. E z y) xs ≡ true) → with_all E xs ys ≡ xs

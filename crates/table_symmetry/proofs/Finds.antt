@@ -1,6 +1,6 @@
--- A look-up finds what the first row that matches gives.
-use Rattle.std.proofs.Common.{◌≡◌, ℕ, zero, suc, ◌+◌, ◌-◌, ◌*◌, ◌<◌, ◌≤◌, Bool, true, false, ◌&&◌, List, [], ◌∷◌, length, get_or, map, Option, Some, None, refl, sym, ap, ◌∙◌, inl, inr, arith}
-use Rattle.std.specs.Prelude.{All, find, slice_get, slice_index, nat_lt, MatchOption}
+-- A look-up tells which rows match, 64 at a time, and finds what the first of them gives.
+use Rattle.std.proofs.Common.{◌≡◌, ℕ, zero, suc, ◌+◌, ◌-◌, ◌*◌, ◌/◌, ◌%◌, ◌<◌, ◌≤◌, ◌⊎◌, Bool, true, false, ◌&&◌, List, [], ◌∷◌, length, get_or, map, Option, Some, None, refl, sym, ap, ◌∙◌, inl, inr, arith}
+use Rattle.std.specs.Prelude.{◌==◌, bit_and, All, find, slice_get, slice_index, nat_lt, MatchOption}
 use Rattle.std.specs.Borrow.{Bor}
 use Rattle.std.specs.Int.{bit_at}
 use Rattle.std.specs.List.{HoldsAt}
@@ -10,6 +10,7 @@ use Rattle.std.proofs.lemmas.Bool.Decides.{nat_tests}
 use Rattle.std.proofs.lemmas.List.{length-map}
 use Rattle.std.proofs.lemmas.List.Elements.{All-get_or, All-map}
 use Rattle.std.proofs.lemmas.List.Sums.{AllPass-from_list_all}
+use Rattle.std.proofs.lemmas.Nat.Bits.{bit_at_and, bit_at-lt}
 use Rattle.std.proofs.lemmas.Option.{slice_get-get_or, slice_get_past}
 use Rattle.worlds.specs.Step.{AreNineBelow}
 use Rattle.table_symmetry.specs.declared.expansion.Expanded.{Expanded}
@@ -45,6 +46,23 @@ columns_tell neighborhood rows n columns full right around nine row d l =
     let count = length-map (places_of neighborhood) (λ place. slice_index around place) in
     row_has-all columns (get_or rows row d).inputs inputs row (omega (arith, right.long, count)) (omega (arith, full row d l, count))
     (λ p m. right.each p (omega (arith, m, count)) (get_or inputs p 0) (inputs_below n neighborhood around nine p 0 m) row d l)
+
+-- the bits of a word tell which rows have the first states, and the last columns and states are left
+pub record IsNarrowed (columns : List (List (List ℕ))) (inputs : List ℕ) (word rows : ℕ) (last_columns : List (List (List ℕ))) (last_inputs : List ℕ) : Type 0 where
+  pub narrowed : (bit : ℕ) → bit < 64 → row_has columns inputs (64 * word + bit) ≡ ((bit_at rows bit == 1) && row_has last_columns last_inputs (64 * word + bit))
+
+pub IsNarrowed-more : {columns xs ys : List (List (List ℕ))} {inputs ss ts : List ℕ} {word rows : ℕ} (x : List (List ℕ)) (s more : ℕ)
+    → xs ≡ x ∷ ys → ss ≡ s ∷ ts → more ≡ get_or (get_or x s []) word 0 → IsNarrowed columns inputs word rows xs ss → IsNarrowed columns inputs word (bit_and rows more) ys ts
+IsNarrowed-more {word = word} {rows = rows} x s more ex es em n = record {
+  narrowed = λ bit h.
+      let number : (64 * word + bit) / 64 ≡ word = omega arith in
+      let place : (64 * word + bit) % 64 ≡ bit = omega arith in
+      n.narrowed bit h ∙ rw (ex, es, number, place, ← em) (grind (arith, nat_tests, bit_at_and rows more bit, bit_at-lt rows bit, bit_at-lt more bit));
+}
+
+pub nothing_left : (ys : List (List (List ℕ))) (ts : List ℕ) (row : ℕ) → (ys ≡ []) ⊎ (ts ≡ []) → row_has ys ts row ≡ true
+nothing_left [] ts row h = refl
+nothing_left (y ∷ ys) ts row h = grind arith
 
 -- no row before a bit of a word passes, where none before the word does and the lower bits aren't set
 pub none_below : (columns : List (List (List ℕ))) (inputs : List ℕ) (word rows bit : ℕ) → TellRows columns inputs word rows → bit ≤ 64 → ((i : ℕ) → i < bit → bit_at rows i ≡ 0)

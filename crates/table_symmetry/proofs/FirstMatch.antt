@@ -1,5 +1,5 @@
 -- The first expanded transition that matches gives the next state.
-use Rattle.std.specs.Prelude.{◌≡◌, ℕ, ◌&&◌, ◌||◌, Bool, cond, List, [], ◌∷◌, ◌++◌, map, take, drop, find, slice_index, unwrap_or, Option, Some, None}
+use Rattle.std.specs.Prelude.{◌≡◌, ℕ, ◌&&◌, ◌||◌, Bool, cond, List, [], ◌∷◌, ◌++◌, map, take, drop, find, slice_index, unwrap_or, Some, None}
 use Rattle.std.specs.List.{flat_map, list_any, take-map, drop-map}
 use Rattle.std.specs.Option.{option_map, option_or}
 use Rattle.std.proofs.Common.{arith, refl, sym, ap, ◌∙◌}
@@ -56,21 +56,13 @@ first_match-all : (table : Table) (around : List ℕ) (ts : List Transition) →
 first_match-all table around [] = refl
 first_match-all table around (t ∷ ts) =
     let append = first_match-append (expanded_one table.symmetry t) (flat_map (expanded_one table.symmetry) ts) (inputs_of table.neighborhood around) in
-    rw (append, first_match-one table around t, first_match-all table around ts) (chosen (matches table around t) (find (matches table around) ts))
-  where
-    chosen : (b : Bool) (o : Option Transition)
-        → option_or (cond b (Some (given t.result)) None) (option_map (λ (u : Transition). given u.result) o) ≡ option_map (λ (u : Transition). given u.result) (cond b (Some t) o)
-    chosen b o = grind arith
-
-unwrap-option_or : (a b : Option ℕ) (d : ℕ) → unwrap_or (option_or a b) d ≡ unwrap_or a (unwrap_or b d)
-unwrap-option_or (Some x) b d = refl
-unwrap-option_or None b d = refl
+    rw (append, first_match-one table around t, first_match-all table around ts) (grind arith)
 
 first_result-expanded : (table : Table) (around : List ℕ) (ts : List Transition) → unwrap_or (first_match (flat_map (expanded_of table.symmetry) ts) (inputs_of table.neighborhood around)) (slice_index around 0) ≡ first_result table around ts
 first_result-expanded table around [] = refl
 first_result-expanded table around (t ∷ ts) =
     let append = first_match-append (expanded_of table.symmetry t) (flat_map (expanded_of table.symmetry) ts) (inputs_of table.neighborhood around) in
-    rw (append, unwrap-option_or, first_match-all table around (assignments t), first_result-expanded table around ts)
+    rw (append, first_match-all table around (assignments t), ← first_result-expanded table around ts) (grind arith)
 
 -- the first expanded transition that matches gives the next state, and where none does the cell keeps its own
 pub next-expanded : (table : Table) (around : List ℕ) → unwrap_or (first_match (expanded table) (inputs_of table.neighborhood around)) (slice_index around 0) ≡ next table around

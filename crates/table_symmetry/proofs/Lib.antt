@@ -7,9 +7,7 @@ mod Finds
 mod FirstMatch
 mod Growing
 mod Limits
-mod Matching
 pub mod SaidTables
-mod Words
 mod Compositions
 mod Orders
 pub mod WrittenTables

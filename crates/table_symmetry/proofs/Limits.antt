@@ -29,14 +29,8 @@ pub is_kept : {found : Option ℕ} (table : Table) (lookup : Lookup) → IsRead 
 is_kept table lookup read looked finds quiet =
     let some : 0 < table.states = omega (arith, read.at_least) in
     let still : is_quiescent table ≡ true = eq-eqb (next table nine_zeros) 0 (sym (next_of_zeros table lookup finds looked some) ∙ quiet) in
-    record {
-      at_least = read.at_least;
-      at_most = read.at_most;
-      sound = and_from (is_quiescent table) (list_all (gives_states table.states) table.transitions) still (all_give_states table.states table.transitions some read.below);
-      full = read.full;
-      few = looked.few;
-      listed = looked.listed;
-    }
+    let gives = all_give_states table.states table.transitions some read.below in
+    record { read = read; sound = and_from (is_quiescent table) (list_all (gives_states table.states) table.transitions) still gives; looked_up = looked }
 
 pub within_limits-restless : {found : Option ℕ} (table : Table) (lookup : Lookup) → IsRead table → LooksUp table lookup → Finds lookup nine_zeros found → (unwrap_or found 0 ≡ 0 → ⊥) → within_limits table ≡ Err NotQuiescent
 within_limits-restless table lookup read looked finds moves =
@@ -50,8 +44,8 @@ are_expanded table lookup rows kept listed =
     subst (AreExpanded table) (sym listed) (record {
       sound = kept.sound;
       listed = refl;
-      few = kept.few;
-      full = expanded-length (length (places_of table.neighborhood) + 1) table.symmetry table.transitions kept.full;
+      few = kept.looked_up.few;
+      full = expanded-length (length (places_of table.neighborhood) + 1) table.symmetry table.transitions kept.read.full;
       below = expanded-below table kept.sound;
       first = next-expanded table;
     })

@@ -74,5 +74,5 @@ permutations-orders xs ys apart =
     let among = among_orders xs ys apart in
     grind (arith, orders, among)
 
-pub permute-orders : PermuteTakesAllOrders
-permute-orders m ys = permutations-orders (places_of m) ys (grind arith)
+pub permute_orders : PermuteTakesAllOrders
+permute_orders m ys = permutations-orders (places_of m) ys (grind arith)

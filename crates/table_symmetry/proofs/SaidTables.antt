@@ -1,5 +1,5 @@
 -- The table that lines mean is sound.
-use Rattle.std.proofs.Common.{◌≡◌, ℕ, ◌<◌, ◌==◌, ◌&&◌, Bool, true, false, not, List, [], ◌∷◌, ◌++◌, Ok, Err, if◌then◌else◌, nat_lt, length, refl, ap, subst, arith}
+use Rattle.std.proofs.Common.{◌≡◌, ℕ, ◌<◌, ◌==◌, ◌&&◌, Bool, true, false, not, List, [], ◌∷◌, ◌++◌, Ok, Err, if◌then◌else◌, nat_lt, length, refl, subst, arith}
 use Rattle.std.specs.List.{list_all}
 use Rattle.std.proofs.lemmas.Bool.{and_from, and_parts}
 use Rattle.std.proofs.lemmas.Bool.Decides.{nat_tests}
@@ -16,7 +16,7 @@ use Rattle.table_lines.specs.Read.{IsRead}
 use Rattle.rule_file.proofs.Readings.{then-ok}
 use Rattle.table_lines.proofs.SaidTables.{lines-read}
 use Rattle.table_symmetry.specs.Expanded.{expanded, transition_limit}
-use Rattle.table_symmetry.specs.NextState.{assigned, bound_variables, gives_states, given, is_quiescent, valued, valued_entry}
+use Rattle.table_symmetry.specs.NextState.{assigned, bound_variables, gives_states, given, is_quiescent, valued}
 use Rattle.table_symmetry.specs.Rule.{is_sound}
 use Rattle.table_symmetry.specs.Table.{Table}
 use Rattle.table_symmetry.specs.TableLines.{table_of, within_limits}
@@ -30,19 +30,13 @@ bound-below n (OneOf v ∷ entries) h =
     let others = list_all-filter (λ w. all_below n w.states) (λ w. not (v.number == w.number)) (bound_variables entries) in
     grind (arith, others, bound-below n entries)
 
-given-below : (n : ℕ) (e : Entry) → 0 < n → entry_below n e ≡ true → nat_lt (given e) n ≡ true
-given-below n e some h = grind (arith, nat_tests)
-
-valued-below : (n : ℕ) (v : Variable) (state : ℕ) (e : Entry) → nat_lt state n ≡ true → entry_below n e ≡ true → entry_below n (valued_entry v state e) ≡ true
-valued-below n v state e low h = grind arith
-
 assigned-below : (n : ℕ) (vs : List Variable) (t : Transition) → 0 < n → list_all (λ v. all_below n v.states) vs ≡ true → entry_below n t.result ≡ true
     → list_all (λ u. nat_lt (given u.result) n) (assigned vs t) ≡ true
-assigned-below n [] t some h e = ap (λ b. b && true) (given-below n t.result some e)
+assigned-below n [] t some h e = grind (arith, nat_tests)
 assigned-below n (v ∷ vs) t some h e =
     let parts = and_parts (all_below n v.states) (list_all (λ w. all_below n w.states) vs) h in
     list_all-flat_map (λ s. nat_lt s n) (λ u. nat_lt (given u.result) n) (λ state. assigned vs (valued v state t)) v.states
-    (λ state low. assigned-below n vs (valued v state t) some parts.1 (valued-below n v state t.result low e)) parts.0
+    (λ state low. assigned-below n vs (valued v state t) some parts.1 (grind (arith, low, e))) parts.0
 
 gives_states-below : (n : ℕ) (t : Transition) → 0 < n → admits_below n t ≡ true → gives_states n t ≡ true
 gives_states-below n t some h =
@@ -72,3 +66,5 @@ table_of-sound lines table h =
     let some : 0 < t.states = omega (arith, read.at_least) in
     subst (λ u. is_sound u ≡ true) within.1
     (and_from (is_quiescent t) (list_all (gives_states t.states) t.transitions) within.0 (all_give_states t.states t.transitions some read.below))
+
+pub ruleset sound_tables = (table_of-sound)

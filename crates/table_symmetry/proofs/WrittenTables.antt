@@ -16,8 +16,8 @@ use Rattle.table_symmetry.proofs.SaidTables.{passed}
 pub written-means : WrittenMeansTheSame
 written-means number sets table is within = ap (λ read. read >>= within_limits) (written-read number sets table is) ∙ within
 
-pub table_of-written : TablesOfFilesAreWritten
-table_of-written lines table short h =
+pub table_of_written : TablesOfFilesAreWritten
+table_of_written lines table short h =
     let said = then-ok (lines_of lines) within_limits table h in
     let t : Table = said.0 in
     let same = (passed (nat_lt transition_limit (length (expanded t))) (is_quiescent t) t table said.2).1 in

@@ -1,5 +1,9 @@
-use Rattle.table_symmetry.proofs.Columns.{IsColumn}
+use Rattle.std.proofs.Common.{◌≡◌, ℕ, ◌*◌, ◌/◌, ◌%◌, ◌<◌, length, get_or}
+use Rattle.std.specs.Int.{bit_at}
 use Rattle.table_symmetry.proofs.lookup.column.Given as goal
 
+-- a word for each 64 of the words
 abbrev pub invariant-loop-number : goal.invariant-loop-number
-invariant-loop-number l = IsColumn l.words l.bit l.column.items l.number
+invariant-loop-number l =
+    (length l.column.items ≡ l.number)
+    × ((row : ℕ) → row < 64 * l.number → bit_at (get_or l.column.items (row / 64) 0) (row % 64) ≡ bit_at (get_or l.words row 0) l.bit)

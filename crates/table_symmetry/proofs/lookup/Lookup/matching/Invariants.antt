@@ -1,4 +1,4 @@
-use Rattle.table_symmetry.proofs.Matching.{IsNarrowed}
+use Rattle.table_symmetry.proofs.Finds.{IsNarrowed}
 use Rattle.table_symmetry.proofs.lookup.Lookup.matching.Given as goal
 
 abbrev pub invariant-loop-columns : goal.invariant-loop-columns

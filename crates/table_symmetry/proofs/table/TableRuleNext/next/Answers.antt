@@ -8,7 +8,7 @@ pub returns-clause-straight : goal.returns-clause-straight
 returns-clause-straight c =
     let around = c.args.around.now.0 in
     let nine : AreNineBelow c.self.inside.lines.states around = record { nine = search (rules); below = rw c.self.view_is c.requires } in
-    let found = c.find.ensures _ _ _ c.self.invariant.listed nine in
+    let found = c.find.ensures _ _ _ c.self.invariant.looked_up.listed nine in
     rw (found, next-expanded c.self.inside.lines around, c.self.view_is) at c.unwrap_or.ensures
 
 pub returns-clause-value : goal.returns-clause-value
