@@ -3,16 +3,12 @@ use Rattle.std.proofs.Common.{◌≡◌, ℕ, ◌+◌, ◌<◌, true, ◌||◌, 
 use Rattle.std.specs.List.{list_any}
 use Rattle.std.proofs.lemmas.List.{map-append, take_more}
 use Rattle.indexmap.specs.IndexSet.{insert_key}
-use Rattle.table_symmetry.specs.States.{same_set}
 use Rattle.table_symmetry.specs.Expanded.{same_sets}
 use Rattle.table_symmetry.specs.Grown.{lists_in, with_one}
 use lib.Pointwise.{pointwise_decides, bytes_decides}
 
-pub same_set_decides : (x y : List ℕ) → (same_set x y ≡ true → x ≡ y) × (x ≡ y → same_set x y ≡ true)
-same_set_decides = bytes_decides
-
 pub same_sets_decides : (x y : List (List ℕ)) → (same_sets x y ≡ true → x ≡ y) × (x ≡ y → same_sets x y ≡ true)
-same_sets_decides = pointwise_decides same_set_decides
+same_sets_decides = pointwise_decides bytes_decides
 
 -- of lists that stand in others, one more
 pub lists-more : (keys : List (Vec (List ℕ) Global)) (i : ℕ) (key : Vec (List ℕ) Global) → i < length keys → key ≡ get_or keys i key → lists_in (take (i + 1) keys) ≡ lists_in (take i keys) ++ key.items ∷ []

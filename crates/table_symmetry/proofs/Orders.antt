@@ -37,7 +37,7 @@ without_one x (y ∷ ys) h = elim (cases_eq x y) [
   | inl same ↦ (0, ys, omega arith, ap (λ z. z ∷ ys) (sym same))
   | inr other ↦
       let found = without_one x ys (grind (arith, nat_tests)) in
-      (suc found.0, y ∷ found.1, omega (arith, found.2), ap (λ zs. y ∷ zs) found.3)
+      (suc found.0, y ∷ found.1, omega (arith, found.2), rw found.3)
 ]
 
 inserted-among : (x i : ℕ) (zs ys : List ℕ) → i ≤ length zs → ys ≡ take i zs ++ x ∷ drop i zs → is_among (insertions x zs) ys ≡ true
