@@ -55,14 +55,12 @@ first_match-one table around t =
 first_match-all : (table : Table) (around : List ℕ) (ts : List Transition) → first_match (flat_map (expanded_one table.symmetry) ts) (inputs_of table.neighborhood around) ≡ option_map (λ (u : Transition). given u.result) (find (matches table around) ts)
 first_match-all table around [] = refl
 first_match-all table around (t ∷ ts) =
-    let append = first_match-append (expanded_one table.symmetry t) (flat_map (expanded_one table.symmetry) ts) (inputs_of table.neighborhood around) in
-    rw (append, first_match-one table around t, first_match-all table around ts) (grind arith)
+    rw (first_match-append, first_match-one table around t, first_match-all table around ts) (grind arith)
 
 first_result-expanded : (table : Table) (around : List ℕ) (ts : List Transition) → unwrap_or (first_match (flat_map (expanded_of table.symmetry) ts) (inputs_of table.neighborhood around)) (slice_index around 0) ≡ first_result table around ts
 first_result-expanded table around [] = refl
 first_result-expanded table around (t ∷ ts) =
-    let append = first_match-append (expanded_of table.symmetry t) (flat_map (expanded_of table.symmetry) ts) (inputs_of table.neighborhood around) in
-    rw (append, first_match-all table around (assignments t), ← first_result-expanded table around ts) (grind arith)
+    rw (first_match-append, first_match-all table around (assignments t), ← first_result-expanded table around ts) (grind arith)
 
 -- the first expanded transition that matches gives the next state, and where none does the cell keeps its own
 pub next-expanded : (table : Table) (around : List ℕ) → unwrap_or (first_match (expanded table) (inputs_of table.neighborhood around)) (slice_index around 0) ≡ next table around
