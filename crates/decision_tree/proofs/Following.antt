@@ -1,11 +1,11 @@
 -- Following inputs through entries that are kept one after another.
-use Rattle.std.proofs.Common.{◌≡◌, ℕ, ◌+◌, ◌*◌, ◌<◌, true, cond, List, ◌∷◌, length, drop, get_or, slice_index, sym, ap, arith}
+use Rattle.std.proofs.Common.{◌≡◌, ℕ, ◌+◌, ◌*◌, ◌<◌, true, List, ◌∷◌, length, drop, get_or, slice_index, sym, ap, arith}
 use Rattle.std.proofs.lemmas.Bool.{and_parts}
 use Rattle.std.proofs.lemmas.List.{drop_more}
 use Rattle.std.proofs.lemmas.Nat.{mul-add-lt}
 use Rattle.decision_tree.specs.declared.tree.Neighbors.{Neighbors}
 use Rattle.decision_tree.specs.Kept.{nodes_in, tree_of_kept, IsKeptTree, Stores}
-use Rattle.decision_tree.specs.Tree.{Tree, node_at, leads, follow, next, next_under, is_sound, is_quiescent, root_of, places_of, inputs_of}
+use Rattle.decision_tree.specs.Tree.{node_at, leads, follow, next, is_quiescent, root_of, places_of, inputs_of}
 use Rattle.decision_tree.specs.TreeLaws.{leads-on, leads-width}
 use Rattle.decision_tree.proofs.KeptNodes.{entry-in, length-nodes_in, none-past}
 
@@ -47,7 +47,3 @@ stores-kept n neighbors root entries kept =
       filled = kept.filled;
       leading = rw (root-kept n neighbors root entries) at (and_parts (is_quiescent tree) (leads n tree.nodes (root_of tree) (places_of neighbors)) kept.sound).1;
     }
-
--- a sound tree
-pub next_under-sound : (tree : Tree) (around : List ℕ) → is_sound tree ≡ true → next tree around ≡ next_under tree around
-next_under-sound tree around h = sym (ap (λ b. cond b (next tree around) 0) h)

@@ -11,7 +11,7 @@ use Rattle.rule_file.proofs.Readings.{map-some, some-ok, then-ok}
 use Rattle.rule_file.specs.RuleFile.{NumberedLine, Section}
 use Rattle.decision_tree.specs.declared.descriptors.Descriptor.{Descriptor}
 use Rattle.decision_tree.specs.declared.descriptors.TreeHead.{TreeHead}
-use Rattle.decision_tree.specs.Tree.{Entries, Tree, is_quiescent, is_sound, leads, next, next_under, node_at, places_of, root_of}
+use Rattle.decision_tree.specs.Tree.{Entries, Tree, is_quiescent, is_sound, leads, next, node_at, places_of, root_of}
 use Rattle.decision_tree.specs.TreeLines.{Described, Node, depth_of_root, describe, descriptor_of, head_from, head_of, if_quiescent, is_next, last_number, node_of, nodes_from, tree_from, tree_of, undescribed, with_line}
 use Rattle.decision_tree.proofs.Finishing.{levels}
 use Rattle.decision_tree.proofs.Growing.{IsBelow, Leading, entry-below, is_next-node, leading-push}
@@ -158,7 +158,3 @@ section-sound section tree h =
     let leading = said.said.leading said.two (length (entries_in said.nodes) - 1) (places_of said.head.neighbors) (grind (arith, common_steps, many, said.all, said.some)) deep in
     and_from (is_quiescent tree) (leads tree.states tree.nodes (root_of tree) (places_of tree.neighbors)) said.quiet
     (subst (λ (t : Tree). leads t.states t.nodes (root_of t) (places_of t.neighbors) ≡ true) said.is leading)
-
--- so its next states are plain
-pub section-plain : (section : Section) (tree : Tree) (around : List ℕ) → tree_of section ≡ Ok tree → next_under tree around ≡ next tree around
-section-plain section tree around h = ap (λ b. if b then next tree around else 0) (section-sound section tree h)

@@ -2,15 +2,15 @@
 use Rattle.std.specs.Prelude.{◌≡◌, ℕ, Bool, true, List, ◌∷◌, ◌++◌, is_some, map, Ok}
 use Rattle.std.specs.List.{list_all}
 use Rattle.rule_file.specs.RuleFile.{NumberedLine, Section, file_of, is_name}
-use Rattle.decision_tree.specs.Tree.{Tree, is_quiescent, next, next_under}
+use Rattle.decision_tree.specs.Tree.{Tree, is_quiescent, is_sound}
 use Rattle.decision_tree.specs.TreeLines.{Node, descriptor_of, tree_from, tree_of}
 use Rattle.decision_tree.specs.declared.descriptors.TreeHead.{TreeHead}
 use Rattle.decision_tree.specs.Kept.{IsTreeHead}
 use Rattle.decision_tree.specs.WrittenTree.{AreNodesOf, written_file, written_section}
 
--- the next state under a tree that a file says is what is found from its root
-abbrev pub TreesOfFilesArePlain : Type 0
-TreesOfFilesArePlain = (section : Section) (tree : Tree) (around : List ℕ) → tree_of section ≡ Ok tree → next_under tree around ≡ next tree around
+-- a tree that a file says is sound
+abbrev pub TreesOfFilesAreSound : Type 0
+TreesOfFilesAreSound = (section : Section) (tree : Tree) → tree_of section ≡ Ok tree → is_sound tree ≡ true
 
 -- lines that say a tree say it under other numbers too: blank lines and comments between them change nothing
 abbrev pub NumbersDoNotMatter : Type 0

@@ -1,5 +1,5 @@
 -- A tree, and the next state of a cell that it gives.
-use Rattle.std.specs.Prelude.{ℕ, ◌-◌, ◌==◌, ◌&&◌, Bool, nat_lt, if◌then◌else◌, List, [], ◌∷◌, length, map, slice_index, slice_index_or}
+use Rattle.std.specs.Prelude.{ℕ, ◌-◌, ◌==◌, ◌&&◌, Bool, nat_lt, List, [], ◌∷◌, length, map, slice_index, slice_index_or}
 use Rattle.std.specs.List.{list_all}
 use Rattle.worlds.specs.Step.{nine_zeros}
 use Rattle.decision_tree.specs.declared.tree.Neighbors.{Neighbors}
@@ -53,7 +53,3 @@ leads n nodes number (input ∷ inputs) = (length (node_at nodes number) == n) &
 -- a tree that a file may have: it is quiescent, and the root leads to a state whatever the inputs are
 abbrev pub is_sound : Tree → Bool
 is_sound tree = is_quiescent tree && leads tree.states tree.nodes (root_of tree) (places_of tree.neighbors)
-
--- the next state under a tree; of one that no file has it is 0
-abbrev pub next_under : Tree → List ℕ → ℕ
-next_under tree around = if is_sound tree then next tree around else 0

@@ -1,4 +1,4 @@
--- What holds of every tree.
+-- What holds of every tree that a file may have.
 use Rattle.std.specs.Prelude.{◌≡◌, ℕ, zero, suc, All, ◌==◌, ◌<◌, ◌&&◌, Bool, true, false, List, [], ◌∷◌, length, slice_index, if◌then◌else◌, nat_lt}
 use Rattle.std.specs.List.{list_all}
 use Rattle.std.proofs.Common.{refl, arith, rules, tests}
@@ -7,16 +7,13 @@ use Rattle.std.proofs.lemmas.List.Sums.{AllPass-from_list_all}
 use Rattle.worlds.specs.Step.{nine_zeros, AreNineBelow}
 use Rattle.decision_tree.specs.declared.tree.Neighbors.{Neighbors}
 use Rattle.decision_tree.specs.declared.tree.Neighbors.TheVariants.{Four, Eight}
-use Rattle.decision_tree.specs.Tree.{Entries, Tree, node_at, follow, leads, inputs_of, places_of, root_of, next, next_under, is_quiescent, is_sound}
+use Rattle.decision_tree.specs.Tree.{Entries, Tree, node_at, follow, leads, inputs_of, places_of, root_of, next, is_quiescent, is_sound}
 
--- a state 0 among such states stays
-quiet_by : (zero leading : Bool) (n : ℕ) → (zero ≡ true → n ≡ 0) → (if zero && leading then n else 0) ≡ 0
-quiet_by true true n h = h refl
-quiet_by true false n h = refl
-quiet_by false leading n h = refl
-
-pub next_under-quiet : (tree : Tree) → next_under tree nine_zeros ≡ 0
-next_under-quiet tree = quiet_by (is_quiescent tree) (leads tree.states tree.nodes (root_of tree) (places_of tree.neighbors)) (next tree nine_zeros) (λ h. search (rules, tests))
+-- a cell of state 0 among such cells keeps it
+pub next-quiet : (tree : Tree) → is_sound tree ≡ true → next tree nine_zeros ≡ 0
+next-quiet tree sound =
+    let quiet : is_quiescent tree ≡ true = (and_parts (is_quiescent tree) (leads tree.states tree.nodes (root_of tree) (places_of tree.neighbors)) sound).0 in
+    search (rules, tests)
 
 -- a node that leads on has n entries
 pub leads-width : (n : ℕ) (nodes : List Entries) (number input : ℕ) (inputs : List ℕ) → leads n nodes number (input ∷ inputs) ≡ true → length (node_at nodes number) ≡ n
@@ -39,10 +36,6 @@ follow-below n nodes number (input ∷ inputs) h low =
     let parts = and_parts (nat_lt input n) (list_all (λ s. nat_lt s n) inputs) low in
     let first : nat_lt input n ≡ true = parts.0 in
     follow-below n nodes (slice_index (node_at nodes number) input) inputs (leads-on n nodes number input inputs h (search (rules, tests))) parts.1
-
-below_by : (sound : Bool) (n m : ℕ) → 0 < n → (sound ≡ true → m < n) → (if sound then m else 0) < n
-below_by true n m some h = h refl
-below_by false n m some h = some
 
 low_by : (n s : ℕ) (rest : Bool) → s < n → rest ≡ true → (nat_lt s n && rest) ≡ true
 low_by n s rest low h =
@@ -72,10 +65,9 @@ pub inputs-below : (n : ℕ) (neighbors : Neighbors) (states : List ℕ) → 0 <
 inputs-below n neighbors states some low = inputs-low n neighbors states (state-below n states some low)
 
 -- the next state is a state
-pub next_under-below : (tree : Tree) (states : List ℕ) → AreNineBelow tree.states states → next_under tree states < tree.states
-next_under-below tree states nine =
+pub next-below : (tree : Tree) (states : List ℕ) → is_sound tree ≡ true → AreNineBelow tree.states states → next tree states < tree.states
+next-below tree states sound nine =
     let some : slice_index states 0 < tree.states = nine.below 0 0 (omega (arith, nine.nine)) in
-    below_by (is_sound tree) tree.states (next tree states) (omega (arith, some))
-    (λ h. follow-below tree.states tree.nodes (root_of tree) (inputs_of tree.neighbors states)
-    (leads-inputs tree.states tree.nodes (root_of tree) tree.neighbors states (and_parts (is_quiescent tree) (leads tree.states tree.nodes (root_of tree) (places_of tree.neighbors)) h).1)
-    (inputs-below tree.states tree.neighbors states (omega (arith, some)) nine.below))
+    follow-below tree.states tree.nodes (root_of tree) (inputs_of tree.neighbors states)
+    (leads-inputs tree.states tree.nodes (root_of tree) tree.neighbors states (and_parts (is_quiescent tree) (leads tree.states tree.nodes (root_of tree) (places_of tree.neighbors)) sound).1)
+    (inputs-below tree.states tree.neighbors states (omega (arith, some)) nine.below)

@@ -1,10 +1,10 @@
 //! Laws of the definitions, each the contract of a function that does nothing.
-ghost use Rattle.decision_tree.specs.Laws.{DescriptorsInAnyOrder, NumbersDoNotMatter, TreesOfFilesArePlain};
+ghost use Rattle.decision_tree.specs.Laws.{DescriptorsInAnyOrder, NumbersDoNotMatter, TreesOfFilesAreSound};
 ghost use Rattle.decision_tree.specs.Laws.{WrittenIsItsFile, WrittenMeansTheSame};
 
-/// The next state under a tree that a file says is what is found from its root.
-pub fn trees_of_files_are_plain()
-    ensures { TreesOfFilesArePlain }
+/// A tree that a file says keeps a cell of state 0 among such cells, and gives states alone.
+pub fn trees_of_files_are_sound()
+    ensures { TreesOfFilesAreSound }
 {}
 
 /// Lines that say a tree say it under other numbers too: blank lines and comments between them

@@ -17,6 +17,6 @@ mod numbers;
 mod tree;
 mod tree_reader;
 
-pub use laws::{trees_of_files_are_plain, written_is_its_file, written_means_the_same};
+pub use laws::{trees_of_files_are_sound, written_is_its_file, written_means_the_same};
 pub use tree::{Neighbors, TreeRule};
 pub use tree_reader::read_tree;

@@ -1,9 +1,10 @@
 //! Rules that are given by a tree.
-ghost use Rattle.std.specs.Prelude.{◌≡◌, ◌<◌, ◌+◌, All};
+ghost use Rattle.std.specs.Prelude.{◌≡◌, ◌<◌, ◌≤◌, ◌+◌, All};
+ghost use Rattle.rule_file.specs.States.{least_states, most_states};
 ghost use Rattle.decision_tree.specs.Kept.{nodes_in, Stores};
 ghost use Rattle.decision_tree.specs.Tree.{follow, inputs_of, next, places_of};
 
-use plane_core::{Around, Next};
+use plane_core::Around;
 use std::marker::Model;
 
 /// Which cells around a cell are its neighbours.
@@ -55,28 +56,20 @@ impl TreeRule {
             entries,
         }
     }
-}
 
-impl Next for TreeRule {
-    ghost use Rattle.decision_tree.specs.Tree.{next, next_under};
-    ghost use Rattle.decision_tree.specs.TreeLaws.{next_under-quiet, next_under-below};
-
-    ghost state_count = { λ rule. rule.states };
-
-    ghost meaning = { next_under };
-
-    ghost quiet = { next_under-quiet };
-
-    ghost below = { next_under-below };
-
-    fn states(&self) -> u16 {
+    /// How many states there are, from 2 to 256.
+    pub fn states(&self) -> u16
+        ensures count { result ≡ self.now.states }
+        ensures at_least { least_states ≤ result }
+        ensures at_most { result ≤ most_states }
+    {
         self.states
     }
 
-    fn next(&self, around: &Around) -> u8
+    /// The next state of the cell in the middle. All nine states are below `states`.
+    pub fn next(&self, around: &Around) -> u8
         requires { All (λ s. s < self.now.states) around.now.0 }
-        ensures value { result ≡ next_under self.now around.now.0 }
-        ensures straight { result ≡ next self.now around.now.0 }
+        ensures { result ≡ next self.now around.now.0 }
     {
         next_in(
             self.states,

@@ -5,6 +5,7 @@ mod translations;
 mod trees;
 
 use plane_core::{Around, Next};
+use rule_tree::{Rule, TreeRule};
 use std::fmt::Debug;
 use std::process::Abort;
 
@@ -14,7 +15,7 @@ fn same<T: PartialEq + Debug, A: Debug>(rt: &impl Abort, found: &T, wanted: &T, 
 }
 
 /// The next state for these nine states, if the rule has them.
-fn next<R: Next>(rule: &R, around: [u8; 9]) -> Option<u8> {
+fn next(rule: &Rule, around: [u8; 9]) -> Option<u8> {
     let states = rule.states();
     if around.iter().all(|state| u16::from(*state) < states) {
         Some(rule.next(&Around(around)))
@@ -23,9 +24,19 @@ fn next<R: Next>(rule: &R, around: [u8; 9]) -> Option<u8> {
     }
 }
 
-/// The rule has these nine states, and this is the next.
-fn expect_next<R: Next>(rt: &impl Abort, rule: &R, around: [u8; 9], wanted: u8) {
-    same(rt, &next(rule, around), &Some(wanted), &around);
+/// What the tree gives for these nine states, if it has them.
+fn of_tree(tree: &TreeRule, around: [u8; 9]) -> Option<u8> {
+    let states = tree.states();
+    if around.iter().all(|state| u16::from(*state) < states) {
+        Some(tree.next(&Around(around)))
+    } else {
+        None
+    }
+}
+
+/// The tree has these nine states, and this is the next.
+fn expect_of_tree(rt: &impl Abort, tree: &TreeRule, around: [u8; 9], wanted: u8) {
+    same(rt, &of_tree(tree, around), &Some(wanted), &around);
 }
 
 /// The bits of a number, as nine states.

@@ -1,5 +1,5 @@
--- What holds of every table.
-use Rattle.std.specs.Prelude.{◌≡◌, ℕ, zero, suc, ◌<◌, ◌&&◌, Bool, true, false, List, [], ◌∷◌, slice_index, slice_index_or, find, unwrap_or, Some, if◌then◌else◌, nat_lt}
+-- What holds of every table that a file may have.
+use Rattle.std.specs.Prelude.{◌≡◌, ℕ, zero, suc, ◌<◌, Bool, true, false, List, [], ◌∷◌, slice_index, slice_index_or, find, unwrap_or, Some, nat_lt}
 use Rattle.std.specs.List.{list_all}
 use Rattle.std.specs.Option.{option_map}
 use Rattle.std.proofs.Common.{refl, sym, subst, cond, arith, rules, tests}
@@ -8,16 +8,13 @@ use Rattle.worlds.specs.Step.{nine_zeros, AreNineBelow}
 use Rattle.table_lines.specs.declared.transition.Transition.{Transition}
 use Rattle.table_symmetry.specs.Table.{Table}
 use Rattle.table_symmetry.specs.NextState.{next, first_result, matches, given, assignments, is_quiescent, gives_states}
-use Rattle.table_symmetry.specs.Rule.{next_under, is_sound}
+use Rattle.table_symmetry.specs.Rule.{is_sound}
 
--- a state 0 among such states stays
-quiet_by : (zero sound : Bool) (n : ℕ) → (zero ≡ true → n ≡ 0) → (if zero && sound then n else 0) ≡ 0
-quiet_by true true n h = h refl
-quiet_by true false n h = refl
-quiet_by false sound n h = refl
-
-pub next_under-quiet : (table : Table) → next_under table nine_zeros ≡ 0
-next_under-quiet table = quiet_by (is_quiescent table) (list_all (gives_states table.states) table.transitions) (next table nine_zeros) (λ h. search (rules, tests))
+-- a cell of state 0 among such cells keeps it
+pub next-quiet : (table : Table) → is_sound table ≡ true → next table nine_zeros ≡ 0
+next-quiet table sound =
+    let quiet : is_quiescent table ≡ true = (and_parts (is_quiescent table) (list_all (gives_states table.states) table.transitions) sound).0 in
+    search (rules, tests)
 
 -- what holds of each of a list holds of what is found in it
 found_below : (p q : Transition → Bool) (f : Transition → ℕ) (n d : ℕ) (xs : List Transition) → ((s : Transition) → q s ≡ true → f s < n) → d < n → list_all q xs ≡ true → unwrap_or (option_map f (find p xs)) d < n
@@ -32,15 +29,11 @@ first_result-below table around n (t ∷ ts) low h =
     let parts = and_parts (gives_states n t) (list_all (gives_states n) ts) h in
     found_below (matches table around) (λ u. nat_lt (given u.result) n) (λ u. given u.result) n (first_result table around ts) (assignments t) (λ u k. search (rules, tests)) (first_result-below table around n ts low parts.1) parts.0
 
-below_by : (sound : Bool) (n m : ℕ) → 0 < n → (sound ≡ true → m < n) → (if sound then m else 0) < n
-below_by true n m some h = h refl
-below_by false n m some h = some
-
 -- the next state is a state
-pub next_under-below : (table : Table) (states : List ℕ) → AreNineBelow table.states states → next_under table states < table.states
-next_under-below table states nine =
-    let low : slice_index states 0 < table.states = nine.below 0 0 (omega (arith, nine.nine)) in
-    below_by (is_sound table) table.states (next table states) (omega (arith, low)) (λ h. first_result-below table states table.states table.transitions low (and_parts (is_quiescent table) (list_all (gives_states table.states) table.transitions) h).1)
+pub next-below : (table : Table) (states : List ℕ) → is_sound table ≡ true → AreNineBelow table.states states → next table states < table.states
+next-below table states sound nine =
+    first_result-below table states table.states table.transitions (nine.below 0 0 (omega (arith, nine.nine)))
+    (and_parts (is_quiescent table) (list_all (gives_states table.states) table.transitions) sound).1
 
 zeros_at : (k d : ℕ) → k < 9 → slice_index_or nine_zeros k d ≡ 0
 zeros_at zero d h = refl

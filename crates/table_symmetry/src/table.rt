@@ -1,12 +1,13 @@
 //! Rules that are given by a table.
-ghost use Rattle.std.specs.Prelude.{◌≡◌, ◌<◌, All, IfOk};
+ghost use Rattle.std.specs.Prelude.{◌≡◌, ◌<◌, ◌≤◌, All, IfOk};
+ghost use Rattle.rule_file.specs.States.{least_states, most_states};
 ghost use Rattle.table_symmetry.specs.NextState.{next};
 ghost use Rattle.table_symmetry.specs.Rows.{AreExpanded};
-ghost use Rattle.table_symmetry.specs.Rule.{next_under, still_table};
+ghost use Rattle.table_symmetry.specs.Rule.{still_table};
 
 use crate::expansion::{Expanded, expand};
 use crate::lookup::Lookup;
-use plane_core::{Around, Next};
+use plane_core::Around;
 use rule_file::RuleFault;
 use std::alloc::{AllocError, Global};
 use std::marker::Model;
@@ -81,28 +82,20 @@ impl TableRule {
             Err(_) => unreachable!("the transitions are few enough"),
         }
     }
-}
 
-impl Next for TableRule {
-    ghost use Rattle.table_symmetry.specs.Rule.{next_under};
-    ghost use Rattle.table_symmetry.specs.RuleLaws.{next_under-quiet, next_under-below};
-
-    ghost state_count = { λ rule. rule.states };
-
-    ghost meaning = { next_under };
-
-    ghost quiet = { next_under-quiet };
-
-    ghost below = { next_under-below };
-
-    fn states(&self) -> u16 {
+    /// How many states there are, from 2 to 256.
+    pub fn states(&self) -> u16
+        ensures count { result ≡ self.now.states }
+        ensures at_least { least_states ≤ result }
+        ensures at_most { result ≤ most_states }
+    {
         self.lines.states()
     }
 
-    fn next(&self, around: &Around) -> u8
+    /// The next state of the cell in the middle. All nine states are below `states`.
+    pub fn next(&self, around: &Around) -> u8
         requires { All (λ s. s < self.now.states) around.now.0 }
-        ensures value { result ≡ next_under self.now around.now.0 }
-        ensures straight { result ≡ next self.now around.now.0 }
+        ensures { result ≡ next self.now around.now.0 }
     {
         self.lookup.find(around).unwrap_or(around.0[0])
     }

@@ -22,7 +22,6 @@ use crate::sharing::joined;
 use crate::tree_fault::TreeFault;
 use decision_tree::{Neighbors, TreeRule};
 use indexmap::IndexSet;
-use plane_core::Next;
 use std::alloc::Global;
 use std::collections::HashMap;
 use table_symmetry::{Expanded, Neighborhood, TableRule};

@@ -1,8 +1,8 @@
 //! Tables with the trees to which they are translated. Next states are worked out by hand, or are
 //! those of the table itself.
-use super::{expect_next, next, nine_bits, same};
+use super::{expect_of_tree, nine_bits, of_tree, same};
 use basics::Refusal;
-use plane_core::Next;
+use plane_core::Around;
 use rule_file::cut;
 use rule_tree::{TreeFault, TreeRule, from_table};
 use std::alloc::{AllocError, Global};
@@ -58,6 +58,16 @@ fn tree_of(rt: &impl Abort, alloc: Global, lines: &str) -> TreeRule {
     translated(rt, alloc, &table)
 }
 
+// What a table gives for these nine states, if it has them.
+fn of_table(table: &TableRule, around: [u8; 9]) -> Option<u8> {
+    let states = table.states();
+    if around.iter().all(|state| u16::from(*state) < states) {
+        Some(table.next(&Around(around)))
+    } else {
+        None
+    }
+}
+
 // Counts nine states up, each of which is at most the last. Behind the greatest come zeros.
 fn count_up(around: &mut [u8; 9], last: u8) {
     for state in around.iter_mut() {
@@ -70,7 +80,7 @@ fn count_up(around: &mut [u8; 9], last: u8) {
 }
 
 fn is_different(table: &TableRule, tree: &TreeRule, around: [u8; 9]) -> bool {
-    next(table, around) != next(tree, around)
+    of_table(table, around) != of_tree(tree, around)
 }
 
 // For how many of the first so many nine states up to the last a table and a tree differ, and the
@@ -116,40 +126,40 @@ fn every_nine_states(rt: HostRuntime) {
 fn neighbors_alone(rt: HostRuntime) {
     let alloc = rt.alloc();
     let lone = tree_of(&rt, alloc, LONE);
-    expect_next(&rt, &lone, [0, 1, 0, 0, 0, 0, 0, 0, 0], 1);
-    expect_next(&rt, &lone, [0, 0, 1, 0, 1, 0, 1, 1, 1], 1);
-    expect_next(&rt, &lone, [0, 0, 0, 1, 0, 0, 0, 1, 0], 0);
-    expect_next(&rt, &lone, [1, 0, 0, 0, 0, 0, 0, 0, 0], 1);
+    expect_of_tree(&rt, &lone, [0, 1, 0, 0, 0, 0, 0, 0, 0], 1);
+    expect_of_tree(&rt, &lone, [0, 0, 1, 0, 1, 0, 1, 1, 1], 1);
+    expect_of_tree(&rt, &lone, [0, 0, 0, 1, 0, 0, 0, 1, 0], 0);
+    expect_of_tree(&rt, &lone, [1, 0, 0, 0, 0, 0, 0, 0, 0], 1);
     let star = tree_of(&rt, alloc, STAR);
-    expect_next(&rt, &star, [0, 0, 0, 0, 0, 2, 0, 0, 0], 2);
-    expect_next(&rt, &star, [0, 0, 2, 1, 2, 0, 2, 0, 2], 1);
-    expect_next(&rt, &star, [0, 2, 0, 0, 0, 0, 0, 1, 0], 0);
-    expect_next(&rt, &star, [2, 1, 0, 0, 0, 0, 0, 0, 0], 2);
+    expect_of_tree(&rt, &star, [0, 0, 0, 0, 0, 2, 0, 0, 0], 2);
+    expect_of_tree(&rt, &star, [0, 0, 2, 1, 2, 0, 2, 0, 2], 1);
+    expect_of_tree(&rt, &star, [0, 2, 0, 0, 0, 0, 0, 1, 0], 0);
+    expect_of_tree(&rt, &star, [2, 1, 0, 0, 0, 0, 0, 0, 0], 2);
     let south_west = tree_of(&rt, alloc, SOUTH_WEST);
-    expect_next(&rt, &south_west, [0, 0, 0, 0, 0, 0, 1, 0, 0], 1);
-    expect_next(&rt, &south_west, [0, 0, 0, 0, 1, 0, 0, 0, 0], 0);
-    expect_next(&rt, &south_west, [0, 0, 1, 0, 0, 0, 1, 0, 0], 0);
-    expect_next(&rt, &south_west, [0, 0, 1, 0, 0, 0, 0, 0, 0], 0);
+    expect_of_tree(&rt, &south_west, [0, 0, 0, 0, 0, 0, 1, 0, 0], 1);
+    expect_of_tree(&rt, &south_west, [0, 0, 0, 0, 1, 0, 0, 0, 0], 0);
+    expect_of_tree(&rt, &south_west, [0, 0, 1, 0, 0, 0, 1, 0, 0], 0);
+    expect_of_tree(&rt, &south_west, [0, 0, 1, 0, 0, 0, 0, 0, 0], 0);
 }
 
 #[test]
 fn pairs_of_neighbors(rt: HostRuntime) {
     let alloc = rt.alloc();
     let pair = tree_of(&rt, alloc, PAIR);
-    expect_next(&rt, &pair, [0, 1, 0, 1, 0, 0, 0, 0, 0], 1);
-    expect_next(&rt, &pair, [0, 1, 1, 0, 0, 0, 1, 0, 1], 1);
-    expect_next(&rt, &pair, [0, 1, 0, 0, 1, 0, 0, 0, 0], 0);
-    expect_next(&rt, &pair, [0, 1, 1, 0, 0, 0, 1, 0, 0], 0);
+    expect_of_tree(&rt, &pair, [0, 1, 0, 1, 0, 0, 0, 0, 0], 1);
+    expect_of_tree(&rt, &pair, [0, 1, 1, 0, 0, 0, 1, 0, 1], 1);
+    expect_of_tree(&rt, &pair, [0, 1, 0, 0, 1, 0, 0, 0, 0], 0);
+    expect_of_tree(&rt, &pair, [0, 1, 1, 0, 0, 0, 1, 0, 0], 0);
     let one_of_two = tree_of(&rt, alloc, ONE_OF_TWO);
-    expect_next(&rt, &one_of_two, [0, 0, 0, 0, 0, 0, 0, 1, 0], 1);
-    expect_next(&rt, &one_of_two, [1, 1, 1, 0, 1, 1, 1, 0, 1], 0);
-    expect_next(&rt, &one_of_two, [1, 0, 0, 1, 0, 1, 0, 0, 0], 1);
-    expect_next(&rt, &one_of_two, [0, 1, 0, 1, 0, 0, 0, 1, 0], 0);
+    expect_of_tree(&rt, &one_of_two, [0, 0, 0, 0, 0, 0, 0, 1, 0], 1);
+    expect_of_tree(&rt, &one_of_two, [1, 1, 1, 0, 1, 1, 1, 0, 1], 0);
+    expect_of_tree(&rt, &one_of_two, [1, 0, 0, 1, 0, 1, 0, 0, 0], 1);
+    expect_of_tree(&rt, &one_of_two, [0, 1, 0, 1, 0, 0, 0, 1, 0], 0);
     let shadowed = tree_of(&rt, alloc, SHADOWED);
-    expect_next(&rt, &shadowed, [0, 0, 1, 0, 0, 0, 0, 2, 0], 2);
-    expect_next(&rt, &shadowed, [0, 1, 0, 0, 0, 1, 0, 0, 0], 1);
-    expect_next(&rt, &shadowed, [0, 0, 0, 0, 0, 0, 0, 0, 2], 2);
-    expect_next(&rt, &shadowed, [1, 0, 0, 0, 0, 0, 0, 0, 0], 0);
+    expect_of_tree(&rt, &shadowed, [0, 0, 1, 0, 0, 0, 0, 2, 0], 2);
+    expect_of_tree(&rt, &shadowed, [0, 1, 0, 0, 0, 1, 0, 0, 0], 1);
+    expect_of_tree(&rt, &shadowed, [0, 0, 0, 0, 0, 0, 0, 0, 2], 2);
+    expect_of_tree(&rt, &shadowed, [1, 0, 0, 0, 0, 0, 0, 0, 0], 0);
 }
 
 // These states with 0 where the neighbourhood has none.
@@ -163,8 +173,8 @@ fn bare(mut around: [u8; 9], places: [bool; 9]) -> [u8; 9] {
 }
 
 fn expect_same_bare(rt: &impl Abort, tree: &TreeRule, around: [u8; 9], places: [bool; 9]) {
-    let wanted = next(tree, bare(around, places));
-    same(rt, &next(tree, around), &wanted, &around);
+    let wanted = of_tree(tree, bare(around, places));
+    same(rt, &of_tree(tree, around), &wanted, &around);
 }
 
 // Cells that a table's neighbourhood doesn't have change nothing.
@@ -189,7 +199,7 @@ fn further_cells_change_nothing(rt: HostRuntime) {
 
 fn expect_kept(rt: &impl Abort, tree: &TreeRule, around: [u8; 9]) {
     let [centre, ..] = around;
-    expect_next(rt, tree, around, centre);
+    expect_of_tree(rt, tree, around, centre);
 }
 
 #[test]
@@ -317,14 +327,14 @@ fn pairs_of_eight_states(rt: HostRuntime) {
     let table = four_pairs_table(&rt, alloc, 8);
     let tree = translated(&rt, alloc, &table);
     same(&rt, &tree.states(), &8, &"states");
-    expect_next(&rt, &tree, [0, 0, 0, 0, 0, 0, 0, 0, 0], 0);
-    expect_next(&rt, &tree, [0, 0, 0, 0, 0, 5, 0, 0, 5], 1);
-    expect_next(&rt, &tree, [0, 0, 0, 0, 0, 5, 0, 0, 4], 0);
-    expect_next(&rt, &tree, [0, 0, 7, 7, 0, 0, 0, 0, 0], 1);
-    expect_next(&rt, &tree, [0, 0, 0, 0, 0, 0, 1, 1, 0], 1);
-    expect_next(&rt, &tree, [0, 2, 0, 0, 2, 0, 0, 0, 0], 1);
-    expect_next(&rt, &tree, [6, 2, 0, 0, 2, 0, 0, 0, 0], 6);
-    expect_next(&rt, &tree, [0, 1, 2, 3, 4, 5, 6, 7, 1], 0);
-    expect_next(&rt, &tree, [0, 1, 2, 3, 4, 5, 7, 7, 1], 1);
-    expect_next(&rt, &tree, [0, 2, 1, 2, 3, 3, 2, 1, 2], 0);
+    expect_of_tree(&rt, &tree, [0, 0, 0, 0, 0, 0, 0, 0, 0], 0);
+    expect_of_tree(&rt, &tree, [0, 0, 0, 0, 0, 5, 0, 0, 5], 1);
+    expect_of_tree(&rt, &tree, [0, 0, 0, 0, 0, 5, 0, 0, 4], 0);
+    expect_of_tree(&rt, &tree, [0, 0, 7, 7, 0, 0, 0, 0, 0], 1);
+    expect_of_tree(&rt, &tree, [0, 0, 0, 0, 0, 0, 1, 1, 0], 1);
+    expect_of_tree(&rt, &tree, [0, 2, 0, 0, 2, 0, 0, 0, 0], 1);
+    expect_of_tree(&rt, &tree, [6, 2, 0, 0, 2, 0, 0, 0, 0], 6);
+    expect_of_tree(&rt, &tree, [0, 1, 2, 3, 4, 5, 6, 7, 1], 0);
+    expect_of_tree(&rt, &tree, [0, 1, 2, 3, 4, 5, 7, 7, 1], 1);
+    expect_of_tree(&rt, &tree, [0, 2, 1, 2, 3, 3, 2, 1, 2], 0);
 }

@@ -1,8 +1,8 @@
 //! Trees, and how they are asked.
-use super::{expect_next, same};
+use super::{expect_of_tree, same};
 use plane_core::{CellSet, Next, NoStop, Plane};
 use rule_file::{RuleFault, cut};
-use rule_tree::{TreeRule, read_tree};
+use rule_tree::{Rule, TreeRule, read_tree};
 use std::alloc::Global;
 use std::process::Abort;
 use step_engine::{evolve_plain, fits};
@@ -65,8 +65,8 @@ fn expect_states(rt: &impl Abort, rule: &TreeRule, wanted: u16) {
 fn expect_west(rt: &impl Abort, rule: &TreeRule, number: u8) {
     let (n, w, e) = (number / 16 % 2, number / 8 % 2, number / 4 % 2);
     let (s, c) = (number / 2 % 2, number % 2);
-    expect_next(rt, rule, [c, n, 0, e, 0, s, 0, w, 0], w);
-    expect_next(rt, rule, [c, n, 1, e, 1, s, 1, w, 1], w);
+    expect_of_tree(rt, rule, [c, n, 0, e, 0, s, 0, w, 0], w);
+    expect_of_tree(rt, rule, [c, n, 1, e, 1, s, 1, w, 1], w);
 }
 
 fn expect_west_everywhere(rt: &impl Abort, alloc: Global, text: &[u8]) {
@@ -86,7 +86,7 @@ fn west_is_copied(rt: HostRuntime) {
 #[test]
 fn west_is_copied_to_the_east(rt: HostRuntime) {
     let alloc = rt.alloc();
-    let rule = tree_of(&rt, alloc, W);
+    let rule = Rule::read(alloc, W).expect(&rt, "a rule");
     let cell = CellSet {
         x: 0,
         y: 0,
@@ -116,7 +116,7 @@ const ONE_LIVE: [[u8; 9]; 9] = [
 
 fn expect_place(rt: &impl Abort, rule: &TreeRule, around: [u8; 9], place: usize) {
     let wanted = around.get(place).copied().expect(rt, "a place");
-    expect_next(rt, rule, around, wanted);
+    expect_of_tree(rt, rule, around, wanted);
 }
 
 // A tree of so many nodes copies the state at this place, of C, N, NE, E, SE, S, SW, W, NW.
@@ -124,7 +124,7 @@ fn expect_copies(rt: &impl Abort, alloc: Global, place: usize, count: u32, nodes
     let head = "num_states=2\nnum_neighbors=8";
     let text = format!(in alloc; "@RULE T\n@TREE\n{head}\nnum_nodes={count}\n{nodes}\n");
     let rule = tree_of(rt, alloc, text.expect(rt, "memory").as_bytes());
-    expect_next(rt, &rule, [0; 9], 0);
+    expect_of_tree(rt, &rule, [0; 9], 0);
     for around in ONE_LIVE {
         expect_place(rt, &rule, around, place);
     }
@@ -204,7 +204,7 @@ fn every_place_is_told_apart(rt: HostRuntime) {
 }
 
 fn expect_at(rt: &impl Abort, rule: &TreeRule, centre: u8, north: u8, wanted: u8) {
-    expect_next(rt, rule, [centre, north, 1, 2, 1, 2, 1, 2, 1], wanted);
+    expect_of_tree(rt, rule, [centre, north, 1, 2, 1, 2, 1, 2, 1], wanted);
 }
 
 #[test]
@@ -242,7 +242,7 @@ fn expect_described(rt: &impl Abort, alloc: Global, a: &str, b: &str, c: &str) {
     let text = format!(in alloc; "@RULE T\n@TREE\n{a}\n{b}\n{c}\n{STILL}\n");
     let rule = tree_of(rt, alloc, text.expect(rt, "memory").as_bytes());
     expect_states(rt, &rule, 2);
-    expect_next(rt, &rule, [1, 0, 1, 0, 1, 0, 1, 0, 1], 1);
+    expect_of_tree(rt, &rule, [1, 0, 1, 0, 1, 0, 1, 0, 1], 1);
 }
 
 #[test]

@@ -1,6 +1,5 @@
 //! Tables with what they expand to and what they give.
 use super::helpers::{gives, listed, next, outcome, read_rule, rule, same};
-use plane_core::Next;
 use std::alloc::Global;
 use std::process::Abort;
 use table_symmetry::{Expanded, TableRule};

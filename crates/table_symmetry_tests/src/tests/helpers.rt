@@ -1,6 +1,6 @@
 //! Tables that are read, and what is found compared with what is wanted.
 use basics::Refusal;
-use plane_core::{Around, Next};
+use plane_core::Around;
 use rule_file::{RuleFault, cut};
 use std::alloc::Global;
 use std::fmt::Debug;
