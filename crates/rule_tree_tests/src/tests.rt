@@ -24,6 +24,11 @@ fn next(rule: &Rule, around: [u8; 9]) -> Option<u8> {
     }
 }
 
+/// The rule has these nine states, and this is the next.
+fn expect_next(rt: &impl Abort, rule: &Rule, around: [u8; 9], wanted: u8) {
+    same(rt, &next(rule, around), &Some(wanted), &around);
+}
+
 /// What the tree gives for these nine states, if it has them.
 fn of_tree(tree: &TreeRule, around: [u8; 9]) -> Option<u8> {
     let states = tree.states();
