@@ -1,12 +1,11 @@
-//! Worked desks, with what they show.
-ghost use Rattle.std.specs.Prelude.{◌≡◌};
-
-mod jobs;
+//! Worked desks, with what they show and what is out.
+mod bench;
 mod posts;
 
+use bench::{Act, Bench, Wanted};
 use desk_core::{
-    Cause, CellSet, Desk, Edit, EditFault, Edited, Entries, InlinePost, Listing, Rule, Settling,
-    Shown, View,
+    Cause, CellSet, Collected, Edit, EditFault, Edited, Entries, EvolveFault, Listing, Rule,
+    Settling, View,
 };
 use std::alloc::Global;
 use std::fmt::Debug;
@@ -21,11 +20,26 @@ type Row = (i64, i64, u16);
 const X: &[u8] =
     b"@RULE X\n@TABLE\nn_states:2\nneighborhood:oneDimensional\nsymmetries:none\n0,1,0,1\n0,0,1,1\n1,0,0,0\n1,1,1,0\n";
 
-// How many squares a step may keep.
-const SQUARES: u32 = 4096;
-
-// More turns than a desk of these tests takes.
-const TURNS: u32 = 100;
+/// An edit.
+#[derive(Clone, Copy, Debug)]
+enum Change {
+    /// Takes the rule X.
+    Rule,
+    /// Sets the cells of the start.
+    Set(&'static [Row]),
+    /// Inserts an intervention that sets (0, 0) to 1 in what arrives at this generation.
+    Insert(u64),
+    /// Removes the intervention of this id.
+    Remove(u64),
+    /// Adds a bookmark of counts at this generation.
+    Mark(u64),
+    /// Adds a bookmark of this view at generation 2.
+    View(View),
+    /// Moves the bookmark of an id.
+    Move { id: u64, generation: u64 },
+    /// Removes the bookmark of this id.
+    Unmark(u64),
+}
 
 /// Stops the test where what was found isn't what was wanted.
 fn same<T: PartialEq + Debug, A: Debug>(rt: &impl Abort, found: &T, wanted: &T, at: &A) {
@@ -41,281 +55,403 @@ fn push_cell(rt: &impl Abort, cells: &mut Vec<CellSet>, row: &Row) {
     cells.push(cell).expect(rt, "memory");
 }
 
-/// The edit that sets the cells of the rows.
-fn set(rt: &impl Abort, alloc: Global, rows: &[Row]) -> Edit {
+fn cells_of(rt: &impl Abort, alloc: Global, rows: &[Row]) -> Listing<CellSet> {
     let mut cells = Vec::new(alloc);
     for row in rows {
         push_cell(rt, &mut cells, row);
     }
-    Edit::SetCells {
-        cells: Listing::from_vec(cells),
-    }
+    Listing::from_vec(cells)
 }
 
-fn mark(generation: u64) -> Edit {
-    Edit::AddBookmark {
-        generation,
-        view: View::Counts,
-    }
-}
-
-fn rule_x(rt: &impl Abort, alloc: Global) -> Edit {
+fn rule_x(rt: &impl Abort, alloc: Global) -> Arc<Rule> {
     let rule = Rule::read(alloc, X).expect(rt, "a rule");
-    Edit::ReplaceRule(Arc::new(alloc, rule).expect(rt, "memory"))
+    Arc::new(alloc, rule).expect(rt, "memory")
 }
 
-fn edit(rt: &impl Abort, desk: &mut Desk, edit: &Edit) -> Edited
-    ensures { desk.new.table ≡ desk.old.table }
-{
-    desk.edit(edit).expect(rt, "an accepted edit")
-}
-
-fn table(rt: &impl Abort, alloc: Global) -> Entries {
-    Entries::new(alloc).expect(rt, "memory")
-}
-
-fn open<'e>(rt: &impl Abort, alloc: Global, entries: &'e Entries) -> Desk<'e>
-    ensures { result.table ≡ entries.now }
-{
-    Desk::open(alloc, entries, 1).expect(rt, "memory")
-}
-
-/// A desk with the rule X and the cell (0, 0) in state 1, at revision 2.
-fn desk_of_x<'e>(rt: &impl Abort, alloc: Global, entries: &'e Entries) -> Desk<'e>
-    ensures { result.table ≡ entries.now }
-{
-    let mut desk = open(rt, alloc, entries);
-    edit(rt, &mut desk, &rule_x(rt, alloc));
-    edit(rt, &mut desk, &set(rt, alloc, &[(0, 0, 1)]));
-    desk
-}
-
-/// Settles the desk over a post of its own without threads.
-fn settled<R: Wait>(rt: &R, alloc: Global, desk: &mut Desk, entries: &Entries) -> Settling
-    requires { desk.old.table ≡ entries.now }
-    ensures { desk.new.table ≡ desk.old.table }
-{
-    let mut post = InlinePost::new(alloc, entries, SQUARES);
-    desk_core::settle(rt, desk, &mut post, TURNS)
-}
-
-/// Settles the desk, with memory for all. Where a growth is refused the cause is told, and the next
-/// settling computes what is left.
-fn settle<R: Abort + Wait>(rt: &R, alloc: Global, desk: &mut Desk, entries: &Entries)
-    requires { desk.old.table ≡ entries.now }
-    ensures { desk.new.table ≡ desk.old.table }
-{
-    let settling = settled(rt, alloc, desk, entries);
-    if settling == Settling::Settled {
-        return;
-    }
-    let unsettled = Settling::Unsettled {
-        pending: desk.pending(),
-        cause: Some(Cause::NoMemory),
-    };
-    same(rt, &settling, &unsettled, &"unsettled");
-    let again = settled(rt, alloc, desk, entries);
-    same(rt, &again, &Settling::Settled, &"settled again");
-    panic!(rt; "memory");
-}
-
-/// Stops the test where the bookmark isn't shown with the text.
-fn expect_text(rt: &impl Abort, desk: &Desk, id: u64, wanted: &str) {
-    match desk.shown(id) {
-        Shown::Current(text) => same(rt, &text, &wanted.as_bytes(), &id),
-        Shown::Pending => panic!(rt; "bookmark {id} is pending"),
-        Shown::NoSuch => panic!(rt; "there is no bookmark {id}"),
+fn edit_of(rt: &impl Abort, alloc: Global, change: Change) -> Edit {
+    match change {
+        Change::Rule => Edit::ReplaceRule(rule_x(rt, alloc)),
+        Change::Set(rows) => Edit::SetCells {
+            cells: cells_of(rt, alloc, rows),
+        },
+        Change::Insert(generation) => Edit::InsertIntervention {
+            generation,
+            cells: cells_of(rt, alloc, &[(0, 0, 1)]),
+        },
+        Change::Remove(id) => Edit::RemoveIntervention { id },
+        Change::Mark(generation) => Edit::AddBookmark {
+            generation,
+            view: View::Counts,
+        },
+        Change::View(view) => Edit::AddBookmark {
+            generation: 2,
+            view,
+        },
+        Change::Move { id, generation } => Edit::MoveBookmark { id, generation },
+        Change::Unmark(id) => Edit::RemoveBookmark { id },
     }
 }
 
-fn expect_none(rt: &impl Abort, desk: &Desk, id: u64) {
-    same(rt, &desk.shown(id), &Shown::NoSuch, &id);
+/// Does these acts, and then those, in a desk of the opening document.
+fn play<R: Abort + Wait>(rt: &R, alloc: Global, before: &[Act], acts: &[Act]) {
+    let entries = Entries::new(alloc).expect(rt, "memory");
+    let mut bench = Bench::open(rt, alloc, &entries);
+    bench.act_all(rt, before);
+    bench.act_all(rt, acts);
 }
 
-fn expect_pending(rt: &impl Abort, desk: &Desk, pending: u32) {
-    same(rt, &desk.pending(), &pending, &"pending");
-}
+// The rule X and the cell (0, 0) in state 1, at revision 2.
+const ONE_CELL: &[Act] = &[
+    Act::Edit(Change::Rule),
+    Act::Edit(Change::Set(&[(0, 0, 1)])),
+    Act::Revision(2),
+];
 
-#[test]
-fn opens(rt: HostRuntime) {
-    let alloc = rt.alloc();
-    let entries = table(&rt, alloc);
-    let mut desk = open(&rt, alloc, &entries);
-    same(&rt, &desk.document().revision(), &0, &"revision");
-    let name = desk.document().rule().name();
-    same(&rt, &name, &b"still".as_slice(), &"name");
-    expect_pending(&rt, &desk, 0);
-    settle(&rt, alloc, &mut desk, &entries);
-    expect_none(&rt, &desk, 0);
-    expect_none(&rt, &desk, 1);
-    expect_none(&rt, &desk, u64::MAX);
-}
+// The same with counts at 8, at revision 3.
+const AT_8: &[Act] = &[
+    Act::Edit(Change::Rule),
+    Act::Edit(Change::Set(&[(0, 0, 1)])),
+    Act::Edit(Change::Mark(8)),
+];
 
-#[test]
-fn nothing_is_counted_as_empty(rt: HostRuntime) {
-    let alloc = rt.alloc();
-    let entries = table(&rt, alloc);
-    let mut desk = open(&rt, alloc, &entries);
-    let wanted = Edited {
-        revision: 1,
-        id: Some(1),
-    };
-    same(&rt, &edit(&rt, &mut desk, &mark(0)), &wanted, &"edited");
-    same(&rt, &desk.shown(1), &Shown::Pending, &"edited");
-    expect_pending(&rt, &desk, 1);
-    settle(&rt, alloc, &mut desk, &entries);
-    expect_text(&rt, &desk, 1, "empty\n");
-    expect_pending(&rt, &desk, 0);
-    expect_none(&rt, &desk, 0);
-    expect_none(&rt, &desk, 2);
-}
+const OPENED: &[Act] = &[
+    Act::Revision(0),
+    Act::Rule("still"),
+    Act::Pending(0),
+    Act::Settle,
+    Act::Lacks(0),
+    Act::Lacks(1),
+    Act::Lacks(u64::MAX),
+];
 
-fn settle_one_cell<R: Abort + Wait>(rt: &R, alloc: Global, desk: &mut Desk, entries: &Entries)
-    requires { desk.old.table ≡ entries.now }
-    ensures { desk.new.table ≡ desk.old.table }
-{
-    settle(rt, alloc, desk, entries);
-    expect_pending(rt, desk, 0);
-    expect_text(rt, desk, 1, "1 2\n");
-    expect_text(rt, desk, 2, "1 1\n");
-    expect_text(rt, desk, 3, "1 4\n");
-    expect_text(rt, desk, 4, "1 2\n");
-    expect_text(rt, desk, 5, "1 2\n");
-    expect_text(rt, desk, 6, "1 2\n");
-    expect_text(rt, desk, 7, "1 8\n");
-}
+const NOTHING_COUNTED: &[Act] = &[
+    Act::Edited(
+        Change::Mark(0),
+        Edited {
+            revision: 1,
+            id: Some(1),
+        },
+    ),
+    Act::Waits(1),
+    Act::Pending(1),
+    Act::Settle,
+    Act::Shows(1, "empty\n"),
+    Act::Pending(0),
+    Act::Lacks(0),
+    Act::Lacks(2),
+];
 
-#[test]
-fn one_cell_under_x(rt: HostRuntime) {
-    let alloc = rt.alloc();
-    let entries = table(&rt, alloc);
-    let mut desk = desk_of_x(&rt, alloc, &entries);
-    edit(&rt, &mut desk, &mark(2));
-    edit(&rt, &mut desk, &mark(0));
-    edit(&rt, &mut desk, &mark(3));
-    edit(&rt, &mut desk, &mark(1));
-    edit(&rt, &mut desk, &mark(2));
-    edit(&rt, &mut desk, &mark(8));
-    edit(&rt, &mut desk, &mark(7));
-    expect_pending(&rt, &desk, 7);
-    settle_one_cell(&rt, alloc, &mut desk, &entries);
-    settle_one_cell(&rt, alloc, &mut desk, &entries);
-}
+const SEVEN_BOOKMARKS: &[Act] = &[
+    Act::Edit(Change::Mark(2)),
+    Act::Edit(Change::Mark(0)),
+    Act::Edit(Change::Mark(3)),
+    Act::Edit(Change::Mark(1)),
+    Act::Edit(Change::Mark(2)),
+    Act::Edit(Change::Mark(8)),
+    Act::Edit(Change::Mark(7)),
+    Act::Pending(7),
+    Act::Settle,
+    Act::Settle,
+    Act::Pending(0),
+    Act::Shows(1, "1 2\n"),
+    Act::Shows(2, "1 1\n"),
+    Act::Shows(3, "1 4\n"),
+    Act::Shows(4, "1 2\n"),
+    Act::Shows(5, "1 2\n"),
+    Act::Shows(6, "1 2\n"),
+    Act::Shows(7, "1 8\n"),
+];
 
-fn mark_view(rt: &impl Abort, desk: &mut Desk, view: View)
-    ensures { desk.new.table ≡ desk.old.table }
-{
-    let added = Edit::AddBookmark {
-        generation: 2,
-        view,
-    };
-    edit(rt, desk, &added);
-}
-
-#[test]
-fn views_of_x(rt: HostRuntime) {
-    let alloc = rt.alloc();
-    let entries = table(&rt, alloc);
-    let mut desk = desk_of_x(&rt, alloc, &entries);
-    let window = View::Window {
+const VIEWED: &[Act] = &[
+    Act::Edit(Change::View(View::Counts)),
+    Act::Edit(Change::View(View::Window {
         left: -2,
         top: 0,
         width: 5,
         height: 1,
-    };
-    mark_view(&rt, &mut desk, View::Counts);
-    mark_view(&rt, &mut desk, window);
-    mark_view(&rt, &mut desk, View::Rle);
-    settle(&rt, alloc, &mut desk, &entries);
-    expect_text(&rt, &desk, 1, "1 2\n");
-    expect_text(&rt, &desk, 2, "1 0 0 0 1\n");
-    let encoded = "#CXRLE Pos=-2,0 Gen=2\nx = 5, y = 1, rule = X\no3bo!\n";
-    expect_text(&rt, &desk, 3, encoded);
+    })),
+    Act::Edit(Change::View(View::Rle)),
+    Act::Settle,
+    Act::Shows(1, "1 2\n"),
+    Act::Shows(2, "1 0 0 0 1\n"),
+    Act::Shows(3, "#CXRLE Pos=-2,0 Gen=2\nx = 5, y = 1, rule = X\no3bo!\n"),
+];
+
+const TOUCHED: &[Act] = &[
+    Act::Edit(Change::Mark(2)),
+    Act::Settle,
+    Act::Edit(Change::Set(&[])),
+    Act::Pending(1),
+    Act::Settle,
+    Act::Shows(1, "1 2\n"),
+    Act::Edit(Change::Set(&[(100, 0, 1)])),
+    Act::Pending(1),
+    Act::Settle,
+    Act::Shows(1, "1 4\n"),
+    Act::Edit(Change::Mark(3)),
+    Act::Pending(1),
+    Act::Settle,
+    Act::Edit(Change::Rule),
+    Act::Pending(2),
+    Act::Settle,
+    Act::Edit(Change::Insert(3)),
+    Act::Pending(1),
+    Act::Settle,
+    Act::Shows(1, "1 4\n"),
+    Act::Edit(Change::Set(&[(0, 0, 0)])),
+    Act::Pending(2),
+    Act::Settle,
+    Act::Shows(1, "1 2\n"),
+];
+
+const REFUSED: &[Act] = &[
+    Act::Edit(Change::Mark(2)),
+    Act::Settle,
+    Act::Edit(Change::Mark(1)),
+    // The bookmark that was added is pending before settling, and then both are known.
+    Act::Refused(Change::Set(&[(0, 0, 2)]), EditFault::CellStateTooHigh),
+    Act::Refused(Change::Set(&[(1 << 60, 0, 1)]), EditFault::CellOutOfRange),
+    Act::Refused(Change::Mark((1 << 60) + 1), EditFault::GenerationTooFar),
+    Act::Pending(1),
+    Act::Settle,
+    Act::Shows(1, "1 2\n"),
+    Act::Shows(2, "1 2\n"),
+    Act::Refused(Change::Set(&[(0, 0, 2)]), EditFault::CellStateTooHigh),
+    Act::Refused(Change::Set(&[(1 << 60, 0, 1)]), EditFault::CellOutOfRange),
+    Act::Refused(Change::Mark((1 << 60) + 1), EditFault::GenerationTooFar),
+    Act::Pending(0),
+    Act::Revision(4),
+    Act::Shows(1, "1 2\n"),
+    Act::Shows(2, "1 2\n"),
+];
+
+// At generation 1 the cells (-1, 0) and (1, 0) are live; with (0, 0) they are three.
+const AFTER_INTERVENTIONS: &[Act] = &[
+    Act::Edit(Change::Mark(1)),
+    Act::Edit(Change::Mark(0)),
+    Act::Settle,
+    Act::Shows(1, "1 2\n"),
+    Act::Edit(Change::Insert(1)),
+    Act::Settle,
+    Act::Shows(1, "1 3\n"),
+    Act::Shows(2, "1 1\n"),
+    Act::Edit(Change::Remove(1)),
+    Act::Settle,
+    Act::Shows(1, "1 2\n"),
+];
+
+const MOVED: &[Act] = &[
+    Act::Edit(Change::Mark(0)),
+    Act::Edit(Change::Mark(2)),
+    Act::Edit(Change::Move {
+        id: 1,
+        generation: 3,
+    }),
+    Act::Settle,
+    Act::Shows(1, "1 4\n"),
+    Act::Edit(Change::Unmark(1)),
+    Act::Lacks(1),
+    Act::Pending(0),
+    Act::Shows(2, "1 2\n"),
+];
+
+const TOUCHED_WHILE_OUT: &[Act] = &[
+    Act::Issue(0, Wanted::Step(8)),
+    Act::Edit(Change::Insert(4)),
+    Act::Work,
+    Act::Collect(Collected::Stale {
+        number: 0,
+        revision: 4,
+    }),
+    Act::Waits(1),
+    Act::Pending(1),
+];
+
+const COLLECTED_LATE: &[Act] = &[
+    Act::Issue(0, Wanted::Step(8)),
+    Act::Edit(Change::Mark(4)),
+    Act::FirstOut(Some(0)),
+    Act::Work,
+    Act::Collect(Collected::Accepted),
+    Act::Collect(Collected::Stale {
+        number: 0,
+        revision: 4,
+    }),
+    Act::Issue(1, Wanted::View(8)),
+    Act::Work,
+    Act::Collect(Collected::Accepted),
+    Act::Shows(1, "1 2\n"),
+    Act::Waits(2),
+    Act::Given(2),
+];
+
+const UNDONE: &[Act] = &[
+    Act::Issue(0, Wanted::Step(8)),
+    Act::Edit(Change::Insert(4)),
+    Act::Edit(Change::Remove(1)),
+    Act::Work,
+    Act::Collect(Collected::Stale {
+        number: 0,
+        revision: 5,
+    }),
+    Act::Waits(1),
+    Act::Issue(1, Wanted::Step(8)),
+];
+
+const CANCELLED: &[Act] = &[
+    Act::Issue(0, Wanted::Step(8)),
+    Act::Cancel(0, true),
+    Act::Cancel(0, false),
+    Act::FirstOut(None),
+    // Whoever works it is asked to stop.
+    Act::Work,
+    Act::Gave(EvolveFault::Stopped),
+    Act::Collect(Collected::Stale {
+        number: 0,
+        revision: 3,
+    }),
+    // Nobody is asked to stop the job that is issued in its place.
+    Act::Issue(1, Wanted::Step(8)),
+    Act::Work,
+    Act::Collect(Collected::Accepted),
+];
+
+const STOPPED: &[Act] = &[
+    Act::Issue(0, Wanted::Step(8)),
+    Act::Raise,
+    Act::Work,
+    Act::Collect(Collected::Released(EvolveFault::Stopped)),
+    Act::Issue(1, Wanted::Step(8)),
+];
+
+const WORKED_BY_ANOTHER: &[Act] = &[
+    Act::Issue(0, Wanted::Step(8)),
+    Act::WorkOfAnother,
+    Act::Collect(Collected::Stale {
+        number: 0,
+        revision: 3,
+    }),
+    Act::FirstOut(Some(0)),
+];
+
+const LOST: &[Act] = &[
+    Act::Lose(10),
+    Act::FirstOut(Some(0)),
+    Act::Cancel(0, true),
+    Act::Settle,
+    Act::Given(3),
+    Act::Shows(1, "1 2\n"),
+];
+
+const WITHOUT_ROOM: &[Act] = &[
+    Act::Edit(Change::Mark(1 << 60)),
+    Act::SettleInNoRoom(Settling::Unsettled {
+        pending: 1,
+        cause: Some(Cause::NoRoom),
+    }),
+    Act::FirstOut(None),
+];
+
+const WITHOUT_TURNS: &[Act] = &[
+    Act::SettleInNoTurn(Settling::Unsettled {
+        pending: 1,
+        cause: None,
+    }),
+    Act::Given(0),
+];
+
+#[test]
+fn opens(rt: HostRuntime) {
+    play(&rt, rt.alloc(), &[], OPENED);
 }
 
-/// Makes the edit, and stops the test where not so many bookmarks are pending then, or where settling
-/// doesn't give the first one this text.
-fn check_edit<R: Abort + Wait>(
-    rt: &R,
-    alloc: Global,
-    desk: &mut Desk,
-    entries: &Entries,
-    change: &Edit,
-    pending: u32,
-    text: &str,
-)
-    requires { desk.old.table ≡ entries.now }
-    ensures { desk.new.table ≡ desk.old.table }
-{
-    settle(rt, alloc, desk, entries);
-    edit(rt, desk, change);
-    same(rt, &desk.pending(), &pending, &text);
-    settle(rt, alloc, desk, entries);
-    expect_text(rt, desk, 1, text);
+#[test]
+fn nothing_is_counted_as_empty(rt: HostRuntime) {
+    play(&rt, rt.alloc(), &[], NOTHING_COUNTED);
+}
+
+#[test]
+fn one_cell_under_x(rt: HostRuntime) {
+    play(&rt, rt.alloc(), ONE_CELL, SEVEN_BOOKMARKS);
+}
+
+#[test]
+fn views_of_x(rt: HostRuntime) {
+    play(&rt, rt.alloc(), ONE_CELL, VIEWED);
 }
 
 #[test]
 fn edits_forget_what_they_touch(rt: HostRuntime) {
-    let alloc = rt.alloc();
-    let entries = table(&rt, alloc);
-    let mut desk = desk_of_x(&rt, alloc, &entries);
-    edit(&rt, &mut desk, &mark(2));
-    let change = set(&rt, alloc, &[]);
-    check_edit(&rt, alloc, &mut desk, &entries, &change, 1, "1 2\n");
-    let change = set(&rt, alloc, &[(100, 0, 1)]);
-    check_edit(&rt, alloc, &mut desk, &entries, &change, 1, "1 4\n");
-    check_edit(&rt, alloc, &mut desk, &entries, &mark(3), 1, "1 4\n");
-    let change = rule_x(&rt, alloc);
-    check_edit(&rt, alloc, &mut desk, &entries, &change, 2, "1 4\n");
-    let change = insert(&rt, alloc, 3);
-    check_edit(&rt, alloc, &mut desk, &entries, &change, 1, "1 4\n");
-    let change = set(&rt, alloc, &[(0, 0, 0)]);
-    check_edit(&rt, alloc, &mut desk, &entries, &change, 2, "1 2\n");
-}
-
-fn check_refused(rt: &impl Abort, desk: &mut Desk, refused: &Edit, fault: EditFault, pending: u32)
-    ensures { desk.new.table ≡ desk.old.table }
-{
-    same(rt, &desk.edit(refused), &Err(fault), &pending);
-    same(rt, &desk.pending(), &pending, &fault);
-    same(rt, &desk.document().revision(), &4, &fault);
-    same(rt, &desk.document().bookmarks().len(), &2, &fault);
-}
-
-/// Stops the test where one of three edits isn't refused or changes something.
-fn check_all_refused(rt: &impl Abort, alloc: Global, desk: &mut Desk, pending: u32)
-    ensures { desk.new.table ≡ desk.old.table }
-{
-    let high = set(rt, alloc, &[(0, 0, 2)]);
-    check_refused(rt, desk, &high, EditFault::CellStateTooHigh, pending);
-    let outside = set(rt, alloc, &[(1 << 60, 0, 1)]);
-    check_refused(rt, desk, &outside, EditFault::CellOutOfRange, pending);
-    let far = mark((1 << 60) + 1);
-    check_refused(rt, desk, &far, EditFault::GenerationTooFar, pending);
-}
-
-fn settle_both<R: Abort + Wait>(rt: &R, alloc: Global, desk: &mut Desk, entries: &Entries)
-    requires { desk.old.table ≡ entries.now }
-    ensures { desk.new.table ≡ desk.old.table }
-{
-    settle(rt, alloc, desk, entries);
-    expect_text(rt, desk, 1, "1 2\n");
-    expect_text(rt, desk, 2, "1 2\n");
+    play(&rt, rt.alloc(), ONE_CELL, TOUCHED);
 }
 
 #[test]
 fn refused_edits_change_nothing(rt: HostRuntime) {
+    play(&rt, rt.alloc(), ONE_CELL, REFUSED);
+}
+
+#[test]
+fn bookmark_shows_after_its_interventions(rt: HostRuntime) {
+    play(&rt, rt.alloc(), ONE_CELL, AFTER_INTERVENTIONS);
+}
+
+#[test]
+fn bookmark_is_moved_and_removed(rt: HostRuntime) {
+    play(&rt, rt.alloc(), ONE_CELL, MOVED);
+}
+
+#[test]
+fn touched_row_expects_nothing(rt: HostRuntime) {
+    play(&rt, rt.alloc(), AT_8, TOUCHED_WHILE_OUT);
+}
+
+#[test]
+fn kept_row_takes_a_late_answer_once(rt: HostRuntime) {
+    play(&rt, rt.alloc(), AT_8, COLLECTED_LATE);
+}
+
+#[test]
+fn edit_that_is_undone_brings_no_job_back(rt: HostRuntime) {
+    play(&rt, rt.alloc(), AT_8, UNDONE);
+}
+
+#[test]
+fn cancelled_job_is_stale(rt: HostRuntime) {
+    play(&rt, rt.alloc(), AT_8, CANCELLED);
+}
+
+#[test]
+fn stopped_job_is_released(rt: HostRuntime) {
+    play(&rt, rt.alloc(), AT_8, STOPPED);
+}
+
+#[test]
+fn desks_of_one_table_take_their_own_answers(rt: HostRuntime) {
+    play(&rt, rt.alloc(), AT_8, WORKED_BY_ANOTHER);
+}
+
+#[test]
+fn lost_job_stays_out(rt: HostRuntime) {
+    play(&rt, rt.alloc(), AT_8, LOST);
+}
+
+#[test]
+fn refused_job_is_cancelled(rt: HostRuntime) {
     let alloc = rt.alloc();
-    let entries = table(&rt, alloc);
-    let mut desk = desk_of_x(&rt, alloc, &entries);
-    edit(&rt, &mut desk, &mark(2));
-    settle(&rt, alloc, &mut desk, &entries);
-    edit(&rt, &mut desk, &mark(1));
-    // The bookmark that was added is pending before settling, and then both are known.
-    check_all_refused(&rt, alloc, &mut desk, 1);
-    settle_both(&rt, alloc, &mut desk, &entries);
-    check_all_refused(&rt, alloc, &mut desk, 0);
-    settle_both(&rt, alloc, &mut desk, &entries);
+    for refusing in [Act::Closed(100), Act::Full(1), Act::Full(2)] {
+        let acts = [refusing, Act::FirstOut(None), Act::Given(1)];
+        play(&rt, alloc, AT_8, &acts);
+    }
+}
+
+#[test]
+fn too_little_room_is_told(rt: HostRuntime) {
+    play(&rt, rt.alloc(), ONE_CELL, WITHOUT_ROOM);
+}
+
+#[test]
+fn turns_are_kept_to(rt: HostRuntime) {
+    play(&rt, rt.alloc(), AT_8, WITHOUT_TURNS);
 }
 
 #[test]
@@ -324,53 +460,4 @@ fn causes(rt: HostRuntime) {
     same(&rt, &Cause::NoRoom.number(), &71, &"room");
     same(&rt, &Cause::Stopped.number(), &72, &"a stop");
     same(&rt, &Cause::NumbersSpent.number(), &73, &"numbers");
-}
-
-/// The edit that sets (0, 0) to 1 in what arrives at a generation.
-fn insert(rt: &impl Abort, alloc: Global, generation: u64) -> Edit {
-    let mut cells = Vec::new(alloc);
-    push_cell(rt, &mut cells, &(0, 0, 1));
-    Edit::InsertIntervention {
-        generation,
-        cells: Listing::from_vec(cells),
-    }
-}
-
-// At generation 1 the cells (-1, 0) and (1, 0) are live; with (0, 0) they are three.
-#[test]
-fn bookmark_shows_after_its_interventions(rt: HostRuntime) {
-    let alloc = rt.alloc();
-    let entries = table(&rt, alloc);
-    let mut desk = desk_of_x(&rt, alloc, &entries);
-    edit(&rt, &mut desk, &mark(1));
-    edit(&rt, &mut desk, &mark(0));
-    settle(&rt, alloc, &mut desk, &entries);
-    expect_text(&rt, &desk, 1, "1 2\n");
-    edit(&rt, &mut desk, &insert(&rt, alloc, 1));
-    settle(&rt, alloc, &mut desk, &entries);
-    expect_text(&rt, &desk, 1, "1 3\n");
-    expect_text(&rt, &desk, 2, "1 1\n");
-    edit(&rt, &mut desk, &Edit::RemoveIntervention { id: 1 });
-    settle(&rt, alloc, &mut desk, &entries);
-    expect_text(&rt, &desk, 1, "1 2\n");
-}
-
-#[test]
-fn bookmark_is_moved_and_removed(rt: HostRuntime) {
-    let alloc = rt.alloc();
-    let entries = table(&rt, alloc);
-    let mut desk = desk_of_x(&rt, alloc, &entries);
-    edit(&rt, &mut desk, &mark(0));
-    edit(&rt, &mut desk, &mark(2));
-    let moved = Edit::MoveBookmark {
-        id: 1,
-        generation: 3,
-    };
-    edit(&rt, &mut desk, &moved);
-    settle(&rt, alloc, &mut desk, &entries);
-    expect_text(&rt, &desk, 1, "1 4\n");
-    edit(&rt, &mut desk, &Edit::RemoveBookmark { id: 1 });
-    expect_none(&rt, &desk, 1);
-    expect_pending(&rt, &desk, 0);
-    expect_text(&rt, &desk, 2, "1 2\n");
 }

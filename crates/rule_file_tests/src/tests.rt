@@ -96,155 +96,129 @@ fn files_without_a_rule_are_refused(rt: HostRuntime) {
     expect_refused(&rt, alloc, b"@RULE T\n@Table\n@TREES\n", RuleFault::NoTable);
 }
 
-/// Stops the test where the fault says something else of itself.
-fn expect_says(
-    rt: &impl Abort,
-    alloc: Global,
+/// A fault, and what it says of itself.
+struct Said {
     fault: RuleFault,
     number: u8,
     place: Option<u64>,
-    name: &str,
-    text: &str,
-) {
-    let said = fault.to_string(alloc).expect(rt, "memory");
-    same(rt, &fault.number(), &number, &name);
-    same(rt, &fault.name(), &name, &number);
-    same(rt, &fault.place(), &place, &name);
-    same(rt, &said.as_str(), &text, &name);
+    name: &'static str,
+    text: &'static str,
 }
+
+/// Stops the test where the fault says something else of itself.
+fn expect_says(rt: &impl Abort, alloc: Global, case: &Said) {
+    let said = case.fault.to_string(alloc).expect(rt, "memory");
+    same(rt, &case.fault.number(), &case.number, &case.name);
+    same(rt, &case.fault.name(), &case.name, &case.number);
+    same(rt, &case.fault.place(), &case.place, &case.name);
+    same(rt, &said.as_str(), &case.text, &case.name);
+}
+
+const FAULTS: [Said; 14] = [
+    Said {
+        fault: RuleFault::NoRuleLine,
+        number: 1,
+        place: None,
+        name: "NoRuleLine",
+        text: "the first line is not `@RULE` and a name",
+    },
+    Said {
+        fault: RuleFault::NoTable,
+        number: 2,
+        place: None,
+        name: "NoTable",
+        text: "there is no table or tree",
+    },
+    Said {
+        fault: RuleFault::MissingDescriptor,
+        number: 3,
+        place: None,
+        name: "MissingDescriptor",
+        text: "n_states, neighborhood and symmetries are not all given before the table's lines",
+    },
+    Said {
+        fault: RuleFault::BadStates,
+        number: 4,
+        place: None,
+        name: "BadStates",
+        text: "n_states is no number from 2 to 256",
+    },
+    Said {
+        fault: RuleFault::BadNeighborhood,
+        number: 5,
+        place: None,
+        name: "BadNeighborhood",
+        text: "the neighborhood is unknown",
+    },
+    Said {
+        fault: RuleFault::BadSymmetry,
+        number: 6,
+        place: None,
+        name: "BadSymmetry",
+        text: "the neighborhood has no such symmetries",
+    },
+    Said {
+        fault: RuleFault::BadVariable(5),
+        number: 7,
+        place: Some(5),
+        name: "BadVariable",
+        text: "line 5: this defines no variable",
+    },
+    Said {
+        fault: RuleFault::BadTransition(6),
+        number: 8,
+        place: Some(6),
+        name: "BadTransition",
+        text: "line 6: this is no transition",
+    },
+    Said {
+        fault: RuleFault::StateTooHigh(7),
+        number: 9,
+        place: Some(7),
+        name: "StateTooHigh",
+        text: "line 7: a state is not below n_states",
+    },
+    Said {
+        fault: RuleFault::FreeResult(8),
+        number: 10,
+        place: Some(8),
+        name: "FreeResult",
+        text: "line 8: the result is a variable of no input",
+    },
+    Said {
+        fault: RuleFault::TooManyTransitions,
+        number: 11,
+        place: None,
+        name: "TooManyTransitions",
+        text: "there are more than 1,000,000 transitions",
+    },
+    Said {
+        fault: RuleFault::BadTree(u64::MAX),
+        number: 12,
+        place: Some(u64::MAX),
+        name: "BadTree",
+        text: "line 18446744073709551615: this does not belong in the tree",
+    },
+    Said {
+        fault: RuleFault::NotQuiescent,
+        number: 13,
+        place: None,
+        name: "NotQuiescent",
+        text: "state 0 is not quiescent",
+    },
+    Said {
+        fault: RuleFault::NoMemory,
+        number: 70,
+        place: None,
+        name: "NoMemory",
+        text: "there is not enough memory",
+    },
+];
 
 #[test]
 fn what_faults_say(rt: HostRuntime) {
     let alloc = rt.alloc();
-    expect_says(
-        &rt,
-        alloc,
-        RuleFault::NoRuleLine,
-        1,
-        None,
-        "NoRuleLine",
-        "the first line is not `@RULE` and a name",
-    );
-    expect_says(
-        &rt,
-        alloc,
-        RuleFault::NoTable,
-        2,
-        None,
-        "NoTable",
-        "there is no table or tree",
-    );
-    expect_says(
-        &rt,
-        alloc,
-        RuleFault::MissingDescriptor,
-        3,
-        None,
-        "MissingDescriptor",
-        "n_states, neighborhood and symmetries are not all given before the table's lines",
-    );
-    expect_says(
-        &rt,
-        alloc,
-        RuleFault::BadStates,
-        4,
-        None,
-        "BadStates",
-        "n_states is no number from 2 to 256",
-    );
-    expect_says(
-        &rt,
-        alloc,
-        RuleFault::BadNeighborhood,
-        5,
-        None,
-        "BadNeighborhood",
-        "the neighborhood is unknown",
-    );
-    expect_says(
-        &rt,
-        alloc,
-        RuleFault::BadSymmetry,
-        6,
-        None,
-        "BadSymmetry",
-        "the neighborhood has no such symmetries",
-    );
-    expect_says(
-        &rt,
-        alloc,
-        RuleFault::TooManyTransitions,
-        11,
-        None,
-        "TooManyTransitions",
-        "there are more than 1,000,000 transitions",
-    );
-    expect_says(
-        &rt,
-        alloc,
-        RuleFault::NotQuiescent,
-        13,
-        None,
-        "NotQuiescent",
-        "state 0 is not quiescent",
-    );
-    expect_says(
-        &rt,
-        alloc,
-        RuleFault::NoMemory,
-        70,
-        None,
-        "NoMemory",
-        "there is not enough memory",
-    );
-}
-
-#[test]
-fn what_faults_of_a_line_say(rt: HostRuntime) {
-    let alloc = rt.alloc();
-    expect_says(
-        &rt,
-        alloc,
-        RuleFault::BadVariable(5),
-        7,
-        Some(5),
-        "BadVariable",
-        "line 5: this defines no variable",
-    );
-    expect_says(
-        &rt,
-        alloc,
-        RuleFault::BadTransition(6),
-        8,
-        Some(6),
-        "BadTransition",
-        "line 6: this is no transition",
-    );
-    expect_says(
-        &rt,
-        alloc,
-        RuleFault::StateTooHigh(7),
-        9,
-        Some(7),
-        "StateTooHigh",
-        "line 7: a state is not below n_states",
-    );
-    expect_says(
-        &rt,
-        alloc,
-        RuleFault::FreeResult(8),
-        10,
-        Some(8),
-        "FreeResult",
-        "line 8: the result is a variable of no input",
-    );
-    expect_says(
-        &rt,
-        alloc,
-        RuleFault::BadTree(u64::MAX),
-        12,
-        Some(u64::MAX),
-        "BadTree",
-        "line 18446744073709551615: this does not belong in the tree",
-    );
+    for case in &FAULTS {
+        expect_says(&rt, alloc, case);
+    }
 }

@@ -17,8 +17,9 @@ fn expect_comment(rt: &impl Abort, alloc: Global, comment: &[u8], x: i64, y: i64
 }
 
 /// Stops the test where the body at a place isn't refused by this number, or for 0 read.
-fn expect_far(rt: &impl Abort, alloc: Global, comment: &[u8], body: &[u8], number: u8) {
-    let text = with_comment(rt, alloc, comment, body);
+fn expect_far(rt: &impl Abort, alloc: Global, place: &[u8], body: &[u8], number: u8) {
+    let comment = joined(rt, alloc, b"#CXRLE Pos=", place);
+    let text = with_comment(rt, alloc, &comment, body);
     expect_outcome(rt, alloc, &text, number, None);
 }
 
@@ -144,48 +145,48 @@ fn comments_with_great_numbers(rt: HostRuntime) {
 #[test]
 fn far_places(rt: HostRuntime) {
     let alloc = rt.alloc();
-    expect_far(&rt, alloc, b"#CXRLE Pos=2305843009213693951,0", b"2o!", 41);
-    expect_far(&rt, alloc, b"#CXRLE Pos=2305843009213693952,0", b"o!", 41);
-    expect_far(&rt, alloc, b"#CXRLE Pos=0,2305843009213693951", b"o!", 0);
-    expect_far(&rt, alloc, b"#CXRLE Pos=0,2305843009213693951", b"$o!", 41);
-    expect_far(&rt, alloc, b"#CXRLE Pos=-2305843009213693953,0", b"o!", 41);
-    expect_far(&rt, alloc, b"#CXRLE Pos=-2305843009213693953,0", b"2o!", 41);
-    expect_far(&rt, alloc, b"#CXRLE Pos=-2305843009213693953,0", b"bo!", 0);
-    expect_far(&rt, alloc, b"#CXRLE Pos=0,-2305843009213693953", b"o!", 41);
-    expect_far(&rt, alloc, b"#CXRLE Pos=0,-2305843009213693953", b"$o!", 0);
+    expect_far(&rt, alloc, b"2305843009213693951,0", b"2o!", 41);
+    expect_far(&rt, alloc, b"2305843009213693952,0", b"o!", 41);
+    expect_far(&rt, alloc, b"0,2305843009213693951", b"o!", 0);
+    expect_far(&rt, alloc, b"0,2305843009213693951", b"$o!", 41);
+    expect_far(&rt, alloc, b"-2305843009213693953,0", b"o!", 41);
+    expect_far(&rt, alloc, b"-2305843009213693953,0", b"2o!", 41);
+    expect_far(&rt, alloc, b"-2305843009213693953,0", b"bo!", 0);
+    expect_far(&rt, alloc, b"0,-2305843009213693953", b"o!", 41);
+    expect_far(&rt, alloc, b"0,-2305843009213693953", b"$o!", 0);
     expect_far(
         &rt,
         alloc,
-        b"#CXRLE Pos=9223372036854775807,9223372036854775807",
+        b"9223372036854775807,9223372036854775807",
         b"b!",
         0,
     );
-    expect_far(&rt, alloc, b"#CXRLE Pos=9223372036854775807,0", b"o!", 41);
+    expect_far(&rt, alloc, b"9223372036854775807,0", b"o!", 41);
     expect_far(
         &rt,
         alloc,
-        b"#CXRLE Pos=-9223372036854775808,0",
+        b"-9223372036854775808,0",
         b"9223372036854775808bo!",
         0,
     );
     expect_far(
         &rt,
         alloc,
-        b"#CXRLE Pos=-9223372036854775808,0",
+        b"-9223372036854775808,0",
         b"11529215046068469759bo!",
         0,
     );
     expect_far(
         &rt,
         alloc,
-        b"#CXRLE Pos=-9223372036854775808,0",
+        b"-9223372036854775808,0",
         b"11529215046068469760bo!",
         41,
     );
     expect_far(
         &rt,
         alloc,
-        b"#CXRLE Pos=-9223372036854775808,0",
+        b"-9223372036854775808,0",
         b"18446744073709551616bo!",
         41,
     );

@@ -5,83 +5,81 @@ use std::process::Abort;
 
 const LAST: i64 = EDGE - 1;
 
-/// Stops the test where these cells, laid on a plane with the rows before, don't give those after.
-fn expect_laid(
-    rt: &impl Abort,
-    alloc: Global,
-    name: &str,
-    before: &[Row],
-    cells: &[Row],
-    after: &[Row],
-) {
-    let plane = plane_of(rt, alloc, before);
-    let later = laid(rt, alloc, &plane, cells);
-    let copy = later.copy().expect(rt, "memory");
-    expect_rows(rt, alloc, &later, after, name);
-    expect_rows(rt, alloc, &plane, before, name);
-    expect_rows(rt, alloc, &copy, after, name);
+/// Cells that are laid on a plane, and its rows before and after.
+struct Laying {
+    what: &'static str,
+    before: &'static [Row],
+    cells: &'static [Row],
+    after: &'static [Row],
 }
+
+/// Stops the test where the cells of a case don't give its rows, or change the plane before.
+fn expect_laid(rt: &impl Abort, alloc: Global, case: &Laying) {
+    let plane = plane_of(rt, alloc, case.before);
+    let later = laid(rt, alloc, &plane, case.cells);
+    let copy = later.copy().expect(rt, "memory");
+    expect_rows(rt, alloc, &later, case.after, case.what);
+    expect_rows(rt, alloc, &plane, case.before, case.what);
+    expect_rows(rt, alloc, &copy, case.after, case.what);
+}
+
+const LAYINGS: [Laying; 8] = [
+    Laying {
+        what: "nothing",
+        before: &[],
+        cells: &[],
+        after: &[],
+    },
+    Laying {
+        what: "the last mention wins",
+        before: &[],
+        cells: &[(1, 2, 3), (1, 2, 255)],
+        after: &[(1, 2, 255)],
+    },
+    Laying {
+        what: "0 takes away what the list laid",
+        before: &[],
+        cells: &[(1, 2, 3), (1, 2, 0)],
+        after: &[],
+    },
+    Laying {
+        what: "a state after 0 stays",
+        before: &[],
+        cells: &[(1, 2, 0), (1, 2, 3)],
+        after: &[(1, 2, 3)],
+    },
+    Laying {
+        what: "0 takes away what was there, and others stay",
+        before: &[(0, 0, 1), (5, 0, 2)],
+        cells: &[(0, 0, 0), (6, 0, 1)],
+        after: &[(5, 0, 2), (6, 0, 1)],
+    },
+    Laying {
+        what: "a state replaces another",
+        before: &[(0, 0, 1)],
+        cells: &[(0, 0, 2)],
+        after: &[(0, 0, 2)],
+    },
+    Laying {
+        what: "row by row from the top, each from the left",
+        before: &[],
+        cells: &[(0, 1, 1), (1, 0, 2), (-1, 1, 3), (0, 0, 4), (1, -1, 5)],
+        after: &[(1, -1, 5), (0, 0, 4), (1, 0, 2), (-1, 1, 3), (0, 1, 1)],
+    },
+    Laying {
+        what: "the corners of the plane",
+        before: &[],
+        cells: &[(LAST, LAST, 2), (-EDGE, -EDGE, 1), (LAST, -EDGE, 3)],
+        after: &[(-EDGE, -EDGE, 1), (LAST, -EDGE, 3), (LAST, LAST, 2)],
+    },
+];
 
 #[test]
 fn lays_cells(rt: HostRuntime) {
     let alloc = rt.alloc();
-    expect_laid(&rt, alloc, "nothing", &[], &[], &[]);
-    expect_laid(
-        &rt,
-        alloc,
-        "the last mention wins",
-        &[],
-        &[(1, 2, 3), (1, 2, 255)],
-        &[(1, 2, 255)],
-    );
-    expect_laid(
-        &rt,
-        alloc,
-        "0 takes away what the list laid",
-        &[],
-        &[(1, 2, 3), (1, 2, 0)],
-        &[],
-    );
-    expect_laid(
-        &rt,
-        alloc,
-        "a state after 0 stays",
-        &[],
-        &[(1, 2, 0), (1, 2, 3)],
-        &[(1, 2, 3)],
-    );
-    expect_laid(
-        &rt,
-        alloc,
-        "0 takes away what was there, and others stay",
-        &[(0, 0, 1), (5, 0, 2)],
-        &[(0, 0, 0), (6, 0, 1)],
-        &[(5, 0, 2), (6, 0, 1)],
-    );
-    expect_laid(
-        &rt,
-        alloc,
-        "a state replaces another",
-        &[(0, 0, 1)],
-        &[(0, 0, 2)],
-        &[(0, 0, 2)],
-    );
-    expect_laid(
-        &rt,
-        alloc,
-        "row by row from the top, each from the left",
-        &[],
-        &[(0, 1, 1), (1, 0, 2), (-1, 1, 3), (0, 0, 4), (1, -1, 5)],
-        &[(1, -1, 5), (0, 0, 4), (1, 0, 2), (-1, 1, 3), (0, 1, 1)],
-    );
-    expect_laid(
-        &rt,
-        alloc,
-        "the corners of the plane",
-        &[],
-        &[(LAST, LAST, 2), (-EDGE, -EDGE, 1), (LAST, -EDGE, 3)],
-        &[(-EDGE, -EDGE, 1), (LAST, -EDGE, 3), (LAST, LAST, 2)],
-    );
+    for case in &LAYINGS {
+        expect_laid(&rt, alloc, case);
+    }
 }
 
 fn expect_state(rt: &impl Abort, plane: &Plane, x: i64, y: i64, state: u8) {

@@ -119,88 +119,83 @@ fn expect_place(rt: &impl Abort, rule: &TreeRule, around: [u8; 9], place: usize)
     expect_of_tree(rt, rule, around, wanted);
 }
 
-// A tree of so many nodes copies the state at this place, of C, N, NE, E, SE, S, SW, W, NW.
-fn expect_copies(rt: &impl Abort, alloc: Global, place: usize, count: u32, nodes: &str) {
+// A tree of so many nodes that copies the state at this place, of C, N, NE, E, SE, S, SW, W, NW.
+struct Copier {
+    place: usize,
+    count: u32,
+    nodes: &'static str,
+}
+
+fn expect_copies(rt: &impl Abort, alloc: Global, case: &Copier) {
+    let (count, nodes) = (case.count, case.nodes);
     let head = "num_states=2\nnum_neighbors=8";
     let text = format!(in alloc; "@RULE T\n@TREE\n{head}\nnum_nodes={count}\n{nodes}\n");
     let rule = tree_of(rt, alloc, text.expect(rt, "memory").as_bytes());
     expect_of_tree(rt, &rule, [0; 9], 0);
     for around in ONE_LIVE {
-        expect_place(rt, &rule, around, place);
+        expect_place(rt, &rule, around, case.place);
     }
 }
+
+const COPIERS: [Copier; 9] = [
+    Copier {
+        place: 0,
+        count: 9,
+        nodes: "1 0 1\n2 0 0\n3 1 1\n4 2 2\n5 3 3\n6 4 4\n7 5 5\n8 6 6\n9 7 7",
+    },
+    Copier {
+        place: 5,
+        count: 10,
+        nodes: "1 0 0\n1 1 1\n2 0 1\n3 2 2\n4 3 3\n5 4 4\n6 5 5\n7 6 6\n8 7 7\n9 8 8",
+    },
+    Copier {
+        place: 3,
+        count: 11,
+        nodes: "1 0 0\n1 1 1\n2 0 0\n2 1 1\n3 2 3\n4 4 4\n5 5 5\n6 6 6\n7 7 7\n8 8 8\n9 9 9",
+    },
+    Copier {
+        place: 7,
+        count: 12,
+        nodes: "1 0 0\n1 1 1\n2 0 0\n2 1 1\n3 2 2\n3 3 3\n4 4 5\n5 6 6\n6 7 7\n7 8 8\n8 9 9\n9 10 10",
+    },
+    Copier {
+        place: 1,
+        count: 13,
+        nodes: "1 0 0\n1 1 1\n2 0 0\n2 1 1\n3 2 2\n3 3 3\n4 4 4\n4 5 5\n5 6 7\n6 8 8\n7 9 9\n\
+        8 10 10\n9 11 11",
+    },
+    Copier {
+        place: 4,
+        count: 14,
+        nodes: "1 0 0\n1 1 1\n2 0 0\n2 1 1\n3 2 2\n3 3 3\n4 4 4\n4 5 5\n5 6 6\n5 7 7\n6 8 9\n\
+        7 10 10\n8 11 11\n9 12 12",
+    },
+    Copier {
+        place: 6,
+        count: 15,
+        nodes: "1 0 0\n1 1 1\n2 0 0\n2 1 1\n3 2 2\n3 3 3\n4 4 4\n4 5 5\n5 6 6\n5 7 7\n6 8 8\n\
+        6 9 9\n7 10 11\n8 12 12\n9 13 13",
+    },
+    Copier {
+        place: 2,
+        count: 16,
+        nodes: "1 0 0\n1 1 1\n2 0 0\n2 1 1\n3 2 2\n3 3 3\n4 4 4\n4 5 5\n5 6 6\n5 7 7\n6 8 8\n\
+        6 9 9\n7 10 10\n7 11 11\n8 12 13\n9 14 14",
+    },
+    Copier {
+        place: 8,
+        count: 17,
+        nodes: "1 0 0\n1 1 1\n2 0 0\n2 1 1\n3 2 2\n3 3 3\n4 4 4\n4 5 5\n5 6 6\n5 7 7\n6 8 8\n\
+        6 9 9\n7 10 10\n7 11 11\n8 12 12\n8 13 13\n9 14 15",
+    },
+];
 
 #[test]
 fn every_place_is_told_apart(rt: HostRuntime) {
     let alloc = rt.alloc();
-    expect_copies(
-        &rt,
-        alloc,
-        0,
-        9,
-        "1 0 1\n2 0 0\n3 1 1\n4 2 2\n5 3 3\n6 4 4\n7 5 5\n8 6 6\n9 7 7",
-    );
-    expect_copies(
-        &rt,
-        alloc,
-        5,
-        10,
-        "1 0 0\n1 1 1\n2 0 1\n3 2 2\n4 3 3\n5 4 4\n6 5 5\n7 6 6\n8 7 7\n9 8 8",
-    );
-    expect_copies(
-        &rt,
-        alloc,
-        3,
-        11,
-        "1 0 0\n1 1 1\n2 0 0\n2 1 1\n3 2 3\n4 4 4\n5 5 5\n6 6 6\n7 7 7\n8 8 8\n9 9 9",
-    );
-    expect_copies(
-        &rt,
-        alloc,
-        7,
-        12,
-        "1 0 0\n1 1 1\n2 0 0\n2 1 1\n3 2 2\n3 3 3\n4 4 5\n5 6 6\n6 7 7\n7 8 8\n8 9 9\n9 10 10",
-    );
-    expect_copies(
-        &rt,
-        alloc,
-        1,
-        13,
-        "1 0 0\n1 1 1\n2 0 0\n2 1 1\n3 2 2\n3 3 3\n4 4 4\n4 5 5\n5 6 7\n6 8 8\n7 9 9\n\
-        8 10 10\n9 11 11",
-    );
-    expect_copies(
-        &rt,
-        alloc,
-        4,
-        14,
-        "1 0 0\n1 1 1\n2 0 0\n2 1 1\n3 2 2\n3 3 3\n4 4 4\n4 5 5\n5 6 6\n5 7 7\n6 8 9\n\
-        7 10 10\n8 11 11\n9 12 12",
-    );
-    expect_copies(
-        &rt,
-        alloc,
-        6,
-        15,
-        "1 0 0\n1 1 1\n2 0 0\n2 1 1\n3 2 2\n3 3 3\n4 4 4\n4 5 5\n5 6 6\n5 7 7\n6 8 8\n\
-        6 9 9\n7 10 11\n8 12 12\n9 13 13",
-    );
-    expect_copies(
-        &rt,
-        alloc,
-        2,
-        16,
-        "1 0 0\n1 1 1\n2 0 0\n2 1 1\n3 2 2\n3 3 3\n4 4 4\n4 5 5\n5 6 6\n5 7 7\n6 8 8\n\
-        6 9 9\n7 10 10\n7 11 11\n8 12 13\n9 14 14",
-    );
-    expect_copies(
-        &rt,
-        alloc,
-        8,
-        17,
-        "1 0 0\n1 1 1\n2 0 0\n2 1 1\n3 2 2\n3 3 3\n4 4 4\n4 5 5\n5 6 6\n5 7 7\n6 8 8\n\
-        6 9 9\n7 10 10\n7 11 11\n8 12 12\n8 13 13\n9 14 15",
-    );
+    for case in &COPIERS {
+        expect_copies(&rt, alloc, case);
+    }
 }
 
 fn expect_at(rt: &impl Abort, rule: &TreeRule, centre: u8, north: u8, wanted: u8) {
