@@ -1,8 +1,5 @@
 //! What is written where, and the endings.
-use crate::ending::{Ending, report, tell};
-use crate::start::start;
-use desk_server::RunFault;
-use desk_words::WordsFault;
+use desk_program::{Ending, RunFault, WordsFault, report, start, tell};
 use std::alloc::Global;
 use std::cell::Cell;
 use std::fmt::{Debug, Display};

@@ -6,7 +6,7 @@ use Rattle.desk_server.specs.Run.{AnswersAll, AnswersFront, AnswersWhole}
 use Rattle.desk_server.specs.Round.{ReadStops, WriteStops}
 use Rattle.desk_server.specs.declared.server.RunFault.{RunFault}
 use Rattle.desk_server.specs.declared.server.RunFault.TheVariants.{Read, Write, NoMemory}
-use Rattle.desk.specs.Start.{Answers}
+use Rattle.desk_program.specs.Start.{Answers}
 
 moved : (P : Option (List ℕ) → Option (List ℕ) → Option (List ℕ) → Type 0) (a b c d e f : Option (List ℕ)) → a ≡ b → c ≡ d → e ≡ f → P a c e → P b d f
 moved P a b c d e f first second third h = subst (λ v. P v d f) first (subst (λ v. P a v f) second (subst (λ v. P a c v) third h))

@@ -3,7 +3,7 @@ ghost use Rattle.std.specs.Prelude.{◌≤◌, Result, map, string_bytes};
 ghost use Rattle.desk_words.specs.Words.{Checks};
 ghost use Rattle.desk_words.specs.declared.options.Options.{Options};
 ghost use Rattle.desk_words.specs.declared.words.WordsFault.{WordsFault as Fault};
-ghost use Rattle.desk.specs.Start.{Answers, Opens, Starts};
+ghost use Rattle.desk_program.specs.Start.{Answers, Opens, Starts};
 
 use crate::ending::{Ending, report, tell};
 use desk_server::{CountedReader, CountedWriter, Entries, InlinePost, RunFault, run};

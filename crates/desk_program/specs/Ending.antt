@@ -3,8 +3,8 @@ use Rattle.std.specs.Prelude.{◌≡◌, ◌⊎◌, ℕ, List, Option, Some, Non
 use Rattle.desk_server.specs.declared.server.RunFault.TheVariants.{Read, Write, NoMemory}
 use Rattle.desk_words.specs.declared.words.WordsFault.{WordsFault}
 use Rattle.desk_words.specs.declared.words.WordsFault.TheVariants as words
-use Rattle.desk.specs.declared.ending.Ending.{Ending}
-use Rattle.desk.specs.declared.ending.Ending.TheVariants.{Done, Refused, Failed}
+use Rattle.desk_program.specs.declared.ending.Ending.{Ending}
+use Rattle.desk_program.specs.declared.ending.Ending.TheVariants.{Done, Refused, Failed}
 
 -- the exit status
 abbrev pub status_of : Ending → ℕ

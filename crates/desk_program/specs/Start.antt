@@ -9,9 +9,9 @@ use Rattle.desk_server.specs.declared.server.RunFault.{RunFault}
 use Rattle.desk_server.specs.declared.server.RunFault.TheVariants.{Read, Write, NoMemory}
 use Rattle.desk_words.specs.declared.options.Options.{Options}
 use Rattle.desk_words.specs.declared.words.WordsFault.{WordsFault}
-use Rattle.desk.specs.declared.ending.Ending.{Ending}
-use Rattle.desk.specs.declared.ending.Ending.TheVariants.{Done, Failed}
-use Rattle.desk.specs.Ending.{EndsBy, status_of}
+use Rattle.desk_program.specs.declared.ending.Ending.{Ending}
+use Rattle.desk_program.specs.declared.ending.Ending.TheVariants.{Done, Failed}
+use Rattle.desk_program.specs.Ending.{EndsBy, status_of}
 
 -- a blank that a ledger of this name and of so many parts, one at least, can be opened of
 pub record Opens (blank : Blank) (name parts : ℕ) : Type 0 where

@@ -1,5 +1,5 @@
-use Rattle.desk.proofs.Answered.{answers_of}
-use Rattle.desk.proofs.start.answer.Goals as goal
+use Rattle.desk_program.proofs.Answered.{answers_of}
+use Rattle.desk_program.proofs.program.answer.Goals as goal
 
 pub returns : goal.returns
 returns g c =

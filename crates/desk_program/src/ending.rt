@@ -1,7 +1,7 @@
 //! How the program ends.
 ghost use Rattle.std.specs.Prelude.{◌≡◌, MatchResult, option_map};
 ghost use Rattle.std.specs.Process.{exit_status};
-ghost use Rattle.desk.specs.Ending.{EndsBy, status_of, text_of};
+ghost use Rattle.desk_program.specs.Ending.{EndsBy, status_of, text_of};
 
 use desk_server::RunFault;
 use desk_words::WordsFault;
