@@ -154,6 +154,11 @@ fn far_places(rt: HostRuntime) {
     expect_far(&rt, alloc, b"-2305843009213693953,0", b"bo!", 0);
     expect_far(&rt, alloc, b"0,-2305843009213693953", b"o!", 41);
     expect_far(&rt, alloc, b"0,-2305843009213693953", b"$o!", 0);
+}
+
+#[test]
+fn farthest_places(rt: HostRuntime) {
+    let alloc = rt.alloc();
     expect_far(
         &rt,
         alloc,
