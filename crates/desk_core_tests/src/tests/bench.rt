@@ -19,6 +19,12 @@ const SQUARES: u32 = 4096;
 // More turns than a desk of these tests takes.
 const TURNS: u32 = 100;
 
+// How a settling ends that can't compute the one bookmark that is pending.
+const ONE_LEFT: Settling = Settling::Unsettled {
+    pending: 1,
+    cause: None,
+};
+
 /// A desk whose jobs are of the table, the job that was issued last, until it is worked, and the
 /// answer that came last.
 #[derive(Drop)]
@@ -140,9 +146,9 @@ impl<'e> Bench<'e> {
             Act::SettleInNoTurn(wanted) => {
                 same(rt, &self.settled(rt, SQUARES, 0), &wanted, act);
             }
-            Act::Lose(turns) => self.lose(rt, turns),
-            Act::Closed(turns) => self.be_refused(rt, turns, true),
-            Act::Full(turns) => self.be_refused(rt, turns, false),
+            Act::Lose(turns) => self.settle_over_losing(rt, turns),
+            Act::Closed(turns) => self.settle_over_refusing(rt, turns, true),
+            Act::Full(turns) => self.settle_over_refusing(rt, turns, false),
             Act::Issue(number, wanted) => self.issue(rt, number, &wanted),
             Act::Raise => self.raise(rt),
             Act::Work => self.work(rt),
@@ -220,14 +226,14 @@ impl<'e> Bench<'e> {
     }
 
     // Settles over a post that loses its jobs, with one bookmark pending.
-    fn lose<R: Abort + Wait>(&mut self, rt: &R, turns: u32) {
+    fn settle_over_losing<R: Abort + Wait>(&mut self, rt: &R, turns: u32) {
         let mut post = LosingPost::new(self.entries);
         let left = settle(rt, &mut self.desk, &mut post, turns);
         same(rt, &left, &ONE_LEFT, &turns);
     }
 
     // Settles over a post that takes no job, with one bookmark pending.
-    fn be_refused<R: Abort + Wait>(&mut self, rt: &R, turns: u32, is_closed: bool) {
+    fn settle_over_refusing<R: Abort + Wait>(&mut self, rt: &R, turns: u32, is_closed: bool) {
         let mut post = RefusingPost::new(self.entries, is_closed);
         let left = settle(rt, &mut self.desk, &mut post, turns);
         same(rt, &left, &ONE_LEFT, &turns);
@@ -317,9 +323,3 @@ fn desk_at_8<'e>(rt: &impl Abort, alloc: Global, entries: &'e Entries) -> Desk<'
     edit(rt, alloc, &mut desk, Change::Mark(8));
     desk
 }
-
-// How a settling ends that can't compute the one bookmark that is pending.
-const ONE_LEFT: Settling = Settling::Unsettled {
-    pending: 1,
-    cause: None,
-};
