@@ -1,12 +1,12 @@
 -- Rows that are added one behind another.
 use Rattle.std.proofs.Common.{◌≡◌, ℕ, zero, suc, ◌-◌, ◌<◌, ◌≤◌, List, [], ◌∷◌, ◌++◌, length, get_or, refl, sym, ap, ap₂, ◌∙◌, subst, arith, append-nil, lit<}
 use Rattle.std.proofs.lemmas.List.{length_push, get_or_push}
-use Rattle.square_rows.specs.declared.row.SquareRow.{SquareRow}
+use Rattle.plane_core.specs.declared.row.SquareRow.{SquareRow}
 use Rattle.worlds.specs.Square.{Square, one, four}
-use Rattle.square_rows.specs.Rows.{AreRows, IsNumber, IsRow, kid, no_row, row_at, square_in}
-use Rattle.square_rows.proofs.Numbering.{Grows, Grows-more, Grows-then}
-use Rattle.square_rows.proofs.Roots.{root_level-some}
-use Rattle.square_rows.proofs.Sound.{AreRows-push, IsNumber-from, IsNumber-grown, IsNumber-state, row_of, square_in-grown, square_in-row, square_in-state}
+use Rattle.plane_core.specs.Rows.{AreRows, IsNumber, IsRow, kid, no_row, row_at, square_in}
+use Rattle.plane_core.proofs.Numbering.{Grows, Grows-more, Grows-then}
+use Rattle.plane_core.proofs.Roots.{root_level-some}
+use Rattle.plane_core.proofs.Sound.{AreRows-push, IsNumber-from, IsNumber-grown, IsNumber-state, row_of, square_in-grown, square_in-row, square_in-state}
 use Rattle.multistate_macrocell.specs.Tables.{Adds, square_of_row}
 
 -- rows that were added to have grown

@@ -5,8 +5,8 @@ use Rattle.macrocell_lines.specs.declared.node.Node.{Node}
 use Rattle.macrocell_lines.specs.Nodes.{AreNodes, level_of}
 use Rattle.worlds.specs.World.{World, cell}
 use Rattle.worlds.specs.Range.{AllBelow, HasMargin}
-use Rattle.square_rows.specs.Rows.{edge_of}
-use Rattle.square_rows.specs.WorldRows.{rows_of}
+use Rattle.plane_core.specs.Rows.{edge_of}
+use Rattle.plane_core.specs.WorldRows.{rows_of}
 use Rattle.worlds.specs.Square.{IsIn, Square, cell_in}
 use Rattle.multistate_macrocell.specs.Pattern.{pattern_of}
 use Rattle.multistate_macrocell.specs.PatternText.{macrocell_text}

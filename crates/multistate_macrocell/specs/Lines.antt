@@ -1,8 +1,8 @@
 -- The pieces of a text as they are written.
 use Rattle.std.specs.Prelude.{ℕ, List, [], ◌∷◌, ◌++◌, map, codes, decimal}
 use Rattle.macrocell_lines.specs.WrittenText.{numbers_line, text_of_lines}
-use Rattle.square_rows.specs.declared.row.SquareRow.{SquareRow}
-use Rattle.square_rows.specs.Rows.{kid}
+use Rattle.plane_core.specs.declared.row.SquareRow.{SquareRow}
+use Rattle.plane_core.specs.Rows.{kid}
 
 -- the first three lines: what the text is, the rule's name and the generation
 abbrev pub heading_text : List ℕ → ℕ → List ℕ

@@ -4,9 +4,9 @@ use Rattle.macrocell_lines.specs.declared.node.Node.{Node}
 use Rattle.macrocell_lines.specs.declared.node.Node.TheVariants.{Cells, Square as Quartered}
 use Rattle.macrocell_lines.specs.WrittenText.{written_text}
 use Rattle.worlds.specs.World.{World}
-use Rattle.square_rows.specs.declared.row.SquareRow.{SquareRow}
-use Rattle.square_rows.specs.Rows.{kid}
-use Rattle.square_rows.specs.WorldRows.{rows_of}
+use Rattle.plane_core.specs.declared.row.SquareRow.{SquareRow}
+use Rattle.plane_core.specs.Rows.{kid}
+use Rattle.plane_core.specs.WorldRows.{rows_of}
 
 -- the node that says a row
 abbrev pub node_of : SquareRow → Node

@@ -7,7 +7,7 @@ use Rattle.macrocell_lines.specs.declared.node.Node.TheVariants.{Cells, Square a
 use Rattle.macrocell_lines.specs.Bitmaps.{is_live}
 use Rattle.macrocell_lines.specs.Nodes.{level_of}
 use Rattle.worlds.specs.World.{World, blank}
-use Rattle.square_rows.specs.Rows.{edge_of}
+use Rattle.plane_core.specs.Rows.{edge_of}
 use Rattle.worlds.specs.Square.{Square, one, four, empty_square, put_square}
 
 -- the square of level k of a bitmap's cells, of which the upper left one is at the column x and the row y

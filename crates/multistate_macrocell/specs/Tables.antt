@@ -3,8 +3,8 @@ use Rattle.std.specs.Prelude.{◌≡◌, ℕ, ◌-◌, ◌<◌, ◌≤◌, List,
 use Rattle.macrocell_lines.specs.declared.node.Node.{Node}
 use Rattle.macrocell_lines.specs.declared.node.Node.TheVariants.{Cells, Square as Quartered, Bitmap as Drawn}
 use Rattle.macrocell_lines.specs.Nodes.{AreStates, level_of}
-use Rattle.square_rows.specs.declared.row.SquareRow.{SquareRow}
-use Rattle.square_rows.specs.Rows.{AreRows, IsNumber, kid, root_level, square_in}
+use Rattle.plane_core.specs.declared.row.SquareRow.{SquareRow}
+use Rattle.plane_core.specs.Rows.{AreRows, IsNumber, kid, root_level, square_in}
 use Rattle.worlds.specs.Square.{Square, four}
 use Rattle.multistate_macrocell.specs.Quadtree.{square_of}
 

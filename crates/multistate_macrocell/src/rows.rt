@@ -1,7 +1,7 @@
 //! The rows of squares that nodes become.
 ghost use Rattle.std.specs.Prelude.{◌≡◌, ◌+◌, ◌≤◌, ◌^◌, IfOk};
 ghost use Rattle.macrocell_lines.specs.Nodes.{AreNodes, level_of};
-ghost use Rattle.square_rows.specs.Rows.{AreRows, IsRow, world_of_rows};
+ghost use Rattle.plane_core.specs.Rows.{AreRows, IsRow, world_of_rows};
 ghost use Rattle.multistate_macrocell.specs.Quadtree.{drawn, world_of_nodes};
 ghost use Rattle.multistate_macrocell.specs.Tables.{Adds, CanFollow, square_by, square_of_row};
 

@@ -1,13 +1,39 @@
 //! Planes: what every crate of the desk means by a pattern.
 //!
-//! A `Plane` is kept as the rows of its distinct squares, and contracts see it as a world: every
-//! call on it says which world it gives or what it tells of one. The crate hands on `worlds`, the
-//! definitions of cells, worlds and steps, and `square_rows`, where planes are kept; `Loaded` is a
-//! pattern as a file holds it.
+//! A square of level `k` has a side of `2^k` cells, and is one row that names its four quadrants,
+//! so a pattern whose squares repeat takes as many rows as it has different ones. Contracts see a
+//! `Plane` as a world: every call on it says which world it gives or what it tells of one. Its rows
+//! are canonical: a world has one list of them, so planes with equal cells have equal rows.
+//!
+//! `from_squares` makes any rows canonical in two walks that see each row once, and measures them in
+//! a third pass, so that `population`, `greatest` and `bounds` are there. `get` is one descent of at
+//! most 62 levels, and `equals` compares rows. `lay` adds a row for each square that holds a laid
+//! cell, at most 62 a cell, and makes the rows canonical again; `from_cells` lets the list of cells
+//! go before that. `live` descends to each live cell once, and `counts` takes one pass over the
+//! rows from the root down.
+//!
+//! The crate hands on what `worlds` declares of cells, rules and stops. `Loaded` is a pattern as a
+//! file holds it.
 #![tactic(auto)]
 
+mod canonical;
+mod centre;
+mod counts;
+mod descent;
+mod laws;
+mod lay;
+mod live;
 mod loaded;
+mod measures;
+mod plane;
+mod raise;
+mod row;
+mod valid;
+mod walk;
 
+pub use laws::{worlds_have_one_list_of_rows, worlds_have_rows};
 pub use loaded::Loaded;
-pub use square_rows::{Plane, SquareRow, are_rows};
+pub use plane::Plane;
+pub use row::SquareRow;
+pub use valid::are_rows;
 pub use worlds::{Around, Ask, Bounds, Cell, CellSet, Next, NoStop, Stop};

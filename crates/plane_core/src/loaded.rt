@@ -1,7 +1,7 @@
 //! What a pattern file holds.
 
+use crate::plane::Plane;
 use basics::Listing;
-use square_rows::Plane;
 
 /// A pattern that was read from a file, with the rule's name and the generation that the file
 /// gives. The name is empty and the generation 0 where it gives none.

@@ -5,11 +5,11 @@ use Rattle.std.proofs.lemmas.List.{length_push, get_or_append_left, get_or_push}
 use Rattle.worlds.specs.World.{World}
 use Rattle.worlds.specs.Range.{AllBelow}
 use Rattle.worlds.specs.Square.{Square, one, four, IsSquare, cell_in}
-use Rattle.square_rows.specs.declared.row.SquareRow.{SquareRow}
-use Rattle.square_rows.specs.Rows.{numbered, number_row, number_square, no_row, kid, AreCanonical, AreSquaresOf, root_level, root_of, edge_of, world_of_rows}
-use Rattle.square_rows.proofs.Cells.{cell_in-ne, cell_in-nw, cell_in-one, cell_in-se, cell_in-sw, double}
-use Rattle.square_rows.proofs.Sound.{row_of}
-use Rattle.square_rows.proofs.Roots.{root-IsSquare, root-cells}
+use Rattle.plane_core.specs.declared.row.SquareRow.{SquareRow}
+use Rattle.plane_core.specs.Rows.{numbered, number_row, number_square, no_row, kid, AreCanonical, AreSquaresOf, root_level, root_of, edge_of, world_of_rows}
+use Rattle.plane_core.proofs.Cells.{cell_in-ne, cell_in-nw, cell_in-one, cell_in-se, cell_in-sw, double}
+use Rattle.plane_core.proofs.Sound.{row_of}
+use Rattle.plane_core.proofs.Roots.{root-IsSquare, root-cells}
 use Rattle.square_table.specs.Loading.{LevelsUpTo, CellsBelow}
 
 -- the level of a row is at most m, and its states are below c

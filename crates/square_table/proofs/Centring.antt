@@ -5,11 +5,11 @@ use Rattle.std.proofs.lemmas.Int.{ints}
 use Rattle.worlds.specs.World.{World, cell, same_world}
 use Rattle.worlds.specs.Range.{HasMargin}
 use Rattle.worlds.specs.Square.{Square, one, four, IsSquare, IsIn, cell_in, square_at}
-use Rattle.square_rows.specs.declared.row.SquareRow.{SquareRow}
-use Rattle.square_rows.specs.Rows.{AreRows, root_level, root_of, world_of_rows}
-use Rattle.square_rows.proofs.Cells.{cell_in-ne, cell_in-nw, cell_in-one, cell_in-se, cell_in-sw, double, in_or_out, offset}
-use Rattle.square_rows.proofs.Roots.{root-IsSquare, root-Fits, root-cells}
-use Rattle.square_rows.specs.Rows as listed
+use Rattle.plane_core.specs.declared.row.SquareRow.{SquareRow}
+use Rattle.plane_core.specs.Rows.{AreRows, root_level, root_of, world_of_rows}
+use Rattle.plane_core.proofs.Cells.{cell_in-ne, cell_in-nw, cell_in-one, cell_in-se, cell_in-sw, double, in_or_out, offset}
+use Rattle.plane_core.proofs.Roots.{root-IsSquare, root-Fits, root-cells}
+use Rattle.plane_core.specs.Rows as listed
 use Rattle.square_table.specs.Centred.{edge, IsCentred, CentredAlike}
 use Rattle.square_table.specs.Packing.{AreRowsOf}
 use Rattle.square_table.specs.Squares.{square_in, square_of, kids_at}

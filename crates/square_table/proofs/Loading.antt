@@ -3,12 +3,12 @@ use Rattle.std.proofs.Common.{◌≡◌, ℕ, zero, suc, ◌-◌, ◌<◌, ◌�
 use Rattle.std.proofs.lemmas.Bool.{cases_lt}
 use Rattle.std.proofs.lemmas.List.{length_push, get_or_append_left, get_or_push}
 use Rattle.worlds.specs.Square.{Square, one, four, empty_square, cell_in}
-use Rattle.square_rows.specs.declared.row.SquareRow.{SquareRow}
-use Rattle.square_rows.specs.Rows as listed
-use Rattle.square_rows.specs.Rows.{no_row, kid, AreRows}
-use Rattle.square_rows.proofs.Cells.{cell_in-one}
-use Rattle.square_rows.proofs.Sound.{IsNumber-level, square_in-none, square_in-state, square_in-row, state-IsNumber}
-use Rattle.square_rows.proofs.Measuring.{kid_is}
+use Rattle.plane_core.specs.declared.row.SquareRow.{SquareRow}
+use Rattle.plane_core.specs.Rows as listed
+use Rattle.plane_core.specs.Rows.{no_row, kid, AreRows}
+use Rattle.plane_core.proofs.Cells.{cell_in-one}
+use Rattle.plane_core.proofs.Sound.{IsNumber-level, square_in-none, square_in-state, square_in-row, state-IsNumber}
+use Rattle.plane_core.proofs.Measuring.{kid_is}
 use Rattle.square_table.specs.Squares.{Table, IsNumber, AreNumbers, square_in, square_of, first_number, IsSquareOf, Grows, GrowsBy, AllStatesBelow}
 use Rattle.square_table.specs.Loading.{AreBlanks, IsLoadedAt, AreLoaded, number_in, LevelsUpTo, CellsBelow, GrowsFrom}
 use Rattle.square_table.proofs.Tables.{kept_row, last_row}

@@ -5,13 +5,13 @@ use Rattle.std.proofs.Math.ListN.{set}
 use Rattle.std.proofs.lemmas.Bool.{cases_eq}
 use Rattle.std.proofs.lemmas.List.{length-set}
 use Rattle.worlds.specs.Square.{Square, four}
-use Rattle.square_rows.specs.declared.row.SquareRow.{SquareRow}
-use Rattle.square_rows.specs.Rows as listed
-use Rattle.square_rows.specs.Rows.{AreRows}
-use Rattle.square_rows.specs.Laid as laid
-use Rattle.square_rows.specs.Laid.{Keeps, IsAdded}
-use Rattle.square_rows.proofs.Adding.{Keeps-then, quadrants-none, added, root_added}
-use Rattle.square_rows.proofs.Sound as sound
+use Rattle.plane_core.specs.declared.row.SquareRow.{SquareRow}
+use Rattle.plane_core.specs.Rows as listed
+use Rattle.plane_core.specs.Rows.{AreRows}
+use Rattle.plane_core.specs.Laid as laid
+use Rattle.plane_core.specs.Laid.{Keeps, IsAdded}
+use Rattle.plane_core.proofs.Adding.{Keeps-then, quadrants-none, added, root_added}
+use Rattle.plane_core.proofs.Sound as sound
 use Rattle.square_table.specs.Squares.{IsNumber, AreNumbers, square_of, first_number, kids_at}
 use Rattle.square_table.specs.Packing.{IsPacked, IsPacking, AreRowsOf}
 use Rattle.square_table.proofs.Tables.{above_zero}

@@ -1,9 +1,9 @@
 -- Planes that become squares of a table, row by row.
 use Rattle.std.specs.Prelude.{◌≡◌, ℕ, zero, suc, ◌<◌, ◌≤◌, List, length, get_or}
 use Rattle.worlds.specs.Square.{empty_square}
-use Rattle.square_rows.specs.declared.row.SquareRow.{SquareRow}
-use Rattle.square_rows.specs.Rows as listed
-use Rattle.square_rows.specs.Rows.{no_row, kid, AreRows}
+use Rattle.plane_core.specs.declared.row.SquareRow.{SquareRow}
+use Rattle.plane_core.specs.Rows as listed
+use Rattle.plane_core.specs.Rows.{no_row, kid, AreRows}
 use Rattle.square_table.specs.Squares.{Table, IsNumber, square_in, Grows, AllStatesBelow}
 
 -- the k-th is the number of the square of level k with no live cell

@@ -1,8 +1,8 @@
 -- Squares of a table that become the rows of a plane.
 use Rattle.std.specs.Prelude.{◌≡◌, ℕ, ◌+◌, ◌<◌, ◌^◌, List, length, get_or, Option, None, IfSome}
 use Rattle.worlds.specs.Square.{Square}
-use Rattle.square_rows.specs.declared.row.SquareRow.{SquareRow}
-use Rattle.square_rows.specs.Rows as listed
+use Rattle.plane_core.specs.declared.row.SquareRow.{SquareRow}
+use Rattle.plane_core.specs.Rows as listed
 use Rattle.square_table.specs.Squares.{IsNumber, square_in, first_number}
 
 -- m is the number among a plane's rows of the square of level k that n stands for in the table

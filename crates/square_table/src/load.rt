@@ -2,7 +2,7 @@
 ghost use Rattle.std.specs.Prelude.{◌≡◌, ℕ, ◌+◌, ◌<◌, ◌≤◌, [], ◌∷◌, ◌++◌, length, IfOk, OnOk, Err};
 ghost use Rattle.worlds.specs.Range.{AllBelow};
 ghost use Rattle.worlds.specs.Square.{empty_square};
-ghost use Rattle.square_rows.specs.Rows.{AreRows, root_level, root_of};
+ghost use Rattle.plane_core.specs.Rows.{AreRows, root_level, root_of};
 ghost use Rattle.square_table.specs.Squares.{IsHeld, Grows, AllStatesBelow, level_of, cells_of};
 ghost use Rattle.square_table.specs.Centred.{IsCentred};
 ghost use Rattle.square_table.specs.Loading.{AreBlanks, AreLoaded, IsLoading, GrowsFrom, LevelsUpTo, number_in};
@@ -10,7 +10,7 @@ ghost use Rattle.square_table.specs.Loading.{AreBlanks, AreLoaded, IsLoading, Gr
 use crate::fault::TableFault;
 use crate::square::Square;
 use crate::table::SquareTable;
-use square_rows::{Plane, SquareRow};
+use plane_core::{Plane, SquareRow};
 use std::alloc::AllocError;
 
 // The number of the square of a level that a kid of a plane's row stands for.

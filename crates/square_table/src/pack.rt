@@ -2,10 +2,10 @@
 ghost use Rattle.std.specs.Prelude.{◌≡◌, ℕ, ◌-◌, ◌<◌, ◌≤◌, ◌^◌, length, get_or, IfOk, OnOk};
 ghost use Rattle.worlds.specs.World.{World};
 ghost use Rattle.worlds.specs.Range.{HasMargin};
-ghost use Rattle.square_rows.specs.Rows as listed;
-ghost use Rattle.square_rows.specs.Rows.{AreRows};
-ghost use Rattle.square_rows.specs.Laid as laid;
-ghost use Rattle.square_rows.specs.Laid.{Keeps, IsAdded};
+ghost use Rattle.plane_core.specs.Rows as listed;
+ghost use Rattle.plane_core.specs.Rows.{AreRows};
+ghost use Rattle.plane_core.specs.Laid as laid;
+ghost use Rattle.plane_core.specs.Laid.{Keeps, IsAdded};
 ghost use Rattle.square_table.specs.Squares.{IsHeld, IsNumber, AreNumbers, square_of, level_of, cells_of};
 ghost use Rattle.square_table.specs.Centred.{IsCentred, CentredAlike};
 ghost use Rattle.square_table.specs.Packing.{IsPacked, IsPacking, AreRowsOf};
@@ -13,7 +13,7 @@ ghost use Rattle.square_table.specs.Packing.{IsPacked, IsPacking, AreRowsOf};
 use crate::chains::is_same;
 use crate::square::Square;
 use crate::table::SquareTable;
-use square_rows::{Plane, SquareRow};
+use plane_core::{Plane, SquareRow};
 use std::alloc::AllocError;
 
 // Numbers of a table's squares from it on are those of rows.

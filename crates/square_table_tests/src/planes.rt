@@ -3,7 +3,7 @@ ghost use Rattle.std.specs.Prelude.{All, IsTrue};
 ghost use Rattle.worlds.specs.Range.{CanBeLaid};
 
 use bumpalo::Bump;
-use square_rows::Plane;
+use plane_core::Plane;
 use square_table::{SquareTable, TableFault};
 use square_tree::Patch;
 use std::alloc::Global;

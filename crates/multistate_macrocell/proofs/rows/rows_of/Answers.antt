@@ -3,7 +3,7 @@ use Rattle.std.specs.Prelude.{slice_get}
 use Rattle.std.proofs.lemmas.Option.{slice_get-get_or}
 use Rattle.macrocell_lines.specs.declared.node.Node.TheVariants.{Cells}
 use Rattle.macrocell_lines.specs.Nodes.{level_of}
-use Rattle.square_rows.specs.declared.row.SquareRow.{SquareRow}
+use Rattle.plane_core.specs.declared.row.SquareRow.{SquareRow}
 use Rattle.multistate_macrocell.specs.Tables.{Adds, CanFollow, square_by}
 use Rattle.multistate_macrocell.proofs.Standing.{Stand, next-follows, stand-more, stand-none, stand-world}
 use Rattle.multistate_macrocell.proofs.rows.rows_of.Goals as goal

@@ -1,6 +1,6 @@
 use Rattle.std.proofs.Common.{◌≡◌, ◌∙◌, ◌++◌, List, length, take, ap, arith}
 use Rattle.std.proofs.Math.Seq.{take-length}
-use Rattle.square_rows.specs.declared.row.SquareRow.{SquareRow}
+use Rattle.plane_core.specs.declared.row.SquareRow.{SquareRow}
 use Rattle.multistate_macrocell.specs.Lines.{heading_text, row_lines}
 use Rattle.multistate_macrocell.proofs.Written.{empty_line, text-rows}
 use Rattle.multistate_macrocell.proofs.write.text_of.Goals as goal

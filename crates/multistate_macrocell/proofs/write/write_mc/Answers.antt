@@ -1,10 +1,10 @@
 use Rattle.std.proofs.Common.{◌≡◌, ◌∙◌, List, ap, sym}
 use Rattle.std.proofs.lemmas.Result.{IfOk-weaker}
-use Rattle.square_rows.specs.declared.row.SquareRow.{SquareRow}
+use Rattle.plane_core.specs.declared.row.SquareRow.{SquareRow}
 use Rattle.macrocell_lines.specs.WrittenText.{written_text}
 use Rattle.multistate_macrocell.specs.PatternText.{nodes_of}
-use Rattle.square_rows.specs.WorldRows.{rows_of}
-use Rattle.square_rows.proofs.WorldRows.{rows_of-squares}
+use Rattle.plane_core.specs.WorldRows.{rows_of}
+use Rattle.plane_core.proofs.WorldRows.{rows_of-squares}
 use Rattle.multistate_macrocell.proofs.write.write_mc.Goals as goal
 
 pub returns : goal.returns

@@ -1,9 +1,9 @@
 use Rattle.std.proofs.Common.{◌≡◌, ◌-◌}
-use Rattle.square_rows.specs.Rows as listed
-use Rattle.square_rows.specs.Laid as laid
-use Rattle.square_rows.specs.Laid.{IsAdded}
-use Rattle.square_rows.proofs.Adding.{IfOk_then}
-use Rattle.square_rows.proofs.Centres.{zero-IsNumber}
+use Rattle.plane_core.specs.Rows as listed
+use Rattle.plane_core.specs.Laid as laid
+use Rattle.plane_core.specs.Laid.{IsAdded}
+use Rattle.plane_core.proofs.Adding.{IfOk_then}
+use Rattle.plane_core.proofs.Centres.{zero-IsNumber}
 use Rattle.square_table.proofs.Packing.{none_added, added_keeps}
 use Rattle.square_table.proofs.pack.add_row.Goals as goal
 

@@ -1,10 +1,10 @@
 use Rattle.std.proofs.Common.{◌≡◌, ℕ, ◌≤◌, List, Result, Ok, Err, ap, sym, ◌∙◌, subst}
 use Rattle.std.specs.Prelude.{IfOk}
 use Rattle.worlds.specs.World.{World}
-use Rattle.square_rows.specs.declared.row.SquareRow.{SquareRow}
-use Rattle.square_rows.specs.Rows.{AreRows, AreSquaresOf, root_level, root_of}
-use Rattle.square_rows.proofs.Adding.{IfOk_then}
-use Rattle.square_rows.proofs.Roots.{rooted}
+use Rattle.plane_core.specs.declared.row.SquareRow.{SquareRow}
+use Rattle.plane_core.specs.Rows.{AreRows, AreSquaresOf, root_level, root_of}
+use Rattle.plane_core.proofs.Adding.{IfOk_then}
+use Rattle.plane_core.proofs.Roots.{rooted}
 use Rattle.square_table.specs.declared.square.Square.{Square}
 use Rattle.square_table.specs.Squares.{Table, level_of, cells_of}
 use Rattle.square_table.specs.Centred.{IsCentred}

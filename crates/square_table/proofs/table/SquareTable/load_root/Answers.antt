@@ -4,12 +4,12 @@ use Rattle.std.proofs.lemmas.Bool.{cases_lt}
 use Rattle.std.proofs.lemmas.List.{nil_from_length, get_or_read}
 use Rattle.std.proofs.lemmas.Option.{slice_get_within, get_or_from_slice_get, slice_get-get_or}
 use Rattle.worlds.specs.Square.{empty_square}
-use Rattle.square_rows.specs.declared.row.SquareRow.{SquareRow}
-use Rattle.square_rows.specs.Rows as listed
-use Rattle.square_rows.specs.Rows.{no_row, AreRows, root_level, root_of}
-use Rattle.square_rows.proofs.Adding.{IfOk_then}
-use Rattle.square_rows.proofs.Roots.{root_level-none, root_level-some}
-use Rattle.square_rows.proofs.Sound.{square_in-none}
+use Rattle.plane_core.specs.declared.row.SquareRow.{SquareRow}
+use Rattle.plane_core.specs.Rows as listed
+use Rattle.plane_core.specs.Rows.{no_row, AreRows, root_level, root_of}
+use Rattle.plane_core.proofs.Adding.{IfOk_then}
+use Rattle.plane_core.proofs.Roots.{root_level-none, root_level-some}
+use Rattle.plane_core.proofs.Sound.{square_in-none}
 use Rattle.square_table.specs.Squares.{square_in, level_of, cells_of}
 use Rattle.square_table.specs.Loading.{LevelsUpTo, AreLoaded, IsLoadedAt}
 use Rattle.square_table.proofs.table.SquareTable.load_root.Goals as goal

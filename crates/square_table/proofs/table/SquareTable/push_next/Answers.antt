@@ -1,6 +1,6 @@
 use Rattle.std.proofs.Common.{◌≡◌, ◌-◌, ◌<◌, ◌≤◌, ℕ, List, [], ◌∷◌, length, get_or, refl, ap, sym, ◌∙◌, subst, arith, lit<}
-use Rattle.square_rows.specs.declared.row.SquareRow.{SquareRow}
-use Rattle.square_rows.specs.Rows.{no_row}
+use Rattle.plane_core.specs.declared.row.SquareRow.{SquareRow}
+use Rattle.plane_core.specs.Rows.{no_row}
 use Rattle.square_table.specs.Loading.{AreLoaded, IsLoading, number_in}
 use Rattle.square_table.proofs.Loading.{IsNext, next_found, next_kid, next_kids, next_grows, next_loaded}
 use Rattle.square_table.proofs.table.SquareTable.push_next.Goals as goal

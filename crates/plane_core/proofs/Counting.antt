@@ -1,0 +1,362 @@
+-- The counts of states, row by row.
+use Rattle.std.proofs.Common.{◌≡◌, ℕ, zero, suc, ◌+◌, ◌*◌, ◌-◌, ◌<◌, ◌≤◌, ◌^◌, ◌==◌, false, cond, List, [], ◌∷◌, ◌++◌, length, get_or, set, replicate, get_or-set_same, get_or-set_other, refl, sym, ap, ap₂, ◌∙◌, subst, arith, inl, inr, lit<, pow_mono, ℤ}
+use Rattle.std.specs.List.{AllByRecursion, count_by}
+use Rattle.std.proofs.lemmas.Bool.{cases_lt, eq-eqb, ne_eqb}
+use Rattle.std.proofs.lemmas.List.{get_or_append_left, get_or_push, length_push, get_or-replicate, length-replicate, length-set}
+use Rattle.std.proofs.lemmas.List.Sums.{sum_by-cons}
+use Rattle.std.proofs.Math.Nat.{add-mul, mul-add, mul-one, mul-zero, zero-mul, le-mul_of_pos_right}
+use Rattle.worlds.specs.World.{World, Place, cell, blank, cell-blank}
+use Rattle.worlds.specs.Live.{live, live-states, count_of}
+use Rattle.worlds.specs.Square.{Square, one, four}
+use Rattle.plane_core.specs.declared.row.SquareRow.{SquareRow}
+use Rattle.plane_core.specs.declared.counts.Tally.{Tally}
+use Rattle.plane_core.specs.Rows.{no_row, kid, IsNumber, AreRows, square_in, root_level, root_of, edge_of, world_of_rows}
+use Rattle.plane_core.specs.Counts.{tally, is_state, is_any, cells_with, row_square, sum_to, held, HasRoom, Gains, IsTallied}
+use Rattle.plane_core.proofs.Sound.{square_in-none, square_in-state, square_in-row, state-IsNumber, IsNumber-level}
+use Rattle.plane_core.proofs.Roots.{rooted, root-IsSquare, world-root}
+use Rattle.plane_core.proofs.Totals.{total, total-blank, total-put_square, tally-le, tally-empty}
+use Rattle.plane_core.proofs.Measuring.{kid_is}
+
+-- the state 0 is none of those that are counted
+is_state-zero : (s : ℕ) → 0 < s → is_state s 0 ≡ 0
+is_state-zero s h = ap (λ b. cond b 1 0) (ne_eqb 0 s (λ e. absurd (omega (arith, h, e))))
+
+sum-none : (g : ℕ → ℕ) → sum_to g 0 ≡ 0
+unfolding sum_to
+sum-none g = refl
+
+sum-more : (g : ℕ → ℕ) (n : ℕ) → sum_to g (suc n) ≡ sum_to g n + g n
+unfolding sum_to
+sum-more g n = refl
+
+sum-same : (g h : ℕ → ℕ) (n : ℕ) → ((i : ℕ) → i < n → g i ≡ h i) → sum_to g n ≡ sum_to h n
+sum-same g h zero same = sum-none g ∙ sym (sum-none h)
+sum-same g h (suc n) same = sum-more g n ∙ ap₂ (λ a b. a + b) (sum-same g h n (λ i lt. same i (omega (arith, lt)))) (same n (omega arith)) ∙ sym (sum-more h n)
+
+sum-zero : (g : ℕ → ℕ) (n : ℕ) → ((i : ℕ) → i < n → g i ≡ 0) → sum_to g n ≡ 0
+sum-zero g zero none = sum-none g
+sum-zero g (suc n) none = let before = sum-zero g n (λ i lt. none i (omega (arith, lt))) in let last = none n (omega arith) in let e = sum-more g n in omega arith
+
+-- one of the numbers is at most their sum
+sum-one : (g : ℕ → ℕ) (n j : ℕ) → j < n → g j ≤ sum_to g n
+sum-one g zero j h = absurd (omega (arith, h))
+sum-one g (suc n) j h =
+    let e = sum-more g n in
+    elim (cases_lt j n) [
+      | inl before ↦ let le = sum-one g n j before in omega arith
+      | inr last ↦ let same : n ≡ j = omega arith in let at : g n ≡ g j = ap g same in omega arith
+    ]
+
+-- the products of a list's numbers and those of w
+abbrev by : List ℕ → (ℕ → ℕ) → ℕ → ℕ
+by xs w i = get_or xs i 0 * w i
+
+-- one number of the list is greater by v
+sum-apart : (xs : List ℕ) (w : ℕ → ℕ) (j v n : ℕ) → n ≤ j → sum_to (by (set xs j v) w) n ≡ sum_to (by xs w) n
+sum-apart xs w j v n h = sum-same _ _ n (λ i lt. ap (λ a. a * w i) (get_or-set_other xs j i v 0 (λ e. absurd (omega (arith, h, lt, e)))))
+
+sum-set : (xs : List ℕ) (w : ℕ → ℕ) (j v n : ℕ) → j < n → j < length xs → sum_to (by (set xs j (get_or xs j 0 + v)) w) n ≡ sum_to (by xs w) n + v * w j
+sum-set xs w j v zero h long = absurd (omega (arith, h))
+sum-set xs w j v (suc n) h long =
+    let new = set xs j (get_or xs j 0 + v) in
+    let e = sum-more (by new w) n in
+    let d = sum-more (by xs w) n in
+    elim (cases_lt j n) [
+      | inl before ↦
+          let rest = sum-set xs w j v n before long in
+          let last : by new w n ≡ by xs w n = ap (λ a. a * w n) (get_or-set_other xs j n (get_or xs j 0 + v) 0 (λ same. absurd (omega (arith, before, same)))) in
+          omega arith
+      | inr here ↦
+          let same : j ≡ n = omega arith in
+          let rest : sum_to (by new w) n ≡ sum_to (by xs w) n = sum-apart xs w j (get_or xs j 0 + v) n (omega arith) in
+          let at : by new w j ≡ by xs w j + v * w j = ap (λ a. a * w j) (get_or-set_same xs j (get_or xs j 0 + v) 0 long) ∙ add-mul (get_or xs j 0) v (w j) in
+          let last : by new w n ≡ by xs w n + v * w j = subst (λ m. by new w m ≡ by xs w m + v * w j) same at in
+          omega arith
+    ]
+
+-- a list with one number more
+sum-push : (xs : List ℕ) (w : ℕ → ℕ) (v : ℕ) → sum_to (by (xs ++ v ∷ []) w) (length (xs ++ v ∷ [])) ≡ sum_to (by xs w) (length xs) + v * w (length xs)
+sum-push xs w v =
+    let all : List ℕ = xs ++ v ∷ [] in
+    let front : sum_to (by all w) (length xs) ≡ sum_to (by xs w) (length xs) = sum-same _ _ (length xs) (λ i lt. ap (λ a. a * w i) (get_or_append_left xs (v ∷ []) 0 i lt)) in
+    let last : by all w (length xs) ≡ v * w (length xs) = ap (λ a. a * w (length xs)) (get_or_push xs v 0 (length xs) refl) in
+    let long : length all ≡ suc (length xs) = omega (arith, length_push xs v) in
+    ap (sum_to (by all w)) long ∙ sum-more (by all w) (length xs) ∙ ap₂ (λ a b. a + b) front last
+
+-- no numbers but 0
+sum-replicate : (w : ℕ → ℕ) (n m : ℕ) → m ≤ n → sum_to (by (replicate n 0) w) m ≡ 0
+sum-replicate w n m h = sum-zero _ m (λ i lt. ap (λ a. a * w i) (get_or-replicate n i 0 0 (omega (arith, h, lt))) ∙ zero-mul (w i))
+
+-- the counts of one state alone
+sum-state : (xs : List ℕ) (s n : ℕ) → s < n → sum_to (by xs (is_state s)) n ≡ get_or xs s 0
+sum-state xs s zero h = absurd (omega (arith, h))
+sum-state xs s (suc n) h =
+    let e = sum-more (by xs (is_state s)) n in
+    elim (cases_lt s n) [
+      | inl before ↦
+          let rest = sum-state xs s n before in
+          let last : by xs (is_state s) n ≡ 0 = ap (λ b. get_or xs n 0 * cond b 1 0) (ne_eqb n s (λ same. absurd (omega (arith, before, same)))) ∙ mul-zero (get_or xs n 0) in
+          omega arith
+      | inr here ↦
+          let same : n ≡ s = omega arith in
+          let rest : sum_to (by xs (is_state s)) n ≡ 0 = sum-zero _ n (λ i lt. ap (λ b. get_or xs i 0 * cond b 1 0) (ne_eqb i s (λ is. absurd (omega (arith, lt, same, is)))) ∙ mul-zero (get_or xs i 0)) in
+          let last : by xs (is_state s) n ≡ get_or xs n 0 = ap (λ b. get_or xs n 0 * cond b 1 0) (eq-eqb n s same) ∙ mul-one (get_or xs n 0) in
+          let at : get_or xs n 0 ≡ get_or xs s 0 = ap (λ i. get_or xs i 0) same in
+          omega arith
+    ]
+
+-- a square has a cell
+tally-some : (t : Square) → 1 ≤ tally is_any t
+tally-some (one s) = omega arith
+tally-some (four nw ne sw se) = let some = tally-some nw in omega arith
+
+-- a square whose number is 0 adds nothing
+pub gains-none : (rows : List SquareRow) (t : Tally) (n k number : ℕ) → number ≡ 0 → length t.counts ≡ 256 → Gains rows t t n (square_in rows k number)
+gains-none rows t n k number e states =
+    let at : square_in rows k number ≡ square_in rows k 0 = ap (square_in rows k) e in
+    let nothing : (f : ℕ → ℕ) → f 0 ≡ 0 → n * tally f (square_in rows k number) ≡ 0 = λ f none. ap (λ a. n * a) (ap (tally f) (at ∙ square_in-none rows k) ∙ tally-empty f k none) ∙ mul-zero n in
+    record {
+      each = λ f none. let z = nothing f none in omega arith;
+      most = omega arith;
+      none = refl;
+      states = states;
+      left = refl;
+    }
+
+-- a cell is counted
+pub gains-state : (rows : List SquareRow) (old new : Tally) (n k s : ℕ) → k ≡ 0 → (s ≡ 0 → ⊥) → IsNumber rows k s → length old.counts ≡ 256 → s < 256 → new.counts ≡ set old.counts s (get_or old.counts s 0 + n) → new.times.items ≡ old.times.items
+    → Gains rows old new n (square_in rows k s)
+gains-state rows old new n k s ground_level live is states small counts times =
+    let at : square_in rows k s ≡ one s = ap (λ j. square_in rows j s) ground_level ∙ square_in-state rows s in
+    let gain : (f : ℕ → ℕ) → held rows f new ≡ held rows f old + n * tally f (square_in rows k s) = λ f.
+    let first : sum_to (by new.counts f) 256 ≡ sum_to (by old.counts f) 256 + n * f s = ap (λ (xs : List ℕ). sum_to (by xs f) 256) counts ∙ sum-set old.counts f s n 256 small (omega (arith, states, small)) in
+    let second : sum_to (by new.times.items (λ i. tally f (row_square rows i))) (length new.times.items) ≡ sum_to (by old.times.items (λ i. tally f (row_square rows i))) (length old.times.items)
+    = ap (λ (xs : List ℕ). sum_to (by xs (λ i. tally f (row_square rows i))) (length xs)) times in
+    let cells : n * tally f (square_in rows k s) ≡ n * f s = ap (λ (t : Square). n * tally f t) at in
+    omega arith in
+    record {
+      each = λ f none. gain f;
+      most = let e = gain is_any in omega arith;
+      none = ap (λ (xs : List ℕ). get_or xs 0 0) counts ∙ get_or-set_other old.counts s 0 (get_or old.counts s 0 + n) 0 (λ e. live (sym e));
+      states = ap length counts ∙ length-set old.counts s (get_or old.counts s 0 + n) ∙ states;
+      left = ap length times;
+    }
+
+-- a row stands more often
+pub gains-row : (rows : List SquareRow) (old new : Tally) (n k m : ℕ) → (k ≡ 0 → ⊥) → (m ≡ 0 → ⊥) → IsNumber rows k m → m ≤ length old.times.items → length old.counts ≡ 256 → new.counts ≡ old.counts
+    → new.times.items ≡ set old.times.items (m - 1) (get_or old.times.items (m - 1) 0 + n) → Gains rows old new n (square_in rows k m)
+gains-row rows old new n zero m above live is there states counts times = absurd (above refl)
+gains-row rows old new n (suc k) zero above live is there states counts times = absurd (live refl)
+gains-row rows old new n (suc k) (suc i) above live is there states counts times =
+    let less : suc i - 1 ≡ i = omega arith in
+    let level : (get_or rows i no_row).level ≡ suc k = ap (λ j. (get_or rows j no_row).level) (sym less) ∙ (IsNumber-level rows k (suc i) is (omega arith)).1 in
+    let at : row_square rows i ≡ square_in rows (suc k) (suc i) = ap (λ j. square_in rows j (suc i)) level in
+    let put : new.times.items ≡ set old.times.items i (get_or old.times.items i 0 + n) = times ∙ ap (λ j. set old.times.items j (get_or old.times.items j 0 + n)) less in
+    let long : length new.times.items ≡ length old.times.items = ap length put ∙ length-set old.times.items i (get_or old.times.items i 0 + n) in
+    let gain : (f : ℕ → ℕ) → held rows f new ≡ held rows f old + n * tally f (square_in rows (suc k) (suc i)) = λ f.
+    let w : ℕ → ℕ = λ j. tally f (row_square rows j) in
+    let first : sum_to (by new.counts f) 256 ≡ sum_to (by old.counts f) 256 = ap (λ (xs : List ℕ). sum_to (by xs f) 256) counts in
+    let second : sum_to (by new.times.items w) (length new.times.items) ≡ sum_to (by old.times.items w) (length old.times.items) + n * w i
+    = ap (sum_to (by new.times.items w)) long ∙ ap (λ (xs : List ℕ). sum_to (by xs w) (length old.times.items)) put ∙ sum-set old.times.items w i n (length old.times.items) (omega arith) (omega arith) in
+    let cells : n * w i ≡ n * tally f (square_in rows (suc k) (suc i)) = ap (λ (t : Square). n * tally f t) at in
+    omega arith in
+    record {
+      each = λ f none. gain f;
+      most = let e = gain is_any in omega arith;
+      none = ap (λ (xs : List ℕ). get_or xs 0 0) counts;
+      states = ap length counts ∙ states;
+      left = long;
+    }
+
+-- at level 0 a number is a state
+pub number-small : (rows : List SquareRow) (k n : ℕ) → k ≡ 0 → IsNumber rows k n → n < 256
+number-small rows k n e h = state-IsNumber rows n (subst (λ j. IsNumber rows j n) e h)
+
+-- the sums don't overflow
+pub room-state : (rows : List SquareRow) (t : Tally) (n s : ℕ) (square : Square) → s < 256 → HasRoom rows t n square → get_or t.counts s 0 + n ≤ 2 ^ 124
+room-state rows t n s square h room =
+    let one_of = sum-one (by t.counts is_any) 256 s h in
+    let is : by t.counts is_any s ≡ get_or t.counts s 0 = mul-one (get_or t.counts s 0) in
+    let more : n ≤ n * tally is_any square = le-mul_of_pos_right n (tally-some square) in
+    let all = room.room in
+    omega arith
+
+pub room-row : (rows : List SquareRow) (t : Tally) (n i : ℕ) (square : Square) → i < length t.times.items → HasRoom rows t n square → get_or t.times.items i 0 + n ≤ 2 ^ 124
+room-row rows t n i square h room =
+    let w : ℕ → ℕ = λ j. tally is_any (row_square rows j) in
+    let one_of = sum-one (by t.times.items w) (length t.times.items) i h in
+    let own : get_or t.times.items i 0 ≤ by t.times.items w i = le-mul_of_pos_right (get_or t.times.items i 0) (tally-some (row_square rows i)) in
+    let more : n ≤ n * tally is_any square = le-mul_of_pos_right n (tally-some square) in
+    let all = room.room in
+    omega arith
+
+four-times : (n a b c d : ℕ) → n * (a + b + c + d) ≡ n * a + n * b + n * c + n * d
+four-times n a b c d = mul-add n (a + b + c) d ∙ ap (λ m. m + n * d) (mul-add n (a + b) c ∙ ap (λ m. m + n * c) (mul-add n a b))
+
+-- the square of a row by its quadrants
+abbrev pub quadrant : List SquareRow → ℕ → ℕ → ℕ → Square
+quadrant rows i k q = square_in rows k (kid (get_or rows i no_row) q)
+
+pub row-tally : (rows : List SquareRow) (i k : ℕ) (f : ℕ → ℕ) (n : ℕ) → suc k ≡ (get_or rows i no_row).level
+    → n * tally f (row_square rows i) ≡ n * tally f (quadrant rows i k 0) + n * tally f (quadrant rows i k 1) + n * tally f (quadrant rows i k 2) + n * tally f (quadrant rows i k 3)
+row-tally rows i k f n level =
+    ap (λ j. n * tally f (square_in rows j (suc i))) (sym level)
+    ∙ ap (λ (t : Square). n * tally f t) (square_in-row rows k i)
+    ∙ four-times n (tally f (quadrant rows i k 0)) (tally f (quadrant rows i k 1)) (tally f (quadrant rows i k 2)) (tally f (quadrant rows i k 3))
+
+-- what is known of the i-th row, which is the one behind those that are left
+pub record IsNext (rows : List SquareRow) (t : Tally) (n i : ℕ) : Type 0 where
+  pub level : suc ((get_or rows i no_row).level - 1) ≡ (get_or rows i no_row).level
+  pub number : (q : ℕ) → q < 4 → IsNumber rows ((get_or rows i no_row).level - 1) (kid (get_or rows i no_row) q)
+  pub listed : (q : ℕ) → q < 4 → 1 ≤ (get_or rows i no_row).level - 1 → kid (get_or rows i no_row) q ≤ length t.times.items
+  pub room : HasRoom rows t n (row_square rows i)
+
+pub next-of : (rows : List SquareRow) (t : Tally) (n i : ℕ) → AreRows rows → length t.times.items < length rows → i ≡ length t.times.items → HasRoom rows t n (row_square rows (length t.times.items)) → IsNext rows t n i
+next-of rows t n i valid more e room =
+    let below : i < length rows = omega arith in
+    let of_kid = λ (q : ℕ) (hq : q < 4). kid_is rows i ((get_or rows i no_row).level - 1) q valid below refl hq in
+    record {
+      level = (of_kid 0 (lit< tt)).level;
+      number = λ q hq. (of_kid q hq).number;
+      listed = λ q hq low. subst (λ j. kid (get_or rows i no_row) q ≤ j) e ((of_kid q hq).listed low);
+      room = subst (λ j. HasRoom rows t n (row_square rows j)) (sym e) room;
+    }
+
+-- the room for each quadrant in turn
+pub room-first : (rows : List SquareRow) (t : Tally) (n i k : ℕ) → suc k ≡ (get_or rows i no_row).level → HasRoom rows t n (row_square rows i) → HasRoom rows t n (quadrant rows i k 0)
+room-first rows t n i k level room = let e = row-tally rows i k is_any n level in let all = room.room in record { room = omega arith; states = room.states }
+
+pub room-second : (rows : List SquareRow) (t a : Tally) (n i k : ℕ) → suc k ≡ (get_or rows i no_row).level → HasRoom rows t n (row_square rows i) → Gains rows t a n (quadrant rows i k 0) → HasRoom rows a n (quadrant rows i k 1)
+room-second rows t a n i k level room ga = let e = row-tally rows i k is_any n level in let all = room.room in let la = ga.most in record { room = omega arith; states = ga.states }
+
+pub room-third : (rows : List SquareRow) (t a b : Tally) (n i k : ℕ) → suc k ≡ (get_or rows i no_row).level → HasRoom rows t n (row_square rows i) → Gains rows t a n (quadrant rows i k 0) → Gains rows a b n (quadrant rows i k 1) → HasRoom rows b n (quadrant rows i k 2)
+room-third rows t a b n i k level room ga gb = let e = row-tally rows i k is_any n level in let all = room.room in let la = ga.most in let lb = gb.most in record { room = omega arith; states = gb.states }
+
+pub room-fourth : (rows : List SquareRow) (t a b c : Tally) (n i k : ℕ) → suc k ≡ (get_or rows i no_row).level → HasRoom rows t n (row_square rows i) → Gains rows t a n (quadrant rows i k 0) → Gains rows a b n (quadrant rows i k 1) → Gains rows b c n (quadrant rows i k 2)
+    → HasRoom rows c n (quadrant rows i k 3)
+room-fourth rows t a b c n i k level room ga gb gc =
+    let e = row-tally rows i k is_any n level in let all = room.room in let la = ga.most in let lb = gb.most in let lc = gc.most in record { room = omega arith; states = gc.states }
+
+pub gains-four : (rows : List SquareRow) (t a b c d : Tally) (n i k : ℕ) → suc k ≡ (get_or rows i no_row).level → Gains rows t a n (quadrant rows i k 0) → Gains rows a b n (quadrant rows i k 1) → Gains rows b c n (quadrant rows i k 2) → Gains rows c d n (quadrant rows i k 3)
+    → Gains rows t d n (row_square rows i)
+gains-four rows t a b c d n i k level ga gb gc gd =
+    let la = ga.left in let lb = gb.left in let lc = gc.left in let ld = gd.left in
+    record {
+      each = λ f none.
+          let e = row-tally rows i k f n level in
+          let ea = ga.each f none in let eb = gb.each f none in let ec = gc.each f none in let ed = gd.each f none in
+          omega arith;
+      most =
+          let e = row-tally rows i k is_any n level in
+          let ea = ga.most in let eb = gb.most in let ec = gc.most in let ed = gd.most in
+          omega arith;
+      none = gd.none ∙ gc.none ∙ gb.none ∙ ga.none;
+      states = gd.states;
+      left = omega arith;
+    }
+
+-- before anything is added
+held-none : (rows : List SquareRow) (t : Tally) (n : ℕ) (f : ℕ → ℕ) → t.counts ≡ replicate 256 0 → t.times.items ≡ replicate n 0 → held rows f t ≡ 0
+held-none rows t n f counts times =
+    let w : ℕ → ℕ = λ j. tally f (row_square rows j) in
+    let first : sum_to (by t.counts f) 256 ≡ 0 = ap (λ (xs : List ℕ). sum_to (by xs f) 256) counts ∙ sum-replicate f 256 256 (omega arith) in
+    let second : sum_to (by t.times.items w) (length t.times.items) ≡ 0 =
+    ap (λ (xs : List ℕ). sum_to (by xs w) (length xs)) times ∙ sum-replicate w n (length (replicate n 0)) (omega (arith, length-replicate {A = ℕ} n 0)) in
+    omega arith
+
+root-few : (rows : List SquareRow) → AreRows rows → tally is_any (root_of rows) ≤ 2 ^ 124
+root-few rows valid =
+    let high : root_level rows ≤ 62 = (rooted rows valid).high in
+    let small : tally is_any (root_of rows) ≤ 2 ^ (root_level rows + root_level rows) = tally-le is_any (root_level rows) (root_of rows) (λ s. omega arith) (root-IsSquare rows valid) in
+    let most : 2 ^ (root_level rows + root_level rows) ≤ 2 ^ 124 = pow_mono (let twice : root_level rows + root_level rows ≤ 124 = omega arith in twice) in
+    omega arith
+
+once : (n : ℕ) → 1 * n ≡ n
+once n = omega arith
+
+pub room-root : (rows : List SquareRow) (t : Tally) (n : ℕ) → AreRows rows → t.counts ≡ replicate 256 0 → t.times.items ≡ replicate n 0 → HasRoom rows t 1 (root_of rows)
+room-root rows t n valid counts times =
+    let nothing = held-none rows t n is_any counts times in
+    let few = root-few rows valid in
+    let own = once (tally is_any (root_of rows)) in
+    record { room = omega arith; states = ap length counts ∙ length-replicate {A = ℕ} 256 0 }
+
+-- once the root is added
+pub tallied-root : (rows : List SquareRow) (t new : Tally) → AreRows rows → t.counts ≡ replicate 256 0 → t.times.items ≡ replicate (length rows) 0 → Gains rows t new 1 (root_of rows) → IsTallied rows (root_of rows) new
+tallied-root rows t new valid counts times gain =
+    let few = root-few rows valid in
+    record {
+      each = λ f none. let nothing = held-none rows t (length rows) f counts times in let own = once (tally f (root_of rows)) in let e = gain.each f none in omega arith;
+      most = let nothing = held-none rows t (length rows) is_any counts times in let own = once (tally is_any (root_of rows)) in let e = gain.most in omega arith;
+      none = gain.none ∙ ap (λ (xs : List ℕ). get_or xs 0 0) counts ∙ get_or-replicate 256 0 0 0 (omega arith);
+      states = gain.states;
+      left = omega (arith, gain.left, ap length times, length-replicate {A = ℕ} (length rows) 0);
+    }
+
+held-popped : (rows : List SquareRow) (t p : Tally) (n : ℕ) (f : ℕ → ℕ) → p.counts ≡ t.counts → t.times.items ≡ p.times.items ++ n ∷ [] → held rows f t ≡ held rows f p + n * tally f (row_square rows (length p.times.items))
+held-popped rows t p n f counts times =
+    let w : ℕ → ℕ = λ j. tally f (row_square rows j) in
+    let first : sum_to (by p.counts f) 256 ≡ sum_to (by t.counts f) 256 = ap (λ (xs : List ℕ). sum_to (by xs f) 256) counts in
+    let second : sum_to (by t.times.items w) (length t.times.items) ≡ sum_to (by p.times.items w) (length p.times.items) + n * w (length p.times.items)
+    = ap (λ (xs : List ℕ). sum_to (by xs w) (length xs)) times ∙ sum-push p.times.items w n in
+    omega arith
+
+-- the last of the rows that are left is taken off
+pub popped-more : (rows : List SquareRow) (root : Square) (t p : Tally) (n : ℕ) → t.times.items ≡ p.times.items ++ n ∷ [] → IsTallied rows root t → length p.times.items < length rows
+popped-more rows root t p n times is = let left = is.left in omega (arith, ap length times, length_push p.times.items n)
+
+pub popped-room : (rows : List SquareRow) (root : Square) (t p : Tally) (n : ℕ) → p.counts ≡ t.counts → t.times.items ≡ p.times.items ++ n ∷ [] → IsTallied rows root t → HasRoom rows p n (row_square rows (length p.times.items))
+popped-room rows root t p n counts times is =
+    let e = held-popped rows t p n is_any counts times in
+    let most = is.most in
+    record { room = omega arith; states = ap length counts ∙ is.states }
+
+pub tallied-more : (rows : List SquareRow) (root : Square) (t p new : Tally) (n : ℕ) → p.counts ≡ t.counts → t.times.items ≡ p.times.items ++ n ∷ [] → IsTallied rows root t → Gains rows p new n (row_square rows (length p.times.items)) → IsTallied rows root new
+tallied-more rows root t p new n counts times is gain =
+    let left = is.left in let same = gain.left in
+    record {
+      each = λ f none. let e = held-popped rows t p n f counts times in let g = gain.each f none in let h = is.each f none in omega arith;
+      most = let e = held-popped rows t p n is_any counts times in let g = gain.most in let h = is.most in omega arith;
+      none = gain.none ∙ ap (λ (xs : List ℕ). get_or xs 0 0) counts ∙ is.none;
+      states = gain.states;
+      left = omega (arith, ap length times, length_push p.times.items n);
+    }
+
+-- a state that no live cell has
+absent : (w : World) (s : ℕ) (es : List (Place × ℕ)) → ((x y : ℤ) → 0 < cell w x y → cell w x y ≡ s → ⊥) → AllByRecursion (λ (e : Place × ℕ). (cell w e.0.1 e.0.0 ≡ e.1) × (0 < e.1)) es → count_by (λ (e : Place × ℕ). e.1 == s) es ≡ 0
+absent w s [] none known = refl
+absent w s (e ∷ es) none known =
+    let is : cell w e.0.1 e.0.0 ≡ e.1 = known.0.0 in
+    let live : 0 < e.1 = known.0.1 in
+    let other : e.1 ≡ s → ⊥ = λ h. none e.0.1 e.0.0 (omega arith) (is ∙ h) in
+    let test : (e.1 == s) ≡ false = ne_eqb e.1 s other in
+    sum_by-cons (λ (d : Place × ℕ). cond (d.1 == s) 1 0) e es
+    ∙ ap₂ (λ a b. a + b) (ap (λ b. cond b 1 0) test) (absent w s es none known.1)
+
+count-absent : (w : World) (s : ℕ) → ((x y : ℤ) → 0 < cell w x y → cell w x y ≡ s → ⊥) → count_of w s ≡ 0
+count-absent w s none = absent w s (live w) none (live-states w)
+
+-- no live cell has the state 0
+pub count-zero : (w : World) → count_of w 0 ≡ 0
+count-zero w = count-absent w 0 (λ x y live e. absurd (omega (arith, live, e)))
+
+-- the cells of the root are those of the world
+root-count : (rows : List SquareRow) (s : ℕ) → 0 < s → AreRows rows → count_of (world_of_rows rows) s ≡ cells_with s (root_of rows)
+root-count rows s live valid =
+    let k = root_level rows in
+    let put = total-put_square (is_state s) k (root_of rows) (edge_of k) (edge_of k) blank (is_state-zero s live) (root-IsSquare rows valid) (λ x y h. cell-blank x y) in
+    let all : count_of (world_of_rows rows) s ≡ cells_with s (root_of rows) + total (is_state s) blank = ap (total (is_state s)) (world-root rows) ∙ put in
+    omega (arith, all, total-blank (is_state s))
+
+-- with no row left, all is counted
+pub tallied-all : (rows : List SquareRow) (t : Tally) (s : ℕ) → AreRows rows → length t.times.items ≡ 0 → IsTallied rows (root_of rows) t → s < 256 → get_or t.counts s 0 ≡ count_of (world_of_rows rows) s
+tallied-all rows t zero valid none is h = is.none ∙ sym (count-zero (world_of_rows rows))
+tallied-all rows t (suc r) valid none is h =
+    let s = suc r in
+    let f = is_state s in
+    let w : ℕ → ℕ = λ j. tally f (row_square rows j) in
+    let state = sum-state t.counts s 256 h in
+    let rest : sum_to (by t.times.items w) (length t.times.items) ≡ 0 = ap (sum_to (by t.times.items w)) none ∙ sum-none (by t.times.items w) in
+    let all = is.each f (is_state-zero s (omega arith)) in
+    let root = root-count rows s (omega arith) valid in
+    omega arith

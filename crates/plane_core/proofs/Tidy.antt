@@ -1,0 +1,181 @@
+-- The rows that a walk gives have the walked square as their root.
+use Rattle.std.proofs.Common.{◌≡◌, ℕ, zero, suc, ◌+◌, ◌-◌, ◌<◌, ◌≤◌, ◌^◌, ◌⊎◌, Bool, true, false, List, [], ◌∷◌, ◌++◌, length, get_or, refl, sym, ap, ◌∙◌, subst, arith, inl, inr}
+use Rattle.std.proofs.lemmas.Bool.{cases_lt}
+use Rattle.std.proofs.lemmas.Int.{ints}
+use Rattle.std.proofs.lemmas.List.{length_push, get_or_append_left, get_or_push}
+use Rattle.std.specs.List.{list_any, position_or_len}
+use Rattle.std.specs.Prelude.{Result, Ok, Err, IfOk}
+use Rattle.worlds.specs.World.{blank, cell-blank, same_world}
+use Rattle.plane_core.specs.declared.row.SquareRow.{SquareRow}
+use Rattle.worlds.specs.Square.{Square, one, four, empty_square, IsSquare, put_square}
+use Rattle.plane_core.specs.Rows.{Numbered, numbered, number_row, number_square, same_row, no_row, row_at, AreRows, square_in, root_level, root_of, edge_of, world_of_rows, IsLeastLevel, AreCanonical}
+use Rattle.plane_core.specs.Walks.{AreWalked}
+use Rattle.plane_core.proofs.Numbering.{Has-empty, not_found}
+use Rattle.plane_core.proofs.Sound.{IsSound, EachHas-none, AreRows-none, number_square-sound, IsNumber-level, square_in-none, found_within, found_at, row_of}
+use Rattle.plane_core.proofs.Cells.{IsSquare-empty, cell_in-empty, put_square-inside, put_square-outside, in_or_out, offset}
+use Rattle.plane_core.proofs.Roots.{rooted, root-IsSquare, root_level-some, world-root, world-none, canonical-none}
+
+-- no level is above m
+abbrev LevelsUpTo : ℕ → List SquareRow → Type 0
+LevelsUpTo m rows = (i : ℕ) → i < length rows → (get_or rows i no_row).level ≤ m
+
+levels_push : (m : ℕ) (rows : List SquareRow) (row : SquareRow) → row.level ≤ m → LevelsUpTo m rows → LevelsUpTo m (rows ++ row ∷ [])
+levels_push m rows row low up i h =
+    elim (cases_lt i (length rows)) [
+      | inl lt ↦ subst (λ (r : SquareRow). r.level ≤ m) (sym (get_or_append_left rows (row ∷ []) no_row i lt)) (up i lt)
+      | inr ge ↦ subst (λ (r : SquareRow). r.level ≤ m) (sym (get_or_push rows row no_row i (omega (arith, h, length_push rows row)))) low
+    ]
+
+numbered-levels : (b c : Bool) (row : SquareRow) (rows : List SquareRow) (n m : ℕ) → row.level ≤ m → LevelsUpTo m rows → LevelsUpTo m (numbered b c row rows n).rows
+numbered-levels true c row rows n m low up = up
+numbered-levels false true row rows n m low up = up
+numbered-levels false false row rows n m low up = levels_push m rows row low up
+
+number_square-levels : (k : ℕ) (t : Square) (rows : List SquareRow) (m : ℕ) → k ≤ m → LevelsUpTo m rows → LevelsUpTo m (number_square k t rows).rows
+unfolding number_square number_row
+number_square-levels k (one s) rows m low up = up
+number_square-levels zero (four nw ne sw se) rows m low up = up
+number_square-levels (suc k) (four nw ne sw se) rows m low up =
+    let a = number_square k nw rows in
+    let b = number_square k ne a.rows in
+    let c = number_square k sw b.rows in
+    let d = number_square k se c.rows in
+    let less : k ≤ m = omega arith in
+    let ua : LevelsUpTo m a.rows = number_square-levels k nw rows m less up in
+    let ub : LevelsUpTo m b.rows = number_square-levels k ne a.rows m less ua in
+    let uc : LevelsUpTo m c.rows = number_square-levels k sw b.rows m less ub in
+    let ud : LevelsUpTo m d.rows = number_square-levels k se c.rows m less uc in
+    numbered-levels _ _ (row_of (suc k) a.number b.number c.number d.number) d.rows _ m low ud
+
+numbered-last : (b there : Bool) (rows : List SquareRow) (k x y z w : ℕ) → LevelsUpTo k rows → list_any (same_row (row_of (suc k) x y z w)) rows ≡ there
+    → 0 < (numbered b there (row_of (suc k) x y z w) rows (position_or_len (same_row (row_of (suc k) x y z w)) rows + 1)).number
+    → (numbered b there (row_of (suc k) x y z w) rows (position_or_len (same_row (row_of (suc k) x y z w)) rows + 1)).number
+    ≡ length (numbered b there (row_of (suc k) x y z w) rows (position_or_len (same_row (row_of (suc k) x y z w)) rows + 1)).rows
+numbered-last true there rows k x y z w up e live = absurd (omega (arith, live))
+numbered-last false true rows k x y z w up e live =
+    let row = row_of (suc k) x y z w in
+    let within : position_or_len (same_row row) rows < length rows = found_within (same_row row) rows e in
+    let level : (get_or rows (position_or_len (same_row row) rows) no_row).level ≡ suc k = ap (λ (r : SquareRow). r.level) (found_at row rows e) in
+    let low : (get_or rows (position_or_len (same_row row) rows) no_row).level ≤ k = up (position_or_len (same_row row) rows) within in
+    absurd (omega arith)
+numbered-last false false rows k x y z w up e live =
+    let row = row_of (suc k) x y z w in
+    omega (arith, not_found (same_row row) rows e, length_push rows row)
+
+-- the row of a walked square is the last
+number_square-last : (k : ℕ) (t : Square) → 0 < (number_square (suc k) t []).number → IsSquare (suc k) t → (number_square (suc k) t []).number ≡ length (number_square (suc k) t []).rows
+unfolding number_square number_row IsSquare
+number_square-last k (one s) live is = absurd is
+number_square-last k (four nw ne sw se) live is =
+    let a = number_square k nw [] in
+    let b = number_square k ne a.rows in
+    let c = number_square k sw b.rows in
+    let d = number_square k se c.rows in
+    let same : k ≤ k = omega arith in
+    let ua : LevelsUpTo k a.rows = number_square-levels k nw [] k same (λ i h. absurd (omega (arith, h))) in
+    let ub : LevelsUpTo k b.rows = number_square-levels k ne a.rows k same ua in
+    let uc : LevelsUpTo k c.rows = number_square-levels k sw b.rows k same ub in
+    let ud : LevelsUpTo k d.rows = number_square-levels k se c.rows k same uc in
+    numbered-last _ _ d.rows k a.number b.number c.number d.number ud refl live
+
+-- what a walk of the root gives: walked rows of the same world
+pub record IsTidied (rows done : List SquareRow) : Type 0 where
+  pub walked : AreWalked done
+  pub world : world_of_rows done ≡ world_of_rows rows
+  pub level : (root_level done ≡ root_level rows) ⊎ (done ≡ [])
+
+walked-none : AreWalked []
+walked-none = record { valid = AreRows-none; each = EachHas-none.has; walked = canonical-none.walked }
+
+pub world-put : (rows : List SquareRow) (k : ℕ) (t : Square) → root_level rows ≡ k → square_in rows k (length rows) ≡ t → world_of_rows rows ≡ put_square k t (edge_of k) (edge_of k) blank
+world-put rows k t ek et = world-root rows ∙ ap (λ m. put_square m (square_in rows m (length rows)) (edge_of m) (edge_of m) blank) ek ∙ ap (λ (s : Square). put_square k s (edge_of k) (edge_of k) blank) et
+
+-- what a walk of a square of level k gives: walked rows of the world that it is the root of
+pub record IsListed (k : ℕ) (t : Square) (done : List SquareRow) : Type 0 where
+  pub walked : AreWalked done
+  pub world : world_of_rows done ≡ put_square k t (edge_of k) (edge_of k) blank
+  pub level : (root_level done ≡ k) ⊎ (done ≡ [])
+
+-- an empty square adds nothing to the blank world
+blank-put : (k : ℕ) → put_square k (empty_square k) (edge_of k) (edge_of k) blank ≡ blank
+blank-put k =
+    same_world _ blank (λ x y.
+    elim (in_or_out (2 ^ k) (edge_of k) (edge_of k) x y) [
+      | inl h ↦
+          let at_x = offset (edge_of k) x h.left in
+          let at_y = offset (edge_of k) y h.top in
+          let right = h.right in let bottom = h.bottom in
+          let ex = at_x.1 in let ey = at_y.1 in
+          put_square-inside k (empty_square k) (edge_of k) (edge_of k) blank x y at_x.0 at_y.0 (IsSquare-empty k) at_x.1 at_y.1 (omega (arith, ints)) (omega (arith, ints))
+          ∙ cell_in-empty k at_x.0 at_y.0
+          ∙ sym (cell-blank x y)
+      | inr out ↦ put_square-outside k (empty_square k) (edge_of k) (edge_of k) blank x y (IsSquare-empty k) out
+    ])
+
+pub listed : (k : ℕ) (t : Square) → IsSquare (suc k) t → suc k ≤ 62 → IsListed (suc k) t (number_square (suc k) t []).rows
+listed k t is high =
+    let r = number_square (suc k) t [] in
+    let sound : IsSound (suc k) t r = number_square-sound (suc k) t [] AreRows-none EachHas-none is high in
+    elim (cases_lt 0 r.number) [
+      | inl live ↦
+          let last : r.number ≡ length r.rows = number_square-last k t live is in
+          let at = IsNumber-level r.rows k r.number sound.number live in
+          let some : 0 < length r.rows = omega arith in
+          let level : root_level r.rows ≡ suc k = root_level-some r.rows some ∙ ap (λ n. (row_at r.rows n).level) (sym last) ∙ at.1 in
+          let square : square_in r.rows (suc k) (length r.rows) ≡ t = ap (square_in r.rows (suc k)) (sym last) ∙ sound.square in
+          record {
+            walked = record {
+              valid = sound.valid;
+              each = sound.each.has;
+              walked =
+                  ap (λ m. (number_square m (square_in r.rows m (length r.rows)) []).rows) level
+                  ∙ ap (λ (s : Square). (number_square (suc k) s []).rows) square;
+            };
+            world = world-put r.rows (suc k) t level square;
+            level = inl level;
+          }
+      | inr none ↦
+          let zero_is : r.number ≡ 0 = omega arith in
+          let t_empty : t ≡ empty_square (suc k) = sym sound.square ∙ ap (square_in r.rows (suc k)) zero_is ∙ square_in-none r.rows (suc k) in
+          let nothing : r.rows ≡ [] = ap (λ (s : Square). (number_square (suc k) s []).rows) t_empty ∙ ap (λ (q : Numbered). q.rows) (Has-empty (suc k) []) in
+          let empty_put : put_square (suc k) t (edge_of (suc k)) (edge_of (suc k)) blank ≡ blank = ap (λ (s : Square). put_square (suc k) s (edge_of (suc k)) (edge_of (suc k)) blank) t_empty ∙ blank-put (suc k) in
+          subst (IsListed (suc k) t) (sym nothing) (record { walked = walked-none; world = world-none ∙ sym empty_put; level = inr refl })
+    ]
+
+tidied_by : (rows : List SquareRow) (k : ℕ) → AreRows rows → root_level rows ≡ suc k → IsTidied rows (number_square (suc k) (square_in rows (suc k) (length rows)) []).rows
+tidied_by rows k valid ek =
+    let t = square_in rows (suc k) (length rows) in
+    let is : IsSquare (suc k) t = subst (λ m. IsSquare m (square_in rows m (length rows))) ek (root-IsSquare rows valid) in
+    let root = rooted rows valid in
+    let high = root.high in
+    let own = listed k t is (omega arith) in
+    record {
+      walked = own.walked;
+      world = own.world ∙ sym (world-put rows (suc k) t ek refl);
+      level = elim own.level [ inl level ↦ inl (level ∙ sym ek) | inr none ↦ inr none ];
+    }
+
+pub tidied : (rows done : List SquareRow) → AreRows rows → (number_square (root_level rows) (root_of rows) []).rows ≡ done → IsTidied rows done
+tidied rows done valid e =
+    let root = rooted rows valid in
+    let low = root.low in
+    let k = root_level rows - 1 in
+    let is : root_level rows ≡ suc k = omega arith in
+    subst (IsTidied rows) (subst (λ m. (number_square m (square_in rows m (length rows)) []).rows ≡ done) is e) (tidied_by rows k valid is)
+
+-- walked from the least root, rows are canonical
+pub canonical-walked : (rows done : List SquareRow) → IsTidied rows done → IsLeastLevel (root_level rows) (world_of_rows rows) → AreCanonical done
+canonical-walked rows done t least =
+    elim t.level [
+      | inl level ↦ record {
+        valid = t.walked.valid;
+        walked = t.walked.walked;
+        least = subst (λ k. IsLeastLevel k (world_of_rows done)) (sym level) (subst (IsLeastLevel (root_level rows)) (sym t.world) least);
+      }
+      | inr none ↦ subst AreCanonical (sym none) canonical-none
+    ]
+
+-- what follows from what a clause says of the value in an `Ok`
+pub IfOk_then : {A E : Type 0} (r : Result A E) {P Q : A → Type 0} → IfOk r P → ((x : A) → P x → Q x) → IfOk r Q
+IfOk_then (Ok x) h f = f x h
+IfOk_then (Err e) h f = tt

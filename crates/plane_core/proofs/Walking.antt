@@ -1,0 +1,81 @@
+-- A walk over rows, step by step.
+use Rattle.std.proofs.Common.{◌≡◌, ℕ, zero, suc, ◌-◌, ◌<◌, ◌≤◌, ◌^◌, List, [], ◌∷◌, length, get_or, Option, Some, None, sym, ap, ◌∙◌, subst, arith, inl, inr, get_or-set_same, get_or-set_other}
+use Rattle.std.proofs.lemmas.Bool.{cases_eq}
+use Rattle.std.proofs.Math.ListN.{set}
+use Rattle.std.proofs.lemmas.List.{length-set}
+use Rattle.std.proofs.lemmas.Option.{same_Some}
+use Rattle.plane_core.specs.declared.row.SquareRow.{SquareRow}
+use Rattle.worlds.specs.Square.{Square, four}
+use Rattle.plane_core.specs.Rows.{Numbered, number_row, number_square, square_in, IsNumber, kid, no_row, row_at}
+use Rattle.plane_core.specs.Walks.{Has, Walks, Remembers}
+use Rattle.plane_core.proofs.Numbering.{Grows, Has-grown, Has-again, number_row-grows}
+use Rattle.plane_core.proofs.Sound.{IsNumber-level, square_in-row, row_of}
+
+-- a row whose number is remembered isn't walked
+pub walks-known : (rows done : List SquareRow) (numbers : List (Option ℕ)) (k n m : ℕ) → 0 < k → 0 < n → IsNumber rows k n → Remembers rows done numbers → get_or numbers (n - 1) None ≡ Some m
+    → Walks k (square_in rows k n) done done m
+walks-known rows done numbers zero n m hk hn h r e = absurd (omega (arith, hk))
+walks-known rows done numbers (suc k) n m hk hn h r e =
+    let at = IsNumber-level rows k n h hn in
+    let le : n ≤ length rows = at.0 in
+    let next : suc (n - 1) ≡ n = omega arith in
+    subst (λ i. Has (suc k) (square_in rows (suc k) i) done m) next
+    (subst (λ j. Has j (square_in rows j (suc (n - 1))) done m) at.1 (r.each (n - 1) m (omega arith) e))
+
+walks-quadrants : (k : ℕ) (nw ne sw se : Square) (d0 d1 d2 d3 d4 d5 : List SquareRow) (a b c d m : ℕ) → Walks k nw d0 d1 a → Walks k ne d1 d2 b → Walks k sw d2 d3 c → Walks k se d3 d4 d
+    → (number_row (row_of (suc k) a b c d) d4).rows ≡ d5 → (number_row (row_of (suc k) a b c d) d4).number ≡ m → Walks (suc k) (four nw ne sw se) d0 d5 m
+unfolding number_square
+walks-quadrants k nw ne sw se d0 d1 d2 d3 d4 d5 a b c d m ha hb hc hd hr hm =
+    let eb = ap (λ (z : Numbered). number_square k ne z.rows) ha ∙ hb in
+    let ec = ap (λ (z : Numbered). number_square k sw z.rows) eb ∙ hc in
+    let ed = ap (λ (z : Numbered). number_square k se z.rows) ec ∙ hd in
+    (λ i. number_row (record { level = suc k; kids = (ha i).number ∷ (eb i).number ∷ (ec i).number ∷ (ed i).number ∷ [] }) (ed i).rows)
+    ∙ (λ i. record { rows = hr i; number = hm i })
+
+-- the walk of a square, by those of its quadrants
+pub walks-four : (rows d0 d1 d2 d3 d4 d5 : List SquareRow) (k n a b c d m : ℕ) → 0 < k → 0 < n
+    → Walks (k - 1) (square_in rows (k - 1) (kid (row_at rows n) 0)) d0 d1 a
+    → Walks (k - 1) (square_in rows (k - 1) (kid (row_at rows n) 1)) d1 d2 b
+    → Walks (k - 1) (square_in rows (k - 1) (kid (row_at rows n) 2)) d2 d3 c
+    → Walks (k - 1) (square_in rows (k - 1) (kid (row_at rows n) 3)) d3 d4 d
+    → (number_row (row_of k a b c d) d4).rows ≡ d5 → (number_row (row_of k a b c d) d4).number ≡ m → Walks k (square_in rows k n) d0 d5 m
+walks-four rows d0 d1 d2 d3 d4 d5 zero n a b c d m hk hn = absurd (omega (arith, hk))
+walks-four rows d0 d1 d2 d3 d4 d5 (suc k) zero a b c d m hk hn = absurd (omega (arith, hn))
+walks-four rows d0 d1 d2 d3 d4 d5 (suc k) (suc i) a b c d m hk hn =
+    let less : k ≡ suc k - 1 = omega arith in
+    let one_less : i ≡ suc i - 1 = omega arith in
+    let P : ℕ → ℕ → Type 0 = λ j p.
+    Walks j (square_in rows j (kid (get_or rows p no_row) 0)) d0 d1 a
+    → Walks j (square_in rows j (kid (get_or rows p no_row) 1)) d1 d2 b
+    → Walks j (square_in rows j (kid (get_or rows p no_row) 2)) d2 d3 c
+    → Walks j (square_in rows j (kid (get_or rows p no_row) 3)) d3 d4 d
+    → (number_row (row_of (suc k) a b c d) d4).rows ≡ d5 → (number_row (row_of (suc k) a b c d) d4).number ≡ m → Walks (suc k) (square_in rows (suc k) (suc i)) d0 d5 m in
+    let here : P k i = λ ha hb hc hd hr hm. subst (λ (t : Square). Walks (suc k) t d0 d5 m) (sym (square_in-row rows k i)) (walks-quadrants k _ _ _ _ d0 d1 d2 d3 d4 d5 a b c d m ha hb hc hd hr hm) in
+    subst (λ p. P (suc k - 1) p) one_less (subst (λ j. P j i) less here)
+
+-- one more row is remembered
+pub remembers-more : (rows d0 d4 d5 : List SquareRow) (numbers : List (Option ℕ)) (k n m : ℕ) → 0 < k → 0 < n → IsNumber rows k n → Remembers rows d4 numbers → Grows d4 d5 → length d5 < 2 ^ 32 → Walks k (square_in rows k n) d0 d5 m
+    → Remembers rows d5 (set numbers (n - 1) (Some m))
+remembers-more rows d0 d4 d5 numbers zero n m hk hn h r g few walks = absurd (omega (arith, hk))
+remembers-more rows d0 d4 d5 numbers (suc k) n m hk hn h r g few walks =
+    let at = IsNumber-level rows k n h hn in
+    let le : n ≤ length rows = at.0 in
+    let has : Has (suc k) (square_in rows (suc k) n) d5 m = subst (λ (z : Numbered). Has (suc k) (square_in rows (suc k) n) z.rows z.number) walks (Has-again (suc k) (square_in rows (suc k) n) d0) in
+    record {
+      few = few;
+      count = length-set numbers (n - 1) (Some m) ∙ r.count;
+      each = λ i p lt e. elim (cases_eq i (n - 1)) [
+        | inl same ↦
+            let there : n - 1 < length numbers = omega (arith, r.count) in
+            let is : m ≡ p = same_Some m p (sym (get_or-set_same numbers (n - 1) (Some m) None there) ∙ ap (λ q. get_or (set numbers (n - 1) (Some m)) q None) (sym same) ∙ e) in
+            let next : n ≡ suc i = omega (arith, same) in
+            let level : suc k ≡ (get_or rows i no_row).level = sym at.1 ∙ ap (λ q. (get_or rows q no_row).level) (sym same) in
+            subst (λ j. Has j (square_in rows j (suc i)) d5 p) level (subst (λ q. Has (suc k) (square_in rows (suc k) q) d5 p) next (subst (λ q. Has (suc k) (square_in rows (suc k) n) d5 q) is has))
+        | inr other ↦
+            Has-grown (get_or rows i no_row).level (square_in rows (get_or rows i no_row).level (suc i)) d4 d5 p g (r.each i p lt (sym (get_or-set_other numbers (n - 1) i (Some m) None other) ∙ e))
+      ];
+    }
+
+-- a row that is completed comes behind the others
+pub grows-complete : (row : SquareRow) (old new : List SquareRow) → (number_row row old).rows ≡ new → Grows old new
+grows-complete row old new e = subst (Grows old) e (number_row-grows row old)

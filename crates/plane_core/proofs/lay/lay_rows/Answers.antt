@@ -1,0 +1,19 @@
+use Rattle.std.proofs.Common.{◌∙◌, List, sym, ap, subst}
+use Rattle.std.specs.Prelude.{All}
+use Rattle.std.proofs.lemmas.List.Elements.{All-drop}
+use Rattle.worlds.specs.declared.cell.CellSet.{CellSet}
+use Rattle.worlds.specs.Range.{CanBeLaid}
+use Rattle.worlds.specs.Lay.{lay, lay-append}
+use Rattle.plane_core.specs.Rows.{world_of_rows}
+use Rattle.plane_core.proofs.lay.lay_rows.Goals as goal
+
+pub loop-rest-preserved : goal.loop-rest-preserved
+loop-rest-preserved c =
+    let w = world_of_rows c.loop-rest.rows.items in
+    let rest : List CellSet = c.loop-rest.rest.now in
+    let batch : List CellSet = c.split_at.result.0.now in
+    let more : List CellSet = c.split_at.result.1.now in
+    let before = c.loop-rest.invariant in
+    let can : All CanBeLaid more = subst (All CanBeLaid) (sym c.split_at.ensures.back) (All-drop CanBeLaid 65536 rest before.2) in
+    let laid = c.in_ok-lay_batch.ensures in
+    (laid.rows.0, laid.rows.1, can, ap (lay more) laid.world ∙ sym (lay-append batch more w) ∙ ap (λ (cs : List CellSet). lay cs w) (sym c.split_at.ensures.by_index.0) ∙ before.3)

@@ -1,0 +1,7 @@
+use Rattle.std.proofs.Common.{length, sym, subst}
+use Rattle.plane_core.specs.Rows.{IsNumber}
+use Rattle.plane_core.proofs.Roots.{rooted}
+use Rattle.plane_core.proofs.walk.walked.Goals as goal
+
+pub walk_square-requires-clause-number : goal.walk_square-requires-clause-number
+walk_square-requires-clause-number c = subst (λ k. IsNumber c.args.rows.now k (length c.args.rows.now)) (sym c.root_level.ensures.level) (rooted c.args.rows.now c.requires.rows).number

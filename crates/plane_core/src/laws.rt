@@ -1,0 +1,12 @@
+//! Laws of the definitions, each the contract of a function that does nothing.
+ghost use Rattle.plane_core.specs.Laws.{WorldsHaveOneListOfRows, WorldsHaveRows};
+
+/// Each world in the range of planes, with states below 256, has rows that a plane can be made of.
+pub fn worlds_have_rows()
+    ensures { WorldsHaveRows }
+{}
+
+/// A world has one list of rows.
+pub fn worlds_have_one_list_of_rows()
+    ensures { WorldsHaveOneListOfRows }
+{}

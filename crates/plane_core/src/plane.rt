@@ -1,0 +1,173 @@
+//! The pattern as the list of its distinct squares.
+ghost use Rattle.std.specs.Prelude.{◌≡◌, ◌↔◌, ◌<◌, ◌≤◌, ℕ, All, map, slice_index, IfNone, IfOk, IfSome, IsNone, IsTrue};
+ghost use Rattle.worlds.specs.World.{cell, blank};
+ghost use Rattle.worlds.specs.Lay.{lay};
+ghost use Rattle.worlds.specs.Live.{count_of, live, of_cell, population};
+ghost use Rattle.worlds.specs.Range.{CanBeLaid, HasMargin, IsBoundingBox, IsGreatest, IsInside};
+ghost use Rattle.plane_core.specs.Rows.{AreRows, AreSquaresOf, world_of_rows};
+
+use crate::canonical::canonical;
+use crate::counts::counts;
+use crate::descent::{Spot, state_at};
+use crate::lay::lay_rows;
+use crate::live::live_cells;
+use crate::measures::{Measures, measured, no_measures};
+use crate::row::SquareRow;
+use std::alloc::{AllocError, Global};
+use std::marker::Model;
+use worlds::{Bounds, Cell, CellSet};
+
+/// The states of all cells, of which all but finitely many are 0. Contracts see it as a world.
+///
+/// Its live cells lie in `-2^61 <= x, y < 2^61`. It is kept as the rows of its distinct squares.
+#[derive(Drop)]
+pub struct Plane {
+    rows: Vec<SquareRow>,
+    measures: Measures,
+    alloc: Global,
+}
+
+impl Model for Plane {
+    ghost use Rattle.std.specs.Prelude.{◌<◌, ◌^◌, length};
+    ghost use Rattle.worlds.specs.World.{World, coded_world};
+    ghost use Rattle.plane_core.specs.Rows.{world_of_rows, AreCanonical};
+    ghost use Rattle.plane_core.specs.Measures.{AreMeasuresOf};
+
+    ghost Value = { World };
+
+    ghost coded = { coded_world };
+
+    ghost view = { λ p. world_of_rows p.rows.items };
+
+    ghost invariant = { λ p. AreCanonical p.rows.items × (length p.rows.items < 2 ^ 32) × AreMeasuresOf (world_of_rows p.rows.items) p.measures };
+}
+
+impl Plane {
+    /// The plane on which each cell has the state 0.
+    pub fn empty(alloc: Global) -> Plane
+        ensures { result ≡ blank }
+    {
+        Plane {
+            rows: Vec::new(alloc),
+            measures: no_measures(),
+            alloc,
+        }
+    }
+
+    /// The plane that rows stand for, in which equal rows may stand twice and rows may be empty.
+    pub fn from_squares(alloc: Global, rows: &[SquareRow]) -> Result<Plane, AllocError>
+        requires { AreRows rows.now }
+        ensures { IfOk result (λ plane. plane ≡ world_of_rows rows.now) }
+    {
+        if rows.len() > u32::MAX as usize {
+            return Err(AllocError);
+        }
+        let rows = canonical(alloc, rows)?;
+        let measures = measured(alloc, &rows)?;
+        Ok(Plane {
+            rows,
+            measures,
+            alloc,
+        })
+    }
+
+    /// The state of the cell at (x, y), 0 outside the range of planes.
+    pub fn get(&self, x: i64, y: i64) -> u8
+        ensures state { result ≡ cell self.now x y }
+        ensures outside { (IsInside 0 x y → ⊥) → result ≡ 0 }
+    {
+        state_at(&self.rows, Spot { x, y })
+    }
+
+    /// An equal plane.
+    pub fn copy(&self) -> Result<Plane, AllocError>
+        ensures { IfOk result (λ plane. plane ≡ self.now) }
+    {
+        Ok(Plane {
+            rows: self.rows.to_vec(self.alloc)?,
+            measures: self.measures,
+            alloc: self.alloc,
+        })
+    }
+
+    /// The plane after the cells are set in turn, so that the last mention of a cell wins.
+    pub fn lay(&self, cells: &[CellSet]) -> Result<Plane, AllocError>
+        requires { All CanBeLaid cells.now }
+        ensures { IfOk result (λ plane. plane ≡ lay cells.now self.now) }
+    {
+        let mut rows = self.rows.to_vec(self.alloc)?;
+        lay_rows(self.alloc, &mut rows, cells)?;
+        Plane::from_squares(self.alloc, &rows)
+    }
+
+    /// The plane with these cells alone, which are set in turn. The list is let go before the rows
+    /// of the plane are made, so both are never in memory together.
+    pub fn from_cells(alloc: Global, cells: Vec<CellSet>) -> Result<Plane, AllocError>
+        requires { All CanBeLaid cells.items }
+        ensures { IfOk result (λ plane. plane ≡ lay cells.items blank) }
+    {
+        let mut rows = Vec::new(alloc);
+        lay_rows(alloc, &mut rows, &cells)?;
+        drop(cells);
+        Plane::from_squares(alloc, &rows)
+    }
+
+    /// The rows of the distinct squares, in the order in which the walk nw, ne, sw, se from the
+    /// least root completes them.
+    pub fn squares(&self) -> Result<Vec<SquareRow>, AllocError>
+        ensures { IfOk result (λ rows. AreSquaresOf self.now rows.items) }
+    {
+        self.rows.as_slice().to_vec(self.alloc)
+    }
+
+    /// How many cells are live.
+    pub fn population(&self) -> u128
+        ensures { result ≡ population self.now }
+    {
+        self.measures.population
+    }
+
+    /// The live cells row by row from the top, and in a row from the left; None where there are
+    /// more than `limit`.
+    pub fn live(&self, limit: u32) -> Result<Option<Vec<Cell>>, AllocError>
+        ensures few { IfOk result (λ found. IfSome found (λ cells.
+            (population self.now ≤ limit) × (map of_cell cells.items ≡ live self.now))) }
+        ensures many { IfOk result (λ found. IfNone found (limit < population self.now)) }
+    {
+        if self.population() > u128::from(limit) {
+            return Ok(None);
+        }
+        Ok(Some(live_cells(self.alloc, &self.rows)?))
+    }
+
+    /// The greatest state, 0 where no cell is live.
+    pub fn greatest(&self) -> u8
+        ensures { IsGreatest self.now result }
+    {
+        self.measures.greatest
+    }
+
+    /// The least box that holds the live cells, None where no cell is live.
+    pub fn bounds(&self) -> Option<Bounds>
+        ensures none { IsNone result ↔ (self.now ≡ blank) }
+        ensures some { IfSome result (λ b. IsBoundingBox b self.now) }
+        ensures in_range { HasMargin 0 self.now }
+    {
+        self.measures.bounds
+    }
+
+    /// How many live cells have each state, by state; the first count, that of the state 0, is 0.
+    pub fn counts(&self) -> Result<[u128; 256], AllocError>
+        ensures { IfOk result (λ counts.
+            (s : ℕ) → s < 256 → slice_index counts s ≡ count_of self.now s) }
+    {
+        counts(self.alloc, &self.rows)
+    }
+
+    /// Whether the cells are the same.
+    pub fn equals(&self, other: &Plane) -> bool
+        ensures { IsTrue result ↔ (self.now ≡ other.now) }
+    {
+        self.rows == other.rows
+    }
+}

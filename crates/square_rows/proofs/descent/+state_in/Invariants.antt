@@ -1,4 +1,0 @@
-use Rattle.square_rows.proofs.descent.+state_in.Given as goal
-
-abbrev pub decreases-state_in : goal.decreases-state_in
-decreases-state_in l = l.level

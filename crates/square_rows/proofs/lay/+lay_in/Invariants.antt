@@ -1,4 +1,0 @@
-use Rattle.square_rows.proofs.lay.+lay_in.Given as goal
-
-abbrev pub decreases-lay_in : goal.decreases-lay_in
-decreases-lay_in l = l.level

@@ -1,6 +1,0 @@
-use Rattle.std.proofs.Common.{take}
-use Rattle.square_rows.specs.Laid.{AreLaidStates}
-use Rattle.square_rows.proofs.lay.laid_states.Given as goal
-
-abbrev pub invariant-loop-cell : goal.invariant-loop-cell
-invariant-loop-cell l = AreLaidStates l.corner.x l.corner.y (take l.cell-index l.cells) l.fn.states l.laid

@@ -1,4 +1,0 @@
-use Rattle.square_rows.proofs.walk.+walk_square.Given as goal
-
-abbrev pub decreases-walk_square : goal.decreases-walk_square
-decreases-walk_square l = l.level

@@ -1,7 +1,0 @@
-use Rattle.std.proofs.Common.{length, sym, subst}
-use Rattle.square_rows.specs.Rows.{IsNumber}
-use Rattle.square_rows.proofs.Roots.{rooted}
-use Rattle.square_rows.proofs.walk.walked.Goals as goal
-
-pub walk_square-requires-clause-number : goal.walk_square-requires-clause-number
-walk_square-requires-clause-number c = subst (λ k. IsNumber c.args.rows.now k (length c.args.rows.now)) (sym c.root_level.ensures.level) (rooted c.args.rows.now c.requires.rows).number

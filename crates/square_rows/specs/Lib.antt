@@ -1,9 +1,0 @@
-pub mod Rows
-pub mod Walks
-pub mod Centre
-pub mod Measures
-pub mod Laid
-pub mod Entries
-pub mod Counts
-pub mod WorldRows
-pub mod Laws
