@@ -19,8 +19,9 @@ pub record IsSameRule (old_meaning new_meaning : List ℕ → ℕ) (old_count ne
   pub meaning : new_meaning ≡ old_meaning
   pub states : new_count ≡ old_count
 
--- whether or not results were found: the table is the old one or has more rows, of squares on the way to them, the rule means the same, and each result that is remembered is right
-pub record StaysRight (old_meaning new_meaning : List ℕ → ℕ) (old_count new_count k generations : ℕ) (numbers : List ℕ) (t u : Table) (memo : Memo) : Type 0 where
+-- after a search, however it ends: rows of squares on the way alone are more, and the memo is right
+pub record StaysRight (old_meaning new_meaning : List ℕ → ℕ) (old_count new_count k generations : ℕ)
+    (numbers : List ℕ) (t u : Table) (memo : Memo) : Type 0 where
   pub grows : Grows t u
   pub rule : IsSameRule old_meaning new_meaning old_count new_count
   pub right : IsRight old_meaning u.rows memo

@@ -4,7 +4,7 @@ use Rattle.worlds.specs.Square.{Square}
 use Rattle.hash_life.specs.Result.{result}
 use Rattle.hash_life.specs.Puts.{nine_of, fours_of}
 
--- P holds of each square on the way to the result of a square of level k + 2: of itself and its result, and of those on the way to the results of nine and of four
+-- P holds of each square on the way from a square of level k + 2 to its result, with both of these
 unfoldable pub Makes : (List ℕ → ℕ) → ℕ → ℕ → Square → (Square → Type 0) → Type 0
 Makes next k zero s P = P s × P (result next k zero s)
 Makes next zero (suc n) s P = P s × P (result next zero (suc n) s)

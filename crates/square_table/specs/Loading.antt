@@ -52,21 +52,23 @@ row_square squares i = listed.square_in squares (get_or squares i no_row).level 
 abbrev pub HasRows : List Square → List SquareRow → Type 0
 HasRows all squares = (i : ℕ) → i < length squares → Contains all (row_square squares i)
 
--- the table has more rows, or none: of a plane's squares and of empty ones below this level, with their states
+-- the table has more rows, or none: of a plane's squares, and of empty ones below this level
 pub record GrowsFrom (level : ℕ) (squares : List SquareRow) (old new : Table) : Type 0 where
   pub grows : Grows old new
   pub states : (c : ℕ) → 0 < c → CellsBelow c squares → AllStatesBelow c old.rows → AllStatesBelow c new.rows
-  pub among : (all : List Square) → HasEmpty all level → HasRows all squares → AreAmong all old.rows → AreAmong all new.rows
+  pub among : (all : List Square) → HasEmpty all level → HasRows all squares →
+      AreAmong all old.rows → AreAmong all new.rows
 
--- the empty squares of a plane are below this level: that of the root, or 2 for the plane that has no rows
+-- a plane's empty squares are below this level: that of the root, or 2 where there are no rows
 abbrev pub empty_below : List SquareRow → ℕ
 empty_below [] = 2
 empty_below (row ∷ rows) = root_level (row ∷ rows)
 
--- the table has more rows, or none: for any level that holds the live cells, of squares round the origin up to it, of what these are made of, and of empty ones below it
+-- the table has more rows, or none, of squares that a world starts with up to a level that holds it
 pub record GrowsFor (w : World) (old new : Table) : Type 0 where
   pub grows : Grows old new
-  pub among : (k : ℕ) (all : List Square) → 1 ≤ k → Fits k w → HasStart all w k → AreAmong all old.rows → AreAmong all new.rows
+  pub among : (k : ℕ) (all : List Square) → 1 ≤ k → Fits k w → HasStart all w k →
+      AreAmong all old.rows → AreAmong all new.rows
 
 -- k is the least level from 1 up that holds the live cells, and one of a plane's
 pub record IsRootLevel (k : ℕ) (w : World) : Type 0 where

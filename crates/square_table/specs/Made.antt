@@ -15,10 +15,11 @@ pub record IsAmong (squares : List Square) (rows : List (List ℕ)) (n : ℕ) : 
 pub record AreAmong (squares : List Square) (rows : List (List ℕ)) : Type 0 where
   pub each : (i : ℕ) → i < length rows → IsAmong squares rows (first_number + i)
 
--- the one table with more rows, or none, is the other, and each more is that of one of these squares
+-- the one table with more rows, or none, of these squares is the other
 pub record Adds (made : List Square) (old new : Table) : Type 0 where
   pub grows : Grows old new
-  pub among : (all : List Square) → All (Contains all) made → AreAmong all old.rows → AreAmong all new.rows
+  pub among : (all : List Square) → All (Contains all) made →
+      AreAmong all old.rows → AreAmong all new.rows
 
 -- the table holds as many squares as it may, and no two of its rows are one
 pub record IsFull (t : Table) : Type 0 where
@@ -35,7 +36,8 @@ HoldsWithin P (four nw ne sw se) =
 abbrev pub HasEmpty : List Square → ℕ → Type 0
 HasEmpty all level = (j : ℕ) → 1 ≤ j → j < level → Contains all (empty_square j)
 
--- so are those round the origin up to level k, with all that they are made of
+-- those that a world starts with: round the origin up to level k, with all that they are made of
 pub record HasStart (all : List Square) (w : World) (k : ℕ) : Type 0 where
   pub empty : HasEmpty all k
-  pub squares : (j : ℕ) → 1 ≤ j → j ≤ k → HoldsWithin (Contains all) (square_at w j (edge j) (edge j))
+  pub squares : (j : ℕ) → 1 ≤ j → j ≤ k →
+      HoldsWithin (Contains all) (square_at w j (edge j) (edge j))

@@ -45,20 +45,22 @@ pub record AreDifferent (squares : List Square) (many : ℕ) (all : List Square)
   pub different : AllPairs (λ s t. s ≢ t) squares
   pub listed : All (Contains all) squares
 
--- among these are all squares that are made where a world goes n generations ahead by its square of level k + 2 round the origin
+-- these have all that are made where a world's square of level k + 2 goes n generations ahead
 pub record HasWay (all : List Square) (next : List ℕ → ℕ) (w : World) (k n : ℕ) : Type 0 where
   pub start : HasStart all w (suc (suc k))
-  pub way : Makes next k n (square_at w (suc (suc k)) (edge (suc (suc k))) (edge (suc (suc k)))) (Contains all)
+  pub way : Makes next k n (square_at w (suc (suc k)) (edge (suc (suc k))) (edge (suc (suc k))))
+      (Contains all)
 
--- a list that has all squares which are made on the way has as many different ones as an engine may hold
+-- any list of all squares that are made on the way has as many different ones as may be held
 pub record IsRoomSpent (limit : ℕ) (next : List ℕ → ℕ) (w : World) (n : ℕ) : Type 0 where
   pub k : ℕ
   pub root : IsRoomLevel n w k
   pub made : (all : List Square) → HasWay all next w k n →
       (squares : List Square) × AreDifferent squares (min limit 16777216) all
 
--- the report of different squares, each made on the way, of which so many are blocks of 4 by 4 cells
-pub record IsReport (limit : ℕ) (next : List ℕ → ℕ) (w : World) (n : ℕ) (report : Report) : Type 0 where
+-- a report of different squares, each made on the way; so many are blocks of 4 by 4 cells
+pub record IsReport (limit : ℕ) (next : List ℕ → ℕ) (w : World) (n : ℕ) (report : Report)
+    : Type 0 where
   pub within : IsWithin limit report
   pub k : ℕ
   pub root : IsRoomLevel n w k
@@ -67,7 +69,8 @@ pub record IsReport (limit : ℕ) (next : List ℕ → ℕ) (w : World) (n : ℕ
       × (length (filter is_block squares) ≡ report.fours)
 
 -- the world n generations later, and the report of the way
-pub record IsEvolved (limit : ℕ) (next : List ℕ → ℕ) (w : World) (n : ℕ) (evolved : Evolved) : Type 0 where
+pub record IsEvolved (limit : ℕ) (next : List ℕ → ℕ) (w : World) (n : ℕ) (evolved : Evolved)
+    : Type 0 where
   pub plane : evolved.plane ≡ iterate n (step next) w
   pub report : IsReport limit next w n evolved.report
 

@@ -27,20 +27,22 @@ pub record IsPadded (t : Table) (square : Square) (u : Table) (s : Square) : Typ
   pub cells : cells_of u s ≡ padded (level_of square - 1) (cells_of t square)
   pub limit : u.limit ≡ t.limit
 
--- the table has no square more but empty ones of less level and those of which the square with empty ones round it is made
+-- the table has more rows, or none, of what a square with empty ones round it is made of
 pub record AddsPadded (t : Table) (square : Square) (u : Table) : Type 0 where
   pub grows : Grows t u
   pub among : (all : List squares.Square) → HasEmpty all (level_of square) →
       HoldsWithin (Contains all) (padded (level_of square - 1) (cells_of t square)) →
       AreAmong all t.rows → AreAmong all u.rows
 
--- in the table that came of t the square s, of the level, is that of each world that the other is a square of
-pub record IsWidened (t : Table) (square : Square) (level : ℕ) (u : Table) (s : Square) : Type 0 where
+-- the square s, of the level, is that of each world that the other square is of
+pub record IsWidened (t : Table) (square : Square) (level : ℕ) (u : Table) (s : Square)
+    : Type 0 where
   pub held : IsHeld u s
   pub raised : level_of s ≡ level
-  pub centred : (w : World) → IsCentred w (level_of square) (cells_of t square) → IsCentred w level (cells_of u s)
+  pub centred : (w : World) → IsCentred w (level_of square) (cells_of t square) →
+      IsCentred w level (cells_of u s)
 
--- the table has no square more but those round the origin of a world up to the level, empty ones below it, and what they are made of
+-- the table has more rows, or none, of squares that a world starts with up to the level
 pub record AddsRound (t : Table) (square : Square) (level : ℕ) (u : Table) : Type 0 where
   pub grows : Grows t u
   pub among : (w : World) (all : List squares.Square) →
