@@ -1,5 +1,5 @@
 -- Squares that are added on the way to results.
-use Rattle.std.proofs.Common.{◌≡◌, ℕ, suc, ◌-◌, ◌<◌, ◌^◌, min, List, [], ◌∷◌, length, map, get_or, refl, sym, ◌∙◌, ap, subst, arith, inl, lit<}
+use Rattle.std.proofs.Common.{◌≡◌, ℕ, suc, ◌-◌, ◌<◌, ◌^◌, min, List, [], ◌∷◌, length, map, get_or, sym, ◌∙◌, ap, subst, arith, lit<}
 use Rattle.std.specs.Prelude.{All, Contains}
 use Rattle.std.proofs.lemmas.List.Elements.{All-nil, All-cons, All-weaker}
 use Rattle.worlds.specs.Square.{Square, one, four}
@@ -14,7 +14,7 @@ use Rattle.hash_life.proofs.InTwo.{result-none, result-later}
 use Rattle.hash_life.proofs.Made.{Makes-itself, Makes-result, Makes-nine, Makes-fours}
 use Rattle.hash_engine.specs.Standing.{StandsFor, StandForAll}
 use Rattle.hash_engine.specs.Adding.{AddsOfTwo, AddsOf, AddsFours, AddsFor}
-use Rattle.hash_engine.proofs.Standing.{StandsFor-itself, StandsFor-grows, StandForAll-grows, StandsFor-of_nine, AreQuadrants, quadrants, listed, fours_at}
+use Rattle.hash_engine.proofs.Standing.{StandsFor-itself, StandsFor-grows, StandForAll-grows, StandsFor-of_nine, quadrants, listed, fours_at}
 
 -- nothing is added
 pub Adds-none : (made : List Square) (t : Table) → Adds made t t

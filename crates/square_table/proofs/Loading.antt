@@ -11,7 +11,7 @@ use Rattle.plane_core.proofs.Cells.{cell_in-one}
 use Rattle.plane_core.proofs.Sound.{IsNumber-level, square_in-none, square_in-state, square_in-row, state-IsNumber}
 use Rattle.plane_core.proofs.Measuring.{kid_is}
 use Rattle.square_table.specs.Squares.{Table, IsNumber, AreNumbers, square_in, square_of, first_number, IsSquareOf, Grows, GrowsBy, AllStatesBelow}
-use Rattle.square_table.specs.Made.{IsAmong, AreAmong, HasEmpty}
+use Rattle.square_table.specs.Made.{IsAmong, HasEmpty}
 use Rattle.square_table.specs.Loading.{AreBlanks, IsLoadedAt, AreLoaded, number_in, LevelsUpTo, CellsBelow, GrowsFrom, HasRows}
 use Rattle.square_table.proofs.Tables.{kept_row, last_row}
 use Rattle.square_table.proofs.Making.{AreAmong-joined, IsFor, IsAmong-for}

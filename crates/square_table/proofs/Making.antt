@@ -1,13 +1,13 @@
 -- Rows that are of given squares, where a table grows, and the different squares that they are.
-use Rattle.std.proofs.Common.{◌≡◌, ℕ, zero, suc, ◌+◌, ◌-◌, ◌<◌, ◌≤◌, List, [], ◌∷◌, ◌++◌, length, get_or, refl, sym, ap, ◌∙◌, subst, arith, inl, inr}
-use Rattle.std.specs.Prelude.{All, Contains}
+use Rattle.std.proofs.Common.{◌≡◌, ℕ, suc, ◌+◌, ◌-◌, List, [], ◌∷◌, ◌++◌, length, get_or, sym, ap, ◌∙◌, subst, arith, inl, inr}
+use Rattle.std.specs.Prelude.{Contains}
 use Rattle.std.proofs.lemmas.Bool.{cases_lt}
 use Rattle.std.proofs.lemmas.List.Elements.{All-head}
-use Rattle.worlds.specs.Square.{Square, one, four}
+use Rattle.worlds.specs.Square.{Square}
 use Rattle.square_table.specs.Squares.{Table, IsNumber, square_in, first_number, IsSquareOf, Grows, GrowsBy, with_row}
 use Rattle.square_table.specs.Made.{IsAmong, AreAmong, Adds}
 use Rattle.square_table.proofs.Tables.{last_row, one_longer}
-use Rattle.square_table.proofs.Growth.{Grows-same, IsNumber-grows, square_in-grows}
+use Rattle.square_table.proofs.Growth.{IsNumber-grows, square_in-grows}
 
 IsAmong-grows : (all : List Square) (t u : Table) (n : ℕ) → Grows t u → IsAmong all t.rows n → IsAmong all u.rows n
 IsAmong-grows all t u n grows is = record {

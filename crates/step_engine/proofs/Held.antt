@@ -1,12 +1,12 @@
 -- The squares of a table's rows as different squares.
 use Rattle.std.proofs.Common.{◌≡◌, ℕ, zero, suc, ◌+◌, ◌<◌, ◌≤◌, List, [], ◌∷◌, length, refl, sym, ap, ◌∙◌, subst, arith}
-use Rattle.std.specs.Prelude.{◌≢◌, Bool, true, false, cond, filter, All, AllPairs, Contains}
+use Rattle.std.specs.Prelude.{◌≢◌, Bool, true, false, cond, filter, All, Contains}
 use Rattle.std.proofs.lemmas.List.Elements.{All-nil, All-cons, All-weaker}
 use Rattle.std.proofs.lemmas.List.Kept.{AllPairs-cons}
 use Rattle.std.proofs.lemmas.Bool.Decides.{nat_tests}
 use Rattle.worlds.specs.Square.{Square, one, four}
 use Rattle.square_table.specs.Squares.{IsNumber, square_in, kid_at, first_number, AreDistinct}
-use Rattle.square_table.specs.Made.{IsAmong, AreAmong}
+use Rattle.square_table.specs.Made.{AreAmong}
 use Rattle.square_table.proofs.Numbers.{one_number}
 use Rattle.hash_engine.specs.Asked.{is_four, picked, places_of_four}
 use Rattle.hash_engine.proofs.Puts.{is_four-two, is_four-more}
@@ -78,8 +78,8 @@ first_rows all rows distinct among (suc n) low =
     let at = among.each n (omega (arith, low)) in
     let s = square_in rows (suc at.level) (first_number + n) in
     let apart : (t : Square) → IsBefore rows n t → s ≢ t = λ t is same.
-      let equal = same_row rows distinct at.level is.level (first_number + n) (first_number + is.place) at.numbered is.numbered (same ∙ is.is) in
-      absurd (omega (arith, equal, is.below)) in
+    let equal = same_row rows distinct at.level is.level (first_number + n) (first_number + is.place) at.numbered is.numbered (same ∙ is.is) in
+    absurd (omega (arith, equal, is.below)) in
     record {
       squares = s ∷ rest.squares;
       different = record {

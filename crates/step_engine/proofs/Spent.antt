@@ -1,8 +1,8 @@
 -- What an engine made on its way, from what its table grew by.
-use Rattle.std.proofs.Common.{◌≡◌, ℕ, suc, ◌+◌, ◌-◌, ◌<◌, ◌≤◌, ◌^◌, min, List, [], length, refl, sym, ap, ◌∙◌, subst, arith, ℤ, pos, neg_ℤ}
+use Rattle.std.proofs.Common.{◌≡◌, ℕ, suc, ◌+◌, ◌-◌, ◌≤◌, ◌^◌, min, List, [], refl, sym, ap, ◌∙◌, subst, arith}
 use Rattle.std.specs.Prelude.{Contains}
 use Rattle.std.proofs.lemmas.Int.{ints}
-use Rattle.worlds.specs.World.{World, cell}
+use Rattle.worlds.specs.World.{World}
 use Rattle.worlds.specs.Square as squares
 use Rattle.worlds.specs.Square.{square_at, IsIn}
 use Rattle.plane_core.specs.Rows.{Fits}
@@ -17,8 +17,7 @@ use Rattle.square_table.specs.Loading.{GrowsFor, IsRootLevel}
 use Rattle.hash_engine.specs.Adding.{GrowsOnWay}
 use Rattle.hash_engine.specs.declared.fault.ResultFault.{ResultFault}
 use Rattle.hash_engine.specs.declared.fault.ResultFault.TheVariants as results
-use Rattle.step_engine.specs.declared.evolved.EvolveFault.{EvolveFault}
-use Rattle.step_engine.specs.declared.evolved.EvolveFault.TheVariants.{NoRoom, Stopped, NoMemory}
+use Rattle.step_engine.specs.declared.evolved.EvolveFault.TheVariants.{NoRoom}
 use Rattle.step_engine.specs.Reach.{HasRoomFor, IsRoomLevel}
 use Rattle.step_engine.specs.Padded.{AddsRound, IsWidened}
 use Rattle.step_engine.specs.Evolved.{HasWay, IsRoomSpent, of_table, of_result}

@@ -20,7 +20,6 @@ quadrants-requires-clause-above c = (range c).0
 pub quadrants-requires-clause-there : goal.quadrants-requires-clause-there
 quadrants-requires-clause-there c = (range c).1
 
-
 pub returns-clause-padded : goal.returns-clause-padded
 returns-clause-padded c =
     let square = c.args.square in

@@ -1,9 +1,7 @@
-use Rattle.std.proofs.Common.{◌-◌, ◌≤◌, List}
+use Rattle.std.proofs.Common.{◌-◌, ◌≤◌}
 use Rattle.worlds.specs.World.{World}
-use Rattle.worlds.specs.Square as squares
-use Rattle.square_table.specs.Squares.{IsHeld, Grows, level_of, cells_of}
+use Rattle.square_table.specs.Squares.{IsHeld, level_of, cells_of}
 use Rattle.square_table.specs.Centred.{IsCentred}
-use Rattle.square_table.specs.Made.{AreAmong, HasStart}
 use Rattle.step_engine.specs.Padded.{AddsRound}
 use Rattle.step_engine.proofs.padding.with_room.Given as goal
 

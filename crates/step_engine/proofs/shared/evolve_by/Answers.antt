@@ -1,4 +1,4 @@
-use Rattle.std.proofs.Common.{◌≡◌, ◌+◌, ◌≤◌, ◌∙◌, refl, arith, rules}
+use Rattle.std.proofs.Common.{◌+◌, ◌≤◌, ◌∙◌, refl, arith, rules}
 use Rattle.worlds.specs.Step.{step}
 use Rattle.worlds.specs.Iterate.{iterate}
 use Rattle.square_table.proofs.Centring.{one_world}

@@ -1,4 +1,4 @@
-use Rattle.std.proofs.Common.{◌≡◌, ℕ, suc, ◌+◌, ◌≤◌, [], ◌∙◌, ap₂, sym, add-one, subst, arith, lit<}
+use Rattle.std.proofs.Common.{◌≡◌, ℕ, suc, ◌+◌, ◌≤◌, [], ◌∙◌, sym, add-one, subst, arith, lit<}
 use Rattle.worlds.specs.Square.{empty_square}
 use Rattle.square_table.specs.Squares.{Table, IsNumber, square_in, Grows, GrowsBy}
 use Rattle.square_table.specs.Loading.{GrowsFrom}
