@@ -13,7 +13,7 @@ use Rattle.macrocell_lines.specs.Nodes.{AreNodes, AreQuadrants, AreStates, EachF
 use Rattle.macrocell_lines.proofs.WrittenTexts.{written-says}
 use Rattle.worlds.specs.World.{blank}
 use Rattle.plane_core.specs.declared.row.SquareRow.{SquareRow}
-use Rattle.worlds.specs.Square.{Square, empty_square, four, one, put_square}
+use Rattle.worlds.specs.Square.{Square, four, one, put_square}
 use Rattle.plane_core.specs.Rows.{AreRows, IsNumber, IsRow, edge_of, kid, no_row, root_level, row_at, square_in, world_of_rows}
 use Rattle.plane_core.proofs.Roots.{root_level-some, rooted, world-none, world-root}
 use Rattle.plane_core.proofs.Sound.{IsNumber-level, kid_number, square_in-none, square_in-row, square_in-state, state-IsNumber}
