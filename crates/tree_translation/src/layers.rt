@@ -1,5 +1,6 @@
 //! The rows of a table, cut up for a tree.
-ghost use Rattle.std.specs.Prelude.{◌≡◌, ◌≤◌, ◌<◌, ◌∷◌, ℕ, length, slice_index, slice_index_or, All, IfOk, OnOk};
+ghost use Rattle.std.specs.Prelude.{◌≡◌, ◌==◌, ◌≤◌, ◌<◌, ◌+◌, ◌*◌, ◌∷◌, ℕ, length, slice_index, slice_index_or, All, IfOk, OnOk};
+ghost use Rattle.std.specs.Int.{bit_at};
 ghost use Rattle.indexmap.specs.IndexSet.{insert_key};
 ghost use Rattle.table_symmetry.specs.declared.expansion.Expanded.{Expanded};
 ghost use Rattle.table_symmetry.specs.Expanded.{transition_limit};
@@ -39,6 +40,21 @@ impl Layer {
         match &self.sets[tail.set as usize] {
             Some(set) => set.has(state),
             None => true,
+        }
+    }
+
+    /// Which of the 64 states of a block a tail of this layer lets be the input, a bit each.
+    pub fn word(&self, number: u32, block: usize) -> u64
+        requires block { block < 4 }
+        requires number { number < length self.now.tails.items }
+        requires sets { All (λ tail. tail.set < length self.now.sets.items) self.now.tails.items }
+        ensures { (bit : ℕ) → bit < 64 →
+            (bit_at result bit == 1) ≡ lets self.now number (64 * block + bit) }
+    {
+        let tail = self.tails[number as usize];
+        match &self.sets[tail.set as usize] {
+            Some(set) => set.word(block),
+            None => u64::MAX,
         }
     }
 }
