@@ -4,9 +4,10 @@ pub mod Command
 pub mod Cells
 pub mod Faults
 pub mod Reply
+pub mod Shortage
 pub mod Answer
 pub mod Script
-pub mod Wanted
+pub mod Plain
 pub mod Told
 pub mod Heard
 pub mod Jobs
