@@ -17,7 +17,7 @@ use Rattle.dependency_book.specs.Jobs.{cancelled, IsFirstOut, SameBook}
 use Rattle.dependency_book.specs.Kept.{KeepsRows, text_kept, keeps_text, keeps_arrival}
 use Rattle.dependency_book.specs.Marks.{is_noted}
 use Rattle.dependency_book.specs.Known.{Known, row_of, expected, opened, arrival_row, text_row, bookmark_in, pending_of, NothingOut}
-use Rattle.desk_core.specs.Shown.{IsHeld}
+use Rattle.desk_core.specs.Shown.{IsHeld, Serves}
 use Rattle.desk_server.specs.Jobs.{Carries, CarriesOn, IsFresh, DropsJobs, IsDoneWith}
 
 -- where nothing is dropped
@@ -148,6 +148,17 @@ carries_same table floor is_prompt held post old new drops c = record {
   carries = record {
     serves = record { table = c.serves.table ∙ sym drops.table; numbers = subst (λ n. floor post ≤ n) (sym drops.given) c.serves.numbers };
     out = λ e need job x. c.out e need job (drops.out need job x);
+  };
+}
+
+-- a settling leaves a post that carries on
+pub carries_settled : {P : Type 0} (table : P → Entries) (floor : P → ℕ) (is_prompt : P → Bool) (held : P → Option Job) (first last : P) (old new : Known) (more : Type 0) → Carries table floor is_prompt held first old
+    → Serves new (table last) (floor last) → is_prompt last ≡ is_prompt first → (is_prompt first ≡ true → IsHeld (held first) old → IsHeld (held last) new × more) → CarriesOn table floor is_prompt held first last new
+carries_settled table floor is_prompt held first last old new more c serves kind prompt = record {
+  kind = kind;
+  carries = record {
+    serves = serves;
+    out = λ e. (prompt (sym kind ∙ e) (c.out (sym kind ∙ e))).0;
   };
 }
 

@@ -1,4 +1,4 @@
--- Which lines can meet want of memory.
+-- Which lines can be out of memory.
 use Rattle.std.proofs.Common.{◌≡◌, ℕ, ◌≤◌, ◌<◌, List, [], ◌∷◌, length, length-append, Bool, true, false, cond, codes, ap, refl, arith, Option, Some, None}
 use Rattle.std.specs.List.{join_with_byte}
 use Rattle.std.specs.Option.{option_map}
@@ -12,7 +12,8 @@ use Rattle.desk_core.specs.Rows.{bookmark_in}
 use Rattle.desk_server.specs.View.{alone}
 use Rattle.desk_server.specs.Command.{edit_by, one_count, command_of, command_of_words, command_by, format_of, format_of_words, start_of}
 use Rattle.desk_server.specs.Script.{asked_by}
-use Rattle.desk_server.specs.Answer.{shown, no_memory, Memory, CanLackMemory}
+use Rattle.desk_server.specs.Shortage.{Memory}
+use Rattle.desk_server.specs.Answer.{shown, no_memory, CanLackMemory}
 use Rattle.desk_server.specs.declared.format.Format.{Format}
 use Rattle.desk_server.specs.declared.format.Format.TheVariants as format
 use Rattle.desk_server.specs.declared.command.Command.{Command}

@@ -19,7 +19,7 @@ use Rattle.desk_server.specs.declared.command.Command.TheVariants.{Edit, Settle,
 abbrev IsPlain : Bool → After → After → Type 0
 IsPlain prompt after plain = (after ≡ plain) ⊎ ShowsShortage prompt after.told
 
-unless-plain : (prompt : Bool) (shortage : Shortage) (p : Plan) (plain : After) → IsPlain prompt (unless_memory shortage p plain) plain
+unless-plain : (prompt : Bool) (short : Shortage) (p : Plan) (plain : After) → IsPlain prompt (unless_memory short p plain) plain
 unless-plain prompt NoShortage p plain = inl refl
 unless-plain prompt Memory p plain = inr (inl refl)
 unless-plain prompt (Unsettled n cause) p plain = inl refl
@@ -29,30 +29,30 @@ left-plain : (prompt b : Bool) (p : Plan) (n : ℕ) (cause : Option Cause) → I
 left-plain prompt true p n cause h = inr (inr (inl (n, cause, h, refl)))
 left-plain prompt false p n cause h = inl refl
 
-settled-plain : (prompt : Bool) (shortage : Shortage) (p : Plan) → IsCausedOver prompt shortage → IsPlain prompt (settled shortage p) (settled NoShortage p)
+settled-plain : (prompt : Bool) (short : Shortage) (p : Plan) → IsCausedOver prompt short → IsPlain prompt (settled short p) (settled NoShortage p)
 settled-plain prompt NoShortage p h = inl refl
 settled-plain prompt Memory p h = inl refl
 settled-plain prompt (Unsettled n cause) p h = left-plain prompt (nat_le 1 n && nat_le n (length p.bookmarks)) p n cause h
 settled-plain prompt Pending p h = inl refl
 
-shown-plain : (prompt : Bool) (shortage : Shortage) (p : Plan) (id : ℕ) (b : Option Bookmark) → IsPlain prompt (shown shortage p id b) (shown NoShortage p id b)
-shown-plain prompt shortage p id None = unless-plain prompt shortage p (shown NoShortage p id None)
+shown-plain : (prompt : Bool) (short : Shortage) (p : Plan) (id : ℕ) (b : Option Bookmark) → IsPlain prompt (shown short p id b) (shown NoShortage p id b)
+shown-plain prompt short p id None = unless-plain prompt short p (shown NoShortage p id None)
 shown-plain prompt NoShortage p id (Some b) = inl refl
 shown-plain prompt Memory p id (Some b) = inr (inl refl)
 shown-plain prompt (Unsettled n cause) p id (Some b) = inl refl
 shown-plain prompt Pending p id (Some b) = inr (inr (inr (id, refl)))
 
-obeyed-plain : (prompt : Bool) (shortage : Shortage) (p : Plan) (command : Command) → IsCausedOver prompt shortage → IsPlain prompt (obeyed shortage p command) (obeyed NoShortage p command)
-obeyed-plain prompt shortage p (Edit edit) h = unless-plain prompt shortage p (edited p (asked_of edit))
-obeyed-plain prompt shortage p Settle h = settled-plain prompt shortage p h
-obeyed-plain prompt shortage p (Show id) h = shown-plain prompt shortage p id (bookmark_in p.bookmarks id)
-obeyed-plain prompt shortage p Quit h = inl refl
+obeyed-plain : (prompt : Bool) (short : Shortage) (p : Plan) (command : Command) → IsCausedOver prompt short → IsPlain prompt (obeyed short p command) (obeyed NoShortage p command)
+obeyed-plain prompt short p (Edit edit) h = unless-plain prompt short p (edited p (asked_of edit))
+obeyed-plain prompt short p Settle h = settled-plain prompt short p h
+obeyed-plain prompt short p (Show id) h = shown-plain prompt short p id (bookmark_in p.bookmarks id)
+obeyed-plain prompt short p Quit h = inl refl
 
-answer-plain : (prompt : Bool) (shortage : Shortage) (p : Plan) (ask : Ask) → IsCausedOver prompt shortage → IsPlain prompt (answer shortage p ask) (answer NoShortage p ask)
-answer-plain prompt shortage p (Obey command) h = obeyed-plain prompt shortage p command h
-answer-plain prompt shortage p (Take format text) h = unless-plain prompt shortage p (answer NoShortage p (Take format text))
-answer-plain prompt shortage p (Refuse (BadCommand line)) h = unless-plain prompt shortage p (answer NoShortage p (Refuse (BadCommand line)))
-answer-plain prompt shortage p (Refuse (NoEnd line)) h = inl refl
+answer-plain : (prompt : Bool) (short : Shortage) (p : Plan) (ask : Ask) → IsCausedOver prompt short → IsPlain prompt (answer short p ask) (answer NoShortage p ask)
+answer-plain prompt short p (Obey command) h = obeyed-plain prompt short p command h
+answer-plain prompt short p (Take format text) h = unless-plain prompt short p (answer NoShortage p (Take format text))
+answer-plain prompt short p (Refuse (BadCommand line)) h = unless-plain prompt short p (answer NoShortage p (Refuse (BadCommand line)))
+answer-plain prompt short p (Refuse (NoEnd line)) h = inl refl
 
 -- the plain answer was given, and what follows is plain where the script goes on
 goes_on : (prompt : Bool) (after plain : After) (rest : List Ask) (later : List Shortage) → IsPlain prompt after plain → (ShowsShortage prompt after.told → ⊥) → (after.ends ≡ false → afters after.plan rest later ≡ afters after.plan rest [])

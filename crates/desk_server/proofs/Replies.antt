@@ -7,10 +7,14 @@ use Rattle.schedule.specs.declared.fault.EditFault.TheVariants.{NoMemory}
 use Rattle.schedule.specs.declared.document.Bookmark.{Bookmark}
 use Rattle.desk_core.specs.Rows.{Known, bookmark_in, text_known, pending_of}
 use Rattle.desk_core.specs.declared.cause.Cause.{Cause}
-use Rattle.desk_core.specs.Shown.{IsPending}
+use Rattle.desk_core.specs.Shown.{IsPending, Shows}
+use Rattle.dependency_book.specs.declared.shown.Shown.{Shown}
+use Rattle.dependency_book.specs.declared.shown.Shown.TheVariants.{Current, NoSuch}
+use Rattle.dependency_book.specs.declared.shown.Shown.TheVariants as shown
 use Rattle.desk_server.specs.Faults.{Fault, of_edit}
-use Rattle.desk_server.specs.Shortage.{NoShortage, Memory, Unsettled}
-use Rattle.desk_server.specs.Answer.{After, only, unless_fault, settled}
+use Rattle.desk_server.specs.Shortage.{NoShortage, Memory, Unsettled, Pending}
+use Rattle.desk_server.specs.Answer.{After, only, unless_fault, settled, obeyed}
+use Rattle.desk_server.specs.declared.command.Command.TheVariants.{Show}
 use Rattle.desk_server.specs.Reply.{pending_text, refused_text, settled_text, unsettled_text}
 use Rattle.desk_server.specs.Told.{text_of, ends, shown_text}
 use Rattle.desk_server.specs.Heard.{Gives, GivesBy, GivesOrLacks}
@@ -38,7 +42,7 @@ left true false x y h k = absurd (cc)
 left false b x y h k = absurd (cc)
 
 pub gives-unsettled : (prompt : Bool) (p : Plan) (new : Known) (n : ℕ) (cause : Option Cause) → new.plan ≡ p → (prompt ≡ true → IfNone cause (pending_of new ≡ 0)) → n ≡ pending_of new → n ≢ 0 → n ≤ length new.plan.bookmarks
-    → GivesBy prompt (λ shortage. settled shortage p) (reply.Unsettled n cause) new
+    → GivesBy prompt (λ short. settled short p) (reply.Unsettled n cause) new
 gives-unsettled prompt p new n cause same caused is some few = (
   Unsettled n cause,
   λ e. has_cause cause (caused e),
@@ -48,7 +52,7 @@ gives-unsettled prompt p new n cause same caused is some few = (
   where
     has_cause : (o : Option Cause) → IfNone o (pending_of new ≡ 0) → IsSome o
     has_cause None none = absurd (some (is ∙ none))
-    has_cause (Some why) none = tt
+    has_cause (Some why) none = refl
 
 some_of : (o : Option Bookmark) → IsSome o → (b : Bookmark) × (o ≡ Some b)
 some_of None h = absurd (cc)
@@ -57,3 +61,20 @@ some_of (Some b) h = (b, refl)
 -- what is written of a pending one
 pub pending-shown : (known : Known) (id : ℕ) → IsPending known id → shown_text id (bookmark_in known.plan.bookmarks id) (text_known known id) ≡ pending_text id
 pending-shown known id h = let b = some_of (bookmark_in known.plan.bookmarks id) h.there in ap₂ (shown_text id) b.1 h.unknown
+
+-- what is shown of a bookmark, current or not
+pub gives-shown : (prompt : Bool) (p : Plan) (new : Known) (id : ℕ) (s : Shown) → new.plan ≡ p → Shows new id s → GivesBy prompt (λ short. obeyed short p (Show id)) (reply.Shown id) new
+gives-shown prompt p new id s same shows = subst (λ q. GivesBy prompt (λ short. obeyed short q (Show id)) (reply.Shown id) new) same (now s shows)
+  where
+    now : (s : Shown) → Shows new id s → GivesBy prompt (λ short. obeyed short new.plan (Show id)) (reply.Shown id) new
+    now NoSuch none = (NoShortage, λ _. tt, rw none refl)
+    now (Current text) h = (NoShortage, λ _. tt, rw (h.there, h.known, h.scratch_text) refl)
+    now shown.Pending h =
+        let b = some_of (bookmark_in new.plan.bookmarks id) h.there in
+        (Pending, λ _. tt, rw (b.1, h.unknown) refl)
+
+-- a bookmark that is shown otherwise isn't pending
+pub not_pending : (d : Known) (id : ℕ) (s : Shown) → Shows d id s → s ≢ shown.Pending → ¬ IsPending d id
+not_pending d id NoSuch none other h = let b = some_of (bookmark_in d.plan.bookmarks id) h.there in cc (none, b.1)
+not_pending d id (Current text) shows other h = cc (shows.known, h.unknown)
+not_pending d id shown.Pending shows other h = other refl

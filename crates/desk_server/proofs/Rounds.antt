@@ -50,9 +50,9 @@ told_behind : (b : Bool) (p : Plan) (rest : List Ask) (later : List Shortage) �
 told_behind true p rest later = refl
 told_behind false p rest later = refl
 
-after_is : (shortage : Shortage) (p : Plan) (ask : Ask) (r : Reply) (k : Known) → Gives (answer shortage p ask) r k → (rest : List Ask) (later : List Shortage)
-    → replies_to p (ask ∷ rest) (shortage ∷ later) ≡ text_of k r ++ cond (ends r) [] (replies_to k.plan rest later)
-after_is shortage p ask r k e rest later = ap (λ (a : After). a.told ++ flat_map (λ (b : After). b.told) (cond a.ends [] (afters a.plan rest later))) e ∙ ap (λ v. text_of k r ++ v) (told_behind (ends r) k.plan rest later)
+after_is : (short : Shortage) (p : Plan) (ask : Ask) (r : Reply) (k : Known) → Gives (answer short p ask) r k → (rest : List Ask) (later : List Shortage)
+    → replies_to p (ask ∷ rest) (short ∷ later) ≡ text_of k r ++ cond (ends r) [] (replies_to k.plan rest later)
+after_is short p ask r k e rest later = ap (λ (a : After). a.told ++ flat_map (λ (b : After). b.told) (cond a.ends [] (afters a.plan rest later))) e ∙ ap (λ v. text_of k r ++ v) (told_behind (ends r) k.plan rest later)
 
 -- nothing was asked
 asked_nothing : (heard : Option Request) (asked : List Ask) → heard ≡ None → AsksIfAny heard asked → asked ≡ []

@@ -97,22 +97,22 @@ there Pending p id b = only p (pending_text id)
 
 -- a bookmark is shown, if there is one
 abbrev pub shown : Shortage → Plan → ℕ → Option Bookmark → After
-shown shortage p id None = unless_memory shortage p (refused p (of_edit NoSuchBookmark))
-shown shortage p id (Some b) = there shortage p id b
+shown short p id None = unless_memory short p (refused p (of_edit NoSuchBookmark))
+shown short p id (Some b) = there short p id b
 
 -- a command
 abbrev pub obeyed : Shortage → Plan → Command → After
-obeyed shortage p (Edit edit) = unless_memory shortage p (edited p (asked_of edit))
-obeyed shortage p Settle = settled shortage p
-obeyed shortage p (Show id) = shown shortage p id (bookmark_in p.bookmarks id)
-obeyed shortage p Quit = record { told = bye_text; plan = p; ends = true }
+obeyed short p (Edit edit) = unless_memory short p (edited p (asked_of edit))
+obeyed short p Settle = settled short p
+obeyed short p (Show id) = shown short p id (bookmark_in p.bookmarks id)
+obeyed short p Quit = record { told = bye_text; plan = p; ends = true }
 
 -- what is replied to what is asked; a shortage that can't stand against it counts as none
 abbrev pub answer : Shortage → Plan → Ask → After
-answer shortage p (Obey command) = obeyed shortage p command
-answer shortage p (Take format text) = unless_memory shortage p (taken p format text)
-answer shortage p (Refuse (BadCommand line)) = unless_memory shortage p (refused p (of_script (BadCommand line)))
-answer shortage p (Refuse (NoEnd line)) = refused p (of_script (NoEnd line))
+answer short p (Obey command) = obeyed short p command
+answer short p (Take format text) = unless_memory short p (taken p format text)
+answer short p (Refuse (BadCommand line)) = unless_memory short p (refused p (of_script (BadCommand line)))
+answer short p (Refuse (NoEnd line)) = refused p (of_script (NoEnd line))
 
 -- where it is out of memory, that is replied and nothing changes
 abbrev pub CanLackMemory : Ask → Type 0

@@ -8,8 +8,8 @@ pub mod Shortage
 pub mod Answer
 pub mod Script
 pub mod Plain
+pub mod Jobs
 pub mod Told
 pub mod Heard
-pub mod Jobs
 pub mod Run
 pub mod Round

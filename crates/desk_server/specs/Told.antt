@@ -10,6 +10,7 @@ use Rattle.desk_server.specs.declared.reply.Reply.{Reply}
 use Rattle.desk_server.specs.declared.reply.Reply.TheVariants as reply
 use Rattle.desk_server.specs.declared.reply.Part.{Part}
 use Rattle.desk_server.specs.declared.reply.Part.TheVariants as part
+use Rattle.desk_server.specs.Jobs.{IsDoneWith}
 use Rattle.desk_server.specs.Faults.{fault_of, of_edit}
 use Rattle.desk_server.specs.Reply.{accepted_text, settled_text, unsettled_text, current_text, pending_text, refused_text, bye_text}
 
@@ -39,11 +40,11 @@ ComputesFor Settle = ⊤
 ComputesFor (Show id) = ⊤
 ComputesFor Quit = ⊥
 
--- what such a command leaves, by its reply: every text known, or so many that aren't; and no job out where one isn't
+-- what such a command leaves, by its reply: every text known, or so many that aren't, and then no job out; where the bookmark isn't current, nothing left to compute or no job out
 abbrev pub Leaves : Reply → Known → Type 0
 Leaves reply.Settled known = pending_of known ≡ 0
 Leaves (reply.Unsettled pending cause) known = (pending ≡ pending_of known) × NothingOut known
-Leaves (reply.Shown id) known = IsPending known id → NothingOut known
+Leaves (reply.Shown id) known = IsPending known id → IsDoneWith known
 Leaves _ known = ⊤
 
 -- the bytes of one part after the other

@@ -187,9 +187,10 @@ fn show<P: Post>(rt: &impl Wait, desk: &mut Desk<'_>, post: &mut P, id: u64) -> 
     ensures leaves { Leaves result desk.new }
     ensures post { CarriesOn P.table P.floor P.is_prompt P.held post.old post.new desk.new }
 {
-    if desk.shown(id) == Shown::Pending {
-        compute(rt, desk, post);
+    if desk.shown(id) != Shown::Pending {
+        return Reply::Shown { id };
     }
+    compute(rt, desk, post);
     // Whatever the desk kept, what it shows is what starting over gives.
     let _shown = desk.shown(id);
     Reply::Shown { id }

@@ -1,7 +1,11 @@
 use Rattle.std.proofs.Common.{◌≢◌, rules}
+use Rattle.desk_server.specs.Shortage.{NoShortage}
 use Rattle.desk_server.proofs.Jobs.{nothing_out}
 use Rattle.desk_server.proofs.Replies.{gives-unsettled}
 use Rattle.desk_server.proofs.serve.settle.Goals as goal
+
+pub returns-in-0-clause-answer : goal.returns-in-0-clause-answer
+returns-in-0-clause-answer g c = (NoShortage, λ _. tt, search rules)
 
 pub returns-in_default-clause-answer : goal.returns-in_default-clause-answer
 returns-in_default-clause-answer g c =

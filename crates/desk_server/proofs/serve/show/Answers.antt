@@ -1,0 +1,5 @@
+use Rattle.desk_server.proofs.Replies.{gives-shown}
+use Rattle.desk_server.proofs.serve.show.Goals as goal
+
+pub returns-clause-answer : goal.returns-clause-answer
+returns-clause-answer g c = gives-shown (g.P.Post.is_prompt c.args.post.now) c.args.desk.now.plan c.compute.new.desk c.args.id c.shown-_shown.result c.compute.ensures.plan c.shown-_shown.ensures
