@@ -11,13 +11,19 @@ use Rattle.desk_core.specs.Shown.{IsPending, Shows}
 use Rattle.dependency_book.specs.declared.shown.Shown.{Shown}
 use Rattle.dependency_book.specs.declared.shown.Shown.TheVariants.{Current, NoSuch}
 use Rattle.dependency_book.specs.declared.shown.Shown.TheVariants as shown
-use Rattle.desk_server.specs.Faults.{Fault, of_edit}
+use Rattle.desk_server.specs.Faults.{Fault, of_edit, of_script}
 use Rattle.desk_server.specs.Shortage.{NoShortage, Memory, Unsettled, Pending}
-use Rattle.desk_server.specs.Answer.{After, only, unless_fault, settled, obeyed}
+use Rattle.desk_server.specs.Answer.{Ask, Refuse, After, answer, refused, CanLackMemory, only, unless_fault, settled, obeyed}
 use Rattle.desk_server.specs.declared.command.Command.TheVariants.{Show}
 use Rattle.desk_server.specs.Reply.{pending_text, refused_text, settled_text, unsettled_text}
 use Rattle.desk_server.specs.Told.{text_of, ends, shown_text}
-use Rattle.desk_server.specs.Heard.{Gives, GivesBy, GivesOrLacks}
+use Rattle.desk_server.specs.Heard.{AsksFor, Gives, GivesBy, GivesOrLacks, Serves}
+use Rattle.script_lines.specs.declared.text.Text.{Text}
+use Rattle.desk_server.specs.declared.fault.ScriptFault.{ScriptFault}
+use Rattle.desk_server.specs.declared.fault.ScriptFault.TheVariants.{BadCommand, NoEnd}
+use Rattle.desk_server.specs.declared.format.Format.{Format}
+use Rattle.desk_server.specs.declared.request.Request.{Request}
+use Rattle.desk_server.specs.declared.request.Request.TheVariants as request
 use Rattle.desk_server.specs.declared.reply.Reply.{Reply}
 use Rattle.desk_server.specs.declared.reply.Reply.TheVariants as reply
 
@@ -78,3 +84,27 @@ pub not_pending : (d : Known) (id : ℕ) (s : Shown) → Shows d id s → s ≢ 
 not_pending d id NoSuch none other h = let b = some_of (bookmark_in d.plan.bookmarks id) h.there in cc (none, b.1)
 not_pending d id (Current text) shows other h = cc (shows.known, h.unknown)
 not_pending d id shown.Pending shows other h = other refl
+
+-- memory was short for what was asked
+pub serves-memory : (prompt : Bool) (asked : Request) (r : Reply) (d : Known) → ((ask : Ask) → AsksFor asked ask → CanLackMemory ask) → text_of d r ≡ refused_text (of_edit NoMemory) → ends r ≡ false → Serves prompt asked r d d
+serves-memory prompt asked r d can is goes = λ ask asks. (Memory, λ _. tt, can ask asks d.plan ∙ gives-only d.plan d r (refused_text (of_edit NoMemory)) refl is goes)
+
+-- a text can lack it
+pub take-lacks : (asked : Request) (format : Format) (text : Text) → asked ≡ request.Take format text → (ask : Ask) → AsksFor asked ask → CanLackMemory ask
+take-lacks asked format text e ask asks =
+    let one = subst (λ q. AsksFor q ask) e asks in
+    subst CanLackMemory (sym one.1) (λ p. refl)
+
+-- so can what is out of it already
+pub none-lacks : (asked : Request) → asked ≡ request.NoMemory → (ask : Ask) → AsksFor asked ask → CanLackMemory ask
+none-lacks asked e ask asks = subst (λ q. AsksFor q ask) e asks
+
+plainly_refused : (p : Plan) (fault : ScriptFault) → answer NoShortage p (Refuse fault) ≡ refused p (of_script fault)
+plainly_refused p (BadCommand line) = refl
+plainly_refused p (NoEnd line) = refl
+
+-- what lines say was refused
+pub serves-refused : (prompt : Bool) (asked : Request) (fault : ScriptFault) (r : Reply) (d : Known) → asked ≡ request.Refuse fault → text_of d r ≡ refused_text (of_script fault) → ends r ≡ false → Serves prompt asked r d d
+serves-refused prompt asked fault r d e is goes = λ ask asks.
+    let one : ask ≡ Refuse fault = subst (λ q. AsksFor q ask) e asks in
+    (NoShortage, λ _. tt, ap (answer NoShortage d.plan) one ∙ plainly_refused d.plan fault ∙ gives-only d.plan d r (refused_text (of_script fault)) refl is goes)
