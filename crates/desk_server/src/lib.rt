@@ -13,7 +13,7 @@
 //! else is in proportion to what is read and written.
 #![tactic(auto)]
 
-mod asked;
+mod serve;
 mod cells;
 mod command;
 mod edits;
@@ -28,6 +28,6 @@ mod view;
 mod words;
 
 pub use desk_core::{Entries, InlinePost, Post};
-pub use laws::plain_without_wants;
+pub use laws::plain_without_shortages;
 pub use script_lines::{CountedReader, CountedWriter};
 pub use server::{RunFault, run};

@@ -1,4 +1,4 @@
--- Which lines can meet want of memory.
+-- Which lines can be out of memory.
 use Rattle.std.proofs.Common.{◌≡◌, ℕ, ◌≤◌, ◌<◌, List, [], ◌∷◌, length, length-append, Bool, true, false, cond, codes, ap, refl, arith, Option, Some, None}
 use Rattle.std.specs.List.{join_with_byte}
 use Rattle.std.specs.Option.{option_map}
@@ -12,7 +12,8 @@ use Rattle.desk_core.specs.Rows.{bookmark_in}
 use Rattle.desk_server.specs.View.{alone}
 use Rattle.desk_server.specs.Command.{edit_by, one_count, command_of, command_of_words, command_by, format_of, format_of_words, start_of}
 use Rattle.desk_server.specs.Script.{asked_by}
-use Rattle.desk_server.specs.Answer.{shown, no_memory, Memory, CanWant}
+use Rattle.desk_server.specs.Shortage.{Memory}
+use Rattle.desk_server.specs.Answer.{shown, no_memory, CanLackMemory}
 use Rattle.desk_server.specs.declared.format.Format.{Format}
 use Rattle.desk_server.specs.declared.format.Format.TheVariants as format
 use Rattle.desk_server.specs.declared.command.Command.{Command}
@@ -28,17 +29,17 @@ abbrev opens : Option Format → Bool
 opens None = false
 opens (Some format) = true
 
-shown-wants : (p : Plan) (id : ℕ) (b : Option Bookmark) → shown Memory p id b ≡ no_memory p
-shown-wants p id None = refl
-shown-wants p id (Some b) = refl
+shown-lacks : (p : Plan) (id : ℕ) (b : Option Bookmark) → shown Memory p id b ≡ no_memory p
+shown-lacks p id None = refl
+shown-lacks p id (Some b) = refl
 
 -- all others can meet it
-other-wants : (n : ℕ) (c : Option Command) → is_fixed c ≡ false → CanWant (asked_by n c)
-other-wants n None h = λ p. refl
-other-wants n (Some (command.Edit edit)) h = λ p. refl
-other-wants n (Some command.Settle) h = absurd (cc)
-other-wants n (Some (command.Show id)) h = λ p. shown-wants p id (bookmark_in p.bookmarks id)
-other-wants n (Some command.Quit) h = absurd (cc)
+other-lacks : (n : ℕ) (c : Option Command) → is_fixed c ≡ false → CanLackMemory (asked_by n c)
+other-lacks n None h = λ p. refl
+other-lacks n (Some (command.Edit edit)) h = λ p. refl
+other-lacks n (Some command.Settle) h = absurd (cc)
+other-lacks n (Some (command.Show id)) h = λ p. shown-lacks p id (bookmark_in p.bookmarks id)
+other-lacks n (Some command.Quit) h = absurd (cc)
 
 edit-open : (e : Option Edit) → is_fixed (option_map command.Edit e) ≡ false
 edit-open None = refl
@@ -49,8 +50,8 @@ show-open None = refl
 show-open (Some id) = refl
 
 -- each edit can
-pub edit-wants : (e : Option Edit) (n : ℕ) → CanWant (asked_by n (option_map command.Edit e))
-edit-wants e n = other-wants n (option_map command.Edit e) (edit-open e)
+pub edit-lacks : (e : Option Edit) (n : ℕ) → CanLackMemory (asked_by n (option_map command.Edit e))
+edit-lacks e n = other-lacks n (option_map command.Edit e) (edit-open e)
 
 short : (word text : List ℕ) (n : ℕ) → length text ≤ n → bytes_eq word text ≡ true → length word ≤ n
 short word text n h e = omega (arith, h, ap length ((bytes_eq-Decides word text).0 e))
@@ -126,8 +127,8 @@ long-false : (v : Bool) (n : ℕ) → 64 < n → (v ≡ true → n ≤ 64) → v
 long-false false n long f = refl
 long-false true n long f = absurd (omega (arith, long, f refl))
 
-pub long-wants : (says : List ℕ) (n : ℕ) → 64 < length (squashed says) → (format_of says ≡ None) × CanWant (asked_by n (command_of says))
-long-wants says n long = (
+pub long-lacks : (says : List ℕ) (n : ℕ) → 64 < length (squashed says) → (format_of says ≡ None) × CanLackMemory (asked_by n (command_of says))
+long-lacks says n long = (
   none-opens (format_of says) (long-false (opens (format_of says)) (length (squashed says)) long (words-open (words says))),
-  other-wants n (command_of says) (long-false (is_fixed (command_of says)) (length (squashed says)) long (words-fixed (words says))),
+  other-lacks n (command_of says) (long-false (is_fixed (command_of says)) (length (squashed says)) long (words-fixed (words says))),
 )

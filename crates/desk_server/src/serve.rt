@@ -1,13 +1,13 @@
 //! What the desk does when something is asked.
-ghost use Rattle.std.specs.Prelude.{◌≡◌, IfNone, IfSome};
+ghost use Rattle.std.specs.Prelude.{◌≡◌, IfNone, true};
 ghost use Rattle.std.specs.Arc.{arc_value};
 ghost use Rattle.schedule.specs.Asked.{asked_of};
-ghost use Rattle.desk_core.specs.Rows.{NothingOut, bookmark_in, pending_of};
-ghost use Rattle.desk_server.specs.Answer.{Ask, answer, id_word, obeyed};
-ghost use Rattle.desk_server.specs.Answer.{edited, started, taken, settled, shown};
-ghost use Rattle.desk_server.specs.Heard.{AsksFor, GivesBy, GivesOrWants};
-ghost use Rattle.desk_server.specs.Jobs.{Carries, DropsJobs};
-ghost use Rattle.desk_server.specs.Told.{Leaves};
+ghost use Rattle.desk_core.specs.Rows.{NothingOut, pending_of};
+ghost use Rattle.desk_core.specs.Shown.{IsPending};
+ghost use Rattle.desk_server.specs.Answer.{edited, id_word, obeyed, settled, started, taken};
+ghost use Rattle.desk_server.specs.Heard.{GivesBy, GivesOrLacks, Serves};
+ghost use Rattle.desk_server.specs.Jobs.{Carries, CarriesOn, DropsJobs, IsDoneWith};
+ghost use Rattle.desk_server.specs.Told.{ComputesFor, Leaves};
 
 use crate::command::Command;
 use crate::format::Format;
@@ -36,7 +36,7 @@ fn id_word(edit: &Edit) -> &'static str
 
 // Makes an edit, or refuses it.
 fn edit(desk: &mut Desk<'_>, edit: &Edit) -> Reply
-    ensures answer { GivesOrWants desk.old.plan (edited desk.old.plan (asked_of edit.now))
+    ensures answer { GivesOrLacks desk.old.plan (edited desk.old.plan (asked_of edit.now))
         result desk.new }
     ensures jobs { DropsJobs desk.old desk.new }
 {
@@ -52,7 +52,7 @@ fn edit(desk: &mut Desk<'_>, edit: &Edit) -> Reply
 
 // Takes the rule that a text means.
 fn take_rule(alloc: Global, desk: &mut Desk<'_>, text: &[u8]) -> Reply
-    ensures answer { GivesOrWants desk.old.plan (taken desk.old.plan Format.Rule text.now)
+    ensures answer { GivesOrLacks desk.old.plan (taken desk.old.plan Format.Rule text.now)
         result desk.new }
     ensures jobs { DropsJobs desk.old desk.new }
 {
@@ -69,7 +69,7 @@ fn take_rule(alloc: Global, desk: &mut Desk<'_>, text: &[u8]) -> Reply
 // Takes a start whose file names this generation, or refuses it; the desk counts from 0 all the
 // same.
 fn begin(desk: &mut Desk<'_>, start: Arc<Plane>, generation: u64) -> Reply
-    ensures answer { GivesOrWants desk.old.plan (started desk.old.plan generation (arc_value start))
+    ensures answer { GivesOrLacks desk.old.plan (started desk.old.plan generation (arc_value start))
         result desk.new }
     ensures jobs { DropsJobs desk.old desk.new }
 {
@@ -86,7 +86,7 @@ fn begin(desk: &mut Desk<'_>, start: Arc<Plane>, generation: u64) -> Reply
 
 // Takes the start that a file holds.
 fn take_start(alloc: Global, desk: &mut Desk<'_>, pattern: Loaded) -> Reply
-    ensures answer { GivesOrWants desk.old.plan
+    ensures answer { GivesOrLacks desk.old.plan
         (started desk.old.plan pattern.generation pattern.plane) result desk.new }
     ensures jobs { DropsJobs desk.old desk.new }
 {
@@ -98,7 +98,7 @@ fn take_start(alloc: Global, desk: &mut Desk<'_>, pattern: Loaded) -> Reply
 
 // Takes the start that a run-length encoded text means.
 fn take_rle(alloc: Global, desk: &mut Desk<'_>, text: &[u8]) -> Reply
-    ensures answer { GivesOrWants desk.old.plan (taken desk.old.plan Format.Rle text.now)
+    ensures answer { GivesOrLacks desk.old.plan (taken desk.old.plan Format.Rle text.now)
         result desk.new }
     ensures jobs { DropsJobs desk.old desk.new }
 {
@@ -110,7 +110,7 @@ fn take_rle(alloc: Global, desk: &mut Desk<'_>, text: &[u8]) -> Reply
 
 // Takes the start that a macrocell text means.
 fn take_macrocell(alloc: Global, desk: &mut Desk<'_>, text: &[u8]) -> Reply
-    ensures answer { GivesOrWants desk.old.plan (taken desk.old.plan Format.Macrocell text.now)
+    ensures answer { GivesOrLacks desk.old.plan (taken desk.old.plan Format.Macrocell text.now)
         result desk.new }
     ensures jobs { DropsJobs desk.old desk.new }
 {
@@ -122,7 +122,7 @@ fn take_macrocell(alloc: Global, desk: &mut Desk<'_>, text: &[u8]) -> Reply
 
 // Takes what a text of this format means.
 fn take(alloc: Global, desk: &mut Desk<'_>, format: Format, text: &[u8]) -> Reply
-    ensures answer { GivesOrWants desk.old.plan (taken desk.old.plan format text.now)
+    ensures answer { GivesOrLacks desk.old.plan (taken desk.old.plan format text.now)
         result desk.new }
     ensures jobs { DropsJobs desk.old desk.new }
 {
@@ -146,14 +146,14 @@ fn give_up(desk: &mut Desk<'_>)
     }
 }
 
-// Computes what isn't known, and gives the cause where that left bookmarks pending. Whatever is out
+// Computes what isn't known, and gives the cause where one left bookmarks pending. Whatever is out
 // then is given up, so that it is computed anew another time.
 fn compute<P: Post>(rt: &impl Wait, desk: &mut Desk<'_>, post: &mut P) -> Option<Cause>
     requires { Carries P.table P.floor P.is_prompt P.held post.old desk.old }
     ensures plan { desk.new.plan ≡ desk.old.plan }
-    ensures settled { IfNone result (pending_of desk.new ≡ 0) }
-    ensures given_up { IfSome result (λ _. NothingOut desk.new) }
-    ensures post { Carries P.table P.floor P.is_prompt P.held post.new desk.new }
+    ensures caused { P.is_prompt post.old ≡ true → IfNone result (pending_of desk.new ≡ 0) }
+    ensures given_up { IsDoneWith desk.new }
+    ensures post { CarriesOn P.table P.floor P.is_prompt P.held post.old post.new desk.new }
 {
     match desk_core::settle(rt, desk, post, TURNS) {
         Settling::Settled => None,
@@ -166,9 +166,10 @@ fn compute<P: Post>(rt: &impl Wait, desk: &mut Desk<'_>, post: &mut P) -> Option
 
 fn settle<P: Post>(rt: &impl Wait, desk: &mut Desk<'_>, post: &mut P) -> Reply
     requires { Carries P.table P.floor P.is_prompt P.held post.old desk.old }
-    ensures answer { GivesBy (λ want. settled want desk.old.plan) result desk.new }
+    ensures answer { GivesBy (P.is_prompt post.old) (λ short. settled short desk.old.plan)
+        result desk.new }
     ensures leaves { Leaves result desk.new }
-    ensures post { Carries P.table P.floor P.is_prompt P.held post.new desk.new }
+    ensures post { CarriesOn P.table P.floor P.is_prompt P.held post.old post.new desk.new }
 {
     let cause = compute(rt, desk, post);
     match desk.pending() {
@@ -177,16 +178,19 @@ fn settle<P: Post>(rt: &impl Wait, desk: &mut Desk<'_>, post: &mut P) -> Reply
     }
 }
 
-// Shows a bookmark, after settling.
+// Shows a bookmark: at once, unless its text isn't known. Then what isn't known is computed first.
 fn show<P: Post>(rt: &impl Wait, desk: &mut Desk<'_>, post: &mut P, id: u64) -> Reply
     requires { Carries P.table P.floor P.is_prompt P.held post.old desk.old }
-    ensures answer { GivesBy (λ want. shown want desk.old.plan id
-        (bookmark_in desk.old.plan.bookmarks id)) result desk.new }
-    ensures post { Carries P.table P.floor P.is_prompt P.held post.new desk.new }
+    ensures answer { GivesBy (P.is_prompt post.old)
+        (λ short. obeyed short desk.old.plan (Command.Show id)) result desk.new }
+    ensures at_once { ¬ IsPending desk.old id → (desk.new ≡ desk.old) × (post.new ≡ post.old) }
+    ensures leaves { Leaves result desk.new }
+    ensures post { CarriesOn P.table P.floor P.is_prompt P.held post.old post.new desk.new }
 {
-    if desk.shown(id) != Shown::NoSuch {
-        compute(rt, desk, post);
+    if desk.shown(id) != Shown::Pending {
+        return Reply::Shown { id };
     }
+    compute(rt, desk, post);
     // Whatever the desk kept, what it shows is what starting over gives.
     let _shown = desk.shown(id);
     Reply::Shown { id }
@@ -194,9 +198,10 @@ fn show<P: Post>(rt: &impl Wait, desk: &mut Desk<'_>, post: &mut P, id: u64) -> 
 
 fn obey<P: Post>(rt: &impl Wait, desk: &mut Desk<'_>, post: &mut P, command: Command) -> Reply
     requires { Carries P.table P.floor P.is_prompt P.held post.old desk.old }
-    ensures answer { GivesBy (λ want. obeyed want desk.old.plan command) result desk.new }
-    ensures leaves { command ≡ Command.Settle → Leaves result desk.new }
-    ensures post { Carries P.table P.floor P.is_prompt P.held post.new desk.new }
+    ensures answer { GivesBy (P.is_prompt post.old) (λ short. obeyed short desk.old.plan command)
+        result desk.new }
+    ensures leaves { ComputesFor command → Leaves result desk.new }
+    ensures post { CarriesOn P.table P.floor P.is_prompt P.held post.old post.new desk.new }
 {
     match command {
         Command::Edit(change) => edit(desk, &change),
@@ -215,10 +220,10 @@ pub(crate) fn serve<P: Post>(
     request: Request,
 ) -> Reply
     requires { Carries P.table P.floor P.is_prompt P.held post.old desk.old }
-    ensures answer { (ask : Ask) → AsksFor request ask
-        → GivesBy (λ want. answer want desk.old.plan ask) result desk.new }
-    ensures leaves { request ≡ Request.Obey Command.Settle → Leaves result desk.new }
-    ensures post { Carries P.table P.floor P.is_prompt P.held post.new desk.new }
+    ensures answer { Serves (P.is_prompt post.old) request result desk.old desk.new }
+    ensures leaves { (command : Command) → request ≡ Request.Obey command
+        → ComputesFor command → Leaves result desk.new }
+    ensures post { CarriesOn P.table P.floor P.is_prompt P.held post.old post.new desk.new }
 {
     match request {
         Request::Obey(command) => obey(rt, desk, post, command),

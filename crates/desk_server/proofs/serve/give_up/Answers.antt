@@ -1,7 +1,7 @@
 use Rattle.std.proofs.Common.{◌∙◌, ◌<◌, ◌^◌, refl, sym, subst, rules}
 use Rattle.dependency_book.specs.Jobs.{IsFirstOut}
 use Rattle.desk_server.proofs.Jobs.{drops_none, drops_drops, cancel_drops, first_falls, numbers_from}
-use Rattle.desk_server.proofs.asked.give_up.Goals as goal
+use Rattle.desk_server.proofs.serve.give_up.Goals as goal
 
 pub loop-first-init : goal.loop-first-init
 loop-first-init c = record { plan = refl; drops = drops_none _ _ refl; first = c.first_out-first.ensures }

@@ -1,4 +1,4 @@
-use Rattle.desk_server_tests.proofs.tests.answer_to.Given as goal
+use Rattle.desk_server_tests.proofs.tests.answer_over.Given as goal
 
 abbrev pub ghosts-answer_counted-L-Ledger : goal.ghosts-answer_counted-L-Ledger
 ghosts-answer_counted-L-Ledger g a = record { name = a.reader_blank.name; parts = a.reader_blank.parts }

@@ -2,7 +2,7 @@ use Rattle.std.proofs.Common.{◌≡◌}
 use Rattle.dependency_book.specs.Jobs.{IsFirstOut}
 use Rattle.desk_server.specs.Jobs.{DropsJobs}
 use Rattle.desk_server.proofs.Jobs.{numbers_from}
-use Rattle.desk_server.proofs.asked.give_up.Given as goal
+use Rattle.desk_server.proofs.serve.give_up.Given as goal
 
 abbrev pub invariant-loop-first : goal.invariant-loop-first
 invariant-loop-first l = record {

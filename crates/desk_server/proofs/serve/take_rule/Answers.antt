@@ -3,10 +3,11 @@ use Rattle.rule_file.specs.declared.fault.RuleFault.TheVariants.{NoMemory}
 use Rattle.rule_tree.specs.declared.rule.Rule.{Rule}
 use Rattle.rule_tree.specs.Rule.{rule_of}
 use Rattle.schedule.specs.Asked.{ReplaceRule}
-use Rattle.desk_server.specs.Answer.{Memory, edited}
+use Rattle.desk_server.specs.Shortage.{Memory}
+use Rattle.desk_server.specs.Answer.{edited}
 use Rattle.desk_server.specs.Faults.{of_rule}
 use Rattle.desk_server.proofs.Replies.{gives-refused}
-use Rattle.desk_server.proofs.asked.take_rule.Goals as goal
+use Rattle.desk_server.proofs.serve.take_rule.Goals as goal
 
 pub returns-in-Err-clause-answer : goal.returns-in-Err-clause-answer
 returns-in-Err-clause-answer c =
@@ -15,4 +16,4 @@ returns-in-Err-clause-answer c =
     refl refl c.in-Err.ensures.rule c.refused.ensures.text c.refused.ensures.goes_on
 
 pub returns-clause-answer : goal.returns-clause-answer
-returns-clause-answer c = (Memory, search rules)
+returns-clause-answer c = (Memory, λ _. tt, search rules)
