@@ -13,7 +13,6 @@
 //! else is in proportion to what is read and written.
 #![tactic(auto)]
 
-mod serve;
 mod cells;
 mod command;
 mod edits;
@@ -23,6 +22,7 @@ mod heard;
 mod laws;
 mod reply;
 mod request;
+mod serve;
 mod server;
 mod view;
 mod words;

@@ -5,9 +5,9 @@ ghost use Rattle.desk_server.specs.Jobs.{Carries, CarriesOn, IsFresh};
 ghost use Rattle.desk_server.specs.Round.{Completes, Ends, GoesOn, ReadBreaks, ReadStops};
 ghost use Rattle.desk_server.specs.Round.{WriteBreaks, WriteStops};
 
-use crate::serve::serve;
 use crate::heard::{Heard, listen};
 use crate::reply::{Reply, send};
+use crate::serve::serve;
 use desk_core::{Desk, Entries, Post};
 use script_lines::{CountedReader, CountedWriter, KeptLine};
 use std::alloc::Global;
