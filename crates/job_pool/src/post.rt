@@ -1,6 +1,5 @@
 //! The post whose jobs workers take.
 ghost use Rattle.std.specs.Prelude.{◌≡◌};
-ghost use Rattle.revision_jobs.specs.Entries.{IsOf};
 
 use crate::answers::AnswerReceiver;
 use job_queue::JobSender;
@@ -56,9 +55,8 @@ impl<'a, R: Wait> PoolPost<'a, R> {
 }
 
 impl<'a, R: Wait> Post for PoolPost<'a, R> {
-    ghost use Rattle.std.specs.Prelude.{◌≡◌, ◌≤◌, Bool, true, false, None};
+    ghost use Rattle.std.specs.Prelude.{◌≡◌, ◌≤◌, false, None};
     ghost use Rattle.revision_jobs.specs.Entries.{IsOf};
-    ghost use Rattle.revision_jobs.specs.Posted.{IsSent, SendsPromptly};
     ghost use Rattle.job_queue.specs.Ends.{IsOffered};
     ghost use Rattle.job_queue.specs.Slips.{floor_of};
 
@@ -72,7 +70,13 @@ impl<'a, R: Wait> Post for PoolPost<'a, R> {
 
     ghost held = { λ _. None };
 
-    fn send(&mut self, job: Job) -> Sent {
+    fn send(&mut self, job: Job) -> Sent
+        requires own { IsOf self.old.table job.place }
+        requires rises { floor_of self.old.sent ≤ job.number }
+        ensures table { self.new.table ≡ self.old.table }
+        ensures answers { self.new.answers ≡ self.old.answers }
+        ensures offered { IsOffered job self.old.sent self.new.sent result }
+    {
         self.jobs.offer(self.rt, job)
     }
 
