@@ -1,7 +1,5 @@
 //! Jobs over pools.
-ghost use Rattle.std.specs.Prelude.{◌≡◌, ◌≤◌, ◌<◌, All, IsTrue, vec_len};
-ghost use Rattle.worlds.specs.Range.{AllBelow, CanBeLaid};
-ghost use Rattle.step_engine.specs.Evolved.{CanEvolve};
+ghost use Rattle.std.specs.Prelude.{◌≡◌, ◌≤◌, vec_len};
 ghost use Rattle.revision_jobs.specs.Entries.{IsOf};
 
 mod entries;
@@ -12,7 +10,7 @@ use bookmarks::View;
 use entries::{push_step, push_view, table};
 use gates::{Counting, Meeting, Waiting};
 use job_pool::{PoolFault, PoolPost, pool};
-use revision_jobs::{Answer, Entries, Gate, Job, NoGate, Outcome, Place, Post, Received, Sent};
+use revision_jobs::{Answer, Entries, Job, NoGate, Outcome, Place, Post, Received, Sent};
 use std::alloc::Global;
 use std::fmt::Debug;
 use std::process::Abort;
@@ -122,7 +120,7 @@ fn expect_each_answer<R: Abort + Threads + Wait + Sync>(rt: &R, alloc: Global, w
     let place = push_view(rt, alloc, &entries, View::Counts);
     let gates = no_gates(rt, alloc, workers);
     let body = |post: &mut PoolPost<'_, R>| -> u32
-        requires { post.old.table ≡ entries.now }
+        requires { IsOf post.old.table place }
     {
         send_below(rt, post, &place, 40);
         receive_texts(rt, post, 40, "empty\n")
@@ -157,7 +155,7 @@ fn two_workers_run_at_once(rt: HostRuntime) {
     };
     let gates = pair(&rt, alloc, one, other);
     let body = |post: &mut PoolPost<'_, HostRuntime>| -> u32
-        requires { post.old.table ≡ entries.now }
+        requires { IsOf post.old.table counts × IsOf post.old.table rle }
     { work_two(&rt, post, &counts, &rle) };
     let sum = pool(&rt, alloc, &entries, gates, SQUARES, body).expect(&rt, "a pool");
     same(&rt, &sum, &1, &"sum");
@@ -202,7 +200,7 @@ fn ends_with_answers_that_nobody_waits_for(rt: HostRuntime) {
     let ended = AtomicU64::new(0);
     let gates = single(&rt, alloc, Counting { ended: &ended });
     let body = |post: &mut PoolPost<'_, HostRuntime>| -> u64
-        requires { post.old.table ≡ entries.now }
+        requires { IsOf post.old.table place }
     {
         send_below(&rt, post, &place, 49);
         post.floor()
@@ -240,7 +238,7 @@ fn a_flag_stops_a_job_that_is_out(rt: HostRuntime) {
     let flag = AtomicBool::new(false);
     let gates = single(&rt, alloc, Waiting { flag: &flag });
     let body = |post: &mut PoolPost<'_, HostRuntime>| -> Option<u8>
-        requires { post.old.table ≡ entries.now }
+        requires { (post.old.table ≡ entries) × IsOf entries place }
     { stop_one(&rt, &entries, post, &place, &flag) };
     let number = pool(&rt, alloc, &entries, gates, SQUARES, body).expect(&rt, "a pool");
     same(&rt, &number, &Some(72), &"stopped");

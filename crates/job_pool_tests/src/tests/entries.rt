@@ -1,5 +1,5 @@
 //! Entries that the tests' jobs work.
-ghost use Rattle.std.specs.Prelude.{◌≡◌, ◌<◌, All, IsTrue};
+ghost use Rattle.std.specs.Prelude.{IsTrue};
 ghost use Rattle.worlds.specs.Range.{AllBelow};
 ghost use Rattle.step_engine.specs.Evolved.{CanEvolve};
 ghost use Rattle.bookmarks.specs.Within.{IsWithin};
