@@ -1,5 +1,5 @@
 //! Offers and takes of jobs that view the empty pattern.
-ghost use Rattle.std.specs.Prelude.{◌≡◌, ◌<◌, IfSome, IsTrue};
+ghost use Rattle.std.specs.Prelude.{◌≡◌, IsTrue};
 ghost use Rattle.worlds.specs.Range.{AllBelow};
 ghost use Rattle.revision_jobs.specs.Entries.{IsOf};
 
