@@ -9,19 +9,20 @@ use Rattle.revision_jobs.specs.Entries.{entry_of}
 use Rattle.revision_jobs.specs.Value.{Value, IsStep, pattern, text, value}
 
 -- the value in an outcome, or why there is none
-abbrev pub said : Outcome → Result Value EvolveFault
-said (Plane plane) = Ok (pattern (arc_value plane))
-said (Text bytes) = Ok (text (arc_value bytes))
-said (Gave fault) = Err fault
+abbrev pub outcome_of : Outcome → Result Value EvolveFault
+outcome_of (Plane plane) = Ok (pattern (arc_value plane))
+outcome_of (Text bytes) = Ok (text (arc_value bytes))
+outcome_of (Gave fault) = Err fault
 
--- a job, and the value that was found for it or why there is none
-pub record Answered : Type 0 where
+-- a job, and the value that was computed for it or why there is none
+pub record JobResult : Type 0 where
   pub job : Job
   pub outcome : Result Value EvolveFault
 
 -- a value in the answer to a job is that of the job's entry, and only of a step it is said that there was no room
-abbrev pub IsRight : Job → Result Value EvolveFault → Type 0
-IsRight job outcome = IfOk outcome (λ found. found ≡ value (entry_of job.place)) × (outcome ≡ Err EvolveFault.NoRoom → IsStep (entry_of job.place))
+pub record IsRight (job : Job) (outcome : Result Value EvolveFault) : Type 0 where
+  pub value_is : IfOk outcome (λ found. found ≡ value (entry_of job.place))
+  pub room : outcome ≡ Err EvolveFault.NoRoom → IsStep (entry_of job.place)
 
 -- where a job gave up for a stop, the stop said yes once more than before; where it didn't, just as often
 pub record CountsStop {A : Type 0} (outcome : Result A EvolveFault) (before after : ℕ) : Type 0 where
