@@ -6,6 +6,7 @@ use crate::tests::devices::Pieces;
 use crate::tests::posts::{Closes, Repeats, Reverses, Swallows};
 use crate::tests::{SQUARES, answer_over, same};
 use desk_server::{Entries, InlinePost, Post};
+use revision_jobs::Answers;
 use std::alloc::Global;
 use std::process::Abort;
 use std::sync::Wait;
@@ -108,6 +109,7 @@ fn answers_may_come_twice(rt: HostRuntime) {
     let mut post = Repeats {
         inner: InlinePost::new(alloc, &entries, SQUARES),
         again: None,
+        answers: Answers::none(),
     };
     answers_over(&rt, alloc, &entries, &mut post, SCRIPT, SETTLED, 3);
 }
@@ -120,6 +122,7 @@ fn answers_may_come_in_another_order(rt: HostRuntime) {
         first: InlinePost::new(alloc, &entries, SQUARES),
         last: InlinePost::new(alloc, &entries, SQUARES),
         floor: 0,
+        answers: Answers::none(),
     };
     answers_over(&rt, alloc, &entries, &mut post, SCRIPT, SETTLED, 3);
 }

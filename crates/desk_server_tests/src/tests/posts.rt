@@ -4,7 +4,7 @@ ghost use Rattle.std.specs.Option.{ForSome};
 ghost use Rattle.revision_jobs.specs.Entries.{IsOf};
 
 use desk_server::{Entries, InlinePost, Post};
-use revision_jobs::{Answer, Job, Received, Sent};
+use revision_jobs::{Answer, Answers, Job, Received, Sent};
 
 // Takes every job and answers none. It has ended, or there is no answer now.
 #[derive(Drop)]
@@ -15,11 +15,13 @@ pub struct Swallows<'a> {
 }
 
 impl<'a> Post for Swallows<'a> {
-    ghost use Rattle.std.specs.Prelude.{None, false};
+    ghost use Rattle.std.specs.Prelude.{[], None, false};
 
     ghost table = { λ post. post.entries.now };
 
     ghost floor = { λ post. post.floor };
+
+    ghost answers = { λ _. [] };
 
     ghost is_prompt = { λ _. false };
 
@@ -57,6 +59,8 @@ impl<'a> Post for Closes<'a> {
 
     ghost floor = { λ post. post.inner.floor };
 
+    ghost answers = { λ post. post.inner.answers };
+
     ghost is_prompt = { λ _. false };
 
     ghost held = { λ _. None };
@@ -86,6 +90,7 @@ impl<'a> Post for Closes<'a> {
 pub struct Repeats<'a> {
     pub inner: InlinePost<'a>,
     pub again: Option<Answer>,
+    pub answers: Answers,
     ghost own: { ForSome again (λ answer. IsOf inner.table answer.job.place) },
 }
 
@@ -95,6 +100,8 @@ impl<'a> Post for Repeats<'a> {
     ghost table = { λ post. post.inner.table };
 
     ghost floor = { λ post. post.inner.floor };
+
+    ghost answers = { λ post. post.answers };
 
     ghost is_prompt = { λ _. false };
 
@@ -106,12 +113,14 @@ impl<'a> Post for Repeats<'a> {
 
     fn receive(&mut self) -> Received {
         if let Some(answer) = self.again.take() {
+            self.answers.push(&answer);
             return Received::Answer(answer);
         }
         let Received::Answer(answer) = self.inner.receive() else {
             return Received::Nothing;
         };
         self.again = answer.again().ok();
+        self.answers.push(&answer);
         Received::Answer(answer)
     }
 
@@ -126,6 +135,7 @@ pub struct Reverses<'a> {
     pub first: InlinePost<'a>,
     pub last: InlinePost<'a>,
     pub floor: u64,
+    pub answers: Answers,
     ghost same: { last.table ≡ first.table },
     ghost below: { (first.floor ≤ floor) × (last.floor ≤ floor) },
 }
@@ -136,6 +146,8 @@ impl<'a> Post for Reverses<'a> {
     ghost table = { λ post. post.first.table };
 
     ghost floor = { λ post. post.floor };
+
+    ghost answers = { λ post. post.answers };
 
     ghost is_prompt = { λ _. false };
 
@@ -154,10 +166,14 @@ impl<'a> Post for Reverses<'a> {
     }
 
     fn receive(&mut self) -> Received {
-        match self.last.receive() {
+        let received = match self.last.receive() {
             Received::Nothing => self.first.receive(),
             received => received,
+        };
+        if let Received::Answer(answer) = &received {
+            self.answers.push(answer);
         }
+        received
     }
 
     fn floor(&self) -> u64 {
