@@ -1,5 +1,6 @@
-pub mod Answered
+pub mod Answer
 pub mod Entries
 pub mod Inline
+pub mod Past
 pub mod Posted
 pub mod Value

@@ -1,11 +1,12 @@
 -- What a post does with jobs.
-use Rattle.std.specs.Prelude.{◌≡◌, ℕ, ◌+◌, Option, Some, None, IsSome, ⊤}
+use Rattle.std.specs.Prelude.{◌≡◌, ℕ, ◌+◌, List, [], ◌∷◌, ◌++◌, Option, Some, None, IsSome, ⊤}
 use Rattle.revision_jobs.specs.declared.entries.Entries.{Entries}
 use Rattle.revision_jobs.specs.declared.answer.Job.{Job}
 use Rattle.revision_jobs.specs.declared.post.Sent.{Sent}
 use Rattle.revision_jobs.specs.declared.post.Sent.TheVariants.{Taken, Full, Closed}
 use Rattle.revision_jobs.specs.declared.post.Received.{Received}
 use Rattle.revision_jobs.specs.declared.post.Received.TheVariants.{Answer, Nothing, Ended}
+use Rattle.revision_jobs.specs.Answer.{JobResult}
 use Rattle.revision_jobs.specs.Entries.{IsOf}
 
 -- the floor rises to just above a job that was taken; a job that wasn't comes back
@@ -19,6 +20,12 @@ abbrev pub IsReceived : Entries → Received → Type 0
 IsReceived table (Answer answer) = IsOf table answer.job.place
 IsReceived table Nothing = ⊤
 IsReceived table Ended = ⊤
+
+-- the answers that were given before, and behind them the one that is given now
+abbrev pub answers_with : List JobResult → Received → List JobResult
+answers_with before (Answer answer) = before ++ answer ∷ []
+answers_with before Nothing = before
+answers_with before Ended = before
 
 -- a prompt post takes a job exactly where it holds none, and then holds that one
 abbrev pub SendsPromptly : Job → Option Job → Option Job → Sent → Type 0

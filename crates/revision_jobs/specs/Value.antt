@@ -11,24 +11,50 @@ use Rattle.rule_tree.specs.Rule.{next_of, states_of}
 use Rattle.bookmarks.specs.Text.{text_of}
 use Rattle.bookmarks.specs.Within.{IsWithin}
 use Rattle.revision_jobs.specs.declared.entry.Entry.{Entry}
-use Rattle.revision_jobs.specs.declared.entry.Entry.TheVariants.{Step, View}
+use Rattle.revision_jobs.specs.declared.entry.Entry.TheVariants as entry
+use Rattle.revision_jobs.specs.declared.entry.Step.{Step}
+use Rattle.revision_jobs.specs.declared.entry.Rendering.{Rendering}
 
 -- a pattern, or the bytes of a text
 pub data Value : Type 0 where
   pattern : World → Value
   text : List ℕ → Value
 
--- of a step the pattern that comes, one generation after another, of the one on which the cells are laid; of a view its text of that one
-abbrev pub value : Entry → Value
-value (Step rule from cells gens) = pattern (iterate gens (step (next_of (arc_value rule))) (lay cells (arc_value from)))
-value (View view from cells name states generation) = text (text_of view (lay cells (arc_value from)) name states generation)
+-- the pattern of a step on which its cells are laid
+abbrev pub start_of : Step → World
+start_of s = lay s.cells (arc_value s.from)
 
--- the cells can be laid; what they give can evolve so long, or has states of the rule and a view of it keeps the limits of views
+-- the pattern that comes of a step, one generation after another
+abbrev pub world_after : Step → World
+world_after s = iterate s.gens (step (next_of (arc_value s.rule))) (start_of s)
+
+-- the pattern of which a rendering is a view, with its cells laid
+abbrev pub world_in : Rendering → World
+world_in r = lay r.cells (arc_value r.from)
+
+-- the bytes of a rendering
+abbrev pub bytes_of : Rendering → List ℕ
+bytes_of r = text_of r.view (world_in r) r.name r.states r.generation
+
+-- of a step the pattern that comes, of a view its text
+abbrev pub value : Entry → Value
+value (entry.Step s) = pattern (world_after s)
+value (entry.View r) = text (bytes_of r)
+
+-- the cells of a step can be laid, and what they give can evolve so long
+abbrev pub CanBeStepped : Step → Type 0
+CanBeStepped s = All CanBeLaid s.cells × CanEvolve (states_of (arc_value s.rule)) s.gens (start_of s)
+
+-- the cells of a rendering can be laid, what they give has states of the rule, and the view keeps the limits of views
+abbrev pub CanBeRendered : Rendering → Type 0
+CanBeRendered r = All CanBeLaid r.cells × AllBelow r.states (world_in r) × IsWithin r.view
+
+-- the step or the view that the entry is can be computed
 abbrev pub CanBeWorked : Entry → Type 0
-CanBeWorked (Step rule from cells gens) = All CanBeLaid cells × CanEvolve (states_of (arc_value rule)) gens (lay cells (arc_value from))
-CanBeWorked (View view from cells name states generation) = All CanBeLaid cells × AllBelow states (lay cells (arc_value from)) × IsWithin view
+CanBeWorked (entry.Step s) = CanBeStepped s
+CanBeWorked (entry.View r) = CanBeRendered r
 
 -- the entry is a step
 abbrev pub IsStep : Entry → Type 0
-IsStep (Step rule from cells gens) = ⊤
-IsStep (View view from cells name states generation) = ⊥
+IsStep (entry.Step s) = ⊤
+IsStep (entry.View r) = ⊥

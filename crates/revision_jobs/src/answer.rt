@@ -1,6 +1,6 @@
 //! Jobs and their answers.
 ghost use Rattle.std.specs.Prelude.{◌≡◌, IfOk};
-ghost use Rattle.revision_jobs.specs.Answered.{IsRight, said};
+ghost use Rattle.revision_jobs.specs.Answer.{IsRight, outcome_of};
 
 use crate::entries::Place;
 use basics::Listing;
@@ -24,7 +24,7 @@ pub enum Outcome {
     Plane(Arc<Plane>),
     /// The text of a view.
     Text(Arc<Listing<u8>>),
-    /// Why there is none: no room, which is said of a step alone, a stop, or want of memory.
+    /// Why there is none: no room, which is outcome_of of a step alone, a stop, or want of memory.
     Gave(EvolveFault),
 }
 
@@ -41,17 +41,17 @@ pub struct Answer {
 impl Model for Answer {
     ghost use Rattle.std.specs.Coded.{codes};
     ghost use Rattle.worlds.specs.World.{coded_world};
-    ghost use Rattle.revision_jobs.specs.Answered.{Answered};
+    ghost use Rattle.revision_jobs.specs.Answer.{JobResult};
 
-    ghost Value = { Answered };
+    ghost Value = { JobResult };
 
     ghost coded = { Prim.hlevel (codes, coded_world) };
 
-    ghost use Rattle.revision_jobs.specs.Answered.{IsRight, said};
+    ghost use Rattle.revision_jobs.specs.Answer.{IsRight, outcome_of};
 
-    ghost view = { λ answer. record { job = answer.job; outcome = said answer.outcome } };
+    ghost view = { λ answer. record { job = answer.job; outcome = outcome_of answer.outcome } };
 
-    ghost invariant = { λ answer. IsRight answer.job (said answer.outcome) };
+    ghost invariant = { λ answer. IsRight answer.job (outcome_of answer.outcome) };
 }
 
 impl Job {
@@ -69,7 +69,7 @@ impl Job {
 impl Outcome {
     // An equal outcome, which shares what this one has.
     fn again(&self) -> Result<Outcome, AllocError>
-        ensures { IfOk result (λ outcome. said outcome ≡ said self.now) }
+        ensures { IfOk result (λ outcome. outcome_of outcome ≡ outcome_of self.now) }
     {
         match self {
             Outcome::Plane(plane) => Ok(Outcome::Plane(Arc::try_clone(plane)?)),
@@ -97,8 +97,8 @@ impl Answer {
     /// The job and what came of it.
     pub fn into_parts(self) -> (Job, Outcome)
         ensures job { result.0 ≡ self.job }
-        ensures outcome { said result.1 ≡ self.outcome }
-        ensures right { IsRight result.0 (said result.1) }
+        ensures outcome { outcome_of result.1 ≡ self.outcome }
+        ensures right { IsRight result.0 (outcome_of result.1) }
     {
         let Answer { job, outcome } = self;
         (job, outcome)

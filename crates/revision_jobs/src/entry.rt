@@ -11,22 +11,30 @@ use std::sync::Arc;
 /// `-2^61 <= x, y < 2^61`.
 #[derive(Drop)]
 pub enum Entry {
-    /// The pattern so many generations later, at most 2^60. The pattern with its cells has states
-    /// of the rule, and room for the generations in the range of planes.
-    Step {
-        rule: Arc<Rule>,
-        from: Arc<Plane>,
-        cells: Listing<CellSet>,
-        gens: u64,
-    },
-    /// The text of a view, for a rule with this name and so many states, at a generation. The
-    /// pattern with its cells has states below `states`, and a window keeps its limits.
-    View {
-        view: View,
-        from: Arc<Plane>,
-        cells: Listing<CellSet>,
-        name: Listing<u8>,
-        states: u16,
-        generation: u64,
-    },
+    /// A later pattern.
+    Step(Step),
+    /// The text of a view.
+    View(Rendering),
+}
+
+/// The pattern so many generations later, at most 2^60. The pattern with its cells has states of
+/// the rule, and room for the generations in the range of planes.
+#[derive(Drop)]
+pub struct Step {
+    pub rule: Arc<Rule>,
+    pub from: Arc<Plane>,
+    pub cells: Listing<CellSet>,
+    pub gens: u64,
+}
+
+/// The text of a view, for a rule with this name and so many states, at a generation. The pattern
+/// with its cells has states below `states`, and a window keeps its limits.
+#[derive(Drop)]
+pub struct Rendering {
+    pub view: View,
+    pub from: Arc<Plane>,
+    pub cells: Listing<CellSet>,
+    pub name: Listing<u8>,
+    pub states: u16,
+    pub generation: u64,
 }

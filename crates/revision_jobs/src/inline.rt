@@ -1,7 +1,8 @@
 //! A post without threads.
-ghost use Rattle.std.specs.Prelude.{◌≡◌, ◌≤◌, None};
+ghost use Rattle.std.specs.Prelude.{◌≡◌, [], None};
 
 use crate::answer::Job;
+use crate::answers::Answers;
 use crate::entries::Entries;
 use crate::gate::NoGate;
 use crate::post::{Post, Received, Sent};
@@ -12,12 +13,14 @@ use std::marker::Model;
 /// A prompt post, which works the job that it holds in the caller's thread, when its answer is
 /// asked for.
 ///
-/// Contracts see its table, its floor, the job that it holds, and how many squares a step may keep.
+/// Contracts see its table, its floor, the job that it holds, the answers that it gave, and how many
+/// squares a step may keep.
 #[derive(Drop)]
 pub struct InlinePost<'a> {
     entries: &'a Entries,
     floor: u64,
     held: Option<Job>,
+    answers: Answers,
     squares: u32,
     alloc: Global,
 }
@@ -31,26 +34,28 @@ impl<'a> Model for InlinePost<'a> {
 
     ghost coded = { Prim.hlevel (codes, coded_world) };
 
-    ghost use Rattle.revision_jobs.specs.Inline.{IsKept};
+    ghost use Rattle.revision_jobs.specs.Inline.{IsHeldOf};
 
     ghost view = { λ p. record {
       table = p.entries.now;
       floor = p.floor;
       held = p.held;
+      answers = p.answers;
       squares = p.squares;
     } };
 
-    ghost invariant = { λ p. IsKept p.entries.now p.held p.squares };
+    ghost invariant = { λ p. IsHeldOf p.entries.now p.held };
 }
 
 impl<'a> InlinePost<'a> {
-    /// A post that holds no job. A step may keep at most `squares` squares, 16,777,216 or less.
+    /// A post that holds no job and gave no answer. A step may keep at most `squares` squares, and
+    /// never more than 16,777,216.
     pub fn new(alloc: Global, entries: &'a Entries, squares: u32) -> InlinePost<'a>
-        requires { squares ≤ 16777216 }
         ensures { result ≡ record {
           table = entries.now;
           floor = 0;
           held = None;
+          answers = [];
           squares = squares;
         } }
     {
@@ -58,6 +63,7 @@ impl<'a> InlinePost<'a> {
             entries,
             floor: 0,
             held: None,
+            answers: Answers::none(),
             squares,
             alloc,
         }
@@ -70,6 +76,8 @@ impl<'a> Post for InlinePost<'a> {
     ghost table = { λ post. post.table };
 
     ghost floor = { λ post. post.floor };
+
+    ghost answers = { λ post. post.answers };
 
     ghost is_prompt = { λ _. true };
 
@@ -97,6 +105,7 @@ impl<'a> Post for InlinePost<'a> {
             &mut stop,
             self.squares,
         );
+        self.answers.push(&answer);
         Received::Answer(answer)
     }
 

@@ -12,18 +12,21 @@
 #![tactic(auto)]
 
 mod answer;
+mod answers;
 mod entries;
 mod entry;
 mod gate;
 mod inline;
 mod laid;
+mod past;
 mod post;
 mod stop;
 mod worker;
 
 pub use answer::{Answer, Job, Outcome};
+pub use answers::Answers;
 pub use entries::{Entries, Place};
-pub use entry::Entry;
+pub use entry::{Entry, Rendering, Step};
 pub use gate::{Gate, NoGate};
 pub use inline::InlinePost;
 pub use post::{Post, Received, Sent};

@@ -1,7 +1,13 @@
 //! Where jobs are sent and answers come from.
-ghost use Rattle.std.specs.Prelude.{◌≡◌, ◌≤◌, ℕ, Bool, true, Option};
+ghost use Rattle.std.specs.Prelude.{◌≡◌, ◌≤◌, ℕ, Bool, true, List, Option};
 ghost use Rattle.revision_jobs.specs.Entries.{IsOf};
-ghost use Rattle.revision_jobs.specs.Posted.{IsSent, IsReceived, SendsPromptly, ReceivesPromptly};
+ghost use Rattle.revision_jobs.specs.Posted.{
+  IsReceived,
+  IsSent,
+  ReceivesPromptly,
+  SendsPromptly,
+  answers_with,
+};
 
 use crate::answer::{Answer, Job};
 
@@ -30,15 +36,19 @@ pub enum Received {
 /// A post takes jobs of one table of entries, whose numbers rise, and gives their answers.
 ///
 /// `table` is the table. `floor` is one more than the greatest number that the post took, 0 before
-/// any. A post that `is_prompt` holds at most one job, `held`, takes a job where it holds none, and
-/// answers the one that it holds at the next receive.
+/// any. `answers` is every answer that it gave so far, the latest last. A post that `is_prompt`
+/// holds at most one job, `held`, takes a job where it holds none, and answers the one that it holds
+/// at the next receive.
 pub trait Post {
+    ghost use Rattle.revision_jobs.specs.Answer.{JobResult};
     ghost use Rattle.revision_jobs.specs.declared.entries.Entries.{Entries};
     ghost use Rattle.revision_jobs.specs.declared.answer.Job.{Job};
 
     ghost table: { Self → Entries };
 
     ghost floor: { Self → ℕ };
+
+    ghost answers: { Self → List JobResult };
 
     ghost is_prompt: { Self → Bool };
 
@@ -49,7 +59,8 @@ pub trait Post {
         requires own { IsOf (table self.old) job.place }
         requires rises { floor self.old ≤ job.number }
         ensures table { table self.new ≡ table self.old }
-        ensures kind { is_prompt self.new ≡ is_prompt self.old }
+        ensures same { (is_prompt self.new ≡ is_prompt self.old)
+            × (answers self.new ≡ answers self.old) }
         ensures sent { IsSent job (floor self.old) (floor self.new) result }
         ensures prompt { is_prompt self.old ≡ true →
             SendsPromptly job (held self.old) (held self.new) result };
@@ -60,6 +71,7 @@ pub trait Post {
         ensures kind { is_prompt self.new ≡ is_prompt self.old }
         ensures floor { floor self.new ≡ floor self.old }
         ensures own { IsReceived (table self.old) result }
+        ensures answers { answers self.new ≡ answers_with (answers self.old) result }
         ensures prompt { is_prompt self.old ≡ true →
             ReceivesPromptly (held self.old) (held self.new) result };
 

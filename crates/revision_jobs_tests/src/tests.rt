@@ -12,7 +12,7 @@ mod posts;
 use basics::Listing;
 use bookmarks::View;
 use plane_core::{CellSet, Next, Plane};
-use revision_jobs::{Entries, Entry, Place};
+use revision_jobs::{Entries, Entry, Place, Rendering, Step};
 use rule_tree::Rule;
 use std::alloc::Global;
 use std::fmt::Debug;
@@ -133,13 +133,13 @@ fn push_step<R: Abort + Wait>(
     let laid = from.lay(cells.as_slice()).expect(rt, "memory");
     assert!(rt; can_evolve(&laid, rule.states(), gens), "there is no room");
     let rule = Arc::new(alloc, rule).expect(rt, "memory");
-    let entry = Entry::Step {
+    let step = Step {
         rule,
         from,
         cells,
         gens,
     };
-    entries.push(rt, entry).expect(rt, "memory")
+    entries.push(rt, Entry::Step(step)).expect(rt, "memory")
 }
 
 /// Stores a view under the rule X.
@@ -162,7 +162,7 @@ fn push_view<R: Abort + Wait>(
     assert!(rt; is_below(&laid, 2), "a state is too high");
     assert!(rt; is_within(&view), "a view is beyond its limits");
     let name = b"X".to_vec(alloc).expect(rt, "memory");
-    let entry = Entry::View {
+    let rendering = Rendering {
         view,
         from,
         cells,
@@ -170,7 +170,9 @@ fn push_view<R: Abort + Wait>(
         states: 2,
         generation,
     };
-    entries.push(rt, entry).expect(rt, "memory")
+    entries
+        .push(rt, Entry::View(rendering))
+        .expect(rt, "memory")
 }
 
 /// Stores the step over so many generations from the one live cell (0, 0).

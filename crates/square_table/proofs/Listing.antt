@@ -6,8 +6,8 @@ use Rattle.std.proofs.lemmas.Bool.{cases_lt}
 use Rattle.std.proofs.lemmas.List.{length_push, get_or_push}
 use Rattle.worlds.specs.Square.{Square, one, four, IsSquare}
 use Rattle.plane_core.specs.declared.row.SquareRow.{SquareRow}
-use Rattle.plane_core.specs.Rows.{no_row, AreRows, IsNumber, square_in, number_row, number_square, numbered, same_row, root_level, root_of, AreCanonical}
-use Rattle.plane_core.proofs.Numbering.{Grows, Grows-more, not_found}
+use Rattle.plane_core.specs.Rows.{no_row, AreRows, IsNumber, square_in, number_row, number_square, numbered, same_row, root_level, root_of, AreCanonical, completed, empty_row, written}
+use Rattle.plane_core.proofs.Numbering.{Grows, Grows-more, number_row-is, number_square-grows, not_found}
 use Rattle.plane_core.proofs.Sound.{row_kept, IsNumber-from, square_in-grown, EachHas, IsSound, number_square-sound, AreRows-none, EachHas-none, row_of}
 use Rattle.plane_core.proofs.Roots.{rooted, root-IsSquare}
 use Rattle.square_table.specs.Made.{HoldsWithin}
@@ -72,7 +72,18 @@ listed_walk all (suc k) (four nw ne sw se) rows valid each is high within old =
     let whole = number_square-sound (suc k) (four nw ne sw se) rows valid each is high in
     listed_row all (row_of (suc k) a.number b.number c.number d.number) d.rows (four nw ne sw se) k sd.valid refl ld within.0 whole.square
 
+-- the row of the empty square, where it is the root
+only_empty : (all : List Square) → HoldsWithin (Contains all) (root_of (empty_row ∷ [])) → HasRows all (empty_row ∷ [])
+unfolding root_level square_in HoldsWithin
+only_empty all within zero h = within.0
+only_empty all within (suc i) h = absurd (omega (arith, h))
+
+listed_written : (all : List Square) (rows walked : List SquareRow) → HoldsWithin (Contains all) (root_of rows) → HasRows all walked → written walked ≡ rows → HasRows all rows
+listed_written all rows [] within old is = subst (HasRows all) is (only_empty all (subst (λ (rs : List SquareRow). HoldsWithin (Contains all) (root_of rs)) (sym is) within))
+listed_written all rows (row ∷ more) within old is = subst (HasRows all) is old
+
 pub listed_root : (all : List Square) (rows : List SquareRow) → AreCanonical rows → HoldsWithin (Contains all) (root_of rows) → HasRows all rows
 listed_root all rows are within =
     let root = rooted rows are.valid in
-    subst (HasRows all) are.walked (listed_walk all (root_level rows) (root_of rows) [] AreRows-none EachHas-none (root-IsSquare rows are.valid) root.high within (λ i h. absurd (omega (arith, h))))
+    let walked = listed_walk all (root_level rows) (root_of rows) [] AreRows-none EachHas-none (root-IsSquare rows are.valid) root.high within (λ i h. absurd (omega (arith, h))) in
+    listed_written all rows (completed (root_level rows) (root_of rows)) within walked are.walked

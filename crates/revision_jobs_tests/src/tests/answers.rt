@@ -1,10 +1,10 @@
-ghost use Rattle.std.specs.Prelude.{◌≡◌, ◌≤◌};
+ghost use Rattle.std.specs.Prelude.{◌≡◌};
 ghost use Rattle.revision_jobs.specs.Entries.{IsOf};
 
 use super::{Spot, cells_of, plane_of, push_from_one, push_step, push_view, same, shared, table};
 use basics::{Listing, Refusal};
 use bookmarks::View;
-use plane_core::{NoStop, Plane};
+use plane_core::{NoStop, Plane, Stop};
 use revision_jobs::{Answer, Entries, Gate, Job, NoGate, Outcome, Place, work};
 use std::alloc::Global;
 use std::process::Abort;
@@ -164,9 +164,7 @@ fn gives_up_at_a_raised_flag(rt: HostRuntime) {
 }
 
 /// Stops the test where a step far on isn't given up for want of room with so many squares.
-fn expect_no_room<R: Abort + Wait>(rt: &R, alloc: Global, squares: u32)
-    requires { squares ≤ 16777216 }
-{
+fn expect_no_room<R: Abort + Wait>(rt: &R, alloc: Global, squares: u32) {
     let entries = table(rt, alloc);
     let place = push_from_one(rt, alloc, &entries, 1 << 60);
     let job = Job { number: 4, place };
@@ -182,6 +180,39 @@ fn keeps_to_its_limit(rt: HostRuntime) {
     expect_no_room(&rt, alloc, 64);
     let ends = [(-(1 << 60), 1), (1 << 60, 1)];
     expect_steps(&rt, alloc, 1 << 60, &ends);
+}
+
+/// Raises the flag of an entry when a job has ended.
+#[derive(Drop)]
+struct Raising<'e> {
+    entries: &'e Entries,
+    place: Place,
+    ghost own: { IsOf entries.now place },
+}
+
+impl<'e> Gate for Raising<'e> {
+    fn begin(&mut self, _number: u32) {}
+
+    fn end(&mut self, _number: u32) {
+        self.entries.raise(&self.place);
+    }
+}
+
+#[test]
+fn passes_the_end_after_its_work(rt: HostRuntime) {
+    let alloc = rt.alloc();
+    let entries = table(&rt, alloc);
+    let place = push_from_one(&rt, alloc, &entries, 1);
+    let mut gate = Raising {
+        entries: &entries,
+        place: place.share(),
+    };
+    let job = Job { number: 0, place };
+    let mut stop = entries.stop(&job.place);
+    let answer = work(alloc, job, &entries, &mut gate, &mut stop, SQUARES);
+    let plane = plane_in(&rt, answer);
+    assert!(rt; plane.equals(&plane_of(&rt, alloc, &[(-1, 1), (1, 1)])));
+    assert!(rt; stop.poll(), "the flag is raised");
 }
 
 /// Notes the numbers with which it was passed, as digits.

@@ -10,8 +10,8 @@ fn gens_at(rt: &impl Abort, entries: &Entries, place: &Place) -> u64
     requires { IsOf entries.now place.now }
 {
     match entries.at(place) {
-        Entry::Step { gens, .. } => *gens,
-        Entry::View { .. } => panic!(rt; "a view"),
+        Entry::Step(step) => step.gens,
+        Entry::View(_) => panic!(rt; "a view"),
     }
 }
 

@@ -1,0 +1,5 @@
+use Rattle.std.proofs.Common.{refl}
+use Rattle.job_pool.proofs.crew.attend.Goals as goal
+
+pub returns : goal.returns
+returns g c = (_, record { shown = _; shows = c.new-post.ensures; left = _; met = c.body.ensures; leaves = refl })

@@ -1,0 +1,24 @@
+use Rattle.std.proofs.Common.{◌∙◌, refl, List, ap, false, true, true≢false, sym}
+use Rattle.revision_jobs.specs.declared.answer.Job.{Job}
+use Rattle.revision_jobs.specs.declared.post.Sent.{Sent}
+use Rattle.revision_jobs.specs.declared.post.Sent.TheVariants.{Taken, Full, Closed}
+use Rattle.revision_jobs.specs.Posted.{IsSent}
+use Rattle.job_queue.specs.declared.rule.Slip.{Slip}
+use Rattle.job_queue.specs.Ends.{IsOffered}
+use Rattle.job_queue.specs.Slips.{floor_of, slip_of}
+use Rattle.job_queue.proofs.Once.{floor_push}
+use Rattle.job_pool.proofs.post.PoolPostPost.TheImpl.Goals as goal
+
+-- what an offer does to the sender's list, it does to the floor
+sent_of : (job : Job) (before after : List Slip) (r : Sent) → IsOffered job before after r → IsSent job (floor_of before) (floor_of after) r
+sent_of job before after Taken e = ap floor_of e ∙ floor_push 0 before (slip_of job)
+sent_of job before after (Full back) e = (e.0, ap floor_of e.1)
+sent_of job before after (Closed back) e = (e.0, ap floor_of e.1)
+
+pub send-tells : goal.send-tells
+send-tells g c = record {
+  table = c.ensures.table;
+  same = (refl, c.ensures.answers);
+  sent = sent_of c.args.job c.args.self.now.sent c.new.self.now.sent c.result c.ensures.offered;
+  prompt = λ e. absurd (true≢false (sym e));
+}

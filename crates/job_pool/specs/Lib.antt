@@ -1,0 +1,3 @@
+pub mod Faults
+pub mod Home
+pub mod Pool

@@ -1,0 +1,56 @@
+//! Why there is no pool.
+
+use basics::Refusal;
+use std::alloc::AllocError;
+use thiserror::Error;
+
+/// Why a pool was not made.
+#[derive(Clone, Copy, Debug, PartialEq, Eq, Error)]
+pub enum PoolFault {
+    /// A thread was refused.
+    #[error("a worker's thread was refused")]
+    NoWorker,
+    /// A growth was refused.
+    #[error("there is no memory")]
+    NoMemory,
+}
+
+impl Refusal for PoolFault {
+    ghost use Rattle.std.specs.Prelude.{None};
+    ghost use Rattle.job_pool.specs.Faults.{name_of, number_of};
+
+    ghost number_of = { number_of };
+
+    ghost name_of = { name_of };
+
+    ghost place_of = { λ _. None };
+
+    fn number(&self) -> u8 {
+        match self {
+            PoolFault::NoMemory => 70,
+            PoolFault::NoWorker => 74,
+        }
+    }
+
+    fn name(&self) -> &'static str {
+        match self {
+            PoolFault::NoMemory => "NoMemory",
+            PoolFault::NoWorker => "NoWorker",
+        }
+    }
+
+    fn place(&self) -> Option<u64> {
+        None
+    }
+}
+
+impl From<AllocError> for PoolFault {
+    ghost use Rattle.std.specs.Prelude.{◌≡◌};
+    ghost use Rattle.job_pool.specs.declared.fault.PoolFault.TheVariants.{NoMemory};
+
+    ghost from_gives = { λ _ fault. fault ≡ NoMemory };
+
+    fn from(_error: AllocError) -> PoolFault {
+        PoolFault::NoMemory
+    }
+}

@@ -1,0 +1,8 @@
+use Rattle.std.proofs.Common.{◌≡◌, ◌≤◌}
+use Rattle.job_pool_tests.proofs.tests.send_below.Given as goal
+
+abbrev pub invariant-loop : goal.invariant-loop
+invariant-loop g l = record {
+  same : g.P.Post.table l.post ≡ g.P.Post.table l.fn.post;
+  few : l.number ≤ l.counter;
+}

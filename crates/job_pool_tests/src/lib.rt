@@ -1,0 +1,5 @@
+//! Jobs over pools of workers.
+#![tactic(auto)]
+
+#[cfg(test)]
+mod tests;

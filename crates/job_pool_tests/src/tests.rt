@@ -1,0 +1,254 @@
+//! Jobs over pools.
+ghost use Rattle.std.specs.Prelude.{◌≡◌, ◌≤◌, vec_len};
+ghost use Rattle.revision_jobs.specs.Entries.{IsOf};
+
+mod entries;
+mod gates;
+
+use basics::Refusal;
+use bookmarks::View;
+use entries::{push_step, push_view, table};
+use gates::{Counting, Meeting, Waiting};
+use job_pool::{PoolFault, PoolPost, pool};
+use revision_jobs::{Answer, Entries, Job, NoGate, Outcome, Place, Post, Received, Sent};
+use std::alloc::Global;
+use std::fmt::Debug;
+use std::process::Abort;
+use std::sync::Wait;
+use std::sync::atomic::{AtomicBool, AtomicU64, Ordering};
+use std::thread;
+use std::thread::Threads;
+
+/// More squares than any of these jobs needs.
+const SQUARES: u32 = 4096;
+
+/// How often a test tries what depends on another thread, each time letting others run.
+const TURNS: u32 = 1_000_000;
+
+/// Stops the test where what was found isn't what was wanted.
+fn same<T: PartialEq + Debug, A: Debug>(rt: &impl Abort, found: &T, wanted: &T, at: &A) {
+    assert!(rt; *found == *wanted, "{at:?}: {found:?}, not {wanted:?}");
+}
+
+/// Sends a job, and says whether it was taken.
+fn is_taken<P: Post>(rt: &impl Abort, post: &mut P, number: u32, place: &Place) -> bool
+    requires { IsOf (P.table post.old) place.now }
+    ensures { P.table post.new ≡ P.table post.old }
+{
+    assert!(rt;
+        post.floor() <= u64::from(number),
+        "a number below the floor"
+    );
+    let job = Job {
+        number,
+        place: place.share(),
+    };
+    match post.send(job) {
+        Sent::Taken => true,
+        Sent::Full(back) => {
+            same(rt, &back.number, &number, &"full");
+            false
+        }
+        Sent::Closed(_) => panic!(rt; "closed"),
+    }
+}
+
+/// Sends the jobs of the numbers below this one, each as soon as it is taken.
+fn send_below<P: Post>(rt: &impl Abort, post: &mut P, place: &Place, end: u32)
+    requires { IsOf (P.table post.old) place.now }
+    ensures { P.table post.new ≡ P.table post.old }
+{
+    let mut number = 0;
+    for _ in 0..TURNS {
+        if number == end {
+            return;
+        }
+        if is_taken(rt, post, number, place) {
+            number += 1;
+        } else {
+            thread::yield_now();
+        }
+    }
+    panic!(rt; "job {number} is not taken");
+}
+
+fn received<P: Post>(rt: &impl Abort, post: &mut P) -> Answer {
+    match post.receive() {
+        Received::Answer(answer) => answer,
+        Received::Nothing => panic!(rt; "nothing"),
+        Received::Ended => panic!(rt; "ended"),
+    }
+}
+
+/// Stops the test where the answer isn't this text.
+fn expect_text(rt: &impl Abort, answer: Answer, wanted: &str) {
+    let (job, outcome) = answer.into_parts();
+    match outcome {
+        Outcome::Text(text) => same(rt, &text.as_slice(), &wanted.as_bytes(), &job.number),
+        Outcome::Plane(_) => panic!(rt; "a plane"),
+        Outcome::Gave(fault) => panic!(rt; "{fault:?}"),
+    }
+}
+
+/// Receives so many answers of this text, and adds their numbers up.
+fn receive_texts<P: Post>(rt: &impl Abort, post: &mut P, count: u32, wanted: &str) -> u32 {
+    let mut sum = 0u32;
+    for _ in 0..count {
+        let answer = received(rt, post);
+        sum = sum.wrapping_add(answer.number());
+        expect_text(rt, answer, wanted);
+    }
+    sum
+}
+
+/// So many gates that do nothing.
+fn no_gates(rt: &impl Abort, alloc: Global, count: u8) -> Vec<NoGate>
+    ensures { vec_len result ≡ count }
+{
+    let mut gates = Vec::new(alloc);
+    for _ in 0..count {
+        gates.push(NoGate).expect(rt, "memory");
+    }
+    gates
+}
+
+/// Stops the test where so many workers don't answer each of 40 jobs once.
+fn expect_each_answer<R: Abort + Threads + Wait + Sync>(rt: &R, alloc: Global, workers: u8)
+    requires { (1 ≤ workers) × (workers ≤ 8) }
+{
+    let entries = table(rt, alloc);
+    let place = push_view(rt, alloc, &entries, View::Counts);
+    let gates = no_gates(rt, alloc, workers);
+    let body = |post: &mut PoolPost<'_, R>| -> u32
+        requires { IsOf post.old.table place }
+    {
+        send_below(rt, post, &place, 40);
+        receive_texts(rt, post, 40, "empty\n")
+    };
+    let sum = pool(rt, alloc, &entries, gates, SQUARES, body).expect(rt, "a pool");
+    same(rt, &sum, &780, &workers);
+}
+
+#[test]
+fn answers_each_job(rt: HostRuntime) {
+    expect_each_answer(&rt, rt.alloc(), 1);
+    expect_each_answer(&rt, rt.alloc(), 2);
+    expect_each_answer(&rt, rt.alloc(), 8);
+}
+
+// Two jobs that are out at once are worked at once: the first waits for the second to begin.
+#[test]
+fn two_workers_run_at_once(rt: HostRuntime) {
+    let alloc = rt.alloc();
+    let entries = table(&rt, alloc);
+    let counts = push_view(&rt, alloc, &entries, View::Counts);
+    let rle = push_view(&rt, alloc, &entries, View::Rle);
+    let begun = AtomicBool::new(false);
+    let met = AtomicBool::new(false);
+    let one = Meeting {
+        begun: &begun,
+        met: &met,
+    };
+    let other = Meeting {
+        begun: &begun,
+        met: &met,
+    };
+    let gates = pair(&rt, alloc, one, other);
+    let body = |post: &mut PoolPost<'_, HostRuntime>| -> u32
+        requires { IsOf post.old.table counts × IsOf post.old.table rle }
+    { work_two(&rt, post, &counts, &rle) };
+    let sum = pool(&rt, alloc, &entries, gates, SQUARES, body).expect(&rt, "a pool");
+    same(&rt, &sum, &1, &"sum");
+    assert!(rt; met.load(Ordering::SeqCst), "job 0 waited in vain");
+}
+
+fn pair<G: Drop>(rt: &impl Abort, alloc: Global, one: G, other: G) -> Vec<G>
+    ensures { vec_len result ≡ 2 }
+{
+    let mut both = Vec::new(alloc);
+    both.push(one).expect(rt, "memory");
+    both.push(other).expect(rt, "memory");
+    both
+}
+
+/// Sends a job of each place and receives both answers, and adds their numbers up.
+fn work_two<P: Post>(rt: &impl Abort, post: &mut P, one: &Place, other: &Place) -> u32
+    requires { IsOf (P.table post.old) one.now × IsOf (P.table post.old) other.now }
+{
+    assert!(rt; is_taken(rt, post, 0, one), "one");
+    assert!(rt; is_taken(rt, post, 1, other), "the other");
+    let first = received(rt, post).number();
+    first.wrapping_add(received(rt, post).number())
+}
+
+/// A gate, alone.
+fn single<G: Drop>(rt: &impl Abort, alloc: Global, gate: G) -> Vec<G>
+    ensures { vec_len result ≡ 1 }
+{
+    let mut gates = Vec::new(alloc);
+    gates.push(gate).expect(rt, "memory");
+    gates
+}
+
+// 32 answers wait, one is in the worker's hands and 16 jobs are in the queue. When the body has
+// returned, what is left is worked and dropped.
+#[test]
+fn ends_with_answers_that_nobody_waits_for(rt: HostRuntime) {
+    let alloc = rt.alloc();
+    let entries = table(&rt, alloc);
+    let place = push_view(&rt, alloc, &entries, View::Counts);
+    let ended = AtomicU64::new(0);
+    let gates = single(&rt, alloc, Counting { ended: &ended });
+    let body = |post: &mut PoolPost<'_, HostRuntime>| -> u64
+        requires { IsOf post.old.table place }
+    {
+        send_below(&rt, post, &place, 49);
+        post.floor()
+    };
+    let floor = pool(&rt, alloc, &entries, gates, SQUARES, body).expect(&rt, "a pool");
+    same(&rt, &floor, &49, &"floor");
+    same(&rt, &ended.load(Ordering::SeqCst), &49, &"worked");
+}
+
+/// Sends a job, raises its entry's flag and then lets the worker go on. Answers why the job gave up.
+fn stop_one<P: Post>(
+    rt: &impl Abort,
+    entries: &Entries,
+    post: &mut P,
+    place: &Place,
+    go_on: &AtomicBool,
+) -> Option<u8>
+    requires { (P.table post.old ≡ entries.now) × IsOf entries.now place.now }
+{
+    assert!(rt; is_taken(rt, post, 0, place), "taken");
+    entries.raise(place);
+    go_on.store(true, Ordering::SeqCst);
+    match received(rt, post).into_parts().1 {
+        Outcome::Gave(fault) => Some(fault.number()),
+        Outcome::Plane(_) => None,
+        Outcome::Text(_) => None,
+    }
+}
+
+#[test]
+fn a_flag_stops_a_job_that_is_out(rt: HostRuntime) {
+    let alloc = rt.alloc();
+    let entries = table(&rt, alloc);
+    let place = push_step(&rt, alloc, &entries, 5);
+    let flag = AtomicBool::new(false);
+    let gates = single(&rt, alloc, Waiting { flag: &flag });
+    let body = |post: &mut PoolPost<'_, HostRuntime>| -> Option<u8>
+        requires { (post.old.table ≡ entries) × IsOf entries place }
+    { stop_one(&rt, &entries, post, &place, &flag) };
+    let number = pool(&rt, alloc, &entries, gates, SQUARES, body).expect(&rt, "a pool");
+    same(&rt, &number, &Some(72), &"stopped");
+}
+
+#[test]
+fn faults_have_their_numbers(rt: HostRuntime) {
+    same(&rt, &PoolFault::NoMemory.number(), &70, &"memory");
+    same(&rt, &PoolFault::NoMemory.name(), &"NoMemory", &"memory");
+    same(&rt, &PoolFault::NoWorker.number(), &74, &"worker");
+    same(&rt, &PoolFault::NoWorker.name(), &"NoWorker", &"worker");
+    same(&rt, &PoolFault::NoWorker.place(), &None, &"place");
+}

@@ -1,0 +1,4 @@
+pub mod Balance
+pub mod Ends
+pub mod Slips
+pub mod Tables

@@ -1,0 +1,107 @@
+//! The rule of the queue, and what its steps tell.
+
+use crossbeam_channel::protocol::{Lesson, Outcome, Protocol, Split};
+use revision_jobs::{Entries, Job};
+use std::collections::LinkedList;
+use std::marker::{Brand, PhantomData};
+
+/// What names a job: its number, and the index of its place.
+#[derive(Clone, Copy, Debug, PartialEq, Eq)]
+pub struct Slip {
+    pub number: u32,
+    pub index: usize,
+}
+
+/// What an end knows: whether it sends, the slips that it sent and took, and the table of its jobs.
+/// It stands in proofs alone; no value of it is made.
+pub struct EndView {
+    pub sends: bool,
+    pub sent: LinkedList<Slip>,
+    pub taken: LinkedList<Slip>,
+    pub table: Option<Entries>,
+}
+
+/// The rule: what was sent is what the takers took and what the queue holds.
+pub struct Balanced;
+
+impl Protocol<Job, EndView> for Balanced {
+    ghost use Rattle.std.specs.Prelude.{true, [], None};
+    ghost use Rattle.job_queue.specs.Balance.{IsBalanced, end_view};
+
+    ghost holds = { IsBalanced };
+
+    ghost first = { end_view true [] [] None };
+}
+
+/// Picks the table that the ends of a queue are of, when it is made.
+pub trait Naming {
+    ghost use Rattle.revision_jobs.specs.declared.entries.Entries.{Entries};
+
+    ghost table: { Entries };
+}
+
+impl Naming for Brand {
+    ghost use Rattle.job_queue.specs.Tables.{no_table};
+
+    ghost table = { no_table };
+}
+
+/// The first split, at which the table gets its name.
+pub struct NamesTable<K> {
+    of: PhantomData<K>,
+}
+
+impl<K: Naming> Split<EndView> for NamesTable<K> {
+    ghost use Rattle.std.specs.Prelude.{true, false, [], Some};
+    ghost use Rattle.job_queue.specs.Balance.{end_view};
+
+    ghost left = { λ v. end_view true v.sent [] (Some K.table) };
+
+    ghost right = { λ v. end_view false [] [] (Some K.table) };
+}
+
+/// The split that makes another taker.
+pub struct MakesTaker;
+
+impl Split<EndView> for MakesTaker {
+    ghost use Rattle.std.specs.Prelude.{false, []};
+    ghost use Rattle.job_queue.specs.Balance.{end_view};
+
+    ghost left = { λ v. v };
+
+    ghost right = { λ v. end_view false [] [] v.table };
+}
+
+/// A send puts the job's slip behind what was sent.
+pub struct Sends;
+
+impl Outcome<Job, EndView> for Sends {
+    ghost use Rattle.std.specs.Prelude.{◌≡◌, ◌++◌, ◌∷◌, []};
+    ghost use Rattle.job_queue.specs.Balance.{end_view};
+    ghost use Rattle.job_queue.specs.Slips.{slip_of};
+
+    ghost then = { λ v job w. w ≡ end_view v.sends (v.sent ++ slip_of job ∷ []) v.taken v.table };
+}
+
+// What the queue holds is among what was sent.
+impl Lesson<Job, EndView> for Sends {
+    ghost use Rattle.std.specs.Prelude.{map};
+    ghost use Rattle.job_queue.specs.Slips.{AreAmong, slip_of};
+
+    ghost fact = { λ v jobs. AreAmong (map slip_of jobs) v.sent };
+}
+
+/// A take puts the job's slip behind what this end took.
+pub struct Takes;
+
+impl Outcome<Job, EndView> for Takes {
+    ghost use Rattle.job_queue.specs.Balance.{IsTaking};
+
+    ghost then = { IsTaking };
+}
+
+impl Lesson<Job, EndView> for Takes {
+    ghost use Rattle.std.specs.Prelude.{⊤};
+
+    ghost fact = { λ _ _. ⊤ };
+}

@@ -1,0 +1,5 @@
+//! Worked offers and takes.
+#![tactic(auto)]
+
+#[cfg(test)]
+mod tests;
