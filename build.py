@@ -1,10 +1,16 @@
 #!/usr/bin/env python3
-"""Proves and builds the program and the crates below it where sources have changed, lowest first, each
-with all processors, and tells on standard error how far it is.
+"""Proves and builds the program and the crates below it where sources have changed, and tells on
+standard error how far it is.
 
-Crates are built one after another, since a build locks all crates below its own.
+A build locks the crates below its own. So each crate is proved in a working copy of the sources, and
+as many copies as the machine bears are at work: the toolchain gives each what another copy proved of
+the same text. The crate with the longest chain of others above it comes first. At the end the program
+is built here, over what the copies proved.
 """
+import concurrent.futures
+import contextlib
 import os
+import shutil
 import subprocess
 import sys
 import tempfile
@@ -13,10 +19,13 @@ import time
 ROOT = os.path.dirname(os.path.realpath(__file__))
 PROGRAM = "desk"
 BUILT = f"{ROOT}/crates/{PROGRAM}/out/{PROGRAM}"
-# Lines that are proved in a second on four processors, as measured: the first guess of the time, and
-# for how many seconds it counts.
-LINES_A_SECOND = 45
-GUESS_SECONDS = 120
+# Lines that one processor proves in a second: the first guess of the time, and for how many lines it
+# counts beside what is measured.
+LINES_A_SECOND = 10
+GUESSED_LINES = 4000
+# Most crates that are proved at one time, and the memory that each of them wants.
+MOST_COPIES = 4
+BYTES_A_COPY = 4 << 30
 
 
 def libraries():
@@ -39,19 +48,28 @@ def libraries():
 def sources(name):
     """The folders and files that a crate's proof reads."""
     for folder, folders, files in os.walk(f"{ROOT}/crates/{name}"):
-        folders[:] = [it for it in folders if it != "out"]
+        folders[:] = [it for it in folders if it not in ("out", "must-fail")]
         yield folder
         yield from (f"{folder}/{it}" for it in files if it.endswith((".rt", ".antt")))
 
 
-def is_current(crates):
-    """Whether the program is newer than all that it is made of."""
-    if not os.path.isfile(BUILT):
+def is_newer(built, name):
+    """Whether what was built is newer than the crate's sources."""
+    if not os.path.isfile(built):
         return False
-    parts = [f"{ROOT}/crates.txt", *(part for name in crates for part in sources(name))]
-    built = os.path.getmtime(BUILT)
-    # The folder of the program's own crate changes with its `out`.
-    return all(os.path.getmtime(it) < built for it in parts if it != f"{ROOT}/crates/{PROGRAM}")
+    # The crate's own folder changes with its `out`.
+    parts = [it for it in sources(name) if it != f"{ROOT}/crates/{name}"]
+    return all(os.path.getmtime(it) < os.path.getmtime(built) for it in [*parts, f"{ROOT}/crates.txt"])
+
+
+def stale(crates):
+    """The crates whose library isn't built of the present sources, lowest first."""
+    found = []
+    for name, below in crates.items():
+        is_built = name != PROGRAM and is_newer(f"{ROOT}/crates/{name}/out/rlib/stamp", name)
+        if not is_built or any(it in found for it in below):
+            found.append(name)
+    return found
 
 
 def line_count(name):
@@ -63,40 +81,142 @@ def line_count(name):
     return count
 
 
+def processors():
+    return len(os.sched_getaffinity(0))
+
+
+def copies():
+    """How many crates are proved at one time, by processors and free memory."""
+    free = os.sysconf("SC_AVPHYS_PAGES") * os.sysconf("SC_PAGE_SIZE")
+    with contextlib.suppress(OSError), open("/proc/meminfo", encoding="utf-8") as file:
+        free = next(int(it.split()[1]) << 10 for it in file if it.startswith("MemAvailable"))
+    return max(1, min(processors(), MOST_COPIES, free // BYTES_A_COPY))
+
+
 def tell(text):
     print(f"desk: {text}", file=sys.stderr, flush=True)
 
 
-def prove(name):
-    """Proves a crate and builds its library, or the program. Answers whether that went well."""
-    jobs = ["--jobs", str(len(os.sched_getaffinity(0)))]
-    words = ["run", *jobs, "--", "--help"] if name == PROGRAM else ["lib", *jobs]
-    with tempfile.TemporaryFile("w+", errors="replace") as log:
-        how = {"stdin": subprocess.DEVNULL, "stdout": log, "stderr": subprocess.STDOUT}
-        is_well = subprocess.run(["rt", *words], cwd=f"{ROOT}/crates/{name}", **how).returncode == 0
-        if not is_well:
-            log.seek(0)
-            sys.stderr.write(log.read())
-            tell(f"{name} is not proved, so the program is not built")
-    return is_well
+def copy_sources(crates, folder):
+    """Copies what the proofs of the crates read."""
+    os.makedirs(f"{folder}/crates")
+    for name in ("crates.txt", "HANDLES"):
+        shutil.copy2(f"{ROOT}/{name}", folder)
+    for name in crates:
+        leave = shutil.ignore_patterns("out", "must-fail")
+        shutil.copytree(f"{ROOT}/crates/{name}", f"{folder}/crates/{name}", ignore=leave)
+
+
+class Runs:
+    """The commands that are running, so that they end with this program."""
+
+    def __init__(self):
+        self.running, self.is_over = set(), False
+
+    def call(self, name, root, *words):
+        """Runs the toolchain on a crate of a copy. Answers whether it went well."""
+        with tempfile.TemporaryFile("w+", errors="replace") as log:
+            how = {"stdin": subprocess.DEVNULL, "stdout": log, "stderr": subprocess.STDOUT}
+            run = subprocess.Popen(["rt", *words], cwd=f"{root}/crates/{name}", start_new_session=True, **how)
+            self.running.add(run)
+            is_well = run.wait() == 0
+            self.running.discard(run)
+            if not is_well and not self.is_over:
+                self.is_over = True
+                log.seek(0)
+                sys.stderr.write(log.read())
+                tell(f"{name} is not proved, so the program is not built")
+        return is_well
+
+    def end(self):
+        self.is_over = True
+        for run in list(self.running):
+            with contextlib.suppress(ProcessLookupError):
+                os.killpg(run.pid, 15)
+            run.wait()
+
+
+class Progress:
+    """What is proved of the lines that are to be proved, and how long the rest takes."""
+
+    def __init__(self, lines):
+        self.lines, self.done, self.began = lines, 0, time.monotonic()
+
+    def minutes(self):
+        guess = GUESSED_LINES / (LINES_A_SECOND * processors())
+        speed = (GUESSED_LINES + self.done) / (guess + time.monotonic() - self.began)
+        return max(1, round((sum(self.lines.values()) - self.done) / speed / 60))
+
+    def end(self, name):
+        self.done += self.lines[name]
+
+
+def heights(crates, lines):
+    """How many lines are in the longest chain of crates from each one up to the program."""
+    found = dict(lines)
+    for name in reversed(lines):
+        for it in crates[name]:
+            if it in found:
+                found[it] = max(found[it], lines[it] + found[name])
+    return found
+
+
+def prove(crates, todo, roots, runs, progress):
+    """Proves the crates in the working copies, and answers whether all are proved."""
+    height = heights(crates, progress.lines)
+    left, free, running = set(todo), list(roots), {}
+    jobs = ["--jobs", str(processors())]
+    with concurrent.futures.ThreadPoolExecutor(len(roots)) as pool:
+        while left or running:
+            waiting = left | {name for name, _ in running.values()}
+            ready = [it for it in left if not waiting.intersection(crates[it])]
+            for name in sorted(ready, key=lambda it: -height[it])[: len(free)]:
+                left.remove(name)
+                root = free.pop()
+                tell(f"{name} is being proved; about {progress.minutes()} min to go")
+                running[pool.submit(runs.call, name, root, "lib", *jobs)] = name, root
+            ended = concurrent.futures.wait(running, return_when="FIRST_COMPLETED").done
+            for it in ended:
+                name, root = running.pop(it)
+                free.append(root)
+                if not it.result():
+                    runs.end()
+                    return False
+                progress.end(name)
+    return True
+
+
+def build(crates, todo, runs):
+    """Proves what is stale and builds the program. Answers whether that went well."""
+    progress = Progress({name: line_count(name) for name in todo})
+    tell(f"{len(todo)} of {len(crates)} crates are to be proved, which takes about {progress.minutes()} min")
+    tell(f"for a first answer at once, without proofs: cd {ROOT}/crates/{PROGRAM} && rt try < SCRIPT")
+    below = [it for it in todo if it != PROGRAM]
+    with tempfile.TemporaryDirectory(prefix="desk-build-") as folder:
+        roots = [f"{folder}/{it}" for it in range(min(copies(), len(below)))]
+        for it in roots:
+            copy_sources(crates, it)
+        if below and not prove(crates, below, roots, runs, progress):
+            return False
+        tell(f"{PROGRAM} is being proved and built; about {progress.minutes()} min to go")
+        if not runs.call(PROGRAM, ROOT, "run", "--jobs", str(processors()), "--", "--help"):
+            return False
+    os.utime(BUILT)
+    return True
 
 
 def main():
-    crates = [*libraries()]
-    if is_current(crates):
+    crates = libraries()
+    if all(is_newer(BUILT, name) for name in crates):
         return 0
-    lines = {name: line_count(name) for name in crates}
-    done, began = 0, time.monotonic()
-    for number, name in enumerate(crates, 1):
-        # The guess counts as if it had been seen for a while, until enough is measured.
-        speed = (GUESS_SECONDS * LINES_A_SECOND + done) / (GUESS_SECONDS + time.monotonic() - began)
-        minutes = max(1, round((sum(lines.values()) - done) / speed / 60))
-        tell(f"crate {number} of {len(crates)} is being proved, {name}; about {minutes} min to go")
-        if not prove(name):
-            return 1
-        done += lines[name]
-    os.utime(BUILT)
-    return 0
+    if not shutil.which("rt"):
+        tell("rt, the command of the toolchain, is not on the PATH, and without it nothing can be proved or built")
+        return 127
+    runs = Runs()
+    try:
+        return 0 if build(crates, stale(crates), runs) else 1
+    finally:
+        runs.end()
 
 
 if __name__ == "__main__":

@@ -1,11 +1,14 @@
 #!/usr/bin/env python3
-"""Times how desk reads a table whose tree would be too large.
+"""Times how desk reads tables near the limits.
 
     bench/tables.py [--desk PROGRAM]
 
-The table has four lines and leaves all its lists behind the corners of a Moore neighbourhood, so
-that a tree of it needs about n^4 nodes for n states. It is legal, and read and kept as a table; the
-processor seconds and the peak of memory are those of finding that out.
+Corners: the table has four lines and leaves all its lists behind the corners of a Moore
+neighbourhood, so that a tree of it needs about n^4 nodes for n states. It is legal, and read and
+kept as a table; the processor seconds and the peak of memory are those of finding that out.
+
+Expanded: the table has 200 states and just under 1,000,000 expanded transitions, by two variables
+of all states under rotate8. Its tree has about half a million nodes.
 """
 import argparse
 import os
@@ -21,7 +24,7 @@ LINES = (
 )
 
 
-def table(states):
+def corners(states):
     """A script's command for the table of so many states."""
     every = ",".join(map(str, range(states)))
     alive = ",".join(map(str, range(1, states)))
@@ -30,16 +33,26 @@ def table(states):
     return "\n".join([*head, *variables, *LINES, "end", "quit"]) + "\n"
 
 
+def expanded(states):
+    """A script's command for a table of so many states with as many expanded transitions as fit."""
+    every = ",".join(map(str, range(states)))
+    pairs = 8 * states * states
+    head = ["rule", "@RULE Expanded", "@TABLE", f"n_states:{states}", "neighborhood:Moore", "symmetries:rotate8"]
+    twos, ones = 999_999 // pairs, 999_999 % pairs // states
+    lines = ["a,a,b,b,0,0,0,0,0,0"] * twos + ["a,a,a,a,a,a,a,a,a,0"] * ones
+    return "\n".join([*head, f"var a={{{every}}}", f"var b={{{every}}}", *lines, "end", "quit"]) + "\n"
+
+
 def main():
     words = argparse.ArgumentParser(description=__doc__.splitlines()[0])
     words.add_argument("--desk", default=f"{HERE}/../crates/desk/out/desk")
     given = words.parse_args()
-    print("| states | s | MB |")
-    print("|---|---|---|")
-    for states in (32, 48, 64, 255):
+    print("| table | states | s | MB |")
+    print("|---|---|---|---|")
+    for table, states in ((corners, 32), (corners, 48), (corners, 64), (corners, 255), (expanded, 200)):
         seconds, peak, said = measured([os.path.abspath(given.desk)], table(states))
         kept = "" if said.startswith("ok 1") else f" ({said.splitlines()[0]})"
-        print(f"| {states}{kept} | {seconds:.1f} | {peak:.0f} |", flush=True)
+        print(f"| {table.__name__} | {states}{kept} | {seconds:.1f} | {peak:.0f} |", flush=True)
     return 0
 
 

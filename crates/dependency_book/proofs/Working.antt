@@ -14,7 +14,7 @@ use Rattle.revision_jobs.specs.declared.answer.Job.{Job}
 use Rattle.revision_jobs.specs.declared.entries.Place.{Place}
 use Rattle.revision_jobs.specs.declared.entry.Entry.{Entry}
 use Rattle.revision_jobs.specs.declared.entry.Entry.TheVariants as entry
-use Rattle.revision_jobs.specs.Answered.{Answered, IsRight as IsRightAnswer}
+use Rattle.revision_jobs.specs.Answer.{JobResult, IsRight as IsRightAnswer}
 use Rattle.revision_jobs.specs.Entries.{entry_of, index_of}
 use Rattle.revision_jobs.specs.Value.{Value, IsStep, pattern, text, value}
 use Rattle.dependency_book.specs.declared.finding.Finding.{Finding}
@@ -118,13 +118,13 @@ pub gives_wanted : (d : Known) (need : Need) (place : Place) (job : Job) (outcom
 gives_wanted d need place job (Err fault) right out same h = tt
 gives_wanted d need place job (Ok v) right out same h =
     let g = expected_gives d need (record { number = job.number; place = place }) right out in
-    g.gives ∙ ap (λ e. Some (value e)) same ∙ ap (λ x. Some x) (sym h.0)
+    g.gives ∙ ap (λ e. Some (value e)) same ∙ ap (λ x. Some x) (sym h.value_is)
 
 -- a text is no value of a step
 text_no_step : (p : Plan) (b : Option Bookmark) (e : Entry) → text_wanted p b ≡ Some (value e) → IsStep e → ⊥
 text_no_step p None e h is = absurd cc
-text_no_step p (Some b) (entry.Step rule from cells gens) h is = absurd cc
-text_no_step p (Some b) (entry.View view from cells name states generation) h is = is
+text_no_step p (Some b) (entry.Step s) h is = absurd cc
+text_no_step p (Some b) (entry.View r) h is = is
 
 -- only a row of a step expects a job whose entry is a step
 step_expects : (d : Known) (need : Need) (place : Place) (job : Job) → IsRight d → expected d need ≡ numbered job.number place → is_job job (expected d need) ≡ true → IsStep (entry_of place) → StepExpects d job
@@ -148,7 +148,7 @@ pub filled_is : (d : Known) (need : Need) (place : Place) (job : Job) (outcome :
 filled_is d need place job (Ok v) right out same entry h = ((need, is_the_job d need place job out same), refl)
 filled_is d need place job (Err fault) right out same entry h =
     let row = is_the_job d need place job out same in
-    ((need, row), refl, λ room. step_expects d need place job right out row (subst IsStep (sym entry) (h.1 (ap Err room))))
+    ((need, row), refl, λ room. step_expects d need place job right out row (subst IsStep (sym entry) (h.room (ap Err room))))
 
 pub filled_rows : (old new : Known) (need : Need) (place : Place) (job : Job) (outcome : Result Value EvolveFault) → AreNumbered old → expected old need ≡ numbered job.number place → index_of place ≡ index_of job.place → Puts need (given_by outcome) old new
     → (other : Need) → row_of new other ≡ answered (record { job = job; outcome = outcome }) (row_of old other)
@@ -166,7 +166,7 @@ filled_rows old new need place job outcome numbers out same puts other =
     ∙ sym (cond-false test v row (other_job job (expected old other) (other_number old need other (record { number = job.number; place = place }) numbers out miss))))
 
 -- where no row expects the job nothing changes
-pub kept_rows : (d : Known) (answer : Answered) → ((need : Need) → is_job answer.job (expected d need) ≡ false) → (other : Need) → row_of d other ≡ answered answer (row_of d other)
+pub kept_rows : (d : Known) (answer : JobResult) → ((need : Need) → is_job answer.job (expected d need) ≡ false) → (other : Need) → row_of d other ≡ answered answer (row_of d other)
 kept_rows d answer none other = sym (cond-false (is_job answer.job (expected d other)) (given_by answer.outcome) (row_of d other) (none other))
 
 -- cancelled jobs

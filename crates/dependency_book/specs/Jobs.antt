@@ -4,7 +4,7 @@ use Rattle.std.specs.Result.{IsOk}
 use Rattle.step_engine.specs.declared.evolved.EvolveFault.{EvolveFault}
 use Rattle.revision_jobs.specs.declared.answer.Job.{Job}
 use Rattle.revision_jobs.specs.declared.entries.Place.{Place}
-use Rattle.revision_jobs.specs.Answered.{Answered}
+use Rattle.revision_jobs.specs.Answer.{JobResult}
 use Rattle.revision_jobs.specs.Entries.{IsOf, entry_of, index_of}
 use Rattle.revision_jobs.specs.Value.{Value}
 use Rattle.dependency_book.specs.declared.filled.Filled.{Filled}
@@ -37,7 +37,7 @@ given_by (Ok found) = Some (Found found)
 given_by (Err fault) = None
 
 -- what stands in a row after an answer: what the answer gives, if the row expects its job
-abbrev pub answered : Answered → Option (Finding Value) → Option (Finding Value)
+abbrev pub answered : JobResult → Option (Finding Value) → Option (Finding Value)
 answered answer row = if is_job answer.job (job_of row) then given_by answer.outcome else row
 
 -- what stands in a row after the job of this number was cancelled: nothing, if the row expects it
@@ -68,7 +68,7 @@ pub record StepExpects (d : Known) (job : Job) : Type 0 where
   pub row : is_job job (expected d (Step mark)) ≡ true
 
 -- what came of an answer: a row was filled, or expects nothing any more because the job gave up, for want of room if it is a step's; or no row expects the job
-abbrev pub IsFilled : Known → Answered → Filled → Type 0
+abbrev pub IsFilled : Known → JobResult → Filled → Type 0
 IsFilled d answer Row = IsExpected d answer.job × IsOk answer.outcome
 IsFilled d answer (Released fault) = IsExpected d answer.job × (answer.outcome ≡ Err fault) × (fault ≡ EvolveFault.NoRoom → StepExpects d answer.job)
 IsFilled d answer NotExpected = (need : Need) → is_job answer.job (expected d need) ≡ false

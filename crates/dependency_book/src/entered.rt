@@ -12,7 +12,7 @@ use crate::finding::found;
 use crate::marks::{arrival_in, place_for};
 use crate::need::Need;
 use crate::texts::place_of;
-use revision_jobs::Entry;
+use revision_jobs::{Entry, Rendering, Step};
 use schedule::{CellSet, Intervention, Listing, Next, Plane};
 use std::alloc::{AllocError, Global};
 use std::sync::Arc;
@@ -42,12 +42,12 @@ impl Book<'_> {
         let _start = self.document.start();
         let (before, from) = self.before(mark);
         let interventions = self.document.interventions();
-        Ok(Entry::Step {
+        Ok(Entry::Step(Step {
             rule: Arc::try_clone(self.document.rule())?,
             from: Arc::try_clone(from)?,
             cells: cells_at(self.alloc, interventions, before)?,
             gens: mark - before,
-        })
+        }))
     }
 
     // The mark before a mark, and what arrives there.
@@ -80,14 +80,14 @@ impl Book<'_> {
         let bookmark = self.texts[place].key;
         let rule = self.document.rule();
         let interventions = self.document.interventions();
-        Ok(Entry::View {
+        Ok(Entry::View(Rendering {
             view: bookmark.view,
             from: Arc::try_clone(self.arrived(bookmark.generation))?,
             cells: cells_at(self.alloc, interventions, bookmark.generation)?,
             name: copied(self.alloc, rule.name())?,
             states: rule.states(),
             generation: bookmark.generation,
-        })
+        }))
     }
 
     // What arrives at a generation, where that is known.

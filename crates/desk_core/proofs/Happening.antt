@@ -10,7 +10,7 @@ use Rattle.schedule.specs.Asked.{Asked}
 use Rattle.schedule.specs.Change.{change, made}
 use Rattle.schedule.specs.Plan.{Plan}
 use Rattle.revision_jobs.specs.declared.answer.Job.{Job}
-use Rattle.revision_jobs.specs.Answered.{Answered}
+use Rattle.revision_jobs.specs.Answer.{JobResult}
 use Rattle.revision_jobs.specs.Value.{Value, pattern, text}
 use Rattle.dependency_book.specs.declared.finding.Finding.{Finding}
 use Rattle.dependency_book.specs.declared.finding.Finding.TheVariants.{Found}
@@ -31,7 +31,7 @@ core p n rows = record { plan = p; given = n; rows = rows }
 same_core : (p q : Plan) (m n : ℕ) (r s : Need → Option (Finding Value)) → p ≡ q → m ≡ n → ((need : Need) → r need ≡ s need) → core p m r ≡ core q n s
 same_core p q m n r s plan given rows = ap (λ x. core x m r) plan ∙ ap (λ x. core q x r) given ∙ ap (core q n) (fun_ext rows)
 
-pub collects-core : (old new : Known) (answer : Answered) → SameBook old new → ((need : Need) → row_of new need ≡ answered answer (row_of old need)) → core_of new ≡ after_event (core_of old) (collects answer)
+pub collects-core : (old new : Known) (answer : JobResult) → SameBook old new → ((need : Need) → row_of new need ≡ answered answer (row_of old need)) → core_of new ≡ after_event (core_of old) (collects answer)
 collects-core old new answer book rows = same_core new.plan old.plan new.given old.given (λ need. row_of new need) (λ need. answered answer (row_of old need)) book.document.plan book.given rows
 
 job_of_number : (job : Job) (n : ℕ) → job.number ≡ n → job ≡ record { number = n; place = job.place }

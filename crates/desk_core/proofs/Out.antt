@@ -4,7 +4,7 @@ use Rattle.std.specs.Prelude.{if◌then◌else◌, ◌==◌, ◌&&◌}
 use Rattle.std.proofs.lemmas.Bool.Decides.{nat_tests}
 use Rattle.step_engine.specs.declared.evolved.EvolveFault.{EvolveFault}
 use Rattle.revision_jobs.specs.declared.answer.Job.{Job}
-use Rattle.revision_jobs.specs.Answered.{Answered}
+use Rattle.revision_jobs.specs.Answer.{JobResult}
 use Rattle.revision_jobs.specs.Entries.{index_of}
 use Rattle.revision_jobs.specs.Value.{Value}
 use Rattle.dependency_book.specs.declared.finding.Finding.{Finding}
@@ -44,7 +44,7 @@ answered_by true (Ok found) job other h = absurd (cc)
 answered_by true (Err fault) job other h = absurd (cc)
 answered_by false outcome job other h = (refl, h)
 
-answered_out : (answer : Answered) (row : Option (Finding Value)) (other : Job) → job_of (answered answer row) ≡ Some other → (job_of row ≡ Some other) × (is_job answer.job (Some other) ≡ false)
+answered_out : (answer : JobResult) (row : Option (Finding Value)) (other : Job) → job_of (answered answer row) ≡ Some other → (job_of row ≡ Some other) × (is_job answer.job (Some other) ≡ false)
 answered_out answer None other h = absurd (cc)
 answered_out answer (Some (Found value)) other h = absurd (cc)
 answered_out answer (Some (Expected job)) other h =
@@ -55,7 +55,7 @@ not_this : (job other : Job) → is_job job (Some other) ≡ false → Some job 
 not_this job other h same = let k : is_job job (Some other) ≡ true = ap (is_job job) (sym same) ∙ is_job-self job in cc
 
 -- what is out after the answer to the job that was held is in hand
-pub IsAtHand-answered : (old new : Known) (answer : Answered) (hand : Option Job) → ((need : Need) → row_of new need ≡ answered answer (row_of old need)) → IsAtHand hand (Some answer.job) old → IsAtHand hand None new
+pub IsAtHand-answered : (old new : Known) (answer : JobResult) (hand : Option Job) → ((need : Need) → row_of new need ≡ answered answer (row_of old need)) → IsAtHand hand (Some answer.job) old → IsAtHand hand None new
 IsAtHand-answered old new answer hand rows at_hand need other out =
     let k = answered_out answer (row_of old need) other (subst (λ r. job_of r ≡ Some other) (rows need) out) in
     elim (at_hand need other k.0) [

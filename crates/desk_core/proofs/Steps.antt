@@ -5,7 +5,7 @@ use Rattle.std.proofs.lemmas.Bool.{cond-true}
 use Rattle.step_engine.specs.declared.evolved.EvolveFault.{EvolveFault}
 use Rattle.revision_jobs.specs.declared.answer.Job.{Job}
 use Rattle.revision_jobs.specs.declared.entries.Entries.{Entries}
-use Rattle.revision_jobs.specs.Answered.{Answered}
+use Rattle.revision_jobs.specs.Answer.{JobResult}
 use Rattle.revision_jobs.specs.Entries.{IsOf}
 use Rattle.dependency_book.specs.declared.need.Need.{Need}
 use Rattle.dependency_book.specs.declared.need.Need.TheVariants.{Step}
@@ -49,7 +49,7 @@ explains-kept old new (Some WasStopped) same given rows h = tt
 explains-kept old new (Some NumbersSpent) same given rows h = omega (arith, given, h)
 
 -- why a job gave up fits: for want of room only a step's row expected it
-explains-released : (old new : Known) (answer : Answered) (fault : EvolveFault) → ((need : Need) → row_of new need ≡ answered answer (row_of old need)) → SameDocument old new → answer.outcome ≡ Err fault → (fault ≡ EvolveFault.NoRoom → StepExpects old answer.job) → Explains new (cause_of_answer fault)
+explains-released : (old new : Known) (answer : JobResult) (fault : EvolveFault) → ((need : Need) → row_of new need ≡ answered answer (row_of old need)) → SameDocument old new → answer.outcome ≡ Err fault → (fault ≡ EvolveFault.NoRoom → StepExpects old answer.job) → Explains new (cause_of_answer fault)
 explains-released old new answer EvolveFault.NoMemory rows same gave room = tt
 explains-released old new answer EvolveFault.Stopped rows same gave room = tt
 explains-released old new answer EvolveFault.NoRoom rows same gave room =
@@ -69,7 +69,7 @@ pub explains-first : (d : Known) (before : Option Cause) (cause : Cause) → Exp
 explains-first d None cause h first = h
 explains-first d (Some c) cause h first = first
 
-pub explains-collected : (old new : Known) (answer : Answered) (fault : EvolveFault) → ((need : Need) → row_of new need ≡ answered answer (row_of old need)) → SameBook old new → IsCollected old new answer (Released fault) → Explains new (cause_of_answer fault)
+pub explains-collected : (old new : Known) (answer : JobResult) (fault : EvolveFault) → ((need : Need) → row_of new need ≡ answered answer (row_of old need)) → SameBook old new → IsCollected old new answer (Released fault) → Explains new (cause_of_answer fault)
 explains-collected old new answer fault rows same collected = explains-released old new answer fault rows same.document collected.1 collected.2
 
 pub no_cause : (cause : Option Cause) → false ≡ is_some cause → cause ≡ None
@@ -103,7 +103,7 @@ GoesOnBy-issued old new need job cause no_cause h = record {
   explains = λ fits. subst (λ c. IfSome c (Explains new)) (sym no_cause) tt;
 }
 
-pub GoesOnBy-answered : (old new : Known) (answer : Answered) (before after : Option Cause) → ((need : Need) → row_of new need ≡ answered answer (row_of old need)) → SameBook old new → (after ≡ None → before ≡ None) → (IfSome before (Explains new) → IfSome after (Explains new)) → GoesOnBy old new before after
+pub GoesOnBy-answered : (old new : Known) (answer : JobResult) (before after : Option Cause) → ((need : Need) → row_of new need ≡ answered answer (row_of old need)) → SameBook old new → (after ≡ None → before ≡ None) → (IfSome before (Explains new) → IfSome after (Explains new)) → GoesOnBy old new before after
 GoesOnBy-answered old new answer before after rows same h explains = record {
   texts = KeepsTexts-answered old new answer rows;
   document = same.document;
@@ -153,7 +153,7 @@ pub Fits-post : (d : Known) (before after : Entries) (floor higher : ℕ) (hand 
 Fits-post d before after floor higher hand same_table same_floor h = subst (λ t. Fits d t higher hand) (sym same_table) (subst (λ f. Fits d before f hand) (sym same_floor) h)
 
 -- an answer that isn't that a job gave up leaves as many rows wanting
-pub wanting-collected : (old new : Known) (answer : Answered) (collected : Collected) → ((fault : EvolveFault) → collected ≡ Released fault → ⊥) → IsCollected old new answer collected → wanting_of new ≡ wanting_of old
+pub wanting-collected : (old new : Known) (answer : JobResult) (collected : Collected) → ((fault : EvolveFault) → collected ≡ Released fault → ⊥) → IsCollected old new answer collected → wanting_of new ≡ wanting_of old
 wanting-collected old new answer Accepted kept h = h.2
 wanting-collected old new answer (Released fault) kept h = absurd (kept fault refl)
 wanting-collected old new answer (Stale number revision) kept h = ap wanting_of h.same

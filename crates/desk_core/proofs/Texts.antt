@@ -3,7 +3,7 @@ use Rattle.std.proofs.Common.{◌≡◌, ℕ, ◌∙◌, Bool, true, false, List
 use Rattle.std.specs.Prelude.{if◌then◌else◌, ◌==◌, IfSome}
 use Rattle.std.proofs.lemmas.Bool.Decides.{nat_tests}
 use Rattle.revision_jobs.specs.declared.answer.Job.{Job}
-use Rattle.revision_jobs.specs.Answered.{Answered}
+use Rattle.revision_jobs.specs.Answer.{JobResult}
 use Rattle.revision_jobs.specs.Value.{Value, pattern, text}
 use Rattle.dependency_book.specs.declared.finding.Finding.{Finding}
 use Rattle.dependency_book.specs.declared.finding.Finding.TheVariants.{Expected, Found}
@@ -67,14 +67,14 @@ KeepsTexts-issued old new need job empty rows = KeepsTexts-rows old new (λ id.
     subst (λ r. IfSome (text_in (row_of old (View id))) (λ bytes. text_in r ≡ Some bytes)) (sym (rows (View id)))
     (issued_kept (is_need need (View id)) (row_of old (View id)) job (λ h. ap (row_of old) (sym (same_need need (View id) h)) ∙ empty)))
 
-answered_kept : (answer : Answered) (row : Option (Finding Value)) → IfSome (text_in row) (λ bytes. text_in (answered answer row) ≡ Some bytes)
+answered_kept : (answer : JobResult) (row : Option (Finding Value)) → IfSome (text_in row) (λ bytes. text_in (answered answer row) ≡ Some bytes)
 answered_kept answer None = tt
 answered_kept answer (Some (Expected job)) = tt
 answered_kept answer (Some (Found (pattern world))) = tt
 answered_kept answer (Some (Found (text bytes))) = refl
 
 -- an answer keeps the texts
-pub KeepsTexts-answered : (old new : Known) (answer : Answered) → ((need : Need) → row_of new need ≡ answered answer (row_of old need)) → KeepsTexts old new
+pub KeepsTexts-answered : (old new : Known) (answer : JobResult) → ((need : Need) → row_of new need ≡ answered answer (row_of old need)) → KeepsTexts old new
 KeepsTexts-answered old new answer rows = KeepsTexts-rows old new (λ id.
     subst (λ r. IfSome (text_in (row_of old (View id))) (λ bytes. text_in r ≡ Some bytes)) (sym (rows (View id)))
     (answered_kept answer (row_of old (View id))))

@@ -5,7 +5,7 @@ use Rattle.schedule.specs.Asked.{Asked}
 use Rattle.schedule.specs.Change.{Changed, change}
 use Rattle.schedule.specs.Plan.{Plan}
 use Rattle.revision_jobs.specs.declared.entries.Place.{Place}
-use Rattle.revision_jobs.specs.Answered.{Answered}
+use Rattle.revision_jobs.specs.Answer.{JobResult}
 use Rattle.revision_jobs.specs.Value.{Value, pattern}
 use Rattle.dependency_book.specs.declared.finding.Finding.{Finding}
 use Rattle.dependency_book.specs.declared.finding.Finding.TheVariants.{Found}
@@ -30,7 +30,7 @@ core_of d = record { plan = d.plan; given = d.given; rows = λ need. row_of d ne
 pub data Event : Type 0 where
   edits : Asked → Event
   issues : Need → Place → Event
-  collects : Answered → Event
+  collects : JobResult → Event
   cancels : ℕ → Event
 
 -- what an edit of a document, which gives another one, keeps of what stands in the row of a need; what arrives at 0 is the start

@@ -1,5 +1,5 @@
 -- How the program's run ends.
-use Rattle.std.specs.Prelude.{◌≡◌, ℕ, ◌-◌, ◌^◌, ◌<◌, List, Option, Result, Err, IfSome, OnOk, MatchResult}
+use Rattle.std.specs.Prelude.{◌≡◌, ℕ, ◌-◌, ◌^◌, ◌<◌, List, Option, Result, Err, true, IfSome, OnOk, MatchResult}
 use Rattle.std.specs.Process.{exit_status}
 use Rattle.std.specs.declared.sync.ledger.Blank.{Blank}
 use Rattle.std.specs.declared.process.ExitCode.{ExitCode}
@@ -22,16 +22,16 @@ pub record Opens (blank : Blank) (name parts : ℕ) : Type 0 where
 -- so many bytes were read, and the commands among them that were read whole were answered
 abbrev pub AnswersRead : Option (List ℕ) → Option (List ℕ) → Option (List ℕ) → Option (List ℕ) → Type 0
 AnswersRead old new before after =
-    (given : ℕ) × AnswersWhole (all_ahead old) (record { bytes = new; room = 2 ^ 64 - 1 - given }) before after
+    (given : ℕ) × AnswersWhole true (all_ahead old) (record { bytes = new; room = 2 ^ 64 - 1 - given }) before after
 
 -- what was read and written, by how the answering ended
 pub record Answers {R W : Type 0} (remaining : R → Option (List ℕ)) (contents : W → Option (List ℕ)) (r : R) (w : W) (answered : Result (Unit {0}) RunFault) (s : R) (x : W) : Type 0 where
   -- the replies to the script were written
-  pub done : OnOk answered (IfSome (remaining r) (AnswersAll (contents w) (contents x)))
+  pub done : OnOk answered (IfSome (remaining r) (AnswersAll true (contents w) (contents x)))
   -- where a read failed, the commands that were read whole were answered
   pub read : answered ≡ Err Read → AnswersRead (remaining r) (remaining s) (contents w) (contents x)
   -- where a write failed, a beginning of the replies was written
-  pub write : answered ≡ Err Write → IfSome (remaining r) (AnswersFront (contents w) (contents x))
+  pub write : answered ≡ Err Write → IfSome (remaining r) (AnswersFront true (contents w) (contents x))
   -- where there was no memory to begin with, nothing was read or written
   pub memory : answered ≡ Err NoMemory → (s ≡ r) × (x ≡ w)
 

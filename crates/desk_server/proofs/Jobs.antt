@@ -1,5 +1,5 @@
 -- What is out after jobs were dropped.
-use Rattle.std.proofs.Common.{◌≡◌, ℕ, ◌-◌, ◌^◌, ◌<◌, ◌≤◌, Bool, true, false, cond, Option, None, Some, IfSome, ◌==◌, ◌&&◌, sym, ap, refl, subst, ◌∙◌, arith}
+use Rattle.std.proofs.Common.{◌≡◌, ◌≢◌, inl, inr, ℕ, ◌-◌, ◌^◌, ◌<◌, ◌≤◌, Bool, true, false, cond, Option, None, Some, IfSome, ◌==◌, ◌&&◌, sym, ap, refl, subst, ◌∙◌, arith}
 use Rattle.std.proofs.lemmas.Bool.Decides.{nat_tests}
 use Rattle.worlds.specs.World.{World}
 use Rattle.schedule.specs.Plan.{Plan, opening}
@@ -16,9 +16,9 @@ use Rattle.dependency_book.specs.Findings.{job_of, has_number, finding_map}
 use Rattle.dependency_book.specs.Jobs.{cancelled, IsFirstOut, SameBook}
 use Rattle.dependency_book.specs.Kept.{KeepsRows, text_kept, keeps_text, keeps_arrival}
 use Rattle.dependency_book.specs.Marks.{is_noted}
-use Rattle.dependency_book.specs.Known.{Known, row_of, expected, opened, arrival_row, text_row, bookmark_in}
-use Rattle.desk_core.specs.Shown.{IsHeld}
-use Rattle.desk_server.specs.Jobs.{Carries, IsFresh, DropsJobs}
+use Rattle.dependency_book.specs.Known.{Known, row_of, expected, opened, arrival_row, text_row, bookmark_in, pending_of, NothingOut}
+use Rattle.desk_core.specs.Shown.{IsHeld, Serves}
+use Rattle.desk_server.specs.Jobs.{Carries, CarriesOn, IsFresh, DropsJobs, IsDoneWith}
 
 -- where nothing is dropped
 pub drops_none : (old new : Known) → new ≡ old → DropsJobs old new
@@ -129,10 +129,48 @@ none_opened table held (Step g) job e = absurd (none_at (g == 0) (opening 0).sta
 none_opened table held (View id) job e = absurd (cc)
 
 pub carries_first : {P : Type 0} (table : P → Entries) (floor : P → ℕ) (is_prompt : P → Bool) (held : P → Option Job) (post : P) (entries : Entries) (d : Known) → d ≡ opened entries 0
-    → IsFresh table floor is_prompt post entries → Carries table floor is_prompt held post d
+    → IsFresh table floor post entries → Carries table floor is_prompt held post d
 carries_first table floor is_prompt held post entries d same fresh = rw same (record {
-  own = fresh.own;
-  numbers = subst (λ n. n ≤ 0) (sym fresh.none) (omega arith);
-  prompt = fresh.prompt;
-  out = none_opened entries (held post);
+  serves = record { table = fresh.own; numbers = subst (λ n. n ≤ 0) (sym fresh.none) (omega arith) };
+  out = λ _. none_opened entries (held post);
 })
+
+-- where some text isn't known, no job is out
+pub nothing_out : (d : Known) (n : ℕ) → IsDoneWith d → n ≡ pending_of d → n ≢ 0 → NothingOut d
+nothing_out d n (inl none) is some = absurd (some (is ∙ none))
+nothing_out d n (inr out) is some = out
+
+-- a post that wasn't touched carries the jobs of a desk that gave no new ones
+pub carries_same : {P : Type 0} (table : P → Entries) (floor : P → ℕ) (is_prompt : P → Bool) (held : P → Option Job) (post : P) (old new : Known) → DropsJobs old new
+    → Carries table floor is_prompt held post old → CarriesOn table floor is_prompt held post post new
+carries_same table floor is_prompt held post old new drops c = record {
+  kind = refl;
+  carries = record {
+    serves = record { table = c.serves.table ∙ sym drops.table; numbers = subst (λ n. floor post ≤ n) (sym drops.given) c.serves.numbers };
+    out = λ e need job x. c.out e need job (drops.out need job x);
+  };
+}
+
+-- a settling leaves a post that carries on
+pub carries_settled : {P : Type 0} (table : P → Entries) (floor : P → ℕ) (is_prompt : P → Bool) (held : P → Option Job) (first last : P) (old new : Known) (more : Type 0) → Carries table floor is_prompt held first old
+    → Serves new (table last) (floor last) → is_prompt last ≡ is_prompt first → (is_prompt first ≡ true → IsHeld (held first) old → IsHeld (held last) new × more) → CarriesOn table floor is_prompt held first last new
+carries_settled table floor is_prompt held first last old new more c serves kind prompt = record {
+  kind = kind;
+  carries = record {
+    serves = serves;
+    out = λ e. (prompt (sym kind ∙ e) (c.out (sym kind ∙ e))).0;
+  };
+}
+
+-- what a desk is left with that gave jobs up after a post carried on
+pub carries_on : {P : Type 0} (table : P → Entries) (floor : P → ℕ) (is_prompt : P → Bool) (held : P → Option Job) (first last : P) (mid new : Known) → DropsJobs mid new
+    → CarriesOn table floor is_prompt held first last mid → CarriesOn table floor is_prompt held first last new
+carries_on table floor is_prompt held first last mid new drops c = record {
+  kind = c.kind;
+  carries = (carries_same table floor is_prompt held last mid new drops c.carries).carries;
+}
+
+-- after a round, and then another
+pub carries_further : {P : Type 0} (table : P → Entries) (floor : P → ℕ) (is_prompt : P → Bool) (held : P → Option Job) (first mid last : P) (d : Known) → is_prompt mid ≡ is_prompt first
+    → CarriesOn table floor is_prompt held mid last d → CarriesOn table floor is_prompt held first last d
+carries_further table floor is_prompt held first mid last d kind c = record { kind = c.kind ∙ kind; carries = c.carries }

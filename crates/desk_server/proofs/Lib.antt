@@ -1,5 +1,5 @@
 pub mod Prepends
-pub mod Wants
+pub mod Lacking
 pub mod Jobs
 pub mod Hearing
 pub mod Replies

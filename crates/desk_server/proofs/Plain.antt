@@ -1,62 +1,64 @@
--- Answers without a want.
+-- Answers for which nothing is short.
 use Rattle.std.proofs.Common.{◌≡◌, ◌⊎◌, inl, inr, ℕ, ◌&&◌, nat_le, List, [], ◌∷◌, length, Bool, true, false, cond, refl, ap, ◌∙◌, Option, None, Some}
 use Rattle.schedule.specs.Plan.{Plan}
 use Rattle.schedule.specs.Asked.{asked_of}
 use Rattle.schedule.specs.declared.document.Bookmark.{Bookmark}
 use Rattle.desk_core.specs.declared.cause.Cause.{Cause}
+use Rattle.std.specs.List.{AllByRecursion}
 use Rattle.desk_core.specs.Rows.{bookmark_in}
 use Rattle.desk_server.specs.Reply.{unsettled_text, settled_text}
-use Rattle.desk_server.specs.Answer.{Ask, Obey, Take, Refuse, Want, Enough, Memory, Unsettled, Pending, After, answer, only, unless_memory, edited, settled, shown, obeyed}
-use Rattle.desk_server.specs.Script.{first_want, later_wants, afters}
-use Rattle.desk_server.specs.Wanted.{ShowsWant, NoneShows}
+use Rattle.desk_server.specs.Shortage.{Shortage, NoShortage, Memory, Unsettled, Pending, IsCaused, IsCausedOver, AllCausedOver}
+use Rattle.desk_server.specs.Answer.{Ask, Obey, Take, Refuse, After, answer, only, unless_memory, edited, settled, shown, obeyed}
+use Rattle.desk_server.specs.Script.{first_shortage, later_shortages, afters}
+use Rattle.desk_server.specs.Plain.{ShowsShortage, NoneShows}
 use Rattle.desk_server.specs.declared.fault.ScriptFault.TheVariants.{BadCommand, NoEnd}
 use Rattle.desk_server.specs.declared.command.Command.{Command}
 use Rattle.desk_server.specs.declared.command.Command.TheVariants.{Edit, Settle, Show, Quit}
 
--- an answer is the plain one, or its reply shows the want
-abbrev IsPlain : After → After → Type 0
-IsPlain after plain = (after ≡ plain) ⊎ ShowsWant after.told
+-- an answer is the plain one, or its reply shows the shortage
+abbrev IsPlain : Bool → After → After → Type 0
+IsPlain prompt after plain = (after ≡ plain) ⊎ ShowsShortage prompt after.told
 
-unless-plain : (want : Want) (p : Plan) (plain : After) → IsPlain (unless_memory want p plain) plain
-unless-plain Enough p plain = inl refl
-unless-plain Memory p plain = inr (inl refl)
-unless-plain (Unsettled n cause) p plain = inl refl
-unless-plain Pending p plain = inl refl
+unless-plain : (prompt : Bool) (short : Shortage) (p : Plan) (plain : After) → IsPlain prompt (unless_memory short p plain) plain
+unless-plain prompt NoShortage p plain = inl refl
+unless-plain prompt Memory p plain = inr (inl refl)
+unless-plain prompt (Unsettled n cause) p plain = inl refl
+unless-plain prompt Pending p plain = inl refl
 
-left-plain : (b : Bool) (p : Plan) (n : ℕ) (cause : Cause) → IsPlain (cond b (only p (unsettled_text n (Some cause))) (only p settled_text)) (only p settled_text)
-left-plain true p n cause = inr (inr (inl (n, cause, refl)))
-left-plain false p n cause = inl refl
+left-plain : (prompt b : Bool) (p : Plan) (n : ℕ) (cause : Option Cause) → IsCausedOver prompt (Unsettled n cause) → IsPlain prompt (cond b (only p (unsettled_text n cause)) (only p settled_text)) (only p settled_text)
+left-plain prompt true p n cause h = inr (inr (inl (n, cause, h, refl)))
+left-plain prompt false p n cause h = inl refl
 
-settled-plain : (want : Want) (p : Plan) → IsPlain (settled want p) (settled Enough p)
-settled-plain Enough p = inl refl
-settled-plain Memory p = inl refl
-settled-plain (Unsettled n cause) p = left-plain (nat_le 1 n && nat_le n (length p.bookmarks)) p n cause
-settled-plain Pending p = inl refl
+settled-plain : (prompt : Bool) (short : Shortage) (p : Plan) → IsCausedOver prompt short → IsPlain prompt (settled short p) (settled NoShortage p)
+settled-plain prompt NoShortage p h = inl refl
+settled-plain prompt Memory p h = inl refl
+settled-plain prompt (Unsettled n cause) p h = left-plain prompt (nat_le 1 n && nat_le n (length p.bookmarks)) p n cause h
+settled-plain prompt Pending p h = inl refl
 
-shown-plain : (want : Want) (p : Plan) (id : ℕ) (b : Option Bookmark) → IsPlain (shown want p id b) (shown Enough p id b)
-shown-plain want p id None = unless-plain want p (shown Enough p id None)
-shown-plain Enough p id (Some b) = inl refl
-shown-plain Memory p id (Some b) = inr (inl refl)
-shown-plain (Unsettled n cause) p id (Some b) = inl refl
-shown-plain Pending p id (Some b) = inr (inr (inr (id, refl)))
+shown-plain : (prompt : Bool) (short : Shortage) (p : Plan) (id : ℕ) (b : Option Bookmark) → IsPlain prompt (shown short p id b) (shown NoShortage p id b)
+shown-plain prompt short p id None = unless-plain prompt short p (shown NoShortage p id None)
+shown-plain prompt NoShortage p id (Some b) = inl refl
+shown-plain prompt Memory p id (Some b) = inr (inl refl)
+shown-plain prompt (Unsettled n cause) p id (Some b) = inl refl
+shown-plain prompt Pending p id (Some b) = inr (inr (inr (id, refl)))
 
-obeyed-plain : (want : Want) (p : Plan) (command : Command) → IsPlain (obeyed want p command) (obeyed Enough p command)
-obeyed-plain want p (Edit edit) = unless-plain want p (edited p (asked_of edit))
-obeyed-plain want p Settle = settled-plain want p
-obeyed-plain want p (Show id) = shown-plain want p id (bookmark_in p.bookmarks id)
-obeyed-plain want p Quit = inl refl
+obeyed-plain : (prompt : Bool) (short : Shortage) (p : Plan) (command : Command) → IsCausedOver prompt short → IsPlain prompt (obeyed short p command) (obeyed NoShortage p command)
+obeyed-plain prompt short p (Edit edit) h = unless-plain prompt short p (edited p (asked_of edit))
+obeyed-plain prompt short p Settle h = settled-plain prompt short p h
+obeyed-plain prompt short p (Show id) h = shown-plain prompt short p id (bookmark_in p.bookmarks id)
+obeyed-plain prompt short p Quit h = inl refl
 
-answer-plain : (want : Want) (p : Plan) (ask : Ask) → IsPlain (answer want p ask) (answer Enough p ask)
-answer-plain want p (Obey command) = obeyed-plain want p command
-answer-plain want p (Take format text) = unless-plain want p (answer Enough p (Take format text))
-answer-plain want p (Refuse (BadCommand line)) = unless-plain want p (answer Enough p (Refuse (BadCommand line)))
-answer-plain want p (Refuse (NoEnd line)) = inl refl
+answer-plain : (prompt : Bool) (short : Shortage) (p : Plan) (ask : Ask) → IsCausedOver prompt short → IsPlain prompt (answer short p ask) (answer NoShortage p ask)
+answer-plain prompt short p (Obey command) h = obeyed-plain prompt short p command h
+answer-plain prompt short p (Take format text) h = unless-plain prompt short p (answer NoShortage p (Take format text))
+answer-plain prompt short p (Refuse (BadCommand line)) h = unless-plain prompt short p (answer NoShortage p (Refuse (BadCommand line)))
+answer-plain prompt short p (Refuse (NoEnd line)) h = inl refl
 
 -- the plain answer was given, and what follows is plain where the script goes on
-goes_on : (after plain : After) (rest : List Ask) (later : List Want) → IsPlain after plain → (ShowsWant after.told → ⊥) → (after.ends ≡ false → afters after.plan rest later ≡ afters after.plan rest [])
+goes_on : (prompt : Bool) (after plain : After) (rest : List Ask) (later : List Shortage) → IsPlain prompt after plain → (ShowsShortage prompt after.told → ⊥) → (after.ends ≡ false → afters after.plan rest later ≡ afters after.plan rest [])
     → after ∷ cond after.ends [] (afters after.plan rest later) ≡ plain ∷ cond plain.ends [] (afters plain.plan rest [])
-goes_on after plain rest later (inr shows) silent more = absurd (silent shows)
-goes_on after plain rest later (inl same) silent more =
+goes_on prompt after plain rest later (inr shows) silent more = absurd (silent shows)
+goes_on prompt after plain rest later (inl same) silent more =
     ap (λ v. after ∷ v) (ends_or after.ends refl)
     ∙ ap (λ (a : After). a ∷ cond a.ends [] (afters a.plan rest [])) same
   where
@@ -64,14 +66,19 @@ goes_on after plain rest later (inl same) silent more =
     ends_or true e = rw e refl
     ends_or false e = ap (λ v. cond after.ends [] v) (more e)
 
--- none of the replies behind one that doesn't end the script shows a want
-none_behind : (ends : Bool) (later : List After) → NoneShows (cond ends [] later) → ends ≡ false → NoneShows later
-none_behind true later h e = absurd (cc)
-none_behind false later h e = h
+-- none of the replies behind one that doesn't end the script shows a shortage
+none_behind : (prompt ends : Bool) (later : List After) → NoneShows prompt (cond ends [] later) → ends ≡ false → NoneShows prompt later
+none_behind prompt true later h e = absurd (cc)
+none_behind prompt false later h e = h
 
-pub afters-plain : (p : Plan) (asked : List Ask) (wants : List Want) → NoneShows (afters p asked wants) → afters p asked wants ≡ afters p asked []
-afters-plain p [] wants h = refl
-afters-plain p (ask ∷ rest) wants h =
-    let after = answer (first_want wants) p ask in
-    goes_on after (answer Enough p ask) rest (later_wants wants) (answer-plain (first_want wants) p ask) h.0
-    (λ e. afters-plain after.plan rest (later_wants wants) (none_behind after.ends (afters after.plan rest (later_wants wants)) h.1 e))
+-- the first of shortages that have causes has one, and so do those after it
+first_caused : (shortages : List Shortage) → AllByRecursion IsCaused shortages → IsCaused (first_shortage shortages) × AllByRecursion IsCaused (later_shortages shortages)
+first_caused [] h = (tt, tt)
+first_caused (x ∷ xs) h = h
+
+pub afters-plain : (prompt : Bool) (p : Plan) (asked : List Ask) (shortages : List Shortage) → AllCausedOver prompt shortages → NoneShows prompt (afters p asked shortages) → afters p asked shortages ≡ afters p asked []
+afters-plain prompt p [] shortages caused h = refl
+afters-plain prompt p (ask ∷ rest) shortages caused h =
+    let after = answer (first_shortage shortages) p ask in
+    goes_on prompt after (answer NoShortage p ask) rest (later_shortages shortages) (answer-plain prompt (first_shortage shortages) p ask (λ e. (first_caused shortages (caused e)).0)) h.0
+    (λ e. afters-plain prompt after.plan rest (later_shortages shortages) (λ k. (first_caused shortages (caused k)).1) (none_behind prompt after.ends (afters after.plan rest (later_shortages shortages)) h.1 e))

@@ -7,12 +7,23 @@ use Rattle.schedule.specs.declared.fault.EditFault.TheVariants.{NoMemory}
 use Rattle.schedule.specs.declared.document.Bookmark.{Bookmark}
 use Rattle.desk_core.specs.Rows.{Known, bookmark_in, text_known, pending_of}
 use Rattle.desk_core.specs.declared.cause.Cause.{Cause}
-use Rattle.desk_core.specs.Shown.{IsPending}
-use Rattle.desk_server.specs.Faults.{Fault, of_edit}
-use Rattle.desk_server.specs.Answer.{Enough, Memory, Unsettled, After, only, unless_fault, settled}
+use Rattle.desk_core.specs.Shown.{IsPending, Shows}
+use Rattle.dependency_book.specs.declared.shown.Shown.{Shown}
+use Rattle.dependency_book.specs.declared.shown.Shown.TheVariants.{Current, NoSuch}
+use Rattle.dependency_book.specs.declared.shown.Shown.TheVariants as shown
+use Rattle.desk_server.specs.Faults.{Fault, of_edit, of_script}
+use Rattle.desk_server.specs.Shortage.{NoShortage, Memory, Unsettled, Pending}
+use Rattle.desk_server.specs.Answer.{Ask, Refuse, After, answer, refused, CanLackMemory, only, unless_fault, settled, obeyed}
+use Rattle.desk_server.specs.declared.command.Command.TheVariants.{Show}
 use Rattle.desk_server.specs.Reply.{pending_text, refused_text, settled_text, unsettled_text}
 use Rattle.desk_server.specs.Told.{text_of, ends, shown_text}
-use Rattle.desk_server.specs.Heard.{Gives, GivesBy, GivesOrWants}
+use Rattle.desk_server.specs.Heard.{AsksFor, Gives, GivesBy, GivesOrLacks, Serves}
+use Rattle.script_lines.specs.declared.text.Text.{Text}
+use Rattle.desk_server.specs.declared.fault.ScriptFault.{ScriptFault}
+use Rattle.desk_server.specs.declared.fault.ScriptFault.TheVariants.{BadCommand, NoEnd}
+use Rattle.desk_server.specs.declared.format.Format.{Format}
+use Rattle.desk_server.specs.declared.request.Request.{Request}
+use Rattle.desk_server.specs.declared.request.Request.TheVariants as request
 use Rattle.desk_server.specs.declared.reply.Reply.{Reply}
 use Rattle.desk_server.specs.declared.reply.Reply.TheVariants as reply
 
@@ -23,12 +34,12 @@ gives-only p new r told same is goes = ap (λ q. only q told) (sym same) ∙ sym
     after : List ℕ → Bool → After
     after t e = record { told = t; plan = new.plan; ends = e }
 
--- what was refused, or what memory was wanted for
+-- what was refused, or is out of memory
 pub gives-refused : {A E : Type 0} (p : Plan) (new : Known) (r : Reply) (told : E → Fault) (done : A → After) (fault none : E) (read : Result A E)
     → told none ≡ of_edit NoMemory → new.plan ≡ p → (fault ≡ none) ⊎ (read ≡ Err fault)
-    → ((k : Known) → text_of k r ≡ refused_text (told fault)) → ends r ≡ false → GivesOrWants p (unless_fault p told done read) r new
-gives-refused p new r told done fault none read law same (inl memory) is goes = (Memory, ap (λ f. only p (refused_text f)) (sym law ∙ sym (ap told memory)) ∙ gives-only p new r (refused_text (told fault)) same (is new) goes)
-gives-refused p new r told done fault none read law same (inr refused) is goes = (Enough, ap (unless_fault p told done) refused ∙ gives-only p new r (refused_text (told fault)) same (is new) goes)
+    → ((k : Known) → text_of k r ≡ refused_text (told fault)) → ends r ≡ false → GivesOrLacks p (unless_fault p told done read) r new
+gives-refused p new r told done fault none read law same (inl memory) is goes = (Memory, λ _. tt, ap (λ f. only p (refused_text f)) (sym law ∙ sym (ap told memory)) ∙ gives-only p new r (refused_text (told fault)) same (is new) goes)
+gives-refused p new r told done fault none read law same (inr refused) is goes = (NoShortage, λ _. tt, ap (unless_fault p told done) refused ∙ gives-only p new r (refused_text (told fault)) same (is new) goes)
 
 -- settling that left bookmarks pending
 left : (a b : Bool) (x y : After) → a ≡ true → b ≡ true → cond (a && b) x y ≡ x
@@ -36,18 +47,18 @@ left true true x y h k = refl
 left true false x y h k = absurd (cc)
 left false b x y h k = absurd (cc)
 
-gives-unsettled : (p : Plan) (new : Known) (n : ℕ) (cause : Option Cause) (why : Cause) → new.plan ≡ p → 0 < n → n ≤ length new.plan.bookmarks → cause ≡ Some why → GivesBy (λ want. settled want p) (reply.Unsettled n cause) new
-gives-unsettled p new n cause why same some few is = (
-  Unsettled n why,
-  subst (λ q. Gives (settled (Unsettled n why) q) (reply.Unsettled n cause) new) same
-      (subst (λ c. Gives (settled (Unsettled n why) new.plan) (reply.Unsettled n c) new) (sym is)
-      (left (nat_le 1 n) (nat_le n (length new.plan.bookmarks)) (only new.plan (unsettled_text n (Some why))) (only new.plan settled_text) (grind (arith, nat_tests)) (grind (arith, nat_tests)))),
+pub gives-unsettled : (prompt : Bool) (p : Plan) (new : Known) (n : ℕ) (cause : Option Cause) → new.plan ≡ p → (prompt ≡ true → IfNone cause (pending_of new ≡ 0)) → n ≡ pending_of new → n ≢ 0 → n ≤ length new.plan.bookmarks
+    → GivesBy prompt (λ short. settled short p) (reply.Unsettled n cause) new
+gives-unsettled prompt p new n cause same caused is some few = (
+  Unsettled n cause,
+  λ e. has_cause cause (caused e),
+  subst (λ q. Gives (settled (Unsettled n cause) q) (reply.Unsettled n cause) new) same
+      (left (nat_le 1 n) (nat_le n (length new.plan.bookmarks)) (only new.plan (unsettled_text n cause)) (only new.plan settled_text) (grind (arith, nat_tests)) (grind (arith, nat_tests))),
 )
-
-pub gives-pending : (p : Plan) (new : Known) (n : ℕ) (cause : Option Cause) → new.plan ≡ p → IfNone cause (pending_of new ≡ 0) → n ≡ pending_of new → n ≢ 0 → n ≤ length new.plan.bookmarks
-    → GivesBy (λ want. settled want p) (reply.Unsettled n cause) new
-gives-pending p new n None same none is some few = absurd (some (is ∙ none))
-gives-pending p new n (Some why) same none is some few = gives-unsettled p new n (Some why) why same (omega arith) few refl
+  where
+    has_cause : (o : Option Cause) → IfNone o (pending_of new ≡ 0) → IsSome o
+    has_cause None none = absurd (some (is ∙ none))
+    has_cause (Some why) none = refl
 
 some_of : (o : Option Bookmark) → IsSome o → (b : Bookmark) × (o ≡ Some b)
 some_of None h = absurd (cc)
@@ -56,3 +67,44 @@ some_of (Some b) h = (b, refl)
 -- what is written of a pending one
 pub pending-shown : (known : Known) (id : ℕ) → IsPending known id → shown_text id (bookmark_in known.plan.bookmarks id) (text_known known id) ≡ pending_text id
 pending-shown known id h = let b = some_of (bookmark_in known.plan.bookmarks id) h.there in ap₂ (shown_text id) b.1 h.unknown
+
+-- what is shown of a bookmark, current or not
+pub gives-shown : (prompt : Bool) (p : Plan) (new : Known) (id : ℕ) (s : Shown) → new.plan ≡ p → Shows new id s → GivesBy prompt (λ short. obeyed short p (Show id)) (reply.Shown id) new
+gives-shown prompt p new id s same shows = subst (λ q. GivesBy prompt (λ short. obeyed short q (Show id)) (reply.Shown id) new) same (now s shows)
+  where
+    now : (s : Shown) → Shows new id s → GivesBy prompt (λ short. obeyed short new.plan (Show id)) (reply.Shown id) new
+    now NoSuch none = (NoShortage, λ _. tt, rw none refl)
+    now (Current text) h = (NoShortage, λ _. tt, rw (h.there, h.known, h.scratch_text) refl)
+    now shown.Pending h =
+        let b = some_of (bookmark_in new.plan.bookmarks id) h.there in
+        (Pending, λ _. tt, rw (b.1, h.unknown) refl)
+
+-- a bookmark that is shown otherwise isn't pending
+pub not_pending : (d : Known) (id : ℕ) (s : Shown) → Shows d id s → s ≢ shown.Pending → ¬ IsPending d id
+not_pending d id NoSuch none other h = let b = some_of (bookmark_in d.plan.bookmarks id) h.there in cc (none, b.1)
+not_pending d id (Current text) shows other h = cc (shows.known, h.unknown)
+not_pending d id shown.Pending shows other h = other refl
+
+-- memory was short for what was asked
+pub serves-memory : (prompt : Bool) (asked : Request) (r : Reply) (d : Known) → ((ask : Ask) → AsksFor asked ask → CanLackMemory ask) → text_of d r ≡ refused_text (of_edit NoMemory) → ends r ≡ false → Serves prompt asked r d d
+serves-memory prompt asked r d can is goes = λ ask asks. (Memory, λ _. tt, can ask asks d.plan ∙ gives-only d.plan d r (refused_text (of_edit NoMemory)) refl is goes)
+
+-- a text can lack it
+pub take-lacks : (asked : Request) (format : Format) (text : Text) → asked ≡ request.Take format text → (ask : Ask) → AsksFor asked ask → CanLackMemory ask
+take-lacks asked format text e ask asks =
+    let one = subst (λ q. AsksFor q ask) e asks in
+    subst CanLackMemory (sym one.1) (λ p. refl)
+
+-- so can what is out of it already
+pub none-lacks : (asked : Request) → asked ≡ request.NoMemory → (ask : Ask) → AsksFor asked ask → CanLackMemory ask
+none-lacks asked e ask asks = subst (λ q. AsksFor q ask) e asks
+
+plainly_refused : (p : Plan) (fault : ScriptFault) → answer NoShortage p (Refuse fault) ≡ refused p (of_script fault)
+plainly_refused p (BadCommand line) = refl
+plainly_refused p (NoEnd line) = refl
+
+-- what lines say was refused
+pub serves-refused : (prompt : Bool) (asked : Request) (fault : ScriptFault) (r : Reply) (d : Known) → asked ≡ request.Refuse fault → text_of d r ≡ refused_text (of_script fault) → ends r ≡ false → Serves prompt asked r d d
+serves-refused prompt asked fault r d e is goes = λ ask asks.
+    let one : ask ≡ Refuse fault = subst (λ q. AsksFor q ask) e asks in
+    (NoShortage, λ _. tt, ap (answer NoShortage d.plan) one ∙ plainly_refused d.plan fault ∙ gives-only d.plan d r (refused_text (of_script fault)) refl is goes)

@@ -11,15 +11,22 @@ use Rattle.script_lines.specs.Script.{Follows}
 use Rattle.script_lines.proofs.Told.{front_first, front_then}
 use Rattle.schedule.specs.Plan.{Plan, opening}
 use Rattle.desk_core.specs.Rows.{Known}
-use Rattle.desk_server.specs.Answer.{Ask, After, Want, answer}
+use Rattle.std.specs.List.{AllByRecursion}
+use Rattle.desk_server.specs.Shortage.{Shortage, IsCaused, IsCausedOver, AllCausedOver}
+use Rattle.desk_server.specs.Answer.{Ask, After, answer}
 use Rattle.desk_server.specs.Script.{asks, Between, afters, replies_to, replies_by, replies_with}
 use Rattle.desk_server.specs.Told.{text_of, ends}
-use Rattle.desk_server.specs.Heard.{AsksFor, Asked, Hears, Gives, GivesBy, Served, BreaksOff}
+use Rattle.desk_server.specs.Heard.{AsksFor, AsksIfAny, Hears, Gives, GivesBy, Serves, Served, BreaksOff}
 use Rattle.desk_server.specs.Run.{Answers, Finishes, StopsTelling, AnswersWhole, AnswersAll, AnswersFront}
 use Rattle.desk_server.specs.declared.request.Request.{Request}
 use Rattle.desk_server.specs.declared.reply.Reply.{Reply}
 use Rattle.desk_server.specs.declared.reply.Reply.TheVariants as reply
 use Rattle.desk_server.proofs.Hearing.{follows-any}
+
+-- where each of two lists has causes, both together do
+caused-append : (xs ys : List Shortage) → AllByRecursion IsCaused xs → AllByRecursion IsCaused ys → AllByRecursion IsCaused (xs ++ ys)
+caused-append [] ys h k = k
+caused-append (x ∷ xs) ys h k = (h.0, caused-append xs ys h.1 k)
 
 pub ends-other : (r : Reply) → r ≢ reply.Bye → ends r ≡ false
 ends-other (reply.Accepted revision word number) h = refl
@@ -39,34 +46,36 @@ follows_nothing false new rest h e = tt
 follows_nothing true new rest h e = (refl, at_end_nil new rest (h refl) e)
 
 -- the reply to one command, and those to the rest
-told_behind : (b : Bool) (p : Plan) (rest : List Ask) (later : List Want) → flat_map (λ (a : After). a.told) (cond b [] (afters p rest later)) ≡ cond b [] (replies_to p rest later)
+told_behind : (b : Bool) (p : Plan) (rest : List Ask) (later : List Shortage) → flat_map (λ (a : After). a.told) (cond b [] (afters p rest later)) ≡ cond b [] (replies_to p rest later)
 told_behind true p rest later = refl
 told_behind false p rest later = refl
 
-after_is : (want : Want) (p : Plan) (ask : Ask) (r : Reply) (k : Known) → Gives (answer want p ask) r k → (rest : List Ask) (later : List Want)
-    → replies_to p (ask ∷ rest) (want ∷ later) ≡ text_of k r ++ cond (ends r) [] (replies_to k.plan rest later)
-after_is want p ask r k e rest later = ap (λ (a : After). a.told ++ flat_map (λ (b : After). b.told) (cond a.ends [] (afters a.plan rest later))) e ∙ ap (λ v. text_of k r ++ v) (told_behind (ends r) k.plan rest later)
+after_is : (short : Shortage) (p : Plan) (ask : Ask) (r : Reply) (k : Known) → Gives (answer short p ask) r k → (rest : List Ask) (later : List Shortage)
+    → replies_to p (ask ∷ rest) (short ∷ later) ≡ text_of k r ++ cond (ends r) [] (replies_to k.plan rest later)
+after_is short p ask r k e rest later = ap (λ (a : After). a.told ++ flat_map (λ (b : After). b.told) (cond a.ends [] (afters a.plan rest later))) e ∙ ap (λ v. text_of k r ++ v) (told_behind (ends r) k.plan rest later)
 
 -- nothing was asked
-asked_nothing : (heard : Option Request) (asked : List Ask) → heard ≡ None → Asked heard asked → asked ≡ []
-asked_nothing heard asked e is = subst (λ o. Asked o asked) e is
+asked_nothing : (heard : Option Request) (asked : List Ask) → heard ≡ None → AsksIfAny heard asked → asked ≡ []
+asked_nothing heard asked e is = subst (λ o. AsksIfAny o asked) e is
 
-pub goes_on_silent : (old new : Ahead) (told : Option (List ℕ)) (heard : Option Request) (last : Bool) (k : Known) (n m : ℕ) → heard ≡ None → last ≡ false
-    → (h : Hears old new Between heard last n m) → Answers old new told told k.plan k.plan n m
-goes_on_silent old new told heard last k n m none e h = record {
+pub goes_on_silent : (prompt : Bool) (old new : Ahead) (told : Option (List ℕ)) (heard : Option Request) (last : Bool) (k : Known) (n m : ℕ) → heard ≡ None → last ≡ false
+    → (h : Hears old new Between heard last n m) → Answers prompt old new told told k.plan k.plan n m
+goes_on_silent prompt old new told heard last k n m none e h = record {
   bytes = h.bytes;
-  wants = [];
+  shortages = [];
+  caused = λ _. tt;
   told = [];
   taken = h.taken;
   wrote = Appends-nil told;
   law = λ stop more later. ap (λ v. replies_to k.plan v later) (h.law stop more (follows-any last stop more e) ∙ ap (λ v. v ++ asks stop Between m (lines_until stop more)) (asked_nothing heard h.asked none h.is));
 }
 
-pub done_silent : (old new : Ahead) (told : Option (List ℕ)) (heard : Option Request) (last : Bool) (k : Known) (n m : ℕ) → heard ≡ None → last ≡ true
-    → (h : Hears old new Between heard last n m) → Finishes old new told told k.plan n
-done_silent old new told heard last k n m none e h = record {
+pub done_silent : (prompt : Bool) (old new : Ahead) (told : Option (List ℕ)) (heard : Option Request) (last : Bool) (k : Known) (n m : ℕ) → heard ≡ None → last ≡ true
+    → (h : Hears old new Between heard last n m) → Finishes prompt old new told told k.plan n
+done_silent prompt old new told heard last k n m none e h = record {
   bytes = h.bytes;
-  wants = [];
+  shortages = [];
+  caused = λ _. tt;
   taken = h.taken;
   told = [];
   wrote = Appends-nil told;
@@ -75,26 +84,27 @@ done_silent old new told heard last k n m none e h = record {
 }
 
 -- one thing was asked, and the reply to it found
-pub served : (heard : Option Request) (request : Request) (asked : List Ask) (j k : Known) (r : Reply) → heard ≡ Some request → Asked heard asked
-    → ((ask : Ask) → AsksFor request ask → GivesBy (λ want. answer want j.plan ask) r k) → Served r asked j k
-served heard request asked j k r e is gives = let one = subst (λ o. Asked o asked) e is in (one.0, one.1, gives one.0 one.2)
+pub served : (prompt : Bool) (heard : Option Request) (request : Request) (asked : List Ask) (j k : Known) (r : Reply) → heard ≡ Some request → AsksIfAny heard asked
+    → Serves prompt request r j k → Served prompt r asked j k
+served prompt heard request asked j k r e is gives = let one = subst (λ o. AsksIfAny o asked) e is in (one.0, one.1, gives one.0 one.2)
 
 -- the replies from here on
-replies_from : (old new : Ahead) (heard : Option Request) (last : Bool) (j k : Known) (n m : ℕ) (r : Reply)
-    → (h : Hears old new Between heard last n m) → (s : Served r h.asked j k) → (stop : End) (more : List ℕ) (later : List Want) → Follows last stop more
+replies_from : (prompt : Bool) (old new : Ahead) (heard : Option Request) (last : Bool) (j k : Known) (n m : ℕ) (r : Reply)
+    → (h : Hears old new Between heard last n m) → (s : Served prompt r h.asked j k) → (stop : End) (more : List ℕ) (later : List Shortage) → Follows last stop more
     → replies_to j.plan (asks stop Between n (lines_until stop (h.bytes ++ more))) (s.2.0 ∷ later) ≡ text_of k r ++ cond (ends r) [] (replies_to k.plan (asks stop Between m (lines_until stop more)) later)
-replies_from old new heard last j k n m r h s stop more later f =
-    ap (λ v. replies_to j.plan v (s.2.0 ∷ later)) (h.law stop more f ∙ ap (λ v. v ++ asks stop Between m (lines_until stop more)) s.1) ∙ after_is s.2.0 j.plan s.0 r k s.2.1 (asks stop Between m (lines_until stop more)) later
+replies_from prompt old new heard last j k n m r h s stop more later f =
+    ap (λ v. replies_to j.plan v (s.2.0 ∷ later)) (h.law stop more f ∙ ap (λ v. v ++ asks stop Between m (lines_until stop more)) s.1) ∙ after_is s.2.0 j.plan s.0 r k s.2.2 (asks stop Between m (lines_until stop more)) later
 
-pub goes_on_told : (old new : Ahead) (before after : Option (List ℕ)) (heard : Option Request) (last : Bool) (j k : Known) (n m : ℕ) (r : Reply) → last ≡ false → r ≢ reply.Bye
-    → (h : Hears old new Between heard last n m) → Served r h.asked j k → Appends before after (text_of k r) → Answers old new before after j.plan k.plan n m
-goes_on_told old new before after heard last j k n m r e b h s w = record {
+pub goes_on_told : (prompt : Bool) (old new : Ahead) (before after : Option (List ℕ)) (heard : Option Request) (last : Bool) (j k : Known) (n m : ℕ) (r : Reply) → last ≡ false → r ≢ reply.Bye
+    → (h : Hears old new Between heard last n m) → Served prompt r h.asked j k → Appends before after (text_of k r) → Answers prompt old new before after j.plan k.plan n m
+goes_on_told prompt old new before after heard last j k n m r e b h s w = record {
   bytes = h.bytes;
-  wants = s.2.0 ∷ [];
+  shortages = s.2.0 ∷ [];
+  caused = λ e. (s.2.1 e, tt);
   told = text_of k r;
   taken = h.taken;
   wrote = w;
-  law = λ stop more later. replies_from old new heard last j k n m r h s stop more later (follows-any last stop more e)
+  law = λ stop more later. replies_from prompt old new heard last j k n m r h s stop more later (follows-any last stop more e)
       ∙ ap (λ v. text_of k r ++ cond v [] (replies_to k.plan (asks stop Between m (lines_until stop more)) later)) (ends-other r b);
 }
 
@@ -102,92 +112,100 @@ nothing_more : (v : Bool) (t : List ℕ) → t ++ cond v [] [] ≡ t
 nothing_more true t = append-nil t
 nothing_more false t = append-nil t
 
-pub done_last : (old new : Ahead) (before after : Option (List ℕ)) (heard : Option Request) (last : Bool) (j k : Known) (n m : ℕ) (r : Reply) → last ≡ true
-    → (h : Hears old new Between heard last n m) → Served r h.asked j k → Appends before after (text_of k r) → Finishes old new before after j.plan n
-done_last old new before after heard last j k n m r e h s w = record {
+pub done_last : (prompt : Bool) (old new : Ahead) (before after : Option (List ℕ)) (heard : Option Request) (last : Bool) (j k : Known) (n m : ℕ) (r : Reply) → last ≡ true
+    → (h : Hears old new Between heard last n m) → Served prompt r h.asked j k → Appends before after (text_of k r) → Finishes prompt old new before after j.plan n
+done_last prompt old new before after heard last j k n m r e h s w = record {
   bytes = h.bytes;
-  wants = s.2.0 ∷ [];
+  shortages = s.2.0 ∷ [];
+  caused = λ e. (s.2.1 e, tt);
   taken = h.taken;
   told = text_of k r;
   wrote = w;
-  law = λ rest x. replies_from old new heard last j k n m r h s Ended rest [] (follows_nothing last new.bytes rest h.at_end x)
+  law = λ rest x. replies_from prompt old new heard last j k n m r h s Ended rest [] (follows_nothing last new.bytes rest h.at_end x)
       ∙ ap (λ v. text_of k r ++ cond (ends r) [] (replies_to k.plan (asks Ended Between m (lines_until Ended v)) [])) (at_end_nil new.bytes rest (h.at_end e) x) ∙ nothing_more (ends r) (text_of k r);
 }
 
-pub done_bye : (old new : Ahead) (before after : Option (List ℕ)) (heard : Option Request) (last : Bool) (j k : Known) (n m : ℕ) (r : Reply) → r ≡ reply.Bye
-    → (h : Hears old new Between heard last n m) → Served r h.asked j k → Appends before after (text_of k r) → Finishes old new before after j.plan n
-done_bye old new before after heard last j k n m r b h s w = record {
+pub done_bye : (prompt : Bool) (old new : Ahead) (before after : Option (List ℕ)) (heard : Option Request) (last : Bool) (j k : Known) (n m : ℕ) (r : Reply) → r ≡ reply.Bye
+    → (h : Hears old new Between heard last n m) → Served prompt r h.asked j k → Appends before after (text_of k r) → Finishes prompt old new before after j.plan n
+done_bye prompt old new before after heard last j k n m r b h s w = record {
   bytes = h.bytes;
-  wants = s.2.0 ∷ [];
+  shortages = s.2.0 ∷ [];
+  caused = λ e. (s.2.1 e, tt);
   taken = h.taken;
   told = text_of k r;
   wrote = w;
-  law = λ rest x. replies_from old new heard last j k n m r h s Ended rest [] (follows_nothing last new.bytes rest h.at_end x)
+  law = λ rest x. replies_from prompt old new heard last j k n m r h s Ended rest [] (follows_nothing last new.bytes rest h.at_end x)
       ∙ ap (λ v. text_of k r ++ cond (ends v) [] (replies_to k.plan (asks Ended Between m (lines_until Ended rest)) [])) b ∙ append-nil (text_of k r);
 }
 
-pub stops_telling : (old new : Ahead) (before after : Option (List ℕ)) (heard : Option Request) (last : Bool) (j k : Known) (n m : ℕ) (r : Reply)
-    → (h : Hears old new Between heard last n m) → Served r h.asked j k → AppendsFront before after (text_of k r) → StopsTelling old new before after j.plan n
-stops_telling old new before after heard last j k n m r h s w = record {
+pub stops_telling : (prompt : Bool) (old new : Ahead) (before after : Option (List ℕ)) (heard : Option Request) (last : Bool) (j k : Known) (n m : ℕ) (r : Reply)
+    → (h : Hears old new Between heard last n m) → Served prompt r h.asked j k → AppendsFront before after (text_of k r) → StopsTelling prompt old new before after j.plan n
+stops_telling prompt old new before after heard last j k n m r h s w = record {
   bytes = h.bytes;
-  wants = s.2.0 ∷ [];
+  shortages = s.2.0 ∷ [];
+  caused = λ e. (s.2.1 e, tt);
   taken = h.taken;
-  law = λ rest x. subst (AppendsFront before after) (sym (replies_from old new heard last j k n m r h s Ended rest [] (follows_nothing last new.bytes rest h.at_end x)))
+  law = λ rest x. subst (AppendsFront before after) (sym (replies_from prompt old new heard last j k n m r h s Ended rest [] (follows_nothing last new.bytes rest h.at_end x)))
       (front_first before after (text_of k r) (cond (ends r) [] (replies_to k.plan (asks Ended Between m (lines_until Ended rest)) [])) w);
 }
 
 -- what was answered, and then what was answered next
-pub answers_answers : (a b c : Ahead) (x y z : Option (List ℕ)) (p q s : Plan) (n m k : ℕ) → Answers a b x y p q n m → Answers b c y z q s m k → Answers a c x z p s n k
-answers_answers a b c x y z p q s n m k f g = record {
+pub answers_answers : (prompt : Bool) (a b c : Ahead) (x y z : Option (List ℕ)) (p q s : Plan) (n m k : ℕ) → Answers prompt a b x y p q n m → Answers prompt b c y z q s m k → Answers prompt a c x z p s n k
+answers_answers prompt a b c x y z p q s n m k f g = record {
   bytes = f.bytes ++ g.bytes;
-  wants = f.wants ++ g.wants;
+  shortages = f.shortages ++ g.shortages;
+  caused = λ e. caused-append f.shortages g.shortages (f.caused e) (g.caused e);
   told = f.told ++ g.told;
   taken = takes_then a b c f.bytes g.bytes f.taken g.taken;
   wrote = Appends-trans x y z f.told g.told f.wrote g.wrote;
   law = λ stop more later.
-      ap (λ v. replies_to p (asks stop Between n (lines_until stop v)) ((f.wants ++ g.wants) ++ later)) (append_assoc f.bytes g.bytes more)
-      ∙ ap (replies_to p (asks stop Between n (lines_until stop (f.bytes ++ (g.bytes ++ more))))) (append_assoc f.wants g.wants later)
-      ∙ f.law stop (g.bytes ++ more) (g.wants ++ later) ∙ ap (λ v. f.told ++ v) (g.law stop more later) ∙ sym (append_assoc f.told g.told (replies_to s (asks stop Between k (lines_until stop more)) later));
+      ap (λ v. replies_to p (asks stop Between n (lines_until stop v)) ((f.shortages ++ g.shortages) ++ later)) (append_assoc f.bytes g.bytes more)
+      ∙ ap (replies_to p (asks stop Between n (lines_until stop (f.bytes ++ (g.bytes ++ more))))) (append_assoc f.shortages g.shortages later)
+      ∙ f.law stop (g.bytes ++ more) (g.shortages ++ later) ∙ ap (λ v. f.told ++ v) (g.law stop more later) ∙ sym (append_assoc f.told g.told (replies_to s (asks stop Between k (lines_until stop more)) later));
 }
 
-pub answers_finishes : (a b c : Ahead) (x y z : Option (List ℕ)) (p q : Plan) (n m : ℕ) → Answers a b x y p q n m → Finishes b c y z q m → Finishes a c x z p n
-answers_finishes a b c x y z p q n m f g = record {
+pub answers_finishes : (prompt : Bool) (a b c : Ahead) (x y z : Option (List ℕ)) (p q : Plan) (n m : ℕ) → Answers prompt a b x y p q n m → Finishes prompt b c y z q m → Finishes prompt a c x z p n
+answers_finishes prompt a b c x y z p q n m f g = record {
   bytes = f.bytes ++ g.bytes;
-  wants = f.wants ++ g.wants;
+  shortages = f.shortages ++ g.shortages;
+  caused = λ e. caused-append f.shortages g.shortages (f.caused e) (g.caused e);
   taken = takes_then a b c f.bytes g.bytes f.taken g.taken;
   told = f.told ++ g.told;
   wrote = Appends-trans x y z f.told g.told f.wrote g.wrote;
   law = λ rest e.
-      ap (λ v. replies_to p (asks Ended Between n (lines_until Ended v)) (f.wants ++ g.wants)) (append_assoc f.bytes g.bytes rest)
-      ∙ f.law Ended (g.bytes ++ rest) g.wants ∙ ap (λ v. f.told ++ v) (g.law rest e);
+      ap (λ v. replies_to p (asks Ended Between n (lines_until Ended v)) (f.shortages ++ g.shortages)) (append_assoc f.bytes g.bytes rest)
+      ∙ f.law Ended (g.bytes ++ rest) g.shortages ∙ ap (λ v. f.told ++ v) (g.law rest e);
 }
 
-pub answers_stops : (a b c : Ahead) (x y z : Option (List ℕ)) (p q : Plan) (n m : ℕ) → Answers a b x y p q n m → StopsTelling b c y z q m → StopsTelling a c x z p n
-answers_stops a b c x y z p q n m f g = record {
+pub answers_stops : (prompt : Bool) (a b c : Ahead) (x y z : Option (List ℕ)) (p q : Plan) (n m : ℕ) → Answers prompt a b x y p q n m → StopsTelling prompt b c y z q m → StopsTelling prompt a c x z p n
+answers_stops prompt a b c x y z p q n m f g = record {
   bytes = f.bytes ++ g.bytes;
-  wants = f.wants ++ g.wants;
+  shortages = f.shortages ++ g.shortages;
+  caused = λ e. caused-append f.shortages g.shortages (f.caused e) (g.caused e);
   taken = takes_then a b c f.bytes g.bytes f.taken g.taken;
   law = λ rest e.
-      let same = ap (λ v. replies_to p (asks Ended Between n (lines_until Ended v)) (f.wants ++ g.wants)) (append_assoc f.bytes g.bytes rest) ∙ f.law Ended (g.bytes ++ rest) g.wants in
-      subst (AppendsFront x z) (sym same) (front_then x y z f.told (replies_to q (asks Ended Between m (lines_until Ended (g.bytes ++ rest))) g.wants) f.wrote (g.law rest e));
+      let same = ap (λ v. replies_to p (asks Ended Between n (lines_until Ended v)) (f.shortages ++ g.shortages)) (append_assoc f.bytes g.bytes rest) ∙ f.law Ended (g.bytes ++ rest) g.shortages in
+      subst (AppendsFront x z) (sym same) (front_then x y z f.told (replies_to q (asks Ended Between m (lines_until Ended (g.bytes ++ rest))) g.shortages) f.wrote (g.law rest e));
 }
 
-pub answers_breaks : (a b c : Ahead) (x y : Option (List ℕ)) (q : Plan) (m : ℕ) → Answers a b x y (opening 0) q 1 m → BreaksOff b c Between m → AnswersWhole a c x y
-answers_breaks a b c x y q m f g =
-    let all : replies_by Broken (f.bytes ++ g.bytes) (f.wants ++ []) ≡ f.told
+pub answers_breaks : (prompt : Bool) (a b c : Ahead) (x y : Option (List ℕ)) (q : Plan) (m : ℕ) → Answers prompt a b x y (opening 0) q 1 m → BreaksOff b c Between m → AnswersWhole prompt a c x y
+answers_breaks prompt a b c x y q m f g =
+    let all : replies_by Broken (f.bytes ++ g.bytes) (f.shortages ++ []) ≡ f.told
     = f.law Broken g.bytes [] ∙ ap (λ v. f.told ++ replies_to q v []) g.law ∙ append-nil f.told in
     record {
       read = f.bytes ++ g.bytes;
-      wants = f.wants ++ [];
+      shortages = f.shortages ++ [];
+      caused = λ e. caused-append f.shortages [] (f.caused e) tt;
       taken = takes_then a b c f.bytes g.bytes f.taken g.taken;
       wrote = subst (Appends x y) (sym all) f.wrote;
     }
 
 -- at the beginning
-pub answers_none : (a b : Ahead) (x : Option (List ℕ)) (p q : Plan) (n : ℕ) → b ≡ a → q ≡ p → Answers a b x x p q n n
-answers_none a b x p q n e same = record {
+pub answers_none : (prompt : Bool) (a b : Ahead) (x : Option (List ℕ)) (p q : Plan) (n : ℕ) → b ≡ a → q ≡ p → Answers prompt a b x x p q n n
+answers_none prompt a b x p q n e same = record {
   bytes = [];
-  wants = [];
+  shortages = [];
+  caused = λ _. tt;
   told = [];
   taken = subst (λ o. Takes a o []) (sym e) (takes_none a);
   wrote = Appends-nil x;
@@ -195,24 +213,26 @@ answers_none a b x p q n e same = record {
 }
 
 -- at the end
-all_finished : (a c x z : Option (List ℕ)) (bytes told : List ℕ) (wants : List Want) → Consumes a c bytes → Appends x z told → ((rest : List ℕ) → c ≡ Some rest → replies_with (bytes ++ rest) wants ≡ told) → IfSome a (AnswersAll x z)
-all_finished None c x z bytes told wants taken wrote law = tt
-all_finished (Some script) None x z bytes told wants taken wrote law = absurd taken
-all_finished (Some script) (Some rest) x z bytes told wants taken wrote law = record {
-  wants = wants;
-  wrote = subst (Appends x z) (sym (ap (λ v. replies_with v wants) taken ∙ law rest refl)) wrote;
+all_finished : (prompt : Bool) (a c x z : Option (List ℕ)) (bytes told : List ℕ) (shortages : List Shortage) → AllCausedOver prompt shortages → Consumes a c bytes → Appends x z told → ((rest : List ℕ) → c ≡ Some rest → replies_with (bytes ++ rest) shortages ≡ told) → IfSome a (AnswersAll prompt x z)
+all_finished prompt None c x z bytes told shortages caused taken wrote law = tt
+all_finished prompt (Some script) None x z bytes told shortages caused taken wrote law = absurd taken
+all_finished prompt (Some script) (Some rest) x z bytes told shortages caused taken wrote law = record {
+  shortages = shortages;
+  caused = caused;
+  wrote = subst (Appends x z) (sym (ap (λ v. replies_with v shortages) taken ∙ law rest refl)) wrote;
 }
 
-pub finishes_all : (a c : Ahead) (x z : Option (List ℕ)) → Finishes a c x z (opening 0) 1 → IfSome a.bytes (AnswersAll x z)
-finishes_all a c x z f = all_finished a.bytes c.bytes x z f.bytes f.told f.wants f.taken.consumed f.wrote f.law
+pub finishes_all : (prompt : Bool) (a c : Ahead) (x z : Option (List ℕ)) → Finishes prompt a c x z (opening 0) 1 → IfSome a.bytes (AnswersAll prompt x z)
+finishes_all prompt a c x z f = all_finished prompt a.bytes c.bytes x z f.bytes f.told f.shortages f.caused f.taken.consumed f.wrote f.law
 
-front_stopped : (a c x z : Option (List ℕ)) (bytes : List ℕ) (wants : List Want) → Consumes a c bytes → ((rest : List ℕ) → c ≡ Some rest → AppendsFront x z (replies_with (bytes ++ rest) wants)) → IfSome a (AnswersFront x z)
-front_stopped None c x z bytes wants taken law = tt
-front_stopped (Some script) None x z bytes wants taken law = absurd taken
-front_stopped (Some script) (Some rest) x z bytes wants taken law = record {
-  wants = wants;
-  wrote = subst (λ v. AppendsFront x z (replies_with v wants)) (sym taken) (law rest refl);
+front_stopped : (prompt : Bool) (a c x z : Option (List ℕ)) (bytes : List ℕ) (shortages : List Shortage) → AllCausedOver prompt shortages → Consumes a c bytes → ((rest : List ℕ) → c ≡ Some rest → AppendsFront x z (replies_with (bytes ++ rest) shortages)) → IfSome a (AnswersFront prompt x z)
+front_stopped prompt None c x z bytes shortages caused taken law = tt
+front_stopped prompt (Some script) None x z bytes shortages caused taken law = absurd taken
+front_stopped prompt (Some script) (Some rest) x z bytes shortages caused taken law = record {
+  shortages = shortages;
+  caused = caused;
+  wrote = subst (λ v. AppendsFront x z (replies_with v shortages)) (sym taken) (law rest refl);
 }
 
-pub stops_front : (a c : Ahead) (x z : Option (List ℕ)) → StopsTelling a c x z (opening 0) 1 → IfSome a.bytes (AnswersFront x z)
-stops_front a c x z f = front_stopped a.bytes c.bytes x z f.bytes f.wants f.taken.consumed f.law
+pub stops_front : (prompt : Bool) (a c : Ahead) (x z : Option (List ℕ)) → StopsTelling prompt a c x z (opening 0) 1 → IfSome a.bytes (AnswersFront prompt x z)
+stops_front prompt a c x z f = front_stopped prompt a.bytes c.bytes x z f.bytes f.shortages f.caused f.taken.consumed f.law

@@ -12,7 +12,6 @@ use Rattle.schedule.specs.Plan.{Plan}
 use Rattle.schedule.specs.Asked.{Asked, asked_of, InsertIntervention, ReplaceStart, ReplaceRule, AddBookmark}
 use Rattle.schedule.specs.Change.{Changed, change}
 use Rattle.schedule.specs.Scratch.{scratch}
-use Rattle.desk_core.specs.declared.cause.Cause.{Cause}
 use Rattle.desk_core.specs.Rows.{bookmark_in}
 use Rattle.desk_server.specs.declared.fault.ScriptFault.{ScriptFault}
 use Rattle.desk_server.specs.declared.fault.ScriptFault.TheVariants.{BadCommand, NoEnd}
@@ -21,6 +20,7 @@ use Rattle.desk_server.specs.declared.format.Format.TheVariants as format
 use Rattle.desk_server.specs.declared.command.Command.{Command}
 use Rattle.desk_server.specs.declared.command.Command.TheVariants.{Edit, Settle, Show, Quit}
 use Rattle.desk_server.specs.Faults.{Fault, of_rule, of_pattern, of_macrocell, of_edit, of_script}
+use Rattle.desk_server.specs.Shortage.{Shortage, NoShortage, Memory, Unsettled, Pending}
 use Rattle.desk_server.specs.Reply.{accepted_text, settled_text, unsettled_text, current_text, pending_text, refused_text, bye_text}
 
 -- what is asked of the desk: a command, what a text of a format means, or to refuse what lines say
@@ -28,13 +28,6 @@ pub data Ask : Type 0 where
   Obey : Command → Ask
   Take : Format → List ℕ → Ask
   Refuse : ScriptFault → Ask
-
--- what a command met: enough of everything, want of memory, a settling that left so many bookmarks pending for this cause, or a bookmark that stayed pending
-pub data Want : Type 0 where
-  Enough : Want
-  Memory : Want
-  Unsettled : ℕ → Cause → Want
-  Pending : Want
 
 -- what is replied, the document after it, and whether the script ends
 pub record After : Type 0 where
@@ -52,9 +45,9 @@ refused p fault = only p (refused_text fault)
 abbrev pub no_memory : Plan → After
 no_memory p = refused p (of_edit NoMemory)
 
--- a command that can meet want of memory, and then does nothing
-abbrev pub unless_memory : Want → Plan → After → After
-unless_memory Enough p after = after
+-- a command that does nothing where it is out of memory
+abbrev pub unless_memory : Shortage → Plan → After → After
+unless_memory NoShortage p after = after
 unless_memory Memory p after = no_memory p
 unless_memory (Unsettled n cause) p after = after
 unless_memory Pending p after = after
@@ -88,39 +81,39 @@ taken p format.Rule text = unless_fault p of_rule (λ (rule : FileRule). edited 
 taken p format.Rle text = unless_fault p of_pattern (λ (loaded : Loaded). started p loaded.generation loaded.plane) (pattern_of text)
 taken p format.Macrocell text = unless_fault p of_macrocell (λ (loaded : Loaded). started p loaded.generation loaded.plane) (macrocells.pattern_of text)
 
--- all texts were computed; a want leaves some bookmarks pending
-abbrev pub settled : Want → Plan → After
-settled Enough p = only p settled_text
+-- all texts were computed, or a shortage leaves some bookmarks pending
+abbrev pub settled : Shortage → Plan → After
+settled NoShortage p = only p settled_text
 settled Memory p = only p settled_text
-settled (Unsettled n cause) p = if nat_le 1 n && nat_le n (length p.bookmarks) then only p (unsettled_text n (Some cause)) else only p settled_text
+settled (Unsettled n cause) p = if nat_le 1 n && nat_le n (length p.bookmarks) then only p (unsettled_text n cause) else only p settled_text
 settled Pending p = only p settled_text
 
--- a bookmark of the document is shown with the text that starting over gives, unless a want left it pending
-abbrev pub there : Want → Plan → ℕ → Bookmark → After
-there Enough p id b = only p (current_text id (scratch p b))
+-- a bookmark of the document is shown with the text that starting over gives, unless a shortage left it pending
+abbrev pub there : Shortage → Plan → ℕ → Bookmark → After
+there NoShortage p id b = only p (current_text id (scratch p b))
 there Memory p id b = no_memory p
 there (Unsettled n cause) p id b = only p (current_text id (scratch p b))
 there Pending p id b = only p (pending_text id)
 
 -- a bookmark is shown, if there is one
-abbrev pub shown : Want → Plan → ℕ → Option Bookmark → After
-shown want p id None = unless_memory want p (refused p (of_edit NoSuchBookmark))
-shown want p id (Some b) = there want p id b
+abbrev pub shown : Shortage → Plan → ℕ → Option Bookmark → After
+shown short p id None = unless_memory short p (refused p (of_edit NoSuchBookmark))
+shown short p id (Some b) = there short p id b
 
 -- a command
-abbrev pub obeyed : Want → Plan → Command → After
-obeyed want p (Edit edit) = unless_memory want p (edited p (asked_of edit))
-obeyed want p Settle = settled want p
-obeyed want p (Show id) = shown want p id (bookmark_in p.bookmarks id)
-obeyed want p Quit = record { told = bye_text; plan = p; ends = true }
+abbrev pub obeyed : Shortage → Plan → Command → After
+obeyed short p (Edit edit) = unless_memory short p (edited p (asked_of edit))
+obeyed short p Settle = settled short p
+obeyed short p (Show id) = shown short p id (bookmark_in p.bookmarks id)
+obeyed short p Quit = record { told = bye_text; plan = p; ends = true }
 
--- what is replied to what is asked; a want that it can't meet counts as none
-abbrev pub answer : Want → Plan → Ask → After
-answer want p (Obey command) = obeyed want p command
-answer want p (Take format text) = unless_memory want p (taken p format text)
-answer want p (Refuse (BadCommand line)) = unless_memory want p (refused p (of_script (BadCommand line)))
-answer want p (Refuse (NoEnd line)) = refused p (of_script (NoEnd line))
+-- what is replied to what is asked; a shortage that can't stand against it counts as none
+abbrev pub answer : Shortage → Plan → Ask → After
+answer short p (Obey command) = obeyed short p command
+answer short p (Take format text) = unless_memory short p (taken p format text)
+answer short p (Refuse (BadCommand line)) = unless_memory short p (refused p (of_script (BadCommand line)))
+answer short p (Refuse (NoEnd line)) = refused p (of_script (NoEnd line))
 
--- want of memory is replied to it, and nothing changes
-abbrev pub CanWant : Ask → Type 0
-CanWant ask = (p : Plan) → answer Memory p ask ≡ no_memory p
+-- where it is out of memory, that is replied and nothing changes
+abbrev pub CanLackMemory : Ask → Type 0
+CanLackMemory ask = (p : Plan) → answer Memory p ask ≡ no_memory p

@@ -10,7 +10,8 @@ use Rattle.script_lines.specs.Text.{IsText}
 use Rattle.schedule.specs.Plan.{Plan}
 use Rattle.desk_core.specs.Rows.{Known}
 use Rattle.desk_server.specs.Command.{command_of, format_of}
-use Rattle.desk_server.specs.Answer.{Ask, Obey, Take, Refuse, Want, After, answer, unless_memory, CanWant}
+use Rattle.desk_server.specs.Shortage.{Shortage, IsCausedOver}
+use Rattle.desk_server.specs.Answer.{Ask, Obey, Take, Refuse, After, answer, unless_memory, CanLackMemory}
 use Rattle.desk_server.specs.Script.{asks, asked_by, Place, Between}
 use Rattle.desk_server.specs.Told.{text_of, ends}
 use Rattle.desk_server.specs.declared.reply.Reply.{Reply}
@@ -20,21 +21,21 @@ use Rattle.desk_server.specs.declared.request.Request.TheVariants as request
 use Rattle.desk_server.specs.declared.heard.Meaning.{Meaning}
 use Rattle.desk_server.specs.declared.heard.Meaning.TheVariants as meaning
 
--- whatever line has this command, it can meet want of memory
-abbrev pub LineCanWant : Option Command → Type 0
-LineCanWant command = (n : ℕ) → CanWant (asked_by n command)
+-- whatever line has this command, it can be out of memory
+abbrev pub LineCanLackMemory : Option Command → Type 0
+LineCanLackMemory command = (n : ℕ) → CanLackMemory (asked_by n command)
 
--- what a request asks: this, or something that memory was wanted for
+-- what a request asks: this, or something that is out of memory
 abbrev pub AsksFor : Request → Ask → Type 0
 AsksFor (request.Obey command) ask = ask ≡ Obey command
 AsksFor (request.Take format text) ask = (bytes : List ℕ) × (ask ≡ Take format bytes) × IsText text bytes
 AsksFor (request.Refuse fault) ask = ask ≡ Refuse fault
-AsksFor request.NoMemory ask = CanWant ask
+AsksFor request.NoMemory ask = CanLackMemory ask
 
--- nothing was asked, or one thing
-abbrev pub Asked : Option Request → List Ask → Type 0
-Asked None asked = asked ≡ []
-Asked (Some r) asked = (ask : Ask) × (asked ≡ ask ∷ []) × AsksFor r ask
+-- nothing was asked, or what the request asks
+abbrev pub AsksIfAny : Option Request → List Ask → Type 0
+AsksIfAny None asked = asked ≡ []
+AsksIfAny (Some r) asked = (ask : Ask) × (asked ≡ ask ∷ []) × AsksFor r ask
 
 -- what line n means that says this
 abbrev pub Means : ℕ → Meaning → List ℕ → Type 0
@@ -48,7 +49,7 @@ pub record Hears (old new : Ahead) (place : Place) (heard : Option Request) (las
   pub asked : List Ask
   pub taken : Takes old new bytes
   pub law : (stop : End) (more : List ℕ) → Follows last stop more → asks stop place n (lines_until stop (bytes ++ more)) ≡ asked ++ asks stop Between m (lines_until stop more)
-  pub is : Asked heard asked
+  pub is : AsksIfAny heard asked
   pub at_end : last ≡ true → IsAtEnd new.bytes
 
 -- the reading broke off before anything more was asked
@@ -65,14 +66,21 @@ ReadFails remaining old new = FailsOrFull old.failures new.failures new.given ×
 abbrev pub Gives : After → Reply → Known → Type 0
 Gives after reply new = after ≡ record { told = text_of new reply; plan = new.plan; ends = ends reply }
 
--- they are those of an answer, for some want
-abbrev pub GivesBy : (Want → After) → Reply → Known → Type 0
-GivesBy after reply new = (want : Want) × Gives (after want) reply new
+-- they are those of an answer, for some shortage; over a prompt post it has a cause
+abbrev pub GivesBy : Bool → (Shortage → After) → Reply → Known → Type 0
+GivesBy prompt after reply new =
+    (shortage : Shortage) × IsCausedOver prompt shortage × Gives (after shortage) reply new
 
--- the same of an answer that want of memory can take the place of
-abbrev pub GivesOrWants : Plan → After → Reply → Known → Type 0
-GivesOrWants p after = GivesBy (λ want. unless_memory want p after)
+-- the same of an answer that being out of memory can take the place of, whatever the post
+abbrev pub GivesOrLacks : Plan → After → Reply → Known → Type 0
+GivesOrLacks p after = GivesBy true (λ shortage. unless_memory shortage p after)
+
+-- whatever the request asks, they are those of the answer to that
+abbrev pub Serves : Bool → Request → Reply → Known → Known → Type 0
+Serves prompt request reply old new =
+    (ask : Ask) → AsksFor request ask → GivesBy prompt (λ short. answer short old.plan ask) reply new
 
 -- the reply to what was asked
-abbrev pub Served : Reply → List Ask → Known → Known → Type 0
-Served reply asked old new = (ask : Ask) × (asked ≡ ask ∷ []) × GivesBy (λ want. answer want old.plan ask) reply new
+abbrev pub Served : Bool → Reply → List Ask → Known → Known → Type 0
+Served prompt reply asked old new =
+    (ask : Ask) × (asked ≡ ask ∷ []) × GivesBy prompt (λ short. answer short old.plan ask) reply new

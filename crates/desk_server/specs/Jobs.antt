@@ -1,23 +1,29 @@
 -- The desk's jobs, and the post that carries them.
-use Rattle.std.specs.Prelude.{◌≡◌, ℕ, ◌≤◌, Bool, true, Option, Some}
+use Rattle.std.specs.Prelude.{◌≡◌, ◌⊎◌, ℕ, Bool, true, Option, Some}
 use Rattle.revision_jobs.specs.declared.entries.Entries.{Entries}
 use Rattle.revision_jobs.specs.declared.answer.Job.{Job}
 use Rattle.dependency_book.specs.declared.need.Need.{Need}
-use Rattle.desk_core.specs.Rows.{Known, expected}
-use Rattle.desk_core.specs.Shown.{IsHeld}
+use Rattle.desk_core.specs.Rows.{Known, expected, pending_of, NothingOut}
+use Rattle.desk_core.specs.Shown.{IsHeld, Serves}
 
--- a post of the table that is prompt and took no job
-pub record IsFresh {P : Type 0} (table : P → Entries) (floor : P → ℕ) (is_prompt : P → Bool) (post : P) (entries : Entries) : Type 0 where
+-- a post of the table that took no job
+pub record IsFresh {P : Type 0} (table : P → Entries) (floor : P → ℕ) (post : P) (entries : Entries) : Type 0 where
   pub own : table post ≡ entries
   pub none : floor post ≡ 0
-  pub prompt : is_prompt post ≡ true
 
--- a post of the desk's table that is prompt, took only numbers that the desk gave, and holds whatever job is out
+-- a post of the desk's table that took only numbers that the desk gave; if it is prompt it holds whatever job is out
 pub record Carries {P : Type 0} (table : P → Entries) (floor : P → ℕ) (is_prompt : P → Bool) (held : P → Option Job) (post : P) (d : Known) : Type 0 where
-  pub own : table post ≡ d.table
-  pub numbers : floor post ≤ d.given
-  pub prompt : is_prompt post ≡ true
-  pub out : IsHeld (held post) d
+  pub serves : Serves d (table post) (floor post)
+  pub out : is_prompt post ≡ true → IsHeld (held post) d
+
+-- the post is of the kind that it was, and carries the jobs of the desk that is left
+pub record CarriesOn {P : Type 0} (table : P → Entries) (floor : P → ℕ) (is_prompt : P → Bool) (held : P → Option Job) (old new : P) (d : Known) : Type 0 where
+  pub kind : is_prompt new ≡ is_prompt old
+  pub carries : Carries table floor is_prompt held new d
+
+-- nothing is left to compute, or no job is out
+abbrev pub IsDoneWith : Known → Type 0
+IsDoneWith d = (pending_of d ≡ 0) ⊎ NothingOut d
 
 -- the table and how many numbers were given are the same, and no job is out that wasn't
 pub record DropsJobs (old new : Known) : Type 0 where

@@ -4,11 +4,12 @@ pub mod Command
 pub mod Cells
 pub mod Faults
 pub mod Reply
+pub mod Shortage
 pub mod Answer
 pub mod Script
-pub mod Wanted
+pub mod Plain
+pub mod Jobs
 pub mod Told
 pub mod Heard
-pub mod Jobs
 pub mod Run
 pub mod Round

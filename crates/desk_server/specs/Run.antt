@@ -1,51 +1,57 @@
 -- What a run leaves read and written.
-use Rattle.std.specs.Prelude.{◌≡◌, ℕ, List, ◌++◌, Option, Some}
+use Rattle.std.specs.Prelude.{◌≡◌, ℕ, Bool, List, ◌++◌, Option, Some}
 use Rattle.std.specs.Io.KnownBytes.{Appends}
 use Rattle.script_lines.specs.Ahead.{Ahead, Takes}
 use Rattle.text_lines.specs.Lines.{End, Ended, Broken, lines_until}
 use Rattle.script_lines.specs.Faults.{AppendsFront}
 use Rattle.schedule.specs.Plan.{Plan}
-use Rattle.desk_server.specs.Answer.{Want}
+use Rattle.desk_server.specs.Shortage.{Shortage, AllCausedOver}
 use Rattle.desk_server.specs.Script.{asks, Between, replies_to, replies_by, replies_with}
 
 -- something was heard and answered: whatever follows, the replies are what was written and then those to what follows
-pub record Answers (old new : Ahead) (before after : Option (List ℕ)) (p q : Plan) (n m : ℕ) : Type 0 where
+pub record Answers (prompt : Bool) (old new : Ahead) (before after : Option (List ℕ)) (p q : Plan) (n m : ℕ) : Type 0 where
   pub bytes : List ℕ
-  pub wants : List Want
+  pub shortages : List Shortage
+  pub caused : AllCausedOver prompt shortages
   pub told : List ℕ
   pub taken : Takes old new bytes
   pub wrote : Appends before after told
-  pub law : (stop : End) (more : List ℕ) (later : List Want) → replies_to p (asks stop Between n (lines_until stop (bytes ++ more))) (wants ++ later) ≡ told ++ replies_to q (asks stop Between m (lines_until stop more)) later
+  pub law : (stop : End) (more : List ℕ) (later : List Shortage) → replies_to p (asks stop Between n (lines_until stop (bytes ++ more))) (shortages ++ later) ≡ told ++ replies_to q (asks stop Between m (lines_until stop more)) later
 
 -- the script was answered to its end
-pub record Finishes (old new : Ahead) (before after : Option (List ℕ)) (p : Plan) (n : ℕ) : Type 0 where
+pub record Finishes (prompt : Bool) (old new : Ahead) (before after : Option (List ℕ)) (p : Plan) (n : ℕ) : Type 0 where
   pub bytes : List ℕ
-  pub wants : List Want
+  pub shortages : List Shortage
+  pub caused : AllCausedOver prompt shortages
   pub taken : Takes old new bytes
   pub told : List ℕ
   pub wrote : Appends before after told
-  pub law : (rest : List ℕ) → new.bytes ≡ Some rest → replies_to p (asks Ended Between n (lines_until Ended (bytes ++ rest))) wants ≡ told
+  pub law : (rest : List ℕ) → new.bytes ≡ Some rest → replies_to p (asks Ended Between n (lines_until Ended (bytes ++ rest))) shortages ≡ told
 
 -- of the replies a beginning was written
-pub record StopsTelling (old new : Ahead) (before after : Option (List ℕ)) (p : Plan) (n : ℕ) : Type 0 where
+pub record StopsTelling (prompt : Bool) (old new : Ahead) (before after : Option (List ℕ)) (p : Plan) (n : ℕ) : Type 0 where
   pub bytes : List ℕ
-  pub wants : List Want
+  pub shortages : List Shortage
+  pub caused : AllCausedOver prompt shortages
   pub taken : Takes old new bytes
-  pub law : (rest : List ℕ) → new.bytes ≡ Some rest → AppendsFront before after (replies_to p (asks Ended Between n (lines_until Ended (bytes ++ rest))) wants)
+  pub law : (rest : List ℕ) → new.bytes ≡ Some rest → AppendsFront before after (replies_to p (asks Ended Between n (lines_until Ended (bytes ++ rest))) shortages)
 
 -- what the reader gave was answered as far as commands were read whole
-pub record AnswersWhole (old new : Ahead) (before after : Option (List ℕ)) : Type 0 where
+pub record AnswersWhole (prompt : Bool) (old new : Ahead) (before after : Option (List ℕ)) : Type 0 where
   pub read : List ℕ
-  pub wants : List Want
+  pub shortages : List Shortage
+  pub caused : AllCausedOver prompt shortages
   pub taken : Takes old new read
-  pub wrote : Appends before after (replies_by Broken read wants)
+  pub wrote : Appends before after (replies_by Broken read shortages)
 
--- the replies to the script were written, for some wants
-pub record AnswersAll (before after : Option (List ℕ)) (script : List ℕ) : Type 0 where
-  pub wants : List Want
-  pub wrote : Appends before after (replies_with script wants)
+-- the replies to the script were written, for some shortages
+pub record AnswersAll (prompt : Bool) (before after : Option (List ℕ)) (script : List ℕ) : Type 0 where
+  pub shortages : List Shortage
+  pub caused : AllCausedOver prompt shortages
+  pub wrote : Appends before after (replies_with script shortages)
 
--- a beginning of the replies was written, for some wants
-pub record AnswersFront (before after : Option (List ℕ)) (script : List ℕ) : Type 0 where
-  pub wants : List Want
-  pub wrote : AppendsFront before after (replies_with script wants)
+-- a beginning of the replies was written, for some shortages
+pub record AnswersFront (prompt : Bool) (before after : Option (List ℕ)) (script : List ℕ) : Type 0 where
+  pub shortages : List Shortage
+  pub caused : AllCausedOver prompt shortages
+  pub wrote : AppendsFront before after (replies_with script shortages)

@@ -7,7 +7,8 @@ use Rattle.desk_server.specs.Command.{command_of, format_of}
 use Rattle.desk_server.specs.declared.fault.ScriptFault.TheVariants.{BadCommand, NoEnd}
 use Rattle.desk_server.specs.declared.format.Format.{Format}
 use Rattle.desk_server.specs.declared.command.Command.{Command}
-use Rattle.desk_server.specs.Answer.{Ask, Obey, Take, Refuse, Want, Enough, After, answer}
+use Rattle.desk_server.specs.Shortage.{Shortage, NoShortage}
+use Rattle.desk_server.specs.Answer.{Ask, Obey, Take, Refuse, After, answer}
 
 -- where a line stands: between commands, or in the text of a format, of the command on line `at`
 pub data Place : Type 0 where
@@ -45,33 +46,33 @@ asks stop (InText at format text) n (line ∷ rest) =
     if is_end line.says then Take format text ∷ asks stop Between (n + 1) rest
     else asks stop (InText at format (text ++ line.raw)) (n + 1) rest
 
--- what the next one asked meets, and those after it; with none left there is enough
-abbrev pub first_want : List Want → Want
-first_want [] = Enough
-first_want (w ∷ ws) = w
+-- what is short for the next one asked, and for those after it; with none left nothing is
+abbrev pub first_shortage : List Shortage → Shortage
+first_shortage [] = NoShortage
+first_shortage (w ∷ ws) = w
 
-abbrev pub later_wants : List Want → List Want
-later_wants [] = []
-later_wants (w ∷ ws) = ws
+abbrev pub later_shortages : List Shortage → List Shortage
+later_shortages [] = []
+later_shortages (w ∷ ws) = ws
 
 -- what is replied to each that is asked of the desk with this document, with the document after it
-abbrev pub afters : Plan → List Ask → List Want → List After
-afters p [] wants = []
-afters p (ask ∷ rest) wants =
-    let after = answer (first_want wants) p ask in
-    after ∷ (if after.ends then [] else afters after.plan rest (later_wants wants))
+abbrev pub afters : Plan → List Ask → List Shortage → List After
+afters p [] shortages = []
+afters p (ask ∷ rest) shortages =
+    let after = answer (first_shortage shortages) p ask in
+    after ∷ (if after.ends then [] else afters after.plan rest (later_shortages shortages))
 
 -- the replies to all
-abbrev pub replies_to : Plan → List Ask → List Want → List ℕ
-replies_to p asked wants = flat_map (λ (after : After). after.told) (afters p asked wants)
+abbrev pub replies_to : Plan → List Ask → List Shortage → List ℕ
+replies_to p asked shortages = flat_map (λ (after : After). after.told) (afters p asked shortages)
 
--- the replies to a script, however its reading stopped, where the wants say of one command after another what it met
-abbrev pub replies_by : End → List ℕ → List Want → List ℕ
-replies_by stop script wants = replies_to (opening 0) (asks stop Between 1 (lines_until stop script)) wants
+-- the replies to a script, however its reading stopped, where the shortages say of one command after another what is short for it
+abbrev pub replies_by : End → List ℕ → List Shortage → List ℕ
+replies_by stop script shortages = replies_to (opening 0) (asks stop Between 1 (lines_until stop script)) shortages
 
-abbrev pub replies_with : List ℕ → List Want → List ℕ
+abbrev pub replies_with : List ℕ → List Shortage → List ℕ
 replies_with = replies_by Ended
 
--- the replies to a script that meets no want
+-- the replies to a script for which nothing is short
 abbrev pub replies : List ℕ → List ℕ
 replies script = replies_with script []

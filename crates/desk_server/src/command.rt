@@ -3,7 +3,7 @@ ghost use Rattle.std.specs.Prelude.{◌≡◌, IfOk, OnErr};
 ghost use Rattle.std.specs.Option.{option_map};
 ghost use Rattle.script_lines.specs.Words.{words};
 ghost use Rattle.desk_server.specs.Command.{command_of, command_by, edit_by, one_count};
-ghost use Rattle.desk_server.specs.Heard.{LineCanWant};
+ghost use Rattle.desk_server.specs.Heard.{LineCanLackMemory};
 
 use crate::edits::read_edit;
 use crate::words::{alone, one_count};
@@ -27,7 +27,7 @@ pub enum Command {
 /// The command of a line, or None where it has none.
 pub(crate) fn read_command(alloc: Global, line: &[u8]) -> Result<Option<Command>, AllocError>
     ensures ok { IfOk result (λ command. command ≡ command_of line.now) }
-    ensures err { OnErr result (LineCanWant (command_of line.now)) }
+    ensures err { OnErr result (LineCanLackMemory (command_of line.now)) }
 {
     let Some((word, rest)) = next_word(line) else {
         return Ok(None);
@@ -38,7 +38,7 @@ pub(crate) fn read_command(alloc: Global, line: &[u8]) -> Result<Option<Command>
 // The command of a first word and those behind it.
 fn read_by(alloc: Global, word: &[u8], rest: &[u8]) -> Result<Option<Command>, AllocError>
     ensures ok { IfOk result (λ command. command ≡ command_by word.now (words rest.now)) }
-    ensures err { OnErr result (LineCanWant (command_by word.now (words rest.now))) }
+    ensures err { OnErr result (LineCanLackMemory (command_by word.now (words rest.now))) }
 {
     if word == b"settle".as_slice() {
         Ok(alone(Command::Settle, rest))
@@ -63,7 +63,7 @@ fn read_edit_command(alloc: Global, word: &[u8], rest: &[u8]) -> Result<Option<C
     ensures ok { IfOk result (λ command. command
         ≡ option_map Command.Edit (edit_by word.now (words rest.now))) }
     ensures err { OnErr result
-        (LineCanWant (option_map Command.Edit (edit_by word.now (words rest.now)))) }
+        (LineCanLackMemory (option_map Command.Edit (edit_by word.now (words rest.now)))) }
 {
     match read_edit(alloc, word, rest)? {
         Some(edit) => Ok(Some(Command::Edit(edit))),

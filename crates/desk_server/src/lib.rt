@@ -13,7 +13,6 @@
 //! else is in proportion to what is read and written.
 #![tactic(auto)]
 
-mod asked;
 mod cells;
 mod command;
 mod edits;
@@ -23,11 +22,12 @@ mod heard;
 mod laws;
 mod reply;
 mod request;
+mod serve;
 mod server;
 mod view;
 mod words;
 
 pub use desk_core::{Entries, InlinePost, Post};
-pub use laws::plain_without_wants;
+pub use laws::plain_without_shortages;
 pub use script_lines::{CountedReader, CountedWriter};
 pub use server::{RunFault, run};

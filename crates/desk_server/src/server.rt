@@ -1,16 +1,18 @@
 //! A script, answered while it is read.
-ghost use Rattle.std.specs.Prelude.{◌≡◌, ◌+◌, IfSome, OnOk, Ok, Err};
-ghost use Rattle.desk_server.specs.Jobs.{Carries, IsFresh};
-ghost use Rattle.desk_server.specs.Run.{Finishes, AnswersAll};
-ghost use Rattle.desk_server.specs.Round.{GoesOn, Works, ReadBreaks, WriteBreaks, ReadStops, WriteStops};
+ghost use Rattle.std.specs.Prelude.{◌≡◌, Err, Ok, OnOk};
+ghost use Rattle.desk_server.specs.Heard.{ReadFails};
+ghost use Rattle.desk_server.specs.Jobs.{Carries, CarriesOn, IsFresh};
+ghost use Rattle.desk_server.specs.Round.{Completes, Ends, GoesOn, ReadBreaks, ReadStops};
+ghost use Rattle.desk_server.specs.Round.{WriteBreaks, WriteStops};
 
-use crate::asked::serve;
 use crate::heard::{Heard, listen};
 use crate::reply::{Reply, send};
+use crate::serve::serve;
 use desk_core::{Desk, Entries, Post};
 use script_lines::{CountedReader, CountedWriter, KeptLine};
 use std::alloc::Global;
 use std::io::{Read, Write};
+use std::ops::ControlFlow;
 use std::sync::Wait;
 use std::sync::ledger::Ledger;
 
@@ -23,13 +25,6 @@ pub enum RunFault {
     Write,
     /// There was no memory for an empty desk.
     NoMemory,
-}
-
-// What a round left to do.
-#[derive(Clone, Copy, Debug, PartialEq, Eq)]
-enum Rest {
-    GoOn,
-    Done,
 }
 
 // The device that a round failed at.
@@ -48,44 +43,50 @@ fn round<R: Read, W: Write, L: Ledger, M: Ledger, P: Post>(
     line: &mut KeptLine,
     desk: &mut Desk<'_>,
     post: &mut P,
-) -> Result<Rest, Device>
+) -> Result<ControlFlow<()>, Device>
     requires { Carries P.table P.floor P.is_prompt P.held post.old desk.old }
-    ensures goes_on { result ≡ Ok Rest.GoOn
-        → GoesOn reader.old reader.new writer.old writer.new desk.old desk.new
-        × Carries P.table P.floor P.is_prompt P.held post.new desk.new }
-    ensures done { result ≡ Ok Rest.Done → Finishes reader.old.ahead reader.new.ahead
-        writer.old.contents writer.new.contents desk.old.plan (reader.old.lines + 1) }
-    ensures works { OnOk result (Works reader.old reader.new writer.old writer.new) }
+    ensures goes_on { result ≡ Ok (ControlFlow.Continue tt) → GoesOn (P.is_prompt post.old)
+        reader.old reader.new writer.old writer.new desk.old desk.new }
+    ensures post { result ≡ Ok (ControlFlow.Continue tt)
+        → CarriesOn P.table P.floor P.is_prompt P.held post.old post.new desk.new }
+    ensures done { result ≡ Ok (ControlFlow.Break tt) → Ends (P.is_prompt post.old)
+        reader.old reader.new writer.old writer.new desk.old }
     ensures read { result ≡ Err Device.Reader
         → ReadBreaks R.remaining reader.old reader.new writer.old writer.new }
-    ensures write { result ≡ Err Device.Writer
-        → WriteBreaks reader.old reader.new writer.old writer.new desk.old }
+    ensures write { result ≡ Err Device.Writer → WriteBreaks (P.is_prompt post.old)
+        reader.old reader.new writer.old writer.new desk.old }
 {
     let Ok(heard) = listen(alloc, reader, line) else {
         return Err(Device::Reader);
     };
     let Heard { request, last } = heard;
     let Some(request) = request else {
-        return Ok(if last { Rest::Done } else { Rest::GoOn });
+        return Ok(if last {
+            ControlFlow::Break(())
+        } else {
+            ControlFlow::Continue(())
+        });
     };
     let reply = serve(rt, alloc, desk, post, request);
     if send(writer, desk, reply).is_err() {
         return Err(Device::Writer);
     }
     if last {
-        return Ok(Rest::Done);
+        return Ok(ControlFlow::Break(()));
     }
     Ok(if reply == Reply::Bye {
-        Rest::Done
+        ControlFlow::Break(())
     } else {
-        Rest::GoOn
+        ControlFlow::Continue(())
     })
 }
 
 /// Reads a script, and writes and hands on the reply to each command before it reads the next.
 ///
 /// What isn't known is computed by jobs of the table of entries over the post, and so many results
-/// of steps may be kept beside what the document needs. It may wait where the post does.
+/// of steps may be kept beside what the document needs. It may wait where the post does. Over a
+/// prompt post a settling that leaves bookmarks pending tells a cause. Over any other it may tell
+/// none, where the post is closed, has ended or was asked a million times.
 pub fn run<R: Read, W: Write, L: Ledger, M: Ledger, P: Post>(
     rt: &impl Wait,
     alloc: Global,
@@ -95,24 +96,23 @@ pub fn run<R: Read, W: Write, L: Ledger, M: Ledger, P: Post>(
     writer: &mut CountedWriter<W, M>,
     post: &mut P,
 ) -> Result<(), RunFault>
-    // The post is of the table, prompt, and took no job before.
-    requires { IsFresh P.table P.floor P.is_prompt post.old entries.now }
+    // The post is of the table, and took no job before.
+    requires { IsFresh P.table P.floor post.old entries.now }
 
-    // The replies to the script were written, for some wants.
-    ensures done { OnOk result (IfSome reader.old.ahead.bytes
-        (AnswersAll writer.old.contents writer.new.contents)) }
-
-    // No failure was counted, and what was written was handed on.
-    ensures works { OnOk result (Works reader.old reader.new writer.old writer.new) }
+    // The replies to the script were written, for some shortages; no failure was counted, and what
+    // was written was handed on.
+    ensures done { OnOk result
+        (Completes (P.is_prompt post.old) reader.old reader.new writer.old writer.new) }
 
     // Where a read failed, or 2^64 - 1 bytes came, all that was read was taken, and the commands
     // that were read whole were answered.
-    ensures read { result ≡ Err RunFault.Read
-        → ReadStops R.remaining reader.old reader.new writer.old writer.new }
+    ensures read { result ≡ Err RunFault.Read → ReadStops (P.is_prompt post.old)
+        reader.old reader.new writer.old writer.new }
+    ensures fails { result ≡ Err RunFault.Read → ReadFails R.remaining reader.old reader.new }
 
     // Where a write failed, a beginning of the replies was written.
     ensures write { result ≡ Err RunFault.Write
-        → WriteStops reader.old writer.old writer.new }
+        → WriteStops (P.is_prompt post.old) reader.old writer.old writer.new }
 
     // Where there was no memory to begin with, nothing was read or written.
     ensures no_memory { result ≡ Err RunFault.NoMemory
@@ -127,8 +127,8 @@ pub fn run<R: Read, W: Write, L: Ledger, M: Ledger, P: Post>(
     reader.begin();
     'script: loop {
         match round(rt, alloc, reader, writer, &mut line, &mut desk, post) {
-            Ok(Rest::GoOn) => {}
-            Ok(Rest::Done) => return Ok(()),
+            Ok(ControlFlow::Continue(())) => {}
+            Ok(ControlFlow::Break(())) => return Ok(()),
             Err(Device::Reader) => return Err(RunFault::Read),
             Err(Device::Writer) => return Err(RunFault::Write),
         }

@@ -6,3 +6,4 @@ pub mod Puts
 pub mod Computed
 pub mod Turns
 pub mod Once
+pub mod Adding

@@ -15,11 +15,11 @@ use Rattle.hash_engine.proofs.Standing.{above, within}
 use Rattle.hash_engine.proofs.Picked.{picked-same, picked-none, picked-more}
 
 -- a square of 4 by 4 cells, and one of a higher level
-is_four-two : (rows : List (List ℕ)) (n : ℕ) → IsNumber rows 2 n → is_four rows n ≡ true
+pub is_four-two : (rows : List (List ℕ)) (n : ℕ) → IsNumber rows 2 n → is_four rows n ≡ true
 unfolding IsNumber
 is_four-two rows n is = grind (arith, nat_tests, is.2.0, is.2.1, is.2.2)
 
-is_four-more : (rows : List (List ℕ)) (k n : ℕ) → IsNumber rows (suc (suc (suc k))) n → is_four rows n ≡ false
+pub is_four-more : (rows : List (List ℕ)) (k n : ℕ) → IsNumber rows (suc (suc (suc k))) n → is_four rows n ≡ false
 unfolding IsNumber
 is_four-more rows k n is = grind (arith, nat_tests, is.2.2.0)
 

@@ -25,6 +25,9 @@ StandsFor-grows t u k n s grows is = record {
   square = square_in-grows t u k n grows is.numbered ∙ is.square;
 }
 
+pub StandForAll-grows : (t u : Table) (k : ℕ) (ns : List ℕ) (ss : List Square) → Grows t u → StandForAll t.rows k ns ss → StandForAll u.rows k ns ss
+StandForAll-grows t u k ns ss grows are = record { count = are.count; each = λ j d e below. StandsFor-grows t u k _ _ grows (are.each j d e below) }
+
 -- the quadrants of a square, by their numbers
 pub record AreQuadrants (rows : List (List ℕ)) (k n : ℕ) (s : Square) : Type 0 where
   pub a : Square
@@ -73,7 +76,7 @@ joined_later t u k kids n a b c d grows is nw ne sw se =
     StandsFor-joined u.rows k kids n a b c d is (StandsFor-grows t u k _ a grows nw) (StandsFor-grows t u k _ b grows ne) (StandsFor-grows t u k _ c grows sw) (StandsFor-grows t u k _ d grows se)
 
 -- a quadrant by the list of them
-listed : (rows : List (List ℕ)) (k n q : ℕ) (kids : List ℕ) (s : Square) → kids ≡ kids_at rows n → StandsFor rows k (kid_at rows n q) s → StandsFor rows k (get_or kids q 0) s
+pub listed : (rows : List (List ℕ)) (k n q : ℕ) (kids : List ℕ) (s : Square) → kids ≡ kids_at rows n → StandsFor rows k (kid_at rows n q) s → StandsFor rows k (get_or kids q 0) s
 listed rows k n q kids s is h = subst (λ ks. StandsFor rows k (get_or ks q 0) s) (sym is) h
 
 pub StandsFor-between : (t u : Table) (k w e n : ℕ) (ws es : List ℕ) (s1 s2 : Square) → ws ≡ kids_at t.rows w → es ≡ kids_at t.rows e → Grows t u →

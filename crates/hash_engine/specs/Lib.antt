@@ -1,4 +1,5 @@
 pub mod Standing
+pub mod Adding
 pub mod Memo
 pub mod Found
 pub mod Asked

@@ -1,7 +1,7 @@
 //! How many squares a computation had.
 ghost use Rattle.std.specs.Prelude.{◌≡◌, ◌≤◌, ◌<◌, ◌+◌, length};
 ghost use Rattle.square_table.specs.Squares.{first_number, AreDistinct};
-ghost use Rattle.hash_engine.specs.Asked.{is_four, places_put};
+ghost use Rattle.hash_engine.specs.Asked.{is_four, places_of_four, places_put};
 
 use crate::memo::Memo;
 use square_table::SquareTable;
@@ -33,7 +33,8 @@ fn is_four(table: &SquareTable<'_>, number: u32) -> bool
 pub(crate) fn count_squares(table: &SquareTable<'_>, memo: &Memo) -> Counts
     ensures put { result.base ≡ length (places_put table.now.rows memo.now) }
     ensures base { result.base ≤ result.fours }
-    ensures fours { result.fours ≤ length table.now.rows }
+    ensures fours { result.fours ≡ length (places_of_four table.now.rows) }
+    ensures few { result.fours ≤ length table.now.rows }
     ensures distinct { AreDistinct table.now.rows }
 {
     let mut counts = Counts { fours: 0, base: 0 };

@@ -5,9 +5,11 @@ ghost use Rattle.worlds.specs.World.{World};
 ghost use Rattle.worlds.specs.Square as squares;
 ghost use Rattle.worlds.specs.Square.{square_at};
 ghost use Rattle.square_table.specs.Squares.{IsNumber, IsHeld, square_in, Grows, level_of, cells_of, first_number};
+ghost use Rattle.square_table.specs.Made.{IsFull};
 ghost use Rattle.hash_life.specs.Result as hash_life;
 ghost use Rattle.hash_life.specs.Puts.{IsBelow, AsksOnce};
 ghost use Rattle.hash_engine.specs.Standing.{StandsFor, StandForAll, IsReady};
+ghost use Rattle.hash_engine.specs.Adding.{GrowsOnWay};
 ghost use Rattle.hash_engine.specs.Memo.{IsRight, IsAnew};
 ghost use Rattle.hash_engine.specs.Asked.{AsksForMore};
 ghost use Rattle.hash_engine.specs.Found.{IsSameRule, StaysRight, CanBeAsked, IsLater, IsEnd, AreCounts};
@@ -45,13 +47,13 @@ fn put<Q: Ask>(
         table.old.rows 0 generations number }
     requires memo { IsAnew (Q.meaning rule.old) table.old.rows memo.old generations number }
     ensures stays { StaysRight (Q.meaning rule.old) (Q.meaning rule.new) (Q.state_count rule.old)
-        (Q.state_count rule.new) table.old table.new memo.new }
+        (Q.state_count rule.new) 0 generations (number ∷ []) table.old table.new memo.new }
     ensures found { IfOk result (λ n. StandsFor table.new.rows 1 n
         (hash_life.result (Q.meaning rule.old) 0 generations
         (square_in table.old.rows 2 number))
         × AsksForMore (Q.meaning rule.old) 0 generations (number ∷ [])
         table.old table.new memo.old memo.new (Q.asks rule.old) (Q.asks rule.new)) }
-    ensures full { result ≡ Err TableFault.NoRoom → length table.new.rows ≡ table.new.limit }
+    ensures full { result ≡ Err TableFault.NoRoom → IsFull table.new }
 {
     let made = parts::later(table, rule, number)?;
     memo.remember(0, generations, number, made)?;
@@ -76,7 +78,7 @@ fn later<Q: Ask, S: Stop>(
         table.old.rows k generations number }
     requires memo { IsRight (Q.meaning rule.old) table.old.rows memo.old }
     ensures stays { StaysRight (Q.meaning rule.old) (Q.meaning rule.new) (Q.state_count rule.old)
-        (Q.state_count rule.new) table.old table.new memo.new }
+        (Q.state_count rule.new) k generations (number ∷ []) table.old table.new memo.new }
     ensures end { IsEnd table.new (S.yes_count stop.old) (S.yes_count stop.new) result }
     ensures found { IfOk result (λ n. StandsFor table.new.rows (suc k) n
         (hash_life.result (Q.meaning rule.old) k generations
@@ -118,7 +120,7 @@ fn compute<Q: Ask, S: Stop>(
         table.old.rows k generations number }
     requires memo { IsRight (Q.meaning rule.old) table.old.rows memo.old }
     ensures stays { StaysRight (Q.meaning rule.old) (Q.meaning rule.new) (Q.state_count rule.old)
-        (Q.state_count rule.new) table.old table.new memo.new }
+        (Q.state_count rule.new) k generations (number ∷ []) table.old table.new memo.new }
     ensures end { IsEnd table.new (S.yes_count stop.old) (S.yes_count stop.new) result }
     ensures found { IfOk result (λ n. StandsFor table.new.rows (suc k) n
         (hash_life.result (Q.meaning rule.old) k generations
@@ -159,7 +161,7 @@ fn all_later<Q: Ask, S: Stop>(
         table.old.rows k generations) numbers.old }
     requires memo { IsRight (Q.meaning rule.old) table.old.rows memo.old }
     ensures stays { StaysRight (Q.meaning rule.old) (Q.meaning rule.new) (Q.state_count rule.old)
-        (Q.state_count rule.new) table.old table.new memo.new }
+        (Q.state_count rule.new) k generations numbers.old table.old table.new memo.new }
     ensures end { IsEnd table.new (S.yes_count stop.old) (S.yes_count stop.new) result }
     ensures found { OnOk result (((ss : List squares.Square) →
         StandForAll table.old.rows (suc (suc k)) numbers.old ss →
@@ -185,7 +187,7 @@ pub fn result<'a, Q: Ask, S: Stop>(
     stop: &mut S,
 ) -> Result<Found<'a>, ResultFault>
     requires { CanBeAsked (Q.state_count rule.old) table.old root }
-    ensures grows { Grows table.old table.new }
+    ensures grows { GrowsOnWay (Q.meaning rule.old) generations table.old root.entry table.new }
     ensures rule { IsSameRule (Q.meaning rule.old) (Q.meaning rule.new)
         (Q.state_count rule.old) (Q.state_count rule.new) }
     ensures square { IfOk result (λ found. IsLater (Q.meaning rule.old) generations

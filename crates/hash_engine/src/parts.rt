@@ -1,12 +1,14 @@
 //! Squares made of the quadrants of others.
 
-ghost use Rattle.std.specs.Prelude.{◌≡◌, ◌+◌, ◌<◌, ℕ, suc, List, All, length, IfOk, Err};
+ghost use Rattle.std.specs.Prelude.{◌≡◌, ◌+◌, ◌<◌, ℕ, suc, List, [], ◌∷◌, All, length, IfOk, Err};
 ghost use Rattle.worlds.specs.Square as squares;
 ghost use Rattle.worlds.specs.Square.{four};
 ghost use Rattle.square_table.specs.Squares.{IsNumber, square_in, Grows, kids_at};
+ghost use Rattle.square_table.specs.Made.{Adds, IsFull};
 ghost use Rattle.hash_life.specs.Result.{between, amid, middle, later};
 ghost use Rattle.hash_life.specs.Puts.{nine_of, fours_of, IsBelow};
 ghost use Rattle.hash_engine.specs.Standing.{StandsFor, StandForAll, CanBePut, of_four};
+ghost use Rattle.hash_engine.specs.Adding.{AddsOfTwo, AddsOf, AddsFours};
 ghost use Rattle.hash_engine.specs.Found.{IsSameRule};
 
 use square_table::{SquareTable, TableFault};
@@ -38,7 +40,8 @@ fn between(table: &mut SquareTable<'_>, west: u32, east: u32, guess: u32) -> Res
     ensures square { IfOk result (λ n. (k : ℕ) (s t : squares.Square) →
         StandsFor table.old.rows (suc k) west s → StandsFor table.old.rows (suc k) east t →
         StandsFor table.new.rows (suc k) n (between s t)) }
-    ensures full { result ≡ Err TableFault.NoRoom → length table.new.rows ≡ table.new.limit }
+    ensures adds { AddsOfTwo between table.old west east table.new }
+    ensures full { result ≡ Err TableFault.NoRoom → IsFull table.new }
 {
     let [_, nw, _, sw] = table.quadrants(west);
     let [ne, _, se, _] = table.quadrants(east);
@@ -53,7 +56,8 @@ fn amid(table: &mut SquareTable<'_>, north: u32, south: u32, guess: u32) -> Resu
     ensures square { IfOk result (λ n. (k : ℕ) (s t : squares.Square) →
         StandsFor table.old.rows (suc k) north s → StandsFor table.old.rows (suc k) south t →
         StandsFor table.new.rows (suc k) n (amid s t)) }
-    ensures full { result ≡ Err TableFault.NoRoom → length table.new.rows ≡ table.new.limit }
+    ensures adds { AddsOfTwo amid table.old north south table.new }
+    ensures full { result ≡ Err TableFault.NoRoom → IsFull table.new }
 {
     let [_, _, nw, ne] = table.quadrants(north);
     let [sw, se, _, _] = table.quadrants(south);
@@ -67,7 +71,8 @@ fn centre(table: &mut SquareTable<'_>, number: u32, guess: u32) -> Result<u32, T
     ensures square { IfOk result (λ n. (k : ℕ) (s : squares.Square) →
         StandsFor table.old.rows (suc (suc k)) number s →
         StandsFor table.new.rows (suc k) n (middle s)) }
-    ensures full { result ≡ Err TableFault.NoRoom → length table.new.rows ≡ table.new.limit }
+    ensures adds { AddsOf (λ s. middle s ∷ []) table.old number table.new }
+    ensures full { result ≡ Err TableFault.NoRoom → IsFull table.new }
 {
     let [nw, ne, sw, se] = table.quadrants(number);
     let [_, _, _, a] = table.quadrants(nw);
@@ -85,7 +90,8 @@ pub(crate) fn middle(table: &mut SquareTable<'_>, number: u32) -> Result<u32, Ta
     ensures square { IfOk result (λ n. (k : ℕ) (s : squares.Square) →
         StandsFor table.old.rows (suc (suc k)) number s →
         StandsFor table.new.rows (suc k) n (middle s)) }
-    ensures full { result ≡ Err TableFault.NoRoom → length table.new.rows ≡ table.new.limit }
+    ensures adds { AddsOf (λ s. middle s ∷ []) table.old number table.new }
+    ensures full { result ≡ Err TableFault.NoRoom → IsFull table.new }
 {
     let guess = 0;
     centre(table, number, guess)
@@ -98,7 +104,8 @@ pub(crate) fn nine(table: &mut SquareTable<'_>, number: u32) -> Result<[u32; 9],
     ensures squares { IfOk result (λ ns. (k : ℕ) (s : squares.Square) →
         StandsFor table.old.rows (suc (suc k)) number s →
         StandForAll table.new.rows (suc k) ns (nine_of s)) }
-    ensures full { result ≡ Err TableFault.NoRoom → length table.new.rows ≡ table.new.limit }
+    ensures adds { AddsOf nine_of table.old number table.new }
+    ensures full { result ≡ Err TableFault.NoRoom → IsFull table.new }
 {
     let [north, west, middle, east, south] = guesses(table, number);
     let [nw, ne, sw, se] = table.quadrants(number);
@@ -116,7 +123,8 @@ pub(crate) fn fours(table: &mut SquareTable<'_>, nine: [u32; 9]) -> Result<[u32;
     ensures squares { IfOk result (λ ns. (k : ℕ) (ss : List squares.Square) →
         StandForAll table.old.rows k nine ss →
         StandForAll table.new.rows (suc k) ns (fours_of ss)) }
-    ensures full { result ≡ Err TableFault.NoRoom → length table.new.rows ≡ table.new.limit }
+    ensures adds { AddsFours table.old nine table.new }
+    ensures full { result ≡ Err TableFault.NoRoom → IsFull table.new }
 {
     let [a, b, c, d, e, f, g, h, i] = nine;
     let nw = table.guess([a, b, d, e]);
@@ -168,14 +176,15 @@ pub(crate) fn later<Q: Ask>(
     number: u32,
 ) -> Result<u32, TableFault>
     requires { CanBePut (Q.state_count rule.old) table.old.rows number }
-    ensures grows { Grows table.old table.new }
+    ensures adds { Adds (later (Q.meaning rule.old) (square_in table.old.rows 2 number) ∷ [])
+        table.old table.new }
     ensures square { IfOk result (λ n.
         StandsFor table.new.rows 1 n
         (later (Q.meaning rule.old) (square_in table.old.rows 2 number))) }
     ensures rule { IsSameRule (Q.meaning rule.old) (Q.meaning rule.new)
         (Q.state_count rule.old) (Q.state_count rule.new) }
     ensures asks { Q.asks rule.new ≡ Q.asks rule.old + 4 }
-    ensures full { result ≡ Err TableFault.NoRoom → length table.new.rows ≡ table.new.limit }
+    ensures full { result ≡ Err TableFault.NoRoom → IsFull table.new }
 {
     let [nw, ne, sw, se] = table.quadrants(number);
     let [nw, ne, sw, se] = ask_four(

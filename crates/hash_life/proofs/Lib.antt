@@ -4,3 +4,4 @@ pub mod Nine
 pub mod Below
 pub mod InTwo
 pub mod Places
+pub mod Made

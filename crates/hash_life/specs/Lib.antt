@@ -1,2 +1,3 @@
 pub mod Result
 pub mod Puts
+pub mod Makes

@@ -26,7 +26,8 @@ row_of text = if nat_le (length text) 8 && list_all is_cell text then Some (row_
 abbrev pub rows_of : ℕ → List (List ℕ) → Option (List ℕ)
 rows_of due [] = Some (replicate due 0)
 rows_of zero (text ∷ texts) = if length text == 0 then rows_of zero texts else None
-rows_of (suc due) (text ∷ texts) = row_of text >>= λ row. option_map (λ rows. row ∷ rows) (rows_of due texts)
+rows_of (suc due) (text ∷ texts) =
+    row_of text >>= λ row. option_map (λ rows. row ∷ rows) (rows_of due texts)
 
 -- the square that a line draws, whose rows end with $
 abbrev pub bitmap_of : List ℕ → Option Bitmap

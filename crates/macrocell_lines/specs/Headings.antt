@@ -19,7 +19,9 @@ value_in (b ∷ bs) = if is_blank b then Some (trim bs) else None
 
 -- what a line says behind a word, which stands alone or has a blank behind it
 abbrev pub value_behind : List ℕ → List ℕ → Option (List ℕ)
-value_behind word line = option_and_then value_in (if starts_with nat_eq line word then Some (drop (length word) line) else None)
+value_behind word line =
+    option_and_then value_in
+    (if starts_with nat_eq line word then Some (drop (length word) line) else None)
 
 -- the generation that a line gives
 abbrev pub generation_in : List ℕ → Option ℕ
@@ -27,7 +29,9 @@ generation_in line = option_and_then number_in (value_behind (codes "#G") line)
 
 -- the heading with this name, unless that asks for a bounded grid
 abbrev pub named : Heading → List ℕ → Result Heading McFault
-named heading name = if is_some (position (λ b. b == 58) name) then Err BoundedGrid else Ok (record heading { rule_name = name })
+named heading name =
+    if is_some (position (λ b. b == 58) name) then Err BoundedGrid
+    else Ok (record heading { rule_name = name })
 
 -- the heading after one more such line
 abbrev pub after_comment : Heading → List ℕ → Result Heading McFault

@@ -22,10 +22,14 @@ pub record IsName (name : List ℕ) : Type 0 where
 
 -- what is written says the name, the generation and the nodes that were written
 abbrev pub WrittenSaysTheSame : Type 0
-WrittenSaysTheSame = (name : List ℕ) (generation : ℕ) (nodes : List Node) → IsName name → generation < 2 ^ 64 → AreNodes nodes
-    → macrocell_of (written_text name generation nodes) ≡ Ok (record { heading = record { rule_name = name; generation = generation }; nodes = nodes })
+WrittenSaysTheSame =
+    (name : List ℕ) (generation : ℕ) (nodes : List Node) → IsName name → generation < 2 ^ 64
+    → AreNodes nodes
+    → macrocell_of (written_text name generation nodes)
+    ≡ Ok (record { heading = record { rule_name = name; generation = generation }; nodes = nodes })
 
--- the cell at a column and a row of a bitmap is live exactly where the row of its line, of those that $ parts, has a * at that column
+-- the cell at a column and a row of a bitmap is live exactly where the row of its line, of those
+-- that $ parts, has a * at that column
 abbrev pub BitmapsShowTheirLines : Type 0
 BitmapsShowTheirLines = (line : List ℕ) (bitmap : Bitmap) (x y : ℕ) → bitmap_of line ≡ Some bitmap
     → is_live bitmap x y ≡ (slice_index (slice_index_or (pieces 36 line) y []) x == 42)

@@ -22,25 +22,31 @@ nothing_said = record { heading = record { rule_name = []; generation = 0 }; nod
 abbrev pub after_line : ℕ → MacrocellText → List ℕ → Result MacrocellText McFault
 after_line number said [] = Ok said
 after_line number said (b ∷ bs) =
-    if b == 35 then (after_comment said.heading (b ∷ bs) >>= λ heading. Ok (record said { heading = heading })) else
-    (node_of number said.nodes (b ∷ bs) >>= λ node. Ok (record said { nodes = said.nodes ++ node ∷ [] }))
+    if b == 35
+    then (after_comment said.heading (b ∷ bs)
+    >>= λ heading. Ok (record said { heading = heading })) else
+    (node_of number said.nodes (b ∷ bs)
+    >>= λ node. Ok (record said { nodes = said.nodes ++ node ∷ [] }))
 
 -- what is said after more lines, of which the first has this number
 abbrev pub after_lines : ℕ → MacrocellText → List (List ℕ) → Result MacrocellText McFault
 after_lines number said [] = Ok said
-after_lines number said (line ∷ lines) = after_line number said line >>= λ more. after_lines (number + 1) more lines
+after_lines number said (line ∷ lines) =
+    after_line number said line >>= λ more. after_lines (number + 1) more lines
 
 -- what the lines of a text say, of which the first begins with [M2]
 abbrev pub said_by : List (List ℕ) → Result MacrocellText McFault
 said_by [] = Err NoM2
-said_by (first ∷ lines) = if starts_with nat_eq first (codes "[M2]") then after_lines 2 nothing_said lines else Err NoM2
+said_by (first ∷ lines) =
+    if starts_with nat_eq first (codes "[M2]") then after_lines 2 nothing_said lines else Err NoM2
 
 -- what a macrocell text says
 abbrev pub macrocell_of : List ℕ → Result MacrocellText McFault
 macrocell_of text = said_by (says text)
 
 -- some first lines are read without a fault, and say a node at least
-pub record BeginsWithNodes (reading : List (List ℕ) → Result MacrocellText McFault) (lines : List (List ℕ)) : Type 0 where
+pub record BeginsWithNodes (reading : List (List ℕ) → Result MacrocellText McFault)
+    (lines : List (List ℕ)) : Type 0 where
   pub count : ℕ
   pub said : MacrocellText
   pub read : reading (take count lines) ≡ Ok said

@@ -10,9 +10,12 @@ level_of (Cells nw ne sw se) = 1
 level_of (Square level nw ne sw se) = level
 level_of (Bitmap bitmap) = 3
 
--- a square of a level may have this number as a quadrant: 0, or that of one of these nodes, counted from 1, of one level less
+-- a square of a level may have this number as a quadrant: 0, or that of one of these nodes, counted
+-- from 1, of one level less
 abbrev pub is_child : List Node → ℕ → ℕ → Bool
-is_child nodes level n = if n == 0 then true else option_map_or (λ node. level_of node + 1 == level) (slice_get nodes (n - 1)) false
+is_child nodes level n =
+    if n == 0 then true
+    else option_map_or (λ node. level_of node + 1 == level) (slice_get nodes (n - 1)) false
 
 -- the states of four cells
 pub record AreStates (nw ne sw se : ℕ) : Type 0 where

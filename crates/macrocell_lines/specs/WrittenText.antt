@@ -21,10 +21,11 @@ node_line (Cells nw ne sw se) = numbers_line (1 ∷ nw ∷ ne ∷ sw ∷ se ∷ 
 node_line (Square level nw ne sw se) = numbers_line (level ∷ nw ∷ ne ∷ sw ∷ se ∷ [])
 node_line (Bitmap bitmap) = rows_text bitmap.rows
 
--- the lines of a text: the first, those of the rule's name and the generation, and one for each node
+-- the lines of a text: the first, those of the rule's name and the generation, and each node's
 abbrev pub written_lines : List ℕ → ℕ → List Node → List (List ℕ)
 written_lines name generation nodes =
-    codes "[M2] (experiment desk)" ∷ (codes "#R " ++ name) ∷ (codes "#G " ++ decimal generation) ∷ map node_line nodes
+    codes "[M2] (experiment desk)" ∷ (codes "#R " ++ name) ∷ (codes "#G " ++ decimal generation)
+    ∷ map node_line nodes
 
 -- the text of a rule's name, a generation and the nodes in order
 abbrev pub written_text : List ℕ → ℕ → List Node → List ℕ

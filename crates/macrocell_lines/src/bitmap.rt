@@ -25,7 +25,7 @@ impl Bitmap {
 }
 
 /// The square that a line of `.`, `*` and `$` draws.
-pub fn read_bitmap(line: &[u8]) -> Option<Bitmap>
+pub(crate) fn read_bitmap(line: &[u8]) -> Option<Bitmap>
     ensures bitmap { result ≡ bitmap_of line.now }
     ensures whole { IfSome result (λ bitmap. IsBitmap bitmap.rows) }
 {

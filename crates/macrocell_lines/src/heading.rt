@@ -10,9 +10,9 @@ use text_lines::{find_byte, is_blank, number, trim};
 
 /// What the lines that begin with `#` say of a pattern.
 #[derive(Clone, Copy, Debug)]
-pub struct Heading<'a> {
-    pub rule_name: &'a [u8],
-    pub generation: u64,
+pub(crate) struct Heading<'a> {
+    pub(crate) rule_name: &'a [u8],
+    pub(crate) generation: u64,
 }
 
 /// The heading after one more line that begins with `#`.
@@ -20,7 +20,10 @@ pub struct Heading<'a> {
 /// `#R` gives the rule's name and `#G` the generation, 2^64 - 1 where it is greater; a `#G` with
 /// anything but a number, like any other line, is a comment. A name with a colon is refused by
 /// BoundedGrid, and a line that begins with `#FRAME` by Timeline.
-pub fn after_comment<'a>(heading: Heading<'a>, line: &'a [u8]) -> Result<Heading<'a>, McFault>
+pub(crate) fn after_comment<'a>(
+    heading: Heading<'a>,
+    line: &'a [u8],
+) -> Result<Heading<'a>, McFault>
     ensures { Reads heading_of result (after_comment (heading_of heading.entry) line.now) }
 {
     if line.starts_with(b"#FRAME") {

@@ -20,7 +20,7 @@ const HIGHEST_LEVEL: u64 = 62;
 /// A line that says no node is refused by BadRow, then a level above 62 by TooDeep, then a node
 /// beyond 16,777,216 by NoRoom, and then a quadrant that is no earlier node of one level less by
 /// BadChild.
-pub fn node_of(line: u64, nodes: &[Node], text: &[u8]) -> Result<Node, McFault>
+pub(crate) fn node_of(line: u64, nodes: &[Node], text: &[u8]) -> Result<Node, McFault>
     ensures node { result ≡ node_of line nodes.now text.now }
     ensures fault { result ≢ Err McFault.NoMemory }
     ensures follows { IfOk result (λ node. Follows nodes.now node) }

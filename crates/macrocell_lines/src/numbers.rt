@@ -8,16 +8,16 @@ use text_lines::number;
 /// The level and the quadrants that a line says in numbers, of which 2^64 - 1 stands for all that
 /// are greater too.
 #[derive(Clone, Copy, Debug)]
-pub struct FiveNumbers {
-    pub level: u64,
-    pub nw: u64,
-    pub ne: u64,
-    pub sw: u64,
-    pub se: u64,
+pub(crate) struct FiveNumbers {
+    pub(crate) level: u64,
+    pub(crate) nw: u64,
+    pub(crate) ne: u64,
+    pub(crate) sw: u64,
+    pub(crate) se: u64,
 }
 
 /// The numbers of a line that says five, parted by spaces.
-pub fn five_numbers(line: &[u8]) -> Option<FiveNumbers>
+pub(crate) fn five_numbers(line: &[u8]) -> Option<FiveNumbers>
     ensures { result ≡ five_numbers line.now }
 {
     let mut pieces = Pieces::new(b' ', line);

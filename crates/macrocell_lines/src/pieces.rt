@@ -8,7 +8,7 @@ use text_lines::find_byte;
 
 /// The pieces of a line that are left, between which the separator stands.
 #[derive(Debug, Drop)]
-pub struct Pieces<'a> {
+pub(crate) struct Pieces<'a> {
     separator: u8,
     text: Option<&'a [u8]>,
 }
@@ -25,7 +25,7 @@ impl<'a> Model for Pieces<'a> {
 
 impl<'a> Pieces<'a> {
     /// The pieces of this line.
-    pub fn new(separator: u8, line: &'a [u8]) -> Pieces<'a>
+    pub(crate) fn new(separator: u8, line: &'a [u8]) -> Pieces<'a>
         ensures { result ≡ pieces separator line.now }
     {
         Pieces {
@@ -35,7 +35,7 @@ impl<'a> Pieces<'a> {
     }
 
     /// Takes the next piece.
-    pub fn next(&mut self) -> Option<&'a [u8]>
+    pub(crate) fn next(&mut self) -> Option<&'a [u8]>
         ensures { MatchOption result (self.old ≡ []) (λ piece. self.old ≡ piece.now ∷ self.new) }
     {
         let (piece, text) = split_piece(self.separator, self.text?);

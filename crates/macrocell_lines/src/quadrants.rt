@@ -8,7 +8,7 @@ use crate::node::Node;
 use crate::numbers::FiveNumbers;
 
 /// The square of level 1 whose quadrants are these states.
-pub fn cells_of(said: FiveNumbers) -> Option<Node>
+pub(crate) fn cells_of(said: FiveNumbers) -> Option<Node>
     ensures cells { result ≡ cells_of said }
     ensures follows { IfSome result (λ node. (nodes : List Node) → Follows nodes node) }
 {
@@ -31,7 +31,7 @@ fn state_of(number: u64) -> Option<u8>
 }
 
 /// The square of this level whose quadrants are these nodes.
-pub fn square_of(nodes: &[Node], level: u8, said: FiveNumbers) -> Option<Node>
+pub(crate) fn square_of(nodes: &[Node], level: u8, said: FiveNumbers) -> Option<Node>
     requires few { length nodes.now ≤ 16777216 }
     requires low { 2 ≤ level }
     requires high { level ≤ 62 }

@@ -1,5 +1,5 @@
 -- The row of a node stands for its square.
-use Rattle.std.proofs.Common.{◌≡◌, ◌∙◌, sym, ap₂, subst, ℕ, zero, suc, ◌-◌, ◌<◌, List, arith}
+use Rattle.std.proofs.Common.{◌≡◌, ◌∙◌, sym, ap₂, subst, ℕ, zero, suc, ◌<◌, List, arith}
 use Rattle.macrocell_lines.specs.declared.bitmap.Bitmap.{Bitmap}
 use Rattle.macrocell_lines.specs.declared.node.Node.{Node}
 use Rattle.macrocell_lines.specs.declared.node.Node.TheVariants.{Cells, Square as Quartered, Bitmap as Drawn}

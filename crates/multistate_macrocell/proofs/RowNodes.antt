@@ -13,16 +13,16 @@ use Rattle.macrocell_lines.specs.Nodes.{AreNodes, AreQuadrants, AreStates, EachF
 use Rattle.macrocell_lines.proofs.WrittenTexts.{written-says}
 use Rattle.worlds.specs.World.{blank}
 use Rattle.plane_core.specs.declared.row.SquareRow.{SquareRow}
-use Rattle.worlds.specs.Square.{Square, empty_square, four, one, put_square}
+use Rattle.worlds.specs.Square.{Square, four, one, put_square}
 use Rattle.plane_core.specs.Rows.{AreRows, IsNumber, IsRow, edge_of, kid, no_row, root_level, row_at, square_in, world_of_rows}
-use Rattle.plane_core.proofs.Roots.{root_level-none, root_level-some, rooted, world-root}
+use Rattle.plane_core.proofs.Roots.{root_level-some, rooted, world-none, world-root}
 use Rattle.plane_core.proofs.Sound.{IsNumber-level, kid_number, square_in-none, square_in-row, square_in-state, state-IsNumber}
 use Rattle.multistate_macrocell.specs.Laws.{WrittenMeansTheSame}
 use Rattle.multistate_macrocell.specs.Pattern.{said_pattern}
 use Rattle.multistate_macrocell.specs.PatternText.{node_of, nodes_of}
 use Rattle.multistate_macrocell.specs.Quadtree.{square_named, square_of, world_of_nodes, world_of_root}
 use Rattle.multistate_macrocell.proofs.Children.{child-is}
-use Rattle.multistate_macrocell.proofs.Standing.{named-node, named-none, world-nodes-root}
+use Rattle.multistate_macrocell.proofs.Standing.{named-node, named-none, world-nodes-none, world-nodes-root}
 use Rattle.plane_core.specs.WorldRows.{rows_of}
 use Rattle.plane_core.proofs.WorldRows.{squares-rows_of}
 
@@ -96,8 +96,7 @@ each-follows front (row ∷ rest) valid =
 
 -- the rows of a plane are nodes of a quadtree
 pub rows-nodes : (rows : List SquareRow) → AreRows rows → length rows ≤ 16777216 → AreNodes (nodes_of rows)
-rows-nodes [] valid few = record { few = omega arith; each = (record { nw_state = omega arith; ne_state = omega arith; sw_state = omega arith; se_state = omega arith }, tt) }
-rows-nodes (row ∷ rows) valid few = record { few = omega (arith, length-map rows node_of); each = each-follows [] (row ∷ rows) valid }
+rows-nodes rows valid few = record { few = omega (arith, length-map rows node_of); each = each-follows [] rows valid }
 
 -- the square of a row of level 1 and of its node
 cells_square : (named : ℕ → Square) (rows : List SquareRow) (row : SquareRow) → row.level ≡ 1
@@ -143,18 +142,9 @@ named-in rows (suc j) (suc i) valid h =
     (named-in rows j (kid row 2) valid (kid_is 2 (lit< tt))) (named-in rows j (kid row 3) valid (kid_is 3 (lit< tt)))
     ∙ sym (square_in-row rows (suc j) i)
 
-empty-square : square_named (Cells 0 0 0 0 ∷ []) 1 1 ≡ empty_square 1
-unfolding square_of empty_square
-empty-square = named-node (Cells 0 0 0 0 ∷ []) 0 0 (Cells 0 0 0 0) refl
-
 -- and for the same world
 pub rows-world : (rows : List SquareRow) → AreRows rows → world_of_nodes (nodes_of rows) ≡ world_of_rows rows
-rows-world [] valid =
-    let edge = edge_of 1 in
-    world-nodes-root (Cells 0 0 0 0 ∷ []) (Cells 0 0 0 0) refl
-    ∙ ap (λ (t : Square). put_square 1 t edge edge blank) (empty-square ∙ sym (square_in-none [] 1))
-    ∙ ap (λ k. put_square k (square_in [] k 0) (edge_of k) (edge_of k) blank) (sym root_level-none)
-    ∙ sym (world-root [])
+rows-world [] valid = world-nodes-none ∙ sym world-none
 rows-world (first ∷ others) valid =
     let rows : List SquareRow = first ∷ others in
     let nodes = map node_of rows in

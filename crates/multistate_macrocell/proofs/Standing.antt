@@ -177,7 +177,7 @@ module _ (rows new : List SquareRow) (nodes : List Node) (numbers : List ℕ) (p
         adds.root (level_live (take place nodes) node follows) ∙ (let e : node ≡ other = cc in ap level_of e);
   }
 
-world-nodes-none : world_of_nodes [] ≡ blank
+pub world-nodes-none : world_of_nodes [] ≡ blank
 unfolding world_of_nodes
 world-nodes-none = refl
 

@@ -1,5 +1,5 @@
 -- Texts of rows, piece by piece.
-use Rattle.std.proofs.Common.{◌≡◌, ◌∙◌, sym, ap, refl, ℕ, ◌+◌, ◌==◌, Bool, true, false, cond, List, [], ◌∷◌, ◌++◌, map, append_assoc, append-nil, decimal}
+use Rattle.std.proofs.Common.{◌≡◌, ◌∙◌, sym, ap, refl, ℕ, ◌==◌, Bool, true, false, cond, List, [], ◌∷◌, ◌++◌, map, append_assoc, decimal}
 use Rattle.std.specs.Prelude.{codes, is_ok, OnOk, Result, Ok, Err}
 use Rattle.std.proofs.lemmas.Bool.{eqb-true}
 use Rattle.plane_core.specs.declared.row.SquareRow.{SquareRow}
@@ -8,15 +8,6 @@ use Rattle.macrocell_lines.specs.declared.node.Node.TheVariants.{Cells, Square a
 use Rattle.macrocell_lines.specs.WrittenText.{node_line, numbers_line, text_of_lines, written_text}
 use Rattle.multistate_macrocell.specs.Lines.{heading_text, row_line, row_lines}
 use Rattle.multistate_macrocell.specs.PatternText.{node_of, nodes_of}
-
--- the row of the empty pattern
-abbrev pub empty_row : SquareRow
-empty_row = record { level = 1; kids = 0 ∷ 0 ∷ 0 ∷ 0 ∷ [] }
-
--- the line of the empty pattern, where there is no row
-abbrev pub empty_line : List SquareRow → List ℕ
-empty_line [] = row_line empty_row ++ 10 ∷ []
-empty_line (row ∷ rows) = []
 
 -- the lines before the rows
 apart : (a name b number c rest : List ℕ) → (a ++ name ++ b ++ number ++ c) ++ rest ≡ a ++ (name ++ (b ++ (number ++ (c ++ rest))))
@@ -59,21 +50,11 @@ nodes-rows : (rows : List SquareRow) → map node_line (map node_of rows) ≡ ma
 nodes-rows [] = refl
 nodes-rows (row ∷ rows) = ap (λ line. line ∷ map node_line (map node_of rows)) (node-row row) ∙ ap (λ lines. row_line row ∷ lines) (nodes-rows rows)
 
-empty-line : row_line empty_row ≡ node_line (Cells 0 0 0 0)
-unfolding row_line
-empty-line = refl
-
 -- the text of rows, by their lines
-pub text-rows : (name : List ℕ) (generation : ℕ) (rows : List SquareRow) → (heading_text name generation ++ empty_line rows) ++ row_lines rows ≡ written_text name generation (nodes_of rows)
-text-rows name generation [] =
-    append-nil (heading_text name generation ++ empty_line [])
-    ∙ ap (λ line. heading_text name generation ++ (line ++ 10 ∷ [])) empty-line
-    ∙ heading-lines name generation (node_line (Cells 0 0 0 0) ++ 10 ∷ [])
-    ∙ ap (λ rest. (codes "[M2] (experiment desk)" ++ 10 ∷ []) ++ (((codes "#R " ++ name) ++ 10 ∷ []) ++ (((codes "#G " ++ decimal generation) ++ 10 ∷ []) ++ rest))) (sym (append-nil (node_line (Cells 0 0 0 0) ++ 10 ∷ [])))
-text-rows name generation (row ∷ rows) =
-    ap (λ bs. bs ++ row_lines (row ∷ rows)) (append-nil (heading_text name generation))
-    ∙ heading-lines name generation (row_lines (row ∷ rows))
-    ∙ ap (λ lines. (codes "[M2] (experiment desk)" ++ 10 ∷ []) ++ (((codes "#R " ++ name) ++ 10 ∷ []) ++ (((codes "#G " ++ decimal generation) ++ 10 ∷ []) ++ text_of_lines lines))) (sym (nodes-rows (row ∷ rows)))
+pub text-rows : (name : List ℕ) (generation : ℕ) (rows : List SquareRow) → heading_text name generation ++ row_lines rows ≡ written_text name generation (nodes_of rows)
+text-rows name generation rows =
+    heading-lines name generation (row_lines rows)
+    ∙ ap (λ lines. (codes "[M2] (experiment desk)" ++ 10 ∷ []) ++ (((codes "#R " ++ name) ++ 10 ∷ []) ++ (((codes "#G " ++ decimal generation) ++ 10 ∷ []) ++ text_of_lines lines))) (sym (nodes-rows rows))
 
 -- what a last call adds, where it gives Ok
 pub added-on_ok : {T E : Type 0} (r : Result T E) (new more old : List ℕ) → new ≡ cond (is_ok r) more old → OnOk r (new ≡ more)

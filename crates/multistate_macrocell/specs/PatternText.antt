@@ -1,5 +1,5 @@
 -- The text of a pattern as the quadtree of its distinct squares.
-use Rattle.std.specs.Prelude.{ℕ, ◌==◌, if◌then◌else◌, List, [], ◌∷◌, map}
+use Rattle.std.specs.Prelude.{ℕ, ◌==◌, if◌then◌else◌, List, map}
 use Rattle.macrocell_lines.specs.declared.node.Node.{Node}
 use Rattle.macrocell_lines.specs.declared.node.Node.TheVariants.{Cells, Square as Quartered}
 use Rattle.macrocell_lines.specs.WrittenText.{written_text}
@@ -14,10 +14,9 @@ node_of row =
     if row.level == 1 then Cells (kid row 0) (kid row 1) (kid row 2) (kid row 3) else
     Quartered row.level (kid row 0) (kid row 1) (kid row 2) (kid row 3)
 
--- the nodes that say rows; where there is none, an empty square of level 1
+-- the nodes that say rows
 abbrev pub nodes_of : List SquareRow → List Node
-nodes_of [] = Cells 0 0 0 0 ∷ []
-nodes_of (row ∷ rows) = map node_of (row ∷ rows)
+nodes_of rows = map node_of rows
 
 -- the text of a world's pattern, with the rule's name and the generation
 abbrev pub macrocell_text : World → List ℕ → ℕ → List ℕ

@@ -8,17 +8,11 @@ use itoa::Buffer;
 use plane_core::{Plane, SquareRow};
 use std::alloc::{AllocError, Global};
 
-/// The row of the empty pattern.
-const EMPTY: SquareRow = SquareRow {
-    level: 1,
-    kids: [0; 4],
-};
-
 /// The text of the plane's pattern at a generation, under a rule of this name.
 ///
-/// Behind the lines of the name and the generation stands a line for each distinct square that
-/// isn't empty, by its level and its quadrants nw, ne, sw and se, in the order in which the walk
-/// from the least root completes them. The empty pattern is the one line `1 0 0 0 0`.
+/// Behind the lines of the name and the generation stands a line for each of the plane's rows of
+/// squares, in their order, by its level and its quadrants nw, ne, sw and se. So the empty pattern
+/// is the one line `1 0 0 0 0`.
 pub fn write_mc(
     alloc: Global,
     plane: &Plane,
@@ -42,9 +36,6 @@ fn text_of(
         ≡ written_text name.now generation (nodes_of rows.now)) }
 {
     let mut text = heading(alloc, name, generation)?;
-    if rows.is_empty() {
-        push_row(&mut text, &EMPTY)?;
-    }
     for row in rows {
         push_row(&mut text, row)?;
     }

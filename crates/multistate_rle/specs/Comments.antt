@@ -16,10 +16,13 @@ abbrev pub starts_loose : List ℕ → Bool
 starts_loose [] = true
 starts_loose (b ∷ bs) = is_blank b || is_sign b
 
--- the bytes with one blank between two words and none around signs; `joined` says that nothing or a sign stands before them
+-- the bytes with one blank between two words and none around signs; `joined` says that nothing or a
+-- sign stands before them
 abbrev pub tight : Bool → List ℕ → List ℕ
 tight joined [] = []
-tight joined (b ∷ bs) = if is_blank b then (if joined || starts_loose bs then tight joined bs else b ∷ tight joined bs) else b ∷ tight (is_sign b) bs
+tight joined (b ∷ bs) =
+    if is_blank b then (if joined || starts_loose bs then tight joined bs else b ∷ tight joined bs)
+    else b ∷ tight (is_sign b) bs
 
 -- the parts of a comment, which blanks separate
 abbrev pub parts : List ℕ → List (List ℕ)
@@ -28,7 +31,9 @@ parts bytes = slice_split is_blank (tight true bytes)
 -- the number that digits, with or without a minus before them, write
 abbrev pub signed_of : List ℕ → Option ℤ
 signed_of [] = None
-signed_of (b ∷ bs) = if b == 45 then option_map (λ n. neg_ℤ (pos n)) (number_of bs) else option_map pos (number_of (b ∷ bs))
+signed_of (b ∷ bs) =
+    if b == 45 then option_map (λ n. neg_ℤ (pos n)) (number_of bs)
+    else option_map pos (number_of (b ∷ bs))
 
 -- the same, of the numbers from -2^63 to 2^63 - 1
 abbrev pub coordinate_of : List ℕ → Option ℤ
@@ -59,9 +64,13 @@ plain_origin = record { x = pos 0; y = pos 0; generation = 0 }
 -- the origin after one part; one that is malformed or unknown changes nothing
 abbrev pub after_part : Origin → List ℕ → Origin
 after_part origin part =
-    option_map_or (λ place. record { x = place.0; y = place.1; generation = origin.generation }) (place_in part)
-    (option_map_or (λ n. record { x = origin.x; y = origin.y; generation = n }) (generation_in part) origin)
+    option_map_or (λ place. record { x = place.0; y = place.1; generation = origin.generation })
+    (place_in part)
+    (option_map_or (λ n. record { x = origin.x; y = origin.y; generation = n })
+    (generation_in part) origin)
 
 -- the origin after one comment line, of which only those that begin with #CXRLE change it
 abbrev pub after_comment : Origin → List ℕ → Origin
-after_comment origin line = option_map_or (λ bytes. fold after_part origin (parts bytes)) (after (codes "#CXRLE") line) origin
+after_comment origin line =
+    option_map_or (λ bytes. fold after_part origin (parts bytes)) (after (codes "#CXRLE") line)
+    origin

@@ -16,8 +16,10 @@ begins_with byte (b ∷ bs) = b == byte
 
 -- what follows `front` in bytes that begin with it
 abbrev pub after : List ℕ → List ℕ → Option (List ℕ)
-after front bytes = if starts_with nat_eq bytes front then Some (drop (length front) bytes) else None
+after front bytes =
+    if starts_with nat_eq bytes front then Some (drop (length front) bytes) else None
 
 -- what stands before and behind the first byte that equals this one
 abbrev pub cut_at : ℕ → List ℕ → Option (List ℕ × List ℕ)
-cut_at byte bytes = option_map (λ n. (take n bytes, drop (n + 1) bytes)) (position (λ b. b == byte) bytes)
+cut_at byte bytes =
+    option_map (λ n. (take n bytes, drop (n + 1) bytes)) (position (λ b. b == byte) bytes)

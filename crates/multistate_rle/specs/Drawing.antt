@@ -1,4 +1,4 @@
--- A pattern that is being drawn run by run, with numbers that stand at 2^64 - 1 where they are greater.
+-- A pattern that is drawn run by run; numbers that are greater stand at 2^64 - 1.
 use Rattle.std.specs.Prelude.{◌≡◌, ◌⊎◌, ℕ, ◌+◌, ◌-◌, ◌^◌, ◌==◌, ◌&&◌, Bool, true, false, nat_le, nat_lt, min, map, pos, ◌+ℤ◌, List, [], ◌++◌, Result, Ok, Err, if◌then◌else◌}
 use Rattle.std.specs.List.{range_with_len}
 use Rattle.worlds.specs.declared.cell.CellSet.{CellSet}
@@ -9,7 +9,8 @@ use Rattle.multistate_rle.specs.declared.fault.RleFault.{RleFault}
 use Rattle.multistate_rle.specs.declared.fault.RleFault.TheVariants.{TooManyLive, CellOutOfRange, NoMemory}
 use Rattle.multistate_rle.specs.Pattern.{Strip, lies_inside, cells_of}
 
--- where the next run begins, how many live cells there were, whether all of them lie in the plane, whether no growth was refused, and the cells that are kept
+-- where the next run begins, how many live cells there were, whether all lie in the plane, whether
+-- no growth was refused, and the cells that are kept
 pub record Drawn : Type 0 where
   pub origin : Origin
   pub row : ℕ
@@ -21,7 +22,16 @@ pub record Drawn : Type 0 where
 
 -- nothing was drawn yet
 abbrev pub undrawn : Origin → Drawn
-undrawn origin = record { origin = origin; row = 0; column = 0; live = 0; is_inside = true; is_whole = true; cells = [] }
+undrawn origin =
+    record {
+      origin = origin;
+      row = 0;
+      column = 0;
+      live = 0;
+      is_inside = true;
+      is_whole = true;
+      cells = [];
+    }
 
 -- a number, or 2^64 - 1 if it is greater
 abbrev pub capped : ℕ → ℕ
@@ -37,14 +47,21 @@ after_rows d n = record d { row = capped (d.row + n); column = 0 }
 
 -- so many cells side by side, of which this is the first
 abbrev pub side_by_side : CellSet → ℕ → List CellSet
-side_by_side first n = map (λ k. record { x = first.x +ℤ pos k; y = first.y; state = first.state }) (range_with_len 0 n)
+side_by_side first n =
+    map (λ k. record { x = first.x +ℤ pos k; y = first.y; state = first.state })
+    (range_with_len 0 n)
 
 -- one strip more, which is kept where all that is drawn can be laid
 abbrev pub with_strip : Drawn → Strip → Drawn
 with_strip d strip =
     let live = capped (d.live + strip.count) in
     let is_inside = d.is_inside && lies_inside d.origin strip in
-    record d { live = live; is_inside = is_inside; cells = if d.is_whole && (nat_le live 16777216 && is_inside) then d.cells ++ cells_of d.origin strip else d.cells }
+    record d {
+      live = live;
+      is_inside = is_inside;
+      cells = if d.is_whole && (nat_le live 16777216 && is_inside)
+          then d.cells ++ cells_of d.origin strip else d.cells;
+    }
 
 -- the same without its cells, since a growth was refused
 abbrev pub given_up : Drawn → Drawn
@@ -56,15 +73,18 @@ IsLike d e = (e ≡ d) ⊎ (e ≡ given_up d)
 
 -- after so many cells of a state
 abbrev pub after_cells : Drawn → ℕ → ℕ → Drawn
-after_cells d n s = let e = if s == 0 then d else with_strip d (strip_at d n s) in record e { column = capped (d.column + n) }
+after_cells d n s =
+    let e = if s == 0 then d else with_strip d (strip_at d n s) in
+    record e { column = capped (d.column + n) }
 
 -- the world that was drawn, or why there is none
 abbrev pub world_drawn : Drawn → Result World RleFault
 world_drawn d =
     if nat_lt 16777216 d.live then Err TooManyLive else
-    (if d.is_inside then (if d.is_whole then Ok (lay d.cells blank) else Err NoMemory) else Err CellOutOfRange)
+    (if d.is_inside then (if d.is_whole then Ok (lay d.cells blank) else Err NoMemory)
+    else Err CellOutOfRange)
 
--- it has no fault but want of memory
+-- it has no fault but NoMemory
 abbrev pub WantsAlone : Result World RleFault → Type 0
 WantsAlone (Ok w) = Unit {0}
 WantsAlone (Err e) = e ≡ NoMemory

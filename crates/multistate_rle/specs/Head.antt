@@ -24,15 +24,18 @@ is_passed line = (length line == 0) || begins_with 35 line
 abbrev pub head_from : Origin → ℕ → List Line → Result Head RleFault
 head_from origin len [] = Err NoHeader
 head_from origin len (line ∷ lines) =
-    if is_passed line.says then head_from (after_comment origin line.says) (len + length line.raw) lines
-    else (rule_name line.says >>= λ name. Ok (record { origin = origin; name = name; len = len + length line.raw }))
+    if is_passed line.says
+    then head_from (after_comment origin line.says) (len + length line.raw) lines
+    else (rule_name line.says
+    >>= λ name. Ok (record { origin = origin; name = name; len = len + length line.raw }))
 
--- one of the comments before the header may place the pattern: to read it memory is wanted
+-- one of the comments before the header may place the pattern: reading it takes memory
 abbrev pub is_placed : List Line → Bool
 is_placed [] = false
-is_placed (line ∷ lines) = is_passed line.says && (is_some (after (codes "#CXRLE") line.says) || is_placed lines)
+is_placed (line ∷ lines) =
+    is_passed line.says && (is_some (after (codes "#CXRLE") line.says) || is_placed lines)
 
--- a head that was read: what it has is that of the file; where memory was wanted, it has no origin
+-- a head that was read: what it has is that of the file; where memory ran out, it has no origin
 pub record IsHead (found : kept.Head) (head : Head) : Type 0 where
   pub name : found.name.now ≡ head.name
   pub len : found.len ≡ head.len

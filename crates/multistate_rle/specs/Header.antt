@@ -23,7 +23,8 @@ size_in key field = do
 -- the name in what follows the width: `y = n`, or `y = n, rule = name`
 abbrev pub name_after_width : List ℕ → Option (List ℕ)
 name_after_width rest =
-    option_map_or (λ cut. size_in (codes "y") cut.0 >>= λ height. value_in (codes "rule") cut.1) (cut_at 44 rest)
+    option_map_or (λ cut. size_in (codes "y") cut.0 >>= λ height. value_in (codes "rule") cut.1)
+    (cut_at 44 rest)
     (option_map (λ height. []) (size_in (codes "y") rest))
 
 -- the name in a whole header
@@ -39,4 +40,6 @@ unbounded name = if is_some (cut_at 58 name) then Err BoundedGrid else Ok name
 
 -- the rule's name that a header gives, or why the line is none
 abbrev pub rule_name : List ℕ → Result (List ℕ) RleFault
-rule_name line = if begins_with 120 line then option_map_or unbounded (name_in line) (Err BadHeader) else Err NoHeader
+rule_name line =
+    if begins_with 120 line then option_map_or unbounded (name_in line) (Err BadHeader)
+    else Err NoHeader

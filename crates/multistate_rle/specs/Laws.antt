@@ -18,7 +18,8 @@ pub record IsName (name : List ℕ) : Type 0 where
   pub some : 0 < length name
   pub bytes : AllByRecursion IsNameByte name
 
--- a world that can be written under a rule of so many states: in the range of planes, of states below that number, and with at most 1,000,000 live cells
+-- a world that can be written under a rule of so many states: in the range of planes, of states
+-- below that number, and with at most 1,000,000 live cells
 pub record CanBeWritten (states : ℕ) (w : World) : Type 0 where
   pub inside : HasMargin 0 w
   pub below : AllBelow states w
@@ -26,5 +27,8 @@ pub record CanBeWritten (states : ℕ) (w : World) : Type 0 where
 
 -- what is written means the world, the name and the generation that were written
 abbrev pub WrittenMeansTheSame : Type 0
-WrittenMeansTheSame = (w : World) (name : List ℕ) (generation states : ℕ) → IsName name → generation < 2 ^ 64 → 2 ≤ states → states ≤ 256 → CanBeWritten states w
-    → pattern_of (rle_text w name generation states) ≡ Ok (record { plane = w; rule_name = name; generation = generation })
+WrittenMeansTheSame =
+    (w : World) (name : List ℕ) (generation states : ℕ) → IsName name → generation < 2 ^ 64
+    → 2 ≤ states → states ≤ 256 → CanBeWritten states w
+    → pattern_of (rle_text w name generation states)
+    ≡ Ok (record { plane = w; rule_name = name; generation = generation })

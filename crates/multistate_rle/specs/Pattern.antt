@@ -34,7 +34,7 @@ runs_from n (RowEnd ∷ ss) = onto (RowEnds (max n 1)) (runs_from 0 ss)
 runs_from n (End ∷ ss) = Ok []
 runs_from n (Unknown offset ∷ ss) = Err (BadRun offset)
 
--- live cells of one state side by side, by the place of the first: its row and its column, counted from 0
+-- live cells of one state side by side, by the row and the column of the first, counted from 0
 pub record Strip : Type 0 where
   pub row : ℕ
   pub column : ℕ
@@ -47,7 +47,8 @@ strips_from row column [] = []
 strips_from row column (RowEnds n ∷ runs) = strips_from (row + n) 0 runs
 strips_from row column (Cells n s ∷ runs) =
     if s == 0 then strips_from row (column + n) runs
-    else record { row = row; column = column; count = n; state = s } ∷ strips_from row (column + n) runs
+    else record { row = row; column = column; count = n; state = s }
+    ∷ strips_from row (column + n) runs
 
 -- how many cells some strips have
 abbrev pub live_count : List Strip → ℕ
@@ -60,11 +61,18 @@ is_in_range z = int_le (neg_ℤ (pos (2 ^ 61))) z && int_lt z (pos (2 ^ 61))
 -- the first and the last cell of a strip lie in the plane, where the pattern begins at the origin
 abbrev pub lies_inside : Origin → Strip → Bool
 lies_inside origin strip =
-    is_in_range (origin.x +ℤ pos strip.column) && (is_in_range (origin.x +ℤ pos (strip.column + strip.count - 1)) && is_in_range (origin.y +ℤ pos strip.row))
+    is_in_range (origin.x +ℤ pos strip.column)
+    && (is_in_range (origin.x +ℤ pos (strip.column + strip.count - 1))
+    && is_in_range (origin.y +ℤ pos strip.row))
 
 -- the k-th cell of a strip from the left, counted from 0
 abbrev pub cell_at : Origin → Strip → ℕ → CellSet
-cell_at origin strip k = record { x = origin.x +ℤ pos (strip.column + k); y = origin.y +ℤ pos strip.row; state = strip.state }
+cell_at origin strip k =
+    record {
+      x = origin.x +ℤ pos (strip.column + k);
+      y = origin.y +ℤ pos strip.row;
+      state = strip.state;
+    }
 
 -- the cells of a strip, from the left
 abbrev pub cells_of : Origin → Strip → List CellSet
@@ -74,7 +82,8 @@ cells_of origin strip = map (cell_at origin strip) (range_with_len 0 strip.count
 abbrev pub world_of : Origin → List Strip → Result World RleFault
 world_of origin strips =
     if nat_lt 16777216 (live_count strips) then Err TooManyLive else
-    (if list_all (lies_inside origin) strips then Ok (lay (flat_map (cells_of origin) strips) blank) else Err CellOutOfRange)
+    (if list_all (lies_inside origin) strips
+    then Ok (lay (flat_map (cells_of origin) strips) blank) else Err CellOutOfRange)
 
 -- the world that the symbols of a body draw
 abbrev pub drawn_by : Origin → List Symbol → Result World RleFault
@@ -87,9 +96,11 @@ pattern_of text = do
   world ← drawn_by head.origin (symbols (solid_from head.len (drop head.len text)))
   Ok (record { plane = world; rule_name = head.name; generation = head.origin.generation })
 
--- memory may be wanted: the file has no fault, or just cells out of range, and a comment that places them wants memory too
+-- NoMemory may be answered: the file has no fault, or just cells out of range that a comment places
 abbrev pub MayWant : List ℕ → Type 0
-MayWant text = IsOk (pattern_of text) ⊎ (IsTrue (is_placed (lines text)) × (pattern_of text ≡ Err CellOutOfRange))
+MayWant text =
+    IsOk (pattern_of text)
+    ⊎ (IsTrue (is_placed (lines text)) × (pattern_of text ≡ Err CellOutOfRange))
 
 -- a fault that a body has wherever its pattern lies; `NoMemory` stands for none
 abbrev pub IsFaultAnywhere : RleFault → List Symbol → Type 0
@@ -97,7 +108,8 @@ IsFaultAnywhere fault ss = (origin : Origin) → fault ≢ NoMemory → drawn_by
 
 -- a body that has no fault, or just cells out of range, wherever its pattern lies
 abbrev pub HasNoFaultAnywhere : List Symbol → Type 0
-HasNoFaultAnywhere ss = (origin : Origin) → IsOk (drawn_by origin ss) ⊎ (drawn_by origin ss ≡ Err CellOutOfRange)
+HasNoFaultAnywhere ss =
+    (origin : Origin) → IsOk (drawn_by origin ss) ⊎ (drawn_by origin ss ≡ Err CellOutOfRange)
 
 -- the fault of a body, if its place has no part in it, and else `NoMemory`
 abbrev pub unplaced : RleFault → RleFault

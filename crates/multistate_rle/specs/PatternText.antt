@@ -17,18 +17,25 @@ generation_text generation = codes " Gen=" ++ decimal generation ++ codes "\n"
 
 -- the line of the pattern's size and its rule's name
 abbrev pub size_line : Frame → List ℕ → List ℕ
-size_line f name = codes "x = " ++ decimal f.width ++ codes ", y = " ++ decimal f.height ++ codes ", rule = " ++ name ++ codes "\n"
+size_line f name =
+    codes "x = " ++ decimal f.width ++ codes ", y = " ++ decimal f.height
+    ++ codes ", rule = " ++ name ++ codes "\n"
 
--- pieces packed into lines of at most 70 bytes, of which the first has so much room left: a piece goes on the present line if it fits whole, else on the next
+-- pieces packed into lines of at most 70 bytes, of which the first has so much room left: a piece
+-- goes on the present line if it fits whole, else on the next
 abbrev pub packed : ℕ → List (List ℕ) → List ℕ
 packed room [] = codes "\n"
-packed room (p ∷ ps) = if nat_le (length p) room then p ++ packed (room - length p) ps else codes "\n" ++ p ++ packed (70 - length p) ps
+packed room (p ∷ ps) =
+    if nat_le (length p) room then p ++ packed (room - length p) ps
+    else codes "\n" ++ p ++ packed (70 - length p) ps
 
--- the text of a pattern in this frame, under a rule of this name with so many states, at a generation
+-- the text of a pattern in this frame, by its rule's name and number of states and its generation
 abbrev pub framed_text : Frame → World → List ℕ → ℕ → ℕ → List ℕ
 framed_text f w name generation states =
-    place_text f ++ generation_text generation ++ size_line f name ++ packed 70 (map (token_text states) (tokens f.left (f.top, f.left) (live w)))
+    place_text f ++ generation_text generation ++ size_line f name
+    ++ packed 70 (map (token_text states) (tokens f.left (f.top, f.left) (live w)))
 
 -- the text of a world's pattern, in the frame of its bounding box
 abbrev pub rle_text : World → List ℕ → ℕ → ℕ → List ℕ
-rle_text w name generation states = framed_text (frame_of (box_of (live w))) w name generation states
+rle_text w name generation states =
+    framed_text (frame_of (box_of (live w))) w name generation states

@@ -13,7 +13,9 @@ is_passed b bs = is_blank b || ((b == 10) || ((b == 13) && begins_with 10 bs))
 -- the bytes that aren't passed over, with their offsets, of which the first is n
 abbrev pub solid_from : ℕ → List ℕ → List ByteAt
 solid_from n [] = []
-solid_from n (b ∷ bs) = if is_passed b bs then solid_from (n + 1) bs else record { offset = n; byte = b } ∷ solid_from (n + 1) bs
+solid_from n (b ∷ bs) =
+    if is_passed b bs then solid_from (n + 1) bs
+    else record { offset = n; byte = b } ∷ solid_from (n + 1) bs
 
 -- from p to y: it raises the state of the letter behind it
 abbrev pub is_prefix : ℕ → Bool
@@ -33,17 +35,19 @@ plain_symbol at =
     (if at.byte == 36 then RowEnd else
     (if at.byte == 33 then End else Unknown at.offset)))))
 
--- the state that a prefix and a letter write: A to X are 1 to 24, and p adds 24, q adds 48, and so on
+-- the state that a prefix and a letter write: A to X are 1 to 24, p adds 24, q adds 48, and so on
 abbrev pub prefixed_state : ℕ → ℕ → ℕ
 prefixed_state prefix letter = (prefix - 111) * 24 + (letter - 64)
 
 -- what a prefix says with the byte behind it
 abbrev pub prefixed_symbol : ByteAt → ByteAt → Symbol
 prefixed_symbol prefix letter =
-    if is_letter letter.byte && nat_le (prefixed_state prefix.byte letter.byte) 255 then Cell (prefixed_state prefix.byte letter.byte) else Unknown prefix.offset
+    if is_letter letter.byte && nat_le (prefixed_state prefix.byte letter.byte) 255
+    then Cell (prefixed_state prefix.byte letter.byte) else Unknown prefix.offset
 
 -- the symbols that bytes write
 abbrev pub symbols : List ByteAt → List Symbol
 symbols [] = []
 symbols (b ∷ []) = (if is_prefix b.byte then Unknown b.offset else plain_symbol b) ∷ []
-symbols (b ∷ c ∷ cs) = if is_prefix b.byte then prefixed_symbol b c ∷ symbols cs else plain_symbol b ∷ symbols (c ∷ cs)
+symbols (b ∷ c ∷ cs) =
+    if is_prefix b.byte then prefixed_symbol b c ∷ symbols cs else plain_symbol b ∷ symbols (c ∷ cs)

@@ -13,7 +13,8 @@ abbrev pub zeros : ℕ → List Token
 zeros zero = []
 zeros (suc n) = Run (suc n) 0 ∷ []
 
--- the way to the place `to`, so many rows below `from`: on in the same row, or from the left edge of a later one
+-- the way to the place `to`, so many rows below `from`: on in the same row, or from the left edge
+-- of a later one
 abbrev pub way_by : ℕ → ℤ → Place → Place → List Token
 way_by zero left from to = zeros (distance from.1 to.1)
 way_by (suc n) left from to = RowEnds (suc n) ∷ zeros (distance left to.1)
@@ -45,12 +46,13 @@ abbrev pub two_state_text : ℕ → List ℕ
 two_state_text zero = codes "b"
 two_state_text (suc n) = codes "o"
 
--- the prefix that stands for so many times 24 states: none, or `p` (112) for once up to `y` for ten times
+-- the prefix that stands for so many times 24 states: none, or `p` (112) for one up to `y` for ten
 abbrev pub prefix_text : ℕ → List ℕ
 prefix_text zero = []
 prefix_text (suc k) = (112 + k) ∷ []
 
--- `.` for the state 0; for the others the letters `A` (65) to `X` again and again, each time with the next prefix
+-- `.` for the state 0; for the others the letters `A` (65) to `X` again and again, each time with
+-- the next prefix
 abbrev pub multi_state_text : ℕ → List ℕ
 multi_state_text zero = codes "."
 multi_state_text (suc n) = prefix_text (n / 24) ++ (65 + n % 24) ∷ []

@@ -19,12 +19,12 @@ const LINE: usize = 70;
 
 /// The text as far as it is written. Tokens are packed into lines as they come.
 #[derive(Drop)]
-pub struct Body {
-    pub text: Vec<u8>,
+pub(crate) struct Body {
+    pub(crate) text: Vec<u8>,
     /// How many bytes fit on the present line yet.
-    pub room: usize,
+    pub(crate) room: usize,
     /// How many states the rule has.
-    pub states: u16,
+    pub(crate) states: u16,
 }
 
 impl Body {

@@ -11,14 +11,14 @@ use text_lines::{is_blank, number};
 
 /// Where the top left cell of a pattern lies, and which generation the pattern is.
 #[derive(Clone, Copy, Debug, PartialEq, Eq)]
-pub struct Origin {
-    pub x: i64,
-    pub y: i64,
-    pub generation: u64,
+pub(crate) struct Origin {
+    pub(crate) x: i64,
+    pub(crate) y: i64,
+    pub(crate) generation: u64,
 }
 
 /// The origin where no comment gives one: (0, 0) and the generation 0.
-pub fn plain_origin() -> Origin
+pub(crate) fn plain_origin() -> Origin
     ensures { result ≡ plain_origin }
 {
     Origin {
@@ -30,7 +30,11 @@ pub fn plain_origin() -> Origin
 
 /// The origin after one more comment line, which changes it, and wants memory, only if it begins
 /// with `#CXRLE`.
-pub fn after_comment(alloc: Global, origin: Origin, line: &[u8]) -> Result<Origin, AllocError>
+pub(crate) fn after_comment(
+    alloc: Global,
+    origin: Origin,
+    line: &[u8],
+) -> Result<Origin, AllocError>
     ensures origin { IfOk result (λ next. next ≡ after_comment origin line.now) }
     ensures other { after (codes "#CXRLE") line.now ≡ None → IsOk result }
 {

@@ -17,12 +17,12 @@ const LIVE_LIMIT: u64 = 16_777_216;
 /// A pattern that is being drawn from the top left.
 ///
 /// Where a growth is refused the cells are given up, and from then on only faults are looked for,
-/// since a fault of the file comes before want of memory.
+/// since a fault of the file comes before NoMemory.
 ///
 /// Counts, rows and columns beyond 2^64 - 1 stand at that number: wherever the pattern begins, a
 /// cell there lies outside the plane, and so many live cells are too many.
 #[derive(Drop)]
-pub struct Drawing {
+pub(crate) struct Drawing {
     origin: Origin,
     row: u64,
     column: u64,
@@ -55,7 +55,7 @@ impl Model for Drawing {
 
 impl Drawing {
     /// Nothing yet; the pattern begins at this place.
-    pub fn new(alloc: Global, origin: Origin) -> Drawing
+    pub(crate) fn new(alloc: Global, origin: Origin) -> Drawing
         ensures { result ≡ undrawn origin }
     {
         Drawing {
@@ -71,7 +71,7 @@ impl Drawing {
     }
 
     /// Ends so many rows.
-    pub fn end_rows(&mut self, count: u64)
+    pub(crate) fn end_rows(&mut self, count: u64)
         ensures { self.new ≡ after_rows self.old count }
     {
         self.row = self.row.saturating_add(count);
@@ -79,7 +79,7 @@ impl Drawing {
     }
 
     /// Draws so many cells of this state.
-    pub fn draw(&mut self, count: u64, state: u8)
+    pub(crate) fn draw(&mut self, count: u64, state: u8)
         requires { 0 < count }
         ensures { IsLike (after_cells self.old count state) self.new }
     {
@@ -141,8 +141,8 @@ impl Drawing {
     /// The plane with all that was drawn.
     ///
     /// TooManyLive comes where more than 16,777,216 cells are live, else CellOutOfRange where one
-    /// lies outside the plane. NoMemory comes only where memory was wanted.
-    pub fn plane(self) -> Result<Plane, RleFault>
+    /// lies outside the plane. NoMemory comes only where there was no memory.
+    pub(crate) fn plane(self) -> Result<Plane, RleFault>
         ensures plane { Gives RleFault.NoMemory result (world_drawn self) }
         ensures no_memory { result ≡ Err RleFault.NoMemory → WantsAlone (world_drawn self) }
     {

@@ -28,7 +28,7 @@ pub enum RleFault {
     /// A live cell lies outside `-2^61 <= x, y < 2^61`.
     #[error("a cell lies outside the plane")]
     CellOutOfRange,
-    /// Memory was wanted.
+    /// Out of memory.
     #[error("there is not enough memory")]
     NoMemory,
 }

@@ -9,11 +9,11 @@ use plane_core::Plane;
 /// The left and the top of a pattern's bounding box, and its size. For the empty pattern all four
 /// are 0.
 #[derive(Clone, Copy, Debug, PartialEq, Eq)]
-pub struct Frame {
-    pub left: i64,
-    pub top: i64,
-    pub width: u64,
-    pub height: u64,
+pub(crate) struct Frame {
+    pub(crate) left: i64,
+    pub(crate) top: i64,
+    pub(crate) width: u64,
+    pub(crate) height: u64,
 }
 
 impl Frame {

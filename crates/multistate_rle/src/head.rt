@@ -15,14 +15,14 @@ use std::alloc::Global;
 /// name, and the length of all this in bytes. The origin is None where a comment that gives it
 /// found no memory.
 #[derive(Clone, Copy, Debug)]
-pub struct Head<'a> {
-    pub origin: Option<Origin>,
-    pub name: &'a [u8],
-    pub len: usize,
+pub(crate) struct Head<'a> {
+    pub(crate) origin: Option<Origin>,
+    pub(crate) name: &'a [u8],
+    pub(crate) len: usize,
 }
 
 /// Reads comments and blank lines, and then the header.
-pub fn read_head(alloc: Global, text: &[u8]) -> Result<Head<'_>, RleFault>
+pub(crate) fn read_head(alloc: Global, text: &[u8]) -> Result<Head<'_>, RleFault>
     ensures head { ReadsHead result (head_from plain_origin 0 (lines text.now)) }
     ensures within { IfOk result (λ head. head.len ≤ length text.now) }
     ensures wanted { IfOk result

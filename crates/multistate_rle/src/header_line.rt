@@ -12,7 +12,7 @@ use text_lines::{number, trim};
 ///
 /// A line that doesn't begin with `x` is refused by NoHeader, any other that is no header by
 /// BadHeader, and one whose rule's name has a colon by BoundedGrid. The sizes bound nothing.
-pub fn rule_name(line: &[u8]) -> Result<&[u8], RleFault>
+pub(crate) fn rule_name(line: &[u8]) -> Result<&[u8], RleFault>
     ensures name { Reads (λ name. name.now) result (rule_name line.now) }
     ensures fault { result ≢ Err RleFault.NoMemory }
 {

@@ -6,13 +6,13 @@ use text_lines::{find_byte, strip_carriage_return, trim};
 
 /// The first line of a text: what it says, and how many bytes it has with its line end.
 #[derive(Clone, Copy, Debug)]
-pub struct FirstLine<'a> {
-    pub says: &'a [u8],
-    pub len: usize,
+pub(crate) struct FirstLine<'a> {
+    pub(crate) says: &'a [u8],
+    pub(crate) len: usize,
 }
 
 /// The first line of a text that has one.
-pub fn first_line(text: &[u8]) -> FirstLine<'_>
+pub(crate) fn first_line(text: &[u8]) -> FirstLine<'_>
     requires { text.now ≢ [] }
     ensures line { lines text.now
         ≡ record { says = result.says.now; raw = take result.len text.now } ∷

@@ -8,13 +8,13 @@ use plane_core::Cell;
 
 /// Live cells of one state side by side, of which more may come.
 #[derive(Clone, Copy, Debug)]
-pub struct OpenRun {
+pub(crate) struct OpenRun {
     /// The row.
-    pub y: i64,
+    pub(crate) y: i64,
     /// The column behind the last cell.
-    pub next: i64,
-    pub count: u64,
-    pub state: u8,
+    pub(crate) next: i64,
+    pub(crate) count: u64,
+    pub(crate) state: u8,
     ghost live: { 0 < state },
 }
 

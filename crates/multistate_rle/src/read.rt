@@ -19,7 +19,7 @@ use std::alloc::Global;
 /// `, rule = name`, else the file is refused by NoHeader or BadHeader, and by BoundedGrid where
 /// the name has a colon. A byte of the body that is no item is refused by BadRun, more than
 /// 16,777,216 live cells by TooManyLive, and a cell outside `-2^61 <= x, y < 2^61` by
-/// CellOutOfRange, in this order. NoMemory comes only where memory was wanted, and last: a fault of
+/// CellOutOfRange, in this order. NoMemory comes only where there was no memory, and last: a fault of
 /// the file is the answer where it has one. A `#CXRLE` comment that found no memory leaves open
 /// whether cells are out of range, and nothing else.
 pub fn read_rle(alloc: Global, text: &[u8]) -> Result<Loaded, RleFault>
@@ -41,8 +41,8 @@ pub fn read_rle(alloc: Global, text: &[u8]) -> Result<Loaded, RleFault>
     })
 }
 
-// The fault that a body has wherever its pattern lies. NoMemory where it has none, since memory
-// was wanted to learn where it lies.
+// The fault that a body has wherever its pattern lies. NoMemory where it has none, since
+// there was no memory to learn where it lies.
 fn fault_anywhere(alloc: Global, symbols: Symbols) -> RleFault
     ensures fault { IsFaultAnywhere result symbols.entry }
     ensures no_memory { result ≡ RleFault.NoMemory → HasNoFaultAnywhere symbols.entry }

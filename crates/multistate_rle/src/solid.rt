@@ -8,14 +8,14 @@ use text_lines::is_blank;
 
 /// A byte and its offset in the file.
 #[derive(Clone, Copy, Debug, PartialEq, Eq)]
-pub struct ByteAt {
-    pub offset: u64,
-    pub byte: u8,
+pub(crate) struct ByteAt {
+    pub(crate) offset: u64,
+    pub(crate) byte: u8,
 }
 
 /// The bytes of a body that are left, without blanks and line ends.
 #[derive(Debug, Drop)]
-pub struct SolidBytes<'a> {
+pub(crate) struct SolidBytes<'a> {
     offset: u64,
     left: &'a [u8],
 }
@@ -34,7 +34,7 @@ impl<'a> Model for SolidBytes<'a> {
 
 impl<'a> SolidBytes<'a> {
     /// The bytes from this offset on.
-    pub fn new(text: &'a [u8], offset: usize) -> SolidBytes<'a>
+    pub(crate) fn new(text: &'a [u8], offset: usize) -> SolidBytes<'a>
         requires { offset ≤ length text.now }
         ensures { result ≡ solid_from offset (drop offset text.now) }
     {
@@ -45,7 +45,7 @@ impl<'a> SolidBytes<'a> {
     }
 
     /// Takes the next byte.
-    pub fn next(&mut self) -> Option<ByteAt>
+    pub(crate) fn next(&mut self) -> Option<ByteAt>
         ensures { MatchOption result ((self.old ≡ []) × (self.new ≡ []))
             (λ at. self.old ≡ at ∷ self.new) }
     {

@@ -7,7 +7,7 @@ use std::marker::Model;
 
 /// What a byte of a body says, or a prefix with the letter behind it.
 #[derive(Clone, Copy, Debug, PartialEq, Eq)]
-pub enum Symbol {
+pub(crate) enum Symbol {
     /// A digit of a count.
     Digit(u8),
     /// A cell of this state.
@@ -22,7 +22,7 @@ pub enum Symbol {
 
 /// The symbols of a body that are left.
 #[derive(Debug, Drop)]
-pub struct Symbols<'a> {
+pub(crate) struct Symbols<'a> {
     bytes: SolidBytes<'a>,
 }
 
@@ -38,7 +38,7 @@ impl<'a> Model for Symbols<'a> {
 
 impl<'a> Symbols<'a> {
     /// The symbols of the body that begins at this offset.
-    pub fn new(text: &'a [u8], offset: usize) -> Symbols<'a>
+    pub(crate) fn new(text: &'a [u8], offset: usize) -> Symbols<'a>
         requires { offset ≤ length text.now }
         ensures { result ≡ symbols (solid_from offset (drop offset text.now)) }
     {
@@ -48,7 +48,7 @@ impl<'a> Symbols<'a> {
     }
 
     /// Takes the next symbol.
-    pub fn next(&mut self) -> Option<Symbol>
+    pub(crate) fn next(&mut self) -> Option<Symbol>
         ensures { MatchOption result (self.old ≡ []) (λ symbol. self.old ≡ symbol ∷ self.new) }
     {
         let first = self.bytes.next()?;

@@ -7,7 +7,7 @@ use std::alloc::AllocError;
 
 /// What a body is made of.
 #[derive(Clone, Copy, Debug, PartialEq, Eq)]
-pub enum Token {
+pub(crate) enum Token {
     /// So many cells of a state, side by side.
     Run { count: u64, state: u8 },
     /// The ends of so many rows.

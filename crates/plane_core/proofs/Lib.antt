@@ -16,4 +16,5 @@ pub mod Adding
 pub mod Laying
 pub mod Blocks
 pub mod Gathering
+pub mod Written
 pub mod WorldRows

@@ -5,7 +5,7 @@ use Rattle.worlds.specs.World.{cell, blank, cell-blank, same_world}
 use Rattle.worlds.specs.Range.{HasMargin}
 use Rattle.plane_core.specs.declared.row.SquareRow.{SquareRow}
 use Rattle.worlds.specs.Square.{Square, IsSquare, cell_in, put_square, IsIn}
-use Rattle.plane_core.specs.Rows.{Numbered, number_square, no_row, row_at, kid, IsNumber, AreRows, square_in, root_level, root_of, edge_of, world_of_rows, Fits, AreCanonical}
+use Rattle.plane_core.specs.Rows.{Numbered, number_square, no_row, row_at, kid, IsNumber, AreRows, square_in, root_level, root_of, edge_of, world_of_rows, Fits, AreKept}
 use Rattle.plane_core.proofs.Numbering.{Has-empty}
 use Rattle.plane_core.proofs.Sound.{kid_number, square_in-none, square_in-state, square_in-row, state-IsNumber, IsNumber-level, IsNumber-from, AreRows-none}
 use Rattle.plane_core.proofs.Cells.{IsSquare-one, IsSquare-empty, IsSquare-parts, cell_in-empty, same_square, put_square-inside, put_square-outside, in_or_out, offset, double}
@@ -97,8 +97,8 @@ root-cells rows k i j valid e =
     (λ hi hj. sym (world-inside rows (edge_of (root_level rows) +ℤ pos i) (edge_of (root_level rows) +ℤ pos j) i j valid refl refl hi hj))
 
 -- a world has one list of rows
-pub canonical-unique : (a b : List SquareRow) → AreCanonical a → AreCanonical b → world_of_rows a ≡ world_of_rows b → a ≡ b
-canonical-unique a b ca cb same =
+pub kept-unique : (a b : List SquareRow) → AreKept a → AreKept b → world_of_rows a ≡ world_of_rows b → a ≡ b
+kept-unique a b ca cb same =
     let below : root_level a ≤ root_level b = ca.least.least (root_level b) (rooted b cb.valid).low (subst (Fits (root_level b)) (sym same) cb.least.holds) in
     let above : root_level b ≤ root_level a = cb.least.least (root_level a) (rooted a ca.valid).low (subst (Fits (root_level a)) same ca.least.holds) in
     let k = root_level a in
@@ -131,9 +131,9 @@ world-none =
       | inr out ↦ world-outside [] x y AreRows-none out ∙ sym (cell-blank x y)
     ])
 
--- no rows are canonical
-pub canonical-none : AreCanonical []
-canonical-none = record {
+-- a plane may keep no rows
+pub kept-none : AreKept []
+kept-none = record {
   valid = AreRows-none;
   walked =
       ap (λ (t : Square). (number_square (root_level []) t []).rows) (square_in-none [] (root_level []))

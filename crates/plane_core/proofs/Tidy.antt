@@ -8,12 +8,12 @@ use Rattle.std.specs.Prelude.{Result, Ok, Err, IfOk}
 use Rattle.worlds.specs.World.{blank, cell-blank, same_world}
 use Rattle.plane_core.specs.declared.row.SquareRow.{SquareRow}
 use Rattle.worlds.specs.Square.{Square, one, four, empty_square, IsSquare, put_square}
-use Rattle.plane_core.specs.Rows.{Numbered, numbered, number_row, number_square, same_row, no_row, row_at, AreRows, square_in, root_level, root_of, edge_of, world_of_rows, IsLeastLevel, AreCanonical}
+use Rattle.plane_core.specs.Rows.{Numbered, numbered, number_row, number_square, same_row, no_row, row_at, AreRows, square_in, root_level, root_of, edge_of, world_of_rows, IsLeastLevel, AreKept}
 use Rattle.plane_core.specs.Walks.{AreWalked}
 use Rattle.plane_core.proofs.Numbering.{Has-empty, not_found}
 use Rattle.plane_core.proofs.Sound.{IsSound, EachHas-none, AreRows-none, number_square-sound, IsNumber-level, square_in-none, found_within, found_at, row_of}
 use Rattle.plane_core.proofs.Cells.{IsSquare-empty, cell_in-empty, put_square-inside, put_square-outside, in_or_out, offset}
-use Rattle.plane_core.proofs.Roots.{rooted, root-IsSquare, root_level-some, world-root, world-none, canonical-none}
+use Rattle.plane_core.proofs.Roots.{rooted, root-IsSquare, root_level-some, world-root, world-none, kept-none}
 
 -- no level is above m
 abbrev LevelsUpTo : ℕ → List SquareRow → Type 0
@@ -85,7 +85,7 @@ pub record IsTidied (rows done : List SquareRow) : Type 0 where
   pub level : (root_level done ≡ root_level rows) ⊎ (done ≡ [])
 
 walked-none : AreWalked []
-walked-none = record { valid = AreRows-none; each = EachHas-none.has; walked = canonical-none.walked }
+walked-none = record { valid = AreRows-none; each = EachHas-none.has; walked = kept-none.walked }
 
 pub world-put : (rows : List SquareRow) (k : ℕ) (t : Square) → root_level rows ≡ k → square_in rows k (length rows) ≡ t → world_of_rows rows ≡ put_square k t (edge_of k) (edge_of k) blank
 world-put rows k t ek et = world-root rows ∙ ap (λ m. put_square m (square_in rows m (length rows)) (edge_of m) (edge_of m) blank) ek ∙ ap (λ (s : Square). put_square k s (edge_of k) (edge_of k) blank) et
@@ -163,16 +163,16 @@ tidied rows done valid e =
     let is : root_level rows ≡ suc k = omega arith in
     subst (IsTidied rows) (subst (λ m. (number_square m (square_in rows m (length rows)) []).rows ≡ done) is e) (tidied_by rows k valid is)
 
--- walked from the least root, rows are canonical
-pub canonical-walked : (rows done : List SquareRow) → IsTidied rows done → IsLeastLevel (root_level rows) (world_of_rows rows) → AreCanonical done
-canonical-walked rows done t least =
+-- walked from the least root, rows may be kept
+pub kept-walked : (rows done : List SquareRow) → IsTidied rows done → IsLeastLevel (root_level rows) (world_of_rows rows) → AreKept done
+kept-walked rows done t least =
     elim t.level [
       | inl level ↦ record {
         valid = t.walked.valid;
         walked = t.walked.walked;
         least = subst (λ k. IsLeastLevel k (world_of_rows done)) (sym level) (subst (IsLeastLevel (root_level rows)) (sym t.world) least);
       }
-      | inr none ↦ subst AreCanonical (sym none) canonical-none
+      | inr none ↦ subst AreKept (sym none) kept-none
     ]
 
 -- what follows from what a clause says of the value in an `Ok`

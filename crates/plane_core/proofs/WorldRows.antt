@@ -11,12 +11,13 @@ use Rattle.worlds.specs.Range.{AllBelow, HasMargin}
 use Rattle.worlds.specs.Live.{by_place, cell-state_at, live, live-states}
 use Rattle.plane_core.specs.declared.row.SquareRow.{SquareRow}
 use Rattle.worlds.specs.Square.{Square, IsIn, IsSquare, cell_in, four, one, put_square, square_at}
-use Rattle.plane_core.specs.Rows.{AreCanonical, AreRows, AreSquaresOf, Fits, IsLeastLevel, edge_of, number_square, root_level, root_of, world_of_rows}
+use Rattle.plane_core.specs.Rows.{AreKept, AreRows, AreSquaresOf, Fits, IsLeastLevel, completed, edge_of, root_level, root_of, world_of_rows, written}
 use Rattle.plane_core.proofs.Cells.{IsSquare-one, IsSquare-parts, cell_in-ne, cell_in-nw, cell_in-one, cell_in-se, cell_in-sw, double, in_or_out, offset, put_square-inside, put_square-outside, same_square}
-use Rattle.plane_core.proofs.Roots.{canonical-none, root-IsSquare, rooted, world-inside, world-outside}
-use Rattle.plane_core.specs.Laws.{WorldsHaveRows}
+use Rattle.plane_core.proofs.Roots.{kept-none, root-IsSquare, rooted, world-inside, world-none, world-outside}
+use Rattle.plane_core.specs.Laws.{EmptyWorldHasOneRow, WorldsHaveRows}
 use Rattle.plane_core.specs.WorldRows.{holds_all, is_within, least_level, rows_of}
 use Rattle.plane_core.proofs.Tidy.{IsListed, listed}
+use Rattle.plane_core.proofs.Written.{squares-written}
 
 -- the square of a world at a place has the world's cells
 square_at-zero : (w : World) (x y : ℤ) → square_at w 0 x y ≡ one (cell w x y)
@@ -184,7 +185,7 @@ least_level-least w k least low high =
     (λ h. ap (holds_all w) (at (k - 1) (omega arith) ∙ last) ∙ fits-holds w k least.holds) in
     least_level-is w ∙ ap (λ n. 1 + n) found ∙ last
 
-rows_of-is : (w : World) → rows_of w ≡ (number_square (least_level w) (square_at w (least_level w) (edge_of (least_level w)) (edge_of (least_level w))) []).rows
+rows_of-is : (w : World) → rows_of w ≡ written (completed (least_level w) (square_at w (least_level w) (edge_of (least_level w)) (edge_of (least_level w))))
 unfolding rows_of
 rows_of-is w = refl
 
@@ -199,8 +200,8 @@ rows_of-squares w rows are =
     let level : least_level w ≡ k = least_level-least w k least root.low root.high in
     let square : square_at w k (edge_of k) (edge_of k) ≡ root_of rows = ap (λ v. square_at v k (edge_of k) (edge_of k)) (sym are.world) ∙ root-square_at rows valid in
     rows_of-is w
-    ∙ ap (λ j. (number_square j (square_at w j (edge_of j) (edge_of j)) []).rows) level
-    ∙ ap (λ (t : Square). (number_square k t []).rows) square
+    ∙ ap (λ j. written (completed j (square_at w j (edge_of j) (edge_of j)))) level
+    ∙ ap (λ (t : Square). written (completed k t)) square
     ∙ canonical.walked
 
 -- a root of the greatest level holds the range of planes
@@ -271,20 +272,19 @@ root-world w k fits small =
           put_square-outside k t edge edge blank x y is out ∙ cell-blank x y ∙ sym none
     ])
 
-squares-by : (w : World) (k : ℕ) (rows : List SquareRow) → IsLeastLevel k w → IsListed k (square_at w k (edge_of k) (edge_of k)) rows → AllBelow 256 w → AreSquaresOf w rows
+squares-by : (w : World) (k : ℕ) (rows : List SquareRow) → IsLeastLevel k w → IsListed k (square_at w k (edge_of k) (edge_of k)) rows → AllBelow 256 w → AreSquaresOf w (written rows)
 squares-by w k rows least own small =
     let world : world_of_rows rows ≡ w = own.world ∙ root-world w k least.holds small in
-    record {
-      canonical = elim own.level [
-        | inl level ↦ record {
-          valid = own.walked.valid;
-          walked = own.walked.walked;
-          least = subst (λ j. IsLeastLevel j (world_of_rows rows)) (sym level) (subst (IsLeastLevel k) (sym world) least);
-        }
-        | inr none ↦ subst AreCanonical (sym none) canonical-none
-      ];
-      world = world;
-    }
+    let kept : AreKept rows =
+    elim own.level [
+      | inl level ↦ record {
+        valid = own.walked.valid;
+        walked = own.walked.walked;
+        least = subst (λ j. IsLeastLevel j (world_of_rows rows)) (sym level) (subst (IsLeastLevel k) (sym world) least);
+      }
+      | inr none ↦ subst AreKept (sym none) kept-none
+    ] in
+    squares-written rows w kept world
 
 -- the rows of a world stand for it
 pub squares-rows_of : WorldsHaveRows
@@ -297,5 +297,9 @@ squares-rows_of w margin small =
     let high : suc k ≤ 62 = omega (arith, good.high, up) in
     let t = square_at w (suc k) (edge_of (suc k)) (edge_of (suc k)) in
     let is : IsSquare (suc k) t = square_at-IsSquare w (suc k) (edge_of (suc k)) (edge_of (suc k)) small in
-    let rows : rows_of w ≡ (number_square (suc k) t []).rows = rows_of-is w ∙ ap (λ j. (number_square j (square_at w j (edge_of j) (edge_of j)) []).rows) (sym up) in
-    subst (AreSquaresOf w) (sym rows) (squares-by w (suc k) (number_square (suc k) t []).rows least (listed k t is high) small)
+    let rows : rows_of w ≡ written (completed (suc k) t) = rows_of-is w ∙ ap (λ j. written (completed j (square_at w j (edge_of j) (edge_of j)))) (sym up) in
+    subst (AreSquaresOf w) (sym rows) (squares-by w (suc k) (completed (suc k) t) least (listed k t is high) small)
+
+-- those of the empty world
+pub rows_of-blank : EmptyWorldHasOneRow
+rows_of-blank = rows_of-squares blank (written []) (squares-written [] blank kept-none world-none)

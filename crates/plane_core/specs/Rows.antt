@@ -104,10 +104,30 @@ pub record IsLeastLevel (k : ℕ) (w : World) : Type 0 where
   pub holds : Fits k w
   pub least : (j : ℕ) → 1 ≤ j → Fits j w → k ≤ j
 
--- the rows of their world as it is written: each distinct square that isn't empty once, in order of its first completion, from the least root that holds the live cells
+-- the rows that the walk of a square of level k completes, each once
+abbrev pub completed : ℕ → Square → List SquareRow
+completed k t = (number_square k t []).rows
+
+-- the row of the empty square of level 1
+abbrev pub empty_row : SquareRow
+empty_row = record { level = 1; kids = 0 ∷ 0 ∷ 0 ∷ 0 ∷ [] }
+
+-- rows as they are written: where there is none, that of the empty square
+abbrev pub written : List SquareRow → List SquareRow
+written [] = empty_row ∷ []
+written (row ∷ rows) = row ∷ rows
+
+-- the rows of their world as a plane keeps them: each distinct square that isn't empty once, in the
+-- order of the walk from the least root that holds the live cells
+pub record AreKept (rows : List SquareRow) : Type 0 where
+  pub valid : AreRows rows
+  pub walked : completed (root_level rows) (root_of rows) ≡ rows
+  pub least : IsLeastLevel (root_level rows) (world_of_rows rows)
+
+-- the rows of their world as it is written, which are those of the empty square where no cell is live
 pub record AreCanonical (rows : List SquareRow) : Type 0 where
   pub valid : AreRows rows
-  pub walked : (number_square (root_level rows) (root_of rows) []).rows ≡ rows
+  pub walked : written (completed (root_level rows) (root_of rows)) ≡ rows
   pub least : IsLeastLevel (root_level rows) (world_of_rows rows)
 
 -- these rows are those of the world

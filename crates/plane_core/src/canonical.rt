@@ -1,6 +1,6 @@
 //! The one list of rows that a pattern is kept as.
 ghost use Rattle.std.specs.Prelude.{◌≡◌, ◌<◌, ◌^◌, length, IfOk};
-ghost use Rattle.plane_core.specs.Rows.{AreCanonical, AreRows, world_of_rows};
+ghost use Rattle.plane_core.specs.Rows.{AreKept, AreRows, world_of_rows, written};
 
 use crate::centre::add_centres;
 use crate::row::SquareRow;
@@ -12,11 +12,27 @@ use std::alloc::{AllocError, Global};
 pub fn canonical(alloc: Global, rows: &[SquareRow]) -> Result<Vec<SquareRow>, AllocError>
     requires rows { AreRows rows.now }
     requires few { length rows.now < 2 ^ 32 }
-    ensures canonical { IfOk result (λ all. AreCanonical all.items) }
+    ensures kept { IfOk result (λ all. AreKept all.items) }
     ensures world { IfOk result (λ all. world_of_rows all.items ≡ world_of_rows rows.now) }
     ensures few { IfOk result (λ all. length all.items < 2 ^ 32) }
 {
     let mut rooted = walked(alloc, rows)?;
     add_centres(&mut rooted)?;
     walked(alloc, &rooted)
+}
+
+// The empty square of level 1.
+const EMPTY: SquareRow = SquareRow {
+    level: 1,
+    kids: [0; 4],
+};
+
+// The rows as they are written: where there is none, that of the empty square.
+pub fn written(alloc: Global, rows: &[SquareRow]) -> Result<Vec<SquareRow>, AllocError>
+    ensures { IfOk result (λ all. all.items ≡ written rows.now) }
+{
+    match rows {
+        [] => Vec::from_slice(alloc, &[EMPTY]),
+        [..] => rows.to_vec(alloc),
+    }
 }

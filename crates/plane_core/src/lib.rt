@@ -31,7 +31,7 @@ mod row;
 mod valid;
 mod walk;
 
-pub use laws::{worlds_have_one_list_of_rows, worlds_have_rows};
+pub use laws::{empty_world_has_one_row, worlds_have_one_list_of_rows, worlds_have_rows};
 pub use loaded::Loaded;
 pub use plane::Plane;
 pub use row::SquareRow;

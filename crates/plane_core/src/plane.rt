@@ -6,7 +6,7 @@ ghost use Rattle.worlds.specs.Live.{count_of, live, of_cell, population};
 ghost use Rattle.worlds.specs.Range.{CanBeLaid, HasMargin, IsBoundingBox, IsGreatest, IsInside};
 ghost use Rattle.plane_core.specs.Rows.{AreRows, AreSquaresOf, world_of_rows};
 
-use crate::canonical::canonical;
+use crate::canonical::{canonical, written};
 use crate::counts::counts;
 use crate::descent::{Spot, state_at};
 use crate::lay::lay_rows;
@@ -30,7 +30,7 @@ pub struct Plane {
 impl Model for Plane {
     ghost use Rattle.std.specs.Prelude.{◌<◌, ◌^◌, length};
     ghost use Rattle.worlds.specs.World.{World, coded_world};
-    ghost use Rattle.plane_core.specs.Rows.{world_of_rows, AreCanonical};
+    ghost use Rattle.plane_core.specs.Rows.{world_of_rows, AreKept};
     ghost use Rattle.plane_core.specs.Measures.{AreMeasuresOf};
 
     ghost Value = { World };
@@ -39,7 +39,7 @@ impl Model for Plane {
 
     ghost view = { λ p. world_of_rows p.rows.items };
 
-    ghost invariant = { λ p. AreCanonical p.rows.items × (length p.rows.items < 2 ^ 32) × AreMeasuresOf (world_of_rows p.rows.items) p.measures };
+    ghost invariant = { λ p. AreKept p.rows.items × (length p.rows.items < 2 ^ 32) × AreMeasuresOf (world_of_rows p.rows.items) p.measures };
 }
 
 impl Plane {
@@ -112,12 +112,13 @@ impl Plane {
         Plane::from_squares(alloc, &rows)
     }
 
-    /// The rows of the distinct squares, in the order in which the walk nw, ne, sw, se from the
-    /// least root completes them.
+    /// The rows of the distinct squares that aren't empty, in the order in which the walk nw, ne,
+    /// sw, se from the least root completes them. Those of the empty plane are one row, of the
+    /// empty square of level 1.
     pub fn squares(&self) -> Result<Vec<SquareRow>, AllocError>
         ensures { IfOk result (λ rows. AreSquaresOf self.now rows.items) }
     {
-        self.rows.as_slice().to_vec(self.alloc)
+        written(self.alloc, &self.rows)
     }
 
     /// How many cells are live.

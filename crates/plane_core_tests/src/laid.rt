@@ -123,7 +123,8 @@ fn the_state_0_takes_a_cell_away(rt: HostRuntime) {
         &[set(0, 0, 0), set(100, -7, 0)],
     );
     let rows = plane.squares().expect(&rt, "memory");
-    assert!(&rt; rows.is_empty(), "{rows:?}");
+    assert!(&rt; rows.len() == 1, "{rows:?}");
+    assert!(&rt; plane.equals(&Plane::empty(alloc)));
 }
 
 #[test]

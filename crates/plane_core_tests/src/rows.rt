@@ -34,11 +34,12 @@ fn has(rt: &impl Abort, plane: &Plane, x: i64, y: i64, state: u8) {
 }
 
 #[test]
-fn nothing_has_no_rows(rt: HostRuntime) {
+fn the_empty_plane_has_one_row(rt: HostRuntime) {
     let alloc = rt.alloc();
-    becomes(&rt, alloc, &[], &[]);
-    becomes(&rt, alloc, &[row(1, [0; 4])], &[]);
-    becomes(&rt, alloc, &[row(1, [0; 4]), row(2, [1, 0, 1, 0])], &[]);
+    let empty = [row(1, [0; 4])];
+    becomes(&rt, alloc, &[], &empty);
+    becomes(&rt, alloc, &empty, &empty);
+    becomes(&rt, alloc, &[row(1, [0; 4]), row(2, [1, 0, 1, 0])], &empty);
 }
 
 #[test]
@@ -63,7 +64,7 @@ fn the_root_is_the_least(rt: HostRuntime) {
         row(3, [0, 0, 0, 0]),
     ];
     becomes(&rt, alloc, &high[..2], &[row(1, [0, 0, 0, 1])]);
-    becomes(&rt, alloc, &high, &[]);
+    becomes(&rt, alloc, &high, &[row(1, [0; 4])]);
     let higher = [
         row(1, [7, 0, 0, 0]),
         row(2, [1, 0, 0, 0]),

@@ -1,5 +1,5 @@
 -- What an answer says.
-use Rattle.std.specs.Prelude.{◌≡◌, ◌≢◌, ℕ, ◌+◌, IfOk, Result, Ok, Err}
+use Rattle.std.specs.Prelude.{◌≡◌, IfOk, Result, Ok, Err}
 use Rattle.std.specs.Arc.{arc_value}
 use Rattle.step_engine.specs.declared.evolved.EvolveFault.{EvolveFault}
 use Rattle.revision_jobs.specs.declared.answer.Job.{Job}
@@ -23,8 +23,3 @@ pub record JobResult : Type 0 where
 pub record IsRight (job : Job) (outcome : Result Value EvolveFault) : Type 0 where
   pub value_is : IfOk outcome (λ found. found ≡ value (entry_of job.place))
   pub room : outcome ≡ Err EvolveFault.NoRoom → IsStep (entry_of job.place)
-
--- where a job gave up for a stop, the stop said yes once more than before; where it didn't, just as often
-pub record CountsStop {A : Type 0} (outcome : Result A EvolveFault) (before after : ℕ) : Type 0 where
-  pub stopped : outcome ≡ Err EvolveFault.Stopped → after ≡ before + 1
-  pub went_on : outcome ≢ Err EvolveFault.Stopped → after ≡ before

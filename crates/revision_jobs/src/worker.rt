@@ -1,7 +1,8 @@
 //! Working a job.
 ghost use Rattle.std.specs.Prelude.{◌≡◌, Err, IfOk, Ok};
 ghost use Rattle.std.specs.Arc.{arc_value};
-ghost use Rattle.revision_jobs.specs.Answer.{CountsStop, IsRight, outcome_of};
+ghost use Rattle.worlds.specs.Stop.{CountsStop};
+ghost use Rattle.revision_jobs.specs.Answer.{IsRight, outcome_of};
 ghost use Rattle.revision_jobs.specs.Entries.{IsOf};
 ghost use Rattle.revision_jobs.specs.Value.{
   CanBeRendered,
@@ -43,7 +44,8 @@ pub fn work<G: Gate, S: Stop>(
     ensures right { IsRight result.job result.outcome }
 
     // It gave up for a stop exactly where the stop said yes.
-    ensures stop { CountsStop result.outcome (S.yes_count stop.old) (S.yes_count stop.new) }
+    ensures stop { CountsStop result.outcome (Err EvolveFault.Stopped)
+        (S.yes_count stop.old) (S.yes_count stop.new) }
 {
     gate.begin(job.number);
     let outcome = match computed(alloc, entries.at(&job.place), stop, limit) {
@@ -64,7 +66,8 @@ fn computed<S: Stop>(
     requires { CanBeWorked entry.now }
     ensures value { IfOk result (λ outcome. outcome_of outcome ≡ Ok (value entry.now)) }
     ensures room { result ≡ Err EvolveFault.NoRoom → IsStep entry.now }
-    ensures stop { CountsStop result (S.yes_count stop.old) (S.yes_count stop.new) }
+    ensures stop { CountsStop result (Err EvolveFault.Stopped)
+        (S.yes_count stop.old) (S.yes_count stop.new) }
 {
     match entry {
         Entry::Step(step) => {
@@ -87,7 +90,8 @@ fn stepped<S: Stop>(
 ) -> Result<Plane, EvolveFault>
     requires { CanBeStepped step.now }
     ensures plane { IfOk result (λ plane. plane ≡ world_after step.now) }
-    ensures stop { CountsStop result (S.yes_count stop.old) (S.yes_count stop.new) }
+    ensures stop { CountsStop result (Err EvolveFault.Stopped)
+        (S.yes_count stop.old) (S.yes_count stop.new) }
 {
     let laid = Laid::on(&step.from, step.cells.as_slice())?;
     let evolved = evolve(alloc, &*step.rule, laid.plane(), step.gens, stop, limit)?;

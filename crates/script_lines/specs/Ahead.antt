@@ -2,7 +2,7 @@
 use Rattle.std.specs.Prelude.{◌≡◌, ℕ, ◌+◌, ◌-◌, ◌^◌, List, Option, length}
 use Rattle.std.specs.Io.KnownBytes.{Consumes}
 
--- the bytes that were not taken yet, where they are known, and how many can still be taken before 2^64 - 1 were
+-- the bytes not taken yet, where they are known, and how many can still be taken before 2^64 - 1
 pub record Ahead : Type 0 where
   pub bytes : Option (List ℕ)
   pub room : ℕ
@@ -12,8 +12,8 @@ pub record Takes (old new : Ahead) (bs : List ℕ) : Type 0 where
   pub consumed : Consumes old.bytes new.bytes bs
   pub counted : new.room + length bs ≡ old.room
 
--- a reader of lines: the reader that it stands on, what is ahead of it, how many lines were taken of
--- the script, how many bytes the reader gave, and how often it failed
+-- a reader of lines: the reader that it stands on, what is ahead of it, how many lines of the script
+-- were taken, how many bytes the reader gave, and how often it failed
 pub record LineReading (R : Type 0) : Type 0 where
   pub inner : R
   pub ahead : Ahead
@@ -26,9 +26,12 @@ abbrev pub all_ahead : Option (List ℕ) → Ahead
 all_ahead remaining = record { bytes = remaining; room = 2 ^ 64 - 1 }
 
 abbrev pub fresh_reader : {R : Type 0} → (R → Option (List ℕ)) → R → LineReading R
-fresh_reader remaining inner = record { inner = inner; ahead = all_ahead (remaining inner); lines = 0; given = 0; failures = 0 }
+fresh_reader remaining inner =
+    record
+    { inner = inner; ahead = all_ahead (remaining inner); lines = 0; given = 0; failures = 0 }
 
 -- all that was read was taken
-pub record IsDrawn {R : Type 0} (remaining : R → Option (List ℕ)) (reader : LineReading R) : Type 0 where
-  pub bytes : reader.ahead.bytes ≡ remaining reader.inner
-  pub room : reader.ahead.room ≡ 2 ^ 64 - 1 - reader.given
+pub record IsDrawn {R : Type 0} (remaining : R → Option (List ℕ)) (reader : LineReading R) : Type 0
+  where
+    pub bytes : reader.ahead.bytes ≡ remaining reader.inner
+    pub room : reader.ahead.room ≡ 2 ^ 64 - 1 - reader.given

@@ -7,7 +7,8 @@ use Rattle.script_lines.specs.declared.input.Unread.{Unread}
 
 -- the bytes that are in the buffer, and then those that the reader gives
 abbrev pub left : Option (List ℕ) → Input → Option (List ℕ)
-left remaining input = prepend_known (slice_range input.bytes input.unread.at input.unread.end) remaining
+left remaining input =
+    prepend_known (slice_range input.bytes input.unread.at input.unread.end) remaining
 
 -- how many bytes can still be taken
 abbrev pub bytes_left : ℕ → Input → ℕ

@@ -14,7 +14,8 @@ use Rattle.script_lines.specs.declared.kept_line.Found.TheVariants as found
 -- the bytes with each run of spaces cut to one; `after` says whether a space came before them
 abbrev pub squash : Bool → List ℕ → List ℕ
 squash after [] = []
-squash after (b ∷ bs) = if b == 32 then (if after then squash true bs else b ∷ squash true bs) else b ∷ squash false bs
+squash after (b ∷ bs) =
+    if b == 32 then (if after then squash true bs else b ∷ squash true bs) else b ∷ squash false bs
 
 -- whether the last byte is a space; `after` answers where there is no byte
 abbrev pub ends_in_space : Bool → List ℕ → Bool
@@ -37,7 +38,8 @@ pub record Holds (tail : Tail) (kept bytes : List ℕ) : Type 0 where
 abbrev pub Kept : KeptLine → List ℕ → Type 0
 Kept line bytes = Holds line.tail line.kept.items bytes
 
--- of these bytes, without the blanks at their front and with each run of spaces cut to one, all was kept but the rest
+-- of these bytes, without the blanks at their front and with each run of spaces cut to one, all was
+-- kept but the rest
 pub record TookBy (tail : Tail) (kept : List ℕ) (gap : Bool) (bytes : List ℕ) : Type 0 where
   pub holds : Holds tail kept (squash false (trim_start bytes))
   pub in_gap : ends_in_space false (trim_start bytes) ≡ gap
@@ -78,8 +80,10 @@ pub record Says (line : KeptLine) (says : List ℕ) : Type 0 where
 
 -- a line with its end was taken, or the last line, or there was none
 abbrev pub TakesLine : Found → Ahead → Ahead → List ℕ → KeptLine → Type 0
-TakesLine found.Line old new seen line = Takes old new (seen ++ 10 ∷ []) × Says line (trim (strip_carriage_return seen))
-TakesLine found.Last old new seen line = Takes old new seen × IsAtEnd new.bytes × (seen ≢ []) × Says line (trim seen)
+TakesLine found.Line old new seen line =
+    Takes old new (seen ++ 10 ∷ []) × Says line (trim (strip_carriage_return seen))
+TakesLine found.Last old new seen line =
+    Takes old new seen × IsAtEnd new.bytes × (seen ≢ []) × Says line (trim seen)
 TakesLine found.End old new seen line = (seen ≡ []) × Takes old new [] × IsAtEnd new.bytes
 
 -- the bytes of the line with its end

@@ -21,7 +21,8 @@ Follows true stop more = (stop ≡ Ended) × (more ≡ [])
 pub record LineTaken (last : Bool) (old new : Ahead) (kept : KeptLine) : Type 0 where
   pub line : Line
   pub taken : Takes old new line.raw
-  pub law : (stop : End) (more : List ℕ) → Follows last stop more → lines_until stop (line.raw ++ more) ≡ line ∷ lines_until stop more
+  pub law : (stop : End) (more : List ℕ) → Follows last stop more
+      → lines_until stop (line.raw ++ more) ≡ line ∷ lines_until stop more
   pub says : Says kept line.says
   pub at_end : last ≡ true → IsAtEnd new.bytes
 
@@ -37,8 +38,10 @@ Finds found.End old new kept = EndsHere old new
 
 -- the same, where the line's bytes went into a text
 abbrev pub TakesInto : Found → Ahead → Ahead → KeptLine → Option (List ℕ) → Option (List ℕ) → Type 0
-TakesInto found.Line old new kept before after = (t : LineTaken false old new kept) × Grows before after t.line.raw
-TakesInto found.Last old new kept before after = (t : LineTaken true old new kept) × Grows before after t.line.raw
+TakesInto found.Line old new kept before after =
+    (t : LineTaken false old new kept) × Grows before after t.line.raw
+TakesInto found.Last old new kept before after =
+    (t : LineTaken true old new kept) × Grows before after t.line.raw
 TakesInto found.End old new kept before after = EndsHere old new
 
 -- how many lines were taken then
@@ -54,16 +57,19 @@ pub record StopsInLine (old new : Ahead) : Type 0 where
   pub none : lines_until Broken seen ≡ []
 
 -- a text was taken, and the line that ends it: they are the first of the lines, whatever may follow
-pub record TextTaken (last : Bool) (text : Option (List ℕ)) (old new : Ahead) (n m : ℕ) : Type 0 where
-  pub lines : List Line
-  pub closing : Line
-  pub taken : Takes old new (raw_bytes lines ++ closing.raw)
-  pub law : (stop : End) (more : List ℕ) → Follows last stop more → lines_until stop ((raw_bytes lines ++ closing.raw) ++ more) ≡ lines ++ closing ∷ lines_until stop more
-  pub inside : NoneEnds lines
-  pub ends : is_end closing.says ≡ true
-  pub is : IsText text (raw_bytes lines)
-  pub number : m ≡ n + length lines + 1
-  pub at_end : last ≡ true → IsAtEnd new.bytes
+pub record TextTaken (last : Bool) (text : Option (List ℕ)) (old new : Ahead) (n m : ℕ) : Type 0
+  where
+    pub lines : List Line
+    pub closing : Line
+    pub taken : Takes old new (raw_bytes lines ++ closing.raw)
+    pub law : (stop : End) (more : List ℕ) → Follows last stop more
+        → lines_until stop ((raw_bytes lines ++ closing.raw) ++ more) ≡ lines
+        ++ closing ∷ lines_until stop more
+    pub inside : NoneEnds lines
+    pub ends : is_end closing.says ≡ true
+    pub is : IsText text (raw_bytes lines)
+    pub number : m ≡ n + length lines + 1
+    pub at_end : last ≡ true → IsAtEnd new.bytes
 
 -- these lines came, none of which ends a text, until reading stopped in this way
 pub record NoEndAmong (stop : End) (old new : Ahead) : Type 0 where

@@ -10,25 +10,25 @@ const SIZE: usize = 4096;
 
 /// The places in the buffer that were read and not yet taken.
 #[derive(Clone, Copy, Debug)]
-pub struct Unread {
-    pub at: usize,
-    pub end: usize,
+pub(crate) struct Unread {
+    pub(crate) at: usize,
+    pub(crate) end: usize,
     ghost ordered: { at ≤ end },
     ghost in_range: { end ≤ 4096 },
 }
 
 /// What was read and not yet taken.
 #[derive(Drop)]
-pub struct Input {
-    pub bytes: [u8; SIZE],
-    pub unread: Unread,
+pub(crate) struct Input {
+    pub(crate) bytes: [u8; SIZE],
+    pub(crate) unread: Unread,
 }
 
 impl Input {
     ghost use Rattle.script_lines.specs.Input.{left, bytes_left, GivesByte, FailsOrFull, IsDrained};
 
     /// Nothing is in the buffer yet.
-    pub fn new() -> Input
+    pub(crate) fn new() -> Input
         ensures at { result.unread.at ≡ 0 }
         ensures end { result.unread.end ≡ 0 }
     {
@@ -96,7 +96,7 @@ impl Input {
 
     /// The next byte, or None at the end of what the reader gives. It fails where a read failed
     /// or 2^64 - 1 bytes were read.
-    pub fn next<R: Read, L: Ledger>(
+    pub(crate) fn next<R: Read, L: Ledger>(
         &mut self,
         reader: &mut Source<R, L>,
     ) -> Result<Option<u8>, Failed>

@@ -20,7 +20,7 @@ const ROOM: usize = 64;
 
 // What of a line isn't kept.
 #[derive(Clone, Copy, Debug, PartialEq, Eq)]
-pub enum Tail {
+pub(crate) enum Tail {
     // All is kept.
     Whole,
     // Blanks were lost, and nothing else.

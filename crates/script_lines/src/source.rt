@@ -13,15 +13,15 @@ pub struct Failed;
 /// A reader with the count of its failures, which are the calls that answered an error, and of its
 /// bytes, from 0 to 2^64 - 1. A call that a signal interrupted is made again, and is no failure.
 #[derive(Drop)]
-pub struct Source<R, L: Ledger> {
-    pub inner: R,
-    pub failures: Failures<L>,
-    pub given: u64,
+pub(crate) struct Source<R, L: Ledger> {
+    pub(crate) inner: R,
+    pub(crate) failures: Failures<L>,
+    pub(crate) given: u64,
 }
 
 impl<R, L: Ledger> Source<R, L> {
     /// Counts in a ledger that is new.
-    pub fn new(inner: R, blank: Blank) -> Source<R, L>
+    pub(crate) fn new(inner: R, blank: Blank) -> Source<R, L>
         requires name { blank.name ≡ L.name }
         requires parts { blank.parts ≡ L.parts }
         requires some { 0 < blank.parts }
@@ -37,7 +37,7 @@ impl<R, L: Ledger> Source<R, L> {
     }
 
     /// The reader.
-    pub fn into_inner(self) -> R
+    pub(crate) fn into_inner(self) -> R
         ensures { result ≡ self.inner }
     {
         let Source {
@@ -51,7 +51,7 @@ impl<R, L: Ledger> Source<R, L> {
 
 impl<R: Read, L: Ledger> Source<R, L> {
     /// Reads once, and again where a signal interrupted it.
-    pub fn read(&mut self, buf: &mut [u8]) -> Result<usize, Failed>
+    pub(crate) fn read(&mut self, buf: &mut [u8]) -> Result<usize, Failed>
         requires { self.old.given + length buf.old < 2 ^ 64 }
         ensures bound { IfOk result (λ n. n ≤ length buf.new) }
         ensures bytes { ReadConsumes (R.remaining self.old.inner) (R.remaining self.new.inner)

@@ -6,10 +6,10 @@ use Rattle.worlds.specs.World.{World}
 use Rattle.worlds.specs.Range.{AllBelow}
 use Rattle.worlds.specs.Square.{Square, one, four, IsSquare, cell_in}
 use Rattle.plane_core.specs.declared.row.SquareRow.{SquareRow}
-use Rattle.plane_core.specs.Rows.{numbered, number_row, number_square, no_row, kid, AreCanonical, AreSquaresOf, root_level, root_of, edge_of, world_of_rows}
+use Rattle.plane_core.specs.Rows.{numbered, number_row, number_square, no_row, kid, AreCanonical, AreSquaresOf, completed, empty_row, root_level, root_of, edge_of, world_of_rows, written}
 use Rattle.plane_core.proofs.Cells.{cell_in-ne, cell_in-nw, cell_in-one, cell_in-se, cell_in-sw, double}
 use Rattle.plane_core.proofs.Sound.{row_of}
-use Rattle.plane_core.proofs.Roots.{root-IsSquare, root-cells}
+use Rattle.plane_core.proofs.Roots.{root-IsSquare, root-cells, rooted}
 use Rattle.square_table.specs.Loading.{LevelsUpTo, CellsBelow}
 
 -- the level of a row is at most m, and its states are below c
@@ -99,12 +99,23 @@ square_states zero (four nw ne sw se) is = absurd is
 square_states (suc k) (one s) is = absurd is
 square_states (suc k) (four nw ne sw se) is = (square_states k nw is.0, square_states k ne is.1, square_states k sw is.2, square_states k se is.3)
 
-root_within : (rows : List SquareRow) (c : ℕ) → AreCanonical rows → StatesBelow c (root_of rows) → AreWithin (root_level rows) c rows
+-- the row of the empty square is so too
+within_empty : (m c : ℕ) → 1 ≤ m → 0 < c → AreWithin m c (empty_row ∷ [])
 unfolding AreWithin
-root_within rows c are below =
+within_empty m c low some zero h = record { level = low; states = λ first q hq. four_below 0 0 0 0 c q some some some some hq }
+within_empty m c low some (suc i) h = absurd (omega (arith, h))
+
+within_written : (m c : ℕ) (rows : List SquareRow) → 1 ≤ m → 0 < c → AreWithin m c rows → AreWithin m c (written rows)
+within_written m c [] low some old = within_empty m c low some
+within_written m c (row ∷ rows) low some old = old
+
+root_within : (rows : List SquareRow) (c : ℕ) → AreCanonical rows → 0 < c → StatesBelow c (root_of rows) → AreWithin (root_level rows) c rows
+unfolding AreWithin
+root_within rows c are some below =
     let k = root_level rows in
     let low : k ≤ k = omega arith in
-    subst (AreWithin k c) are.walked (within_walk k (root_of rows) [] k c low (root-IsSquare rows are.valid) below (λ i h. absurd (omega (arith, h))))
+    let walked = within_walk k (root_of rows) [] k c low (root-IsSquare rows are.valid) below (λ i h. absurd (omega (arith, h))) in
+    subst (AreWithin k c) are.walked (within_written k c (completed k (root_of rows)) (rooted rows are.valid).low some walked)
 
 pub cells_below : (w : World) (rows : List SquareRow) (c : ℕ) → AreSquaresOf w rows → AllBelow c w → CellsBelow c rows
 unfolding AreWithin
@@ -114,8 +125,9 @@ cells_below w rows c are below i q h hq level =
     let all : AllBelow c (world_of_rows rows) = subst (AllBelow c) (sym are.world) below in
     let states : StatesBelow c (root_of rows) =
     states_below k (root_of rows) c (root-IsSquare rows valid) (λ x y hx hy. subst (λ n. n < c) (sym (root-cells rows k x y valid refl hx hy)) (all (edge_of k +ℤ pos x) (edge_of k +ℤ pos y))) in
-    (root_within rows c are.canonical states i h).states level q hq
+    let state = all (pos 0) (pos 0) in
+    (root_within rows c are.canonical (omega (arith, state)) states i h).states level q hq
 
 pub levels_up_to : (w : World) (rows : List SquareRow) → AreSquaresOf w rows → LevelsUpTo (root_level rows) rows
 unfolding AreWithin
-levels_up_to w rows are i h = (root_within rows 256 are.canonical (square_states (root_level rows) (root_of rows) (root-IsSquare rows are.canonical.valid)) i h).level
+levels_up_to w rows are i h = (root_within rows 256 are.canonical (omega arith) (square_states (root_level rows) (root_of rows) (root-IsSquare rows are.canonical.valid)) i h).level

@@ -4,6 +4,8 @@ pub mod Numbers
 pub mod Tables
 pub mod Growth
 pub mod Loading
+pub mod Listing
+pub mod Making
 pub mod Laying
 pub mod Middles
 pub mod Centring

@@ -1,5 +1,6 @@
 -- The squares of a plane's rows, made in a table one by one.
-use Rattle.std.proofs.Common.{◌≡◌, ℕ, zero, suc, ◌-◌, ◌<◌, ◌≤◌, List, [], ◌∷◌, ◌++◌, length, get_or, refl, sym, ap, ◌∙◌, subst, arith, inl, inr, lit<}
+use Rattle.std.proofs.Common.{◌≡◌, ℕ, zero, suc, ◌+◌, ◌-◌, ◌<◌, ◌≤◌, List, [], ◌∷◌, ◌++◌, length, get_or, refl, sym, ap, ◌∙◌, subst, arith, inl, inr, lit<}
+use Rattle.std.specs.Prelude.{Contains}
 use Rattle.std.proofs.lemmas.Bool.{cases_lt}
 use Rattle.std.proofs.lemmas.List.{length_push, get_or_append_left, get_or_push}
 use Rattle.worlds.specs.Square.{Square, one, four, empty_square, cell_in}
@@ -10,8 +11,10 @@ use Rattle.plane_core.proofs.Cells.{cell_in-one}
 use Rattle.plane_core.proofs.Sound.{IsNumber-level, square_in-none, square_in-state, square_in-row, state-IsNumber}
 use Rattle.plane_core.proofs.Measuring.{kid_is}
 use Rattle.square_table.specs.Squares.{Table, IsNumber, AreNumbers, square_in, square_of, first_number, IsSquareOf, Grows, GrowsBy, AllStatesBelow}
-use Rattle.square_table.specs.Loading.{AreBlanks, IsLoadedAt, AreLoaded, number_in, LevelsUpTo, CellsBelow, GrowsFrom}
+use Rattle.square_table.specs.Made.{IsAmong, AreAmong, HasEmpty}
+use Rattle.square_table.specs.Loading.{AreBlanks, IsLoadedAt, AreLoaded, number_in, LevelsUpTo, CellsBelow, GrowsFrom, HasRows}
 use Rattle.square_table.proofs.Tables.{kept_row, last_row}
+use Rattle.square_table.proofs.Making.{AreAmong-joined, IsFor, IsAmong-for}
 use Rattle.square_table.proofs.Growth.{Grows-same, Grows-then, IsNumber-grows, square_in-grows, AreNumbers-grows, square_of-grows, IsNumber-joined, square_in-joined}
 
 -- numbers of cells
@@ -37,13 +40,30 @@ unfolding IsNumber
 above_states rows k n h = h.0
 
 -- growth
-pub GrowsFrom-same : (squares : List SquareRow) (t : Table) → GrowsFrom squares t t
-GrowsFrom-same squares t = record { grows = Grows-same t; states = λ c some below h. h }
+pub GrowsFrom-same : (level : ℕ) (squares : List SquareRow) (t : Table) → GrowsFrom level squares t t
+GrowsFrom-same level squares t = record { grows = Grows-same t; states = λ c some below h. h; among = λ all empty listed h. h }
 
-pub GrowsFrom-then : (squares : List SquareRow) (t u v : Table) → GrowsFrom squares t u → GrowsFrom squares u v → GrowsFrom squares t v
-GrowsFrom-then squares t u v first second = record {
+pub GrowsFrom-then : (level : ℕ) (squares : List SquareRow) (t u v : Table) → GrowsFrom level squares t u → GrowsFrom level squares u v → GrowsFrom level squares t v
+GrowsFrom-then level squares t u v first second = record {
   grows = Grows-then t u v first.grows second.grows;
   states = λ c some below h. second.states c some below (first.states c some below h);
+  among = λ all empty listed h. second.among all empty listed (first.among all empty listed h);
+}
+
+-- empty squares of more levels
+pub GrowsFrom-higher : (low high : ℕ) (squares : List SquareRow) (t u : Table) → low ≤ high → GrowsFrom low squares t u → GrowsFrom high squares t u
+GrowsFrom-higher low high squares t u le is = record {
+  grows = is.grows;
+  states = is.states;
+  among = λ all empty. is.among all (λ j some below. empty j some (omega (arith, below, le)));
+}
+
+-- squares of a plane, and before them empty ones alone
+pub GrowsFrom-behind : (level : ℕ) (squares : List SquareRow) (t u v : Table) → GrowsFrom level [] t u → GrowsFrom level squares u v → GrowsFrom level squares t v
+GrowsFrom-behind level squares t u v first second = record {
+  grows = Grows-then t u v first.grows second.grows;
+  states = λ c some below h. second.states c some below (first.states c some (λ i q lt. absurd (omega (arith, lt))) h);
+  among = λ all empty listed h. second.among all empty listed (first.among all empty (λ i lt. absurd (omega (arith, lt))) h);
 }
 
 states-more : (c : ℕ) (rows : List (List ℕ)) (kids : List ℕ) → ((q : ℕ) → q < 4 → get_or kids q 0 < first_number → get_or kids q 0 < c) → AllStatesBelow c rows → AllStatesBelow c (rows ++ kids ∷ [])
@@ -55,14 +75,16 @@ states-more c rows kids new old = record {
 }
 
 -- one row more, or none
-pub GrowsFrom-joined : (squares : List SquareRow) (kids : List ℕ) (t u : Table) → Grows t u → GrowsBy kids t u
-    → ((c q : ℕ) → 0 < c → CellsBelow c squares → q < 4 → get_or kids q 0 < first_number → get_or kids q 0 < c) → GrowsFrom squares t u
-GrowsFrom-joined squares kids t u grows step new = record {
+pub GrowsFrom-joined : (level : ℕ) (squares : List SquareRow) (kids : List ℕ) (t u : Table) → Grows t u → GrowsBy kids t u
+    → ((c q : ℕ) → 0 < c → CellsBelow c squares → q < 4 → get_or kids q 0 < first_number → get_or kids q 0 < c)
+    → ((all : List Square) (n : ℕ) → HasEmpty all level → HasRows all squares → IsSquareOf u.rows kids n → IsAmong all u.rows n) → GrowsFrom level squares t u
+GrowsFrom-joined level squares kids t u grows step new made = record {
   grows = grows;
   states = λ c some below h. elim step [
     | inl same ↦ subst (λ (v : Table). AllStatesBelow c v.rows) (sym same) h
     | inr more ↦ subst (λ (v : Table). AllStatesBelow c v.rows) (sym more) (states-more c t.rows kids (λ q hq. new c q some below hq) h)
   ];
+  among = λ all empty listed are. AreAmong-joined all t u kids grows step (λ n is. made all n empty listed is) are;
 }
 
 -- blank squares
@@ -95,12 +117,29 @@ blank_below rows zero n c some is same h =
     omega (arith, e, some)
 blank_below rows (suc k) n c some is same h = absurd (omega (arith, above_states rows k n is, h))
 
-pub blank_grows : (t u : Table) (blanks : List ℕ) (b : ℕ) → b ≡ get_or blanks (length blanks - 1) 0 → 0 < length blanks → AreBlanks t.rows blanks → Grows t u → GrowsBy (four_of b) t u → GrowsFrom [] t u
-blank_grows t u blanks b e some are grows step =
-    let at : length blanks - 1 < length blanks = omega (arith, some) in
-    GrowsFrom-joined [] (four_of b) t u grows step (λ c q live below hq.
-    four_of-each (λ n. n < first_number → n < c) b q hq
-    (subst (λ n. n < first_number → n < c) (sym e) (blank_below t.rows (length blanks - 1) _ c live (are.numbers _ at) (are.empty _ at))))
+-- it is the empty square of one level more
+pub blank_joined : (t u : Table) (k b n : ℕ) → IsNumber t.rows k b → square_in t.rows k b ≡ empty_square k → Grows t u → IsSquareOf u.rows (four_of b) n → IsFor u.rows k n (empty_square (suc k))
+blank_joined t u k b n is same grows joined =
+    let number = IsNumber-grows t u k b grows is in
+    let empty : square_in u.rows k b ≡ empty_square k = square_in-grows t u k b grows is ∙ same in
+    record {
+      numbered = IsNumber-joined u.rows k (four_of b) n joined (record { nw = number; ne = number; sw = number; se = number });
+      square = square_in-joined u.rows k (four_of b) n joined ∙ ap (λ (s : Square). four s s s s) empty ∙ sym (empty_square-suc k);
+    }
+
+pub blank_grows : (t u : Table) (k b : ℕ) → IsNumber t.rows k b → square_in t.rows k b ≡ empty_square k → Grows t u → GrowsBy (four_of b) t u → GrowsFrom (suc (suc k)) [] t u
+blank_grows t u k b is same grows step =
+    GrowsFrom-joined (suc (suc k)) [] (four_of b) t u grows step
+    (λ c q live below hq. four_of-each (λ n. n < first_number → n < c) b q hq (blank_below t.rows k b c live is same))
+    (λ all n empty listed joined. IsAmong-for all u.rows k n (empty_square (suc k)) (blank_joined t u k b n is same grows joined) (empty (suc k) (omega arith) (omega arith)))
+
+-- the last of blank squares, and one more
+pub blanks_grow : (t u : Table) (blanks : List ℕ) (b : ℕ) → b ≡ get_or blanks (length blanks - 1) 0 → 0 < length blanks → AreBlanks t.rows blanks → Grows t u → GrowsBy (four_of b) t u → GrowsFrom (length blanks + 1) [] t u
+blanks_grow t u blanks b e some are grows step =
+    let j = length blanks - 1 in
+    let at : j < length blanks = omega (arith, some) in
+    let level : suc (suc j) ≡ length blanks + 1 = omega (arith, some) in
+    subst (λ k. GrowsFrom k [] t u) level (blank_grows t u j b (subst (IsNumber t.rows j) (sym e) (are.numbers j at)) (ap (square_in t.rows j) e ∙ are.empty j at) grows step)
 
 pub AreBlanks-more : (t u : Table) (blanks : List ℕ) (b n : ℕ) → b ≡ get_or blanks (length blanks - 1) 0 → 0 < length blanks → AreBlanks t.rows blanks → Grows t u → IsSquareOf u.rows (four_of b) n → AreBlanks u.rows (blanks ++ n ∷ [])
 AreBlanks-more t u blanks b n e some are grows is =
@@ -108,10 +147,11 @@ AreBlanks-more t u blanks b n e some are grows is =
     let at : j < length blanks = omega (arith, some) in
     let next : suc j ≡ length blanks = omega (arith, some) in
     let all = AreBlanks-grows t u blanks grows are in
-    let number : IsNumber u.rows j b = subst (IsNumber u.rows j) (sym e) (all.numbers j at) in
-    let empty : square_in u.rows j b ≡ empty_square j = ap (square_in u.rows j) e ∙ all.empty j at in
-    let made : IsNumber u.rows (suc j) n = IsNumber-joined u.rows j (four_of b) n is (record { nw = number; ne = number; sw = number; se = number }) in
-    let blank : square_in u.rows (suc j) n ≡ empty_square (suc j) = square_in-joined u.rows j (four_of b) n is ∙ ap (λ (s : Square). four s s s s) empty ∙ sym (empty_square-suc j) in
+    let number : IsNumber t.rows j b = subst (IsNumber t.rows j) (sym e) (are.numbers j at) in
+    let empty : square_in t.rows j b ≡ empty_square j = ap (square_in t.rows j) e ∙ are.empty j at in
+    let joined = blank_joined t u j b n number empty grows is in
+    let made : IsNumber u.rows (suc j) n = joined.numbered in
+    let blank : square_in u.rows (suc j) n ≡ empty_square (suc j) = joined.square in
     record {
       numbers = λ k h. elim (cases_lt k (length blanks)) [
         | inl before ↦ subst (IsNumber u.rows k) (sym (get_or_append_left blanks (n ∷ []) 0 k before)) (all.numbers k before)
@@ -223,27 +263,41 @@ kids-each squares blanks numbers i k c (suc (suc zero)) all h = all 2 (lit< tt)
 kids-each squares blanks numbers i k c (suc (suc (suc zero))) all h = all 3 (lit< tt)
 kids-each squares blanks numbers i k c (suc (suc (suc (suc q)))) all h = absurd (omega (arith, h))
 
-pub next_grows : (squares : List SquareRow) (blanks numbers kids : List ℕ) (t u : Table) (i k : ℕ) → IsNext squares blanks numbers t.rows i k → kids ≡ next_kids squares blanks numbers i k → Grows t u → GrowsBy kids t u → GrowsFrom squares t u
-next_grows squares blanks numbers kids t u i k next e grows step =
-    GrowsFrom-joined squares kids t u grows step (λ c q some below hq.
-    subst (λ (ks : List ℕ). get_or ks q 0 < first_number → get_or ks q 0 < c) (sym e)
-    (kids-each squares blanks numbers i k c q (λ p hp. state_below squares blanks numbers t.rows i k p c next hp below) hq))
-
-pub next_loaded : (squares : List SquareRow) (blanks numbers kids : List ℕ) (t u : Table) (i k n : ℕ) → IsNext squares blanks numbers t.rows i k → kids ≡ next_kids squares blanks numbers i k → Grows t u → IsSquareOf u.rows kids n → AreLoaded squares u.rows (numbers ++ n ∷ [])
+-- the square that they make is that of the row
+next_joined : (squares : List SquareRow) (blanks numbers kids : List ℕ) (t u : Table) (i k n : ℕ) → IsNext squares blanks numbers t.rows i k → kids ≡ next_kids squares blanks numbers i k → Grows t u → IsSquareOf u.rows kids n
+    → IsFor u.rows k n (listed.square_in squares (suc k) (suc i))
 unfolding next_kids
-next_loaded squares blanks numbers kids t u i k n next e grows is =
+next_joined squares blanks numbers kids t u i k n next e grows is =
     let kid_at = λ (q : ℕ) (hq : q < 4). next_same squares blanks numbers t.rows i k q next hq in
     let nw = kid_at 0 (lit< tt) in let ne = kid_at 1 (lit< tt) in let sw = kid_at 2 (lit< tt) in let se = kid_at 3 (lit< tt) in
     let all = next_kids squares blanks numbers i k in
     let are : AreNumbers t.rows k all = record { nw = nw.number; ne = ne.number; sw = sw.number; se = se.number } in
     let made : IsSquareOf u.rows all n = subst (λ (ks : List ℕ). IsSquareOf u.rows ks n) e is in
-    let number : IsNumber u.rows (suc k) n = IsNumber-joined u.rows k all n made (AreNumbers-grows t u k all grows are) in
     let quadrants : square_of t.rows k all ≡ listed.square_in squares (suc k) (suc i) =
     (let a = nw.square in let b = ne.square in let c = sw.square in let d = se.square in λ j. four (a j) (b j) (c j) (d j)) ∙ sym (square_in-row squares k i) in
-    let square : square_in u.rows (suc k) n ≡ listed.square_in squares (suc k) (suc i) = square_in-joined u.rows k all n made ∙ square_of-grows t u k all grows are ∙ quadrants in
-    let level : suc k ≡ (get_or squares i no_row).level = (kid_is squares i k 0 next.valid next.more next.level (lit< tt)).level in
+    record {
+      numbered = IsNumber-joined u.rows k all n made (AreNumbers-grows t u k all grows are);
+      square = square_in-joined u.rows k all n made ∙ square_of-grows t u k all grows are ∙ quadrants;
+    }
+
+next_level : (squares : List SquareRow) (blanks numbers : List ℕ) (rows : List (List ℕ)) (i k : ℕ) → IsNext squares blanks numbers rows i k → suc k ≡ (get_or squares i no_row).level
+next_level squares blanks numbers rows i k next = (kid_is squares i k 0 next.valid next.more next.level (lit< tt)).level
+
+pub next_grows : (squares : List SquareRow) (blanks numbers kids : List ℕ) (t u : Table) (i k : ℕ) → IsNext squares blanks numbers t.rows i k → kids ≡ next_kids squares blanks numbers i k → Grows t u → GrowsBy kids t u → GrowsFrom 0 squares t u
+next_grows squares blanks numbers kids t u i k next e grows step =
+    GrowsFrom-joined 0 squares kids t u grows step
+    (λ c q some below hq.
+    subst (λ (ks : List ℕ). get_or ks q 0 < first_number → get_or ks q 0 < c) (sym e)
+    (kids-each squares blanks numbers i k c q (λ p hp. state_below squares blanks numbers t.rows i k p c next hp below) hq))
+    (λ all n empty rows is. IsAmong-for all u.rows k n _ (next_joined squares blanks numbers kids t u i k n next e grows is)
+    (subst (λ l. Contains all (listed.square_in squares l (suc i))) (sym (next_level squares blanks numbers t.rows i k next)) (rows i next.more)))
+
+pub next_loaded : (squares : List SquareRow) (blanks numbers kids : List ℕ) (t u : Table) (i k n : ℕ) → IsNext squares blanks numbers t.rows i k → kids ≡ next_kids squares blanks numbers i k → Grows t u → IsSquareOf u.rows kids n → AreLoaded squares u.rows (numbers ++ n ∷ [])
+next_loaded squares blanks numbers kids t u i k n next e grows is =
+    let joined = next_joined squares blanks numbers kids t u i k n next e grows is in
+    let level = next_level squares blanks numbers t.rows i k next in
     let more : length numbers < length squares = omega (arith, next.at, next.more) in
     AreLoaded-more squares t u numbers n grows more next.known (subst (λ j. IsLoadedAt squares u.rows j n) next.at (record {
-      number = subst (λ j. IsNumber u.rows j n) level number;
-      square = subst (λ j. square_in u.rows j n ≡ listed.square_in squares j (suc i)) level square;
+      number = subst (λ j. IsNumber u.rows j n) level joined.numbered;
+      square = subst (λ j. square_in u.rows j n ≡ listed.square_in squares j (suc i)) level joined.square;
     }))

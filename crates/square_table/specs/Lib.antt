@@ -4,4 +4,5 @@ pub mod Faults
 pub mod Centred
 pub mod Laying
 pub mod Loading
+pub mod Made
 pub mod Packing

@@ -1,10 +1,12 @@
 -- Planes that become squares of a table, row by row.
-use Rattle.std.specs.Prelude.{◌≡◌, ℕ, zero, suc, ◌<◌, ◌≤◌, List, length, get_or}
-use Rattle.worlds.specs.Square.{empty_square}
+use Rattle.std.specs.Prelude.{◌≡◌, ℕ, zero, suc, ◌<◌, ◌≤◌, List, [], ◌∷◌, length, get_or, Contains}
+use Rattle.worlds.specs.World.{World}
+use Rattle.worlds.specs.Square.{Square, empty_square}
 use Rattle.plane_core.specs.declared.row.SquareRow.{SquareRow}
 use Rattle.plane_core.specs.Rows as listed
-use Rattle.plane_core.specs.Rows.{no_row, kid, AreRows}
+use Rattle.plane_core.specs.Rows.{no_row, kid, AreRows, root_level, Fits, IsLeastLevel}
 use Rattle.square_table.specs.Squares.{Table, IsNumber, square_in, Grows, AllStatesBelow}
+use Rattle.square_table.specs.Made.{AreAmong, HasEmpty, HasStart}
 
 -- the k-th is the number of the square of level k with no live cell
 pub record AreBlanks (rows : List (List ℕ)) (blanks : List ℕ) : Type 0 where
@@ -42,7 +44,34 @@ pub record IsLoading (squares : List SquareRow) (blanks : List ℕ) (rows : List
 abbrev pub CellsBelow : ℕ → List SquareRow → Type 0
 CellsBelow c squares = (i q : ℕ) → i < length squares → q < 4 → (get_or squares i no_row).level ≡ 1 → kid (get_or squares i no_row) q < c
 
--- the table has more rows, or none, with states of a plane's rows or 0
-pub record GrowsFrom (squares : List SquareRow) (old new : Table) : Type 0 where
+-- the square of the i-th row of a plane
+abbrev pub row_square : List SquareRow → ℕ → Square
+row_square squares i = listed.square_in squares (get_or squares i no_row).level (suc i)
+
+-- those of a plane's rows are among these squares
+abbrev pub HasRows : List Square → List SquareRow → Type 0
+HasRows all squares = (i : ℕ) → i < length squares → Contains all (row_square squares i)
+
+-- the table has more rows, or none: of a plane's squares, and of empty ones below this level
+pub record GrowsFrom (level : ℕ) (squares : List SquareRow) (old new : Table) : Type 0 where
   pub grows : Grows old new
   pub states : (c : ℕ) → 0 < c → CellsBelow c squares → AllStatesBelow c old.rows → AllStatesBelow c new.rows
+  pub among : (all : List Square) → HasEmpty all level → HasRows all squares →
+      AreAmong all old.rows → AreAmong all new.rows
+
+-- a plane's empty squares are below this level: that of the root, or 2 where there are no rows
+abbrev pub empty_below : List SquareRow → ℕ
+empty_below [] = 2
+empty_below (row ∷ rows) = root_level (row ∷ rows)
+
+-- the table has more rows, or none, of squares that a world starts with up to a level that holds it
+pub record GrowsFor (w : World) (old new : Table) : Type 0 where
+  pub grows : Grows old new
+  pub among : (k : ℕ) (all : List Square) → 1 ≤ k → Fits k w → HasStart all w k →
+      AreAmong all old.rows → AreAmong all new.rows
+
+-- k is the least level from 1 up that holds the live cells, and one of a plane's
+pub record IsRootLevel (k : ℕ) (w : World) : Type 0 where
+  pub low : 1 ≤ k
+  pub high : k ≤ 62
+  pub least : IsLeastLevel k w

@@ -1,7 +1,8 @@
 //! Patches laid on squares of a table.
-ghost use Rattle.std.specs.Prelude.{◌≡◌, ◌+◌, ◌-◌, ◌<◌, ◌≤◌, length, IfOk, Err};
+ghost use Rattle.std.specs.Prelude.{◌≡◌, ◌-◌, ◌<◌, ◌≤◌, IfOk, Err};
 ghost use Rattle.square_tree.specs.Quadtree.{quadtree, quadtree_of_four, HasLevel};
 ghost use Rattle.square_table.specs.Squares.{IsNumber, AreNumbers, IsHeld, Grows, level_of};
+ghost use Rattle.square_table.specs.Made.{IsFull};
 ghost use Rattle.square_table.specs.Laying.{IsLaidOn, IsLaidAs, AreLaidAs, in_corner, in_middle};
 
 use crate::fault::TableFault;
@@ -23,7 +24,7 @@ impl<'a> SquareTable<'a> {
         requires level { HasLevel level (quadtree tree.now) }
         ensures grows { Grows self.old self.new }
         ensures laid { IfOk result (IsLaidAs (quadtree tree.now) self.old.rows level number self.new.rows) }
-        ensures full { result ≡ Err TableFault.NoRoom → length self.new.rows ≡ self.old.limit }
+        ensures full { result ≡ Err TableFault.NoRoom → IsFull self.new }
     {
         match tree {
             PatchTree::Keep => Ok(number),
@@ -49,7 +50,7 @@ impl<'a> SquareTable<'a> {
         ensures grows { Grows self.old self.new }
         ensures laid { IfOk result (AreLaidAs (quadtree_of_four four.now)
             self.old.rows (level - 1) kids self.new.rows) }
-        ensures full { result ≡ Err TableFault.NoRoom → length self.new.rows ≡ self.old.limit }
+        ensures full { result ≡ Err TableFault.NoRoom → IsFull self.new }
     {
         let below = level - 1;
         let nw = self.lay_tree(below, kids[0], &four.nw)?;
@@ -74,7 +75,7 @@ impl<'a> SquareTable<'a> {
         ensures grows { Grows self.old self.new }
         ensures laid { IfOk result (IsLaidAs (in_corner corner (level - tree_level) (quadtree tree.now))
             self.old.rows level number self.new.rows) }
-        ensures full { result ≡ Err TableFault.NoRoom → length self.new.rows ≡ self.old.limit }
+        ensures full { result ≡ Err TableFault.NoRoom → IsFull self.new }
     {
         if level == tree_level {
             return self.lay_tree(level, number, tree);
@@ -98,7 +99,7 @@ impl<'a> SquareTable<'a> {
         ensures grows { Grows self.old self.new }
         ensures laid { IfOk result (AreLaidAs (in_middle (level - tree_level) (quadtree_of_four four.now))
             self.old.rows (level - 1) kids self.new.rows) }
-        ensures full { result ≡ Err TableFault.NoRoom → length self.new.rows ≡ self.old.limit }
+        ensures full { result ≡ Err TableFault.NoRoom → IsFull self.new }
     {
         let below = level - 1;
         let tree_below = tree_level - 1;
@@ -122,7 +123,7 @@ impl<'a> SquareTable<'a> {
         ensures grows { Grows self.old self.new }
         ensures laid { IfOk result (IsLaidAs (in_middle (level - tree_level) (quadtree tree.now))
             self.old.rows level number self.new.rows) }
-        ensures full { result ≡ Err TableFault.NoRoom → length self.new.rows ≡ self.old.limit }
+        ensures full { result ≡ Err TableFault.NoRoom → IsFull self.new }
     {
         match tree {
             PatchTree::Keep => Ok(number),
@@ -156,7 +157,7 @@ impl<'a> SquareTable<'a> {
         requires level { patch.now.level ≤ level_of square }
         ensures grows { Grows self.old self.new }
         ensures laid { IfOk result (IsLaidOn patch.now self.old square.entry self.new) }
-        ensures full { result ≡ Err TableFault.NoRoom → length self.new.rows ≡ self.old.limit }
+        ensures full { result ≡ Err TableFault.NoRoom → IsFull self.new }
     {
         let number = self.lay_middle(square.level, square.number, patch.tree(), patch.level())?;
         Ok(self.square(square.level, number)?)

@@ -3,9 +3,10 @@ ghost use Rattle.std.specs.Prelude.{◌≡◌, ℕ, ◌+◌, ◌<◌, ◌≤◌,
 ghost use Rattle.worlds.specs.Range.{AllBelow};
 ghost use Rattle.worlds.specs.Square.{empty_square};
 ghost use Rattle.plane_core.specs.Rows.{AreRows, root_level, root_of};
-ghost use Rattle.square_table.specs.Squares.{IsHeld, Grows, AllStatesBelow, level_of, cells_of};
+ghost use Rattle.square_table.specs.Squares.{IsHeld, AllStatesBelow, level_of, cells_of};
 ghost use Rattle.square_table.specs.Centred.{IsCentred};
-ghost use Rattle.square_table.specs.Loading.{AreBlanks, AreLoaded, IsLoading, GrowsFrom, LevelsUpTo, number_in};
+ghost use Rattle.square_table.specs.Made.{IsFull};
+ghost use Rattle.square_table.specs.Loading.{AreBlanks, AreLoaded, IsLoading, GrowsFrom, GrowsFor, IsRootLevel, LevelsUpTo, number_in, empty_below};
 
 use crate::fault::TableFault;
 use crate::square::Square;
@@ -41,10 +42,10 @@ impl<'a> SquareTable<'a> {
     fn push_blank(&mut self, blanks: &mut Vec<u32>) -> Result<(), TableFault>
         requires blanks { AreBlanks self.old.rows blanks.old.items }
         requires some { 0 < length blanks.old.items }
-        ensures grows { GrowsFrom [] self.old self.new }
+        ensures grows { GrowsFrom (length blanks.old.items + 1) [] self.old self.new }
         ensures blanks { OnOk result (AreBlanks self.new.rows blanks.new.items) }
         ensures count { OnOk result (length blanks.new.items ≡ length blanks.old.items + 1) }
-        ensures full { result ≡ Err TableFault.NoRoom → length self.new.rows ≡ self.old.limit }
+        ensures full { result ≡ Err TableFault.NoRoom → IsFull self.new }
     {
         let blank = blanks[blanks.len() - 1];
         let next = self.join_numbers([blank; 4])?;
@@ -54,10 +55,10 @@ impl<'a> SquareTable<'a> {
     // The numbers of the blank squares of the levels below this one.
     fn blanks(&mut self, level: u8) -> Result<Vec<u32>, TableFault>
         requires { 1 ≤ level }
-        ensures grows { GrowsFrom [] self.old self.new }
+        ensures grows { GrowsFrom level [] self.old self.new }
         ensures count { IfOk result (λ blanks. length blanks.items ≡ level) }
         ensures blanks { IfOk result (λ blanks. AreBlanks self.new.rows blanks.items) }
-        ensures full { result ≡ Err TableFault.NoRoom → length self.new.rows ≡ self.old.limit }
+        ensures full { result ≡ Err TableFault.NoRoom → IsFull self.new }
     {
         let mut blanks = Vec::with_capacity(self.alloc(), level as usize)?;
         push(&mut blanks, 0)?;
@@ -76,10 +77,10 @@ impl<'a> SquareTable<'a> {
     ) -> Result<(), TableFault>
         requires loading { IsLoading squares.now blanks.now self.old.rows numbers.old.items }
         requires more { length numbers.old.items < length squares.now }
-        ensures grows { GrowsFrom squares.now self.old self.new }
+        ensures grows { GrowsFrom 0 squares.now self.old self.new }
         ensures loaded { OnOk result (AreLoaded squares.now self.new.rows numbers.new.items) }
         ensures count { OnOk result (length numbers.new.items ≡ length numbers.old.items + 1) }
-        ensures full { result ≡ Err TableFault.NoRoom → length self.new.rows ≡ self.old.limit }
+        ensures full { result ≡ Err TableFault.NoRoom → IsFull self.new }
     {
         let row = squares[numbers.len()];
         let level = row.level - 1;
@@ -95,10 +96,10 @@ impl<'a> SquareTable<'a> {
     fn load_rows(&mut self, squares: &[SquareRow], blanks: &[u32]) -> Result<Vec<u32>, TableFault>
         requires squares { AreRows squares.now × LevelsUpTo (length blanks.now) squares.now }
         requires blanks { AreBlanks self.old.rows blanks.now }
-        ensures grows { GrowsFrom squares.now self.old self.new }
+        ensures grows { GrowsFrom 0 squares.now self.old self.new }
         ensures count { IfOk result (λ numbers. length numbers.items ≡ length squares.now) }
         ensures loaded { IfOk result (λ numbers. AreLoaded squares.now self.new.rows numbers.items) }
-        ensures full { result ≡ Err TableFault.NoRoom → length self.new.rows ≡ self.old.limit }
+        ensures full { result ≡ Err TableFault.NoRoom → IsFull self.new }
     {
         let mut numbers = Vec::with_capacity(self.alloc(), squares.len())?;
         while numbers.len() < squares.len() {
@@ -109,11 +110,11 @@ impl<'a> SquareTable<'a> {
 
     // The blank square of level 1.
     fn load_none(&mut self) -> Result<Square<'a>, TableFault>
-        ensures grows { GrowsFrom [] self.old self.new }
+        ensures grows { GrowsFrom 2 [] self.old self.new }
         ensures held { IfOk result (λ s. IsHeld self.new s) }
         ensures level { IfOk result (λ s. level_of s ≡ 1) }
         ensures cells { IfOk result (λ s. cells_of self.new s ≡ empty_square 1) }
-        ensures full { result ≡ Err TableFault.NoRoom → length self.new.rows ≡ self.old.limit }
+        ensures full { result ≡ Err TableFault.NoRoom → IsFull self.new }
     {
         let number = self.join_numbers([0; 4])?;
         Ok(self.square(1, number)?)
@@ -122,11 +123,11 @@ impl<'a> SquareTable<'a> {
     // The square of the root of a plane's rows.
     fn load_root(&mut self, squares: &[SquareRow]) -> Result<Square<'a>, TableFault>
         requires { AreRows squares.now × LevelsUpTo (root_level squares.now) squares.now }
-        ensures grows { GrowsFrom squares.now self.old self.new }
+        ensures grows { GrowsFrom (empty_below squares.now) squares.now self.old self.new }
         ensures held { IfOk result (λ s. IsHeld self.new s) }
         ensures level { IfOk result (λ s. level_of s ≡ root_level squares.now) }
         ensures cells { IfOk result (λ s. cells_of self.new s ≡ root_of squares.now) }
-        ensures full { result ≡ Err TableFault.NoRoom → length self.new.rows ≡ self.old.limit }
+        ensures full { result ≡ Err TableFault.NoRoom → IsFull self.new }
     {
         let Some(root) = squares.last() else {
             return self.load_none();
@@ -145,13 +146,13 @@ impl<'a> SquareTable<'a> {
     /// table holds as many as it may; NoMemory where a growth was refused. The squares that a refused
     /// call has made stay.
     pub fn load(&mut self, plane: &Plane) -> Result<Square<'a>, TableFault>
-        ensures grows { Grows self.old self.new }
+        ensures grows { GrowsFor plane.now self.old self.new }
         ensures held { IfOk result (λ s. IsHeld self.new s) }
-        ensures level { IfOk result (λ s. (1 ≤ level_of s) × (level_of s ≤ 62)) }
+        ensures level { IfOk result (λ s. IsRootLevel (level_of s) plane.now) }
         ensures centred { IfOk result (λ s. IsCentred plane.now (level_of s) (cells_of self.new s)) }
         ensures states { (c : ℕ) → 1 ≤ c → AllBelow c plane.now →
             AllStatesBelow c self.old.rows → AllStatesBelow c self.new.rows }
-        ensures full { result ≡ Err TableFault.NoRoom → length self.new.rows ≡ self.old.limit }
+        ensures full { result ≡ Err TableFault.NoRoom → IsFull self.new }
     {
         let squares = plane.squares()?;
         self.load_root(&squares)

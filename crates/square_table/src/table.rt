@@ -3,6 +3,8 @@ ghost use Rattle.std.specs.Prelude.{◌≡◌, ℕ, ◌+◌, ◌-◌, ◌^◌, �
 ghost use Rattle.worlds.specs.Square.{one, empty_square};
 ghost use Rattle.square_table.specs.Chains.{kids_of, IsChained, IsAbsent};
 ghost use Rattle.square_table.specs.Squares.{Table, IsNumber, IsHeld, IsSquareOf, Grows, GrowsBy, Keeps, AreFour, IsJoined, Lacks, with_row, cells_of, first_number, kids_at, level_of, number_of, AreDistinct};
+ghost use Rattle.square_table.specs.Made.{IsFull};
+ghost use Rattle.square_table.specs.Loading.{GrowsFrom};
 ghost use Rattle.square_table.specs.declared.square.Square.{Square};
 
 use crate::chains::{Row, chains, find, head, insert, is_same, widen};
@@ -157,7 +159,7 @@ impl<'a> SquareTable<'a> {
         ensures table { OnOk result (self.new ≡ with_row self.old kids) }
         ensures square { IfOk result (IsSquareOf self.new.rows kids) }
         ensures unchanged { OnErr result (self.new ≡ self.old) }
-        ensures full { result ≡ Err TableFault.NoRoom → length self.old.rows ≡ self.old.limit }
+        ensures full { result ≡ Err TableFault.NoRoom → IsFull self.new }
     {
         if self.rows.len() >= self.limit as usize {
             return Err(TableFault::NoRoom);
@@ -186,7 +188,7 @@ impl<'a> SquareTable<'a> {
         ensures one { GrowsBy kids self.old self.new }
         ensures square { IfOk result (IsSquareOf self.new.rows kids) }
         ensures unchanged { OnErr result (self.new ≡ self.old) }
-        ensures full { result ≡ Err TableFault.NoRoom → length self.old.rows ≡ self.old.limit }
+        ensures full { result ≡ Err TableFault.NoRoom → IsFull self.new }
     {
         self.make_ready();
         match self.known(kids) {
@@ -211,7 +213,7 @@ impl<'a> SquareTable<'a> {
         ensures one { GrowsBy kids self.old self.new }
         ensures square { IfOk result (IsSquareOf self.new.rows kids) }
         ensures unchanged { OnErr result (self.new ≡ self.old) }
-        ensures full { result ≡ Err TableFault.NoRoom → length self.old.rows ≡ self.old.limit }
+        ensures full { result ≡ Err TableFault.NoRoom → IsFull self.new }
     {
         let is_number = guess >= FIRST_NUMBER && guess - FIRST_NUMBER < self.len();
         if is_number && is_same(self.quadrants(guess), kids) {
@@ -230,7 +232,7 @@ impl<'a> SquareTable<'a> {
         ensures keeps { Keeps self.old self.new }
         ensures joined { IfOk result (IsJoined self.old four.entry self.new) }
         ensures unchanged { OnErr result (self.new ≡ self.old) }
-        ensures full { result ≡ Err TableFault.NoRoom → length self.old.rows ≡ self.old.limit }
+        ensures full { result ≡ Err TableFault.NoRoom → IsFull self.new }
     {
         let level = four[0].level + 1;
         let kids = numbers(&four);
@@ -246,16 +248,16 @@ impl<'a> SquareTable<'a> {
     /// The square of a level of at most 64 with no live cell.
     pub fn blank(&mut self, level: u8) -> Result<Square<'a>, TableFault>
         requires { level ≤ 64 }
-        ensures keeps { Keeps self.old self.new }
+        ensures grows { GrowsFrom (level + 1) [] self.old self.new }
         ensures held { IfOk result (λ s. IsHeld self.new s) }
         ensures level { IfOk result (λ s. level_of s ≡ level) }
         ensures cells { IfOk result (λ s. cells_of self.new s ≡ empty_square level) }
-        ensures full { result ≡ Err TableFault.NoRoom → length self.new.rows ≡ self.old.limit }
+        ensures full { result ≡ Err TableFault.NoRoom → IsFull self.new }
     {
-        let mut square = self.cell(0);
+        let mut number = 0;
         for _ in 0..level {
-            square = self.join([square; 4])?;
+            number = self.join_numbers([number; 4])?;
         }
-        Ok(square)
+        Ok(self.square(level, number)?)
     }
 }

@@ -34,7 +34,7 @@ square_at-empty w (suc k) x y dead =
     let se = part (x +ℤ pos (2 ^ k)) (y +ℤ pos (2 ^ k)) (omega (arith, ints)) (omega (arith, ints)) (omega (arith, ints)) (omega (arith, ints)) in
     cc
 
-edge-suc : (k : ℕ) → edge (suc k) ≡ neg_ℤ (pos (2 ^ k))
+pub edge-suc : (k : ℕ) → edge (suc k) ≡ neg_ℤ (pos (2 ^ k))
 edge-suc k = let less : suc k - 1 ≡ k = omega arith in ap (λ n. neg_ℤ (pos (2 ^ n))) less
 
 -- a square of level k with no common cell with the one of level k + 1 round the origin

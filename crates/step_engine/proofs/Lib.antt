@@ -9,3 +9,5 @@ pub mod Reaching
 pub mod Centring
 pub mod Joins
 pub mod Evolving
+pub mod Held
+pub mod Spent

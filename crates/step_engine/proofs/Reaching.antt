@@ -55,3 +55,12 @@ LiesWithin-box far b w box h x y live =
 
 pub LiesWithin-blank : (far : ℕ) (w : World) → w ≡ blank → LiesWithin far w
 LiesWithin-blank far w is x y live = let k = ap (λ v. cell v x y) is ∙ cell-blank x y in absurd (omega (arith, k, live))
+
+-- a box whose edges touch live cells lies where these do
+pub box-LiesWithin : (far : ℕ) (b : Bounds) (w : World) → IsBoundingBox b w → LiesWithin far w → BoxLiesWithin far b
+box-LiesWithin far b w box h = record {
+  left = (h b.left box.touched_left.0 box.touched_left.1).left;
+  right = (let k = (h b.right box.touched_right.0 box.touched_right.1).right in omega (arith, ints));
+  top = (h box.touched_top.0 b.top box.touched_top.1).top;
+  bottom = (let k = (h box.touched_bottom.0 b.bottom box.touched_bottom.1).bottom in omega (arith, ints));
+}

@@ -1,7 +1,15 @@
 -- What an engine reports of its work, and why it refuses.
-use Rattle.std.specs.Prelude.{ℕ, ◌≤◌, ◌^◌, List, codes}
+use Rattle.std.specs.Prelude.{◌≡◌, ◌≢◌, ℕ, suc, ◌+◌, ◌≤◌, ◌^◌, min, Bool, true, false, List, length, filter, All, AllPairs, Contains, Result, Err, codes}
 use Rattle.worlds.specs.World.{World}
+use Rattle.worlds.specs.Step.{step}
+use Rattle.worlds.specs.Iterate.{iterate}
 use Rattle.worlds.specs.Range.{HasMargin, AllBelow}
+use Rattle.worlds.specs.Square.{Square, one, four, square_at}
+use Rattle.hash_life.specs.Makes.{Makes}
+use Rattle.square_table.specs.Centred.{edge}
+use Rattle.square_table.specs.Made.{HasStart}
+use Rattle.step_engine.specs.Reach.{IsRoomLevel}
+use Rattle.step_engine.specs.declared.evolved.Evolved.{Evolved}
 use Rattle.square_table.specs.declared.fault.TableFault.{TableFault}
 use Rattle.square_table.specs.declared.fault.TableFault.TheVariants as table
 use Rattle.hash_engine.specs.declared.fault.ResultFault.{ResultFault}
@@ -25,6 +33,51 @@ pub record IsWithin (limit : ℕ) (report : Report) : Type 0 where
   pub squares : report.squares ≤ limit
   pub fours : report.fours ≤ report.squares
   pub base : report.base ≤ report.fours
+
+-- whether the square has 4 by 4 cells: its quadrants have quadrants that are cells
+abbrev pub is_block : Square → Bool
+is_block (four (four (one s) b c d) f g h) = true
+is_block other = false
+
+-- different squares, so many of them, which are among these
+pub record AreDifferent (squares : List Square) (many : ℕ) (all : List Square) : Type 0 where
+  pub count : length squares ≡ many
+  pub different : AllPairs (λ s t. s ≢ t) squares
+  pub listed : All (Contains all) squares
+
+-- these have all that are made where a world's square of level k + 2 goes n generations ahead
+pub record HasWay (all : List Square) (next : List ℕ → ℕ) (w : World) (k n : ℕ) : Type 0 where
+  pub start : HasStart all w (suc (suc k))
+  pub way : Makes next k n (square_at w (suc (suc k)) (edge (suc (suc k))) (edge (suc (suc k))))
+      (Contains all)
+
+-- any list of all squares that are made on the way has as many different ones as may be held
+pub record IsRoomSpent (limit : ℕ) (next : List ℕ → ℕ) (w : World) (n : ℕ) : Type 0 where
+  pub k : ℕ
+  pub root : IsRoomLevel n w k
+  pub made : (all : List Square) → HasWay all next w k n →
+      (squares : List Square) × AreDifferent squares (min limit 16777216) all
+
+-- a report of different squares, each made on the way; so many are blocks of 4 by 4 cells
+pub record IsReport (limit : ℕ) (next : List ℕ → ℕ) (w : World) (n : ℕ) (report : Report)
+    : Type 0 where
+  pub within : IsWithin limit report
+  pub k : ℕ
+  pub root : IsRoomLevel n w k
+  pub held : (all : List Square) → HasWay all next w k n →
+      (squares : List Square) × AreDifferent squares report.squares all
+      × (length (filter is_block squares) ≡ report.fours)
+
+-- the world n generations later, and the report of the way
+pub record IsEvolved (limit : ℕ) (next : List ℕ → ℕ) (w : World) (n : ℕ) (evolved : Evolved)
+    : Type 0 where
+  pub plane : evolved.plane ≡ iterate n (step next) w
+  pub report : IsReport limit next w n evolved.report
+
+-- Stopped is answered exactly where the stop said yes, by its counts of yes
+pub record StopsAsTold {A : Type 0} (yes new_yes : ℕ) (r : Result A EvolveFault) : Type 0 where
+  pub stopped : r ≡ Err Stopped → new_yes ≡ yes + 1
+  pub went_on : r ≢ Err Stopped → new_yes ≡ yes
 
 -- the number of a refusal
 abbrev pub number_of : EvolveFault → ℕ

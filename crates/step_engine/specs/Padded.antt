@@ -1,12 +1,12 @@
 -- Squares with room round them.
-use Rattle.std.specs.Prelude.{◌≡◌, ℕ, ◌+◌, ◌-◌, ◌≤◌}
+use Rattle.std.specs.Prelude.{◌≡◌, ℕ, ◌+◌, ◌-◌, List, Contains}
 use Rattle.worlds.specs.World.{World}
 use Rattle.worlds.specs.Square as squares
 use Rattle.worlds.specs.Square.{one, four, empty_square}
 use Rattle.square_table.specs.declared.square.Square.{Square}
-use Rattle.square_table.specs.Squares.{Table, IsNumber, square_in, IsHeld, level_of, cells_of}
+use Rattle.square_table.specs.Squares.{Table, IsNumber, square_in, IsHeld, Grows, level_of, cells_of}
+use Rattle.square_table.specs.Made.{AreAmong, HasEmpty, HasStart, HoldsWithin}
 use Rattle.square_table.specs.Centred.{IsCentred}
-use Rattle.step_engine.specs.Reach.{HasRoomFor}
 
 -- the square of level k + 2 in whose middle the square of these four of level k stands, and which else is empty
 abbrev pub padded : ℕ → squares.Square → squares.Square
@@ -27,10 +27,24 @@ pub record IsPadded (t : Table) (square : Square) (u : Table) (s : Square) : Typ
   pub cells : cells_of u s ≡ padded (level_of square - 1) (cells_of t square)
   pub limit : u.limit ≡ t.limit
 
--- in the table that came of t the square s is that of a world, with room for so many generations of it
-pub record IsReady (w : World) (generations : ℕ) (t u : Table) (s : Square) : Type 0 where
+-- the table has more rows, or none, of what a square with empty ones round it is made of
+pub record AddsPadded (t : Table) (square : Square) (u : Table) : Type 0 where
+  pub grows : Grows t u
+  pub among : (all : List squares.Square) → HasEmpty all (level_of square) →
+      HoldsWithin (Contains all) (padded (level_of square - 1) (cells_of t square)) →
+      AreAmong all t.rows → AreAmong all u.rows
+
+-- the square s, of the level, is that of each world that the other square is of
+pub record IsWidened (t : Table) (square : Square) (level : ℕ) (u : Table) (s : Square)
+    : Type 0 where
   pub held : IsHeld u s
-  pub level : (2 ≤ level_of s) × (level_of s ≤ 63)
-  pub centred : IsCentred w (level_of s) (cells_of u s)
-  pub room : HasRoomFor generations (level_of s - 2) w
-  pub limit : u.limit ≡ t.limit
+  pub raised : level_of s ≡ level
+  pub centred : (w : World) → IsCentred w (level_of square) (cells_of t square) →
+      IsCentred w level (cells_of u s)
+
+-- the table has more rows, or none, of squares that a world starts with up to the level
+pub record AddsRound (t : Table) (square : Square) (level : ℕ) (u : Table) : Type 0 where
+  pub grows : Grows t u
+  pub among : (w : World) (all : List squares.Square) →
+      IsCentred w (level_of square) (cells_of t square) → HasStart all w level →
+      AreAmong all t.rows → AreAmong all u.rows

@@ -19,3 +19,9 @@ pub record BoxLiesWithin (far : ℕ) (b : Bounds) : Type 0 where
 pub record HasRoomFor (generations k : ℕ) (w : World) : Type 0 where
   pub few : generations ≤ 2 ^ k
   pub within : LiesWithin (2 ^ k - generations) w
+
+-- k is the least with so much room, and one of a plane's
+pub record IsRoomLevel (generations : ℕ) (w : World) (k : ℕ) : Type 0 where
+  pub few : k ≤ 61
+  pub room : HasRoomFor generations k w
+  pub least : (j : ℕ) → HasRoomFor generations j w → k ≤ j

@@ -2,7 +2,7 @@
 ghost use Rattle.std.specs.Prelude.{◌≡◌, ◌↔◌, ◌≤◌, ◌^◌, IsTrue};
 ghost use Rattle.worlds.specs.Range.{HasMargin};
 ghost use Rattle.step_engine.specs.Box.{IsInRange};
-ghost use Rattle.step_engine.specs.Reach.{BoxLiesWithin, HasRoomFor};
+ghost use Rattle.step_engine.specs.Reach.{BoxLiesWithin, HasRoomFor, IsRoomLevel};
 
 use plane_core::{Bounds, Plane};
 
@@ -37,10 +37,11 @@ fn side(k: u8) -> u64
     1 << k
 }
 
-/// Whether the square of level k + 1 round the origin has room for so many generations.
-pub(crate) fn has_room_for(plane: &Plane, generations: u64, k: u8) -> bool
+// Whether the square of level k + 1 round the origin has room for so many generations.
+fn has_room_for(plane: &Plane, generations: u64, k: u8) -> bool
     requires { k ≤ 61 }
     ensures room { IsTrue result → HasRoomFor generations k plane.now }
+    ensures only { HasRoomFor generations k plane.now → IsTrue result }
     ensures most { k ≡ 61 → generations ≤ 2 ^ 60 → HasMargin generations plane.now → IsTrue result }
 {
     let side = side(k);
@@ -51,4 +52,16 @@ pub(crate) fn has_room_for(plane: &Plane, generations: u64, k: u8) -> bool
         None => true,
         Some(bounds) => lies_within(bounds, side - generations),
     }
+}
+
+/// The least k for which the square of level k + 1 round the origin has room for so many generations.
+pub(crate) fn room_level(plane: &Plane, generations: u64) -> u8
+    requires { (generations ≤ 2 ^ 60) × HasMargin generations plane.now }
+    ensures { IsRoomLevel generations plane.now result }
+{
+    let mut k = 0;
+    while !has_room_for(plane, generations, k) {
+        k += 1;
+    }
+    k
 }

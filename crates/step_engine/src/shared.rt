@@ -3,10 +3,12 @@ ghost use Rattle.std.specs.Prelude.{◌≡◌, ◌≢◌, ◌+◌, IfOk, Err};
 ghost use Rattle.worlds.specs.Iterate.{iterate};
 ghost use Rattle.worlds.specs.Step.{step};
 ghost use Rattle.hash_life.specs.Puts.{AsksOnce};
-ghost use Rattle.step_engine.specs.Evolved.{CanEvolve, IsWithin};
+ghost use Rattle.hash_engine.specs.Found.{IsSameRule};
+ghost use Rattle.step_engine.specs.Evolved.{CanEvolve, IsEvolved, IsReport, IsRoomSpent, StopsAsTold};
 
 use crate::evolved::{EvolveFault, Evolved, Report};
 use crate::padding::with_room;
+use crate::reach::room_level;
 use bumpalo::Bump;
 use hash_engine::{Asking, result};
 use plane_core::{Ask, Next, Plane, Stop};
@@ -34,24 +36,22 @@ pub fn evolve_by<Q: Ask, S: Stop>(
     limit: u32,
 ) -> Result<Evolved, EvolveFault>
     requires { CanEvolve (Q.state_count rule.old) generations plane.now }
-    ensures plane { IfOk result (λ evolved.
-        evolved.plane ≡ iterate generations (step (Q.meaning rule.old)) plane.now) }
-    ensures report { IfOk result (λ evolved. IsWithin limit evolved.report) }
+    ensures evolved { IfOk result (IsEvolved limit (Q.meaning rule.old) plane.now generations) }
 
     // No block of 4 by 4 cells is put to the rule twice, and each stands in an earlier generation.
     ensures asks { IfOk result (λ evolved. AsksOnce (Q.meaning rule.old) plane.now generations
         evolved.report.base (Q.asks rule.old) (Q.asks rule.new)) }
-
-    // Stopped is answered exactly where the stop said yes.
-    ensures stopped { result ≡ Err EvolveFault.Stopped →
-        S.yes_count stop.new ≡ S.yes_count stop.old + 1 }
-    ensures went_on { result ≢ Err EvolveFault.Stopped →
-        S.yes_count stop.new ≡ S.yes_count stop.old }
+    ensures rule { IsSameRule (Q.meaning rule.old) (Q.meaning rule.new)
+        (Q.state_count rule.old) (Q.state_count rule.new) }
+    ensures stop { StopsAsTold (S.yes_count stop.old) (S.yes_count stop.new) result }
+    ensures no_room { result ≡ Err EvolveFault.NoRoom →
+        IsRoomSpent limit (Q.meaning rule.old) plane.now generations }
 {
+    let level = room_level(plane, generations) + 2;
     let arena = Bump::new(alloc);
     let mut table = SquareTable::new(alloc, &arena, limit.min(MOST_SQUARES))?;
     let start = table.load(plane)?;
-    let root = with_room(&mut table, start, plane, generations)?;
+    let root = with_room(&mut table, start, level)?;
     let found = result(alloc, &mut table, rule, root, generations, stop)?;
     let plane = table.pack(found.square)?;
     let report = Report {
@@ -74,13 +74,16 @@ pub fn evolve<R: Next, S: Stop>(
     requires { CanEvolve (R.state_count rule.now) generations plane.now }
     ensures plane { IfOk result (λ evolved.
         evolved.plane ≡ iterate generations (step (R.meaning rule.now)) plane.now) }
-    ensures report { IfOk result (λ evolved. IsWithin limit evolved.report) }
+    ensures report { IfOk result (λ evolved.
+        IsReport limit (R.meaning rule.now) plane.now generations evolved.report) }
 
     // Stopped is answered exactly where the stop said yes.
     ensures stopped { result ≡ Err EvolveFault.Stopped →
         S.yes_count stop.new ≡ S.yes_count stop.old + 1 }
     ensures went_on { result ≢ Err EvolveFault.Stopped →
         S.yes_count stop.new ≡ S.yes_count stop.old }
+    ensures no_room { result ≡ Err EvolveFault.NoRoom →
+        IsRoomSpent limit (R.meaning rule.now) plane.now generations }
 {
     evolve_by(
         alloc,

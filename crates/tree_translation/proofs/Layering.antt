@@ -76,10 +76,16 @@ module _ (place : Option ℕ) (rows : List Expanded) (lasts : List ℕ) (sets mo
   }
 
 -- once all rows are there, it is the layer of the rows
-pub IsLayerOf-all : (place : Option ℕ) (rows : List Expanded) (lasts : List ℕ) (layer : Layer) (tails : List Tail) (numbers : List ℕ) (n : ℕ) → layer.tails.items ≡ tails → n ≡ length rows → AreTails place rows lasts layer.sets.items tails numbers n → IsLayerOf place rows lasts layer numbers
-IsLayerOf-all place rows lasts layer tails numbers n same all h =
-    let whole : AreTails place rows lasts layer.sets.items layer.tails.items numbers (length rows) = rw (same, ← all) h in
+pub IsLayerOf-all : (place : Option ℕ) (rows : List Expanded) (lasts : List ℕ) (layer : Layer) (sets : List (Option (List ℕ))) (tails : List Tail) (numbers : List ℕ) (n : ℕ) → layer.sets.items ≡ sets → layer.tails.items ≡ tails → n ≡ length rows → AreTails place rows lasts sets tails numbers n → IsLayerOf place rows lasts layer numbers
+IsLayerOf-all place rows lasts layer sets tails numbers n same_sets same all h =
+    let whole : AreTails place rows lasts layer.sets.items layer.tails.items numbers (length rows) = rw (same_sets, same, ← all) h in
     record { count = whole.count; inside = whole.inside; few = whole.few_tails; asks = whole.asks; leaves = whole.leaves }
+
+-- it fits each count that is above what is left of the rows
+pub IsLayer-all : (place : Option ℕ) (rows : List Expanded) (lasts : List ℕ) (layer : Layer) (sets : List (Option (List ℕ))) (tails : List Tail) (numbers : List ℕ) (n count : ℕ) → layer.sets.items ≡ sets → layer.tails.items ≡ tails → All (λ last. last < count) lasts → AreTails place rows lasts sets tails numbers n → IsLayer layer count
+IsLayer-all place rows lasts layer sets tails numbers n count same_sets same below h =
+    let all : AreTails place rows lasts layer.sets.items layer.tails.items numbers n = rw (same_sets, same) h in
+    record { sets = all.asking; rests = all.leaving count below }
 
 abbrev none_row : Expanded
 none_row = record { inputs = []; result = 0 }

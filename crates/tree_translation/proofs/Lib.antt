@@ -7,4 +7,5 @@ mod MadeNodes
 mod NodeLists
 pub mod NodesHad
 mod TailsLeft
+mod TailsNear
 mod Translating

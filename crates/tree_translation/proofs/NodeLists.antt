@@ -1,8 +1,8 @@
 -- Lists, place by place.
-use Rattle.std.proofs.Common.{◌≡◌, ℕ, zero, suc, drop, ◌+◌, ◌<◌, List, [], ◌∷◌, ◌++◌, length, sym, ap, inl, inr, arith}
+use Rattle.std.proofs.Common.{◌≡◌, ℕ, zero, suc, drop, replicate, ◌+◌, ◌-◌, ◌<◌, ◌≤◌, List, [], ◌∷◌, ◌++◌, length, sym, ap, inl, inr, arith}
 use Rattle.std.specs.Prelude.{slice_index_or}
-use Rattle.std.proofs.lemmas.Bool.{cases_eq}
-use Rattle.std.proofs.lemmas.List.{get_or_append_left, get_or_push, nil_from_length}
+use Rattle.std.proofs.lemmas.Bool.{cases_eq, cases_lt}
+use Rattle.std.proofs.lemmas.List.{length-append, length-replicate, get_or-replicate, get_or_append_left, get_or-append_right, get_or_push, nil_from_length}
 
 -- what holds of each and of one more, holds of each of those with it
 pub each-push : {X : Type 0} (d : X) (P : ℕ → X → Type 0) (xs : List X) (x : X) (n : ℕ) → length xs ≡ n → ((k : ℕ) → k < n → P k (slice_index_or xs k d)) → P n x → (k : ℕ) → k < n + 1 → P k (slice_index_or (xs ++ x ∷ []) k d)
@@ -11,6 +11,20 @@ each-push d P xs x n count each last k l =
       | inl e ↦ rw (e, get_or_push xs x d n count) last
       | inr ne ↦ rw (get_or_append_left xs (x ∷ []) d k (omega (arith, l, ne, count))) (each k (omega (arith, l, ne)))
     ]
+
+-- what holds of each and of one value up to a place, holds of each where they are filled up with it
+pub each-filled : {X : Type 0} (d : X) (P : ℕ → X → Type 0) (xs : List X) (x : X) (n m : ℕ) → length xs ≡ n → n ≤ m → ((k : ℕ) → k < n → P k (slice_index_or xs k d)) → ((k : ℕ) → n ≤ k → k < m → P k x)
+    → (k : ℕ) → k < m → P k (slice_index_or (xs ++ replicate (m - length xs) x) k d)
+each-filled d P xs x n m count less each filled k l =
+    elim (cases_lt k n) [
+      | inl low ↦ rw (get_or_append_left xs (replicate (m - length xs) x) d k (omega (arith, count, low))) (each k low)
+      | inr high ↦
+          rw (get_or-append_right xs (replicate (m - length xs) x) n k d count high, get_or-replicate (m - length xs) (k - n) x d (omega (arith, count, high, l)))
+          (filled k (omega (arith, high)) l)
+    ]
+
+pub length-filled : {X : Type 0} (xs : List X) (x : X) (m : ℕ) → length xs ≤ m → length (xs ++ replicate (m - length xs) x) ≡ m
+length-filled xs x m less = omega (arith, length-append xs (replicate (m - length xs) x), length-replicate (m - length xs) x, less)
 
 -- so many elements of a list, one by one
 abbrev pub firsts : {X : Type 0} → X → ℕ → List X → List X

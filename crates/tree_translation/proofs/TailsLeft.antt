@@ -7,7 +7,7 @@ use Rattle.std.proofs.lemmas.List.Elements.{All-push}
 use Rattle.tree_translation.specs.declared.layers.Layer.{Layer}
 use Rattle.tree_translation.specs.Layers.{lets, rest_at}
 use Rattle.tree_translation.specs.TailsFound.{AreMarked, IsFound, is_in}
-use Rattle.tree_translation.specs.Translation.{first_some}
+use Rattle.tree_translation.specs.Translation.{asked_behind, first_some}
 
 -- one more is asked
 pub first_some-push : (f : ℕ → Option ℕ) (xs : List ℕ) (x : ℕ) → first_some f (xs ++ x ∷ []) ≡ option_or (first_some f xs) (f x)
@@ -30,15 +30,11 @@ marked-push marks found known n inside = record {
   inside = grind (arith, elements, known.inside);
 }
 
--- what is asked of what a tail leaves
-abbrev asked : Layer → ℕ → (ℕ → Option ℕ) → ℕ → Option ℕ
-asked layer state f n = if lets layer n state then f (rest_at layer n) else None
-
 module _ (layer : Layer) (state : ℕ) (passed : List ℕ) (marks : List Bool) (found : List ℕ) (known : IsFound layer state passed marks found) (number : ℕ) where
   -- a tail that doesn't let the input be this state
   pub found-passed : lets layer number state ≡ false → IsFound layer state (passed ++ number ∷ []) marks found
   found-passed e = record {
-    left = λ f. grind (arith, known.left f, first_some-push (asked layer state f) passed number);
+    left = λ f. grind (arith, known.left f, first_some-push (asked_behind layer state f) passed number);
     rests = known.rests;
     marked = known.marked;
   }
@@ -46,7 +42,7 @@ module _ (layer : Layer) (state : ℕ) (passed : List ℕ) (marks : List Bool) (
   -- a tail of which the same is left as was found
   pub found-again : is_in (rest_at layer number) found ≡ true → IsFound layer state (passed ++ number ∷ []) marks found
   found-again there = record {
-    left = λ f. grind (arith, known.left f, first_some-again f found (rest_at layer number) there, first_some-push (asked layer state f) passed number);
+    left = λ f. grind (arith, known.left f, first_some-again f found (rest_at layer number) there, first_some-push (asked_behind layer state f) passed number);
     rests = known.rests;
     marked = known.marked;
   }
@@ -54,7 +50,7 @@ module _ (layer : Layer) (state : ℕ) (passed : List ℕ) (marks : List Bool) (
   -- a tail of which something else is left
   pub found-more : number < length layer.tails.items → lets layer number state ≡ true → rest_at layer number < length marks → IsFound layer state (passed ++ number ∷ []) (set marks (rest_at layer number) true) (found ++ rest_at layer number ∷ [])
   found-more there e inside = record {
-    left = λ f. grind (arith, known.left f, first_some-push f found (rest_at layer number), first_some-push (asked layer state f) passed number);
+    left = λ f. grind (arith, known.left f, first_some-push f found (rest_at layer number), first_some-push (asked_behind layer state f) passed number);
     rests = λ count fits. All-push (λ n. n < count) found (rest_at layer number) (known.rests count fits) (fits.rests number (record { set = 0; rest = 0 }) there);
     marked = marked-push marks found known.marked (rest_at layer number) inside;
   }

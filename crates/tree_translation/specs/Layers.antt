@@ -1,5 +1,6 @@
 -- What is left of a table's rows, input by input.
 use Rattle.std.specs.Prelude.{◌≡◌, ◌⊎◌, ⊤, ℕ, ◌<◌, ◌≤◌, ◌&&◌, Bool, true, false, All, List, [], ◌∷◌, ◌++◌, length, map, slice_get, slice_index, slice_index_or, Option, None, Some, if◌then◌else◌}
+use Rattle.std.specs.Option.{option_eq}
 use Rattle.table_symmetry.specs.declared.expansion.Expanded.{Expanded}
 use Rattle.table_lines.specs.States.{same_set}
 use Rattle.table_symmetry.specs.States.{has}
@@ -13,10 +14,7 @@ allows (Some set) state = has set state
 
 -- whether the same is asked of two inputs
 abbrev pub same_asked : Option (List ℕ) → Option (List ℕ) → Bool
-same_asked None None = true
-same_asked None (Some other) = false
-same_asked (Some set) None = false
-same_asked (Some set) (Some other) = same_set set other
+same_asked = option_eq same_set
 
 -- what a row asks of the input at this place, which it may not have
 abbrev pub asked_at : Option ℕ → List (List ℕ) → Option (List ℕ)
@@ -86,6 +84,10 @@ pub record IsLayerOf (place : Option ℕ) (rows : List Expanded) (rests : List �
   pub few : length layer.tails.items ≤ length rows
   pub asks : (k : ℕ) (d : Expanded) → k < length rows → slice_index_or layer.sets.items (tail_at layer (slice_index numbers k)).set None ≡ asked_at place (slice_index_or rows k d).inputs
   pub leaves : (k : ℕ) → k < length rows → rest_at layer (slice_index numbers k) ≡ slice_index rests k
+
+-- a key that is equal to this one has this number
+abbrev pub IsKeptAt : {X : Type 0} → (X → X → Bool) → List X → X → ℕ → Type 0
+IsKeptAt {X} eq keys key number = (kept : X) × (slice_get keys number ≡ Some kept) × (eq key kept ≡ true)
 
 -- one more came behind those that were there, or it was there
 abbrev pub IsGrownBy : {X : Type 0} → List X → X → List X → Type 0

@@ -1,5 +1,6 @@
 pub mod Laws
 pub mod Layers
+pub mod Near
 pub mod NodesNeeded
 pub mod Numbering
 pub mod Starts

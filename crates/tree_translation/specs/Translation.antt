@@ -53,9 +53,15 @@ last_of (s ∷ t ∷ inputs) = last_of (t ∷ inputs)
 abbrev pub outcome : List Layer → List ℕ → List ℕ → ℕ
 outcome layers list inputs = unwrap_or (first_some (λ number. result_of layers number inputs) list) (last_of inputs)
 
--- what is left of tails behind an input of this state: whatever is asked of what they leave, the first answer is the same
+-- what is asked of what a tail leaves behind an input of this state
+abbrev pub asked_behind : Layer → ℕ → (ℕ → Option ℕ) → ℕ → Option ℕ
+asked_behind layer state f number = if lets layer number state then f (rest_at layer number) else None
+
+-- what is left of tails behind an input of this state:
+-- whatever is asked of what they leave, the first answer is the same
 abbrev pub LeftOf : Layer → ℕ → List ℕ → List ℕ → Type 0
-LeftOf layer state list left = (f : ℕ → Option ℕ) → first_some f left ≡ first_some (λ number. if lets layer number state then f (rest_at layer number) else None) list
+LeftOf layer state list left =
+    (f : ℕ → Option ℕ) → first_some f left ≡ first_some (asked_behind layer state f) list
 
 -- a node that does what a list of tails does
 pub record Does (states : ℕ) (layers : List Layer) (nodes : List Entries) (list : List ℕ) (number : ℕ) : Type 0 where

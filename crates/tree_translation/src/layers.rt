@@ -1,12 +1,14 @@
 //! The rows of a table, cut up for a tree.
-ghost use Rattle.std.specs.Prelude.{◌≡◌, ◌≤◌, ◌<◌, ◌∷◌, ℕ, length, position, slice_index, slice_index_or, All, IfOk, None, OnOk};
+ghost use Rattle.std.specs.Prelude.{◌≡◌, ◌==◌, ◌≤◌, ◌<◌, ◌+◌, ◌*◌, ◌∷◌, ℕ, length, slice_index, slice_index_or, All, IfOk, OnOk};
+ghost use Rattle.std.specs.Int.{bit_at};
 ghost use Rattle.indexmap.specs.IndexSet.{insert_key};
 ghost use Rattle.table_symmetry.specs.declared.expansion.Expanded.{Expanded};
 ghost use Rattle.table_symmetry.specs.Expanded.{transition_limit};
-ghost use Rattle.tree_translation.specs.Layers.{AreLayersOf, IsLayer, IsLayerOf, asked_at, same_asked};
+ghost use Rattle.tree_translation.specs.Layers.{AreLayersOf, IsKeptAt, IsLayer, IsLayerOf, asked_at};
 
 use indexmap::IndexSet;
 use std::alloc::{AllocError, Global};
+use std::hash::Hash;
 use table_symmetry::{Expanded, StateSet};
 
 /// What is left of a row before an input: the number of the set that the input has to be in, and
@@ -38,6 +40,21 @@ impl Layer {
         match &self.sets[tail.set as usize] {
             Some(set) => set.has(state),
             None => true,
+        }
+    }
+
+    /// Which of the 64 states of a block a tail of this layer lets be the input, a bit each.
+    pub fn word(&self, number: u32, block: usize) -> u64
+        requires block { block < 4 }
+        requires number { number < length self.now.tails.items }
+        requires sets { All (λ tail. tail.set < length self.now.sets.items) self.now.tails.items }
+        ensures { (bit : ℕ) → bit < 64 →
+            (bit_at result bit == 1) ≡ lets self.now number (64 * block + bit) }
+    {
+        let tail = self.tails[number as usize];
+        match &self.sets[tail.set as usize] {
+            Some(set) => set.word(block),
+            None => u64::MAX,
         }
     }
 }
@@ -88,16 +105,15 @@ fn layer_of(
         IsLayer r.0 count) }
     ensures rows { IfOk result (λ r. IsLayerOf place rows.now rests.now r.0 r.1.items) }
 {
-    let mut sets = Vec::new(alloc);
+    let mut sets = IndexSet::new(alloc);
     let mut tails = IndexSet::new(alloc);
     let mut numbers = Vec::with_capacity(alloc, rows.len())?;
     for (row, rest) in rows.iter().zip(rests) {
-        let set = number_of(&mut sets, asked(place, row))?;
-        let Ok((number, _)) = tails.insert_full(Tail { set, rest: *rest }) else {
-            return Err(AllocError);
-        };
-        numbers.push(number as u32)?;
+        let set = number_in(&mut sets, asked(place, row))?;
+        let number = number_in(&mut tails, Tail { set, rest: *rest })?;
+        numbers.push(number)?;
     }
+    let sets = sets.as_slice().to_vec(alloc)?;
     let tails = tails.as_slice().to_vec(alloc)?;
     Ok((Layer { sets, tails }, numbers))
 }
@@ -109,33 +125,14 @@ fn asked(place: Option<usize>, row: &Expanded) -> Option<StateSet>
     row.inputs.as_slice().get(place?).copied()
 }
 
-// Where the same is asked as here.
-fn place_of(sets: &[Option<StateSet>], set: &Option<StateSet>) -> Option<usize>
-    ensures { result ≡ position (same_asked set.now) sets.now }
+// The number of a key among these, of which it becomes the last where it isn't there.
+fn number_in<T: Hash + Eq + Drop>(keys: &mut IndexSet<T>, key: T) -> Result<u32, AllocError>
+    requires few { length keys.old.keys < transition_limit }
+    ensures stored { IfOk result (λ number. IsKeptAt T.eq keys.new.keys key number) }
+    ensures grown { OnOk result (keys.new.keys ≡ insert_key T.eq keys.old.keys key) }
 {
-    sets.iter().position(|other| are_same(set, other))
-}
-
-// The number of a set among these, of which it becomes the last where it isn't there.
-fn number_of(sets: &mut Vec<Option<StateSet>>, set: Option<StateSet>) -> Result<u32, AllocError>
-    requires few { length sets.old.items < transition_limit }
-    ensures inside { IfOk result (λ number. number < length sets.new.items) }
-    ensures set { IfOk result (λ number. slice_index_or sets.new.items number None ≡ set) }
-    ensures grown { OnOk result (sets.new.items ≡ insert_key same_asked sets.old.items set) }
-{
-    if let Some(number) = place_of(sets, &set) {
-        return Ok(number as u32);
-    }
-    sets.push(set)?;
-    Ok((sets.len() - 1) as u32)
-}
-
-fn are_same(a: &Option<StateSet>, b: &Option<StateSet>) -> bool
-    ensures { result ≡ same_asked a.now b.now }
-{
-    match (a, b) {
-        (Some(a), Some(b)) => a.equals(b),
-        (None, None) => true,
-        _ => false,
-    }
+    let Ok((number, _)) = keys.insert_full(key) else {
+        return Err(AllocError);
+    };
+    Ok(number as u32)
 }

@@ -9,6 +9,7 @@
 mod laws;
 mod layers;
 mod listed;
+mod near;
 mod numbering;
 mod sharing;
 mod translation;

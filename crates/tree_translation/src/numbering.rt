@@ -3,8 +3,9 @@
 //! What a list does from an input on, one node does. Its entries are the numbers of what is left
 //! behind each state, which are found first, and equal nodes are made once. So each node that was
 //! made is needed, and too many of them are seen as soon as they are there. It costs for each
-//! different list one pass over its tails for each state.
-ghost use Rattle.std.specs.Prelude.{◌≡◌, ◌≤◌, ◌<◌, ◌+◌, ◌∷◌, ◌++◌, [], length, slice_index, slice_index_or, unwrap_or, ℕ, List, false, All, IfErr, IfOk, IfSome, OnOk, Some, None, if◌then◌else◌};
+//! different list one pass over its tails for each 64 states, and one over those that matter to the
+//! 64 for each run of states that they treat alike.
+ghost use Rattle.std.specs.Prelude.{◌-◌, replicate, ◌≡◌, ◌≤◌, ◌<◌, ◌+◌, ◌∷◌, ◌++◌, [], length, slice_index, slice_index_or, unwrap_or, ℕ, List, false, All, IfErr, IfOk, IfSome, OnOk, Some, None, if◌then◌else◌};
 ghost use Rattle.rule_file.specs.States.{most_states};
 ghost use Rattle.tree_translation.specs.declared.tree_fault.TreeFault.TheVariants.{TreeTooLarge};
 ghost use Rattle.tree_translation.specs.Layers.{IsLayer, lets, rest_at};
@@ -14,6 +15,7 @@ ghost use Rattle.tree_translation.specs.Translation.{AreLeaves, LeftOf, first_so
 
 use crate::layers::Layer;
 use crate::listed::Listed;
+use crate::near::{states_alike, tails_near};
 use crate::sharing::add_node;
 use crate::tree_fault::TreeFault;
 use indexmap::IndexSet;
@@ -100,8 +102,12 @@ fn entries_of(
     }
     let mut entries = Vec::with_capacity(alloc, usize::from(states))?;
     let mut latest: Option<Latest> = None;
-    for state in 0..states {
-        let left = tails_left(alloc, layer, state as u8, list, marks)?;
+    let mut near = Vec::new(alloc);
+    let mut state = 0;
+    while state < states {
+        near = tails_near(alloc, layer, state as u8, list, near)?;
+        let alike = states_alike(layer, state as u8, &near).min(states - state);
+        let left = tails_left(alloc, layer, state as u8, &near, marks)?;
         let number = number_again(
             alloc,
             states,
@@ -112,7 +118,8 @@ fn entries_of(
             marks,
             found,
         )?;
-        entries.push(number)?;
+        state += alike;
+        fill_up(&mut entries, state, number)?;
         latest = Some(Latest { list: left, number });
     }
     Ok(entries)
@@ -148,6 +155,15 @@ fn number_again(
         return Ok(latest.number);
     }
     number_of(alloc, states, layers, input, list, marks, found)
+}
+
+// Fills the entries up to this count with a number.
+fn fill_up(entries: &mut Vec<u32>, count: u16, number: u32) -> Result<(), AllocError>
+    requires { length entries.old.items ≤ count }
+    ensures { OnOk result (entries.new.items
+        ≡ entries.old.items ++ replicate (count - length entries.old.items) number) }
+{
+    entries.resize(usize::from(count), number)
 }
 
 // For each state of the last input the first result that is left, or the state.

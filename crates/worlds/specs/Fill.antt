@@ -32,13 +32,15 @@ chosen true false s t n e = e refl
 chosen false c s t n e = refl
 
 -- each state of a filled world
-pub cell-fill : (ps : List Place) (f : ℤ → ℤ → ℕ) (w : World) (x y : ℤ) → cell (fill ps f w) x y ≡ cond (list_any (same_place (y, x)) ps) (f x y) (cell w x y)
+pub cell-fill : (ps : List Place) (f : ℤ → ℤ → ℕ) (w : World) (x y : ℤ)
+    → cell (fill ps f w) x y ≡ cond (list_any (same_place (y, x)) ps) (f x y) (cell w x y)
 unfolding fill
 cell-fill [] f w x y = refl
 cell-fill (p ∷ ps) f w x y =
     cell-fill ps f (put w p.1 p.0 (f p.1 p.0)) x y
     ∙ ap (cond (list_any (same_place (y, x)) ps) (f x y)) (cell-put w p.1 p.0 (f p.1 p.0) x y)
-    ∙ chosen (same_place (y, x) p) (list_any (same_place (y, x)) ps) _ _ _ (λ e. ap (λ (q : Place). f q.1 q.0) (sym (same_is (y, x) p e)))
+    ∙ chosen (same_place (y, x) p) (list_any (same_place (y, x)) ps) _ _ _
+    (λ e. ap (λ (q : Place). f q.1 q.0) (sym (same_is (y, x) p e)))
 
 -- no places
 pub fill-none : (f : ℤ → ℤ → ℕ) (w : World) → fill [] f w ≡ w
@@ -46,7 +48,8 @@ unfolding fill
 fill-none f w = refl
 
 -- one list of places after another
-pub fill-append : (ps qs : List Place) (f : ℤ → ℤ → ℕ) (w : World) → fill (ps ++ qs) f w ≡ fill qs f (fill ps f w)
+pub fill-append : (ps qs : List Place) (f : ℤ → ℤ → ℕ) (w : World)
+    → fill (ps ++ qs) f w ≡ fill qs f (fill ps f w)
 unfolding fill
 fill-append [] qs f w = refl
 fill-append (p ∷ ps) qs f w = fill-append ps qs f (put w p.1 p.0 (f p.1 p.0))
@@ -61,7 +64,9 @@ by_cover true s h = refl
 by_cover false s h = let dead : 0 < s → ⊥ = λ live. let e = h live in cc in omega (arith, dead)
 
 -- where the list has each place at which f isn't 0
-pub cell-gather : (ps : List Place) (f : ℤ → ℤ → ℕ) → ((x y : ℤ) → 0 < f x y → list_any (same_place (y, x)) ps ≡ true) → (x y : ℤ) → cell (gather ps f) x y ≡ f x y
+pub cell-gather : (ps : List Place) (f : ℤ → ℤ → ℕ)
+    → ((x y : ℤ) → 0 < f x y → list_any (same_place (y, x)) ps ≡ true) → (x y : ℤ)
+    → cell (gather ps f) x y ≡ f x y
 unfolding gather
 cell-gather ps f covers x y =
     cell-fill ps f blank x y

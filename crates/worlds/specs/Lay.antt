@@ -15,12 +15,16 @@ last_mention [] x y s = s
 last_mention (c ∷ cs) x y s = last_mention cs x y (cond (same_place (y, x) (c.y, c.x)) c.state s)
 
 -- each state after the cells are laid
-pub cell-lay : (cs : List CellSet) (w : World) (x y : ℤ) → cell (lay cs w) x y ≡ last_mention cs x y (cell w x y)
+pub cell-lay : (cs : List CellSet) (w : World) (x y : ℤ)
+    → cell (lay cs w) x y ≡ last_mention cs x y (cell w x y)
 cell-lay [] w x y = refl
-cell-lay (c ∷ cs) w x y = cell-lay cs (put w c.x c.y c.state) x y ∙ ap (last_mention cs x y) (cell-put w c.x c.y c.state x y)
+cell-lay (c ∷ cs) w x y =
+    cell-lay cs (put w c.x c.y c.state) x y
+    ∙ ap (last_mention cs x y) (cell-put w c.x c.y c.state x y)
 
 -- one more cell
-pub lay-push : (cs : List CellSet) (c : CellSet) (w : World) → lay (cs ++ c ∷ []) w ≡ put (lay cs w) c.x c.y c.state
+pub lay-push : (cs : List CellSet) (c : CellSet) (w : World)
+    → lay (cs ++ c ∷ []) w ≡ put (lay cs w) c.x c.y c.state
 lay-push [] c w = refl
 lay-push (d ∷ cs) c w = lay-push cs c (put w d.x d.y d.state)
 

@@ -10,3 +10,4 @@ pub mod Moved
 pub mod Near
 pub mod Laws
 pub mod Square
+pub mod Stop

@@ -47,7 +47,8 @@ pub live-entries : (w : World) → live w ≡ map as_live (map.entries w)
 unfolding live
 live-entries w = refl
 
-keys_of-as_live : (es : List (Place × ℕ)) → map (λ (e : Place × ℕ). e.0) (map as_live es) ≡ map (λ (e : Place × ℕ). e.0) es
+keys_of-as_live : (es : List (Place × ℕ))
+    → map (λ (e : Place × ℕ). e.0) (map as_live es) ≡ map (λ (e : Place × ℕ). e.0) es
 keys_of-as_live [] = refl
 keys_of-as_live (e ∷ es) = ap (λ ps. e.0 ∷ ps) (keys_of-as_live es)
 
@@ -56,27 +57,39 @@ pub keys-live : (w : World) → keys_of (live w) ≡ map.keys w
 unfolding live
 keys-live w = keys_of-as_live (map.entries w)
 
-found : (b : Bool) (n : ℕ) (o : Option ℕ) (m : ℕ) → state_of o ≡ m → state_of (cond b (Some n) o) ≡ cond b (suc n) m
+found : (b : Bool) (n : ℕ) (o : Option ℕ) (m : ℕ) → state_of o ≡ m
+    → state_of (cond b (Some n) o) ≡ cond b (suc n) m
 found true n o m h = refl
 found false n o m h = h
 
-look : (b : Bool) (n : ℕ) (o : Option ℕ) → cond b n (unwrap_or o 0) ≡ unwrap_or (cond b (Some n) o) 0
+look : (b : Bool) (n : ℕ) (o : Option ℕ)
+    → cond b n (unwrap_or o 0) ≡ unwrap_or (cond b (Some n) o) 0
 look true n o = refl
 look false n o = refl
 
-state_at-entries : (q : Place) (es : List (Place × ℕ)) → state_of (find place_cmp q es) ≡ state_at (map as_live es) q
+state_at-entries : (q : Place) (es : List (Place × ℕ))
+    → state_of (find place_cmp q es) ≡ state_at (map as_live es) q
 state_at-entries q [] = refl
-state_at-entries q (e ∷ es) = found (same_place q e.0) e.1 (find place_cmp q es) _ (state_at-entries q es) ∙ look (same_place q e.0) (suc e.1) (lookup (same_place q) (map as_live es))
+state_at-entries q (e ∷ es) =
+    found (same_place q e.0) e.1 (find place_cmp q es) _ (state_at-entries q es)
+    ∙ look (same_place q e.0) (suc e.1) (lookup (same_place q) (map as_live es))
 
 -- each state, by the list of the live cells
 pub cell-state_at : (w : World) (x y : ℤ) → cell w x y ≡ state_at (live w) (y, x)
-cell-state_at w x y = cell-get w x y ∙ ap state_of (map.get-entries w (y, x)) ∙ state_at-entries (y, x) (map.entries w) ∙ ap (λ es. state_at es (y, x)) (sym (live-entries w))
+cell-state_at w x y =
+    cell-get w x y ∙ ap state_of (map.get-entries w (y, x))
+    ∙ state_at-entries (y, x) (map.entries w) ∙ ap (λ es. state_at es (y, x)) (sym (live-entries w))
 
 -- a property of each listed cell is one of each live place
-pub by_place : (es : List (Place × ℕ)) (P : ℤ → ℤ → ℕ → Type 0) → AllByRecursion (λ (e : Place × ℕ). P e.0.1 e.0.0 e.1) es → (x y : ℤ) → 0 < state_at es (y, x) → P x y (state_at es (y, x))
+pub by_place : (es : List (Place × ℕ)) (P : ℤ → ℤ → ℕ → Type 0)
+    → AllByRecursion (λ (e : Place × ℕ). P e.0.1 e.0.0 e.1) es → (x y : ℤ) → 0 < state_at es (y, x)
+    → P x y (state_at es (y, x))
 by_place [] P h x y live = absurd (omega (arith, live))
 by_place (e ∷ es) P h x y live =
-    elim (same_place (y, x) e.0) as (λ b. same_place (y, x) e.0 ≡ b → 0 < unwrap_or (cond b (Some e.1) (lookup (same_place (y, x)) es)) 0 → P x y (unwrap_or (cond b (Some e.1) (lookup (same_place (y, x)) es)) 0)) [
+    elim (same_place (y, x) e.0) as
+    (λ b. same_place (y, x) e.0 ≡ b
+    → 0 < unwrap_or (cond b (Some e.1) (lookup (same_place (y, x)) es)) 0
+    → P x y (unwrap_or (cond b (Some e.1) (lookup (same_place (y, x)) es)) 0)) [
       | true ↦ λ same l. subst (λ (p : Place). P p.1 p.0 e.1) (sym (same_is (y, x) e.0 same)) h.0
       | false ↦ λ same l. by_place es P h.1 x y l
     ] refl live
@@ -91,19 +104,38 @@ other true n m o e h = cc
 other false n m o e h = h
 
 -- each entry below stays found when a lesser one is put before it
-still_found : (e : Place × ℕ) (fs es : List (Place × ℕ)) → T (below_all place_cmp e.0 fs) → AllByRecursion (λ f. find place_cmp f.0 es ≡ Some f.1) fs → AllByRecursion (λ f. find place_cmp f.0 (e ∷ es) ≡ Some f.1) fs
+still_found : (e : Place × ℕ) (fs es : List (Place × ℕ)) → T (below_all place_cmp e.0 fs)
+    → AllByRecursion (λ f. find place_cmp f.0 es ≡ Some f.1) fs
+    → AllByRecursion (λ f. find place_cmp f.0 (e ∷ es) ≡ Some f.1) fs
 still_found e [] es below h = tt
-still_found e (f ∷ fs) es below h =
-    (other (same_place f.0 e.0) e.1 f.1 _ ((eq_by_cmp_equiv places_total).symm f.0 e.0 ∙ apart (place_cmp e.0 f.0) (first _ _ below)) h.0, still_found e fs es (second _ _ below) h.1)
+still_found e (f ∷ fs) es below h = (
+  other (same_place f.0 e.0) e.1 f.1 _
+      ((eq_by_cmp_equiv places_total).symm f.0 e.0 ∙ apart (place_cmp e.0 f.0) (first _ _ below))
+      h.0,
+  still_found e fs es (second _ _ below) h.1,
+)
 
-each_found : (es : List (Place × ℕ)) → T (is_sorted place_cmp es) → AllByRecursion (λ f. find place_cmp f.0 es ≡ Some f.1) es
+each_found : (es : List (Place × ℕ)) → T (is_sorted place_cmp es)
+    → AllByRecursion (λ f. find place_cmp f.0 es ≡ Some f.1) es
 each_found [] h = tt
-each_found (e ∷ es) h = (ap (λ b. cond b (Some e.1) (find place_cmp e.0 es)) (same_place-itself e.0), still_found e es es (first _ _ h) (each_found es (second _ _ h)))
+each_found (e ∷ es) h = (
+  ap (λ b. cond b (Some e.1) (find place_cmp e.0 es)) (same_place-itself e.0),
+  still_found e es es (first _ _ h) (each_found es (second _ _ h)),
+)
 
-each_state : (w : World) (es : List (Place × ℕ)) → AllByRecursion (λ f. find place_cmp f.0 (map.entries w) ≡ Some f.1) es → AllByRecursion (λ (f : Place × ℕ). (cell w f.0.1 f.0.0 ≡ f.1) × (0 < f.1)) (map as_live es)
+each_state : (w : World) (es : List (Place × ℕ))
+    → AllByRecursion (λ f. find place_cmp f.0 (map.entries w) ≡ Some f.1) es
+    → AllByRecursion (λ (f : Place × ℕ). (cell w f.0.1 f.0.0 ≡ f.1) × (0 < f.1)) (map as_live es)
 each_state w [] h = tt
-each_state w (e ∷ es) h = ((cell-get w e.0.1 e.0.0 ∙ ap state_of (map.get-entries w e.0 ∙ h.0), omega arith), each_state w es h.1)
+each_state w (e ∷ es) h = (
+  (cell-get w e.0.1 e.0.0 ∙ ap state_of (map.get-entries w e.0 ∙ h.0), omega arith),
+  each_state w es h.1,
+)
 
 -- each listed cell is live, in the state that is listed
-pub live-states : (w : World) → AllByRecursion (λ (e : Place × ℕ). (cell w e.0.1 e.0.0 ≡ e.1) × (0 < e.1)) (live w)
-live-states w = subst (AllByRecursion (λ (e : Place × ℕ). (cell w e.0.1 e.0.0 ≡ e.1) × (0 < e.1))) (sym (live-entries w)) (each_state w (map.entries w) (each_found (map.entries w) (map.entries_sorted w)))
+pub live-states : (w : World)
+    → AllByRecursion (λ (e : Place × ℕ). (cell w e.0.1 e.0.0 ≡ e.1) × (0 < e.1)) (live w)
+live-states w =
+    subst (AllByRecursion (λ (e : Place × ℕ). (cell w e.0.1 e.0.0 ≡ e.1) × (0 < e.1)))
+    (sym (live-entries w))
+    (each_state w (map.entries w) (each_found (map.entries w) (map.entries_sorted w)))

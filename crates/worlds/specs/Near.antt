@@ -11,7 +11,8 @@ pub record IsNear (r : ℕ) (dx dy : ℤ) : Type 0 where
 
 -- up to r away from (x, y) v has what w has around (a, b)
 abbrev pub AgreeNear : ℕ → World → ℤ → ℤ → World → ℤ → ℤ → Type 0
-AgreeNear r v x y w a b = (dx dy : ℤ) → IsNear r dx dy → cell v (x +ℤ dx) (y +ℤ dy) ≡ cell w (a +ℤ dx) (b +ℤ dy)
+AgreeNear r v x y w a b =
+    (dx dy : ℤ) → IsNear r dx dy → cell v (x +ℤ dx) (y +ℤ dy) ≡ cell w (a +ℤ dx) (b +ℤ dy)
 
 -- no cell up to r away from (x, y) is live
 abbrev pub NoneNear : ℕ → World → ℤ → ℤ → Type 0

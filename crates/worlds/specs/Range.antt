@@ -5,7 +5,7 @@ use Rattle.worlds.specs.World.{World, cell}
 use Rattle.worlds.specs.declared.cell.Bounds.{Bounds}
 use Rattle.worlds.specs.declared.cell.CellSet.{CellSet}
 
--- (x, y) lies in the range of planes, from -2^61 up to 2^61, and at least `margin` cells from its edges
+-- (x, y) lies in the range of planes, from -2^61 up to 2^61, at least `margin` cells from its edges
 pub record IsInside (margin : ℕ) (x y : ℤ) : Type 0 where
   pub left : neg_ℤ (pos (2 ^ 61)) ≤ℤ (x -ℤ pos margin)
   pub right : (x +ℤ pos margin) <ℤ pos (2 ^ 61)
@@ -50,4 +50,5 @@ pub record IsBoundingBox (b : Bounds) (w : World) : Type 0 where
 
 -- a cell outside the range of planes isn't live, where none is
 pub cell-outside : (w : World) (x y : ℤ) → HasMargin 0 w → (IsInside 0 x y → ⊥) → cell w x y ≡ 0
-cell-outside w x y inside out = let dead : 0 < cell w x y → ⊥ = λ live. out (inside x y live) in omega (arith, dead)
+cell-outside w x y inside out =
+    let dead : 0 < cell w x y → ⊥ = λ live. out (inside x y live) in omega (arith, dead)

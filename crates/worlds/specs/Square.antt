@@ -1,4 +1,4 @@
--- Squares of cells: a square of level 0 is one cell, and a square of one level more is four squares.
+-- Squares of cells: a square of level 0 is one cell, and one of a level more is four squares.
 use Rattle.std.specs.Prelude.{ℕ, zero, suc, ◌-◌, ◌<◌, ◌^◌, cond, nat_le, ℤ, pos, ◌+ℤ◌, ◌≤ℤ◌, ◌<ℤ◌}
 use Rattle.worlds.specs.World.{World, cell, put}
 
@@ -19,7 +19,7 @@ IsSquare zero (four nw ne sw se) = ⊥
 IsSquare (suc k) (one s) = ⊥
 IsSquare (suc k) (four nw ne sw se) = IsSquare k nw × IsSquare k ne × IsSquare k sw × IsSquare k se
 
--- the state of the cell at (x, y), counted from the upper left cell, in a square of level k: that in the quadrant that holds it
+-- the state of the cell at (x, y) from the upper left one: that in the quadrant that holds it
 unfoldable pub cell_in : ℕ → Square → ℕ → ℕ → ℕ
 cell_in k (one s) x y = s
 cell_in zero (four nw ne sw se) x y = 0
@@ -42,14 +42,16 @@ put_square k (one s) x y w = put w x y s
 put_square zero (four nw ne sw se) x y w = w
 put_square (suc k) (four nw ne sw se) x y w =
     let h = pos (2 ^ k) in
-    put_square k se (x +ℤ h) (y +ℤ h) (put_square k sw x (y +ℤ h) (put_square k ne (x +ℤ h) y (put_square k nw x y w)))
+    put_square k se (x +ℤ h) (y +ℤ h)
+    (put_square k sw x (y +ℤ h) (put_square k ne (x +ℤ h) y (put_square k nw x y w)))
 
 -- the square of level k whose upper left cell is at (x, y)
 unfoldable pub square_at : World → ℕ → ℤ → ℤ → Square
 square_at w zero x y = one (cell w x y)
 square_at w (suc k) x y =
     let h = pos (2 ^ k) in
-    four (square_at w k x y) (square_at w k (x +ℤ h) y) (square_at w k x (y +ℤ h)) (square_at w k (x +ℤ h) (y +ℤ h))
+    four (square_at w k x y) (square_at w k (x +ℤ h) y) (square_at w k x (y +ℤ h))
+    (square_at w k (x +ℤ h) (y +ℤ h))
 
 -- (x, y) lies in the square of this side whose upper left cell is at (left, top)
 pub record IsIn (side : ℕ) (edge_x edge_y x y : ℤ) : Type 0 where

@@ -252,8 +252,8 @@ impl<'e> Bench<'e> {
         requires { IsOf self.now.table place.now }
     {
         match self.entries.at(place) {
-            Entry::Step { gens, .. } => Wanted::Step(*gens),
-            Entry::View { generation, .. } => Wanted::View(*generation),
+            Entry::Step(step) => Wanted::Step(step.gens),
+            Entry::View(rendering) => Wanted::View(rendering.generation),
         }
     }
 

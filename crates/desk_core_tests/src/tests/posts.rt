@@ -19,11 +19,13 @@ impl<'a> LosingPost<'a> {
 }
 
 impl<'a> Post for LosingPost<'a> {
-    ghost use Rattle.std.specs.Prelude.{false, None};
+    ghost use Rattle.std.specs.Prelude.{[], None, false};
 
     ghost table = { λ post. post.entries.now };
 
     ghost floor = { λ post. post.floor };
+
+    ghost answers = { λ _. [] };
 
     ghost is_prompt = { λ _. false };
 
@@ -59,11 +61,13 @@ impl<'a> RefusingPost<'a> {
 }
 
 impl<'a> Post for RefusingPost<'a> {
-    ghost use Rattle.std.specs.Prelude.{false, None};
+    ghost use Rattle.std.specs.Prelude.{[], None, false};
 
     ghost table = { λ post. post.entries.now };
 
     ghost floor = { λ _. 0 };
+
+    ghost answers = { λ _. [] };
 
     ghost is_prompt = { λ _. false };
 

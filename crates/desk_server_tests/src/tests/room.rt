@@ -3,7 +3,7 @@ use crate::tests::devices::Pieces;
 use crate::tests::{answer_to, same};
 
 // Eight cells far from each other, whose plane has more than 64 distinct squares. The bookmark at
-// generation 0 needs no step. Where the cells are gone, so is the want, and the step is made anew.
+// generation 0 needs no step. Where the cells are gone there is room, and the step is made anew.
 const SCRIPT: &[u8] =
     b"set 0 0 1 1000 0 1 3000 7 1 7000 90 1 20000 300 1 50000 -70 1 -30000 0 1 -9999 -9999 1\nmark 1 counts\nmark 0 counts\nmark 2 counts\nsettle\nshow 1\nshow 2\nsettle\nset 1000 0 0 3000 7 0 7000 90 0 20000 300 0 50000 -70 0 -30000 0 0 -9999 -9999 0\nsettle\nshow 1\nshow 3\n";
 

@@ -104,6 +104,54 @@ impl Next for Star {
     ghost below = { λ _ states _. Prim.grind arith };
 }
 
+/// The table over three states in the von Neumann neighbourhood, the same in its four turns, with
+/// `var a={1,2}` and the one line `0,a,0,0,0,a`: a dead cell takes the state of its only live neighbour.
+#[derive(Clone, Copy)]
+pub struct OnlyNeighbour;
+
+impl Next for OnlyNeighbour {
+    ghost use Rattle.std.specs.Prelude.{ℕ, ◌<◌, slice_index, ◌==◌, ◌+◌, if◌then◌else◌, refl};
+    ghost use Rattle.std.proofs.Common.{arith};
+    ghost use Rattle.std.proofs.lemmas.List.Elements.{All-get_or};
+
+    ghost state_count = { λ _. 3 };
+
+    ghost meaning = { λ _ s. if slice_index s 0 == 0 then (if slice_index s 3 + slice_index s 5 + slice_index s 7 == 0 then slice_index s 1 else (if slice_index s 1 + slice_index s 5 + slice_index s 7 == 0 then slice_index s 3 else (if slice_index s 1 + slice_index s 3 + slice_index s 7 == 0 then slice_index s 5 else (if slice_index s 1 + slice_index s 3 + slice_index s 5 == 0 then slice_index s 7 else 0)))) else slice_index s 0 };
+
+    fn states(&self) -> u16 {
+        3
+    }
+
+    fn next(&self, around: &Around) -> u8 {
+        let centre = around.0[0];
+        let north = around.0[NORTH];
+        let east = around.0[EAST];
+        let south = around.0[SOUTH];
+        let west = around.0[WEST];
+        if centre != 0 {
+            return centre;
+        }
+        if u16::from(east) + u16::from(south) + u16::from(west) == 0 {
+            return north;
+        }
+        if u16::from(north) + u16::from(south) + u16::from(west) == 0 {
+            return east;
+        }
+        if u16::from(north) + u16::from(east) + u16::from(west) == 0 {
+            return south;
+        }
+        if u16::from(north) + u16::from(east) + u16::from(south) == 0 {
+            west
+        } else {
+            0
+        }
+    }
+
+    ghost quiet = { λ _. refl };
+
+    ghost below = { λ _ states h. let at : (i : ℕ) → i < 9 → slice_index states i < 3 = λ i k. All-get_or (λ s. s < 3) states i 0 (Prim.omega (arith, k, h.nine)) h.below in let c = at 0 (Prim.omega arith) in let n = at 1 (Prim.omega arith) in let e = at 3 (Prim.omega arith) in let s = at 5 (Prim.omega arith) in let w = at 7 (Prim.omega arith) in Prim.grind (arith, c, n, e, s, w) };
+}
+
 /// Says yes once, at the poll after `left - 1` others.
 #[derive(Clone, Copy)]
 pub struct Countdown {

@@ -1,10 +1,10 @@
 use super::engine::{ONE, evolved, is_below};
-use super::rules::{Copying, Countdown, OneOfTwo, Star};
+use super::rules::{Copying, Countdown, OneOfTwo, OnlyNeighbour, Star};
 use super::{Row, plane_of, same};
 use plane_core::{Bounds, Next, NoStop, Plane, Stop};
 use std::alloc::Global;
 use std::process::Abort;
-use step_engine::{EvolveFault, Evolved, evolve, evolve_plain, fits};
+use step_engine::{EvolveFault, Evolved, Report, evolve, evolve_plain, fits};
 
 const EAST: usize = 3;
 
@@ -87,6 +87,13 @@ fn agrees_with_the_plain_engine_on_a_star(rt: HostRuntime) {
 fn agrees_with_the_plain_engine_on_what_moves(rt: HostRuntime) {
     let east = Copying { from: EAST };
     expect_alike(&rt, rt.alloc(), &east, &[(9, -9, 255), (-3, 0, 1)]);
+}
+
+#[test]
+fn agrees_with_the_plain_engine_on_a_table_with_a_variable(rt: HostRuntime) {
+    let alloc = rt.alloc();
+    expect_alike(&rt, alloc, &OnlyNeighbour, &[(0, 0, 2)]);
+    expect_alike(&rt, alloc, &OnlyNeighbour, &[(-3, 1, 1), (4, 0, 2)]);
 }
 
 /// Stops the test where other cells are live than two in the row 0, at its ends from left to right.
@@ -172,4 +179,59 @@ fn reports_how_many_squares_it_took(rt: HostRuntime) {
     let alloc = rt.alloc();
     expect_squares(&rt, alloc, 3);
     expect_squares(&rt, alloc, 1 << 20);
+}
+
+#[test]
+fn asks_the_stop_for_one_generation(rt: HostRuntime) {
+    let alloc = rt.alloc();
+    let mut stop = Countdown { left: 1 };
+    let answer = shared(&rt, alloc, &Star, ONE, 1, &mut stop, SOME_SQUARES);
+    same(&rt, &answer.err(), &Some(EvolveFault::Stopped), &"Star");
+    same(&rt, &stop.left, &0, &"Star");
+}
+
+/// Stops the test where the report of the way from the rows isn't the wanted one.
+fn expect_report<R: Next>(
+    rt: &impl Abort,
+    alloc: Global,
+    rule: &R,
+    rows: &[Row],
+    generations: u64,
+    wanted: Report,
+) {
+    let answer = shared(
+        rt,
+        alloc,
+        rule,
+        rows,
+        generations,
+        &mut NoStop,
+        SOME_SQUARES,
+    );
+    let report = answer.expect(rt, "a plane").report;
+    same(rt, &report, &wanted, &generations);
+}
+
+const fn report_of(squares: u32, fours: u32, base: u32) -> Report {
+    Report {
+        squares,
+        fours,
+        base,
+    }
+}
+
+// The different squares on the way, counted apart from the engine. With no generation the cell's square
+// of 4 by 4 cells, two different quadrants of it and its middle are all.
+#[test]
+fn reports_exactly_what_was_made(rt: HostRuntime) {
+    let alloc = rt.alloc();
+    expect_report(&rt, alloc, &OneOfTwo, ONE, 0, report_of(4, 1, 0));
+    expect_report(&rt, alloc, &OneOfTwo, ONE, 1, report_of(16, 10, 5));
+    expect_report(&rt, alloc, &OneOfTwo, ONE, 2, report_of(26, 11, 11));
+    expect_report(&rt, alloc, &OneOfTwo, ONE, 3, report_of(28, 12, 11));
+    expect_report(&rt, alloc, &Star, ONE, 0, report_of(4, 1, 0));
+    expect_report(&rt, alloc, &Star, ONE, 1, report_of(18, 10, 5));
+    expect_report(&rt, alloc, &Star, ONE, 2, report_of(37, 17, 13));
+    expect_report(&rt, alloc, &Star, &[], 0, report_of(2, 1, 0));
+    expect_report(&rt, alloc, &Star, &[], 1, report_of(2, 1, 1));
 }

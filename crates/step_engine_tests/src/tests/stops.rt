@@ -24,6 +24,7 @@ fn expect_asked(
 fn asks_the_stop_before_each_generation(rt: HostRuntime) {
     let alloc = rt.alloc();
     expect_asked(&rt, alloc, 0, None, 3);
+    expect_asked(&rt, alloc, 1, None, 2);
     expect_asked(&rt, alloc, 2, None, 1);
     expect_asked(&rt, alloc, 3, Some(EvolveFault::Stopped), 0);
     expect_asked(&rt, alloc, 5, Some(EvolveFault::Stopped), 0);

@@ -2,14 +2,14 @@ use Rattle.std.proofs.Common.{◌+◌, ◌∙◌, ap, subst, refl, Ok, Err}
 use Rattle.schedule.specs.Plan.{opening}
 use Rattle.desk_core.specs.Rows.{Known}
 use Rattle.script_lines.specs.Input.{FailsOrFull}
-use Rattle.desk_server.proofs.Jobs.{carries_first}
+use Rattle.desk_server.proofs.Jobs.{carries_first, carries_further}
 use Rattle.desk_server.proofs.Rounds.{answers_none, answers_answers, answers_finishes, answers_stops, answers_breaks, finishes_all, stops_front}
 use Rattle.desk_server.proofs.server.run.Goals as goal
 
 pub script-init : goal.script-init
 script-init g c = rw c.begin.ensures (record {
-  answered = answers_none _ _ _ (opening 0) c.in-Ok.desk.plan 1 refl (ap (λ (k : Known). k.plan) c.in-Ok.ensures);
-  carries = carries_first g.P.Post.table g.P.Post.floor g.P.Post.is_prompt g.P.Post.held c.args.post.now c.args.entries.now c.in-Ok.desk c.in-Ok.ensures c.requires;
+  answered = answers_none (g.P.Post.is_prompt c.args.post.now) _ _ _ (opening 0) c.in-Ok.desk.plan 1 refl (ap (λ (k : Known). k.plan) c.in-Ok.ensures);
+  post = record { kind = refl; carries = carries_first g.P.Post.table g.P.Post.floor g.P.Post.is_prompt g.P.Post.held c.args.post.now c.args.entries.now c.in-Ok.desk c.in-Ok.ensures c.requires };
   flushed = λ h. h;
   reads = refl;
   writes = refl;
@@ -17,44 +17,49 @@ script-init g c = rw c.begin.ensures (record {
 
 pub script-preserved : goal.script-preserved
 script-preserved g c =
-    let next = c.in-Ok-GoOn.ensures in
+    let kind = c.script.invariant.post.kind in
+    let next = c.in-Ok-Continue.ensures in
+    let goes = rw kind at (next.goes_on (ap Ok c.in-Ok-Continue.field-0-is)) in
     record {
-      answered = answers_answers _ _ _ _ _ _ _ _ _ _ _ _ c.script.invariant.answered (next.goes_on (ap Ok c.in-Ok-GoOn.field-0-is)).0.answered;
-      carries = (next.goes_on (ap Ok c.in-Ok-GoOn.field-0-is)).1;
-      flushed = λ h. next.works.flushed (c.script.invariant.flushed h);
-      reads = next.works.reads ∙ c.script.invariant.reads;
-      writes = next.works.writes ∙ c.script.invariant.writes;
+      answered = answers_answers _ _ _ _ _ _ _ _ _ _ _ _ _ c.script.invariant.answered goes.answered;
+      post = carries_further g.P.Post.table g.P.Post.floor g.P.Post.is_prompt g.P.Post.held _ _ _ _ kind (next.post (ap Ok c.in-Ok-Continue.field-0-is));
+      flushed = λ h. goes.works.flushed (c.script.invariant.flushed h);
+      reads = goes.works.reads ∙ c.script.invariant.reads;
+      writes = goes.works.writes ∙ c.script.invariant.writes;
     }
 
 pub script-smaller : goal.script-smaller
-script-smaller g c = (c.in-Ok-GoOn.ensures.goes_on (ap Ok c.in-Ok-GoOn.field-0-is)).0.fewer
+script-smaller g c = (c.in-Ok-Continue.ensures.goes_on (ap Ok c.in-Ok-Continue.field-0-is)).fewer
 
-pub returns-in-Ok-Done-clause-done : goal.returns-in-Ok-Done-clause-done
-returns-in-Ok-Done-clause-done g c =
-    finishes_all _ _ _ _ (answers_finishes _ _ _ _ _ _ _ _ _ _ c.script.invariant.answered (c.in-Ok-Done.ensures.done (ap Ok c.in-Ok-Done.field-0-is)))
-
-pub returns-in-Ok-Done-clause-works : goal.returns-in-Ok-Done-clause-works
-returns-in-Ok-Done-clause-works g c =
-    let works = c.in-Ok-Done.ensures.works in
+pub returns-in-Ok-Break-clause-done : goal.returns-in-Ok-Break-clause-done
+returns-in-Ok-Break-clause-done g c =
+    let ends = rw c.script.invariant.post.kind at (c.in-Ok-Break.ensures.done (ap Ok c.in-Ok-Break.field-0-is)) in
     record {
-      reads = works.reads ∙ c.script.invariant.reads;
-      writes = works.writes ∙ c.script.invariant.writes;
-      flushed = λ h. works.flushed (c.script.invariant.flushed h);
+      answered = finishes_all _ _ _ _ _ (answers_finishes _ _ _ _ _ _ _ _ _ _ _ c.script.invariant.answered ends.answered);
+      works = record {
+        reads = ends.works.reads ∙ c.script.invariant.reads;
+        writes = ends.works.writes ∙ c.script.invariant.writes;
+        flushed = λ h. ends.works.flushed (c.script.invariant.flushed h);
+      };
     }
 
 pub returns-in-Err-Reader-clause-read : goal.returns-in-Err-Reader-clause-read
 returns-in-Err-Reader-clause-read g c = λ _.
     let breaks = c.in-Err-Reader.ensures.read (ap Err c.in-Err-Reader.field-0-is) in
     rw breaks.silent (record {
-      answered = answers_breaks _ _ _ _ _ _ _ c.script.invariant.answered breaks.broken;
-      fails = (subst (λ n. FailsOrFull n c.round.new.reader.failures c.round.new.reader.given) c.script.invariant.reads breaks.fails.0, breaks.fails.1);
+      answered = answers_breaks _ _ _ _ _ _ _ _ c.script.invariant.answered breaks.broken;
       flushed = c.script.invariant.flushed;
     })
 
+pub returns-in-Err-Reader-clause-fails : goal.returns-in-Err-Reader-clause-fails
+returns-in-Err-Reader-clause-fails g c = λ _.
+    let breaks = c.in-Err-Reader.ensures.read (ap Err c.in-Err-Reader.field-0-is) in
+    (subst (λ n. FailsOrFull n c.round.new.reader.failures c.round.new.reader.given) c.script.invariant.reads breaks.fails.0, breaks.fails.1)
+
 pub returns-in-Err-Writer-clause-write : goal.returns-in-Err-Writer-clause-write
 returns-in-Err-Writer-clause-write g c = λ _.
-    let breaks = c.in-Err-Writer.ensures.write (ap Err c.in-Err-Writer.field-0-is) in
+    let breaks = rw c.script.invariant.post.kind at (c.in-Err-Writer.ensures.write (ap Err c.in-Err-Writer.field-0-is)) in
     record {
-      answered = stops_front _ _ _ _ (answers_stops _ _ _ _ _ _ _ _ _ _ c.script.invariant.answered breaks.stopped);
+      answered = stops_front _ _ _ _ _ (answers_stops _ _ _ _ _ _ _ _ _ _ _ c.script.invariant.answered breaks.stopped);
       fails = breaks.fails ∙ ap (λ n. n + 1) c.script.invariant.writes;
     }

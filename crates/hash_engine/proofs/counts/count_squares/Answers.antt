@@ -1,6 +1,7 @@
-use Rattle.std.proofs.Common.{◌≡◌, ◌∙◌, ap, length, sym, arith}
+use Rattle.std.proofs.Common.{◌≡◌, ◌+◌, ◌∙◌, ap, length, sym, arith}
 use Rattle.std.specs.Prelude.{true, false}
-use Rattle.hash_engine.specs.Asked.{is_put, picked, places_put}
+use Rattle.square_table.specs.Squares.{first_number}
+use Rattle.hash_engine.specs.Asked.{is_four, is_put, picked, places_of_four, places_put}
 use Rattle.hash_engine.proofs.Picked.{count-passed, count-failed}
 use Rattle.hash_engine.proofs.Puts.{is_put-by, is_put-not_four}
 use Rattle.hash_engine.proofs.counts.count_squares.Goals as goal
@@ -8,7 +9,7 @@ use Rattle.hash_engine.proofs.counts.count_squares.Goals.{then-is_four+then-has_
 
 pub loop-place-init : goal.loop-place-init
 unfolding picked
-loop-place-init c = record { put = omega arith; base = omega arith; fours = omega arith }
+loop-place-init c = record { put = omega arith; base = omega arith; fours = omega arith; few = omega arith }
 
 pub loop-place-preserved : goal.loop-place-preserved
 loop-place-preserved c =
@@ -20,19 +21,28 @@ loop-place-preserved c =
       | then-is_four+then-has_full w ↦
           let put : is_put rows memo i ≡ true = is_put-by rows memo i _ _ c.is_four.ensures w.has_full.ensures ∙ cc in
           let more = count-passed (is_put rows memo) i put in
+          let four = count-passed (λ j. is_four rows (first_number + j)) i (sym c.is_four.ensures ∙ w.if-is_four.true) in
           let counts = w.counts-is in
-          record { put = omega (arith, was.put, more, ap (λ n. n.base) counts); base = omega (arith, was.base, ap (λ n. n.base) counts, ap (λ n. n.fours) counts); fours = omega (arith, was.fours, ap (λ n. n.fours) counts) }
+          record { put = omega (arith, was.put, more, ap (λ n. n.base) counts); base = omega (arith, was.base, ap (λ n. n.base) counts, ap (λ n. n.fours) counts); fours = omega (arith, was.fours, four, ap (λ n. n.fours) counts); few = omega (arith, was.few, ap (λ n. n.fours) counts) }
       | then-is_four+else-has_full w ↦
           let put : is_put rows memo i ≡ false = is_put-by rows memo i _ _ c.is_four.ensures w.has_full.ensures ∙ cc in
           let same = count-failed (is_put rows memo) i put in
+          let four = count-passed (λ j. is_four rows (first_number + j)) i (sym c.is_four.ensures ∙ w.if-is_four.true) in
           let counts = w.counts-is in
-          record { put = omega (arith, was.put, same, ap (λ n. n.base) counts); base = omega (arith, was.base, ap (λ n. n.base) counts, ap (λ n. n.fours) counts); fours = omega (arith, was.fours, ap (λ n. n.fours) counts) }
+          record { put = omega (arith, was.put, same, ap (λ n. n.base) counts); base = omega (arith, was.base, ap (λ n. n.base) counts, ap (λ n. n.fours) counts); fours = omega (arith, was.fours, four, ap (λ n. n.fours) counts); few = omega (arith, was.few, ap (λ n. n.fours) counts) }
       | else-is_four w ↦
           let put : is_put rows memo i ≡ false = is_put-not_four rows memo i (sym c.is_four.ensures ∙ w.if-is_four.false) in
           let same = count-failed (is_put rows memo) i put in
+          let four = count-failed (λ j. is_four rows (first_number + j)) i (sym c.is_four.ensures ∙ w.if-is_four.false) in
           let counts = w.counts-is in
-          record { put = omega (arith, was.put, same, ap (λ n. n.base) counts); base = omega (arith, was.base, ap (λ n. n.base) counts, ap (λ n. n.fours) counts); fours = omega (arith, was.fours, ap (λ n. n.fours) counts) }
+          record { put = omega (arith, was.put, same, ap (λ n. n.base) counts); base = omega (arith, was.base, ap (λ n. n.base) counts, ap (λ n. n.fours) counts); fours = omega (arith, was.fours, four, ap (λ n. n.fours) counts); few = omega (arith, was.few, ap (λ n. n.fours) counts) }
     ]
+
+pub returns-clause-fours : goal.returns-clause-fours
+unfolding places_of_four
+returns-clause-fours c =
+    let all : c.loop-place.place ≡ length c.args.table.now.rows = let end = c.loop-place.auto.place-end in let count = c.len-place-end.ensures.count in omega (arith, end, count, c.loop-place-test.false) in
+    c.loop-place.invariant.fours ∙ ap (λ n. length (picked (λ i. is_four c.args.table.now.rows (first_number + i)) n)) all
 
 pub returns-clause-put : goal.returns-clause-put
 unfolding places_put

@@ -1,10 +1,12 @@
-use Rattle.std.proofs.Common.{◌≡◌, ◌≤◌, length}
-use Rattle.hash_engine.specs.Asked.{is_put, picked}
+use Rattle.std.proofs.Common.{◌≡◌, ◌+◌, ◌≤◌, length}
+use Rattle.square_table.specs.Squares.{first_number}
+use Rattle.hash_engine.specs.Asked.{is_four, is_put, picked}
 use Rattle.hash_engine.proofs.counts.count_squares.Given as goal
 
 abbrev pub invariant-loop-place : goal.invariant-loop-place
 invariant-loop-place l = record {
   put : l.counts.base ≡ length (picked (is_put l.table.rows l.memo) l.place);
   base : l.counts.base ≤ l.counts.fours;
-  fours : l.counts.fours ≤ l.place;
+  fours : l.counts.fours ≡ length (picked (λ i. is_four l.table.rows (first_number + i)) l.place);
+  few : l.counts.fours ≤ l.place;
 }

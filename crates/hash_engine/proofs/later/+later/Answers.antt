@@ -8,12 +8,15 @@ use Rattle.hash_life.specs.Puts.{nine_of, fours_of}
 use Rattle.hash_engine.specs.Standing.{StandForAll, IsReady}
 use Rattle.hash_engine.specs.Memo.{IsRight}
 use Rattle.hash_engine.specs.Asked.{AsksForMore}
+use Rattle.square_table.specs.Made.{Adds}
+use Rattle.hash_engine.specs.Adding.{AddsFor}
 use Rattle.hash_engine.proofs.Standing.{above}
 use Rattle.hash_engine.proofs.Memos.{IsRight-grows, IsResult-made}
 use Rattle.hash_engine.proofs.Computed.{IsReady-lower, IsReady-same, IsRight-same, IsRight-back, IsSameRule-itself, IsSameRule-then, nine_stand, nine_ready, fours_ready, StandsFor-computed, StandsFor-higher, none_stands}
 use Rattle.hash_engine.proofs.Puts.{none_put, higher_remembered}
 use Rattle.hash_engine.proofs.Once.{asked_in_two, asked_turn}
 use Rattle.hash_engine.proofs.Turns.{IsReady-turn, square_in-turn, result-turn, done_more, rest_more, StandForAll-done}
+use Rattle.hash_engine.proofs.Adding.{AddsFor-turn, AddsFor-middle, AddsFor-nine, AddsFor-of_nine, AddsFor-fours, AddsFor-of_fours, AddsFor-result, Adds-made}
 use Rattle.hash_engine.proofs.later.+later.Goals as goal
 
 pub all_later-later-requires : goal.all_later-later-requires
@@ -41,8 +44,36 @@ all_later-loop-number-preserved g t c =
           asked_turn (g.Q.Ask.meaning c.args.rule.now) c.args.k c.args.generations c.args.numbers.now i _ c.args.table.now c.loop-number.table c.later.new.table c.args.memo.now c.loop-number.memo c.later.new.memo _ _ _ below
           (square_in-turn (g.Q.Ask.meaning c.args.rule.now) (g.Q.Ask.state_count c.args.rule.now) c.args.table.now c.loop-number.table c.args.k c.args.generations c.args.numbers.now c.loop-number.numbers i 0 c.loop-number.invariant.grows c.requires.numbers below c.loop-number.invariant.rest)
           c.loop-number.invariant.asks more;
+      adds =
+          AddsFor-turn (g.Q.Ask.meaning c.args.rule.now) c.args.k c.args.generations c.args.numbers.now i _ c.args.table.now c.loop-number.table c.later.new.table below
+          (square_in-turn (g.Q.Ask.meaning c.args.rule.now) (g.Q.Ask.state_count c.args.rule.now) c.args.table.now c.loop-number.table c.args.k c.args.generations c.args.numbers.now c.loop-number.numbers i 0 c.loop-number.invariant.grows c.requires.numbers below c.loop-number.invariant.rest)
+          c.loop-number.invariant.adds
+          (subst (λ f. AddsFor f c.args.k c.args.generations (get_or c.loop-number.numbers i 0 ∷ []) c.loop-number.table c.later.new.table) c.loop-number.invariant.rule.meaning c.later.ensures.stays.adds);
       rest = rest_more c.args.numbers.now c.loop-number.numbers i c.in_ok-number.field-0 c.loop-number.invariant.rest;
     }
+
+pub all_later-returns-in_err-number-clause-stays : goal.all_later-returns-in_err-number-clause-stays
+all_later-returns-in_err-number-clause-stays g t c =
+    let i = c.loop-number.number-index in
+    let below : i < length c.args.numbers.now = c.loop-number-test.true in
+    record {
+      grows = Grows-then c.args.table.now c.loop-number.table c.later.new.table c.loop-number.invariant.grows c.later.ensures.stays.grows;
+      rule = IsSameRule-then (g.Q.Ask.meaning c.args.rule.now) (g.Q.Ask.meaning c.loop-number.rule) (g.Q.Ask.meaning c.later.new.rule) (g.Q.Ask.state_count c.args.rule.now) (g.Q.Ask.state_count c.loop-number.rule) (g.Q.Ask.state_count c.later.new.rule) c.loop-number.invariant.rule c.later.ensures.stays.rule;
+      right = IsRight-back (g.Q.Ask.meaning c.args.rule.now) (g.Q.Ask.meaning c.loop-number.rule) (g.Q.Ask.state_count c.args.rule.now) (g.Q.Ask.state_count c.loop-number.rule) c.later.new.table.rows c.later.new.memo c.loop-number.invariant.rule c.later.ensures.stays.right;
+      adds =
+          AddsFor-turn (g.Q.Ask.meaning c.args.rule.now) c.args.k c.args.generations c.args.numbers.now i _ c.args.table.now c.loop-number.table c.later.new.table below
+          (square_in-turn (g.Q.Ask.meaning c.args.rule.now) (g.Q.Ask.state_count c.args.rule.now) c.args.table.now c.loop-number.table c.args.k c.args.generations c.args.numbers.now c.loop-number.numbers i 0 c.loop-number.invariant.grows c.requires.numbers below c.loop-number.invariant.rest)
+          c.loop-number.invariant.adds
+          (subst (λ f. AddsFor f c.args.k c.args.generations (get_or c.loop-number.numbers i 0 ∷ []) c.loop-number.table c.later.new.table) c.loop-number.invariant.rule.meaning c.later.ensures.stays.adds);
+    }
+
+pub all_later-returns-clause-stays : goal.all_later-returns-clause-stays
+all_later-returns-clause-stays g t c = record {
+  grows = c.loop-number.invariant.grows;
+  rule = c.loop-number.invariant.rule;
+  right = c.loop-number.invariant.memo;
+  adds = c.loop-number.invariant.adds;
+}
 
 pub all_later-returns-clause-found : goal.all_later-returns-clause-found
 all_later-returns-clause-found g t c = (
@@ -57,6 +88,13 @@ compute-returns-in_err-nine-clause-stays g t c = record {
   rule = IsSameRule-itself (g.Q.Ask.meaning c.args.rule.now) (g.Q.Ask.state_count c.args.rule.now);
   right =
       IsRight-grows (g.Q.Ask.meaning c.args.rule.now) c.args.table.now c.nine.new.table c.args.memo.now c.nine.ensures.grows c.requires.memo;
+  adds =
+      let j = c.args.k - 1 in
+      let level : suc j ≡ c.args.k = omega (arith, c.requires.above.1) in
+      let first : c.min-first.result ≡ min c.args.generations (2 ^ j) = c.min-first.ensures ∙ ap (min c.args.generations) c.full.ensures in
+      let lower : IsReady (g.Q.Ask.meaning c.args.rule.now) (g.Q.Ask.state_count c.args.rule.now) c.args.table.now.rows (suc j) c.args.generations c.args.number = IsReady-lower (g.Q.Ask.meaning c.args.rule.now) (g.Q.Ask.state_count c.args.rule.now) c.args.table.now.rows c.args.k j c.args.generations c.args.number level c.requires.number in
+      let a0 = AddsFor-nine (g.Q.Ask.meaning c.args.rule.now) c.args.k j c.args.generations c.min-first.result c.args.number c.args.table.now level c.requires.above.0 first c.nine.new.table lower.numbered c.nine.ensures.adds in
+      a0;
 }
 
 pub compute-all_later-requires : goal.compute-all_later-requires
@@ -70,12 +108,39 @@ compute-all_later-requires g t c κs within =
     let memo : IsRight (g.Q.Ask.meaning c.args.rule.now) c.nine.new.table.rows c.args.memo.now = IsRight-grows (g.Q.Ask.meaning c.args.rule.now) c.args.table.now c.nine.new.table c.args.memo.now c.in_ok-nine.ensures.grows c.requires.memo in
     search rules
 
+pub compute-returns-in_err-all_later-clause-stays : goal.compute-returns-in_err-all_later-clause-stays
+compute-returns-in_err-all_later-clause-stays g t c = record {
+  grows = Grows-then c.args.table.now c.nine.new.table c.all_later.new.table c.in_ok-nine.ensures.grows c.all_later.ensures.stays.grows;
+  rule = c.all_later.ensures.stays.rule;
+  right = c.all_later.ensures.stays.right;
+  adds =
+      let j = c.args.k - 1 in
+      let level : suc j ≡ c.args.k = omega (arith, c.requires.above.1) in
+      let first : c.min-first.result ≡ min c.args.generations (2 ^ j) = c.min-first.ensures ∙ ap (min c.args.generations) c.full.ensures in
+      let lower : IsReady (g.Q.Ask.meaning c.args.rule.now) (g.Q.Ask.state_count c.args.rule.now) c.args.table.now.rows (suc j) c.args.generations c.args.number = IsReady-lower (g.Q.Ask.meaning c.args.rule.now) (g.Q.Ask.state_count c.args.rule.now) c.args.table.now.rows c.args.k j c.args.generations c.args.number level c.requires.number in
+      let a0 = AddsFor-nine (g.Q.Ask.meaning c.args.rule.now) c.args.k j c.args.generations c.min-first.result c.args.number c.args.table.now level c.requires.above.0 first c.nine.new.table lower.numbered c.nine.ensures.adds in
+      let nine = nine_stand c.args.table.now c.nine.new.table j c.args.number _ lower.numbered c.in_ok-nine.ensures.squares in
+      let a1 = AddsFor-of_nine (g.Q.Ask.meaning c.args.rule.now) c.args.k j c.args.generations c.min-first.result c.args.number c.args.table.now level c.requires.above.0 first c.nine.new.table c.all_later.new.table c.in_ok-nine.nine nine a0 c.all_later.ensures.stays.adds in
+      a1;
+}
+
 pub compute-returns-in_err-fours-clause-stays : goal.compute-returns-in_err-fours-clause-stays
 compute-returns-in_err-fours-clause-stays g t c = record {
   grows = Grows-then c.args.table.now c.all_later.new.table c.fours.new.table (Grows-then c.args.table.now c.nine.new.table c.all_later.new.table c.in_ok-nine.ensures.grows c.in_ok-all_later.ensures.stays.grows) c.fours.ensures.grows;
   rule = c.in_ok-all_later.ensures.stays.rule;
   right =
       IsRight-grows (g.Q.Ask.meaning c.args.rule.now) c.all_later.new.table c.fours.new.table c.all_later.new.memo c.fours.ensures.grows c.in_ok-all_later.ensures.stays.right;
+  adds =
+      let j = c.args.k - 1 in
+      let level : suc j ≡ c.args.k = omega (arith, c.requires.above.1) in
+      let first : c.min-first.result ≡ min c.args.generations (2 ^ j) = c.min-first.ensures ∙ ap (min c.args.generations) c.full.ensures in
+      let lower : IsReady (g.Q.Ask.meaning c.args.rule.now) (g.Q.Ask.state_count c.args.rule.now) c.args.table.now.rows (suc j) c.args.generations c.args.number = IsReady-lower (g.Q.Ask.meaning c.args.rule.now) (g.Q.Ask.state_count c.args.rule.now) c.args.table.now.rows c.args.k j c.args.generations c.args.number level c.requires.number in
+      let a0 = AddsFor-nine (g.Q.Ask.meaning c.args.rule.now) c.args.k j c.args.generations c.min-first.result c.args.number c.args.table.now level c.requires.above.0 first c.nine.new.table lower.numbered c.nine.ensures.adds in
+      let nine = nine_stand c.args.table.now c.nine.new.table j c.args.number _ lower.numbered c.in_ok-nine.ensures.squares in
+      let a1 = AddsFor-of_nine (g.Q.Ask.meaning c.args.rule.now) c.args.k j c.args.generations c.min-first.result c.args.number c.args.table.now level c.requires.above.0 first c.nine.new.table c.all_later.new.table c.in_ok-nine.nine nine a0 c.all_later.ensures.stays.adds in
+      let results = c.in_ok-all_later.ensures.found.0 _ nine in
+      let a2 = AddsFor-fours (g.Q.Ask.meaning c.args.rule.now) c.args.k j c.args.generations c.min-first.result c.args.number c.args.table.now level c.requires.above.0 first c.all_later.new.table c.fours.new.table c.all_later.new.numbers results a1 c.fours.ensures.adds in
+      a2;
 }
 
 pub compute-all_later-requires-2 : goal.compute-all_later-requires-2
@@ -93,6 +158,58 @@ compute-all_later-requires-2 g t c κs within =
     (IsRight-grows (g.Q.Ask.meaning c.args.rule.now) c.all_later.new.table c.fours.new.table c.all_later.new.memo c.in_ok-fours.ensures.grows c.in_ok-all_later.ensures.stays.right) in
     search rules
 
+pub compute-returns-in_err-all_later-2-clause-stays : goal.compute-returns-in_err-all_later-2-clause-stays
+compute-returns-in_err-all_later-2-clause-stays g t c = record {
+  grows = Grows-then c.args.table.now c.fours.new.table c.all_later-2.new.table (Grows-then c.args.table.now c.all_later.new.table c.fours.new.table (Grows-then c.args.table.now c.nine.new.table c.all_later.new.table c.in_ok-nine.ensures.grows c.in_ok-all_later.ensures.stays.grows) c.in_ok-fours.ensures.grows) c.all_later-2.ensures.stays.grows;
+  rule = IsSameRule-then (g.Q.Ask.meaning c.args.rule.now) (g.Q.Ask.meaning c.all_later.new.rule) (g.Q.Ask.meaning c.all_later-2.new.rule) (g.Q.Ask.state_count c.args.rule.now) (g.Q.Ask.state_count c.all_later.new.rule) (g.Q.Ask.state_count c.all_later-2.new.rule) c.in_ok-all_later.ensures.stays.rule c.all_later-2.ensures.stays.rule;
+  right =
+      IsRight-back (g.Q.Ask.meaning c.args.rule.now) (g.Q.Ask.meaning c.all_later.new.rule) (g.Q.Ask.state_count c.args.rule.now) (g.Q.Ask.state_count c.all_later.new.rule) c.all_later-2.new.table.rows c.all_later-2.new.memo c.in_ok-all_later.ensures.stays.rule c.all_later-2.ensures.stays.right;
+  adds =
+      let j = c.args.k - 1 in
+      let level : suc j ≡ c.args.k = omega (arith, c.requires.above.1) in
+      let first : c.min-first.result ≡ min c.args.generations (2 ^ j) = c.min-first.ensures ∙ ap (min c.args.generations) c.full.ensures in
+      let lower : IsReady (g.Q.Ask.meaning c.args.rule.now) (g.Q.Ask.state_count c.args.rule.now) c.args.table.now.rows (suc j) c.args.generations c.args.number = IsReady-lower (g.Q.Ask.meaning c.args.rule.now) (g.Q.Ask.state_count c.args.rule.now) c.args.table.now.rows c.args.k j c.args.generations c.args.number level c.requires.number in
+      let a0 = AddsFor-nine (g.Q.Ask.meaning c.args.rule.now) c.args.k j c.args.generations c.min-first.result c.args.number c.args.table.now level c.requires.above.0 first c.nine.new.table lower.numbered c.nine.ensures.adds in
+      let nine = nine_stand c.args.table.now c.nine.new.table j c.args.number _ lower.numbered c.in_ok-nine.ensures.squares in
+      let a1 = AddsFor-of_nine (g.Q.Ask.meaning c.args.rule.now) c.args.k j c.args.generations c.min-first.result c.args.number c.args.table.now level c.requires.above.0 first c.nine.new.table c.all_later.new.table c.in_ok-nine.nine nine a0 c.all_later.ensures.stays.adds in
+      let results = c.in_ok-all_later.ensures.found.0 _ nine in
+      let a2 = AddsFor-fours (g.Q.Ask.meaning c.args.rule.now) c.args.k j c.args.generations c.min-first.result c.args.number c.args.table.now level c.requires.above.0 first c.all_later.new.table c.fours.new.table c.all_later.new.numbers results a1 c.fours.ensures.adds in
+      let fours = c.in_ok-fours.ensures.squares (suc j) _ results in
+      let then = subst (λ f. AddsFor f j (c.args.generations - c.min-first.result) c.in_ok-fours.fours c.fours.new.table c.all_later-2.new.table) c.in_ok-all_later.ensures.stays.rule.meaning c.all_later-2.ensures.stays.adds in
+      let a3 = AddsFor-of_fours (g.Q.Ask.meaning c.args.rule.now) c.args.k j c.args.generations c.min-first.result c.args.number c.args.table.now level c.requires.above.0 first c.fours.new.table c.all_later-2.new.table c.in_ok-fours.fours fours a2 then in
+      a3;
+}
+
+pub compute-returns-in_err-join_numbers-clause-stays : goal.compute-returns-in_err-join_numbers-clause-stays
+compute-returns-in_err-join_numbers-clause-stays g t c = record {
+  grows = Grows-then c.args.table.now c.all_later-2.new.table c.join_numbers.new.self (Grows-then c.args.table.now c.fours.new.table c.all_later-2.new.table (Grows-then c.args.table.now c.all_later.new.table c.fours.new.table (Grows-then c.args.table.now c.nine.new.table c.all_later.new.table c.in_ok-nine.ensures.grows c.in_ok-all_later.ensures.stays.grows) c.in_ok-fours.ensures.grows) c.in_ok-all_later-2.ensures.stays.grows) c.join_numbers.ensures.grows;
+  rule = IsSameRule-then (g.Q.Ask.meaning c.args.rule.now) (g.Q.Ask.meaning c.all_later.new.rule) (g.Q.Ask.meaning c.all_later-2.new.rule) (g.Q.Ask.state_count c.args.rule.now) (g.Q.Ask.state_count c.all_later.new.rule) (g.Q.Ask.state_count c.all_later-2.new.rule) c.in_ok-all_later.ensures.stays.rule c.all_later-2.ensures.stays.rule;
+  right =
+      IsRight-grows (g.Q.Ask.meaning c.args.rule.now) c.all_later-2.new.table c.join_numbers.new.self c.all_later-2.new.memo c.join_numbers.ensures.grows
+      (IsRight-back (g.Q.Ask.meaning c.args.rule.now) (g.Q.Ask.meaning c.all_later.new.rule) (g.Q.Ask.state_count c.args.rule.now) (g.Q.Ask.state_count c.all_later.new.rule) c.all_later-2.new.table.rows c.all_later-2.new.memo c.in_ok-all_later.ensures.stays.rule c.all_later-2.ensures.stays.right);
+  adds =
+      let j = c.args.k - 1 in
+      let level : suc j ≡ c.args.k = omega (arith, c.requires.above.1) in
+      let first : c.min-first.result ≡ min c.args.generations (2 ^ j) = c.min-first.ensures ∙ ap (min c.args.generations) c.full.ensures in
+      let lower : IsReady (g.Q.Ask.meaning c.args.rule.now) (g.Q.Ask.state_count c.args.rule.now) c.args.table.now.rows (suc j) c.args.generations c.args.number = IsReady-lower (g.Q.Ask.meaning c.args.rule.now) (g.Q.Ask.state_count c.args.rule.now) c.args.table.now.rows c.args.k j c.args.generations c.args.number level c.requires.number in
+      let a0 = AddsFor-nine (g.Q.Ask.meaning c.args.rule.now) c.args.k j c.args.generations c.min-first.result c.args.number c.args.table.now level c.requires.above.0 first c.nine.new.table lower.numbered c.nine.ensures.adds in
+      let nine = nine_stand c.args.table.now c.nine.new.table j c.args.number _ lower.numbered c.in_ok-nine.ensures.squares in
+      let a1 = AddsFor-of_nine (g.Q.Ask.meaning c.args.rule.now) c.args.k j c.args.generations c.min-first.result c.args.number c.args.table.now level c.requires.above.0 first c.nine.new.table c.all_later.new.table c.in_ok-nine.nine nine a0 c.all_later.ensures.stays.adds in
+      let results = c.in_ok-all_later.ensures.found.0 _ nine in
+      let a2 = AddsFor-fours (g.Q.Ask.meaning c.args.rule.now) c.args.k j c.args.generations c.min-first.result c.args.number c.args.table.now level c.requires.above.0 first c.all_later.new.table c.fours.new.table c.all_later.new.numbers results a1 c.fours.ensures.adds in
+      let fours = c.in_ok-fours.ensures.squares (suc j) _ results in
+      let then = subst (λ f. AddsFor f j (c.args.generations - c.min-first.result) c.in_ok-fours.fours c.fours.new.table c.all_later-2.new.table) c.in_ok-all_later.ensures.stays.rule.meaning c.all_later-2.ensures.stays.adds in
+      let a3 = AddsFor-of_fours (g.Q.Ask.meaning c.args.rule.now) c.args.k j c.args.generations c.min-first.result c.args.number c.args.table.now level c.requires.above.0 first c.fours.new.table c.all_later-2.new.table c.in_ok-fours.fours fours a2 then in
+      let later = c.in_ok-all_later-2.ensures.found.0 _ fours in
+      let same : (g.Q.Ask.meaning c.all_later.new.rule) ≡ (g.Q.Ask.meaning c.args.rule.now) = c.in_ok-all_later.ensures.stays.rule.meaning in
+      let s = square_in c.args.table.now.rows (suc (suc (suc j))) c.args.number in
+      let stand = subst (λ f. StandForAll c.all_later-2.new.table.rows (suc j) c.all_later-2.new.numbers (map (hash_life.result f j (c.args.generations - c.min-first.result)) (fours_of (map (hash_life.result (g.Q.Ask.meaning c.args.rule.now) j c.min-first.result) (nine_of s))))) same later in
+      let joined : Adds (hash_life.result (g.Q.Ask.meaning c.args.rule.now) (suc j) c.args.generations s ∷ []) c.all_later-2.new.table c.join_numbers.new.self = Adds-made c.all_later-2.new.table c.join_numbers.new.self c.all_later-2.new.numbers (suc j) _ c.join_numbers.ensures.grows c.join_numbers.ensures.one
+      (λ n is. StandsFor-computed (g.Q.Ask.meaning c.args.rule.now) j c.args.generations c.min-first.result c.args.table.now c.all_later-2.new.table c.join_numbers.new.self c.args.number n c.all_later-2.new.numbers c.requires.above.0 first lower.numbered c.join_numbers.ensures.grows is stand) in
+      let a4 = AddsFor-result (g.Q.Ask.meaning c.args.rule.now) c.args.k c.args.generations c.args.number c.args.table.now c.all_later-2.new.table c.join_numbers.new.self _ (ap (λ l. hash_life.result (g.Q.Ask.meaning c.args.rule.now) l c.args.generations (square_in c.args.table.now.rows (suc (suc l)) c.args.number)) level) a3 joined in
+      a4;
+}
+
 pub compute-returns-clause-stays : goal.compute-returns-clause-stays
 compute-returns-clause-stays g t c = record {
   grows = Grows-then c.args.table.now c.all_later-2.new.table c.join_numbers.new.self (Grows-then c.args.table.now c.fours.new.table c.all_later-2.new.table (Grows-then c.args.table.now c.all_later.new.table c.fours.new.table (Grows-then c.args.table.now c.nine.new.table c.all_later.new.table c.in_ok-nine.ensures.grows c.in_ok-all_later.ensures.stays.grows) c.in_ok-fours.ensures.grows) c.in_ok-all_later-2.ensures.stays.grows) c.in_ok-join_numbers.ensures.grows;
@@ -100,6 +217,27 @@ compute-returns-clause-stays g t c = record {
   right =
       IsRight-grows (g.Q.Ask.meaning c.args.rule.now) c.all_later-2.new.table c.join_numbers.new.self c.all_later-2.new.memo c.in_ok-join_numbers.ensures.grows
       (IsRight-back (g.Q.Ask.meaning c.args.rule.now) (g.Q.Ask.meaning c.all_later.new.rule) (g.Q.Ask.state_count c.args.rule.now) (g.Q.Ask.state_count c.all_later.new.rule) c.all_later-2.new.table.rows c.all_later-2.new.memo c.in_ok-all_later.ensures.stays.rule c.in_ok-all_later-2.ensures.stays.right);
+  adds =
+      let j = c.args.k - 1 in
+      let level : suc j ≡ c.args.k = omega (arith, c.requires.above.1) in
+      let first : c.min-first.result ≡ min c.args.generations (2 ^ j) = c.min-first.ensures ∙ ap (min c.args.generations) c.full.ensures in
+      let lower : IsReady (g.Q.Ask.meaning c.args.rule.now) (g.Q.Ask.state_count c.args.rule.now) c.args.table.now.rows (suc j) c.args.generations c.args.number = IsReady-lower (g.Q.Ask.meaning c.args.rule.now) (g.Q.Ask.state_count c.args.rule.now) c.args.table.now.rows c.args.k j c.args.generations c.args.number level c.requires.number in
+      let a0 = AddsFor-nine (g.Q.Ask.meaning c.args.rule.now) c.args.k j c.args.generations c.min-first.result c.args.number c.args.table.now level c.requires.above.0 first c.nine.new.table lower.numbered c.nine.ensures.adds in
+      let nine = nine_stand c.args.table.now c.nine.new.table j c.args.number _ lower.numbered c.in_ok-nine.ensures.squares in
+      let a1 = AddsFor-of_nine (g.Q.Ask.meaning c.args.rule.now) c.args.k j c.args.generations c.min-first.result c.args.number c.args.table.now level c.requires.above.0 first c.nine.new.table c.all_later.new.table c.in_ok-nine.nine nine a0 c.all_later.ensures.stays.adds in
+      let results = c.in_ok-all_later.ensures.found.0 _ nine in
+      let a2 = AddsFor-fours (g.Q.Ask.meaning c.args.rule.now) c.args.k j c.args.generations c.min-first.result c.args.number c.args.table.now level c.requires.above.0 first c.all_later.new.table c.fours.new.table c.all_later.new.numbers results a1 c.fours.ensures.adds in
+      let fours = c.in_ok-fours.ensures.squares (suc j) _ results in
+      let then = subst (λ f. AddsFor f j (c.args.generations - c.min-first.result) c.in_ok-fours.fours c.fours.new.table c.all_later-2.new.table) c.in_ok-all_later.ensures.stays.rule.meaning c.all_later-2.ensures.stays.adds in
+      let a3 = AddsFor-of_fours (g.Q.Ask.meaning c.args.rule.now) c.args.k j c.args.generations c.min-first.result c.args.number c.args.table.now level c.requires.above.0 first c.fours.new.table c.all_later-2.new.table c.in_ok-fours.fours fours a2 then in
+      let later = c.in_ok-all_later-2.ensures.found.0 _ fours in
+      let same : (g.Q.Ask.meaning c.all_later.new.rule) ≡ (g.Q.Ask.meaning c.args.rule.now) = c.in_ok-all_later.ensures.stays.rule.meaning in
+      let s = square_in c.args.table.now.rows (suc (suc (suc j))) c.args.number in
+      let stand = subst (λ f. StandForAll c.all_later-2.new.table.rows (suc j) c.all_later-2.new.numbers (map (hash_life.result f j (c.args.generations - c.min-first.result)) (fours_of (map (hash_life.result (g.Q.Ask.meaning c.args.rule.now) j c.min-first.result) (nine_of s))))) same later in
+      let joined : Adds (hash_life.result (g.Q.Ask.meaning c.args.rule.now) (suc j) c.args.generations s ∷ []) c.all_later-2.new.table c.join_numbers.new.self = Adds-made c.all_later-2.new.table c.join_numbers.new.self c.all_later-2.new.numbers (suc j) _ c.join_numbers.ensures.grows c.join_numbers.ensures.one
+      (λ n is. StandsFor-computed (g.Q.Ask.meaning c.args.rule.now) j c.args.generations c.min-first.result c.args.table.now c.all_later-2.new.table c.join_numbers.new.self c.args.number n c.all_later-2.new.numbers c.requires.above.0 first lower.numbered c.join_numbers.ensures.grows is stand) in
+      let a4 = AddsFor-result (g.Q.Ask.meaning c.args.rule.now) c.args.k c.args.generations c.args.number c.args.table.now c.all_later-2.new.table c.join_numbers.new.self _ (ap (λ l. hash_life.result (g.Q.Ask.meaning c.args.rule.now) l c.args.generations (square_in c.args.table.now.rows (suc (suc l)) c.args.number)) level) a3 joined in
+      a4;
 }
 
 pub compute-returns-clause-found : goal.compute-returns-clause-found
@@ -130,6 +268,7 @@ later-returns-in_err-middle-clause-stays g t c = record {
   rule = IsSameRule-itself (g.Q.Ask.meaning c.args.rule.now) (g.Q.Ask.state_count c.args.rule.now);
   right =
       IsRight-grows (g.Q.Ask.meaning c.args.rule.now) c.args.table.now c.middle.new.table c.args.memo.now c.middle.ensures.grows c.requires.memo;
+  adds = AddsFor-middle (g.Q.Ask.meaning c.args.rule.now) c.args.k c.args.generations c.args.number c.args.table.now c.middle.new.table c.if-generations-eq0.true c.requires.number.numbered c.middle.ensures.adds;
 }
 
 pub later-returns-then-generations-eq0-clause-stays : goal.later-returns-then-generations-eq0-clause-stays
@@ -138,6 +277,7 @@ later-returns-then-generations-eq0-clause-stays g t c = record {
   rule = IsSameRule-itself (g.Q.Ask.meaning c.args.rule.now) (g.Q.Ask.state_count c.args.rule.now);
   right =
       IsRight-grows (g.Q.Ask.meaning c.args.rule.now) c.args.table.now c.middle.new.table c.args.memo.now c.middle.ensures.grows c.requires.memo;
+  adds = AddsFor-middle (g.Q.Ask.meaning c.args.rule.now) c.args.k c.args.generations c.args.number c.args.table.now c.middle.new.table c.if-generations-eq0.true c.requires.number.numbered c.middle.ensures.adds;
 }
 
 pub later-returns-then-generations-eq0-clause-found : goal.later-returns-then-generations-eq0-clause-found
@@ -160,6 +300,7 @@ later-returns-in_err-remember-clause-stays g t c = record {
       let grown = c.in_ok-made.ensures.stays.grows in
       c.remember.ensures.right (g.Q.Ask.meaning c.args.rule.now) c.compute.new.table.rows c.in_ok-made.ensures.stays.right
       (IsResult-made (g.Q.Ask.meaning c.args.rule.now) c.args.table.now c.compute.new.table c.args.k c.args.generations c.args.number c.in_ok-made.made grown c.requires.number.numbered c.in_ok-made.ensures.found.0);
+  adds = c.in_ok-made.ensures.stays.adds;
 }
 
 pub later-returns-clause-stays : goal.later-returns-clause-stays
@@ -170,6 +311,7 @@ later-returns-clause-stays g t c = record {
       let grown = c.in_ok-made.ensures.stays.grows in
       c.remember.ensures.right (g.Q.Ask.meaning c.args.rule.now) c.compute.new.table.rows c.in_ok-made.ensures.stays.right
       (IsResult-made (g.Q.Ask.meaning c.args.rule.now) c.args.table.now c.compute.new.table c.args.k c.args.generations c.args.number c.in_ok-made.made grown c.requires.number.numbered c.in_ok-made.ensures.found.0);
+  adds = c.in_ok-made.ensures.stays.adds;
 }
 
 pub later-returns-clause-found : goal.later-returns-clause-found

@@ -4,6 +4,7 @@ use Rattle.hash_life.specs.Result as hash_life
 use Rattle.hash_engine.specs.Standing.{StandsFor}
 use Rattle.hash_engine.specs.Memo.{IsRight}
 use Rattle.hash_engine.specs.Asked.{AsksForMore}
+use Rattle.hash_engine.specs.Adding.{AddsFor}
 use Rattle.hash_engine.specs.Found.{IsSameRule}
 use Rattle.hash_engine.proofs.later.+later.Given as goal
 
@@ -26,5 +27,6 @@ invariant-all_later-loop-number g l = record {
   done : (j d e : ℕ) → j < l.number-index →
       StandsFor l.table.rows (suc l.k) (get_or l.numbers j d) (hash_life.result (g.Q.Ask.meaning l.fn.rule) l.k l.generations (square_in l.fn.table.rows (suc (suc l.k)) (get_or l.fn.numbers j e)));
   asks : AsksForMore (g.Q.Ask.meaning l.fn.rule) l.k l.generations l.fn.numbers l.fn.table l.table l.fn.memo l.memo (g.Q.Ask.asks l.fn.rule) (g.Q.Ask.asks l.rule);
+  adds : AddsFor (g.Q.Ask.meaning l.fn.rule) l.k l.generations l.fn.numbers l.fn.table l.table;
   rest : (j d : ℕ) → l.number-index ≤ j → get_or l.numbers j d ≡ get_or l.fn.numbers j d;
 }

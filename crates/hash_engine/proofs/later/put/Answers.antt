@@ -3,6 +3,7 @@ use Rattle.hash_engine.proofs.Standing.{above}
 use Rattle.hash_engine.proofs.Memos.{IsRight-grows, IsResult-made}
 use Rattle.hash_engine.proofs.Computed.{base_below, base_stands}
 use Rattle.hash_engine.proofs.Puts.{put_once}
+use Rattle.hash_engine.proofs.Adding.{AddsFor-later}
 use Rattle.hash_engine.proofs.later.put.Goals as goal
 
 pub later-requires : goal.later-requires
@@ -13,9 +14,10 @@ later-requires g c = record {
 
 pub returns-in_err-made-clause-stays : goal.returns-in_err-made-clause-stays
 returns-in_err-made-clause-stays g c = record {
-  grows = c.later.ensures.grows;
+  grows = c.later.ensures.adds.grows;
   rule = c.later.ensures.rule;
-  right = IsRight-grows (g.Q.Ask.meaning c.args.rule.now) c.args.table.now c.later.new.table c.args.memo.now c.later.ensures.grows c.requires.memo.right;
+  right = IsRight-grows (g.Q.Ask.meaning c.args.rule.now) c.args.table.now c.later.new.table c.args.memo.now c.later.ensures.adds.grows c.requires.memo.right;
+  adds = AddsFor-later (g.Q.Ask.meaning c.args.rule.now) c.args.generations c.args.number c.args.table.now c.later.new.table c.requires.some c.later.ensures.adds;
 }
 
 pub remember-requires-clause-number : goal.remember-requires-clause-number
@@ -23,22 +25,24 @@ remember-requires-clause-number g c = above c.args.table.now.rows 1 c.args.numbe
 
 pub returns-in_err-remember-clause-stays : goal.returns-in_err-remember-clause-stays
 returns-in_err-remember-clause-stays g c = record {
-  grows = c.in_ok-made.ensures.grows;
+  grows = c.in_ok-made.ensures.adds.grows;
   rule = c.in_ok-made.ensures.rule;
   right =
-      c.remember.ensures.right (g.Q.Ask.meaning c.args.rule.now) c.later.new.table.rows (IsRight-grows (g.Q.Ask.meaning c.args.rule.now) c.args.table.now c.later.new.table c.args.memo.now c.in_ok-made.ensures.grows c.requires.memo.right)
-      (IsResult-made (g.Q.Ask.meaning c.args.rule.now) c.args.table.now c.later.new.table 0 c.args.generations c.args.number c.in_ok-made.made c.in_ok-made.ensures.grows c.requires.number.numbered
+      c.remember.ensures.right (g.Q.Ask.meaning c.args.rule.now) c.later.new.table.rows (IsRight-grows (g.Q.Ask.meaning c.args.rule.now) c.args.table.now c.later.new.table c.args.memo.now c.in_ok-made.ensures.adds.grows c.requires.memo.right)
+      (IsResult-made (g.Q.Ask.meaning c.args.rule.now) c.args.table.now c.later.new.table 0 c.args.generations c.args.number c.in_ok-made.made c.in_ok-made.ensures.adds.grows c.requires.number.numbered
       (base_stands (g.Q.Ask.meaning c.args.rule.now) c.args.table.now.rows c.later.new.table.rows c.args.generations c.args.number c.in_ok-made.made c.requires.some c.in_ok-made.ensures.square));
+  adds = AddsFor-later (g.Q.Ask.meaning c.args.rule.now) c.args.generations c.args.number c.args.table.now c.later.new.table c.requires.some c.in_ok-made.ensures.adds;
 }
 
 pub returns-clause-stays : goal.returns-clause-stays
 returns-clause-stays g c = record {
-  grows = c.in_ok-made.ensures.grows;
+  grows = c.in_ok-made.ensures.adds.grows;
   rule = c.in_ok-made.ensures.rule;
   right =
-      c.remember.ensures.right (g.Q.Ask.meaning c.args.rule.now) c.later.new.table.rows (IsRight-grows (g.Q.Ask.meaning c.args.rule.now) c.args.table.now c.later.new.table c.args.memo.now c.in_ok-made.ensures.grows c.requires.memo.right)
-      (IsResult-made (g.Q.Ask.meaning c.args.rule.now) c.args.table.now c.later.new.table 0 c.args.generations c.args.number c.in_ok-made.made c.in_ok-made.ensures.grows c.requires.number.numbered
+      c.remember.ensures.right (g.Q.Ask.meaning c.args.rule.now) c.later.new.table.rows (IsRight-grows (g.Q.Ask.meaning c.args.rule.now) c.args.table.now c.later.new.table c.args.memo.now c.in_ok-made.ensures.adds.grows c.requires.memo.right)
+      (IsResult-made (g.Q.Ask.meaning c.args.rule.now) c.args.table.now c.later.new.table 0 c.args.generations c.args.number c.in_ok-made.made c.in_ok-made.ensures.adds.grows c.requires.number.numbered
       (base_stands (g.Q.Ask.meaning c.args.rule.now) c.args.table.now.rows c.later.new.table.rows c.args.generations c.args.number c.in_ok-made.made c.requires.some c.in_ok-made.ensures.square));
+  adds = AddsFor-later (g.Q.Ask.meaning c.args.rule.now) c.args.generations c.args.number c.args.table.now c.later.new.table c.requires.some c.in_ok-made.ensures.adds;
 }
 
 pub returns-clause-found : goal.returns-clause-found
@@ -46,5 +50,5 @@ returns-clause-found g c =
     let found : 0 < c.in_ok-made.made = omega (arith, above c.later.new.table.rows 0 c.in_ok-made.made c.in_ok-made.ensures.square.numbered) in (
       base_stands (g.Q.Ask.meaning c.args.rule.now) c.args.table.now.rows c.later.new.table.rows c.args.generations c.args.number c.in_ok-made.made c.requires.some c.in_ok-made.ensures.square,
       put_once (g.Q.Ask.meaning c.args.rule.now) c.args.generations c.args.number c.in_ok-made.made c.args.table.now c.later.new.table c.args.memo.now c.remember.new.self (g.Q.Ask.asks c.args.rule.now) (g.Q.Ask.asks c.later.new.rule)
-          c.requires.some c.in_ok-made.ensures.grows c.requires.number.numbered c.requires.memo.right c.requires.memo.anew found c.in_ok-remember.ensures.noted c.in_ok-made.ensures.asks,
+          c.requires.some c.in_ok-made.ensures.adds.grows c.requires.number.numbered c.requires.memo.right c.requires.memo.anew found c.in_ok-remember.ensures.noted c.in_ok-made.ensures.asks,
     )

@@ -14,6 +14,7 @@ later-requires-clause-number g c =
 pub returns-clause-counts : goal.returns-clause-counts
 returns-clause-counts g c = record {
   fours = c.count_squares-counts.ensures.fours;
+  few = c.count_squares-counts.ensures.few;
   base = c.count_squares-counts.ensures.base;
   once = λ w x y few at.
       let k = c.level-k.result - 2 in

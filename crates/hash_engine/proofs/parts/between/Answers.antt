@@ -1,5 +1,6 @@
 use Rattle.std.proofs.lemmas.Result.{IfOk-weaker}
 use Rattle.hash_engine.proofs.Standing.{above, within, StandsFor-between}
+use Rattle.hash_engine.proofs.Adding.{Adds-made}
 use Rattle.hash_engine.proofs.parts.between.Goals as goal
 
 pub quadrants-requires-clause-above : goal.quadrants-requires-clause-above
@@ -19,3 +20,8 @@ returns-clause-square c =
     IfOk-weaker c.join_guessed.result _ _
     (λ n is k s t first second. StandsFor-between c.args.table.now c.join_guessed.new.self k c.args.west c.args.east n c.quadrants.result c.quadrants-2.result s t c.quadrants.ensures c.quadrants-2.ensures c.join_guessed.ensures.grows is first second)
     c.join_guessed.ensures.square
+
+pub returns-clause-adds : goal.returns-clause-adds
+returns-clause-adds c = λ k s t first second.
+    Adds-made c.args.table.now c.join_guessed.new.self _ k _ c.join_guessed.ensures.grows c.join_guessed.ensures.one
+    (λ n is. StandsFor-between c.args.table.now c.join_guessed.new.self k c.args.west c.args.east n c.quadrants.result c.quadrants-2.result s t c.quadrants.ensures c.quadrants-2.ensures c.join_guessed.ensures.grows is first second)

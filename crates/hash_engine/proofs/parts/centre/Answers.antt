@@ -1,6 +1,7 @@
 use Rattle.std.proofs.Common.{suc}
 use Rattle.std.proofs.lemmas.Result.{IfOk-weaker}
 use Rattle.hash_engine.proofs.Standing.{above, within, quadrant_numbers, StandsFor-middle}
+use Rattle.hash_engine.proofs.Adding.{Adds-made}
 use Rattle.hash_engine.proofs.parts.centre.Goals as goal
 
 pub quadrants-requires-clause-above : goal.quadrants-requires-clause-above
@@ -39,3 +40,9 @@ returns-clause-square c =
     (λ n is k s whole. StandsFor-middle c.args.table.now c.join_guessed.new.self k c.args.number n c.quadrants.result c.quadrants-2.result c.quadrants-3.result c.quadrants-4.result c.quadrants-5.result s
     c.quadrants.ensures c.quadrants-2.ensures c.quadrants-3.ensures c.quadrants-4.ensures c.quadrants-5.ensures c.join_guessed.ensures.grows is whole)
     c.join_guessed.ensures.square
+
+pub returns-clause-adds : goal.returns-clause-adds
+returns-clause-adds c = λ k s whole.
+    Adds-made c.args.table.now c.join_guessed.new.self _ k _ c.join_guessed.ensures.grows c.join_guessed.ensures.one
+    (λ n is. StandsFor-middle c.args.table.now c.join_guessed.new.self k c.args.number n c.quadrants.result c.quadrants-2.result c.quadrants-3.result c.quadrants-4.result c.quadrants-5.result s
+    c.quadrants.ensures c.quadrants-2.ensures c.quadrants-3.ensures c.quadrants-4.ensures c.quadrants-5.ensures c.join_guessed.ensures.grows is whole)

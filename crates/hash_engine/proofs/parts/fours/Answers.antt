@@ -1,8 +1,9 @@
-use Rattle.std.proofs.Common.{◌≡◌, ◌∙◌, sym, subst, suc, length, lit<, rules}
+use Rattle.std.proofs.Common.{◌≡◌, ◌∙◌, refl, sym, subst, suc, length, inl, lit<, rules}
 use Rattle.worlds.specs.Square.{one}
 use Rattle.square_table.proofs.Growth.{Grows-same, Grows-then}
 use Rattle.hash_engine.specs.Standing.{StandForAll}
 use Rattle.hash_engine.proofs.Standing.{StandsFor-of_nine, StandForAll-four, fours_at}
+use Rattle.hash_engine.proofs.Adding.{Adds-fours}
 use Rattle.hash_engine.proofs.parts.fours.Goals as goal
 
 pub returns-clause-squares : goal.returns-clause-squares
@@ -14,3 +15,33 @@ returns-clause-squares c = λ k ss are.
     (StandsFor-of_nine c.args.table.now c.join_guessed-2.new.self c.join_guessed-4.new.self k _ c.args.nine ss 1 2 4 5 count (lit< tt) (lit< tt) (lit< tt) (lit< tt) are (Grows-then c.args.table.now c.join_guessed.new.self c.join_guessed-2.new.self c.in_ok-nw.ensures.grows c.in_ok-ne.ensures.grows) (Grows-then c.join_guessed-2.new.self c.join_guessed-3.new.self c.join_guessed-4.new.self c.in_ok-sw.ensures.grows c.in_ok-se.ensures.grows) c.in_ok-ne.ensures.square)
     (StandsFor-of_nine c.args.table.now c.join_guessed-3.new.self c.join_guessed-4.new.self k _ c.args.nine ss 3 4 6 7 count (lit< tt) (lit< tt) (lit< tt) (lit< tt) are (Grows-then c.args.table.now c.join_guessed-2.new.self c.join_guessed-3.new.self (Grows-then c.args.table.now c.join_guessed.new.self c.join_guessed-2.new.self c.in_ok-nw.ensures.grows c.in_ok-ne.ensures.grows) c.in_ok-sw.ensures.grows) c.in_ok-se.ensures.grows c.in_ok-sw.ensures.square)
     (StandsFor-of_nine c.args.table.now c.join_guessed-4.new.self c.join_guessed-4.new.self k _ c.args.nine ss 4 5 7 8 count (lit< tt) (lit< tt) (lit< tt) (lit< tt) are (Grows-then c.args.table.now c.join_guessed-3.new.self c.join_guessed-4.new.self (Grows-then c.args.table.now c.join_guessed-2.new.self c.join_guessed-3.new.self (Grows-then c.args.table.now c.join_guessed.new.self c.join_guessed-2.new.self c.in_ok-nw.ensures.grows c.in_ok-ne.ensures.grows) c.in_ok-sw.ensures.grows) c.in_ok-se.ensures.grows) (Grows-same c.join_guessed-4.new.self) c.in_ok-se.ensures.square))
+
+pub returns-in_err-nw-clause-adds : goal.returns-in_err-nw-clause-adds
+returns-in_err-nw-clause-adds c =
+    let count : length c.args.nine ≡ 9 = search rules in
+    Adds-fours c.args.table.now c.join_guessed.new.self c.join_guessed.new.self c.join_guessed.new.self c.join_guessed.new.self c.args.nine count
+    c.join_guessed.ensures.grows c.join_guessed.ensures.one (Grows-same c.join_guessed.new.self) (inl refl) (Grows-same c.join_guessed.new.self) (inl refl) (Grows-same c.join_guessed.new.self) (inl refl)
+
+pub returns-in_err-ne-clause-adds : goal.returns-in_err-ne-clause-adds
+returns-in_err-ne-clause-adds c =
+    let count : length c.args.nine ≡ 9 = search rules in
+    Adds-fours c.args.table.now c.join_guessed.new.self c.join_guessed-2.new.self c.join_guessed-2.new.self c.join_guessed-2.new.self c.args.nine count
+    c.join_guessed.ensures.grows c.join_guessed.ensures.one c.join_guessed-2.ensures.grows c.join_guessed-2.ensures.one (Grows-same c.join_guessed-2.new.self) (inl refl) (Grows-same c.join_guessed-2.new.self) (inl refl)
+
+pub returns-in_err-sw-clause-adds : goal.returns-in_err-sw-clause-adds
+returns-in_err-sw-clause-adds c =
+    let count : length c.args.nine ≡ 9 = search rules in
+    Adds-fours c.args.table.now c.join_guessed.new.self c.join_guessed-2.new.self c.join_guessed-3.new.self c.join_guessed-3.new.self c.args.nine count
+    c.join_guessed.ensures.grows c.join_guessed.ensures.one c.join_guessed-2.ensures.grows c.join_guessed-2.ensures.one c.join_guessed-3.ensures.grows c.join_guessed-3.ensures.one (Grows-same c.join_guessed-3.new.self) (inl refl)
+
+pub returns-in_err-se-clause-adds : goal.returns-in_err-se-clause-adds
+returns-in_err-se-clause-adds c =
+    let count : length c.args.nine ≡ 9 = search rules in
+    Adds-fours c.args.table.now c.join_guessed.new.self c.join_guessed-2.new.self c.join_guessed-3.new.self c.join_guessed-4.new.self c.args.nine count
+    c.join_guessed.ensures.grows c.join_guessed.ensures.one c.join_guessed-2.ensures.grows c.join_guessed-2.ensures.one c.join_guessed-3.ensures.grows c.join_guessed-3.ensures.one c.join_guessed-4.ensures.grows c.join_guessed-4.ensures.one
+
+pub returns-clause-adds : goal.returns-clause-adds
+returns-clause-adds c =
+    let count : length c.args.nine ≡ 9 = search rules in
+    Adds-fours c.args.table.now c.join_guessed.new.self c.join_guessed-2.new.self c.join_guessed-3.new.self c.join_guessed-4.new.self c.args.nine count
+    c.join_guessed.ensures.grows c.join_guessed.ensures.one c.join_guessed-2.ensures.grows c.join_guessed-2.ensures.one c.join_guessed-3.ensures.grows c.join_guessed-3.ensures.one c.join_guessed-4.ensures.grows c.join_guessed-4.ensures.one

@@ -6,6 +6,7 @@ use Rattle.hash_life.specs.Puts.{IsBelow}
 use Rattle.hash_engine.specs.Standing.{of_four}
 use Rattle.hash_engine.proofs.Asked.{square_of_sixteen, StandsFor-cells}
 use Rattle.hash_engine.proofs.Standing.{above, within, quadrant_numbers}
+use Rattle.hash_engine.proofs.Adding.{Adds-made}
 use Rattle.hash_engine.proofs.parts.later.Goals as goal
 
 pub quadrants-requires-clause-above : goal.quadrants-requires-clause-above
@@ -43,3 +44,14 @@ returns-clause-square g c =
     IfOk-weaker c.join_numbers.result _ _
     (λ n is. StandsFor-cells c.join_numbers.new.self.rows n _ _ _ _ c.ask_four.result _ is a b d e c.from.ensures c.from-2.ensures c.from-3.ensures c.from-4.ensures made)
     c.join_numbers.ensures.square
+
+pub returns-clause-adds : goal.returns-clause-adds
+returns-clause-adds g c =
+    let sixteen = square_of_sixteen c.args.table.now.rows c.args.number c.quadrants.result c.states.result c.states-2.result c.states-3.result c.states-4.result c.quadrants.ensures c.states.ensures c.states-2.ensures c.states-3.ensures c.states-4.ensures in
+    let made : of_four c.ask_four.result ≡ later (g.Q.Ask.meaning c.args.rule.now) (square_in c.args.table.now.rows 2 c.args.number) = subst (λ s. of_four c.ask_four.result ≡ later (g.Q.Ask.meaning c.args.rule.now) s) (sym sixteen) c.ask_four.ensures.states in
+    let a : c.from.result < 256 = search rules in
+    let b : c.from-2.result < 256 = search rules in
+    let d : c.from-3.result < 256 = search rules in
+    let e : c.from-4.result < 256 = search rules in
+    Adds-made c.args.table.now c.join_numbers.new.self _ 0 _ c.join_numbers.ensures.grows c.join_numbers.ensures.one
+    (λ n is. StandsFor-cells c.join_numbers.new.self.rows n _ _ _ _ c.ask_four.result _ is a b d e c.from.ensures c.from-2.ensures c.from-3.ensures c.from-4.ensures made)

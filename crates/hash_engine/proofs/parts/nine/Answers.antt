@@ -1,6 +1,8 @@
-use Rattle.std.proofs.Common.{suc}
-use Rattle.square_table.proofs.Growth.{IsNumber-grows, Grows-then}
+use Rattle.std.proofs.Common.{[], ◌∷◌, suc}
+use Rattle.square_table.proofs.Growth.{IsNumber-grows, Grows-same, Grows-then}
+use Rattle.hash_life.specs.Result.{between, amid, middle}
 use Rattle.hash_engine.proofs.Standing.{above, within, quadrant_numbers, StandsFor-grows, StandForAll-nine_of}
+use Rattle.hash_engine.proofs.Adding.{Adds-nine, AddsOf-none, AddsOfTwo-none}
 use Rattle.hash_engine.proofs.parts.nine.Goals as goal
 
 pub quadrants-requires-clause-above : goal.quadrants-requires-clause-above
@@ -49,3 +51,39 @@ returns-clause-squares c = λ k s whole.
     (c.in_ok-centre.ensures.square k s (StandsFor-grows c.args.table.now c.amid.new.table _ _ s (Grows-then c.args.table.now c.between.new.table c.amid.new.table c.in_ok-north.ensures.grows c.in_ok-west.ensures.grows) whole))
     (λ a b first second. c.in_ok-east.ensures.square k a b (StandsFor-grows c.args.table.now c.centre.new.table _ _ a (Grows-then c.args.table.now c.amid.new.table c.centre.new.table (Grows-then c.args.table.now c.between.new.table c.amid.new.table c.in_ok-north.ensures.grows c.in_ok-west.ensures.grows) c.in_ok-centre.ensures.grows) first) (StandsFor-grows c.args.table.now c.centre.new.table _ _ b (Grows-then c.args.table.now c.amid.new.table c.centre.new.table (Grows-then c.args.table.now c.between.new.table c.amid.new.table c.in_ok-north.ensures.grows c.in_ok-west.ensures.grows) c.in_ok-centre.ensures.grows) second))
     (λ a b first second. c.in_ok-south.ensures.square k a b (StandsFor-grows c.args.table.now c.amid-2.new.table _ _ a (Grows-then c.args.table.now c.centre.new.table c.amid-2.new.table (Grows-then c.args.table.now c.amid.new.table c.centre.new.table (Grows-then c.args.table.now c.between.new.table c.amid.new.table c.in_ok-north.ensures.grows c.in_ok-west.ensures.grows) c.in_ok-centre.ensures.grows) c.in_ok-east.ensures.grows) first) (StandsFor-grows c.args.table.now c.amid-2.new.table _ _ b (Grows-then c.args.table.now c.centre.new.table c.amid-2.new.table (Grows-then c.args.table.now c.amid.new.table c.centre.new.table (Grows-then c.args.table.now c.between.new.table c.amid.new.table c.in_ok-north.ensures.grows c.in_ok-west.ensures.grows) c.in_ok-centre.ensures.grows) c.in_ok-east.ensures.grows) second))
+
+pub returns-in_err-north-clause-adds : goal.returns-in_err-north-clause-adds
+returns-in_err-north-clause-adds c = λ k s whole.
+    Adds-nine c.args.table.now c.between.new.table c.between.new.table c.between.new.table c.between.new.table c.between.new.table k c.args.number c.quadrants.result s whole c.quadrants.ensures
+    c.between.ensures.grows (Grows-same c.between.new.table) (Grows-same c.between.new.table) (Grows-same c.between.new.table) (Grows-same c.between.new.table)
+    c.between.ensures.adds (AddsOfTwo-none amid c.between.new.table _ _) (AddsOf-none (λ q. middle q ∷ []) c.between.new.table c.args.number) (AddsOfTwo-none amid c.between.new.table _ _) (AddsOfTwo-none between c.between.new.table _ _)
+
+pub returns-in_err-west-clause-adds : goal.returns-in_err-west-clause-adds
+returns-in_err-west-clause-adds c = λ k s whole.
+    Adds-nine c.args.table.now c.between.new.table c.amid.new.table c.amid.new.table c.amid.new.table c.amid.new.table k c.args.number c.quadrants.result s whole c.quadrants.ensures
+    c.between.ensures.grows c.amid.ensures.grows (Grows-same c.amid.new.table) (Grows-same c.amid.new.table) (Grows-same c.amid.new.table)
+    c.between.ensures.adds c.amid.ensures.adds (AddsOf-none (λ q. middle q ∷ []) c.amid.new.table c.args.number) (AddsOfTwo-none amid c.amid.new.table _ _) (AddsOfTwo-none between c.amid.new.table _ _)
+
+pub returns-in_err-centre-clause-adds : goal.returns-in_err-centre-clause-adds
+returns-in_err-centre-clause-adds c = λ k s whole.
+    Adds-nine c.args.table.now c.between.new.table c.amid.new.table c.centre.new.table c.centre.new.table c.centre.new.table k c.args.number c.quadrants.result s whole c.quadrants.ensures
+    c.between.ensures.grows c.amid.ensures.grows c.centre.ensures.grows (Grows-same c.centre.new.table) (Grows-same c.centre.new.table)
+    c.between.ensures.adds c.amid.ensures.adds c.centre.ensures.adds (AddsOfTwo-none amid c.centre.new.table _ _) (AddsOfTwo-none between c.centre.new.table _ _)
+
+pub returns-in_err-east-clause-adds : goal.returns-in_err-east-clause-adds
+returns-in_err-east-clause-adds c = λ k s whole.
+    Adds-nine c.args.table.now c.between.new.table c.amid.new.table c.centre.new.table c.amid-2.new.table c.amid-2.new.table k c.args.number c.quadrants.result s whole c.quadrants.ensures
+    c.between.ensures.grows c.amid.ensures.grows c.centre.ensures.grows c.amid-2.ensures.grows (Grows-same c.amid-2.new.table)
+    c.between.ensures.adds c.amid.ensures.adds c.centre.ensures.adds c.amid-2.ensures.adds (AddsOfTwo-none between c.amid-2.new.table _ _)
+
+pub returns-in_err-south-clause-adds : goal.returns-in_err-south-clause-adds
+returns-in_err-south-clause-adds c = λ k s whole.
+    Adds-nine c.args.table.now c.between.new.table c.amid.new.table c.centre.new.table c.amid-2.new.table c.between-2.new.table k c.args.number c.quadrants.result s whole c.quadrants.ensures
+    c.between.ensures.grows c.amid.ensures.grows c.centre.ensures.grows c.amid-2.ensures.grows c.between-2.ensures.grows
+    c.between.ensures.adds c.amid.ensures.adds c.centre.ensures.adds c.amid-2.ensures.adds c.between-2.ensures.adds
+
+pub returns-clause-adds : goal.returns-clause-adds
+returns-clause-adds c = λ k s whole.
+    Adds-nine c.args.table.now c.between.new.table c.amid.new.table c.centre.new.table c.amid-2.new.table c.between-2.new.table k c.args.number c.quadrants.result s whole c.quadrants.ensures
+    c.between.ensures.grows c.amid.ensures.grows c.centre.ensures.grows c.amid-2.ensures.grows c.between-2.ensures.grows
+    c.between.ensures.adds c.amid.ensures.adds c.centre.ensures.adds c.amid-2.ensures.adds c.between-2.ensures.adds

@@ -2,7 +2,7 @@ use Rattle.std.proofs.Common.{◌≡◌, ◌∙◌, ◌++◌, List, length, take
 use Rattle.std.proofs.Math.Seq.{take-length}
 use Rattle.plane_core.specs.declared.row.SquareRow.{SquareRow}
 use Rattle.multistate_macrocell.specs.Lines.{heading_text, row_lines}
-use Rattle.multistate_macrocell.proofs.Written.{empty_line, text-rows}
+use Rattle.multistate_macrocell.proofs.Written.{text-rows}
 use Rattle.multistate_macrocell.proofs.write.text_of.Goals as goal
 
 pub returns : goal.returns
@@ -13,5 +13,5 @@ returns c =
     let end : c.loop-row.row-index ≡ length rows = omega arith in
     let all : take c.loop-row.row-index rows ≡ rows = ap (λ n. take n rows) end ∙ take-length rows in
     c.loop-row.invariant
-    ∙ ap (λ (rs : List SquareRow). (heading_text name generation ++ empty_line rows) ++ row_lines rs) all
+    ∙ ap (λ (rs : List SquareRow). heading_text name generation ++ row_lines rs) all
     ∙ text-rows name generation rows

@@ -1,7 +1,6 @@
 use Rattle.std.proofs.Common.{◌≡◌, ◌++◌, take}
 use Rattle.multistate_macrocell.specs.Lines.{heading_text, row_lines}
-use Rattle.multistate_macrocell.proofs.Written.{empty_line}
 use Rattle.multistate_macrocell.proofs.write.text_of.Given as goal
 
 abbrev pub invariant-loop-row : goal.invariant-loop-row
-invariant-loop-row l = l.text.items ≡ (heading_text l.fn.name l.fn.generation ++ empty_line l.rows) ++ row_lines (take l.row-index l.rows)
+invariant-loop-row l = l.text.items ≡ heading_text l.fn.name l.fn.generation ++ row_lines (take l.row-index l.rows)

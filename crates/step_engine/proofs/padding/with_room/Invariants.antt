@@ -1,15 +1,19 @@
-use Rattle.std.proofs.Common.{◌≡◌, ◌-◌, ◌≤◌}
-use Rattle.square_table.specs.Squares.{IsHeld, level_of, cells_of}
+use Rattle.std.proofs.Common.{◌-◌, ◌≤◌, List}
+use Rattle.worlds.specs.World.{World}
+use Rattle.worlds.specs.Square as squares
+use Rattle.square_table.specs.Squares.{IsHeld, Grows, level_of, cells_of}
 use Rattle.square_table.specs.Centred.{IsCentred}
+use Rattle.square_table.specs.Made.{AreAmong, HasStart}
+use Rattle.step_engine.specs.Padded.{AddsRound}
 use Rattle.step_engine.proofs.padding.with_room.Given as goal
 
-abbrev pub invariant-loop-square : goal.invariant-loop-square
-invariant-loop-square l = record {
+abbrev pub invariant-loop-table : goal.invariant-loop-table
+invariant-loop-table l = record {
   held : IsHeld l.table l.square;
-  level : (1 ≤ level_of l.square) × (level_of l.square ≤ 63);
-  centred : IsCentred l.plane (level_of l.square) (cells_of l.table l.square);
-  limit : l.table.limit ≡ l.initial.table.limit;
+  level : (1 ≤ level_of l.square) × (level_of l.square ≤ l.level);
+  centred : (w : World) → IsCentred w (level_of l.initial.square) (cells_of l.initial.table l.initial.square) → IsCentred w (level_of l.square) (cells_of l.table l.square);
+  adds : AddsRound l.initial.table l.initial.square l.level l.table;
 }
 
-abbrev pub decreases-loop-square : goal.decreases-loop-square
-decreases-loop-square l = 63 - level_of l.square
+abbrev pub decreases-loop-table : goal.decreases-loop-table
+decreases-loop-table l = l.level - level_of l.square

@@ -1,8 +1,8 @@
-use Rattle.std.proofs.Common.{◌≡◌, ◌-◌, ◌^◌, refl, ap, ◌∙◌, subst, arith}
+use Rattle.std.proofs.Common.{◌≡◌, ◌-◌, ◌^◌, refl, ap, sym, ◌∙◌, subst, arith}
 use Rattle.std.proofs.lemmas.Int.{ints}
 use Rattle.step_engine.specs.Reach.{BoxLiesWithin}
 use Rattle.step_engine.proofs.Boxes.{IsInRange-box, HasMargin-box}
-use Rattle.step_engine.proofs.Reaching.{LiesWithin-box, LiesWithin-blank}
+use Rattle.step_engine.proofs.Reaching.{LiesWithin-box, LiesWithin-blank, box-LiesWithin}
 use Rattle.step_engine.proofs.reach.has_room_for.Goals as goal
 
 pub lies_within-requires-clause-range : goal.lies_within-requires-clause-range
@@ -30,3 +30,10 @@ returns-in-Some-clause-most c = λ top few margin.
       top = (let k = box.top in omega (arith, ints));
       bottom = (let k = box.bottom in omega (arith, ints));
     })
+
+pub returns-then-generations-side-clause-only : goal.returns-then-generations-side-clause-only
+returns-then-generations-side-clause-only c = λ room. let few = room.few in absurd (omega (arith, few, c.if-generations-side.true, c.side-side.ensures.value))
+
+pub returns-in-Some-clause-only : goal.returns-in-Some-clause-only
+returns-in-Some-clause-only c = λ room.
+    c.lies_within.ensures.1 (subst (λ n. BoxLiesWithin (n - c.args.generations) c.in-Some.bounds) (sym c.side-side.ensures.value) (box-LiesWithin _ c.in-Some.bounds c.args.plane.now c.in-Some.ensures.some room.within))

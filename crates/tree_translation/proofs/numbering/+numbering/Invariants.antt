@@ -1,5 +1,6 @@
-use Rattle.std.proofs.Common.{◌≡◌, ℕ, ◌+◌, ◌-◌, ◌*◌, ◌<◌, length, slice_index, false}
+use Rattle.std.proofs.Common.{◌≡◌, ℕ, ◌+◌, ◌-◌, ◌*◌, ◌/◌, ◌%◌, ◌<◌, ◌≤◌, ◌≢◌, length, slice_index, false}
 use Rattle.std.specs.Prelude.{All, IfSome}
+use Rattle.tree_translation.specs.Near.{AreNear}
 use Rattle.tree_translation.specs.Numbering.{Grows, IsEntry, IsNumberOf}
 use Rattle.tree_translation.proofs.numbering.+numbering.Given as goal
 
@@ -18,5 +19,10 @@ invariant-entries_of-loop-state l = record {
   each : (s : ℕ) → s < l.state → IsEntry l.states l.layers l.found.nodes.keys l.input l.list s (slice_index l.entries.items s);
   grows : Grows l.states l.layers l.input (l.input + 1) l.list l.fn.found l.found;
   clear : All (λ b. b ≡ false) l.marks;
+  near : l.state % 64 ≢ 0 → AreNear l.layer (l.state / 64) l.list l.near.items;
+  until : l.state ≤ l.states;
   latest : IfSome l.latest (λ x. IsNumberOf l.states l.layers l.found.nodes.keys (l.input + 1) x.list.items x.number);
 }
+
+abbrev pub decreases-entries_of-loop-state : goal.decreases-entries_of-loop-state
+decreases-entries_of-loop-state l = l.states - l.state

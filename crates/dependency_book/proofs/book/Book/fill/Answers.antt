@@ -1,7 +1,7 @@
 use Rattle.std.proofs.Common.{◌≡◌, ◌∙◌, true, false, Option, None, Result, Ok, Err, MatchOption, refl, sym, ap, ap₂, subst, Some}
 use Rattle.step_engine.specs.declared.evolved.EvolveFault.{EvolveFault}
 use Rattle.revision_jobs.specs.declared.answer.Job.{Job}
-use Rattle.revision_jobs.specs.Answered.{Answered, said}
+use Rattle.revision_jobs.specs.Answer.{JobResult, outcome_of}
 use Rattle.revision_jobs.specs.Entries.{IsOf}
 use Rattle.revision_jobs.specs.Value.{Value}
 use Rattle.dependency_book.specs.declared.filled.Filled.{Filled}
@@ -30,7 +30,7 @@ fill_row-requires-clause-there c = expected_row c.args.self.now c.in-Some.need (
 
 pub fill_row-requires-clause-right : goal.fill_row-requires-clause-right
 fill_row-requires-clause-right c =
-    gives_wanted c.args.self.now c.in-Some.need c.in-Some.place.now c.into_parts-job.result.0 (said c.into_parts-job.result.1) (subst IsRight c.self.view_is c.self.invariant) c.in-Some.ensures.row (c.if-same.ensures.entry refl) c.into_parts-job.ensures.right
+    gives_wanted c.args.self.now c.in-Some.need c.in-Some.place.now c.into_parts-job.result.0 (outcome_of c.into_parts-job.result.1) (subst IsRight c.self.view_is c.self.invariant) c.in-Some.ensures.row (c.if-same.ensures.entry refl) c.into_parts-job.ensures.right
 
 match_none : {T : Type 0} (A : Type 0) (P : T → Type 0) (o : Option T) → MatchOption o A P → o ≡ None → A
 match_none A P None h is = h
@@ -39,24 +39,24 @@ match_none A P (Some x) h is = absurd cc
 not_true : false ≡ true → ⊥
 not_true h = cc
 
-abbrev answer_of : Job → Result Value EvolveFault → Answered
+abbrev answer_of : Job → Result Value EvolveFault → JobResult
 answer_of job outcome = record { job = job; outcome = outcome }
 
 pub returns-in-Some-clause-filled : goal.returns-in-Some-clause-filled
 returns-in-Some-clause-filled c =
     let d : Known = c.args.self.now in
     let job : Job = c.into_parts-job.result.0 in
-    let outcome = said c.into_parts-job.result.1 in
+    let outcome = outcome_of c.into_parts-job.result.1 in
     let right = subst IsRight c.self.view_is c.self.invariant in
     let filled = filled_is d c.in-Some.need c.in-Some.place.now job outcome right c.in-Some.ensures.row (c.if-same.ensures.index.0 refl) (c.if-same.ensures.entry refl) c.into_parts-job.ensures.right in
-    subst (λ (a : Answered). IsFilled d a c.fill_row.result) (ap₂ answer_of c.into_parts-job.ensures.job c.into_parts-job.ensures.outcome)
+    subst (λ (a : JobResult). IsFilled d a c.fill_row.result) (ap₂ answer_of c.into_parts-job.ensures.job c.into_parts-job.ensures.outcome)
     (subst (IsFilled d (answer_of job outcome)) (sym c.fill_row.ensures.filled) filled)
 
 pub returns-in-Some-clause-rows : goal.returns-in-Some-clause-rows
 returns-in-Some-clause-rows c = λ other.
     let d : Known = c.args.self.now in
-    let rows = filled_rows d c.fill_row.new.self c.in-Some.need c.in-Some.place.now c.into_parts-job.result.0 (said c.into_parts-job.result.1) c.expecting.ensures.numbers c.in-Some.ensures.row (c.if-same.ensures.index.0 refl) c.fill_row.ensures.row other in
-    rows ∙ ap (λ (a : Answered). answered a (row_of d other)) (ap₂ answer_of c.into_parts-job.ensures.job c.into_parts-job.ensures.outcome)
+    let rows = filled_rows d c.fill_row.new.self c.in-Some.need c.in-Some.place.now c.into_parts-job.result.0 (outcome_of c.into_parts-job.result.1) c.expecting.ensures.numbers c.in-Some.ensures.row (c.if-same.ensures.index.0 refl) c.fill_row.ensures.row other in
+    rows ∙ ap (λ (a : JobResult). answered a (row_of d other)) (ap₂ answer_of c.into_parts-job.ensures.job c.into_parts-job.ensures.outcome)
 
 pub returns-clause-filled : goal.returns-clause-filled
 returns-clause-filled c =
@@ -93,4 +93,4 @@ never (Ok v) r is not = let clash = sym is ∙ not in absurd cc
 never (Err e) r is not = let clash = sym is ∙ not in absurd cc
 
 pub returns-in-Some-clause-kept : goal.returns-in-Some-clause-kept
-returns-in-Some-clause-kept c = λ not. absurd (never (said c.into_parts-job.result.1) c.fill_row.result c.fill_row.ensures.filled not)
+returns-in-Some-clause-kept c = λ not. absurd (never (outcome_of c.into_parts-job.result.1) c.fill_row.result c.fill_row.ensures.filled not)

@@ -25,4 +25,4 @@ returns-clause-workable c =
       cells = c.in_ok-cells_at.ensures ∙ ap₂ cells_at c.interventions-interventions.ensures mark;
       gap = omega (arith, mark, under);
     } in
-    entry_workable d (Step m) (entry.Step c.in_ok-try_clone.field-0 c.in_ok-try_clone-2.field-0 c.in_ok-cells_at.field-0 (m - n)) c.start-start.ensures.sound c.self.invariant need h
+    entry_workable d (Step m) (entry.Step (record { rule = c.in_ok-try_clone.field-0; from = c.in_ok-try_clone-2.field-0; cells = c.in_ok-cells_at.field-0; gens = m - n })) c.start-start.ensures.sound c.self.invariant need h

@@ -85,4 +85,4 @@ returns-clause-workable c =
       states = c.states.ensures.count ∙ ap states_of (c.deref-3.ensures ∙ c.rule-rule.ensures);
       generation = refl;
     } in
-    entry_workable d (View id) (entry.View x.key.view c.in_ok-try_clone.field-0 c.in_ok-cells_at.field-0 c.in_ok-copied.field-0 c.states.result x.key.generation) c.start-start.ensures.sound c.self.invariant need h
+    entry_workable d (View id) (entry.View (record { view = x.key.view; from = c.in_ok-try_clone.field-0; cells = c.in_ok-cells_at.field-0; name = c.in_ok-copied.field-0; states = c.states.result; generation = x.key.generation })) c.start-start.ensures.sound c.self.invariant need h

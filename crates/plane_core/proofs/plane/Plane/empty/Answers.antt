@@ -1,13 +1,13 @@
 use Rattle.std.proofs.Common.{arith, length, ap, sym, subst, ◌∙◌}
-use Rattle.plane_core.specs.Rows.{AreCanonical, world_of_rows}
+use Rattle.plane_core.specs.Rows.{AreKept, world_of_rows}
 use Rattle.plane_core.specs.Measures.{AreMeasuresOf}
 use Rattle.plane_core.proofs.Measuring.{none_measured}
-use Rattle.plane_core.proofs.Roots.{canonical-none, world-none}
+use Rattle.plane_core.proofs.Roots.{kept-none, world-none}
 use Rattle.plane_core.proofs.plane.Plane.empty.Goals as goal
 
 pub invariant_of-result : goal.invariant_of-result
 invariant_of-result c = (
-  subst AreCanonical (sym c.new.ensures.items) canonical-none,
+  subst AreKept (sym c.new.ensures.items) kept-none,
   omega (arith, ap length c.new.ensures.items),
   subst (AreMeasuresOf (world_of_rows c.new.result.items)) (sym c.no_measures.ensures) (none_measured c.new.result.items (ap length c.new.ensures.items)),
 )

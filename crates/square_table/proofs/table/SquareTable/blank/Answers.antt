@@ -1,30 +1,35 @@
-use Rattle.std.proofs.Common.{◌≡◌, ℕ, ◌+◌, ◌∙◌, ap, sym, add-one}
-use Rattle.worlds.specs.Square as squares
-use Rattle.worlds.specs.Square.{four, empty_square}
-use Rattle.square_table.specs.Squares.{cells_of}
-use Rattle.square_table.proofs.Tables.{Keeps-same, Keeps-then}
+use Rattle.std.proofs.Common.{◌≡◌, ℕ, suc, ◌+◌, ◌≤◌, [], ◌∙◌, ap₂, sym, add-one, subst, arith, lit<}
+use Rattle.worlds.specs.Square.{empty_square}
+use Rattle.square_table.specs.Squares.{Table, IsNumber, square_in, Grows, GrowsBy}
+use Rattle.square_table.specs.Loading.{GrowsFrom}
+use Rattle.square_table.proofs.Loading.{GrowsFrom-same, GrowsFrom-then, GrowsFrom-higher, IsNumber-state, square_in-cell, empty_square-zero, four_of, blank_joined, blank_grows}
 use Rattle.square_table.proofs.table.SquareTable.blank.Goals as goal
 
 pub loop-init : goal.loop-init
-unfolding empty_square
 loop-init c = record {
-  keeps = Keeps-same c.args.self.now;
-  held = c.cell-square.ensures.held;
-  level = c.cell-square.ensures.level;
-  cells = c.cell-square.ensures.cells;
+  grows = GrowsFrom-same _ [] c.args.self.now;
+  number = IsNumber-state c.args.self.now.rows 0 (lit< tt);
+  cells = square_in-cell c.args.self.now.rows 0 ∙ sym empty_square-zero;
 }
 
--- four empty squares
-alike : (e s : squares.Square) (k : ℕ) → e ≡ empty_square k → s ≡ four e e e e → s ≡ empty_square (k + 1)
-unfolding empty_square
-alike e s k is made = made ∙ ap (λ q. four q q q q) is ∙ ap empty_square (sym (add-one k))
+-- one join more, of which the levels stay below a bound
+more : (t u v : Table) (k b level : ℕ) → k + 2 ≤ level → IsNumber u.rows k b → square_in u.rows k b ≡ empty_square k → GrowsFrom (k + 1) [] t u → Grows u v → GrowsBy (four_of b) u v → GrowsFrom level [] t v
+more t u v k b level low is same before grows step =
+    GrowsFrom-then level [] t u v (GrowsFrom-higher (k + 1) level [] t u (omega (arith, low)) before)
+    (GrowsFrom-higher (suc (suc k)) level [] u v (omega (arith, low)) (blank_grows u v k b is same grows step))
+
+pub returns-in_err-number-clause-grows : goal.returns-in_err-number-clause-grows
+returns-in_err-number-clause-grows c =
+    let was = c.loop.invariant in
+    more c.args.self.now c.loop.self c.join_numbers.new.self c.loop.counter c.loop.number _ (omega (arith, c.loop-test.true)) was.number was.cells was.grows c.join_numbers.ensures.grows c.join_numbers.ensures.one
 
 pub loop-preserved : goal.loop-preserved
 loop-preserved c =
-    let square = c.loop.square in
+    let was = c.loop.invariant in
+    let k = c.loop.counter in
+    let joined = blank_joined c.loop.self c.join_numbers.new.self k c.loop.number c.in_ok-number.number was.number was.cells c.join_numbers.ensures.grows c.in_ok-number.ensures.square in
     record {
-      keeps = Keeps-then _ _ _ c.loop.invariant.keeps c.in_ok-square.ensures.keeps;
-      held = c.in_ok-square.ensures.joined.held;
-      level = c.in_ok-square.ensures.joined.level square ∙ ap (λ n. n + 1) c.loop.invariant.level;
-      cells = alike (cells_of c.loop.self square) _ c.loop.counter c.loop.invariant.cells (c.in_ok-square.ensures.joined.cells square);
+      grows = more c.args.self.now c.loop.self c.join_numbers.new.self k c.loop.number _ (omega arith) was.number was.cells was.grows c.join_numbers.ensures.grows c.join_numbers.ensures.one;
+      number = subst (λ j. IsNumber c.join_numbers.new.self.rows j c.in_ok-number.number) (sym (add-one k)) joined.numbered;
+      cells = subst (λ j. square_in c.join_numbers.new.self.rows j c.in_ok-number.number ≡ empty_square j) (sym (add-one k)) joined.square;
     }

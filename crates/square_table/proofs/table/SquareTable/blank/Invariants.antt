@@ -1,12 +1,12 @@
-use Rattle.std.proofs.Common.{◌≡◌}
+use Rattle.std.proofs.Common.{◌≡◌, ◌+◌, []}
 use Rattle.worlds.specs.Square.{empty_square}
-use Rattle.square_table.specs.Squares.{IsHeld, Keeps, level_of, cells_of}
+use Rattle.square_table.specs.Squares.{IsNumber, square_in}
+use Rattle.square_table.specs.Loading.{GrowsFrom}
 use Rattle.square_table.proofs.table.SquareTable.blank.Given as goal
 
 abbrev pub invariant-loop : goal.invariant-loop
 invariant-loop l = record {
-  keeps : Keeps l.initial.self l.self;
-  held : IsHeld l.self l.square;
-  level : level_of l.square ≡ l.counter;
-  cells : cells_of l.self l.square ≡ empty_square l.counter;
+  grows : GrowsFrom (l.counter + 1) [] l.initial.self l.self;
+  number : IsNumber l.self.rows l.counter l.number;
+  cells : square_in l.self.rows l.counter l.number ≡ empty_square l.counter;
 }

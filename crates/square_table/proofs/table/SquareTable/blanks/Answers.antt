@@ -1,6 +1,7 @@
-use Rattle.std.proofs.Common.{◌≡◌, ◌+◌, ◌∷◌, ◌++◌, ℕ, List, [], length, ap, sym, ◌∙◌, subst}
-use Rattle.square_table.specs.Loading.{AreBlanks}
-use Rattle.square_table.proofs.Loading.{GrowsFrom-same, GrowsFrom-then, AreBlanks-first}
+use Rattle.std.proofs.Common.{◌≡◌, ◌+◌, ◌∷◌, ◌++◌, ℕ, List, [], length, refl, ap, sym, ◌∙◌, subst, arith}
+use Rattle.square_table.specs.Squares.{Table}
+use Rattle.square_table.specs.Loading.{AreBlanks, GrowsFrom}
+use Rattle.square_table.proofs.Loading.{GrowsFrom-same, GrowsFrom-then, GrowsFrom-higher, AreBlanks-first}
 use Rattle.square_table.proofs.table.SquareTable.blanks.Goals as goal
 
 -- the first blank square alone
@@ -9,17 +10,28 @@ first xs ys e none = e ∙ ap (λ (zs : List ℕ). zs ++ 0 ∷ []) none
 
 pub loop-init : goal.loop-init
 loop-init c = record {
-  grows = GrowsFrom-same [] c.args.self.now;
+  grows = GrowsFrom-same _ [] c.args.self.now;
   count = ap length (first c.push.new.numbers.items c.in_ok-blanks.blanks.items c.in_ok-push.ensures c.in_ok-blanks.ensures.items);
   blanks = subst (AreBlanks c.args.self.now.rows) (sym (first c.push.new.numbers.items c.in_ok-blanks.blanks.items c.in_ok-push.ensures c.in_ok-blanks.ensures.items)) (AreBlanks-first c.args.self.now.rows);
 }
 
+-- one more
+more : (t u v : Table) (m n : ℕ) → n ≡ m + 1 → GrowsFrom m [] t u → GrowsFrom (m + 1) [] u v → GrowsFrom n [] t v
+more t u v m n is first second = subst (λ k. GrowsFrom k [] t v) (sym is) (GrowsFrom-then (m + 1) [] t u v (GrowsFrom-higher m (m + 1) [] t u (omega arith) first) second)
+
 pub returns-in_err-push_blank-clause-grows : goal.returns-in_err-push_blank-clause-grows
-returns-in_err-push_blank-clause-grows c = GrowsFrom-then [] c.args.self.now c.loop.self c.push_blank.new.self c.loop.invariant.grows c.in_err-push_blank.ensures.grows
+returns-in_err-push_blank-clause-grows c =
+    GrowsFrom-higher (length c.loop.blanks.items + 1) c.args.level [] c.args.self.now c.push_blank.new.self (omega (arith, c.loop.invariant.count, c.loop-test.true))
+    (more c.args.self.now c.loop.self c.push_blank.new.self (length c.loop.blanks.items) _ refl c.loop.invariant.grows c.in_err-push_blank.ensures.grows)
 
 pub loop-preserved : goal.loop-preserved
 loop-preserved c = record {
-  grows = GrowsFrom-then [] c.args.self.now c.loop.self c.push_blank.new.self c.loop.invariant.grows c.in_ok-push_blank.ensures.grows;
+  grows = more c.args.self.now c.loop.self c.push_blank.new.self (length c.loop.blanks.items) _ c.in_ok-push_blank.ensures.count c.loop.invariant.grows c.in_ok-push_blank.ensures.grows;
   count = c.in_ok-push_blank.ensures.count ∙ ap (λ n. n + 1) c.loop.invariant.count;
   blanks = c.in_ok-push_blank.ensures.blanks;
 }
+
+pub returns-clause-grows : goal.returns-clause-grows
+returns-clause-grows c =
+    GrowsFrom-higher (length c.loop.blanks.items) c.args.level [] c.args.self.now c.loop.self
+    (let a = c.loop.auto.counter in let b = c.loop.auto.counter-end in omega (arith, a, b, c.loop.invariant.count, c.requires)) c.loop.invariant.grows

@@ -1,14 +1,21 @@
-use Rattle.std.proofs.Common.{◌≡◌, ℕ, ◌≤◌, List, Result, Ok, Err, ap, sym, ◌∙◌, subst}
-use Rattle.std.specs.Prelude.{IfOk}
+use Rattle.std.proofs.Common.{◌≡◌, ℕ, ◌≤◌, List, [], ◌∷◌, Result, Ok, Err, ap, sym, ◌∙◌, subst, arith}
+use Rattle.std.specs.Prelude.{IfOk, Contains}
 use Rattle.worlds.specs.World.{World}
+use Rattle.worlds.specs.Square as squares
+use Rattle.worlds.specs.Square.{empty_square, square_at}
 use Rattle.plane_core.specs.declared.row.SquareRow.{SquareRow}
-use Rattle.plane_core.specs.Rows.{AreRows, AreSquaresOf, root_level, root_of}
+use Rattle.plane_core.specs.Rows as listed
+use Rattle.plane_core.specs.Rows.{AreRows, AreSquaresOf, root_level, root_of, Fits, IsLeastLevel}
 use Rattle.plane_core.proofs.Adding.{IfOk_then}
-use Rattle.plane_core.proofs.Roots.{rooted}
+use Rattle.plane_core.proofs.Roots.{rooted, root_level-none}
+use Rattle.plane_core.proofs.Sound.{square_in-none}
 use Rattle.square_table.specs.declared.square.Square.{Square}
 use Rattle.square_table.specs.Squares.{Table, level_of, cells_of}
-use Rattle.square_table.specs.Centred.{IsCentred}
-use Rattle.square_table.specs.Loading.{LevelsUpTo}
+use Rattle.square_table.specs.Centred.{edge, IsCentred}
+use Rattle.square_table.specs.Made.{HoldsWithin, HasEmpty}
+use Rattle.square_table.specs.Loading.{LevelsUpTo, GrowsFrom, GrowsFor, IsRootLevel, empty_below}
+use Rattle.square_table.proofs.Growth.{Grows-same}
+use Rattle.square_table.proofs.Listing.{listed_root}
 use Rattle.square_table.proofs.Canonical.{cells_below, levels_up_to}
 use Rattle.square_table.proofs.Centring.{root_centred}
 use Rattle.square_table.proofs.table.SquareTable.load.Goals as goal
@@ -18,14 +25,47 @@ load_root-requires c =
     subst (λ (rows : List SquareRow). AreRows rows × LevelsUpTo (root_level rows) rows) (sym c.deref.ensures.value)
     (c.in_ok-squares.ensures.canonical.valid, levels_up_to c.args.plane.now c.in_ok-squares.squares.items c.in_ok-squares.ensures)
 
-root_low : (w : World) (rows seen : List SquareRow) (k : ℕ) → AreSquaresOf w rows → seen ≡ rows → k ≡ root_level seen → (1 ≤ k) × (k ≤ 62)
+first_empty : (all : List squares.Square) → HoldsWithin (Contains all) (empty_square 1) → Contains all (empty_square 1)
+unfolding HoldsWithin empty_square
+first_empty all within = within.0
+
+-- the squares of the rows are those round the origin, and what these are made of
+loaded : (w : World) (rows : List SquareRow) (t u : Table) → AreSquaresOf w rows → GrowsFrom (empty_below rows) rows t u → GrowsFor w t u
+loaded w rows t u is grows = record {
+  grows = grows.grows;
+  among = λ k all some fits start are.
+      let level : root_level rows ≤ k = is.canonical.least.least k some (subst (Fits k) (sym is.world) fits) in
+      let low = (rooted rows is.canonical.valid).low in
+      let at : root_of rows ≡ square_at w (root_level rows) (edge (root_level rows)) (edge (root_level rows)) = (subst (λ (v : World). IsCentred v (root_level rows) (root_of rows)) is.world (root_centred rows is.canonical.valid)).square in
+      let within : HoldsWithin (Contains all) (root_of rows) = subst (HoldsWithin (Contains all)) (sym at) (start.squares (root_level rows) low level) in
+      grows.among all (empty_held all rows k level within start.empty) (listed_root all rows is.canonical within) are;
+}
+  where
+    empty_held : (all : List squares.Square) (rows : List SquareRow) (k : ℕ) → root_level rows ≤ k → HoldsWithin (Contains all) (root_of rows) → HasEmpty all k → HasEmpty all (empty_below rows)
+    empty_held all [] k level within empty j some below =
+        let one : 1 ≡ j = omega (arith, some, below) in
+        let root : root_of [] ≡ empty_square 1 = ap (λ l. listed.square_in [] l 0) root_level-none ∙ square_in-none [] 1 in
+        subst (λ i. Contains all (empty_square i)) one (first_empty all (subst (HoldsWithin (Contains all)) root within))
+    empty_held all (row ∷ rows) k level within empty j some below = empty j some (omega (arith, below, level))
+
+loaded_seen : (w : World) (rows seen : List SquareRow) (t u : Table) → AreSquaresOf w rows → seen ≡ rows → GrowsFrom (empty_below seen) seen t u → GrowsFor w t u
+loaded_seen w rows seen t u is same grows = loaded w seen t u (subst (AreSquaresOf w) (sym same) is) grows
+
+pub returns-in_err-squares-clause-grows : goal.returns-in_err-squares-clause-grows
+returns-in_err-squares-clause-grows c = record { grows = Grows-same c.args.self.now; among = λ k all some fits start are. are }
+
+pub returns-clause-grows : goal.returns-clause-grows
+returns-clause-grows c = loaded_seen c.args.plane.now c.in_ok-squares.squares.items c.deref.result.now c.args.self.now c.load_root.new.self c.in_ok-squares.ensures c.deref.ensures.value c.load_root.ensures.grows
+
+root_low : (w : World) (rows seen : List SquareRow) (k : ℕ) → AreSquaresOf w rows → seen ≡ rows → k ≡ root_level seen → IsRootLevel k w
 root_low w rows seen k are same level =
     let is = rooted rows are.canonical.valid in
-    subst (λ j. (1 ≤ j) × (j ≤ 62)) (sym (level ∙ ap root_level same)) (is.low, is.high)
+    subst (λ j. IsRootLevel j w) (sym (level ∙ ap root_level same))
+    (record { low = is.low; high = is.high; least = subst (IsLeastLevel (root_level rows)) are.world are.canonical.least })
 
 pub returns-clause-level : goal.returns-clause-level
 returns-clause-level c =
-    IfOk_then c.load_root.result (λ s. level_of s ≡ root_level c.deref.result.now) (λ s. (1 ≤ level_of s) × (level_of s ≤ 62))
+    IfOk_then c.load_root.result (λ s. level_of s ≡ root_level c.deref.result.now) (λ s. IsRootLevel (level_of s) c.args.plane.now)
     (λ s. root_low c.args.plane.now c.in_ok-squares.squares.items c.deref.result.now (level_of s) c.in_ok-squares.ensures c.deref.ensures.value) c.load_root.ensures.level
 
 centred : {E : Type 0} (r : Result Square E) (w : World) (rows seen : List SquareRow) (t : Table) → AreSquaresOf w rows → seen ≡ rows → IfOk r (λ s. level_of s ≡ root_level seen) → IfOk r (λ s. cells_of t s ≡ root_of seen)

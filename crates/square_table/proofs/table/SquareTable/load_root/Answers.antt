@@ -1,4 +1,4 @@
-use Rattle.std.proofs.Common.{◌≡◌, ℕ, suc, ◌-◌, ◌<◌, List, [], None, Some, length, get_or, ap, ap₂, sym, ◌∙◌, subst, arith, inl, inr}
+use Rattle.std.proofs.Common.{◌≡◌, ℕ, suc, ◌-◌, ◌<◌, List, [], ◌∷◌, None, Some, length, get_or, refl, ap, ap₂, sym, ◌∙◌, subst, arith, inl, inr}
 use Rattle.std.specs.Prelude.{slice_get}
 use Rattle.std.proofs.lemmas.Bool.{cases_lt}
 use Rattle.std.proofs.lemmas.List.{nil_from_length, get_or_read}
@@ -10,8 +10,9 @@ use Rattle.plane_core.specs.Rows.{no_row, AreRows, root_level, root_of}
 use Rattle.plane_core.proofs.Adding.{IfOk_then}
 use Rattle.plane_core.proofs.Roots.{root_level-none, root_level-some}
 use Rattle.plane_core.proofs.Sound.{square_in-none}
-use Rattle.square_table.specs.Squares.{square_in, level_of, cells_of}
-use Rattle.square_table.specs.Loading.{LevelsUpTo, AreLoaded, IsLoadedAt}
+use Rattle.square_table.specs.Squares.{Table, square_in, level_of, cells_of}
+use Rattle.square_table.specs.Loading.{LevelsUpTo, AreLoaded, IsLoadedAt, GrowsFrom, empty_below}
+use Rattle.square_table.proofs.Loading.{GrowsFrom-same, GrowsFrom-higher, GrowsFrom-behind}
 use Rattle.square_table.proofs.table.SquareTable.load_root.Goals as goal
 
 -- without a last row there are no rows
@@ -21,6 +22,10 @@ none rows h =
       | inl some ↦ let there = slice_get-get_or rows (length rows - 1) no_row (omega (arith, some)) in absurd (cc)
       | inr empty ↦ omega (arith, empty)
     ])
+
+pub returns-in_default-clause-grows : goal.returns-in_default-clause-grows
+returns-in_default-clause-grows c =
+    subst (λ (rows : List SquareRow). GrowsFrom (empty_below rows) rows c.args.self.now c.load_none.new.self) (sym (none c.args.squares.now (sym c.in_default.ensures.value))) c.load_none.ensures.grows
 
 pub returns-in_default-clause-level : goal.returns-in_default-clause-level
 returns-in_default-clause-level c =
@@ -46,6 +51,32 @@ last rows root h =
     let at : get_or rows (length rows - 1) no_row ≡ root = get_or_from_slice_get rows (length rows - 1) root no_row h in
     let some : 0 < length rows = omega (arith, within) in
     record { some = some; level = ap (λ (r : SquareRow). r.level) (sym at) ∙ sym (root_level-some rows some) }
+
+-- empty squares stand below its level
+low : (rows : List SquareRow) → 0 < length rows → empty_below rows ≡ root_level rows
+low [] some = absurd (omega (arith, some))
+low (row ∷ rows) some = refl
+
+grows : (rows : List SquareRow) (t u v : Table) (k : ℕ) (root : SquareRow) → IsLast rows root → k ≡ root.level → GrowsFrom k [] t u → GrowsFrom 0 rows u v → GrowsFrom (empty_below rows) rows t v
+grows rows t u v k root is e first second =
+    let level : k ≡ empty_below rows = e ∙ is.level ∙ sym (low rows is.some) in
+    subst (λ j. GrowsFrom j rows t v) level (GrowsFrom-behind k rows t u v first (GrowsFrom-higher 0 k rows u v (omega arith) second))
+
+pub returns-in_err-blanks-clause-grows : goal.returns-in_err-blanks-clause-grows
+returns-in_err-blanks-clause-grows c =
+    grows c.args.squares.now c.args.self.now c.blanks.new.self c.blanks.new.self _ c.in-Some.root.now (last c.args.squares.now c.in-Some.root.now (sym c.in-Some.ensures.value)) refl c.in_err-blanks.ensures.grows (GrowsFrom-same 0 c.args.squares.now c.blanks.new.self)
+
+pub returns-in_err-numbers-clause-grows : goal.returns-in_err-numbers-clause-grows
+returns-in_err-numbers-clause-grows c =
+    grows c.args.squares.now c.args.self.now c.blanks.new.self c.load_rows.new.self _ c.in-Some.root.now (last c.args.squares.now c.in-Some.root.now (sym c.in-Some.ensures.value)) refl c.in_ok-blanks.ensures.grows c.load_rows.ensures.grows
+
+pub returns-in_err-square-clause-grows : goal.returns-in_err-square-clause-grows
+returns-in_err-square-clause-grows c =
+    grows c.args.squares.now c.args.self.now c.blanks.new.self c.load_rows.new.self _ c.in-Some.root.now (last c.args.squares.now c.in-Some.root.now (sym c.in-Some.ensures.value)) refl c.in_ok-blanks.ensures.grows c.load_rows.ensures.grows
+
+pub returns-clause-grows : goal.returns-clause-grows
+returns-clause-grows c =
+    grows c.args.squares.now c.args.self.now c.blanks.new.self c.load_rows.new.self _ c.in-Some.root.now (last c.args.squares.now c.in-Some.root.now (sym c.in-Some.ensures.value)) refl c.in_ok-blanks.ensures.grows c.load_rows.ensures.grows
 
 levels : (rows : List SquareRow) (blanks seen : List ℕ) (k : ℕ) → AreRows rows × LevelsUpTo (root_level rows) rows → k ≡ root_level rows → length blanks ≡ k → seen ≡ blanks → AreRows rows × LevelsUpTo (length seen) rows
 levels rows blanks seen k valid level count same = (valid.0, subst (λ n. LevelsUpTo n rows) (sym (ap length same ∙ count ∙ level)) valid.1)

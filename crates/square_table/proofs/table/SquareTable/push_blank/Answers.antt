@@ -1,7 +1,7 @@
 use Rattle.std.proofs.Common.{◌≡◌, ◌-◌, ◌<◌, ℕ, List, length, get_or, ap, sym, ◌∙◌, subst, arith}
 use Rattle.std.proofs.lemmas.List.{get_or_read}
 use Rattle.square_table.specs.Loading.{AreBlanks}
-use Rattle.square_table.proofs.Loading.{blank_grows, AreBlanks-more}
+use Rattle.square_table.proofs.Loading.{blanks_grow, AreBlanks-more}
 use Rattle.square_table.proofs.table.SquareTable.push_blank.Goals as goal
 
 -- the number that is read is the last
@@ -10,13 +10,13 @@ last xs n v e some read = get_or_read xs (length xs - 1) v (omega (arith, some))
 
 pub returns-in_err-push-clause-grows : goal.returns-in_err-push-clause-grows
 returns-in_err-push-clause-grows c =
-    blank_grows c.args.self.now c.join_numbers.new.self c.args.blanks.now.items c.index-blank.result.now
+    blanks_grow c.args.self.now c.join_numbers.new.self c.args.blanks.now.items c.index-blank.result.now
     (last c.args.blanks.now.items c.len.result c.index-blank.result.now (omega (arith, c.len.ensures, c.args.blanks.now.ok.0)) c.requires.some c.index-blank.ensures)
     c.requires.some c.requires.blanks c.in_ok-next.ensures.grows c.in_ok-next.ensures.one
 
 pub returns-clause-grows : goal.returns-clause-grows
 returns-clause-grows c =
-    blank_grows c.args.self.now c.join_numbers.new.self c.args.blanks.now.items c.index-blank.result.now
+    blanks_grow c.args.self.now c.join_numbers.new.self c.args.blanks.now.items c.index-blank.result.now
     (last c.args.blanks.now.items c.len.result c.index-blank.result.now (omega (arith, c.len.ensures, c.args.blanks.now.ok.0)) c.requires.some c.index-blank.ensures)
     c.requires.some c.requires.blanks c.in_ok-next.ensures.grows c.in_ok-next.ensures.one
 

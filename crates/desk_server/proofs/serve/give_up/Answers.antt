@@ -1,0 +1,20 @@
+use Rattle.std.proofs.Common.{◌∙◌, ◌<◌, ◌^◌, refl, sym, subst, rules}
+use Rattle.dependency_book.specs.Jobs.{IsFirstOut}
+use Rattle.desk_server.proofs.Jobs.{drops_none, drops_drops, cancel_drops, first_falls, numbers_from}
+use Rattle.desk_server.proofs.serve.give_up.Goals as goal
+
+pub loop-first-init : goal.loop-first-init
+loop-first-init c = record { plan = refl; drops = drops_none _ _ refl; first = c.first_out-first.ensures }
+
+pub loop-first-smaller : goal.loop-first-smaller
+loop-first-smaller c =
+    let few : c.in-Some.number < 2 ^ 32 = search rules in
+    let first = subst (IsFirstOut c.loop-first.desk) c.in-Some.is c.loop-first.invariant.first in
+    subst (λ o. numbers_from c.first_out-first-in-Some.result < numbers_from o) (sym c.in-Some.is) (first_falls c.in-Some.number c.first_out-first-in-Some.result c.loop-first.desk c.cancel.new.self few c.cancel.ensures.rows first c.first_out-first-in-Some.ensures)
+
+pub loop-first-preserved : goal.loop-first-preserved
+loop-first-preserved c = record {
+  plan = c.cancel.ensures.book.document.plan ∙ c.loop-first.invariant.plan;
+  drops = drops_drops _ _ _ c.loop-first.invariant.drops (cancel_drops _ _ _ c.cancel.ensures.rows c.cancel.ensures.book);
+  first = c.first_out-first-in-Some.ensures;
+}

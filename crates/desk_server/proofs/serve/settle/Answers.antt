@@ -1,0 +1,18 @@
+use Rattle.std.proofs.Common.{◌≢◌, rules}
+use Rattle.desk_server.specs.Shortage.{NoShortage}
+use Rattle.desk_server.proofs.Jobs.{nothing_out}
+use Rattle.desk_server.proofs.Replies.{gives-unsettled}
+use Rattle.desk_server.proofs.serve.settle.Goals as goal
+
+pub returns-in-0-clause-answer : goal.returns-in-0-clause-answer
+returns-in-0-clause-answer g c = (NoShortage, λ _. tt, search rules)
+
+pub returns-in_default-clause-answer : goal.returns-in_default-clause-answer
+returns-in_default-clause-answer g c =
+    let some : c.pending.result ≢ 0 = search rules in
+    gives-unsettled (g.P.Post.is_prompt c.args.post.now) c.args.desk.now.plan c.compute-cause.new.desk c.pending.result c.compute-cause.result c.compute-cause.ensures.plan c.compute-cause.ensures.caused c.pending.ensures.count some c.pending.ensures.bound
+
+pub returns-in_default-clause-leaves : goal.returns-in_default-clause-leaves
+returns-in_default-clause-leaves g c =
+    let some : c.pending.result ≢ 0 = search rules in
+    (c.pending.ensures.count, nothing_out c.compute-cause.new.desk c.pending.result c.compute-cause.ensures.given_up c.pending.ensures.count some)

@@ -1,0 +1,31 @@
+-- Replies that show a shortage.
+use Rattle.std.specs.Prelude.{◌≡◌, ◌⊎◌, ℕ, Bool, List, [], Option}
+use Rattle.std.specs.List.{AllByRecursion}
+use Rattle.schedule.specs.Plan.{Plan}
+use Rattle.schedule.specs.declared.fault.EditFault.TheVariants.{NoMemory}
+use Rattle.desk_core.specs.declared.cause.Cause.{Cause}
+use Rattle.desk_server.specs.Faults.{of_edit}
+use Rattle.desk_server.specs.Reply.{unsettled_text, pending_text, refused_text}
+use Rattle.desk_server.specs.Shortage.{Shortage, Unsettled, IsCausedOver, AllCausedOver}
+use Rattle.desk_server.specs.Answer.{Ask, After}
+use Rattle.desk_server.specs.Script.{afters}
+
+-- the reply is that bookmarks are pending, for a cause if the post is prompt
+abbrev pub ShowsUnsettled : Bool → List ℕ → Type 0
+ShowsUnsettled prompt told =
+    (n : ℕ) × (cause : Option Cause) × IsCausedOver prompt (Unsettled n cause) × (told ≡ unsettled_text n cause)
+
+-- the reply is that memory is short, that bookmarks are pending, or that one is
+abbrev pub ShowsShortage : Bool → List ℕ → Type 0
+ShowsShortage prompt told =
+    (told ≡ refused_text (of_edit NoMemory)) ⊎ (ShowsUnsettled prompt told ⊎ ((id : ℕ) × (told ≡ pending_text id)))
+
+-- none of the replies shows a shortage
+abbrev pub NoneShows : Bool → List After → Type 0
+NoneShows prompt = AllByRecursion (λ (after : After). ShowsShortage prompt after.told → ⊥)
+
+-- then they are the replies where nothing is short
+abbrev pub PlainWithoutShortages : Type 0
+PlainWithoutShortages =
+    (prompt : Bool) (p : Plan) (asked : List Ask) (shortages : List Shortage) → AllCausedOver prompt shortages
+    → NoneShows prompt (afters p asked shortages) → afters p asked shortages ≡ afters p asked []

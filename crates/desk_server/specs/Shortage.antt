@@ -1,0 +1,26 @@
+-- What may be short when a command is answered.
+use Rattle.std.specs.Prelude.{◌≡◌, ℕ, Bool, true, List, Option, IsSome, ⊤}
+use Rattle.std.specs.List.{AllByRecursion}
+use Rattle.desk_core.specs.declared.cause.Cause.{Cause}
+
+-- nothing, memory, a settling that left so many bookmarks pending, for its cause if it has one, or a bookmark that stayed pending
+pub data Shortage : Type 0 where
+  NoShortage : Shortage
+  Memory : Shortage
+  Unsettled : ℕ → Option Cause → Shortage
+  Pending : Shortage
+
+-- a settling that left bookmarks pending has a cause
+abbrev pub IsCaused : Shortage → Type 0
+IsCaused NoShortage = ⊤
+IsCaused Memory = ⊤
+IsCaused (Unsettled n cause) = IsSome cause
+IsCaused Pending = ⊤
+
+-- over a prompt post it has one
+abbrev pub IsCausedOver : Bool → Shortage → Type 0
+IsCausedOver prompt shortage = prompt ≡ true → IsCaused shortage
+
+-- over a prompt post each of them has one
+abbrev pub AllCausedOver : Bool → List Shortage → Type 0
+AllCausedOver prompt shortages = prompt ≡ true → AllByRecursion IsCaused shortages

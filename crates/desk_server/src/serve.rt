@@ -1,0 +1,237 @@
+//! What the desk does when something is asked.
+ghost use Rattle.std.specs.Prelude.{◌≡◌, IfNone, true};
+ghost use Rattle.std.specs.Arc.{arc_value};
+ghost use Rattle.schedule.specs.Asked.{asked_of};
+ghost use Rattle.desk_core.specs.Rows.{NothingOut, pending_of};
+ghost use Rattle.desk_core.specs.Shown.{IsPending};
+ghost use Rattle.desk_server.specs.Answer.{edited, id_word, obeyed, settled, started, taken};
+ghost use Rattle.desk_server.specs.Heard.{GivesBy, GivesOrLacks, Serves};
+ghost use Rattle.desk_server.specs.Jobs.{Carries, CarriesOn, DropsJobs, IsDoneWith};
+ghost use Rattle.desk_server.specs.Told.{ComputesFor, Leaves};
+
+use crate::command::Command;
+use crate::format::Format;
+use crate::reply::{Reply, refused};
+use crate::request::Request;
+use desk_core::{Cause, Desk, Edit, EditFault, Plane, Post, Rule, Settling, Shown};
+use multistate_macrocell::read_mc;
+use multistate_rle::read_rle;
+use plane_core::Loaded;
+use std::alloc::Global;
+use std::sync::{Arc, Wait};
+
+/// How often a settling may send or receive, which is enough for every document over a prompt post.
+const TURNS: u32 = 1_000_000;
+
+// The word before the id that an edit gives, if it gives one.
+fn id_word(edit: &Edit) -> &'static str
+    ensures { result.now ≡ id_word (asked_of edit.now) }
+{
+    match edit {
+        Edit::InsertIntervention { .. } => " intervention ",
+        Edit::AddBookmark { .. } => " bookmark ",
+        _ => "",
+    }
+}
+
+// Makes an edit, or refuses it.
+fn edit(desk: &mut Desk<'_>, edit: &Edit) -> Reply
+    ensures answer { GivesOrLacks desk.old.plan (edited desk.old.plan (asked_of edit.now))
+        result desk.new }
+    ensures jobs { DropsJobs desk.old desk.new }
+{
+    match desk.edit(edit) {
+        Ok(edited) => Reply::Accepted {
+            revision: edited.revision,
+            word: id_word(edit),
+            number: edited.id,
+        },
+        Err(fault) => refused(&fault),
+    }
+}
+
+// Takes the rule that a text means.
+fn take_rule(alloc: Global, desk: &mut Desk<'_>, text: &[u8]) -> Reply
+    ensures answer { GivesOrLacks desk.old.plan (taken desk.old.plan Format.Rule text.now)
+        result desk.new }
+    ensures jobs { DropsJobs desk.old desk.new }
+{
+    let rule = match Rule::read(alloc, text) {
+        Ok(rule) => rule,
+        Err(fault) => return refused(&fault),
+    };
+    match Arc::new(alloc, rule) {
+        Ok(rule) => edit(desk, &Edit::ReplaceRule(rule)),
+        Err(_) => refused(&EditFault::NoMemory),
+    }
+}
+
+// Takes a start whose file names this generation, or refuses it; the desk counts from 0 all the
+// same.
+fn begin(desk: &mut Desk<'_>, start: Arc<Plane>, generation: u64) -> Reply
+    ensures answer { GivesOrLacks desk.old.plan (started desk.old.plan generation (arc_value start))
+        result desk.new }
+    ensures jobs { DropsJobs desk.old desk.new }
+{
+    let edited = match desk.edit(&Edit::ReplaceStart(start)) {
+        Ok(edited) => edited,
+        Err(fault) => return refused(&fault),
+    };
+    Reply::Accepted {
+        revision: edited.revision,
+        word: " gen ",
+        number: Some(generation),
+    }
+}
+
+// Takes the start that a file holds.
+fn take_start(alloc: Global, desk: &mut Desk<'_>, pattern: Loaded) -> Reply
+    ensures answer { GivesOrLacks desk.old.plan
+        (started desk.old.plan pattern.generation pattern.plane) result desk.new }
+    ensures jobs { DropsJobs desk.old desk.new }
+{
+    match Arc::new(alloc, pattern.plane) {
+        Ok(start) => begin(desk, start, pattern.generation),
+        Err(_) => refused(&EditFault::NoMemory),
+    }
+}
+
+// Takes the start that a run-length encoded text means.
+fn take_rle(alloc: Global, desk: &mut Desk<'_>, text: &[u8]) -> Reply
+    ensures answer { GivesOrLacks desk.old.plan (taken desk.old.plan Format.Rle text.now)
+        result desk.new }
+    ensures jobs { DropsJobs desk.old desk.new }
+{
+    match read_rle(alloc, text) {
+        Ok(pattern) => take_start(alloc, desk, pattern),
+        Err(fault) => refused(&fault),
+    }
+}
+
+// Takes the start that a macrocell text means.
+fn take_macrocell(alloc: Global, desk: &mut Desk<'_>, text: &[u8]) -> Reply
+    ensures answer { GivesOrLacks desk.old.plan (taken desk.old.plan Format.Macrocell text.now)
+        result desk.new }
+    ensures jobs { DropsJobs desk.old desk.new }
+{
+    match read_mc(alloc, text) {
+        Ok(pattern) => take_start(alloc, desk, pattern),
+        Err(fault) => refused(&fault),
+    }
+}
+
+// Takes what a text of this format means.
+fn take(alloc: Global, desk: &mut Desk<'_>, format: Format, text: &[u8]) -> Reply
+    ensures answer { GivesOrLacks desk.old.plan (taken desk.old.plan format text.now)
+        result desk.new }
+    ensures jobs { DropsJobs desk.old desk.new }
+{
+    match format {
+        Format::Rule => take_rule(alloc, desk, text),
+        Format::Rle => take_rle(alloc, desk, text),
+        Format::Macrocell => take_macrocell(alloc, desk, text),
+    }
+}
+
+// Gives up every job that is out.
+fn give_up(desk: &mut Desk<'_>)
+    ensures plan { desk.new.plan ≡ desk.old.plan }
+    ensures jobs { DropsJobs desk.old desk.new }
+    ensures none { NothingOut desk.new }
+{
+    let mut first = desk.first_out();
+    while let Some(number) = first {
+        desk.cancel(number);
+        first = desk.first_out();
+    }
+}
+
+// Computes what isn't known, and gives the cause where one left bookmarks pending. Whatever is out
+// then is given up, so that it is computed anew another time.
+fn compute<P: Post>(rt: &impl Wait, desk: &mut Desk<'_>, post: &mut P) -> Option<Cause>
+    requires { Carries P.table P.floor P.is_prompt P.held post.old desk.old }
+    ensures plan { desk.new.plan ≡ desk.old.plan }
+    ensures caused { P.is_prompt post.old ≡ true → IfNone result (pending_of desk.new ≡ 0) }
+    ensures given_up { IsDoneWith desk.new }
+    ensures post { CarriesOn P.table P.floor P.is_prompt P.held post.old post.new desk.new }
+{
+    match desk_core::settle(rt, desk, post, TURNS) {
+        Settling::Settled => None,
+        Settling::Unsettled { pending: _, cause } => {
+            give_up(desk);
+            cause
+        }
+    }
+}
+
+fn settle<P: Post>(rt: &impl Wait, desk: &mut Desk<'_>, post: &mut P) -> Reply
+    requires { Carries P.table P.floor P.is_prompt P.held post.old desk.old }
+    ensures answer { GivesBy (P.is_prompt post.old) (λ short. settled short desk.old.plan)
+        result desk.new }
+    ensures leaves { Leaves result desk.new }
+    ensures post { CarriesOn P.table P.floor P.is_prompt P.held post.old post.new desk.new }
+{
+    let cause = compute(rt, desk, post);
+    match desk.pending() {
+        0 => Reply::Settled,
+        pending => Reply::Unsettled { pending, cause },
+    }
+}
+
+// Shows a bookmark: at once, unless its text isn't known. Then what isn't known is computed first.
+fn show<P: Post>(rt: &impl Wait, desk: &mut Desk<'_>, post: &mut P, id: u64) -> Reply
+    requires { Carries P.table P.floor P.is_prompt P.held post.old desk.old }
+    ensures answer { GivesBy (P.is_prompt post.old)
+        (λ short. obeyed short desk.old.plan (Command.Show id)) result desk.new }
+    ensures at_once { ¬ IsPending desk.old id → (desk.new ≡ desk.old) × (post.new ≡ post.old) }
+    ensures leaves { Leaves result desk.new }
+    ensures post { CarriesOn P.table P.floor P.is_prompt P.held post.old post.new desk.new }
+{
+    if desk.shown(id) != Shown::Pending {
+        return Reply::Shown { id };
+    }
+    compute(rt, desk, post);
+    // Whatever the desk kept, what it shows is what starting over gives.
+    let _shown = desk.shown(id);
+    Reply::Shown { id }
+}
+
+fn obey<P: Post>(rt: &impl Wait, desk: &mut Desk<'_>, post: &mut P, command: Command) -> Reply
+    requires { Carries P.table P.floor P.is_prompt P.held post.old desk.old }
+    ensures answer { GivesBy (P.is_prompt post.old) (λ short. obeyed short desk.old.plan command)
+        result desk.new }
+    ensures leaves { ComputesFor command → Leaves result desk.new }
+    ensures post { CarriesOn P.table P.floor P.is_prompt P.held post.old post.new desk.new }
+{
+    match command {
+        Command::Edit(change) => edit(desk, &change),
+        Command::Settle => settle(rt, desk, post),
+        Command::Show { id } => show(rt, desk, post, id),
+        Command::Quit => Reply::Bye,
+    }
+}
+
+/// Does what a request asks, and gives the reply. What has to be computed goes over the post.
+pub(crate) fn serve<P: Post>(
+    rt: &impl Wait,
+    alloc: Global,
+    desk: &mut Desk<'_>,
+    post: &mut P,
+    request: Request,
+) -> Reply
+    requires { Carries P.table P.floor P.is_prompt P.held post.old desk.old }
+    ensures answer { Serves (P.is_prompt post.old) request result desk.old desk.new }
+    ensures leaves { (command : Command) → request ≡ Request.Obey command
+        → ComputesFor command → Leaves result desk.new }
+    ensures post { CarriesOn P.table P.floor P.is_prompt P.held post.old post.new desk.new }
+{
+    match request {
+        Request::Obey(command) => obey(rt, desk, post, command),
+        Request::Take { format, text } => match text.bytes() {
+            Some(bytes) => take(alloc, desk, format, bytes),
+            None => refused(&EditFault::NoMemory),
+        },
+        Request::Refuse(fault) => refused(&fault),
+        Request::NoMemory => refused(&EditFault::NoMemory),
+    }
+}

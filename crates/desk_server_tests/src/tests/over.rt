@@ -1,0 +1,145 @@
+//! Scripts over posts that aren't prompt, and how many jobs are sent.
+ghost use Rattle.std.specs.Prelude.{◌≤◌};
+ghost use Rattle.desk_server.specs.Jobs.{IsFresh};
+
+use crate::tests::devices::Pieces;
+use crate::tests::posts::{Closes, Repeats, Reverses, Swallows};
+use crate::tests::{SQUARES, answer_over, same};
+use desk_server::{Entries, InlinePost, Post};
+use revision_jobs::Answers;
+use std::alloc::Global;
+use std::process::Abort;
+use std::sync::Wait;
+
+// The first job is the text of the second bookmark, which needs no step; the next is the step to
+// generation 1, and then comes the text of the first bookmark.
+const SCRIPT: &[u8] =
+    b"set 0 0 1\nmark 1 counts\nmark 0 counts\nsettle\nshow 1\nshow 2\nsettle\nquit\n";
+
+const SETTLED: &[u8] =
+    b"ok 1\nok 2 bookmark 1\nok 3 bookmark 2\nsettled\nbookmark 1 current 4\n1 1\nbookmark 2 current 4\n1 1\nsettled\nbye\n";
+
+const NOTHING: &[u8] =
+    b"ok 1\nok 2 bookmark 1\nok 3 bookmark 2\nunsettled 2 0\nbookmark 1 pending\nbookmark 2 pending\nunsettled 2 0\nbye\n";
+
+// The whole script is answered by these replies, and so many numbers of jobs are below the floor
+// of the post then.
+fn answers_over<P: Post>(
+    rt: &(impl Abort + Wait),
+    alloc: Global,
+    entries: &Entries,
+    post: &mut P,
+    script: &'static [u8],
+    replies: &'static [u8],
+    floor: u64,
+)
+    requires { IsFresh P.table P.floor post.old entries.now }
+{
+    let pieces = Pieces::whole(script);
+    let (answered, told) = answer_over(rt, alloc, entries, post, pieces, Vec::new(alloc));
+    same(rt, &answered, &Ok(()), &replies);
+    same(rt, &told.as_slice(), &replies, &script);
+    same(rt, &post.floor(), &floor, &replies);
+}
+
+fn swallows(
+    rt: &(impl Abort + Wait),
+    alloc: Global,
+    ended: bool,
+    script: &'static [u8],
+    replies: &'static [u8],
+    floor: u64,
+) {
+    let entries = Entries::new(alloc).expect(rt, "memory");
+    let mut post = Swallows {
+        entries: &entries,
+        floor: 0,
+        ended,
+    };
+    answers_over(rt, alloc, &entries, &mut post, script, replies, floor);
+}
+
+// What was swallowed is given up, and asked for anew by each command that needs it.
+#[test]
+fn a_post_that_has_ended_leaves_bookmarks_pending(rt: HostRuntime) {
+    let alloc = rt.alloc();
+    swallows(&rt, alloc, true, SCRIPT, NOTHING, 8);
+}
+
+// It is asked a million times.
+#[test]
+fn a_post_that_never_answers_leaves_bookmarks_pending(rt: HostRuntime) {
+    let alloc = rt.alloc();
+    let replies = b"ok 1 bookmark 1\nunsettled 1 0\n";
+    swallows(&rt, alloc, false, b"mark 0 counts\nsettle\n", replies, 1);
+}
+
+fn closes(
+    rt: &(impl Abort + Wait),
+    alloc: Global,
+    left: u32,
+    script: &'static [u8],
+    replies: &'static [u8],
+    floor: u64,
+) {
+    let entries = Entries::new(alloc).expect(rt, "memory");
+    let mut post = Closes {
+        inner: InlinePost::new(alloc, &entries, SQUARES),
+        left,
+    };
+    answers_over(rt, alloc, &entries, &mut post, script, replies, floor);
+}
+
+// What is known stays current.
+#[test]
+fn a_closed_post_leaves_bookmarks_pending(rt: HostRuntime) {
+    let alloc = rt.alloc();
+    closes(&rt, alloc, 0, SCRIPT, NOTHING, 0);
+    closes(&rt, alloc, 3, SCRIPT, SETTLED, 3);
+    let script = b"mark 0 counts\nsettle\nmark 1 counts\nsettle\nshow 1\nshow 2\n";
+    let replies =
+        b"ok 1 bookmark 1\nsettled\nok 2 bookmark 2\nunsettled 1 0\nbookmark 1 current 6\nempty\nbookmark 2 pending\n";
+    closes(&rt, alloc, 1, script, replies, 1);
+}
+
+#[test]
+fn answers_may_come_twice(rt: HostRuntime) {
+    let alloc = rt.alloc();
+    let entries = Entries::new(alloc).expect(&rt, "memory");
+    let mut post = Repeats {
+        inner: InlinePost::new(alloc, &entries, SQUARES),
+        again: None,
+        answers: Answers::none(),
+    };
+    answers_over(&rt, alloc, &entries, &mut post, SCRIPT, SETTLED, 3);
+}
+
+#[test]
+fn answers_may_come_in_another_order(rt: HostRuntime) {
+    let alloc = rt.alloc();
+    let entries = Entries::new(alloc).expect(&rt, "memory");
+    let mut post = Reverses {
+        first: InlinePost::new(alloc, &entries, SQUARES),
+        last: InlinePost::new(alloc, &entries, SQUARES),
+        floor: 0,
+        answers: Answers::none(),
+    };
+    answers_over(&rt, alloc, &entries, &mut post, SCRIPT, SETTLED, 3);
+}
+
+// The second bookmark is never computed, since the first is shown at once.
+#[test]
+fn a_current_bookmark_is_shown_at_once(rt: HostRuntime) {
+    let alloc = rt.alloc();
+    let entries = Entries::new(alloc).expect(&rt, "memory");
+    let mut post = InlinePost::new(alloc, &entries, SQUARES);
+    answers_over(
+        &rt,
+        alloc,
+        &entries,
+        &mut post,
+        b"mark 0 counts\nshow 1\nmark 0 counts\nshow 1\n",
+        b"ok 1 bookmark 1\nbookmark 1 current 6\nempty\nok 2 bookmark 2\nbookmark 1 current 6\nempty\n",
+        1,
+    );
+}

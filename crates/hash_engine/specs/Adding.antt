@@ -1,0 +1,41 @@
+-- Squares that are added to a table on the way to results.
+use Rattle.std.specs.Prelude.{ℕ, suc, ◌-◌, List, [], ◌∷◌, All, Contains}
+use Rattle.worlds.specs.Square as squares
+use Rattle.square_table.specs.declared.square.Square.{Square}
+use Rattle.square_table.specs.Squares.{Table, square_in, Grows, level_of, cells_of}
+use Rattle.square_table.specs.Made.{AreAmong, Adds}
+use Rattle.hash_life.specs.Puts.{fours_of}
+use Rattle.hash_life.specs.Makes.{Makes}
+use Rattle.hash_engine.specs.Standing.{StandsFor, StandForAll}
+
+-- whatever squares of a level m and n stand for, the table has no square more but f of these
+abbrev pub AddsOfTwo : (squares.Square → squares.Square → squares.Square) →
+    Table → ℕ → ℕ → Table → Type 0
+AddsOfTwo f t m n u =
+    (k : ℕ) (a b : squares.Square) → StandsFor t.rows (suc k) m a → StandsFor t.rows (suc k) n b →
+    Adds (f a b ∷ []) t u
+
+-- whatever square of 4 by 4 cells or more n stands for, the table has no square more but those of f
+abbrev pub AddsOf : (squares.Square → List squares.Square) → Table → ℕ → Table → Type 0
+AddsOf f t n u = (k : ℕ) (s : squares.Square) → StandsFor t.rows (suc (suc k)) n s → Adds (f s) t u
+
+-- whatever squares nine stand for, the table has no square more but the four that overlap in them
+abbrev pub AddsFours : Table → List ℕ → Table → Type 0
+AddsFours t nine u =
+    (k : ℕ) (ss : List squares.Square) → StandForAll t.rows k nine ss → Adds (fours_of ss) t u
+
+-- the table has no square more but those on the way to the results of these squares of level k + 2
+pub record AddsFor (next : List ℕ → ℕ) (k generations : ℕ) (numbers : List ℕ) (t u : Table)
+    : Type 0 where
+  pub among : (all : List squares.Square) →
+      All (λ i. Makes next k generations (square_in t.rows (suc (suc k)) i) (Contains all))
+      numbers →
+      AreAmong all t.rows → AreAmong all u.rows
+
+-- the one table with more rows, or none, of squares on the way to the root's result is the other
+pub record GrowsOnWay (next : List ℕ → ℕ) (generations : ℕ) (t : Table) (root : Square) (u : Table)
+    : Type 0 where
+  pub grows : Grows t u
+  pub among : (all : List squares.Square) →
+      Makes next (level_of root - 2) generations (cells_of t root) (Contains all) →
+      AreAmong all t.rows → AreAmong all u.rows

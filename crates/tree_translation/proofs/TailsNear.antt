@@ -1,0 +1,89 @@
+-- Words of bits tell which states a tail lets be the input, and alike bits which it treats alike.
+use Rattle.std.proofs.Common.{◌≡◌, ℕ, zero, suc, ◌+◌, ◌*◌, ◌/◌, ◌%◌, ◌^◌, ◌<◌, ◌≤◌, Bool, true, false, cond, List, [], ◌∷◌, ◌++◌, All, map, Option, None, get_or, length, sym, ap, refl, ◌∙◌, ◌-◌, arith}
+use Rattle.std.specs.Prelude.{◌==◌}
+use Rattle.std.specs.Int.{bit_at}
+use Rattle.std.specs.List.{range_with_len}
+use Rattle.std.proofs.lemmas.Bool.Decides.{nat_tests}
+use Rattle.std.proofs.lemmas.List.{get_or_default}
+use Rattle.std.proofs.lemmas.List.Elements.{All-push, All-tail}
+use Rattle.std.proofs.lemmas.Nat.Bits.{bit_at-lt, bit_at-suc, bit_at-zero, bit_at_lowest}
+use Rattle.table_lines.specs.States.{has, number_of_bits, word_of}
+use Rattle.tree_translation.specs.declared.layers.Layer.{Layer}
+use Rattle.tree_translation.specs.declared.layers.Tail.{Tail}
+use Rattle.tree_translation.specs.Layers.{allows, lets}
+use Rattle.tree_translation.specs.Near.{AreAlike, AreNear}
+use Rattle.tree_translation.specs.Translation.{LeftOf, asked_behind, first_some}
+use Rattle.tree_translation.proofs.TailsLeft.{first_some-push}
+
+-- the bits of a number are the digits that it was made of
+bit-number : (f : ℕ → Bool) (a n i : ℕ) → i < n → (bit_at (number_of_bits (map f (range_with_len a n))) i == 1) ≡ f (a + i)
+unfolding number_of_bits
+bit-number f a zero i h = absurd (omega arith)
+bit-number f a (suc n) zero h =
+    let here : a + 0 ≡ a = omega arith in
+    rw (bit_at_lowest, here) (grind (arith, nat_tests))
+bit-number f a (suc n) (suc i) h =
+    let there : a + 1 + i ≡ a + suc i = omega arith in
+    let others = number_of_bits (map f (range_with_len (a + 1) n)) in
+    let half : (cond (f a) 1 0 + 2 * others) / 2 ≡ others = grind arith in
+    rw (bit_at-suc, half, ← there) (bit-number f (a + 1) n i (omega arith))
+
+-- a word tells which of 64 states a set has
+pub bit-word : (states : List ℕ) (q i : ℕ) → i < 64 → (bit_at (word_of states q) i == 1) ≡ has states (64 * q + i)
+unfolding word_of
+bit-word states q i h = bit-number (has states) (64 * q) 64 i h
+
+-- what a tail lets the input be, by the tail and the set that are read
+pub lets-read : (layer : Layer) (number : ℕ) (tail : Tail) (set : Option (List ℕ)) → All (λ (t : Tail). t.set < length layer.sets.items) layer.tails.items → number < length layer.tails.items → tail ≡ get_or layer.tails.items number tail → set ≡ get_or layer.sets.items tail.set set
+    → (state : ℕ) → allows set state ≡ lets layer number state
+lets-read layer number tail set sets inside is there state =
+    let none : Tail = record { set = 0; rest = 0 } in
+    let same : tail ≡ get_or layer.tails.items number none = is ∙ get_or_default layer.tails.items number tail none inside in
+    let room : tail.set < length layer.sets.items = rw (← is) at (sets number tail inside) in
+    let read : set ≡ get_or layer.sets.items tail.set None = there ∙ get_or_default layer.sets.items tail.set set None room in
+    ap (λ s. allows s state) read ∙ ap (λ (t : Tail). allows (get_or layer.sets.items t.set None) state) same
+
+-- a tail with no bit of a block lets none of its states be the input
+pub lets-none : (layer : Layer) (number block state : ℕ) → ((bit : ℕ) → bit < 64 → (bit_at 0 bit == 1) ≡ lets layer number (64 * block + bit)) → state / 64 ≡ block → lets layer number state ≡ false
+lets-none layer number block state bits same =
+    let place : 64 * block + state % 64 ≡ state = omega (arith, same) in
+    ap (lets layer number) (sym place) ∙ sym (bits (state % 64) (omega arith)) ∙ ap (λ b. b == 1) (bit_at-zero (state % 64))
+
+-- a tail with alike bits treats their states alike
+pub alike-bits : (layer : Layer) (number state count word : ℕ) → ((bit : ℕ) → bit < 64 → (bit_at word bit == 1) ≡ lets layer number (64 * (state / 64) + bit)) → state % 64 + count ≤ 64
+    → ((i : ℕ) → i < count → bit_at word (state % 64 + i) ≡ bit_at word (state % 64)) → AreAlike layer state count number
+alike-bits layer number state count word bits room alike s low high =
+    let place : 64 * (state / 64) + state % 64 ≡ state = omega arith in
+    let there : 64 * (state / 64) + (state % 64 + (s - state)) ≡ s = omega (arith, low) in
+    sym (bit s (state % 64 + (s - state)) (omega (arith, low, high, room)) there)
+    ∙ ap (λ b. b == 1) (alike (s - state) (omega (arith, low, high)))
+    ∙ bit state (state % 64) (omega arith) place
+  where
+    bit : (t b : ℕ) → b < 64 → 64 * (state / 64) + b ≡ t → (bit_at word b == 1) ≡ lets layer number t
+    bit t b l e = bits b l ∙ ap (lets layer number) e
+
+-- what leaves a block of states alone may be left out
+pub near-more : (layer : Layer) (block : ℕ) (list near : List ℕ) (number : ℕ) → number < length layer.tails.items → AreNear layer block list near → AreNear layer block (list ++ number ∷ []) (near ++ number ∷ [])
+near-more layer block list near number inside are = record {
+  inside = All-push (λ n. n < length layer.tails.items) near number are.inside inside;
+  same = λ state f h. grind (arith, are.same state f h, first_some-push (asked_behind layer state f) list number, first_some-push (asked_behind layer state f) near number);
+}
+
+pub near-passed : (layer : Layer) (block : ℕ) (list near : List ℕ) (number : ℕ) → ((state : ℕ) → state / 64 ≡ block → lets layer number state ≡ false) → AreNear layer block list near → AreNear layer block (list ++ number ∷ []) near
+near-passed layer block list near number none are = record {
+  inside = are.inside;
+  same = λ state f h. grind (arith, are.same state f h, none state h, first_some-push (asked_behind layer state f) list number);
+}
+
+-- tails that treat two states alike leave the same behind them
+first_some-alike : (layer : Layer) (s state : ℕ) (f : ℕ → Option ℕ) (list : List ℕ) → All (λ n. lets layer n s ≡ lets layer n state) list → first_some (asked_behind layer s f) list ≡ first_some (asked_behind layer state f) list
+first_some-alike layer s state f [] alike = refl
+first_some-alike layer s state f (n ∷ list) alike =
+    grind (arith, alike 0 0 (omega arith), first_some-alike layer s state f list (All-tail (λ n. lets layer n s ≡ lets layer n state) n list alike))
+
+-- what the tails near a state leave behind it is left of the whole list, behind each state that they treat alike
+pub LeftOf-alike : (layer : Layer) (state count s : ℕ) (list near left : List ℕ) → AreNear layer (state / 64) list near → All (AreAlike layer state count) near → state % 64 + count ≤ 64 → LeftOf layer state near left
+    → state ≤ s → s < state + count → LeftOf layer s list left
+LeftOf-alike layer state count s list near left are alike room is low high f =
+    let block : s / 64 ≡ state / 64 = omega (arith, low, high, room) in
+    is f ∙ sym (first_some-alike layer s state f near (λ k d l. alike k d l s low high)) ∙ are.same s f block
