@@ -115,15 +115,6 @@ pub takes : (port : ℕ) (v : EndView) → Pops IsBalanced port v (IsTaking v)
 takes port v job jobs views b at =
     let w : EndView = end_view v.sends v.sent (v.taken ++ slip_of job ∷ []) v.table in
     let mine = b.fits port v at in
-    let balance = λ (weight : Slip → ℕ).
-    let less : sum_by weight b.sent ≡ sum_by (taken_weight weight) (set views port w) + sum_by (λ (other : Job). weight (slip_of other)) jobs = omega (
-      arith,
-      sum_by_push weight v.taken (slip_of job),
-      sum_by-cons (λ (other : Job). weight (slip_of other)) job jobs,
-      sum_set (taken_weight weight) views port v w at,
-      b.balance weight,
-    ) in
-    less in
     let among : AreAmong w.taken b.sent = λ weight.
     omega (
       arith,
@@ -138,7 +129,13 @@ takes port v job jobs views b at =
         sent = b.sent;
         table = b.table;
         rises = b.rises;
-        balance = balance;
+        balance = λ weight. omega (
+          arith,
+          sum_by_push weight v.taken (slip_of job),
+          sum_by-cons (λ (other : Job). weight (slip_of other)) job jobs,
+          sum_set (taken_weight weight) views port v w at,
+          b.balance weight,
+        );
         fits = fits_set b.seat b.sent b.table views port w (λ j u _ e. b.fits j u e) record { sender = mine.sender; knows = mine.knows };
         owned = b.owned.1;
         alone = λ e. length-set views port w ∙ b.alone e;

@@ -1,5 +1,5 @@
 -- Slips: what names a job in the lists of a queue.
-use Rattle.std.specs.Prelude.{◌≡◌, ℕ, ◌+◌, ◌≤◌, ◌==◌, List, [], ◌∷◌, count_by, sum_by, ⊤}
+use Rattle.std.specs.Prelude.{ℕ, ◌+◌, ◌≤◌, ◌==◌, List, [], ◌∷◌, count_by, sum_by, ⊤}
 use Rattle.revision_jobs.specs.declared.answer.Job.{Job}
 use Rattle.revision_jobs.specs.Entries.{index_of}
 use Rattle.job_queue.specs.declared.rule.Slip.{Slip}

@@ -1,4 +1,4 @@
-use Rattle.std.proofs.Common.{◌∙◌, refl, List, ap, false, true, true≢false, sym}
+use Rattle.std.proofs.Common.{◌∙◌, refl, List, ap, true≢false, sym}
 use Rattle.revision_jobs.specs.declared.answer.Job.{Job}
 use Rattle.revision_jobs.specs.declared.post.Sent.{Sent}
 use Rattle.revision_jobs.specs.declared.post.Sent.TheVariants.{Taken, Full, Closed}
