@@ -10,7 +10,7 @@ use Rattle.decision_tree.specs.Kept.{AreKept, IsKeptTree, IsTreeHead, nodes_in, 
 use Rattle.decision_tree.specs.Tree.{Tree, is_quiescent, leads, next, places_of, root_of}
 use Rattle.decision_tree.specs.TreeLines.{depth_of_root, if_quiescent, tree_from}
 use Rattle.decision_tree.proofs.Following.{root-kept}
-use Rattle.decision_tree.proofs.KeptNodes.{entries-nodes_of}
+use Rattle.decision_tree.proofs.Shared.KeptNodes.{entries-nodes_of}
 
 pub tree-kept : (head : TreeHead) (depths entries : List ℕ) (root : ℕ) → length depths ≡ root + 1 → tree_from head (nodes_of head.states depths entries) ≡ tree_of_kept head.states head.neighbors root entries
 tree-kept head depths entries root whole =

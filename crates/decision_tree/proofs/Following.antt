@@ -7,7 +7,7 @@ use Rattle.decision_tree.specs.declared.tree.Neighbors.{Neighbors}
 use Rattle.decision_tree.specs.Kept.{nodes_in, tree_of_kept, IsKeptTree, Stores}
 use Rattle.decision_tree.specs.Tree.{node_at, leads, follow, next, is_quiescent, root_of, places_of, inputs_of}
 use Rattle.decision_tree.specs.TreeLaws.{leads-on, leads-width}
-use Rattle.decision_tree.proofs.KeptNodes.{entry-in, length-nodes_in, none-past}
+use Rattle.decision_tree.proofs.Shared.KeptNodes.{entry-in, length-nodes_in, none-past}
 
 -- what one input does, where the entry that it chooses stands at `place`
 pub record Step (n count : ℕ) (entries : List ℕ) (number : ℕ) (inputs : List ℕ) (k place : ℕ) : Type 0 where

@@ -4,7 +4,7 @@ use Rattle.std.specs.Option.{option_map_or, ok_or}
 use Rattle.basics.specs.Results.{◌>>=◌}
 use Rattle.rule_file.specs.declared.fault.RuleFault.{RuleFault}
 use Rattle.rule_file.specs.declared.fault.RuleFault.TheVariants.{BadTree}
-use Rattle.rule_file.proofs.Readings.{WantsNone}
+use Rattle.rule_file.proofs.Shared.Readings.{WantsNone}
 use Rattle.rule_file.specs.RuleFile.{NumberedLine}
 use Rattle.decision_tree.specs.declared.descriptors.Descriptor.{Descriptor}
 use Rattle.decision_tree.specs.declared.descriptors.TreeHead.{TreeHead}

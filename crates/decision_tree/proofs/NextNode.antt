@@ -9,8 +9,8 @@ use Rattle.rule_file.specs.RuleFile.{NumberedLine}
 use Rattle.decision_tree.specs.declared.descriptors.TreeHead.{TreeHead}
 use Rattle.decision_tree.specs.Kept.{AreKept, IsTreeHead, nodes_of, saturated}
 use Rattle.decision_tree.specs.TreeLines.{Node, is_next, node_from, nodes_from, numbers_in, with_line, words}
-use Rattle.decision_tree.proofs.Growing.{is_next-node, depth-low, entries-low}
-use Rattle.decision_tree.proofs.KeptNodes.{depths-nodes_of, length-nodes_of}
+use Rattle.decision_tree.proofs.Shared.Growing.{is_next-node, depth-low, entries-low}
+use Rattle.decision_tree.proofs.Shared.KeptNodes.{depths-nodes_of, length-nodes_of}
 
 -- small numbers are kept as they are
 all-small : (ns : List ℕ) → list_all (λ n. nat_lt n 4294967295) ns ≡ true → map saturated ns ≡ ns

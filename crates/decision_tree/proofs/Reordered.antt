@@ -8,11 +8,11 @@ use Rattle.rule_file.specs.declared.fault.RuleFault.{RuleFault}
 use Rattle.rule_file.specs.declared.fault.RuleFault.TheVariants.{BadTree}
 use Rattle.rule_file.specs.States.{states_in}
 use Rattle.rule_file.specs.RuleFile.{NumberedLine}
-use Rattle.rule_file.proofs.Readings.{GivesToo, then_too}
+use Rattle.rule_file.proofs.Shared.Readings.{GivesToo, then_too}
 use Rattle.decision_tree.specs.declared.descriptors.Descriptor.{Descriptor}
 use Rattle.decision_tree.specs.declared.descriptors.Descriptor.TheVariants as descriptor
 use Rattle.decision_tree.specs.declared.tree.Neighbors.{Neighbors}
-use Rattle.decision_tree.proofs.Renumbered.{after_head, described, head_by, nodes_from-too}
+use Rattle.decision_tree.proofs.Shared.Renumbered.{after_head, described, head_by, nodes_from-too}
 use Rattle.decision_tree.specs.Laws.{DescriptorsInAnyOrder, is_descriptor}
 use Rattle.decision_tree.specs.TreeLines.{Described, describe, descriptor_of, head_from, if_quiescent, last_number, neighbors_in, node_count_in, nodes_from, once, tree_from, undescribed}
 

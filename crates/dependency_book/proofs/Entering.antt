@@ -10,7 +10,7 @@ use Rattle.worlds.specs.Lay.{lay}
 use Rattle.worlds.specs.Step.{step}
 use Rattle.worlds.specs.Iterate.{iterate}
 use Rattle.worlds.specs.Range.{AllBelow, CanBeLaid, HasMargin}
-use Rattle.worlds.proofs.Stepped.{HasMargin-less}
+use Rattle.worlds.proofs.Shared.Stepped.{HasMargin-less}
 use Rattle.rule_tree.specs.declared.rule.Rule.{Rule}
 use Rattle.rule_tree.specs.Rule.{next_of, name_of, states_of}
 use Rattle.bookmarks.specs.declared.view.View.{View as ViewOf}
@@ -20,7 +20,7 @@ use Rattle.schedule.specs.declared.document.Bookmark.{Bookmark}
 use Rattle.schedule.specs.Plan.{Plan}
 use Rattle.schedule.specs.Scratch.{cells_at, arrival, after}
 use Rattle.schedule.specs.Sound.{IsSound}
-use Rattle.schedule.proofs.History.{AreNamed-at, SetBelow-at, AllBelow-after, HasMargin-after, CanBeLaid-named}
+use Rattle.schedule.proofs.Shared.History.{AreNamed-at, SetBelow-at, AllBelow-after, HasMargin-after, CanBeLaid-named}
 use Rattle.revision_jobs.specs.declared.entry.Entry.{Entry}
 use Rattle.revision_jobs.specs.declared.entry.Entry.TheVariants as entry
 use Rattle.revision_jobs.specs.Value.{pattern, text, value, CanBeWorked}
@@ -40,7 +40,7 @@ use Rattle.dependency_book.specs.Rearranged.{rows_below}
 use Rattle.dependency_book.proofs.Marked.{either_way, true_eq, eq_true, eq_false, true_lt, false_lt, has, absent_below}
 use Rattle.dependency_book.proofs.Needed.{stepped}
 use Rattle.dependency_book.proofs.Placed.{rise_at, over_0, near_at, quiet_at, start_arrives}
-use Rattle.dependency_book.proofs.Put.{known_at, key_at-mark}
+use Rattle.dependency_book.proofs.Shared.Put.{known_at, key_at-mark}
 use Rattle.dependency_book.proofs.Walk.{arrival-gap}
 
 -- the last mark below another

@@ -9,7 +9,7 @@ pub mod Noted
 pub mod Revised
 pub mod Found
 pub mod Stepping
-pub mod Put
+pub mod Shared
 pub mod Putting
 pub mod Placed
 pub mod Needed

@@ -4,7 +4,7 @@ use Rattle.std.specs.Prelude.{if◌then◌else◌, ◌==◌, IfSome}
 use Rattle.std.specs.List.{list_any, insert}
 use Rattle.std.proofs.lemmas.Bool.{cond-true, cond-false, or_parts, or_from, or_left, or_right}
 use Rattle.std.proofs.lemmas.List.{drop_all}
-use Rattle.schedule.proofs.Ids.{each_filter}
+use Rattle.schedule.proofs.Shared.Ids.{each_filter}
 use Rattle.dependency_book.proofs.Loops.{headed}
 use Rattle.std.proofs.lemmas.Bool.Decides.{nat_tests}
 use Rattle.worlds.specs.World.{World}

@@ -6,7 +6,7 @@ use Rattle.std.proofs.lemmas.List.{drop_all}
 use Rattle.dependency_book.specs.declared.finding.Finding.{Finding}
 use Rattle.dependency_book.specs.declared.row.Row.{Row}
 use Rattle.dependency_book.specs.Rows.{put}
-use Rattle.dependency_book.proofs.Put.{length-put}
+use Rattle.dependency_book.proofs.Shared.Put.{length-put}
 
 -- the first k rows don't fit
 abbrev pub PassOver : {K V : Type 0} → (K → Bool) → List (Row K V) → ℕ → Type 0

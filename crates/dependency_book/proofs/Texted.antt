@@ -5,8 +5,8 @@ use Rattle.std.proofs.lemmas.Bool.{cond-true, cond-false}
 use Rattle.schedule.specs.declared.document.Bookmark.{Bookmark}
 use Rattle.schedule.specs.Ids.{bookmark_id, changed_at, without}
 use Rattle.schedule.specs.Change.{marking}
-use Rattle.schedule.proofs.Ids.{each_filter}
-use Rattle.basics.proofs.Lists.{all_append}
+use Rattle.schedule.proofs.Shared.Ids.{each_filter}
+use Rattle.basics.proofs.Shared.Lists.{all_append}
 use Rattle.dependency_book.specs.declared.finding.Finding.{Finding}
 use Rattle.dependency_book.specs.Rows.{TextRow, value_at, AllKnown, unknown, forget, keys, of_id}
 use Rattle.dependency_book.specs.Known.{bookmark_in}

@@ -34,7 +34,7 @@ use Rattle.dependency_book.proofs.Entering.{mark_some, entry_gives}
 use Rattle.dependency_book.proofs.Needed.{stepped, viewed}
 use Rattle.dependency_book.proofs.Placed.{has_at, bookmark_at, value_at-place, text_at-place}
 use Rattle.dependency_book.proofs.Outs.{out_at, none_at, out_for, numbered}
-use Rattle.dependency_book.proofs.Put.{known_at, any_at, key_at-mark, key_at-text, need_is, need_same}
+use Rattle.dependency_book.proofs.Shared.Put.{known_at, any_at, key_at-mark, key_at-text, need_is, need_same}
 
 -- a row that expects a job
 

@@ -21,7 +21,7 @@ use Rattle.dependency_book.specs.Jobs.{issued, answered, SameBook}
 use Rattle.dependency_book.specs.Kept.{KeepsRows, keeps_arrival, keeps_text, text_kept}
 use Rattle.dependency_book.specs.Known.{Known, arrival_row, text_row, row_of, bookmark_in}
 use Rattle.dependency_book.specs.Marks.{is_noted}
-use Rattle.dependency_book.proofs.Put.{map_if}
+use Rattle.dependency_book.proofs.Shared.Put.{map_if}
 use Rattle.desk_core.specs.Events.{Core, core_of, kept_row, after_edit, after_event, edits, issues, collects}
 
 abbrev core : Plan → ℕ → (Need → Option (Finding Value)) → Core

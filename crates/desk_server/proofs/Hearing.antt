@@ -1,8 +1,8 @@
 -- What lines ask.
 use Rattle.std.proofs.Common.{◌≡◌, ℕ, ◌+◌, List, [], ◌∷◌, ◌++◌, length, Bool, true, false, sym, ◌∙◌, ap, refl, append_assoc, append-nil, arith, subst, ◌<◌, ◌≤◌, OnOk, Option, None, Some, Result, Ok, Err, IfOk, OnErr}
 use Rattle.script_lines.specs.Ahead.{Ahead}
-use Rattle.script_lines.proofs.Ahead.{takes_then}
-use Rattle.script_lines.proofs.Taking.{line_falls}
+use Rattle.script_lines.proofs.Shared.Ahead.{takes_then}
+use Rattle.script_lines.proofs.Shared.Taking.{line_falls}
 use Rattle.text_lines.specs.Lines.{End, Ended, Broken, Line, lines_until}
 use Rattle.script_lines.specs.ScriptLine.{NoneEnds, raw_bytes, is_end, is_passed_over}
 use Rattle.script_lines.specs.Script.{Follows, LineTaken, TextTaken, NoEndAmong, ReadsText}

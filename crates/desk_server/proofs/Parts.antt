@@ -3,7 +3,7 @@ use Rattle.std.proofs.Common.{◌≡◌, ℕ, zero, suc, ◌+◌, ◌<◌, List,
 use Rattle.std.proofs.KnownBytes.{Appends-trans}
 use Rattle.std.specs.Io.KnownBytes.{Appends}
 use Rattle.script_lines.specs.Faults.{AppendsFront}
-use Rattle.script_lines.proofs.Told.{IsUnderWay, front_first, front_then}
+use Rattle.script_lines.proofs.Shared.Told.{IsUnderWay, front_first, front_then}
 use Rattle.desk_server.specs.Told.{part_text, parts_text}
 use Rattle.desk_server.specs.declared.reply.Part.{Part}
 

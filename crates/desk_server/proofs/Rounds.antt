@@ -3,12 +3,12 @@ use Rattle.std.proofs.Common.{◌≡◌, ◌≢◌, ℕ, List, [], ◌∷◌, �
 use Rattle.std.specs.Prelude.{flat_map}
 use Rattle.std.proofs.KnownBytes.{Appends-nil, Appends-trans}
 use Rattle.script_lines.specs.Ahead.{Ahead, Takes}
-use Rattle.script_lines.proofs.Ahead.{takes_none, takes_then}
+use Rattle.script_lines.proofs.Shared.Ahead.{takes_none, takes_then}
 use Rattle.std.specs.Io.KnownBytes.{Consumes, Appends, IsAtEnd}
 use Rattle.text_lines.specs.Lines.{End, Ended, Broken, lines_until}
 use Rattle.script_lines.specs.Faults.{AppendsFront}
 use Rattle.script_lines.specs.Script.{Follows}
-use Rattle.script_lines.proofs.Told.{front_first, front_then}
+use Rattle.script_lines.proofs.Shared.Told.{front_first, front_then}
 use Rattle.schedule.specs.Plan.{Plan, opening}
 use Rattle.desk_core.specs.Rows.{Known}
 use Rattle.std.specs.List.{AllByRecursion}

@@ -5,13 +5,13 @@ use Rattle.std.proofs.lemmas.List.Elements.{All-nil, All-cons, All-weaker}
 use Rattle.worlds.specs.Square.{Square, one, four}
 use Rattle.square_table.specs.Squares.{Table, IsNumber, square_in, kids_at, IsSquareOf, Grows, GrowsBy}
 use Rattle.square_table.specs.Made.{AreAmong, Adds}
-use Rattle.square_table.proofs.Growth.{Grows-same, Grows-then}
-use Rattle.square_table.proofs.Making.{Adds-joined}
+use Rattle.square_table.proofs.Shared.Growth.{Grows-same, Grows-then}
+use Rattle.square_table.proofs.Shared.Making.{Adds-joined}
 use Rattle.hash_life.specs.Result.{between, amid, middle, later, result}
 use Rattle.hash_life.specs.Puts.{nine_of, fours_of}
 use Rattle.hash_life.specs.Makes.{Makes}
-use Rattle.hash_life.proofs.InTwo.{result-none, result-later}
-use Rattle.hash_life.proofs.Made.{Makes-itself, Makes-result, Makes-nine, Makes-fours}
+use Rattle.hash_life.proofs.Shared.InTwo.{result-none, result-later}
+use Rattle.hash_life.proofs.Shared.Made.{Makes-itself, Makes-result, Makes-nine, Makes-fours}
 use Rattle.hash_engine.specs.Standing.{StandsFor, StandForAll}
 use Rattle.hash_engine.specs.Adding.{AddsOfTwo, AddsOf, AddsFours, AddsFor}
 use Rattle.hash_engine.proofs.Standing.{StandsFor-itself, StandsFor-grows, StandForAll-grows, StandsFor-of_nine, quadrants, listed, fours_at}

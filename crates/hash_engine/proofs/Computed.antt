@@ -5,8 +5,8 @@ use Rattle.worlds.specs.Square.{Square, one, four}
 use Rattle.square_table.specs.Squares.{Table, IsNumber, square_in, IsSquareOf, Grows}
 use Rattle.hash_life.specs.Result.{middle, later, in_two, result}
 use Rattle.hash_life.specs.Puts.{nine_of, fours_of, Puts, IsBelow}
-use Rattle.hash_life.proofs.Below.{Keeps, Puts-below}
-use Rattle.hash_life.proofs.InTwo.{result-none, result-later, result-in_two, Puts-nine, Puts-fours, Puts-itself}
+use Rattle.hash_life.proofs.Shared.Below.{Keeps, Puts-below}
+use Rattle.hash_life.proofs.Shared.InTwo.{result-none, result-later, result-in_two, Puts-nine, Puts-fours, Puts-itself}
 use Rattle.hash_engine.specs.Standing.{StandsFor, StandForAll, IsReady}
 use Rattle.hash_engine.specs.Memo.{IsRight}
 use Rattle.hash_engine.specs.Found.{IsSameRule}

@@ -1,8 +1,8 @@
 -- What is remembered stays right, and tells the result of the square that is asked for.
 use Rattle.std.proofs.Common.{◌≡◌, ℕ, suc, ◌+◌, ◌-◌, ◌<◌, ◌≤◌, ◌^◌, List, get_or, sym, subst, arith}
 use Rattle.square_table.specs.Squares.{Table, IsNumber, square_in, first_number, Grows}
-use Rattle.square_table.proofs.Growth.{IsNumber-grows, square_in-grows}
-use Rattle.square_table.proofs.Numbers.{one_level}
+use Rattle.square_table.proofs.Shared.Growth.{IsNumber-grows, square_in-grows}
+use Rattle.square_table.proofs.Shared.Numbers.{one_level}
 use Rattle.hash_life.specs.Result.{result}
 use Rattle.hash_engine.specs.Standing.{StandsFor}
 use Rattle.hash_engine.specs.Memo.{IsResult, AreKnown, IsRight}

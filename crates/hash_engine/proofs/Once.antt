@@ -7,16 +7,16 @@ use Rattle.worlds.specs.World.{World}
 use Rattle.worlds.specs.Step.{nine_zeros}
 use Rattle.worlds.specs.Square.{Square, one, square_at}
 use Rattle.square_table.specs.Squares.{Table, square_in, first_number, Grows, AreDistinct}
-use Rattle.square_table.proofs.Numbers.{one_number}
+use Rattle.square_table.proofs.Shared.Numbers.{one_number}
 use Rattle.hash_life.specs.Result.{result}
 use Rattle.hash_life.specs.Puts.{nine_of, fours_of, Puts, Stands, AsksOnce}
-use Rattle.hash_life.proofs.Places.{what_is_put}
+use Rattle.hash_life.proofs.Shared.Places.{what_is_put}
 use Rattle.hash_engine.specs.Standing.{StandForAll}
 use Rattle.hash_engine.specs.Memo.{IsRight}
 use Rattle.hash_engine.specs.Asked.{is_put, picked, places_put, AllStand, AsksForMore}
 use Rattle.hash_engine.specs.declared.memo.Memo.{Memo}
 use Rattle.hash_engine.proofs.Picked.{picked-none, All-picked, different-picked}
-use Rattle.hash_engine.proofs.Puts.{is_put-none, IsNumber-put, count-grows, AllStand-grows}
+use Rattle.hash_engine.proofs.Shared.Puts.{is_put-none, IsNumber-put, count-grows, AllStand-grows}
 use Rattle.hash_engine.proofs.Computed.{Puts-first, Puts-then}
 
 -- what is put to the rule for squares is put to it for their numbers

@@ -2,7 +2,7 @@
 use Rattle.std.proofs.Common.{◌≡◌, ℕ, zero, suc, ◌+◌, ◌<◌, ◌≤◌, List, [], ◌∷◌, length, get_or, refl, sym, ◌∙◌, ap, ap₂, subst, arith}
 use Rattle.worlds.specs.Square.{Square, one, four}
 use Rattle.square_table.specs.Squares.{Table, IsNumber, square_in, kids_at, kid_at, first_number, IsSquareOf, Grows, AreNumbers}
-use Rattle.square_table.proofs.Growth.{AreNumbers-quadrants, IsNumber-grows, square_in-grows, IsNumber-joined, square_in-joined}
+use Rattle.square_table.proofs.Shared.Growth.{AreNumbers-quadrants, IsNumber-grows, square_in-grows, IsNumber-joined, square_in-joined}
 use Rattle.hash_life.specs.Result.{between, amid, middle}
 use Rattle.hash_life.specs.Puts.{nine_of, fours_of}
 use Rattle.hash_engine.specs.Standing.{StandsFor, StandForAll}

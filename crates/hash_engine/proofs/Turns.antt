@@ -6,7 +6,7 @@ use Rattle.std.proofs.lemmas.Bool.{cases_eq}
 use Rattle.std.proofs.lemmas.List.{length-map, get_or-map, get_or_default, get_or-set_same, get_or-set_other}
 use Rattle.worlds.specs.Square.{Square, one}
 use Rattle.square_table.specs.Squares.{Table, square_in, Grows}
-use Rattle.square_table.proofs.Growth.{IsNumber-grows, square_in-grows}
+use Rattle.square_table.proofs.Shared.Growth.{IsNumber-grows, square_in-grows}
 use Rattle.hash_life.specs.Result.{result}
 use Rattle.hash_life.specs.Puts.{Puts, IsBelow}
 use Rattle.hash_engine.specs.Standing.{StandsFor, StandForAll, IsReady}

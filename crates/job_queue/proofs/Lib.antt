@@ -1,2 +1,2 @@
-pub mod Once
+pub mod Shared
 pub mod Steps

@@ -14,7 +14,7 @@ use Rattle.job_queue.specs.declared.rule.Slip.{Slip}
 use Rattle.job_queue.specs.Balance.{AreOfKnown, Fits, IsBalanced, IsSending, IsTabled, IsTaking, end_view}
 use Rattle.job_queue.specs.Slips.{AreAmong, floor_of, slip_of}
 use Rattle.job_queue.specs.Tables.{IsOfKnown, table_in}
-use Rattle.job_queue.proofs.Once.{none_twice, rises_push}
+use Rattle.job_queue.proofs.Shared.Once.{none_twice, rises_push}
 
 -- what jobs weigh is what their slips weigh
 weigh_jobs : (weight : Slip → ℕ) (jobs : List Job) → sum_by weight (map slip_of jobs) ≡ sum_by (λ (job : Job). weight (slip_of job)) jobs

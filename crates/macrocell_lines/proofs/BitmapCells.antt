@@ -9,7 +9,7 @@ use Rattle.macrocell_lines.specs.declared.bitmap.Bitmap.{Bitmap}
 use Rattle.macrocell_lines.specs.Bitmaps.{is_cell, row_bits, row_of, rows_of}
 use Rattle.macrocell_lines.specs.Laws.{BitmapsShowTheirLines}
 use Rattle.macrocell_lines.specs.Pieces.{◌>>=◌, pieces}
-use Rattle.text_lines.proofs.ByteRanges.{differs}
+use Rattle.text_lines.proofs.Shared.ByteRanges.{differs}
 
 bit-first : (rest : ℕ) (b : Bool) → (((2 * rest + cond b 1 0) / 2 ^ 0) % 2 == 1) ≡ b
 bit-first rest true = let odd : ((2 * rest + 1) / 1) % 2 ≡ 1 = omega arith in ap (λ n. n == 1) odd

@@ -5,4 +5,4 @@ pub mod PassedLines
 pub mod Rows
 pub mod WrittenBitmaps
 pub mod WrittenNodes
-pub mod WrittenTexts
+pub mod Shared

@@ -20,9 +20,9 @@ use Rattle.macrocell_lines.specs.Nodes.{IsBitmap}
 use Rattle.macrocell_lines.specs.Pieces as options
 use Rattle.macrocell_lines.specs.Pieces.{pieces}
 use Rattle.macrocell_lines.specs.WrittenText.{row_text, rows_text}
-use Rattle.basics.proofs.Lists.{all_append, all_so}
-use Rattle.text_lines.proofs.ByteRanges.{IsVisible}
-use Rattle.text_lines.proofs.PrintedLines.{IsLine, line-visible}
+use Rattle.basics.proofs.Shared.Lists.{all_append, all_so}
+use Rattle.text_lines.proofs.Shared.ByteRanges.{IsVisible}
+use Rattle.text_lines.proofs.Shared.PrintedLines.{IsLine, line-visible}
 
 -- a dead or a live cell
 abbrev IsCell : ℕ → Type 0

@@ -17,11 +17,11 @@ use Rattle.macrocell_lines.specs.Nodes.{AreQuadrants, AreStates, EachFollows, Fo
 use Rattle.macrocell_lines.specs.Pieces.{five_numbers}
 use Rattle.macrocell_lines.specs.Quadrants.{cells_of, child_of, square_of, state_of}
 use Rattle.macrocell_lines.specs.WrittenText.{node_line, numbers_line}
-use Rattle.text_lines.proofs.Decimals.{IsWide}
-use Rattle.text_lines.proofs.ByteRanges.{IsDigit, differs, digit-test}
-use Rattle.text_lines.proofs.NumberLines.{IsNumberLine, numbers-line, numbers-start}
+use Rattle.text_lines.proofs.Shared.Decimals.{IsWide}
+use Rattle.text_lines.proofs.Shared.ByteRanges.{IsDigit, differs, digit-test}
+use Rattle.text_lines.proofs.Shared.NumberLines.{IsNumberLine, numbers-line, numbers-start}
 use Rattle.macrocell_lines.proofs.NumberLines.{five-written}
-use Rattle.text_lines.proofs.PrintedLines.{IsLine}
+use Rattle.text_lines.proofs.Shared.PrintedLines.{IsLine}
 use Rattle.macrocell_lines.proofs.WrittenBitmaps.{bitmap-taken, rows-line}
 
 node_of-digit : (number : ℕ) (nodes : List Node) (b : ℕ) (bs : List ℕ) → IsDigit b → node_of number nodes (b ∷ bs) ≡ (ok_or (five_numbers (b ∷ bs)) (BadRow number) >>= λ said. quartered number nodes said)

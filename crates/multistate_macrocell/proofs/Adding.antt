@@ -4,9 +4,9 @@ use Rattle.std.proofs.lemmas.List.{length_push, get_or_push}
 use Rattle.plane_core.specs.declared.row.SquareRow.{SquareRow}
 use Rattle.worlds.specs.Square.{Square, one, four}
 use Rattle.plane_core.specs.Rows.{AreRows, IsNumber, IsRow, kid, no_row, row_at, square_in}
-use Rattle.plane_core.proofs.Numbering.{Grows, Grows-more, Grows-then}
-use Rattle.plane_core.proofs.Roots.{root_level-some}
-use Rattle.plane_core.proofs.Sound.{AreRows-push, IsNumber-from, IsNumber-grown, IsNumber-state, row_of, square_in-grown, square_in-row, square_in-state}
+use Rattle.plane_core.proofs.Shared.Numbering.{Grows, Grows-more, Grows-then}
+use Rattle.plane_core.proofs.Shared.Roots.{root_level-some}
+use Rattle.plane_core.proofs.Shared.Sound.{AreRows-push, IsNumber-from, IsNumber-grown, IsNumber-state, row_of, square_in-grown, square_in-row, square_in-state}
 use Rattle.multistate_macrocell.specs.Tables.{Adds, square_of_row}
 
 -- rows that were added to have grown

@@ -10,7 +10,7 @@ use Rattle.macrocell_lines.specs.Nodes.{AreNodes, Follows, is_child, level_of}
 use Rattle.worlds.specs.World.{World, blank, cell, cell-blank}
 use Rattle.worlds.specs.Square.{IsSquare, Square, empty_square, put_square}
 use Rattle.plane_core.specs.Rows.{edge_of}
-use Rattle.plane_core.proofs.Cells.{IsSquare-empty, IsSquare-one, IsSquare-parts, put_square-inside, put_square-outside}
+use Rattle.plane_core.proofs.Shared.Cells.{IsSquare-empty, IsSquare-one, IsSquare-parts, put_square-inside, put_square-outside}
 use Rattle.multistate_macrocell.specs.Laws.{NodesShowTheirRoot, ShowsRoot}
 use Rattle.multistate_macrocell.specs.Quadtree.{drawn, square_named, square_of, world_of_nodes}
 use Rattle.multistate_macrocell.proofs.Children.{child-earlier, child-found, child-is, child-level, follows-at}

@@ -7,7 +7,7 @@ use Rattle.macrocell_lines.specs.Nodes.{AreStates, level_of}
 use Rattle.plane_core.specs.declared.row.SquareRow.{SquareRow}
 use Rattle.worlds.specs.Square.{Square, one, four}
 use Rattle.plane_core.specs.Rows.{IsNumber, IsRow, kid, square_in}
-use Rattle.plane_core.proofs.Sound.{IsNumber-state, row_of, square_in-state}
+use Rattle.plane_core.proofs.Shared.Sound.{IsNumber-state, row_of, square_in-state}
 use Rattle.multistate_macrocell.specs.Quadtree.{drawn, square_of}
 use Rattle.multistate_macrocell.specs.Tables.{Adds, CanFollow, row_number, square_by, square_of_row}
 

@@ -10,13 +10,13 @@ use Rattle.basics.specs.Results.{◌>>=◌}
 use Rattle.macrocell_lines.specs.declared.node.Node.{Node}
 use Rattle.macrocell_lines.specs.declared.node.Node.TheVariants.{Cells, Square as Quartered}
 use Rattle.macrocell_lines.specs.Nodes.{AreNodes, AreQuadrants, AreStates, EachFollows, Follows, is_child, level_of}
-use Rattle.macrocell_lines.proofs.WrittenTexts.{written-says}
+use Rattle.macrocell_lines.proofs.Shared.WrittenTexts.{written-says}
 use Rattle.worlds.specs.World.{blank}
 use Rattle.plane_core.specs.declared.row.SquareRow.{SquareRow}
 use Rattle.worlds.specs.Square.{Square, four, one, put_square}
 use Rattle.plane_core.specs.Rows.{AreRows, IsNumber, IsRow, edge_of, kid, no_row, root_level, row_at, square_in, world_of_rows}
-use Rattle.plane_core.proofs.Roots.{root_level-some, rooted, world-none, world-root}
-use Rattle.plane_core.proofs.Sound.{IsNumber-level, kid_number, square_in-none, square_in-row, square_in-state, state-IsNumber}
+use Rattle.plane_core.proofs.Shared.Roots.{root_level-some, rooted, world-none, world-root}
+use Rattle.plane_core.proofs.Shared.Sound.{IsNumber-level, kid_number, square_in-none, square_in-row, square_in-state, state-IsNumber}
 use Rattle.multistate_macrocell.specs.Laws.{WrittenMeansTheSame}
 use Rattle.multistate_macrocell.specs.Pattern.{said_pattern}
 use Rattle.multistate_macrocell.specs.PatternText.{node_of, nodes_of}
@@ -24,7 +24,7 @@ use Rattle.multistate_macrocell.specs.Quadtree.{square_named, square_of, world_o
 use Rattle.multistate_macrocell.proofs.Children.{child-is}
 use Rattle.multistate_macrocell.proofs.Standing.{named-node, named-none, world-nodes-none, world-nodes-root}
 use Rattle.plane_core.specs.WorldRows.{rows_of}
-use Rattle.plane_core.proofs.WorldRows.{squares-rows_of}
+use Rattle.plane_core.proofs.Shared.WorldRows.{squares-rows_of}
 
 -- the node of a row, by its level
 node_of-one : (row : SquareRow) → row.level ≡ 1 → node_of row ≡ Cells (kid row 0) (kid row 1) (kid row 2) (kid row 3)

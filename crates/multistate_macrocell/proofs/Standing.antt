@@ -12,8 +12,8 @@ use Rattle.worlds.specs.World.{blank}
 use Rattle.plane_core.specs.declared.row.SquareRow.{SquareRow}
 use Rattle.worlds.specs.Square.{Square, four, empty_square, put_square}
 use Rattle.plane_core.specs.Rows.{AreRows, IsNumber, edge_of, root_level, square_in, world_of_rows}
-use Rattle.plane_core.proofs.Roots.{world-none, world-root}
-use Rattle.plane_core.proofs.Sound.{AreRows-none, IsNumber-from, IsNumber-grown, square_in-grown, square_in-none}
+use Rattle.plane_core.proofs.Shared.Roots.{world-none, world-root}
+use Rattle.plane_core.proofs.Shared.Sound.{AreRows-none, IsNumber-from, IsNumber-grown, square_in-grown, square_in-none}
 use Rattle.multistate_macrocell.specs.Quadtree.{square_named, square_of, world_of_nodes, world_of_root}
 use Rattle.multistate_macrocell.specs.Tables.{Adds, AreKnown, CanFollow, IsKnown, row_number, square_by}
 use Rattle.multistate_macrocell.proofs.Adding.{adds-grows}

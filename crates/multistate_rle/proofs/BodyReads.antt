@@ -16,8 +16,8 @@ use Rattle.multistate_rle.specs.Pattern.Run.{Cells, RowEnds}
 use Rattle.multistate_rle.specs.PatternText.{packed}
 use Rattle.multistate_rle.specs.Symbols.{is_passed, is_prefix, plain_symbol, prefixed_state, prefixed_symbol, solid_from, symbols}
 use Rattle.multistate_rle.specs.Token.{count_text, two_state_text, prefix_text, multi_state_text, state_text, token_text}
-use Rattle.text_lines.proofs.ByteRanges.{IsDigit, IsVisible}
-use Rattle.text_lines.proofs.Decimals.{decimal-bytes, decimal-value}
+use Rattle.text_lines.proofs.Shared.ByteRanges.{IsDigit, IsVisible}
+use Rattle.text_lines.proofs.Shared.Decimals.{decimal-bytes, decimal-value}
 
 -- bytes behind digits that write n give these runs, wherever they stand
 abbrev pub ReadsAs : ℕ → List ℕ → Result (List Run) RleFault → Type 0

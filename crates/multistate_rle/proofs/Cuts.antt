@@ -5,8 +5,8 @@ use Rattle.std.proofs.lemmas.Bool.{not-true}
 use Rattle.std.proofs.lemmas.Bool.Decides.{nat_tests}
 use Rattle.std.proofs.Math.Seq.{take-append_seam, drop-append-add}
 use Rattle.multistate_rle.specs.Cut.{cut_at}
-use Rattle.text_lines.proofs.ByteRanges.{all_tested}
-use Rattle.text_lines.proofs.Pieces.{position-at, position-none}
+use Rattle.text_lines.proofs.Shared.ByteRanges.{all_tested}
+use Rattle.text_lines.proofs.Shared.Pieces.{position-at, position-none}
 
 -- a byte that isn't this one
 abbrev pub IsOther : ℕ → ℕ → Type 0

@@ -7,12 +7,12 @@ use Rattle.std.proofs.lemmas.Grind.{fold-append}
 use Rattle.std.proofs.lemmas.Int.{ints}
 use Rattle.std.proofs.lemmas.List.Elements.{All-from_recursion}
 use Rattle.std.proofs.lemmas.List.Splits.{slice_split_at, slice_split_none}
-use Rattle.basics.proofs.Lists.{all_append, all_so}
+use Rattle.basics.proofs.Shared.Lists.{all_append, all_so}
 use Rattle.text_lines.specs.Blanks.{is_blank, trim}
 use Rattle.text_lines.specs.Numbers.{number_of}
-use Rattle.text_lines.proofs.ByteRanges.{IsDigit, IsPrinted, IsVisible, is_printed, is_visible, differs, printed-tested, visible-printed, visible-solid, visible-tested}
-use Rattle.text_lines.proofs.Decimals.{decimal-bytes, decimal-some, number_of-decimal}
-use Rattle.text_lines.proofs.PrintedLines.{IsLine, ends-append, ends-behind, ends-visible, trim-blank}
+use Rattle.text_lines.proofs.Shared.ByteRanges.{IsDigit, IsPrinted, IsVisible, is_printed, is_visible, differs, printed-tested, visible-printed, visible-solid, visible-tested}
+use Rattle.text_lines.proofs.Shared.Decimals.{decimal-bytes, decimal-some, number_of-decimal}
+use Rattle.text_lines.proofs.Shared.PrintedLines.{IsLine, ends-append, ends-behind, ends-visible, trim-blank}
 use Rattle.multistate_rle.specs.Comments.{is_sign, starts_loose, tight, parts, signed_of, coordinate_of, place_in, generation_in, plain_origin, after_part, after_comment}
 use Rattle.multistate_rle.specs.Cut.{cut_at}
 use Rattle.multistate_rle.specs.Header.{value_in, size_in, name_after_width, rule_name}

@@ -8,8 +8,8 @@ use Rattle.std.specs.FinMap as map
 use Rattle.std.specs.FinMap.Entries.{is_sorted}
 use Rattle.std.proofs.lemmas.Int.{ints, by_lt_z}
 use Rattle.std.proofs.lemmas.List.Elements.{All-from_recursion}
-use Rattle.basics.proofs.Lists.{all_append, all_so}
-use Rattle.basics.proofs.Tests.{first, second}
+use Rattle.basics.proofs.Shared.Lists.{all_append, all_so}
+use Rattle.basics.proofs.Shared.Tests.{first, second}
 use Rattle.worlds.specs.World.{World, Place, place_cmp, same_place, cell, blank, cell-blank, same_world}
 use Rattle.worlds.specs.Live.{live, live-entries, as_live, cell-state_at, live-states, of_cell}
 use Rattle.worlds.specs.Lay.{lay, last_mention, cell-lay}

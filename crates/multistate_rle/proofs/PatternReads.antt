@@ -29,10 +29,10 @@ use Rattle.multistate_rle.specs.PatternText.{packed, framed_text}
 use Rattle.multistate_rle.specs.Symbols.{solid_from, symbols}
 use Rattle.multistate_rle.specs.Token.{tokens, token_text}
 use Rattle.multistate_rle.proofs.BodyReads.{IsWritable, runs_of, packed-reads}
-use Rattle.text_lines.proofs.ByteRanges.{differs}
-use Rattle.basics.proofs.Lists.{all_so}
-use Rattle.text_lines.proofs.LineEnds.{line-first}
-use Rattle.text_lines.proofs.PrintedLines.{IsLine, printed-one, strip-printed}
+use Rattle.text_lines.proofs.Shared.ByteRanges.{differs}
+use Rattle.basics.proofs.Shared.Lists.{all_so}
+use Rattle.text_lines.proofs.Shared.LineEnds.{line-first}
+use Rattle.text_lines.proofs.Shared.PrintedLines.{IsLine, printed-one, strip-printed}
 use Rattle.multistate_rle.proofs.HeadReads.{IsCoordinate, comment_line, comment-reads, header_line, header-reads, comment-is_line, header-is_line}
 use Rattle.multistate_rle.proofs.Boxes.{IsNear, FrameFits, frame-fits}
 use Rattle.multistate_rle.proofs.LiveCells.{IsListedIn, IsCellOf, lay-live, live-ahead, tokens-writable}

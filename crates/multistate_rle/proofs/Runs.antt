@@ -5,7 +5,7 @@ use Rattle.std.proofs.lemmas.Int.{ints}
 use Rattle.worlds.specs.World.{Place}
 use Rattle.worlds.specs.Live.{of_cell, place_of}
 use Rattle.worlds.specs.declared.cell.Cell.{Cell}
-use Rattle.text_lines.proofs.ByteRanges.{differs}
+use Rattle.text_lines.proofs.Shared.ByteRanges.{differs}
 use Rattle.multistate_rle.specs.declared.token.Token.{Token}
 use Rattle.multistate_rle.specs.declared.token.Token.TheVariants.{Run, RowEnds, End}
 use Rattle.multistate_rle.specs.declared.open_run.OpenRun.{OpenRun}

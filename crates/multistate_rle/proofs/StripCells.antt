@@ -15,7 +15,7 @@ use Rattle.multistate_rle.specs.declared.token.Token.TheVariants as token
 use Rattle.multistate_rle.specs.Pattern.{Strip, strips_from, live_count, is_in_range, lies_inside, cell_at, cells_of}
 use Rattle.multistate_rle.specs.Token.{distance, zeros, way_by, way, joined, tokens, behind}
 use Rattle.multistate_rle.proofs.BodyReads.{IsWritable, runs_of}
-use Rattle.text_lines.proofs.ByteRanges.{differs}
+use Rattle.text_lines.proofs.Shared.ByteRanges.{differs}
 use Rattle.multistate_rle.proofs.Runs.{Joins, joined-cases, joined-run, way-rows}
 use Rattle.multistate_rle.proofs.Strips.{same_cell}
 

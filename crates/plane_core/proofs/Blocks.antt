@@ -11,10 +11,10 @@ use Rattle.worlds.specs.World.{Place, same_place}
 use Rattle.plane_core.specs.declared.row.SquareRow.{SquareRow}
 use Rattle.plane_core.specs.Rows.{AreRows}
 use Rattle.plane_core.specs.Laid.{AreLaidStates, AreQuadrants, IsAdded, IsCellOf, IsLaid, square_of}
-use Rattle.plane_core.proofs.Adding.{Keeps-none}
-use Rattle.plane_core.proofs.Cells.{cell_in-one}
+use Rattle.plane_core.proofs.Shared.Adding.{Keeps-none}
+use Rattle.plane_core.proofs.Shared.Cells.{cell_in-one}
 use Rattle.plane_core.proofs.Laying.{laid-quadrants, mention-push, those-all}
-use Rattle.plane_core.proofs.Sound.{IsNumber-state, square_in-state}
+use Rattle.plane_core.proofs.Shared.Sound.{IsNumber-state, square_in-state}
 
 -- one more cell is set, which is the one of this place
 module _ (l t : ℤ) (cs : List CellSet) (old new : List ℕ) (i p : ℕ) (d : CellSet) (h : i < length cs) (there : p < length new) (four : p < 4) (small : (get_or cs i d).state < 256)

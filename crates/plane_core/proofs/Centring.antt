@@ -6,7 +6,7 @@ use Rattle.worlds.specs.World.{World, cell, blank, cell-blank, same_world}
 use Rattle.worlds.specs.Square.{Square, one, four, empty_square, IsSquare, cell_in, put_square, IsIn}
 use Rattle.plane_core.specs.Rows.{Fits, edge_of}
 use Rattle.plane_core.specs.Centre.{cornered, centred}
-use Rattle.plane_core.proofs.Cells.{double, cell_in-nw, cell_in-ne, cell_in-sw, cell_in-se, cell_in-empty, IsSquare-empty, IsSquare-four, IsSquare-parts, same_square, in_or_out, offset, put_square-inside, put_square-outside}
+use Rattle.plane_core.proofs.Shared.Cells.{double, cell_in-nw, cell_in-ne, cell_in-sw, cell_in-se, cell_in-empty, IsSquare-empty, IsSquare-four, IsSquare-parts, same_square, in_or_out, offset, put_square-inside, put_square-outside}
 
 -- the cells of each quadrant, by how far they lie from its edges
 module _ (k : ℕ) (a b c d : Square) (i j : ℕ) (hi : i < 2 ^ k) (hj : j < 2 ^ k) where

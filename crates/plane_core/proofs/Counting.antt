@@ -12,10 +12,10 @@ use Rattle.plane_core.specs.declared.row.SquareRow.{SquareRow}
 use Rattle.plane_core.specs.declared.counts.Tally.{Tally}
 use Rattle.plane_core.specs.Rows.{no_row, kid, IsNumber, AreRows, square_in, root_level, root_of, edge_of, world_of_rows}
 use Rattle.plane_core.specs.Counts.{tally, is_state, is_any, cells_with, row_square, sum_to, held, HasRoom, Gains, IsTallied}
-use Rattle.plane_core.proofs.Sound.{square_in-none, square_in-state, square_in-row, state-IsNumber, IsNumber-level}
-use Rattle.plane_core.proofs.Roots.{rooted, root-IsSquare, world-root}
+use Rattle.plane_core.proofs.Shared.Sound.{square_in-none, square_in-state, square_in-row, state-IsNumber, IsNumber-level}
+use Rattle.plane_core.proofs.Shared.Roots.{rooted, root-IsSquare, world-root}
 use Rattle.plane_core.proofs.Totals.{total, total-blank, total-put_square, tally-le, tally-empty}
-use Rattle.plane_core.proofs.Measuring.{kid_is}
+use Rattle.plane_core.proofs.Shared.Measuring.{kid_is}
 
 -- the state 0 is none of those that are counted
 is_state-zero : (s : ℕ) → 0 < s → is_state s 0 ≡ 0

@@ -4,7 +4,7 @@ use Rattle.std.specs.Prelude.{nat_le}
 use Rattle.plane_core.specs.declared.row.SquareRow.{SquareRow}
 use Rattle.worlds.specs.Square.{Square, cell_in, quadrant_at, within}
 use Rattle.plane_core.specs.Rows.{square_in, IsNumber, AreRows, kid, no_row, row_at}
-use Rattle.plane_core.proofs.Sound.{IsNumber-level, kid_number, square_in-row}
+use Rattle.plane_core.proofs.Shared.Sound.{IsNumber-level, kid_number, square_in-row}
 
 pub number_within : (rows : List SquareRow) (k n : ℕ) → 0 < k → 0 < n → IsNumber rows k n → n ≤ length rows
 number_within rows zero n hk hn h = absurd (omega (arith, hk))

@@ -8,9 +8,9 @@ use Rattle.plane_core.specs.declared.row.SquareRow.{SquareRow}
 use Rattle.worlds.specs.Square.{Square, empty_square, IsSquare, put_square, IsIn}
 use Rattle.plane_core.specs.Rows.{AreRows, square_in}
 use Rattle.plane_core.specs.Laid.{AreQuadrants, IsClear, IsFrom, IsOnPlane}
-use Rattle.plane_core.proofs.Sound.{square_in-none, square_in-state}
-use Rattle.plane_core.proofs.Cells.{double, cell_in-empty, IsSquare-empty, in_or_out, in_part, offset, put_square-one, put_square-four, put_square-inside, put_square-outside}
-use Rattle.plane_core.proofs.Roots.{square_in-IsSquare}
+use Rattle.plane_core.proofs.Shared.Sound.{square_in-none, square_in-state}
+use Rattle.plane_core.proofs.Shared.Cells.{double, cell_in-empty, IsSquare-empty, in_or_out, in_part, offset, put_square-one, put_square-four, put_square-inside, put_square-outside}
+use Rattle.plane_core.proofs.Shared.Roots.{square_in-IsSquare}
 
 -- an empty square is put there
 pub put_square-clear : (k : ℕ) (l t : ℤ) (w : World) → IsClear (2 ^ k) l t w → put_square k (empty_square k) l t w ≡ w

@@ -8,7 +8,7 @@ use Rattle.worlds.specs.Range.{AllBelow, IsGreatest, IsInBox, IsBoundingBox}
 use Rattle.worlds.specs.declared.cell.Bounds.{Bounds}
 use Rattle.worlds.specs.Square.{Square, IsSquare, put_square, IsIn}
 use Rattle.plane_core.specs.Measures.{AreBoundsOf, joined_box, joined_bounds, moved_box, moved_bounds, alone, LiesIn}
-use Rattle.plane_core.proofs.Cells.{put_square-inside, put_square-outside, in_or_out, offset}
+use Rattle.plane_core.proofs.Shared.Cells.{put_square-inside, put_square-outside, in_or_out, offset}
 use Rattle.plane_core.proofs.Totals.{IsFree}
 
 -- at each place u is as v where w is dead, or as w where v is dead

@@ -10,10 +10,10 @@ use Rattle.plane_core.specs.declared.row.SquareRow.{SquareRow}
 use Rattle.worlds.specs.Square.{Square, one, four, empty_square, IsSquare, put_square}
 use Rattle.plane_core.specs.Rows.{Numbered, numbered, number_row, number_square, same_row, no_row, row_at, AreRows, square_in, root_level, root_of, edge_of, world_of_rows, IsLeastLevel, AreKept}
 use Rattle.plane_core.specs.Walks.{AreWalked}
-use Rattle.plane_core.proofs.Numbering.{Has-empty, not_found}
-use Rattle.plane_core.proofs.Sound.{IsSound, EachHas-none, AreRows-none, number_square-sound, IsNumber-level, square_in-none, found_within, found_at, row_of}
-use Rattle.plane_core.proofs.Cells.{IsSquare-empty, cell_in-empty, put_square-inside, put_square-outside, in_or_out, offset}
-use Rattle.plane_core.proofs.Roots.{rooted, root-IsSquare, root_level-some, world-root, world-none, kept-none}
+use Rattle.plane_core.proofs.Shared.Numbering.{Has-empty, not_found}
+use Rattle.plane_core.proofs.Shared.Sound.{IsSound, EachHas-none, AreRows-none, number_square-sound, IsNumber-level, square_in-none, found_within, found_at, row_of}
+use Rattle.plane_core.proofs.Shared.Cells.{IsSquare-empty, cell_in-empty, put_square-inside, put_square-outside, in_or_out, offset}
+use Rattle.plane_core.proofs.Shared.Roots.{rooted, root-IsSquare, root_level-some, world-root, world-none, kept-none}
 
 -- no level is above m
 abbrev LevelsUpTo : ℕ → List SquareRow → Type 0

@@ -12,7 +12,7 @@ use Rattle.worlds.specs.World.{World, Place, place_cmp, same_place, cell, cell-g
 use Rattle.worlds.specs.Live.{live, as_live, live-entries, population}
 use Rattle.worlds.specs.Square.{Square, one, four, empty_square, IsSquare, put_square, IsIn}
 use Rattle.plane_core.specs.Counts.{tally, is_live}
-use Rattle.plane_core.proofs.Cells.{double, put_square-outside, put_square-four, put_square-one, in_part}
+use Rattle.plane_core.proofs.Shared.Cells.{double, put_square-outside, put_square-four, put_square-one, in_part}
 
 -- the sum of f over the states of the live cells
 abbrev pub total : (ℕ → ℕ) → World → ℕ

@@ -2,7 +2,7 @@
 use Rattle.std.proofs.Common.{◌≡◌, ℕ, zero, suc, ◌-◌, ◌<◌, ◌≤◌, List, length, arith}
 use Rattle.plane_core.specs.declared.row.SquareRow.{SquareRow}
 use Rattle.plane_core.specs.Rows.{row_at, IsNumber}
-use Rattle.plane_core.proofs.Sound.{IsNumber-level, IsNumber-from}
+use Rattle.plane_core.proofs.Shared.Sound.{IsNumber-level, IsNumber-from}
 
 -- a number of a level above 0, by its row
 pub number-listed : (rows : List SquareRow) (k n : ℕ) → 0 < k → 0 < n → IsNumber rows k n → (n ≤ length rows) × ((row_at rows n).level ≡ k)

@@ -8,8 +8,8 @@ use Rattle.plane_core.specs.declared.row.SquareRow.{SquareRow}
 use Rattle.worlds.specs.Square.{Square, four}
 use Rattle.plane_core.specs.Rows.{Numbered, number_row, number_square, square_in, IsNumber, kid, no_row, row_at}
 use Rattle.plane_core.specs.Walks.{Has, Walks, Remembers}
-use Rattle.plane_core.proofs.Numbering.{Grows, Has-grown, Has-again, number_row-grows}
-use Rattle.plane_core.proofs.Sound.{IsNumber-level, square_in-row, row_of}
+use Rattle.plane_core.proofs.Shared.Numbering.{Grows, Has-grown, Has-again, number_row-grows}
+use Rattle.plane_core.proofs.Shared.Sound.{IsNumber-level, square_in-row, row_of}
 
 -- a row whose number is remembered isn't walked
 pub walks-known : (rows done : List SquareRow) (numbers : List (Option ℕ)) (k n m : ℕ) → 0 < k → 0 < n → IsNumber rows k n → Remembers rows done numbers → get_or numbers (n - 1) None ≡ Some m

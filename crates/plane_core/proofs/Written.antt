@@ -4,8 +4,8 @@ use Rattle.worlds.specs.World.{World}
 use Rattle.worlds.specs.Square.{empty_square}
 use Rattle.plane_core.specs.declared.row.SquareRow.{SquareRow}
 use Rattle.plane_core.specs.Rows.{AreCanonical, AreKept, AreRows, AreSquaresOf, IsLeastLevel, IsRow, completed, empty_row, number_row, number_square, root_level, root_of, square_in, world_of_rows, written}
-use Rattle.plane_core.proofs.Roots.{kept-none}
-use Rattle.plane_core.proofs.Sound.{IsNumber-state}
+use Rattle.plane_core.proofs.Shared.Roots.{kept-none}
+use Rattle.plane_core.proofs.Shared.Sound.{IsNumber-state}
 
 -- what is written stands for the same world
 pub world-written : (rows : List SquareRow) → world_of_rows (written rows) ≡ world_of_rows rows

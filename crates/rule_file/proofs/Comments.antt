@@ -4,7 +4,7 @@ use Rattle.std.specs.List.{before_first, position_or_len}
 use Rattle.std.proofs.lemmas.Bool.Decides.{nat_tests}
 use Rattle.text_lines.specs.Blanks.{before_end, is_blank, trim, trim_end}
 use Rattle.text_lines.specs.Lines.{strip_carriage_return}
-use Rattle.text_lines.proofs.LineEnds.{strip-behind}
+use Rattle.text_lines.proofs.Shared.LineEnds.{strip-behind}
 use Rattle.rule_file.specs.Laws.{is_remark}
 use Rattle.rule_file.specs.RuleFile.{opens_section, section_kind, without_comment}
 

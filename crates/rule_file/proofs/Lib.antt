@@ -1,5 +1,4 @@
 mod Comments
-pub mod Readings
+pub mod Shared
 mod Remarks
 mod Saying
-pub mod WrittenFiles

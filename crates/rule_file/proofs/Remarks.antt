@@ -3,7 +3,7 @@ use Rattle.std.proofs.Common.{◌+◌, [], ◌∷◌, ◌++◌, sym, ◌∙◌, 
 use Rattle.text_lines.specs.Blanks.{trim}
 use Rattle.text_lines.specs.LineEnds.{with_carriage_returns}
 use Rattle.text_lines.specs.Lines.{strip_carriage_return, says}
-use Rattle.text_lines.proofs.LineEnds.{no_line_feed-append, says-append, says-between_blanks, says-line, says-returns}
+use Rattle.text_lines.proofs.Shared.LineEnds.{no_line_feed-append, says-append, says-between_blanks, says-line, says-returns}
 use Rattle.rule_file.specs.RuleFile.{named, numbered_from}
 use Rattle.rule_file.specs.Laws.{BlanksDoNotMatter, CommentsDoNotMatter, LineEndsDoNotMatter, LinesSayAll, RemarksDoNotMatter}
 use Rattle.rule_file.proofs.Comments.{opens-comment, remark-silent, said-comment}

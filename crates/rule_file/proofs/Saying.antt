@@ -3,7 +3,7 @@ use Rattle.std.proofs.Common.{◌≡◌, ◌≢◌, ℕ, ◌+◌, ◌==◌, Bool
 use Rattle.std.specs.Option.{option_map_or}
 use Rattle.text_lines.specs.Blanks.{trim}
 use Rattle.text_lines.specs.Lines.{says}
-use Rattle.text_lines.proofs.LineEnds.{says-append}
+use Rattle.text_lines.proofs.Shared.LineEnds.{says-append}
 use Rattle.basics.specs.Results.{◌>>=◌}
 use Rattle.rule_file.specs.declared.fault.RuleFault.{RuleFault}
 use Rattle.rule_file.specs.declared.fault.RuleFault.TheVariants.{NoRuleLine}

@@ -3,12 +3,12 @@ use Rattle.std.proofs.Common.{◌≡◌, ℕ, true, List, Ok, subst}
 use Rattle.basics.specs.Results.{◌>>=◌}
 use Rattle.rule_file.specs.declared.text.SectionKind.{SectionKind}
 use Rattle.rule_file.specs.declared.text.SectionKind.TheVariants as section
-use Rattle.rule_file.proofs.Readings.{then-ok}
+use Rattle.rule_file.proofs.Shared.Readings.{then-ok}
 use Rattle.rule_file.specs.RuleFile.{RuleFile, Section, file_of}
 use Rattle.table_symmetry.specs.TableLines.{table_of}
-use Rattle.table_symmetry.proofs.SaidTables.{table_of-sound}
+use Rattle.table_symmetry.proofs.Shared.SaidTables.{table_of-sound}
 use Rattle.decision_tree.specs.TreeLines.{tree_of}
-use Rattle.decision_tree.proofs.SaidNodes.{section-sound}
+use Rattle.decision_tree.proofs.Shared.SaidNodes.{section-sound}
 use Rattle.rule_tree.specs.declared.rule.Kind.{Kind}
 use Rattle.rule_tree.specs.declared.rule.Kind.TheVariants.{Table, Tree}
 use Rattle.rule_tree.specs.NamedRule.{NamedRule}

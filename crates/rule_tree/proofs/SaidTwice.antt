@@ -6,13 +6,13 @@ use Rattle.rule_file.specs.declared.text.SectionKind.{SectionKind}
 use Rattle.rule_file.specs.declared.text.SectionKind.TheVariants as section
 use Rattle.rule_file.specs.Laws.{Saying, saying, saying_of}
 use Rattle.rule_file.specs.RuleFile.{NumberedLine, RuleFile, Section, file_of}
-use Rattle.rule_file.proofs.Readings.{same_value, then-ok}
+use Rattle.rule_file.proofs.Shared.Readings.{same_value, then-ok}
 use Rattle.table_lines.specs.Lines.{lines_of}
-use Rattle.table_lines.proofs.Renumbered.{lines_of-renumbered}
+use Rattle.table_lines.proofs.Shared.Renumbered.{lines_of-renumbered}
 use Rattle.table_symmetry.specs.Table as table_values
 use Rattle.table_symmetry.specs.TableLines.{table_of, within_limits}
 use Rattle.decision_tree.specs.TreeLines.{tree_of}
-use Rattle.decision_tree.proofs.Renumbered.{tree_of-renumbered}
+use Rattle.decision_tree.proofs.Shared.Renumbered.{tree_of-renumbered}
 use Rattle.rule_tree.specs.declared.rule.Kind.{Kind}
 use Rattle.rule_tree.specs.declared.rule.Kind.TheVariants.{Table, Tree}
 use Rattle.rule_tree.specs.Laws.{RulesAreWhatIsSaid}

@@ -1,10 +1,10 @@
 -- Rules that are written.
 use Rattle.std.proofs.Common.{◌∙◌, ap, Ok}
 use Rattle.basics.specs.Results.{◌>>=◌}
-use Rattle.table_lines.proofs.WrittenFiles as table_files
-use Rattle.table_symmetry.proofs.WrittenTables.{written-means}
-use Rattle.decision_tree.proofs.WrittenFiles as tree_files
-use Rattle.decision_tree.proofs.WrittenTrees as trees
+use Rattle.table_lines.proofs.Shared.WrittenFiles as table_files
+use Rattle.table_symmetry.proofs.Shared.WrittenTables.{written-means}
+use Rattle.decision_tree.proofs.Shared.WrittenFiles as tree_files
+use Rattle.decision_tree.proofs.Shared.WrittenTrees as trees
 use Rattle.rule_tree.specs.declared.rule.Kind.TheVariants.{Table, Tree}
 use Rattle.rule_tree.specs.Laws.{WrittenTablesAreRules, WrittenTreesAreRules}
 use Rattle.rule_tree.specs.Rule.{kind_of}

@@ -13,7 +13,7 @@ use Rattle.worlds.specs.declared.cell.CellSet.{CellSet}
 use Rattle.schedule.specs.Change.{is_named, may_be_named, stay_in_range, set_below, lies_near, lies_below}
 use Rattle.schedule.specs.Near.{box_near}
 use Rattle.schedule.specs.Sound.{AreNamed, SetBelow}
-use Rattle.basics.proofs.Lists.{all_so}
+use Rattle.basics.proofs.Shared.Lists.{all_so}
 use Rattle.schedule.proofs.Each.{each_passes, all_pass}
 
 in_range : (z : ℤ) → is_named z ≡ true → (neg_ℤ (pos (2 ^ 60)) ≤ℤ z) × (z <ℤ pos (2 ^ 60))

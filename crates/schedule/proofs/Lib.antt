@@ -1,5 +1,4 @@
 pub mod Each
-pub mod Ids
+pub mod Shared
 pub mod Below
 pub mod Sounds
-pub mod History

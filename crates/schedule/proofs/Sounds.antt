@@ -9,7 +9,7 @@ use Rattle.worlds.specs.World.{World, blank, cell-blank}
 use Rattle.worlds.specs.Lay.{lay}
 use Rattle.worlds.specs.Range.{HasMargin, AllBelow, CanBeLaid}
 use Rattle.worlds.specs.declared.cell.CellSet.{CellSet}
-use Rattle.worlds.proofs.Keeps.{HasMargin-lay, AllBelow-lay}
+use Rattle.worlds.proofs.Shared.Keeps.{HasMargin-lay, AllBelow-lay}
 use Rattle.rule_tree.specs.declared.rule.Rule.{Rule}
 use Rattle.rule_tree.specs.Rule.{states_of, still, states_of-still}
 use Rattle.bookmarks.specs.declared.view.View.{View}
@@ -21,10 +21,10 @@ use Rattle.schedule.specs.Plan.{Plan, opening}
 use Rattle.schedule.specs.Sound.{AreNamed, SetBelow, IsAllowed, IsSound}
 use Rattle.schedule.specs.Ids.{IdsRise, intervention_id, bookmark_id, has_id, changed_at, without}
 use Rattle.schedule.specs.Change.{first_refusal, for_cells, for_intervention, for_changed_intervention, for_start, for_rule, for_bookmark, for_moved_bookmark, acting, marking, revised, stay_in_range, set_below, lies_near, lies_below, all_set_below, is_too_far}
-use Rattle.schedule.proofs.History.{CanBeLaid-named}
-use Rattle.basics.proofs.Lists.{all_append, all_so}
+use Rattle.schedule.proofs.Shared.History.{CanBeLaid-named}
+use Rattle.basics.proofs.Shared.Lists.{all_append, all_so}
 use Rattle.schedule.proofs.Each.{each_passes}
-use Rattle.schedule.proofs.Ids.{rise_push, each_map, rise_map, each_filter, rise_filter, length-filter_le}
+use Rattle.schedule.proofs.Shared.Ids.{rise_push, each_map, rise_map, each_filter, rise_filter, length-filter_le}
 use Rattle.std.proofs.lemmas.List.{length-map}
 use Rattle.schedule.proofs.Below.{AreNamed-stay, SetBelow-test, AllBelow-lies, HasMargin-lies}
 

@@ -8,8 +8,8 @@ use Rattle.script_lines.specs.ScriptLine.{is_passed_over}
 use Rattle.script_lines.specs.declared.kept_line.KeptLine.{KeptLine}
 use Rattle.script_lines.specs.declared.kept_line.Tail.{Tail}
 use Rattle.script_lines.specs.declared.kept_line.Tail.TheVariants.{Whole, Blank, Cut}
-use Rattle.basics.proofs.Lists.{push_not_nil}
-use Rattle.text_lines.proofs.Trims.{trim_end-push, trim_end-push_blank}
+use Rattle.basics.proofs.Shared.Lists.{push_not_nil}
+use Rattle.text_lines.proofs.Shared.Trims.{trim_end-push, trim_end-push_blank}
 use Rattle.script_lines.proofs.Trims.{nil_front, trim_start-push, trim_start-push_blank, trim_end-push_some, trim_end-append, trim_end-append_blank, trim-is_trimmed}
 use Rattle.script_lines.proofs.Squash.{squash-push_kept, squash-push_gap, squash-nil, squash-trim_end, squash-trimmed, words-squashed, ends_in_space-push}
 

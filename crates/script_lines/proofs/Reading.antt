@@ -1,12 +1,12 @@
 -- A line that is being read.
 use Rattle.std.proofs.Common.{◌≡◌, ◌≢◌, ℕ, ◌==◌, List, [], ◌∷◌, ◌++◌, true, false, Bool, sym, ◌∙◌, ap, refl, append_assoc, append-nil, Option, Some, None}
 use Rattle.script_lines.specs.Ahead.{Ahead, Takes}
-use Rattle.script_lines.proofs.Ahead.{takes_then}
+use Rattle.script_lines.proofs.Shared.Ahead.{takes_then}
 use Rattle.text_lines.specs.Lines.{NoLineFeed, strip_carriage_return}
 use Rattle.script_lines.specs.KeptLine.{Took, Saw, waiting}
 use Rattle.script_lines.specs.Text.{Grows}
 use Rattle.script_lines.specs.declared.kept_line.KeptLine.{KeptLine}
-use Rattle.basics.proofs.Lists.{push_not_nil}
+use Rattle.basics.proofs.Shared.Lists.{push_not_nil}
 
 -- these bytes of the line were seen
 pub record IsReading (old new : Ahead) (before after : Option (List ℕ)) (line : KeptLine) (empty : Bool) : Type 0 where

@@ -4,7 +4,7 @@ use Rattle.std.proofs.lemmas.List.{get_or-drop, length-take}
 use Rattle.std.specs.List.{slice_split, onto_first, join_with_byte}
 use Rattle.script_lines.specs.Words.{is_word, words, starts_in_word}
 use Rattle.script_lines.specs.KeptLine.{squash, ends_in_space}
-use Rattle.basics.proofs.Lists.{push_not_nil}
+use Rattle.basics.proofs.Shared.Lists.{push_not_nil}
 
 -- a word, unless it is empty
 abbrev pub word : List ℕ → List (List ℕ)

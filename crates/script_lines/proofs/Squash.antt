@@ -4,7 +4,7 @@ use Rattle.std.specs.List.{join_with_byte}
 use Rattle.text_lines.specs.Blanks.{is_blank, before_end, trim_end, IsTrimmed}
 use Rattle.script_lines.specs.Words.{squashed, words}
 use Rattle.script_lines.specs.KeptLine.{squash, ends_in_space}
-use Rattle.text_lines.proofs.Trims.{before_end-more}
+use Rattle.text_lines.proofs.Shared.Trims.{before_end-more}
 use Rattle.script_lines.proofs.Trims.{trim_end-trim_end}
 use Rattle.script_lines.proofs.Splitting.{join-words_from, words-from, words-squash}
 

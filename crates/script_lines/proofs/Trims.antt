@@ -1,7 +1,7 @@
 -- Trimming, a byte at a time.
 use Rattle.std.proofs.Common.{◌≡◌, ◌≢◌, ℕ, List, [], ◌∷◌, ◌++◌, length, take, Bool, true, false, cond, sym, ◌∙◌, ap, refl}
-use Rattle.basics.proofs.Lists.{push_not_nil}
-use Rattle.text_lines.proofs.Trims.{before_end-more, trim_end-push, trim_end-push_blank}
+use Rattle.basics.proofs.Shared.Lists.{push_not_nil}
+use Rattle.text_lines.proofs.Shared.Trims.{before_end-more, trim_end-push, trim_end-push_blank}
 use Rattle.text_lines.specs.Blanks.{is_blank, trim_start, before_end, trim_end, trim, StartsSolid, IsTrimmed}
 
 pub nil_front : (xs ys : List ℕ) → xs ++ ys ≡ [] → xs ≡ []

@@ -7,9 +7,9 @@ use Rattle.worlds.specs.Range.{AllBelow}
 use Rattle.worlds.specs.Square.{Square, one, four, IsSquare, cell_in}
 use Rattle.plane_core.specs.declared.row.SquareRow.{SquareRow}
 use Rattle.plane_core.specs.Rows.{numbered, number_row, number_square, no_row, kid, AreCanonical, AreSquaresOf, completed, empty_row, root_level, root_of, edge_of, world_of_rows, written}
-use Rattle.plane_core.proofs.Cells.{cell_in-ne, cell_in-nw, cell_in-one, cell_in-se, cell_in-sw, double}
-use Rattle.plane_core.proofs.Sound.{row_of}
-use Rattle.plane_core.proofs.Roots.{root-IsSquare, root-cells, rooted}
+use Rattle.plane_core.proofs.Shared.Cells.{cell_in-ne, cell_in-nw, cell_in-one, cell_in-se, cell_in-sw, double}
+use Rattle.plane_core.proofs.Shared.Sound.{row_of}
+use Rattle.plane_core.proofs.Shared.Roots.{root-IsSquare, root-cells, rooted}
 use Rattle.square_table.specs.Loading.{LevelsUpTo, CellsBelow}
 
 -- the level of a row is at most m, and its states are below c

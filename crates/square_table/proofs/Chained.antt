@@ -4,7 +4,7 @@ use Rattle.std.proofs.lemmas.Bool.{cases_lt, cases_eq}
 use Rattle.std.proofs.lemmas.List.{get_or-set_same, get_or-set_other, get_or_default, get_or_append_left, get_or_push, length-set, map-set}
 use Rattle.square_table.specs.declared.chains.Row.{Row}
 use Rattle.square_table.specs.Chains.{bucket_of, kids_of, IsChained, IsLast}
-use Rattle.square_table.proofs.Tables.{length-more}
+use Rattle.square_table.proofs.Shared.Tables.{length-more}
 
 -- how many rows a chain may still lead to from a link
 unfoldable pub rows_left : ℕ → ℕ → ℕ

@@ -10,7 +10,7 @@ use Rattle.square_tree.specs.Cells.{Cells, state_at}
 use Rattle.square_tree.specs.Quadtree.{Quadtree, keep, cell, quad, HasLevel, at}
 use Rattle.square_table.specs.Squares.{Table, IsNumber, AreNumbers, square_in, square_of, kids_at, first_number, IsSquareOf, Grows}
 use Rattle.square_table.specs.Laying.{laid_at, laid, IsLaidAs, AreLaidAs, in_quadrant}
-use Rattle.square_table.proofs.Growth.{Grows-same, Grows-then, IsNumber-grows, square_in-grows, AreNumbers-grows, square_of-grows, IsNumber-joined, square_in-joined, AreNumbers-quadrants, square_in-quadrants}
+use Rattle.square_table.proofs.Shared.Growth.{Grows-same, Grows-then, IsNumber-grows, square_in-grows, AreNumbers-grows, square_of-grows, IsNumber-joined, square_in-joined, AreNumbers-quadrants, square_in-quadrants}
 use Rattle.square_table.proofs.Loading.{IsNumber-state, square_in-cell}
 
 -- a square of a table has the shape of its level

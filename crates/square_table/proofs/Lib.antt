@@ -1,13 +1,9 @@
 pub mod Chained
 pub mod Links
-pub mod Numbers
-pub mod Tables
-pub mod Growth
+pub mod Shared
 pub mod Loading
 pub mod Listing
-pub mod Making
 pub mod Laying
 pub mod Middles
-pub mod Centring
 pub mod Canonical
 pub mod Packing

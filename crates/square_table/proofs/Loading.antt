@@ -7,15 +7,15 @@ use Rattle.worlds.specs.Square.{Square, one, four, empty_square, cell_in}
 use Rattle.plane_core.specs.declared.row.SquareRow.{SquareRow}
 use Rattle.plane_core.specs.Rows as listed
 use Rattle.plane_core.specs.Rows.{no_row, kid, AreRows}
-use Rattle.plane_core.proofs.Cells.{cell_in-one}
-use Rattle.plane_core.proofs.Sound.{IsNumber-level, square_in-none, square_in-state, square_in-row, state-IsNumber}
-use Rattle.plane_core.proofs.Measuring.{kid_is}
+use Rattle.plane_core.proofs.Shared.Cells.{cell_in-one}
+use Rattle.plane_core.proofs.Shared.Sound.{IsNumber-level, square_in-none, square_in-state, square_in-row, state-IsNumber}
+use Rattle.plane_core.proofs.Shared.Measuring.{kid_is}
 use Rattle.square_table.specs.Squares.{Table, IsNumber, AreNumbers, square_in, square_of, first_number, IsSquareOf, Grows, GrowsBy, AllStatesBelow}
 use Rattle.square_table.specs.Made.{IsAmong, HasEmpty}
 use Rattle.square_table.specs.Loading.{AreBlanks, IsLoadedAt, AreLoaded, number_in, LevelsUpTo, CellsBelow, GrowsFrom, HasRows}
-use Rattle.square_table.proofs.Tables.{kept_row, last_row}
-use Rattle.square_table.proofs.Making.{AreAmong-joined, IsFor, IsAmong-for}
-use Rattle.square_table.proofs.Growth.{Grows-same, Grows-then, IsNumber-grows, square_in-grows, AreNumbers-grows, square_of-grows, IsNumber-joined, square_in-joined}
+use Rattle.square_table.proofs.Shared.Tables.{kept_row, last_row}
+use Rattle.square_table.proofs.Shared.Making.{AreAmong-joined, IsFor, IsAmong-for}
+use Rattle.square_table.proofs.Shared.Growth.{Grows-same, Grows-then, IsNumber-grows, square_in-grows, AreNumbers-grows, square_of-grows, IsNumber-joined, square_in-joined}
 
 -- numbers of cells
 pub IsNumber-state : (rows : List (List ℕ)) (n : ℕ) → n < first_number → IsNumber rows 0 n

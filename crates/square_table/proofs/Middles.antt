@@ -8,8 +8,8 @@ use Rattle.square_tree.specs.Quadtree.{Quadtree, keep, cell, quad, HasLevel, at}
 use Rattle.square_tree.specs.Over.{over}
 use Rattle.square_tree.specs.Laid.{IsAligned, IsLaid, at_from}
 use Rattle.square_tree.specs.TreeOf.{IsTreeOf}
-use Rattle.square_tree.proofs.Placed.{double, split, or_none, none_or, at_from_west, at_from_north, at_from_move_x, at_from_move_y, laid_nw, laid_ne, laid_sw, laid_all}
-use Rattle.square_tree.proofs.Quarters.{laid_quadrants, laid_where, laid_keep, reach_half, reach_mono}
+use Rattle.square_tree.proofs.Shared.Placed.{double, split, or_none, none_or, at_from_west, at_from_north, at_from_move_x, at_from_move_y, laid_nw, laid_ne, laid_sw, laid_all}
+use Rattle.square_tree.proofs.Shared.Quarters.{laid_quadrants, laid_where, laid_keep, reach_half, reach_mono}
 use Rattle.square_table.specs.declared.square.Square.{Square}
 use Rattle.square_table.specs.Squares.{Table, IsHeld, square_in, level_of, number_of, cells_of}
 use Rattle.square_table.specs.Laying.{in_quadrant, in_corner, in_middle, IsLaidOn, IsLaidAs}

@@ -10,13 +10,13 @@ use Rattle.plane_core.specs.Rows as listed
 use Rattle.plane_core.specs.Rows.{AreRows}
 use Rattle.plane_core.specs.Laid as laid
 use Rattle.plane_core.specs.Laid.{Keeps, IsAdded}
-use Rattle.plane_core.proofs.Adding.{Keeps-then, quadrants-none, added, root_added}
-use Rattle.plane_core.proofs.Sound as sound
+use Rattle.plane_core.proofs.Shared.Adding.{Keeps-then, quadrants-none, added, root_added}
+use Rattle.plane_core.proofs.Shared.Sound as sound
 use Rattle.square_table.specs.Squares.{IsNumber, AreNumbers, square_of, first_number, kids_at}
 use Rattle.square_table.specs.Packing.{IsPacked, IsPacking, AreRowsOf}
-use Rattle.square_table.proofs.Tables.{above_zero}
-use Rattle.square_table.proofs.Numbers.{one_level}
-use Rattle.square_table.proofs.Growth.{AreNumbers-quadrants, square_in-quadrants}
+use Rattle.square_table.proofs.Shared.Tables.{above_zero}
+use Rattle.square_table.proofs.Shared.Numbers.{one_level}
+use Rattle.square_table.proofs.Shared.Growth.{AreNumbers-quadrants, square_in-quadrants}
 use Rattle.square_table.proofs.Loading.{square_in-cell}
 
 state-below : (rows : List (List ℕ)) (n : ℕ) → IsNumber rows 0 n → n < first_number

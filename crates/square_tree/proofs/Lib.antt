@@ -1,6 +1,5 @@
 pub mod Covered
-pub mod Placed
+pub mod Shared
 pub mod Shown
 pub mod Mapped
-pub mod Quarters
 pub mod Windows

@@ -11,7 +11,7 @@ use Rattle.square_tree.specs.Laid.{IsLaid, IsPartlyLaid, at_from}
 use Rattle.square_tree.specs.Cells.{Cells, least, reach, overlaid, IsPartlyOverlaid}
 use Rattle.square_tree.specs.Entries.{entries, states_of, cells_of}
 use Rattle.square_tree.specs.TreeOf.{IsTreeOf}
-use Rattle.square_tree.proofs.Placed.{split}
+use Rattle.square_tree.proofs.Shared.Placed.{split}
 use Rattle.square_tree.proofs.Shown.{places_total, places_exact, same_is, is_same, find-append, find_west, find_north, find_at}
 
 -- the state of the cell in column u and row v

@@ -12,7 +12,7 @@ use Rattle.std.proofs.lemmas.Map.Lookups.{CmpEqualImpliesEq, exact_pairs, exact_
 use Rattle.square_tree.specs.Place.{Place, place_cmp, same_place}
 use Rattle.square_tree.specs.Quadtree.{Quadtree, keep, cell, quad, HasLevel, at}
 use Rattle.square_tree.specs.Entries.{entries}
-use Rattle.square_tree.proofs.Placed.{at_east, at_south, or_none, split}
+use Rattle.square_tree.proofs.Shared.Placed.{at_east, at_south, or_none, split}
 
 -- the order of places is a total order
 pub places_total : IsTotalOrder place_cmp

@@ -6,8 +6,8 @@ use Rattle.worlds.specs.Step.{step, nine_zeros}
 use Rattle.worlds.specs.Iterate.{iterate}
 use Rattle.worlds.specs.Square.{Square, one, four, empty_square, square_at, IsIn}
 use Rattle.hash_life.specs.Result.{result}
-use Rattle.hash_life.proofs.Grids.{same_square, joined, sixteen}
-use Rattle.hash_life.proofs.Steps.{result-steps}
+use Rattle.hash_life.proofs.Shared.Grids.{same_square, joined, sixteen}
+use Rattle.hash_life.proofs.Shared.Steps.{result-steps}
 use Rattle.square_table.specs.Centred.{edge, IsCentred}
 use Rattle.step_engine.specs.Reach.{LiesWithin}
 use Rattle.step_engine.specs.Padded.{padded}

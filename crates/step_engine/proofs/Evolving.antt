@@ -6,7 +6,7 @@ use Rattle.worlds.specs.Iterate.{iterate}
 use Rattle.worlds.specs.Range.{HasMargin, AllBelow}
 use Rattle.worlds.specs.Square as squares
 use Rattle.worlds.specs.Square.{square_at}
-use Rattle.worlds.proofs.Stepped.{HasMargin-step}
+use Rattle.worlds.proofs.Shared.Stepped.{HasMargin-step}
 use Rattle.hash_life.specs.Result.{result}
 use Rattle.hash_life.specs.Puts.{IsBelow}
 use Rattle.square_table.specs.Centred.{edge, IsCentred}

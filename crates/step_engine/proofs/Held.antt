@@ -7,9 +7,9 @@ use Rattle.std.proofs.lemmas.Bool.Decides.{nat_tests}
 use Rattle.worlds.specs.Square.{Square, one, four}
 use Rattle.square_table.specs.Squares.{IsNumber, square_in, kid_at, first_number, AreDistinct}
 use Rattle.square_table.specs.Made.{AreAmong}
-use Rattle.square_table.proofs.Numbers.{one_number}
+use Rattle.square_table.proofs.Shared.Numbers.{one_number}
 use Rattle.hash_engine.specs.Asked.{is_four, picked, places_of_four}
-use Rattle.hash_engine.proofs.Puts.{is_four-two, is_four-more}
+use Rattle.hash_engine.proofs.Shared.Puts.{is_four-two, is_four-more}
 use Rattle.step_engine.specs.Evolved.{is_block, AreDifferent}
 
 first_of : Square → Square

@@ -10,8 +10,8 @@ use Rattle.square_table.specs.Squares.{Table, IsNumber, AreNumbers, IsSquareOf, 
 use Rattle.square_table.specs.Centred.{IsCentred}
 use Rattle.square_table.specs.Made.{AreAmong, Adds, HoldsWithin, HasEmpty, HasStart}
 use Rattle.square_table.specs.Loading.{GrowsFrom}
-use Rattle.square_table.proofs.Making.{Adds-joined}
-use Rattle.square_table.proofs.Growth.{Keeps-grows, Grows-then, IsNumber-grows, square_in-grows, IsNumber-joined, square_in-joined, AreNumbers-grows, square_of-grows, AreNumbers-quadrants, square_in-quadrants}
+use Rattle.square_table.proofs.Shared.Making.{Adds-joined}
+use Rattle.square_table.proofs.Shared.Growth.{Keeps-grows, Grows-then, IsNumber-grows, square_in-grows, IsNumber-joined, square_in-joined, AreNumbers-grows, square_of-grows, AreNumbers-quadrants, square_in-quadrants}
 use Rattle.step_engine.specs.Padded.{padded, IsPaddedNumber, IsPadded, AddsPadded}
 use Rattle.step_engine.proofs.Centring.{IsCentred-padded}
 

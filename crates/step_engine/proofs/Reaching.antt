@@ -7,7 +7,7 @@ use Rattle.worlds.specs.declared.cell.Bounds.{Bounds}
 use Rattle.worlds.specs.Step.{step, nine_zeros}
 use Rattle.worlds.specs.Iterate.{iterate}
 use Rattle.worlds.specs.Near.{IsNear}
-use Rattle.worlds.proofs.Local.{cell-step-none}
+use Rattle.worlds.proofs.Shared.Local.{cell-step-none}
 use Rattle.step_engine.specs.Reach.{LiesWithin, BoxLiesWithin}
 
 -- a cell that is live after a step has one near it that was live before

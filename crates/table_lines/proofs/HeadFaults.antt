@@ -1,7 +1,7 @@
 -- The faults of a table's head, of which none is a want of memory.
 use Rattle.std.proofs.Common.{ℕ, List, [], ◌∷◌, arith, Ok}
 use Rattle.basics.specs.Results.{◌>>=◌}
-use Rattle.rule_file.proofs.Readings.{WantsNone}
+use Rattle.rule_file.proofs.Shared.Readings.{WantsNone}
 use Rattle.rule_file.specs.RuleFile.{NumberedLine}
 use Rattle.table_lines.specs.declared.descriptors.Descriptor.{Descriptor}
 use Rattle.table_lines.specs.declared.descriptors.Head.{Head}

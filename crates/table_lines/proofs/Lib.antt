@@ -1,13 +1,9 @@
 mod SaidHeads
 mod HeadFaults
-pub mod Renumbered
+pub mod Shared
 mod Reordered
-pub mod SaidTables
 pub mod Sets
 mod Splits
 mod Steps
 mod Unions
 mod WrittenEntries
-pub mod WrittenFiles
-pub mod WrittenSets
-pub mod WrittenTables

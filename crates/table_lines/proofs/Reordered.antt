@@ -11,7 +11,7 @@ use Rattle.table_lines.specs.declared.descriptors.Descriptor.TheVariants as desc
 use Rattle.table_lines.specs.Descriptors.{Described, describe, descriptor_of, head_from, undescribed}
 use Rattle.table_lines.specs.LineLaws.{DescriptorsInAnyOrder, is_descriptor}
 use Rattle.table_lines.proofs.Steps.{step, step-later}
-use Rattle.rule_file.proofs.Readings.{GivesToo, then_too}
+use Rattle.rule_file.proofs.Shared.Readings.{GivesToo, then_too}
 
 abbrev Found : Type 0
 Found = Head × List NumberedLine

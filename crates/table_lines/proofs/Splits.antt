@@ -4,7 +4,7 @@ use Rattle.std.specs.List.{slice_split}
 use Rattle.std.proofs.lemmas.List.{length-map}
 use Rattle.std.proofs.lemmas.List.Splits.{length-slice_split}
 use Rattle.text_lines.specs.Blanks.{trim}
-use Rattle.text_lines.proofs.Pieces.{split-some, split-none}
+use Rattle.text_lines.proofs.Shared.Pieces.{split-some, split-none}
 use Rattle.table_lines.specs.Fields.{parts}
 
 pub parts-some : (line : List ℕ) (n : ℕ) → position (λ b. b == 44) line ≡ Some n → parts line ≡ trim (take n line) ∷ parts (drop (n + 1) line)

@@ -3,7 +3,7 @@ use Rattle.std.proofs.Common.{◌≡◌, true, Option, Result, Ok, is_some, arit
 use Rattle.std.specs.Option.{option_map_or}
 use Rattle.basics.specs.Results.{◌>>=◌}
 use Rattle.rule_file.specs.declared.fault.RuleFault.{RuleFault}
-use Rattle.rule_file.proofs.Readings.{GivesToo, WantsNone}
+use Rattle.rule_file.proofs.Shared.Readings.{GivesToo, WantsNone}
 use Rattle.table_lines.specs.Descriptors.{Described}
 
 -- the reading of such a line

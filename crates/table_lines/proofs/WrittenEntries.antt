@@ -8,11 +8,11 @@ use Rattle.std.proofs.lemmas.Bool.Decides.{nat_tests}
 use Rattle.std.proofs.lemmas.List.Elements.{All-from_recursion}
 use Rattle.std.proofs.lemmas.List.Folds.{list_any-append}
 use Rattle.std.proofs.lemmas.List.Splits.{slice_split_at, slice_split_none}
-use Rattle.basics.proofs.Lists.{all_append, all_so}
+use Rattle.basics.proofs.Shared.Lists.{all_append, all_so}
 use Rattle.text_lines.specs.Blanks.{trim}
-use Rattle.text_lines.proofs.ByteRanges.{IsDigit, IsVisible, differs, digit-test, digit-visible}
-use Rattle.text_lines.proofs.Decimals.{IsWide, decimal-bytes, decimal-some, number_of-decimal}
-use Rattle.text_lines.proofs.PrintedLines.{line-visible}
+use Rattle.text_lines.proofs.Shared.ByteRanges.{IsDigit, IsVisible, differs, digit-test, digit-visible}
+use Rattle.text_lines.proofs.Shared.Decimals.{IsWide, decimal-bytes, decimal-some, number_of-decimal}
+use Rattle.text_lines.proofs.Shared.PrintedLines.{line-visible}
 use Rattle.table_lines.specs.declared.transition.Entry.{Entry}
 use Rattle.table_lines.specs.declared.transition.Entry.TheVariants.{State, OneOf}
 use Rattle.table_lines.specs.Fields.{fields, parts}

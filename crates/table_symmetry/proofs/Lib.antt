@@ -7,7 +7,6 @@ mod Finds
 mod FirstMatch
 mod Growing
 mod Limits
-pub mod SaidTables
+pub mod Shared
 mod Compositions
 mod Orders
-pub mod WrittenTables

@@ -18,7 +18,7 @@ use Rattle.table_symmetry.specs.Table.{Table}
 use Rattle.table_symmetry.specs.TableLines.{within_limits}
 use Rattle.table_symmetry.proofs.FirstMatch.{next-expanded}
 use Rattle.table_symmetry.proofs.ExpandedRows.{expanded-below, expanded-length}
-use Rattle.table_symmetry.proofs.SaidTables.{all_give_states}
+use Rattle.table_symmetry.proofs.Shared.SaidTables.{all_give_states}
 
 -- what a look-up of the expanded transitions finds for nine zeros
 next_of_zeros : {found : Option ℕ} (table : Table) (lookup : Lookup) → Finds lookup nine_zeros found → LooksUp table lookup → 0 < table.states → unwrap_or found 0 ≡ next table nine_zeros

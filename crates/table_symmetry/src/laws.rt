@@ -16,7 +16,7 @@ pub fn permute_takes_all_orders()
 
 /// A table that the lines of a section mean is sound: a cell of state 0 among such cells keeps it,
 /// and whatever a transition gives is a state. So its next state needs no guard.
-#[tactic(auto, using(crate::proofs::SaidTables::sound_tables))]
+#[tactic(auto, using(crate::proofs::Shared::SaidTables::sound_tables))]
 pub fn tables_of_files_are_sound()
     ensures { TablesOfFilesAreSound }
 {}
@@ -27,7 +27,7 @@ pub fn written_means_the_same()
 {}
 
 /// For each table that the lines of a section mean lines are written.
-#[tactic(auto, using(crate::proofs::WrittenTables::table_of_written))]
+#[tactic(auto, using(crate::proofs::Shared::WrittenTables::table_of_written))]
 pub fn tables_of_files_are_written()
     ensures { TablesOfFilesAreWritten }
 {}

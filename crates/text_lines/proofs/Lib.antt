@@ -1,8 +1,1 @@
-pub mod ByteRanges
-pub mod Decimals
-pub mod FirstLine
-pub mod LineEnds
-pub mod NumberLines
-pub mod Pieces
-pub mod PrintedLines
-pub mod Trims
+pub mod Shared

@@ -24,7 +24,7 @@ pub fn trim_start(bytes: &[u8]) -> &[u8]
 }
 
 /// The bytes up to the last that is no blank.
-#[tactic(auto, using(crate::proofs::Trims::trim_end_at))]
+#[tactic(auto, using(crate::proofs::Shared::Trims::trim_end_at))]
 pub fn trim_end(bytes: &[u8]) -> &[u8]
     ensures { result.now ≡ trim_end bytes.now }
 {

@@ -25,7 +25,7 @@ impl<'a> Model for Lines<'a> {
 
 impl<'a> Lines<'a> {
     /// The lines of this text, which has no more of them than bytes.
-    #[tactic(auto, using(std::proofs::lemmas::Grind::common_steps, crate::proofs::FirstLine::length_lines_from))]
+    #[tactic(auto, using(std::proofs::lemmas::Grind::common_steps, crate::proofs::Shared::FirstLine::length_lines_from))]
     pub fn new(text: &'a [u8]) -> Lines<'a>
         ensures lines { result ≡ says text.now }
         ensures count { length result ≤ length text.now }
@@ -65,7 +65,7 @@ fn line_len(text: &[u8]) -> usize
 }
 
 /// The bytes without one carriage return at their end.
-#[tactic(auto, using(crate::proofs::Trims::strip_carriage_return_at))]
+#[tactic(auto, using(crate::proofs::Shared::Trims::strip_carriage_return_at))]
 pub fn strip_carriage_return(bytes: &[u8]) -> &[u8]
     ensures { result.now ≡ strip_carriage_return bytes.now }
 {
@@ -76,7 +76,7 @@ pub fn strip_carriage_return(bytes: &[u8]) -> &[u8]
 }
 
 // What the first line of a text says, and the text behind that line.
-#[tactic(auto, using(std::proofs::lemmas::Grind::common_steps, crate::proofs::FirstLine::first_line))]
+#[tactic(auto, using(std::proofs::lemmas::Grind::common_steps, crate::proofs::Shared::FirstLine::first_line))]
 fn split_line(text: &[u8]) -> (&[u8], &[u8])
     requires { text.now ≢ [] }
     ensures { says text.now ≡ result.0.now ∷ says result.1.now }

@@ -5,7 +5,7 @@ ghost use Rattle.text_lines.specs.Numbers.{number_of};
 
 /// The number that decimal digits write, or 2^64 - 1 if it is greater. None where there is no
 /// digit, or any other byte.
-#[tactic(auto, using(std::proofs::lemmas::Grind::common_steps, crate::proofs::Decimals::digits_value_more_min))]
+#[tactic(auto, using(std::proofs::lemmas::Grind::common_steps, crate::proofs::Shared::Decimals::digits_value_more_min))]
 pub fn number(digits: &[u8]) -> Option<u64>
     ensures { result ≡ option_map (min (2 ^ 64 - 1)) (number_of digits.now) }
 {

@@ -12,8 +12,8 @@ use Rattle.tree_translation.specs.Layers.{IsLayer, lets, rest_at, result_of}
 use Rattle.tree_translation.specs.Translation.{AreLeaves, Does, LeftOf, first_some, outcome}
 use Rattle.decision_tree.specs.Tree.{Entries, follow, leads, node_at}
 use Rattle.decision_tree.specs.TreeLaws.{leads-on, leads-width}
-use Rattle.decision_tree.proofs.Growing.{leads-append, leads-node}
-use Rattle.decision_tree.proofs.KeptNodes.{none-past}
+use Rattle.decision_tree.proofs.Shared.Growing.{leads-append, leads-node}
+use Rattle.decision_tree.proofs.Shared.KeptNodes.{none-past}
 use Rattle.std.proofs.lemmas.List.{get_or_default}
 use Rattle.tree_translation.proofs.NodeLists.{firsts-all}
 

@@ -5,7 +5,7 @@ mod Doing
 mod Layering
 mod MadeNodes
 mod NodeLists
-pub mod NodesHad
+pub mod Shared
 mod TailsLeft
 mod TailsNear
 mod Translating

@@ -17,7 +17,7 @@ use Rattle.tree_translation.specs.Layers.{AreLayersOf, all_allow, asked, result_
 use Rattle.tree_translation.specs.Translation.{DoTable, Does, DoesRows, Translates, first_some, last_of, neighbors_of, order_of, outcome, rows_give}
 use Rattle.decision_tree.specs.Tree.{Entries, Tree, inputs_of, is_quiescent, is_sound, leads, next, places_of}
 use Rattle.decision_tree.specs.TreeLaws.{inputs-below, leads-width}
-use Rattle.decision_tree.proofs.KeptNodes.{none-past}
+use Rattle.decision_tree.proofs.Shared.KeptNodes.{none-past}
 use Rattle.std.proofs.lemmas.List.{get_or_default}
 use Rattle.tree_translation.proofs.NodeLists.{firsts, firsts-all}
 

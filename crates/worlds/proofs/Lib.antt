@@ -1,5 +1,1 @@
-pub mod Cells
-pub mod Local
-pub mod Steps
-pub mod Stepped
-pub mod Keeps
+pub mod Shared

@@ -10,7 +10,7 @@ use Rattle.std.specs.Map.{keys_of, lookup}
 use Rattle.std.specs.FinMap as map
 use Rattle.std.specs.FinMap.Entries.{find, below_all, is_sorted}
 use Rattle.worlds.specs.World.{World, Place, place_cmp, same_place, same_place-itself, cell, cell-get, places_total, state_of}
-use Rattle.basics.proofs.Tests.{first, second}
+use Rattle.basics.proofs.Shared.Tests.{first, second}
 use Rattle.worlds.specs.Fill.{same_is}
 use Rattle.worlds.specs.declared.cell.Cell.{Cell}
 

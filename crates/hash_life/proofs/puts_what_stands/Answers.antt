@@ -1,4 +1,4 @@
-use Rattle.hash_life.proofs.Places.{what_is_put}
+use Rattle.hash_life.proofs.Shared.Places.{what_is_put}
 use Rattle.hash_life.proofs.puts_what_stands.Goals as goal
 
 pub returns : goal.returns

@@ -1,4 +1,4 @@
-use Rattle.decision_tree.proofs.SaidNodes.{section-sound}
+use Rattle.decision_tree.proofs.Shared.SaidNodes.{section-sound}
 use Rattle.decision_tree.proofs.laws.trees_of_files_are_sound.Goals as goal
 
 pub returns : goal.returns

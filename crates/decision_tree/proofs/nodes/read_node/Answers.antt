@@ -3,8 +3,8 @@ use Rattle.std.specs.Option.{option_map}
 use Rattle.rule_file.specs.declared.fault.RuleFault.TheVariants.{BadTree}
 use Rattle.decision_tree.specs.Kept.{saturated}
 use Rattle.decision_tree.specs.TreeLines.{is_next, numbers_in, words}
-use Rattle.decision_tree.proofs.Growing.{IsNextNode, is_next-node, kept-push}
-use Rattle.decision_tree.proofs.KeptNodes.{first-and-others, nodes_of-push}
+use Rattle.decision_tree.proofs.Shared.Growing.{IsNextNode, is_next-node, kept-push}
+use Rattle.decision_tree.proofs.Shared.KeptNodes.{first-and-others, nodes_of-push}
 use Rattle.decision_tree.proofs.NextNode.{line-refused, line-taken}
 use Rattle.decision_tree.proofs.nodes.read_node.Goals as goal
 use Rattle.decision_tree.proofs.nodes.read_node.Goals.{After-is_next, Else-not-is_next}

@@ -1,7 +1,7 @@
 use Rattle.std.proofs.Common.{sym, ◌∙◌, arith}
 use Rattle.std.proofs.lemmas.Grind.{common_steps}
 use Rattle.text_lines.specs.Blanks.{is_blank}
-use Rattle.text_lines.proofs.Pieces.{split-some, split-none}
+use Rattle.text_lines.proofs.Shared.Pieces.{split-some, split-none}
 use Rattle.decision_tree.proofs.numbers.split_piece.Goals as goal
 
 pub returns-in-Some : goal.returns-in-Some

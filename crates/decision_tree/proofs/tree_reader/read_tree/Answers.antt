@@ -1,5 +1,5 @@
 use Rattle.decision_tree.specs.TreeLines.{head_from, undescribed}
-use Rattle.rule_file.proofs.Readings.{handed_on}
+use Rattle.rule_file.proofs.Shared.Readings.{handed_on}
 use Rattle.decision_tree.proofs.HeadFaults.{head_from-none}
 use Rattle.decision_tree.proofs.tree_reader.read_tree.Goals as goal
 

@@ -1,5 +1,5 @@
 use Rattle.script_lines.specs.Words.{words}
-use Rattle.script_lines.proofs.Known.{on_err}
+use Rattle.script_lines.proofs.Shared.Known.{on_err}
 use Rattle.desk_server.specs.Command.{edit_by}
 use Rattle.desk_server.proofs.Lacking.{edit-lacks}
 use Rattle.desk_server.proofs.command.read_edit_command.Goals as goal

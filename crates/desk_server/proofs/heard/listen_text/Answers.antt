@@ -1,4 +1,4 @@
-use Rattle.script_lines.proofs.Known.{on_err}
+use Rattle.script_lines.proofs.Shared.Known.{on_err}
 use Rattle.desk_server.proofs.Hearing.{reads-ended, reads-open, reads-most, breaks-open_text}
 use Rattle.desk_server.proofs.heard.listen_text.Goals as goal
 

@@ -1,5 +1,5 @@
 use Rattle.std.proofs.Common.{◌∙◌, ◌<◌, length, arith}
-use Rattle.script_lines.proofs.Told.{wrote_err}
+use Rattle.script_lines.proofs.Shared.Told.{wrote_err}
 use Rattle.desk_server.proofs.Parts.{parts_more, parts_broken}
 use Rattle.desk_server.proofs.reply.tell_parts.Goals as goal
 

@@ -1,5 +1,5 @@
 use Rattle.std.proofs.Common.{◌≡◌, drop}
-use Rattle.script_lines.proofs.Told.{IsUnderWay}
+use Rattle.script_lines.proofs.Shared.Told.{IsUnderWay}
 use Rattle.desk_server.specs.Told.{parts_text}
 use Rattle.desk_server.proofs.reply.tell_parts.Given as goal
 

@@ -1,5 +1,5 @@
 use Rattle.std.proofs.Common.{◌≡◌, ◌≢◌, ◌∙◌, refl, sym, rules}
-use Rattle.script_lines.proofs.Told.{wrote_is_err, wrote_is_ok}
+use Rattle.script_lines.proofs.Shared.Told.{wrote_is_err, wrote_is_ok}
 use Rattle.desk_server.specs.declared.reply.Reply.TheVariants as reply
 use Rattle.desk_server.proofs.Jobs.{drops_none, carries_same}
 use Rattle.desk_server.proofs.Rounds.{served, goes_on_silent, done_silent, goes_on_told, done_last, done_bye, stops_telling}

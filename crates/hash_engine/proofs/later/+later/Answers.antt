@@ -2,7 +2,7 @@ use Rattle.std.proofs.Common.{◌≡◌, ℕ, [], ◌∷◌, suc, ◌-◌, ◌^�
 use Rattle.std.specs.Prelude.{All}
 use Rattle.std.proofs.lemmas.List.{length-set}
 use Rattle.square_table.specs.Squares.{square_in}
-use Rattle.square_table.proofs.Growth.{Grows-then, IsNumber-grows}
+use Rattle.square_table.proofs.Shared.Growth.{Grows-then, IsNumber-grows}
 use Rattle.hash_life.specs.Result as hash_life
 use Rattle.hash_life.specs.Puts.{nine_of, fours_of}
 use Rattle.hash_engine.specs.Standing.{StandForAll, IsReady}
@@ -13,7 +13,7 @@ use Rattle.hash_engine.specs.Adding.{AddsFor}
 use Rattle.hash_engine.proofs.Standing.{above}
 use Rattle.hash_engine.proofs.Memos.{IsRight-grows, IsResult-made}
 use Rattle.hash_engine.proofs.Computed.{IsReady-lower, IsReady-same, IsRight-same, IsRight-back, IsSameRule-itself, IsSameRule-then, nine_stand, nine_ready, fours_ready, StandsFor-computed, StandsFor-higher, none_stands}
-use Rattle.hash_engine.proofs.Puts.{none_put, higher_remembered}
+use Rattle.hash_engine.proofs.Shared.Puts.{none_put, higher_remembered}
 use Rattle.hash_engine.proofs.Once.{asked_in_two, asked_turn}
 use Rattle.hash_engine.proofs.Turns.{IsReady-turn, square_in-turn, result-turn, done_more, rest_more, StandForAll-done}
 use Rattle.hash_engine.proofs.Adding.{AddsFor-turn, AddsFor-middle, AddsFor-nine, AddsFor-of_nine, AddsFor-fours, AddsFor-of_fours, AddsFor-result, Adds-made}

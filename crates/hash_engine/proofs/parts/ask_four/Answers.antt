@@ -1,7 +1,7 @@
 use Rattle.std.proofs.Common.{◌≡◌, ◌∙◌, ℕ, ◌<◌, [], ◌∷◌, get_or, sym, subst}
 use Rattle.std.specs.Prelude.{All}
 use Rattle.hash_life.specs.Puts.{IsBelow}
-use Rattle.hash_life.proofs.Nine.{All-nine}
+use Rattle.hash_life.proofs.Shared.Nine.{All-nine}
 use Rattle.hash_engine.proofs.parts.ask_four.Goals as goal
 
 -- nine states below a number that is the same

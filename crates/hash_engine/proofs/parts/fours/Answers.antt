@@ -1,6 +1,6 @@
 use Rattle.std.proofs.Common.{◌≡◌, ◌∙◌, refl, sym, subst, suc, length, inl, lit<, rules}
 use Rattle.worlds.specs.Square.{one}
-use Rattle.square_table.proofs.Growth.{Grows-same, Grows-then}
+use Rattle.square_table.proofs.Shared.Growth.{Grows-same, Grows-then}
 use Rattle.hash_engine.specs.Standing.{StandForAll}
 use Rattle.hash_engine.proofs.Standing.{StandsFor-of_nine, StandForAll-four, fours_at}
 use Rattle.hash_engine.proofs.Adding.{Adds-fours}

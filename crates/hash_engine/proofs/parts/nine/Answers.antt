@@ -1,5 +1,5 @@
 use Rattle.std.proofs.Common.{[], ◌∷◌, suc}
-use Rattle.square_table.proofs.Growth.{IsNumber-grows, Grows-same, Grows-then}
+use Rattle.square_table.proofs.Shared.Growth.{IsNumber-grows, Grows-same, Grows-then}
 use Rattle.hash_life.specs.Result.{between, amid, middle}
 use Rattle.hash_engine.proofs.Standing.{above, within, quadrant_numbers, StandsFor-grows, StandForAll-nine_of}
 use Rattle.hash_engine.proofs.Adding.{Adds-nine, AddsOf-none, AddsOfTwo-none}

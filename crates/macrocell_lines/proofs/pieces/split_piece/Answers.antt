@@ -1,6 +1,6 @@
 use Rattle.std.proofs.Common.{sym, ◌∙◌, ◌==◌, arith}
 use Rattle.std.proofs.lemmas.Grind.{common_steps}
-use Rattle.text_lines.proofs.Pieces.{split-some, split-none}
+use Rattle.text_lines.proofs.Shared.Pieces.{split-some, split-none}
 use Rattle.macrocell_lines.proofs.pieces.split_piece.Goals as goal
 
 pub returns-in-Some : goal.returns-in-Some

@@ -4,7 +4,7 @@ use Rattle.plane_core.specs.declared.row.SquareRow.{SquareRow}
 use Rattle.macrocell_lines.specs.WrittenText.{written_text}
 use Rattle.multistate_macrocell.specs.PatternText.{nodes_of}
 use Rattle.plane_core.specs.WorldRows.{rows_of}
-use Rattle.plane_core.proofs.WorldRows.{rows_of-squares}
+use Rattle.plane_core.proofs.Shared.WorldRows.{rows_of-squares}
 use Rattle.multistate_macrocell.proofs.write.write_mc.Goals as goal
 
 pub returns : goal.returns

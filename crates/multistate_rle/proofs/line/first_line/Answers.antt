@@ -5,11 +5,11 @@ use Rattle.std.proofs.lemmas.Grind.{common_steps}
 use Rattle.std.proofs.lemmas.List.{take_more}
 use Rattle.std.proofs.lemmas.List.Sums.{passes_at_first}
 use Rattle.std.proofs.Math.Seq.{take-length, drop-length}
-use Rattle.basics.proofs.Tests.{some_place, no_place}
+use Rattle.basics.proofs.Shared.Tests.{some_place, no_place}
 use Rattle.text_lines.specs.Blanks.{trim}
 use Rattle.text_lines.specs.Lines.{lines, line_len, strip_carriage_return}
 use Rattle.text_lines.specs.Lines.End.{Ended}
-use Rattle.text_lines.proofs.FirstLine.{line_len-le, lines_from-full, lines_from-last}
+use Rattle.text_lines.proofs.Shared.FirstLine.{line_len-le, lines_from-full, lines_from-last}
 use Rattle.multistate_rle.proofs.line.first_line.Goals as goal
 
 -- the first line is as long as its line feed stands far

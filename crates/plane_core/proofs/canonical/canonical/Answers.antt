@@ -2,7 +2,7 @@ use Rattle.std.proofs.Common.{◌≡◌, List, sym, subst, ◌∙◌}
 use Rattle.plane_core.specs.declared.row.SquareRow.{SquareRow}
 use Rattle.plane_core.specs.Rows.{AreRows, IsLeastLevel, root_level, world_of_rows}
 use Rattle.plane_core.proofs.Tidy.{IfOk_then, tidied, kept-walked}
-use Rattle.plane_core.proofs.Centres.{walked-filled}
+use Rattle.plane_core.proofs.Shared.Centres.{walked-filled}
 use Rattle.plane_core.proofs.canonical.canonical.Goals as goal
 
 pub add_centres-requires-clause-rows : goal.add_centres-requires-clause-rows

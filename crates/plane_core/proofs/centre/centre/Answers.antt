@@ -1,6 +1,6 @@
 use Rattle.std.proofs.Common.{◌-◌, length, sym, ap, subst, ◌∙◌, arith, lit<}
 use Rattle.plane_core.specs.Rows.{IsNumber, kid, row_at}
-use Rattle.plane_core.proofs.Centres.{IfNone_from, NoCorner, HasMiddle, least-one, least-nw, least-ne, least-sw, least-se, rows-some, root-kid, centre-is}
+use Rattle.plane_core.proofs.Shared.Centres.{IfNone_from, NoCorner, HasMiddle, least-one, least-nw, least-ne, least-sw, least-se, rows-some, root-kid, centre-is}
 use Rattle.plane_core.proofs.centre.centre.Goals as goal
 
 pub returns-then-level-eq1-clause-none : goal.returns-then-level-eq1-clause-none

@@ -1,7 +1,7 @@
 use Rattle.std.proofs.Common.{◌-◌, sym, subst, ◌∙◌, arith}
 use Rattle.plane_core.specs.Centre.{IsCorner}
 use Rattle.plane_core.proofs.Descents.{number_within}
-use Rattle.plane_core.proofs.Centres.{corner-alone, corner-none, corner-only, zero-IsNumber}
+use Rattle.plane_core.proofs.Shared.Centres.{corner-alone, corner-none, corner-only, zero-IsNumber}
 use Rattle.plane_core.proofs.centre.inner.Goals as goal
 
 pub returns-then-number-eq0-clause-some : goal.returns-then-number-eq0-clause-some

@@ -3,7 +3,7 @@ use Rattle.std.proofs.lemmas.List.{length_push}
 use Rattle.plane_core.specs.declared.counts.Tally.{Tally}
 use Rattle.plane_core.specs.Rows.{IsNumber, square_in, root_of}
 use Rattle.plane_core.specs.Counts.{Gains, HasRoom}
-use Rattle.plane_core.proofs.Roots.{rooted}
+use Rattle.plane_core.proofs.Shared.Roots.{rooted}
 use Rattle.plane_core.proofs.Counting.{room-root, tallied-root, popped-more, popped-room, tallied-more, tallied-all}
 use Rattle.plane_core.proofs.counts.counts.Goals as goal
 

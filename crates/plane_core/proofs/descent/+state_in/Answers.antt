@@ -1,8 +1,8 @@
 use Rattle.std.proofs.Common.{◌-◌, sym, ap, ap₂, ◌∙◌, subst, arith, rules}
 use Rattle.worlds.specs.Square.{Square, cell_in, quadrant_at}
 use Rattle.plane_core.specs.Rows.{square_in, IsNumber, kid, row_at}
-use Rattle.plane_core.proofs.Sound.{state-IsNumber, square_in-none, square_in-state}
-use Rattle.plane_core.proofs.Cells.{cell_in-one, cell_in-empty}
+use Rattle.plane_core.proofs.Shared.Sound.{state-IsNumber, square_in-none, square_in-state}
+use Rattle.plane_core.proofs.Shared.Cells.{cell_in-one, cell_in-empty}
 use Rattle.plane_core.proofs.Descents.{number_within, number-kid, cell_in-kid}
 use Rattle.plane_core.proofs.descent.+state_in.Goals as goal
 

@@ -4,7 +4,7 @@ use Rattle.std.proofs.lemmas.List.{nil_from_length}
 use Rattle.std.proofs.lemmas.Option.{slice_get_within, get_or_from_slice_get, slice_get-get_or}
 use Rattle.plane_core.specs.declared.row.SquareRow.{SquareRow}
 use Rattle.plane_core.specs.Rows.{root_level, no_row}
-use Rattle.plane_core.proofs.Roots.{root_level-some, root_level-none, rooted}
+use Rattle.plane_core.proofs.Shared.Roots.{root_level-some, root_level-none, rooted}
 use Rattle.plane_core.proofs.descent.root_level.Goals as goal
 
 pub returns-in-Some-clause-level : goal.returns-in-Some-clause-level

@@ -1,6 +1,6 @@
 use Rattle.std.proofs.Common.{◌≤◌, ◌-◌, ◌^◌, length, arith, sym, subst, pow_mono}
 use Rattle.plane_core.specs.Rows.{IsNumber}
-use Rattle.plane_core.proofs.Roots.{rooted, found-inside, found-outside}
+use Rattle.plane_core.proofs.Shared.Roots.{rooted, found-inside, found-outside}
 use Rattle.plane_core.proofs.descent.state_at.Goals as goal
 
 pub offset_in-requires : goal.offset_in-requires

@@ -1,4 +1,4 @@
-use Rattle.plane_core.proofs.WorldRows.{rows_of-blank}
+use Rattle.plane_core.proofs.Shared.WorldRows.{rows_of-blank}
 use Rattle.plane_core.proofs.laws.empty_world_has_one_row.Goals as goal
 
 pub returns : goal.returns

@@ -1,4 +1,4 @@
-use Rattle.plane_core.proofs.WorldRows.{squares-rows_of}
+use Rattle.plane_core.proofs.Shared.WorldRows.{squares-rows_of}
 use Rattle.plane_core.proofs.laws.worlds_have_rows.Goals as goal
 
 pub returns : goal.returns

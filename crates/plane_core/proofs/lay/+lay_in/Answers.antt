@@ -4,8 +4,8 @@ use Rattle.std.proofs.lemmas.Option.{slice_get_within, get_or_from_slice_get}
 use Rattle.worlds.specs.declared.cell.CellSet.{CellSet}
 use Rattle.plane_core.specs.declared.row.SquareRow.{SquareRow}
 use Rattle.plane_core.specs.Laid.{AreThoseIn, AreQuadrants, IsCellOf, IsLaid, IsAdded, IsOnPlane, square_of}
-use Rattle.plane_core.proofs.Roots.{root-side}
-use Rattle.plane_core.proofs.Adding.{IfOk_then, Keeps-then, kid_numbers}
+use Rattle.plane_core.proofs.Shared.Roots.{root-side}
+use Rattle.plane_core.proofs.Shared.Adding.{IfOk_then, Keeps-then, kid_numbers}
 use Rattle.plane_core.proofs.Laying.{laid-state, laid-quadrants, laid-those, those-all, those-at, those-of, quadrant-on_plane, half-from, square-from_halves}
 use Rattle.plane_core.proofs.lay.+lay_in.Goals as goal
 

@@ -1,7 +1,7 @@
 use Rattle.std.proofs.Common.{List, ◌≡◌, length, sym, ap, ◌∙◌, subst, arith}
 use Rattle.plane_core.specs.Rows.{IsNumber, root_level, edge_of}
 use Rattle.plane_core.specs.Laid.{IsLaid}
-use Rattle.plane_core.proofs.Roots.{rooted}
+use Rattle.plane_core.proofs.Shared.Roots.{rooted}
 use Rattle.plane_core.proofs.Laying.{root-on_plane, laid-world}
 use Rattle.worlds.specs.Lay.{lay}
 use Rattle.worlds.specs.declared.cell.CellSet.{CellSet}

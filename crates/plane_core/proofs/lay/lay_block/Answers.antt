@@ -1,9 +1,9 @@
 use Rattle.std.proofs.Common.{List, get_or, subst, arith}
 use Rattle.plane_core.specs.declared.row.SquareRow.{SquareRow}
 use Rattle.plane_core.specs.Laid.{AreQuadrants, IsAdded, IsLaid, square_of}
-use Rattle.plane_core.proofs.Adding.{IfOk_then}
+use Rattle.plane_core.proofs.Shared.Adding.{IfOk_then}
 use Rattle.plane_core.proofs.Blocks.{laid-block}
-use Rattle.plane_core.proofs.Sound.{IsNumber-state, state-IsNumber}
+use Rattle.plane_core.proofs.Shared.Sound.{IsNumber-state, state-IsNumber}
 use Rattle.plane_core.proofs.lay.lay_block.Goals as goal
 
 pub laid_states-requires-clause-states : goal.laid_states-requires-clause-states

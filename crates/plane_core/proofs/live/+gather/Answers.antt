@@ -5,8 +5,8 @@ use Rattle.plane_core.specs.Entries.{world_of, world_of-update, AllKept-insert, 
 use Rattle.worlds.specs.Square.{put_square}
 use Rattle.plane_core.specs.Rows.{IsNumber, square_in}
 use Rattle.plane_core.specs.Laid.{IsOnPlane, IsClear}
-use Rattle.plane_core.proofs.Sound.{state-IsNumber}
-use Rattle.plane_core.proofs.Adding.{IfOk_then}
+use Rattle.plane_core.proofs.Shared.Sound.{state-IsNumber}
+use Rattle.plane_core.proofs.Shared.Adding.{IfOk_then}
 use Rattle.plane_core.proofs.Laying.{quadrant-on_plane, half-from}
 use Rattle.plane_core.proofs.Gathering.{gathered-none, gathered-state, gathered_four, clear_nw, clear_ne, clear_sw, clear_se, clear-at, put-at, corner-fits, corner-inside}
 use Rattle.plane_core.proofs.live.+gather.Goals as goal

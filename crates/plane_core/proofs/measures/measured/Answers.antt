@@ -7,7 +7,7 @@ use Rattle.plane_core.specs.declared.measures.Measures.{Measures}
 use Rattle.plane_core.specs.declared.row.SquareRow.{SquareRow}
 use Rattle.plane_core.specs.Rows.{edge_of, world_of_rows}
 use Rattle.plane_core.specs.Measures.{AreMeasured, AreMeasuresAt, AreMeasuresOf, no_measures}
-use Rattle.plane_core.proofs.Measuring.{root_measured, root_near, none_measured}
+use Rattle.plane_core.proofs.Shared.Measuring.{root_measured, root_near, none_measured}
 use Rattle.plane_core.proofs.measures.measured.Goals as goal
 
 fits_edge : (n : ℕ) → n ≤ 2 ^ 62 → SFits w64 (pos 0 -ℤ pos n)

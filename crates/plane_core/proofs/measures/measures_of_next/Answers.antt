@@ -4,7 +4,7 @@ use Rattle.std.proofs.lemmas.Int.{to_z_pos}
 use Rattle.plane_core.specs.declared.measures.Measures.{Measures}
 use Rattle.plane_core.specs.Rows.{no_row}
 use Rattle.plane_core.specs.Measures.{joined, placed, LiesIn, AreMeasuresAt}
-use Rattle.plane_core.proofs.Measuring.{kid_known, next_measured}
+use Rattle.plane_core.proofs.Shared.Measuring.{kid_known, next_measured}
 use Rattle.plane_core.proofs.measures.measures_of_next.Goals as goal
 
 pub measures_in-nw-requires : goal.measures_in-nw-requires

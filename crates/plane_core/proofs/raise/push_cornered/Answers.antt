@@ -3,7 +3,7 @@ use Rattle.worlds.specs.Square.{Square}
 use Rattle.plane_core.specs.Centre.{cornered}
 use Rattle.plane_core.specs.Rows.{square_in}
 use Rattle.plane_core.specs.Laid.{IsAdded, square_of}
-use Rattle.plane_core.proofs.Adding.{corner_kids, IfOk_then}
+use Rattle.plane_core.proofs.Shared.Adding.{corner_kids, IfOk_then}
 use Rattle.plane_core.proofs.raise.push_cornered.Goals as goal
 
 pub push_row-requires-clause-row : goal.push_row-requires-clause-row

@@ -1,5 +1,5 @@
 use Rattle.std.proofs.Common.{◌+◌, ◌<◌, ◌^◌, length, arith}
-use Rattle.plane_core.proofs.Adding.{added}
+use Rattle.plane_core.proofs.Shared.Adding.{added}
 use Rattle.plane_core.proofs.raise.push_row.Goals as goal
 
 pub returns : goal.returns

@@ -1,7 +1,7 @@
 use Rattle.std.proofs.Common.{◌-◌, sym, subst, arith, [], ◌∷◌}
 use Rattle.plane_core.specs.Laid.{AreQuadrants}
 use Rattle.plane_core.proofs.Descents.{number_within}
-use Rattle.plane_core.proofs.Adding.{quadrants-none, quadrants-row}
+use Rattle.plane_core.proofs.Shared.Adding.{quadrants-none, quadrants-row}
 use Rattle.plane_core.proofs.raise.quadrants.Goals as goal
 
 pub returns-then-number-eq0 : goal.returns-then-number-eq0

@@ -2,8 +2,8 @@ use Rattle.std.proofs.Common.{◌≡◌, ◌-◌, ◌≤◌, List, length, sym, 
 use Rattle.plane_core.specs.declared.row.SquareRow.{SquareRow}
 use Rattle.plane_core.specs.Rows.{IsNumber, root_level}
 use Rattle.plane_core.specs.Laid.{AreQuadrants}
-use Rattle.plane_core.proofs.Roots.{rooted}
-use Rattle.plane_core.proofs.Adding.{raised}
+use Rattle.plane_core.proofs.Shared.Roots.{rooted}
+use Rattle.plane_core.proofs.Shared.Adding.{raised}
 use Rattle.plane_core.proofs.raise.raise.Goals as goal
 
 pub quadrants-kids-requires-clause-number : goal.quadrants-kids-requires-clause-number

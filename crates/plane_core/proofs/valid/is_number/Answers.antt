@@ -1,7 +1,7 @@
 use Rattle.std.proofs.Common.{refl, sym, subst, arith}
 use Rattle.std.proofs.lemmas.Bool.{ltb-true, lt-ltb, eqb-true, eq-eqb}
 use Rattle.plane_core.specs.Rows.{IsNumber}
-use Rattle.plane_core.proofs.Sound.{IsNumber-state, state-IsNumber}
+use Rattle.plane_core.proofs.Shared.Sound.{IsNumber-state, state-IsNumber}
 use Rattle.plane_core.proofs.Validity.{number-listed, listed-number, zero-number}
 use Rattle.plane_core.proofs.valid.is_number.Goals as goal
 

@@ -2,7 +2,7 @@ use Rattle.std.proofs.Common.{◌≡◌, ◌-◌, get_or, sym, ◌∙◌, subst,
 use Rattle.std.proofs.lemmas.List.{get_or_read}
 use Rattle.plane_core.specs.Rows.{square_in}
 use Rattle.plane_core.specs.Walks.{Walks}
-use Rattle.plane_core.proofs.Sound.{Has-state, Has-none}
+use Rattle.plane_core.proofs.Shared.Sound.{Has-state, Has-none}
 use Rattle.plane_core.proofs.Descents.{number_within, number-kid}
 use Rattle.plane_core.proofs.Walking.{walks-known, walks-four, remembers-more, grows-complete}
 use Rattle.plane_core.proofs.walk.+walk_square.Goals as goal

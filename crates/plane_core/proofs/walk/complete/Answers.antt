@@ -1,7 +1,7 @@
 use Rattle.std.proofs.Common.{◌+◌, ◌<◌, ◌^◌, List, length, sym, ap, subst, ◌∙◌, arith}
 use Rattle.plane_core.specs.declared.row.SquareRow.{SquareRow}
 use Rattle.plane_core.specs.Rows.{Numbered}
-use Rattle.plane_core.proofs.Numbering.{number_row-empty, number_row-insert, few_more}
+use Rattle.plane_core.proofs.Shared.Numbering.{number_row-empty, number_row-insert, few_more}
 use Rattle.plane_core.proofs.walk.complete.Goals as goal
 
 pub returns-then-eq-clause-rows : goal.returns-then-eq-clause-rows

@@ -1,6 +1,6 @@
 use Rattle.std.proofs.Common.{length, sym, subst}
 use Rattle.plane_core.specs.Rows.{IsNumber}
-use Rattle.plane_core.proofs.Roots.{rooted}
+use Rattle.plane_core.proofs.Shared.Roots.{rooted}
 use Rattle.plane_core.proofs.walk.walked.Goals as goal
 
 pub walk_square-requires-clause-number : goal.walk_square-requires-clause-number

@@ -1,6 +1,6 @@
 use Rattle.std.proofs.Common.{◌≤◌, ◌+◌, length, arith}
 use Rattle.tree_translation.specs.Translation.{node_limit}
-use Rattle.tree_translation.proofs.NodesHad.{nodes-had}
+use Rattle.tree_translation.proofs.Shared.NodesHad.{nodes-had}
 use Rattle.rule_tree.proofs.rule.translated.Goals as goal
 
 pub returns-in-Err-TreeTooLarge : goal.returns-in-Err-TreeTooLarge

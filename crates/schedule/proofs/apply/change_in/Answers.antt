@@ -1,7 +1,7 @@
 use Rattle.std.proofs.Common.{◌∙◌, sym}
 use Rattle.schedule.specs.Ids.{intervention_id}
 use Rattle.schedule.specs.Change.{acting}
-use Rattle.schedule.proofs.Ids.{changed_at-Some, changed_at-None}
+use Rattle.schedule.proofs.Shared.Ids.{changed_at-Some, changed_at-None}
 use Rattle.schedule.proofs.apply.change_in.Goals as goal
 
 pub returns-in-Some : goal.returns-in-Some

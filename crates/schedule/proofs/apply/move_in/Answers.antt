@@ -3,7 +3,7 @@ use Rattle.bookmarks.specs.declared.view.View.TheVariants.{Window}
 use Rattle.schedule.specs.declared.document.Bookmark.{Bookmark}
 use Rattle.schedule.specs.Ids.{bookmark_id}
 use Rattle.schedule.specs.Change.{marking}
-use Rattle.schedule.proofs.Ids.{changed_at-Some, changed_at-None}
+use Rattle.schedule.proofs.Shared.Ids.{changed_at-Some, changed_at-None}
 use Rattle.schedule.proofs.apply.move_in.Goals as goal
 
 pub returns-in-Some : goal.returns-in-Some

@@ -3,7 +3,7 @@ use Rattle.std.proofs.lemmas.List.{get_or_default}
 use Rattle.square_table.specs.declared.chains.Row.{Row}
 use Rattle.square_table.specs.Chains.{bucket_of, kids_of, IsChained, IsLast}
 use Rattle.square_table.proofs.Chained.{linked, begins, follows, same_kids}
-use Rattle.square_table.proofs.Tables.{map_kids-more, length-more}
+use Rattle.square_table.proofs.Shared.Tables.{map_kids-more, length-more}
 use Rattle.square_table.proofs.chains.insert.Goals as goal
 
 -- the row of these quadrants, after all others

@@ -1,4 +1,4 @@
-use Rattle.square_table.proofs.Centring.{one_world}
+use Rattle.square_table.proofs.Shared.Centring.{one_world}
 use Rattle.square_table.proofs.laws.centred_tells_world.Goals as goal
 
 pub returns : goal.returns

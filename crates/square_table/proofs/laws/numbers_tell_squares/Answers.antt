@@ -1,4 +1,4 @@
-use Rattle.square_table.proofs.Numbers.{numbers-tell}
+use Rattle.square_table.proofs.Shared.Numbers.{numbers-tell}
 use Rattle.square_table.proofs.laws.numbers_tell_squares.Goals as goal
 
 pub returns : goal.returns

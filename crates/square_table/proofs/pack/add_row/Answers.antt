@@ -2,8 +2,8 @@ use Rattle.std.proofs.Common.{◌≡◌, ◌-◌}
 use Rattle.plane_core.specs.Rows as listed
 use Rattle.plane_core.specs.Laid as laid
 use Rattle.plane_core.specs.Laid.{IsAdded}
-use Rattle.plane_core.proofs.Adding.{IfOk_then}
-use Rattle.plane_core.proofs.Centres.{zero-IsNumber}
+use Rattle.plane_core.proofs.Shared.Adding.{IfOk_then}
+use Rattle.plane_core.proofs.Shared.Centres.{zero-IsNumber}
 use Rattle.square_table.proofs.Packing.{none_added, added_keeps}
 use Rattle.square_table.proofs.pack.add_row.Goals as goal
 

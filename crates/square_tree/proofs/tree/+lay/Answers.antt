@@ -1,6 +1,6 @@
 use Rattle.std.proofs.Common.{rules, arith, ◌<◌, ◌≤◌, ◌-◌, ◌^◌}
 use Rattle.square_tree.proofs.Covered.{on_ok, on_err}
-use Rattle.square_tree.proofs.Placed.{aligned_east, aligned_west, laid_nw, laid_ne, laid_sw, laid_all, partly_laid_all}
+use Rattle.square_tree.proofs.Shared.Placed.{aligned_east, aligned_west, laid_nw, laid_ne, laid_sw, laid_all, partly_laid_all}
 use Rattle.square_tree.proofs.tree.+lay.Goals as goal
 
 pub Four::lay_at-lay_at-requires : goal.Four::lay_at-lay_at-requires

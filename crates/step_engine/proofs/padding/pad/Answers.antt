@@ -2,8 +2,8 @@ use Rattle.std.proofs.lemmas.Result.{IfOk-weaker}
 use Rattle.std.proofs.Common.{◌≡◌, suc, ◌+◌, ◌-◌, ◌<◌, ◌≤◌, length, inl, refl, sym, ◌∙◌, ap, ap₂, subst, arith}
 use Rattle.worlds.specs.Square.{empty_square}
 use Rattle.square_table.specs.Squares.{IsNumber, square_in, first_number, level_of}
-use Rattle.square_table.proofs.Tables.{above_zero}
-use Rattle.square_table.proofs.Growth.{Keeps-grows, Grows-same}
+use Rattle.square_table.proofs.Shared.Tables.{above_zero}
+use Rattle.square_table.proofs.Shared.Growth.{Keeps-grows, Grows-same}
 use Rattle.step_engine.proofs.Joins.{Known, padded-made, padded-number, blanked, corners-padded, whole-padded}
 use Rattle.step_engine.proofs.padding.pad.Goals as goal
 

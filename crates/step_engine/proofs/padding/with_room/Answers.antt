@@ -3,7 +3,7 @@ use Rattle.worlds.specs.World.{World}
 use Rattle.square_table.specs.declared.square.Square.{Square}
 use Rattle.square_table.specs.Squares.{Table, level_of, cells_of}
 use Rattle.square_table.specs.Centred.{IsCentred}
-use Rattle.square_table.proofs.Growth.{Grows-same, Grows-then}
+use Rattle.square_table.proofs.Shared.Growth.{Grows-same, Grows-then}
 use Rattle.step_engine.specs.Padded.{AddsRound, AddsPadded}
 use Rattle.step_engine.proofs.Joins.{IsCentred-again, padded-among}
 use Rattle.step_engine.proofs.padding.with_room.Goals as goal

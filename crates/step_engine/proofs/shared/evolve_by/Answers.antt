@@ -1,7 +1,7 @@
 use Rattle.std.proofs.Common.{◌+◌, ◌≤◌, ◌∙◌, refl, arith, rules}
 use Rattle.worlds.specs.Step.{step}
 use Rattle.worlds.specs.Iterate.{iterate}
-use Rattle.square_table.proofs.Centring.{one_world}
+use Rattle.square_table.proofs.Shared.Centring.{one_world}
 use Rattle.step_engine.proofs.Evolving.{IsBelow-centred, HasMargin-iterate, IsCentred-later}
 use Rattle.square_table.specs.Made.{IsFull}
 use Rattle.step_engine.proofs.Held.{held}

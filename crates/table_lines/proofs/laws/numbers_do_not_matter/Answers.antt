@@ -1,4 +1,4 @@
-use Rattle.table_lines.proofs.Renumbered.{lines_of-renumbered}
+use Rattle.table_lines.proofs.Shared.Renumbered.{lines_of-renumbered}
 use Rattle.table_lines.proofs.laws.numbers_do_not_matter.Goals as goal
 
 pub returns : goal.returns

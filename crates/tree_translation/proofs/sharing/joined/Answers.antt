@@ -3,7 +3,7 @@ use Rattle.std.proofs.lemmas.List.{length-append, map_more}
 use Rattle.tree_translation.specs.declared.listed.Listed.{Listed}
 use Rattle.tree_translation.specs.Numbering.{entries_in}
 use Rattle.decision_tree.specs.Tree.{node_at}
-use Rattle.decision_tree.proofs.KeptNodes.{nodes_in-push}
+use Rattle.decision_tree.proofs.Shared.KeptNodes.{nodes_in-push}
 use Rattle.tree_translation.proofs.MadeNodes.{length-listed, listed-at}
 use Rattle.tree_translation.proofs.sharing.joined.Goals as goal
 

@@ -1,4 +1,4 @@
-use Rattle.worlds.proofs.Steps.{arrive-undisturbed}
+use Rattle.worlds.proofs.Shared.Steps.{arrive-undisturbed}
 use Rattle.worlds.proofs.laws.arrival_undisturbed.Goals as goal
 
 pub returns : goal.returns

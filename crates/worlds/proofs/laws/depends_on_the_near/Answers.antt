@@ -1,4 +1,4 @@
-use Rattle.worlds.proofs.Local.{cell-iterate}
+use Rattle.worlds.proofs.Shared.Local.{cell-iterate}
 use Rattle.worlds.proofs.laws.depends_on_the_near.Goals as goal
 
 pub returns : goal.returns

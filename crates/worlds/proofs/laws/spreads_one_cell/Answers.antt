@@ -1,4 +1,4 @@
-use Rattle.worlds.proofs.Local.{cell-step-none}
+use Rattle.worlds.proofs.Shared.Local.{cell-step-none}
 use Rattle.worlds.proofs.laws.spreads_one_cell.Goals as goal
 
 pub returns : goal.returns

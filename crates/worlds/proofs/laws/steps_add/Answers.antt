@@ -1,4 +1,4 @@
-use Rattle.worlds.proofs.Steps.{iterate-add}
+use Rattle.worlds.proofs.Shared.Steps.{iterate-add}
 use Rattle.worlds.specs.Step.{step}
 use Rattle.worlds.proofs.laws.steps_add.Goals as goal
 

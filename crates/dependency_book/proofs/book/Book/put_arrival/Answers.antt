@@ -6,7 +6,7 @@ use Rattle.dependency_book.specs.Findings.{finding_map}
 use Rattle.dependency_book.specs.Known.{Known}
 use Rattle.dependency_book.specs.Right.{IsRight}
 use Rattle.dependency_book.specs.Puts.{has_row, MayStand, Puts}
-use Rattle.dependency_book.proofs.Put.{puts_step, right_step}
+use Rattle.dependency_book.proofs.Shared.Put.{puts_step, right_step}
 use Rattle.dependency_book.proofs.Putting.{written}
 use Rattle.dependency_book.proofs.book.Book.put_arrival.Goals as goal
 

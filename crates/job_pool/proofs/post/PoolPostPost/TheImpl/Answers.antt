@@ -6,7 +6,7 @@ use Rattle.revision_jobs.specs.Posted.{IsSent}
 use Rattle.job_queue.specs.declared.rule.Slip.{Slip}
 use Rattle.job_queue.specs.Ends.{IsOffered}
 use Rattle.job_queue.specs.Slips.{floor_of, slip_of}
-use Rattle.job_queue.proofs.Once.{floor_push}
+use Rattle.job_queue.proofs.Shared.Once.{floor_push}
 use Rattle.job_pool.proofs.post.PoolPostPost.TheImpl.Goals as goal
 
 -- what an offer does to the sender's list, it does to the floor

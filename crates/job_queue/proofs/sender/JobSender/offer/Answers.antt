@@ -7,7 +7,7 @@ use Rattle.job_queue.specs.Balance.{IsSending}
 use Rattle.job_queue.specs.Ends.{Sending}
 use Rattle.job_queue.specs.Slips.{floor_of, slip_of}
 use Rattle.job_queue.specs.Tables.{IsOfKnown}
-use Rattle.job_queue.proofs.Once.{floor_push, rises_push}
+use Rattle.job_queue.proofs.Shared.Once.{floor_push, rises_push}
 use Rattle.job_queue.proofs.Steps.{learns, sends}
 use Rattle.job_queue.proofs.sender.JobSender.offer.Goals as goal
 

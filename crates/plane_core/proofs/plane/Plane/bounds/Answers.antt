@@ -1,8 +1,8 @@
 use Rattle.std.proofs.Common.{subst}
 use Rattle.worlds.specs.Range.{HasMargin}
 use Rattle.plane_core.specs.Measures.{AreBoundsOf}
-use Rattle.plane_core.proofs.Measuring.{none-blank}
-use Rattle.plane_core.proofs.Roots.{margin}
+use Rattle.plane_core.proofs.Shared.Measuring.{none-blank}
+use Rattle.plane_core.proofs.Shared.Roots.{margin}
 use Rattle.plane_core.proofs.plane.Plane.bounds.Goals as goal
 
 pub returns-clause-none : goal.returns-clause-none

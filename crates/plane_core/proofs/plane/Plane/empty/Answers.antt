@@ -1,8 +1,8 @@
 use Rattle.std.proofs.Common.{arith, length, ap, sym, subst, ◌∙◌}
 use Rattle.plane_core.specs.Rows.{AreKept, world_of_rows}
 use Rattle.plane_core.specs.Measures.{AreMeasuresOf}
-use Rattle.plane_core.proofs.Measuring.{none_measured}
-use Rattle.plane_core.proofs.Roots.{kept-none, world-none}
+use Rattle.plane_core.proofs.Shared.Measuring.{none_measured}
+use Rattle.plane_core.proofs.Shared.Roots.{kept-none, world-none}
 use Rattle.plane_core.proofs.plane.Plane.empty.Goals as goal
 
 pub invariant_of-result : goal.invariant_of-result

@@ -1,8 +1,8 @@
 use Rattle.std.proofs.Common.{sym, ap, ◌∙◌}
 use Rattle.std.proofs.lemmas.Slice.Eq.{slice_eq-Decides}
 use Rattle.plane_core.specs.Rows.{world_of_rows, same_row}
-use Rattle.plane_core.proofs.Numbering.{same_row-decides}
-use Rattle.plane_core.proofs.Roots.{kept-unique}
+use Rattle.plane_core.proofs.Shared.Numbering.{same_row-decides}
+use Rattle.plane_core.proofs.Shared.Roots.{kept-unique}
 use Rattle.plane_core.proofs.plane.Plane.equals.Goals as goal
 
 pub returns : goal.returns

@@ -3,8 +3,8 @@ use Rattle.worlds.specs.declared.cell.CellSet.{CellSet}
 use Rattle.worlds.specs.World.{World, blank}
 use Rattle.worlds.specs.Lay.{lay}
 use Rattle.plane_core.specs.Rows.{world_of_rows}
-use Rattle.plane_core.proofs.Adding.{IfOk_then}
-use Rattle.plane_core.proofs.Roots.{world-none}
+use Rattle.plane_core.proofs.Shared.Adding.{IfOk_then}
+use Rattle.plane_core.proofs.Shared.Roots.{world-none}
 use Rattle.plane_core.proofs.plane.Plane.from_cells.Goals as goal
 
 pub returns : goal.returns

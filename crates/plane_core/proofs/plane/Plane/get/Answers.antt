@@ -2,7 +2,7 @@ use Rattle.std.proofs.Common.{◌≡◌, ap, ap₂, ◌∙◌, to_z-of_z, subst}
 use Rattle.worlds.specs.World.{cell}
 use Rattle.worlds.specs.Range.{HasMargin, cell-outside}
 use Rattle.plane_core.specs.Rows.{world_of_rows}
-use Rattle.plane_core.proofs.Roots.{margin}
+use Rattle.plane_core.proofs.Shared.Roots.{margin}
 use Rattle.plane_core.proofs.plane.Plane.get.Goals as goal
 
 pub returns : goal.returns

@@ -1,8 +1,8 @@
 use Rattle.std.proofs.Common.{◌≡◌, ◌≢◌, true, false, rules, ◌∙◌, sym, ap, take}
 use Rattle.std.specs.Option.{option_map}
 use Rattle.script_lines.specs.declared.kept_line.Found.TheVariants.{End, Last, Line}
-use Rattle.script_lines.proofs.Known.{on_err}
-use Rattle.script_lines.proofs.Taking.{text_breaks, text_ends_at, text_goes_on_at, text_stops_at, text_stops_last_at, found_falls}
+use Rattle.script_lines.proofs.Shared.Known.{on_err}
+use Rattle.script_lines.proofs.Shared.Taking.{text_breaks, text_ends_at, text_goes_on_at, text_stops_at, text_stops_last_at, found_falls}
 use Rattle.script_lines.proofs.reader.CountedReader.read_text.Goals as goal
 
 pub returns-in_err-found-clause-err : goal.returns-in_err-found-clause-err

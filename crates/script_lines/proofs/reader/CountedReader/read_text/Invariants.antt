@@ -1,5 +1,5 @@
 use Rattle.std.proofs.Common.{◌≡◌}
-use Rattle.script_lines.proofs.Taking.{TextSoFar}
+use Rattle.script_lines.proofs.Shared.Taking.{TextSoFar}
 use Rattle.script_lines.proofs.reader.CountedReader.read_text.Given as goal
 
 abbrev pub invariant-text : goal.invariant-text

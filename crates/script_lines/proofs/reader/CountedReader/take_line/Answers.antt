@@ -1,9 +1,9 @@
 use Rattle.std.proofs.Common.{subst, refl}
 use Rattle.script_lines.specs.Input.{ahead}
 use Rattle.script_lines.specs.Script.{TakesInto, StopsInLine}
-use Rattle.script_lines.proofs.Ahead.{ahead_is}
-use Rattle.script_lines.proofs.Known.{on_err, is_drawn}
-use Rattle.script_lines.proofs.Taking.{takes_into, stops_in_line}
+use Rattle.script_lines.proofs.Shared.Ahead.{ahead_is}
+use Rattle.script_lines.proofs.Shared.Known.{on_err, is_drawn}
+use Rattle.script_lines.proofs.Shared.Taking.{takes_into, stops_in_line}
 use Rattle.script_lines.proofs.reader.CountedReader.take_line.Goals as goal
 
 pub returns-then-ne-clause-found : goal.returns-then-ne-clause-found

@@ -1,5 +1,5 @@
 use Rattle.std.proofs.Common.{◌≡◌, false}
-use Rattle.script_lines.proofs.Told.{IsUnderWay}
+use Rattle.script_lines.proofs.Shared.Told.{IsUnderWay}
 use Rattle.script_lines.proofs.writer.CountedWriter.tell.Given as goal
 
 abbrev pub invariant-loop : goal.invariant-loop

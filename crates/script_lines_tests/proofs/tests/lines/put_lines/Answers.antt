@@ -4,7 +4,7 @@ use Rattle.script_lines.specs.Script.{Finds}
 use Rattle.script_lines.specs.declared.kept_line.Found.{Found}
 use Rattle.script_lines.specs.declared.kept_line.Found.TheVariants as found
 use Rattle.script_lines.specs.declared.kept_line.KeptLine.{KeptLine}
-use Rattle.script_lines.proofs.Taking.{line_falls}
+use Rattle.script_lines.proofs.Shared.Taking.{line_falls}
 use Rattle.script_lines_tests.proofs.tests.lines.put_lines.Goals as goal
 
 finds_falls : (it : Found) (old new : Ahead) (kept : KeptLine) → it ≢ found.End → Finds it old new kept → new.room < old.room

@@ -1,8 +1,8 @@
 use Rattle.std.proofs.Common.{rules, ◌≡◌, ◌-◌, ◌<◌, get_or, subst, arith}
 use Rattle.square_tree.specs.Quadtree.{quadtree, quadtree_of_four, cell, HasLevel}
 use Rattle.square_table.specs.Squares.{first_number}
-use Rattle.square_table.proofs.Tables.{above_zero}
-use Rattle.square_table.proofs.Growth.{Grows-then, IsNumber-grows}
+use Rattle.square_table.proofs.Shared.Tables.{above_zero}
+use Rattle.square_table.proofs.Shared.Growth.{Grows-then, IsNumber-grows}
 use Rattle.square_table.proofs.Laying.{in_turn, joined-laid, laid-state, quadrants_of}
 use Rattle.square_table.proofs.table.SquareTable.+lay.Goals as goal
 

@@ -1,7 +1,7 @@
 use Rattle.std.proofs.Common.{◌≡◌, ◌-◌, ◌<◌, get_or, None, Some, sym, ◌∙◌, arith}
 use Rattle.std.proofs.lemmas.List.{get_or_read}
 use Rattle.square_table.specs.Squares.{first_number}
-use Rattle.square_table.proofs.Tables.{above_zero}
+use Rattle.square_table.proofs.Shared.Tables.{above_zero}
 use Rattle.square_table.proofs.Packing.{four_packed, packed_state, place_within, recalled, quadrant_numbers, pushed, remembered}
 use Rattle.square_table.proofs.table.SquareTable.+pack.Goals as goal
 

@@ -1,7 +1,7 @@
 use Rattle.std.proofs.Common.{◌≡◌, ◌+◌, [], ◌∷◌, ◌++◌, length, map, sym, ◌∙◌, ap, subst, arith}
 use Rattle.square_table.specs.Chains.{kids_of, IsChained}
 use Rattle.square_table.specs.Squares.{AreDistinct, Lacks}
-use Rattle.square_table.proofs.Tables.{AreDistinct-more, one_longer, length_map}
+use Rattle.square_table.proofs.Shared.Tables.{AreDistinct-more, one_longer, length_map}
 use Rattle.square_table.proofs.Links.{whole_heads}
 use Rattle.square_table.proofs.table.SquareTable.add.Goals as goal
 

@@ -1,8 +1,8 @@
 use Rattle.std.proofs.Common.{◌≡◌, ◌+◌, [], length, slice_index_or, ◌∙◌, ap, refl, rules}
 use Rattle.square_table.specs.declared.square.Square.{Square}
 use Rattle.square_table.specs.Squares.{Keeps, level_of}
-use Rattle.square_table.proofs.Growth.{Keeps-grows}
-use Rattle.square_table.proofs.Tables.{AreFour-kept, IsHeld-joined, cells-joined, joined-kept, same_first}
+use Rattle.square_table.proofs.Shared.Growth.{Keeps-grows}
+use Rattle.square_table.proofs.Shared.Tables.{AreFour-kept, IsHeld-joined, cells-joined, joined-kept, same_first}
 use Rattle.square_table.proofs.table.SquareTable.join.Goals as goal
 
 size : (c : goal.In_ok-number) → length c.args.four ≡ 4

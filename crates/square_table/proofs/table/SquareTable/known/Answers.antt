@@ -2,7 +2,7 @@ use Rattle.std.proofs.Common.{◌≡◌, ◌+◌, ◌-◌, ◌<◌, [], length, 
 use Rattle.square_table.specs.Chains.{kids_of, IsAbsent}
 use Rattle.square_table.specs.Squares.{Lacks, IsSquareOf}
 use Rattle.square_table.specs.declared.chains.Row.{Row}
-use Rattle.square_table.proofs.Tables.{row_kids, length_map, Lacks-rows}
+use Rattle.square_table.proofs.Shared.Tables.{row_kids, length_map, Lacks-rows}
 use Rattle.square_table.proofs.table.SquareTable.known.Goals as goal
 
 pub returns-then-at-eq0-clause-none : goal.returns-then-at-eq0-clause-none

@@ -1,7 +1,7 @@
 use Rattle.std.proofs.Common.{◌≡◌, ◌-◌, ◌<◌, [], ◌∷◌, get_or, subst, arith, lit<}
 use Rattle.square_tree.specs.Quadtree.{quadtree, quadtree_of_four}
 use Rattle.square_table.specs.Laying.{AreLaidAs, in_corner, in_middle}
-use Rattle.square_table.proofs.Growth.{Grows-then, IsNumber-grows}
+use Rattle.square_table.proofs.Shared.Growth.{Grows-then, IsNumber-grows}
 use Rattle.square_table.proofs.Laying.{in_turn}
 use Rattle.square_table.proofs.table.SquareTable.lay_corners.Goals as goal
 

@@ -2,7 +2,7 @@ use Rattle.std.proofs.Common.{rules, ◌≡◌, ◌-◌, ◌<◌, suc, length, a
 use Rattle.square_tree.specs.Quadtree.{quadtree, quadtree_of_four, cell, HasLevel}
 use Rattle.square_table.specs.Squares.{first_number}
 use Rattle.square_table.specs.Laying.{in_quadrant, in_corner, in_middle, IsLaidAs}
-use Rattle.square_table.proofs.Tables.{above_zero}
+use Rattle.square_table.proofs.Shared.Tables.{above_zero}
 use Rattle.square_table.proofs.Laying.{joined-laid, laid-cell, laid-quadrant, quadrants_of}
 use Rattle.square_table.proofs.Middles.{middle_cell, middle_zero}
 use Rattle.square_table.proofs.table.SquareTable.lay_middle.Goals as goal

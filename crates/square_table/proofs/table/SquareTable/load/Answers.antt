@@ -6,18 +6,18 @@ use Rattle.worlds.specs.Square.{empty_square, square_at}
 use Rattle.plane_core.specs.declared.row.SquareRow.{SquareRow}
 use Rattle.plane_core.specs.Rows as listed
 use Rattle.plane_core.specs.Rows.{AreRows, AreSquaresOf, root_level, root_of, Fits, IsLeastLevel}
-use Rattle.plane_core.proofs.Adding.{IfOk_then}
-use Rattle.plane_core.proofs.Roots.{rooted, root_level-none}
-use Rattle.plane_core.proofs.Sound.{square_in-none}
+use Rattle.plane_core.proofs.Shared.Adding.{IfOk_then}
+use Rattle.plane_core.proofs.Shared.Roots.{rooted, root_level-none}
+use Rattle.plane_core.proofs.Shared.Sound.{square_in-none}
 use Rattle.square_table.specs.declared.square.Square.{Square}
 use Rattle.square_table.specs.Squares.{Table, level_of, cells_of}
 use Rattle.square_table.specs.Centred.{edge, IsCentred}
 use Rattle.square_table.specs.Made.{HoldsWithin, HasEmpty}
 use Rattle.square_table.specs.Loading.{LevelsUpTo, GrowsFrom, GrowsFor, IsRootLevel, empty_below}
-use Rattle.square_table.proofs.Growth.{Grows-same}
+use Rattle.square_table.proofs.Shared.Growth.{Grows-same}
 use Rattle.square_table.proofs.Listing.{listed_root}
 use Rattle.square_table.proofs.Canonical.{cells_below, levels_up_to}
-use Rattle.square_table.proofs.Centring.{root_centred}
+use Rattle.square_table.proofs.Shared.Centring.{root_centred}
 use Rattle.square_table.proofs.table.SquareTable.load.Goals as goal
 
 pub load_root-requires : goal.load_root-requires

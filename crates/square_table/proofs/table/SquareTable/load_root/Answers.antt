@@ -7,9 +7,9 @@ use Rattle.worlds.specs.Square.{empty_square}
 use Rattle.plane_core.specs.declared.row.SquareRow.{SquareRow}
 use Rattle.plane_core.specs.Rows as listed
 use Rattle.plane_core.specs.Rows.{no_row, AreRows, root_level, root_of}
-use Rattle.plane_core.proofs.Adding.{IfOk_then}
-use Rattle.plane_core.proofs.Roots.{root_level-none, root_level-some}
-use Rattle.plane_core.proofs.Sound.{square_in-none}
+use Rattle.plane_core.proofs.Shared.Adding.{IfOk_then}
+use Rattle.plane_core.proofs.Shared.Roots.{root_level-none, root_level-some}
+use Rattle.plane_core.proofs.Shared.Sound.{square_in-none}
 use Rattle.square_table.specs.Squares.{Table, square_in, level_of, cells_of}
 use Rattle.square_table.specs.Loading.{LevelsUpTo, AreLoaded, IsLoadedAt, GrowsFrom, empty_below}
 use Rattle.square_table.proofs.Loading.{GrowsFrom-same, GrowsFrom-higher, GrowsFrom-behind}

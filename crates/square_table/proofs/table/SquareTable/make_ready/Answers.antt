@@ -3,7 +3,7 @@ use Rattle.square_table.specs.declared.chains.Row.{Row}
 use Rattle.square_table.specs.Chains.{kids_of, IsChained}
 use Rattle.square_table.specs.Squares.{AreDistinct}
 use Rattle.square_table.proofs.Links.{whole}
-use Rattle.square_table.proofs.Tables.{length_map}
+use Rattle.square_table.proofs.Shared.Tables.{length_map}
 use Rattle.square_table.proofs.table.SquareTable.make_ready.Goals as goal
 
 pub invariant_of-self : goal.invariant_of-self

@@ -1,8 +1,8 @@
 use Rattle.std.proofs.Common.{◌≡◌, ◌-◌, ◌<◌, ◌≤◌, ℕ, List, [], ◌∷◌, get_or, arith}
 use Rattle.square_table.specs.Squares.{AreNumbers, kids_at}
-use Rattle.square_table.proofs.Tables.{above_zero}
+use Rattle.square_table.proofs.Shared.Tables.{above_zero}
 use Rattle.square_table.proofs.Packing.{quadrant_numbers}
-use Rattle.square_table.proofs.Centring.{middle_alike}
+use Rattle.square_table.proofs.Shared.Centring.{middle_alike}
 use Rattle.square_table.proofs.table.SquareTable.middle.Goals as goal
 
 below : (level : ℕ) → 2 ≤ level → 0 < level - 1

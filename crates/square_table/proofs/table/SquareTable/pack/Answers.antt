@@ -1,10 +1,10 @@
 use Rattle.std.proofs.Common.{◌≡◌, ap, sym, ◌∙◌, subst}
 use Rattle.worlds.specs.World.{World}
 use Rattle.plane_core.specs.Rows.{world_of_rows}
-use Rattle.plane_core.proofs.Adding.{IfOk_then}
+use Rattle.plane_core.proofs.Shared.Adding.{IfOk_then}
 use Rattle.square_table.specs.Squares.{level_of, cells_of}
 use Rattle.square_table.specs.Centred.{IsCentred}
-use Rattle.square_table.proofs.Centring.{rows_centred}
+use Rattle.square_table.proofs.Shared.Centring.{rows_centred}
 use Rattle.square_table.proofs.table.SquareTable.pack.Goals as goal
 
 pub returns : goal.returns

@@ -1,5 +1,5 @@
 use Rattle.square_table.proofs.Packing.{quadrant_numbers}
-use Rattle.square_table.proofs.Centring.{quarters_alike}
+use Rattle.square_table.proofs.Shared.Centring.{quarters_alike}
 use Rattle.square_table.proofs.table.SquareTable.root.Goals as goal
 
 pub loop-root-init : goal.loop-root-init

@@ -1,5 +1,5 @@
 use Rattle.std.proofs.Common.{arith}
-use Rattle.square_table.proofs.Tables.{above_zero}
+use Rattle.square_table.proofs.Shared.Tables.{above_zero}
 use Rattle.square_table.proofs.table.SquareTable.square.Goals as goal
 
 pub quadrants-requires-clause-above : goal.quadrants-requires-clause-above

@@ -5,7 +5,7 @@ use Rattle.square_tree.specs.Quadtree.{quadtree}
 use Rattle.square_tree.specs.Cells.{Cells, overlaid, IsPartlyOverlaid}
 use Rattle.square_tree.specs.Entries.{cells_of}
 use Rattle.square_tree.proofs.Covered.{on_ok, on_err}
-use Rattle.square_tree.proofs.Quarters.{reach_mono}
+use Rattle.square_tree.proofs.Shared.Quarters.{reach_mono}
 use Rattle.square_tree.proofs.Mapped.{states_of-laid, partly_overlaid}
 use Rattle.square_tree.proofs.patch.Patch.lay.Goals as goal
 

@@ -1,4 +1,4 @@
-use Rattle.square_tree.proofs.Quarters.{aligned_cell}
+use Rattle.square_tree.proofs.Shared.Quarters.{aligned_cell}
 use Rattle.square_tree.proofs.tree.PatchTree.lay.Goals as goal
 
 pub lay_at-requires-clause-place : goal.lay_at-requires-clause-place

@@ -1,7 +1,7 @@
 use Rattle.std.proofs.Common.{◌≡◌, ◌+◌, ◌-◌, ◌^◌, arith}
 use Rattle.square_tree.specs.Cells.{reach}
 use Rattle.square_tree.proofs.Covered.{on_ok, on_err, on_any_err}
-use Rattle.square_tree.proofs.Quarters.{laid_quadrants, laid_where, partly_where, partly_of_laid, partly_nw, partly_ne, partly_sw, partly_se, aligned_centre, aligned_near, reach_half, reach_mono}
+use Rattle.square_tree.proofs.Shared.Quarters.{laid_quadrants, laid_where, partly_where, partly_of_laid, partly_nw, partly_ne, partly_sw, partly_se, aligned_centre, aligned_near, reach_half, reach_mono}
 use Rattle.square_tree.proofs.tree.PatchTree.lay_quadrants.Goals as goal
 
 pub overflow_sub-near : goal.overflow_sub-near

@@ -2,7 +2,7 @@ use Rattle.std.proofs.Common.{◌≡◌, ◌∙◌, sym, ap₂, arith, ◌<◌, 
 use Rattle.std.proofs.lemmas.Int.{ints}
 use Rattle.std.proofs.lemmas.List.{take_more, take_more_set, take_all, length-set}
 use Rattle.worlds.specs.Step.{around}
-use Rattle.worlds.proofs.Cells.{same_cell}
+use Rattle.worlds.proofs.Shared.Cells.{same_cell}
 use Rattle.step_engine.proofs.Offsets.{near_at, state_at}
 use Rattle.step_engine.proofs.generation.Generation.states_around.Goals as goal
 

@@ -1,0 +1,9 @@
+-- Lemmas that other crates may cite.
+pub mod Adding
+pub mod Cells
+pub mod Centres
+pub mod Measuring
+pub mod Numbering
+pub mod Roots
+pub mod Sound
+pub mod WorldRows

@@ -1,0 +1,205 @@
+-- Rows that come behind others, and the root of one level more.
+use Rattle.std.proofs.Common.{◌≡◌, ℕ, zero, suc, ◌+◌, ◌-◌, ◌<◌, ◌≤◌, ◌^◌, List, [], ◌∷◌, ◌++◌, length, get_or, slice_set, refl, sym, ap, ◌∙◌, subst, arith, lit<, Result}
+use Rattle.std.specs.Prelude.{IfOk, Ok, Err}
+use Rattle.std.proofs.lemmas.List.{length_push, get_or_push}
+use Rattle.plane_core.specs.declared.row.SquareRow.{SquareRow}
+use Rattle.worlds.specs.Square.{Square, four, empty_square}
+use Rattle.plane_core.specs.Rows.{no_row, row_at, kid, IsNumber, IsRow, AreRows, square_in, root_level}
+use Rattle.plane_core.specs.Centre.{cornered, centred}
+use Rattle.plane_core.specs.Laid.{square_of, AreQuadrants, Keeps, IsAdded, IsRaised}
+use Rattle.plane_core.proofs.Shared.Numbering.{Grows, Grows-more}
+use Rattle.plane_core.proofs.Shared.Sound.{IsNumber-level, IsNumber-from, IsNumber-grown, Grows-length, square_in-none, square_in-row, square_in-grown, AreRows-push}
+use Rattle.plane_core.proofs.Shared.Roots.{root_level-some, square_in-IsSquare}
+use Rattle.plane_core.proofs.Tidy.{world-put}
+use Rattle.plane_core.proofs.Centring.{centred-world}
+use Rattle.plane_core.proofs.Shared.Centres.{zero-IsNumber}
+use Rattle.plane_core.proofs.Descents.{number-kid}
+
+pub Keeps-none : (rows : List SquareRow) → AreRows rows → length rows < 2 ^ 32 → Keeps rows rows
+Keeps-none rows valid few = record { valid = valid; few = few; longer = omega arith; number = λ k n h. h; square = λ k n h. refl }
+
+pub Keeps-then : (a b c : List SquareRow) → Keeps a b → Keeps b c → Keeps a c
+Keeps-then a b c f g = record {
+  valid = g.valid;
+  few = g.few;
+  longer = (let one = f.longer in let two = g.longer in omega arith);
+  number = λ k n h. g.number k n (f.number k n h);
+  square = λ k n h. g.square k n (f.number k n h) ∙ f.square k n h;
+}
+
+pub Keeps-grown : (old new : List SquareRow) → Grows old new → AreRows old → AreRows new → length new < 2 ^ 32 → Keeps old new
+Keeps-grown old new g valid fits few = record { valid = fits; few = few; longer = Grows-length old new g; number = λ k n h. IsNumber-grown old new k n g h; square = λ k n h. square_in-grown old new k n g valid h }
+
+-- the square of numbers stays
+pub square_of-kept : (old new : List SquareRow) (k : ℕ) (kids : List ℕ) → Keeps old new → ((q : ℕ) → q < 4 → IsNumber old k (get_or kids q 0)) → square_of new k kids ≡ square_of old k kids
+square_of-kept old new k kids keeps h =
+    let nw = keeps.square k (get_or kids 0 0) (h 0 (lit< tt)) in
+    let ne = keeps.square k (get_or kids 1 0) (h 1 (lit< tt)) in
+    let sw = keeps.square k (get_or kids 2 0) (h 2 (lit< tt)) in
+    let se = keeps.square k (get_or kids 3 0) (h 3 (lit< tt)) in
+    λ i. four (nw i) (ne i) (sw i) (se i)
+
+module _ (rows : List SquareRow) (row : SquareRow) (k : ℕ) (valid : AreRows rows) (fits : IsRow rows row) (level : row.level ≡ suc k) (room : length rows + 1 < 2 ^ 32) where
+  keeps_pushed : Keeps rows (rows ++ row ∷ [])
+  keeps_pushed = Keeps-grown rows (rows ++ row ∷ []) (Grows-more rows (row ∷ [])) valid (AreRows-push rows row valid fits) (omega (arith, length_push rows row, room))
+
+  kid_before : (q : ℕ) → q < 4 → IsNumber rows k (kid row q)
+  kid_before q hq = let less : row.level - 1 ≡ k = omega (arith, level) in subst (λ m. IsNumber rows m (kid row q)) less (fits.kids q hq)
+
+  added_suc : IsAdded rows (rows ++ row ∷ []) (suc k) (length (rows ++ row ∷ [])) (square_of rows k row.kids)
+  added_suc =
+      let all = rows ++ row ∷ [] in
+      let count : length all ≡ suc (length rows) = omega (arith, length_push rows row) in
+      let here : get_or all (length rows) no_row ≡ row = get_or_push rows row no_row (length rows) refl in
+      let one_less : length all - 1 ≡ length rows = omega (arith, count) in
+      record {
+        keeps = keeps_pushed;
+        number = IsNumber-from all k (length all) (λ live. (omega arith, ap (λ m. (get_or all m no_row).level) one_less ∙ ap (λ (r : SquareRow). r.level) here ∙ level));
+        square =
+            ap (square_in all (suc k)) count
+            ∙ square_in-row all k (length rows)
+            ∙ ap (λ (r : SquareRow). square_of all k r.kids) here
+            ∙ square_of-kept rows all k row.kids keeps_pushed kid_before;
+        last = refl;
+        some = omega (arith, count);
+      }
+
+level_suc : (k : ℕ) → 1 ≤ k → k ≡ suc (k - 1)
+level_suc k h = omega (arith, h)
+
+-- the row that is pushed
+pub added : (rows new : List SquareRow) (row : SquareRow) (n : ℕ) → AreRows rows → IsRow rows row → length rows + 1 < 2 ^ 32 → new ≡ rows ++ row ∷ [] → n ≡ length new
+    → IsAdded rows new row.level n (square_of rows (row.level - 1) row.kids)
+added rows new row n valid fits room is count =
+    let level : row.level ≡ suc (row.level - 1) = level_suc row.level fits.low in
+    subst (λ m. IsAdded rows new row.level m (square_of rows (row.level - 1) row.kids)) (sym count)
+    (subst (λ (rs : List SquareRow). IsAdded rows rs row.level (length rs) (square_of rows (row.level - 1) row.kids)) (sym is)
+    (subst (λ m. IsAdded rows (rows ++ row ∷ []) m (length (rows ++ row ∷ [])) (square_of rows (row.level - 1) row.kids)) (sym level)
+    (added_suc rows row (row.level - 1) valid fits level room)))
+
+empty_square-quadrants : (k : ℕ) → empty_square (suc k) ≡ four (empty_square k) (empty_square k) (empty_square k) (empty_square k)
+unfolding empty_square
+empty_square-quadrants k = refl
+
+zeros : (rows : List SquareRow) (k q : ℕ) → q < 4 → IsNumber rows k (get_or (0 ∷ 0 ∷ 0 ∷ 0 ∷ []) q 0)
+zeros rows k zero h = zero-IsNumber rows k
+zeros rows k (suc zero) h = zero-IsNumber rows k
+zeros rows k (suc (suc zero)) h = zero-IsNumber rows k
+zeros rows k (suc (suc (suc zero))) h = zero-IsNumber rows k
+zeros rows k (suc (suc (suc (suc q)))) h = absurd (omega (arith, h))
+
+-- the quadrants of an empty square
+pub quadrants-none : (rows : List SquareRow) (k : ℕ) → AreQuadrants rows k 0 (0 ∷ 0 ∷ 0 ∷ 0 ∷ [])
+quadrants-none rows k = record {
+  numbers = zeros rows k;
+  square =
+      square_in-none rows (suc k) ∙ empty_square-quadrants k
+      ∙ (let e = sym (square_in-none rows k) in λ i. four (e i) (e i) (e i) (e i));
+}
+
+-- the quadrants of another
+pub quadrants-row : (rows : List SquareRow) (level n : ℕ) → AreRows rows → 1 ≤ level → 0 < n → IsNumber rows level n → AreQuadrants rows (level - 1) n (row_at rows n).kids
+quadrants-row rows zero n valid low some h = absurd (omega (arith, low))
+quadrants-row rows level zero valid low some h = absurd (omega (arith, some))
+quadrants-row rows (suc k) (suc i) valid low some h =
+    let less : k ≡ suc k - 1 = omega arith in
+    let one_less : i ≡ suc i - 1 = omega arith in
+    let square : square_in rows (suc k) (suc i) ≡ square_of rows k (row_at rows (suc i)).kids = square_in-row rows k i ∙ ap (λ m. square_of rows k (get_or rows m no_row).kids) one_less in
+    record {
+      numbers = λ q hq. number-kid rows (suc k) (suc i) q valid (omega arith) (omega arith) h hq;
+      square = subst (λ j. square_in rows (suc j) (suc i) ≡ square_of rows j (row_at rows (suc i)).kids) less square;
+    }
+
+-- the kids of a square with one quadrant, at its corner
+pub record AreCornerKids (rows : List SquareRow) (k corner n : ℕ) (kids : List ℕ) : Type 0 where
+  pub numbers : (q : ℕ) → q < 4 → IsNumber rows k (get_or kids q 0)
+  pub square : square_of rows k kids ≡ cornered k corner (square_in rows k n)
+
+pub kid_numbers : (rows : List SquareRow) (k a b c d q : ℕ) → IsNumber rows k a → IsNumber rows k b → IsNumber rows k c → IsNumber rows k d → q < 4 → IsNumber rows k (get_or (a ∷ b ∷ c ∷ d ∷ []) q 0)
+kid_numbers rows k a b c d zero ha hb hc hd h = ha
+kid_numbers rows k a b c d (suc zero) ha hb hc hd h = hb
+kid_numbers rows k a b c d (suc (suc zero)) ha hb hc hd h = hc
+kid_numbers rows k a b c d (suc (suc (suc zero))) ha hb hc hd h = hd
+kid_numbers rows k a b c d (suc (suc (suc (suc q)))) ha hb hc hd h = absurd (omega (arith, h))
+
+-- where a root is added
+pub root_added : (old new : List SquareRow) (k n : ℕ) (s : Square) → IsAdded old new (suc k) n s → (root_level new ≡ suc k) × (square_in new (suc k) (length new) ≡ s)
+root_added old new k n s a =
+    let some : 0 < n = a.some in
+    let last : n ≡ length new = a.last in
+    let live : 0 < length new = omega (arith, some, last) in
+    (root_level-some new live ∙ ap (λ m. (row_at new m).level) (sym last) ∙ (IsNumber-level new k n a.number some).1, ap (square_in new (suc k)) (sym last) ∙ a.square)
+
+module _ (rows r1 r2 r3 r4 r5 : List SquareRow) (k : ℕ) (kids : List ℕ) (nw ne sw se n : ℕ) (valid : AreRows rows) (level : root_level rows ≡ suc k) (parts : AreQuadrants rows k (length rows) kids)
+    (a1 : IsAdded rows r1 (suc k) nw (cornered k 3 (square_in rows k (get_or kids 0 0)))) (a2 : IsAdded r1 r2 (suc k) ne (cornered k 2 (square_in r1 k (get_or kids 1 0))))
+    (a3 : IsAdded r2 r3 (suc k) sw (cornered k 1 (square_in r2 k (get_or kids 2 0)))) (a4 : IsAdded r3 r4 (suc k) se (cornered k 0 (square_in r3 k (get_or kids 3 0))))
+    (a5 : IsAdded r4 r5 (suc (suc k)) n (square_of r4 (suc k) (nw ∷ ne ∷ sw ∷ se ∷ []))) where
+  to_two : Keeps rows r2
+  to_two = Keeps-then rows r1 r2 a1.keeps a2.keeps
+
+  to_three : Keeps rows r3
+  to_three = Keeps-then rows r2 r3 to_two a3.keeps
+
+  raised_square : square_of r4 (suc k) (nw ∷ ne ∷ sw ∷ se ∷ []) ≡ centred k (square_in rows k (get_or kids 0 0)) (square_in rows k (get_or kids 1 0)) (square_in rows k (get_or kids 2 0)) (square_in rows k (get_or kids 3 0))
+  raised_square =
+      let two_four : Keeps r2 r4 = Keeps-then r2 r3 r4 a3.keeps a4.keeps in
+      let one_four : Keeps r1 r4 = Keeps-then r1 r2 r4 a2.keeps two_four in
+      let e0 : square_in r4 (suc k) nw ≡ cornered k 3 (square_in rows k (get_or kids 0 0)) = one_four.square (suc k) nw a1.number ∙ a1.square in
+      let e1 : square_in r4 (suc k) ne ≡ cornered k 2 (square_in rows k (get_or kids 1 0)) = two_four.square (suc k) ne a2.number ∙ a2.square ∙ ap (cornered k 2) (a1.keeps.square k (get_or kids 1 0) (parts.numbers 1 (lit< tt))) in
+      let e2 : square_in r4 (suc k) sw ≡ cornered k 1 (square_in rows k (get_or kids 2 0)) = a4.keeps.square (suc k) sw a3.number ∙ a3.square ∙ ap (cornered k 1) (to_two.square k (get_or kids 2 0) (parts.numbers 2 (lit< tt))) in
+      let e3 : square_in r4 (suc k) se ≡ cornered k 0 (square_in rows k (get_or kids 3 0)) = a4.square ∙ ap (cornered k 0) (to_three.square k (get_or kids 3 0) (parts.numbers 3 (lit< tt))) in
+      λ i. four (e0 i) (e1 i) (e2 i) (e3 i)
+
+  is_raised : IsRaised rows r5
+  is_raised =
+      let root = root_added r4 r5 (suc k) n (square_of r4 (suc k) (nw ∷ ne ∷ sw ∷ se ∷ [])) a5 in
+      let is = λ (q : ℕ) (h : q < 4). square_in-IsSquare rows k (get_or kids q 0) valid (parts.numbers q h) in
+      record {
+        valid = a5.keeps.valid;
+        few = a5.keeps.few;
+        level = root.0 ∙ ap suc (sym level);
+        world =
+            world-put r5 (suc (suc k)) _ root.0 (root.1 ∙ raised_square)
+            ∙ centred-world k _ _ _ _ (is 0 (lit< tt)) (is 1 (lit< tt)) (is 2 (lit< tt)) (is 3 (lit< tt))
+            ∙ sym (world-put rows (suc k) (square_of rows k kids) level parts.square);
+      }
+
+-- the root after four squares at corners and the one of those
+pub raised : (rows r1 r2 r3 r4 r5 : List SquareRow) (level : ℕ) (kids : List ℕ) (nw ne sw se n : ℕ) → AreRows rows → 1 ≤ level → level ≡ root_level rows → AreQuadrants rows (level - 1) (length rows) kids
+    → IsAdded rows r1 level nw (cornered (level - 1) 3 (square_in rows (level - 1) (get_or kids 0 0))) → IsAdded r1 r2 level ne (cornered (level - 1) 2 (square_in r1 (level - 1) (get_or kids 1 0)))
+    → IsAdded r2 r3 level sw (cornered (level - 1) 1 (square_in r2 (level - 1) (get_or kids 2 0))) → IsAdded r3 r4 level se (cornered (level - 1) 0 (square_in r3 (level - 1) (get_or kids 3 0)))
+    → IsAdded r4 r5 (level + 1) n (square_of r4 ((level + 1) - 1) (nw ∷ ne ∷ sw ∷ se ∷ [])) → IsRaised rows r5
+raised rows r1 r2 r3 r4 r5 zero kids nw ne sw se n valid low is parts a1 a2 a3 a4 a5 = absurd (omega (arith, low))
+raised rows r1 r2 r3 r4 r5 (suc k) kids nw ne sw se n valid low is parts a1 a2 a3 a4 a5 =
+    let less : suc k - 1 ≡ k = omega arith in
+    let more : suc k + 1 ≡ suc (suc k) = omega arith in
+    let less_two : suc (suc k) - 1 ≡ suc k = omega arith in
+    is_raised rows r1 r2 r3 r4 r5 k kids nw ne sw se n valid (sym is)
+    (subst (λ j. AreQuadrants rows j (length rows) kids) less parts)
+    (subst (λ j. IsAdded rows r1 (suc k) nw (cornered j 3 (square_in rows j (get_or kids 0 0)))) less a1)
+    (subst (λ j. IsAdded r1 r2 (suc k) ne (cornered j 2 (square_in r1 j (get_or kids 1 0)))) less a2)
+    (subst (λ j. IsAdded r2 r3 (suc k) sw (cornered j 1 (square_in r2 j (get_or kids 2 0)))) less a3)
+    (subst (λ j. IsAdded r3 r4 (suc k) se (cornered j 0 (square_in r3 j (get_or kids 3 0)))) less a4)
+    (subst (λ j. IsAdded r4 r5 (suc (suc k)) n (square_of r4 j (nw ∷ ne ∷ sw ∷ se ∷ []))) less_two
+    (subst (λ j. IsAdded r4 r5 j n (square_of r4 (j - 1) (nw ∷ ne ∷ sw ∷ se ∷ []))) more a5))
+
+-- the kids of the square that has one quadrant, at its corner
+pub corner_kids : (rows : List SquareRow) (k corner n : ℕ) → IsNumber rows k n → corner < 4 → AreCornerKids rows k corner n (slice_set (0 ∷ 0 ∷ 0 ∷ 0 ∷ []) corner n)
+corner_kids rows k zero n h hc =
+    let z = zero-IsNumber rows k in let e = square_in-none rows k in
+    record { numbers = λ q hq. kid_numbers rows k n 0 0 0 q h z z z hq; square = λ i. four (square_in rows k n) (e i) (e i) (e i) }
+corner_kids rows k (suc zero) n h hc =
+    let z = zero-IsNumber rows k in let e = square_in-none rows k in
+    record { numbers = λ q hq. kid_numbers rows k 0 n 0 0 q z h z z hq; square = λ i. four (e i) (square_in rows k n) (e i) (e i) }
+corner_kids rows k (suc (suc zero)) n h hc =
+    let z = zero-IsNumber rows k in let e = square_in-none rows k in
+    record { numbers = λ q hq. kid_numbers rows k 0 0 n 0 q z z h z hq; square = λ i. four (e i) (e i) (square_in rows k n) (e i) }
+corner_kids rows k (suc (suc (suc zero))) n h hc =
+    let z = zero-IsNumber rows k in let e = square_in-none rows k in
+    record { numbers = λ q hq. kid_numbers rows k 0 0 0 n q z z z h hq; square = λ i. four (e i) (e i) (e i) (square_in rows k n) }
+corner_kids rows k (suc (suc (suc (suc c)))) n h hc = absurd (omega (arith, hc))
+
+-- what follows from what holds of the value follows of it
+pub IfOk_then : {T E : Type 0} (r : Result T E) (P Q : T → Type 0) → ((t : T) → P t → Q t) → IfOk r P → IfOk r Q
+IfOk_then (Ok t) P Q h p = h t p
+IfOk_then (Err e) P Q h p = tt

@@ -1,0 +1,175 @@
+-- The root of rows, its world, and that a world has one list of rows.
+use Rattle.std.proofs.Common.{◌≡◌, ℕ, zero, suc, ◌+◌, ◌-◌, ◌<◌, ◌≤◌, ◌^◌, List, [], ◌∷◌, length, get_or, refl, sym, ap, ap₂, ◌∙◌, subst, arith, inl, inr, lit<, pow_mono, ℤ, pos, neg_ℤ, ◌+ℤ◌}
+use Rattle.std.proofs.lemmas.Int.{ints}
+use Rattle.worlds.specs.World.{cell, blank, cell-blank, same_world}
+use Rattle.worlds.specs.Range.{HasMargin}
+use Rattle.plane_core.specs.declared.row.SquareRow.{SquareRow}
+use Rattle.worlds.specs.Square.{Square, IsSquare, cell_in, put_square, IsIn}
+use Rattle.plane_core.specs.Rows.{Numbered, number_square, no_row, row_at, kid, IsNumber, AreRows, square_in, root_level, root_of, edge_of, world_of_rows, Fits, AreKept}
+use Rattle.plane_core.proofs.Shared.Numbering.{Has-empty}
+use Rattle.plane_core.proofs.Shared.Sound.{kid_number, square_in-none, square_in-state, square_in-row, state-IsNumber, IsNumber-level, IsNumber-from, AreRows-none}
+use Rattle.plane_core.proofs.Shared.Cells.{IsSquare-one, IsSquare-empty, IsSquare-parts, cell_in-empty, same_square, put_square-inside, put_square-outside, in_or_out, offset, double}
+
+-- the square of a number is one
+pub square_in-IsSquare : (rows : List SquareRow) (k n : ℕ) → AreRows rows → IsNumber rows k n → IsSquare k (square_in rows k n)
+square_in-IsSquare rows zero n valid h = subst (IsSquare 0) (sym (square_in-state rows n)) (IsSquare-one n (state-IsNumber rows n h))
+square_in-IsSquare rows (suc k) zero valid h = subst (IsSquare (suc k)) (sym (square_in-none rows (suc k))) (IsSquare-empty (suc k))
+square_in-IsSquare rows (suc k) (suc i) valid h =
+    let at = IsNumber-level rows k (suc i) h (omega arith) in
+    let le : suc i ≤ length rows = at.0 in
+    let one_less : suc i - 1 ≡ i = omega arith in
+    let level : (get_or rows i no_row).level ≡ suc k = ap (λ m. (get_or rows m no_row).level) (sym one_less) ∙ at.1 in
+    let part = λ (q : ℕ) (hq : q < 4). square_in-IsSquare rows k (kid (get_or rows i no_row) q) valid (kid_number rows k i valid (omega arith) level q hq) in
+    subst (IsSquare (suc k)) (sym (square_in-row rows k i)) (IsSquare-parts k _ _ _ _ (part 0 (lit< tt)) (part 1 (lit< tt)) (part 2 (lit< tt)) (part 3 (lit< tt)))
+
+pub root_level-none : root_level [] ≡ 1
+unfolding root_level
+root_level-none = refl
+
+pub root_level-some : (rows : List SquareRow) → 0 < length rows → root_level rows ≡ (row_at rows (length rows)).level
+unfolding root_level
+root_level-some [] h = absurd (omega (arith, h))
+root_level-some (row ∷ rows) h = let less : suc (length rows) - 1 ≡ length rows = omega arith in ap (λ m. (get_or (row ∷ rows) m no_row).level) (sym less)
+
+-- the root's level and number
+pub record IsRoot (rows : List SquareRow) : Type 0 where
+  pub low : 1 ≤ root_level rows
+  pub high : root_level rows ≤ 62
+  pub number : IsNumber rows (root_level rows) (length rows)
+
+pub rooted : (rows : List SquareRow) → AreRows rows → IsRoot rows
+rooted [] valid =
+    record {
+      low = omega (arith, root_level-none);
+      high = omega (arith, root_level-none);
+      number = subst (λ k. IsNumber [] k 0) (sym root_level-none) (IsNumber-from [] 0 0 (λ live. absurd (omega (arith, live))));
+    }
+rooted (row ∷ others) valid =
+    let rows : List SquareRow = row ∷ others in
+    let n = length others in
+    let at = valid n (omega arith) in
+    let less : suc n - 1 ≡ n = omega arith in
+    let level : root_level rows ≡ (get_or rows n no_row).level = root_level-some rows (omega arith) ∙ ap (λ m. (get_or rows m no_row).level) less in
+    let low : 1 ≤ (get_or rows n no_row).level = at.low in
+    let high : (get_or rows n no_row).level ≤ 62 = at.high in
+    let j = root_level rows - 1 in
+    let is : suc j ≡ root_level rows = omega arith in
+    record {
+      low = omega arith;
+      high = omega arith;
+      number = subst (λ k. IsNumber rows k (length rows)) is (IsNumber-from rows j (suc n) (λ live. (omega arith, sym (root_level-some rows (omega arith)) ∙ sym is)));
+    }
+
+pub root-IsSquare : (rows : List SquareRow) → AreRows rows → IsSquare (root_level rows) (root_of rows)
+root-IsSquare rows valid = square_in-IsSquare rows (root_level rows) (length rows) valid (rooted rows valid).number
+
+pub world-root : (rows : List SquareRow) → world_of_rows rows ≡ put_square (root_level rows) (root_of rows) (edge_of (root_level rows)) (edge_of (root_level rows)) blank
+unfolding world_of_rows
+world-root rows = refl
+
+-- each cell in the root's square
+pub world-inside : (rows : List SquareRow) (x y : ℤ) (i j : ℕ) → AreRows rows → x ≡ edge_of (root_level rows) +ℤ pos i → y ≡ edge_of (root_level rows) +ℤ pos j → i < 2 ^ root_level rows → j < 2 ^ root_level rows
+    → cell (world_of_rows rows) x y ≡ cell_in (root_level rows) (root_of rows) i j
+world-inside rows x y i j valid ex ey hi hj =
+    ap (λ w. cell w x y) (world-root rows)
+    ∙ put_square-inside (root_level rows) (root_of rows) (edge_of (root_level rows)) (edge_of (root_level rows)) blank x y i j (root-IsSquare rows valid) ex ey hi hj
+
+-- and outside it
+pub world-outside : (rows : List SquareRow) (x y : ℤ) → AreRows rows → (IsIn (2 ^ root_level rows) (edge_of (root_level rows)) (edge_of (root_level rows)) x y → ⊥) → cell (world_of_rows rows) x y ≡ 0
+world-outside rows x y valid out =
+    ap (λ w. cell w x y) (world-root rows)
+    ∙ put_square-outside (root_level rows) (root_of rows) (edge_of (root_level rows)) (edge_of (root_level rows)) blank x y (root-IsSquare rows valid) out
+    ∙ cell-blank x y
+
+-- the live cells lie in the root's square
+pub root-Fits : (rows : List SquareRow) → AreRows rows → Fits (root_level rows) (world_of_rows rows)
+root-Fits rows valid x y live =
+    elim (in_or_out (2 ^ root_level rows) (edge_of (root_level rows)) (edge_of (root_level rows)) x y) [
+      | inl h ↦ h
+      | inr out ↦ absurd (omega (arith, live, world-outside rows x y valid out))
+    ]
+
+-- the root's cells, by the world
+pub root-cells : (rows : List SquareRow) (k i j : ℕ) → AreRows rows → root_level rows ≡ k → i < 2 ^ k → j < 2 ^ k
+    → cell_in k (square_in rows k (length rows)) i j ≡ cell (world_of_rows rows) (edge_of k +ℤ pos i) (edge_of k +ℤ pos j)
+root-cells rows k i j valid e =
+    subst (λ m. i < 2 ^ m → j < 2 ^ m → cell_in m (square_in rows m (length rows)) i j ≡ cell (world_of_rows rows) (edge_of m +ℤ pos i) (edge_of m +ℤ pos j)) e
+    (λ hi hj. sym (world-inside rows (edge_of (root_level rows) +ℤ pos i) (edge_of (root_level rows) +ℤ pos j) i j valid refl refl hi hj))
+
+-- a world has one list of rows
+pub kept-unique : (a b : List SquareRow) → AreKept a → AreKept b → world_of_rows a ≡ world_of_rows b → a ≡ b
+kept-unique a b ca cb same =
+    let below : root_level a ≤ root_level b = ca.least.least (root_level b) (rooted b cb.valid).low (subst (Fits (root_level b)) (sym same) cb.least.holds) in
+    let above : root_level b ≤ root_level a = cb.least.least (root_level a) (rooted a ca.valid).low (subst (Fits (root_level a)) same ca.least.holds) in
+    let k = root_level a in
+    let level : root_level b ≡ k = omega arith in
+    let is_b : IsSquare k (square_in b k (length b)) = subst (λ m. IsSquare m (square_in b m (length b))) level (root-IsSquare b cb.valid) in
+    let square : root_of a ≡ square_in b k (length b) =
+    same_square k (root_of a) (square_in b k (length b)) (root-IsSquare a ca.valid) is_b (λ i j hi hj.
+    root-cells a k i j ca.valid refl hi hj
+    ∙ ap (λ w. cell w (edge_of k +ℤ pos i) (edge_of k +ℤ pos j)) same
+    ∙ sym (root-cells b k i j cb.valid level hi hj)) in
+    sym ca.walked
+    ∙ ap (λ (t : Square). (number_square k t []).rows) square
+    ∙ ap (λ m. (number_square m (square_in b m (length b)) []).rows) (sym level)
+    ∙ cb.walked
+
+-- no rows stand for the blank world
+pub world-none : world_of_rows [] ≡ blank
+world-none =
+    same_world (world_of_rows []) blank (λ x y.
+    elim (in_or_out (2 ^ root_level []) (edge_of (root_level [])) (edge_of (root_level [])) x y) [
+      | inl h ↦
+          let at_x = offset (edge_of (root_level [])) x h.left in
+          let at_y = offset (edge_of (root_level [])) y h.top in
+          let right = h.right in let bottom = h.bottom in
+          let ex = at_x.1 in let ey = at_y.1 in
+          world-inside [] x y at_x.0 at_y.0 AreRows-none at_x.1 at_y.1 (omega (arith, ints)) (omega (arith, ints))
+          ∙ ap (λ (t : Square). cell_in (root_level []) t at_x.0 at_y.0) (square_in-none [] (root_level []))
+          ∙ cell_in-empty (root_level []) at_x.0 at_y.0
+          ∙ sym (cell-blank x y)
+      | inr out ↦ world-outside [] x y AreRows-none out ∙ sym (cell-blank x y)
+    ])
+
+-- a plane may keep no rows
+pub kept-none : AreKept []
+kept-none = record {
+  valid = AreRows-none;
+  walked =
+      ap (λ (t : Square). (number_square (root_level []) t []).rows) (square_in-none [] (root_level []))
+      ∙ ap (λ (r : Numbered). r.rows) (Has-empty (root_level []) []);
+  least = record { holds = root-Fits [] AreRows-none; least = λ j low fits. subst (λ k. k ≤ j) (sym root_level-none) low };
+}
+
+-- half of a root's side, and the side
+pub root-side : (k : ℕ) → 1 ≤ k → 2 ^ k ≡ 2 ^ (k - 1) + 2 ^ (k - 1)
+root-side zero h = absurd (omega (arith, h))
+root-side (suc k) h = let less : suc k - 1 ≡ k = omega arith in double k ∙ ap (λ j. 2 ^ j + 2 ^ j) (sym less)
+
+-- the live cells lie in the range of planes
+pub margin : (rows : List SquareRow) → AreRows rows → HasMargin 0 (world_of_rows rows)
+margin rows valid x y live =
+    let h = root-Fits rows valid x y live in
+    let left = h.left in let right = h.right in let top = h.top in let bottom = h.bottom in
+    let root = rooted rows valid in
+    let low = root.low in let high = root.high in
+    let half : 2 ^ (root_level rows - 1) ≤ 2 ^ 61 = pow_mono (let less : root_level rows - 1 ≤ 61 = omega arith in less) in
+    let side = root-side (root_level rows) low in
+    record { left = omega (arith, ints); right = omega (arith, ints); top = omega (arith, ints); bottom = omega (arith, ints) }
+
+-- what the descent finds in the root's square
+pub found-inside : (rows : List SquareRow) (x y : ℤ) (k half i j s : ℕ) → AreRows rows → k ≡ root_level rows → half ≡ 2 ^ (k - 1) → x ≡ neg_ℤ (pos half) +ℤ pos i → y ≡ neg_ℤ (pos half) +ℤ pos j
+    → i < half + half → j < half + half → s ≡ cell_in k (square_in rows k (length rows)) i j → s ≡ cell (world_of_rows rows) x y
+found-inside rows x y k half i j s valid ek eh ex ey hi hj es =
+    let low : 1 ≤ k = subst (λ m. 1 ≤ m) (sym ek) (rooted rows valid).low in
+    let side : 2 ^ k ≡ half + half = root-side k low ∙ ap (λ m. m + m) (sym eh) in
+    es ∙ root-cells rows k i j valid (sym ek) (omega arith) (omega arith)
+    ∙ ap₂ (cell (world_of_rows rows)) (ap (λ m. neg_ℤ (pos m) +ℤ pos i) (sym eh) ∙ sym ex) (ap (λ m. neg_ℤ (pos m) +ℤ pos j) (sym eh) ∙ sym ey)
+
+-- and outside it
+pub found-outside : (rows : List SquareRow) (x y : ℤ) (k half : ℕ) → AreRows rows → k ≡ root_level rows → half ≡ 2 ^ (k - 1) → (IsIn (half + half) (neg_ℤ (pos half)) (neg_ℤ (pos half)) x y → ⊥) → 0 ≡ cell (world_of_rows rows) x y
+found-outside rows x y k half valid ek eh out =
+    let low : 1 ≤ k = subst (λ m. 1 ≤ m) (sym ek) (rooted rows valid).low in
+    let side : 2 ^ k ≡ half + half = root-side k low ∙ ap (λ m. m + m) (sym eh) in
+    let here : IsIn (2 ^ k) (edge_of k) (edge_of k) x y → ⊥ = λ h. out (subst (λ n. IsIn n (neg_ℤ (pos half)) (neg_ℤ (pos half)) x y) side (subst (λ m. IsIn (2 ^ k) (neg_ℤ (pos m)) (neg_ℤ (pos m)) x y) (sym eh) h)) in
+    sym (world-outside rows x y valid (subst (λ m. IsIn (2 ^ m) (edge_of m) (edge_of m) x y → ⊥) ek here))

@@ -1,0 +1,318 @@
+-- What the rows of a walk stand for: each number names the square that was walked, and each row is the one of its square.
+use Rattle.std.proofs.Common.{◌≡◌, ℕ, zero, suc, ◌+◌, ◌-◌, ◌<◌, ◌≤◌, Bool, true, false, cond, not, ◌||◌, List, [], ◌∷◌, ◌++◌, length, take, drop, get_or, refl, sym, ap, ◌∙◌, subst, arith, inl, inr, length-append, lit<}
+use Rattle.std.proofs.lemmas.Bool.{cases_lt}
+use Rattle.std.proofs.lemmas.List.{length_push, get_or_append_left, get_or_push, take-append-drop, take-append-le, take_at}
+use Rattle.std.proofs.lemmas.List.Sums.{passes_at_first}
+use Rattle.std.proofs.lemmas.Slice.Eq.{bytes_eq-Decides}
+use Rattle.std.specs.List.{list_any, position_or_len}
+use Rattle.plane_core.specs.declared.row.SquareRow.{SquareRow}
+use Rattle.worlds.specs.Square.{Square, one, four, empty_square, IsSquare}
+use Rattle.plane_core.specs.Rows.{Numbered, numbered, number_row, number_square, same_row, same_kids, no_row, row_at, kid, IsNumber, IsRow, AreRows, square_in}
+use Rattle.plane_core.specs.Walks.{Has}
+use Rattle.plane_core.proofs.Shared.Numbering.{Grows, Grows-more, Grows-then, RowHas, Has-grown, Has-four, Has-empty, RowHas-again, number_row-is, number_square-grows, same_row-is, not_found}
+
+-- the row of a number of a level above 0
+pub IsNumber-level : (rows : List SquareRow) (k n : ℕ) → IsNumber rows (suc k) n → 0 < n → (n ≤ length rows) × ((row_at rows n).level ≡ suc k)
+unfolding IsNumber
+IsNumber-level rows k n h live = h live
+
+pub IsNumber-from : (rows : List SquareRow) (k n : ℕ) → (0 < n → (n ≤ length rows) × ((row_at rows n).level ≡ suc k)) → IsNumber rows (suc k) n
+unfolding IsNumber
+IsNumber-from rows k n h = h
+
+pub IsNumber-state : (rows : List SquareRow) (s : ℕ) → s < 256 → IsNumber rows 0 s
+unfolding IsNumber
+IsNumber-state rows s h = h
+
+pub state-IsNumber : (rows : List SquareRow) (s : ℕ) → IsNumber rows 0 s → s < 256
+unfolding IsNumber
+state-IsNumber rows s h = h
+
+-- a row stays where it is
+pub row_kept : (old new : List SquareRow) (i : ℕ) → Grows old new → i < length old → get_or new i no_row ≡ get_or old i no_row
+row_kept old new i g h = ap (λ (rows : List SquareRow). get_or rows i no_row) g.is ∙ get_or_append_left old g.more no_row i h
+
+pub Grows-length : (old new : List SquareRow) → Grows old new → length old ≤ length new
+Grows-length old new g = omega (arith, ap length g.is, length-append old g.more)
+
+pub Grows-take : (rows : List SquareRow) (i : ℕ) → Grows (take i rows) rows
+Grows-take rows i = record { more = drop i rows; is = sym (take-append-drop i rows) }
+
+-- a number stays one
+pub IsNumber-grown : (old new : List SquareRow) (k n : ℕ) → Grows old new → IsNumber old k n → IsNumber new k n
+IsNumber-grown old new zero n g h = IsNumber-state new n (state-IsNumber old n h)
+IsNumber-grown old new (suc k) n g h = IsNumber-from new k n (λ live.
+    let at = IsNumber-level old k n h live in
+    let le : n ≤ length old = at.0 in
+    let longer : length old ≤ length new = Grows-length old new g in
+    (omega arith, ap (λ (row : SquareRow). row.level) (row_kept old new (n - 1) g (omega arith)) ∙ at.1))
+
+-- a kid is a number
+pub kid_number : (rows : List SquareRow) (k i : ℕ) → AreRows rows → i < length rows → (get_or rows i no_row).level ≡ suc k → (q : ℕ) → q < 4 → IsNumber rows k (kid (get_or rows i no_row) q)
+kid_number rows k i valid h level q hq =
+    let row = get_or rows i no_row in
+    let below : row.level - 1 ≡ k = omega (arith, level) in
+    IsNumber-grown (take i rows) rows k (kid row q) (Grows-take rows i) (subst (λ j. IsNumber (take i rows) j (kid row q)) below ((valid i h).kids q hq))
+
+pub square_in-none : (rows : List SquareRow) (k : ℕ) → square_in rows k 0 ≡ empty_square k
+unfolding square_in empty_square
+square_in-none rows zero = refl
+square_in-none rows (suc k) = refl
+
+pub square_in-state : (rows : List SquareRow) (s : ℕ) → square_in rows 0 s ≡ one s
+unfolding square_in
+square_in-state rows s = refl
+
+pub square_in-row : (rows : List SquareRow) (k i : ℕ) → square_in rows (suc k) (suc i)
+    ≡ four (square_in rows k (kid (get_or rows i no_row) 0)) (square_in rows k (kid (get_or rows i no_row) 1)) (square_in rows k (kid (get_or rows i no_row) 2)) (square_in rows k (kid (get_or rows i no_row) 3))
+unfolding square_in
+square_in-row rows k i = refl
+
+-- the square of a number stays when rows come behind
+pub square_in-grown : (old new : List SquareRow) (k n : ℕ) → Grows old new → AreRows old → IsNumber old k n → square_in new k n ≡ square_in old k n
+square_in-grown old new zero n g valid h = square_in-state new n ∙ sym (square_in-state old n)
+square_in-grown old new (suc k) zero g valid h = square_in-none new (suc k) ∙ sym (square_in-none old (suc k))
+square_in-grown old new (suc k) (suc i) g valid h =
+    let at = IsNumber-level old k (suc i) h (omega arith) in
+    let le : suc i ≤ length old = at.0 in
+    let lt : i < length old = omega arith in
+    let one_less : suc i - 1 ≡ i = omega arith in
+    let level : (get_or old i no_row).level ≡ suc k = ap (λ j. (get_or old j no_row).level) (sym one_less) ∙ at.1 in
+    let same : get_or new i no_row ≡ get_or old i no_row = row_kept old new i g lt in
+    let quadrant = λ (q : ℕ) (hq : q < 4). ap (λ (row : SquareRow). square_in new k (kid row q)) same ∙ square_in-grown old new k (kid (get_or old i no_row) q) g valid (kid_number old k i valid lt level q hq) in
+    square_in-row new k i
+    ∙ (let nw = quadrant 0 (lit< tt) in let ne = quadrant 1 (lit< tt) in let sw = quadrant 2 (lit< tt) in let se = quadrant 3 (lit< tt) in λ j. four (nw j) (ne j) (sw j) (se j))
+    ∙ sym (square_in-row old k i)
+
+-- each number is the number of its square
+pub record EachHas (rows : List SquareRow) : Type 0 where
+  pub has : (k n : ℕ) → IsNumber rows k n → Has k (square_in rows k n) rows n
+
+-- what a walk gives of a square
+pub record IsSound (k : ℕ) (t : Square) (r : Numbered) : Type 0 where
+  pub valid : AreRows r.rows
+  pub each : EachHas r.rows
+  pub number : IsNumber r.rows k r.number
+  pub square : square_in r.rows k r.number ≡ t
+
+-- rows with one more
+pub AreRows-push : (rows : List SquareRow) (row : SquareRow) → AreRows rows → IsRow rows row → AreRows (rows ++ row ∷ [])
+AreRows-push rows row valid next i h =
+    elim (cases_lt i (length rows)) [
+      | inl lt ↦
+          let le : i ≤ length rows = omega arith in
+          let front : take i (rows ++ row ∷ []) ≡ take i rows = take-append-le i rows (row ∷ []) le in
+          let at : get_or (rows ++ row ∷ []) i no_row ≡ get_or rows i no_row = get_or_append_left rows (row ∷ []) no_row i lt in
+          subst (λ (r : SquareRow). IsRow (take i (rows ++ row ∷ [])) r) (sym at) (subst (λ (rs : List SquareRow). IsRow rs (get_or rows i no_row)) (sym front) (valid i lt))
+      | inr ge ↦
+          let last : length rows ≡ i = omega (arith, h, length_push rows row) in
+          let front : take i (rows ++ row ∷ []) ≡ rows = take_at rows (row ∷ []) i last in
+          let at : get_or (rows ++ row ∷ []) i no_row ≡ row = get_or_push rows row no_row i last in
+          subst (λ (r : SquareRow). IsRow (take i (rows ++ row ∷ [])) r) (sym at) (subst (λ (rs : List SquareRow). IsRow rs row) (sym front) next)
+    ]
+
+-- the row of four numbers
+abbrev pub row_of : ℕ → ℕ → ℕ → ℕ → ℕ → SquareRow
+row_of k a b c d = record { level = k; kids = a ∷ b ∷ c ∷ d ∷ [] }
+
+pub Has-state : (rows done : List SquareRow) (s : ℕ) → Has 0 (square_in rows 0 s) done s
+unfolding number_square square_in
+Has-state rows done s = refl
+
+pub Has-none : (rows done : List SquareRow) (k : ℕ) → Has k (square_in rows k 0) done 0
+Has-none rows done k = subst (λ (t : Square). Has k t done 0) (sym (square_in-none rows k)) (Has-empty k done)
+
+-- four numbers of a level, each the number of its square
+record AreKids (rows : List SquareRow) (k a b c d : ℕ) : Type 0 where
+  valid : AreRows rows
+  each : EachHas rows
+  nw : IsNumber rows k a
+  ne : IsNumber rows k b
+  sw : IsNumber rows k c
+  se : IsNumber rows k d
+
+empty_square-four : (k : ℕ) → empty_square (suc k) ≡ four (empty_square k) (empty_square k) (empty_square k) (empty_square k)
+unfolding empty_square
+empty_square-four k = refl
+
+-- each of the kids is a number
+which_kid : (rows : List SquareRow) (k a b c d : ℕ) → AreKids rows k a b c d → (q : ℕ) → q < 4 → IsNumber rows k (kid (row_of (suc k) a b c d) q)
+which_kid rows k a b c d kids zero h = kids.nw
+which_kid rows k a b c d kids (suc zero) h = kids.ne
+which_kid rows k a b c d kids (suc (suc zero)) h = kids.sw
+which_kid rows k a b c d kids (suc (suc (suc zero))) h = kids.se
+which_kid rows k a b c d kids (suc (suc (suc (suc q)))) h = absurd (omega (arith, h))
+
+-- the square of a row
+quadrants : (rows new : List SquareRow) (k a b c d : ℕ) → Grows rows new → AreKids rows k a b c d
+    → four (square_in new k a) (square_in new k b) (square_in new k c) (square_in new k d) ≡ four (square_in rows k a) (square_in rows k b) (square_in rows k c) (square_in rows k d)
+quadrants rows new k a b c d g kids =
+    let nw = square_in-grown rows new k a g kids.valid kids.nw in
+    let ne = square_in-grown rows new k b g kids.valid kids.ne in
+    let sw = square_in-grown rows new k c g kids.valid kids.sw in
+    let se = square_in-grown rows new k d g kids.valid kids.se in
+    λ j. four (nw j) (ne j) (sw j) (se j)
+
+square_in-at : (rows : List SquareRow) (k i a b c d : ℕ) → get_or rows i no_row ≡ row_of (suc k) a b c d → square_in rows (suc k) (suc i) ≡ four (square_in rows k a) (square_in rows k b) (square_in rows k c) (square_in rows k d)
+square_in-at rows k i a b c d e =
+    square_in-row rows k i
+    ∙ ap (λ (row : SquareRow). four (square_in rows k (kid row 0)) (square_in rows k (kid row 1)) (square_in rows k (kid row 2)) (square_in rows k (kid row 3))) e
+
+-- the square of four numbers has the number that their row has
+Has-kids : (rows new : List SquareRow) (k a b c d n : ℕ) → Grows rows new → AreKids rows k a b c d → RowHas (row_of (suc k) a b c d) new n
+    → Has (suc k) (four (square_in rows k a) (square_in rows k b) (square_in rows k c) (square_in rows k d)) new n
+Has-kids rows new k a b c d n g kids hr =
+    Has-four k (square_in rows k a) (square_in rows k b) (square_in rows k c) (square_in rows k d) new a b c d n
+    (Has-grown k (square_in rows k a) rows new a g (kids.each.has k a kids.nw))
+    (Has-grown k (square_in rows k b) rows new b g (kids.each.has k b kids.ne))
+    (Has-grown k (square_in rows k c) rows new c g (kids.each.has k c kids.sw))
+    (Has-grown k (square_in rows k d) rows new d g (kids.each.has k d kids.se))
+    hr
+
+-- with one more row each number is still that of its square
+module _ (rows : List SquareRow) (k a b c d : ℕ) (kids : AreKids rows k a b c d) (new : RowHas (row_of (suc k) a b c d) (rows ++ row_of (suc k) a b c d ∷ []) (length rows + 1)) where
+  has_before : (j i : ℕ) → i < length rows → IsNumber (rows ++ row_of (suc k) a b c d ∷ []) (suc j) (suc i) → Has (suc j) (square_in (rows ++ row_of (suc k) a b c d ∷ []) (suc j) (suc i)) (rows ++ row_of (suc k) a b c d ∷ []) (suc i)
+  has_before j i lt h =
+      let row = row_of (suc k) a b c d in
+      let all = rows ++ row ∷ [] in
+      let g : Grows rows all = Grows-more rows (row ∷ []) in
+      let at = IsNumber-level all j (suc i) h (omega arith) in
+      let one_less : suc i - 1 ≡ i = omega arith in
+      let level : (get_or rows (suc i - 1) no_row).level ≡ suc j = ap (λ m. (get_or rows m no_row).level) one_less ∙ ap (λ (r : SquareRow). r.level) (sym (row_kept rows all i g lt)) ∙ ap (λ m. (get_or all m no_row).level) (sym one_less) ∙ at.1 in
+      let old : IsNumber rows (suc j) (suc i) = IsNumber-from rows j (suc i) (λ live. (omega arith, level)) in
+      subst (λ (t : Square). Has (suc j) t all (suc i)) (sym (square_in-grown rows all (suc j) (suc i) g kids.valid old)) (Has-grown (suc j) (square_in rows (suc j) (suc i)) rows all (suc i) g (kids.each.has (suc j) (suc i) old))
+
+  has_last : (j i : ℕ) → i ≡ length rows → IsNumber (rows ++ row_of (suc k) a b c d ∷ []) (suc j) (suc i) → Has (suc j) (square_in (rows ++ row_of (suc k) a b c d ∷ []) (suc j) (suc i)) (rows ++ row_of (suc k) a b c d ∷ []) (suc i)
+  has_last j i last h =
+      let row = row_of (suc k) a b c d in
+      let all = rows ++ row ∷ [] in
+      let g : Grows rows all = Grows-more rows (row ∷ []) in
+      let at = IsNumber-level all j (suc i) h (omega arith) in
+      let one_less : suc i - 1 ≡ i = omega arith in
+      let here : get_or all i no_row ≡ row = get_or_push rows row no_row i (sym last) in
+      let level : suc k ≡ suc j = ap (λ (r : SquareRow). r.level) (sym here) ∙ ap (λ m. (get_or all m no_row).level) (sym one_less) ∙ at.1 in
+      let same : k ≡ j = omega (arith, level) in
+      let count : length rows + 1 ≡ suc i = omega (arith, last) in
+      let is : square_in all (suc k) (suc i) ≡ four (square_in rows k a) (square_in rows k b) (square_in rows k c) (square_in rows k d) = square_in-at all k i a b c d here ∙ quadrants rows all k a b c d g kids in
+      let has : Has (suc k) (square_in all (suc k) (suc i)) all (suc i) = subst (λ (t : Square). Has (suc k) t all (suc i)) (sym is) (Has-kids rows all k a b c d (suc i) g kids (subst (λ m. RowHas row all m) count new)) in
+      subst (λ m. Has (suc m) (square_in all (suc m) (suc i)) all (suc i)) same has
+
+  has_all : (j n : ℕ) → IsNumber (rows ++ row_of (suc k) a b c d ∷ []) j n → Has j (square_in (rows ++ row_of (suc k) a b c d ∷ []) j n) (rows ++ row_of (suc k) a b c d ∷ []) n
+  has_all zero n h = Has-state (rows ++ row_of (suc k) a b c d ∷ []) (rows ++ row_of (suc k) a b c d ∷ []) n
+  has_all (suc j) zero h = Has-none (rows ++ row_of (suc k) a b c d ∷ []) (rows ++ row_of (suc k) a b c d ∷ []) (suc j)
+  has_all (suc j) (suc i) h =
+      let at = IsNumber-level (rows ++ row_of (suc k) a b c d ∷ []) j (suc i) h (omega arith) in
+      elim (cases_lt i (length rows)) [
+        | inl lt ↦ has_before j i lt h
+        | inr ge ↦ has_last j i (omega (arith, at.0, length_push rows (row_of (suc k) a b c d))) h
+      ]
+
+pub found_within : (p : SquareRow → Bool) (xs : List SquareRow) → list_any p xs ≡ true → position_or_len p xs < length xs
+found_within p [] h = cc
+found_within p (x ∷ xs) h =
+    elim (p x) as (λ b. ((b || list_any p xs) ≡ true) → cond (not b) (1 + position_or_len p xs) 0 < length (x ∷ xs)) [
+      | true ↦ λ e. omega arith
+      | false ↦ λ e. let k = found_within p xs e in omega arith
+    ] h
+
+-- the row that is found is the one that was sought
+pub found_at : (row : SquareRow) (rows : List SquareRow) → list_any (same_row row) rows ≡ true → get_or rows (position_or_len (same_row row) rows) no_row ≡ row
+found_at row rows e = sym (same_row-is row (get_or rows (position_or_len (same_row row) rows) no_row) (passes_at_first (same_row row) rows no_row (found_within (same_row row) rows e)))
+
+-- the row of sound kids, numbered
+numbered-sound : (x y : Bool) (rows : List SquareRow) (k a b c d : ℕ) → AreKids rows k a b c d → k < 62
+    → same_kids (a ∷ b ∷ c ∷ d ∷ []) (0 ∷ 0 ∷ 0 ∷ 0 ∷ []) ≡ x → list_any (same_row (row_of (suc k) a b c d)) rows ≡ y
+    → number_row (row_of (suc k) a b c d) rows ≡ numbered x y (row_of (suc k) a b c d) rows (position_or_len (same_row (row_of (suc k) a b c d)) rows + 1)
+    → IsSound (suc k) (four (square_in rows k a) (square_in rows k b) (square_in rows k c) (square_in rows k d)) (numbered x y (row_of (suc k) a b c d) rows (position_or_len (same_row (row_of (suc k) a b c d)) rows + 1))
+numbered-sound true y rows k a b c d kids high ex ey is =
+    let zeros : a ∷ b ∷ c ∷ d ∷ [] ≡ 0 ∷ 0 ∷ 0 ∷ 0 ∷ [] = (bytes_eq-Decides (a ∷ b ∷ c ∷ d ∷ []) (0 ∷ 0 ∷ 0 ∷ 0 ∷ [])).0 ex in
+    record {
+      valid = kids.valid;
+      each = kids.each;
+      number = IsNumber-from rows k 0 (λ live. absurd (omega (arith, live)));
+      square =
+          square_in-none rows (suc k) ∙ empty_square-four k
+          ∙ (let e = sym (square_in-none rows k) in λ j. four (e j) (e j) (e j) (e j))
+          ∙ ap (λ (ns : List ℕ). four (square_in rows k (get_or ns 0 0)) (square_in rows k (get_or ns 1 0)) (square_in rows k (get_or ns 2 0)) (square_in rows k (get_or ns 3 0))) (sym zeros);
+    }
+numbered-sound false true rows k a b c d kids high ex ey is =
+    let row = row_of (suc k) a b c d in
+    let i = position_or_len (same_row row) rows in
+    let within : i < length rows = found_within (same_row row) rows ey in
+    let at : get_or rows i no_row ≡ row = found_at row rows ey in
+    let next : i + 1 ≡ suc i = omega arith in
+    let one_less : (i + 1) - 1 ≡ i = omega arith in
+    record {
+      valid = kids.valid;
+      each = kids.each;
+      number = IsNumber-from rows k (i + 1) (λ live. (omega arith, ap (λ m. (get_or rows m no_row).level) one_less ∙ ap (λ (r : SquareRow). r.level) at));
+      square = ap (square_in rows (suc k)) next ∙ square_in-at rows k i a b c d at;
+    }
+numbered-sound false false rows k a b c d kids high ex ey is =
+    let row = row_of (suc k) a b c d in
+    let all = rows ++ row ∷ [] in
+    let g : Grows rows all = Grows-more rows (row ∷ []) in
+    let last : position_or_len (same_row row) rows ≡ length rows = not_found (same_row row) rows ey in
+    let count : position_or_len (same_row row) rows + 1 ≡ length rows + 1 = ap (λ m. m + 1) last in
+    let again : RowHas row all (length rows + 1) = subst (λ m. RowHas row all m) count (subst (λ (r : Numbered). RowHas row r.rows r.number) is (RowHas-again row rows)) in
+    let here : get_or all (length rows) no_row ≡ row = get_or_push rows row no_row (length rows) refl in
+    let next : length rows + 1 ≡ suc (length rows) = omega arith in
+    let one_less : (length rows + 1) - 1 ≡ length rows = omega arith in
+    let row_fits : IsRow rows row = record { low = omega arith; high = omega arith; kids = λ q hq. let less : suc k - 1 ≡ k = omega arith in subst (λ m. IsNumber rows m (kid row q)) (sym less) (which_kid rows k a b c d kids q hq) } in
+    record {
+      valid = AreRows-push rows row kids.valid row_fits;
+      each = record { has = has_all rows k a b c d kids again };
+      number = subst (IsNumber all (suc k)) (sym count) (IsNumber-from all k (length rows + 1) (λ live. (omega (arith, length_push rows row), ap (λ m. (get_or all m no_row).level) one_less ∙ ap (λ (r : SquareRow). r.level) here)));
+      square = ap (square_in all (suc k)) (count ∙ next) ∙ square_in-at all k (length rows) a b c d here ∙ quadrants rows all k a b c d g kids;
+    }
+
+number_row-sound : (rows : List SquareRow) (k a b c d : ℕ) → AreKids rows k a b c d → k < 62
+    → IsSound (suc k) (four (square_in rows k a) (square_in rows k b) (square_in rows k c) (square_in rows k d)) (number_row (row_of (suc k) a b c d) rows)
+number_row-sound rows k a b c d kids high =
+    subst (IsSound (suc k) (four (square_in rows k a) (square_in rows k b) (square_in rows k c) (square_in rows k d))) (sym (number_row-is (row_of (suc k) a b c d) rows))
+    (numbered-sound _ _ rows k a b c d kids high refl refl (number_row-is (row_of (suc k) a b c d) rows))
+
+-- what a walk gives stands for what was walked
+pub number_square-sound : (k : ℕ) (t : Square) (rows : List SquareRow) → AreRows rows → EachHas rows → IsSquare k t → k ≤ 62 → IsSound k t (number_square k t rows)
+unfolding number_square IsSquare
+number_square-sound zero (one s) rows valid each is high = record { valid = valid; each = each; number = IsNumber-state rows s is; square = square_in-state rows s }
+number_square-sound (suc k) (one s) rows valid each is high = absurd is
+number_square-sound zero (four nw ne sw se) rows valid each is high = absurd is
+number_square-sound (suc k) (four nw ne sw se) rows valid each is high =
+    let less : k ≤ 62 = omega arith in
+    let a = number_square k nw rows in
+    let sa : IsSound k nw a = number_square-sound k nw rows valid each is.0 less in
+    let b = number_square k ne a.rows in
+    let sb : IsSound k ne b = number_square-sound k ne a.rows sa.valid sa.each is.1 less in
+    let c = number_square k sw b.rows in
+    let sc : IsSound k sw c = number_square-sound k sw b.rows sb.valid sb.each is.2 less in
+    let d = number_square k se c.rows in
+    let sd : IsSound k se d = number_square-sound k se c.rows sc.valid sc.each is.3 less in
+    let gc : Grows c.rows d.rows = number_square-grows k se c.rows in
+    let gb : Grows b.rows d.rows = Grows-then b.rows c.rows d.rows (number_square-grows k sw b.rows) gc in
+    let ga : Grows a.rows d.rows = Grows-then a.rows b.rows d.rows (number_square-grows k ne a.rows) gb in
+    let kids : AreKids d.rows k a.number b.number c.number d.number = record {
+      valid = sd.valid;
+      each = sd.each;
+      nw = IsNumber-grown a.rows d.rows k a.number ga sa.number;
+      ne = IsNumber-grown b.rows d.rows k b.number gb sb.number;
+      sw = IsNumber-grown c.rows d.rows k c.number gc sc.number;
+      se = sd.number;
+    } in
+    let ea : square_in d.rows k a.number ≡ nw = square_in-grown a.rows d.rows k a.number ga sa.valid sa.number ∙ sa.square in
+    let eb : square_in d.rows k b.number ≡ ne = square_in-grown b.rows d.rows k b.number gb sb.valid sb.number ∙ sb.square in
+    let ec : square_in d.rows k c.number ≡ sw = square_in-grown c.rows d.rows k c.number gc sc.valid sc.number ∙ sc.square in
+    let squares : four (square_in d.rows k a.number) (square_in d.rows k b.number) (square_in d.rows k c.number) (square_in d.rows k d.number) ≡ four nw ne sw se = λ j. four (ea j) (eb j) (ec j) (sd.square j) in
+    subst (λ (t : Square). IsSound (suc k) t (number_row (row_of (suc k) a.number b.number c.number d.number) d.rows)) squares (number_row-sound d.rows k a.number b.number c.number d.number kids (omega arith))
+
+-- with no rows each number is that of its square
+pub AreRows-none : AreRows []
+AreRows-none i h = absurd (omega arith)
+
+pub EachHas-none : EachHas []
+EachHas-none = record { has = has }
+  where
+    has : (k n : ℕ) → IsNumber [] k n → Has k (square_in [] k n) [] n
+    has zero n h = Has-state [] [] n
+    has (suc k) zero h = Has-none [] [] (suc k)
+    has (suc k) (suc i) h = let at = IsNumber-level [] k (suc i) h (omega arith) in absurd (omega (arith, at.0))

@@ -1,0 +1,305 @@
+-- A world's rows, by its cells.
+use Rattle.std.proofs.Common.{◌≡◌, ◌∙◌, sym, ap, ap₂, refl, subst, ℕ, zero, suc, ◌+◌, ◌-◌, ◌<◌, ◌≤◌, ◌^◌, ◌&&◌, Bool, true, false, List, [], ◌∷◌, length, get_or, arith, inl, inr, ℤ, pos, ◌+ℤ◌, ◌≤ℤ◌, ◌<ℤ◌}
+use Rattle.std.specs.Prelude.{int_le, int_lt}
+use Rattle.std.specs.List.{AllByRecursion, list_all, position_or_len, range_with_len}
+use Rattle.std.proofs.lemmas.Bool.{and_from, and_parts, cases_lt}
+use Rattle.std.proofs.lemmas.Int.{ints}
+use Rattle.std.proofs.lemmas.List.FromFn.{get_or-range_with_len, length-range_with_len}
+use Rattle.std.proofs.lemmas.List.Sums.{fails_before_first, passes_at_first, position_or_len_is}
+use Rattle.worlds.specs.World.{Place, World, blank, cell, cell-blank, same_world}
+use Rattle.worlds.specs.Range.{AllBelow, HasMargin}
+use Rattle.worlds.specs.Live.{by_place, cell-state_at, live, live-states}
+use Rattle.plane_core.specs.declared.row.SquareRow.{SquareRow}
+use Rattle.worlds.specs.Square.{Square, IsIn, IsSquare, cell_in, four, one, put_square, square_at}
+use Rattle.plane_core.specs.Rows.{AreKept, AreRows, AreSquaresOf, Fits, IsLeastLevel, completed, edge_of, root_level, root_of, world_of_rows, written}
+use Rattle.plane_core.proofs.Shared.Cells.{IsSquare-one, IsSquare-parts, cell_in-ne, cell_in-nw, cell_in-one, cell_in-se, cell_in-sw, double, in_or_out, offset, put_square-inside, put_square-outside, same_square}
+use Rattle.plane_core.proofs.Shared.Roots.{kept-none, root-IsSquare, rooted, world-inside, world-none, world-outside}
+use Rattle.plane_core.specs.Laws.{EmptyWorldHasOneRow, WorldsHaveRows}
+use Rattle.plane_core.specs.WorldRows.{holds_all, is_within, least_level, rows_of}
+use Rattle.plane_core.proofs.Tidy.{IsListed, listed}
+use Rattle.plane_core.proofs.Written.{squares-written}
+
+-- the square of a world at a place has the world's cells
+square_at-zero : (w : World) (x y : ℤ) → square_at w 0 x y ≡ one (cell w x y)
+unfolding square_at
+square_at-zero w x y = refl
+
+square_at-suc : (w : World) (k : ℕ) (x y : ℤ) → square_at w (suc k) x y ≡ four (square_at w k x y) (square_at w k (x +ℤ pos (2 ^ k)) y) (square_at w k x (y +ℤ pos (2 ^ k))) (square_at w k (x +ℤ pos (2 ^ k)) (y +ℤ pos (2 ^ k)))
+unfolding square_at
+square_at-suc w k x y = refl
+
+-- a coordinate behind the half of a side
+behind : (x : ℤ) (h i : ℕ) → h ≤ i → (x +ℤ pos h) +ℤ pos (i - h) ≡ x +ℤ pos i
+behind x h i le = omega (arith, ints)
+
+at_origin : (x : ℤ) (i : ℕ) → i < 1 → x ≡ x +ℤ pos i
+at_origin x i h = let z : i ≡ 0 = omega arith in omega (arith, ints)
+
+pub square_at-cells : (w : World) (k : ℕ) (x y : ℤ) (i j : ℕ) → i < 2 ^ k → j < 2 ^ k → cell_in k (square_at w k x y) i j ≡ cell w (x +ℤ pos i) (y +ℤ pos j)
+square_at-cells w zero x y i j hi hj =
+    ap (λ (t : Square). cell_in 0 t i j) (square_at-zero w x y) ∙ cell_in-one 0 (cell w x y) i j ∙ ap₂ (cell w) (at_origin x i hi) (at_origin y j hj)
+square_at-cells w (suc k) x y i j hi hj =
+    let h = 2 ^ k in
+    let twice = double k in
+    let nw = square_at w k x y in
+    let ne = square_at w k (x +ℤ pos h) y in
+    let sw = square_at w k x (y +ℤ pos h) in
+    let se = square_at w k (x +ℤ pos h) (y +ℤ pos h) in
+    ap (λ (t : Square). cell_in (suc k) t i j) (square_at-suc w k x y)
+    ∙ elim (cases_lt i (2 ^ k)) [
+      | inl near ↦ elim (cases_lt j (2 ^ k)) [
+        | inl above ↦ cell_in-nw k nw ne sw se i j near above ∙ square_at-cells w k x y i j near above
+        | inr below ↦ cell_in-sw k nw ne sw se i j near below ∙ square_at-cells w k x (y +ℤ pos h) i (j - 2 ^ k) near (omega arith) ∙ ap (cell w (x +ℤ pos i)) (behind y h j below)
+      ]
+      | inr far ↦ elim (cases_lt j (2 ^ k)) [
+        | inl above ↦ cell_in-ne k nw ne sw se i j far above ∙ square_at-cells w k (x +ℤ pos h) y (i - 2 ^ k) j (omega arith) above ∙ ap (λ z. cell w z (y +ℤ pos j)) (behind x h i far)
+        | inr below ↦ cell_in-se k nw ne sw se i j far below ∙ square_at-cells w k (x +ℤ pos h) (y +ℤ pos h) (i - 2 ^ k) (j - 2 ^ k) (omega arith) (omega arith) ∙ ap₂ (cell w) (behind x h i far) (behind y h j below)
+      ]
+    ]
+
+pub square_at-IsSquare : (w : World) (k : ℕ) (x y : ℤ) → ((a b : ℤ) → cell w a b < 256) → IsSquare k (square_at w k x y)
+square_at-IsSquare w zero x y small = subst (IsSquare 0) (sym (square_at-zero w x y)) (IsSquare-one (cell w x y) (small x y))
+square_at-IsSquare w (suc k) x y small =
+    subst (IsSquare (suc k)) (sym (square_at-suc w k x y))
+    (IsSquare-parts k _ _ _ _ (square_at-IsSquare w k x y small) (square_at-IsSquare w k (x +ℤ pos (2 ^ k)) y small) (square_at-IsSquare w k x (y +ℤ pos (2 ^ k)) small) (square_at-IsSquare w k (x +ℤ pos (2 ^ k)) (y +ℤ pos (2 ^ k)) small))
+
+-- the cells of a square are states
+cell_in-below : (k : ℕ) (t : Square) (i j : ℕ) → IsSquare k t → i < 2 ^ k → j < 2 ^ k → cell_in k t i j < 256
+unfolding IsSquare
+cell_in-below zero (one s) i j is hi hj = subst (λ n. n < 256) (sym (cell_in-one 0 s i j)) is
+cell_in-below zero (four a b c d) i j is hi hj = absurd is
+cell_in-below (suc k) (one s) i j is hi hj = absurd is
+cell_in-below (suc k) (four a b c d) i j is hi hj =
+    let twice = double k in
+    elim (cases_lt i (2 ^ k)) [
+      | inl near ↦ elim (cases_lt j (2 ^ k)) [
+        | inl above ↦ subst (λ n. n < 256) (sym (cell_in-nw k a b c d i j near above)) (cell_in-below k a i j is.0 near above)
+        | inr below ↦ subst (λ n. n < 256) (sym (cell_in-sw k a b c d i j near below)) (cell_in-below k c i (j - 2 ^ k) is.2 near (omega arith))
+      ]
+      | inr far ↦ elim (cases_lt j (2 ^ k)) [
+        | inl above ↦ subst (λ n. n < 256) (sym (cell_in-ne k a b c d i j far above)) (cell_in-below k b (i - 2 ^ k) j is.1 (omega arith) above)
+        | inr below ↦ subst (λ n. n < 256) (sym (cell_in-se k a b c d i j far below)) (cell_in-below k d (i - 2 ^ k) (j - 2 ^ k) is.3 (omega arith) (omega arith))
+      ]
+    ]
+
+-- the states of a world of rows
+world-below : (rows : List SquareRow) → AreRows rows → (x y : ℤ) → cell (world_of_rows rows) x y < 256
+world-below rows valid x y =
+    let k = root_level rows in
+    let edge = edge_of k in
+    elim (in_or_out (2 ^ k) edge edge x y) [
+      | inl h ↦
+          let at_x = offset edge x h.left in
+          let at_y = offset edge y h.top in
+          let right = h.right in
+          let bottom = h.bottom in
+          let ex = at_x.1 in
+          let ey = at_y.1 in
+          let hi : at_x.0 < 2 ^ k = omega (arith, ints) in
+          let hj : at_y.0 < 2 ^ k = omega (arith, ints) in
+          subst (λ n. n < 256) (sym (world-inside rows x y at_x.0 at_y.0 valid ex ey hi hj)) (cell_in-below k (root_of rows) at_x.0 at_y.0 (root-IsSquare rows valid) hi hj)
+      | inr out ↦ omega (arith, world-outside rows x y valid out)
+    ]
+
+-- the root of rows is the square of their world
+pub root-square_at : (rows : List SquareRow) → AreRows rows → square_at (world_of_rows rows) (root_level rows) (edge_of (root_level rows)) (edge_of (root_level rows)) ≡ root_of rows
+root-square_at rows valid =
+    let k = root_level rows in
+    let edge = edge_of k in
+    same_square k (square_at (world_of_rows rows) k edge edge) (root_of rows) (square_at-IsSquare (world_of_rows rows) k edge edge (world-below rows valid)) (root-IsSquare rows valid)
+    (λ i j hi hj. square_at-cells (world_of_rows rows) k edge edge i j hi hj ∙ world-inside rows (edge +ℤ pos i) (edge +ℤ pos j) i j valid refl refl hi hj)
+
+-- what the test of a coordinate says
+within-left : (k : ℕ) (z : ℤ) → is_within k z ≡ true → edge_of k ≤ℤ z
+within-left k z h = record { le = let left : int_le (edge_of k) z ≡ true = (and_parts (int_le (edge_of k) z) (int_lt z (edge_of k +ℤ pos (2 ^ k))) h).0 in rw left tt }
+
+within-right : (k : ℕ) (z : ℤ) → is_within k z ≡ true → z <ℤ (edge_of k +ℤ pos (2 ^ k))
+within-right k z h = record { lt = let right : int_lt z (edge_of k +ℤ pos (2 ^ k)) ≡ true = (and_parts (int_le (edge_of k) z) (int_lt z (edge_of k +ℤ pos (2 ^ k))) h).1 in rw right tt }
+
+not_over : (a b : ℤ) → a ≤ℤ b → int_le a b ≡ true
+not_over a b h = grind (arith, ints)
+
+is_under : (a b : ℤ) → a <ℤ b → int_lt a b ≡ true
+is_under a b h = grind (arith, ints)
+
+within-from : (k : ℕ) (z : ℤ) → edge_of k ≤ℤ z → z <ℤ (edge_of k +ℤ pos (2 ^ k)) → is_within k z ≡ true
+within-from k z a b = and_from (int_le (edge_of k) z) (int_lt z (edge_of k +ℤ pos (2 ^ k))) (not_over (edge_of k) z a) (is_under z (edge_of k +ℤ pos (2 ^ k)) b)
+
+-- the cell of an entry lies in a root
+abbrev Lies : ℕ → Place × ℕ → Type 0
+Lies k e = IsIn (2 ^ k) (edge_of k) (edge_of k) e.0.1 e.0.0
+
+lies-tested : (k : ℕ) (e : Place × ℕ) → (is_within k e.0.1 && is_within k e.0.0) ≡ true → Lies k e
+lies-tested k e h =
+    let both = and_parts (is_within k e.0.1) (is_within k e.0.0) h in
+    record { left = within-left k e.0.1 both.0; right = within-right k e.0.1 both.0; top = within-left k e.0.0 both.1; bottom = within-right k e.0.0 both.1 }
+
+tested-lies : (k : ℕ) (e : Place × ℕ) → Lies k e → (is_within k e.0.1 && is_within k e.0.0) ≡ true
+tested-lies k e h = and_from (is_within k e.0.1) (is_within k e.0.0) (within-from k e.0.1 h.left h.right) (within-from k e.0.0 h.top h.bottom)
+
+all_lie : (k : ℕ) (es : List (Place × ℕ)) → list_all (λ cell. is_within k cell.0.1 && is_within k cell.0.0) es ≡ true → AllByRecursion (Lies k) es
+all_lie k [] h = tt
+all_lie k (e ∷ es) h =
+    let both = and_parts (is_within k e.0.1 && is_within k e.0.0) (list_all (λ cell. is_within k cell.0.1 && is_within k cell.0.0) es) h in
+    (lies-tested k e both.0, all_lie k es both.1)
+
+-- a root that passes the test holds the live cells
+holds-fits : (w : World) (k : ℕ) → holds_all w k ≡ true → Fits k w
+holds-fits w k h x y alive =
+    let state = cell-state_at w x y in
+    by_place (live w) (λ x y s. IsIn (2 ^ k) (edge_of k) (edge_of k) x y) (all_lie k (live w) h) x y (subst (λ n. 0 < n) state alive)
+
+each_tested : (w : World) (k : ℕ) (es : List (Place × ℕ)) → Fits k w → AllByRecursion (λ (e : Place × ℕ). (cell w e.0.1 e.0.0 ≡ e.1) × (0 < e.1)) es → list_all (λ cell. is_within k cell.0.1 && is_within k cell.0.0) es ≡ true
+each_tested w k [] fits h = refl
+each_tested w k (e ∷ es) fits h =
+    let here = h.0 in
+    and_from (is_within k e.0.1 && is_within k e.0.0) (list_all (λ cell. is_within k cell.0.1 && is_within k cell.0.0) es)
+    (tested-lies k e (fits e.0.1 e.0.0 (subst (λ n. 0 < n) (sym here.0) here.1))) (each_tested w k es fits h.1)
+
+-- and one that holds them passes
+fits-holds : (w : World) (k : ℕ) → Fits k w → holds_all w k ≡ true
+fits-holds w k fits = each_tested w k (live w) fits (live-states w)
+
+fails_below : (w : World) (j k : ℕ) → IsLeastLevel k w → 1 ≤ j → j < k → holds_all w j ≡ false
+fails_below w j k least low below =
+    by (holds_all w j) (λ h. let up : k ≤ j = least.least j low (holds-fits w j h) in omega arith)
+  where
+    by : (b : Bool) → (b ≡ true → ⊥) → b ≡ false
+    by true h = absurd (h refl)
+    by false h = refl
+
+least_level-is : (w : World) → least_level w ≡ 1 + position_or_len (holds_all w) (range_with_len 1 62)
+unfolding least_level
+least_level-is w = refl
+
+-- the least level is the least
+pub least_level-least : (w : World) (k : ℕ) → IsLeastLevel k w → 1 ≤ k → k ≤ 62 → least_level w ≡ k
+least_level-least w k least low high =
+    let levels = range_with_len 1 62 in
+    let long : length levels ≡ 62 = length-range_with_len 1 62 in
+    let at : (i : ℕ) → i < 62 → get_or levels i 0 ≡ 1 + i = λ i h. get_or-range_with_len 1 62 i 0 h in
+    let last : 1 + (k - 1) ≡ k = omega arith in
+    let found : position_or_len (holds_all w) levels ≡ k - 1 =
+    position_or_len_is (holds_all w) levels (k - 1) 0 (omega arith)
+    (λ j h. ap (holds_all w) (at j (omega arith)) ∙ fails_below w (1 + j) k least (omega arith) (omega arith))
+    (λ h. ap (holds_all w) (at (k - 1) (omega arith) ∙ last) ∙ fits-holds w k least.holds) in
+    least_level-is w ∙ ap (λ n. 1 + n) found ∙ last
+
+rows_of-is : (w : World) → rows_of w ≡ written (completed (least_level w) (square_at w (least_level w) (edge_of (least_level w)) (edge_of (least_level w))))
+unfolding rows_of
+rows_of-is w = refl
+
+-- the rows of a world are its rows
+pub rows_of-squares : (w : World) (rows : List SquareRow) → AreSquaresOf w rows → rows_of w ≡ rows
+rows_of-squares w rows are =
+    let canonical = are.canonical in
+    let valid = canonical.valid in
+    let k = root_level rows in
+    let root = rooted rows valid in
+    let least : IsLeastLevel k w = subst (IsLeastLevel k) are.world canonical.least in
+    let level : least_level w ≡ k = least_level-least w k least root.low root.high in
+    let square : square_at w k (edge_of k) (edge_of k) ≡ root_of rows = ap (λ v. square_at v k (edge_of k) (edge_of k)) (sym are.world) ∙ root-square_at rows valid in
+    rows_of-is w
+    ∙ ap (λ j. written (completed j (square_at w j (edge_of j) (edge_of j)))) level
+    ∙ ap (λ (t : Square). written (completed k t)) square
+    ∙ canonical.walked
+
+-- a root of the greatest level holds the range of planes
+range-fits : (w : World) → HasMargin 0 w → Fits 62 w
+range-fits w margin x y alive =
+    let at = margin x y alive in
+    let left = at.left in let right = at.right in let top = at.top in let bottom = at.bottom in
+    record { left = omega (arith, ints); right = omega (arith, ints); top = omega (arith, ints); bottom = omega (arith, ints) }
+
+-- a level that is least, and that rows may have
+record IsGoodLevel (k : ℕ) (w : World) : Type 0 where
+  least : IsLeastLevel k w
+  low : 1 ≤ k
+  high : k ≤ 62
+
+-- the least level is there
+least_level-good : (w : World) → HasMargin 0 w → IsGoodLevel (least_level w) w
+least_level-good w margin =
+    let levels = range_with_len 1 62 in
+    let p = holds_all w in
+    let n = position_or_len p levels in
+    let long : length levels ≡ 62 = length-range_with_len 1 62 in
+    let at : (i : ℕ) → i < 62 → get_or levels i 0 ≡ 1 + i = λ i h. get_or-range_with_len 1 62 i 0 h in
+    let last : p (get_or levels 61 0) ≡ true = ap p (at 61 (omega arith)) ∙ fits-holds w 62 (range-fits w margin) in
+    let not_before : (j : ℕ) → j < n → p (get_or levels j 0) ≡ false = λ j h. fails_before_first p levels j 0 h in
+    let within : n ≤ 61 = elim (cases_lt 61 n) [ inl after ↦ (let no = not_before 61 after in absurd (cc)) | inr le ↦ le ] in
+    let here : p (get_or levels n 0) ≡ true = passes_at_first p levels 0 (omega arith) in
+    let is : least_level w ≡ 1 + n = least_level-is w in
+    let fits : Fits (1 + n) w = holds-fits w (1 + n) (ap p (sym (at n (omega arith))) ∙ here) in
+    record {
+      least = subst (λ k. IsLeastLevel k w) (sym is) (record {
+        holds = fits;
+        least = λ j low fits_j.
+            elim (cases_lt j (1 + n)) [
+              | inl below ↦
+                  let less : 1 + (j - 1) ≡ j = omega arith in
+                  let yes : p (get_or levels (j - 1) 0) ≡ true = ap p (at (j - 1) (omega arith) ∙ less) ∙ fits-holds w j fits_j in
+                  let no = not_before (j - 1) (omega arith) in
+                  absurd (cc)
+              | inr le ↦ le
+            ];
+      });
+      low = omega (arith, is);
+      high = omega (arith, is, within);
+    }
+
+-- the square of a world in a root that holds it stands for the world
+root-world : (w : World) (k : ℕ) → Fits k w → AllBelow 256 w → put_square k (square_at w k (edge_of k) (edge_of k)) (edge_of k) (edge_of k) blank ≡ w
+root-world w k fits small =
+    let edge = edge_of k in
+    let t = square_at w k edge edge in
+    let is : IsSquare k t = square_at-IsSquare w k edge edge small in
+    same_world _ w (λ x y.
+    elim (in_or_out (2 ^ k) edge edge x y) [
+      | inl h ↦
+          let at_x = offset edge x h.left in
+          let at_y = offset edge y h.top in
+          let right = h.right in let bottom = h.bottom in
+          let ex = at_x.1 in let ey = at_y.1 in
+          let hi : at_x.0 < 2 ^ k = omega (arith, ints) in
+          let hj : at_y.0 < 2 ^ k = omega (arith, ints) in
+          put_square-inside k t edge edge blank x y at_x.0 at_y.0 is ex ey hi hj
+          ∙ square_at-cells w k edge edge at_x.0 at_y.0 hi hj
+          ∙ ap₂ (cell w) (sym ex) (sym ey)
+      | inr out ↦
+          let dead : 0 < cell w x y → ⊥ = λ alive. out (fits x y alive) in
+          let none : cell w x y ≡ 0 = omega (arith, dead) in
+          put_square-outside k t edge edge blank x y is out ∙ cell-blank x y ∙ sym none
+    ])
+
+squares-by : (w : World) (k : ℕ) (rows : List SquareRow) → IsLeastLevel k w → IsListed k (square_at w k (edge_of k) (edge_of k)) rows → AllBelow 256 w → AreSquaresOf w (written rows)
+squares-by w k rows least own small =
+    let world : world_of_rows rows ≡ w = own.world ∙ root-world w k least.holds small in
+    let kept : AreKept rows =
+    elim own.level [
+      | inl level ↦ record {
+        valid = own.walked.valid;
+        walked = own.walked.walked;
+        least = subst (λ j. IsLeastLevel j (world_of_rows rows)) (sym level) (subst (IsLeastLevel k) (sym world) least);
+      }
+      | inr none ↦ subst AreKept (sym none) kept-none
+    ] in
+    squares-written rows w kept world
+
+-- the rows of a world stand for it
+pub squares-rows_of : WorldsHaveRows
+squares-rows_of w margin small =
+    let good = least_level-good w margin in
+    let low = good.low in
+    let k = least_level w - 1 in
+    let up : suc k ≡ least_level w = omega arith in
+    let least : IsLeastLevel (suc k) w = subst (λ j. IsLeastLevel j w) (sym up) good.least in
+    let high : suc k ≤ 62 = omega (arith, good.high, up) in
+    let t = square_at w (suc k) (edge_of (suc k)) (edge_of (suc k)) in
+    let is : IsSquare (suc k) t = square_at-IsSquare w (suc k) (edge_of (suc k)) (edge_of (suc k)) small in
+    let rows : rows_of w ≡ written (completed (suc k) t) = rows_of-is w ∙ ap (λ j. written (completed j (square_at w j (edge_of j) (edge_of j)))) (sym up) in
+    subst (AreSquaresOf w) (sym rows) (squares-by w (suc k) (completed (suc k) t) least (listed k t is high) small)
+
+-- those of the empty world
+pub rows_of-blank : EmptyWorldHasOneRow
+rows_of-blank = rows_of-squares blank (written []) (squares-written [] blank kept-none world-none)

@@ -1,0 +1,54 @@
+-- Rows that are of given squares, where a table grows, and the different squares that they are.
+use Rattle.std.proofs.Common.{◌≡◌, ℕ, suc, ◌+◌, ◌-◌, List, [], ◌∷◌, ◌++◌, length, get_or, sym, ap, ◌∙◌, subst, arith, inl, inr}
+use Rattle.std.specs.Prelude.{Contains}
+use Rattle.std.proofs.lemmas.Bool.{cases_lt}
+use Rattle.std.proofs.lemmas.List.Elements.{All-head}
+use Rattle.worlds.specs.Square.{Square}
+use Rattle.square_table.specs.Squares.{Table, IsNumber, square_in, first_number, IsSquareOf, Grows, GrowsBy, with_row}
+use Rattle.square_table.specs.Made.{IsAmong, AreAmong, Adds}
+use Rattle.square_table.proofs.Shared.Tables.{last_row, one_longer}
+use Rattle.square_table.proofs.Shared.Growth.{IsNumber-grows, square_in-grows}
+
+IsAmong-grows : (all : List Square) (t u : Table) (n : ℕ) → Grows t u → IsAmong all t.rows n → IsAmong all u.rows n
+IsAmong-grows all t u n grows is = record {
+  level = is.level;
+  numbered = IsNumber-grows t u (suc is.level) n grows is.numbered;
+  listed = subst (Contains all) (sym (square_in-grows t u (suc is.level) n grows is.numbered)) is.listed;
+}
+
+-- the row that is added
+added : (t : Table) (kids : List ℕ) (i : ℕ) → i ≡ length t.rows → IsSquareOf (with_row t kids).rows kids (first_number + i)
+added t kids i last = record {
+  above = omega arith;
+  there = omega (arith, last, one_longer t.rows kids);
+  listed = let place : (first_number + i) - first_number ≡ i = omega arith in ap (λ m. get_or (t.rows ++ kids ∷ []) m []) place ∙ last_row t.rows kids i last;
+}
+
+-- one row more, or none
+pub AreAmong-joined : (all : List Square) (t u : Table) (kids : List ℕ) → Grows t u → GrowsBy kids t u → ((n : ℕ) → IsSquareOf u.rows kids n → IsAmong all u.rows n) → AreAmong all t.rows → AreAmong all u.rows
+AreAmong-joined all t u kids grows step made are = elim step [
+  | inl same ↦ subst (λ (v : Table). AreAmong all v.rows) (sym same) are
+  | inr more ↦ record {
+    each = λ i below. elim (cases_lt i (length t.rows)) [
+      | inl before ↦ IsAmong-grows all t u (first_number + i) grows (are.each i before)
+      | inr after ↦
+          let last : i ≡ length t.rows = omega (arith, below, after, ap (λ (v : Table). length v.rows) more, one_longer t.rows kids) in
+          made (first_number + i) (subst (λ (v : Table). IsSquareOf v.rows kids (first_number + i)) (sym more) (added t kids i last))
+    ];
+  }
+]
+
+-- n is the number of the square s of level k + 1
+pub record IsFor (rows : List (List ℕ)) (k n : ℕ) (s : Square) : Type 0 where
+  pub numbered : IsNumber rows (suc k) n
+  pub square : square_in rows (suc k) n ≡ s
+
+pub IsAmong-for : (all : List Square) (rows : List (List ℕ)) (k n : ℕ) (s : Square) → IsFor rows k n s → Contains all s → IsAmong all rows n
+IsAmong-for all rows k n s is listed = record { level = k; numbered = is.numbered; listed = subst (Contains all) (sym is.square) listed }
+
+-- the square of four quadrants is all that is added
+pub Adds-joined : (t u : Table) (kids : List ℕ) (k : ℕ) (s : Square) → Grows t u → GrowsBy kids t u → ((n : ℕ) → IsSquareOf u.rows kids n → IsFor u.rows k n s) → Adds (s ∷ []) t u
+Adds-joined t u kids k s grows step known = record {
+  grows = grows;
+  among = λ all made are. AreAmong-joined all t u kids grows step (λ n is. IsAmong-for all u.rows k n s (known n is) (All-head (Contains all) s [] made)) are;
+}

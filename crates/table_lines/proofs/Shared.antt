@@ -1,0 +1,6 @@
+-- Lemmas that other crates may cite.
+pub mod Renumbered
+pub mod SaidTables
+pub mod WrittenFiles
+pub mod WrittenSets
+pub mod WrittenTables

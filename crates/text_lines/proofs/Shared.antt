@@ -1,0 +1,9 @@
+-- Lemmas that other crates may cite.
+pub mod ByteRanges
+pub mod Decimals
+pub mod FirstLine
+pub mod LineEnds
+pub mod NumberLines
+pub mod Pieces
+pub mod PrintedLines
+pub mod Trims
