@@ -11,3 +11,4 @@ pub mod Laying
 pub mod Blocks
 pub mod Gathering
 pub mod Written
+pub mod Boxed

@@ -1,10 +1,9 @@
 -- The rows that a plane keeps, and those that are written of it.
-use Rattle.std.proofs.Common.{◌≡◌, ap, refl, sym, subst, ℕ, zero, suc, ◌<◌, ◌≤◌, List, [], ◌∷◌, length, get_or, ◌∙◌, arith}
+use Rattle.std.proofs.Common.{◌≡◌, ap, refl, sym, subst, ℕ, zero, suc, List, [], ◌∷◌, length, get_or, ◌∙◌, arith}
 use Rattle.worlds.specs.World.{World}
 use Rattle.worlds.specs.Square.{empty_square}
 use Rattle.plane_core.specs.declared.row.SquareRow.{SquareRow}
 use Rattle.plane_core.specs.Rows.{AreCanonical, AreKept, AreRows, AreSquaresOf, IsLeastLevel, IsRow, completed, empty_row, number_row, number_square, root_level, root_of, square_in, world_of_rows, written}
-use Rattle.plane_core.proofs.Shared.Roots.{kept-none}
 use Rattle.plane_core.proofs.Shared.Sound.{IsNumber-state}
 
 -- what is written stands for the same world

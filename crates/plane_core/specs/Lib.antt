@@ -7,3 +7,4 @@ pub mod Entries
 pub mod Counts
 pub mod WorldRows
 pub mod Laws
+pub mod Within

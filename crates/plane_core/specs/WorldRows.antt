@@ -1,5 +1,5 @@
 -- The rows of a world, by its cells.
-use Rattle.std.specs.Prelude.{ℕ, ◌+◌, ◌^◌, ◌&&◌, Bool, List, [], ℤ, pos, ◌+ℤ◌, int_le, int_lt}
+use Rattle.std.specs.Prelude.{ℕ, ◌+◌, ◌^◌, ◌&&◌, Bool, List, ℤ, pos, ◌+ℤ◌, int_le, int_lt}
 use Rattle.std.specs.List.{list_all, position_or_len, range_with_len}
 use Rattle.worlds.specs.World.{World}
 use Rattle.worlds.specs.Live.{live}

@@ -9,8 +9,8 @@
 //! a third pass, so that `population`, `greatest` and `bounds` are there. `get` is one descent of at
 //! most 62 levels, and `equals` compares rows. `lay` adds a row for each square that holds a laid
 //! cell, at most 62 a cell, and makes the rows canonical again; `from_cells` lets the list of cells
-//! go before that. `live` descends to each live cell once, and `counts` takes one pass over the
-//! rows from the root down.
+//! go before that. `live` descends to each live cell once, `cells_within` only to those in its box,
+//! and `counts` takes one pass over the rows from the root down.
 //!
 //! The crate hands on what `worlds` declares of cells, rules and stops. `Loaded` is a pattern as a
 //! file holds it.
@@ -30,6 +30,7 @@ mod raise;
 mod row;
 mod valid;
 mod walk;
+mod within;
 
 pub use laws::{empty_world_has_one_row, worlds_have_one_list_of_rows, worlds_have_rows};
 pub use loaded::Loaded;

@@ -5,6 +5,7 @@ ghost use Rattle.worlds.specs.Lay.{lay};
 ghost use Rattle.worlds.specs.Live.{count_of, live, of_cell, population};
 ghost use Rattle.worlds.specs.Range.{CanBeLaid, HasMargin, IsBoundingBox, IsGreatest, IsInside};
 ghost use Rattle.plane_core.specs.Rows.{AreRows, AreSquaresOf, world_of_rows};
+ghost use Rattle.plane_core.specs.Within.{AreLiveWithin};
 
 use crate::canonical::{canonical, written};
 use crate::counts::counts;
@@ -13,6 +14,7 @@ use crate::lay::lay_rows;
 use crate::live::live_cells;
 use crate::measures::{Measures, measured, no_measures};
 use crate::row::SquareRow;
+use crate::within::live_within;
 use std::alloc::{AllocError, Global};
 use std::marker::Model;
 use worlds::{Bounds, Cell, CellSet};
@@ -139,6 +141,14 @@ impl Plane {
             return Ok(None);
         }
         Ok(Some(live_cells(self.alloc, &self.rows)?))
+    }
+
+    /// The live cells that lie in the box, its edges included, each once. Squares that are empty or
+    /// lie apart from the box are passed over.
+    pub fn cells_within(&self, within: &Bounds) -> Result<Vec<Cell>, AllocError>
+        ensures { IfOk result (λ cells. AreLiveWithin within.now self.now cells.items) }
+    {
+        live_within(self.alloc, &self.rows, within)
     }
 
     /// The greatest state, 0 where no cell is live.

@@ -1,4 +1,4 @@
-use super::{EDGE, Row, expect_rows, laid, plane_of, same};
+use super::{EDGE, Row, cells_of, expect_rows, laid, plane_of, same};
 use plane_core::{Bounds, Plane};
 use std::alloc::Global;
 use std::process::Abort;
@@ -195,6 +195,94 @@ fn tells_of_a_plane_to_its_corners(rt: HostRuntime) {
     expect_count(&rt, &counts, 1, 0);
     expect_count(&rt, &counts, 2, 1);
     expect_count(&rt, &counts, 3, 1);
+}
+
+/// The rows of a plane, and those in a box, by its left, top, right and bottom edge.
+struct Boxed {
+    what: &'static str,
+    rows: &'static [Row],
+    edges: [i64; 4],
+    wanted: &'static [Row],
+}
+
+/// Stops the test where the cells of a case within its box aren't the wanted ones, in any order.
+fn expect_within(rt: &impl Abort, alloc: Global, case: &Boxed) {
+    let plane = plane_of(rt, alloc, case.rows);
+    let [left, top, right, bottom] = case.edges;
+    let within = Bounds {
+        left,
+        top,
+        right,
+        bottom,
+    };
+    let found = plane.cells_within(&within).expect(rt, "memory");
+    let wanted = cells_of(rt, alloc, case.wanted);
+    same(rt, &found.len(), &wanted.len(), &case.what);
+    for cell in &wanted {
+        let listed = found.iter().any(|other| *other == *cell);
+        same(rt, &listed, &true, &case.what);
+    }
+}
+
+const CROSS: [Row; 5] = [(3, -1, 1), (2, 0, 2), (3, 0, 3), (4, 0, 255), (3, 1, 5)];
+
+const BOXES: [Boxed; 8] = [
+    Boxed {
+        what: "no cell",
+        rows: &[],
+        edges: [-5, -5, 5, 5],
+        wanted: &[],
+    },
+    Boxed {
+        what: "all cells, on the edges of the box",
+        rows: &CROSS,
+        edges: [2, -1, 4, 1],
+        wanted: &CROSS,
+    },
+    Boxed {
+        what: "a row of them",
+        rows: &CROSS,
+        edges: [0, 0, 3, 0],
+        wanted: &[(2, 0, 2), (3, 0, 3)],
+    },
+    Boxed {
+        what: "a column of them",
+        rows: &CROSS,
+        edges: [3, 0, 3, 9],
+        wanted: &[(3, 0, 3), (3, 1, 5)],
+    },
+    Boxed {
+        what: "a box between the cells",
+        rows: &CROSS,
+        edges: [2, 1, 2, 1],
+        wanted: &[],
+    },
+    Boxed {
+        what: "a box whose right edge is left of its left one",
+        rows: &CROSS,
+        edges: [4, -1, 2, 1],
+        wanted: &[],
+    },
+    Boxed {
+        what: "the corners of the plane",
+        rows: &[(-EDGE, -EDGE, 1), (LAST, LAST, 2), (0, 0, 3)],
+        edges: [-EDGE, -EDGE, LAST, LAST],
+        wanted: &[(-EDGE, -EDGE, 1), (LAST, LAST, 2), (0, 0, 3)],
+    },
+    Boxed {
+        what: "a box that reaches beyond the plane",
+        rows: &[(-EDGE, -EDGE, 1), (LAST, LAST, 2), (0, 0, 3)],
+        edges: [1, i64::MIN, i64::MAX, i64::MAX],
+        wanted: &[(LAST, LAST, 2)],
+    },
+];
+
+#[test]
+fn finds_the_cells_in_a_box(rt: HostRuntime) {
+    let alloc = rt.alloc();
+    for case in &BOXES {
+        expect_within(&rt, alloc, case);
+    }
 }
 
 /// Stops the test where two planes aren't equal, or unequal, in both orders.
