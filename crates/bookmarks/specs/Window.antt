@@ -1,7 +1,9 @@
 -- The text of a window.
-use Rattle.std.specs.Prelude.{ℕ, zero, suc, List, ◌++◌, ℤ, pos, ◌+ℤ◌, map, codes, decimal}
+use Rattle.std.specs.Prelude.{◌≡◌, ℕ, zero, suc, ◌<◌, cond, List, [], ◌∷◌, ◌++◌, ℤ, pos, ◌+ℤ◌, map, unwrap_or, codes, decimal}
 use Rattle.std.specs.List.{join_with_byte, range_with_len, concat}
-use Rattle.worlds.specs.World.{World, cell}
+use Rattle.worlds.specs.declared.cell.Cell.{Cell}
+use Rattle.worlds.specs.World.{World, cell, same_place}
+use Rattle.square_tree.specs.Cells.{Cells, SpansSquare, state_at}
 
 -- the states of so many cells from (x, y) to the right, in decimal
 abbrev pub row_states : World → ℤ → ℤ → ℕ → List (List ℕ)
@@ -19,3 +21,19 @@ window_text w left top width height = concat (map (λ k. row_line w left (top +�
 abbrev pub next_state : ℕ → ℕ → List ℕ
 next_state zero s = decimal s
 next_state (suc k) s = codes " " ++ decimal s
+
+-- the line of these states
+abbrev pub line_of : List ℕ → List ℕ
+line_of states = join_with_byte 32 (map decimal states) ++ codes "\n"
+
+-- the state of the last of the cells at (x, y), or s where there is none
+abbrev pub last_state : List Cell → ℤ → ℤ → ℕ → ℕ
+last_state [] x y s = s
+last_state (c ∷ cs) x y s = last_state cs x y (cond (same_place (y, x) (c.y, c.x)) c.state s)
+
+-- a patch says of the columns and rows of a rectangle the states of its cells, where they are live
+pub record ShowsWindow (patch : Cells) (w : World) (left top : ℤ) (width height : ℕ) : Type 0 where
+  pub columns : SpansSquare patch.level (pos 0) width
+  pub rows : SpansSquare patch.level (pos 0) height
+  pub states : (i j : ℕ) → i < width → j < height
+      → unwrap_or (state_at patch (pos i) (pos j)) 0 ≡ cell w (left +ℤ pos i) (top +ℤ pos j)

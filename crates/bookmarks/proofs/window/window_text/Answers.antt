@@ -1,7 +1,7 @@
-use Rattle.std.proofs.Common.{◌≡◌, ◌∙◌, sym, ap, ◌+◌, ◌++◌, pos, ◌+ℤ◌, rules, to_z, of_z, w64, SFits}
-use Rattle.std.proofs.lemmas.Int.{to_z-of_z}
-use Rattle.bookmarks.specs.Window.{row_line, window_text}
-use Rattle.bookmarks.proofs.Rows.{window-more, spanned}
+use Rattle.std.proofs.Common.{◌≡◌, refl, ◌<◌, ◌∙◌, sym, ap, ◌+◌, ◌++◌, pos, ◌+ℤ◌, arith, rules, to_z, of_z, w64}
+use Rattle.square_tree.specs.Cells.{row_states}
+use Rattle.bookmarks.specs.Window.{row_line, line_of, window_text}
+use Rattle.bookmarks.proofs.Rows.{window-more, shown-line}
 use Rattle.bookmarks.proofs.window.window_text.Goals as goal
 
 pub loop-row-preserved : goal.loop-row-preserved
@@ -9,14 +9,23 @@ loop-row-preserved c =
     let w = c.args.plane.now in
     let k = c.loop-row.row in
     let width = c.args.width in
+    let below : k < c.args.height = omega arith in
     let left : to_z w64 (of_z w64 c.args.left) ≡ c.args.left = search rules in
     let top : to_z w64 (of_z w64 c.args.top) ≡ c.args.top = search rules in
-    let from : to_z w64 (of_z w64 c.from.result) ≡ pos k = search rules in
-    let fits : SFits w64 (c.args.top +ℤ pos k) = spanned c.args.top c.args.height k c.requires.1 c.loop-row-test.true in
     let before : c.loop-row.text.items ≡ window_text w c.args.left c.args.top width k = search rules in
+    let line : line_of (row_states c.in_ok-patch.patch (pos 0) (pos k) width) ≡ row_line w c.args.left (c.args.top +ℤ pos k) width =
+    shown-line c.in_ok-patch.patch w (to_z w64 (of_z w64 c.args.left)) (to_z w64 (of_z w64 c.args.top)) width c.args.height k (pos k) c.in_ok-patch.ensures below refl
+    ∙ (λ i. row_line w (left i) (top i +ℤ pos k) width) in
     c.in_ok-push_row.ensures
-    ∙ (λ i. c.loop-row.text.items ++ row_line w (left i) (to_z w64 (of_z w64 (top i +ℤ from i))) width)
-    ∙ ap (λ y. c.loop-row.text.items ++ row_line w c.args.left y width) (to_z-of_z w64 (c.args.top +ℤ pos k) fits)
+    ∙ ap (λ t. c.loop-row.text.items ++ t) line
     ∙ ap (λ t. t ++ row_line w c.args.left (c.args.top +ℤ pos k) width) before
     ∙ window-more w c.args.left c.args.top width k
     ∙ (λ i. window_text w (sym left i) (sym top i) width (k + 1))
+
+pub returns : goal.returns
+returns c =
+    let end : c.loop-row.row ≡ c.args.height = omega arith in
+    let left : to_z w64 (of_z w64 c.args.left) ≡ c.args.left = search rules in
+    let top : to_z w64 (of_z w64 c.args.top) ≡ c.args.top = search rules in
+    c.loop-row.invariant
+    ∙ (λ i. window_text c.args.plane.now (left i) (top i) c.args.width (end i))
