@@ -36,7 +36,7 @@ pub use mark::Mark;
 pub use need::Need;
 pub use revision_jobs::{Answer, Entries, Entry, Job, Outcome, Place};
 pub use schedule::{
-    Bookmark, CellSet, Document, Edit, EditFault, Edited, EvolveFault, Listing, Plane, Refusal,
-    Rule, RuleFault, View,
+    Bookmark, CellSet, Document, Edit, EditFault, Edited, Listing, Plane, Refusal, Rule, View,
 };
 pub use shown::Shown;
+pub use step_engine::EvolveFault;

@@ -92,6 +92,43 @@ fn interventions(rt: HostRuntime) {
     same(&rt, &document.last_bookmark(), &0, &"bookmarks");
 }
 
+/// A document of revision 3 with one intervention and one bookmark under a rule of three states.
+fn worked(rt: &impl Abort, alloc: Global) -> Document {
+    let mut document = opening(rt, alloc, 0);
+    apply(rt, &mut document, &replace(rt, alloc, THREE_STATES));
+    apply(rt, &mut document, &insert(rt, alloc, 4));
+    apply(rt, &mut document, &mark(2));
+    document
+}
+
+fn check_worked(rt: &impl Abort, document: &Document) {
+    same(rt, &document.rule().name(), &b"Three".as_slice(), &"rule");
+    same(rt, &document.start().population(), &0, &"start");
+    same(rt, &document.interventions().len(), &1, &"interventions");
+    check_intervention(rt, document, 0, (1, 4, 1));
+    same(rt, &document.bookmarks().len(), &1, &"bookmarks");
+    check_mark(rt, document, 0, (1, 2));
+    let ids = (document.last_intervention(), document.last_bookmark());
+    same(rt, &(document.revision(), ids), &(3, (1, 1)), &"numbers");
+}
+
+// A copy stays as the document was, whatever is edited later.
+#[test]
+fn a_copy_stays_as_it_was(rt: HostRuntime) {
+    let alloc = rt.alloc();
+    let mut document = worked(&rt, alloc);
+    let copy = document.copy().expect(&rt, "memory");
+    apply(
+        &rt,
+        &mut document,
+        &change(&rt, alloc, 1, 7, &[(0, 0, 1), (1, 0, 0)]),
+    );
+    apply(&rt, &mut document, &insert(&rt, alloc, 4));
+    apply(&rt, &mut document, &Edit::RemoveBookmark { id: 1 });
+    check_worked(&rt, &copy);
+    same(&rt, &document.revision(), &6, &"document");
+}
+
 #[test]
 fn intervention_acts_at_its_generation(rt: HostRuntime) {
     let alloc = rt.alloc();

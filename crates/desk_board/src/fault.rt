@@ -1,0 +1,104 @@
+//! Why there is no board, or nothing was published.
+
+use basics::Refusal;
+use std::alloc::{AllocError, AllocFailed};
+use thiserror::Error;
+
+/// Why a board wasn't opened.
+#[derive(Clone, Copy, Debug, PartialEq, Eq, Error)]
+pub enum BoardFault {
+    /// A viewer's place was refused.
+    #[error("a viewer's place was refused")]
+    NoViewer,
+    /// Memory was wanted.
+    #[error("there is not enough memory")]
+    NoMemory,
+}
+
+/// Why a snapshot wasn't published.
+#[derive(Clone, Copy, Debug, PartialEq, Eq, Error)]
+pub enum PublishFault {
+    /// Memory was wanted.
+    #[error("there is not enough memory")]
+    NoMemory,
+}
+
+impl From<AllocError> for BoardFault {
+    fn from(_error: AllocError) -> BoardFault {
+        BoardFault::NoMemory
+    }
+}
+
+impl<T: Drop> From<AllocFailed<T>> for BoardFault {
+    fn from(_error: AllocFailed<T>) -> BoardFault {
+        BoardFault::NoMemory
+    }
+}
+
+impl From<AllocError> for PublishFault {
+    fn from(_error: AllocError) -> PublishFault {
+        PublishFault::NoMemory
+    }
+}
+
+impl<T: Drop> From<AllocFailed<T>> for PublishFault {
+    fn from(_error: AllocFailed<T>) -> PublishFault {
+        PublishFault::NoMemory
+    }
+}
+
+impl Refusal for BoardFault {
+    ghost use Rattle.std.specs.Prelude.{None};
+    ghost use Rattle.desk_board.specs.Faults.{board_fault_name, board_fault_number};
+
+    ghost number_of = { board_fault_number };
+
+    ghost name_of = { board_fault_name };
+
+    ghost place_of = { λ _. None };
+
+    fn number(&self) -> u8 {
+        match self {
+            BoardFault::NoMemory => 70,
+            BoardFault::NoViewer => 75,
+        }
+    }
+
+    fn name(&self) -> &'static str {
+        match self {
+            BoardFault::NoMemory => "NoMemory",
+            BoardFault::NoViewer => "NoViewer",
+        }
+    }
+
+    fn place(&self) -> Option<u64> {
+        None
+    }
+}
+
+impl Refusal for PublishFault {
+    ghost use Rattle.std.specs.Prelude.{None};
+    ghost use Rattle.desk_board.specs.Faults.{publish_fault_name, publish_fault_number};
+
+    ghost number_of = { publish_fault_number };
+
+    ghost name_of = { publish_fault_name };
+
+    ghost place_of = { λ _. None };
+
+    fn number(&self) -> u8 {
+        match self {
+            PublishFault::NoMemory => 70,
+        }
+    }
+
+    fn name(&self) -> &'static str {
+        match self {
+            PublishFault::NoMemory => "NoMemory",
+        }
+    }
+
+    fn place(&self) -> Option<u64> {
+        None
+    }
+}

@@ -1,0 +1,11 @@
+//! Rows of a snapshot.
+
+use crate::text::Text;
+use schedule::Bookmark;
+
+/// A bookmark with its text, or with none while it is pending.
+#[derive(Drop)]
+pub struct ShownRow {
+    pub bookmark: Bookmark,
+    pub text: Option<Text>,
+}

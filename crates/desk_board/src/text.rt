@@ -1,0 +1,49 @@
+//! Texts of bookmarks.
+ghost use Rattle.std.specs.Prelude.{◌≡◌, IfOk};
+ghost use Rattle.std.specs.Arc.{arc_value};
+
+use schedule::Listing;
+use std::alloc::AllocError;
+use std::marker::Model;
+use std::sync::Arc;
+
+/// The text of a bookmark, shared, which contracts see as its bytes.
+#[derive(Drop)]
+pub struct Text {
+    bytes: Arc<Listing<u8>>,
+}
+
+impl Model for Text {
+    ghost use Rattle.std.specs.Prelude.{ℕ, List};
+
+    ghost Value = { List ℕ };
+
+    ghost use Rattle.std.specs.Arc.{arc_value};
+
+    ghost view = { λ t. arc_value t.bytes };
+}
+
+impl Text {
+    /// The text of these bytes.
+    pub fn of(bytes: Arc<Listing<u8>>) -> Text
+        ensures { result ≡ arc_value bytes }
+    {
+        Text { bytes }
+    }
+
+    /// The same text, by one more owner of its bytes.
+    pub fn share(&self) -> Result<Text, AllocError>
+        ensures { IfOk result (λ text. text ≡ self.now) }
+    {
+        Ok(Text {
+            bytes: Arc::try_clone(&self.bytes)?,
+        })
+    }
+
+    /// The bytes.
+    pub fn as_slice(&self) -> &[u8]
+        ensures { result.now ≡ self.now }
+    {
+        self.bytes.as_slice()
+    }
+}
