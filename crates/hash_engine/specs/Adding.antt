@@ -4,6 +4,7 @@ use Rattle.worlds.specs.Square as squares
 use Rattle.square_table.specs.declared.square.Square.{Square}
 use Rattle.square_table.specs.Squares.{Table, square_in, Grows, level_of, cells_of}
 use Rattle.square_table.specs.Made.{AreAmong, Adds}
+use Rattle.hash_life.specs.Result.{later}
 use Rattle.hash_life.specs.Puts.{fours_of}
 use Rattle.hash_life.specs.Makes.{Makes}
 use Rattle.hash_engine.specs.Standing.{StandsFor, StandForAll}
@@ -23,6 +24,36 @@ AddsOf f t n u = (k : ℕ) (s : squares.Square) → StandsFor t.rows (suc (suc k
 abbrev pub AddsFours : Table → List ℕ → Table → Type 0
 AddsFours t nine u =
     (k : ℕ) (ss : List squares.Square) → StandForAll t.rows k nine ss → Adds (fours_of ss) t u
+
+-- whatever squares of a level m and n stand for, r stands for f of these
+abbrev pub GivesOfTwo : (squares.Square → squares.Square → squares.Square) →
+    Table → ℕ → ℕ → Table → ℕ → Type 0
+GivesOfTwo f t m n u = λ r.
+    (k : ℕ) (a b : squares.Square) → StandsFor t.rows (suc k) m a → StandsFor t.rows (suc k) n b →
+    StandsFor u.rows (suc k) r (f a b)
+
+-- whatever square of 4 by 4 cells or more n stands for, r stands for f of it
+abbrev pub GivesOf : (squares.Square → squares.Square) → Table → ℕ → Table → ℕ → Type 0
+GivesOf f t n u = λ r.
+    (k : ℕ) (s : squares.Square) → StandsFor t.rows (suc (suc k)) n s →
+    StandsFor u.rows (suc k) r (f s)
+
+-- whatever square of 4 by 4 cells or more n stands for, these stand for those of f
+abbrev pub GiveAllOf : (squares.Square → List squares.Square) →
+    Table → ℕ → Table → List ℕ → Type 0
+GiveAllOf f t n u = λ ns.
+    (k : ℕ) (s : squares.Square) → StandsFor t.rows (suc (suc k)) n s →
+    StandForAll u.rows (suc k) ns (f s)
+
+-- whatever squares nine stand for, these stand for the four that overlap in them
+abbrev pub GiveFours : Table → List ℕ → Table → List ℕ → Type 0
+GiveFours t nine u = λ ns.
+    (k : ℕ) (ss : List squares.Square) → StandForAll t.rows k nine ss →
+    StandForAll u.rows (suc k) ns (fours_of ss)
+
+-- r stands for the middle, one generation later, of the square of 4 by 4 cells with the number n
+abbrev pub GivesPut : (List ℕ → ℕ) → Table → ℕ → Table → ℕ → Type 0
+GivesPut next t n u = λ r. StandsFor u.rows 1 r (later next (square_in t.rows 2 n))
 
 -- the table has no square more but those on the way to the results of these squares of level k + 2
 pub record AddsFor (next : List ℕ → ℕ) (k generations : ℕ) (numbers : List ℕ) (t u : Table)

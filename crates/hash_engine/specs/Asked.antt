@@ -5,11 +5,13 @@ use Rattle.square_table.specs.Squares.{Table, square_in, kid_at, first_number}
 use Rattle.hash_life.specs.Puts.{Puts, Stands}
 use Rattle.hash_engine.specs.declared.memo.Memo.{Memo}
 
--- whether n is the number of a square of 4 by 4 cells: its first quadrant is a square, whose first quadrant is a cell
+-- whether n is the number of a square of 4 by 4 cells: its first quadrant is a square, whose first
+-- quadrant is a cell
 abbrev pub is_four : List (List ℕ) → ℕ → Bool
 is_four rows n =
     let quadrant = kid_at rows n 0 in
-    not (nat_lt quadrant first_number) && nat_lt quadrant (first_number + length rows) && nat_lt (kid_at rows quadrant 0) first_number
+    not (nat_lt quadrant first_number) && nat_lt quadrant (first_number + length rows)
+    && nat_lt (kid_at rows quadrant 0) first_number
 
 -- whether the square at the place i was put to the rule: its result one generation later is known
 unfoldable pub is_put : List (List ℕ) → Memo → ℕ → Bool
@@ -30,10 +32,25 @@ places_put rows memo = picked (is_put rows memo) (length rows)
 
 -- each of these squares stands in the world at one of its first n generations
 abbrev pub AllStand : (List ℕ → ℕ) → World → ℕ → List (List ℕ) → Memo → Type 0
-AllStand next w n rows memo = (i : ℕ) → i < length rows → is_put rows memo i ≡ true → Stands next w n (square_in rows 2 (first_number + i))
+AllStand next w n rows memo = (i : ℕ) → i < length rows → is_put rows memo i ≡ true →
+    Stands next w n (square_in rows 2 (first_number + i))
 
--- on the way to the results of these squares of level k + 2: four asks for each more that was put to the rule, and all that were stand in a world where those stand that are to be
-pub record AsksForMore (next : List ℕ → ℕ) (k generations : ℕ) (numbers : List ℕ) (t u : Table) (old new : Memo) (asks new_asks : ℕ) : Type 0 where
-  pub four : generations ≤ 2 ^ k → new_asks + 4 * length (places_put t.rows old) ≡ asks + 4 * length (places_put u.rows new)
-  pub stand : (w : World) (n : ℕ) → All (λ i. Puts next k generations (square_in t.rows (suc (suc k)) i) (Stands next w n)) numbers →
-      AllStand next w n t.rows old → AllStand next w n u.rows new
+-- the rule was asked four times for each square that was put to it since
+abbrev pub AsksFour : {R : Type 0} → ℕ → ℕ → (R → ℕ) → R → R → Table → Memo → Table → Memo → Type 0
+AsksFour k generations asks old new t memo u new_memo = generations ≤ 2 ^ k →
+    asks new + 4 * length (places_put t.rows memo)
+    ≡ asks old + 4 * length (places_put u.rows new_memo)
+
+-- where the squares that are put to the rule for these results of level k + 1 stand in a world, as
+-- those do that were put before, all stand in it that were put in the end
+abbrev pub StandOn : (List ℕ → ℕ) → ℕ → ℕ → List ℕ → Table → Memo → Table → Memo → Type 0
+StandOn next k generations numbers t old u new = (w : World) (n : ℕ) →
+    All (λ i. Puts next k generations (square_in t.rows (suc (suc k)) i) (Stands next w n))
+    numbers →
+    AllStand next w n t.rows old → AllStand next w n u.rows new
+
+-- both of a search for the results of these squares of level k + 2, by how often the rule was asked
+pub record AsksForMore (next : List ℕ → ℕ) (k generations : ℕ) (numbers : List ℕ) (t u : Table)
+    (old new : Memo) (asks new_asks : ℕ) : Type 0 where
+  pub four : AsksFour k generations (λ n. n) asks new_asks t old u new
+  pub stand : StandOn next k generations numbers t old u new

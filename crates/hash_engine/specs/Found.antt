@@ -1,53 +1,116 @@
 -- How a search for a result ends.
-use Rattle.std.specs.Prelude.{◌≡◌, ◌≢◌, ℕ, ℤ, ◌+◌, ◌-◌, ◌^◌, ◌≤◌, List, length, Result, Err}
+use Rattle.std.specs.Prelude.{◌≡◌, ℕ, ℤ, suc, ◌+◌, ◌-◌, ◌^◌, ◌<◌, ◌≤◌, List, length, map, All, Result, Err}
 use Rattle.worlds.specs.World.{World}
+use Rattle.worlds.specs.Stop.{CountsStop}
+use Rattle.worlds.specs.Square as squares
 use Rattle.worlds.specs.Square.{square_at}
 use Rattle.square_table.specs.declared.square.Square.{Square}
-use Rattle.square_table.specs.Squares.{Table, IsHeld, Grows, level_of, cells_of}
+use Rattle.square_table.specs.Squares.{Table, IsHeld, Grows, square_in, level_of, cells_of}
 use Rattle.square_table.specs.Made.{IsFull}
 use Rattle.square_table.specs.declared.fault.TableFault.TheVariants.{NoRoom}
 use Rattle.hash_life.specs.Result.{result}
 use Rattle.hash_life.specs.Puts.{IsBelow, AsksOnce}
-use Rattle.hash_engine.specs.Memo.{IsRight}
+use Rattle.hash_engine.specs.Standing.{StandsFor, StandForAll, IsReady}
+use Rattle.hash_engine.specs.Memo.{IsRight, IsAnew}
 use Rattle.hash_engine.specs.Asked.{places_of_four}
 use Rattle.hash_engine.specs.Adding.{AddsFor}
 use Rattle.hash_engine.specs.declared.memo.Memo.{Memo}
+use Rattle.hash_engine.specs.declared.later.Found.{Found}
 use Rattle.hash_engine.specs.declared.fault.ResultFault.{ResultFault}
 
 -- a rule means the same as before
-pub record IsSameRule (old_meaning new_meaning : List ℕ → ℕ) (old_count new_count : ℕ) : Type 0 where
+pub record IsSameRule (old_meaning new_meaning : List ℕ → ℕ) (old_count new_count : ℕ)
+    : Type 0 where
   pub meaning : new_meaning ≡ old_meaning
   pub states : new_count ≡ old_count
 
--- after a search, however it ends: rows of squares on the way alone are more, and the memo is right
-pub record StaysRight (old_meaning new_meaning : List ℕ → ℕ) (old_count new_count k generations : ℕ)
-    (numbers : List ℕ) (t u : Table) (memo : Memo) : Type 0 where
-  pub grows : Grows t u
-  pub rule : IsSameRule old_meaning new_meaning old_count new_count
-  pub right : IsRight old_meaning u.rows memo
-  pub adds : AddsFor old_meaning k generations numbers t u
+-- a rule at one moment and at a later one means the same
+abbrev pub KeepsRule : {R : Type 0} → (R → List ℕ → ℕ) → (R → ℕ) → R → R → Type 0
+KeepsRule meaning states old new =
+    IsSameRule (meaning old) (meaning new) (states old) (states new)
 
--- a square of the table whose result can be asked for: it has at least 4 by 4 cells, and their states are the rule's
+-- after a search, however it ends: rows of squares on the way alone are more, and the memo is right
+pub record Stays {R : Type 0} (meaning : R → List ℕ → ℕ) (states : R → ℕ) (old new : R)
+    (k generations : ℕ) (numbers : List ℕ) (t u : Table) (memo : Memo) : Type 0 where
+  pub grows : Grows t u
+  pub rule : KeepsRule meaning states old new
+  pub right : IsRight (meaning old) u.rows memo
+  pub adds : AddsFor (meaning old) k generations numbers t u
+
+-- the result of the square of level k + 2 with this number can be sought
+pub record CanSeek (next : List ℕ → ℕ) (state_count : ℕ) (t : Table) (memo : Memo)
+    (k generations number : ℕ) : Type 0 where
+  pub low : k ≤ 61
+  pub ready : IsReady next state_count t.rows k generations number
+  pub right : IsRight next t.rows memo
+
+-- those of the squares with these numbers can
+pub record CanSeekAll (next : List ℕ → ℕ) (state_count : ℕ) (t : Table) (memo : Memo)
+    (k generations : ℕ) (numbers : List ℕ) : Type 0 where
+  pub low : k ≤ 61
+  pub ready : All (IsReady next state_count t.rows k generations) numbers
+  pub right : IsRight next t.rows memo
+
+-- that of a square of more than 4 by 4 cells can, one generation later or more
+pub record CanCompute (next : List ℕ → ℕ) (state_count : ℕ) (t : Table) (memo : Memo)
+    (k generations number : ℕ) : Type 0 where
+  pub some : 0 < generations
+  pub above : 0 < k
+  pub seek : CanSeek next state_count t memo k generations number
+
+-- the square of 4 by 4 cells with this number can be put to the rule, and wasn't yet
+pub record CanPut (next : List ℕ → ℕ) (state_count : ℕ) (t : Table) (memo : Memo)
+    (generations number : ℕ) : Type 0 where
+  pub some : 0 < generations
+  pub ready : IsReady next state_count t.rows 0 generations number
+  pub anew : IsAnew next t.rows memo generations number
+
+-- n is the number of the result of the square of level k + 2 with this number
+abbrev pub IsFound : (List ℕ → ℕ) → ℕ → ℕ → ℕ → Table → Table → ℕ → Type 0
+IsFound next k generations number t u n =
+    StandsFor u.rows (suc k) n (result next k generations (square_in t.rows (suc (suc k)) number))
+
+-- so each of these is of one of those
+abbrev pub AreFound : (List ℕ → ℕ) → ℕ → ℕ → List ℕ → Table → Table → List ℕ → Type 0
+AreFound next k generations numbers t u found =
+    (ss : List squares.Square) → StandForAll t.rows (suc (suc k)) numbers ss →
+    StandForAll u.rows (suc k) found (map (result next k generations) ss)
+
+-- a square of the table whose result can be asked for: it has at least 4 by 4 cells, and their
+-- states are the rule's
 pub record CanBeAsked (state_count : ℕ) (t : Table) (root : Square) : Type 0 where
   pub held : IsHeld t root
   pub level : (2 ≤ level_of root) × (level_of root ≤ 63)
   pub below : IsBelow state_count (cells_of t root)
 
--- the square is the one in the middle of the root so many generations later, in the table that came of the root's
-pub record IsLater (next : List ℕ → ℕ) (generations : ℕ) (t : Table) (root : Square) (u : Table) (square : Square) : Type 0 where
+-- the square is the one in the middle of the root so many generations later, in the table that came
+-- of the root's
+pub record IsLater (next : List ℕ → ℕ) (generations : ℕ) (t : Table) (root : Square) (u : Table)
+    (square : Square) : Type 0 where
   pub held : IsHeld u square
   pub level : level_of square + 1 ≡ level_of root
   pub cells : cells_of u square ≡ result next (level_of root - 2) generations (cells_of t root)
 
--- Stopped exactly where the stop said yes, by its counts of yes, and NoRoom only where the table is full
-pub record IsEnd {A : Type 0} (table : Table) (yes new_yes : ℕ) (r : Result A ResultFault) : Type 0 where
-  pub stopped : r ≡ Err ResultFault.Stopped → new_yes ≡ yes + 1
-  pub went_on : r ≢ Err ResultFault.Stopped → new_yes ≡ yes
+-- it ends as the stop tells it to, and with NoRoom only where the table is full
+pub record IsEnd {A : Type 0} (table : Table) (yes new_yes : ℕ) (r : Result A ResultFault)
+    : Type 0 where
+  pub stop : CountsStop r (Err ResultFault.Stopped) yes new_yes
   pub full : r ≡ Err (ResultFault.Table NoRoom) → IsFull table
 
--- the counts on the way from the root's table t to u: of its squares so many have 4 by 4 cells, of these so many were put to the rule, and in a world where the root stands each of those once, in one of the generations before the last
-pub record AreCounts (next : List ℕ → ℕ) (generations : ℕ) (t : Table) (root : Square) (u : Table) (four_count base_count asks new_asks : ℕ) : Type 0 where
-  pub fours : four_count ≡ length (places_of_four u.rows)
-  pub few : four_count ≤ length u.rows
-  pub base : base_count ≤ four_count
-  pub once : (w : World) (x y : ℤ) → generations ≤ 2 ^ (level_of root - 2) → cells_of t root ≡ square_at w (level_of root) x y → AsksOnce next w generations base_count asks new_asks
+-- what was found on the way from the root's table t to u: the square, how many of the squares have
+-- 4 by 4 cells, and no more of these that were put to the rule
+pub record Finds (next : List ℕ → ℕ) (generations : ℕ) (t : Table) (root : Square) (u : Table)
+    (found : Found) : Type 0 where
+  pub square : IsLater next generations t root u found.square
+  pub fours : found.fours ≡ length (places_of_four u.rows)
+  pub few : found.fours ≤ length u.rows
+  pub base : found.base ≤ found.fours
+
+-- in a world where the root stands, each block of 4 by 4 cells that was put to the rule was put
+-- once, and stands in one of the generations before the last
+abbrev pub AsksOnceFor : {R : Type 0} → (R → List ℕ → ℕ) → (R → ℕ) → R → R → ℕ → Table → Square →
+    Found → Type 0
+AsksOnceFor meaning asks old new generations t root = λ found.
+    (w : World) (x y : ℤ) → generations ≤ 2 ^ (level_of root - 2) →
+    cells_of t root ≡ square_at w (level_of root) x y →
+    AsksOnce (meaning old) w generations found.base (asks old) (asks new)

@@ -5,22 +5,29 @@ use Rattle.hash_life.specs.Result.{result}
 use Rattle.hash_engine.specs.Standing.{StandsFor}
 use Rattle.hash_engine.specs.declared.memo.Memo.{Memo}
 
--- r is the number of the result, so many generations later, of the square of level k + 2 with the number n
-pub record IsResult (next : List ℕ → ℕ) (rows : List (List ℕ)) (k generations n r : ℕ) : Type 0 where
+-- r is the number of the result, so many generations later, of the square of level k + 2 with the
+-- number n
+pub record IsResult (next : List ℕ → ℕ) (rows : List (List ℕ)) (k generations n r : ℕ)
+    : Type 0 where
   pub numbered : IsNumber rows (suc (suc k)) n
   pub result : StandsFor rows (suc k) r (result next k generations (square_in rows (suc (suc k)) n))
 
--- results by the places of their squares, 0 where none is known; the level decides how many generations later each is
-pub record AreKnown (next : List ℕ → ℕ) (count : ℕ → ℕ) (rows : List (List ℕ)) (known : List ℕ) : Type 0 where
-  pub right : (i : ℕ) → 0 < get_or known i 0 → (k : ℕ) × IsResult next rows k (count k) (first_number + i) (get_or known i 0)
+-- results by the places of their squares, 0 where none is known; the level decides how many
+-- generations later each is
+pub record AreKnown (next : List ℕ → ℕ) (count : ℕ → ℕ) (rows : List (List ℕ)) (known : List ℕ)
+    : Type 0 where
+  pub right : (i : ℕ) → 0 < get_or known i 0 →
+      (k : ℕ) × IsResult next rows k (count k) (first_number + i) (get_or known i 0)
 
 -- each result that is remembered is right
 pub record IsRight (next : List ℕ → ℕ) (rows : List (List ℕ)) (memo : Memo) : Type 0 where
   pub full : AreKnown next (λ k. 2 ^ k) rows memo.full.items
   pub part : AreKnown next (λ k. get_or memo.counts k 0) rows memo.part.items
 
--- each result that is remembered is right, and none is of the square of 4 by 4 cells with the number n by one generation
-pub record IsAnew (next : List ℕ → ℕ) (rows : List (List ℕ)) (memo : Memo) (generations n : ℕ) : Type 0 where
+-- each result that is remembered is right, and none is of the square of 4 by 4 cells with the
+-- number n by one generation
+pub record IsAnew (next : List ℕ → ℕ) (rows : List (List ℕ)) (memo : Memo) (generations n : ℕ)
+    : Type 0 where
   pub right : IsRight next rows memo
   pub anew : generations ≡ 1 → get_or memo.full.items (n - first_number) 0 ≡ 0
 
@@ -29,7 +36,18 @@ pub record IsNoted (i r : ℕ) (old new : List ℕ) : Type 0 where
   pub here : get_or new i 0 ≡ r
   pub others : (j : ℕ) → j ≢ i → get_or new j 0 ≡ get_or old j 0
 
--- of a square of level k + 2 this result is remembered, among those by the full counts where its own is one
+-- of a square of level k + 2 this result is remembered, among those by the full counts where its
+-- own is one
 pub record IsRemembered (k generations n r : ℕ) (old new : Memo) : Type 0 where
   pub full : generations ≡ 2 ^ k → IsNoted (n - first_number) r old.full.items new.full.items
   pub other : generations ≢ 2 ^ k → new.full.items ≡ old.full.items
+
+-- r is the result of the square with the number n, if what is remembered is right
+abbrev pub Recalls : Memo → ℕ → ℕ → ℕ → ℕ → Type 0
+Recalls memo k generations n = λ r. (next : List ℕ → ℕ) (rows : List (List ℕ)) →
+    IsRight next rows memo → IsNumber rows (suc (suc k)) n → IsResult next rows k generations n r
+
+-- what is remembered stays right with this result, if that is one
+abbrev pub StaysRight : ℕ → ℕ → ℕ → ℕ → Memo → Memo → Type 0
+StaysRight k generations n r old new = (next : List ℕ → ℕ) (rows : List (List ℕ)) →
+    IsRight next rows old → IsResult next rows k generations n r → IsRight next rows new

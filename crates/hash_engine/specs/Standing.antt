@@ -11,16 +11,21 @@ pub record StandsFor (rows : List (List ℕ)) (k n : ℕ) (s : squares.Square) :
   pub square : square_in rows k n ≡ s
 
 -- each of these is the number of one of these squares of level k
-pub record StandForAll (rows : List (List ℕ)) (k : ℕ) (ns : List ℕ) (ss : List squares.Square) : Type 0 where
+pub record StandForAll (rows : List (List ℕ)) (k : ℕ) (ns : List ℕ) (ss : List squares.Square)
+    : Type 0 where
   pub count : length ns ≡ length ss
-  pub each : (j d : ℕ) (e : squares.Square) → j < length ns → StandsFor rows k (get_or ns j d) (get_or ss j e)
+  pub each : (j d : ℕ) (e : squares.Square) → j < length ns →
+      StandsFor rows k (get_or ns j d) (get_or ss j e)
 
 -- four states as a square
 abbrev pub of_four : List ℕ → squares.Square
-of_four ss = four (one (get_or ss 0 0)) (one (get_or ss 1 0)) (one (get_or ss 2 0)) (one (get_or ss 3 0))
+of_four ss =
+    four (one (get_or ss 0 0)) (one (get_or ss 1 0)) (one (get_or ss 2 0)) (one (get_or ss 3 0))
 
--- n is the number of a square of level k + 2, and each that is put to the rule on the way to its result has states of the rule
-pub record IsReady (next : List ℕ → ℕ) (state_count : ℕ) (rows : List (List ℕ)) (k generations n : ℕ) : Type 0 where
+-- n is the number of a square of level k + 2, and each that is put to the rule on the way to its
+-- result has states of the rule
+pub record IsReady (next : List ℕ → ℕ) (state_count : ℕ) (rows : List (List ℕ))
+    (k generations n : ℕ) : Type 0 where
   pub numbered : IsNumber rows (suc (suc k)) n
   pub below : Puts next k generations (square_in rows (suc (suc k)) n) (IsBelow state_count)
 

@@ -1,18 +1,10 @@
 //! Results of squares.
 
-ghost use Rattle.std.specs.Prelude.{◌≡◌, ◌+◌, ◌-◌, ◌^◌, ◌<◌, ◌≤◌, ℕ, ℤ, suc, List, [], ◌∷◌, All, map, length, get_or, IfOk, OnOk, Err};
-ghost use Rattle.worlds.specs.World.{World};
-ghost use Rattle.worlds.specs.Square as squares;
-ghost use Rattle.worlds.specs.Square.{square_at};
-ghost use Rattle.square_table.specs.Squares.{IsNumber, IsHeld, square_in, Grows, level_of, cells_of, first_number};
+ghost use Rattle.std.specs.Prelude.{◌≡◌, [], ◌∷◌, IfOk, OnOk, Err};
 ghost use Rattle.square_table.specs.Made.{IsFull};
-ghost use Rattle.hash_life.specs.Result as hash_life;
-ghost use Rattle.hash_life.specs.Puts.{IsBelow, AsksOnce};
-ghost use Rattle.hash_engine.specs.Standing.{StandsFor, StandForAll, IsReady};
 ghost use Rattle.hash_engine.specs.Adding.{GrowsOnWay};
-ghost use Rattle.hash_engine.specs.Memo.{IsRight, IsAnew};
-ghost use Rattle.hash_engine.specs.Asked.{AsksForMore};
-ghost use Rattle.hash_engine.specs.Found.{IsSameRule, StaysRight, CanBeAsked, IsLater, IsEnd, AreCounts};
+ghost use Rattle.hash_engine.specs.Asked.{AsksFour, StandOn};
+ghost use Rattle.hash_engine.specs.Found.{KeepsRule, Stays, CanBeAsked, CanSeek, CanSeekAll, CanCompute, CanPut, IsFound, AreFound, IsEnd, Finds, AsksOnceFor};
 
 use crate::counts::count_squares;
 use crate::fault::ResultFault;
@@ -39,24 +31,23 @@ fn put<Q: Ask>(
     table: &mut SquareTable<'_>,
     memo: &mut Memo,
     rule: &mut Q,
-    generations: u64,
+    ahead: u64,
     number: u32,
 ) -> Result<u32, TableFault>
-    requires some { 0 < generations }
-    requires number { IsReady (Q.meaning rule.old) (Q.state_count rule.old)
-        table.old.rows 0 generations number }
-    requires memo { IsAnew (Q.meaning rule.old) table.old.rows memo.old generations number }
-    ensures stays { StaysRight (Q.meaning rule.old) (Q.meaning rule.new) (Q.state_count rule.old)
-        (Q.state_count rule.new) 0 generations (number ∷ []) table.old table.new memo.new }
-    ensures found { IfOk result (λ n. StandsFor table.new.rows 1 n
-        (hash_life.result (Q.meaning rule.old) 0 generations
-        (square_in table.old.rows 2 number))
-        × AsksForMore (Q.meaning rule.old) 0 generations (number ∷ [])
-        table.old table.new memo.old memo.new (Q.asks rule.old) (Q.asks rule.new)) }
+    requires { CanPut (Q.meaning rule.old) (Q.state_count rule.old)
+        table.old memo.old ahead number }
+    ensures stays { Stays Q.meaning Q.state_count rule.old rule.new 0 ahead (number ∷ [])
+        table.old table.new memo.new }
+    ensures found { IfOk result
+        (IsFound (Q.meaning rule.old) 0 ahead number table.old table.new) }
+    ensures four { OnOk result
+        (AsksFour 0 ahead Q.asks rule.old rule.new table.old memo.old table.new memo.new) }
+    ensures stand { OnOk result (StandOn (Q.meaning rule.old) 0 ahead (number ∷ [])
+        table.old memo.old table.new memo.new) }
     ensures full { result ≡ Err TableFault.NoRoom → IsFull table.new }
 {
     let made = parts::later(table, rule, number)?;
-    memo.remember(0, generations, number, made)?;
+    memo.remember(0, ahead, number, made)?;
     Ok(made)
 }
 
@@ -70,36 +61,35 @@ fn later<Q: Ask, S: Stop>(
     rule: &mut Q,
     stop: &mut S,
     k: u8,
-    generations: u64,
+    ahead: u64,
     number: u32,
 ) -> Result<u32, ResultFault>
-    requires k { k ≤ 61 }
-    requires number { IsReady (Q.meaning rule.old) (Q.state_count rule.old)
-        table.old.rows k generations number }
-    requires memo { IsRight (Q.meaning rule.old) table.old.rows memo.old }
-    ensures stays { StaysRight (Q.meaning rule.old) (Q.meaning rule.new) (Q.state_count rule.old)
-        (Q.state_count rule.new) k generations (number ∷ []) table.old table.new memo.new }
+    requires { CanSeek (Q.meaning rule.old) (Q.state_count rule.old)
+        table.old memo.old k ahead number }
+    ensures stays { Stays Q.meaning Q.state_count rule.old rule.new k ahead (number ∷ [])
+        table.old table.new memo.new }
     ensures end { IsEnd table.new (S.yes_count stop.old) (S.yes_count stop.new) result }
-    ensures found { IfOk result (λ n. StandsFor table.new.rows (suc k) n
-        (hash_life.result (Q.meaning rule.old) k generations
-        (square_in table.old.rows (suc (suc k)) number))
-        × AsksForMore (Q.meaning rule.old) k generations (number ∷ [])
-        table.old table.new memo.old memo.new (Q.asks rule.old) (Q.asks rule.new)) }
+    ensures found { IfOk result
+        (IsFound (Q.meaning rule.old) k ahead number table.old table.new) }
+    ensures four { OnOk result
+        (AsksFour k ahead Q.asks rule.old rule.new table.old memo.old table.new memo.new) }
+    ensures stand { OnOk result (StandOn (Q.meaning rule.old) k ahead (number ∷ [])
+        table.old memo.old table.new memo.new) }
 {
-    if generations == 0 {
+    if ahead == 0 {
         return Ok(parts::middle(table, number)?);
     }
-    if let Some(known) = memo.recall(k, generations, number) {
+    if let Some(known) = memo.recall(k, ahead, number) {
         return Ok(known);
     }
     if stop.poll() {
         return Err(ResultFault::Stopped);
     }
     if k == 0 {
-        return Ok(put(table, memo, rule, generations, number)?);
+        return Ok(put(table, memo, rule, ahead, number)?);
     }
-    let made = compute(table, memo, rule, stop, k, generations, number)?;
-    memo.remember(k, generations, number, made)?;
+    let made = compute(table, memo, rule, stop, k, ahead, number)?;
+    memo.remember(k, ahead, number, made)?;
     Ok(made)
 }
 
@@ -112,35 +102,26 @@ fn compute<Q: Ask, S: Stop>(
     rule: &mut Q,
     stop: &mut S,
     k: u8,
-    generations: u64,
+    ahead: u64,
     number: u32,
 ) -> Result<u32, ResultFault>
-    requires above { (0 < generations) × (0 < k) × (k ≤ 61) }
-    requires number { IsReady (Q.meaning rule.old) (Q.state_count rule.old)
-        table.old.rows k generations number }
-    requires memo { IsRight (Q.meaning rule.old) table.old.rows memo.old }
-    ensures stays { StaysRight (Q.meaning rule.old) (Q.meaning rule.new) (Q.state_count rule.old)
-        (Q.state_count rule.new) k generations (number ∷ []) table.old table.new memo.new }
+    requires { CanCompute (Q.meaning rule.old) (Q.state_count rule.old)
+        table.old memo.old k ahead number }
+    ensures stays { Stays Q.meaning Q.state_count rule.old rule.new k ahead (number ∷ [])
+        table.old table.new memo.new }
     ensures end { IsEnd table.new (S.yes_count stop.old) (S.yes_count stop.new) result }
-    ensures found { IfOk result (λ n. StandsFor table.new.rows (suc k) n
-        (hash_life.result (Q.meaning rule.old) k generations
-        (square_in table.old.rows (suc (suc k)) number))
-        × AsksForMore (Q.meaning rule.old) k generations (number ∷ [])
-        table.old table.new memo.old memo.new (Q.asks rule.old) (Q.asks rule.new)) }
+    ensures found { IfOk result
+        (IsFound (Q.meaning rule.old) k ahead number table.old table.new) }
+    ensures four { OnOk result
+        (AsksFour k ahead Q.asks rule.old rule.new table.old memo.old table.new memo.new) }
+    ensures stand { OnOk result (StandOn (Q.meaning rule.old) k ahead (number ∷ [])
+        table.old memo.old table.new memo.new) }
 {
-    let first = generations.min(full(k - 1));
+    let first = ahead.min(full(k - 1));
     let mut nine = parts::nine(table, number)?;
     all_later(table, memo, rule, stop, k - 1, first, &mut nine)?;
     let mut fours = parts::fours(table, nine)?;
-    all_later(
-        table,
-        memo,
-        rule,
-        stop,
-        k - 1,
-        generations - first,
-        &mut fours,
-    )?;
+    all_later(table, memo, rule, stop, k - 1, ahead - first, &mut fours)?;
     Ok(table.join_numbers(fours)?)
 }
 
@@ -153,25 +134,23 @@ fn all_later<Q: Ask, S: Stop>(
     rule: &mut Q,
     stop: &mut S,
     k: u8,
-    generations: u64,
+    ahead: u64,
     numbers: &mut [u32],
 ) -> Result<(), ResultFault>
-    requires k { k ≤ 61 }
-    requires numbers { All (IsReady (Q.meaning rule.old) (Q.state_count rule.old)
-        table.old.rows k generations) numbers.old }
-    requires memo { IsRight (Q.meaning rule.old) table.old.rows memo.old }
-    ensures stays { StaysRight (Q.meaning rule.old) (Q.meaning rule.new) (Q.state_count rule.old)
-        (Q.state_count rule.new) k generations numbers.old table.old table.new memo.new }
+    requires { CanSeekAll (Q.meaning rule.old) (Q.state_count rule.old)
+        table.old memo.old k ahead numbers.old }
+    ensures stays { Stays Q.meaning Q.state_count rule.old rule.new k ahead numbers.old
+        table.old table.new memo.new }
     ensures end { IsEnd table.new (S.yes_count stop.old) (S.yes_count stop.new) result }
-    ensures found { OnOk result (((ss : List squares.Square) →
-        StandForAll table.old.rows (suc (suc k)) numbers.old ss →
-        StandForAll table.new.rows (suc k) numbers.new
-        (map (hash_life.result (Q.meaning rule.old) k generations) ss))
-        × AsksForMore (Q.meaning rule.old) k generations numbers.old
-        table.old table.new memo.old memo.new (Q.asks rule.old) (Q.asks rule.new)) }
+    ensures found { OnOk result
+        (AreFound (Q.meaning rule.old) k ahead numbers.old table.old table.new numbers.new) }
+    ensures four { OnOk result
+        (AsksFour k ahead Q.asks rule.old rule.new table.old memo.old table.new memo.new) }
+    ensures stand { OnOk result (StandOn (Q.meaning rule.old) k ahead numbers.old
+        table.old memo.old table.new memo.new) }
 {
     for number in numbers.iter_mut() {
-        *number = later(table, memo, rule, stop, k, generations, *number)?;
+        *number = later(table, memo, rule, stop, k, ahead, *number)?;
     }
     Ok(())
 }
@@ -188,13 +167,11 @@ pub fn result<'a, Q: Ask, S: Stop>(
 ) -> Result<Found<'a>, ResultFault>
     requires { CanBeAsked (Q.state_count rule.old) table.old root }
     ensures grows { GrowsOnWay (Q.meaning rule.old) generations table.old root.entry table.new }
-    ensures rule { IsSameRule (Q.meaning rule.old) (Q.meaning rule.new)
-        (Q.state_count rule.old) (Q.state_count rule.new) }
-    ensures square { IfOk result (λ found. IsLater (Q.meaning rule.old) generations
-        table.old root.entry table.new found.square) }
-    ensures counts { IfOk result (λ found. AreCounts (Q.meaning rule.old) generations
-        table.old root.entry table.new found.fours found.base
-        (Q.asks rule.old) (Q.asks rule.new)) }
+    ensures rule { KeepsRule Q.meaning Q.state_count rule.old rule.new }
+    ensures found { IfOk result
+        (Finds (Q.meaning rule.old) generations table.old root.entry table.new) }
+    ensures once { IfOk result
+        (AsksOnceFor Q.meaning Q.asks rule.old rule.new generations table.old root.entry) }
     ensures end { IsEnd table.new (S.yes_count stop.old) (S.yes_count stop.new) result }
 {
     let k = root.level() - 2;

@@ -1,8 +1,8 @@
 //! What is remembered of a computation: the results by the numbers of their squares.
 
-ghost use Rattle.std.specs.Prelude.{◌≡◌, ◌+◌, ◌-◌, ◌^◌, ◌<◌, ◌≤◌, ℕ, List, suc, get_or, nat_lt, IfSome, IfNone, OnOk, OnErr, []};
-ghost use Rattle.square_table.specs.Squares.{IsNumber, first_number};
-ghost use Rattle.hash_engine.specs.Memo.{IsRight, IsResult, IsNoted, IsRemembered};
+ghost use Rattle.std.specs.Prelude.{◌≡◌, ◌+◌, ◌-◌, ◌^◌, ◌<◌, ◌≤◌, ℕ, List, get_or, nat_lt, IfSome, IfNone, OnOk, OnErr, []};
+ghost use Rattle.square_table.specs.Squares.{first_number};
+ghost use Rattle.hash_engine.specs.Memo.{IsRight, IsNoted, IsRemembered, Recalls, StaysRight};
 
 use std::alloc::{AllocError, Global};
 
@@ -89,9 +89,7 @@ impl Memo {
     pub(crate) fn recall(&self, k: u8, generations: u64, number: u32) -> Option<u32>
         requires k { k ≤ 61 }
         requires number { first_number ≤ number }
-        ensures some { IfSome result (λ r. (next : List ℕ → ℕ) (rows : List (List ℕ)) →
-            IsRight next rows self.now → IsNumber rows (suc (suc k)) number →
-            IsResult next rows k generations number r) }
+        ensures some { IfSome result (Recalls self.now k generations number) }
         ensures none { IfNone result (generations ≡ 2 ^ k →
             get_or self.now.full.items (number - first_number) 0 ≡ 0) }
     {
@@ -124,8 +122,7 @@ impl Memo {
     ) -> Result<(), AllocError>
         requires k { k ≤ 61 }
         requires number { first_number ≤ number }
-        ensures right { (next : List ℕ → ℕ) (rows : List (List ℕ)) → IsRight next rows self.old →
-            IsResult next rows k generations number found → IsRight next rows self.new }
+        ensures right { StaysRight k generations number found self.old self.new }
         ensures noted { OnOk result (IsRemembered k generations number found self.old self.new) }
     {
         if generations == full(k) {

@@ -1,15 +1,14 @@
 //! Squares made of the quadrants of others.
 
-ghost use Rattle.std.specs.Prelude.{◌≡◌, ◌+◌, ◌<◌, ℕ, suc, List, [], ◌∷◌, All, length, IfOk, Err};
-ghost use Rattle.worlds.specs.Square as squares;
+ghost use Rattle.std.specs.Prelude.{◌≡◌, ◌+◌, ℕ, suc, [], ◌∷◌, IfOk, Err};
 ghost use Rattle.worlds.specs.Square.{four};
 ghost use Rattle.square_table.specs.Squares.{IsNumber, square_in, Grows, kids_at};
 ghost use Rattle.square_table.specs.Made.{Adds, IsFull};
 ghost use Rattle.hash_life.specs.Result.{between, amid, middle, later};
-ghost use Rattle.hash_life.specs.Puts.{nine_of, fours_of, IsBelow};
-ghost use Rattle.hash_engine.specs.Standing.{StandsFor, StandForAll, CanBePut, of_four};
-ghost use Rattle.hash_engine.specs.Adding.{AddsOfTwo, AddsOf, AddsFours};
-ghost use Rattle.hash_engine.specs.Found.{IsSameRule};
+ghost use Rattle.hash_life.specs.Puts.{nine_of, IsBelow};
+ghost use Rattle.hash_engine.specs.Standing.{CanBePut, of_four};
+ghost use Rattle.hash_engine.specs.Adding.{AddsOfTwo, AddsOf, AddsFours, GivesOfTwo, GivesOf, GiveAllOf, GiveFours, GivesPut};
+ghost use Rattle.hash_engine.specs.Found.{KeepsRule};
 
 use square_table::{SquareTable, TableFault};
 use worlds::{Around, Ask};
@@ -37,9 +36,7 @@ fn between(table: &mut SquareTable<'_>, west: u32, east: u32, guess: u32) -> Res
     requires west { (k : ℕ) × IsNumber table.old.rows (suc k) west }
     requires east { (k : ℕ) × IsNumber table.old.rows (suc k) east }
     ensures grows { Grows table.old table.new }
-    ensures square { IfOk result (λ n. (k : ℕ) (s t : squares.Square) →
-        StandsFor table.old.rows (suc k) west s → StandsFor table.old.rows (suc k) east t →
-        StandsFor table.new.rows (suc k) n (between s t)) }
+    ensures square { IfOk result (GivesOfTwo between table.old west east table.new) }
     ensures adds { AddsOfTwo between table.old west east table.new }
     ensures full { result ≡ Err TableFault.NoRoom → IsFull table.new }
 {
@@ -53,9 +50,7 @@ fn amid(table: &mut SquareTable<'_>, north: u32, south: u32, guess: u32) -> Resu
     requires north { (k : ℕ) × IsNumber table.old.rows (suc k) north }
     requires south { (k : ℕ) × IsNumber table.old.rows (suc k) south }
     ensures grows { Grows table.old table.new }
-    ensures square { IfOk result (λ n. (k : ℕ) (s t : squares.Square) →
-        StandsFor table.old.rows (suc k) north s → StandsFor table.old.rows (suc k) south t →
-        StandsFor table.new.rows (suc k) n (amid s t)) }
+    ensures square { IfOk result (GivesOfTwo amid table.old north south table.new) }
     ensures adds { AddsOfTwo amid table.old north south table.new }
     ensures full { result ≡ Err TableFault.NoRoom → IsFull table.new }
 {
@@ -68,9 +63,7 @@ fn amid(table: &mut SquareTable<'_>, north: u32, south: u32, guess: u32) -> Resu
 fn centre(table: &mut SquareTable<'_>, number: u32, guess: u32) -> Result<u32, TableFault>
     requires { (k : ℕ) × IsNumber table.old.rows (suc (suc k)) number }
     ensures grows { Grows table.old table.new }
-    ensures square { IfOk result (λ n. (k : ℕ) (s : squares.Square) →
-        StandsFor table.old.rows (suc (suc k)) number s →
-        StandsFor table.new.rows (suc k) n (middle s)) }
+    ensures square { IfOk result (GivesOf middle table.old number table.new) }
     ensures adds { AddsOf (λ s. middle s ∷ []) table.old number table.new }
     ensures full { result ≡ Err TableFault.NoRoom → IsFull table.new }
 {
@@ -87,9 +80,7 @@ fn centre(table: &mut SquareTable<'_>, number: u32, guess: u32) -> Result<u32, T
 pub(crate) fn middle(table: &mut SquareTable<'_>, number: u32) -> Result<u32, TableFault>
     requires { (k : ℕ) × IsNumber table.old.rows (suc (suc k)) number }
     ensures grows { Grows table.old table.new }
-    ensures square { IfOk result (λ n. (k : ℕ) (s : squares.Square) →
-        StandsFor table.old.rows (suc (suc k)) number s →
-        StandsFor table.new.rows (suc k) n (middle s)) }
+    ensures square { IfOk result (GivesOf middle table.old number table.new) }
     ensures adds { AddsOf (λ s. middle s ∷ []) table.old number table.new }
     ensures full { result ≡ Err TableFault.NoRoom → IsFull table.new }
 {
@@ -101,9 +92,7 @@ pub(crate) fn middle(table: &mut SquareTable<'_>, number: u32) -> Result<u32, Ta
 pub(crate) fn nine(table: &mut SquareTable<'_>, number: u32) -> Result<[u32; 9], TableFault>
     requires { (k : ℕ) × IsNumber table.old.rows (suc (suc k)) number }
     ensures grows { Grows table.old table.new }
-    ensures squares { IfOk result (λ ns. (k : ℕ) (s : squares.Square) →
-        StandsFor table.old.rows (suc (suc k)) number s →
-        StandForAll table.new.rows (suc k) ns (nine_of s)) }
+    ensures squares { IfOk result (GiveAllOf nine_of table.old number table.new) }
     ensures adds { AddsOf nine_of table.old number table.new }
     ensures full { result ≡ Err TableFault.NoRoom → IsFull table.new }
 {
@@ -120,9 +109,7 @@ pub(crate) fn nine(table: &mut SquareTable<'_>, number: u32) -> Result<[u32; 9],
 /// The four squares that overlap in what nine make, by rows.
 pub(crate) fn fours(table: &mut SquareTable<'_>, nine: [u32; 9]) -> Result<[u32; 4], TableFault>
     ensures grows { Grows table.old table.new }
-    ensures squares { IfOk result (λ ns. (k : ℕ) (ss : List squares.Square) →
-        StandForAll table.old.rows k nine ss →
-        StandForAll table.new.rows (suc k) ns (fours_of ss)) }
+    ensures squares { IfOk result (GiveFours table.old nine table.new) }
     ensures adds { AddsFours table.old nine table.new }
     ensures full { result ≡ Err TableFault.NoRoom → IsFull table.new }
 {
@@ -153,8 +140,7 @@ fn ask_four<Q: Ask>(rule: &mut Q, nw: [u8; 4], ne: [u8; 4], sw: [u8; 4], se: [u8
         (four (of_four nw) (of_four ne) (of_four sw) (of_four se)) }
     ensures states { of_four result ≡ later (Q.meaning rule.old)
         (four (of_four nw) (of_four ne) (of_four sw) (of_four se)) }
-    ensures rule { IsSameRule (Q.meaning rule.old) (Q.meaning rule.new)
-        (Q.state_count rule.old) (Q.state_count rule.new) }
+    ensures rule { KeepsRule Q.meaning Q.state_count rule.old rule.new }
     ensures asks { Q.asks rule.new ≡ Q.asks rule.old + 4 }
 {
     let [a, b, c, d] = nw;
@@ -178,11 +164,9 @@ pub(crate) fn later<Q: Ask>(
     requires { CanBePut (Q.state_count rule.old) table.old.rows number }
     ensures adds { Adds (later (Q.meaning rule.old) (square_in table.old.rows 2 number) ∷ [])
         table.old table.new }
-    ensures square { IfOk result (λ n.
-        StandsFor table.new.rows 1 n
-        (later (Q.meaning rule.old) (square_in table.old.rows 2 number))) }
-    ensures rule { IsSameRule (Q.meaning rule.old) (Q.meaning rule.new)
-        (Q.state_count rule.old) (Q.state_count rule.new) }
+    ensures square { IfOk result
+        (GivesPut (Q.meaning rule.old) table.old number table.new) }
+    ensures rule { KeepsRule Q.meaning Q.state_count rule.old rule.new }
     ensures asks { Q.asks rule.new ≡ Q.asks rule.old + 4 }
     ensures full { result ≡ Err TableFault.NoRoom → IsFull table.new }
 {

@@ -9,7 +9,8 @@ kids_of r = r.kids
 -- a mix of the four numbers
 unfoldable pub hash_of : List ℕ → ℕ
 hash_of k =
-    ((((((slice_index k 0 * 0x9e37_79b9_7f4a_7c15) % 2 ^ 64 + (slice_index k 1 * 0xd1b5_4a32_d192_ed03) % 2 ^ 64) % 2 ^ 64
+    ((((((slice_index k 0 * 0x9e37_79b9_7f4a_7c15) % 2 ^ 64
+    + (slice_index k 1 * 0xd1b5_4a32_d192_ed03) % 2 ^ 64) % 2 ^ 64
     + (slice_index k 2 * 0xbf58_476d_1ce4_e5b9) % 2 ^ 64) % 2 ^ 64)
     + (slice_index k 3 * 0x94d0_49bb_1331_11eb) % 2 ^ 64) % 2 ^ 64) / 2 ^ 32
 
@@ -17,7 +18,8 @@ hash_of k =
 unfoldable pub bucket_of : List ℕ → ℕ → ℕ
 bucket_of k count = bit_and (hash_of k) (count - 1)
 
--- each chain leads from the oldest of its rows to the newest, and the rows from one on are on them; a link is a row's place and one more, or 0
+-- each chain leads from the oldest of its rows to the newest, and the rows from one on are on them;
+-- a link is a row's place and one more, or 0
 pub record IsChained (rows : List Row) (from : ℕ) (heads : List ℕ) : Type 0 where
   pub some : 0 < length heads
   pub head_in : (b : ℕ) → b < length heads → slice_index heads b ≤ length rows
@@ -28,22 +30,29 @@ pub record IsChained (rows : List Row) (from : ℕ) (heads : List ℕ) : Type 0 
       → 0 < slice_index heads (bucket_of (kids_of (slice_index_or rows i d)) (length heads))
   pub head_first : (i : ℕ) (d : Row) → from ≤ i → i < length rows
       → slice_index heads (bucket_of (kids_of (slice_index_or rows i d)) (length heads)) ≤ i + 1
-  pub next_in : (i : ℕ) (d : Row) → from ≤ i → i < length rows → (slice_index_or rows i d).next ≤ length rows
-  pub next_later : (i j : ℕ) (d : Row) → from ≤ i → i < length rows → (slice_index_or rows i d).next ≡ j + 1 → i < j
-  pub next_own : (i j : ℕ) (d e : Row) → from ≤ i → i < length rows → (slice_index_or rows i d).next ≡ j + 1
-      → bucket_of (kids_of (slice_index_or rows j e)) (length heads) ≡ bucket_of (kids_of (slice_index_or rows i d)) (length heads)
+  pub next_in : (i : ℕ) (d : Row) → from ≤ i → i < length rows
+      → (slice_index_or rows i d).next ≤ length rows
+  pub next_later : (i j : ℕ) (d : Row) → from ≤ i → i < length rows
+      → (slice_index_or rows i d).next ≡ j + 1 → i < j
+  pub next_own : (i j : ℕ) (d e : Row) → from ≤ i → i < length rows
+      → (slice_index_or rows i d).next ≡ j + 1
+      → bucket_of (kids_of (slice_index_or rows j e)) (length heads)
+      ≡ bucket_of (kids_of (slice_index_or rows i d)) (length heads)
   pub next_some : (i j : ℕ) (d e : Row) → from ≤ i → i < j → j < length rows
-      → bucket_of (kids_of (slice_index_or rows i d)) (length heads) ≡ bucket_of (kids_of (slice_index_or rows j e)) (length heads)
+      → bucket_of (kids_of (slice_index_or rows i d)) (length heads)
+      ≡ bucket_of (kids_of (slice_index_or rows j e)) (length heads)
       → 0 < (slice_index_or rows i d).next
   pub next_first : (i j : ℕ) (d e : Row) → from ≤ i → i < j → j < length rows
-      → bucket_of (kids_of (slice_index_or rows i d)) (length heads) ≡ bucket_of (kids_of (slice_index_or rows j e)) (length heads)
+      → bucket_of (kids_of (slice_index_or rows i d)) (length heads)
+      ≡ bucket_of (kids_of (slice_index_or rows j e)) (length heads)
       → (slice_index_or rows i d).next ≤ j + 1
 
 -- the last row of a chain, by its place and one more; 0 where the chain is empty
 pub record IsLast (rows : List Row) (heads : List ℕ) (bucket last : ℕ) : Type 0 where
   pub within : last ≤ length rows
   pub none : last ≡ 0 → slice_index heads bucket ≡ 0
-  pub own : (i : ℕ) (d : Row) → last ≡ i + 1 → bucket_of (kids_of (slice_index_or rows i d)) (length heads) ≡ bucket
+  pub own : (i : ℕ) (d : Row) → last ≡ i + 1
+      → bucket_of (kids_of (slice_index_or rows i d)) (length heads) ≡ bucket
   pub ends : (i : ℕ) (d : Row) → last ≡ i + 1 → (slice_index_or rows i d).next ≡ 0
 
 -- no row has these quadrants

@@ -1,11 +1,14 @@
 -- Planes that become squares of a table, row by row.
 use Rattle.std.specs.Prelude.{◌≡◌, ℕ, zero, suc, ◌<◌, ◌≤◌, List, [], ◌∷◌, length, get_or, Contains}
 use Rattle.worlds.specs.World.{World}
+use Rattle.worlds.specs.Range.{AllBelow}
 use Rattle.worlds.specs.Square.{Square, empty_square}
 use Rattle.plane_core.specs.declared.row.SquareRow.{SquareRow}
 use Rattle.plane_core.specs.Rows as listed
 use Rattle.plane_core.specs.Rows.{no_row, kid, AreRows, root_level, Fits, IsLeastLevel}
-use Rattle.square_table.specs.Squares.{Table, IsNumber, square_in, Grows, AllStatesBelow}
+use Rattle.square_table.specs.declared.square.Square as squares
+use Rattle.square_table.specs.Squares.{Table, IsNumber, square_in, Grows, AllStatesBelow, IsHeld, level_of, cells_of}
+use Rattle.square_table.specs.Centred.{IsCentred}
 use Rattle.square_table.specs.Made.{AreAmong, HasEmpty, HasStart}
 
 -- the k-th is the number of the square of level k with no live cell
@@ -16,10 +19,12 @@ pub record AreBlanks (rows : List (List ℕ)) (blanks : List ℕ) : Type 0 where
 -- n is the number of the square of the i-th row of a plane
 pub record IsLoadedAt (squares : List SquareRow) (rows : List (List ℕ)) (i n : ℕ) : Type 0 where
   pub number : IsNumber rows (get_or squares i no_row).level n
-  pub square : square_in rows (get_or squares i no_row).level n ≡ listed.square_in squares (get_or squares i no_row).level (suc i)
+  pub square : square_in rows (get_or squares i no_row).level n
+      ≡ listed.square_in squares (get_or squares i no_row).level (suc i)
 
 -- these are the numbers of the squares of the first rows of a plane
-pub record AreLoaded (squares : List SquareRow) (rows : List (List ℕ)) (numbers : List ℕ) : Type 0 where
+pub record AreLoaded (squares : List SquareRow) (rows : List (List ℕ)) (numbers : List ℕ)
+    : Type 0 where
   pub few : length numbers ≤ length squares
   pub each : (i : ℕ) → i < length numbers → IsLoadedAt squares rows i (get_or numbers i 0)
 
@@ -33,8 +38,10 @@ number_in blanks numbers (suc k) (suc i) = get_or numbers i 0
 abbrev pub LevelsUpTo : ℕ → List SquareRow → Type 0
 LevelsUpTo n squares = (i : ℕ) → i < length squares → (get_or squares i no_row).level ≤ n
 
--- the rows of a plane, of which the first have these numbers in the table, and the blank squares that they need
-pub record IsLoading (squares : List SquareRow) (blanks : List ℕ) (rows : List (List ℕ)) (numbers : List ℕ) : Type 0 where
+-- the rows of a plane, of which the first have these numbers in the table, and the blank squares
+-- that they need
+pub record IsLoading (squares : List SquareRow) (blanks : List ℕ) (rows : List (List ℕ))
+    (numbers : List ℕ) : Type 0 where
   pub valid : AreRows squares
   pub levels : LevelsUpTo (length blanks) squares
   pub blank : AreBlanks rows blanks
@@ -42,7 +49,8 @@ pub record IsLoading (squares : List SquareRow) (blanks : List ℕ) (rows : List
 
 -- each state in a plane's rows is below c
 abbrev pub CellsBelow : ℕ → List SquareRow → Type 0
-CellsBelow c squares = (i q : ℕ) → i < length squares → q < 4 → (get_or squares i no_row).level ≡ 1 → kid (get_or squares i no_row) q < c
+CellsBelow c squares = (i q : ℕ) → i < length squares → q < 4 →
+    (get_or squares i no_row).level ≡ 1 → kid (get_or squares i no_row) q < c
 
 -- the square of the i-th row of a plane
 abbrev pub row_square : List SquareRow → ℕ → Square
@@ -55,7 +63,8 @@ HasRows all squares = (i : ℕ) → i < length squares → Contains all (row_squ
 -- the table has more rows, or none: of a plane's squares, and of empty ones below this level
 pub record GrowsFrom (level : ℕ) (squares : List SquareRow) (old new : Table) : Type 0 where
   pub grows : Grows old new
-  pub states : (c : ℕ) → 0 < c → CellsBelow c squares → AllStatesBelow c old.rows → AllStatesBelow c new.rows
+  pub states : (c : ℕ) → 0 < c → CellsBelow c squares →
+      AllStatesBelow c old.rows → AllStatesBelow c new.rows
   pub among : (all : List Square) → HasEmpty all level → HasRows all squares →
       AreAmong all old.rows → AreAmong all new.rows
 
@@ -70,8 +79,19 @@ pub record GrowsFor (w : World) (old new : Table) : Type 0 where
   pub among : (k : ℕ) (all : List Square) → 1 ≤ k → Fits k w → HasStart all w k →
       AreAmong all old.rows → AreAmong all new.rows
 
+-- no state in the table is too high for a rule of which the world's and the table's were not
+abbrev pub KeepsStates : World → Table → Table → Type 0
+KeepsStates w old new = (c : ℕ) → 1 ≤ c → AllBelow c w →
+    AllStatesBelow c old.rows → AllStatesBelow c new.rows
+
 -- k is the least level from 1 up that holds the live cells, and one of a plane's
 pub record IsRootLevel (k : ℕ) (w : World) : Type 0 where
   pub low : 1 ≤ k
   pub high : k ≤ 62
   pub least : IsLeastLevel k w
+
+-- the handle is that of the world's square round the origin, at the least level
+pub record TellsWorld (t : Table) (w : World) (s : squares.Square) : Type 0 where
+  pub held : IsHeld t s
+  pub level : IsRootLevel (level_of s) w
+  pub centred : IsCentred w (level_of s) (cells_of t s)

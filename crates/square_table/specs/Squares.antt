@@ -8,7 +8,8 @@ use Rattle.square_table.specs.declared.square.Square.{Square}
 abbrev pub first_number : ℕ
 first_number = 256
 
--- what contracts see of a table: the quadrants of each square, in the order of numbers, and how many squares it may hold
+-- what contracts see of a table: the quadrants of each square, in the order of numbers, and how
+-- many squares it may hold
 pub record Table : Type 0 where
   pub rows : List (List ℕ)
   pub limit : ℕ
@@ -26,13 +27,15 @@ unfoldable pub IsNumber : List (List ℕ) → ℕ → ℕ → Type 0
 IsNumber rows zero n = n < first_number
 IsNumber rows (suc k) n =
     (first_number ≤ n) × (n < first_number + length rows)
-    × IsNumber rows k (kid_at rows n 0) × IsNumber rows k (kid_at rows n 1) × IsNumber rows k (kid_at rows n 2) × IsNumber rows k (kid_at rows n 3)
+    × IsNumber rows k (kid_at rows n 0) × IsNumber rows k (kid_at rows n 1)
+    × IsNumber rows k (kid_at rows n 2) × IsNumber rows k (kid_at rows n 3)
 
 -- the square of level k that the number stands for
 unfoldable pub square_in : List (List ℕ) → ℕ → ℕ → squares.Square
 square_in rows zero n = one n
 square_in rows (suc k) n =
-    four (square_in rows k (kid_at rows n 0)) (square_in rows k (kid_at rows n 1)) (square_in rows k (kid_at rows n 2)) (square_in rows k (kid_at rows n 3))
+    four (square_in rows k (kid_at rows n 0)) (square_in rows k (kid_at rows n 1))
+    (square_in rows k (kid_at rows n 2)) (square_in rows k (kid_at rows n 3))
 
 -- the four name squares of level k
 pub record AreNumbers (rows : List (List ℕ)) (k : ℕ) (kids : List ℕ) : Type 0 where
@@ -43,7 +46,9 @@ pub record AreNumbers (rows : List (List ℕ)) (k : ℕ) (kids : List ℕ) : Typ
 
 -- the square whose quadrants of level k these numbers stand for
 abbrev pub square_of : List (List ℕ) → ℕ → List ℕ → squares.Square
-square_of rows k kids = four (square_in rows k (get_or kids 0 0)) (square_in rows k (get_or kids 1 0)) (square_in rows k (get_or kids 2 0)) (square_in rows k (get_or kids 3 0))
+square_of rows k kids =
+    four (square_in rows k (get_or kids 0 0)) (square_in rows k (get_or kids 1 0))
+    (square_in rows k (get_or kids 2 0)) (square_in rows k (get_or kids 3 0))
 
 abbrev pub level_of : Square → ℕ
 level_of s = s.level
@@ -59,6 +64,12 @@ pub record IsHeld (t : Table) (s : Square) : Type 0 where
 -- its cells
 abbrev pub cells_of : Table → Square → squares.Square
 cells_of t s = square_in t.rows (level_of s) (number_of s)
+
+-- the handle is of a square of the table, of this level and with these cells
+pub record Tells (t : Table) (k : ℕ) (square : squares.Square) (s : Square) : Type 0 where
+  pub held : IsHeld t s
+  pub level : level_of s ≡ k
+  pub cells : cells_of t s ≡ square
 
 -- n is the number of the square whose quadrants have these numbers
 pub record IsSquareOf (rows : List (List ℕ)) (kids : List ℕ) (n : ℕ) : Type 0 where
@@ -81,11 +92,13 @@ pub record Keeps (old new : Table) : Type 0 where
 -- each row has four quadrants, and no two rows are one
 pub record AreDistinct (rows : List (List ℕ)) : Type 0 where
   pub four : (i : ℕ) → i < length rows → length (get_or rows i []) ≡ 4
-  pub distinct : (i j : ℕ) → i < length rows → j < length rows → get_or rows i [] ≡ get_or rows j [] → i ≡ j
+  pub distinct : (i j : ℕ) → i < length rows → j < length rows →
+      get_or rows i [] ≡ get_or rows j [] → i ≡ j
 
 -- in one table numbers are equal exactly where levels and cells are
 abbrev pub NumbersTellSquares : Type 0
-NumbersTellSquares = (t : Table) → AreDistinct t.rows → (s1 s2 : Square) → IsHeld t s1 → IsHeld t s2 →
+NumbersTellSquares = (t : Table) → AreDistinct t.rows → (s1 s2 : Square) →
+    IsHeld t s1 → IsHeld t s2 →
     (number_of s1 ≡ number_of s2) ↔ ((level_of s1 ≡ level_of s2) × (cells_of t s1 ≡ cells_of t s2))
 
 -- four squares, of the table and of one level
@@ -109,7 +122,8 @@ with_row t kids = record { rows = t.rows ++ kids ∷ []; limit = t.limit }
 
 -- each state among the quadrants of the rows is below c
 pub record AllStatesBelow (c : ℕ) (rows : List (List ℕ)) : Type 0 where
-  pub each : (i q : ℕ) → i < length rows → q < 4 → get_or (get_or rows i []) q 0 < first_number → get_or (get_or rows i []) q 0 < c
+  pub each : (i q : ℕ) → i < length rows → q < 4 →
+      get_or (get_or rows i []) q 0 < first_number → get_or (get_or rows i []) q 0 < c
 
 -- the one table is the other, or has one more row, of these quadrants
 abbrev pub GrowsBy : List ℕ → Table → Table → Type 0

@@ -59,7 +59,8 @@ pub fn find(rows: &[Row], heads: &[u32], kids: [u32; 4]) -> u32
     requires { IsChained rows.now 0 heads.now }
     ensures within { result ≤ length rows.now }
     ensures absent { result ≡ 0 → IsAbsent rows.now kids }
-    ensures found { (i : ℕ) (d : Row) → result ≡ i + 1 → kids_of (slice_index_or rows.now i d) ≡ kids }
+    ensures found { (i : ℕ) (d : Row) →
+        result ≡ i + 1 → kids_of (slice_index_or rows.now i d) ≡ kids }
 {
     let mut at = head(heads, kids);
     while at != 0 {

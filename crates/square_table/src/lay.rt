@@ -3,7 +3,7 @@ ghost use Rattle.std.specs.Prelude.{◌≡◌, ◌-◌, ◌<◌, ◌≤◌, IfOk
 ghost use Rattle.square_tree.specs.Quadtree.{quadtree, quadtree_of_four, HasLevel};
 ghost use Rattle.square_table.specs.Squares.{IsNumber, AreNumbers, IsHeld, Grows, level_of};
 ghost use Rattle.square_table.specs.Made.{IsFull};
-ghost use Rattle.square_table.specs.Laying.{IsLaidOn, IsLaidAs, AreLaidAs, in_corner, in_middle};
+ghost use Rattle.square_table.specs.Laying.{IsLaidOn, IsLaidAs, AreLaidAs, IsLaidInCorner, IsLaidInMiddle, AreLaidInMiddle};
 
 use crate::fault::TableFault;
 use crate::square::Square;
@@ -23,7 +23,8 @@ impl<'a> SquareTable<'a> {
         requires number { IsNumber self.old.rows level number }
         requires level { HasLevel level (quadtree tree.now) }
         ensures grows { Grows self.old self.new }
-        ensures laid { IfOk result (IsLaidAs (quadtree tree.now) self.old.rows level number self.new.rows) }
+        ensures laid { IfOk result
+            (IsLaidAs (quadtree tree.now) self.old.rows level number self.new.rows) }
         ensures full { result ≡ Err TableFault.NoRoom → IsFull self.new }
     {
         match tree {
@@ -73,8 +74,8 @@ impl<'a> SquareTable<'a> {
         requires number { IsNumber self.old.rows level number × (corner < 4) }
         requires levels { HasLevel tree_level (quadtree tree.now) × (tree_level ≤ level) }
         ensures grows { Grows self.old self.new }
-        ensures laid { IfOk result (IsLaidAs (in_corner corner (level - tree_level) (quadtree tree.now))
-            self.old.rows level number self.new.rows) }
+        ensures laid { IfOk result
+            (IsLaidInCorner corner tree_level (quadtree tree.now) self.old level number self.new) }
         ensures full { result ≡ Err TableFault.NoRoom → IsFull self.new }
     {
         if level == tree_level {
@@ -97,8 +98,8 @@ impl<'a> SquareTable<'a> {
         requires kids { AreNumbers self.old.rows (level - 1) kids }
         requires levels { HasLevel tree_level (quadtree_of_four four.now) × (tree_level ≤ level) }
         ensures grows { Grows self.old self.new }
-        ensures laid { IfOk result (AreLaidAs (in_middle (level - tree_level) (quadtree_of_four four.now))
-            self.old.rows (level - 1) kids self.new.rows) }
+        ensures laid { IfOk result
+            (AreLaidInMiddle tree_level (quadtree_of_four four.now) self.old level kids self.new) }
         ensures full { result ≡ Err TableFault.NoRoom → IsFull self.new }
     {
         let below = level - 1;
@@ -121,8 +122,8 @@ impl<'a> SquareTable<'a> {
         requires number { IsNumber self.old.rows level number }
         requires levels { HasLevel tree_level (quadtree tree.now) × (tree_level ≤ level) }
         ensures grows { Grows self.old self.new }
-        ensures laid { IfOk result (IsLaidAs (in_middle (level - tree_level) (quadtree tree.now))
-            self.old.rows level number self.new.rows) }
+        ensures laid { IfOk result
+            (IsLaidInMiddle tree_level (quadtree tree.now) self.old level number self.new) }
         ensures full { result ≡ Err TableFault.NoRoom → IsFull self.new }
     {
         match tree {

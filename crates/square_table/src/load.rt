@@ -1,12 +1,10 @@
 //! Planes as squares of a table.
-ghost use Rattle.std.specs.Prelude.{◌≡◌, ℕ, ◌+◌, ◌<◌, ◌≤◌, [], ◌∷◌, ◌++◌, length, IfOk, OnOk, Err};
-ghost use Rattle.worlds.specs.Range.{AllBelow};
+ghost use Rattle.std.specs.Prelude.{◌≡◌, ◌+◌, ◌<◌, ◌≤◌, [], ◌∷◌, ◌++◌, length, IfOk, OnOk, Err};
 ghost use Rattle.worlds.specs.Square.{empty_square};
 ghost use Rattle.plane_core.specs.Rows.{AreRows, root_level, root_of};
-ghost use Rattle.square_table.specs.Squares.{IsHeld, AllStatesBelow, level_of, cells_of};
-ghost use Rattle.square_table.specs.Centred.{IsCentred};
+ghost use Rattle.square_table.specs.Squares.{Tells};
 ghost use Rattle.square_table.specs.Made.{IsFull};
-ghost use Rattle.square_table.specs.Loading.{AreBlanks, AreLoaded, IsLoading, GrowsFrom, GrowsFor, IsRootLevel, LevelsUpTo, number_in, empty_below};
+ghost use Rattle.square_table.specs.Loading.{AreBlanks, AreLoaded, IsLoading, GrowsFrom, GrowsFor, KeepsStates, TellsWorld, LevelsUpTo, number_in, empty_below};
 
 use crate::fault::TableFault;
 use crate::square::Square;
@@ -98,7 +96,8 @@ impl<'a> SquareTable<'a> {
         requires blanks { AreBlanks self.old.rows blanks.now }
         ensures grows { GrowsFrom 0 squares.now self.old self.new }
         ensures count { IfOk result (λ numbers. length numbers.items ≡ length squares.now) }
-        ensures loaded { IfOk result (λ numbers. AreLoaded squares.now self.new.rows numbers.items) }
+        ensures loaded { IfOk result
+            (λ numbers. AreLoaded squares.now self.new.rows numbers.items) }
         ensures full { result ≡ Err TableFault.NoRoom → IsFull self.new }
     {
         let mut numbers = Vec::with_capacity(self.alloc(), squares.len())?;
@@ -111,9 +110,7 @@ impl<'a> SquareTable<'a> {
     // The blank square of level 1.
     fn load_none(&mut self) -> Result<Square<'a>, TableFault>
         ensures grows { GrowsFrom 2 [] self.old self.new }
-        ensures held { IfOk result (λ s. IsHeld self.new s) }
-        ensures level { IfOk result (λ s. level_of s ≡ 1) }
-        ensures cells { IfOk result (λ s. cells_of self.new s ≡ empty_square 1) }
+        ensures square { IfOk result (Tells self.new 1 (empty_square 1)) }
         ensures full { result ≡ Err TableFault.NoRoom → IsFull self.new }
     {
         let number = self.join_numbers([0; 4])?;
@@ -124,9 +121,8 @@ impl<'a> SquareTable<'a> {
     fn load_root(&mut self, squares: &[SquareRow]) -> Result<Square<'a>, TableFault>
         requires { AreRows squares.now × LevelsUpTo (root_level squares.now) squares.now }
         ensures grows { GrowsFrom (empty_below squares.now) squares.now self.old self.new }
-        ensures held { IfOk result (λ s. IsHeld self.new s) }
-        ensures level { IfOk result (λ s. level_of s ≡ root_level squares.now) }
-        ensures cells { IfOk result (λ s. cells_of self.new s ≡ root_of squares.now) }
+        ensures square { IfOk result
+            (Tells self.new (root_level squares.now) (root_of squares.now)) }
         ensures full { result ≡ Err TableFault.NoRoom → IsFull self.new }
     {
         let Some(root) = squares.last() else {
@@ -147,11 +143,8 @@ impl<'a> SquareTable<'a> {
     /// call has made stay.
     pub fn load(&mut self, plane: &Plane) -> Result<Square<'a>, TableFault>
         ensures grows { GrowsFor plane.now self.old self.new }
-        ensures held { IfOk result (λ s. IsHeld self.new s) }
-        ensures level { IfOk result (λ s. IsRootLevel (level_of s) plane.now) }
-        ensures centred { IfOk result (λ s. IsCentred plane.now (level_of s) (cells_of self.new s)) }
-        ensures states { (c : ℕ) → 1 ≤ c → AllBelow c plane.now →
-            AllStatesBelow c self.old.rows → AllStatesBelow c self.new.rows }
+        ensures square { IfOk result (TellsWorld self.new plane.now) }
+        ensures states { KeepsStates plane.now self.old self.new }
         ensures full { result ≡ Err TableFault.NoRoom → IsFull self.new }
     {
         let squares = plane.squares()?;

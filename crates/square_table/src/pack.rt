@@ -4,11 +4,10 @@ ghost use Rattle.worlds.specs.World.{World};
 ghost use Rattle.worlds.specs.Range.{HasMargin};
 ghost use Rattle.plane_core.specs.Rows as listed;
 ghost use Rattle.plane_core.specs.Rows.{AreRows};
-ghost use Rattle.plane_core.specs.Laid as laid;
-ghost use Rattle.plane_core.specs.Laid.{Keeps, IsAdded};
+ghost use Rattle.plane_core.specs.Laid.{Keeps};
 ghost use Rattle.square_table.specs.Squares.{IsHeld, IsNumber, AreNumbers, square_of, level_of, cells_of};
-ghost use Rattle.square_table.specs.Centred.{IsCentred, CentredAlike};
-ghost use Rattle.square_table.specs.Packing.{IsPacked, IsPacking, AreRowsOf};
+ghost use Rattle.square_table.specs.Centred.{IsCentred};
+ghost use Rattle.square_table.specs.Packing.{IsPacked, IsPacking, ArePacked, AreRowsOf, IsRowOf, IsSquareOf, AreAlike, IsAlike};
 
 use crate::chains::is_same;
 use crate::square::Square;
@@ -40,9 +39,9 @@ struct Packed {
 fn push_row(squares: &mut Vec<SquareRow>, level: u8, kids: [u32; 4]) -> Result<u32, AllocError>
     requires level { (1 ≤ level) × (level ≤ 62) }
     requires squares { AreRows squares.old.items × (length squares.old.items < 2 ^ 32) }
-    requires kids { (q : ℕ) → q < 4 → listed.IsNumber squares.old.items (level - 1) (get_or kids q 0) }
-    ensures { IfOk result (λ n. IsAdded squares.old.items squares.new.items level n
-        (laid.square_of squares.old.items (level - 1) kids)) }
+    requires kids { (q : ℕ) → q < 4 →
+        listed.IsNumber squares.old.items (level - 1) (get_or kids q 0) }
+    ensures { IfOk result (IsRowOf squares.old.items level kids squares.new.items) }
 {
     if squares.len() >= u32::MAX as usize {
         return Err(AllocError);
@@ -55,11 +54,11 @@ fn push_row(squares: &mut Vec<SquareRow>, level: u8, kids: [u32; 4]) -> Result<u
 fn add_row(squares: &mut Vec<SquareRow>, level: u8, kids: [u32; 4]) -> Result<u32, AllocError>
     requires level { (1 ≤ level) × (level ≤ 62) }
     requires squares { AreRows squares.old.items × (length squares.old.items < 2 ^ 32) }
-    requires kids { (q : ℕ) → q < 4 → listed.IsNumber squares.old.items (level - 1) (get_or kids q 0) }
+    requires kids { (q : ℕ) → q < 4 →
+        listed.IsNumber squares.old.items (level - 1) (get_or kids q 0) }
     ensures keeps { OnOk result (Keeps squares.old.items squares.new.items) }
     ensures number { IfOk result (listed.IsNumber squares.new.items level) }
-    ensures square { IfOk result (λ n.
-        listed.square_in squares.new.items level n ≡ laid.square_of squares.old.items (level - 1) kids) }
+    ensures square { IfOk result (IsSquareOf squares.old.items level kids squares.new.items) }
 {
     if is_same(kids, [0; 4]) {
         return Ok(0);
@@ -74,9 +73,7 @@ impl<'a> SquareTable<'a> {
         requires numbers { AreNumbers self.now.rows (whole.level - 1) whole.kids }
         ensures level { result.level ≡ whole.level - 1 }
         ensures numbers { AreNumbers self.now.rows (result.level - 1) result.kids }
-        ensures centred { 62 < whole.level → CentredAlike whole.level
-            (square_of self.now.rows (whole.level - 1) whole.kids)
-            result.level (square_of self.now.rows (result.level - 1) result.kids) }
+        ensures centred { 62 < whole.level → AreAlike self.now.rows whole result }
     {
         let kids = whole.kids;
         let nw = self.quadrants(kids[0])[3];
@@ -95,8 +92,7 @@ impl<'a> SquareTable<'a> {
         requires level { 1 ≤ level_of square }
         ensures level { (1 ≤ result.level) × (result.level ≤ 62) }
         ensures numbers { AreNumbers self.now.rows (result.level - 1) result.kids }
-        ensures centred { CentredAlike (level_of square.entry) (cells_of self.now square.entry)
-            result.level (square_of self.now.rows (result.level - 1) result.kids) }
+        ensures centred { IsAlike self.now square.entry result }
     {
         let mut root = Quarters {
             kids: *square.kids,
@@ -120,9 +116,9 @@ impl<'a> SquareTable<'a> {
         requires kids { AreNumbers self.now.rows level kids }
         requires packed { IsPacking self.now.rows packed.old.squares.items packed.old.numbers.items }
         ensures keeps { OnOk result (Keeps packed.old.squares.items packed.new.squares.items) }
-        ensures kids { IfOk result (λ all. (q : ℕ) → q < 4 →
-            IsPacked self.now.rows packed.new.squares.items level (get_or kids q 0) (get_or all q 0)) }
-        ensures packed { OnOk result (IsPacking self.now.rows packed.new.squares.items packed.new.numbers.items) }
+        ensures kids { IfOk result (ArePacked self.now.rows packed.new.squares.items level kids) }
+        ensures packed { OnOk result
+            (IsPacking self.now.rows packed.new.squares.items packed.new.numbers.items) }
     {
         let nw = self.pack_square(packed, level, kids[0])?;
         let ne = self.pack_square(packed, level, kids[1])?;
@@ -138,8 +134,10 @@ impl<'a> SquareTable<'a> {
         requires number { IsNumber self.now.rows level number }
         requires packed { IsPacking self.now.rows packed.old.squares.items packed.old.numbers.items }
         ensures keeps { OnOk result (Keeps packed.old.squares.items packed.new.squares.items) }
-        ensures square { IfOk result (IsPacked self.now.rows packed.new.squares.items level number) }
-        ensures packed { OnOk result (IsPacking self.now.rows packed.new.squares.items packed.new.numbers.items) }
+        ensures square { IfOk result
+            (IsPacked self.now.rows packed.new.squares.items level number) }
+        ensures packed { OnOk result
+            (IsPacking self.now.rows packed.new.squares.items packed.new.numbers.items) }
     {
         if level == 0 {
             return Ok(number);
@@ -177,8 +175,10 @@ impl<'a> SquareTable<'a> {
     pub fn pack(&self, square: Square<'a>) -> Result<Plane, AllocError>
         requires held { IsHeld self.now square }
         requires level { 1 ≤ level_of square }
-        requires world { (w : World) × HasMargin 0 w × IsCentred w (level_of square) (cells_of self.now square) }
-        ensures { IfOk result (λ plane. IsCentred plane (level_of square.entry) (cells_of self.now square.entry)) }
+        requires world { (w : World) × HasMargin 0 w
+            × IsCentred w (level_of square) (cells_of self.now square) }
+        ensures { IfOk result (λ plane.
+            IsCentred plane (level_of square.entry) (cells_of self.now square.entry)) }
     {
         let rows = self.pack_rows(self.root(square))?;
         Plane::from_squares(self.alloc(), &rows)

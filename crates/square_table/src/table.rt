@@ -2,7 +2,7 @@
 ghost use Rattle.std.specs.Prelude.{◌≡◌, ℕ, ◌+◌, ◌-◌, ◌^◌, ◌<◌, ◌≤◌, length, map, slice_index_or, vec_len, [], ◌∷◌, ◌++◌, IfOk, IfSome, IfNone, OnOk, OnErr, Err};
 ghost use Rattle.worlds.specs.Square.{one, empty_square};
 ghost use Rattle.square_table.specs.Chains.{kids_of, IsChained, IsAbsent};
-ghost use Rattle.square_table.specs.Squares.{Table, IsNumber, IsHeld, IsSquareOf, Grows, GrowsBy, Keeps, AreFour, IsJoined, Lacks, with_row, cells_of, first_number, kids_at, level_of, number_of, AreDistinct};
+ghost use Rattle.square_table.specs.Squares.{Table, IsNumber, IsHeld, IsSquareOf, Grows, GrowsBy, Keeps, AreFour, IsJoined, Lacks, Tells, with_row, first_number, kids_at, level_of, number_of, AreDistinct};
 ghost use Rattle.square_table.specs.Made.{IsFull};
 ghost use Rattle.square_table.specs.Loading.{GrowsFrom};
 ghost use Rattle.square_table.specs.declared.square.Square.{Square};
@@ -101,9 +101,7 @@ impl<'a> SquareTable<'a> {
 
     /// The square of one cell.
     pub fn cell(&self, state: u8) -> Square<'a>
-        ensures held { IsHeld self.now result }
-        ensures level { level_of result ≡ 0 }
-        ensures cells { cells_of self.now result ≡ one state }
+        ensures { Tells self.now 0 (one state) result }
     {
         Square {
             kids: self.none,
@@ -249,9 +247,7 @@ impl<'a> SquareTable<'a> {
     pub fn blank(&mut self, level: u8) -> Result<Square<'a>, TableFault>
         requires { level ≤ 64 }
         ensures grows { GrowsFrom (level + 1) [] self.old self.new }
-        ensures held { IfOk result (λ s. IsHeld self.new s) }
-        ensures level { IfOk result (λ s. level_of s ≡ level) }
-        ensures cells { IfOk result (λ s. cells_of self.new s ≡ empty_square level) }
+        ensures square { IfOk result (Tells self.new level (empty_square level)) }
         ensures full { result ≡ Err TableFault.NoRoom → IsFull self.new }
     {
         let mut number = 0;

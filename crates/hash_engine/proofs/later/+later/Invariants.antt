@@ -25,8 +25,8 @@ invariant-all_later-loop-number g l = record {
   went_on : g.S.Stop.yes_count l.stop ≡ g.S.Stop.yes_count l.fn.stop;
   count : length l.numbers ≡ length l.fn.numbers;
   done : (j d e : ℕ) → j < l.number-index →
-      StandsFor l.table.rows (suc l.k) (get_or l.numbers j d) (hash_life.result (g.Q.Ask.meaning l.fn.rule) l.k l.generations (square_in l.fn.table.rows (suc (suc l.k)) (get_or l.fn.numbers j e)));
-  asks : AsksForMore (g.Q.Ask.meaning l.fn.rule) l.k l.generations l.fn.numbers l.fn.table l.table l.fn.memo l.memo (g.Q.Ask.asks l.fn.rule) (g.Q.Ask.asks l.rule);
-  adds : AddsFor (g.Q.Ask.meaning l.fn.rule) l.k l.generations l.fn.numbers l.fn.table l.table;
+      StandsFor l.table.rows (suc l.k) (get_or l.numbers j d) (hash_life.result (g.Q.Ask.meaning l.fn.rule) l.k l.ahead (square_in l.fn.table.rows (suc (suc l.k)) (get_or l.fn.numbers j e)));
+  asks : AsksForMore (g.Q.Ask.meaning l.fn.rule) l.k l.ahead l.fn.numbers l.fn.table l.table l.fn.memo l.memo (g.Q.Ask.asks l.fn.rule) (g.Q.Ask.asks l.rule);
+  adds : AddsFor (g.Q.Ask.meaning l.fn.rule) l.k l.ahead l.fn.numbers l.fn.table l.table;
   rest : (j d : ℕ) → l.number-index ≤ j → get_or l.numbers j d ≡ get_or l.fn.numbers j d;
 }

@@ -8,30 +8,30 @@ use Rattle.hash_engine.proofs.later.put.Goals as goal
 
 pub later-requires : goal.later-requires
 later-requires g c = record {
-  numbered = c.requires.number.numbered;
-  below = base_below (g.Q.Ask.meaning c.args.rule.now) (g.Q.Ask.state_count c.args.rule.now) c.args.table.now.rows c.args.generations c.args.number c.requires.some c.requires.number;
+  numbered = c.requires.ready.numbered;
+  below = base_below (g.Q.Ask.meaning c.args.rule.now) (g.Q.Ask.state_count c.args.rule.now) c.args.table.now.rows c.args.ahead c.args.number c.requires.some c.requires.ready;
 }
 
 pub returns-in_err-made-clause-stays : goal.returns-in_err-made-clause-stays
 returns-in_err-made-clause-stays g c = record {
   grows = c.later.ensures.adds.grows;
   rule = c.later.ensures.rule;
-  right = IsRight-grows (g.Q.Ask.meaning c.args.rule.now) c.args.table.now c.later.new.table c.args.memo.now c.later.ensures.adds.grows c.requires.memo.right;
-  adds = AddsFor-later (g.Q.Ask.meaning c.args.rule.now) c.args.generations c.args.number c.args.table.now c.later.new.table c.requires.some c.later.ensures.adds;
+  right = IsRight-grows (g.Q.Ask.meaning c.args.rule.now) c.args.table.now c.later.new.table c.args.memo.now c.later.ensures.adds.grows c.requires.anew.right;
+  adds = AddsFor-later (g.Q.Ask.meaning c.args.rule.now) c.args.ahead c.args.number c.args.table.now c.later.new.table c.requires.some c.later.ensures.adds;
 }
 
 pub remember-requires-clause-number : goal.remember-requires-clause-number
-remember-requires-clause-number g c = above c.args.table.now.rows 1 c.args.number c.requires.number.numbered
+remember-requires-clause-number g c = above c.args.table.now.rows 1 c.args.number c.requires.ready.numbered
 
 pub returns-in_err-remember-clause-stays : goal.returns-in_err-remember-clause-stays
 returns-in_err-remember-clause-stays g c = record {
   grows = c.in_ok-made.ensures.adds.grows;
   rule = c.in_ok-made.ensures.rule;
   right =
-      c.remember.ensures.right (g.Q.Ask.meaning c.args.rule.now) c.later.new.table.rows (IsRight-grows (g.Q.Ask.meaning c.args.rule.now) c.args.table.now c.later.new.table c.args.memo.now c.in_ok-made.ensures.adds.grows c.requires.memo.right)
-      (IsResult-made (g.Q.Ask.meaning c.args.rule.now) c.args.table.now c.later.new.table 0 c.args.generations c.args.number c.in_ok-made.made c.in_ok-made.ensures.adds.grows c.requires.number.numbered
-      (base_stands (g.Q.Ask.meaning c.args.rule.now) c.args.table.now.rows c.later.new.table.rows c.args.generations c.args.number c.in_ok-made.made c.requires.some c.in_ok-made.ensures.square));
-  adds = AddsFor-later (g.Q.Ask.meaning c.args.rule.now) c.args.generations c.args.number c.args.table.now c.later.new.table c.requires.some c.in_ok-made.ensures.adds;
+      c.remember.ensures.right (g.Q.Ask.meaning c.args.rule.now) c.later.new.table.rows (IsRight-grows (g.Q.Ask.meaning c.args.rule.now) c.args.table.now c.later.new.table c.args.memo.now c.in_ok-made.ensures.adds.grows c.requires.anew.right)
+      (IsResult-made (g.Q.Ask.meaning c.args.rule.now) c.args.table.now c.later.new.table 0 c.args.ahead c.args.number c.in_ok-made.made c.in_ok-made.ensures.adds.grows c.requires.ready.numbered
+      (base_stands (g.Q.Ask.meaning c.args.rule.now) c.args.table.now.rows c.later.new.table.rows c.args.ahead c.args.number c.in_ok-made.made c.requires.some c.in_ok-made.ensures.square));
+  adds = AddsFor-later (g.Q.Ask.meaning c.args.rule.now) c.args.ahead c.args.number c.args.table.now c.later.new.table c.requires.some c.in_ok-made.ensures.adds;
 }
 
 pub returns-clause-stays : goal.returns-clause-stays
@@ -39,16 +39,24 @@ returns-clause-stays g c = record {
   grows = c.in_ok-made.ensures.adds.grows;
   rule = c.in_ok-made.ensures.rule;
   right =
-      c.remember.ensures.right (g.Q.Ask.meaning c.args.rule.now) c.later.new.table.rows (IsRight-grows (g.Q.Ask.meaning c.args.rule.now) c.args.table.now c.later.new.table c.args.memo.now c.in_ok-made.ensures.adds.grows c.requires.memo.right)
-      (IsResult-made (g.Q.Ask.meaning c.args.rule.now) c.args.table.now c.later.new.table 0 c.args.generations c.args.number c.in_ok-made.made c.in_ok-made.ensures.adds.grows c.requires.number.numbered
-      (base_stands (g.Q.Ask.meaning c.args.rule.now) c.args.table.now.rows c.later.new.table.rows c.args.generations c.args.number c.in_ok-made.made c.requires.some c.in_ok-made.ensures.square));
-  adds = AddsFor-later (g.Q.Ask.meaning c.args.rule.now) c.args.generations c.args.number c.args.table.now c.later.new.table c.requires.some c.in_ok-made.ensures.adds;
+      c.remember.ensures.right (g.Q.Ask.meaning c.args.rule.now) c.later.new.table.rows (IsRight-grows (g.Q.Ask.meaning c.args.rule.now) c.args.table.now c.later.new.table c.args.memo.now c.in_ok-made.ensures.adds.grows c.requires.anew.right)
+      (IsResult-made (g.Q.Ask.meaning c.args.rule.now) c.args.table.now c.later.new.table 0 c.args.ahead c.args.number c.in_ok-made.made c.in_ok-made.ensures.adds.grows c.requires.ready.numbered
+      (base_stands (g.Q.Ask.meaning c.args.rule.now) c.args.table.now.rows c.later.new.table.rows c.args.ahead c.args.number c.in_ok-made.made c.requires.some c.in_ok-made.ensures.square));
+  adds = AddsFor-later (g.Q.Ask.meaning c.args.rule.now) c.args.ahead c.args.number c.args.table.now c.later.new.table c.requires.some c.in_ok-made.ensures.adds;
 }
 
 pub returns-clause-found : goal.returns-clause-found
 returns-clause-found g c =
-    let found : 0 < c.in_ok-made.made = omega (arith, above c.later.new.table.rows 0 c.in_ok-made.made c.in_ok-made.ensures.square.numbered) in (
-      base_stands (g.Q.Ask.meaning c.args.rule.now) c.args.table.now.rows c.later.new.table.rows c.args.generations c.args.number c.in_ok-made.made c.requires.some c.in_ok-made.ensures.square,
-      put_once (g.Q.Ask.meaning c.args.rule.now) c.args.generations c.args.number c.in_ok-made.made c.args.table.now c.later.new.table c.args.memo.now c.remember.new.self (g.Q.Ask.asks c.args.rule.now) (g.Q.Ask.asks c.later.new.rule)
-          c.requires.some c.in_ok-made.ensures.adds.grows c.requires.number.numbered c.requires.memo.right c.requires.memo.anew found c.in_ok-remember.ensures.noted c.in_ok-made.ensures.asks,
-    )
+    base_stands (g.Q.Ask.meaning c.args.rule.now) c.args.table.now.rows c.later.new.table.rows c.args.ahead c.args.number c.in_ok-made.made c.requires.some c.in_ok-made.ensures.square
+
+pub returns-clause-four : goal.returns-clause-four
+returns-clause-four g c =
+    let found : 0 < c.in_ok-made.made = omega (arith, above c.later.new.table.rows 0 c.in_ok-made.made c.in_ok-made.ensures.square.numbered) in
+    (put_once (g.Q.Ask.meaning c.args.rule.now) c.args.ahead c.args.number c.in_ok-made.made c.args.table.now c.later.new.table c.args.memo.now c.remember.new.self (g.Q.Ask.asks c.args.rule.now) (g.Q.Ask.asks c.later.new.rule)
+    c.requires.some c.in_ok-made.ensures.adds.grows c.requires.ready.numbered c.requires.anew.right c.requires.anew.anew found c.in_ok-remember.ensures.noted c.in_ok-made.ensures.asks).four
+
+pub returns-clause-stand : goal.returns-clause-stand
+returns-clause-stand g c =
+    let found : 0 < c.in_ok-made.made = omega (arith, above c.later.new.table.rows 0 c.in_ok-made.made c.in_ok-made.ensures.square.numbered) in
+    (put_once (g.Q.Ask.meaning c.args.rule.now) c.args.ahead c.args.number c.in_ok-made.made c.args.table.now c.later.new.table c.args.memo.now c.remember.new.self (g.Q.Ask.asks c.args.rule.now) (g.Q.Ask.asks c.later.new.rule)
+    c.requires.some c.in_ok-made.ensures.adds.grows c.requires.ready.numbered c.requires.anew.right c.requires.anew.anew found c.in_ok-remember.ensures.noted c.in_ok-made.ensures.asks).stand

@@ -1,5 +1,5 @@
-use Rattle.std.proofs.Common.{◌≡◌, ℕ, ◌≤◌, List, [], ◌∷◌, Result, Ok, Err, ap, sym, ◌∙◌, subst, arith}
-use Rattle.std.specs.Prelude.{IfOk, Contains}
+use Rattle.std.proofs.Common.{◌≡◌, ℕ, ◌≤◌, List, [], ◌∷◌, ap, sym, ◌∙◌, subst, arith}
+use Rattle.std.specs.Prelude.{Contains}
 use Rattle.worlds.specs.World.{World}
 use Rattle.worlds.specs.Square as squares
 use Rattle.worlds.specs.Square.{empty_square, square_at}
@@ -10,10 +10,10 @@ use Rattle.plane_core.proofs.Shared.Adding.{IfOk_then}
 use Rattle.plane_core.proofs.Shared.Roots.{rooted, root_level-none}
 use Rattle.plane_core.proofs.Shared.Sound.{square_in-none}
 use Rattle.square_table.specs.declared.square.Square.{Square}
-use Rattle.square_table.specs.Squares.{Table, level_of, cells_of}
+use Rattle.square_table.specs.Squares.{Table, Tells, level_of, cells_of}
 use Rattle.square_table.specs.Centred.{edge, IsCentred}
 use Rattle.square_table.specs.Made.{HoldsWithin, HasEmpty}
-use Rattle.square_table.specs.Loading.{LevelsUpTo, GrowsFrom, GrowsFor, IsRootLevel, empty_below}
+use Rattle.square_table.specs.Loading.{LevelsUpTo, GrowsFrom, GrowsFor, IsRootLevel, TellsWorld, empty_below}
 use Rattle.square_table.proofs.Shared.Growth.{Grows-same}
 use Rattle.square_table.proofs.Listing.{listed_root}
 use Rattle.square_table.proofs.Canonical.{cells_below, levels_up_to}
@@ -63,21 +63,25 @@ root_low w rows seen k are same level =
     subst (λ j. IsRootLevel j w) (sym (level ∙ ap root_level same))
     (record { low = is.low; high = is.high; least = subst (IsLeastLevel (root_level rows)) are.world are.canonical.least })
 
-pub returns-clause-level : goal.returns-clause-level
-returns-clause-level c =
-    IfOk_then c.load_root.result (λ s. level_of s ≡ root_level c.deref.result.now) (λ s. IsRootLevel (level_of s) c.args.plane.now)
-    (λ s. root_low c.args.plane.now c.in_ok-squares.squares.items c.deref.result.now (level_of s) c.in_ok-squares.ensures c.deref.ensures.value) c.load_root.ensures.level
-
-centred : {E : Type 0} (r : Result Square E) (w : World) (rows seen : List SquareRow) (t : Table) → AreSquaresOf w rows → seen ≡ rows → IfOk r (λ s. level_of s ≡ root_level seen) → IfOk r (λ s. cells_of t s ≡ root_of seen)
-    → IfOk r (λ s. IsCentred w (level_of s) (cells_of t s))
-centred (Err e) w rows seen t are same level cells = tt
-centred (Ok s) w rows seen t are same level cells =
-    subst (λ k. IsCentred w k (cells_of t s)) (sym (level ∙ ap root_level same))
-    (subst (IsCentred w (root_level rows)) (sym (cells ∙ ap root_of same))
+centred : (s : Square) (w : World) (rows seen : List SquareRow) (t : Table) → AreSquaresOf w rows → seen ≡ rows → Tells t (root_level seen) (root_of seen) s → IsCentred w (level_of s) (cells_of t s)
+centred s w rows seen t are same is =
+    subst (λ k. IsCentred w k (cells_of t s)) (sym (is.level ∙ ap root_level same))
+    (subst (IsCentred w (root_level rows)) (sym (is.cells ∙ ap root_of same))
     (subst (λ (v : World). IsCentred v (root_level rows) (root_of rows)) are.world (root_centred rows are.canonical.valid)))
 
-pub returns-clause-centred : goal.returns-clause-centred
-returns-clause-centred c = centred c.load_root.result c.args.plane.now c.in_ok-squares.squares.items c.deref.result.now c.load_root.new.self c.in_ok-squares.ensures c.deref.ensures.value c.load_root.ensures.level c.load_root.ensures.cells
+pub returns-clause-square : goal.returns-clause-square
+returns-clause-square c =
+    let w = c.args.plane.now in
+    let rows = c.in_ok-squares.squares.items in
+    let seen = c.deref.result.now in
+    let t = c.load_root.new.self in
+    IfOk_then c.load_root.result (Tells t (root_level seen) (root_of seen)) (TellsWorld t w)
+    (λ s is. record {
+      held = is.held;
+      level = root_low w rows seen (level_of s) c.in_ok-squares.ensures c.deref.ensures.value is.level;
+      centred = centred s w rows seen t c.in_ok-squares.ensures c.deref.ensures.value is;
+    })
+    c.load_root.ensures.square
 
 pub returns-clause-states : goal.returns-clause-states
 returns-clause-states c = λ n low below old.

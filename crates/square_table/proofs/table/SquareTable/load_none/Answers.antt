@@ -20,7 +20,11 @@ returns-clause-grows c = from_zero c.args.self.now c.join_numbers.new.self c.joi
 pub returns-in_err-square-clause-grows : goal.returns-in_err-square-clause-grows
 returns-in_err-square-clause-grows c = from_zero c.args.self.now c.join_numbers.new.self c.join_numbers.ensures.grows c.join_numbers.ensures.one
 
-pub returns-clause-cells : goal.returns-clause-cells
-returns-clause-cells c =
-    ap₂ (square_in c.join_numbers.new.self.rows) c.in_ok-square.ensures.level c.in_ok-square.ensures.number
-    ∙ (blanks c.args.self.now c.join_numbers.new.self c.in_ok-number.number c.in_ok-number.ensures.grows c.in_ok-number.ensures.square).empty 1 (lit< tt)
+pub returns-clause-square : goal.returns-clause-square
+returns-clause-square c = record {
+  held = c.in_ok-square.ensures.held;
+  level = c.in_ok-square.ensures.level;
+  cells =
+      ap₂ (square_in c.join_numbers.new.self.rows) c.in_ok-square.ensures.level c.in_ok-square.ensures.number
+      ∙ (blanks c.args.self.now c.join_numbers.new.self c.in_ok-number.number c.in_ok-number.ensures.grows c.in_ok-number.ensures.square).empty 1 (lit< tt);
+}

@@ -10,7 +10,7 @@ use Rattle.plane_core.specs.Rows.{no_row, AreRows, root_level, root_of}
 use Rattle.plane_core.proofs.Shared.Adding.{IfOk_then}
 use Rattle.plane_core.proofs.Shared.Roots.{root_level-none, root_level-some}
 use Rattle.plane_core.proofs.Shared.Sound.{square_in-none}
-use Rattle.square_table.specs.Squares.{Table, square_in, level_of, cells_of}
+use Rattle.square_table.specs.Squares.{Table, Tells, square_in}
 use Rattle.square_table.specs.Loading.{LevelsUpTo, AreLoaded, IsLoadedAt, GrowsFrom, empty_below}
 use Rattle.square_table.proofs.Loading.{GrowsFrom-same, GrowsFrom-higher, GrowsFrom-behind}
 use Rattle.square_table.proofs.table.SquareTable.load_root.Goals as goal
@@ -27,18 +27,16 @@ pub returns-in_default-clause-grows : goal.returns-in_default-clause-grows
 returns-in_default-clause-grows c =
     subst (λ (rows : List SquareRow). GrowsFrom (empty_below rows) rows c.args.self.now c.load_none.new.self) (sym (none c.args.squares.now (sym c.in_default.ensures.value))) c.load_none.ensures.grows
 
-pub returns-in_default-clause-level : goal.returns-in_default-clause-level
-returns-in_default-clause-level c =
-    IfOk_then c.load_none.result (λ s. level_of s ≡ 1) (λ s. level_of s ≡ root_level c.args.squares.now)
-    (λ s h. h ∙ sym (ap root_level (none c.args.squares.now (sym c.in_default.ensures.value)) ∙ root_level-none)) c.load_none.ensures.level
-
 empty_root : (rows : List SquareRow) → rows ≡ [] → root_of rows ≡ empty_square 1
 empty_root rows e = ap root_of e ∙ ap (λ k. listed.square_in [] k 0) root_level-none ∙ square_in-none [] 1
 
-pub returns-in_default-clause-cells : goal.returns-in_default-clause-cells
-returns-in_default-clause-cells c =
-    IfOk_then c.load_none.result (λ s. cells_of c.load_none.new.self s ≡ empty_square 1) (λ s. cells_of c.load_none.new.self s ≡ root_of c.args.squares.now)
-    (λ s h. h ∙ sym (empty_root c.args.squares.now (none c.args.squares.now (sym c.in_default.ensures.value)))) c.load_none.ensures.cells
+pub returns-in_default-clause-square : goal.returns-in_default-clause-square
+returns-in_default-clause-square c =
+    let rows = c.args.squares.now in
+    let empty = none rows (sym c.in_default.ensures.value) in
+    IfOk_then c.load_none.result (Tells c.load_none.new.self 1 (empty_square 1)) (Tells c.load_none.new.self (root_level rows) (root_of rows))
+    (λ s is. record { held = is.held; level = is.level ∙ sym (ap root_level empty ∙ root_level-none); cells = is.cells ∙ sym (empty_root rows empty) })
+    c.load_none.ensures.square
 
 -- the last row is that of the root
 record IsLast (rows : List SquareRow) (root : SquareRow) : Type 0 where
@@ -96,11 +94,12 @@ root rows table numbers n k some level count known read =
     let high : (get_or rows i no_row).level ≡ root_level rows = sym (root_level-some rows some) in
     ap (λ j. square_in table j n) (level ∙ sym high) ∙ loaded.square ∙ ap (λ j. listed.square_in rows j (suc i)) high ∙ ap (listed.square_in rows (root_level rows)) last_is
 
-pub returns-clause-level : goal.returns-clause-level
-returns-clause-level c = c.in_ok-square.ensures.level ∙ (last c.args.squares.now c.in-Some.root.now (sym c.in-Some.ensures.value)).level
-
-pub returns-clause-cells : goal.returns-clause-cells
-returns-clause-cells c =
+pub returns-clause-square : goal.returns-clause-square
+returns-clause-square c =
     let is = last c.args.squares.now c.in-Some.root.now (sym c.in-Some.ensures.value) in
-    ap₂ (square_in c.load_rows.new.self.rows) c.in_ok-square.ensures.level c.in_ok-square.ensures.number
-    ∙ root c.args.squares.now c.load_rows.new.self.rows c.in_ok-numbers.numbers.items c.index-number.result.now c.in-Some.root.now.level is.some is.level c.in_ok-numbers.ensures.count c.in_ok-numbers.ensures.loaded c.index-number.ensures
+    record {
+      held = c.in_ok-square.ensures.held;
+      level = c.in_ok-square.ensures.level ∙ is.level;
+      cells = ap₂ (square_in c.load_rows.new.self.rows) c.in_ok-square.ensures.level c.in_ok-square.ensures.number
+          ∙ root c.args.squares.now c.load_rows.new.self.rows c.in_ok-numbers.numbers.items c.index-number.result.now c.in-Some.root.now.level is.some is.level c.in_ok-numbers.ensures.count c.in_ok-numbers.ensures.loaded c.index-number.ensures;
+    }
