@@ -1,27 +1,26 @@
 -- What is read where the words are choices.
-use Rattle.std.proofs.Common.{◌≡◌, ◌≢◌, ◌⊎◌, ◌∙◌, ◌++◌, ◌∷◌, ◌||◌, ap, ap₂, ℕ, zero, suc, Bool, true, false, List, [], Option, Some, None, Result, Ok, Err, IfOk, refl, sym, subst, inl, inr, arith, codes}
+use Rattle.std.proofs.Common.{◌≡◌, ◌≢◌, ◌⊎◌, ◌∙◌, ◌++◌, ◌∷◌, ap, ap₂, ℕ, Bool, true, false, List, [], Option, Some, None, Result, Ok, Err, IfOk, refl, sym, subst, inl, inr, arith, codes}
 use Rattle.std.specs.Prelude.{All, MatchResult, fold, if◌then◌else◌}
 use Rattle.std.specs.List.{slice_index_or}
 use Rattle.std.specs.Str.{bytes_eq}
 use Rattle.std.specs.Str.Parse.{digits_value, without_leading_plus}
-use Rattle.std.proofs.lemmas.List.Elements.{All-get_or, All-tail}
-use Rattle.clap.specs.Faults.{default_fault, defaults_fault, fault_of, walk_fault}
+use Rattle.std.proofs.lemmas.List.Elements.{All-tail}
+use Rattle.clap.specs.Faults.{default_fault, defaults_fault, walk_fault}
 use Rattle.clap.specs.Kinds.{FailsBy, HasKind, or_else}
 use Rattle.clap.specs.Values.{kind_of}
-use Rattle.clap.specs.Simple.{built, filled, help_rule, matches_of, with_index}
+use Rattle.clap.specs.Simple.{filled, help_rule, matches_of, with_index}
 use Rattle.clap.specs.Walk.{Row, Rule, Text, Walk, finished, has_row, more_values, one_of, reading_by, settled_rows, walked, with_default}
 use Rattle.clap.specs.declared.error.Error.{Error}
 use Rattle.clap.specs.declared.error.kind.ErrorKind.TheVariants.{OutOfMemory}
 use Rattle.clap.specs.declared.parser.matches.ValueSource.TheVariants.{DefaultValue}
-use Rattle.clap.proofs.OnLiterals.{clap_on_literals}
 use Rattle.desk_words.specs.declared.settings.Options.{Options}
 use Rattle.desk_words.specs.declared.settings.Setting.{Setting}
 use Rattle.desk_words.specs.declared.settings.Setting.TheVariants.{Workers, Facts, Squares}
 use Rattle.desk_words.specs.Command.{Chooses, ChoosesFor, desk, faults, name_of, text_of, usual_of}
-use Rattle.desk_words.specs.Words.{AreOnce, AsksWith, Choice, IsInOrder, all_words, chosen_by, with_number, words_of}
+use Rattle.desk_words.specs.Words.{AreOnce, AsksWith, Choice, IsInOrder, all_words, chosen_by, with_number}
 use Rattle.desk_words.proofs.Requests.{only_memory}
 use Rattle.desk_words.proofs.Rows.{has_other, has_this, put_behind, text_other, text_this}
-use Rattle.desk_words.proofs.Walked.{Leads, Pending, Stands, between, choice_leads, no_plus, row_for, rule_for, rules, shape}
+use Rattle.desk_words.proofs.Walked.{Pending, Stands, between, choice_leads, no_plus, row_for, rule_for, rules, shape}
 
 -- a setting is another, or its name is
 same_or_not : (s t : Setting) → (s ≡ t) ⊎ (bytes_eq (name_of s) (name_of t) ≡ false)

@@ -1,5 +1,5 @@
 -- The numbers that the words choose.
-use Rattle.std.proofs.Common.{◌≡◌, ◌∙◌, ℕ, ap, sym, subst, refl, List, Result, Ok, Err, Some, true, IfOk, codes}
+use Rattle.std.proofs.Common.{◌≡◌, ◌∙◌, ℕ, ap, sym, subst, refl, List, Result, Ok, Err, true, IfOk}
 use Rattle.clap.specs.Words.{App, HasMatchesOf, IsParsedFrom, Text, app_of, found_of, is_simple, matches_of, one_of, rows_of}
 use Rattle.clap.proofs.WalkLemmas.{one_text-rows}
 use Rattle.clap.specs.declared.builder.command.Command.{Command}

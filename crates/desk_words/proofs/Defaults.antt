@@ -1,12 +1,12 @@
 -- What is read, after a parse, of an argument that has a default.
-use Rattle.std.proofs.Common.{◌≡◌, ◌∙◌, ◌<◌, ◌≤◌, ◌++◌, ◌∷◌, ◌||◌, ap, ℕ, zero, suc, Bool, true, false, List, [], length, is_some, Option, Some, None, refl, sym, subst, inl, inr, arith, slice_index, codes}
+use Rattle.std.proofs.Common.{◌≡◌, ◌∙◌, ◌<◌, ◌≤◌, ◌∷◌, ap, ℕ, zero, suc, Bool, true, false, List, [], length, is_some, Option, Some, None, refl, sym, subst, inl, inr, arith}
 use Rattle.std.specs.List.{All, slice_index_or}
 use Rattle.std.specs.Str.{bytes_eq}
 use Rattle.std.specs.Prelude.{find, option_map, slice_get}
 use Rattle.std.specs.Borrow.{Bor}
 use Rattle.std.proofs.lemmas.Slice.Eq.{bytes_eq-Decides}
-use Rattle.std.proofs.lemmas.List.Elements.{All-get_or, All-nil}
-use Rattle.clap.specs.Facts.{args_of, groups_of, AllowsNone, Entry, EntryPasses, EntryValuesPass, HasReading, IsCountArg, IsFilledEntry, IsGroupEntry, PassesArg, ReadsByParser, ValuesPass, WantsDefault, least_values, parser_of, parser_of_value, unwrap_or_range}
+use Rattle.std.proofs.lemmas.List.Elements.{All-get_or}
+use Rattle.clap.specs.Facts.{args_of, groups_of, AllowsNone, Entry, EntryPasses, EntryValuesPass, HasReading, IsCountArg, IsFilledEntry, IsGroupEntry, PassesArg, ReadsByParser, ValuesPass, WantsDefault, least_values, parser_of, parser_of_value}
 use Rattle.clap.specs.Built.{IsAuto, IsParsedFrom, IsPlain, SameRules}
 use Rattle.clap.specs.Matches.{found_of, matched_of, one_text}
 use Rattle.clap.specs.Values.{Accepts, read_as, reading_of}
@@ -17,7 +17,6 @@ use Rattle.clap.specs.declared.builder.command.Command.{Command}
 use Rattle.clap.specs.declared.builder.command.Command.TheViews.{out-Command}
 use Rattle.clap.specs.declared.builder.value_parser.Reading.{Reading}
 use Rattle.clap.specs.declared.builder.value_parser.ValueParser.{ValueParser}
-use Rattle.clap.specs.declared.builder.value_parser.ValueParser.TheVariants.{Unsigned}
 use Rattle.clap.specs.declared.parser.matches.ArgMatches.{ArgMatches}
 use Rattle.clap.specs.declared.parser.matches.Found.{Found}
 use Rattle.clap.specs.declared.parser.matches.MatchedArg.{MatchedArg}

@@ -1,24 +1,21 @@
 -- Whatever the command parses, each setting has a number.
-use Rattle.std.proofs.Common.{◌≡◌, ◌∙◌, ◌<◌, ◌≤◌, ◌++◌, ◌∷◌, ◌||◌, ap, ℕ, zero, suc, Bool, true, false, List, [], length, Option, Some, None, refl, sym, subst, inl, inr, arith, slice_index, codes}
+use Rattle.std.proofs.Common.{◌≡◌, ◌∙◌, ◌<◌, ◌≤◌, ◌++◌, ◌∷◌, ◌||◌, ap, ℕ, zero, suc, true, false, List, [], length, Some, None, refl, sym, subst, inl, inr, arith, slice_index}
 use Rattle.std.specs.List.{All, slice_index_or}
 use Rattle.std.specs.Str.{bytes_eq}
 use Rattle.std.proofs.lemmas.List.Elements.{All-nil}
 use Rattle.clap.specs.Facts.{args_of, groups_of, WantsDefault, least_values, unwrap_or_range}
-use Rattle.clap.specs.Built.{AddsArg, IsAuto, IsParsedFrom, IsPlain, IsPlainArg, SameRules}
+use Rattle.clap.specs.Built.{AddsArg, IsAuto, IsPlain, IsPlainArg, SameRules}
 use Rattle.clap.specs.Matches.{found_of, one_text}
-use Rattle.clap.specs.Values.{Accepts, read_as, reading_of}
-use Rattle.clap.specs.Texts.{items_of}
 use Rattle.clap.proofs.CallerLemmas.{added_plain}
 use Rattle.clap.specs.declared.builder.action.ArgAction.TheVariants.{Set}
 use Rattle.clap.specs.declared.builder.arg.Arg.{Arg}
 use Rattle.clap.specs.declared.builder.command.Command.{Command}
 use Rattle.clap.specs.declared.builder.command.Command.TheViews.{out-Command}
 use Rattle.clap.specs.declared.builder.value_parser.ValueParser.TheVariants.{Unsigned}
-use Rattle.clap.specs.Walk.{Rule, Text, rule_of}
-use Rattle.clap.specs.declared.parser.matches.ArgMatches.{ArgMatches}
+use Rattle.clap.specs.Walk.{Rule, Text}
 use Rattle.desk_words.specs.declared.settings.Setting.{Setting}
 use Rattle.desk_words.specs.declared.settings.Setting.TheVariants.{Workers, Facts, Squares}
-use Rattle.desk_words.specs.Command.{AlwaysGives, HasNumber, IsOptionOf, least_of, most_of, name_of, setting_rule}
+use Rattle.desk_words.specs.Command.{AlwaysGives, IsOptionOf, least_of, most_of, name_of}
 use Rattle.desk_words.proofs.Defaults.{default_read}
 
 -- what a command knows of the argument of a setting

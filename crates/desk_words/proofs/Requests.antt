@@ -1,5 +1,5 @@
 -- What is read where the first word is no option, or is one word for help.
-use Rattle.std.proofs.Common.{◌≡◌, ◌≢◌, ◌==◌, Bool, true, false, ℕ, inl, inr, refl, sym, arith, ap, ◌∙◌, List, [], ◌∷◌, None, Some, Result, Ok, Err, IsErrAnd, codes}
+use Rattle.std.proofs.Common.{◌≡◌, ◌≢◌, ◌==◌, false, ℕ, inl, inr, refl, arith, ap, ◌∙◌, List, [], ◌∷◌, None, Result, Ok, Err, IsErrAnd, codes}
 use Rattle.std.proofs.lemmas.Bool.Decides.{nat_tests}
 use Rattle.std.proofs.Math.Path.{subst}
 use Rattle.clap.specs.Lexer.{strip_byte}

@@ -1,6 +1,5 @@
 -- Rows of matches, of which none has an id that another has.
-use Rattle.std.proofs.Common.{◌≡◌, ◌∙◌, ◌++◌, ◌∷◌, ◌||◌, ap, Bool, true, false, List, [], Option, Some, None, refl, sym, subst}
-use Rattle.std.specs.Prelude.{find}
+use Rattle.std.proofs.Common.{◌≡◌, ◌++◌, ◌∷◌, ◌||◌, ap, Bool, true, false, List, [], refl}
 use Rattle.std.specs.Str.{bytes_eq}
 use Rattle.clap.specs.Walk.{Row, Text, at_row, has_row, one_of, row_text}
 

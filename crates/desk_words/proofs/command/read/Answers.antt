@@ -1,6 +1,5 @@
 use Rattle.std.proofs.Common.{◌≡◌, [], Ok, rules, map, IfOk}
 use Rattle.clap.specs.Words.{FailsBy, found_of}
-use Rattle.desk_words.specs.declared.settings.Options.{Options}
 use Rattle.desk_words.specs.declared.settings.Setting.TheVariants.{Workers, Facts, Squares}
 use Rattle.desk_words.specs.Command.{Chooses, faults}
 use Rattle.desk_words.proofs.Asked.{asked_reads}
