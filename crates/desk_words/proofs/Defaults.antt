@@ -1,25 +1,22 @@
--- What is read, after a parse, of the one argument of a command, which has a default.
-use Rattle.std.proofs.Common.{◌≡◌, ◌∙◌, ◌<◌, ◌≤◌, ◌++◌, ◌∷◌, ◌||◌, ap, ℕ, zero, suc, Bool, true, false, List, [], length, is_some, Option, Some, None, refl, sym, subst, inl, inr, arith, slice_index, codes}
+-- What is read, after a parse, of an argument that has a default.
+use Rattle.std.proofs.Common.{◌≡◌, ◌∙◌, ◌<◌, ◌≤◌, ◌∷◌, ap, ℕ, zero, suc, Bool, true, false, List, [], length, is_some, Option, Some, None, refl, sym, subst, inl, inr, arith}
 use Rattle.std.specs.List.{All, slice_index_or}
 use Rattle.std.specs.Str.{bytes_eq}
 use Rattle.std.specs.Prelude.{find, option_map, slice_get}
 use Rattle.std.specs.Borrow.{Bor}
 use Rattle.std.proofs.lemmas.Slice.Eq.{bytes_eq-Decides}
-use Rattle.std.proofs.lemmas.List.Elements.{All-get_or, All-nil}
-use Rattle.clap.specs.Facts.{args_of, groups_of, AllowsNone, Entry, EntryPasses, EntryValuesPass, HasReading, IsCountArg, IsFilledEntry, IsGroupEntry, PassesArg, ReadsByParser, ValuesPass, WantsDefault, least_values, parser_of, parser_of_value, unwrap_or_range}
-use Rattle.clap.specs.Built.{AddsArg, IsAuto, IsParsedFrom, IsPlain, IsPlainArg, SameRules}
+use Rattle.std.proofs.lemmas.List.Elements.{All-get_or}
+use Rattle.clap.specs.Facts.{args_of, groups_of, AllowsNone, Entry, EntryPasses, EntryValuesPass, HasReading, IsCountArg, IsFilledEntry, IsGroupEntry, PassesArg, ReadsByParser, ValuesPass, WantsDefault, least_values, parser_of, parser_of_value}
+use Rattle.clap.specs.Built.{IsAuto, IsParsedFrom, IsPlain, SameRules}
 use Rattle.clap.specs.Matches.{found_of, matched_of, one_text}
 use Rattle.clap.specs.Values.{Accepts, read_as, reading_of}
-use Rattle.clap.proofs.CallerLemmas.{added_plain, default_present, entry_by_id, same_rules_by_id}
+use Rattle.clap.proofs.CallerLemmas.{default_present, entry_by_id, same_rules_by_id}
 use Rattle.clap.specs.declared.builder.action.ArgAction.TheVariants.{Count, Set}
 use Rattle.clap.specs.declared.builder.arg.Arg.{Arg}
 use Rattle.clap.specs.declared.builder.command.Command.{Command}
 use Rattle.clap.specs.declared.builder.command.Command.TheViews.{out-Command}
 use Rattle.clap.specs.declared.builder.value_parser.Reading.{Reading}
 use Rattle.clap.specs.declared.builder.value_parser.ValueParser.{ValueParser}
-use Rattle.clap.specs.declared.builder.value_parser.ValueParser.TheVariants.{Unsigned}
-use Rattle.clap.specs.Walk.{Rule, rule_of}
-use Rattle.desk_words.specs.Command.{AlwaysGives, squares_rule}
 use Rattle.clap.specs.declared.parser.matches.ArgMatches.{ArgMatches}
 use Rattle.clap.specs.declared.parser.matches.Found.{Found}
 use Rattle.clap.specs.declared.parser.matches.MatchedArg.{MatchedArg}
@@ -151,49 +148,21 @@ told_again f a b q rules same got = (
   subst (λ (c : Bool). Accepts c q got.0) rules.ignore_case got.2,
 )
 
--- the one argument of a command, where it has a default and takes a value, has a text that passed its parser
-pub one_default_read : (start cmd : Command) (a : Arg) (m : ArgMatches) → AddsArg start a cmd
-    → args_of start ≡ [] → groups_of start ≡ [] → (out-Command start).has_globals ≡ false
-    → IsPlainArg a → a.global ≡ false → WantsDefault a → a.action ≡ Some Set → a.val_delim ≡ None → 1 ≤ least_values a
-    → (a.id.now ≡ [] → ⊥) → (IsAuto a → ⊥) → (q : ValueParser) → a.value_parser ≡ Some q → IsParsedFrom cmd m
-    → (t : List ℕ) × (one_text (found_of m) a.id.now ≡ Some (read_as (reading_of q) t)) × Accepts a.ignore_case q t
-one_default_read start cmd a m added args groups globals plain global wants set delim least named own q parser p =
+-- an argument of a plain command, where it has a default and takes a value, has a text that passed its parser
+pub default_read : (cmd : Command) (m : ArgMatches) → IsParsedFrom cmd m → IsPlain cmd → (out-Command cmd).has_globals ≡ false
+    → (k : ℕ) (d : Arg) → k < length (args_of cmd)
+    → ((j : ℕ) (e : Arg) → j < length (args_of cmd) → bytes_eq (slice_index_or (args_of cmd) j e).id.now (slice_index_or (args_of cmd) k d).id.now ≡ true → j ≡ k)
+    → WantsDefault (slice_index_or (args_of cmd) k d) → (slice_index_or (args_of cmd) k d).action ≡ Some Set
+    → (slice_index_or (args_of cmd) k d).val_delim ≡ None → 1 ≤ least_values (slice_index_or (args_of cmd) k d)
+    → ((slice_index_or (args_of cmd) k d).id.now ≡ [] → ⊥) → (IsAuto (slice_index_or (args_of cmd) k d) → ⊥)
+    → (q : ValueParser) → (slice_index_or (args_of cmd) k d).value_parser ≡ Some q
+    → (t : List ℕ) × (one_text (found_of m) (slice_index_or (args_of cmd) k d).id.now ≡ Some (read_as (reading_of q) t)) × Accepts (slice_index_or (args_of cmd) k d).ignore_case q t
+default_read cmd m p plain globals k d lt only wants set delim least named own q parser =
     let f = found_of m in
-    let id = a.id.now in
-    let list : args_of cmd ≡ added.arg ∷ [] = added.args ∙ ap (λ l. l ++ added.arg ∷ []) args in
-    let start-plain : IsPlain start = (subst (All IsPlainArg) (sym args) (All-nil IsPlainArg), groups) in
-    let plain2 : IsPlain cmd = added_plain start cmd a added start-plain plain in
-    let first : Arg = slice_index_or (args_of cmd) 0 a in
-    let elem : first ≡ added.arg = ap (λ l. slice_index_or l 0 a) list in
-    let lt : 0 < length (args_of cmd) = subst (λ l. 0 < length l) (sym list) (omega arith) in
-    let no-globals : (out-Command cmd).has_globals ≡ false = added.globals ∙ (ap (λ b. b || a.global) globals ∙ ap (λ b. false || b) global) in
-    let rules : SameRules a first = subst (SameRules a) (sym elem) added.rules in
-    let same_id : first.id.now ≡ id = ap (λ x. x.now) rules.id in
-    let wants2 : WantsDefault first = (rules.ifs ∙ wants.0, rw (rules.defaults wants.1) wants.1) in
-    let has = default_present cmd m p no-globals 0 a lt wants2 in
+    let first : Arg = slice_index_or (args_of cmd) k d in
+    let has = default_present cmd m p globals k d lt wants in
     let there : is_some (matched_of f first.id.now) ≡ true = found_at f.entries.items first.id.now has.0 has.1 has.2 in
-    let only : (j : ℕ) (e : Arg) → j < length (args_of cmd) → bytes_eq (slice_index_or (args_of cmd) j e).id.now first.id.now ≡ true → j ≡ 0 =
-    λ j e low same. let one : j < 1 = subst (λ l. j < length l) list low in omega arith in
-    let own2 : IsAuto first → ⊥ = λ auto. own (elim auto [ inl h ↦ inl (sym same_id ∙ h) | inr h ↦ inr (sym same_id ∙ h) ]) in
-    let values = (p.parsed (p.from.globals ∙ no-globals)).values in
-    let got = find_entry p.built f first q there values (λ e found key pass. entry_gives p.built f first q e
-    (λ j y low at same. same_rules_by_id cmd m p 0 a lt only own2 j y low at same)
-    (p.from.plain plain2).1 (λ empty. named (sym same_id ∙ empty)) (rules.action Set set) (rules.val_delim ∙ delim) (rules.least set least) (rules.parser q parser) found key pass) in
-    told_again f a first q rules same_id got
-
--- so the option of the command has a text that is a number in its range
-pub always_gives : (start cmd : Command) (a : Arg) → AddsArg start a cmd
-    → args_of start ≡ [] → groups_of start ≡ [] → (out-Command start).has_globals ≡ false
-    → IsPlainArg a × (a.global ≡ false) → WantsDefault a → a.val_delim ≡ None → rule_of a ≡ squares_rule → AlwaysGives cmd
-always_gives start cmd a added args groups globals alone wants delim rule = λ m p.
-    let id : a.id.now ≡ codes "squares" = ap (λ (r : Rule). r.id) rule in
-    let head : (t : List ℕ) → a.id.now ≡ t → slice_index t 0 ≡ 115 = λ t e. rw (← e, id) refl in
-    let least : least_values a ≡ 1 = ap (λ (r : Rule). (unwrap_or_range r.range).start_inclusive) rule in
-    let got = one_default_read start cmd a m added args groups globals alone.0 alone.1 wants (ap (λ (r : Rule). r.action) rule) delim (omega (arith, least))
-    (λ e. let bad : 0 ≡ 115 = head [] e in absurd (omega arith))
-    (λ auto. elim auto [
-      | inl h ↦ let bad : 104 ≡ 115 = head _ h in absurd (omega arith)
-      | inr h ↦ let bad : 118 ≡ 115 = head _ h in absurd (omega arith)
-    ])
-    (Unsigned 64 16777216) (ap (λ (r : Rule). r.parser) rule) p in
-    (got.0, (subst (λ (w : List ℕ). one_text (found_of m) w ≡ Some got.0) id got.1, got.2))
+    let values = (p.parsed (p.from.globals ∙ globals)).values in
+    find_entry p.built f first q there values (λ e found key pass. entry_gives p.built f first q e
+    (λ j y low at same. same_rules_by_id cmd m p k d lt only own j y low at same)
+    (p.from.plain plain).1 named set delim least parser found key pass)

@@ -1,4 +1,7 @@
-pub mod Requests
 pub mod Defaults
+pub mod Parsed
 pub mod Chosen
-pub mod Given
+pub mod Requests
+pub mod Rows
+pub mod Walked
+pub mod Asked

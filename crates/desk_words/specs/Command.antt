@@ -1,7 +1,10 @@
 -- What the command makes of words, as `clap` defines it.
-use Rattle.std.specs.Prelude.{◌≡◌, ◌⊎◌, ◌≤◌, ℕ, List, [], ◌∷◌, Option, Some, codes}
+use Rattle.std.specs.Prelude.{◌≡◌, ◌⊎◌, ◌≤◌, ℕ, List, [], ◌∷◌, Option, Some, None, codes, false, true}
 use Rattle.std.specs.Str.Parse.{digits_value, without_leading_plus}
-use Rattle.clap.specs.Words.{App, IsParsedFrom, IsUnsignedIn, Kinds, Rule, Text, fault_of, found_of, kind_of, matches_of, new_app, new_rule, one_of, one_text, with_rule}
+use Rattle.clap.specs.Facts.{WantsDefault}
+use Rattle.clap.specs.Simple.{on_top}
+use Rattle.clap.specs.Words.{App, IsParsedFrom, IsPlainArg, IsUnsignedIn, Kinds, Rule, Text, fault_of, found_of, kind_of, matches_of, new_app, new_rule, one_of, one_text, rule_of, with_rule}
+use Rattle.clap.specs.declared.builder.arg.Arg.{Arg}
 use Rattle.clap.specs.declared.builder.command.Command.{Command}
 use Rattle.clap.specs.declared.builder.action.ArgAction.TheVariants.{Set}
 use Rattle.clap.specs.declared.builder.value_parser.ValueParser.TheVariants.{Unsigned}
@@ -9,46 +12,107 @@ use Rattle.clap.specs.declared.error.Error.{Error}
 use Rattle.clap.specs.declared.parser.matches.ArgMatches.{ArgMatches}
 use Rattle.clap.specs.declared.parser.matches.Found.{Found}
 use Rattle.clap.specs.declared.error.kind.ErrorKind.TheVariants.{DisplayHelp, OutOfMemory, UnknownArgument}
+use Rattle.desk_words.specs.declared.settings.Options.{Options}
+use Rattle.desk_words.specs.declared.settings.Setting.{Setting}
+use Rattle.desk_words.specs.declared.settings.Setting.TheVariants.{Workers, Facts, Squares}
 
--- the option `--squares N`, where N is a number from 64 to 16777216, and 4194304 where it isn't used
-abbrev pub squares_rule : Rule
-squares_rule = record (new_rule (codes "squares")) {
-  long = Some (codes "squares");
+-- the name of a setting
+abbrev pub name_of : Setting → Text
+name_of Workers = codes "workers"
+name_of Facts = codes "facts"
+name_of Squares = codes "squares"
+
+-- the least number that it takes
+abbrev pub least_of : Setting → ℕ
+least_of Workers = 1
+least_of Facts = 1
+least_of Squares = 64
+
+-- the most
+abbrev pub most_of : Setting → ℕ
+most_of Workers = 8
+most_of Facts = 4096
+most_of Squares = 16777216
+
+-- what stands for it where it isn't used
+abbrev pub usual_of : Setting → Text
+usual_of Workers = codes "2"
+usual_of Facts = codes "64"
+usual_of Squares = codes "4194304"
+
+-- the ends of its range
+abbrev pub IsRangeOf : Setting → ℕ → ℕ → Type 0
+IsRangeOf setting least most = (least ≡ least_of setting) × (most ≡ most_of setting)
+
+-- the option `--NAME N` of a setting, where N is a number of its range
+abbrev pub setting_rule : Setting → Rule
+setting_rule setting = record (new_rule (name_of setting)) {
+  long = Some (name_of setting);
   action = Some Set;
   value_names = 1;
-  defaults = codes "4194304" ∷ [];
-  parser = Some (Unsigned 64 16777216);
+  defaults = usual_of setting ∷ [];
+  parser = Some (Unsigned (least_of setting) (most_of setting));
 }
 
--- the command `desk`, which has that option and help
+-- the argument is that option: it excludes no other, and has its number in one piece, or else its default
+pub record IsOptionOf (setting : Setting) (arg : Arg) : Type 0 where
+  pub rule : rule_of arg ≡ setting_rule setting
+  pub plain : IsPlainArg arg
+  pub own : arg.global ≡ false
+  pub whole : arg.val_delim ≡ None
+  pub wanted : WantsDefault arg
+
+-- a command that takes the words behind the program's name
+abbrev pub nameless_app : Text → App
+nameless_app name = on_top (λ top. record top { no_binary_name = true }) (new_app name)
+
+-- the command `desk`, which has the settings and help
 abbrev pub desk : App
-desk = with_rule (new_app (codes "desk")) squares_rule
+desk = with_rule (with_rule (with_rule (nameless_app (codes "desk")) (setting_rule Workers)) (setting_rule Facts)) (setting_rule Squares)
 
 -- why the words are not read, help among the reasons; nothing where they are read
 abbrev pub faults : List Text → Kinds
 faults words = fault_of desk words
 
--- the text behind the option, or else its default
-abbrev pub squares_text : List Text → Option Text
-squares_text words = one_of (codes "squares") (matches_of desk words)
+-- the text behind a setting's option, or else its default
+abbrev pub text_of : Setting → List Text → Option Text
+text_of setting words = one_of (name_of setting) (matches_of desk words)
 
--- the words choose n squares: it is the number in that text, and in the option's range
-abbrev pub Chooses : List Text → ℕ → Type 0
-Chooses words n =
-    (text : Text) × (squares_text words ≡ Some text)
-    × (n ≡ digits_value 10 (without_leading_plus text)) × (64 ≤ n) × (n ≤ 16777216)
+-- n is the number in the text, and in the setting's range
+abbrev pub IsNumberOf : Setting → Text → ℕ → Type 0
+IsNumberOf setting text n =
+    (n ≡ digits_value 10 (without_leading_plus text)) × (least_of setting ≤ n) × (n ≤ most_of setting)
 
--- the option has this text, which is a number in its range
-abbrev pub HasSquares : Found → Text → Type 0
-HasSquares found text = (one_text found (codes "squares") ≡ Some text) × IsUnsignedIn 64 16777216 text
+-- the words choose n for the setting
+abbrev pub ChoosesFor : Setting → List Text → ℕ → Type 0
+ChoosesFor setting words n =
+    (text : Text) × (text_of setting words ≡ Some text) × IsNumberOf setting text n
 
--- the option has the text that the words give it
+-- the words choose each number of the options
+pub record Chooses (words : List Text) (options : Options) : Type 0 where
+  pub workers : ChoosesFor Workers words options.workers
+  pub facts : ChoosesFor Facts words options.facts
+  pub squares : ChoosesFor Squares words options.squares
+
+-- the setting has a text, which is a number of its range
+abbrev pub HasNumber : Setting → Found → Type 0
+HasNumber setting found =
+    (text : Text) × (one_text found (name_of setting) ≡ Some text)
+    × IsUnsignedIn (least_of setting) (most_of setting) text
+
+-- the setting has a text, and n is the number in it
+abbrev pub IsNumberIn : Setting → Found → ℕ → Type 0
+IsNumberIn setting found n =
+    (text : Text) × (one_text found (name_of setting) ≡ Some text) × IsNumberOf setting text n
+
+-- each setting has the text that the words give it, which is a number of its range
 abbrev pub Gives : List Text → Found → Type 0
-Gives words found = (text : Text) × (squares_text words ≡ Some text) × HasSquares found text
+Gives words found =
+    (setting : Setting) → HasNumber setting found × (one_text found (name_of setting) ≡ text_of setting words)
 
--- whatever is parsed by the command, the option has a text
+-- whatever is parsed by the command, each setting has a number
 abbrev pub AlwaysGives : Command → Type 0
-AlwaysGives command = (m : ArgMatches) → IsParsedFrom command m → (text : Text) × HasSquares (found_of m) text
+AlwaysGives command = (m : ArgMatches) → IsParsedFrom command m → (setting : Setting) → HasNumber setting (found_of m)
 
 -- the error is an unknown word, or want of memory
 abbrev pub IsUnknownOrMemory : Error → Type 0

@@ -1,15 +1,15 @@
 -- What the words come to where they start no run.
-use Rattle.desk_words.specs.declared.words.WordsFault.{WordsFault}
-use Rattle.desk_words.specs.declared.words.WordsFault.TheVariants.{Help, Refused, NoMemory}
+use Rattle.desk_words.specs.declared.words.OptionFault.{OptionFault}
+use Rattle.desk_words.specs.declared.words.OptionFault.TheVariants.{Help, Refused, NoMemory}
 
 -- help, or no memory for it
-abbrev pub IsHelp : WordsFault → Type 0
+abbrev pub IsHelp : OptionFault → Type 0
 IsHelp (Help text) = Unit {0}
 IsHelp (Refused text) = ⊥
 IsHelp NoMemory = Unit {0}
 
 -- refused words, or no memory to say so
-abbrev pub IsRefusal : WordsFault → Type 0
+abbrev pub IsRefusal : OptionFault → Type 0
 IsRefusal (Help text) = ⊥
 IsRefusal (Refused text) = Unit {0}
 IsRefusal NoMemory = Unit {0}

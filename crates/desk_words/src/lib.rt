@@ -1,14 +1,15 @@
 //! The words of the program's command line, as `clap` reads them.
 //!
-//! The program has the option `--squares`, the number of squares that an engine may hold, and help.
-//! Whoever starts it gets what its words choose, or learns why they are refused, with the text for
-//! the user; nothing of `clap` shows outside, so that a program above stands on this crate alone.
-//! Words cost time and memory in proportion to their length.
+//! The program has the options `--workers`, the number of workers that compute, `--facts`, how many
+//! results of steps a desk may keep, and `--squares`, how many squares the engine of a worker may
+//! hold; and it has help. Whoever starts it gets what its words choose, or learns why they are
+//! refused, with the text for the user; nothing of `clap` shows outside, so that a program above
+//! stands on this crate alone. Words cost time and memory in proportion to their length.
 #![tactic(auto)]
 
 mod command;
-mod options;
+mod settings;
 mod words;
 
-pub use options::Options;
-pub use words::{WordsFault, check_words, given_words, read_words};
+pub use settings::Options;
+pub use words::{OptionFault, check_words, given_words, options};

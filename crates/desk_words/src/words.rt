@@ -1,12 +1,12 @@
 //! What the words of the command line come to.
-ghost use Rattle.std.specs.Prelude.{◌≡◌, ◌≢◌, [], IfErr, IfOk, OnOk, map, string_bytes};
+ghost use Rattle.std.specs.Prelude.{◌≡◌, ◌≢◌, [], IfErr, IfOk, OnOk, drop, map, string_bytes};
 ghost use Rattle.clap.specs.Words.{kind_of};
 ghost use Rattle.desk_words.specs.Words.{Checks, IsInRange, ReadsWords};
 ghost use Rattle.desk_words.specs.Command.{Chooses, faults};
 ghost use Rattle.desk_words.specs.Fault.{IsHelp, IsRefusal};
 
 use crate::command::{no_text, read};
-use crate::options::Options;
+use crate::settings::Options;
 use clap::Error;
 use clap::error::ErrorKind;
 use std::alloc::Global;
@@ -16,7 +16,7 @@ use std::{env, io};
 
 /// Why the words start no run.
 #[derive(Debug, Drop)]
-pub enum WordsFault {
+pub enum OptionFault {
     /// Help was asked for: its text.
     Help(String),
     /// The words are refused: the text for the user.
@@ -26,32 +26,32 @@ pub enum WordsFault {
 }
 
 // What an error of `clap` says to the user.
-fn fault_of(alloc: Global, error: &Error) -> WordsFault
-    ensures memory { kind_of error.now ≡ ErrorKind.OutOfMemory → result ≡ WordsFault.NoMemory }
+fn fault_of(alloc: Global, error: &Error) -> OptionFault
+    ensures memory { kind_of error.now ≡ ErrorKind.OutOfMemory → result ≡ OptionFault.NoMemory }
     ensures help { kind_of error.now ≡ ErrorKind.DisplayHelp → IsHelp result }
     ensures refused { kind_of error.now ≢ ErrorKind.OutOfMemory
         → kind_of error.now ≢ ErrorKind.DisplayHelp → IsRefusal result }
 {
     if error.kind() == ErrorKind::OutOfMemory {
-        return WordsFault::NoMemory;
+        return OptionFault::NoMemory;
     }
     let Ok(text) = format!(in alloc; "{error}") else {
-        return WordsFault::NoMemory;
+        return OptionFault::NoMemory;
     };
     if error.kind() == ErrorKind::DisplayHelp {
-        WordsFault::Help(text)
+        OptionFault::Help(text)
     } else {
-        WordsFault::Refused(text)
+        OptionFault::Refused(text)
     }
 }
 
-/// Reads the words of the command line, of which the first is the program's name.
-pub fn read_words<S: AsStr>(alloc: Global, words: &[S]) -> Result<Options, WordsFault>
+/// Reads the words behind the program's name.
+pub fn options<S: AsStr>(alloc: Global, words: &[S]) -> Result<Options, OptionFault>
     ensures reads { ReadsWords (map S.text words.now) result }
-    ensures chosen { IfOk result (λ options. Chooses (map S.text words.now) options.squares) }
+    ensures chosen { IfOk result (Chooses (map S.text words.now)) }
     ensures taken { OnOk result (faults (map S.text words.now) ≡ []) }
     ensures refused { faults (map S.text words.now) ≡ []
-        → IfErr result (λ fault. fault ≡ WordsFault.NoMemory) }
+        → IfErr result (λ fault. fault ≡ OptionFault.NoMemory) }
 {
     match read(alloc, words) {
         Ok(options) => Ok(options),
@@ -60,12 +60,12 @@ pub fn read_words<S: AsStr>(alloc: Global, words: &[S]) -> Result<Options, Words
 }
 
 // What is said of a word that is no UTF-8.
-fn refused(alloc: Global) -> WordsFault
+fn refused(alloc: Global) -> OptionFault
     ensures { IsRefusal result }
 {
     match no_text(alloc) {
         Ok(error) => fault_of(alloc, &error),
-        Err(_) => WordsFault::NoMemory,
+        Err(_) => OptionFault::NoMemory,
     }
 }
 
@@ -74,14 +74,25 @@ pub fn given_words<R: Env + AllocGlobal>(rt: &R) -> io::Result<Vec<String>> {
     Ok(env::args(rt)?.collect(rt.alloc())?)
 }
 
-/// Reads the words that a program was started with, or refuses them where one is no UTF-8.
-pub fn check_words(alloc: Global, given: &io::Result<Vec<String>>) -> Result<Options, WordsFault>
-    ensures checks { Checks (λ words. map string_bytes words.items) given.now result }
+// The words behind the program's name.
+fn behind_name(words: &[String]) -> &[String]
+    ensures { result.now ≡ drop 1 words.now }
+{
+    match words.get(1..) {
+        Some(behind) => behind,
+        None => words,
+    }
+}
+
+/// Reads the words that a program was started with, its name first, or refuses them where one is no
+/// UTF-8.
+pub fn check_words(alloc: Global, given: &io::Result<Vec<String>>) -> Result<Options, OptionFault>
+    ensures checks { Checks (λ words. map string_bytes (drop 1 words.items)) given.now result }
     ensures range { IfOk result IsInRange }
 {
     match given {
-        Ok(words) => read_words(alloc, words.as_slice()),
-        Err(error) if error.kind() == io::ErrorKind::OutOfMemory => Err(WordsFault::NoMemory),
+        Ok(words) => options(alloc, behind_name(words.as_slice())),
+        Err(error) if error.kind() == io::ErrorKind::OutOfMemory => Err(OptionFault::NoMemory),
         Err(_) => Err(refused(alloc)),
     }
 }

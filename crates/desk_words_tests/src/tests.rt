@@ -1,5 +1,5 @@
 //! Words, and the beginnings and ends of the texts about them.
-use desk_words::{Options, WordsFault, check_words, given_words, read_words};
+use desk_words::{OptionFault, Options, check_words, given_words, options};
 use std::alloc::Global;
 use std::env::FillError;
 use std::fmt::Debug;
@@ -36,8 +36,8 @@ impl Env for Started {
 // What is said of words.
 #[derive(Clone, Copy, Debug, PartialEq, Eq)]
 enum Verdict {
-    // They are read, and choose so many squares.
-    Squares(u32),
+    // They are read, and choose so many workers, facts and squares.
+    Chosen(u8, u32, u32),
     Help,
     // An unknown word.
     Unknown,
@@ -57,7 +57,7 @@ enum Verdict {
 const END: &str = "\n\nFor more information, try '--help'.\n";
 
 const HELP: &str =
-    "\n\nUsage: desk [OPTIONS]\n\nOptions:\n      --squares <N>  How many squares an engine may hold, from 64 to 16777216. A square takes about 48 bytes: 4194304 take about 200 MB [default: 4194304]\n  -h, --help         Print help\n";
+    "\n\nUsage: desk [OPTIONS]\n\nOptions:\n      --workers <N>  How many workers compute, from 1 to 8 [default: 2]\n      --squares <N>  How many squares the engine of a worker may hold, from 64 to 16777216. A square takes about 48 bytes: 4194304 take about 200 MB [default: 4194304]\n  -h, --help         Print help\n";
 
 fn refusal(text: &str) -> Verdict {
     if !text.ends_with(END) {
@@ -68,9 +68,13 @@ fn refusal(text: &str) -> Verdict {
         Verdict::Value
     } else if text.starts_with("error: invalid value '") {
         Verdict::Number
-    } else if text.starts_with("error: the argument '--squares <N>' cannot be used multiple") {
+    } else if text.starts_with("error: the argument '--")
+        && text.contains(" <N>' cannot be used multiple")
+    {
         Verdict::Again
-    } else if text.starts_with("error: a value is required for '--squares <N>' but none") {
+    } else if text.starts_with("error: a value is required for '--")
+        && text.contains(" <N>' but none")
+    {
         Verdict::Missing
     } else if text.starts_with("error: invalid UTF-8 was detected in one or more arguments") {
         Verdict::NoText
@@ -79,11 +83,11 @@ fn refusal(text: &str) -> Verdict {
     }
 }
 
-fn said(answer: &Result<Options, WordsFault>) -> Verdict {
+fn said(answer: &Result<Options, OptionFault>) -> Verdict {
     match answer {
-        Ok(options) => Verdict::Squares(options.squares),
-        Err(WordsFault::Help(text)) if text.as_str().ends_with(HELP) => Verdict::Help,
-        Err(WordsFault::Refused(text)) => refusal(text.as_str()),
+        Ok(read) => Verdict::Chosen(read.workers, read.facts, read.squares),
+        Err(OptionFault::Help(text)) if text.as_str().ends_with(HELP) => Verdict::Help,
+        Err(OptionFault::Refused(text)) => refusal(text.as_str()),
         Err(_) => Verdict::Other,
     }
 }
@@ -92,7 +96,7 @@ fn same<T: PartialEq + Debug, A: Debug>(rt: &impl Abort, found: &T, wanted: &T, 
     assert_eq!(rt; *found, *wanted, "at {at:?}");
 }
 
-const DEFAULT: Verdict = Verdict::Squares(4_194_304);
+const DEFAULT: Verdict = Verdict::Chosen(2, 64, 4_194_304);
 
 struct Row {
     words: &'static [&'static str],
@@ -105,98 +109,141 @@ const READ: &[Row] = &[
         said: DEFAULT,
     },
     Row {
-        words: &["desk"],
+        words: &["--"],
         said: DEFAULT,
     },
     Row {
-        words: &["desk", "--"],
-        said: DEFAULT,
-    },
-    Row {
-        words: &["desk", "-h"],
+        words: &["-h"],
         said: Verdict::Help,
     },
     Row {
-        words: &["./desk", "--help"],
+        words: &["--help"],
         said: Verdict::Help,
     },
     Row {
-        words: &["desk", "-h", "work"],
+        words: &["-h", "work"],
         said: Verdict::Help,
     },
     Row {
-        words: &["desk", "work", "-h"],
+        words: &["work", "-h"],
         said: Verdict::Unknown,
     },
     Row {
-        words: &["desk", "help"],
+        words: &["help"],
         said: Verdict::Unknown,
     },
     Row {
-        words: &["desk", ""],
+        words: &[""],
         said: Verdict::Unknown,
     },
     Row {
-        words: &["desk", "--version"],
+        words: &["--version"],
         said: Verdict::Unknown,
     },
     Row {
-        words: &["desk", "--help=all"],
+        words: &["--worker=2"],
+        said: Verdict::Unknown,
+    },
+    Row {
+        words: &["--help=all"],
         said: Verdict::Value,
     },
     Row {
-        words: &["desk", "--squares", "64"],
-        said: Verdict::Squares(64),
+        words: &["--squares", "64"],
+        said: Verdict::Chosen(2, 64, 64),
     },
     Row {
-        words: &["desk", "--squares=16777216"],
-        said: Verdict::Squares(16_777_216),
+        words: &["--squares=16777216"],
+        said: Verdict::Chosen(2, 64, 16_777_216),
     },
     Row {
-        words: &["desk", "--squares", "000100"],
-        said: Verdict::Squares(100),
+        words: &["--squares", "000100"],
+        said: Verdict::Chosen(2, 64, 100),
     },
     Row {
-        words: &["desk", "--squares", "63"],
+        words: &["--workers", "1"],
+        said: Verdict::Chosen(1, 64, 4_194_304),
+    },
+    Row {
+        words: &["--workers=8"],
+        said: Verdict::Chosen(8, 64, 4_194_304),
+    },
+    Row {
+        words: &["--facts=1"],
+        said: Verdict::Chosen(2, 1, 4_194_304),
+    },
+    Row {
+        words: &["--facts", "4096"],
+        said: Verdict::Chosen(2, 4096, 4_194_304),
+    },
+    Row {
+        words: &["--squares=65", "--workers", "3", "--facts=7"],
+        said: Verdict::Chosen(3, 7, 65),
+    },
+    Row {
+        words: &["--facts", "9", "--squares", "66", "--workers=4"],
+        said: Verdict::Chosen(4, 9, 66),
+    },
+    Row {
+        words: &["--squares", "63"],
         said: Verdict::Number,
     },
     Row {
-        words: &["desk", "--squares=16777217"],
+        words: &["--squares=16777217"],
         said: Verdict::Number,
     },
     Row {
-        words: &["desk", "--squares", "99999999999999999999"],
+        words: &["--squares", "99999999999999999999"],
         said: Verdict::Number,
     },
     Row {
-        words: &["desk", "--squares", "x"],
+        words: &["--squares", "x"],
         said: Verdict::Number,
     },
     Row {
-        words: &["desk", "--squares="],
+        words: &["--squares="],
         said: Verdict::Number,
     },
     Row {
-        words: &["desk", "--squares", "64", "--squares", "65"],
+        words: &["--workers", "0"],
+        said: Verdict::Number,
+    },
+    Row {
+        words: &["--workers=9"],
+        said: Verdict::Number,
+    },
+    Row {
+        words: &["--facts=0"],
+        said: Verdict::Number,
+    },
+    Row {
+        words: &["--facts", "4097"],
+        said: Verdict::Number,
+    },
+    Row {
+        words: &["--squares", "64", "--squares", "65"],
         said: Verdict::Again,
     },
     Row {
-        words: &["desk", "--squares"],
+        words: &["--workers=2", "--facts=64", "--workers=2"],
+        said: Verdict::Again,
+    },
+    Row {
+        words: &["--squares"],
         said: Verdict::Missing,
     },
     Row {
-        words: &["desk", "--squares", "64", "-h"],
+        words: &["--workers"],
+        said: Verdict::Missing,
+    },
+    Row {
+        words: &["--squares", "64", "-h"],
         said: Verdict::Help,
     },
 ];
 
 fn reads(rt: &impl Abort, alloc: Global, row: &Row) {
-    same(
-        rt,
-        &said(&read_words(alloc, row.words)),
-        &row.said,
-        &row.words,
-    );
+    same(rt, &said(&options(alloc, row.words)), &row.said, &row.words);
 }
 
 #[test]
@@ -219,6 +266,9 @@ fn words_come_from_the_start(rt: HostRuntime) {
     starts(&rt, alloc, &[b"desk", b"-h"], Verdict::Help);
     starts(&rt, alloc, &[b"desk", b"work"], Verdict::Unknown);
     let least: &[&[u8]] = &[b"desk", b"--squares", b"64"];
-    starts(&rt, alloc, least, Verdict::Squares(64));
+    starts(&rt, alloc, least, Verdict::Chosen(2, 64, 64));
+    let most: &[&[u8]] = &[b"./desk", b"--workers=8"];
+    starts(&rt, alloc, most, Verdict::Chosen(8, 64, 4_194_304));
+    starts(&rt, alloc, &[], DEFAULT);
     starts(&rt, alloc, &[b"desk", b"\xff"], Verdict::NoText);
 }

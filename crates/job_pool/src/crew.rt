@@ -1,11 +1,10 @@
 //! Starting workers, and calling a body on their post.
-ghost use Rattle.std.specs.Prelude.{◌≡◌, ◌≤◌, All, IfOk, vec_len};
-ghost use Rattle.std.specs.Fn.{FnOnceReturnsAtMut, FnOnceTakesAtMut};
-ghost use Rattle.job_queue.specs.Ends.{new_sender, new_taker};
-ghost use Rattle.job_pool.specs.Pool.{Pool, new_pool, pool_over};
+ghost use Rattle.std.specs.Prelude.{◌≡◌, ◌≤◌, IfErr, IfOk, vec_len};
+ghost use Rattle.job_queue.specs.Ends.{new_sender};
+ghost use Rattle.job_pool.specs.Pool.{AreEnds, CallGives, CallTakes, new_pool, pool_over};
 
 use crate::answers::{AnswerReceiver, answer_queue};
-use crate::fault::PoolFault;
+use crate::fault::{NoPool, PoolFault};
 use crate::post::PoolPost;
 use crate::worker::work_all;
 use job_queue::{JobSender, job_queue};
@@ -16,43 +15,47 @@ use std::thread;
 use std::thread::Threads;
 
 /// Calls the body once, on a post of the table that took no job yet, whose jobs are worked by a
-/// thread for each gate, 1 to 8; a step keeps at most so many squares. The answer is the body's. The
-/// threads have ended when it returns.
+/// thread for each gate, 1 to 8, and on the input; a step keeps at most so many squares. The answer
+/// is the body's. The threads have ended when it returns.
 ///
-/// NoWorker where a thread was refused, NoMemory where a growth was. Then the body wasn't called,
-/// and gates and body are given up.
-pub fn pool<R, G, F, T>(
+/// NoWorker where a thread was refused, NoMemory where a growth was. Then the body wasn't called:
+/// the input comes back, and gates and body are given up.
+pub fn pool<R, G, I, F, T>(
     rt: &R,
     alloc: Global,
     entries: &Entries,
     gates: Vec<G>,
     squares: u32,
+    input: I,
     body: F,
-) -> Result<T, PoolFault>
+) -> Result<T, NoPool<I>>
 where
     R: Threads + Wait + Sync,
     G: Gate + Send + Drop,
-    F: FnOnce(&mut PoolPost<'_, R>) -> T + Drop,
+    I: Drop,
+    F: FnOnce(&mut PoolPost<'_, R>, I) -> T + Drop,
     requires gates { (1 ≤ vec_len gates) × (vec_len gates ≤ 8) }
-    requires body { FnOnceTakesAtMut F.FnOnce body (new_pool entries.now) }
-    ensures { IfOk result (λ answer. (after : Pool)
-        × FnOnceReturnsAtMut F.FnOnce body (new_pool entries.now) answer after) }
+    requires body { CallTakes F.FnOnce body (new_pool entries.now) input }
+    ensures called { IfOk result (CallGives F.FnOnce body (new_pool entries.now) input) }
+    ensures refused { IfErr result (λ none. none.input ≡ input) }
 {
     let count = gates.len() as u8;
-    let (sender, takers) = job_queue(alloc, entries, count)?;
-    let (senders, receiver) = answer_queue(alloc, entries, count)?;
+    let Ok((sender, takers)) = job_queue(alloc, entries, count) else {
+        return Err(NoPool::of(PoolFault::NoMemory, input));
+    };
+    let Ok((senders, receiver)) = answer_queue(alloc, entries, count) else {
+        return Err(NoPool::of(PoolFault::NoMemory, input));
+    };
     thread::scope(
         thread::scope_env(),
         rt,
-        move |scope| -> Result<T, PoolFault>
+        move |scope| -> Result<T, NoPool<I>>
             requires ends { (sender ≡ new_sender entries.now) × (receiver ≡ entries.now) }
-            requires enough { (vec_len takers ≡ vec_len gates)
-                × (vec_len senders ≡ vec_len gates) }
-            requires workers { All (λ t. t ≡ new_taker entries.now) takers.items
-                × All (λ s. s ≡ entries.now) senders.items }
-            requires body { FnOnceTakesAtMut F.FnOnce body (new_pool entries.now) }
-            ensures { IfOk result (λ answer. (after : Pool)
-                × FnOnceReturnsAtMut F.FnOnce body (new_pool entries.entry.now) answer after) }
+            requires workers { AreEnds entries.now (vec_len gates) takers.items senders.items }
+            requires body { CallTakes F.FnOnce body (new_pool entries.now) input }
+            ensures called { IfOk result
+                (CallGives F.FnOnce body (new_pool entries.entry.now) input) }
+            ensures refused { IfErr result (λ none. none.input ≡ input) }
         {
             let count = gates.len();
             let mut gates = gates;
@@ -70,22 +73,28 @@ where
                     requires { (jobs.table ≡ entries.now) × (back ≡ entries.now) }
                 { work_all(rt, alloc, entries, jobs, back, gate, squares) };
                 if scope.spawn(worker).is_err() {
-                    return Err(PoolFault::NoWorker);
+                    return Err(NoPool::of(PoolFault::NoWorker, input));
                 }
             }
-            Ok(attend(rt, sender, receiver, body))
+            Ok(attend(rt, sender, receiver, input, body))
         },
     )
 }
 
-// Calls the body on a post, whose ends are closed when it returns.
-fn attend<R: Wait, F, T>(rt: &R, jobs: JobSender, back: AnswerReceiver, body: F) -> T
+// Calls the body on a post, whose ends are closed when it returns, and on the input.
+fn attend<R: Wait, I, F, T>(
+    rt: &R,
+    jobs: JobSender,
+    back: AnswerReceiver,
+    input: I,
+    body: F,
+) -> T
 where
-    F: FnOnce(&mut PoolPost<'_, R>) -> T,
+    F: FnOnce(&mut PoolPost<'_, R>, I) -> T,
     requires table { back ≡ jobs.table }
-    requires body { FnOnceTakesAtMut F.FnOnce body (pool_over jobs) }
-    ensures { (after : Pool) × FnOnceReturnsAtMut F.FnOnce body (pool_over jobs) result after }
+    requires body { CallTakes F.FnOnce body (pool_over jobs) input }
+    ensures { CallGives F.FnOnce body (pool_over jobs) input result }
 {
     let mut post = PoolPost::new(rt, jobs, back);
-    body(&mut post)
+    body(&mut post, input)
 }

@@ -15,6 +15,24 @@ pub enum PoolFault {
     NoMemory,
 }
 
+/// Why there is no pool, with the input that its body wasn't called on.
+pub struct NoPool<I> {
+    /// Why there is none.
+    pub fault: PoolFault,
+    /// The input.
+    pub input: I,
+}
+
+impl<I> NoPool<I> {
+    ghost use Rattle.std.specs.Prelude.{◌≡◌};
+
+    pub(crate) fn of(fault: PoolFault, input: I) -> NoPool<I>
+        ensures { (result.fault ≡ fault) × (result.input ≡ input) }
+    {
+        NoPool { fault, input }
+    }
+}
+
 impl Refusal for PoolFault {
     ghost use Rattle.std.specs.Prelude.{None};
     ghost use Rattle.job_pool.specs.Faults.{name_of, number_of};

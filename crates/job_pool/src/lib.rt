@@ -1,6 +1,6 @@
 //! A post whose jobs are worked in threads of their own.
 //!
-//! `pool` starts a worker for each gate, 1 to 8, and calls a body once on a post. What the post takes
+//! `pool` starts a worker for each gate, 1 to 8, and calls a body once on a post and an input. What the post takes
 //! goes through the queue of jobs to whichever worker takes it first; the worker works it with the
 //! entry's own stop, so that who raises the entry's flag stops it, and sends the answer back through
 //! a bounded channel of 32, in which every answer is of the table. When the body returns, the ends
@@ -19,6 +19,6 @@ mod post;
 mod worker;
 
 pub use crew::pool;
-pub use fault::PoolFault;
+pub use fault::{NoPool, PoolFault};
 pub use job_queue::{JobSender, JobTaker, Slip, job_queue};
 pub use post::PoolPost;

@@ -1,0 +1,145 @@
+-- Whatever the command parses, each setting has a number.
+use Rattle.std.proofs.Common.{◌≡◌, ◌∙◌, ◌<◌, ◌≤◌, ◌++◌, ◌∷◌, ◌||◌, ap, ℕ, zero, suc, true, false, List, [], length, Some, None, refl, sym, subst, inl, inr, arith, slice_index}
+use Rattle.std.specs.List.{All, slice_index_or}
+use Rattle.std.specs.Str.{bytes_eq}
+use Rattle.std.proofs.lemmas.List.Elements.{All-nil}
+use Rattle.clap.specs.Facts.{args_of, groups_of, WantsDefault, least_values, unwrap_or_range}
+use Rattle.clap.specs.Built.{AddsArg, IsAuto, IsPlain, IsPlainArg, SameRules}
+use Rattle.clap.specs.Matches.{found_of, one_text}
+use Rattle.clap.proofs.CallerLemmas.{added_plain}
+use Rattle.clap.specs.declared.builder.action.ArgAction.TheVariants.{Set}
+use Rattle.clap.specs.declared.builder.arg.Arg.{Arg}
+use Rattle.clap.specs.declared.builder.command.Command.{Command}
+use Rattle.clap.specs.declared.builder.command.Command.TheViews.{out-Command}
+use Rattle.clap.specs.declared.builder.value_parser.ValueParser.TheVariants.{Unsigned}
+use Rattle.clap.specs.Walk.{Rule, Text}
+use Rattle.desk_words.specs.declared.settings.Setting.{Setting}
+use Rattle.desk_words.specs.declared.settings.Setting.TheVariants.{Workers, Facts, Squares}
+use Rattle.desk_words.specs.Command.{AlwaysGives, IsOptionOf, least_of, most_of, name_of}
+use Rattle.desk_words.proofs.Defaults.{default_read}
+
+-- what a command knows of the argument of a setting
+record IsArgOf (setting : Setting) (x : Arg) : Type 0 where
+  id : x.id.now ≡ name_of setting
+  wants : WantsDefault x
+  set : x.action ≡ Some Set
+  delim : x.val_delim ≡ None
+  least : 1 ≤ least_values x
+  parser : x.value_parser ≡ Some (Unsigned (least_of setting) (most_of setting))
+
+arg_of : (setting : Setting) (a x : Arg) → IsOptionOf setting a → SameRules a x → IsArgOf setting x
+arg_of setting a x is same =
+    let set : a.action ≡ Some Set = ap (λ (r : Rule). r.action) is.rule in
+    let least : least_values a ≡ 1 = ap (λ (r : Rule). (unwrap_or_range r.range).start_inclusive) is.rule in
+    record {
+      id = ap (λ i. i.now) same.id ∙ ap (λ (r : Rule). r.id) is.rule;
+      wants = (same.ifs ∙ is.wanted.0, rw (same.defaults is.wanted.1) is.wanted.1);
+      set = same.action Set set;
+      delim = same.val_delim ∙ is.whole;
+      least = same.least set (omega (arith, least));
+      parser = same.parser (Unsigned (least_of setting) (most_of setting)) (ap (λ (r : Rule). r.parser) is.rule);
+    }
+
+-- the list of the command's arguments: one for each setting, in this order
+record HasSettings (xs : List Arg) : Type 0 where
+  workers : Arg
+  facts : Arg
+  squares : Arg
+  list : xs ≡ workers ∷ facts ∷ squares ∷ []
+  workers_is : IsArgOf Workers workers
+  facts_is : IsArgOf Facts facts
+  squares_is : IsArgOf Squares squares
+
+abbrev place : Setting → ℕ
+place Workers = 0
+place Facts = 1
+place Squares = 2
+
+place_low : (s : Setting) → place s < 3
+place_low Workers = omega arith
+place_low Facts = omega arith
+place_low Squares = omega arith
+
+arg_at : (xs : List Arg) → HasSettings xs → (s : Setting) (d : Arg) → IsArgOf s (slice_index_or xs (place s) d)
+arg_at xs has Workers d = subst (λ l. IsArgOf Workers (slice_index_or l 0 d)) (sym has.list) has.workers_is
+arg_at xs has Facts d = subst (λ l. IsArgOf Facts (slice_index_or l 1 d)) (sym has.list) has.facts_is
+arg_at xs has Squares d = subst (λ l. IsArgOf Squares (slice_index_or l 2 d)) (sym has.list) has.squares_is
+
+-- whose name it is
+names_differ : (s t : Setting) → bytes_eq (name_of t) (name_of s) ≡ true → place t ≡ place s
+names_differ Workers Workers e = refl
+names_differ Workers Facts e = absurd (cc e)
+names_differ Workers Squares e = absurd (cc e)
+names_differ Facts Workers e = absurd (cc e)
+names_differ Facts Facts e = refl
+names_differ Facts Squares e = absurd (cc e)
+names_differ Squares Workers e = absurd (cc e)
+names_differ Squares Facts e = absurd (cc e)
+names_differ Squares Squares e = refl
+
+named_at : (xs : List Arg) → HasSettings xs → (s t : Setting) (e : Arg) → bytes_eq (slice_index_or xs (place t) e).id.now (name_of s) ≡ true → place t ≡ place s
+named_at xs has s t e same = names_differ s t (subst (λ n. bytes_eq n (name_of s) ≡ true) (arg_at xs has t e).id same)
+
+only_at : (xs : List Arg) → HasSettings xs → (s : Setting) (j : ℕ) (e : Arg) → j < length xs → bytes_eq (slice_index_or xs j e).id.now (name_of s) ≡ true → j ≡ place s
+only_at xs has s zero e low same = named_at xs has s Workers e same
+only_at xs has s (suc zero) e low same = named_at xs has s Facts e same
+only_at xs has s (suc (suc zero)) e low same = named_at xs has s Squares e same
+only_at xs has s (suc (suc (suc j))) e low same =
+    let few : suc (suc (suc j)) < 3 = subst (λ l. suc (suc (suc j)) < length l) has.list low in
+    absurd (omega (arith, few))
+
+not_empty : (s : Setting) → name_of s ≡ [] → ⊥
+not_empty Workers e = cc e
+not_empty Facts e = cc e
+not_empty Squares e = cc e
+
+head_is : (s : Setting) → (slice_index (name_of s) 0 ≡ 104 → ⊥) × (slice_index (name_of s) 0 ≡ 118 → ⊥)
+head_is Workers = (λ e. omega (arith, e), λ e. omega (arith, e))
+head_is Facts = (λ e. omega (arith, e), λ e. omega (arith, e))
+head_is Squares = (λ e. omega (arith, e), λ e. omega (arith, e))
+
+own : (s : Setting) (x : Arg) → x.id.now ≡ name_of s → IsAuto x → ⊥
+own s x id (inl h) = (head_is s).0 (ap (λ n. slice_index n 0) (sym id ∙ h))
+own s x id (inr h) = (head_is s).1 (ap (λ n. slice_index n 0) (sym id ∙ h))
+
+has_number : (cmd : Command) → HasSettings (args_of cmd) → IsPlain cmd → (out-Command cmd).has_globals ≡ false → (d : Arg) → AlwaysGives cmd
+has_number cmd has plain globals d m p s =
+    let x : Arg = slice_index_or (args_of cmd) (place s) d in
+    let is = arg_at (args_of cmd) has s d in
+    let low : place s < length (args_of cmd) = subst (λ l. place s < length l) (sym has.list) (place_low s) in
+    let only : (j : ℕ) (e : Arg) → j < length (args_of cmd) → bytes_eq (slice_index_or (args_of cmd) j e).id.now x.id.now ≡ true → j ≡ place s =
+    λ j e lt same. only_at (args_of cmd) has s j e lt (subst (λ n. bytes_eq (slice_index_or (args_of cmd) j e).id.now n ≡ true) is.id same) in
+    let got = default_read cmd m p plain globals (place s) d low only is.wants is.set is.delim is.least
+    (λ e. not_empty s (sym is.id ∙ e)) (own s x is.id) (Unsigned (least_of s) (most_of s)) is.parser in
+    (got.0, subst (λ (w : Text). one_text (found_of m) w ≡ Some got.0) is.id got.1, got.2)
+
+-- a command with no argument, group or global option yet
+pub record IsBare (c : Command) : Type 0 where
+  pub args : args_of c ≡ []
+  pub groups : groups_of c ≡ []
+  pub globals : (out-Command c).has_globals ≡ false
+
+still_local : (a b : Command) (x : Arg) → AddsArg a x b → (out-Command a).has_globals ≡ false → x.global ≡ false → (out-Command b).has_globals ≡ false
+still_local a b x added globals own = added.globals ∙ (ap (λ g. g || x.global) globals ∙ ap (λ g. false || g) own)
+
+-- a command with the three settings gives each a number
+pub always_gives : (start one two three : Command) (a b c : Arg) → IsBare start → AddsArg start a one → AddsArg one b two → AddsArg two c three
+    → IsOptionOf Workers a → IsOptionOf Facts b → IsOptionOf Squares c → AlwaysGives three
+always_gives start one two three a b c bare first second third is-a is-b is-c =
+    let start-plain : IsPlain start = (subst (All IsPlainArg) (sym bare.args) (All-nil IsPlainArg), bare.groups) in
+    let one-plain = added_plain start one a first start-plain is-a.plain in
+    let two-plain = added_plain one two b second one-plain is-b.plain in
+    let three-plain = added_plain two three c third two-plain is-c.plain in
+    let one-local = still_local start one a first bare.globals is-a.own in
+    let two-local = still_local one two b second one-local is-b.own in
+    let list : args_of three ≡ first.arg ∷ second.arg ∷ third.arg ∷ [] =
+    third.args ∙ ap (λ l. l ++ third.arg ∷ []) (second.args ∙ ap (λ l. l ++ second.arg ∷ []) (first.args ∙ ap (λ l. l ++ first.arg ∷ []) bare.args)) in
+    has_number three (record {
+      workers = first.arg;
+      facts = second.arg;
+      squares = third.arg;
+      list = list;
+      workers_is = arg_of Workers a first.arg is-a first.rules;
+      facts_is = arg_of Facts b second.arg is-b second.rules;
+      squares_is = arg_of Squares c third.arg is-c third.rules;
+    }) three-plain (still_local two three c third two-local is-c.own) a

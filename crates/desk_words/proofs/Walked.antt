@@ -1,0 +1,209 @@
+-- The walk of a parse over the words of choices.
+use Rattle.std.proofs.Common.{◌≡◌, ◌∙◌, ◌==◌, ◌++◌, ◌∷◌, ◌<◌, ◌≤◌, ◌^◌, ap, ℕ, Bool, true, false, List, [], Option, Some, None, refl, arith, codes}
+use Rattle.std.specs.Prelude.{fold, if◌then◌else◌}
+use Rattle.std.proofs.Common.{cond, drop}
+use Rattle.std.proofs.lemmas.Bool.{ne_eqb}
+use Rattle.std.specs.Str.Parse.{IsNumeral, digits_value, without_leading_plus}
+use Rattle.std.proofs.lemmas.Str.Parse.{digit_from_value}
+use Rattle.clap.specs.Lexer.{strip_byte}
+use Rattle.clap.specs.Values.{refused_kind}
+use Rattle.clap.proofs.ValueTestLemmas.{Accepts-accepts}
+use Rattle.clap.specs.declared.parser.matches.ValueSource.TheVariants.{CommandLine}
+use Rattle.clap.specs.Faults.{settle_fault, turn_fault, use_fault, walk_fault}
+use Rattle.clap.specs.Kinds.{or_else, value_kinds}
+use Rattle.clap.specs.Simple.{Shape, built, filled, with_index}
+use Rattle.clap.specs.Walk.{Held, Row, Rule, Text, Walk, has_row, more_values, reading_by, settled_rows, used, walked, with_values, without}
+use Rattle.clap.specs.Walk.Waiting.{idle, option}
+use Rattle.clap.specs.declared.builder.value_parser.ValueParser.TheVariants.{Unsigned}
+use Rattle.clap.proofs.OnLiterals.{clap_on_literals}
+use Rattle.desk_words.specs.declared.settings.Setting.{Setting}
+use Rattle.desk_words.specs.declared.settings.Setting.TheVariants.{Workers, Facts, Squares}
+use Rattle.desk_words.specs.Command.{desk, least_of, most_of, name_of, setting_rule}
+use Rattle.desk_words.specs.Words.{Choice, IsInOrder, words_of}
+use Rattle.desk_words.proofs.Rows.{no_more, put_behind}
+
+-- the command as it is built, and its options
+abbrev pub shape : Shape
+shape = (built desk).top
+
+abbrev pub rules : List Rule
+rules = shape.rules
+
+-- the option of a setting there
+abbrev pub rule_for : Setting → Rule
+rule_for setting = with_index 1 (filled (setting_rule setting))
+
+abbrev pub Pending : Type 0
+Pending = Option (Text × List Text)
+
+abbrev pub held : List Row → Pending → Held
+held rows pending = record { rows = rows; pending = pending; skip = 0 }
+
+-- the walk between two choices
+abbrev pub between : List Row → Pending → Walk
+between rows pending = record { held = held rows pending; waiting = idle; position = 1; is_trailing = false; stopped = None }
+
+-- the walk behind the name of a setting
+abbrev pub behind : Setting → List Row → Walk
+behind setting rows = record { held = held rows (Some (name_of setting, [])); waiting = option (name_of setting); position = 1; is_trailing = false; stopped = None }
+
+abbrev pub dashed : Setting → Text
+dashed setting = codes "--" ++ name_of setting
+
+abbrev pub attached : Setting → Text → Text
+attached setting digits = codes "--" ++ name_of setting ++ codes "=" ++ digits
+
+attached_turn : (s : Setting) (digits : Text) (rows : List Row) (pending : Pending) → settle_fault rules false (held rows pending) ≡ []
+    → use_fault false (rule_for s) (digits ∷ []) (settled_rows rules pending rows) ≡ [] → turn_fault shape [] (between rows pending) (attached s digits) ≡ []
+unfolding clap_on_literals
+attached_turn Workers digits rows pending settles passes = rw (settles, passes) refl
+attached_turn Facts digits rows pending settles passes = rw (settles, passes) refl
+attached_turn Squares digits rows pending settles passes = rw (settles, passes) refl
+
+attached_walk : (s : Setting) (digits : Text) (rows : List Row) (pending : Pending)
+    → walked rules [] (between rows pending) (attached s digits) ≡ between (used (rule_for s) (digits ∷ []) (settled_rows rules pending rows)) None
+unfolding clap_on_literals
+attached_walk Workers digits rows pending = refl
+attached_walk Facts digits rows pending = refl
+attached_walk Squares digits rows pending = refl
+
+dashed_turn : (s : Setting) (rows : List Row) (pending : Pending) → settle_fault rules false (held rows pending) ≡ [] → turn_fault shape [] (between rows pending) (dashed s) ≡ []
+unfolding clap_on_literals
+dashed_turn Workers rows pending settles = rw settles refl
+dashed_turn Facts rows pending settles = rw settles refl
+dashed_turn Squares rows pending settles = rw settles refl
+
+dashed_walk : (s : Setting) (rows : List Row) (pending : Pending) → walked rules [] (between rows pending) (dashed s) ≡ behind s (settled_rows rules pending rows)
+unfolding clap_on_literals
+dashed_walk Workers rows pending = refl
+dashed_walk Facts rows pending = refl
+dashed_walk Squares rows pending = refl
+
+value_turn : (s : Setting) (x : ℕ) (word : Text) (rows : List Row) → (x == 45) ≡ false → turn_fault shape [] (behind s rows) (x ∷ word) ≡ []
+unfolding clap_on_literals
+value_turn Workers x word rows other = let stripped : strip_byte 45 (x ∷ word) ≡ None = rw other refl in rw stripped (rw other refl)
+value_turn Facts x word rows other = let stripped : strip_byte 45 (x ∷ word) ≡ None = rw other refl in rw stripped (rw other refl)
+value_turn Squares x word rows other = let stripped : strip_byte 45 (x ∷ word) ≡ None = rw other refl in rw stripped (rw other refl)
+
+value_walk : (s : Setting) (x : ℕ) (word : Text) (rows : List Row) → (x == 45) ≡ false → walked rules [] (behind s rows) (x ∷ word) ≡ between rows (Some (name_of s, (x ∷ word) ∷ []))
+unfolding clap_on_literals
+value_walk Workers x word rows other = let stripped : strip_byte 45 (x ∷ word) ≡ None = rw other refl in rw stripped (rw other refl)
+value_walk Facts x word rows other = let stripped : strip_byte 45 (x ∷ word) ≡ None = rw other refl in rw stripped (rw other refl)
+value_walk Squares x word rows other = let stripped : strip_byte 45 (x ∷ word) ≡ None = rw other refl in rw stripped (rw other refl)
+
+-- such an option takes the value of a choice in order, where it wasn't used before
+value_passes : (s : Setting) (digits : Text) → value_kinds false (Unsigned (least_of s) (most_of s)) digits ≡ [] → (rows : List Row) → has_row (name_of s) rows ≡ false → use_fault false (rule_for s) (digits ∷ []) rows ≡ []
+value_passes s digits taken rows fresh = rw (fresh, taken) refl
+
+-- it is the option that its id names
+settles_as : (s : Setting) (digits : Text) (rows : List Row) → settle_fault rules false (held rows (Some (name_of s, digits ∷ []))) ≡ use_fault false (rule_for s) (digits ∷ []) rows
+unfolding clap_on_literals
+settles_as Workers digits rows = refl
+settles_as Facts digits rows = refl
+settles_as Squares digits rows = refl
+
+settled_as : (s : Setting) (digits : Text) (rows : List Row) → settled_rows rules (Some (name_of s, digits ∷ [])) rows ≡ used (rule_for s) (digits ∷ []) rows
+unfolding clap_on_literals
+settled_as Workers digits rows = refl
+settled_as Facts digits rows = refl
+settled_as Squares digits rows = refl
+
+-- what is pending settles, and then these are the rows
+pub record Stands (rows before : List Row) (pending : Pending) : Type 0 where
+  pub settles : settle_fault rules false (held before pending) ≡ []
+  pub are : settled_rows rules pending before ≡ rows
+
+-- the row of a choice
+abbrev pub row_for : Choice → Row
+row_for choice = record { id = name_of choice.setting; values = choice.digits ∷ []; count = None; source = Some CommandLine; reading = reading_by (rule_for choice.setting) }
+
+used_is : (choice : Choice) (rows : List Row) → has_row (name_of choice.setting) rows ≡ false → used (rule_for choice.setting) (choice.digits ∷ []) rows ≡ rows ++ row_for choice ∷ []
+used_is choice rows fresh =
+    let id = name_of choice.setting in
+    let out : without id rows ≡ rows = put_behind id (λ _. []) [] rows fresh ∙ no_more rows in
+    ap (with_values id (reading_by (rule_for choice.setting)) CommandLine (choice.digits ∷ [])) out
+    ∙ put_behind id (more_values CommandLine (choice.digits ∷ [])) (row_for choice ∷ []) rows fresh
+
+-- one word more
+fault_step : (w after : Walk) (word : Text) (more : List Text) → turn_fault shape [] w word ≡ [] → walked rules [] w word ≡ after → walk_fault shape [] w (word ∷ more) ≡ walk_fault shape [] after more
+unfolding walk_fault
+fault_step w after word more turn step =
+    ap (λ k. or_else k (walk_fault shape [] (walked rules [] w word) more)) turn ∙ ap (λ v. walk_fault shape [] v more) step
+
+fold_step : (w after : Walk) (word : Text) (more : List Text) → walked rules [] w word ≡ after → fold (walked rules []) w (word ∷ more) ≡ fold (walked rules []) after more
+fold_step w after word more step = ap (λ v. fold (walked rules []) v more) step
+
+-- from one place between choices the words lead to another, whatever follows
+pub record Leads (before : List Row) (pending : Pending) (words : List Text) (rows : List Row) : Type 0 where
+  pub after : List Row
+  pub waits : Pending
+  pub stands : Stands rows after waits
+  pub faults : (more : List Text) → walk_fault shape [] (between before pending) (words ++ more) ≡ walk_fault shape [] (between after waits) more
+  pub walk : (more : List Text) → fold (walked rules []) (between before pending) (words ++ more) ≡ fold (walked rules []) (between after waits) more
+
+most_small : (s : Setting) → most_of s ≤ 16777216
+most_small Workers = omega arith
+most_small Facts = omega arith
+most_small Squares = omega arith
+
+pub no_plus : (digits : Text) → IsNumeral 10 digits → without_leading_plus digits ≡ digits
+no_plus [] h = refl
+no_plus (d ∷ ds) h =
+    let plus : (d == 43) ≡ false = ne_eqb _ _ (λ e. omega (arith, digit_from_value d h.1.0)) in
+    ap (λ b. drop (cond b 1 0) (d ∷ ds)) plus
+
+-- a number of its range passes
+taken : (choice : Choice) → IsInOrder choice → value_kinds false (Unsigned (least_of choice.setting) (most_of choice.setting)) choice.digits ≡ []
+taken choice order =
+    let small : digits_value 10 choice.digits < 2 ^ 64 = omega (arith, order.2, most_small choice.setting) in
+    let parser = Unsigned (least_of choice.setting) (most_of choice.setting) in
+    let accepted = Accepts-accepts false parser choice.digits (rw (no_plus choice.digits order.0) (order.0, small, order.1, order.2)) in
+    ap (λ b. if b then [] else refused_kind parser ∷ []) accepted
+
+attached_leads : (choice : Choice) (rows before : List Row) (pending : Pending) → Stands rows before pending → IsInOrder choice → has_row (name_of choice.setting) rows ≡ false
+    → Leads before pending (attached choice.setting choice.digits ∷ []) (rows ++ row_for choice ∷ [])
+attached_leads choice rows before pending stands order fresh =
+    let s = choice.setting in
+    let word = attached s choice.digits in
+    let settled = settled_rows rules pending before in
+    let clear : has_row (name_of s) settled ≡ false = ap (has_row (name_of s)) stands.are ∙ fresh in
+    let turn = attached_turn s choice.digits before pending stands.settles (value_passes s choice.digits (taken choice order) settled clear) in
+    let step = attached_walk s choice.digits before pending in
+    record {
+      after = used (rule_for s) (choice.digits ∷ []) settled;
+      waits = None;
+      stands = record { settles = refl; are = used_is choice settled clear ∙ ap (λ r. r ++ row_for choice ∷ []) stands.are };
+      faults = λ more. fault_step (between before pending) _ word more turn step;
+      walk = λ more. fold_step (between before pending) _ word more step;
+    }
+
+apart_leads : (s : Setting) (digits : Text) (apart : Bool) (rows before : List Row) (pending : Pending) → Stands rows before pending → IsInOrder (record { setting = s; digits = digits; apart = apart }) → has_row (name_of s) rows ≡ false
+    → Leads before pending (dashed s ∷ digits ∷ []) (rows ++ row_for (record { setting = s; digits = digits; apart = apart }) ∷ [])
+apart_leads s [] apart rows before pending stands order fresh = absurd (omega (arith, order.0.0))
+apart_leads s (x ∷ word) apart rows before pending stands order fresh =
+    let choice : Choice = record { setting = s; digits = x ∷ word; apart = apart } in
+    let settled = settled_rows rules pending before in
+    let clear : has_row (name_of s) settled ≡ false = ap (has_row (name_of s)) stands.are ∙ fresh in
+    let digit : (x == 45) ≡ false = ne_eqb _ _ (λ e. omega (arith, digit_from_value x order.0.1.0)) in
+    let first = dashed_walk s before pending in
+    let second = value_walk s x word settled digit in
+    record {
+      after = settled;
+      waits = Some (name_of s, (x ∷ word) ∷ []);
+      stands = record {
+        settles = settles_as s (x ∷ word) settled ∙ value_passes s (x ∷ word) (taken choice order) settled clear;
+        are = settled_as s (x ∷ word) settled ∙ used_is choice settled clear ∙ ap (λ r. r ++ row_for choice ∷ []) stands.are;
+      };
+      faults = λ more. fault_step (between before pending) _ (dashed s) ((x ∷ word) ∷ more) (dashed_turn s before pending stands.settles) first
+          ∙ fault_step (behind s settled) _ (x ∷ word) more (value_turn s x word settled digit) second;
+      walk = λ more. fold_step (between before pending) _ (dashed s) ((x ∷ word) ∷ more) first ∙ fold_step (behind s settled) _ (x ∷ word) more second;
+    }
+
+-- the words of a choice in order put its row behind the others
+pub choice_leads : (choice : Choice) (rows before : List Row) (pending : Pending) → Stands rows before pending → IsInOrder choice → has_row (name_of choice.setting) rows ≡ false
+    → Leads before pending (words_of choice) (rows ++ row_for choice ∷ [])
+choice_leads choice rows before pending stands order fresh = go choice.apart refl
+  where
+    go : (b : Bool) → choice.apart ≡ b → Leads before pending (words_of choice) (rows ++ row_for choice ∷ [])
+    go true is = rw is (apart_leads choice.setting choice.digits choice.apart rows before pending stands order fresh)
+    go false is = rw is (attached_leads choice rows before pending stands order fresh)
