@@ -16,13 +16,16 @@ follows next w x y = next (around w x y)
 
 -- the rule was asked at the places ps and no others: its answers, and whether all are as in w
 pub record HasAsked (next : List ℕ → ℕ) (w : World) (ps : List Place) (a : Asked) : Type 0 where
-  pub says : (x y : ℤ) → state_at a.patch x y ≡ cond (list_any (same_place (y, x)) ps) (Some (follows next w x y)) None
+  pub says : (x y : ℤ) → state_at a.patch x y
+      ≡ cond (list_any (same_place (y, x)) ps) (Some (follows next w x y)) None
   pub laid : lay a.cells.items blank ≡ fill ps (follows next w) blank
   pub listed : All (IsKept a.patch.level (follows next w)) a.cells.items
-  pub still : a.is_still ≡ true → (x y : ℤ) → list_any (same_place (y, x)) ps ≡ true → follows next w x y ≡ cell w x y
+  pub still : a.is_still ≡ true → (x y : ℤ) → list_any (same_place (y, x)) ps ≡ true →
+      follows next w x y ≡ cell w x y
 
 -- it was asked at the places qs too
-pub record AsksMore (next : List ℕ → ℕ) (w : World) (qs : List Place) (old new : Asked) : Type 0 where
+pub record AsksMore (next : List ℕ → ℕ) (w : World) (qs : List Place) (old new : Asked)
+    : Type 0 where
   pub level : new.patch.level ≡ old.patch.level
   pub asked : (ps : List Place) → HasAsked next w ps old → HasAsked next w (ps ++ qs) new
 

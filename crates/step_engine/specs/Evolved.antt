@@ -1,11 +1,12 @@
 -- What an engine reports of its work, and why it refuses.
-use Rattle.std.specs.Prelude.{◌≡◌, ◌≢◌, ℕ, suc, ◌+◌, ◌≤◌, ◌^◌, min, Bool, true, false, List, length, filter, All, AllPairs, Contains, Result, Err, codes}
+use Rattle.std.specs.Prelude.{◌≡◌, ◌≢◌, ℕ, suc, ◌≤◌, ◌^◌, min, Bool, true, false, List, length, filter, All, AllPairs, Contains, codes}
 use Rattle.worlds.specs.World.{World}
 use Rattle.worlds.specs.Step.{step}
 use Rattle.worlds.specs.Iterate.{iterate}
 use Rattle.worlds.specs.Range.{HasMargin, AllBelow}
 use Rattle.worlds.specs.Square.{Square, one, four, square_at}
 use Rattle.hash_life.specs.Makes.{Makes}
+use Rattle.hash_life.specs.Puts.{AsksOnce}
 use Rattle.square_table.specs.Centred.{edge}
 use Rattle.square_table.specs.Made.{HasStart}
 use Rattle.step_engine.specs.Reach.{IsRoomLevel}
@@ -28,7 +29,8 @@ pub record CanEvolve (state_count generations : ℕ) (w : World) : Type 0 where
 abbrev pub nothing_shared : Report
 nothing_shared = record { squares = 0; fours = 0; base = 0 }
 
--- a report of no more squares than there may be, of no more of 4 by 4 cells than these, and of no more put to the rule than those
+-- a report of no more squares than there may be, of no more of 4 by 4 cells than these, and of no
+-- more put to the rule than those
 pub record IsWithin (limit : ℕ) (report : Report) : Type 0 where
   pub squares : report.squares ≤ limit
   pub fours : report.fours ≤ report.squares
@@ -50,6 +52,13 @@ pub record HasWay (all : List Square) (next : List ℕ → ℕ) (w : World) (k n
   pub start : HasStart all w (suc (suc k))
   pub way : Makes next k n (square_at w (suc (suc k)) (edge (suc (suc k))) (edge (suc (suc k))))
       (Contains all)
+
+-- the rule was asked once for each block of 4 by 4 cells that was put to it, and all of those stand
+-- in generations before the last
+abbrev pub AsksOnceOf : {R : Type 0} → (R → List ℕ → ℕ) → (R → ℕ) → R → R →
+    World → ℕ → Evolved → Type 0
+AsksOnceOf meaning asks old new w n = λ evolved.
+    AsksOnce (meaning old) w n evolved.report.base (asks old) (asks new)
 
 -- any list of all squares that are made on the way has as many different ones as may be held
 pub record IsRoomSpent (limit : ℕ) (next : List ℕ → ℕ) (w : World) (n : ℕ) : Type 0 where
@@ -73,11 +82,6 @@ pub record IsEvolved (limit : ℕ) (next : List ℕ → ℕ) (w : World) (n : �
     : Type 0 where
   pub plane : evolved.plane ≡ iterate n (step next) w
   pub report : IsReport limit next w n evolved.report
-
--- Stopped is answered exactly where the stop said yes, by its counts of yes
-pub record StopsAsTold {A : Type 0} (yes new_yes : ℕ) (r : Result A EvolveFault) : Type 0 where
-  pub stopped : r ≡ Err Stopped → new_yes ≡ yes + 1
-  pub went_on : r ≢ Err Stopped → new_yes ≡ yes
 
 -- the number of a refusal
 abbrev pub number_of : EvolveFault → ℕ

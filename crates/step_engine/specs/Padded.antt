@@ -8,7 +8,8 @@ use Rattle.square_table.specs.Squares.{Table, IsNumber, square_in, IsHeld, Grows
 use Rattle.square_table.specs.Made.{AreAmong, HasEmpty, HasStart, HoldsWithin}
 use Rattle.square_table.specs.Centred.{IsCentred}
 
--- the square of level k + 2 in whose middle the square of these four of level k stands, and which else is empty
+-- the square of level k + 2 in whose middle the square of these four of level k stands, and which
+-- else is empty
 abbrev pub padded : ℕ → squares.Square → squares.Square
 padded k (four nw ne sw se) =
     let e = empty_square k in four (four e e e nw) (four e e ne e) (four e sw e e) (four se e e e)
@@ -17,7 +18,8 @@ padded k (one s) = one s
 -- in the table that came of t the number n is that of the square with empty ones round it
 pub record IsPaddedNumber (t : Table) (square : Square) (u : Table) (n : ℕ) : Type 0 where
   pub numbered : IsNumber u.rows (level_of square + 1) n
-  pub cells : square_in u.rows (level_of square + 1) n ≡ padded (level_of square - 1) (cells_of t square)
+  pub cells : square_in u.rows (level_of square + 1) n
+      ≡ padded (level_of square - 1) (cells_of t square)
   pub limit : u.limit ≡ t.limit
 
 -- in the table that came of t the square s is the one with empty ones round it

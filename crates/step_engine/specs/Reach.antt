@@ -6,7 +6,8 @@ use Rattle.worlds.specs.Square.{IsIn}
 
 -- each live cell lies in the square from -far up to far
 abbrev pub LiesWithin : ℕ → World → Type 0
-LiesWithin far w = (x y : ℤ) → 0 < cell w x y → IsIn (far + far) (neg_ℤ (pos far)) (neg_ℤ (pos far)) x y
+LiesWithin far w = (x y : ℤ) → 0 < cell w x y →
+    IsIn (far + far) (neg_ℤ (pos far)) (neg_ℤ (pos far)) x y
 
 -- the box lies in that square
 pub record BoxLiesWithin (far : ℕ) (b : Bounds) : Type 0 where

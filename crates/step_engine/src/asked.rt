@@ -90,8 +90,8 @@ pub(crate) fn ask_around<R: Next>(
     requires below { AllBelow (R.state_count rule.now) now.now }
     requires inside { IsInside 1 spot.x spot.y }
     requires room { HasRoom asked.old.patch.level spot.x spot.y }
-    ensures { OnOk result
-        (AsksMore (R.meaning rule.now) now.now (places_around (spot.y, spot.x)) asked.old asked.new) }
+    ensures { OnOk result (AsksMore (R.meaning rule.now) now.now
+        (places_around (spot.y, spot.x)) asked.old asked.new) }
 {
     for offset in &OFFSETS {
         let place = Spot {

@@ -1,7 +1,8 @@
 //! Many generations of a plane, one after another.
-ghost use Rattle.std.specs.Prelude.{◌≡◌, ◌≢◌, ◌+◌, IfOk, Err};
+ghost use Rattle.std.specs.Prelude.{◌≡◌, ◌≢◌, IfOk, Err};
 ghost use Rattle.worlds.specs.Iterate.{iterate};
 ghost use Rattle.worlds.specs.Step.{step};
+ghost use Rattle.worlds.specs.Stop.{CountsStop};
 ghost use Rattle.step_engine.specs.Evolved.{CanEvolve, nothing_shared};
 
 use crate::evolved::{EvolveFault, Evolved, Report};
@@ -34,12 +35,8 @@ pub fn evolve_plain<R: Next, S: Stop>(
     ensures plane { IfOk result (λ evolved.
         evolved.plane ≡ iterate generations (step (R.meaning rule.now)) plane.now) }
     ensures report { IfOk result (λ evolved. evolved.report ≡ nothing_shared) }
-
-    // Stopped is answered exactly where the stop said yes.
-    ensures stopped { result ≡ Err EvolveFault.Stopped →
-        S.yes_count stop.new ≡ S.yes_count stop.old + 1 }
-    ensures went_on { result ≢ Err EvolveFault.Stopped →
-        S.yes_count stop.new ≡ S.yes_count stop.old }
+    ensures stop { CountsStop result (Err EvolveFault.Stopped)
+        (S.yes_count stop.old) (S.yes_count stop.new) }
     ensures room { result ≢ Err EvolveFault.NoRoom }
 {
     if generations == 0 {

@@ -111,8 +111,10 @@ pub(crate) fn next_generation<R: Next>(
 ) -> Result<Option<Generation>, AllocError>
     requires below { AllBelow (R.state_count rule.now) now.now }
     requires fits { HasMargin 1 now.now }
-    ensures later { IfOk result (λ found. IfSome found (λ g. g ≡ step (R.meaning rule.now) now.now)) }
-    ensures still { IfOk result (λ found. IfNone found (step (R.meaning rule.now) now.now ≡ now.now)) }
+    ensures later { IfOk result (λ found.
+        IfSome found (λ g. g ≡ step (R.meaning rule.now) now.now)) }
+    ensures still { IfOk result (λ found.
+        IfNone found (step (R.meaning rule.now) now.now ≡ now.now)) }
 {
     let mut asked = Asked::nothing(alloc, patch_around(alloc, &now.cells));
     for cell in &now.cells {

@@ -1,10 +1,10 @@
 //! Many generations of a plane at once, by squares that are shared.
-ghost use Rattle.std.specs.Prelude.{◌≡◌, ◌≢◌, ◌+◌, IfOk, Err};
+ghost use Rattle.std.specs.Prelude.{◌≡◌, IfOk, Err};
 ghost use Rattle.worlds.specs.Iterate.{iterate};
 ghost use Rattle.worlds.specs.Step.{step};
-ghost use Rattle.hash_life.specs.Puts.{AsksOnce};
-ghost use Rattle.hash_engine.specs.Found.{IsSameRule};
-ghost use Rattle.step_engine.specs.Evolved.{CanEvolve, IsEvolved, IsReport, IsRoomSpent, StopsAsTold};
+ghost use Rattle.worlds.specs.Stop.{CountsStop};
+ghost use Rattle.hash_engine.specs.Found.{KeepsRule};
+ghost use Rattle.step_engine.specs.Evolved.{CanEvolve, IsEvolved, IsReport, IsRoomSpent, AsksOnceOf};
 
 use crate::evolved::{EvolveFault, Evolved, Report};
 use crate::padding::with_room;
@@ -39,11 +39,11 @@ pub fn evolve_by<Q: Ask, S: Stop>(
     ensures evolved { IfOk result (IsEvolved limit (Q.meaning rule.old) plane.now generations) }
 
     // No block of 4 by 4 cells is put to the rule twice, and each stands in an earlier generation.
-    ensures asks { IfOk result (λ evolved. AsksOnce (Q.meaning rule.old) plane.now generations
-        evolved.report.base (Q.asks rule.old) (Q.asks rule.new)) }
-    ensures rule { IsSameRule (Q.meaning rule.old) (Q.meaning rule.new)
-        (Q.state_count rule.old) (Q.state_count rule.new) }
-    ensures stop { StopsAsTold (S.yes_count stop.old) (S.yes_count stop.new) result }
+    ensures asks { IfOk result
+        (AsksOnceOf Q.meaning Q.asks rule.old rule.new plane.now generations) }
+    ensures rule { KeepsRule Q.meaning Q.state_count rule.old rule.new }
+    ensures stop { CountsStop result (Err EvolveFault.Stopped)
+        (S.yes_count stop.old) (S.yes_count stop.new) }
     ensures no_room { result ≡ Err EvolveFault.NoRoom →
         IsRoomSpent limit (Q.meaning rule.old) plane.now generations }
 {
@@ -76,12 +76,8 @@ pub fn evolve<R: Next, S: Stop>(
         evolved.plane ≡ iterate generations (step (R.meaning rule.now)) plane.now) }
     ensures report { IfOk result (λ evolved.
         IsReport limit (R.meaning rule.now) plane.now generations evolved.report) }
-
-    // Stopped is answered exactly where the stop said yes.
-    ensures stopped { result ≡ Err EvolveFault.Stopped →
-        S.yes_count stop.new ≡ S.yes_count stop.old + 1 }
-    ensures went_on { result ≢ Err EvolveFault.Stopped →
-        S.yes_count stop.new ≡ S.yes_count stop.old }
+    ensures stop { CountsStop result (Err EvolveFault.Stopped)
+        (S.yes_count stop.old) (S.yes_count stop.new) }
     ensures no_room { result ≡ Err EvolveFault.NoRoom →
         IsRoomSpent limit (R.meaning rule.now) plane.now generations }
 {
