@@ -1,6 +1,6 @@
 //! What comes of an answer.
 
-use schedule::EvolveFault;
+use step_engine::EvolveFault;
 
 /// What came of an answer.
 #[derive(Clone, Copy, Debug, PartialEq, Eq)]

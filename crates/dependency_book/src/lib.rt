@@ -18,25 +18,19 @@ mod arrival;
 mod book;
 mod entered;
 mod filled;
-mod finding;
 mod jobs;
 mod mark;
 mod marks;
 mod need;
+mod remade;
 mod revise;
 mod row;
 mod shown;
 mod text;
 mod texts;
-mod touch;
 
 pub use book::Book;
 pub use filled::Filled;
 pub use mark::Mark;
 pub use need::Need;
-pub use revision_jobs::{Answer, Entries, Entry, Job, Outcome, Place};
-pub use schedule::{
-    Bookmark, CellSet, Document, Edit, EditFault, Edited, EvolveFault, Listing, Plane, Refusal,
-    Rule, RuleFault, View,
-};
 pub use shown::Shown;
