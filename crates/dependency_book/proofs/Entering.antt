@@ -85,14 +85,14 @@ view_after d id shown from cells name states at right h = ap₂ lay h.cells (kno
 
 -- the entry that is to be computed gives what is wanted
 pub entry_gives : (d : BookState) (need : Need) (e : Entry) → IsRight d → IsEntryOf d need e → wanted d.plan need ≡ Some (value e)
-entry_gives d (Step m) (entry.Step rule from cells gens) right h = ap (λ w. Some (pattern w)) (sym (step_gives d m (arc_value rule) (arc_value from) cells gens right h))
-entry_gives d (Step m) (entry.View view from cells name states generation) right h = absurd h
-entry_gives d (View id) (entry.Step rule from cells gens) right h = absurd h
-entry_gives d (View id) (entry.View view from cells name states generation) right h =
+entry_gives d (Step m) (entry.Step s) right h = ap (λ w. Some (pattern w)) (sym (step_gives d m (arc_value s.rule) (arc_value s.from) s.cells s.gens right h))
+entry_gives d (Step m) (entry.View r) right h = absurd h
+entry_gives d (View id) (entry.Step s) right h = absurd h
+entry_gives d (View id) (entry.View r) right h =
     ap (text_wanted d.plan) h.there
     ∙ ap (λ bytes. Some (text bytes))
-    (sym (same_text text_of view h.bookmark.view (lay cells (arc_value from)) (after d.plan h.bookmark.generation) name (name_of d.plan.rule) states (states_of d.plan.rule) generation h.bookmark.generation
-    h.view (view_after d id view (arc_value from) cells name states generation right h) h.name h.states h.generation))
+    (sym (same_text text_of r.view h.bookmark.view (lay r.cells (arc_value r.from)) (after d.plan h.bookmark.generation) r.name (name_of d.plan.rule) r.states (states_of d.plan.rule) r.generation h.bookmark.generation
+    h.view (view_after d id r.view (arc_value r.from) r.cells r.name r.states r.generation right h) h.name h.states h.generation))
 
 -- and can be worked
 
@@ -100,18 +100,18 @@ cells_laid : (p : Plan) (g : ℕ) (cells : List CellSet) → IsSound p → cells
 cells_laid p g cells sound is = subst (All CanBeLaid) (sym is) (CanBeLaid-named (states_of p.rule) (cells_at p.interventions g) sound.few_states (AreNamed-at p g sound) (SetBelow-at p g sound))
 
 pub step_workable : (d : BookState) (m : ℕ) (e : Entry) → IsSound d.plan → IsRight d → is_mark d.plan m ≡ true → IsEntryOf d (Step m) e → CanBeWorked e
-step_workable d m (entry.View view from cells name states generation) sound right there h = absurd h
-step_workable d m (entry.Step rule from cells gens) sound right there h =
+step_workable d m (entry.View r) sound right there h = absurd h
+step_workable d m (entry.Step s) sound right there h =
     let n = h.before in
     let near : m ≤ 2 ^ 60 = mark_near d.plan m sound there in
-    let gap : n + gens ≡ m = h.gap in
-    let left : lay cells (arc_value from) ≡ after d.plan n = ap₂ lay h.cells (known_arrives d n (arc_value from) right h.from) in
-    let few : gens ≤ 2 ^ 60 - n = omega (arith, near, gap) in (
-      cells_laid d.plan n cells sound h.cells,
+    let gap : n + s.gens ≡ m = h.gap in
+    let left : lay s.cells (arc_value s.from) ≡ after d.plan n = ap₂ lay h.cells (known_arrives d n (arc_value s.from) right h.from) in
+    let few : s.gens ≤ 2 ^ 60 - n = omega (arith, near, gap) in (
+      cells_laid d.plan n s.cells sound h.cells,
       record {
-        below = subst (λ (r : Rule). AllBelow (states_of r) (lay cells (arc_value from))) (sym h.rule) (subst (AllBelow (states_of d.plan.rule)) (sym left) (AllBelow-after d.plan n sound));
+        below = subst (λ (r : Rule). AllBelow (states_of r) (lay s.cells (arc_value s.from))) (sym h.rule) (subst (AllBelow (states_of d.plan.rule)) (sym left) (AllBelow-after d.plan n sound));
         few = omega (arith, near, gap);
-        fits = subst (HasMargin gens) (sym left) (HasMargin-less gens (2 ^ 60 - n) (after d.plan n) few (HasMargin-after d.plan n (omega (arith, near, gap)) sound));
+        fits = subst (HasMargin s.gens) (sym left) (HasMargin-less s.gens (2 ^ 60 - n) (after d.plan n) few (HasMargin-after d.plan n (omega (arith, near, gap)) sound));
       },
     )
 
@@ -123,11 +123,11 @@ each_within (c ∷ bs) id b all there =
     (λ miss. each_within bs id b all.1 (rw miss at there))
 
 pub view_workable : (d : BookState) (id : ℕ) (e : Entry) → IsSound d.plan → IsRight d → IsEntryOf d (View id) e → CanBeWorked e
-view_workable d id (entry.Step rule from cells gens) sound right h = absurd h
-view_workable d id (entry.View view from cells name states generation) sound right h =
+view_workable d id (entry.Step s) sound right h = absurd h
+view_workable d id (entry.View r) sound right h =
     let g = h.bookmark.generation in
-    let left = view_after d id view (arc_value from) cells name states generation right h in (
-      cells_laid d.plan g cells sound h.cells,
-      subst (λ n. AllBelow n (lay cells (arc_value from))) (sym h.states) (subst (AllBelow (states_of d.plan.rule)) (sym left) (AllBelow-after d.plan g sound)),
+    let left = view_after d id r.view (arc_value r.from) r.cells r.name r.states r.generation right h in (
+      cells_laid d.plan g r.cells sound h.cells,
+      subst (λ n. AllBelow n (lay r.cells (arc_value r.from))) (sym h.states) (subst (AllBelow (states_of d.plan.rule)) (sym left) (AllBelow-after d.plan g sound)),
       subst IsWithin (sym h.view) (each_within d.plan.bookmarks id h.bookmark sound.views_within h.there),
     )

@@ -9,7 +9,7 @@ use Rattle.revision_jobs.specs.declared.entry.Entry.{Entry}
 use Rattle.revision_jobs.specs.declared.entry.Entry.TheVariants as entry
 use Rattle.revision_jobs.specs.declared.answer.Job.{Job}
 use Rattle.revision_jobs.specs.declared.entries.Place.{Place}
-use Rattle.revision_jobs.specs.Answered.{Answered, IsRight as IsRightAnswer}
+use Rattle.revision_jobs.specs.Answer.{JobResult, IsRight as IsRightAnswer}
 use Rattle.revision_jobs.specs.Entries.{IsOf, entry_of, index_of}
 use Rattle.revision_jobs.specs.Value.{Value, IsStep, value, pattern, text}
 use Rattle.dependency_book.specs.declared.need.Need.{Need}
@@ -147,12 +147,12 @@ may_stand d need place job (Ok v) right out same h =
     let one : Job = record { number = job.number; place = place } in
     record {
       there = expected_row d need one right out;
-      right = (expected_gives d need one right out).gives ∙ ap (λ e. Some (value e)) same ∙ ap (λ w. Some w) (sym h.0);
+      right = (expected_gives d need one right out).gives ∙ ap (λ e. Some (value e)) same ∙ ap (λ w. Some w) (sym h.value_is);
       free = tt;
     }
 
 -- what stands in each row after an answer, or a cancelling
-pub put_answers : (d e : BookState) (need : Need) (place : Place) (answer : Answered) → IsRight d → expected d need ≡ numbered answer.job.number place → index_of place ≡ index_of answer.job.place → Puts need (given_by answer.outcome) d e → (other : Need) → row_of e other ≡ answered answer (row_of d other)
+pub put_answers : (d e : BookState) (need : Need) (place : Place) (answer : JobResult) → IsRight d → expected d need ≡ numbered answer.job.number place → index_of place ≡ index_of answer.job.place → Puts need (given_by answer.outcome) d e → (other : Need) → row_of e other ≡ answered answer (row_of d other)
 put_answers d e need place answer right out same puts other =
     puts.rows other
     ∙ either_way (is_need need other)
@@ -167,7 +167,7 @@ put_cancels d e need n place right out puts other =
     (λ miss. rw miss (sym (let off = other_number d need other (record { number = n; place = place }) right out miss in rw off refl)))
 
 -- where no row expects it nothing changes
-pub none_answered : (d : BookState) (answer : Answered) → ((need : Need) → is_job answer.job (expected d need) ≡ false) → (need : Need) → row_of d need ≡ answered answer (row_of d need)
+pub none_answered : (d : BookState) (answer : JobResult) → ((need : Need) → is_job answer.job (expected d need) ≡ false) → (need : Need) → row_of d need ≡ answered answer (row_of d need)
 none_answered d answer none need = sym (let off = none need in rw off refl)
 
 pub none_cancelled : (d : BookState) (n : ℕ) → ((need : Need) → has_number n (expected d need) ≡ false) → (need : Need) → row_of d need ≡ cancelled n (row_of d need)
@@ -183,9 +183,9 @@ step_expects d (View id) place job right out index same is =
     absurd (not_text (entry_of job.place) (bookmark_in d.plan.bookmarks id) is ((expected_gives d (View id) (record { number = job.number; place = place }) right out).gives ∙ ap (λ e. Some (value e)) same))
   where
     not_text : (e : Entry) (o : Option Bookmark) → IsStep e → text_wanted d.plan o ≡ Some (value e) → ⊥
-    not_text (entry.Step rule from cells gens) None is h = cc
-    not_text (entry.Step rule from cells gens) (Some b) is h = cc
-    not_text (entry.View view from cells name states generation) o is h = is
+    not_text (entry.Step s) None is h = cc
+    not_text (entry.Step s) (Some b) is h = cc
+    not_text (entry.View r) o is h = is
 
 -- the books after an answer or a cancelling, and after a job is expected, are right
 

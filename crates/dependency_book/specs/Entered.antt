@@ -37,7 +37,7 @@ pub record ViewsOf (d : BookState) (id : ℕ) (shown : ViewOf) (start : World) (
 
 -- the entry is what is to be computed for the row that a need names
 abbrev pub IsEntryOf : BookState → Need → Entry → Type 0
-IsEntryOf d (Step mark) (entry.Step rule from cells gens) = StepsTo d mark (arc_value rule) (arc_value from) cells gens
-IsEntryOf d (Step mark) (entry.View view from cells name states generation) = ⊥
-IsEntryOf d (View id) (entry.Step rule from cells gens) = ⊥
-IsEntryOf d (View id) (entry.View view from cells name states generation) = ViewsOf d id view (arc_value from) cells name states generation
+IsEntryOf d (Step mark) (entry.Step s) = StepsTo d mark (arc_value s.rule) (arc_value s.from) s.cells s.gens
+IsEntryOf d (Step mark) (entry.View r) = ⊥
+IsEntryOf d (View id) (entry.Step s) = ⊥
+IsEntryOf d (View id) (entry.View r) = ViewsOf d id r.view (arc_value r.from) r.cells r.name r.states r.generation

@@ -4,7 +4,7 @@ use Rattle.std.specs.Result.{IsOk}
 use Rattle.step_engine.specs.declared.evolved.EvolveFault.{EvolveFault}
 use Rattle.revision_jobs.specs.declared.answer.Job.{Job}
 use Rattle.revision_jobs.specs.declared.entries.Place.{Place}
-use Rattle.revision_jobs.specs.Answered.{Answered}
+use Rattle.revision_jobs.specs.Answer.{JobResult}
 use Rattle.revision_jobs.specs.Entries.{IsOf, entry_of, index_of}
 use Rattle.revision_jobs.specs.Value.{Value}
 use Rattle.dependency_book.specs.declared.filled.Filled.{Filled}
@@ -37,7 +37,7 @@ given_by (Ok found) = Known found
 given_by (Err fault) = Empty
 
 -- what stands in a row after an answer: what the answer gives, if the row expects its job
-abbrev pub answered : Answered → RowState Value → RowState Value
+abbrev pub answered : JobResult → RowState Value → RowState Value
 answered answer row = if is_job answer.job (job_of row) then given_by answer.outcome else row
 
 -- what stands in a row after the job of this number was cancelled: nothing, if the row expects it
@@ -70,7 +70,7 @@ pub record StepExpects (d : BookState) (job : Job) : Type 0 where
 
 -- what came of an answer: a row was filled, or expects nothing any more because the job gave up, for
 -- want of room if it is a step's; or no row expects the job, and nothing changes
-abbrev pub IsFilled : BookState → BookState → Answered → Filled → Type 0
+abbrev pub IsFilled : BookState → BookState → JobResult → Filled → Type 0
 IsFilled old new answer Row = IsExpected old answer.job × IsOk answer.outcome × (wanting_of new ≡ wanting_of old)
 IsFilled old new answer (Released fault) = IsExpected old answer.job × (answer.outcome ≡ Err fault) × (fault ≡ EvolveFault.NoRoom → StepExpects old answer.job)
 IsFilled old new answer NotExpected = ((need : Need) → is_job answer.job (expected old need) ≡ false) × (new ≡ old)

@@ -11,7 +11,7 @@ ghost use Rattle.dependency_book.specs.Needs.{IsNext};
 use crate::book::Book;
 use crate::need::Need;
 use crate::row::place_in;
-use revision_jobs::Entry;
+use revision_jobs::{Entry, Rendering, Step};
 use schedule::{CellSet, Intervention, Listing, Next, Plane};
 use std::alloc::{AllocError, Global};
 use std::sync::Arc;
@@ -39,12 +39,12 @@ impl Book<'_> {
     {
         let (before, from) = self.before(mark);
         let interventions = self.document.interventions();
-        Ok(Entry::Step {
+        Ok(Entry::Step(Step {
             rule: Arc::try_clone(self.document.rule())?,
             from: Arc::try_clone(from)?,
             cells: cells_at(self.alloc, interventions, before)?,
             gens: mark - before,
-        })
+        }))
     }
 
     // The mark before a mark, and what arrives there.
@@ -73,14 +73,14 @@ impl Book<'_> {
         let bookmark = self.texts[place_in(&self.texts, id)].key;
         let rule = self.document.rule();
         let interventions = self.document.interventions();
-        Ok(Entry::View {
+        Ok(Entry::View(Rendering {
             view: bookmark.view,
             from: Arc::try_clone(self.arrived(bookmark.generation))?,
             cells: cells_at(self.alloc, interventions, bookmark.generation)?,
             name: copied(self.alloc, rule.name())?,
             states: rule.states(),
             generation: bookmark.generation,
-        })
+        }))
     }
 
     // What arrives at a generation, where that is known.

@@ -1,7 +1,7 @@
 //! Jobs for the rows of a book, and what their answers change.
 ghost use Rattle.std.specs.Prelude.{◌≡◌, ◌+◌, MatchOption, IfSome, Some, true, false};
 ghost use Rattle.std.specs.Arc.{arc_value};
-ghost use Rattle.revision_jobs.specs.Answered.{said};
+ghost use Rattle.revision_jobs.specs.Answer.{outcome_of};
 ghost use Rattle.revision_jobs.specs.Entries.{IsOf};
 ghost use Rattle.revision_jobs.specs.Value.{pattern, text};
 ghost use Rattle.dependency_book.specs.declared.row.RowState.TheVariants.{Empty, Known};
@@ -109,9 +109,9 @@ impl Book<'_> {
 
     // Puts an outcome in the row of a need: a value, or nothing where there is none.
     fn fill_row(&mut self, need: Need, outcome: Outcome) -> Filled
-        requires { CanBePut self.old need (given_by (said outcome)) }
-        ensures filled { result ≡ filled_by (said outcome) }
-        ensures row { Puts need (given_by (said outcome)) self.old self.new }
+        requires { CanBePut self.old need (given_by (outcome_of outcome)) }
+        ensures filled { result ≡ filled_by (outcome_of outcome) }
+        ensures row { Puts need (given_by (outcome_of outcome)) self.old self.new }
     {
         match outcome {
             Outcome::Plane(plane) => self.put_plane(need, plane),

@@ -1,7 +1,7 @@
 use Rattle.std.proofs.Common.{◌≡◌, ◌∙◌, true, false, Option, None, Some, Result, MatchOption, refl, sym, ap, ap₂, subst}
 use Rattle.step_engine.specs.declared.evolved.EvolveFault.{EvolveFault}
 use Rattle.revision_jobs.specs.declared.answer.Job.{Job}
-use Rattle.revision_jobs.specs.Answered.{Answered, said}
+use Rattle.revision_jobs.specs.Answer.{JobResult, outcome_of}
 use Rattle.revision_jobs.specs.Value.{Value}
 use Rattle.dependency_book.specs.declared.need.Need.{Need}
 use Rattle.dependency_book.specs.Jobs.{is_job, answered, IsFilled}
@@ -17,22 +17,22 @@ match_none A P (Some x) h is = absurd cc
 not_true : false ≡ true → ⊥
 not_true h = cc
 
-abbrev answer_of : Job → Result Value EvolveFault → Answered
+abbrev answer_of : Job → Result Value EvolveFault → JobResult
 answer_of job outcome = record { job = job; outcome = outcome }
 
 pub returns-in-Some-clause-rows : goal.returns-in-Some-clause-rows
 returns-in-Some-clause-rows c = λ other.
     let d = c.args.self.now in
-    let answer = answer_of c.into_parts-job.result.0 (said c.into_parts-job.result.1) in
+    let answer = answer_of c.into_parts-job.result.0 (outcome_of c.into_parts-job.result.1) in
     put_answers d c.fill_row.new.self c.in-Some.need c.in-Some.place.now answer c.expecting.ensures.right c.in-Some.ensures.row (c.if-same.ensures.index.0 refl) c.fill_row.ensures.row other
-    ∙ ap (λ (a : Answered). answered a (row_of d other)) (ap₂ answer_of c.into_parts-job.ensures.job c.into_parts-job.ensures.outcome)
+    ∙ ap (λ (a : JobResult). answered a (row_of d other)) (ap₂ answer_of c.into_parts-job.ensures.job c.into_parts-job.ensures.outcome)
 
 pub returns-in-Some-clause-right : goal.returns-in-Some-clause-right
 returns-in-Some-clause-right c =
-    filled_right c.args.self.now c.fill_row.new.self c.in-Some.need c.in-Some.place.now c.into_parts-job.result.0 (said c.into_parts-job.result.1) c.expecting.ensures.right c.in-Some.ensures.row (c.if-same.ensures.entry refl) c.into_parts-job.ensures.right c.fill_row.ensures.row
+    filled_right c.args.self.now c.fill_row.new.self c.in-Some.need c.in-Some.place.now c.into_parts-job.result.0 (outcome_of c.into_parts-job.result.1) c.expecting.ensures.right c.in-Some.ensures.row (c.if-same.ensures.entry refl) c.into_parts-job.ensures.right c.fill_row.ensures.row
 
 -- no row expects the job
-none_expects : (d : BookState) (job : Job) (answer : Answered) → job ≡ answer.job → ((need : Need) → is_job job (expected d need) ≡ false) → (need : Need) → is_job answer.job (expected d need) ≡ false
+none_expects : (d : BookState) (job : Job) (answer : JobResult) → job ≡ answer.job → ((need : Need) → is_job job (expected d need) ≡ false) → (need : Need) → is_job answer.job (expected d need) ≡ false
 none_expects d job answer same none = subst (λ (j : Job). (need : Need) → is_job j (expected d need) ≡ false) same none
 
 pub returns-clause-filled : goal.returns-clause-filled
