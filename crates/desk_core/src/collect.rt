@@ -10,7 +10,7 @@ ghost use Rattle.desk_core.specs.Collected.{IsCollected, IsOut};
 use crate::desk::Desk;
 use dependency_book::Filled;
 use revision_jobs::Answer;
-use schedule::EvolveFault;
+use step_engine::EvolveFault;
 
 /// What came of an answer.
 #[derive(Clone, Copy, Debug, PartialEq, Eq)]

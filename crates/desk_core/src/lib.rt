@@ -31,8 +31,8 @@ pub use revision_jobs::{
     work,
 };
 pub use schedule::{
-    Bookmark, CellSet, Document, Edit, EditFault, Edited, EvolveFault, Listing, Plane, Refusal,
-    Rule, RuleFault, View,
+    Bookmark, CellSet, Document, Edit, EditFault, Edited, Listing, Plane, Refusal, Rule, View,
 };
 pub use settling::settle;
 pub use shown::Settling;
+pub use step_engine::EvolveFault;
