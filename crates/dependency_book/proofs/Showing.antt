@@ -1,15 +1,15 @@
 -- What is shown of a bookmark, by the row at the place of its id.
-use Rattle.std.proofs.Common.{◌≡◌, ℕ, ◌<◌, ◌≤◌, ◌∙◌, List, [], ◌∷◌, length, get_or, refl, sym, ap, subst, arith, Option, None, Some}
+use Rattle.std.proofs.Common.{◌≡◌, ℕ, ◌<◌, ◌∙◌, List, [], ◌∷◌, length, get_or, refl, sym, ap, subst, Option, None, Some}
 use Rattle.std.specs.Prelude.{◌==◌, IsSome}
 use Rattle.schedule.specs.declared.document.Bookmark.{Bookmark}
 use Rattle.schedule.specs.Scratch.{scratch}
-use Rattle.revision_jobs.specs.Value.{Value, text}
+use Rattle.revision_jobs.specs.Value.{text}
 use Rattle.dependency_book.specs.declared.need.Need.TheVariants.{View}
 use Rattle.dependency_book.specs.declared.row.RowState.{RowState}
 use Rattle.dependency_book.specs.declared.row.RowState.TheVariants.{Empty, Expected, Known}
-use Rattle.dependency_book.specs.BookState.{BookState, bookmark_in, text_known, text_row}
+use Rattle.dependency_book.specs.BookState.{BookState, bookmark_in, text_row}
 use Rattle.dependency_book.specs.Held.{IsHeld}
-use Rattle.dependency_book.specs.Right.{IsRight, StandsRight, text_wanted}
+use Rattle.dependency_book.specs.Right.{StandsRight, text_wanted}
 use Rattle.dependency_book.specs.RowState.{known, state_map}
 use Rattle.dependency_book.specs.Rows.{TextRow, place_in, bookmark_rank}
 use Rattle.dependency_book.specs.Shown.{IsCurrent, IsPending}

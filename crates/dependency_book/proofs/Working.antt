@@ -1,33 +1,32 @@
 -- Jobs that rows expect, and what their answers give.
-use Rattle.std.proofs.Common.{◌≡◌, ℕ, ◌+◌, ◌<◌, ◌≤◌, ◌∙◌, Bool, true, false, ◌&&◌, List, refl, sym, ap, subst, arith, Option, None, Some, Result, Ok, Err}
-use Rattle.std.specs.Prelude.{◌==◌, nat_lt, [], ◌∷◌, if◌then◌else◌}
+use Rattle.std.proofs.Common.{◌≡◌, ℕ, ◌+◌, ◌<◌, ◌∙◌, Bool, true, false, ◌&&◌, List, refl, sym, ap, subst, arith, Option, None, Some, Result, Ok, Err}
+use Rattle.std.specs.Prelude.{◌==◌, nat_lt, [], ◌∷◌}
 use Rattle.step_engine.specs.declared.evolved.EvolveFault.{EvolveFault}
 use Rattle.schedule.specs.declared.document.Bookmark.{Bookmark}
 use Rattle.schedule.specs.Ids.{has_id, bookmark_id}
-use Rattle.schedule.specs.Scratch.{scratch}
 use Rattle.revision_jobs.specs.declared.entry.Entry.{Entry}
 use Rattle.revision_jobs.specs.declared.entry.Entry.TheVariants as entry
 use Rattle.revision_jobs.specs.declared.answer.Job.{Job}
 use Rattle.revision_jobs.specs.declared.entries.Place.{Place}
 use Rattle.revision_jobs.specs.Answer.{JobResult, IsRight as IsRightAnswer}
-use Rattle.revision_jobs.specs.Entries.{IsOf, entry_of, index_of}
-use Rattle.revision_jobs.specs.Value.{Value, IsStep, value, pattern, text}
+use Rattle.revision_jobs.specs.Entries.{entry_of, index_of}
+use Rattle.revision_jobs.specs.Value.{Value, IsStep, value}
 use Rattle.dependency_book.specs.declared.need.Need.{Need}
 use Rattle.dependency_book.specs.declared.need.Need.TheVariants.{Step, View}
 use Rattle.dependency_book.specs.declared.row.RowState.{RowState}
 use Rattle.dependency_book.specs.declared.row.RowState.TheVariants.{Empty, Expected, Known}
 use Rattle.dependency_book.specs.BookState.{BookState, row_of, expected, bookmark_in, wanting_of}
 use Rattle.dependency_book.specs.Held.{IsHeld}
-use Rattle.dependency_book.specs.Jobs.{is_need, is_job, given_by, answered, cancelled, issued, IsFilled, IsNextJob, SameDocument, StepExpects}
+use Rattle.dependency_book.specs.Jobs.{is_need, is_job, given_by, answered, cancelled, IsFilled, IsNextJob, StepExpects}
 use Rattle.dependency_book.specs.Marks.{is_mark}
 use Rattle.dependency_book.specs.Needs.{IsNext}
-use Rattle.dependency_book.specs.Puts.{CanBePut, IsFree, Puts, can_change, filled_by, missing}
-use Rattle.dependency_book.specs.Right.{IsRight, GivesWanted, StandsRight, is_row, wanted, text_wanted}
+use Rattle.dependency_book.specs.Puts.{CanBePut, Puts, can_change, filled_by, missing}
+use Rattle.dependency_book.specs.Right.{IsRight, GivesWanted, StandsRight, is_row, text_wanted}
 use Rattle.dependency_book.specs.RowState.{job_of, has_number}
 use Rattle.dependency_book.proofs.Outs.{numbered, none_at}
 use Rattle.dependency_book.proofs.Entering.{entry_gives}
 use Rattle.dependency_book.proofs.Putting.{need_is, need_same, and_parts, put_right}
-use Rattle.dependency_book.proofs.Tests.{either_way, clash, eq_true, eq_false, false_eq, lt_true, true_lt, true_eq}
+use Rattle.dependency_book.proofs.Tests.{either_way, clash, eq_true, eq_false, false_eq, lt_true, true_lt}
 
 -- a row that expects a job
 

@@ -1,4 +1,4 @@
-use Rattle.std.proofs.Common.{◌≡◌, ◌<◌, ◌∙◌, ◌≤◌, List, None, Some, sym, ap, subst, arith}
+use Rattle.std.proofs.Common.{◌≡◌, ◌∙◌, None, Some, sym, ap, subst, arith}
 use Rattle.dependency_book.specs.BookState.{BookState, bookmark_in}
 use Rattle.dependency_book.specs.Inside.{state_of}
 use Rattle.dependency_book.specs.Rows.{TextRow, place_in, bookmark_rank}
