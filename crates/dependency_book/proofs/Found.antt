@@ -1,100 +1,115 @@
--- Rows of bookmarks by their places, and what is shown of them.
-use Rattle.std.proofs.Common.{◌≡◌, ℕ, suc, ◌+◌, ◌<◌, ◌≤◌, ◌≢◌, ◌∙◌, List, length, drop, get_or, refl, sym, ap, subst, arith, Option, None, Some}
-use Rattle.std.specs.Prelude.{◌==◌, IfSome, is_some}
-use Rattle.std.proofs.lemmas.Bool.{cond-true, cond-false}
-use Rattle.std.proofs.lemmas.List.{drop_all, length-map}
-use Rattle.std.proofs.lemmas.List.Elements.{All-get_or, All-from_recursion}
+-- The rows from which what is needed is computed.
+use Rattle.std.proofs.Common.{◌≡◌, ℕ, ◌-◌, ◌<◌, ◌∙◌, true, false, List, length, get_or, refl, sym, ap, subst, arith, Some}
+use Rattle.std.specs.Prelude.{◌==◌, is_some, IsSome}
+use Rattle.std.specs.Arc.{arc_value}
+use Rattle.rule_tree.specs.Rule.{name_of, states_of}
 use Rattle.schedule.specs.declared.document.Bookmark.{Bookmark}
-use Rattle.schedule.specs.Plan.{Plan}
-use Rattle.schedule.specs.Scratch.{scratch}
-use Rattle.revision_jobs.specs.declared.entries.Entries.{Entries}
-use Rattle.dependency_book.specs.declared.finding.Finding.{Finding}
-use Rattle.dependency_book.specs.declared.finding.Finding.TheVariants.{Expected, Found}
-use Rattle.dependency_book.specs.Findings.{found}
-use Rattle.dependency_book.specs.Rows.{TextRow, value_at, keys, of_id}
-use Rattle.dependency_book.specs.Known.{Known, text_row, bookmark_in}
-use Rattle.dependency_book.specs.Right.{IsRight, AreTexts, IsScratch}
-use Rattle.dependency_book.specs.Rearranged.{rows_before}
-use Rattle.dependency_book.specs.Shown.{IsCurrent, IsPending}
-use Rattle.dependency_book.proofs.Marked.{eq_true, eq_false}
-use Rattle.dependency_book.proofs.Loops.{headed, past, decided, ended}
+use Rattle.schedule.specs.Scratch.{cells_at}
+use Rattle.revision_jobs.specs.declared.entry.Rendering.{Rendering}
+use Rattle.revision_jobs.specs.declared.entry.Step.{Step as Stepping}
+use Rattle.dependency_book.specs.declared.row.RowState.TheVariants.{Empty}
+use Rattle.dependency_book.specs.BookState.{BookState, arrival_known, bookmark_in}
+use Rattle.dependency_book.specs.Entered.{StepsTo, ViewsOf}
+use Rattle.dependency_book.specs.Held.{IsHeld}
+use Rattle.dependency_book.specs.Marks.{ComesBefore}
+use Rattle.dependency_book.specs.Needs.{StepIsNext, ViewIsNext}
+use Rattle.dependency_book.specs.RowState.{known}
+use Rattle.dependency_book.specs.Rows.{ArrivalRow, TextRow, keys, place_in, state_at, mark_rank, bookmark_rank}
+use Rattle.dependency_book.proofs.Outs.{ids_rise}
+use Rattle.dependency_book.proofs.Placed.{place_of-row, before_row, row_comes, before_one, row_stands, stands_in, in_at}
+use Rattle.dependency_book.proofs.Standing.{has, rank_at, place-has, rank-has, state_at-above, state_at-place}
+use Rattle.dependency_book.proofs.Tests.{either_way, clash}
 
-pub before_more : (id : ℕ) (rows : List TextRow) (k : ℕ) (x : TextRow) → k < length rows → x ≡ get_or rows k x → x.key.id ≢ id → rows_before id rows ≡ k + rows_before id (drop k rows) → rows_before id rows ≡ (k + 1) + rows_before id (drop (k + 1) rows)
-before_more id rows k x low is apart h =
-    let rest = drop (k + 1) rows in
-    let one : rows_before id (drop k rows) ≡ suc (rows_before id rest) = headed (rows_before id) rows k x low is ∙ cond-false (x.key.id == id) 0 (suc (rows_before id rest)) (eq_false x.key.id id apart) in
-    omega (arith, one, h)
+-- the row of a step, by its place
+pub record StepRow (d : BookState) (m k : ℕ) : Type 0 where
+  pub low : k < length d.arrivals
+  pub comes : (x : ArrivalRow) → ComesBefore d.plan (before_row d.arrivals k x) m
+  pub arrived : (x : ArrivalRow) → is_some (arrival_known d (before_row d.arrivals k x)) ≡ true
 
-pub before_stop : (id : ℕ) (rows : List TextRow) (k : ℕ) (x : TextRow) → k < length rows → x ≡ get_or rows k x → x.key.id ≡ id → rows_before id rows ≡ k + rows_before id (drop k rows) → k ≡ rows_before id rows
-before_stop id rows k x low is same h =
-    let rest = drop (k + 1) rows in
-    let none : rows_before id (drop k rows) ≡ 0 = headed (rows_before id) rows k x low is ∙ cond-true (x.key.id == id) 0 (suc (rows_before id rest)) (eq_true x.key.id id same) in
-    omega (arith, none, h)
-
-pub before_end : (id : ℕ) (rows : List TextRow) (k : ℕ) → length rows ≤ k → k ≤ length rows → rows_before id rows ≡ k + rows_before id (drop k rows) → length rows ≡ rows_before id rows
-before_end id rows k end fits h =
-    let none : rows_before id (drop k rows) ≡ 0 = ap (rows_before id) (drop_all k rows end) in
-    omega (arith, none, h, end, fits)
-
--- the first k rows have other ids
-pub record Passed (rows : List TextRow) (id k : ℕ) : Type 0 where
-  pub bookmark : bookmark_in (keys (drop k rows)) id ≡ bookmark_in (keys rows) id
-  pub text : value_at (of_id id) (drop k rows) ≡ value_at (of_id id) rows
-
-pub Passed-none : (rows : List TextRow) (id : ℕ) → Passed rows id 0
-Passed-none rows id = record { bookmark = refl; text = refl }
-
-pub Passed-more : (rows : List TextRow) (id k : ℕ) (x : TextRow) → k < length rows → x ≡ get_or rows k x → x.key.id ≢ id → Passed rows id k → Passed rows id (k + 1)
-Passed-more rows id k x low is apart h =
-    let B : List TextRow → Option Bookmark = λ rs. bookmark_in (keys rs) id in
-    let T : List TextRow → Option (Finding (List ℕ)) = value_at (of_id id) in
-    let rest = drop (k + 1) rows in
-    let other = eq_false x.key.id id apart in
+pub step_row : (d : BookState) (places : List ℕ) (m : ℕ) → IsHeld d places → StepIsNext d m → StepRow d m (place_in mark_rank m d.arrivals)
+step_row d places m held next =
+    let there : has mark_rank m (keys d.arrivals) ≡ true = held.marks.are m next.can.above ∙ next.can.is in
+    let low = place-has mark_rank m d.arrivals held.marks.rise there in
     record {
-      bookmark = past B B (B rows) rows k x low is h.bookmark (cond-false (x.key.id == id) (Some x.key) (B rest) other);
-      text = past T T (T rows) rows k x low is h.text (cond-false (x.key.id == id) x.value (T rest) other);
+      low = low;
+      comes = λ x. comes there low x;
+      arrived = λ x. ap (λ n. is_some (arrival_known d n)) (before_one d.plan (before_row d.arrivals (place_in mark_rank m d.arrivals) x) next.can.before m (comes there low x) next.can.comes) ∙ next.can.arrived;
+    }
+  where
+    comes : has mark_rank m (keys d.arrivals) ≡ true → place_in mark_rank m d.arrivals < length d.arrivals → (x : ArrivalRow) → ComesBefore d.plan (before_row d.arrivals (place_in mark_rank m d.arrivals) x) m
+    comes there low x = subst (ComesBefore d.plan (before_row d.arrivals (place_in mark_rank m d.arrivals) x)) (rank-has mark_rank m d.arrivals x held.marks.rise there) (row_comes d places (place_in mark_rank m d.arrivals) x held low)
+
+-- what is known at the row before
+pub row_known : (d : BookState) (places : List ℕ) (k : ℕ) (x : ArrivalRow) → IsHeld d places → k < length d.arrivals → arrival_known d (rank_at mark_rank d.arrivals k x) ≡ known (get_or d.arrivals k x).state
+row_known d places k x held low = ap known (row_stands d places k x held low)
+
+-- the row at a generation above 0 at which the arrival is known
+pub record ArrivedRow (d : BookState) (g k : ℕ) : Type 0 where
+  pub low : k < length d.arrivals
+  pub shows : (x : ArrivalRow) → arrival_known d g ≡ known (get_or d.arrivals k x).state
+
+pub arrived_row : (d : BookState) (places : List ℕ) (g : ℕ) → IsHeld d places → (g == 0) ≡ false → IsSome (arrival_known d g) → ArrivedRow d g (place_in mark_rank g d.arrivals)
+arrived_row d places g held high some =
+    let there : has mark_rank g (keys d.arrivals) ≡ true =
+    either_way (has mark_rank g (keys d.arrivals)) (λ hit. hit) (λ miss. absurd (nothing (state_at-above mark_rank g d.arrivals miss) some)) in
+    let low = place-has mark_rank g d.arrivals held.marks.rise there in
+    record {
+      low = low;
+      shows = λ x. let at = state_at-place mark_rank g d.arrivals x held.marks.rise low (rank-has mark_rank g d.arrivals x held.marks.rise there) in rw high (ap known at);
+    }
+  where
+    nothing : state_at mark_rank g d.arrivals ≡ Empty → IsSome (arrival_known d g) → ⊥
+    nothing none is = let known_one : is_some (arrival_known d g) ≡ true = is in let gone : is_some (arrival_known d g) ≡ false = rw (high, none) refl in clash (is_some (arrival_known d g)) known_one gone
+
+-- the row of a view, by its place
+pub record ViewRow (d : BookState) (id k : ℕ) : Type 0 where
+  pub low : k < length d.texts
+  pub named : (x : TextRow) → (get_or d.texts k x).key.id ≡ id
+  pub arrived : (x : TextRow) → IsSome (arrival_known d (get_or d.texts k x).key.generation)
+
+pub view_row : (d : BookState) (places : List ℕ) (id : ℕ) → IsHeld d places → ViewIsNext d id → ViewRow d id (place_in bookmark_rank id d.texts)
+view_row d places id held next =
+    let b = next.bookmark in
+    let f = stands_in d.texts b.id b (ap (λ bs. bookmark_in bs b.id) held.bookmarks ∙ next.can.there) in
+    let one : (x : TextRow) → (get_or d.texts f.place x).key.id ≡ id = λ x. ap (λ (c : Bookmark). c.id) (f.is x) ∙ next.named in
+    let at : place_in bookmark_rank id d.texts ≡ f.place = ap (λ n. place_in bookmark_rank n d.texts) (sym (one (row_for b))) ∙ place_of-row bookmark_rank d.texts f.place (row_for b) (ids_rise d places held) f.low in
+    subst (ViewRow d id) (sym at) (record {
+      low = f.low;
+      named = one;
+      arrived = λ x. subst (λ (c : Bookmark). IsSome (arrival_known d c.generation)) (sym (f.is x)) next.can.arrived;
+    })
+  where
+    row_for : Bookmark → TextRow
+    row_for b = record { key = b; state = Empty }
+
+-- the entries that are computed from these rows
+
+pub step_is : (d e : BookState) (m n : ℕ) (s : Stepping) → d ≡ e → ComesBefore e.plan n m → arrival_known e n ≡ Some (arc_value s.from) → arc_value s.rule ≡ d.plan.rule → s.cells ≡ cells_at d.plan.interventions n → s.gens ≡ m - n → StepsTo d m s
+step_is d e m n s same comes known rule cells span =
+    let under : n < m = comes.below in
+    record {
+      before = n;
+      comes = subst (λ (b : BookState). ComesBefore b.plan n m) (sym same) comes;
+      rule = rule;
+      from = subst (λ (b : BookState). arrival_known b n ≡ Some (arc_value s.from)) (sym same) known;
+      cells = cells;
+      gap = omega (arith, under, span);
     }
 
-here_bookmark : (d : Known) (id k : ℕ) (x : TextRow) → IsRight d → k < length d.texts → x ≡ get_or d.texts k x → x.key.id ≡ id → Passed d.texts id k → bookmark_in d.plan.bookmarks id ≡ Some x.key
-here_bookmark d id k x right low is same h =
-    let B : List TextRow → Option Bookmark = λ rs. bookmark_in (keys rs) id in
-    ap (λ bs. bookmark_in bs id) (sym right.texts.bookmarks)
-    ∙ sym (decided B (B d.texts) (Some x.key) d.texts k x low is h.bookmark (cond-true (x.key.id == id) (Some x.key) (B (drop (k + 1) d.texts)) (eq_true x.key.id id same)))
+-- the bookmark of the row of a view
+bookmark_of : (d : BookState) (places : List ℕ) (id k : ℕ) (x : TextRow) → IsHeld d places → ViewRow d id k → x ≡ get_or d.texts k x → bookmark_in d.plan.bookmarks id ≡ Some x.key
+bookmark_of d places id k x held row is =
+    ap (bookmark_in d.plan.bookmarks) (sym (row.named x)) ∙ in_at d places k x held row.low ∙ ap (λ (r : TextRow). Some r.key) (sym is)
 
-here_text : (d : Known) (id k : ℕ) (x : TextRow) → k < length d.texts → x ≡ get_or d.texts k x → x.key.id ≡ id → Passed d.texts id k → text_row d id ≡ x.value
-here_text d id k x low is same h =
-    let T : List TextRow → Option (Finding (List ℕ)) = value_at (of_id id) in
-    sym (decided T (T d.texts) x.value d.texts k x low is h.text (cond-true (x.key.id == id) x.value (T (drop (k + 1) d.texts)) (eq_true x.key.id id same)))
-
--- what is known at a place is right
-pub right_text : (table : Entries) (p : Plan) (rows : List TextRow) (k : ℕ) (x : TextRow) → AreTexts table p rows → k < length rows → x ≡ get_or rows k x → IfSome x.value (IsScratch table p x.key)
-right_text table p rows k x right low is =
-    subst (λ (r : TextRow). IfSome r.value (IsScratch table p r.key)) (sym is)
-    (All-get_or (λ (r : TextRow). IfSome r.value (IsScratch table p r.key)) rows k x low (All-from_recursion (λ (r : TextRow). IfSome r.value (IsScratch table p r.key)) rows right.right))
-
-found_right : (table : Entries) (p : Plan) (b : Bookmark) (o : Option (Finding (List ℕ))) (text : List ℕ) → found o ≡ Some text → IfSome o (IsScratch table p b) → text ≡ scratch p b
-found_right table p b None text is h = absurd cc
-found_right table p b (Some (Expected job)) text is h = absurd cc
-found_right table p b (Some (Found bytes)) text is h = let same : bytes ≡ text = cc in sym same ∙ h
-
-pub IsCurrent-found : (d : Known) (id k : ℕ) (x : TextRow) (text : List ℕ) → IsRight d → k < length d.texts → x ≡ get_or d.texts k x → x.key.id ≡ id → Passed d.texts id k → found x.value ≡ Some text → IsCurrent d id text
-IsCurrent-found d id k x text right low is same h there = record {
+pub view_is : (d e : BookState) (places : List ℕ) (id k : ℕ) (x : TextRow) (r : Rendering) → d ≡ e → IsHeld d places → ViewRow d id k → x ≡ get_or d.texts k x → arrival_known e x.key.generation ≡ Some (arc_value r.from) → r.view ≡ x.key.view
+    → r.cells ≡ cells_at d.plan.interventions x.key.generation → r.name ≡ name_of d.plan.rule → r.states ≡ states_of d.plan.rule → r.generation ≡ x.key.generation → ViewsOf d id r
+view_is d e places id k x r same held row is known view cells name states generation = record {
   bookmark = x.key;
-  there = here_bookmark d id k x right low is same h;
-  known = ap found (here_text d id k x low is same h) ∙ there;
-  scratch_text = found_right d.table d.plan x.key x.value text there (right_text d.table d.plan d.texts k x right.texts low is);
+  there = bookmark_of d places id k x held row is;
+  view = view;
+  from = subst (λ (b : BookState). arrival_known b x.key.generation ≡ Some (arc_value r.from)) (sym same) known;
+  cells = cells;
+  name = name;
+  states = states;
+  generation = generation;
 }
-
-pub IsPending-found : (d : Known) (id k : ℕ) (x : TextRow) → IsRight d → k < length d.texts → x ≡ get_or d.texts k x → x.key.id ≡ id → Passed d.texts id k → found x.value ≡ None → IsPending d id
-IsPending-found d id k x right low is same h none = record {
-  there = ap is_some (here_bookmark d id k x right low is same h);
-  unknown = ap found (here_text d id k x low is same h) ∙ none;
-}
-
-pub none_found : (d : Known) (id k : ℕ) → IsRight d → length d.texts ≤ k → Passed d.texts id k → bookmark_in d.plan.bookmarks id ≡ None
-none_found d id k right end h =
-    let B : List TextRow → Option Bookmark = λ rs. bookmark_in (keys rs) id in
-    ap (λ bs. bookmark_in bs id) (sym right.texts.bookmarks) ∙ sym (ended B (B d.texts) d.texts k end h.bookmark)
-
-pub texts_length : (table : Entries) (p : Plan) (rows : List TextRow) → AreTexts table p rows → length rows ≡ length p.bookmarks
-texts_length table p rows right = sym (length-map rows (λ (r : TextRow). r.key)) ∙ ap length right.bookmarks

@@ -19,7 +19,7 @@ use Rattle.schedule.specs.Ids.{IdsRise, intervention_id, changed_at, without}
 use Rattle.schedule.specs.Scratch.{own_cells, cells_at, arrival, after, scratch}
 use Rattle.schedule.specs.Sound.{IsSound}
 use Rattle.dependency_book.specs.Kept.{generation_of, felt_from, leaves_arrival, leaves_after}
-use Rattle.dependency_book.proofs.Marked.{either_way, true_eq, eq_false, true_lt}
+use Rattle.dependency_book.proofs.Tests.{either_way, true_eq, eq_false, true_lt}
 use Rattle.dependency_book.proofs.Walk.{own_cells-other}
 
 pub same_inserted : (is : List Intervention) (i : Intervention) (k : ℕ) → k < i.generation → cells_at is k ≡ cells_at (is ++ i ∷ []) k

@@ -1,241 +1,173 @@
--- Rows of marks: where a row is put, and what is known at the marks then.
-use Rattle.std.proofs.Common.{◌≡◌, ℕ, suc, ◌+◌, ◌<◌, ◌≤◌, ◌≢◌, ◌∙◌, Bool, true, false, not, ◌||◌, nat_lt, List, [], ◌∷◌, length, drop, get_or, refl, sym, ap, subst, arith, Option, None, Some}
-use Rattle.std.specs.Prelude.{if◌then◌else◌, ◌==◌, IfSome}
-use Rattle.std.specs.List.{list_any, insert}
-use Rattle.std.proofs.lemmas.Bool.{cond-true, cond-false, or_parts, or_from, or_left, or_right}
-use Rattle.std.proofs.lemmas.List.{drop_all}
-use Rattle.schedule.proofs.Shared.Ids.{each_filter}
-use Rattle.dependency_book.proofs.Loops.{headed}
-use Rattle.std.proofs.lemmas.Bool.Decides.{nat_tests}
-use Rattle.worlds.specs.World.{World}
-use Rattle.dependency_book.specs.declared.finding.Finding.{Finding}
+-- The marks of a document above 0 as a list.
+use Rattle.std.proofs.Common.{◌≡◌, ℕ, zero, suc, ◌+◌, ◌<◌, ◌≤◌, ◌∙◌, ◌++◌, Bool, true, false, ◌||◌, nat_lt, List, [], ◌∷◌, length, map, take, get_or, append_assoc, append-nil, refl, sym, ap, ap₂, subst, arith}
+use Rattle.std.specs.Prelude.{◌==◌}
+use Rattle.std.specs.List.{AllByRecursion, list_any, dedup, dedup_from}
+use Rattle.std.specs.List.Sorted.{IsNonDecreasingBy, IsPermutation}
+use Rattle.std.proofs.lemmas.List.{length-append, length-map, map-append, take_more}
+use Rattle.std.proofs.lemmas.List.Elements.{recursion_from_All}
+use Rattle.std.proofs.lemmas.List.Folds.{list_any-append}
+use Rattle.std.proofs.lemmas.List.Sorted.{list_any-IsPermutation}
+use Rattle.schedule.specs.Ids.{IdsRise}
+use Rattle.schedule.specs.Plan.{Plan}
+use Rattle.dependency_book.specs.AllMarks.{AreMarksOf, marks_above, intervention_generation, bookmark_generation}
 use Rattle.dependency_book.specs.declared.mark.Mark.{Mark}
-use Rattle.dependency_book.specs.Rows.{ArrivalRow, value_at, AllKnown, unknown, forget, keys, at_generation}
-use Rattle.dependency_book.specs.Marks.{MarksRise}
-use Rattle.dependency_book.specs.Rearranged.{above, placed, rows_below, without_mark}
+use Rattle.dependency_book.specs.Rows.{mark_rank}
+use Rattle.dependency_book.proofs.Tests.{either_way, clash, lt_true, lt_false, true_lt, false_lt, eq_false, true_eq, false_eq}
 
--- a test decides
-pub either_way : {A : Type 0} (b : Bool) → (b ≡ true → A) → (b ≡ false → A) → A
-either_way {A} b hit miss = elim b as (λ t. b ≡ t → A) [ true ↦ hit | false ↦ miss ] refl
+-- the mark at a generation
+abbrev pub mark_at : ℕ → Mark
+mark_at n = record { generation = n }
 
-pub lt_true : (m n : ℕ) → m < n → nat_lt m n ≡ true
-lt_true m n h = grind (arith, nat_tests)
+-- whether a mark is at generation g
+abbrev pub is_at : ℕ → Mark → Bool
+is_at g m = m.generation == g
 
-pub lt_false : (m n : ℕ) → n ≤ m → nat_lt m n ≡ false
-lt_false m n h = grind (arith, nat_tests)
+-- marks above 0 are added
 
-pub eq_true : (m n : ℕ) → m ≡ n → (m == n) ≡ true
-eq_true m n h = grind (arith, nat_tests)
+pub marks_above-append : (ms ns : List ℕ) → marks_above (ms ++ ns) ≡ marks_above ms ++ marks_above ns
+marks_above-append [] ns = refl
+marks_above-append (m ∷ ms) ns =
+    either_way (nat_lt 0 m)
+    (λ hit. rw hit (ap (λ ks. mark_at m ∷ ks) (marks_above-append ms ns)))
+    (λ miss. rw miss (marks_above-append ms ns))
 
-pub eq_false : (m n : ℕ) → m ≢ n → (m == n) ≡ false
-eq_false m n h = grind (arith, nat_tests)
+pub marks_more : {X : Type 0} (f : X → ℕ) (xs : List X) (i : ℕ) (d : X) → i < length xs → marks_above (map f (take (i + 1) xs)) ≡ marks_above (map f (take i xs)) ++ marks_above (f (get_or xs i d) ∷ [])
+marks_more f xs i d low =
+    ap (λ ys. marks_above (map f ys)) (take_more xs i d low)
+    ∙ ap marks_above (map-append f (take i xs) (get_or xs i d ∷ []))
+    ∙ marks_above-append (map f (take i xs)) (f (get_or xs i d) ∷ [])
 
-pub true_lt : (m n : ℕ) → nat_lt m n ≡ true → m < n
-true_lt m n h = grind (arith, nat_tests)
+one_above : (n : ℕ) → 0 < n → marks_above (n ∷ []) ≡ mark_at n ∷ []
+one_above n up = rw (lt_true 0 n up) refl
 
-pub false_lt : (m n : ℕ) → nat_lt m n ≡ false → n ≤ m
-false_lt m n h = grind (arith, nat_tests)
+none_above : (n : ℕ) → n ≤ 0 → marks_above (n ∷ []) ≡ []
+none_above n low = rw (lt_false 0 n low) refl
 
-pub true_eq : (m n : ℕ) → (m == n) ≡ true → m ≡ n
-true_eq m n h = grind (arith, nat_tests)
+-- a mark was pushed, or none was
+pub pushed_one : (items olds was before after : List Mark) (n : ℕ) → items ≡ olds ++ mark_at n ∷ [] → olds ≡ was ++ before → 0 < n → after ≡ before ++ marks_above (n ∷ []) → items ≡ was ++ after
+pushed_one items olds was before after n pushed left up more =
+    pushed ∙ ap (λ ms. ms ++ mark_at n ∷ []) left ∙ append_assoc was before (mark_at n ∷ [])
+    ∙ ap (λ ms. was ++ ms) (ap (λ ms. before ++ ms) (sym (one_above n up)) ∙ sym more)
 
-pub false_eq : (m n : ℕ) → (m == n) ≡ false → m ≢ n
-false_eq m n h = grind (arith, nat_tests)
+pub pushed_none : (items olds was before after : List Mark) (n : ℕ) → items ≡ olds → olds ≡ was ++ before → n ≤ 0 → after ≡ before ++ marks_above (n ∷ []) → items ≡ was ++ after
+pushed_none items olds was before after n same left low more =
+    same ∙ left ∙ ap (λ ms. was ++ ms) (sym (append-nil before) ∙ ap (λ ms. before ++ ms) (sym (none_above n low)) ∙ sym more)
 
--- where a row is put
+-- which marks these are
 
-pub rows_below-le : (g : ℕ) (rows : List ArrivalRow) → rows_below g rows ≤ length rows
-rows_below-le g [] = omega arith
-rows_below-le g (r ∷ rs) =
-    either_way (nat_lt r.key.generation g)
-    (λ low. subst (λ n. n ≤ length (r ∷ rs)) (sym (cond-true (nat_lt r.key.generation g) (suc (rows_below g rs)) 0 low)) (let k = rows_below-le g rs in omega (arith, k)))
-    (λ high. subst (λ n. n ≤ length (r ∷ rs)) (sym (cond-false (nat_lt r.key.generation g) (suc (rows_below g rs)) 0 high)) (omega arith))
+pub few_above : (ns : List ℕ) → length (marks_above ns) ≤ length ns
+few_above [] = omega arith
+few_above (n ∷ ns) = let rest = few_above ns in either_way (nat_lt 0 n) (λ hit. rw hit (omega (arith, rest))) (λ miss. rw miss (omega (arith, rest)))
 
-pub insert_placed : (g : ℕ) (rows : List ArrivalRow) → insert rows (rows_below g rows) (unknown (record { generation = g })) ≡ placed g rows
-insert_placed g [] = refl
-insert_placed g (r ∷ rs) =
-    let new : ArrivalRow = unknown (record { generation = g }) in
-    let test = nat_lt r.key.generation g in
-    either_way test
-    (λ low. ap (λ n. insert (r ∷ rs) n new) (cond-true test (suc (rows_below g rs)) 0 low) ∙ ap (λ ys. r ∷ ys) (insert_placed g rs) ∙ sym (cond-true test (r ∷ placed g rs) (new ∷ r ∷ rs) low))
-    (λ high. ap (λ n. insert (r ∷ rs) n new) (cond-false test (suc (rows_below g rs)) 0 high) ∙ sym (cond-false test (r ∷ placed g rs) (new ∷ r ∷ rs) high))
+-- none is at 0
+pub none_at_start : (ns : List ℕ) → list_any (is_at 0) (marks_above ns) ≡ false
+none_at_start [] = refl
+none_at_start (n ∷ ns) =
+    either_way (nat_lt 0 n)
+    (λ hit. let other = eq_false n 0 (let up = true_lt 0 n hit in λ same. omega (arith, same, up)) in rw (hit, other) (none_at_start ns))
+    (λ miss. rw miss (none_at_start ns))
 
-pub below_more : (g : ℕ) (rows : List ArrivalRow) (k : ℕ) (x : ArrivalRow) → k < length rows → x ≡ get_or rows k x → x.key.generation < g → rows_below g rows ≡ k + rows_below g (drop k rows) → rows_below g rows ≡ (k + 1) + rows_below g (drop (k + 1) rows)
-below_more g rows k x low is under h =
-    let rest = drop (k + 1) rows in
-    let one : rows_below g (drop k rows) ≡ suc (rows_below g rest) = headed (rows_below g) rows k x low is ∙ cond-true (nat_lt x.key.generation g) (suc (rows_below g rest)) 0 (lt_true x.key.generation g under) in
-    omega (arith, one, h)
-
-pub below_stop : (g : ℕ) (rows : List ArrivalRow) (k : ℕ) (x : ArrivalRow) → k < length rows → x ≡ get_or rows k x → g ≤ x.key.generation → rows_below g rows ≡ k + rows_below g (drop k rows) → k ≡ rows_below g rows
-below_stop g rows k x low is over h =
-    let rest = drop (k + 1) rows in
-    let none : rows_below g (drop k rows) ≡ 0 = headed (rows_below g) rows k x low is ∙ cond-false (nat_lt x.key.generation g) (suc (rows_below g rest)) 0 (lt_false x.key.generation g over) in
-    omega (arith, none, h)
-
-pub below_end : (g : ℕ) (rows : List ArrivalRow) (k : ℕ) → length rows ≤ k → k ≤ length rows → rows_below g rows ≡ k + rows_below g (drop k rows) → length rows ≡ rows_below g rows
-below_end g rows k end fits h =
-    let none : rows_below g (drop k rows) ≡ 0 = ap (rows_below g) (drop_all k rows end) in
-    omega (arith, none, h, end, fits)
-
--- the tests of marks
-
-abbrev pub has : ℕ → List ArrivalRow → Bool
-has g rows = list_any (at_generation g) (keys rows)
-
-pub any_keys : (g : ℕ) (rows : List ArrivalRow) → list_any (λ (r : ArrivalRow). r.key.generation == g) rows ≡ has g rows
-any_keys g [] = refl
-any_keys g (r ∷ rs) = ap (λ b. r.key.generation == g || b) (any_keys g rs)
-
--- a mark that has no row
-pub value_at-absent : (g : ℕ) (rows : List ArrivalRow) → has g rows ≡ false → value_at (at_generation g) rows ≡ None
-value_at-absent g [] miss = refl
-value_at-absent g (r ∷ rs) miss =
-    let parts = or_parts (r.key.generation == g) (has g rs) miss in
-    cond-false (r.key.generation == g) r.value (value_at (at_generation g) rs) parts.0 ∙ value_at-absent g rs parts.1
-
-pub absent_below : (low g : ℕ) (rows : List ArrivalRow) → MarksRise low (keys rows) → g ≤ low → has g rows ≡ false
-absent_below low g [] h le = refl
-absent_below low g (r ∷ rs) h le =
-    let above : low < r.key.generation = h.0 in
-    or_from (r.key.generation == g) (has g rs) (eq_false r.key.generation g (λ same. omega (arith, same, above, le))) (absent_below r.key.generation g rs h.1 (omega (arith, above, le)))
-
--- rows that forget
-
-pub keys-forget : (lost : Mark → Bool) (rows : List ArrivalRow) → keys (forget lost rows) ≡ keys rows
-keys-forget lost [] = refl
-keys-forget lost (r ∷ rs) = ap (λ ms. r.key ∷ ms) (keys-forget lost rs)
-
-pub value_at-forget : (f g : ℕ) (rows : List ArrivalRow) → value_at (at_generation g) (forget (above f) rows) ≡ (if nat_lt f g then None else value_at (at_generation g) rows)
-value_at-forget f g [] = either_way (nat_lt f g) (λ hit. sym (cond-true (nat_lt f g) None None hit)) (λ miss. sym (cond-false (nat_lt f g) None None miss))
-value_at-forget f g (r ∷ rs) =
-    let here = r.key.generation == g in
-    let rest = value_at (at_generation g) rs in
-    let left = value_at (at_generation g) (forget (above f) rs) in
-    either_way here
-    (λ hit.
-    cond-true here (if nat_lt f r.key.generation then None else r.value) left hit
-    ∙ ap (λ n. if nat_lt f n then None else r.value) (true_eq r.key.generation g hit)
-    ∙ ap (λ (o : Option (Finding World)). if nat_lt f g then None else o) (sym (cond-true here r.value rest hit)))
+-- one is at a generation above 0 where a number is
+pub one_is_at : {X : Type 0} (f : X → ℕ) (g : ℕ) (xs : List X) → 0 < g → list_any (is_at g) (marks_above (map f xs)) ≡ list_any (λ x. f x == g) xs
+one_is_at f g [] up = refl
+one_is_at f g (x ∷ xs) up =
+    either_way (nat_lt 0 (f x))
+    (λ hit. rw hit (ap (λ b. (f x == g) || b) (one_is_at f g xs up)))
     (λ miss.
-    cond-false here (if nat_lt f r.key.generation then None else r.value) left miss
-    ∙ value_at-forget f g rs
-    ∙ ap (λ (o : Option (Finding World)). if nat_lt f g then None else o) (sym (cond-false here r.value rest miss)))
+    let other = eq_false (f x) g (let low = false_lt 0 (f x) miss in λ same. omega (arith, same, low, up)) in
+    rw (miss, other) (one_is_at f g xs up))
 
-some_if : {V : Type 0} (P Q : V → Type 0) (b : Bool) (o : Option V) → (b ≡ false → (v : V) → P v → Q v) → IfSome o P → IfSome (if b then None else o) Q
-some_if P Q true o f h = tt
-some_if P Q false None f h = tt
-some_if P Q false (Some v) f h = f refl v h
+-- marks none of which is at 0 are above it
+pub all_above : (ms : List Mark) → list_any (is_at 0) ms ≡ false → AllByRecursion (λ (m : Mark). 0 < m.generation) ms
+all_above [] none = tt
+all_above (m ∷ ms) none =
+    either_way (m.generation == 0)
+    (λ hit. clash true refl (rw hit at none))
+    (λ miss. let apart = false_eq m.generation 0 miss in (omega (arith, apart), all_above ms (rw miss at none)))
 
-pub AllKnown-forget : (P Q : Mark → Finding World → Type 0) (f low : ℕ) (rows : List ArrivalRow) → ((m : Mark) → low < m.generation → above f m ≡ false → (w : Finding World) → P m w → Q m w) → MarksRise low (keys rows) → AllKnown P rows → AllKnown Q (forget (above f) rows)
-AllKnown-forget P Q f low [] step rise h = tt
-AllKnown-forget P Q f low (r ∷ rs) step rise h = (
-  some_if (P r.key) (Q r.key) (above f r.key) r.value (λ stays w k. step r.key rise.0 stays w k) h.0,
-  AllKnown-forget P Q f r.key.generation rs (λ m over stays w k. step m (let first : low < r.key.generation = rise.0 in omega (arith, first, over)) stays w k) rise.1 h.1,
+-- marks that don't fall
+
+-- each is at most at the generation of all later ones
+abbrev pub NeverFall : List Mark → Type 0
+NeverFall [] = Unit {0}
+NeverFall (m ∷ ms) = AllByRecursion (λ (n : Mark). m.generation ≤ n.generation) ms × NeverFall ms
+
+pub never_fall : (ms : List Mark) → IsNonDecreasingBy mark_rank ms → NeverFall ms
+never_fall [] up = tt
+never_fall (m ∷ ms) up = (
+  recursion_from_All (λ (n : Mark). m.generation ≤ n.generation) ms (λ k d low. up zero (suc k) d (omega arith) (omega (arith, low))),
+  never_fall ms (λ i j d le low. up (suc i) (suc j) d (omega (arith, le)) (omega (arith, low))),
 )
 
--- a row that is put
+-- each once
 
-pub has-placed_same : (m : ℕ) (rows : List ArrivalRow) → has m (placed m rows) ≡ true
-has-placed_same m [] = or_left (m == m) false (eq_true m m refl)
-has-placed_same m (r ∷ rs) =
-    let new : ArrivalRow = unknown (record { generation = m }) in
-    let test = nat_lt r.key.generation m in
-    either_way test
-    (λ low. ap (has m) (cond-true test (r ∷ placed m rs) (new ∷ r ∷ rs) low) ∙ or_right (r.key.generation == m) (has m (placed m rs)) (has-placed_same m rs))
-    (λ high. ap (has m) (cond-false test (r ∷ placed m rs) (new ∷ r ∷ rs) high) ∙ or_left (m == m) (has m (r ∷ rs)) (eq_true m m refl))
+module _ (same : Mark → Mark → Bool) (ties : (m n : Mark) → same m n ≡ (m.generation == n.generation)) where
+  all_kept : (P : Mark → Type 0) (k : Mark) (ms : List Mark) → P k → AllByRecursion P ms → AllByRecursion P (dedup_from same k ms)
+  all_kept P k [] here all = (here, tt)
+  all_kept P k (m ∷ ms) here all =
+      either_way (same m k)
+      (λ hit. rw hit (all_kept P k ms here all.1))
+      (λ miss. rw miss (here, all_kept P m ms all.0 all.1))
 
-not_it : (b c : Bool) → b ≡ false → (b || c) ≡ c
-not_it b c h = ap (λ t. t || c) h
+  above_all : (n : ℕ) (m : Mark) (ms : List Mark) → n < m.generation → AllByRecursion (λ (x : Mark). m.generation ≤ x.generation) ms → AllByRecursion (λ (x : Mark). n < x.generation) ms
+  above_all n m [] up all = tt
+  above_all n m (x ∷ xs) up all = (let le : m.generation ≤ x.generation = all.0 in omega (arith, le, up), above_all n m xs up all.1)
 
-pub has-placed_other : (m g : ℕ) (rows : List ArrivalRow) → m ≢ g → has g (placed m rows) ≡ has g rows
-has-placed_other m g [] apart = not_it (m == g) false (eq_false m g apart)
-has-placed_other m g (r ∷ rs) apart =
-    let new : ArrivalRow = unknown (record { generation = m }) in
-    let test = nat_lt r.key.generation m in
-    either_way test
-    (λ low. ap (has g) (cond-true test (r ∷ placed m rs) (new ∷ r ∷ rs) low) ∙ ap (λ b. r.key.generation == g || b) (has-placed_other m g rs apart))
-    (λ high. ap (has g) (cond-false test (r ∷ placed m rs) (new ∷ r ∷ rs) high) ∙ not_it (m == g) (has g (r ∷ rs)) (eq_false m g apart))
+  rise_from : (k : Mark) (ms : List Mark) → AllByRecursion (λ (x : Mark). k.generation ≤ x.generation) ms → NeverFall ms → IdsRise mark_rank (dedup_from same k ms)
+  rise_from k [] low up = (tt, tt)
+  rise_from k (m ∷ ms) low up =
+      either_way (same m k)
+      (λ hit. rw hit (rise_from k ms low.1 up.1))
+      (λ miss.
+      let apart = false_eq m.generation k.generation (sym (ties m k) ∙ miss) in
+      let le : k.generation ≤ m.generation = low.0 in
+      let lt : k.generation < m.generation = omega (arith, apart, le) in
+      rw miss (all_kept (λ (x : Mark). k.generation < x.generation) m ms lt (above_all k.generation m ms lt up.0), rise_from m ms up.0 up.1))
 
-pub rise-placed : (m low : ℕ) (rows : List ArrivalRow) → MarksRise low (keys rows) → low < m → has m rows ≡ false → MarksRise low (keys (placed m rows))
-rise-placed m low [] rise under miss = (under, tt)
-rise-placed m low (r ∷ rs) rise under miss =
-    let new : ArrivalRow = unknown (record { generation = m }) in
-    let test = nat_lt r.key.generation m in
-    let parts = or_parts (r.key.generation == m) (has m rs) miss in
-    either_way test
-    (λ less. subst (λ (ys : List ArrivalRow). MarksRise low (keys ys)) (sym (cond-true test (r ∷ placed m rs) (new ∷ r ∷ rs) less)) (rise.0, rise-placed m r.key.generation rs rise.1 (true_lt r.key.generation m less) parts.1))
-    (λ more. subst (λ (ys : List ArrivalRow). MarksRise low (keys ys)) (sym (cond-false test (r ∷ placed m rs) (new ∷ r ∷ rs) more))
-    (under, ((let le = false_lt r.key.generation m more in let apart = false_eq r.key.generation m parts.0 in omega (arith, le, apart)), rise.1)))
+  pub rise_once : (ms : List Mark) → NeverFall ms → IdsRise mark_rank (dedup same ms)
+  rise_once [] up = tt
+  rise_once (m ∷ ms) up = rise_from m ms up.0 up.1
 
-pub value_at-placed : (m g : ℕ) (rows : List ArrivalRow) → has m rows ≡ false → value_at (at_generation g) (placed m rows) ≡ value_at (at_generation g) rows
-value_at-placed m g [] miss = either_way (m == g) (λ hit. cond-true (m == g) None None hit) (λ other. cond-false (m == g) None None other)
-value_at-placed m g (r ∷ rs) miss =
-    let new : ArrivalRow = unknown (record { generation = m }) in
-    let test = nat_lt r.key.generation m in
-    let whole : List ArrivalRow = r ∷ rs in
-    let parts = or_parts (r.key.generation == m) (has m rs) miss in
-    either_way test
-    (λ less. ap (value_at (at_generation g)) (cond-true test (r ∷ placed m rs) (new ∷ r ∷ rs) less) ∙ ap (λ (o : Option (Finding World)). if r.key.generation == g then r.value else o) (value_at-placed m g rs parts.1))
-    (λ more. ap (value_at (at_generation g)) (cond-false test (r ∷ placed m rs) (new ∷ r ∷ rs) more)
-    ∙ either_way (m == g)
-    (λ hit. cond-true (m == g) None (value_at (at_generation g) whole) hit ∙ sym (value_at-absent g whole (subst (λ n. has n whole ≡ false) (true_eq m g hit) miss)))
-    (λ other. cond-false (m == g) None (value_at (at_generation g) whole) other))
+  at_from : (g : ℕ) (k : Mark) (ms : List Mark) → list_any (is_at g) (dedup_from same k ms) ≡ (is_at g k || list_any (is_at g) ms)
+  at_from g k [] = refl
+  at_from g k (m ∷ ms) =
+      either_way (same m k)
+      (λ hit.
+      let one : is_at g m ≡ is_at g k = ap (λ n. n == g) (true_eq m.generation k.generation (sym (ties m k) ∙ hit)) in
+      rw hit (at_from g k ms ∙ twice (is_at g k) (list_any (is_at g) ms) ∙ ap (λ b. is_at g k || (b || list_any (is_at g) ms)) (sym one)))
+      (λ miss. rw miss (ap (λ b. is_at g k || b) (at_from g m ms)))
+    where
+      twice : (a b : Bool) → (a || b) ≡ (a || (a || b))
+      twice true b = refl
+      twice false b = refl
 
-pub AllKnown-placed : (P : Mark → Finding World → Type 0) (m : ℕ) (rows : List ArrivalRow) → AllKnown P rows → AllKnown P (placed m rows)
-AllKnown-placed P m [] h = (tt, tt)
-AllKnown-placed P m (r ∷ rs) h =
-    let new : ArrivalRow = unknown (record { generation = m }) in
-    let test = nat_lt r.key.generation m in
-    either_way test
-    (λ less. subst (AllKnown P) (sym (cond-true test (r ∷ placed m rs) (new ∷ r ∷ rs) less)) (h.0, AllKnown-placed P m rs h.1))
-    (λ more. subst (AllKnown P) (sym (cond-false test (r ∷ placed m rs) (new ∷ r ∷ rs) more)) (tt, h))
+  pub at_once : (g : ℕ) (ms : List Mark) → list_any (is_at g) (dedup same ms) ≡ list_any (is_at g) ms
+  at_once g [] = refl
+  at_once g (m ∷ ms) = at_from g m ms
 
--- a row that is taken out
+-- whether two marks are one
+abbrev pub same_mark : Mark → Mark → Bool
+same_mark m n = m.generation == n.generation
 
-pub has-without_same : (m : ℕ) (rows : List ArrivalRow) → has m (without_mark m rows) ≡ false
-has-without_same m [] = refl
-has-without_same m (r ∷ rs) =
-    let test = r.key.generation == m in
-    let rest = without_mark m rs in
-    either_way test
-    (λ hit. ap (has m) (cond-false (not test) (r ∷ rest) rest (ap not hit)) ∙ has-without_same m rs)
-    (λ miss. ap (has m) (cond-true (not test) (r ∷ rest) rest (ap not miss)) ∙ or_from test (has m rest) miss (has-without_same m rs))
-
-pub has-without_other : (m g : ℕ) (rows : List ArrivalRow) → m ≢ g → has g (without_mark m rows) ≡ has g rows
-has-without_other m g [] apart = refl
-has-without_other m g (r ∷ rs) apart =
-    let test = r.key.generation == m in
-    let rest = without_mark m rs in
-    either_way test
-    (λ hit.
-    let off : r.key.generation ≢ g = (let is = true_eq r.key.generation m hit in λ same. apart (sym is ∙ same)) in
-    ap (has g) (cond-false (not test) (r ∷ rest) rest (ap not hit)) ∙ has-without_other m g rs apart ∙ sym (not_it (r.key.generation == g) (has g rs) (eq_false r.key.generation g off)))
-    (λ miss. ap (has g) (cond-true (not test) (r ∷ rest) rest (ap not miss)) ∙ ap (λ b. r.key.generation == g || b) (has-without_other m g rs apart))
-
-rise_lower : (low high : ℕ) (ms : List Mark) → low ≤ high → MarksRise high ms → MarksRise low ms
-rise_lower low high [] le h = tt
-rise_lower low high (m ∷ ms) le h = ((let k : high < m.generation = h.0 in omega (arith, k, le)), h.1)
-
-pub rise-without : (m low : ℕ) (rows : List ArrivalRow) → MarksRise low (keys rows) → MarksRise low (keys (without_mark m rows))
-rise-without m low [] h = tt
-rise-without m low (r ∷ rs) h =
-    let test = r.key.generation == m in
-    let rest = without_mark m rs in
-    either_way test
-    (λ hit. subst (λ (ys : List ArrivalRow). MarksRise low (keys ys)) (sym (cond-false (not test) (r ∷ rest) rest (ap not hit)))
-    (rise_lower low r.key.generation (keys rest) (let k : low < r.key.generation = h.0 in omega (arith, k)) (rise-without m r.key.generation rs h.1)))
-    (λ miss. subst (λ (ys : List ArrivalRow). MarksRise low (keys ys)) (sym (cond-true (not test) (r ∷ rest) rest (ap not miss))) (h.0, rise-without m r.key.generation rs h.1))
-
-pub value_at-without : (m g : ℕ) (rows : List ArrivalRow) → m ≢ g → value_at (at_generation g) (without_mark m rows) ≡ value_at (at_generation g) rows
-value_at-without m g [] apart = refl
-value_at-without m g (r ∷ rs) apart =
-    let test = r.key.generation == m in
-    let rest = without_mark m rs in
-    either_way test
-    (λ hit.
-    let off : r.key.generation ≢ g = (let is = true_eq r.key.generation m hit in λ same. apart (sym is ∙ same)) in
-    ap (value_at (at_generation g)) (cond-false (not test) (r ∷ rest) rest (ap not hit)) ∙ value_at-without m g rs apart ∙ sym (cond-false (r.key.generation == g) r.value (value_at (at_generation g) rs) (eq_false r.key.generation g off)))
-    (λ miss. ap (value_at (at_generation g)) (cond-true (not test) (r ∷ rest) rest (ap not miss)) ∙ ap (λ (o : Option (Finding World)). if r.key.generation == g then r.value else o) (value_at-without m g rs apart))
-
-pub AllKnown-without : (P : Mark → Finding World → Type 0) (m : ℕ) (rows : List ArrivalRow) → AllKnown P rows → AllKnown P (without_mark m rows)
-AllKnown-without P m rows h = each_filter (λ (r : ArrivalRow). IfSome r.value (P r.key)) (λ (r : ArrivalRow). not (r.key.generation == m)) rows h
+-- those found in a document, in order and each once, are its marks
+pub AreMarksOf-once : (p : Plan) (found sorted once : List Mark) → found ≡ marks_above (map intervention_generation p.interventions) ++ marks_above (map bookmark_generation p.bookmarks)
+    → IsPermutation found sorted → IsNonDecreasingBy mark_rank sorted → once ≡ dedup same_mark sorted → length once ≤ length found → AreMarksOf p once
+AreMarksOf-once p found sorted once all moved up left long = record {
+  rise = subst (IdsRise mark_rank) (sym left) (rise_once same_mark (λ m n. refl) sorted (never_fall sorted up));
+  above = all_above once (passes 0 ∙ ap₂ (λ a b. a || b) (none_at_start (map intervention_generation p.interventions)) (none_at_start (map bookmark_generation p.bookmarks)));
+  are = λ g high. passes g ∙ ap₂ (λ a b. a || b) (one_is_at intervention_generation g p.interventions high) (one_is_at bookmark_generation g p.bookmarks high);
+  few =
+      let whole = ap length all ∙ length-append (marks_above (map intervention_generation p.interventions)) (marks_above (map bookmark_generation p.bookmarks)) in
+      let i = few_above (map intervention_generation p.interventions) in
+      let b = few_above (map bookmark_generation p.bookmarks) in
+      let is = length-map p.interventions intervention_generation in
+      let bs = length-map p.bookmarks bookmark_generation in
+      omega (arith, whole, i, b, is, bs, long);
+}
+  where
+    passes : (g : ℕ) → list_any (is_at g) once ≡ (list_any (is_at g) (marks_above (map intervention_generation p.interventions)) || list_any (is_at g) (marks_above (map bookmark_generation p.bookmarks)))
+    passes g =
+        ap (list_any (is_at g)) left ∙ at_once same_mark (λ m n. refl) g sorted
+        ∙ sym (list_any-IsPermutation (is_at g) found sorted moved)
+        ∙ ap (list_any (is_at g)) all
+        ∙ list_any-append (is_at g) (marks_above (map intervention_generation p.interventions)) (marks_above (map bookmark_generation p.bookmarks))

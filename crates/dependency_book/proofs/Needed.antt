@@ -1,51 +1,316 @@
--- The row that a need names, by its place.
-use Rattle.std.proofs.Common.{◌≡◌, ℕ, ◌∙◌, Bool, true, List, [], ◌∷◌, refl, sym, subst, Option, None, Some}
-use Rattle.std.proofs.lemmas.Bool.{cond-true, cond-false}
+-- What is needed next, by the rows.
+use Rattle.std.proofs.Common.{◌≡◌, ℕ, zero, suc, ◌<◌, ◌≤◌, ◌∙◌, Bool, true, false, not, ◌&&◌, nat_lt, nat_le, List, [], ◌∷◌, length, get_or, cond, max, refl, sym, ap, subst, arith, Option, None, Some}
+use Rattle.std.specs.Prelude.{◌==◌, is_some, IsSome, slice_get, count_by}
+use Rattle.std.specs.Option.{option_map_or}
+use Rattle.std.proofs.lemmas.Bool.Decides.{nat_tests}
 use Rattle.schedule.specs.declared.document.Bookmark.{Bookmark}
-use Rattle.schedule.specs.Ids.{IdsRise, bookmark_id}
-use Rattle.schedule.specs.Sound.{IsSound}
-use Rattle.dependency_book.specs.declared.need.Need.{Need}
-use Rattle.dependency_book.specs.declared.need.Need.TheVariants.{Step, View}
-use Rattle.dependency_book.specs.Findings.{is_found}
-use Rattle.dependency_book.specs.Rows.{ArrivalRow, TextRow}
-use Rattle.dependency_book.specs.Known.{Known}
-use Rattle.dependency_book.specs.Right.{IsRight}
-use Rattle.dependency_book.specs.Needs.{can_view, can_step, next_view, next_step, next_need, first}
-use Rattle.dependency_book.specs.Rearranged.{rows_below, rows_before}
-use Rattle.dependency_book.proofs.Marked.{either_way}
-use Rattle.dependency_book.proofs.Placed.{StepPlace, ViewPlace, step_place, view_place}
+use Rattle.dependency_book.specs.declared.row.RowState.{RowState}
+use Rattle.dependency_book.specs.declared.row.RowState.TheVariants.{Empty, Expected, Known}
+use Rattle.dependency_book.specs.declared.row.Row.{Row}
+use Rattle.dependency_book.specs.declared.mark.Mark.{Mark}
+use Rattle.dependency_book.specs.BookState.{BookState, NothingOut, arrival_row, arrival_known, text_row, bookmark_in, is_pending, pending_of, wanting_of}
+use Rattle.dependency_book.specs.Held.{IsHeld, places_of}
+use Rattle.dependency_book.specs.Marks.{ComesBefore, is_mark}
+use Rattle.dependency_book.specs.Needs.{CanBeViewed, CanBeReached, ViewIsNext, StepIsNext, is_awaited}
+use Rattle.dependency_book.specs.Ready.{place_ready, reach_of, viewable, steppable, known_before, IsFirstView, IsFirstStep}
+use Rattle.dependency_book.specs.RowState.{is_known, is_empty, job_of}
+use Rattle.dependency_book.specs.Rows.{ArrivalRow, TextRow, keys, place_in, mark_rank, bookmark_rank}
+use Rattle.dependency_book.proofs.Outs.{NoneOut, arrivals_none, texts_none, ids_rise}
+use Rattle.dependency_book.proofs.Placed.{mark_above, mark_is, row_stands, before_row, row_comes, before_one, in_at, text_stands, StandsIn, stands_in, bookmark_mark}
+use Rattle.dependency_book.proofs.Putting.{and_parts}
+use Rattle.dependency_book.proofs.Standing.{has, rank_at, rank_rises, place-has, rank-has, state_at-place, count_cons}
+use Rattle.dependency_book.proofs.Tests.{either_way, clash, false_eq, true_lt, false_lt, true_le}
 
--- which of two needs it was
-is_first : (n : Need) (o p : Option Need) → first o p ≡ Some n → (o ≡ None → p ≡ Some n → ⊥) → o ≡ Some n
-is_first n None p h off = absurd (off refl h)
-is_first n (Some m) p h off = h
+empty_is : {V : Type 0} (s : RowState V) → is_empty s ≡ true → s ≡ Empty
+empty_is Empty h = refl
+empty_is (Expected job) h = absurd cc
+empty_is (Known v) h = absurd cc
 
-is_second : (n : Need) (o p : Option Need) → first o p ≡ Some n → (o ≡ Some n → ⊥) → p ≡ Some n
-is_second n None p h off = h
-is_second n (Some m) p h off = absurd (off h)
+some_is : {A : Type 0} (o : Option A) → is_some o ≡ true → IsSome o
+some_is o h = h
 
-no_step : (arrivals : List ArrivalRow) (rows : List TextRow) (m : ℕ) → next_view arrivals rows ≡ Some (Step m) → ⊥
-no_step arrivals [] m h = cc
-no_step arrivals (r ∷ rs) m h =
-    either_way (can_view arrivals r)
-    (λ hit. let one = sym (cond-true (can_view arrivals r) (Some (View r.key.id)) (next_view arrivals rs) hit) ∙ h in absurd (cc))
-    (λ miss. no_step arrivals rs m (sym (cond-false (can_view arrivals r) (Some (View r.key.id)) (next_view arrivals rs) miss) ∙ h))
+-- the place of a bookmark's mark tells whether what arrives there is known
+option_at : {X : Type 0} (xs : List X) (k : ℕ) (d : X) → k < length xs → slice_get xs k ≡ Some (get_or xs k d)
+option_at [] k d low = absurd (omega (arith, low))
+option_at (x ∷ xs) zero d low = refl
+option_at (x ∷ xs) (suc k) d low = option_at xs k d (omega (arith, low))
 
-no_view : (bs : List Bookmark) (before : Bool) (rows : List ArrivalRow) (id : ℕ) → next_step bs before rows ≡ Some (View id) → ⊥
-no_view bs before [] id h = cc
-no_view bs before (r ∷ rs) id h =
-    let rest = next_step bs (is_found r.value) rs in
-    either_way (can_step bs before r)
-    (λ hit. let one = sym (cond-true (can_step bs before r) (Some (Step r.key.generation)) rest hit) ∙ h in absurd (cc))
-    (λ miss. no_view bs (is_found r.value) rs id (sym (cond-false (can_step bs before r) (Some (Step r.key.generation)) rest miss) ∙ h))
+any_row : (d : BookState) (g : ℕ) → has mark_rank g (keys d.arrivals) ≡ true → ArrivalRow
+any_row d g there = record { key = record { generation = g }; state = Empty }
 
--- the row of a step
-pub stepped : (d : Known) (m : ℕ) → IsRight d → next_need d ≡ Some (Step m) → StepPlace true d.arrivals m (rows_below m d.arrivals)
-stepped d m right need =
-    step_place d.plan.bookmarks true 0 d.arrivals m right.arrivals.rise (is_second (Step m) (next_view d.arrivals d.texts) (next_step d.plan.bookmarks true d.arrivals) need (λ h. no_step d.arrivals d.texts m h))
+pub ready_is : (d : BookState) (places : List ℕ) (g : ℕ) → IsHeld d places → is_mark d.plan g ≡ true → place_ready d.arrivals g (place_in mark_rank g d.arrivals) ≡ is_some (arrival_known d g)
+ready_is d places g held there =
+    either_way (g == 0)
+    (λ hit. rw hit refl)
+    (λ miss.
+    let p = place_in mark_rank g d.arrivals in
+    let has_it : has mark_rank g (keys d.arrivals) ≡ true = held.marks.are g (above g miss) ∙ there in
+    let x = any_row d g has_it in
+    let low = place-has mark_rank g d.arrivals held.marks.rise has_it in
+    let at = rank-has mark_rank g d.arrivals x held.marks.rise has_it in
+    rw miss
+    (ap (λ (o : Option ArrivalRow). option_map_or (λ (r : ArrivalRow). is_known r.state) o false) (option_at d.arrivals p x low)
+    ∙ ap is_known (sym (state_at-place mark_rank g d.arrivals x held.marks.rise low at))))
+  where
+    above : (g : ℕ) → (g == 0) ≡ false → 0 < g
+    above g miss = let apart = false_eq g 0 miss in omega (arith, apart)
 
--- the row of a view
-pub viewed : (d : Known) (id : ℕ) → IsSound d.plan → IsRight d → next_need d ≡ Some (View id) → ViewPlace d.arrivals d.texts id (rows_before id d.texts)
-viewed d id sound right need =
-    view_place d.arrivals d.texts id (subst (IdsRise bookmark_id) (sym right.texts.bookmarks) sound.bookmarks_rise)
-    (is_first (View id) (next_view d.arrivals d.texts) (next_step d.plan.bookmarks true d.arrivals) need (λ _ h. no_view d.plan.bookmarks true d.arrivals id h))
+place_at : (arrivals : List ArrivalRow) (rows : List TextRow) (k : ℕ) (x : TextRow) → k < length rows → get_or (places_of arrivals (keys rows)) k 0 ≡ place_in mark_rank (get_or rows k x).key.generation arrivals
+place_at arrivals [] k x low = absurd (omega (arith, low))
+place_at arrivals (r ∷ rs) zero x low = refl
+place_at arrivals (r ∷ rs) (suc k) x low = place_at arrivals rs k x (omega (arith, low))
+
+-- the text at a place can be viewed where nothing stands for it and what arrives at its generation is known
+viewable_is : (d : BookState) (places : List ℕ) (k : ℕ) (x : TextRow) → IsHeld d places → k < length d.texts → viewable d.arrivals d.texts places k x ≡ (is_empty (get_or d.texts k x).state && is_some (arrival_known d (get_or d.texts k x).key.generation))
+viewable_is d places k x held low =
+    let r = get_or d.texts k x in
+    let at : get_or places k 0 ≡ place_in mark_rank r.key.generation d.arrivals =
+    ap (λ ps. get_or ps k 0) (held.places ∙ ap (places_of d.arrivals) (sym held.bookmarks)) ∙ place_at d.arrivals d.texts k x low in
+    ap (λ b. is_empty r.state && b)
+    (ap (place_ready d.arrivals r.key.generation) at ∙ ready_is d places r.key.generation held (bookmark_mark d.plan r.key.id r.key (in_at d places k x held low)))
+
+can_be_viewed : (d : BookState) (places : List ℕ) (k : ℕ) (x : TextRow) → IsHeld d places → k < length d.texts → viewable d.arrivals d.texts places k x ≡ true → CanBeViewed d (get_or d.texts k x).key
+can_be_viewed d places k x held low can =
+    let r = get_or d.texts k x in
+    let parts = and_parts (is_empty r.state) (is_some (arrival_known d r.key.generation)) (sym (viewable_is d places k x held low) ∙ can) in
+    record {
+      there = in_at d places k x held low;
+      arrived = parts.1;
+      empty = text_stands d places k x held low ∙ empty_is r.state parts.0;
+    }
+
+-- where a bookmark that can be viewed stands
+record ViewedAt (d : BookState) (places : List ℕ) (b : Bookmark) : Type 0 where
+  pub place : ℕ
+  pub low : place < length d.texts
+  pub is : (x : TextRow) → (get_or d.texts place x).key ≡ b
+  pub can : (x : TextRow) → viewable d.arrivals d.texts places place x ≡ true
+
+viewed_at : (d : BookState) (places : List ℕ) (b : Bookmark) → IsHeld d places → CanBeViewed d b → ViewedAt d places b
+viewed_at d places b held can =
+    let f = stands_in d.texts b.id b (ap (λ bs. bookmark_in bs b.id) held.bookmarks ∙ can.there) in
+    record { place = f.place; low = f.low; is = λ x. f.is x; can = λ x. shows d places b held can f x }
+  where
+    shows : (d : BookState) (places : List ℕ) (b : Bookmark) → IsHeld d places → CanBeViewed d b → (f : StandsIn d.texts b) → (x : TextRow) → viewable d.arrivals d.texts places f.place x ≡ true
+    shows d places b held can f x =
+        let r = get_or d.texts f.place x in
+        let empty : r.state ≡ Empty = sym (text_stands d places f.place x held f.low) ∙ ap (λ (c : Bookmark). text_row d c.id) (f.is x) ∙ can.empty in
+        let arrived : is_some (arrival_known d r.key.generation) ≡ true = ap (λ (c : Bookmark). is_some (arrival_known d c.generation)) (f.is x) ∙ can.arrived in
+        viewable_is d places f.place x held f.low ∙ rw (empty, arrived) refl
+
+pub no_view : (d : BookState) (places : List ℕ) → IsHeld d places → IsFirstView d.arrivals d.texts places None → (b : Bookmark) → CanBeViewed d b → ⊥
+no_view d places held none b can =
+    let f = viewed_at d places b held can in
+    let x : TextRow = record { key = b; state = Empty } in
+    clash (viewable d.arrivals d.texts places f.place x) (f.can x) (none f.place x f.low)
+
+pub view_next : (d : BookState) (places : List ℕ) (k : ℕ) (x : TextRow) → IsHeld d places → IsFirstView d.arrivals d.texts places (Some k) → ViewIsNext d (get_or d.texts k x).key.id
+view_next d places k x held first = record {
+  bookmark = (get_or d.texts k x).key;
+  named = refl;
+  can = can_be_viewed d places k x held first.0 (first.1 x);
+  least = λ other can. at_or_after d places k x held first other (viewed_at d places other held can);
+}
+  where
+    at_or_after : (d : BookState) (places : List ℕ) (k : ℕ) (x : TextRow) → IsHeld d places → IsFirstView d.arrivals d.texts places (Some k) → (b : Bookmark) → ViewedAt d places b → (get_or d.texts k x).key.id ≤ b.id
+    at_or_after d places k x held first b f =
+        let named : (get_or d.texts f.place x).key.id ≡ b.id = ap (λ (c : Bookmark). c.id) (f.is x) in
+        either_way (nat_lt f.place k)
+        (λ hit. clash (viewable d.arrivals d.texts places f.place x) (f.can x) (first.2 f.place x (true_lt f.place k hit)))
+        (λ miss.
+        either_way (nat_lt k f.place)
+        (λ later. let up = rank_rises bookmark_rank d.texts k f.place x (ids_rise d places held) (true_lt k f.place later) f.low in omega (arith, up, named))
+        (λ none.
+        let same : f.place ≡ k = (let a = false_lt f.place k miss in let b = false_lt k f.place none in omega (arith, a, b)) in
+        let here : (get_or d.texts k x).key.id ≡ b.id = ap (λ n. (get_or d.texts n x).key.id) (sym same) ∙ named in
+        omega (arith, here)))
+
+-- the mark that can be reached
+
+-- what arrives before the row at a place is known where it is
+before_known : (d : BookState) (places : List ℕ) (k : ℕ) (x : ArrivalRow) → IsHeld d places → k < length d.arrivals → is_some (arrival_known d (before_row d.arrivals k x)) ≡ known_before d.arrivals k x
+before_known d places zero x held low = refl
+before_known d places (suc k) x held low = ap is_known (row_stands d places k x held (omega (arith, low)))
+
+awaited_is : (bs : List Bookmark) (g : ℕ) → 0 < g → g ≤ reach_of bs → is_awaited bs g ≡ true
+awaited_is [] g some le = absurd (omega (arith, some, le))
+awaited_is (b ∷ bs) g some le =
+    either_way (nat_le g b.generation)
+    (λ hit. rw hit refl)
+    (λ miss. rw miss (awaited_is bs g some (rest g b.generation (reach_of bs) le (not_le g b.generation miss))))
+  where
+    rest : (g m n : ℕ) → g ≤ max m n → m < g → g ≤ n
+    rest g m n le lt = omega (arith, le, lt)
+
+    not_le : (m n : ℕ) → nat_le m n ≡ false → n < m
+    not_le m n h = grind (arith, nat_tests)
+
+reach_from : (bs : List Bookmark) (g : ℕ) → is_awaited bs g ≡ true → g ≤ reach_of bs
+reach_from [] g h = absurd cc
+reach_from (b ∷ bs) g h =
+    either_way (nat_le g b.generation)
+    (λ hit. let le = true_le g b.generation hit in more g b.generation (reach_of bs) le)
+    (λ miss. let rest = reach_from bs g (rw miss at h) in other g b.generation (reach_of bs) rest)
+  where
+    more : (g m n : ℕ) → g ≤ m → g ≤ max m n
+    more g m n le = omega (arith, le)
+
+    other : (g m n : ℕ) → g ≤ n → g ≤ max m n
+    other g m n le = omega (arith, le)
+
+-- a mark that can be reached is that of a row which a step can be made to
+record ReachedAt (d : BookState) (mark : ℕ) : Type 0 where
+  pub place : ℕ
+  pub low : place < length d.arrivals
+  pub is : (x : ArrivalRow) → rank_at mark_rank d.arrivals place x ≡ mark
+  pub can : (x : ArrivalRow) → steppable d.arrivals place x ≡ true
+  pub near : mark ≤ reach_of d.plan.bookmarks
+
+reached_at : (d : BookState) (places : List ℕ) (mark : ℕ) → IsHeld d places → CanBeReached d mark → ReachedAt d mark
+reached_at d places mark held can =
+    let there : has mark_rank mark (keys d.arrivals) ≡ true = held.marks.are mark can.above ∙ can.is in
+    record {
+      place = place_in mark_rank mark d.arrivals;
+      low = place-has mark_rank mark d.arrivals held.marks.rise there;
+      is = λ x. rank-has mark_rank mark d.arrivals x held.marks.rise there;
+      can = λ x. shows there x;
+      near = reach_from d.plan.bookmarks mark can.awaited;
+    }
+  where
+    shows : has mark_rank mark (keys d.arrivals) ≡ true → (x : ArrivalRow) → steppable d.arrivals (place_in mark_rank mark d.arrivals) x ≡ true
+    shows there x =
+        let k = place_in mark_rank mark d.arrivals in
+        let low = place-has mark_rank mark d.arrivals held.marks.rise there in
+        let is = rank-has mark_rank mark d.arrivals x held.marks.rise there in
+        let comes = subst (ComesBefore d.plan (before_row d.arrivals k x)) is (row_comes d places k x held low) in
+        let one : before_row d.arrivals k x ≡ can.before = before_one d.plan (before_row d.arrivals k x) can.before mark comes can.comes in
+        let known : known_before d.arrivals k x ≡ true = sym (before_known d places k x held low) ∙ ap (λ n. is_some (arrival_known d n)) one ∙ can.arrived in
+        let empty : (get_or d.arrivals k x).state ≡ Empty = sym (row_stands d places k x held low) ∙ ap (arrival_row d) is ∙ can.empty in
+        rw (known, empty) refl
+
+pub no_step : (d : BookState) (places : List ℕ) → IsHeld d places → IsFirstStep (reach_of d.plan.bookmarks) d.arrivals None → (mark : ℕ) → CanBeReached d mark → ⊥
+no_step d places held none mark can =
+    let f = reached_at d places mark held can in
+    let x : ArrivalRow = record { key = record { generation = mark }; state = Empty } in
+    clash (steppable d.arrivals f.place x) (f.can x) (none f.place x f.low (subst (λ n. n ≤ reach_of d.plan.bookmarks) (sym (f.is x)) f.near))
+
+pub step_next : (d : BookState) (places : List ℕ) (m : Mark) → IsHeld d places → ((b : Bookmark) → CanBeViewed d b → ⊥) → IsFirstStep (reach_of d.plan.bookmarks) d.arrivals (Some m) → StepIsNext d m.generation
+step_next d places m held views first =
+    let k = first.place in
+    let x : ArrivalRow = record { key = m; state = Empty } in
+    let is : rank_at mark_rank d.arrivals k x ≡ m.generation = ap mark_rank (first.is x) in
+    let parts = and_parts (known_before d.arrivals k x) (is_empty (get_or d.arrivals k x).state) (first.can x) in
+    let some : 0 < m.generation = subst (λ n. 0 < n) is (mark_above d places k x held first.low) in
+    record {
+      no_view = views;
+      can = record {
+        above = some;
+        is = ap (is_mark d.plan) (sym is) ∙ mark_is d places k x held first.low;
+        awaited = awaited_is d.plan.bookmarks m.generation some first.near;
+        empty = ap (arrival_row d) (sym is) ∙ row_stands d places k x held first.low ∙ empty_is (get_or d.arrivals k x).state parts.1;
+        before = before_row d.arrivals k x;
+        comes = subst (ComesBefore d.plan (before_row d.arrivals k x)) is (row_comes d places k x held first.low);
+        arrived = before_known d places k x held first.low ∙ parts.0;
+      };
+      least = λ other can. at_or_after x is other (reached_at d places other held can);
+    }
+  where
+    at_or_after : (x : ArrivalRow) → rank_at mark_rank d.arrivals first.place x ≡ m.generation → (other : ℕ) → ReachedAt d other → m.generation ≤ other
+    at_or_after x is other f =
+        let k = first.place in
+        let at : rank_at mark_rank d.arrivals f.place x ≡ other = f.is x in
+        either_way (nat_lt f.place k)
+        (λ hit. clash (steppable d.arrivals f.place x) (f.can x) (first.first f.place x (true_lt f.place k hit)))
+        (λ miss.
+        either_way (nat_lt k f.place)
+        (λ later. let up = rank_rises mark_rank d.arrivals k f.place x held.marks.rise (true_lt k f.place later) f.low in omega (arith, up, is, at))
+        (λ none.
+        let same : f.place ≡ k = (let a = false_lt f.place k miss in let b = false_lt k f.place none in omega (arith, a, b)) in
+        let here : rank_at mark_rank d.arrivals k x ≡ other = ap (λ n. rank_at mark_rank d.arrivals n x) (sym same) ∙ at in
+        omega (arith, here, is)))
+
+-- where nothing is needed and no job is out, nothing is pending
+
+-- what an element adds to a count
+abbrev one_if : Bool → ℕ
+one_if b = cond b 1 0
+
+-- where no job is out, what isn't known is empty
+unknown_empty : {V : Type 0} (s : RowState V) → job_of s ≡ None → not (is_known s) ≡ is_empty s
+unknown_empty Empty out = refl
+unknown_empty (Expected job) out = absurd cc
+unknown_empty (Known v) out = refl
+
+pending_empty : (rows : List TextRow) → NoneOut rows → count_by is_pending rows ≡ count_by (λ (r : TextRow). is_empty r.state) rows
+pending_empty [] out = refl
+pending_empty (r ∷ rs) out =
+    let pending = count_cons is_pending r rs in
+    let empty = count_cons (λ (x : TextRow). is_empty x.state) r rs in
+    let here : one_if (is_pending r) ≡ one_if (is_empty r.state) = ap one_if (unknown_empty r.state out.0) in
+    let rest = pending_empty rs out.1 in
+    omega (arith, pending, empty, here, rest)
+
+none_empty : (rows : List TextRow) → ((k : ℕ) (x : TextRow) → k < length rows → is_empty (get_or rows k x).state ≡ false) → count_by (λ (r : TextRow). is_empty r.state) rows ≡ 0
+none_empty [] f = refl
+none_empty (r ∷ rs) f =
+    let whole = count_cons (λ (x : TextRow). is_empty x.state) r rs in
+    let here : one_if (is_empty r.state) ≡ 0 = ap one_if (f 0 r (omega arith)) in
+    let rest = none_empty rs (λ k x low. f (suc k) x (omega (arith, low))) in
+    omega (arith, whole, here, rest)
+
+none_at_row : {V : Type 0} (rows : List (Row Mark V)) (k : ℕ) (x : Row Mark V) → NoneOut rows → k < length rows → job_of (get_or rows k x).state ≡ None
+none_at_row [] k x out low = absurd (omega (arith, low))
+none_at_row (r ∷ rs) zero x out low = out.0
+none_at_row (r ∷ rs) (suc k) x out low = none_at_row rs k x out.1 (omega (arith, low))
+
+filled : {V : Type 0} (s : RowState V) (b : Bool) → job_of s ≡ None → b ≡ true → (b && is_empty s) ≡ false → is_known s ≡ true
+filled Empty b out is none = clash (b && true) (rw is refl) none
+filled (Expected job) b out is none = absurd cc
+filled (Known v) b out is none = refl
+
+-- a row up to the reach is known where none can be stepped to
+known_to : (d : BookState) (places : List ℕ) → IsHeld d places → NoneOut d.arrivals → IsFirstStep (reach_of d.plan.bookmarks) d.arrivals None → (k : ℕ) (x : ArrivalRow) → k < length d.arrivals → rank_at mark_rank d.arrivals k x ≤ reach_of d.plan.bookmarks → is_known (get_or d.arrivals k x).state ≡ true
+known_to d places held out none zero x low le = filled (get_or d.arrivals zero x).state true (none_at_row d.arrivals zero x out low) refl (none zero x low le)
+known_to d places held out none (suc k) x low le =
+    let up = rank_rises mark_rank d.arrivals k (suc k) x held.marks.rise (omega arith) low in
+    filled (get_or d.arrivals (suc k) x).state (is_known (get_or d.arrivals k x).state) (none_at_row d.arrivals (suc k) x out low) (known_to d places held out none k x (omega (arith, low)) (omega (arith, up, le))) (none (suc k) x low le)
+
+reach_of-in : (bs : List Bookmark) (id : ℕ) (b : Bookmark) → bookmark_in bs id ≡ Some b → b.generation ≤ reach_of bs
+reach_of-in [] id b is = absurd cc
+reach_of-in (c ∷ bs) id b is =
+    either_way (c.id == id)
+    (λ hit. let one : Some c ≡ Some b = rw hit at is in let same : c ≡ b = cc in let gen : c.generation ≡ b.generation = ap (λ (x : Bookmark). x.generation) same in omega (arith, gen))
+    (λ miss. let rest = reach_of-in bs id b (rw miss at is) in omega (arith, rest))
+
+-- the bookmarks that can be viewed are all that are pending
+all_ready : (d : BookState) (places : List ℕ) → IsHeld d places → NoneOut d.arrivals → IsFirstStep (reach_of d.plan.bookmarks) d.arrivals None → (k : ℕ) (x : TextRow) → k < length d.texts → is_some (arrival_known d (get_or d.texts k x).key.generation) ≡ true
+all_ready d places held out none k x low =
+    let r = get_or d.texts k x in
+    let g = r.key.generation in
+    let there = bookmark_mark d.plan r.key.id r.key (in_at d places k x held low) in
+    either_way (g == 0)
+    (λ hit. rw hit refl)
+    (λ miss.
+    let some : 0 < g = (let apart = false_eq g 0 miss in omega (arith, apart)) in
+    let has_it : has mark_rank g (keys d.arrivals) ≡ true = held.marks.are g some ∙ there in
+    let y = any_row d g has_it in
+    let p = place_in mark_rank g d.arrivals in
+    let fits = place-has mark_rank g d.arrivals held.marks.rise has_it in
+    let at : rank_at mark_rank d.arrivals p y ≡ g = rank-has mark_rank g d.arrivals y held.marks.rise has_it in
+    let le : g ≤ reach_of d.plan.bookmarks = reach_of-in d.plan.bookmarks r.key.id r.key (in_at d places k x held low) in
+    ap (λ n. is_some (arrival_known d n)) (sym at)
+    ∙ ap is_known (row_stands d places p y held fits)
+    ∙ known_to d places held out none p y fits (subst (λ n. n ≤ reach_of d.plan.bookmarks) (sym at) le))
+
+pub none_pending : (d : BookState) (places : List ℕ) → IsHeld d places → IsFirstView d.arrivals d.texts places None → IsFirstStep (reach_of d.plan.bookmarks) d.arrivals None → NothingOut d → pending_of d ≡ 0
+none_pending d places held no_views no_steps out =
+    pending_empty d.texts (texts_none d places held out)
+    ∙ none_empty d.texts (λ k x low.
+    let ready = all_ready d places held (arrivals_none d places held out) no_steps k x low in
+    let off = sym (viewable_is d places k x held low) ∙ no_views k x low in
+    either_way (is_empty (get_or d.texts k x).state) (λ hit. clash (is_empty (get_or d.texts k x).state && is_some (arrival_known d (get_or d.texts k x).key.generation)) (rw (hit, ready) refl) off) (λ miss. miss))
+
+pub none_wanting : (d : BookState) (places : List ℕ) → IsHeld d places → NothingOut d → wanting_of d ≡ 0 → pending_of d ≡ 0
+none_wanting d places held out none =
+    let same = pending_empty d.texts (texts_none d places held out) in
+    omega (arith, same, none)

@@ -1,216 +1,162 @@
--- Rows by their places: where the row of a need stands, and what it follows from.
-use Rattle.std.proofs.Common.{◌≡◌, ℕ, zero, suc, ◌<◌, ◌≤◌, ◌^◌, ◌∙◌, Bool, true, false, ◌&&◌, ◌||◌, nat_lt, List, [], ◌∷◌, ◌++◌, length, get_or, refl, sym, ap, ap₂, subst, arith, Option, None, Some}
-use Rattle.std.specs.Prelude.{if◌then◌else◌, ◌==◌, is_none}
+-- Marks and bookmarks by the places of their rows.
+use Rattle.std.proofs.Common.{◌≡◌, ℕ, zero, suc, ◌<◌, ◌≤◌, ◌^◌, ◌∙◌, ◌⊎◌, true, false, nat_lt, List, [], ◌∷◌, length, get_or, refl, sym, ap, subst, arith, inl, inr, Some}
+use Rattle.std.specs.Prelude.{◌==◌}
 use Rattle.std.specs.List.{list_any, AllByRecursion}
-use Rattle.std.proofs.lemmas.Bool.{cond-true, cond-false, and_parts, or_parts, or_left, or_right}
-use Rattle.worlds.specs.Arrival.{arrive-zero}
 use Rattle.schedule.specs.declared.document.Bookmark.{Bookmark}
 use Rattle.schedule.specs.declared.document.Intervention.{Intervention}
 use Rattle.schedule.specs.Plan.{Plan}
-use Rattle.schedule.specs.Ids.{IdsRise, bookmark_id}
-use Rattle.schedule.specs.Scratch.{acts_at, cells_at, arrival}
+use Rattle.schedule.specs.Scratch.{acts_at}
 use Rattle.schedule.specs.Sound.{IsSound, IsAllowed}
-use Rattle.rule_tree.specs.Rule.{states_of, next_of}
-use Rattle.revision_jobs.specs.declared.entries.Entries.{Entries}
-use Rattle.dependency_book.specs.declared.need.Need.{Need}
-use Rattle.dependency_book.specs.declared.need.Need.TheVariants.{Step, View}
-use Rattle.dependency_book.specs.Rows.{ArrivalRow, TextRow, value_at, is_unknown, keys, at_generation, of_id}
-use Rattle.dependency_book.specs.Marks.{MarksRise, is_noted, stands_at}
-use Rattle.dependency_book.specs.Right.{AreArrivals}
-use Rattle.dependency_book.specs.Needs.{has_arrival, can_view, next_view, is_awaited, can_step, next_step}
-use Rattle.dependency_book.specs.Findings.{is_found}
-use Rattle.dependency_book.specs.Known.{bookmark_in}
-use Rattle.dependency_book.specs.Rearranged.{rows_below, rows_before}
-use Rattle.dependency_book.specs.Places.{IsKnownBefore}
-use Rattle.dependency_book.proofs.Marked.{either_way, true_eq, eq_true, eq_false, lt_true, lt_false, true_lt, has}
-use Rattle.dependency_book.proofs.Walk.{own_cells-other}
+use Rattle.rule_tree.specs.Rule.{states_of}
+use Rattle.dependency_book.specs.declared.row.Row.{Row}
+use Rattle.dependency_book.specs.BookState.{BookState, arrival_row, text_row, bookmark_in}
+use Rattle.dependency_book.specs.Held.{IsHeld}
+use Rattle.dependency_book.specs.Marks.{ComesBefore, is_mark, stands_at}
+use Rattle.dependency_book.specs.Rows.{ArrivalRow, TextRow, keys, IsRanked, place_in, mark_rank, bookmark_rank}
+use Rattle.dependency_book.proofs.Outs.{ids_rise, over_zero}
+use Rattle.dependency_book.proofs.Standing.{has, rank_at, rank_rises, above_at, has-row, state_at-row, below_place, from_place, place-has, rank-has}
+use Rattle.dependency_book.proofs.Tests.{either_way, clash, true_eq, false_eq, eq_true, eq_false, true_lt, false_lt}
 
--- rows by their places
+-- a row's own rank has its place
+pub place_of-row : {K V : Type 0} (rank : K → ℕ) (rows : List (Row K V)) (k : ℕ) (d : Row K V) → IsRanked rank rows → k < length rows → place_in rank (rank_at rank rows k d) rows ≡ k
+place_of-row rank rows k d ranked low =
+    let n = rank_at rank rows k d in
+    let p = place_in rank n rows in
+    either_way (nat_lt k p)
+    (λ hit. absurd (let a = below_place rank n rows k d (true_lt k p hit) in omega (arith, a)))
+    (λ miss.
+    let le = false_lt k p miss in
+    either_way (nat_lt p k)
+    (λ hit. absurd (let lt = true_lt p k hit in let a = rank_rises rank rows p k d ranked lt low in let b = from_place rank n rows p d ranked (omega arith) (omega (arith, lt, low)) in omega (arith, a, b)))
+    (λ none. let ge = false_lt p k none in omega (arith, le, ge)))
 
-pub rise_at : (low : ℕ) (rows : List ArrivalRow) (k : ℕ) (d : ArrivalRow) → MarksRise low (keys rows) → k < length rows → low < (get_or rows k d).key.generation
-rise_at low [] k d rise small = absurd (omega (arith, small))
-rise_at low (r ∷ rs) zero d rise small = rise.0
-rise_at low (r ∷ rs) (suc k) d rise small =
-    let first_one : low < r.key.generation = rise.0 in
-    let later = rise_at r.key.generation rs k d rise.1 (omega (arith, small)) in
-    omega (arith, first_one, later)
+-- marks by their rows
 
--- nothing is laid where no mark is
-none_laid : (is : List Intervention) (g : ℕ) → list_any (λ (i : Intervention). acts_at i g) is ≡ false → cells_at is g ≡ []
-none_laid [] g none = refl
-none_laid (i ∷ is) g none =
-    let parts = or_parts (acts_at i g) (list_any (λ (j : Intervention). acts_at j g) is) none in
-    ap₂ (λ own more. own ++ more) (own_cells-other i g (λ same. clash (acts_at i g) (eq_true i.generation g same) parts.0)) (none_laid is g parts.1)
+pub mark_above : (d : BookState) (places : List ℕ) (k : ℕ) (x : ArrivalRow) → IsHeld d places → k < length d.arrivals → 0 < rank_at mark_rank d.arrivals k x
+mark_above d places k x held low = above_at mark_rank 0 d.arrivals k x held.marks.above low
+
+pub mark_is : (d : BookState) (places : List ℕ) (k : ℕ) (x : ArrivalRow) → IsHeld d places → k < length d.arrivals → is_mark d.plan (rank_at mark_rank d.arrivals k x) ≡ true
+mark_is d places k x held low = sym (held.marks.are (rank_at mark_rank d.arrivals k x) (mark_above d places k x held low)) ∙ has-row mark_rank d.arrivals k x low
+
+pub row_stands : (d : BookState) (places : List ℕ) (k : ℕ) (x : ArrivalRow) → IsHeld d places → k < length d.arrivals → arrival_row d (rank_at mark_rank d.arrivals k x) ≡ (get_or d.arrivals k x).state
+row_stands d places k x held low = rw (over_zero (rank_at mark_rank d.arrivals k x) (mark_above d places k x held low)) (state_at-row mark_rank d.arrivals k x held.marks.rise low)
+
+-- the mark before that of a row
+abbrev pub before_row : List ArrivalRow → ℕ → ArrivalRow → ℕ
+before_row rows zero x = 0
+before_row rows (suc k) x = rank_at mark_rank rows k x
+
+pub row_comes : (d : BookState) (places : List ℕ) (k : ℕ) (x : ArrivalRow) → IsHeld d places → k < length d.arrivals → ComesBefore d.plan (before_row d.arrivals k x) (rank_at mark_rank d.arrivals k x)
+row_comes d places k x held low = record {
+  below = under d places k x held low;
+  is = was d places k x held low;
+  between = λ g over less. none d places k x g held low over less;
+}
   where
-    clash : (b : Bool) → b ≡ true → b ≡ false → ⊥
-    clash b h k = absurd cc
+    under : (d : BookState) (places : List ℕ) (k : ℕ) (x : ArrivalRow) → IsHeld d places → k < length d.arrivals → before_row d.arrivals k x < rank_at mark_rank d.arrivals k x
+    under d places zero x held low = mark_above d places zero x held low
+    under d places (suc k) x held low = rank_rises mark_rank d.arrivals k (suc k) x held.marks.rise (omega arith) low
 
-pub quiet_at : (table : Entries) (p : Plan) (rows : List ArrivalRow) (g : ℕ) → AreArrivals table p rows → 0 < g → has g rows ≡ false → cells_at p.interventions g ≡ []
-quiet_at table p rows g right some none =
-    none_laid p.interventions g (or_parts (list_any (λ (i : Intervention). acts_at i g) p.interventions) (list_any (λ (b : Bookmark). stands_at b g) p.bookmarks) (sym (right.marks g some) ∙ none)).0
+    was : (d : BookState) (places : List ℕ) (k : ℕ) (x : ArrivalRow) → IsHeld d places → k < length d.arrivals → (before_row d.arrivals k x ≡ 0) ⊎ (is_mark d.plan (before_row d.arrivals k x) ≡ true)
+    was d places zero x held low = inl refl
+    was d places (suc k) x held low = inr (mark_is d places k x held (omega (arith, low)))
+
+    not_there : (d : BookState) (places : List ℕ) (k : ℕ) (x : ArrivalRow) (g : ℕ) → IsHeld d places → k < length d.arrivals → before_row d.arrivals k x < g → g < rank_at mark_rank d.arrivals k x → has mark_rank g (keys d.arrivals) ≡ true → ⊥
+    not_there d places k x g held low over less there =
+        let p = place_in mark_rank g d.arrivals in
+        let at : rank_at mark_rank d.arrivals p x ≡ g = rank-has mark_rank g d.arrivals x held.marks.rise there in
+        let fits : p < length d.arrivals = place-has mark_rank g d.arrivals held.marks.rise there in
+        either_way (nat_lt p k)
+        (λ hit. earlier d places k p x g held low over (true_lt p k hit) at)
+        (λ miss.
+        let from = false_lt p k miss in
+        either_way (nat_lt k p)
+        (λ later. let up = rank_rises mark_rank d.arrivals k p x held.marks.rise (true_lt k p later) fits in omega (arith, up, at, less))
+        (λ none. let same : p ≡ k = (let to = false_lt k p none in omega (arith, from, to)) in let here : rank_at mark_rank d.arrivals k x ≡ g = ap (λ n. rank_at mark_rank d.arrivals n x) (sym same) ∙ at in omega (arith, here, less)))
+      where
+        less_than : (p k : ℕ) → p < suc k → (p == k) ≡ false → p < k
+        less_than p k lt miss = let apart = false_eq p k miss in omega (arith, lt, apart)
+
+        earlier : (d : BookState) (places : List ℕ) (k p : ℕ) (x : ArrivalRow) (g : ℕ) → IsHeld d places → k < length d.arrivals → before_row d.arrivals k x < g → p < k → rank_at mark_rank d.arrivals p x ≡ g → ⊥
+        earlier d places zero p x g held low over less at = omega (arith, less)
+        earlier d places (suc k) p x g held low over less at =
+            either_way (p == k)
+            (λ hit. let here : rank_at mark_rank d.arrivals k x ≡ g = ap (λ n. rank_at mark_rank d.arrivals n x) (sym (true_eq p k hit)) ∙ at in omega (arith, here, over))
+            (λ miss. let up = rank_rises mark_rank d.arrivals p k x held.marks.rise (less_than p k less miss) (omega (arith, low)) in omega (arith, up, at, over))
+
+    none : (d : BookState) (places : List ℕ) (k : ℕ) (x : ArrivalRow) (g : ℕ) → IsHeld d places → k < length d.arrivals → before_row d.arrivals k x < g → g < rank_at mark_rank d.arrivals k x → is_mark d.plan g ≡ false
+    none d places k x g held low over less =
+        either_way (is_mark d.plan g)
+        (λ hit. absurd (not_there d places k x g held low over less (held.marks.are g (omega (arith, over)) ∙ hit)))
+        (λ miss. miss)
+
+-- one mark alone comes before another
+pub before_one : (p : Plan) (a b m : ℕ) → ComesBefore p a m → ComesBefore p b m → a ≡ b
+before_one p a b m h k =
+    either_way (nat_lt a b)
+    (λ hit. absurd (earlier p a b m h k (true_lt a b hit)))
+    (λ miss. either_way (nat_lt b a) (λ hit. absurd (earlier p b a m k h (true_lt b a hit))) (λ none. let x = false_lt a b miss in let y = false_lt b a none in omega (arith, x, y)))
+  where
+    earlier : (p : Plan) (a b m : ℕ) → ComesBefore p a m → ComesBefore p b m → a < b → ⊥
+    earlier p a b m h k lt =
+        elim k.is [
+          | inl zero_b ↦ omega (arith, zero_b, lt)
+          | inr there ↦ clash (is_mark p b) there (h.between b lt k.below)
+        ]
 
 -- each mark is near enough
-pub has_at : (rows : List ArrivalRow) (k : ℕ) (d : ArrivalRow) → k < length rows → has (get_or rows k d).key.generation rows ≡ true
-has_at [] k d low = absurd (omega (arith, low))
-has_at (r ∷ rs) zero d low = or_left (r.key.generation == r.key.generation) (has r.key.generation rs) (eq_true r.key.generation r.key.generation refl)
-has_at (r ∷ rs) (suc k) d low = or_right (r.key.generation == (get_or rs k d).key.generation) (has (get_or rs k d).key.generation rs) (has_at rs k d (omega (arith, low)))
 
 near_acts : (n : ℕ) (is : List Intervention) (g : ℕ) → AllByRecursion (IsAllowed n) is → list_any (λ (i : Intervention). acts_at i g) is ≡ true → g ≤ 2 ^ 60
 near_acts n [] g all there = absurd cc
-near_acts n (i ∷ is) g all there =
-    either_way (acts_at i g)
-    (λ hit. subst (λ m. m ≤ 2 ^ 60) (true_eq i.generation g hit) all.0.near)
-    (λ miss. near_acts n is g all.1 (sym (ap (λ t. t || list_any (λ (j : Intervention). acts_at j g) is) miss) ∙ there))
+near_acts n (i ∷ is) g all there = either_way (acts_at i g) (λ hit. subst (λ m. m ≤ 2 ^ 60) (true_eq i.generation g hit) all.0.near) (λ miss. near_acts n is g all.1 (rw miss at there))
 
 near_stands : (bs : List Bookmark) (g : ℕ) → AllByRecursion (λ (b : Bookmark). b.generation ≤ 2 ^ 60) bs → list_any (λ (b : Bookmark). stands_at b g) bs ≡ true → g ≤ 2 ^ 60
 near_stands [] g all there = absurd cc
-near_stands (b ∷ bs) g all there =
-    either_way (stands_at b g)
-    (λ hit. subst (λ m. m ≤ 2 ^ 60) (true_eq b.generation g hit) all.0)
-    (λ miss. near_stands bs g all.1 (sym (ap (λ t. t || list_any (λ (c : Bookmark). stands_at c g) bs) miss) ∙ there))
+near_stands (b ∷ bs) g all there = either_way (stands_at b g) (λ hit. subst (λ m. m ≤ 2 ^ 60) (true_eq b.generation g hit) all.0) (λ miss. near_stands bs g all.1 (rw miss at there))
 
-pub near_at : (table : Entries) (p : Plan) (rows : List ArrivalRow) (k : ℕ) (d : ArrivalRow) → IsSound p → AreArrivals table p rows → k < length rows → (get_or rows k d).key.generation ≤ 2 ^ 60
-near_at table p rows k d sound right low =
-    let g = (get_or rows k d).key.generation in
-    let acts = list_any (λ (i : Intervention). acts_at i g) p.interventions in
-    let noted : is_noted p g ≡ true = sym (right.marks g (rise_at 0 rows k d right.rise low)) ∙ has_at rows k d low in
-    either_way acts
+pub mark_near : (p : Plan) (g : ℕ) → IsSound p → is_mark p g ≡ true → g ≤ 2 ^ 60
+mark_near p g sound there =
+    either_way (list_any (λ (i : Intervention). acts_at i g) p.interventions)
     (λ hit. near_acts (states_of p.rule) p.interventions g sound.interventions_allowed hit)
-    (λ miss. near_stands p.bookmarks g sound.bookmarks_near (sym (ap (λ t. t || list_any (λ (b : Bookmark). stands_at b g) p.bookmarks) miss) ∙ noted))
+    (λ miss. near_stands p.bookmarks g sound.bookmarks_near (rw miss at there))
 
-pub over_0 : (table : Entries) (p : Plan) (rows : List ArrivalRow) (k : ℕ) (d : ArrivalRow) → AreArrivals table p rows → k < length rows → 0 < (get_or rows k d).key.generation
-over_0 table p rows k d right low = rise_at 0 rows k d right.rise low
+-- bookmarks by their rows
 
--- the row of a step
+-- the bookmark at a place is that of its id
+pub bookmark_at : (rows : List TextRow) (k : ℕ) (x : TextRow) → IsRanked bookmark_rank rows → k < length rows → bookmark_in (keys rows) (get_or rows k x).key.id ≡ Some (get_or rows k x).key
+bookmark_at [] k x ranked low = absurd (omega (arith, low))
+bookmark_at (r ∷ rs) zero x ranked low = rw (eq_true r.key.id r.key.id refl) refl
+bookmark_at (r ∷ rs) (suc k) x ranked low =
+    let up : r.key.id < (get_or rs k x).key.id = above_at bookmark_rank r.key.id rs k x ranked.0 (omega (arith, low)) in
+    rw (eq_false r.key.id (get_or rs k x).key.id (λ same. omega (arith, same, up))) (bookmark_at rs k x ranked.1 (omega (arith, low)))
 
-pub record StepPlace (before : Bool) (rows : List ArrivalRow) (m k : ℕ) : Type 0 where
-  pub low : k < length rows
-  pub mark : (d : ArrivalRow) → (get_or rows k d).key.generation ≡ m
-  pub unknown : (d : ArrivalRow) → (get_or rows k d).value ≡ None
-  pub first_known : k ≡ 0 → before ≡ true
-  pub later_known : IsKnownBefore k rows
+pub in_at : (d : BookState) (places : List ℕ) (k : ℕ) (x : TextRow) → IsHeld d places → k < length d.texts → bookmark_in d.plan.bookmarks (get_or d.texts k x).key.id ≡ Some (get_or d.texts k x).key
+in_at d places k x held low = ap (λ bs. bookmark_in bs (get_or d.texts k x).key.id) (sym held.bookmarks) ∙ bookmark_at d.texts k x (ids_rise d places held) low
 
-none_is : {V : Type 0} (o : Option V) → is_none o ≡ true → o ≡ None
-none_is None h = refl
-none_is (Some v) h = absurd cc
+pub text_stands : (d : BookState) (places : List ℕ) (k : ℕ) (x : TextRow) → IsHeld d places → k < length d.texts → text_row d (get_or d.texts k x).key.id ≡ (get_or d.texts k x).state
+text_stands d places k x held low = state_at-row bookmark_rank d.texts k x (ids_rise d places held) low
 
-taken : (b : Bool) (n m : Need) (o : Option Need) → (if b then Some n else o) ≡ Some m → b ≡ true → n ≡ m
-taken b n m o h hit = (let one = sym (cond-true b (Some n) o hit) ∙ h in cc)
+-- where a bookmark of the document stands
+pub record StandsIn (rows : List TextRow) (b : Bookmark) : Type 0 where
+  pub place : ℕ
+  pub low : place < length rows
+  pub is : (x : TextRow) → (get_or rows place x).key ≡ b
 
-pub step_place : (bs : List Bookmark) (before : Bool) (low : ℕ) (rows : List ArrivalRow) (m : ℕ) → MarksRise low (keys rows) → next_step bs before rows ≡ Some (Step m) → StepPlace before rows m (rows_below m rows)
-step_place bs before low [] m rise need = absurd cc
-step_place bs before low (r ∷ rs) m rise need =
-    let test = can_step bs before r in
-    let rest = next_step bs (is_found r.value) rs in
-    either_way test
-    (λ hit.
-    let one : r.key.generation ≡ m = (let same = taken test (Step r.key.generation) (Step m) rest need hit in cc) in
-    let parts = and_parts before (is_unknown r && is_awaited bs r.key.generation) hit in
-    let none : is_unknown r ≡ true = (and_parts (is_unknown r) (is_awaited bs r.key.generation) parts.1).0 in
-    subst (StepPlace before (r ∷ rs) m) (sym (cond-false (nat_lt r.key.generation m) (suc (rows_below m rs)) 0 (lt_false r.key.generation m (omega (arith, one)))))
-    (record {
-      low = omega arith;
-      mark = λ d. one;
-      unknown = λ d. none_is r.value none;
-      first_known = λ _. parts.0;
-      later_known = λ j d none_before. absurd (omega (arith, none_before));
-    }))
-    (λ miss.
-    let f = step_place bs (is_found r.value) r.key.generation rs m rise.1 (sym (cond-false test (Some (Step r.key.generation)) rest miss) ∙ need) in
-    let k = rows_below m rs in
-    let small = f.low in
-    let under : r.key.generation < m = subst (λ n. r.key.generation < n) (f.mark r) (rise_at r.key.generation rs k r rise.1 f.low) in
-    subst (StepPlace before (r ∷ rs) m) (sym (cond-true (nat_lt r.key.generation m) (suc (rows_below m rs)) 0 (lt_true r.key.generation m under)))
-    (record {
-      low = omega (arith, small);
-      mark = λ d. f.mark d;
-      unknown = λ d. f.unknown d;
-      first_known = λ none_before. absurd (omega (arith, none_before));
-      later_known = later r rs k f.first_known f.later_known;
-    }))
-  where
-    later : (r : ArrivalRow) (rs : List ArrivalRow) (k : ℕ) → (k ≡ 0 → is_found r.value ≡ true) → IsKnownBefore k rs → IsKnownBefore (suc k) (r ∷ rs)
-    later r rs k f g zero d is = f (omega (arith, is))
-    later r rs k f g (suc j) d is = g j d (omega (arith, is))
+pub stands_in : (rows : List TextRow) (id : ℕ) (b : Bookmark) → bookmark_in (keys rows) id ≡ Some b → StandsIn rows b
+stands_in [] id b is = absurd cc
+stands_in (r ∷ rs) id b is =
+    either_way (r.key.id == id)
+    (λ hit. let one : Some r.key ≡ Some b = rw hit at is in record { place = 0; low = omega arith; is = λ x. cc })
+    (λ miss. let f = stands_in rs id b (rw miss at is) in let low = f.low in record { place = suc f.place; low = omega (arith, low); is = λ x. f.is x })
 
--- the row of a view
+-- a bookmark's generation above 0 is a mark
+pub stands_mark : (bs : List Bookmark) (id : ℕ) (b : Bookmark) → bookmark_in bs id ≡ Some b → list_any (λ (c : Bookmark). stands_at c b.generation) bs ≡ true
+stands_mark [] id b is = absurd cc
+stands_mark (c ∷ bs) id b is =
+    either_way (c.id == id)
+    (λ hit. let one : Some c ≡ Some b = rw hit at is in let same : c ≡ b = cc in rw (eq_true c.generation b.generation (ap (λ (x : Bookmark). x.generation) same)) refl)
+    (λ miss. either_way (stands_at c b.generation) (λ here. rw here refl) (λ off. rw off (stands_mark bs id b (rw miss at is))))
 
-pub record ViewPlace (arrivals : List ArrivalRow) (rows : List TextRow) (id k : ℕ) : Type 0 where
-  pub low : k < length rows
-  pub named : (d : TextRow) → (get_or rows k d).key.id ≡ id
-  pub unknown : (d : TextRow) → (get_or rows k d).value ≡ None
-  pub arrived : (d : TextRow) → has_arrival arrivals (get_or rows k d).key.generation ≡ true
-
-id_above : (r : TextRow) (rs : List TextRow) (k : ℕ) (d : TextRow) → AllByRecursion (λ (b : Bookmark). r.key.id < b.id) (keys rs) → k < length rs → r.key.id < (get_or rs k d).key.id
-id_above r [] k d all low = absurd (omega (arith, low))
-id_above r (s ∷ rs) zero d all low = all.0
-id_above r (s ∷ rs) (suc k) d all low = id_above r rs k d all.1 (omega (arith, low))
-
-pub view_place : (arrivals : List ArrivalRow) (rows : List TextRow) (id : ℕ) → IdsRise bookmark_id (keys rows) → next_view arrivals rows ≡ Some (View id) → ViewPlace arrivals rows id (rows_before id rows)
-view_place arrivals [] id rise need = absurd cc
-view_place arrivals (r ∷ rs) id rise need =
-    let test = can_view arrivals r in
-    let rest = next_view arrivals rs in
-    either_way test
-    (λ hit.
-    let one : r.key.id ≡ id = (let same = taken test (View r.key.id) (View id) rest need hit in cc) in
-    let parts = and_parts (is_unknown r) (has_arrival arrivals r.key.generation) hit in
-    subst (ViewPlace arrivals (r ∷ rs) id) (sym (cond-true (r.key.id == id) 0 (suc (rows_before id rs)) (eq_true r.key.id id one)))
-    (record { low = omega arith; named = λ d. one; unknown = λ d. none_is r.value parts.0; arrived = λ d. parts.1 }))
-    (λ miss.
-    let f = view_place arrivals rs id rise.1 (sym (cond-false test (Some (View r.key.id)) rest miss) ∙ need) in
-    let small = f.low in
-    let under : r.key.id < id = subst (λ n. r.key.id < n) (f.named r) (id_above r rs (rows_before id rs) r rise.0 f.low) in
-    subst (ViewPlace arrivals (r ∷ rs) id) (sym (cond-false (r.key.id == id) 0 (suc (rows_before id rs)) (eq_false r.key.id id (λ same. omega (arith, same, under)))))
-    (record { low = omega (arith, small); named = λ d. f.named d; unknown = λ d. f.unknown d; arrived = λ d. f.arrived d }))
-
--- the bookmark at the place of an id
-pub bookmark_at : (rows : List TextRow) (id : ℕ) (d : TextRow) → rows_before id rows < length rows → (get_or rows (rows_before id rows) d).key.id ≡ id → bookmark_in (keys rows) id ≡ Some (get_or rows (rows_before id rows) d).key
-bookmark_at [] id d small is = absurd (omega (arith, small))
-bookmark_at (r ∷ rs) id d small is =
-    let whole : List TextRow = r ∷ rs in
-    let test = r.key.id == id in
-    either_way test
-    (λ same.
-    let k : rows_before id whole ≡ 0 = cond-true test 0 (suc (rows_before id rs)) same in
-    cond-true test (Some r.key) (bookmark_in (keys rs) id) same ∙ ap (λ n. Some (get_or whole n d).key) (sym k))
-    (λ apart.
-    let k : rows_before id whole ≡ suc (rows_before id rs) = cond-false test 0 (suc (rows_before id rs)) apart in
-    cond-false test (Some r.key) (bookmark_in (keys rs) id) apart
-    ∙ bookmark_at rs id d (let s : suc (rows_before id rs) < length whole = subst (λ n. n < length whole) k small in omega (arith, s)) (ap (λ n. (get_or whole n d).key.id) (sym k) ∙ is)
-    ∙ ap (λ n. Some (get_or whole n d).key) (sym k))
-
--- what is known at the place of a mark, or of an id
-pub value_at-place : (low : ℕ) (rows : List ArrivalRow) (m : ℕ) (d : ArrivalRow) → MarksRise low (keys rows) → rows_below m rows < length rows → (get_or rows (rows_below m rows) d).key.generation ≡ m → value_at (at_generation m) rows ≡ (get_or rows (rows_below m rows) d).value
-value_at-place low [] m d rise small is = absurd (omega (arith, small))
-value_at-place low (r ∷ rs) m d rise small is =
-    let whole : List ArrivalRow = r ∷ rs in
-    let test = nat_lt r.key.generation m in
-    let here = r.key.generation == m in
-    either_way test
-    (λ less.
-    let k : rows_below m whole ≡ suc (rows_below m rs) = cond-true test (suc (rows_below m rs)) 0 less in
-    cond-false here r.value (value_at (at_generation m) rs) (eq_false r.key.generation m (let lt = true_lt r.key.generation m less in λ same. omega (arith, lt, same)))
-    ∙ value_at-place r.key.generation rs m d rise.1 (let s : suc (rows_below m rs) < length whole = subst (λ n. n < length whole) k small in omega (arith, s)) (ap (λ n. (get_or whole n d).key.generation) (sym k) ∙ is)
-    ∙ ap (λ n. (get_or whole n d).value) (sym k))
-    (λ more.
-    let k : rows_below m whole ≡ 0 = cond-false test (suc (rows_below m rs)) 0 more in
-    let one : r.key.generation ≡ m = ap (λ n. (get_or whole n d).key.generation) (sym k) ∙ is in
-    cond-true here r.value (value_at (at_generation m) rs) (eq_true r.key.generation m one) ∙ ap (λ n. (get_or whole n d).value) (sym k))
-
-pub text_at-place : (rows : List TextRow) (id : ℕ) (d : TextRow) → rows_before id rows < length rows → value_at (of_id id) rows ≡ (get_or rows (rows_before id rows) d).value
-text_at-place [] id d small = absurd (omega (arith, small))
-text_at-place (r ∷ rs) id d small =
-    let whole : List TextRow = r ∷ rs in
-    let test = r.key.id == id in
-    either_way test
-    (λ same. cond-true test r.value (value_at (of_id id) rs) same ∙ ap (λ n. (get_or whole n d).value) (sym (cond-true test 0 (suc (rows_before id rs)) same)))
-    (λ apart.
-    let k : rows_before id whole ≡ suc (rows_before id rs) = cond-false test 0 (suc (rows_before id rs)) apart in
-    cond-false test r.value (value_at (of_id id) rs) apart
-    ∙ text_at-place rs id d (let s : suc (rows_before id rs) < length whole = subst (λ n. n < length whole) k small in omega (arith, s))
-    ∙ ap (λ n. (get_or whole n d).value) (sym k))
-
--- what arrives at 0 is the start
-pub start_arrives : (p : Plan) → p.start ≡ arrival p 0
-start_arrives p = sym (arrive-zero (next_of p.rule) (cells_at p.interventions) p.start)
+pub bookmark_mark : (p : Plan) (id : ℕ) (b : Bookmark) → bookmark_in p.bookmarks id ≡ Some b → is_mark p b.generation ≡ true
+bookmark_mark p id b is =
+    either_way (list_any (λ (i : Intervention). acts_at i b.generation) p.interventions) (λ hit. rw hit refl) (λ miss. rw miss (stands_mark p.bookmarks id b is))

@@ -1,78 +1,201 @@
--- A loop that puts something in the first row that fits.
-use Rattle.std.proofs.Common.{◌≡◌, ℕ, zero, suc, ◌+◌, ◌<◌, ◌≤◌, ◌∙◌, Bool, true, false, List, [], ◌∷◌, length, get_or, refl, sym, ap, subst, arith, Option, add-one, ◌++◌, take, drop, take_all, append-nil}
-use Rattle.std.proofs.Math.ListN.{set}
-use Rattle.std.proofs.lemmas.Bool.{cond-true, cond-false}
-use Rattle.std.proofs.lemmas.List.{drop_all}
-use Rattle.dependency_book.specs.declared.finding.Finding.{Finding}
+-- Books in which something is put in a row.
+use Rattle.std.proofs.Common.{◌≡◌, ℕ, ◌<◌, ◌≤◌, ◌∙◌, Bool, true, false, ◌&&◌, nat_lt, List, [], ◌++◌, length, take, drop, append-nil, refl, sym, ap, subst, arith, Some}
+use Rattle.std.specs.Prelude.{if◌then◌else◌, ◌==◌, map}
+use Rattle.std.proofs.lemmas.List.{drop_all, take_all}
 use Rattle.dependency_book.specs.declared.row.Row.{Row}
-use Rattle.dependency_book.specs.Rows.{put}
-use Rattle.dependency_book.proofs.Shared.Put.{length-put}
+use Rattle.worlds.specs.World.{World}
+use Rattle.schedule.specs.declared.document.Bookmark.{Bookmark}
+use Rattle.revision_jobs.specs.declared.answer.Job.{Job}
+use Rattle.revision_jobs.specs.Value.{Value, pattern, text}
+use Rattle.dependency_book.specs.declared.need.Need.{Need}
+use Rattle.dependency_book.specs.declared.need.Need.TheVariants.{Step, View}
+use Rattle.dependency_book.specs.declared.row.RowState.{RowState}
+use Rattle.dependency_book.specs.declared.row.RowState.TheVariants.{Empty, Expected, Known}
+use Rattle.dependency_book.specs.AllMarks.{AreMarksOf}
+use Rattle.dependency_book.specs.BookState.{BookState, arrival_row, text_row, row_of, expected}
+use Rattle.dependency_book.specs.Held.{IsHeld, places_of}
+use Rattle.dependency_book.specs.Jobs.{is_need}
+use Rattle.dependency_book.specs.Marks.{is_mark}
+use Rattle.dependency_book.specs.Puts.{CanBePut, IsFree, Puts, can_change, missing}
+use Rattle.dependency_book.specs.Right.{IsRight, StandsRight, wanted, is_row}
+use Rattle.dependency_book.specs.RowState.{state_map, job_of, has_number}
+use Rattle.dependency_book.specs.Rows.{ArrivalRow, keys, state_at, put, mark_rank, bookmark_rank}
+use Rattle.dependency_book.proofs.Standing.{has, keys-put, length-keys, state_at-put_same, state_at-put_other, place_in-keys, count-put}
+use Rattle.dependency_book.proofs.Tests.{either_way, clash, true_eq, eq_true, eq_false, true_lt}
+use Rattle.dependency_book.proofs.Wanted.{same_right}
 
--- the first k rows don't fit
-abbrev pub PassOver : {K V : Type 0} → (K → Bool) → List (Row K V) → ℕ → Type 0
-PassOver fits [] k = Unit {0}
-PassOver fits (r ∷ rs) zero = Unit {0}
-PassOver fits (r ∷ rs) (suc k) = (fits r.key ≡ false) × PassOver fits rs k
+-- needs
 
--- nothing was put so far
-pub record IsPassed {K V : Type 0} (fits : K → Bool) (first rows : List (Row K V)) (k : ℕ) : Type 0 where
-  pub same : rows ≡ first
-  pub over : PassOver fits first k
+pub need_is : (a b : Need) → is_need a b ≡ true → a ≡ b
+need_is (Step m) (Step n) h = ap (λ k. Step k) (true_eq m n h)
+need_is (Step m) (View id) h = absurd cc
+need_is (View id) (Step m) h = absurd cc
+need_is (View id) (View other) h = ap (λ k. View k) (true_eq id other h)
 
-none_over : {K V : Type 0} (fits : K → Bool) (rows : List (Row K V)) → PassOver fits rows 0
-none_over fits [] = tt
-none_over fits (r ∷ rs) = tt
+pub need_same : (a : Need) → is_need a a ≡ true
+need_same (Step m) = eq_true m m refl
+need_same (View id) = eq_true id id refl
 
-one_over : {K V : Type 0} (fits : K → Bool) (rows : List (Row K V)) (k : ℕ) (x : Row K V) → k < length rows → fits (get_or rows k x).key ≡ false → PassOver fits rows k → PassOver fits rows (suc k)
-one_over fits [] k x low miss h = tt
-one_over fits (r ∷ rs) zero x low miss h = (miss, none_over fits rs)
-one_over fits (r ∷ rs) (suc k) x low miss h = (h.0, one_over fits rs k x (omega (arith, low)) miss h.1)
+pub and_parts : (a b : Bool) → (a && b) ≡ true → (a ≡ true) × (b ≡ true)
+and_parts true b h = (refl, h)
+and_parts false b h = absurd cc
 
-pub passed_none : {K V : Type 0} (fits : K → Bool) (rows : List (Row K V)) → IsPassed fits rows rows 0
-passed_none fits rows = record { same = refl; over = none_over fits rows }
+-- a row that may change is one of the document
+pub change_row : (d : BookState) (need : Need) → can_change d.plan need ≡ true → is_row d.plan need ≡ true
+change_row d (Step g) h =
+    let parts = and_parts (nat_lt 0 g) (is_mark d.plan g) h in
+    either_way (g == 0) (λ hit. rw hit refl) (λ miss. rw miss parts.1)
+change_row d (View id) h = h
 
-set_same : {X : Type 0} (xs : List X) (k : ℕ) (x : X) → set xs k (get_or xs k x) ≡ xs
-set_same [] k x = refl
-set_same (y ∷ ys) zero x = refl
-set_same (y ∷ ys) (suc k) x = ap (λ zs. y ∷ zs) (set_same ys k x)
+-- a book in which something is put is right
 
-pub passed_more : {K V : Type 0} (fits : K → Bool) (first rows : List (Row K V)) (k : ℕ) (x : Row K V) → k < length first → fits (get_or rows k x).key ≡ false → IsPassed fits first rows k → IsPassed fits first (set rows k (get_or rows k x)) (k + 1)
-passed_more {K} {V} fits first rows k x low miss h = record {
-  same = set_same rows k x ∙ h.same;
-  over = subst (PassOver fits first) (sym (add-one k)) (one_over fits first k x low (subst (λ (ys : List (Row K V)). fits (get_or ys k x).key ≡ false) h.same miss) h.over);
+number_of_state : (s : RowState Value) (i : Job) → job_of s ≡ Some i → s ≡ Expected i
+number_of_state Empty i h = absurd cc
+number_of_state (Expected job) i h = let same : job ≡ i = cc in ap (λ j. Expected j) same
+number_of_state (Known v) i h = absurd cc
+
+-- no other row expects a job of the number
+free_apart : {A : Type 0} (d : BookState) (other : Need) (s : RowState Value) (i j : Job) → IsFree d s → job_of s ≡ Some i → expected d other ≡ Some j → i.number ≡ j.number → A
+free_apart d other s i j free is out same =
+    let none : has_number i.number (expected d other) ≡ false = subst (IsFree d) (number_of_state s i is) free other in
+    clash (j.number == i.number) (eq_true j.number i.number (sym same)) (sym (ap (has_number i.number) out) ∙ none)
+
+pub put_right : (d e : BookState) (need : Need) (s : RowState Value) → IsRight d → CanBePut d need s → Puts need s d e → IsRight e
+put_right d e need s right can puts =
+    let table = puts.book.document.table in
+    let plan = puts.book.document.plan in
+    let given = puts.book.given in
+    record {
+      stands = λ other.
+          same_right d e other (row_of e other) table given (ap (λ p. wanted p other) plan)
+          (subst (StandsRight d other) (sym (puts.rows other))
+          (either_way (is_need need other)
+          (λ hit. rw hit (subst (λ n. StandsRight d n s) (need_is need other hit) can.right))
+          (λ miss. rw miss (right.stands other))));
+      rows = λ other none.
+          let off : is_row d.plan other ≡ false = ap (λ p. is_row p other) (sym plan) ∙ none in
+          puts.rows other
+          ∙ either_way (is_need need other)
+          (λ hit. clash (is_row d.plan other) (ap (is_row d.plan) (sym (need_is need other hit)) ∙ change_row d need can.there) off)
+          (λ miss. rw miss (right.rows other off));
+      once = λ a b i j out other same.
+          either_way (is_need need a)
+          (λ a_is.
+          let here : job_of s ≡ Some i = sym (ap job_of (puts.rows a ∙ rw a_is refl)) ∙ out in
+          either_way (is_need need b)
+          (λ b_is. sym (need_is need a a_is) ∙ need_is need b b_is)
+          (λ b_off. free_apart d b s i j can.free here (sym (ap job_of (puts.rows b ∙ rw b_off refl)) ∙ other) same))
+          (λ a_off.
+          let there : expected d a ≡ Some i = sym (ap job_of (puts.rows a ∙ rw a_off refl)) ∙ out in
+          either_way (is_need need b)
+          (λ b_is. free_apart d a s j i can.free (sym (ap job_of (puts.rows b ∙ rw b_is refl)) ∙ other) there (sym same))
+          (λ b_off. right.once a b i j there (sym (ap job_of (puts.rows b ∙ rw b_off refl)) ∙ other) same));
+      few = subst (λ n. n ≤ 16777216) (sym given) right.few;
+    }
+
+-- what is put among the rows
+
+missing-map : {V W : Type 0} (f : V → W) (s : RowState V) → missing (state_map f s) ≡ missing s
+missing-map f Empty = refl
+missing-map f (Expected job) = refl
+missing-map f (Known v) = refl
+
+abbrev pub with_arrival : BookState → ℕ → RowState World → BookState
+with_arrival d g s = record d { arrivals = put mark_rank g s d.arrivals }
+
+abbrev pub with_text : BookState → ℕ → RowState (List ℕ) → BookState
+with_text d id s = record d { texts = put bookmark_rank id s d.texts }
+
+mark_has : (d : BookState) (g : ℕ) → AreMarksOf d.plan (keys d.arrivals) → can_change d.plan (Step g) ≡ true → (0 < g) × (has mark_rank g (keys d.arrivals) ≡ true)
+mark_has d g marks can =
+    let parts = and_parts (nat_lt 0 g) (is_mark d.plan g) can in
+    let some = true_lt 0 g parts.0 in (some, marks.are g some ∙ parts.1)
+
+pub arrival_puts : (d : BookState) (g : ℕ) (s : RowState World) → AreMarksOf d.plan (keys d.arrivals) → can_change d.plan (Step g) ≡ true → Puts (Step g) (state_map pattern s) d (with_arrival d g s)
+arrival_puts d g s marks can =
+    let m = mark_has d g marks can in
+    let off : (g == 0) ≡ false = eq_false g 0 (let some = m.0 in λ same. omega (arith, same, some)) in
+    record {
+      book = record {
+        document = record { table = refl; plan = refl; marks = length-keys (put mark_rank g s d.arrivals) d.arrivals (keys-put mark_rank g s d.arrivals); bookmarks = refl };
+        given = refl;
+      };
+      rows = arrival_rows d g s m.1 off;
+      wanting =
+          let count = count-put mark_rank g s d.arrivals m.1 in
+          let was : missing (row_of d (Step g)) ≡ missing (state_at mark_rank g d.arrivals) = missing-map pattern (arrival_row d g) ∙ rw off refl in
+          let is = missing-map pattern s in
+          omega (arith, count, was, is);
+    }
+  where
+    arrival_rows : (d : BookState) (g : ℕ) (s : RowState World) → has mark_rank g (keys d.arrivals) ≡ true → (g == 0) ≡ false → (other : Need) → row_of (with_arrival d g s) other ≡ (if is_need (Step g) other then state_map pattern s else row_of d other)
+    arrival_rows d g s there off (View id) = refl
+    arrival_rows d g s there off (Step n) =
+        either_way (g == n)
+        (λ hit.
+        let same = true_eq g n hit in
+        let high : (n == 0) ≡ false = ap (λ k. k == 0) (sym same) ∙ off in
+        rw (hit, high) (ap (state_map pattern) (ap (λ k. state_at mark_rank k (put mark_rank g s d.arrivals)) (sym same) ∙ state_at-put_same mark_rank g s d.arrivals there)))
+        (λ miss.
+        rw miss
+        (either_way (n == 0)
+        (λ zero. rw zero refl)
+        (λ high. rw high (ap (state_map pattern) (state_at-put_other mark_rank g n s d.arrivals (λ same. clash (g == n) (eq_true g n same) miss))))))
+
+pub text_puts : (d : BookState) (id : ℕ) (s : RowState (List ℕ)) → keys d.texts ≡ d.plan.bookmarks → can_change d.plan (View id) ≡ true → Puts (View id) (state_map text s) d (with_text d id s)
+text_puts d id s bookmarks can =
+    let there : has bookmark_rank id (keys d.texts) ≡ true = ap (has bookmark_rank id) bookmarks ∙ can in
+    record {
+      book = record {
+        document = record { table = refl; plan = refl; marks = refl; bookmarks = length-keys (put bookmark_rank id s d.texts) d.texts (keys-put bookmark_rank id s d.texts) };
+        given = refl;
+      };
+      rows = text_rows d id s there;
+      wanting =
+          let count = count-put bookmark_rank id s d.texts there in
+          let was = missing-map text (text_row d id) in
+          let is = missing-map text s in
+          omega (arith, count, was, is);
+    }
+  where
+    text_rows : (d : BookState) (id : ℕ) (s : RowState (List ℕ)) → has bookmark_rank id (keys d.texts) ≡ true → (other : Need) → row_of (with_text d id s) other ≡ (if is_need (View id) other then state_map text s else row_of d other)
+    text_rows d id s there (Step n) = refl
+    text_rows d id s there (View n) =
+        either_way (id == n)
+        (λ hit. rw hit (ap (state_map text) (ap (λ k. state_at bookmark_rank k (put bookmark_rank id s d.texts)) (sym (true_eq id n hit)) ∙ state_at-put_same bookmark_rank id s d.texts there)))
+        (λ miss. rw miss (ap (state_map text) (state_at-put_other bookmark_rank id n s d.texts (λ same. clash (id == n) (eq_true id n same) miss))))
+
+-- the book is held as before
+
+same_places : (xs ys : List ArrivalRow) (bs : List Bookmark) → keys xs ≡ keys ys → places_of xs bs ≡ places_of ys bs
+same_places xs ys bs same = ap (λ (f : Bookmark → ℕ). map f bs) (λ i b. place_in-keys mark_rank b.generation xs ys same i)
+
+pub arrival_held : (d : BookState) (places : List ℕ) (g : ℕ) (s : RowState World) → IsHeld d places → CanBePut d (Step g) (state_map pattern s) → IsHeld (with_arrival d g s) places
+arrival_held d places g s held can =
+    let same = keys-put mark_rank g s d.arrivals in
+    record {
+      sound = held.sound;
+      marks = subst (AreMarksOf d.plan) (sym same) held.marks;
+      bookmarks = held.bookmarks;
+      places = held.places ∙ same_places d.arrivals (put mark_rank g s d.arrivals) d.plan.bookmarks (sym same);
+      right = put_right d (with_arrival d g s) (Step g) (state_map pattern s) held.right can (arrival_puts d g s held.marks can.there);
+    }
+
+pub text_held : (d : BookState) (places : List ℕ) (id : ℕ) (s : RowState (List ℕ)) → IsHeld d places → CanBePut d (View id) (state_map text s) → IsHeld (with_text d id s) places
+text_held d places id s held can = record {
+  sound = held.sound;
+  marks = held.marks;
+  bookmarks = keys-put bookmark_rank id s d.texts ∙ held.bookmarks;
+  places = held.places;
+  right = put_right d (with_text d id s) (View id) (state_map text s) held.right can (text_puts d id s held.bookmarks can.there);
 }
 
--- where the row at k is the first that fits, it is put there
-put_at : {K V : Type 0} (fits : K → Bool) (f : Option (Finding V)) (rows : List (Row K V)) (k : ℕ) (x : Row K V) → k < length rows → fits (get_or rows k x).key ≡ true → PassOver fits rows k
-    → put fits f rows ≡ set rows k (record { key = (get_or rows k x).key; value = f })
-put_at fits f [] k x low hit h = absurd (omega (arith, low))
-put_at {K} {V} fits f (r ∷ rs) zero x low hit h = cond-true (fits r.key) (record { key = r.key; value = f } ∷ rs) (r ∷ put fits f rs) hit
-put_at {K} {V} fits f (r ∷ rs) (suc k) x low hit h =
-    cond-false (fits r.key) (record { key = r.key; value = f } ∷ rs) (r ∷ put fits f rs) h.0
-    ∙ ap (λ ys. r ∷ ys) (put_at fits f rs k x (omega (arith, low)) hit h.1)
-
-pub put_here : {K V : Type 0} (fits : K → Bool) (f : Option (Finding V)) (first rows : List (Row K V)) (k : ℕ) (x : Row K V) → k < length first → fits (get_or rows k x).key ≡ true → IsPassed fits first rows k
-    → set rows k (record { key = (get_or rows k x).key; value = f }) ≡ put fits f first
-put_here {K} {V} fits f first rows k x low hit h =
-    ap (λ (ys : List (Row K V)). set ys k (record { key = (get_or ys k x).key; value = f })) h.same
-    ∙ sym (put_at fits f first k x low (subst (λ (ys : List (Row K V)). fits (get_or ys k x).key ≡ true) h.same hit) h.over)
-
--- where none fits nothing is put
-put_none : {K V : Type 0} (fits : K → Bool) (f : Option (Finding V)) (rows : List (Row K V)) (k : ℕ) → length rows ≤ k → PassOver fits rows k → put fits f rows ≡ rows
-put_none fits f [] k end h = refl
-put_none fits f (r ∷ rs) zero end h = absurd (omega (arith, end))
-put_none {K} {V} fits f (r ∷ rs) (suc k) end h =
-    cond-false (fits r.key) (record { key = r.key; value = f } ∷ rs) (r ∷ put fits f rs) h.0 ∙ ap (λ ys. r ∷ ys) (put_none fits f rs k (omega (arith, end)) h.1)
-
-pub put_nowhere : {K V : Type 0} (fits : K → Bool) (f : Option (Finding V)) (first rows : List (Row K V)) (k : ℕ) → length first ≤ k → IsPassed fits first rows k → rows ≡ put fits f first
-put_nowhere fits f first rows k end h = h.same ∙ sym (put_none fits f first k end h.over)
-
 -- a vector whose rows are all written is the rows that were written
-pub written : {K V : Type 0} (fits : K → Bool) (f : Option (Finding V)) (len : ℕ) (rows new now : List (Row K V)) → now ≡ rows → length now ≡ len → new ≡ put fits f now → take len (new ++ drop (length new) rows) ≡ put fits f rows
-written {K} {V} fits f len rows new now same long is =
-    let count : length new ≡ length now = ap (λ (ys : List (Row K V)). length ys) is ∙ length-put fits f now in
+pub written : {K V : Type 0} (rank : K → ℕ) (n : ℕ) (s : RowState V) (len : ℕ) (rows new now : List (Row K V)) → now ≡ rows → length now ≡ len → new ≡ put rank n s now → take len (new ++ drop (length new) rows) ≡ put rank n s rows
+written {K} {V} rank n s len rows new now same long is =
+    let count : length new ≡ length now = ap (λ (ys : List (Row K V)). length ys) is ∙ length-keys (put rank n s now) now (keys-put rank n s now) in
     let rest : drop (length new) rows ≡ [] = drop_all (length new) rows (subst (λ (ys : List (Row K V)). length ys ≤ length new) same (omega (arith, count))) in
     ap (λ (ys : List (Row K V)). take len (new ++ ys)) rest
     ∙ ap (λ (ys : List (Row K V)). take len ys) (append-nil new)
     ∙ take_all len new (omega (arith, count, long))
-    ∙ is ∙ ap (put fits f) same
+    ∙ is ∙ ap (put rank n s) same

@@ -1,380 +1,249 @@
--- What is known after an edit is right, and just what the edit keeps.
-use Rattle.std.proofs.Common.{◌≡◌, ℕ, ◌+◌, ◌<◌, ◌≤◌, ◌∙◌, ◌++◌, Bool, true, false, not, ◌&&◌, nat_lt, nat_le, List, [], ◌∷◌, refl, sym, ap, subst, arith, Option, None, Some, Ok}
-use Rattle.std.specs.Prelude.{if◌then◌else◌, ◌==◌, IfSome}
-use Rattle.std.specs.List.{list_any}
-use Rattle.std.proofs.lemmas.Bool.{cond-true, cond-false}
+-- What stands after an edit is right, and just what the edit keeps.
+use Rattle.std.proofs.Common.{◌≡◌, ℕ, ◌<◌, ◌∙◌, Bool, true, false, not, ◌&&◌, ◌||◌, List, [], ◌∷◌, map, refl, sym, ap, ap₂, subst, arith, Option, None, Some, Ok}
+use Rattle.std.specs.Prelude.{if◌then◌else◌, ◌==◌}
 use Rattle.std.proofs.lemmas.Bool.Decides.{nat_tests}
-use Rattle.worlds.specs.World.{World}
 use Rattle.schedule.specs.declared.document.Bookmark.{Bookmark}
 use Rattle.schedule.specs.declared.edit.Edited.{Edited}
 use Rattle.schedule.specs.declared.fault.EditFault.{EditFault}
+use Rattle.schedule.specs.Ids.{IdsRise}
 use Rattle.schedule.specs.Plan.{Plan}
-use Rattle.schedule.specs.Asked.{Asked, InsertIntervention, ChangeIntervention, RemoveIntervention, SetCells, ReplaceStart, ReplaceRule, AddBookmark, MoveBookmark, RemoveBookmark}
-use Rattle.schedule.specs.Change.{Changed, change, changed, made, marking, refusal, unless_refused}
-use Rattle.schedule.specs.Ids.{bookmark_id, changed_at, without}
-use Rattle.schedule.specs.Scratch.{arrival, scratch}
+use Rattle.schedule.specs.Asked.{Asked}
+use Rattle.schedule.specs.Change.{Changed, change, changed, made, refusal, unless_refused}
 use Rattle.schedule.specs.Sound.{IsSound}
 use Rattle.revision_jobs.specs.declared.answer.Job.{Job}
-use Rattle.revision_jobs.specs.declared.entries.Entries.{Entries}
 use Rattle.revision_jobs.specs.Value.{pattern, text}
-use Rattle.dependency_book.specs.declared.finding.Finding.{Finding}
-use Rattle.dependency_book.specs.declared.finding.Finding.TheVariants.{Expected, Found}
+use Rattle.dependency_book.specs.declared.row.RowState.TheVariants.{Empty, Known}
+use Rattle.dependency_book.specs.declared.row.Row.{Row}
 use Rattle.dependency_book.specs.declared.mark.Mark.{Mark}
 use Rattle.dependency_book.specs.declared.need.Need.{Need}
 use Rattle.dependency_book.specs.declared.need.Need.TheVariants.{Step, View}
-use Rattle.dependency_book.specs.declared.touch.Rekeyed.{Rekeyed}
-use Rattle.dependency_book.specs.declared.touch.Rekeyed.TheVariants.{Same, Added, Moved, Removed}
-use Rattle.dependency_book.specs.Rows.{ArrivalRow, TextRow, value_at, AllKnown, keys, at_generation, of_id}
-use Rattle.dependency_book.specs.Marks.{MarksRise, AreMarksOf, is_noted}
-use Rattle.dependency_book.specs.Known.{Known, arrival_row, text_row, bookmark_in, expected}
-use Rattle.dependency_book.specs.Right.{IsRight, AreArrivals, AreTexts, AreNumbered, IsArrival, IsScratch}
-use Rattle.dependency_book.specs.Findings.{job_of}
-use Rattle.dependency_book.specs.Kept.{KeepsRows, felt_from, leaves_arrival, leaves_after, takes, keeps_arrival, keeps_text, text_kept}
-use Rattle.dependency_book.specs.Touch.{reached_by, left_by, rekeyed_by}
-use Rattle.dependency_book.specs.Rearranged.{above, at_or_above, placed, with_mark, without_mark, forgotten_marks, reached_marks, left_marks, forgotten_texts, rekeyed_texts}
-use Rattle.dependency_book.proofs.Marked.{either_way, true_eq, eq_true, lt_true, has, any_keys, value_at-absent, keys-forget, value_at-forget, AllKnown-forget, has-placed_same, has-placed_other, rise-placed, value_at-placed, AllKnown-placed, has-without_same, has-without_other, rise-without, value_at-without, AllKnown-without}
-use Rattle.dependency_book.proofs.Texted.{kept_by, kept_of, kept_by-is, kept_by-same, kept_by-all, keys-forget_texts, value_at-forget_texts, AllKnown-forget_texts, AllKnown-weaker, keys-added, value_at-added, AllKnown-added, keys-moved, value_at-moved, AllKnown-moved, keys-removed, value_at-removed, AllKnown-removed}
-use Rattle.dependency_book.proofs.Noted.{Follows, follows}
-use Rattle.dependency_book.proofs.Outs.{job_of-map}
+use Rattle.dependency_book.specs.AllMarks.{AreMarksOf}
+use Rattle.dependency_book.specs.BookState.{BookState, arrival_row, text_row, row_of, bookmark_in, expected}
+use Rattle.dependency_book.specs.Held.{IsHeld, places_of}
+use Rattle.dependency_book.specs.Kept.{KeepsRows, felt_from, leaves_arrival, leaves_after, takes, keeps_arrival, keeps_text, text_kept, arrival_kept, mark_stays, bookmark_stays}
+use Rattle.dependency_book.specs.Marks.{is_mark}
+use Rattle.dependency_book.specs.Remade.{kept_at, remade_row}
+use Rattle.dependency_book.specs.Right.{IsRight, StandsRight, wanted, text_wanted, is_row}
+use Rattle.dependency_book.specs.RowState.{state_map, job_of}
+use Rattle.dependency_book.specs.Rows.{ArrivalRow, TextRow, keys, IsRanked, state_at, mark_rank, bookmark_rank}
+use Rattle.dependency_book.proofs.Followed.{stays_for, texts_stay, kept_in}
 use Rattle.dependency_book.proofs.Leaves.{arrival_left, scratch_left}
+use Rattle.dependency_book.proofs.Remaking.{first_of, kept_for, keys-remade, state_at-remade, kept_at-first, kept_at-any}
+use Rattle.dependency_book.proofs.Standing.{has, state_at-above}
+use Rattle.dependency_book.proofs.Tests.{either_way, true_eq}
+use Rattle.dependency_book.proofs.Wanted.{start_wanted, same_right}
 
--- the marks where an edit is felt
-
-keys-felt : (felt : Option ℕ) (rows : List ArrivalRow) → keys (forgotten_marks felt rows) ≡ keys rows
-keys-felt None rows = refl
-keys-felt (Some f) rows = keys-forget (above f) rows
-
-le_not_above : (f g : ℕ) → nat_lt f g ≡ false → nat_le g f ≡ true
-le_not_above f g h = grind (arith, nat_tests)
-
-above_not_le : (f g : ℕ) → nat_lt f g ≡ true → nat_le g f ≡ false
-above_not_le f g h = grind (arith, nat_tests)
-
-value_at-felt : (felt : Option ℕ) (g : ℕ) (rows : List ArrivalRow) → value_at (at_generation g) (forgotten_marks felt rows) ≡ (if leaves_arrival felt g then value_at (at_generation g) rows else None)
-value_at-felt None g rows = refl
-value_at-felt (Some f) g rows =
-    let v = value_at (at_generation g) rows in
-    value_at-forget f g rows
-    ∙ either_way (nat_lt f g)
-    (λ hit. cond-true (nat_lt f g) None v hit ∙ sym (cond-false (nat_le g f) v None (above_not_le f g hit)))
-    (λ miss. cond-false (nat_lt f g) None v miss ∙ sym (cond-true (nat_le g f) v None (le_not_above f g miss)))
-
-some_weaker : {V : Type 0} (P Q : V → Type 0) (o : Option V) → ((v : V) → P v → Q v) → IfSome o P → IfSome o Q
-some_weaker P Q None f h = tt
-some_weaker P Q (Some v) f h = f v h
-
-weaker_marks : (P Q : Mark → Finding World → Type 0) (low : ℕ) (rows : List ArrivalRow) → ((m : Mark) → low < m.generation → (w : Finding World) → P m w → Q m w) → MarksRise low (keys rows) → AllKnown P rows → AllKnown Q rows
-weaker_marks P Q low [] step rise h = tt
-weaker_marks P Q low (r ∷ rs) step rise h = (
-  some_weaker (P r.key) (Q r.key) r.value (λ w k. step r.key rise.0 w k) h.0,
-  weaker_marks P Q r.key.generation rs (λ m over w k. step m (let first : low < r.key.generation = rise.0 in omega (arith, first, over)) w k) rise.1 h.1,
-)
-
-AllKnown-felt : (P Q : Mark → Finding World → Type 0) (felt : Option ℕ) (rows : List ArrivalRow) → ((m : Mark) → 0 < m.generation → leaves_arrival felt m.generation ≡ true → (w : Finding World) → P m w → Q m w) → MarksRise 0 (keys rows) → AllKnown P rows → AllKnown Q (forgotten_marks felt rows)
-AllKnown-felt P Q None rows step rise h = weaker_marks P Q 0 rows (λ m over w k. step m over refl w k) rise h
-AllKnown-felt P Q (Some f) rows step rise h = AllKnown-forget P Q f 0 rows (λ m over stays w k. step m over (le_not_above f m.generation stays) w k) rise h
-
--- the mark that is reached
-
--- what holds of rows with a mark put in holds of them with the mark
-with_either : (Q : List ArrivalRow → Type 0) (m : ℕ) (rows : List ArrivalRow) → (has m rows ≡ true → Q rows) → (has m rows ≡ false → Q (placed m rows)) → Q (with_mark m rows)
-with_either Q m rows there new =
-    let test = list_any (λ (r : ArrivalRow). r.key.generation == m) rows in
-    either_way test
-    (λ hit. subst Q (sym (cond-true test rows (placed m rows) hit)) (there (sym (any_keys m rows) ∙ hit)))
-    (λ miss. subst Q (sym (cond-false test rows (placed m rows) miss)) (new (sym (any_keys m rows) ∙ miss)))
-
--- the same of rows that something reaches
-reached_either : (Q : List ArrivalRow → Type 0) (reached : Option ℕ) (rows : List ArrivalRow) → Q rows → ((m : ℕ) → reached ≡ Some m → 0 < m → has m rows ≡ false → Q (placed m rows)) → Q (reached_marks reached rows)
-reached_either Q None rows same new = same
-reached_either Q (Some m) rows same new =
-    either_way (nat_lt 0 m)
-    (λ hit. subst Q (sym (cond-true (nat_lt 0 m) (with_mark m rows) rows hit)) (with_either Q m rows (λ _. same) (λ absent. new m refl (over m hit) absent)))
-    (λ miss. subst Q (sym (cond-false (nat_lt 0 m) (with_mark m rows) rows miss)) same)
-  where
-    over : (m : ℕ) → nat_lt 0 m ≡ true → 0 < m
-    over m h = grind (arith, nat_tests)
-
-has-reached : (reached : Option ℕ) (g : ℕ) (rows : List ArrivalRow) → 0 < g → reached ≡ Some g → has g (reached_marks reached rows) ≡ true
-has-reached reached g rows some is =
-    subst (λ o. has g (reached_marks o rows) ≡ true) (sym is)
-    (subst (λ (ys : List ArrivalRow). has g ys ≡ true) (sym (cond-true (nat_lt 0 g) (with_mark g rows) rows (lt_true 0 g some)))
-    (with_either (λ ys. has g ys ≡ true) g rows (λ there. there) (λ _. has-placed_same g rows)))
-
-has-unreached : (reached : Option ℕ) (g : ℕ) (rows : List ArrivalRow) → (reached ≡ Some g → ⊥) → has g (reached_marks reached rows) ≡ has g rows
-has-unreached reached g rows off = reached_either (λ ys. has g ys ≡ has g rows) reached rows refl (λ m is some absent. has-placed_other m g rows (λ same. off (is ∙ ap (λ n. Some n) same)))
-
--- the mark that is left
-
-left_either : (Q : List ArrivalRow → Type 0) (q : Plan) (left : Option ℕ) (rows : List ArrivalRow) → Q rows → ((m : ℕ) → left ≡ Some m → is_noted q m ≡ false → Q (without_mark m rows)) → Q (left_marks q left rows)
-left_either Q q None rows same new = same
-left_either Q q (Some m) rows same new =
-    either_way (is_noted q m)
-    (λ hit. subst Q (sym (cond-true (is_noted q m) rows (without_mark m rows) hit)) same)
-    (λ miss. subst Q (sym (cond-false (is_noted q m) rows (without_mark m rows) miss)) (new m refl miss))
-
--- a value at a test
-is_or_not : (o : Option ℕ) (g : ℕ) (A : Type 0) → (o ≡ Some g → A) → ((o ≡ Some g → ⊥) → A) → A
-is_or_not None g A hit miss = miss (λ is. absurd cc)
-is_or_not (Some m) g A hit miss = either_way (m == g) (λ same. hit (ap (λ n. Some n) (true_eq m g same))) (λ other. miss (λ is. apart m g other is))
-  where
-    apart : (m g : ℕ) → (m == g) ≡ false → Some m ≡ Some g → ⊥
-    apart m g other is = let same : m ≡ g = cc in let hit = eq_true m g same in absurd cc
-
--- a row for each mark after the edit
-marks_follow : (p q : Plan) (reached left felt : Option ℕ) (rows : List ArrivalRow) → Follows p q reached left → AreMarksOf p (keys rows) → AreMarksOf q (keys (left_marks q left (reached_marks reached (forgotten_marks felt rows))))
-marks_follow p q reached left felt rows f marks g some =
-    let rows1 = forgotten_marks felt rows in
-    let rows2 = reached_marks reached rows1 in
-    let same1 : has g rows1 ≡ is_noted p g = ap (λ ms. list_any (at_generation g) ms) (keys-felt felt rows) ∙ marks g some in
-    let is2 : (left ≡ Some g → ⊥) → has g rows2 ≡ is_noted q g =
-    λ stays. is_or_not reached g (has g rows2 ≡ is_noted q g) (λ is. has-reached reached g rows1 some is ∙ sym (f.there g is)) (λ off. has-unreached reached g rows1 off ∙ same1 ∙ sym (f.elsewhere g off stays)) in
-    let had : left ≡ Some g → has g rows2 ≡ true =
-    λ gone. is_or_not reached g (has g rows2 ≡ true) (λ is. has-reached reached g rows1 some is) (λ off. has-unreached reached g rows1 off ∙ same1 ∙ f.was g gone) in
-    left_found q left rows2 g had is2
-  where
-    left_found : (q : Plan) (left : Option ℕ) (rows : List ArrivalRow) (g : ℕ) → (left ≡ Some g → has g rows ≡ true) → ((left ≡ Some g → ⊥) → has g rows ≡ is_noted q g) → has g (left_marks q left rows) ≡ is_noted q g
-    left_found q None rows g had other = other (λ is. absurd cc)
-    left_found q (Some m) rows g had other =
-        either_way (is_noted q m)
-        (λ hit.
-        ap (has g) (cond-true (is_noted q m) rows (without_mark m rows) hit)
-        ∙ is_or_not (Some m) g (has g rows ≡ is_noted q g) (λ gone. had gone ∙ sym (ap (is_noted q) (sym (one m g gone)) ∙ hit)) other)
-        (λ miss.
-        ap (has g) (cond-false (is_noted q m) rows (without_mark m rows) miss)
-        ∙ is_or_not (Some m) g (has g (without_mark m rows) ≡ is_noted q g)
-        (λ gone. ap (λ n. has n (without_mark m rows)) (sym (one m g gone)) ∙ has-without_same m rows ∙ sym (ap (is_noted q) (sym (one m g gone)) ∙ miss))
-        (λ stays. has-without_other m g rows (λ same. stays (ap (λ n. Some n) same)) ∙ other stays))
-      where
-        one : (m g : ℕ) → Some m ≡ Some g → m ≡ g
-        one m g is = cc
-
--- what stands at a mark is right as long as the same arrives there
-arrival_stays : (table : Entries) (p q : Plan) (m : Mark) (f : Finding World) → arrival p m.generation ≡ arrival q m.generation → IsArrival table p m f → IsArrival table q m f
-arrival_stays table p q m (Expected job) same h = (h.0, h.1 ∙ ap pattern same)
-arrival_stays table p q m (Found world) same h = h ∙ same
-
--- the arrivals after an edit are right
-arrivals_right : (table : Entries) (p : Plan) (asked : Asked) (rows : List ArrivalRow) → IsSound p → refusal p asked ≡ None → AreArrivals table p rows
-    → AreArrivals table (changed p asked).plan (left_marks (changed p asked).plan (left_by p asked) (reached_marks (reached_by asked) (forgotten_marks (felt_from p asked) rows)))
-arrivals_right table p asked rows sound free h =
-    let q = (changed p asked).plan in
-    let rows1 = forgotten_marks (felt_from p asked) rows in
-    let rows2 = reached_marks (reached_by asked) rows1 in
-    let rise1 : MarksRise 0 (keys rows1) = subst (MarksRise 0) (sym (keys-felt (felt_from p asked) rows)) h.rise in
-    let known1 : AllKnown (IsArrival table q) rows1 =
-    AllKnown-felt (IsArrival table p) (IsArrival table q) (felt_from p asked) rows (λ m over stays w is. arrival_stays table p q m w (arrival_left p asked m.generation sound over stays) is) h.rise h.right in
-    let rise2 : MarksRise 0 (keys rows2) = reached_either (λ ys. MarksRise 0 (keys ys)) (reached_by asked) rows1 rise1 (λ m is some absent. rise-placed m 0 rows1 rise1 some absent) in
-    let known2 : AllKnown (IsArrival table q) rows2 = reached_either (AllKnown (IsArrival table q)) (reached_by asked) rows1 known1 (λ m is some absent. AllKnown-placed (IsArrival table q) m rows1 known1) in
-    record {
-      rise = left_either (λ ys. MarksRise 0 (keys ys)) q (left_by p asked) rows2 rise2 (λ m is free. rise-without m 0 rows2 rise2);
-      marks = marks_follow p q (reached_by asked) (left_by p asked) (felt_from p asked) rows (follows p asked sound free) h.marks;
-      right = left_either (AllKnown (IsArrival table q)) q (left_by p asked) rows2 known2 (λ m is free. AllKnown-without (IsArrival table q) m rows2 known2);
-    }
-
--- and just those that stay
-arrivals_kept : (p q : Plan) (reached left felt : Option ℕ) (rows : List ArrivalRow) (g : ℕ) → 0 < g → AreMarksOf q (keys (left_marks q left (reached_marks reached (forgotten_marks felt rows))))
-    → value_at (at_generation g) (left_marks q left (reached_marks reached (forgotten_marks felt rows))) ≡ (if is_noted q g && leaves_arrival felt g then value_at (at_generation g) rows else None)
-arrivals_kept p q reached left felt rows g some marks =
-    let rows1 = forgotten_marks felt rows in
-    let rows2 = reached_marks reached rows1 in
-    let rows3 = left_marks q left rows2 in
-    let v = value_at (at_generation g) in
-    either_way (is_noted q g)
-    (λ hit.
-    left_either (λ ys. v ys ≡ v rows2) q left rows2 refl (λ m is gone. value_at-without m g rows2 (λ same. clash (is_noted q g) hit (ap (is_noted q) (sym same) ∙ gone)))
-    ∙ reached_either (λ ys. v ys ≡ v rows1) reached rows1 refl (λ m is over absent. value_at-placed m g rows1 absent)
-    ∙ value_at-felt felt g rows
-    ∙ ap (λ b. if b && leaves_arrival felt g then v rows else None) (sym hit))
-    (λ miss.
-    value_at-absent g rows3 (marks g some ∙ miss)
-    ∙ ap (λ b. if b && leaves_arrival felt g then v rows else None) (sym miss))
-  where
-    clash : (b : Bool) → b ≡ true → b ≡ false → ⊥
-    clash b h k = absurd cc
-
--- the texts where an edit is felt
-
-keys-felt_texts : (felt : Option ℕ) (rows : List TextRow) → keys (forgotten_texts felt rows) ≡ keys rows
-keys-felt_texts None rows = refl
-keys-felt_texts (Some f) rows = keys-forget_texts (at_or_above f) rows
-
-not_le : (f g : ℕ) → not (nat_le f g) ≡ nat_lt g f
-not_le f g = grind (arith, nat_tests)
-
-not_le_false : (f g : ℕ) → nat_le f g ≡ false → nat_lt g f ≡ true
-not_le_false f g h = grind (arith, nat_tests)
-
-value_at-felt_texts : (felt : Option ℕ) (id : ℕ) (rows : List TextRow) → value_at (of_id id) (forgotten_texts felt rows) ≡ kept_by (λ b. leaves_after felt b.generation) rows id
-value_at-felt_texts None id rows = kept_by-all rows id
-value_at-felt_texts (Some f) id rows = value_at-forget_texts (at_or_above f) rows id ∙ kept_by-same (λ b. not (at_or_above f b)) (λ b. leaves_after (Some f) b.generation) rows id (λ b. not_le f b.generation)
-
-AllKnown-felt_texts : (P Q : Bookmark → Finding (List ℕ) → Type 0) (felt : Option ℕ) (rows : List TextRow) → ((b : Bookmark) → leaves_after felt b.generation ≡ true → (t : Finding (List ℕ)) → P b t → Q b t) → AllKnown P rows → AllKnown Q (forgotten_texts felt rows)
-AllKnown-felt_texts P Q None rows step h = AllKnown-weaker P Q rows (λ b t k. step b refl t k) h
-AllKnown-felt_texts P Q (Some f) rows step h = AllKnown-forget_texts P Q (at_or_above f) rows (λ b stays t k. step b (not_le_false f b.generation stays) t k) h
-
-and_true : (b : Bool) → b ≡ (b && true)
-and_true true = refl
-and_true false = refl
-
-all_stay : (felt : Option ℕ) (asked : Asked) (rows : List TextRow) (id : ℕ) → ((b : Bookmark) → takes asked b ≡ false) → value_at (of_id id) (forgotten_texts felt rows) ≡ kept_by (λ b. leaves_after felt b.generation && not (takes asked b)) rows id
-all_stay felt asked rows id none =
-    value_at-felt_texts felt id rows
-    ∙ kept_by-same (λ b. leaves_after felt b.generation) (λ b. leaves_after felt b.generation && not (takes asked b)) rows id (λ b. and_true (leaves_after felt b.generation) ∙ ap (λ t. leaves_after felt b.generation && not t) (sym (none b)))
-
--- the bookmarks after an edit
-texts_keys : (p : Plan) (asked : Asked) (rows : List TextRow) → keys rows ≡ p.bookmarks
-    → keys (rekeyed_texts (rekeyed_by asked) (changed p asked).plan.last_bookmark (forgotten_texts (felt_from p asked) rows)) ≡ (changed p asked).plan.bookmarks
-texts_keys p (InsertIntervention generation cells) rows same = keys-felt_texts (felt_from p (InsertIntervention generation cells)) rows ∙ same
-texts_keys p (ChangeIntervention id generation cells) rows same = keys-felt_texts (felt_from p (ChangeIntervention id generation cells)) rows ∙ same
-texts_keys p (RemoveIntervention id) rows same = keys-felt_texts (felt_from p (RemoveIntervention id)) rows ∙ same
-texts_keys p (SetCells cells) rows same = keys-felt_texts (Some 0) rows ∙ same
-texts_keys p (ReplaceStart start) rows same = keys-felt_texts (Some 0) rows ∙ same
-texts_keys p (ReplaceRule rule) rows same = keys-felt_texts (Some 0) rows ∙ same
-texts_keys p (AddBookmark generation view) rows same =
-    let b : Bookmark = record { id = p.last_bookmark + 1; generation = generation; view = view } in
-    keys-added rows b ∙ ap (λ bs. bs ++ b ∷ []) same
-texts_keys p (MoveBookmark id generation) rows same = keys-moved id generation rows ∙ ap (λ bs. changed_at bookmark_id (marking generation) bs id) same
-texts_keys p (RemoveBookmark id) rows same = keys-removed id rows ∙ ap (λ bs. without bookmark_id bs id) same
-
-texts_known : (P : Bookmark → Finding (List ℕ) → Type 0) (rekeyed : Rekeyed) (last : ℕ) (rows : List TextRow) → AllKnown P rows → AllKnown P (rekeyed_texts rekeyed last rows)
-texts_known P Same last rows h = h
-texts_known P (Added g view) last rows h = AllKnown-added P rows (record { id = last; generation = g; view = view }) h
-texts_known P (Moved id g) last rows h = AllKnown-moved P id g rows h
-texts_known P (Removed id) last rows h = AllKnown-removed P id rows h
-
--- what stands for a bookmark is right as long as starting over gives the same
-scratch_stays : (table : Entries) (p q : Plan) (b : Bookmark) (f : Finding (List ℕ)) → scratch p b ≡ scratch q b → IsScratch table p b f → IsScratch table q b f
-scratch_stays table p q b (Expected job) same h = (h.0, h.1 ∙ ap text same)
-scratch_stays table p q b (Found bytes) same h = h ∙ same
-
--- the texts after an edit are right
-texts_right : (table : Entries) (p : Plan) (asked : Asked) (rows : List TextRow) → IsSound p → AreTexts table p rows
-    → AreTexts table (changed p asked).plan (rekeyed_texts (rekeyed_by asked) (changed p asked).plan.last_bookmark (forgotten_texts (felt_from p asked) rows))
-texts_right table p asked rows sound h =
-    let q = (changed p asked).plan in
-    record {
-      bookmarks = texts_keys p asked rows h.bookmarks;
-      right = texts_known (IsScratch table q) (rekeyed_by asked) q.last_bookmark (forgotten_texts (felt_from p asked) rows)
-          (AllKnown-felt_texts (IsScratch table p) (IsScratch table q) (felt_from p asked) rows (λ b stays t is. scratch_stays table p q b t (scratch_left p asked b sound stays) is) h.right);
-    }
-
--- and just those that stay
-texts_values : (p : Plan) (asked : Asked) (last : ℕ) (rows : List TextRow) (id : ℕ)
-    → value_at (of_id id) (rekeyed_texts (rekeyed_by asked) last (forgotten_texts (felt_from p asked) rows)) ≡ kept_by (keeps_text p asked) rows id
-texts_values p (InsertIntervention generation cells) last rows id = all_stay (felt_from p (InsertIntervention generation cells)) (InsertIntervention generation cells) rows id (λ b. refl)
-texts_values p (ChangeIntervention i generation cells) last rows id = all_stay (felt_from p (ChangeIntervention i generation cells)) (ChangeIntervention i generation cells) rows id (λ b. refl)
-texts_values p (RemoveIntervention i) last rows id = all_stay (felt_from p (RemoveIntervention i)) (RemoveIntervention i) rows id (λ b. refl)
-texts_values p (SetCells cells) last rows id = all_stay (Some 0) (SetCells cells) rows id (λ b. refl)
-texts_values p (ReplaceStart start) last rows id = all_stay (Some 0) (ReplaceStart start) rows id (λ b. refl)
-texts_values p (ReplaceRule rule) last rows id = all_stay (Some 0) (ReplaceRule rule) rows id (λ b. refl)
-texts_values p (AddBookmark generation view) last rows id =
-    value_at-added rows (record { id = last; generation = generation; view = view }) id ∙ all_stay None (AddBookmark generation view) rows id (λ b. refl)
-texts_values p (MoveBookmark i generation) last rows id =
-    value_at-moved i generation rows id ∙ kept_by-same (λ b. not (b.id == i && not (b.generation == generation))) (keeps_text p (MoveBookmark i generation)) rows id (λ b. refl)
-texts_values p (RemoveBookmark i) last rows id =
-    value_at-removed i rows id ∙ kept_by-same (λ b. not (b.id == i)) (keeps_text p (RemoveBookmark i)) rows id (λ b. refl)
-
-kept_is : (p : Plan) (asked : Asked) (o : Option Bookmark) (v : Option (Finding (List ℕ))) → kept_of (keeps_text p asked) o v ≡ text_kept p asked o v
-kept_is p asked None v = refl
-kept_is p asked (Some b) v = refl
-
--- what an accepted edit made
-accepted : (o : Option EditFault) (c d : Changed) → unless_refused o c ≡ Ok d → (o ≡ None) × (d ≡ c)
-accepted None c d h = (refl, cc)
-accepted (Some fault) c d h = absurd cc
-
--- what stands after an edit
-abbrev pub known_after : Known → Plan → Asked → Known
-known_after d q asked = record {
+-- what stands after an edit that is felt from here and gives this document, with these marks
+abbrev pub after_edit : BookState → Plan → Option ℕ → List Mark → BookState
+after_edit d q felt marks = record {
   table = d.table;
   plan = q;
   given = d.given;
-  arrivals = left_marks q (left_by d.plan asked) (reached_marks (reached_by asked) (forgotten_marks (felt_from d.plan asked) d.arrivals));
-  texts = rekeyed_texts (rekeyed_by asked) q.last_bookmark (forgotten_texts (felt_from d.plan asked) d.texts);
+  arrivals = map (remade_row mark_rank mark_stays felt d.arrivals) marks;
+  texts = map (remade_row bookmark_rank bookmark_stays felt d.texts) q.bookmarks;
 }
 
-keeps_arrivals : (d : Known) (q : Plan) (asked : Asked) (g : ℕ) → AreMarksOf q (keys (known_after d q asked).arrivals)
-    → arrival_row (known_after d q asked) g ≡ (if g == 0 then Some (Found q.start) else if is_noted q g && keeps_arrival d.plan asked g then arrival_row d g else None)
-keeps_arrivals d q asked g marks =
-    let new = known_after d q asked in
-    let v = value_at (at_generation g) new.arrivals in
-    let stays : Option (Finding World) → Option (Finding World) = λ o. if is_noted q g && keeps_arrival d.plan asked g then o else None in
-    either_way (g == 0)
-    (λ hit. cond-true (g == 0) (Some (Found q.start)) v hit ∙ sym (cond-true (g == 0) (Some (Found q.start)) (stays (arrival_row d g)) hit))
-    (λ miss.
-    let some : 0 < g = (let apart = miss in positive g apart) in
-    cond-false (g == 0) (Some (Found q.start)) v miss
-    ∙ arrivals_kept d.plan q (reached_by asked) (left_by d.plan asked) (felt_from d.plan asked) d.arrivals g some marks
-    ∙ ap stays (sym (cond-false (g == 0) (Some (Found d.plan.start)) (value_at (at_generation g) d.arrivals) miss))
-    ∙ sym (cond-false (g == 0) (Some (Found q.start)) (stays (arrival_row d g)) miss))
-  where
-    positive : (g : ℕ) → (g == 0) ≡ false → 0 < g
-    positive g h = grind (arith, nat_tests)
+-- the marks that stay
 
-after_keeps : (d : Known) (q : Plan) (asked : Asked) → keys d.texts ≡ d.plan.bookmarks → AreMarksOf q (keys (known_after d q asked).arrivals) → KeepsRows asked d (known_after d q asked)
-after_keeps d q asked bookmarks marks = record {
+kept_mark : (felt : Option ℕ) (g : ℕ) (rows : List ArrivalRow) (marks : List Mark) → kept_for mark_rank (mark_stays felt) g rows (first_of mark_rank g marks) ≡ (if has mark_rank g marks && leaves_arrival felt g then state_at mark_rank g rows else Empty)
+kept_mark felt g rows [] = refl
+kept_mark felt g rows (m ∷ ms) =
+    either_way (m.generation == g)
+    (λ hit. rw hit (ap (λ n. kept_at mark_rank (λ _. leaves_arrival felt n) g rows) (true_eq m.generation g hit) ∙ kept_at-any mark_rank (leaves_arrival felt g) g rows))
+    (λ miss. rw miss (kept_mark felt g rows ms))
+
+arrivals_stay : (d : BookState) (q : Plan) (asked : Asked) (marks : List Mark) (g : ℕ) → AreMarksOf q marks
+    → arrival_row (after_edit d q (felt_from d.plan asked) marks) g ≡ (if g == 0 then Known q.start else arrival_kept d.plan asked q g (arrival_row d g))
+arrivals_stay d q asked marks g are =
+    let felt = felt_from d.plan asked in
+    either_way (g == 0)
+    (λ hit. rw hit refl)
+    (λ miss.
+    let there : has mark_rank g marks ≡ is_mark q g = are.are g (above g miss) in
+    rw miss
+    (state_at-remade mark_rank mark_stays felt d.arrivals g marks
+    ∙ kept_mark felt g d.arrivals marks
+    ∙ ap (λ b. if b && leaves_arrival felt g then state_at mark_rank g d.arrivals else Empty) there))
+  where
+    above : (g : ℕ) → (g == 0) ≡ false → 0 < g
+    above g miss = grind (arith, nat_tests)
+
+-- the bookmarks that stay
+
+first_is : (bs : List Bookmark) (id : ℕ) → first_of bookmark_rank id bs ≡ bookmark_in bs id
+first_is [] id = refl
+first_is (b ∷ bs) id = either_way (b.id == id) (λ hit. rw hit refl) (λ miss. rw miss (first_is bs id))
+
+kept_text : (felt : Option ℕ) (id : ℕ) (rows : List TextRow) (o : Option Bookmark) → kept_for bookmark_rank (bookmark_stays felt) id rows o ≡ stays_for felt o (first_of bookmark_rank id (keys rows)) (state_at bookmark_rank id rows)
+kept_text felt id rows None = refl
+kept_text felt id rows (Some b) = kept_at-first bookmark_rank (bookmark_stays felt b) id rows
+
+texts_after : (d : BookState) (asked : Asked) (marks : List Mark) (id : ℕ) → keys d.texts ≡ d.plan.bookmarks
+    → text_row (after_edit d (changed d.plan asked).plan (felt_from d.plan asked) marks) id ≡ text_kept d.plan asked (bookmark_in d.plan.bookmarks id) (text_row d id)
+texts_after d asked marks id bookmarks =
+    let felt = felt_from d.plan asked in
+    let bs = (changed d.plan asked).plan.bookmarks in
+    let s = text_row d id in
+    state_at-remade bookmark_rank bookmark_stays felt d.texts id bs
+    ∙ ap (kept_for bookmark_rank (bookmark_stays felt) id d.texts) (first_is bs id)
+    ∙ kept_text felt id d.texts (bookmark_in bs id)
+    ∙ ap (λ o. stays_for felt (bookmark_in bs id) o s) (first_is (keys d.texts) id ∙ ap (λ ks. bookmark_in ks id) bookmarks)
+    ∙ texts_stay d.plan asked id s
+
+-- just what the edit keeps
+pub edit_keeps : (d : BookState) (asked : Asked) (marks : List Mark) → keys d.texts ≡ d.plan.bookmarks → AreMarksOf (changed d.plan asked).plan marks → KeepsRows asked d (after_edit d (changed d.plan asked).plan (felt_from d.plan asked) marks)
+edit_keeps d asked marks bookmarks are = record {
   table = refl;
   given = refl;
-  arrivals = λ g. keeps_arrivals d q asked g marks;
-  texts = λ id.
-      texts_values d.plan asked q.last_bookmark d.texts id
-      ∙ kept_by-is (keeps_text d.plan asked) d.texts id
-      ∙ kept_is d.plan asked (bookmark_in (keys d.texts) id) (text_row d id)
-      ∙ ap (λ bs. text_kept d.plan asked (bookmark_in bs id) (text_row d id)) bookmarks;
+  arrivals = λ g. arrivals_stay d (changed d.plan asked).plan asked marks g are;
+  texts = λ id. texts_after d asked marks id bookmarks;
 }
 
--- a job that is out afterwards was out for the same row before
+-- what stands in each row: the start at 0, nothing, or what stood there and is kept
 
-if_kept : {V : Type 0} (b : Bool) (row : Option (Finding V)) (job : Job) → job_of (if b then row else None) ≡ Some job → job_of row ≡ Some job
-if_kept true row job h = h
-if_kept false row job h = absurd cc
+-- the row of a need is kept
+abbrev Keeps : Plan → Asked → Plan → Need → Type 0
+Keeps p asked q (Step g) = (0 < g) × (keeps_arrival p asked g ≡ true)
+Keeps p asked q (View id) = (b : Bookmark) × (bookmark_in p.bookmarks id ≡ Some b) × (keeps_text p asked b ≡ true)
 
-text_was_out : (p : Plan) (asked : Asked) (o : Option Bookmark) (row : Option (Finding (List ℕ))) (job : Job) → job_of (text_kept p asked o row) ≡ Some job → job_of row ≡ Some job
-text_was_out p asked None row job h = absurd cc
-text_was_out p asked (Some b) row job h = if_kept (keeps_text p asked b) row job h
+and_right : (a b : Bool) → (a && b) ≡ true → b ≡ true
+and_right true b h = h
+and_right false b h = absurd cc
 
-was_out : (asked : Asked) (old new : Known) (need : Need) (job : Job) → KeepsRows asked old new → expected new need ≡ Some job → expected old need ≡ Some job
-was_out asked old new (Step g) job keeps h =
-    let kept = if is_noted new.plan g && keeps_arrival old.plan asked g then arrival_row old g else None in
-    let out : job_of (arrival_row new g) ≡ Some job = sym (job_of-map pattern (arrival_row new g)) ∙ h in
-    job_of-map pattern (arrival_row old g)
-    ∙ either_way (g == 0)
-    (λ hit. absurd (let found = sym (ap job_of (keeps.arrivals g ∙ cond-true (g == 0) (Some (Found new.plan.start)) kept hit)) ∙ out in none_out job found))
+row_cases : {A : Type 0} (asked : Asked) (d e : BookState) (need : Need) → KeepsRows asked d e → (need ≡ Step 0 → row_of e need ≡ Known (pattern e.plan.start) → A) → (row_of e need ≡ Empty → A) → (row_of e need ≡ row_of d need → Keeps d.plan asked e.plan need → A) → A
+row_cases asked d e (Step g) keeps start none kept =
+    let stays = is_mark e.plan g && keeps_arrival d.plan asked g in
+    either_way (g == 0)
+    (λ hit. let is : arrival_row e g ≡ Known e.plan.start = keeps.arrivals g ∙ rw hit refl in start (ap (λ n. Step n) (true_eq g 0 hit)) (ap (state_map pattern) is))
     (λ miss.
-    if_kept (is_noted new.plan g && keeps_arrival old.plan asked g) (arrival_row old g) job
-    (sym (ap job_of (keeps.arrivals g ∙ cond-false (g == 0) (Some (Found new.plan.start)) kept miss)) ∙ out))
+    either_way stays
+    (λ on. let is : arrival_row e g ≡ arrival_row d g = keeps.arrivals g ∙ rw (miss, on) refl in kept (ap (state_map pattern) is) (above g miss, and_right (is_mark e.plan g) (keeps_arrival d.plan asked g) on))
+    (λ off. let is : arrival_row e g ≡ Empty = keeps.arrivals g ∙ rw (miss, off) refl in none (ap (state_map pattern) is)))
+  where
+    above : (g : ℕ) → (g == 0) ≡ false → 0 < g
+    above g miss = grind (arith, nat_tests)
+row_cases {A} asked d e (View id) keeps start none kept = by_bookmark (bookmark_in d.plan.bookmarks id) refl
+  where
+    by_bookmark : (o : Option Bookmark) → bookmark_in d.plan.bookmarks id ≡ o → A
+    by_bookmark None is = let gone : text_row e id ≡ Empty = keeps.texts id ∙ rw is refl in none (ap (state_map text) gone)
+    by_bookmark (Some b) is =
+        either_way (keeps_text d.plan asked b)
+        (λ on. let same : text_row e id ≡ text_row d id = keeps.texts id ∙ rw is (rw on refl) in kept (ap (state_map text) same) (b, is, on))
+        (λ off. let gone : text_row e id ≡ Empty = keeps.texts id ∙ rw is (rw off refl) in none (ap (state_map text) gone))
+
+-- what is kept is right
+
+wants_same : (p : Plan) (asked : Asked) (need : Need) → IsSound p → Keeps p asked (changed p asked).plan need → wanted (changed p asked).plan need ≡ wanted p need
+wants_same p asked (Step g) sound k = ap (λ w. Some (pattern w)) (sym (arrival_left p asked g sound k.0 k.1))
+wants_same p asked (View id) sound k =
+    let q = (changed p asked).plan in
+    let b : Bookmark = k.0 in
+    ap (text_wanted q) (kept_in p asked id b k.2 k.1)
+    ∙ ap (λ t. Some (text t)) (sym (scratch_left p asked b sound (and_left (leaves_after (felt_from p asked) b.generation) (not (takes asked b)) k.2)))
+    ∙ sym (ap (text_wanted p) k.1)
+  where
+    and_left : (a b : Bool) → (a && b) ≡ true → a ≡ true
+    and_left true b h = refl
+    and_left false b h = absurd cc
+
+-- a job that is out afterwards was out for the same row before
+was_out : (asked : Asked) (d e : BookState) (need : Need) (job : Job) → KeepsRows asked d e → expected e need ≡ Some job → expected d need ≡ Some job
+was_out asked d e need job keeps out =
+    row_cases asked d e need keeps
+    (λ _ is. absurd (let found = sym (ap job_of is) ∙ out in none_out job found))
+    (λ is. absurd (let found = sym (ap job_of is) ∙ out in none_out job found))
+    (λ is _. sym (ap job_of is) ∙ out)
   where
     none_out : (job : Job) → None ≡ Some job → ⊥
     none_out job h = cc
-was_out asked old new (View id) job keeps h =
-    job_of-map text (text_row old id)
-    ∙ text_was_out old.plan asked (bookmark_in old.plan.bookmarks id) (text_row old id) job
-    (sym (ap job_of (keeps.texts id)) ∙ sym (job_of-map text (text_row new id)) ∙ h)
 
-numbered_kept : (asked : Asked) (old new : Known) → KeepsRows asked old new → AreNumbered old → AreNumbered new
-numbered_kept asked old new keeps h = record {
-  few = subst (λ n. n ≤ 16777216) (sym keeps.given) h.few;
-  given = λ need job out. subst (λ n. job.number < n) (sym keeps.given) (h.given need job (was_out asked old new need job keeps out));
-  once = λ a b i j out other same. h.once a b i j (was_out asked old new a i keeps out) (was_out asked old new b j keeps other) same;
-}
+-- nothing stands but for marks and bookmarks of the document
+rows_after : (d : BookState) (q : Plan) (asked : Asked) (marks : List Mark) (need : Need) → KeepsRows asked d (after_edit d q (felt_from d.plan asked) marks) → is_row q need ≡ false → row_of (after_edit d q (felt_from d.plan asked) marks) need ≡ Empty
+rows_after d q asked marks (Step g) keeps none =
+    let parts = or_parts (g == 0) (is_mark q g) none in
+    let gone : arrival_row (after_edit d q (felt_from d.plan asked) marks) g ≡ Empty = keeps.arrivals g ∙ rw (parts.0, parts.1) refl in
+    ap (state_map pattern) gone
+  where
+    or_parts : (a b : Bool) → (a || b) ≡ false → (a ≡ false) × (b ≡ false)
+    or_parts false b h = (refl, h)
+    or_parts true b h = absurd cc
+rows_after d q asked marks (View id) keeps none =
+    let felt = felt_from d.plan asked in
+    ap (state_map text)
+    (state_at-above bookmark_rank id (map (remade_row bookmark_rank bookmark_stays felt d.texts) q.bookmarks)
+    (ap (has bookmark_rank id) (keys-remade bookmark_rank bookmark_stays felt d.texts q.bookmarks) ∙ none))
 
-right_after : (d : Known) (asked : Asked) → IsSound d.plan → IsRight d → refusal d.plan asked ≡ None → IsRight (known_after d (changed d.plan asked).plan asked)
-right_after d asked sound right free =
+edit_right : (d : BookState) (asked : Asked) (marks : List Mark) → IsSound d.plan → IsRight d → KeepsRows asked d (after_edit d (changed d.plan asked).plan (felt_from d.plan asked) marks)
+    → IsRight (after_edit d (changed d.plan asked).plan (felt_from d.plan asked) marks)
+edit_right d asked marks sound right keeps =
     let q = (changed d.plan asked).plan in
-    let rows = arrivals_right d.table d.plan asked d.arrivals sound free right.arrivals in
+    let e = after_edit d q (felt_from d.plan asked) marks in
     record {
-      arrivals = rows;
-      texts = texts_right d.table d.plan asked d.texts sound right.texts;
-      numbered = numbered_kept asked d (known_after d q asked) (after_keeps d q asked right.texts.bookmarks rows.marks) right.numbered;
+      stands = λ need.
+          row_cases asked d e need keeps
+          (λ zero is. subst (StandsRight e need) (sym is) (ap (wanted q) zero ∙ start_wanted q))
+          (λ is. subst (StandsRight e need) (sym is) tt)
+          (λ is k. subst (StandsRight e need) (sym is) (same_right d e need (row_of d need) refl refl (wants_same d.plan asked need sound k) (right.stands need)));
+      rows = λ need none. rows_after d q asked marks need keeps none;
+      once = λ a b i j out other same. right.once a b i j (was_out asked d e a i keeps out) (was_out asked d e b j keeps other) same;
+      few = right.few;
     }
 
-pub revised_right : (d : Known) (q : Plan) (asked : Asked) (edited : Edited) → IsSound d.plan → IsRight d → change d.plan asked ≡ Ok (made q edited) → IsRight (known_after d q asked)
-revised_right d q asked edited sound right is =
-    let done = accepted (refusal d.plan asked) (changed d.plan asked) (made q edited) is in
-    subst (λ (c : Changed). IsRight (known_after d c.plan asked)) (sym done.1) (right_after d asked sound right done.0)
+-- what an accepted edit made
+pub accepted : (o : Option EditFault) (c e : Changed) → unless_refused o c ≡ Ok e → c ≡ e
+accepted None c e h = cc
+accepted (Some fault) c e h = absurd cc
 
-pub revised_keeps : (d : Known) (q : Plan) (asked : Asked) (edited : Edited) → IsSound d.plan → IsRight d → change d.plan asked ≡ Ok (made q edited) → KeepsRows asked d (known_after d q asked)
-revised_keeps d q asked edited sound right is =
-    let after = revised_right d q asked edited sound right is in
-    after_keeps d q asked right.texts.bookmarks after.arrivals.marks
+pub revised_keeps : (d : BookState) (q : Plan) (asked : Asked) (edited : Edited) (marks : List Mark) → keys d.texts ≡ d.plan.bookmarks → changed d.plan asked ≡ made q edited → AreMarksOf q marks → KeepsRows asked d (after_edit d q (felt_from d.plan asked) marks)
+revised_keeps d q asked edited marks bookmarks is are =
+    subst (λ (c : Changed). AreMarksOf c.plan marks → KeepsRows asked d (after_edit d c.plan (felt_from d.plan asked) marks)) is (λ k. edit_keeps d asked marks bookmarks k) are
+
+pub revised_held : (d : BookState) (places : List ℕ) (q : Plan) (asked : Asked) (edited : Edited) (marks : List Mark) (later : List ℕ) → IsHeld d places → changed d.plan asked ≡ made q edited → IsSound q → AreMarksOf q marks
+    → later ≡ places_of (after_edit d q (felt_from d.plan asked) marks).arrivals q.bookmarks → IsHeld (after_edit d q (felt_from d.plan asked) marks) later
+revised_held d places q asked edited marks later held is sound are at =
+    let felt = felt_from d.plan asked in
+    record {
+      sound = sound;
+      marks = subst (AreMarksOf q) (sym (keys-remade mark_rank mark_stays felt d.arrivals marks)) are;
+      bookmarks = keys-remade bookmark_rank bookmark_stays felt d.texts q.bookmarks;
+      places = at;
+      right =
+          subst (λ (c : Changed). KeepsRows asked d (after_edit d c.plan felt marks) → IsRight (after_edit d c.plan felt marks)) is (λ k. edit_right d asked marks held.sound held.right k)
+          (revised_keeps d q asked edited marks held.bookmarks is are);
+    }
+
+-- a book that was made of another by an edit, from its parts
+abbrev pub made_of : BookState → Plan → List ArrivalRow → List TextRow → BookState
+made_of d q arrivals texts = record { table = d.table; plan = q; given = d.given; arrivals = arrivals; texts = texts }
+
+pub record IsMade (d : BookState) (q : Plan) (asked : Asked) (edited : Edited) (marks : List Mark) (arrivals : List ArrivalRow) (texts : List TextRow) : Type 0 where
+  pub edit_is : change d.plan asked ≡ Ok (made q edited)
+  pub sound : IsSound q
+  pub are_marks : AreMarksOf q marks
+  pub arrivals_are : arrivals ≡ map (remade_row mark_rank mark_stays (felt_from d.plan asked) d.arrivals) marks
+  pub texts_are : texts ≡ map (remade_row bookmark_rank bookmark_stays (felt_from d.plan asked) d.texts) q.bookmarks
+
+-- rows that were made anew from what equals this
+pub rows_made : {K V : Type 0} (rank : K → ℕ) (stays : Option ℕ → K → K → Bool) (felt from : Option ℕ) (old was : List (Row K V)) (ks now : List K) (rows : List (Row K V)) → rows ≡ map (remade_row rank stays felt old) ks → felt ≡ from → old ≡ was → ks ≡ now
+    → rows ≡ map (remade_row rank stays from was) now
+rows_made rank stays felt from old was ks now rows is a b c =
+    subst (λ f. rows ≡ map (remade_row rank stays f was) now) a (subst (λ o. rows ≡ map (remade_row rank stays felt o) now) b (subst (λ k. rows ≡ map (remade_row rank stays felt old) k) c is))
+
+pub made_ranked : (d : BookState) (q : Plan) (asked : Asked) (edited : Edited) (marks : List Mark) (arrivals : List ArrivalRow) (texts : List TextRow) → IsMade d q asked edited marks arrivals texts → IsRanked mark_rank arrivals
+made_ranked d q asked edited marks arrivals texts h =
+    subst (IsRanked mark_rank) (sym h.arrivals_are) (subst (IdsRise mark_rank) (sym (keys-remade mark_rank mark_stays (felt_from d.plan asked) d.arrivals marks)) h.are_marks.rise)
+
+made_is : (d : BookState) (q : Plan) (asked : Asked) (edited : Edited) (marks : List Mark) (arrivals : List ArrivalRow) (texts : List TextRow) → IsMade d q asked edited marks arrivals texts → made_of d q arrivals texts ≡ after_edit d q (felt_from d.plan asked) marks
+made_is d q asked edited marks arrivals texts h = ap₂ (λ (rows : List ArrivalRow) (ts : List TextRow). made_of d q rows ts) h.arrivals_are h.texts_are
+
+pub made_held : (d : BookState) (places : List ℕ) (q : Plan) (asked : Asked) (edited : Edited) (marks : List Mark) (arrivals : List ArrivalRow) (texts : List TextRow) (later : List ℕ) → IsHeld d places → IsMade d q asked edited marks arrivals texts
+    → later ≡ places_of arrivals q.bookmarks → IsHeld (made_of d q arrivals texts) later
+made_held d places q asked edited marks arrivals texts later held h at =
+    subst (λ (e : BookState). IsHeld e later) (sym (made_is d q asked edited marks arrivals texts h))
+    (revised_held d places q asked edited marks later held (accepted (refusal d.plan asked) (changed d.plan asked) (made q edited) h.edit_is) h.sound h.are_marks (at ∙ ap (λ (rows : List ArrivalRow). places_of rows q.bookmarks) h.arrivals_are))
+
+pub made_keeps : (d : BookState) (places : List ℕ) (q : Plan) (asked : Asked) (edited : Edited) (marks : List Mark) (arrivals : List ArrivalRow) (texts : List TextRow) → IsHeld d places → IsMade d q asked edited marks arrivals texts
+    → KeepsRows asked d (made_of d q arrivals texts)
+made_keeps d places q asked edited marks arrivals texts held h =
+    subst (KeepsRows asked d) (sym (made_is d q asked edited marks arrivals texts h))
+    (revised_keeps d q asked edited marks held.bookmarks (accepted (refusal d.plan asked) (changed d.plan asked) (made q edited) h.edit_is) h.are_marks)

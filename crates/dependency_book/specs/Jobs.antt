@@ -9,15 +9,15 @@ use Rattle.revision_jobs.specs.Entries.{IsOf, entry_of, index_of}
 use Rattle.revision_jobs.specs.Value.{Value}
 use Rattle.dependency_book.specs.declared.filled.Filled.{Filled}
 use Rattle.dependency_book.specs.declared.filled.Filled.TheVariants.{Row, Released, NotExpected}
-use Rattle.dependency_book.specs.declared.finding.Finding.{Finding}
-use Rattle.dependency_book.specs.declared.finding.Finding.TheVariants.{Expected, Found}
+use Rattle.dependency_book.specs.declared.row.RowState.{RowState}
+use Rattle.dependency_book.specs.declared.row.RowState.TheVariants.{Empty, Expected, Known}
 use Rattle.dependency_book.specs.declared.need.Need.{Need}
 use Rattle.dependency_book.specs.declared.need.Need.TheVariants.{Step, View}
 use Rattle.dependency_book.specs.Entered.{IsEntryOf}
-use Rattle.dependency_book.specs.Findings.{job_of, has_number}
-use Rattle.dependency_book.specs.Known.{Known, expected}
-use Rattle.dependency_book.specs.Marks.{is_noted}
-use Rattle.dependency_book.specs.Needs.{next_need}
+use Rattle.dependency_book.specs.RowState.{job_of, has_number}
+use Rattle.dependency_book.specs.BookState.{BookState, expected, wanting_of}
+use Rattle.dependency_book.specs.Marks.{is_mark}
+use Rattle.dependency_book.specs.Needs.{IsNext}
 
 -- whether two needs are one
 abbrev pub is_need : Need → Need → Bool
@@ -32,65 +32,77 @@ is_job job None = false
 is_job job (Some other) = other.number == job.number && index_of other.place == index_of job.place
 
 -- what an answer gives a row: the value, or nothing where the job gave up
-abbrev pub given_by : Result Value EvolveFault → Option (Finding Value)
-given_by (Ok found) = Some (Found found)
-given_by (Err fault) = None
+abbrev pub given_by : Result Value EvolveFault → RowState Value
+given_by (Ok found) = Known found
+given_by (Err fault) = Empty
 
 -- what stands in a row after an answer: what the answer gives, if the row expects its job
-abbrev pub answered : JobResult → Option (Finding Value) → Option (Finding Value)
+abbrev pub answered : JobResult → RowState Value → RowState Value
 answered answer row = if is_job answer.job (job_of row) then given_by answer.outcome else row
 
 -- what stands in a row after the job of this number was cancelled: nothing, if the row expects it
-abbrev pub cancelled : ℕ → Option (Finding Value) → Option (Finding Value)
-cancelled number row = if has_number number (job_of row) then None else row
+abbrev pub cancelled : ℕ → RowState Value → RowState Value
+cancelled number row = if has_number number (job_of row) then Empty else row
 
 -- what stands in another row, or in the same, after a job was issued for a need
-abbrev pub issued : Need → Job → Need → Option (Finding Value) → Option (Finding Value)
-issued need job other row = if is_need need other then Some (Expected job) else row
+abbrev pub issued : Need → Job → Need → RowState Value → RowState Value
+issued need job other row = if is_need need other then Expected job else row
 
--- a job for what is needed next: its entry, in the table, is what is to be computed for that row, and its number is the next that is given, below 16,777,216
-pub record IsNextJob (d : Known) (need : Need) (job : Job) : Type 0 where
-  pub next : next_need d ≡ Some need
+-- a job for what is needed next: its entry, in the table, is what is to be computed for that row,
+-- and its number is the next that is given, below 16,777,216
+pub record IsNextJob (d : BookState) (need : Need) (job : Job) : Type 0 where
+  pub next : IsNext d (Some need)
   pub own : IsOf d.table job.place
   pub entry : IsEntryOf d need (entry_of job.place)
   pub number : job.number ≡ d.given
   pub few : job.number < 16777216
 
 -- a row expects the job
-abbrev pub IsExpected : Known → Job → Type 0
+abbrev pub IsExpected : BookState → Job → Type 0
 IsExpected d job = (need : Need) × (is_job job (expected d need) ≡ true)
 
--- the row of a step expects the job: that of a generation above 0 at which an intervention or a bookmark is
-pub record StepExpects (d : Known) (job : Job) : Type 0 where
+-- the row of a step expects the job: that of a mark of the document above 0
+pub record StepExpects (d : BookState) (job : Job) : Type 0 where
   pub mark : ℕ
   pub above : 0 < mark
-  pub noted : is_noted d.plan mark ≡ true
+  pub noted : is_mark d.plan mark ≡ true
   pub row : is_job job (expected d (Step mark)) ≡ true
 
--- what came of an answer: a row was filled, or expects nothing any more because the job gave up, for want of room if it is a step's; or no row expects the job
-abbrev pub IsFilled : Known → JobResult → Filled → Type 0
-IsFilled d answer Row = IsExpected d answer.job × IsOk answer.outcome
-IsFilled d answer (Released fault) = IsExpected d answer.job × (answer.outcome ≡ Err fault) × (fault ≡ EvolveFault.NoRoom → StepExpects d answer.job)
-IsFilled d answer NotExpected = (need : Need) → is_job answer.job (expected d need) ≡ false
+-- what came of an answer: a row was filled; or it expects nothing any more because the job gave up,
+-- for want of room if it is a step's; or no row expects the job, and nothing changes
+abbrev pub IsFilled : BookState → BookState → JobResult → Filled → Type 0
+IsFilled old new answer Row =
+    IsExpected old answer.job × IsOk answer.outcome × (wanting_of new ≡ wanting_of old)
+IsFilled old new answer (Released fault) =
+    IsExpected old answer.job
+    × (answer.outcome ≡ Err fault)
+    × (fault ≡ EvolveFault.NoRoom → StepExpects old answer.job)
+IsFilled old new answer NotExpected =
+    ((need : Need) → is_job answer.job (expected old need) ≡ false) × (new ≡ old)
 
--- the place is one of the table, and that of the job of this number that a row expects; or no row expects one
-abbrev pub IsForgotten : Known → ℕ → Option Place → Type 0
+-- the place is one of the table, and that of the job of this number that a row expects; or no row
+-- expects one
+abbrev pub IsForgotten : BookState → ℕ → Option Place → Type 0
 IsForgotten d number None = (need : Need) → has_number number (expected d need) ≡ false
-IsForgotten d number (Some place) = IsOf d.table place × ((need : Need) × (expected d need ≡ Some (record { number = number; place = place })))
+IsForgotten d number (Some place) =
+    IsOf d.table place
+    × ((need : Need) × (expected d need ≡ Some (record { number = number; place = place })))
 
 -- the number is the least of the jobs that are out; or none is out
-abbrev pub IsFirstOut : Known → Option ℕ → Type 0
+abbrev pub IsFirstOut : BookState → Option ℕ → Type 0
 IsFirstOut d None = (need : Need) → expected d need ≡ None
-IsFirstOut d (Some number) = ((need : Need) × (has_number number (expected d need) ≡ true)) × ((need : Need) → IfSome (expected d need) (λ job. number ≤ job.number))
+IsFirstOut d (Some number) =
+    ((need : Need) × (has_number number (expected d need) ≡ true))
+    × ((need : Need) → IfSome (expected d need) (λ job. number ≤ job.number))
 
 -- the document, the table and how many rows there are are the same
-pub record SameDocument (old new : Known) : Type 0 where
+pub record SameDocument (old new : BookState) : Type 0 where
   pub table : new.table ≡ old.table
   pub plan : new.plan ≡ old.plan
   pub marks : length new.arrivals ≡ length old.arrivals
   pub bookmarks : length new.texts ≡ length old.texts
 
 -- so are they, and how many numbers were given
-pub record SameBook (old new : Known) : Type 0 where
+pub record SameBook (old new : BookState) : Type 0 where
   pub document : SameDocument old new
   pub given : new.given ≡ old.given

@@ -1,44 +1,55 @@
 -- What a book has to compute next.
-use Rattle.std.specs.Prelude.{ℕ, Bool, true, ◌&&◌, ◌||◌, nat_le, List, [], ◌∷◌, Option, None, Some, if◌then◌else◌, ◌==◌}
+use Rattle.std.specs.Prelude.{◌≡◌, ℕ, ◌<◌, ◌≤◌, Bool, true, nat_le, List, Option, None, Some, IsSome}
 use Rattle.std.specs.List.{list_any}
 use Rattle.schedule.specs.declared.document.Bookmark.{Bookmark}
 use Rattle.dependency_book.specs.declared.need.Need.{Need}
 use Rattle.dependency_book.specs.declared.need.Need.TheVariants.{Step, View}
-use Rattle.dependency_book.specs.Rows.{ArrivalRow, TextRow, is_unknown, value_at, at_generation}
-use Rattle.dependency_book.specs.Findings.{is_found}
-use Rattle.dependency_book.specs.Known.{Known}
-
--- whether what arrives at generation g is known; the start always is
-abbrev pub has_arrival : List ArrivalRow → ℕ → Bool
-has_arrival arrivals g = g == 0 || is_found (value_at (at_generation g) arrivals)
-
--- a bookmark whose text isn't known or out, while the arrival at its generation is known
-abbrev pub can_view : List ArrivalRow → TextRow → Bool
-can_view arrivals r = is_unknown r && has_arrival arrivals r.key.generation
-
--- the first of the bookmarks, by rising id, that can be viewed
-abbrev pub next_view : List ArrivalRow → List TextRow → Option Need
-next_view arrivals [] = None
-next_view arrivals (r ∷ rs) = if can_view arrivals r then Some (View r.key.id) else next_view arrivals rs
+use Rattle.dependency_book.specs.declared.row.RowState.TheVariants.{Empty}
+use Rattle.dependency_book.specs.BookState.{BookState, arrival_row, text_row, arrival_known, bookmark_in}
+use Rattle.dependency_book.specs.Marks.{is_mark, ComesBefore}
 
 -- whether a bookmark is at or above generation g
 abbrev pub is_awaited : List Bookmark → ℕ → Bool
 is_awaited bookmarks g = list_any (λ (b : Bookmark). nat_le g b.generation) bookmarks
 
--- a mark that a bookmark is at or above, whose arrival isn't known or out, while that at the mark before it is known
-abbrev pub can_step : List Bookmark → Bool → ArrivalRow → Bool
-can_step bookmarks before r = before && (is_unknown r && is_awaited bookmarks r.key.generation)
+-- a bookmark can be viewed: what arrives at its generation is known, its text isn't, and no job is
+-- out for it
+pub record CanBeViewed (d : BookState) (b : Bookmark) : Type 0 where
+  pub there : bookmark_in d.plan.bookmarks b.id ≡ Some b
+  pub arrived : IsSome (arrival_known d b.generation)
+  pub empty : text_row d b.id ≡ Empty
 
--- the first such mark; `before` says whether the arrival at the mark before the rows is known
-abbrev pub next_step : List Bookmark → Bool → List ArrivalRow → Option Need
-next_step bookmarks before [] = None
-next_step bookmarks before (r ∷ rs) = if can_step bookmarks before r then Some (Step r.key.generation) else next_step bookmarks (is_found r.value) rs
+-- a mark can be reached by a step: a bookmark is at it or above, what arrives there isn't known and
+-- no job is out for it, and what arrives at the mark before it is known
+pub record CanBeReached (d : BookState) (mark : ℕ) : Type 0 where
+  pub above : 0 < mark
+  pub is : is_mark d.plan mark ≡ true
+  pub awaited : is_awaited d.plan.bookmarks mark ≡ true
+  pub empty : arrival_row d mark ≡ Empty
+  pub before : ℕ
+  pub comes : ComesBefore d.plan before mark
+  pub arrived : IsSome (arrival_known d before)
 
--- the first of two, if there is any
-abbrev pub first : Option Need → Option Need → Option Need
-first None other = other
-first (Some need) other = Some need
+-- the view of a bookmark comes first: it has the least id of those that can be viewed
+pub record ViewIsNext (d : BookState) (id : ℕ) : Type 0 where
+  pub bookmark : Bookmark
+  pub named : bookmark.id ≡ id
+  pub can : CanBeViewed d bookmark
+  pub least : (other : Bookmark) → CanBeViewed d other → id ≤ other.id
 
--- what is needed next: a view before any step
-abbrev pub next_need : Known → Option Need
-next_need d = first (next_view d.arrivals d.texts) (next_step d.plan.bookmarks true d.arrivals)
+-- a step comes first: no bookmark can be viewed, and its mark is the least that can be reached
+pub record StepIsNext (d : BookState) (mark : ℕ) : Type 0 where
+  pub no_view : (b : Bookmark) → CanBeViewed d b → ⊥
+  pub can : CanBeReached d mark
+  pub least : (other : ℕ) → CanBeReached d other → mark ≤ other
+
+-- no bookmark can be viewed, and no mark reached
+pub record NothingIsNext (d : BookState) : Type 0 where
+  pub no_view : (b : Bookmark) → CanBeViewed d b → ⊥
+  pub no_step : (mark : ℕ) → CanBeReached d mark → ⊥
+
+-- what is to be computed next: a view before any step
+abbrev pub IsNext : BookState → Option Need → Type 0
+IsNext d None = NothingIsNext d
+IsNext d (Some (Step mark)) = StepIsNext d mark
+IsNext d (Some (View id)) = ViewIsNext d id

@@ -1,45 +1,44 @@
--- What stands at keys: rows of a key and how far its value is.
-use Rattle.std.specs.Prelude.{ℕ, Bool, List, [], ◌∷◌, Option, None, IfSome, is_none, map, if◌then◌else◌, ◌==◌}
-use Rattle.std.specs.List.{AllByRecursion}
+-- Rows, by rising ranks of their keys.
+use Rattle.std.specs.Prelude.{ℕ, suc, nat_lt, List, [], ◌∷◌, map, if◌then◌else◌, ◌==◌}
 use Rattle.worlds.specs.World.{World}
 use Rattle.schedule.specs.declared.document.Bookmark.{Bookmark}
-use Rattle.dependency_book.specs.declared.finding.Finding.{Finding}
+use Rattle.schedule.specs.Ids.{IdsRise}
+use Rattle.dependency_book.specs.declared.row.RowState.{RowState}
+use Rattle.dependency_book.specs.declared.row.RowState.TheVariants.{Empty}
 use Rattle.dependency_book.specs.declared.row.Row.{Row}
 use Rattle.dependency_book.specs.declared.mark.Mark.{Mark}
 
--- what stands in the first row that fits
-abbrev pub value_at : {K V : Type 0} → (K → Bool) → List (Row K V) → Option (Finding V)
-value_at fits [] = None
-value_at fits (r ∷ rs) = if fits r.key then r.value else value_at fits rs
+-- marks stand by their generations
+abbrev pub mark_rank : Mark → ℕ
+mark_rank m = m.generation
 
--- whether nothing stands in the row: the value isn't known, and no job is out for it
-abbrev pub is_unknown : {K V : Type 0} → Row K V → Bool
-is_unknown r = is_none r.value
-
--- whatever stands in a row is related so to its key
-abbrev pub AllKnown : {K V : Type 0} → (K → Finding V → Type 0) → List (Row K V) → Type 0
-AllKnown P rows = AllByRecursion (λ r. IfSome r.value (P r.key)) rows
-
--- a row in which nothing stands
-abbrev pub unknown : {K V : Type 0} → K → Row K V
-unknown key = record { key = key; value = None }
-
--- a row in which nothing stands where its key is lost
-abbrev pub forgotten : {K V : Type 0} → (K → Bool) → Row K V → Row K V
-forgotten lost r = record { key = r.key; value = if lost r.key then None else r.value }
-
--- all rows so
-abbrev pub forget : {K V : Type 0} → (K → Bool) → List (Row K V) → List (Row K V)
-forget lost rows = map (forgotten lost) rows
-
--- the rows with this standing in the first that fits
-abbrev pub put : {K V : Type 0} → (K → Bool) → Option (Finding V) → List (Row K V) → List (Row K V)
-put fits finding [] = []
-put fits finding (r ∷ rs) = if fits r.key then record { key = r.key; value = finding } ∷ rs else r ∷ put fits finding rs
+-- bookmarks stand by their ids
+abbrev pub bookmark_rank : Bookmark → ℕ
+bookmark_rank b = b.id
 
 -- the keys of rows
 abbrev pub keys : {K V : Type 0} → List (Row K V) → List K
 keys rows = map (λ r. r.key) rows
+
+-- the ranks of the keys rise
+abbrev pub IsRanked : {K V : Type 0} → (K → ℕ) → List (Row K V) → Type 0
+IsRanked rank rows = IdsRise rank (keys rows)
+
+-- what stands in the first row of a rank, and nothing where there is none
+abbrev pub state_at : {K V : Type 0} → (K → ℕ) → ℕ → List (Row K V) → RowState V
+state_at rank n [] = Empty
+state_at rank n (r ∷ rs) = if rank r.key == n then r.state else state_at rank n rs
+
+-- how many rows stand before the first whose rank isn't below
+abbrev pub place_in : {K V : Type 0} → (K → ℕ) → ℕ → List (Row K V) → ℕ
+place_in rank n [] = 0
+place_in rank n (r ∷ rs) = if nat_lt (rank r.key) n then suc (place_in rank n rs) else 0
+
+-- the rows with this standing in the first of a rank
+abbrev pub put : {K V : Type 0} → (K → ℕ) → ℕ → RowState V → List (Row K V) → List (Row K V)
+put rank n state [] = []
+put rank n state (r ∷ rs) =
+    if rank r.key == n then record { key = r.key; state = state } ∷ rs else r ∷ put rank n state rs
 
 -- a mark with the world that arrives there, or the job that is out for it
 abbrev pub ArrivalRow : Type 0
@@ -48,11 +47,3 @@ ArrivalRow = Row Mark World
 -- a bookmark with its text, or the job that is out for it
 abbrev pub TextRow : Type 0
 TextRow = Row Bookmark (List ℕ)
-
--- whether a mark is at generation g
-abbrev pub at_generation : ℕ → Mark → Bool
-at_generation g m = m.generation == g
-
--- whether a bookmark has this id
-abbrev pub of_id : ℕ → Bookmark → Bool
-of_id id b = b.id == id

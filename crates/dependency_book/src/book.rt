@@ -1,12 +1,20 @@
 //! The book.
-ghost use Rattle.std.specs.Prelude.{◌≡◌, ◌≤◌, ◌+◌, IfOk, IfNone, IfSome, None, length};
-ghost use Rattle.dependency_book.specs.Known.{opened, row_of, pending_of, wanting_of, NothingOut};
-ghost use Rattle.dependency_book.specs.Needs.{next_need};
+ghost use Rattle.std.specs.Prelude.{◌≡◌, ◌≤◌, ◌+◌, IfOk, IfNone, IfSome, length};
+ghost use Rattle.dependency_book.specs.BookState.{
+  NothingOut,
+  opened,
+  pending_of,
+  row_of,
+  wanting_of,
+};
+ghost use Rattle.dependency_book.specs.Needs.{IsNext};
+ghost use Rattle.dependency_book.specs.Right.{IsRight};
 ghost use Rattle.dependency_book.specs.Shown.{Shows};
+ghost use Rattle.dependency_book.specs.declared.row.RowState.TheVariants.{Empty};
 
-use crate::finding::found;
 use crate::marks::ArrivalRow;
 use crate::need::{Need, next_step, next_view};
+use crate::row::place_in;
 use crate::shown::Shown;
 use crate::texts::{TextRow, pending_count};
 use revision_jobs::Entries;
@@ -23,41 +31,33 @@ pub struct Book<'e> {
     pub(crate) given: u32,
     pub(crate) arrivals: Vec<ArrivalRow>,
     pub(crate) texts: Vec<TextRow>,
+    // Where the mark of each bookmark stands among the arrivals.
+    pub(crate) places: Vec<usize>,
     pub(crate) alloc: Global,
 }
 
 impl<'e> Model for Book<'e> {
     ghost use Rattle.std.specs.Coded.{codes};
     ghost use Rattle.worlds.specs.World.{coded_world};
-    ghost use Rattle.dependency_book.specs.Known.{Known};
+    ghost use Rattle.dependency_book.specs.BookState.{BookState};
 
-    ghost Value = { Known };
+    ghost Value = { BookState };
 
     ghost coded = { Prim.hlevel (codes, coded_world) };
 
-    ghost use Rattle.dependency_book.specs.Right.{IsRight};
+    ghost use Rattle.dependency_book.specs.Inside.{state_of};
+    ghost use Rattle.dependency_book.specs.Held.{IsHeld};
 
-    ghost view = { λ book. record {
-      table = book.entries.now;
-      plan = book.document;
-      given = book.given;
-      arrivals = book.arrivals.items;
-      texts = book.texts.items;
-    } };
+    ghost view = { state_of };
 
-    ghost invariant = { λ book. IsRight (record {
-      table = book.entries.now;
-      plan = book.document;
-      given = book.given;
-      arrivals = book.arrivals.items;
-      texts = book.texts.items;
-    }) };
+    ghost invariant = { λ book. IsHeld (state_of book) book.places.items };
 }
 
 impl<'e> Book<'e> {
     /// A book of the opening document at a revision, whose jobs are of this table.
     pub fn open(alloc: Global, entries: &'e Entries, revision: u64) -> Result<Book<'e>, AllocError>
-        ensures { IfOk result (λ book. book ≡ opened entries.now revision) }
+        ensures opened { IfOk result (λ book. book ≡ opened entries.now revision) }
+        ensures right { IfOk result IsRight }
     {
         Ok(Book {
             entries,
@@ -65,6 +65,7 @@ impl<'e> Book<'e> {
             given: 0,
             arrivals: Vec::new(alloc),
             texts: Vec::new(alloc),
+            places: Vec::new(alloc),
             alloc,
         })
     }
@@ -81,15 +82,13 @@ impl<'e> Book<'e> {
     pub fn shown(&self, id: u64) -> Shown<'_>
         ensures { Shows self.now id result }
     {
-        for row in &self.texts {
-            if row.key.id == id {
-                return match found(&row.value) {
-                    Some(text) => Shown::Current(text.as_slice()),
-                    None => Shown::Pending,
-                };
-            }
+        match self.texts.get(place_in(&self.texts, id)) {
+            Some(row) if row.key.id == id => match row.state.known() {
+                Some(text) => Shown::Current(text.as_slice()),
+                None => Shown::Pending,
+            },
+            _ => Shown::NoSuch,
         }
-        Shown::NoSuch
     }
 
     /// How many bookmarks are pending.
@@ -99,25 +98,27 @@ impl<'e> Book<'e> {
         ensures none { NothingOut self.now → wanting_of self.now ≡ 0 → result ≡ 0 }
         ensures few { length self.now.arrivals + length self.now.texts ≤ 12288 }
     {
-        // A document has few enough bookmarks.
-        let _bookmarks = self.document.bookmarks();
         pending_count(&self.texts) as u32
     }
 
-    /// What has to be computed next, and no job is out for: the first bookmark, by rising id, whose
-    /// text isn't known where what arrives at its generation is; or else the first mark that a
-    /// bookmark is at or above, at which the arrival isn't known where that at the mark before it
-    /// is. None where every text is known, where only arrivals above every bookmark aren't, and
-    /// where all that is needed waits for jobs that are out.
+    /// What has to be computed next, and no job is out for: the view of the bookmark with the least
+    /// id whose text isn't known where what arrives at its generation is; or else the step to the
+    /// least mark at or below a bookmark at which the arrival isn't known where that at the mark
+    /// before it is. None where every text is known, where only arrivals above every bookmark
+    /// aren't, and where all that is needed waits for jobs that are out.
     pub fn next_need(&self) -> Option<Need>
-        ensures need { result ≡ next_need self.now }
-        ensures empty { IfSome result (λ need. row_of self.now need ≡ None) }
+        ensures next { IsNext self.now result }
+        ensures empty { IfSome result (λ need. row_of self.now need ≡ Empty) }
         ensures settled { IfNone result (NothingOut self.now → pending_of self.now ≡ 0) }
     {
-        let bookmarks = self.document.bookmarks();
-        match next_view(&self.arrivals, &self.texts) {
-            Some(need) => Some(need),
-            None => next_step(bookmarks, &self.arrivals),
+        if let Some(place) = next_view(&self.arrivals, &self.texts, &self.places) {
+            return Some(Need::View {
+                id: self.texts[place].key.id,
+            });
         }
+        let mark = next_step(self.document.bookmarks(), &self.arrivals)?;
+        Some(Need::Step {
+            mark: mark.generation,
+        })
     }
 }

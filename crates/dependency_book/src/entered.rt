@@ -1,17 +1,16 @@
 //! What is to be computed for a row.
-ghost use Rattle.std.specs.Prelude.{◌≡◌, ◌<◌, IfOk, Some, true};
+ghost use Rattle.std.specs.Prelude.{◌≡◌, IfOk, Some, IsSome};
 ghost use Rattle.std.specs.Arc.{arc_value};
 ghost use Rattle.schedule.specs.Scratch.{cells_at};
 ghost use Rattle.revision_jobs.specs.Value.{CanBeWorked};
-ghost use Rattle.dependency_book.specs.Entered.{IsEntryOf, mark_before};
-ghost use Rattle.dependency_book.specs.Known.{arrival_known};
-ghost use Rattle.dependency_book.specs.Needs.{has_arrival, next_need};
+ghost use Rattle.dependency_book.specs.BookState.{arrival_known};
+ghost use Rattle.dependency_book.specs.Entered.{IsEntryOf};
+ghost use Rattle.dependency_book.specs.Marks.{ComesBefore};
+ghost use Rattle.dependency_book.specs.Needs.{IsNext};
 
 use crate::book::Book;
-use crate::finding::found;
-use crate::marks::{arrival_in, place_for};
 use crate::need::Need;
-use crate::texts::place_of;
+use crate::row::place_in;
 use revision_jobs::{Entry, Rendering, Step};
 use schedule::{CellSet, Intervention, Listing, Next, Plane};
 use std::alloc::{AllocError, Global};
@@ -22,7 +21,7 @@ impl Book<'_> {
     /// mark before it, on which that mark's cells are laid, or the view of a bookmark. The need is
     /// the one that `next_need` answers. Rule and pattern are shared and not copied.
     pub fn entry(&self, need: &Need) -> Result<Entry, AllocError>
-        requires { next_need self.now ≡ Some need.now }
+        requires { IsNext self.now (Some need.now) }
         ensures entry { IfOk result (λ entry. IsEntryOf self.now need.now entry) }
         ensures workable { IfOk result CanBeWorked }
     {
@@ -34,12 +33,10 @@ impl Book<'_> {
 
     // The step to a mark.
     fn step_to(&self, mark: u64) -> Result<Entry, AllocError>
-        requires { next_need self.now ≡ Some (Need.Step mark) }
+        requires { IsNext self.now (Some (Need.Step mark)) }
         ensures entry { IfOk result (λ entry. IsEntryOf self.now (Need.Step mark) entry) }
         ensures workable { IfOk result CanBeWorked }
     {
-        // The document's limits bound the states and the margin of the pattern.
-        let _start = self.document.start();
         let (before, from) = self.before(mark);
         let interventions = self.document.interventions();
         Ok(Entry::Step(Step {
@@ -52,17 +49,16 @@ impl Book<'_> {
 
     // The mark before a mark, and what arrives there.
     fn before(&self, mark: u64) -> (u64, &Arc<Plane>)
-        requires { next_need self.now ≡ Some (Need.Step mark) }
-        ensures mark { result.0 ≡ mark_before self.now mark }
-        ensures below { result.0 < mark }
+        requires { IsNext self.now (Some (Need.Step mark)) }
+        ensures mark { ComesBefore self.now.plan result.0 mark }
         ensures known { arrival_known self.now result.0 ≡ Some (arc_value result.1.now) }
     {
-        let place = place_for(&self.arrivals, mark);
+        let place = place_in(&self.arrivals, mark);
         if place == 0 {
             return (0, self.document.start());
         }
         let row = &self.arrivals[place - 1];
-        match found(&row.value) {
+        match row.state.known() {
             Some(arrival) => (row.key.generation, arrival.plane()),
             None => unreachable!("what arrives at the mark before is known"),
         }
@@ -70,14 +66,11 @@ impl Book<'_> {
 
     // The view of a bookmark.
     fn view_of(&self, id: u64) -> Result<Entry, AllocError>
-        requires { next_need self.now ≡ Some (Need.View id) }
+        requires { IsNext self.now (Some (Need.View id)) }
         ensures entry { IfOk result (λ entry. IsEntryOf self.now (Need.View id) entry) }
         ensures workable { IfOk result CanBeWorked }
     {
-        // The document's limits bound the states of the pattern.
-        let _start = self.document.start();
-        let place = place_of(&self.texts, id);
-        let bookmark = self.texts[place].key;
+        let bookmark = self.texts[place_in(&self.texts, id)].key;
         let rule = self.document.rule();
         let interventions = self.document.interventions();
         Ok(Entry::View(Rendering {
@@ -92,14 +85,15 @@ impl Book<'_> {
 
     // What arrives at a generation, where that is known.
     fn arrived(&self, generation: u64) -> &Arc<Plane>
-        requires { has_arrival self.now.arrivals generation ≡ true }
+        requires { IsSome (arrival_known self.now generation) }
         ensures { arrival_known self.now generation ≡ Some (arc_value result.now) }
     {
         if generation == 0 {
             return self.document.start();
         }
-        match arrival_in(&self.arrivals, generation) {
-            Some(plane) => plane,
+        let row = &self.arrivals[place_in(&self.arrivals, generation)];
+        match row.state.known() {
+            Some(arrival) => arrival.plane(),
             None => unreachable!("what arrives at the generation is known"),
         }
     }

@@ -1,25 +1,24 @@
 //! Jobs for the rows of a book, and what their answers change.
-ghost use Rattle.std.specs.Prelude.{◌≡◌, ◌+◌, ℕ, MatchOption, IfSome, None, Some, true, false};
+ghost use Rattle.std.specs.Prelude.{◌≡◌, ◌+◌, MatchOption, IfSome, Some, true, false};
 ghost use Rattle.std.specs.Arc.{arc_value};
 ghost use Rattle.revision_jobs.specs.Answer.{outcome_of};
 ghost use Rattle.revision_jobs.specs.Entries.{IsOf};
 ghost use Rattle.revision_jobs.specs.Value.{pattern, text};
-ghost use Rattle.dependency_book.specs.declared.finding.Finding.TheVariants.{Found};
-ghost use Rattle.dependency_book.specs.Findings.{has_number, finding_map};
+ghost use Rattle.dependency_book.specs.declared.row.RowState.TheVariants.{Empty, Known};
+ghost use Rattle.dependency_book.specs.RowState.{has_number, state_map};
 ghost use Rattle.dependency_book.specs.Jobs.{issued, answered, cancelled, given_by};
-ghost use Rattle.dependency_book.specs.Jobs.{IsFilled, IsFirstOut, IsForgotten, IsNextJob, SameBook, SameDocument};
-ghost use Rattle.dependency_book.specs.Known.{row_of, expected, wanting_of};
-ghost use Rattle.dependency_book.specs.Right.{AreNumbered};
-ghost use Rattle.dependency_book.specs.Puts.{MayStand, Puts, filled_by, has_row};
+ghost use Rattle.dependency_book.specs.Jobs.{IsFilled, IsFirstOut, IsForgotten, IsNextJob};
+ghost use Rattle.dependency_book.specs.Jobs.{SameBook, SameDocument};
+ghost use Rattle.dependency_book.specs.BookState.{row_of, expected, wanting_of};
+ghost use Rattle.dependency_book.specs.Right.{IsRight};
+ghost use Rattle.dependency_book.specs.Puts.{CanBePut, Puts, can_change, filled_by};
 
 use crate::arrival::Arrival;
 use crate::book::Book;
 use crate::filled::Filled;
-use crate::finding::{Finding, least_out, lesser, row_for};
-use crate::marks::put_arrival;
 use crate::need::Need;
+use crate::row::{RowState, least_out, lesser, put, row_for};
 use crate::text::Text;
-use crate::texts::put_text;
 use revision_jobs::{Answer, Job, Outcome, Place};
 use schedule::{Listing, Plane};
 use std::sync::Arc;
@@ -41,13 +40,12 @@ impl Book<'_> {
         ensures document { SameDocument self.old self.new }
         ensures given { self.new.given ≡ self.old.given + 1 }
         ensures fewer { wanting_of self.new + 1 ≡ wanting_of self.old }
+        ensures right { IsRight self.new }
     {
-        // The document's limits bound what the entry starts from.
-        let _start = self.document.start();
         self.given += 1;
         match need {
-            Need::Step { mark } => self.put_arrival(*mark, Some(Finding::Expected(job))),
-            Need::View { id } => self.put_text(*id, Some(Finding::Expected(job))),
+            Need::Step { mark } => self.put_arrival(*mark, RowState::Expected(job)),
+            Need::View { id } => self.put_text(*id, RowState::Expected(job)),
         }
     }
 
@@ -56,12 +54,11 @@ impl Book<'_> {
     /// memory.
     pub fn fill(&mut self, answer: Answer) -> Filled
         requires own { IsOf self.old.table answer.job.place }
-        ensures filled { IsFilled self.old answer result }
+        ensures filled { IsFilled self.old self.new answer result }
         ensures rows { (need : Need) →
             row_of self.new need ≡ answered answer (row_of self.old need) }
         ensures book { SameBook self.old self.new }
-        ensures wanting { result ≡ Filled.Row → wanting_of self.new ≡ wanting_of self.old }
-        ensures kept { result ≡ Filled.NotExpected → self.new ≡ self.old }
+        ensures right { IsRight self.new }
     {
         let (job, outcome) = answer.into_parts();
         match self.expecting(job.number) {
@@ -79,6 +76,7 @@ impl Book<'_> {
         ensures rows { (need : Need) →
             row_of self.new need ≡ cancelled number (row_of self.old need) }
         ensures book { SameBook self.old self.new }
+        ensures right { IsRight self.new }
     {
         let (need, place) = self.expecting(number)?;
         let place = place.share();
@@ -90,22 +88,18 @@ impl Book<'_> {
     pub fn first_out(&self) -> Option<u32>
         ensures { IsFirstOut self.now result }
     {
-        // The document's bookmarks have rising ids.
-        let _bookmarks = self.document.bookmarks();
         lesser(least_out(&self.arrivals), least_out(&self.texts))
     }
 
     // The need whose row expects the job of this number, with the place of the job's entry.
     fn expecting(&self, number: u32) -> Option<(Need, &Place)>
-        ensures numbers { AreNumbered self.now }
         ensures row { MatchOption result
             ((need : Need) → has_number number (expected self.now need) ≡ false)
             (λ row. expected self.now row.0
             ≡ Some (record { number = number; place = row.1.now })) }
         ensures own { IfSome result (λ row. IsOf self.now.table row.1.now) }
+        ensures right { IsRight self.now }
     {
-        // The document's bookmarks have rising ids.
-        let _bookmarks = self.document.bookmarks();
         if let Some((mark, place)) = row_for(&self.arrivals, number) {
             let mark = mark.generation;
             return Some((Need::Step { mark }, place));
@@ -116,8 +110,7 @@ impl Book<'_> {
 
     // Puts an outcome in the row of a need: a value, or nothing where there is none.
     fn fill_row(&mut self, need: Need, outcome: Outcome) -> Filled
-        requires there { has_row self.old need ≡ true }
-        requires right { MayStand self.old need (given_by (outcome_of outcome)) }
+        requires { CanBePut self.old need (given_by (outcome_of outcome)) }
         ensures filled { result ≡ filled_by (outcome_of outcome) }
         ensures row { Puts need (given_by (outcome_of outcome)) self.old self.new }
     {
@@ -134,54 +127,50 @@ impl Book<'_> {
 
     // Puts a pattern in the row of a need, which is a step.
     fn put_plane(&mut self, need: Need, plane: Arc<Plane>)
-        requires there { has_row self.old need ≡ true }
-        requires right { MayStand self.old need (Some (Found (pattern (arc_value plane)))) }
-        ensures { Puts need (Some (Found (pattern (arc_value plane)))) self.old self.new }
+        requires { CanBePut self.old need (Known (pattern (arc_value plane))) }
+        ensures { Puts need (Known (pattern (arc_value plane))) self.old self.new }
     {
         let Need::Step { mark } = need else {
             unreachable!("a view has a text")
         };
-        self.put_arrival(mark, Some(Finding::Found(Arrival::of(plane))));
+        self.put_arrival(mark, RowState::Known(Arrival::of(plane)));
     }
 
     // Puts a text in the row of a need, which is a view.
     fn put_bytes(&mut self, need: Need, bytes: Arc<Listing<u8>>)
-        requires there { has_row self.old need ≡ true }
-        requires right { MayStand self.old need (Some (Found (text (arc_value bytes)))) }
-        ensures { Puts need (Some (Found (text (arc_value bytes)))) self.old self.new }
+        requires { CanBePut self.old need (Known (text (arc_value bytes))) }
+        ensures { Puts need (Known (text (arc_value bytes))) self.old self.new }
     {
         let Need::View { id } = need else {
             unreachable!("a step has a pattern")
         };
-        self.put_text(id, Some(Finding::Found(Text::of(bytes))));
+        self.put_text(id, RowState::Known(Text::of(bytes)));
     }
 
     // Expects nothing in the row of a need any more.
     fn release(&mut self, need: Need)
-        requires { has_row self.old need ≡ true }
-        ensures { Puts need None self.old self.new }
+        requires { can_change self.old.plan need ≡ true }
+        ensures { Puts need Empty self.old self.new }
     {
         match need {
-            Need::Step { mark } => self.put_arrival(mark, None),
-            Need::View { id } => self.put_text(id, None),
+            Need::Step { mark } => self.put_arrival(mark, RowState::Empty),
+            Need::View { id } => self.put_text(id, RowState::Empty),
         }
     }
 
     // Puts what is known, or out, in the row of a mark.
-    fn put_arrival(&mut self, mark: u64, finding: Option<Finding<Arrival>>)
-        requires there { has_row self.old (Need.Step mark) ≡ true }
-        requires right { MayStand self.old (Need.Step mark) (finding_map pattern finding) }
-        ensures { Puts (Need.Step mark) (finding_map pattern finding) self.old self.new }
+    fn put_arrival(&mut self, mark: u64, state: RowState<Arrival>)
+        requires { CanBePut self.old (Need.Step mark) (state_map pattern state) }
+        ensures { Puts (Need.Step mark) (state_map pattern state) self.old self.new }
     {
-        put_arrival(&mut self.arrivals, mark, finding);
+        put(&mut self.arrivals, mark, state);
     }
 
     // Puts what is known, or out, in the row of a bookmark.
-    fn put_text(&mut self, id: u64, finding: Option<Finding<Text>>)
-        requires there { has_row self.old (Need.View id) ≡ true }
-        requires right { MayStand self.old (Need.View id) (finding_map text finding) }
-        ensures { Puts (Need.View id) (finding_map text finding) self.old self.new }
+    fn put_text(&mut self, id: u64, state: RowState<Text>)
+        requires { CanBePut self.old (Need.View id) (state_map text state) }
+        ensures { Puts (Need.View id) (state_map text state) self.old self.new }
     {
-        put_text(&mut self.texts, id, finding);
+        put(&mut self.texts, id, state);
     }
 }

@@ -8,8 +8,8 @@
 //! computation gives. An edit keeps exactly the rows that it doesn't touch.
 //!
 //! What isn't known is computed by jobs, in any order and by anybody: a row expects the job that is
-//! out for it, and takes what its answer says, whatever edits that keep the row were made meanwhile.
-//! An answer that no row expects changes nothing.
+//! out for it, and takes what its answer says, whatever edits that keep the row were made since. An
+//! answer that no row expects changes nothing.
 //!
 //! An edit and an answer each cost a search and one pass over the rows. Nothing is computed here.
 #![tactic(auto)]
@@ -18,25 +18,19 @@ mod arrival;
 mod book;
 mod entered;
 mod filled;
-mod finding;
 mod jobs;
 mod mark;
 mod marks;
 mod need;
+mod remade;
 mod revise;
 mod row;
 mod shown;
 mod text;
 mod texts;
-mod touch;
 
 pub use book::Book;
 pub use filled::Filled;
 pub use mark::Mark;
 pub use need::Need;
-pub use revision_jobs::{Answer, Entries, Entry, Job, Outcome, Place};
-pub use schedule::{
-    Bookmark, CellSet, Document, Edit, EditFault, Edited, Listing, Plane, Refusal, Rule, View,
-};
 pub use shown::Shown;
-pub use step_engine::EvolveFault;

@@ -1,10 +1,11 @@
 //! What a book needs.
-ghost use Rattle.std.specs.Prelude.{◌≡◌, true};
-ghost use Rattle.dependency_book.specs.Needs.{has_arrival, can_view, next_view};
-ghost use Rattle.dependency_book.specs.Needs.{is_awaited, can_step, next_step};
+ghost use Rattle.std.specs.Prelude.{◌≡◌, length};
+ghost use Rattle.dependency_book.specs.Ready.{IsFirstStep, IsFirstView};
+ghost use Rattle.dependency_book.specs.Ready.{can_view, place_ready, reach_of};
+ghost use Rattle.dependency_book.specs.Rows.{IsRanked, mark_rank};
 
-use crate::finding::is_found;
-use crate::marks::{ArrivalRow, arrival_in};
+use crate::mark::Mark;
+use crate::marks::ArrivalRow;
 use crate::texts::TextRow;
 use schedule::Bookmark;
 
@@ -17,62 +18,72 @@ pub enum Need {
     View { id: u64 },
 }
 
-/// Whether what arrives at a generation is known; the start always is.
-fn has_arrival(arrivals: &[ArrivalRow], generation: u64) -> bool
-    ensures { result ≡ has_arrival arrivals.now generation }
+// Whether what arrives at a generation is known, whose mark has its row at this place; the start
+// always is.
+fn is_ready(arrivals: &[ArrivalRow], generation: u64, place: usize) -> bool
+    ensures { result ≡ place_ready arrivals.now generation place }
 {
-    generation == 0 || arrival_in(arrivals, generation).is_some()
+    if generation == 0 {
+        return true;
+    }
+    match arrivals.get(place) {
+        Some(row) => row.state.is_known(),
+        None => false,
+    }
 }
 
-// Whether the text of a bookmark isn't known or out where what arrives at its generation is known.
-fn can_view(arrivals: &[ArrivalRow], row: &TextRow) -> bool
-    ensures { result ≡ can_view arrivals.now row.now }
+// Whether nothing stands for a text where what arrives at its generation is known.
+fn can_view(arrivals: &[ArrivalRow], row: &TextRow, place: usize) -> bool
+    ensures { result ≡ can_view arrivals.now row.now place }
 {
-    row.value.is_none() && has_arrival(arrivals, row.key.generation)
+    row.state.is_empty() && is_ready(arrivals, row.key.generation, place)
 }
 
-/// The first text that isn't known or out where what arrives at its generation is known.
-pub(crate) fn next_view(arrivals: &[ArrivalRow], texts: &[TextRow]) -> Option<Need>
-    ensures { result ≡ next_view arrivals.now texts.now }
+/// The place of the first text for which nothing stands where what arrives at its generation is
+/// known. The places are those of the texts' marks among the arrivals.
+pub(crate) fn next_view(
+    arrivals: &[ArrivalRow],
+    texts: &[TextRow],
+    places: &[usize],
+) -> Option<usize>
+    requires { length places.now ≡ length texts.now }
+    ensures { IsFirstView arrivals.now texts.now places.now result }
 {
-    for row in texts {
-        if can_view(arrivals, row) {
-            return Some(Need::View { id: row.key.id });
+    for index in 0..texts.len() {
+        if can_view(arrivals, &texts[index], places[index]) {
+            return Some(index);
         }
     }
     None
 }
 
-// Whether a bookmark is at a generation or above it.
-fn is_awaited(bookmarks: &[Bookmark], generation: u64) -> bool
-    ensures { result ≡ is_awaited bookmarks.now generation }
+// The greatest generation of a bookmark, or 0 where there is none.
+fn reach_of(bookmarks: &[Bookmark]) -> u64
+    ensures { result ≡ reach_of bookmarks.now }
 {
-    bookmarks
-        .iter()
-        .any(|bookmark| generation <= bookmark.generation)
+    let mut reach = 0;
+    for bookmark in bookmarks {
+        reach = bookmark.generation.max(reach);
+    }
+    reach
 }
 
-// Whether a bookmark is at a mark or above it, at which nothing is known or out where what arrives
-// at the mark before it is known.
-fn can_step(bookmarks: &[Bookmark], before: bool, row: &ArrivalRow) -> bool
-    ensures { result ≡ can_step bookmarks.now before row.now }
+/// The first mark that a bookmark is at or above, at which nothing stands where what arrives at the
+/// mark before it is known.
+pub(crate) fn next_step(bookmarks: &[Bookmark], arrivals: &[ArrivalRow]) -> Option<Mark>
+    requires { IsRanked mark_rank arrivals.now }
+    ensures { IsFirstStep (reach_of bookmarks.now) arrivals.now result }
 {
-    before && (row.value.is_none() && is_awaited(bookmarks, row.key.generation))
-}
-
-/// The first mark that a bookmark is at or above, at which nothing is known or out where what
-/// arrives at the mark before it is known.
-pub(crate) fn next_step(bookmarks: &[Bookmark], arrivals: &[ArrivalRow]) -> Option<Need>
-    ensures { result ≡ next_step bookmarks.now true arrivals.now }
-{
+    let reach = reach_of(bookmarks);
     let mut before = true;
     for row in arrivals {
-        if can_step(bookmarks, before, row) {
-            return Some(Need::Step {
-                mark: row.key.generation,
-            });
+        if row.key.generation > reach {
+            return None;
         }
-        before = is_found(&row.value);
+        if before && row.state.is_empty() {
+            return Some(row.key);
+        }
+        before = row.state.is_known();
     }
     None
 }

@@ -1,16 +1,48 @@
 //! How an edit changes a book.
-ghost use Rattle.std.specs.Prelude.{◌≡◌, ◌⊎◌, ◌<◌, ℕ, IfOk, IfErr, IfSome, OnErr, OnOk, vec_len, vec_capacity};
+ghost use Rattle.std.specs.Prelude.{◌≡◌, ◌≤◌, ◌⊎◌, IfOk, IfErr, IfSome, OnErr, OnOk};
+ghost use Rattle.std.specs.Prelude.{length, vec_capacity, []};
 ghost use Rattle.schedule.specs.Asked.{asked_of};
 ghost use Rattle.schedule.specs.Change.{change, made, refusal};
-ghost use Rattle.dependency_book.specs.Kept.{KeepsRows};
-ghost use Rattle.dependency_book.specs.Rearranged.{forgotten_marks, reached_marks, left_marks, forgotten_texts, rekeyed_texts};
+ghost use Rattle.dependency_book.specs.Held.{places_of};
+ghost use Rattle.dependency_book.specs.Kept.{KeepsRows, generation_of, felt_from};
+ghost use Rattle.dependency_book.specs.Right.{IsRight};
+ghost use Rattle.dependency_book.specs.Room.{HasRoom};
+ghost use Rattle.dependency_book.specs.Rows.{IsRanked, mark_rank};
 
 use crate::book::Book;
-use crate::marks::{ArrivalRow, add_mark, drop_mark, forget_above, is_noted};
-use crate::row::Row;
-use crate::texts::{TextRow, drop_text, forget_from, move_text};
-use crate::touch::{Rekeyed, touch_of};
-use schedule::{Bookmark, Document, Edit, EditFault, Edited};
+use crate::mark::Mark;
+use crate::marks::{ArrivalRow, marks_of};
+use crate::remade::remade;
+use crate::row::place_in;
+use crate::texts::TextRow;
+use schedule::{Bookmark, Document, Edit, EditFault, Edited, Intervention};
+use std::alloc::{AllocError, Global};
+use std::mem;
+
+// Room for the rows of a document after one more edit.
+#[derive(Drop)]
+struct Room {
+    marks: Vec<Mark>,
+    arrivals: Vec<ArrivalRow>,
+    texts: Vec<TextRow>,
+    places: Vec<usize>,
+}
+
+impl Room {
+    // The room for a document with at most one more intervention and one more bookmark.
+    fn beside(alloc: Global, document: &Document) -> Result<Room, AllocError>
+        ensures { IfOk result (λ room. HasRoom room document.now) }
+    {
+        let bookmarks = document.bookmarks().len() + 1;
+        let marks = document.interventions().len() + bookmarks + 1;
+        Ok(Room {
+            marks: Vec::with_capacity(alloc, marks)?,
+            arrivals: Vec::with_capacity(alloc, marks)?,
+            texts: Vec::with_capacity(alloc, bookmarks)?,
+            places: Vec::with_capacity(alloc, bookmarks)?,
+        })
+    }
+}
 
 impl Book<'_> {
     /// Makes the change that the edit asks for and forgets exactly what the edit touches, or
@@ -29,91 +61,67 @@ impl Book<'_> {
         ensures keeps { OnOk result (KeepsRows (asked_of edit.now) self.old self.new) }
         ensures refused { IfErr result (λ fault.
             (fault ≡ EditFault.NoMemory) ⊎ (change self.old.plan (asked_of edit.now) ≡ Err fault)) }
-        ensures first { IfSome (refusal self.old.plan (asked_of edit.now)) (λ fault. result ≡ Err fault) }
+        ensures first { IfSome (refusal self.old.plan (asked_of edit.now))
+            (λ fault. result ≡ Err fault) }
         ensures unchanged { OnErr result (self.new ≡ self.old) }
+        ensures right { IsRight self.new }
     {
         self.document.check(edit)?;
-        // The room for one more row of each kind is made before anything changes.
-        self.arrivals.reserve(1)?;
-        self.texts.reserve(1)?;
-        // The document keeps its limits.
-        let _bookmarks = self.document.bookmarks();
-        let touch = touch_of(&self.document, edit);
-        let edited = self.document.apply(edit)?;
-        forget_marks(&mut self.arrivals, touch.felt);
-        reach_mark(&mut self.arrivals, touch.reached);
-        leave_mark(&mut self.arrivals, &self.document, touch.left);
-        forget_texts(&mut self.texts, touch.felt);
-        rekey_texts(
-            &mut self.texts,
-            touch.bookmarks,
-            self.document.last_bookmark(),
-        );
+        let Room {
+            marks,
+            arrivals,
+            texts,
+            places,
+        } = Room::beside(self.alloc, &self.document)?;
+        let felt = felt_from(&self.document, edit);
+        let edited = self.document.make(edit)?;
+        let marks = marks_of(marks, &self.document);
+        let old = mem::replace(&mut self.arrivals, Vec::new(self.alloc));
+        self.arrivals = remade(arrivals, &marks, old, felt);
+        let old = mem::replace(&mut self.texts, Vec::new(self.alloc));
+        self.texts = remade(texts, self.document.bookmarks(), old, felt);
+        self.places = places_of(places, &self.arrivals, self.document.bookmarks());
         Ok(edited)
     }
 }
 
-// Forgets what arrives above the generation at which an edit is first felt.
-fn forget_marks(rows: &mut Vec<ArrivalRow>, felt: Option<u64>)
-    ensures items { rows.new.items ≡ forgotten_marks felt rows.old.items }
-    ensures len { vec_len rows.new ≡ vec_len rows.old }
-    ensures capacity { vec_capacity rows.new ≡ vec_capacity rows.old }
+// The generation at which an edit is first felt, if it changes any pattern.
+fn felt_from(document: &Document, edit: &Edit) -> Option<u64>
+    ensures { result ≡ felt_from document.now (asked_of edit.now) }
 {
-    if let Some(from) = felt {
-        forget_above(rows, from);
+    match edit {
+        Edit::InsertIntervention { generation, .. } => Some(*generation),
+        Edit::ChangeIntervention { id, generation, .. } => {
+            Some((*generation).min(generation_of(document.interventions(), *id)))
+        }
+        Edit::RemoveIntervention { id } => Some(generation_of(document.interventions(), *id)),
+        Edit::SetCells { .. } | Edit::ReplaceStart(_) | Edit::ReplaceRule(_) => Some(0),
+        Edit::AddBookmark { .. } | Edit::MoveBookmark { .. } | Edit::RemoveBookmark { .. } => None,
     }
 }
 
-// Adds the mark that something reaches. The mark 0 has no row, since the start is always known.
-fn reach_mark(rows: &mut Vec<ArrivalRow>, reached: Option<u64>)
-    requires { vec_len rows.old < vec_capacity rows.old }
-    ensures { rows.new.items ≡ reached_marks reached rows.old.items }
+// Where the intervention of an id acts, or 0 where there is none.
+fn generation_of(interventions: &[Intervention], id: u64) -> u64
+    ensures { result ≡ generation_of interventions.now id }
 {
-    if let Some(generation) = reached {
-        if generation > 0 {
-            add_mark(rows, generation);
+    for intervention in interventions {
+        if intervention.id == id {
+            return intervention.generation;
         }
     }
+    0
 }
 
-// Takes out the mark that something leaves, unless something else is there.
-fn leave_mark(rows: &mut Vec<ArrivalRow>, document: &Document, left: Option<u64>)
-    ensures { rows.new.items ≡ left_marks document.now left rows.old.items }
+// Where the marks of bookmarks stand among rows. The places stand in the room, which is empty and
+// has a place for each bookmark.
+fn places_of(room: Vec<usize>, arrivals: &[ArrivalRow], bookmarks: &[Bookmark]) -> Vec<usize>
+    requires room { room.items ≡ [] × length bookmarks.now ≤ vec_capacity room }
+    requires ranked { IsRanked mark_rank arrivals.now }
+    ensures { result.items ≡ places_of arrivals.now bookmarks.now }
 {
-    if let Some(generation) = left {
-        if !is_noted(document, generation) {
-            drop_mark(rows, generation);
-        }
+    let mut places = room;
+    for bookmark in bookmarks {
+        places.push_reserved(place_in(arrivals, bookmark.generation));
     }
-}
-
-// Forgets the texts of bookmarks from the generation on at which an edit is first felt.
-fn forget_texts(rows: &mut Vec<TextRow>, felt: Option<u64>)
-    ensures items { rows.new.items ≡ forgotten_texts felt rows.old.items }
-    ensures len { vec_len rows.new ≡ vec_len rows.old }
-    ensures capacity { vec_capacity rows.new ≡ vec_capacity rows.old }
-{
-    if let Some(from) = felt {
-        forget_from(rows, from);
-    }
-}
-
-// Brings the rows to the bookmarks after an edit. There is room for one more.
-fn rekey_texts(rows: &mut Vec<TextRow>, bookmarks: Rekeyed, last: u64)
-    requires { vec_len rows.old < vec_capacity rows.old }
-    ensures { rows.new.items ≡ rekeyed_texts bookmarks last rows.old.items }
-{
-    match bookmarks {
-        Rekeyed::Same => {}
-        Rekeyed::Added { generation, view } => rows.push_reserved(Row {
-            key: Bookmark {
-                id: last,
-                generation,
-                view,
-            },
-            value: None,
-        }),
-        Rekeyed::Moved { id, generation } => move_text(rows, id, generation),
-        Rekeyed::Removed { id } => drop_text(rows, id),
-    }
+    places
 }

@@ -1,11 +1,133 @@
-//! What is known at a key.
+//! Rows: what is known, or under way, of what stands at keys.
+ghost use Rattle.std.specs.Prelude.{◌≡◌, ℕ, Bool, Option, MatchOption, None, Some};
+ghost use Rattle.dependency_book.specs.RowState.{is_empty, is_known, job_of, known};
+ghost use Rattle.dependency_book.specs.RowState.{least_out, lesser, number_of, row_for};
+ghost use Rattle.dependency_book.specs.Rows.{IsRanked, place_in, put};
 
-use crate::finding::Finding;
+use revision_jobs::{Job, Place};
 
-/// What is known at a key: at a mark what arrives there, of a bookmark its text; or the job that is
-/// out for it.
+/// What stands in a row.
+#[derive(Drop)]
+pub(crate) enum RowState<V> {
+    /// Nothing is known, and no job is out.
+    Empty,
+    /// A job is out whose answer gives the value.
+    Expected(Job),
+    /// The value.
+    Known(V),
+}
+
+/// What stands at a key.
 #[derive(Drop)]
 pub(crate) struct Row<K, V> {
     pub(crate) key: K,
-    pub(crate) value: Option<Finding<V>>,
+    pub(crate) state: RowState<V>,
+}
+
+/// A key of rows, which stand in the order of their keys' ranks.
+pub(crate) trait Ranked {
+    ghost rank: { Self → ℕ };
+
+    ghost stays: { Option ℕ → Self → Self → Bool };
+
+    fn rank(&self) -> u64
+        ensures { result ≡ rank self.now };
+
+    /// Whether what stood at the key as it was stays, after an edit that is first felt at a
+    /// generation, if it changes any pattern.
+    fn stays(&self, felt: Option<u64>, was: &Self) -> bool
+        ensures { result ≡ stays felt self.now was.now };
+}
+
+impl<V> RowState<V> {
+    /// The value, if it is known.
+    pub(crate) fn known(&self) -> Option<&V>
+        ensures { MatchOption result (known self.now ≡ None) (λ v. known self.now ≡ Some v.now) }
+    {
+        match self {
+            RowState::Known(value) => Some(value),
+            RowState::Empty | RowState::Expected(_) => None,
+        }
+    }
+
+    /// Whether the value is known.
+    pub(crate) fn is_known(&self) -> bool
+        ensures { result ≡ is_known self.now }
+    {
+        matches!(self, RowState::Known(_))
+    }
+
+    /// Whether nothing is known and no job is out.
+    pub(crate) fn is_empty(&self) -> bool
+        ensures { result ≡ is_empty self.now }
+    {
+        matches!(self, RowState::Empty)
+    }
+
+    // The number of the job that is out, if one is.
+    fn number_out(&self) -> Option<u32>
+        ensures { result ≡ number_of (job_of self.now) }
+    {
+        match self {
+            RowState::Expected(job) => Some(job.number),
+            RowState::Empty | RowState::Known(_) => None,
+        }
+    }
+}
+
+/// How many rows stand before the place of a rank.
+pub(crate) fn place_in<K: Ranked, V>(rows: &[Row<K, V>], rank: u64) -> usize
+    requires { IsRanked K.rank rows.now }
+    ensures { result ≡ place_in K.rank rank rows.now }
+{
+    rows.partition_point(|row| row.key.rank() < rank)
+}
+
+/// Puts what stands in the row of a rank, if there is one.
+pub(crate) fn put<K: Ranked, V: Drop>(rows: &mut [Row<K, V>], rank: u64, state: RowState<V>)
+    requires { IsRanked K.rank rows.old }
+    ensures { rows.new ≡ put K.rank rank state rows.old }
+{
+    let place = place_in(rows, rank);
+    if place < rows.len() && rows[place].key.rank() == rank {
+        rows[place].state = state;
+    }
+}
+
+/// The key of the row that expects the job of this number, with the place of the job's entry.
+pub(crate) fn row_for<K: Copy, V>(rows: &[Row<K, V>], number: u32) -> Option<(K, &Place)>
+    ensures { MatchOption result
+        (row_for number rows.now ≡ None)
+        (λ row. row_for number rows.now ≡ Some (row.0, row.1.now)) }
+{
+    for row in rows {
+        if let RowState::Expected(job) = &row.state {
+            if job.number == number {
+                return Some((row.key, &job.place));
+            }
+        }
+    }
+    None
+}
+
+/// The lesser of two numbers, if there is any.
+pub(crate) fn lesser(a: Option<u32>, b: Option<u32>) -> Option<u32>
+    ensures { result ≡ lesser a b }
+{
+    match (a, b) {
+        (Some(a), Some(b)) => Some(a.min(b)),
+        (Some(a), None) => Some(a),
+        (None, b) => b,
+    }
+}
+
+/// The least number of the jobs that rows expect.
+pub(crate) fn least_out<K, V>(rows: &[Row<K, V>]) -> Option<u32>
+    ensures { result ≡ least_out rows.now }
+{
+    let mut least = None;
+    for row in rows {
+        least = lesser(least, row.state.number_out());
+    }
+    least
 }

@@ -1,38 +1,32 @@
 //! The rows of bookmarks.
-ghost use Rattle.std.specs.Prelude.{◌≡◌, map, count_by};
-ghost use Rattle.dependency_book.specs.Known.{is_pending};
-ghost use Rattle.dependency_book.specs.Rows.{forget, forgotten, put, of_id};
-ghost use Rattle.dependency_book.specs.Rearranged.{at_or_above, rows_before, moved_text, without_text};
+ghost use Rattle.std.specs.Prelude.{◌≡◌, count_by};
+ghost use Rattle.dependency_book.specs.BookState.{is_pending};
 
-use crate::finding::{Finding, is_found};
-use crate::row::Row;
+use crate::row::{Ranked, Row};
 use crate::text::Text;
 use schedule::Bookmark;
 
 /// A bookmark with its text, or the job that is out for it.
 pub(crate) type TextRow = Row<Bookmark, Text>;
 
-/// How many rows stand before the one of an id.
-pub(crate) fn place_of(rows: &[TextRow], id: u64) -> usize
-    ensures { result ≡ rows_before id rows.now }
-{
-    for (index, row) in rows.iter().enumerate() {
-        if row.key.id == id {
-            return index;
-        }
-    }
-    rows.len()
-}
+impl Ranked for Bookmark {
+    ghost use Rattle.dependency_book.specs.Rows.{bookmark_rank};
+    ghost use Rattle.dependency_book.specs.Kept.{bookmark_stays};
 
-/// Puts what is known, or out, in the row of a bookmark.
-pub(crate) fn put_text(rows: &mut [TextRow], id: u64, finding: Option<Finding<Text>>)
-    ensures { rows.new ≡ put (of_id id) finding rows.old }
-{
-    for row in rows.iter_mut() {
-        if row.key.id == id {
-            row.value = finding;
-            return;
-        }
+    ghost rank = { bookmark_rank };
+
+    ghost stays = { bookmark_stays };
+
+    fn rank(&self) -> u64 {
+        self.id
+    }
+
+    fn stays(&self, felt: Option<u64>, was: &Bookmark) -> bool {
+        let leaves = match felt {
+            None => true,
+            Some(from) => self.generation < from,
+        };
+        leaves && was.generation == self.generation
     }
 }
 
@@ -40,7 +34,7 @@ pub(crate) fn put_text(rows: &mut [TextRow], id: u64, finding: Option<Finding<Te
 fn is_pending(row: &TextRow) -> bool
     ensures { result ≡ is_pending row.now }
 {
-    !is_found(&row.value)
+    !row.state.is_known()
 }
 
 /// How many of the texts aren't known.
@@ -54,51 +48,4 @@ pub(crate) fn pending_count(rows: &[TextRow]) -> usize
         }
     }
     count
-}
-
-// Forgets the text of a bookmark at a generation or above it.
-fn forget_if_from(row: &mut TextRow, generation: u64)
-    ensures { row.new ≡ forgotten (at_or_above generation) row.old }
-{
-    if row.key.generation >= generation {
-        row.value = None;
-    }
-}
-
-/// Forgets the texts of bookmarks at a generation or above it.
-pub(crate) fn forget_from(rows: &mut [TextRow], generation: u64)
-    ensures { rows.new ≡ forget (at_or_above generation) rows.old }
-{
-    for row in rows.iter_mut() {
-        forget_if_from(row, generation);
-    }
-}
-
-// Moves a bookmark, if it has the id, to a generation, and forgets its text if that is another one.
-fn move_if_of(row: &mut TextRow, id: u64, generation: u64)
-    ensures { row.new ≡ moved_text id generation row.old }
-{
-    if row.key.id != id {
-        return;
-    }
-    if row.key.generation != generation {
-        row.value = None;
-    }
-    row.key.generation = generation;
-}
-
-/// Moves the bookmark of an id to a generation, and forgets its text if that is another one.
-pub(crate) fn move_text(rows: &mut [TextRow], id: u64, generation: u64)
-    ensures { rows.new ≡ map (moved_text id generation) rows.old }
-{
-    for row in rows.iter_mut() {
-        move_if_of(row, id, generation);
-    }
-}
-
-/// Takes the row of an id out.
-pub(crate) fn drop_text(rows: &mut Vec<TextRow>, id: u64)
-    ensures { rows.new.items ≡ without_text id rows.old.items }
-{
-    rows.retain(|row| row.key.id != id);
 }

@@ -1,33 +1,23 @@
-use Rattle.std.proofs.Common.{◌+◌, ◌∙◌, List, drop, sym, ap, true, Some}
-use Rattle.std.proofs.lemmas.Bool.{cond-true, cond-false}
-use Rattle.dependency_book.specs.declared.need.Need.TheVariants.{Step}
-use Rattle.dependency_book.specs.Findings.{is_found}
-use Rattle.dependency_book.specs.Rows.{ArrivalRow}
-use Rattle.dependency_book.specs.Needs.{can_step, next_step}
-use Rattle.dependency_book.proofs.Loops.{past, decided, ended}
+use Rattle.std.proofs.Common.{◌≡◌, ℕ, ◌<◌, ◌≤◌, nat_lt, List, length, get_or, ap, subst, sym, arith, ◌∙◌}
+use Rattle.dependency_book.specs.Rows.{ArrivalRow, IsRanked, mark_rank}
+use Rattle.dependency_book.proofs.Standing.{rank_at, rank_rises, get_or-any}
+use Rattle.dependency_book.proofs.Tests.{either_way, true_lt, false_lt}
 use Rattle.dependency_book.proofs.need.next_step.Goals as goal
 
-pub loop-row-preserved : goal.loop-row-preserved
-loop-row-preserved c =
-    let bs = c.args.bookmarks.now in
-    let xs : List ArrivalRow = c.args.arrivals.now in
-    let x : ArrivalRow = c.row-item.result in
-    let before = c.loop-row.before in
-    past (next_step bs before) (next_step bs c.is_found-before.result) (next_step bs true xs) xs c.loop-row.row-index x c.loop-row-test.true c.row-item.is c.loop-row.invariant
-    (cond-false (can_step bs before x) (Some (Step x.key.generation)) (next_step bs (is_found x.value) (drop (c.loop-row.row-index + 1) xs)) (sym c.can_step.ensures ∙ c.if-can_step.false)
-    ∙ ap (λ b. next_step bs b (drop (c.loop-row.row-index + 1) xs)) (sym c.is_found-before.ensures))
+-- a row up to the reach stands before one beyond it
+before_beyond : (rows : List ArrivalRow) (reach i k : ℕ) (y x : ArrivalRow) → IsRanked mark_rank rows → i < length rows → y ≡ get_or rows i y → reach < y.key.generation → k < length rows → rank_at mark_rank rows k x ≤ reach → k < i
+before_beyond rows reach i k y x ranked low is over fits le =
+    let at : rank_at mark_rank rows i x ≡ y.key.generation = ap (λ (r : ArrivalRow). r.key.generation) (get_or-any rows i x y low) ∙ ap (λ (r : ArrivalRow). r.key.generation) (sym is) in
+    either_way (nat_lt k i)
+    (λ hit. true_lt k i hit)
+    (λ miss.
+    let from = false_lt k i miss in
+    either_way (nat_lt i k)
+    (λ later. absurd (let up = rank_rises mark_rank rows i k x ranked (true_lt i k later) fits in omega (arith, up, at, over, le)))
+    (λ none. absurd (let same : k ≡ i = (let to = false_lt i k none in omega (arith, from, to)) in let here : rank_at mark_rank rows i x ≤ reach = subst (λ n. rank_at mark_rank rows n x ≤ reach) same le in omega (arith, here, at, over))))
 
-pub returns-then-can_step : goal.returns-then-can_step
-returns-then-can_step c =
-    let bs = c.args.bookmarks.now in
-    let xs : List ArrivalRow = c.args.arrivals.now in
-    let x : ArrivalRow = c.row-item.result in
-    let before = c.loop-row.before in
-    decided (next_step bs before) (next_step bs true xs) (Some (Step x.key.generation)) xs c.loop-row.row-index x c.loop-row-test.true c.row-item.is c.loop-row.invariant
-    (cond-true (can_step bs before x) (Some (Step x.key.generation)) (next_step bs (is_found x.value) (drop (c.loop-row.row-index + 1) xs)) (sym c.can_step.ensures ∙ c.if-can_step.true))
-
-pub returns : goal.returns
-returns c =
-    let bs = c.args.bookmarks.now in
-    let xs : List ArrivalRow = c.args.arrivals.now in
-    ended (next_step bs c.loop-row.before) (next_step bs true xs) xs c.loop-row.row-index c.loop-row-test.false c.loop-row.invariant
+pub returns-then-row-reach : goal.returns-then-row-reach
+returns-then-row-reach c = λ k x low le.
+    c.loop-row.invariant.none k x
+    (before_beyond c.args.arrivals.now c.reach_of-reach.result c.loop-row.row-index k c.row-item.result x c.requires c.loop-row-test.true c.row-item.is c.if-row-reach.true low
+    (subst (λ n. rank_at mark_rank c.args.arrivals.now k x ≤ n) (sym c.reach_of-reach.ensures) le))

@@ -1,51 +1,94 @@
-use Rattle.std.proofs.Common.{◌≡◌, ◌∙◌, List, ap, ap₂, sym, subst}
-use Rattle.schedule.specs.Plan.{Plan}
+use Rattle.std.proofs.Common.{◌≡◌, ◌∙◌, List, length, refl, sym, ap, ap₂, subst, arith}
+use Rattle.schedule.specs.declared.document.Bookmark.{Bookmark}
 use Rattle.schedule.specs.Asked.{Asked, asked_of}
-use Rattle.dependency_book.specs.declared.touch.Touch.{Touch}
-use Rattle.dependency_book.specs.declared.touch.Rekeyed.{Rekeyed}
-use Rattle.dependency_book.specs.Rows.{ArrivalRow, TextRow}
-use Rattle.dependency_book.specs.Known.{Known}
-use Rattle.dependency_book.specs.Right.{IsRight}
-use Rattle.dependency_book.specs.Kept.{KeepsRows}
-use Rattle.dependency_book.specs.Touch.{touch_of, rekeyed_by}
-use Rattle.dependency_book.specs.Rearranged.{forgotten_marks, reached_marks, left_marks, forgotten_texts, rekeyed_texts}
-use Rattle.dependency_book.proofs.Revised.{revised_right, revised_keeps}
+use Rattle.schedule.specs.Plan.{Plan}
+use Rattle.dependency_book.specs.declared.mark.Mark.{Mark}
+use Rattle.dependency_book.specs.BookState.{BookState}
+use Rattle.dependency_book.specs.Held.{places_of}
+use Rattle.dependency_book.specs.Inside.{state_of}
+use Rattle.dependency_book.specs.Kept.{KeepsRows, felt_from, mark_stays, bookmark_stays}
+use Rattle.dependency_book.specs.Rows.{ArrivalRow, IsRanked, mark_rank, bookmark_rank}
+use Rattle.dependency_book.proofs.Grown.{made_one_more}
+use Rattle.dependency_book.proofs.Revised.{IsMade, made_of, made_held, made_keeps, made_ranked, rows_made}
 use Rattle.dependency_book.proofs.book.Book.revise.Goals as goal
 
-abbrev known_of : Known → Plan → List ArrivalRow → List TextRow → Known
-known_of d q rows ts = record d { plan = q; arrivals = rows; texts = ts }
+pub marks_of-marks-requires-clause-room : goal.marks_of-marks-requires-clause-room
+marks_of-marks-requires-clause-room c =
+    let more = made_one_more c.self.inside.document c.make.new.self (asked_of c.args.edit.now) c.in_ok-edited.edited c.in_ok-edited.ensures.ok in
+    let i = more.interventions in
+    let b = more.bookmarks in
+    let room = c.in_ok-marks.ensures.marks in
+    omega (arith, i, b, room)
+
+pub remade-requires-clause-room : goal.remade-requires-clause-room
+remade-requires-clause-room c =
+    let more = made_one_more c.self.inside.document c.make.new.self (asked_of c.args.edit.now) c.in_ok-edited.edited c.in_ok-edited.ensures.ok in
+    let i = more.interventions in
+    let b = more.bookmarks in
+    let room = c.in_ok-marks.ensures.arrivals in
+    let few = c.marks_of-marks.ensures.few in
+    let same : length c.deref.result.now ≡ length c.marks_of-marks.result.items = ap (λ (marks : List Mark). length marks) c.deref.ensures.value in
+    (c.in_ok-marks.ensures.no_arrivals, omega (arith, i, b, room, few, same))
+
+pub remade-requires-2-clause-room : goal.remade-requires-2-clause-room
+remade-requires-2-clause-room c =
+    let more = made_one_more c.self.inside.document c.make.new.self (asked_of c.args.edit.now) c.in_ok-edited.edited c.in_ok-edited.ensures.ok in
+    let b = more.bookmarks in
+    let room = c.in_ok-marks.ensures.texts in
+    let same : length c.bookmarks.result.now ≡ length c.make.new.self.bookmarks = ap (λ (bs : List Bookmark). length bs) c.bookmarks.ensures.bookmarks in
+    (c.in_ok-marks.ensures.no_texts, omega (arith, b, room, same))
+
+pub places_of-requires-clause-room : goal.places_of-requires-clause-room
+places_of-requires-clause-room c =
+    let more = made_one_more c.self.inside.document c.make.new.self (asked_of c.args.edit.now) c.in_ok-edited.edited c.in_ok-edited.ensures.ok in
+    let b = more.bookmarks in
+    let room = c.in_ok-marks.ensures.places in
+    let same : length c.bookmarks-2.result.now ≡ length c.make.new.self.bookmarks = ap (λ (bs : List Bookmark). length bs) c.bookmarks-2.ensures.bookmarks in
+    (c.in_ok-marks.ensures.no_places, omega (arith, b, room, same))
+
+pub places_of-requires-clause-ranked : goal.places_of-requires-clause-ranked
+places_of-requires-clause-ranked c =
+    let d = state_of c.self.inside in
+    let q : Plan = c.make.new.self in
+    let asked : Asked = asked_of c.args.edit.now in
+    let made : IsMade d q asked c.in_ok-edited.edited c.marks_of-marks.result.items c.remade.result.items c.remade-2.result.items = record {
+      edit_is = c.in_ok-edited.ensures.ok;
+      sound = c.bookmarks.ensures.sound;
+      are_marks = c.marks_of-marks.ensures;
+      arrivals_are = rows_made mark_rank mark_stays c.felt_from-felt.result (felt_from d.plan asked) c.replace-old.result.items d.arrivals c.deref.result.now c.marks_of-marks.result.items c.remade.result.items c.remade.ensures c.felt_from-felt.ensures (rw c.replace-old.ensures.value refl) c.deref.ensures.value;
+      texts_are = rows_made bookmark_rank bookmark_stays c.felt_from-felt.result (felt_from d.plan asked) c.replace-old-2.result.items d.texts c.bookmarks.result.now q.bookmarks c.remade-2.result.items c.remade-2.ensures c.felt_from-felt.ensures (rw c.replace-old-2.ensures.value refl) c.bookmarks.ensures.bookmarks;
+    } in
+    subst (IsRanked mark_rank) (sym c.deref-2.ensures.value) (made_ranked d q asked c.in_ok-edited.edited c.marks_of-marks.result.items c.remade.result.items c.remade-2.result.items made)
 
 pub invariant_of-self-2 : goal.invariant_of-self-2
 invariant_of-self-2 c =
-    let p : Plan = c.self.inside.document in
-    let q : Plan = c.apply.new.self in
+    let d = state_of c.self.inside in
+    let q : Plan = c.make.new.self in
     let asked : Asked = asked_of c.args.edit.now in
-    let d : Known = record { table = c.self.inside.entries.now; plan = p; given = c.self.inside.given; arrivals = c.self.inside.arrivals.items; texts = c.self.inside.texts.items } in
-    let is : c.touch_of-touch.result ≡ touch_of p asked = c.touch_of-touch.ensures in
-    let arrivals =
-    c.leave_mark.ensures
-    ∙ ap₂ (left_marks q) (ap (λ (t : Touch). t.left) is) (c.reach_mark.ensures ∙ ap₂ reached_marks (ap (λ (t : Touch). t.reached) is) (c.forget_marks.ensures.items ∙ ap₂ forgotten_marks (ap (λ (t : Touch). t.felt) is) c.in_ok-reserve.ensures.items)) in
-    let texts =
-    c.rekey_texts.ensures
-    ∙ ap₂ (λ (k : Rekeyed) n. rekeyed_texts k n c.forget_texts.new.rows.items) (ap (λ (t : Touch). t.bookmarks) is) c.last_bookmark.ensures
-    ∙ ap (rekeyed_texts (rekeyed_by asked) q.last_bookmark) (c.forget_texts.ensures.items ∙ ap₂ forgotten_texts (ap (λ (t : Touch). t.felt) is) c.in_ok-reserve-2.ensures.items) in
-    let whole = ap₂ (λ (rows : List ArrivalRow) (ts : List TextRow). known_of d q rows ts) arrivals texts in
-    subst IsRight (sym whole) (revised_right d q asked c.in_ok-edited.edited c.bookmarks-bookmarks.ensures.sound c.self.invariant c.in_ok-edited.ensures.ok)
+    let made : IsMade d q asked c.in_ok-edited.edited c.marks_of-marks.result.items c.remade.result.items c.remade-2.result.items = record {
+      edit_is = c.in_ok-edited.ensures.ok;
+      sound = c.bookmarks.ensures.sound;
+      are_marks = c.marks_of-marks.ensures;
+      arrivals_are = rows_made mark_rank mark_stays c.felt_from-felt.result (felt_from d.plan asked) c.replace-old.result.items d.arrivals c.deref.result.now c.marks_of-marks.result.items c.remade.result.items c.remade.ensures c.felt_from-felt.ensures (rw c.replace-old.ensures.value refl) c.deref.ensures.value;
+      texts_are = rows_made bookmark_rank bookmark_stays c.felt_from-felt.result (felt_from d.plan asked) c.replace-old-2.result.items d.texts c.bookmarks.result.now q.bookmarks c.remade-2.result.items c.remade-2.ensures c.felt_from-felt.ensures (rw c.replace-old-2.ensures.value refl) c.bookmarks.ensures.bookmarks;
+    } in
+    made_held d c.self.inside.places.items q asked c.in_ok-edited.edited c.marks_of-marks.result.items c.remade.result.items c.remade-2.result.items c.places_of.result.items c.self.invariant made
+    (c.places_of.ensures ∙ ap₂ (λ (rows : List ArrivalRow) (bs : List Bookmark). places_of rows bs) c.deref-2.ensures.value c.bookmarks-2.ensures.bookmarks)
 
 pub returns-clause-keeps : goal.returns-clause-keeps
 returns-clause-keeps c =
-    let p : Plan = c.self.inside.document in
-    let q : Plan = c.apply.new.self in
+    let d = state_of c.self.inside in
+    let q : Plan = c.make.new.self in
     let asked : Asked = asked_of c.args.edit.now in
-    let d : Known = record { table = c.self.inside.entries.now; plan = p; given = c.self.inside.given; arrivals = c.self.inside.arrivals.items; texts = c.self.inside.texts.items } in
-    let is : c.touch_of-touch.result ≡ touch_of p asked = c.touch_of-touch.ensures in
-    let arrivals =
-    c.leave_mark.ensures
-    ∙ ap₂ (left_marks q) (ap (λ (t : Touch). t.left) is) (c.reach_mark.ensures ∙ ap₂ reached_marks (ap (λ (t : Touch). t.reached) is) (c.forget_marks.ensures.items ∙ ap₂ forgotten_marks (ap (λ (t : Touch). t.felt) is) c.in_ok-reserve.ensures.items)) in
-    let texts =
-    c.rekey_texts.ensures
-    ∙ ap₂ (λ (k : Rekeyed) n. rekeyed_texts k n c.forget_texts.new.rows.items) (ap (λ (t : Touch). t.bookmarks) is) c.last_bookmark.ensures
-    ∙ ap (rekeyed_texts (rekeyed_by asked) q.last_bookmark) (c.forget_texts.ensures.items ∙ ap₂ forgotten_texts (ap (λ (t : Touch). t.felt) is) c.in_ok-reserve-2.ensures.items) in
-    let whole = ap₂ (λ (rows : List ArrivalRow) (ts : List TextRow). known_of d q rows ts) arrivals texts in
-    subst (λ (old : Known). KeepsRows asked old (known_of d q c.leave_mark.new.rows.items c.rekey_texts.new.rows.items)) c.self.view_is
-    (subst (KeepsRows asked d) (sym whole) (revised_keeps d q asked c.in_ok-edited.edited c.bookmarks-bookmarks.ensures.sound c.self.invariant c.in_ok-edited.ensures.ok))
+    let made : IsMade d q asked c.in_ok-edited.edited c.marks_of-marks.result.items c.remade.result.items c.remade-2.result.items = record {
+      edit_is = c.in_ok-edited.ensures.ok;
+      sound = c.bookmarks.ensures.sound;
+      are_marks = c.marks_of-marks.ensures;
+      arrivals_are = rows_made mark_rank mark_stays c.felt_from-felt.result (felt_from d.plan asked) c.replace-old.result.items d.arrivals c.deref.result.now c.marks_of-marks.result.items c.remade.result.items c.remade.ensures c.felt_from-felt.ensures (rw c.replace-old.ensures.value refl) c.deref.ensures.value;
+      texts_are = rows_made bookmark_rank bookmark_stays c.felt_from-felt.result (felt_from d.plan asked) c.replace-old-2.result.items d.texts c.bookmarks.result.now q.bookmarks c.remade-2.result.items c.remade-2.ensures c.felt_from-felt.ensures (rw c.replace-old-2.ensures.value refl) c.bookmarks.ensures.bookmarks;
+    } in
+    subst (λ (old : BookState). KeepsRows asked old (made_of d q c.remade.result.items c.remade-2.result.items)) c.self.view_is
+    (made_keeps d c.self.inside.places.items q asked c.in_ok-edited.edited c.marks_of-marks.result.items c.remade.result.items c.remade-2.result.items c.self.invariant made)
+
+pub returns-clause-right : goal.returns-clause-right
+returns-clause-right c = (invariant_of-self-2 c).right

@@ -1,0 +1,98 @@
+use Rattle.std.proofs.Common.{◌≡◌, ℕ, ◌<◌, ◌≤◌, ◌≢◌, ◌∙◌, Bool, List, true, length, get_or, sym, ap, subst, arith}
+use Rattle.std.specs.Prelude.{if◌then◌else◌}
+use Rattle.std.proofs.Math.ListN.{set}
+use Rattle.std.proofs.lemmas.Bool.{cond-true, cond-false}
+use Rattle.dependency_book.specs.declared.row.RowState.{RowState}
+use Rattle.dependency_book.specs.declared.row.RowState.TheVariants.{Empty}
+use Rattle.dependency_book.specs.declared.row.Row.{Row}
+use Rattle.dependency_book.specs.Remade.{kept_at}
+use Rattle.dependency_book.specs.Rows.{keys, IsRanked, place_in, put}
+use Rattle.dependency_book.proofs.Remaking.{kept_at-place, kept_at-absent}
+use Rattle.dependency_book.proofs.Standing.{has, rank_at, place-has, rank-has, put-place, put-absent, get_or-any}
+use Rattle.dependency_book.proofs.remade.taken.Goals.{Joined-then-place-rows, Then-stays, Joined-state, then-place-rows-via-then-place-rows, then-place-rows-via-else-place-rows+then-rank}
+use Rattle.dependency_book.proofs.remade.taken.Goals as goal
+
+-- no row has the rank if the one at its place hasn't
+none_at : {K V : Type 0} (rank : K → ℕ) (n k : ℕ) (rows : List (Row K V)) (x : Row K V) → IsRanked rank rows → k ≡ place_in rank n rows → rank_at rank rows k x ≢ n → has rank n (keys rows) ≡ true → ⊥
+none_at rank n k rows x ranked at other there = other (ap (λ j. rank_at rank rows j x) at ∙ rank-has rank n rows x ranked there)
+
+none_beyond : {K V : Type 0} (rank : K → ℕ) (n k : ℕ) (rows : List (Row K V)) → IsRanked rank rows → k ≡ place_in rank n rows → length rows ≤ k → has rank n (keys rows) ≡ true → ⊥
+none_beyond rank n k rows ranked at past there = let low = place-has rank n rows ranked there in omega (arith, low, at, past)
+
+-- what is kept at the place of a rank, by the row there
+kept_row : {K V : Type 0} (rank : K → ℕ) (stays : K → Bool) (n k : ℕ) (rows : List (Row K V)) (d : Row K V) → IsRanked rank rows → k ≡ place_in rank n rows → k < length rows → rank_at rank rows k d ≡ n
+    → kept_at rank stays n rows ≡ (if stays (get_or rows k d).key then (get_or rows k d).state else Empty)
+kept_row rank stays n k rows d ranked at low is =
+    kept_at-place rank stays n rows d ranked (subst (λ j. j < length rows) at low) (subst (λ j. rank_at rank rows j d ≡ n) at is)
+    ∙ ap (λ j. if stays (get_or rows j d).key then (get_or rows j d).state else Empty) (sym at)
+
+-- what is put in the row at the place of a rank
+put_row : {K V : Type 0} (rank : K → ℕ) (n k : ℕ) (rows : List (Row K V)) (d : Row K V) (s : RowState V) → IsRanked rank rows → k ≡ place_in rank n rows → k < length rows → rank_at rank rows k d ≡ n
+    → set rows k (record { key = (get_or rows k d).key; state = s }) ≡ put rank n s rows
+put_row rank n k rows d s ranked at low is =
+    subst (λ j. set rows j (record { key = (get_or rows j d).key; state = s }) ≡ put rank n s rows) (sym at)
+    (put-place rank n s rows d ranked (subst (λ j. j < length rows) at low) (subst (λ j. rank_at rank rows j d ≡ n) at is))
+
+absent : (g : _) (c : Joined-then-place-rows g) → has g.K.Ranked.rank (g.K.Ranked.rank c.args.key.now) (keys c.args.rows.now) ≡ true → ⊥
+absent g c there =
+    let rank = g.K.Ranked.rank in
+    let n : ℕ = rank c.args.key.now in
+    elim c.then-place-rows.branch [
+      | then-place-rows-via-then-place-rows w ↦ none_beyond rank n c.args.place c.args.rows.now c.requires.1 c.requires.0 w.if-place-rows.true there
+      | then-place-rows-via-else-place-rows+then-rank w ↦
+          none_at rank n c.args.place c.args.rows.now w.index-rows-place.result c.requires.1 c.requires.0
+          (λ same. w.if-rank.true (w.rank.ensures ∙ same ∙ sym w.rank-else-place-rows.ensures)) there
+    ]
+
+pub returns-then-place-rows-clause-state : goal.returns-then-place-rows-clause-state
+returns-then-place-rows-clause-state g c =
+    sym (kept_at-absent g.K.Ranked.rank (g.K.Ranked.stays c.args.felt c.args.key.now) (g.K.Ranked.rank c.args.key.now) c.args.rows.now (absent g c))
+
+pub returns-then-place-rows-clause-rows : goal.returns-then-place-rows-clause-rows
+returns-then-place-rows-clause-rows g c =
+    sym (put-absent g.K.Ranked.rank (g.K.Ranked.rank c.args.key.now) Empty c.args.rows.now c.requires.1 (absent g c))
+
+pub returns-then-stays-clause-state : goal.returns-then-stays-clause-state
+returns-then-stays-clause-state g c =
+    let rank = g.K.Ranked.rank in
+    let rows = c.args.rows.now in
+    let x = c.index-rows-place-2.result in
+    let row = get_or rows c.args.place x in
+    let test : Bool = g.K.Ranked.stays c.args.felt c.args.key.now row.key in
+    let is : rank_at rank rows c.args.place x ≡ rank c.args.key.now =
+    ap (λ r. rank r.key) (get_or-any rows c.args.place x c.index-rows-place.result c.if-place-rows.false) ∙ sym c.rank.ensures ∙ c.if-rank.false ∙ c.rank-else-place-rows.ensures in
+    c.replace-state.ensures.value
+    ∙ sym (kept_row rank (g.K.Ranked.stays c.args.felt c.args.key.now) (rank c.args.key.now) c.args.place rows x c.requires.1 c.requires.0 c.if-place-rows.false is
+    ∙ cond-true test row.state Empty (sym c.stays.ensures ∙ c.if-stays.true))
+
+pub returns-then-stays-clause-rows : goal.returns-then-stays-clause-rows
+returns-then-stays-clause-rows g c =
+    let rank = g.K.Ranked.rank in
+    let rows = c.args.rows.now in
+    let x = c.index-rows-place-2.result in
+    let is : rank_at rank rows c.args.place x ≡ rank c.args.key.now =
+    ap (λ r. rank r.key) (get_or-any rows c.args.place x c.index-rows-place.result c.if-place-rows.false) ∙ sym c.rank.ensures ∙ c.if-rank.false ∙ c.rank-else-place-rows.ensures in
+    ap (λ s. set rows c.args.place (record { key = (get_or rows c.args.place x).key; state = s })) c.replace-state.ensures.after
+    ∙ put_row rank (rank c.args.key.now) c.args.place rows x Empty c.requires.1 c.requires.0 c.if-place-rows.false is
+
+pub returns-else-stays-clause-state : goal.returns-else-stays-clause-state
+returns-else-stays-clause-state g c =
+    let rank = g.K.Ranked.rank in
+    let rows = c.args.rows.now in
+    let x = c.index-rows-place-2.result in
+    let row = get_or rows c.args.place x in
+    let test : Bool = g.K.Ranked.stays c.args.felt c.args.key.now row.key in
+    let is : rank_at rank rows c.args.place x ≡ rank c.args.key.now =
+    ap (λ r. rank r.key) (get_or-any rows c.args.place x c.index-rows-place.result c.if-place-rows.false) ∙ sym c.rank.ensures ∙ c.if-rank.false ∙ c.rank-else-place-rows.ensures in
+    sym (kept_row rank (g.K.Ranked.stays c.args.felt c.args.key.now) (rank c.args.key.now) c.args.place rows x c.requires.1 c.requires.0 c.if-place-rows.false is
+    ∙ cond-false test row.state Empty (sym c.stays.ensures ∙ c.if-stays.false))
+
+pub returns-else-stays-clause-rows : goal.returns-else-stays-clause-rows
+returns-else-stays-clause-rows g c =
+    let rank = g.K.Ranked.rank in
+    let rows = c.args.rows.now in
+    let x = c.index-rows-place-2.result in
+    let is : rank_at rank rows c.args.place x ≡ rank c.args.key.now =
+    ap (λ r. rank r.key) (get_or-any rows c.args.place x c.index-rows-place.result c.if-place-rows.false) ∙ sym c.rank.ensures ∙ c.if-rank.false ∙ c.rank-else-place-rows.ensures in
+    ap (λ s. set rows c.args.place (record { key = (get_or rows c.args.place x).key; state = s })) c.replace-state.ensures.after
+    ∙ put_row rank (rank c.args.key.now) c.args.place rows x Empty c.requires.1 c.requires.0 c.if-place-rows.false is

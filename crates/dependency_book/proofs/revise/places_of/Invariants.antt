@@ -1,0 +1,11 @@
+use Rattle.std.proofs.Common.{◌≡◌, take, vec_len}
+use Rattle.std.specs.Prelude.{vec_capacity}
+use Rattle.dependency_book.specs.Held.{places_of}
+use Rattle.dependency_book.proofs.revise.places_of.Given as goal
+
+abbrev pub invariant-loop-bookmark : goal.invariant-loop-bookmark
+invariant-loop-bookmark l = record {
+  items : l.places.items ≡ places_of l.arrivals (take l.bookmark-index l.bookmarks);
+  len : vec_len l.places ≡ l.bookmark-index;
+  capacity : vec_capacity l.places ≡ vec_capacity l.fn.room;
+}

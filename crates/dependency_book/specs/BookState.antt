@@ -1,0 +1,85 @@
+-- What a book knows: its document, the worlds that arrive at marks and the texts of bookmarks, and
+-- which jobs are out for others.
+use Rattle.std.specs.Prelude.{◌≡◌, ℕ, ◌+◌, Bool, not, List, [], ◌∷◌, Option, None, Some, IfSome, count_by, if◌then◌else◌, ◌==◌}
+use Rattle.worlds.specs.World.{World}
+use Rattle.schedule.specs.declared.document.Bookmark.{Bookmark}
+use Rattle.schedule.specs.Plan.{Plan, opening}
+use Rattle.revision_jobs.specs.declared.answer.Job.{Job}
+use Rattle.revision_jobs.specs.declared.entries.Entries.{Entries}
+use Rattle.revision_jobs.specs.Value.{Value, pattern, text}
+use Rattle.dependency_book.specs.declared.row.RowState.{RowState}
+use Rattle.dependency_book.specs.declared.row.RowState.TheVariants.{Known}
+use Rattle.dependency_book.specs.declared.need.Need.{Need}
+use Rattle.dependency_book.specs.declared.need.Need.TheVariants.{Step, View}
+use Rattle.dependency_book.specs.RowState.{known, is_known, is_empty, job_of, state_map}
+use Rattle.dependency_book.specs.Rows.{ArrivalRow, TextRow, state_at, mark_rank, bookmark_rank}
+
+-- the table of entries that its jobs are of, the document, how many numbers of jobs were given,
+-- a row for each of the document's marks above 0, and a row for each of its bookmarks
+pub record BookState : Type 0 where
+  pub table : Entries
+  pub plan : Plan
+  pub given : ℕ
+  pub arrivals : List ArrivalRow
+  pub texts : List TextRow
+
+-- the book of the opening document, of which nothing is known or out
+abbrev pub opened : Entries → ℕ → BookState
+opened table revision = record {
+  table = table;
+  plan = opening revision;
+  given = 0;
+  arrivals = [];
+  texts = [];
+}
+
+-- what stands at generation g; what arrives at 0 is the start
+abbrev pub arrival_row : BookState → ℕ → RowState World
+arrival_row d g = if g == 0 then Known d.plan.start else state_at mark_rank g d.arrivals
+
+-- what stands for the bookmark of this id
+abbrev pub text_row : BookState → ℕ → RowState (List ℕ)
+text_row d id = state_at bookmark_rank id d.texts
+
+-- the world that arrives at generation g, if it is known
+abbrev pub arrival_known : BookState → ℕ → Option World
+arrival_known d g = known (arrival_row d g)
+
+-- the text of the bookmark of this id, if it is known
+abbrev pub text_known : BookState → ℕ → Option (List ℕ)
+text_known d id = known (text_row d id)
+
+-- what stands in the row that a need names
+abbrev pub row_of : BookState → Need → RowState Value
+row_of d (Step mark) = state_map pattern (arrival_row d mark)
+row_of d (View id) = state_map text (text_row d id)
+
+-- the job that is out for it, if one is
+abbrev pub expected : BookState → Need → Option Job
+expected d need = job_of (row_of d need)
+
+-- no job is out
+abbrev pub NothingOut : BookState → Type 0
+NothingOut d = (need : Need) → expected d need ≡ None
+
+-- whether the text of a bookmark isn't known
+abbrev pub is_pending : TextRow → Bool
+is_pending r = not (is_known r.state)
+
+-- how many texts aren't known
+abbrev pub pending_of : BookState → ℕ
+pending_of d = count_by is_pending d.texts
+
+-- in how many rows nothing stands
+abbrev pub wanting_of : BookState → ℕ
+wanting_of d =
+    count_by (λ r. is_empty r.state) d.arrivals + count_by (λ r. is_empty r.state) d.texts
+
+-- each text that was known still is
+abbrev pub KeepsTexts : BookState → BookState → Type 0
+KeepsTexts old new = (id : ℕ) → IfSome (text_known old id) (λ text. text_known new id ≡ Some text)
+
+-- the first bookmark of this id
+abbrev pub bookmark_in : List Bookmark → ℕ → Option Bookmark
+bookmark_in [] id = None
+bookmark_in (b ∷ bs) id = if b.id == id then Some b else bookmark_in bs id

@@ -1,0 +1,68 @@
+//! Rows made anew from the keys of a document.
+ghost use Rattle.std.specs.Prelude.{◌≡◌, ◌≤◌, [], length, map, vec_capacity};
+ghost use Rattle.schedule.specs.Ids.{IdsRise};
+ghost use Rattle.dependency_book.specs.Remade.{kept_at, remade_row};
+ghost use Rattle.dependency_book.specs.Rows.{IsRanked, place_in, put};
+ghost use Rattle.dependency_book.specs.declared.row.RowState.TheVariants.{Empty};
+
+use crate::row::{Ranked, Row, RowState};
+use std::mem;
+
+// The first place from `at` on at which a row's rank isn't below this one.
+fn place_from<K: Ranked, V>(rows: &[Row<K, V>], at: usize, rank: u64) -> usize
+    requires { at ≤ place_in K.rank rank rows.now × IsRanked K.rank rows.now }
+    ensures { result ≡ place_in K.rank rank rows.now }
+{
+    for place in at..rows.len() {
+        if rows[place].key.rank() >= rank {
+            return place;
+        }
+    }
+    rows.len()
+}
+
+// What stood in the row at the place of a key, if it stays. Nothing stands there afterwards.
+fn taken<K: Ranked, V: Drop>(
+    rows: &mut [Row<K, V>],
+    place: usize,
+    key: &K,
+    felt: Option<u64>,
+) -> RowState<V>
+    requires { place ≡ place_in K.rank (K.rank key.now) rows.old × IsRanked K.rank rows.old }
+    ensures state { result ≡ kept_at K.rank (K.stays felt key.now) (K.rank key.now) rows.old }
+    ensures rows { rows.new ≡ put K.rank (K.rank key.now) Empty rows.old }
+{
+    if place >= rows.len() || rows[place].key.rank() != key.rank() {
+        return RowState::Empty;
+    }
+    let row = &mut rows[place];
+    let state = mem::replace(&mut row.state, RowState::Empty);
+    if key.stays(felt, &row.key) {
+        state
+    } else {
+        RowState::Empty
+    }
+}
+
+/// The rows of these keys: what stood in the old row of the same rank where it stays, else nothing.
+/// They stand in the room, which is empty and has a place for each.
+pub(crate) fn remade<K: Ranked + Copy, V: Drop>(
+    room: Vec<Row<K, V>>,
+    keys: &[K],
+    old: Vec<Row<K, V>>,
+    felt: Option<u64>,
+) -> Vec<Row<K, V>>
+    requires room { room.items ≡ [] × length keys.now ≤ vec_capacity room }
+    requires ranked { IsRanked K.rank old.items × IdsRise K.rank keys.now }
+    ensures { result.items ≡ map (remade_row K.rank K.stays felt old.items) keys.now }
+{
+    let mut rows = room;
+    let mut old = old;
+    let mut place = 0;
+    for key in keys {
+        place = place_from(&old, place, key.rank());
+        let state = taken(&mut old, place, key, felt);
+        rows.push_reserved(Row { key: *key, state });
+    }
+    rows
+}
