@@ -1,5 +1,7 @@
-mod Out
-mod Steps
-mod Texts
-mod Turns
+mod Feeding
 mod Happening
+mod Known
+mod Out
+pub mod Shared
+mod Steps
+mod Turns

@@ -1,7 +1,7 @@
 //! Why settling stops.
 
 use crate::issue::IssueFault;
-use schedule::EvolveFault;
+use step_engine::EvolveFault;
 
 /// Why settling stopped before every bookmark was current.
 #[derive(Clone, Copy, Debug, PartialEq, Eq)]
