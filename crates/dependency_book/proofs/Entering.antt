@@ -24,7 +24,9 @@ use Rattle.schedule.specs.Sound.{IsSound}
 use Rattle.schedule.proofs.Shared.History.{AreNamed-at, SetBelow-at, AllBelow-after, HasMargin-after, CanBeLaid-named}
 use Rattle.revision_jobs.specs.declared.entry.Entry.{Entry}
 use Rattle.revision_jobs.specs.declared.entry.Entry.TheVariants as entry
-use Rattle.revision_jobs.specs.Value.{Value, pattern, text, value, CanBeWorked}
+use Rattle.revision_jobs.specs.declared.entry.Rendering.{Rendering}
+use Rattle.revision_jobs.specs.declared.entry.Step.{Step as Stepping}
+use Rattle.revision_jobs.specs.Value.{Value, pattern, text, value, start_of, world_after, world_in, CanBeStepped, CanBeRendered}
 use Rattle.dependency_book.specs.declared.need.Need.{Need}
 use Rattle.dependency_book.specs.declared.need.Need.TheVariants.{Step, View}
 use Rattle.dependency_book.specs.declared.row.RowState.{RowState}
@@ -64,15 +66,15 @@ known_arrives d g w right h = of_state (arrival_row d g) h (right.stands (Step g
 
 -- the step to a mark
 
-step_gives : (d : BookState) (m : ℕ) (rule : Rule) (from : World) (cells : List CellSet) (gens : ℕ) → IsRight d → (h : StepsTo d m rule from cells gens) → iterate gens (step (next_of rule)) (lay cells from) ≡ arrival d.plan m
-step_gives d m rule from cells gens right h =
+step_gives : (d : BookState) (m : ℕ) (s : Stepping) → IsRight d → StepsTo d m s → world_after s ≡ arrival d.plan m
+step_gives d m s right h =
     let n = h.before in
     let under : n < m = h.comes.below in
-    let gap : n + gens ≡ m = h.gap in
-    let span : gens ≡ m - n = omega (arith, gap) in
-    let left = lay cells from in
-    arrival-gap d.plan n m from (iterate gens (step (next_of rule)) left) left under (λ g over less. quiet_at d.plan g (h.comes.between g over less)) (known_arrives d n from right h.from)
-    (ap (λ cs. lay cs from) h.cells)
+    let gap : n + s.gens ≡ m = h.gap in
+    let span : s.gens ≡ m - n = omega (arith, gap) in
+    let left = start_of s in
+    arrival-gap d.plan n m (arc_value s.from) (world_after s) left under (λ g over less. quiet_at d.plan g (h.comes.between g over less)) (known_arrives d n (arc_value s.from) right h.from)
+    (ap (λ cs. lay cs (arc_value s.from)) h.cells)
     (ap₂ (λ k (r : Rule). iterate k (step (next_of r)) left) span h.rule)
 
 -- the view of a bookmark
@@ -80,36 +82,36 @@ step_gives d m rule from cells gens right h =
 same_text : (f : ViewOf → World → List ℕ → ℕ → ℕ → List ℕ) (v v' : ViewOf) (w w' : World) (n n' : List ℕ) (s s' g g' : ℕ) → v ≡ v' → w ≡ w' → n ≡ n' → s ≡ s' → g ≡ g' → f v w n s g ≡ f v' w' n' s' g'
 same_text f v v' w w' n n' s s' g g' a b c d e = cc
 
-view_after : (d : BookState) (id : ℕ) (shown : ViewOf) (from : World) (cells : List CellSet) (name : List ℕ) (states at : ℕ) → IsRight d → (h : ViewsOf d id shown from cells name states at) → lay cells from ≡ after d.plan h.bookmark.generation
-view_after d id shown from cells name states at right h = ap₂ lay h.cells (known_arrives d h.bookmark.generation from right h.from)
+view_after : (d : BookState) (id : ℕ) (r : Rendering) → IsRight d → (h : ViewsOf d id r) → world_in r ≡ after d.plan h.bookmark.generation
+view_after d id r right h = ap₂ lay h.cells (known_arrives d h.bookmark.generation (arc_value r.from) right h.from)
 
 -- the entry that is to be computed gives what is wanted
 pub entry_gives : (d : BookState) (need : Need) (e : Entry) → IsRight d → IsEntryOf d need e → wanted d.plan need ≡ Some (value e)
-entry_gives d (Step m) (entry.Step s) right h = ap (λ w. Some (pattern w)) (sym (step_gives d m (arc_value s.rule) (arc_value s.from) s.cells s.gens right h))
+entry_gives d (Step m) (entry.Step s) right h = ap (λ w. Some (pattern w)) (sym (step_gives d m s right h))
 entry_gives d (Step m) (entry.View r) right h = absurd h
 entry_gives d (View id) (entry.Step s) right h = absurd h
 entry_gives d (View id) (entry.View r) right h =
+    let g = h.bookmark.generation in
     ap (text_wanted d.plan) h.there
     ∙ ap (λ bytes. Some (text bytes))
-    (sym (same_text text_of r.view h.bookmark.view (lay r.cells (arc_value r.from)) (after d.plan h.bookmark.generation) r.name (name_of d.plan.rule) r.states (states_of d.plan.rule) r.generation h.bookmark.generation
-    h.view (view_after d id r.view (arc_value r.from) r.cells r.name r.states r.generation right h) h.name h.states h.generation))
+    (sym (same_text text_of r.view h.bookmark.view (world_in r) (after d.plan g) r.name (name_of d.plan.rule) r.states (states_of d.plan.rule) r.generation g
+    h.view (view_after d id r right h) h.name h.states h.generation))
 
 -- and can be worked
 
 cells_laid : (p : Plan) (g : ℕ) (cells : List CellSet) → IsSound p → cells ≡ cells_at p.interventions g → All CanBeLaid cells
 cells_laid p g cells sound is = subst (All CanBeLaid) (sym is) (CanBeLaid-named (states_of p.rule) (cells_at p.interventions g) sound.few_states (AreNamed-at p g sound) (SetBelow-at p g sound))
 
-pub step_workable : (d : BookState) (m : ℕ) (e : Entry) → IsSound d.plan → IsRight d → is_mark d.plan m ≡ true → IsEntryOf d (Step m) e → CanBeWorked e
-step_workable d m (entry.View r) sound right there h = absurd h
-step_workable d m (entry.Step s) sound right there h =
+pub step_workable : (d : BookState) (m : ℕ) (s : Stepping) → IsSound d.plan → IsRight d → is_mark d.plan m ≡ true → StepsTo d m s → CanBeStepped s
+step_workable d m s sound right there h =
     let n = h.before in
     let near : m ≤ 2 ^ 60 = mark_near d.plan m sound there in
     let gap : n + s.gens ≡ m = h.gap in
-    let left : lay s.cells (arc_value s.from) ≡ after d.plan n = ap₂ lay h.cells (known_arrives d n (arc_value s.from) right h.from) in
+    let left : start_of s ≡ after d.plan n = ap₂ lay h.cells (known_arrives d n (arc_value s.from) right h.from) in
     let few : s.gens ≤ 2 ^ 60 - n = omega (arith, near, gap) in (
       cells_laid d.plan n s.cells sound h.cells,
       record {
-        below = subst (λ (r : Rule). AllBelow (states_of r) (lay s.cells (arc_value s.from))) (sym h.rule) (subst (AllBelow (states_of d.plan.rule)) (sym left) (AllBelow-after d.plan n sound));
+        below = subst (λ (r : Rule). AllBelow (states_of r) (start_of s)) (sym h.rule) (subst (AllBelow (states_of d.plan.rule)) (sym left) (AllBelow-after d.plan n sound));
         few = omega (arith, near, gap);
         fits = subst (HasMargin s.gens) (sym left) (HasMargin-less s.gens (2 ^ 60 - n) (after d.plan n) few (HasMargin-after d.plan n (omega (arith, near, gap)) sound));
       },
@@ -122,12 +124,11 @@ each_within (c ∷ bs) id b all there =
     (λ hit. let one : Some c ≡ Some b = rw hit at there in let same : c ≡ b = cc in subst (λ (x : Bookmark). IsWithin x.view) same all.0)
     (λ miss. each_within bs id b all.1 (rw miss at there))
 
-pub view_workable : (d : BookState) (id : ℕ) (e : Entry) → IsSound d.plan → IsRight d → IsEntryOf d (View id) e → CanBeWorked e
-view_workable d id (entry.Step s) sound right h = absurd h
-view_workable d id (entry.View r) sound right h =
+pub view_workable : (d : BookState) (id : ℕ) (r : Rendering) → IsSound d.plan → IsRight d → ViewsOf d id r → CanBeRendered r
+view_workable d id r sound right h =
     let g = h.bookmark.generation in
-    let left = view_after d id r.view (arc_value r.from) r.cells r.name r.states r.generation right h in (
+    let left = view_after d id r right h in (
       cells_laid d.plan g r.cells sound h.cells,
-      subst (λ n. AllBelow n (lay r.cells (arc_value r.from))) (sym h.states) (subst (AllBelow (states_of d.plan.rule)) (sym left) (AllBelow-after d.plan g sound)),
+      subst (λ n. AllBelow n (world_in r)) (sym h.states) (subst (AllBelow (states_of d.plan.rule)) (sym left) (AllBelow-after d.plan g sound)),
       subst IsWithin (sym h.view) (each_within d.plan.bookmarks id h.bookmark sound.views_within h.there),
     )

@@ -206,13 +206,13 @@ step_next d places m held views first =
     record {
       no_view = views;
       can = record {
-          above = some;
-          is = ap (is_mark d.plan) (sym is) ∙ mark_is d places k x held first.low;
-          awaited = awaited_is d.plan.bookmarks m.generation some first.near;
-          empty = ap (arrival_row d) (sym is) ∙ row_stands d places k x held first.low ∙ empty_is (get_or d.arrivals k x).state parts.1;
-          before = before_row d.arrivals k x;
-          comes = subst (ComesBefore d.plan (before_row d.arrivals k x)) is (row_comes d places k x held first.low);
-          arrived = before_known d places k x held first.low ∙ parts.0;
+        above = some;
+        is = ap (is_mark d.plan) (sym is) ∙ mark_is d places k x held first.low;
+        awaited = awaited_is d.plan.bookmarks m.generation some first.near;
+        empty = ap (arrival_row d) (sym is) ∙ row_stands d places k x held first.low ∙ empty_is (get_or d.arrivals k x).state parts.1;
+        before = before_row d.arrivals k x;
+        comes = subst (ComesBefore d.plan (before_row d.arrivals k x)) is (row_comes d places k x held first.low);
+        arrived = before_known d places k x held first.low ∙ parts.0;
       };
       least = λ other can. at_or_after x is other (reached_at d places other held can);
     }
@@ -308,9 +308,9 @@ pub none_pending : (d : BookState) (places : List ℕ) → IsHeld d places → I
 none_pending d places held no_views no_steps out =
     pending_empty d.texts (texts_none d places held out)
     ∙ none_empty d.texts (λ k x low.
-        let ready = all_ready d places held (arrivals_none d places held out) no_steps k x low in
-        let off = sym (viewable_is d places k x held low) ∙ no_views k x low in
-        either_way (is_empty (get_or d.texts k x).state) (λ hit. clash (is_empty (get_or d.texts k x).state && is_some (arrival_known d (get_or d.texts k x).key.generation)) (rw (hit, ready) refl) off) (λ miss. miss))
+    let ready = all_ready d places held (arrivals_none d places held out) no_steps k x low in
+    let off = sym (viewable_is d places k x held low) ∙ no_views k x low in
+    either_way (is_empty (get_or d.texts k x).state) (λ hit. clash (is_empty (get_or d.texts k x).state && is_some (arrival_known d (get_or d.texts k x).key.generation)) (rw (hit, ready) refl) off) (λ miss. miss))
 
 pub none_wanting : (d : BookState) (places : List ℕ) → IsHeld d places → NothingOut d → wanting_of d ≡ 0 → pending_of d ≡ 0
 none_wanting d places held out none =

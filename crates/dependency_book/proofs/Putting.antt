@@ -117,8 +117,8 @@ arrival_puts d g s marks can =
     let off : (g == 0) ≡ false = eq_false g 0 (let some = m.0 in λ same. omega (arith, same, some)) in
     record {
       book = record {
-          document = record { table = refl; plan = refl; marks = length-keys (put mark_rank g s d.arrivals) d.arrivals (keys-put mark_rank g s d.arrivals); bookmarks = refl };
-          given = refl;
+        document = record { table = refl; plan = refl; marks = length-keys (put mark_rank g s d.arrivals) d.arrivals (keys-put mark_rank g s d.arrivals); bookmarks = refl };
+        given = refl;
       };
       rows = arrival_rows d g s m.1 off;
       wanting =
@@ -147,8 +147,8 @@ text_puts d id s bookmarks can =
     let there : has bookmark_rank id (keys d.texts) ≡ true = ap (has bookmark_rank id) bookmarks ∙ can in
     record {
       book = record {
-          document = record { table = refl; plan = refl; marks = refl; bookmarks = length-keys (put bookmark_rank id s d.texts) d.texts (keys-put bookmark_rank id s d.texts) };
-          given = refl;
+        document = record { table = refl; plan = refl; marks = refl; bookmarks = length-keys (put bookmark_rank id s d.texts) d.texts (keys-put bookmark_rank id s d.texts) };
+        given = refl;
       };
       rows = text_rows d id s there;
       wanting =

@@ -20,9 +20,11 @@ bookmark_generation b = b.generation
 -- the marks at those of these generations that are above 0
 abbrev pub marks_above : List ℕ → List Mark
 marks_above [] = []
-marks_above (n ∷ ns) = if nat_lt 0 n then record { generation = n } ∷ marks_above ns else marks_above ns
+marks_above (n ∷ ns) =
+    if nat_lt 0 n then record { generation = n } ∷ marks_above ns else marks_above ns
 
--- marks are those of a document above 0, each once, and rise; so there are at most as many as interventions and bookmarks
+-- marks are those of a document above 0, each once, and rise; so there are at most as many as
+-- interventions and bookmarks
 pub record AreMarksOf (p : Plan) (marks : List Mark) : Type 0 where
   pub rise : IdsRise mark_rank marks
   pub above : AllByRecursion (λ (m : Mark). 0 < m.generation) marks

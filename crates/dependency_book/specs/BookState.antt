@@ -1,4 +1,5 @@
--- What a book knows: its document, the worlds that arrive at marks and the texts of bookmarks, and which jobs are out for others.
+-- What a book knows: its document, the worlds that arrive at marks and the texts of bookmarks, and
+-- which jobs are out for others.
 use Rattle.std.specs.Prelude.{◌≡◌, ℕ, ◌+◌, Bool, not, List, [], ◌∷◌, Option, None, Some, IfSome, count_by, if◌then◌else◌, ◌==◌}
 use Rattle.worlds.specs.World.{World}
 use Rattle.schedule.specs.declared.document.Bookmark.{Bookmark}
@@ -24,7 +25,13 @@ pub record BookState : Type 0 where
 
 -- the book of the opening document, of which nothing is known or out
 abbrev pub opened : Entries → ℕ → BookState
-opened table revision = record { table = table; plan = opening revision; given = 0; arrivals = []; texts = [] }
+opened table revision = record {
+  table = table;
+  plan = opening revision;
+  given = 0;
+  arrivals = [];
+  texts = [];
+}
 
 -- what stands at generation g; what arrives at 0 is the start
 abbrev pub arrival_row : BookState → ℕ → RowState World
@@ -65,7 +72,8 @@ pending_of d = count_by is_pending d.texts
 
 -- in how many rows nothing stands
 abbrev pub wanting_of : BookState → ℕ
-wanting_of d = count_by (λ r. is_empty r.state) d.arrivals + count_by (λ r. is_empty r.state) d.texts
+wanting_of d =
+    count_by (λ r. is_empty r.state) d.arrivals + count_by (λ r. is_empty r.state) d.texts
 
 -- each text that was known still is
 abbrev pub KeepsTexts : BookState → BookState → Type 0

@@ -48,8 +48,8 @@ cancelled number row = if has_number number (job_of row) then Empty else row
 abbrev pub issued : Need → Job → Need → RowState Value → RowState Value
 issued need job other row = if is_need need other then Expected job else row
 
--- a job for what is needed next: its entry, in the table, is what is to be computed for that row, and
--- its number is the next that is given, below 16,777,216
+-- a job for what is needed next: its entry, in the table, is what is to be computed for that row,
+-- and its number is the next that is given, below 16,777,216
 pub record IsNextJob (d : BookState) (need : Need) (job : Job) : Type 0 where
   pub next : IsNext d (Some need)
   pub own : IsOf d.table job.place
@@ -61,29 +61,39 @@ pub record IsNextJob (d : BookState) (need : Need) (job : Job) : Type 0 where
 abbrev pub IsExpected : BookState → Job → Type 0
 IsExpected d job = (need : Need) × (is_job job (expected d need) ≡ true)
 
--- the row of a step expects the job: that of a generation above 0 at which an intervention or a bookmark is
+-- the row of a step expects the job: that of a mark of the document above 0
 pub record StepExpects (d : BookState) (job : Job) : Type 0 where
   pub mark : ℕ
   pub above : 0 < mark
   pub noted : is_mark d.plan mark ≡ true
   pub row : is_job job (expected d (Step mark)) ≡ true
 
--- what came of an answer: a row was filled, or expects nothing any more because the job gave up, for
--- want of room if it is a step's; or no row expects the job, and nothing changes
+-- what came of an answer: a row was filled; or it expects nothing any more because the job gave up,
+-- for want of room if it is a step's; or no row expects the job, and nothing changes
 abbrev pub IsFilled : BookState → BookState → JobResult → Filled → Type 0
-IsFilled old new answer Row = IsExpected old answer.job × IsOk answer.outcome × (wanting_of new ≡ wanting_of old)
-IsFilled old new answer (Released fault) = IsExpected old answer.job × (answer.outcome ≡ Err fault) × (fault ≡ EvolveFault.NoRoom → StepExpects old answer.job)
-IsFilled old new answer NotExpected = ((need : Need) → is_job answer.job (expected old need) ≡ false) × (new ≡ old)
+IsFilled old new answer Row =
+    IsExpected old answer.job × IsOk answer.outcome × (wanting_of new ≡ wanting_of old)
+IsFilled old new answer (Released fault) =
+    IsExpected old answer.job
+    × (answer.outcome ≡ Err fault)
+    × (fault ≡ EvolveFault.NoRoom → StepExpects old answer.job)
+IsFilled old new answer NotExpected =
+    ((need : Need) → is_job answer.job (expected old need) ≡ false) × (new ≡ old)
 
--- the place is one of the table, and that of the job of this number that a row expects; or no row expects one
+-- the place is one of the table, and that of the job of this number that a row expects; or no row
+-- expects one
 abbrev pub IsForgotten : BookState → ℕ → Option Place → Type 0
 IsForgotten d number None = (need : Need) → has_number number (expected d need) ≡ false
-IsForgotten d number (Some place) = IsOf d.table place × ((need : Need) × (expected d need ≡ Some (record { number = number; place = place })))
+IsForgotten d number (Some place) =
+    IsOf d.table place
+    × ((need : Need) × (expected d need ≡ Some (record { number = number; place = place })))
 
 -- the number is the least of the jobs that are out; or none is out
 abbrev pub IsFirstOut : BookState → Option ℕ → Type 0
 IsFirstOut d None = (need : Need) → expected d need ≡ None
-IsFirstOut d (Some number) = ((need : Need) × (has_number number (expected d need) ≡ true)) × ((need : Need) → IfSome (expected d need) (λ job. number ≤ job.number))
+IsFirstOut d (Some number) =
+    ((need : Need) × (has_number number (expected d need) ≡ true))
+    × ((need : Need) → IfSome (expected d need) (λ job. number ≤ job.number))
 
 -- the document, the table and how many rows there are are the same
 pub record SameDocument (old new : BookState) : Type 0 where

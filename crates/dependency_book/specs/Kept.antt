@@ -1,5 +1,6 @@
 -- What an edit keeps of what is known.
 use Rattle.std.specs.Prelude.{◌≡◌, ℕ, Bool, true, false, not, ◌&&◌, nat_lt, nat_le, min, List, [], ◌∷◌, Option, None, Some, if◌then◌else◌, ◌==◌}
+use Rattle.worlds.specs.World.{World}
 use Rattle.schedule.specs.declared.document.Intervention.{Intervention}
 use Rattle.schedule.specs.declared.document.Bookmark.{Bookmark}
 use Rattle.schedule.specs.Plan.{Plan}
@@ -15,11 +16,12 @@ abbrev pub generation_of : List Intervention → ℕ → ℕ
 generation_of [] id = 0
 generation_of (i ∷ is) id = if i.id == id then i.generation else generation_of is id
 
--- the generation at which an edit is first felt, if it changes any pattern: what arrives there stays,
--- and what leaves it may be another
+-- the generation at which an edit is first felt, if it changes any pattern: what arrives there
+-- stays, and what leaves it may be another
 abbrev pub felt_from : Plan → Asked → Option ℕ
 felt_from p (InsertIntervention generation cells) = Some generation
-felt_from p (ChangeIntervention id generation cells) = Some (min generation (generation_of p.interventions id))
+felt_from p (ChangeIntervention id generation cells) =
+    Some (min generation (generation_of p.interventions id))
 felt_from p (RemoveIntervention id) = Some (generation_of p.interventions id)
 felt_from p (SetCells cells) = Some 0
 felt_from p (ReplaceStart start) = Some 0
@@ -71,14 +73,22 @@ abbrev pub text_kept : {V : Type 0} → Plan → Asked → Option Bookmark → R
 text_kept p asked None state = Empty
 text_kept p asked (Some b) state = if keeps_text p asked b then state else Empty
 
--- what stays of what stands at generation g, where q is the document after the edit
+-- what stays of what stands at generation g above 0, where q is the document after the edit
 abbrev pub arrival_kept : {V : Type 0} → Plan → Asked → Plan → ℕ → RowState V → RowState V
 arrival_kept p asked q g state = if is_mark q g && keeps_arrival p asked g then state else Empty
 
--- what stands after an edit, known or out: at the marks above 0 that it leaves what it keeps of the arrivals,
--- for the bookmarks that it leaves what it keeps of the texts, and nothing else
+-- what stands at generation g after an edit that gives the document q: the start at 0, and what the
+-- edit keeps above
+abbrev pub arrival_after : Plan → Asked → Plan → ℕ → RowState World → RowState World
+arrival_after p asked q g state = if g == 0 then Known q.start else arrival_kept p asked q g state
+
+-- what stands after an edit, known or out: at the marks above 0 that it leaves what it keeps of the
+-- arrivals, for the bookmarks that it leaves what it keeps of the texts, and nothing else
 pub record KeepsRows (asked : Asked) (old new : BookState) : Type 0 where
   pub table : new.table ≡ old.table
   pub given : new.given ≡ old.given
-  pub arrivals : (g : ℕ) → arrival_row new g ≡ (if g == 0 then Known new.plan.start else arrival_kept old.plan asked new.plan g (arrival_row old g))
-  pub texts : (id : ℕ) → text_row new id ≡ text_kept old.plan asked (bookmark_in old.plan.bookmarks id) (text_row old id)
+  pub arrivals : (g : ℕ) →
+      arrival_row new g ≡ arrival_after old.plan asked new.plan g (arrival_row old g)
+  pub texts : (id : ℕ) →
+      text_row new id
+      ≡ text_kept old.plan asked (bookmark_in old.plan.bookmarks id) (text_row old id)

@@ -11,7 +11,7 @@ pub mod Puts
 pub mod Ready
 pub mod Remade
 pub mod Right
+pub mod Room
 pub mod RowState
 pub mod Rows
 pub mod Shown
-pub mod Room

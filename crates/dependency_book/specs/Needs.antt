@@ -12,7 +12,8 @@ use Rattle.dependency_book.specs.Marks.{is_mark, ComesBefore}
 abbrev pub is_awaited : List Bookmark → ℕ → Bool
 is_awaited bookmarks g = list_any (λ (b : Bookmark). nat_le g b.generation) bookmarks
 
--- a bookmark can be viewed: what arrives at its generation is known, its text isn't, and no job is out for it
+-- a bookmark can be viewed: what arrives at its generation is known, its text isn't, and no job is
+-- out for it
 pub record CanBeViewed (d : BookState) (b : Bookmark) : Type 0 where
   pub there : bookmark_in d.plan.bookmarks b.id ≡ Some b
   pub arrived : IsSome (arrival_known d b.generation)

@@ -40,7 +40,8 @@ missing state = cond (is_empty state) 1 0
 -- this stands in the row of a need afterwards, and in each other row what stood there
 pub record Puts (need : Need) (state : RowState Value) (old new : BookState) : Type 0 where
   pub book : SameBook old new
-  pub rows : (other : Need) → row_of new other ≡ (if is_need need other then state else row_of old other)
+  pub rows : (other : Need) →
+      row_of new other ≡ (if is_need need other then state else row_of old other)
   pub wanting : wanting_of new + missing (row_of old need) ≡ wanting_of old + missing state
 
 -- what came of an outcome that is put

@@ -6,9 +6,11 @@ use Rattle.dependency_book.specs.declared.mark.Mark.{Mark}
 use Rattle.dependency_book.specs.RowState.{is_empty, is_known}
 use Rattle.dependency_book.specs.Rows.{ArrivalRow, TextRow}
 
--- whether what arrives at a generation is known, whose mark has its row at this place; the start always is
+-- whether what arrives at a generation is known, whose mark has its row at this place; the start
+-- always is
 abbrev pub place_ready : List ArrivalRow → ℕ → ℕ → Bool
-place_ready arrivals g place = g == 0 || option_map_or (λ (r : ArrivalRow). is_known r.state) (slice_get arrivals place) false
+place_ready arrivals g place =
+    g == 0 || option_map_or (λ (r : ArrivalRow). is_known r.state) (slice_get arrivals place) false
 
 -- whether nothing stands for a text where what arrives at its generation is known
 abbrev pub can_view : List ArrivalRow → TextRow → ℕ → Bool
@@ -16,11 +18,13 @@ can_view arrivals r place = is_empty r.state && place_ready arrivals r.key.gener
 
 -- whether the text at a place can be viewed, whose mark's place is among these
 abbrev pub viewable : List ArrivalRow → List TextRow → List ℕ → ℕ → TextRow → Bool
-viewable arrivals texts places k x = can_view arrivals (slice_index_or texts k x) (slice_index places k)
+viewable arrivals texts places k x =
+    can_view arrivals (slice_index_or texts k x) (slice_index places k)
 
 -- the first text that can be viewed is at this place, or there is none
 abbrev pub IsFirstView : List ArrivalRow → List TextRow → List ℕ → Option ℕ → Type 0
-IsFirstView arrivals texts places None = (k : ℕ) (x : TextRow) → k < length texts → viewable arrivals texts places k x ≡ false
+IsFirstView arrivals texts places None =
+    (k : ℕ) (x : TextRow) → k < length texts → viewable arrivals texts places k x ≡ false
 IsFirstView arrivals texts places (Some k) =
     (k < length texts) × ((x : TextRow) → viewable arrivals texts places k x ≡ true)
     × ((j : ℕ) (x : TextRow) → j < k → viewable arrivals texts places j x ≡ false)
@@ -50,5 +54,7 @@ pub record FirstStep (reach : ℕ) (rows : List ArrivalRow) (m : Mark) : Type 0 
 
 -- so is this one, or no step can be made up to the reach
 abbrev pub IsFirstStep : ℕ → List ArrivalRow → Option Mark → Type 0
-IsFirstStep reach rows None = (k : ℕ) (x : ArrivalRow) → k < length rows → (slice_index_or rows k x).key.generation ≤ reach → steppable rows k x ≡ false
+IsFirstStep reach rows None =
+    (k : ℕ) (x : ArrivalRow) → k < length rows → (slice_index_or rows k x).key.generation ≤ reach →
+    steppable rows k x ≡ false
 IsFirstStep reach rows (Some m) = FirstStep reach rows m

@@ -35,16 +35,19 @@ pub record GivesWanted (d : BookState) (need : Need) (job : Job) : Type 0 where
   pub gives : wanted d.plan need ≡ Some (value (entry_of job.place))
   pub given : job.number < d.given
 
--- what stands in the row of a need is right: nothing, a job that gives what is wanted, or what is wanted
+-- what stands in the row of a need is right: nothing, a job that gives what is wanted, or what is
+-- wanted
 abbrev pub StandsRight : BookState → Need → RowState Value → Type 0
 StandsRight d need Empty = ⊤
 StandsRight d need (Expected job) = GivesWanted d need job
 StandsRight d need (Known found) = wanted d.plan need ≡ Some found
 
--- each known arrival is what arrives, each known text is what starting over gives, and each job that is out gives that;
--- nothing stands but for marks and bookmarks of the document, and no two rows expect jobs of one number
+-- each known arrival is what arrives, each known text is what starting over gives, and each job
+-- that is out gives that; nothing stands but for marks and bookmarks of the document, and no two
+-- rows expect jobs of one number
 pub record IsRight (d : BookState) : Type 0 where
   pub stands : (need : Need) → StandsRight d need (row_of d need)
   pub rows : (need : Need) → is_row d.plan need ≡ false → row_of d need ≡ Empty
-  pub once : (a b : Need) (i j : Job) → expected d a ≡ Some i → expected d b ≡ Some j → i.number ≡ j.number → a ≡ b
+  pub once : (a b : Need) (i j : Job) →
+      expected d a ≡ Some i → expected d b ≡ Some j → i.number ≡ j.number → a ≡ b
   pub few : d.given ≤ 16777216

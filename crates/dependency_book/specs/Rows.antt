@@ -37,7 +37,8 @@ place_in rank n (r ∷ rs) = if nat_lt (rank r.key) n then suc (place_in rank n 
 -- the rows with this standing in the first of a rank
 abbrev pub put : {K V : Type 0} → (K → ℕ) → ℕ → RowState V → List (Row K V) → List (Row K V)
 put rank n state [] = []
-put rank n state (r ∷ rs) = if rank r.key == n then record { key = r.key; state = state } ∷ rs else r ∷ put rank n state rs
+put rank n state (r ∷ rs) =
+    if rank r.key == n then record { key = r.key; state = state } ∷ rs else r ∷ put rank n state rs
 
 -- a mark with the world that arrives there, or the job that is out for it
 abbrev pub ArrivalRow : Type 0

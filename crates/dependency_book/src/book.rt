@@ -1,6 +1,12 @@
 //! The book.
 ghost use Rattle.std.specs.Prelude.{◌≡◌, ◌≤◌, ◌+◌, IfOk, IfNone, IfSome, length};
-ghost use Rattle.dependency_book.specs.BookState.{opened, row_of, pending_of, wanting_of, NothingOut};
+ghost use Rattle.dependency_book.specs.BookState.{
+  NothingOut,
+  opened,
+  pending_of,
+  row_of,
+  wanting_of,
+};
 ghost use Rattle.dependency_book.specs.Needs.{IsNext};
 ghost use Rattle.dependency_book.specs.Right.{IsRight};
 ghost use Rattle.dependency_book.specs.Shown.{Shows};
@@ -97,8 +103,8 @@ impl<'e> Book<'e> {
 
     /// What has to be computed next, and no job is out for: the view of the bookmark with the least
     /// id whose text isn't known where what arrives at its generation is; or else the step to the
-    /// least mark that a bookmark is at or above, at which the arrival isn't known where that at the
-    /// mark before it is. None where every text is known, where only arrivals above every bookmark
+    /// least mark at or below a bookmark at which the arrival isn't known where that at the mark
+    /// before it is. None where every text is known, where only arrivals above every bookmark
     /// aren't, and where all that is needed waits for jobs that are out.
     pub fn next_need(&self) -> Option<Need>
         ensures next { IsNext self.now result }

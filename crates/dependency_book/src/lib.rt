@@ -8,8 +8,8 @@
 //! computation gives. An edit keeps exactly the rows that it doesn't touch.
 //!
 //! What isn't known is computed by jobs, in any order and by anybody: a row expects the job that is
-//! out for it, and takes what its answer says, whatever edits that keep the row were made meanwhile.
-//! An answer that no row expects changes nothing.
+//! out for it, and takes what its answer says, whatever edits that keep the row were made since. An
+//! answer that no row expects changes nothing.
 //!
 //! An edit and an answer each cost a search and one pass over the rows. Nothing is computed here.
 #![tactic(auto)]

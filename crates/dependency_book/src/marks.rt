@@ -1,6 +1,11 @@
 //! The marks of a document.
 ghost use Rattle.std.specs.Prelude.{◌≡◌, ◌≤◌, ◌+◌, ◌++◌, [], length, map, vec_len, vec_capacity};
-ghost use Rattle.dependency_book.specs.AllMarks.{AreMarksOf, marks_above, intervention_generation, bookmark_generation};
+ghost use Rattle.dependency_book.specs.AllMarks.{
+  AreMarksOf,
+  bookmark_generation,
+  intervention_generation,
+  marks_above,
+};
 
 use crate::arrival::Arrival;
 use crate::mark::Mark;
@@ -13,7 +18,9 @@ pub(crate) type ArrivalRow = Row<Mark, Arrival>;
 /// The marks of a document above 0, each once, by rising generation. They stand in the room, which
 /// is empty and has a place for each intervention and each bookmark.
 pub(crate) fn marks_of(room: Vec<Mark>, document: &Document) -> Vec<Mark>
-    requires { room.items ≡ [] × length document.now.interventions + length document.now.bookmarks ≤ vec_capacity room }
+    requires empty { room.items ≡ [] }
+    requires room { length document.now.interventions + length document.now.bookmarks
+        ≤ vec_capacity room }
     ensures { AreMarksOf document.now result.items }
 {
     let mut marks = room;
@@ -27,7 +34,8 @@ pub(crate) fn marks_of(room: Vec<Mark>, document: &Document) -> Vec<Mark>
 // Adds the generations above 0 at which interventions act.
 fn add_interventions(marks: &mut Vec<Mark>, interventions: &[Intervention])
     requires { vec_len marks.old + length interventions.now ≤ vec_capacity marks.old }
-    ensures marks { marks.new.items ≡ marks.old.items ++ marks_above (map intervention_generation interventions.now) }
+    ensures marks { marks.new.items
+        ≡ marks.old.items ++ marks_above (map intervention_generation interventions.now) }
     ensures len { vec_len marks.new ≤ vec_len marks.old + length interventions.now }
     ensures capacity { vec_capacity marks.new ≡ vec_capacity marks.old }
 {
@@ -43,7 +51,8 @@ fn add_interventions(marks: &mut Vec<Mark>, interventions: &[Intervention])
 // Adds the generations above 0 at which bookmarks stand.
 fn add_bookmarks(marks: &mut Vec<Mark>, bookmarks: &[Bookmark])
     requires { vec_len marks.old + length bookmarks.now ≤ vec_capacity marks.old }
-    ensures { marks.new.items ≡ marks.old.items ++ marks_above (map bookmark_generation bookmarks.now) }
+    ensures { marks.new.items
+        ≡ marks.old.items ++ marks_above (map bookmark_generation bookmarks.now) }
 {
     for bookmark in bookmarks {
         if bookmark.generation > 0 {

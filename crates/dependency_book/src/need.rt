@@ -1,6 +1,7 @@
 //! What a book needs.
 ghost use Rattle.std.specs.Prelude.{◌≡◌, length};
-ghost use Rattle.dependency_book.specs.Ready.{can_view, place_ready, reach_of, IsFirstStep, IsFirstView};
+ghost use Rattle.dependency_book.specs.Ready.{IsFirstStep, IsFirstView};
+ghost use Rattle.dependency_book.specs.Ready.{can_view, place_ready, reach_of};
 ghost use Rattle.dependency_book.specs.Rows.{IsRanked, mark_rank};
 
 use crate::mark::Mark;

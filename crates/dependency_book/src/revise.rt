@@ -1,5 +1,6 @@
 //! How an edit changes a book.
-ghost use Rattle.std.specs.Prelude.{◌≡◌, ◌≤◌, ◌⊎◌, ℕ, IfOk, IfErr, IfSome, OnErr, OnOk, length, vec_capacity, [], map};
+ghost use Rattle.std.specs.Prelude.{◌≡◌, ◌≤◌, ◌⊎◌, IfOk, IfErr, IfSome, OnErr, OnOk};
+ghost use Rattle.std.specs.Prelude.{length, vec_capacity, []};
 ghost use Rattle.schedule.specs.Asked.{asked_of};
 ghost use Rattle.schedule.specs.Change.{change, made, refusal};
 ghost use Rattle.dependency_book.specs.Held.{places_of};
@@ -60,7 +61,8 @@ impl Book<'_> {
         ensures keeps { OnOk result (KeepsRows (asked_of edit.now) self.old self.new) }
         ensures refused { IfErr result (λ fault.
             (fault ≡ EditFault.NoMemory) ⊎ (change self.old.plan (asked_of edit.now) ≡ Err fault)) }
-        ensures first { IfSome (refusal self.old.plan (asked_of edit.now)) (λ fault. result ≡ Err fault) }
+        ensures first { IfSome (refusal self.old.plan (asked_of edit.now))
+            (λ fault. result ≡ Err fault) }
         ensures unchanged { OnErr result (self.new ≡ self.old) }
         ensures right { IsRight self.new }
     {

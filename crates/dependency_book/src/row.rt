@@ -1,6 +1,7 @@
 //! Rows: what is known, or under way, of what stands at keys.
 ghost use Rattle.std.specs.Prelude.{◌≡◌, ℕ, Bool, Option, MatchOption, None, Some};
-ghost use Rattle.dependency_book.specs.RowState.{known, is_known, is_empty, row_for, lesser, least_out, number_of, job_of};
+ghost use Rattle.dependency_book.specs.RowState.{is_empty, is_known, job_of, known};
+ghost use Rattle.dependency_book.specs.RowState.{least_out, lesser, number_of, row_for};
 ghost use Rattle.dependency_book.specs.Rows.{IsRanked, place_in, put};
 
 use revision_jobs::{Job, Place};

@@ -2,11 +2,14 @@
 mod bench;
 
 use bench::{Act, Bench};
-use dependency_book::{CellSet, Edit, Entries, EvolveFault, Filled, Listing, Need, Rule};
+use dependency_book::{Filled, Need};
+use revision_jobs::Entries;
+use schedule::{CellSet, Edit, Listing, Rule};
 use std::alloc::Global;
 use std::fmt::Debug;
 use std::process::Abort;
 use std::sync::{Arc, Wait};
+use step_engine::EvolveFault;
 
 // A cell is 1 next where exactly one of its neighbours is. Two of the eight cases are left to the
 // cell's own state.

@@ -2,17 +2,17 @@
 ghost use Rattle.std.specs.Prelude.{◌≡◌, Some};
 ghost use Rattle.revision_jobs.specs.Entries.{IsOf, entry_of};
 ghost use Rattle.dependency_book.specs.Entered.{IsEntryOf};
-ghost use Rattle.dependency_book.specs.Needs.{next_need};
+ghost use Rattle.dependency_book.specs.Needs.{IsNext};
 
 use super::{cell, rule_x, same};
-use dependency_book::{
-    Answer, Book, Edit, Entries, EvolveFault, Filled, Job, Need, Place, Shown, View,
-};
-use revision_jobs::{NoGate, work};
+use dependency_book::{Book, Filled, Need, Shown};
+use revision_jobs::{Answer, Entries, Job, NoGate, Place, work};
+use schedule::{Edit, View};
 use std::alloc::Global;
 use std::marker::Model;
 use std::process::Abort;
 use std::sync::Wait;
+use step_engine::EvolveFault;
 
 // How many squares a step may keep.
 const SQUARES: u32 = 4096;
@@ -34,9 +34,9 @@ impl<'e> Model for Bench<'e> {
     ghost use Rattle.std.specs.Prelude.{◌≡◌, IfSome};
     ghost use Rattle.worlds.specs.World.{coded_world};
     ghost use Rattle.revision_jobs.specs.Entries.{IsOf};
-    ghost use Rattle.dependency_book.specs.Known.{Known};
+    ghost use Rattle.dependency_book.specs.BookState.{BookState};
 
-    ghost Value = { Known };
+    ghost Value = { BookState };
 
     ghost coded = { Prim.hlevel (codes, coded_world) };
 
@@ -166,7 +166,7 @@ impl<'e> Bench<'e> {
     }
 
     fn next(&self, rt: &impl Abort, wanted: &Need) -> Need
-        ensures { next_need self.now ≡ Some result }
+        ensures { IsNext self.now (Some result) }
     {
         let next = self.book.next_need().expect(rt, "a need");
         same(rt, &next, wanted, &"the next need");
@@ -175,7 +175,7 @@ impl<'e> Bench<'e> {
 
     // Stores what is to be computed for the need, which is the next.
     fn stored<R: Abort + Wait>(&self, rt: &R, next: &Need) -> Place
-        requires { next_need self.now ≡ Some next.now }
+        requires { IsNext self.now (Some next.now) }
         ensures own { IsOf self.now.table result }
         ensures entry { IsEntryOf self.now next.now (entry_of result) }
     {

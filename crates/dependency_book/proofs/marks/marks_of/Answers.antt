@@ -16,7 +16,7 @@ returns c =
     let all : found ≡ interventions ++ bookmarks =
     c.add_bookmarks.ensures
     ∙ ap (λ bs. c.add_interventions.new.marks.items ++ marks_above (map bookmark_generation bs)) c.bookmarks.ensures.bookmarks
-    ∙ ap (λ ms. ms ++ bookmarks) (c.add_interventions.ensures.marks ∙ ap (λ ms. ms ++ marks_above (map intervention_generation c.interventions.result.now)) c.requires.0 ∙ ap (λ is. marks_above (map intervention_generation is)) c.interventions.ensures) in
+    ∙ ap (λ ms. ms ++ bookmarks) (c.add_interventions.ensures.marks ∙ ap (λ ms. ms ++ marks_above (map intervention_generation c.interventions.result.now)) c.requires.empty ∙ ap (λ is. marks_above (map intervention_generation is)) c.interventions.ensures) in
     AreMarksOf-once p found sorted c.dedup.new.self.items all c.sort_unstable_by_key.ensures.permutation
     (IsNonDecreasingBy-from_sort_by_key mark_rank sorted c.sort_unstable_by_key.ensures.sorted (λ a r q k. search rules))
     (dedup_is same_mark sorted c.dedup.new.self.items c.dedup.ensures.filtered)
