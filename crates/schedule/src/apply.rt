@@ -3,7 +3,7 @@ ghost use Rattle.std.specs.Prelude.{◌≡◌, ◌⊎◌, ◌==◌, IfOk, IfErr,
 ghost use Rattle.schedule.specs.Ids.{IdsRise, intervention_id, bookmark_id, changed_at, without};
 ghost use Rattle.std.specs.Arc.{arc_value};
 ghost use Rattle.schedule.specs.Asked.{asked_of};
-ghost use Rattle.schedule.specs.Change.{change, made, refusal, first_refusal};
+ghost use Rattle.schedule.specs.Change.{change, made, refusal, refusals, first_refusal};
 ghost use Rattle.schedule.specs.Change.{changed_cells, changed_start, changed_rule};
 ghost use Rattle.schedule.specs.Change.{changed_bookmarks, with_intervention};
 ghost use Rattle.schedule.specs.Change.{with_changed_intervention, without_intervention, acting};
@@ -20,6 +20,7 @@ use basics::Listing;
 use bookmarks::View;
 use plane_core::{CellSet, Next, Plane};
 use rule_tree::Rule;
+use std::alloc::AllocError;
 use std::sync::Arc;
 
 impl Document {
@@ -35,6 +36,17 @@ impl Document {
         ensures unchanged { OnErr result (self.new ≡ self.old) }
     {
         self.check(edit)?;
+        Ok(self.make(edit)?)
+    }
+
+    /// Makes the change of an edit that fits, as `check` tells. The only refusal that is left is
+    /// want of memory, and then nothing changes.
+    pub fn make(&mut self, edit: &Edit) -> Result<Edited, AllocError>
+        requires { first_refusal (refusals self.old (asked_of edit.now)) ≡ None }
+        ensures ok { IfOk result
+            (λ edited. change self.old (asked_of edit.now) ≡ Ok (made self.new edited)) }
+        ensures unchanged { OnErr result (self.new ≡ self.old) }
+    {
         match edit {
             Edit::InsertIntervention { generation, cells } => {
                 self.insert_intervention(*generation, cells.as_slice())
@@ -59,11 +71,10 @@ impl Document {
         &mut self,
         generation: u64,
         cells: &[CellSet],
-    ) -> Result<Edited, EditFault>
+    ) -> Result<Edited, AllocError>
         requires { first_refusal (for_intervention self.old generation cells.now) ≡ None }
         ensures ok { IfOk result (λ edited.
             with_intervention self.old generation cells.now ≡ made self.new edited) }
-        ensures memory { IfErr result (λ fault. fault ≡ EditFault.NoMemory) }
         ensures unchanged { OnErr result (self.new ≡ self.old) }
     {
         let id = self.last_intervention + 1;
@@ -87,12 +98,11 @@ impl Document {
         id: u64,
         generation: u64,
         cells: &[CellSet],
-    ) -> Result<Edited, EditFault>
+    ) -> Result<Edited, AllocError>
         requires { first_refusal (for_changed_intervention self.old id generation cells.now)
             ≡ None }
         ensures ok { IfOk result (λ edited.
             with_changed_intervention self.old id generation cells.now ≡ made self.new edited) }
-        ensures memory { IfErr result (λ fault. fault ≡ EditFault.NoMemory) }
         ensures unchanged { OnErr result (self.new ≡ self.old) }
     {
         let cells = Listing::from_vec(Vec::from_slice(self.alloc, cells)?);
@@ -118,11 +128,10 @@ impl Document {
     }
 
     // Sets cells of the start.
-    fn set_cells(&mut self, cells: &[CellSet]) -> Result<Edited, EditFault>
+    fn set_cells(&mut self, cells: &[CellSet]) -> Result<Edited, AllocError>
         requires { first_refusal (for_cells self.old cells.now) ≡ None }
         ensures ok { IfOk result
             (λ edited. changed_cells self.old cells.now ≡ made self.new edited) }
-        ensures memory { IfErr result (λ fault. fault ≡ EditFault.NoMemory) }
         ensures unchanged { OnErr result (self.new ≡ self.old) }
     {
         let start = Arc::new(self.alloc, self.start.lay(cells)?)?;
@@ -135,11 +144,10 @@ impl Document {
     }
 
     // Takes another start.
-    fn replace_start(&mut self, start: &Arc<Plane>) -> Result<Edited, EditFault>
+    fn replace_start(&mut self, start: &Arc<Plane>) -> Result<Edited, AllocError>
         requires { first_refusal (for_start self.old (arc_value start.now)) ≡ None }
         ensures ok { IfOk result
             (λ edited. changed_start self.old (arc_value start.now) ≡ made self.new edited) }
-        ensures memory { IfErr result (λ fault. fault ≡ EditFault.NoMemory) }
         ensures unchanged { OnErr result (self.new ≡ self.old) }
     {
         // The rule has at least 2 states.
@@ -154,11 +162,10 @@ impl Document {
     }
 
     // Takes another rule.
-    fn replace_rule(&mut self, rule: &Arc<Rule>) -> Result<Edited, EditFault>
+    fn replace_rule(&mut self, rule: &Arc<Rule>) -> Result<Edited, AllocError>
         requires { first_refusal (for_rule self.old (arc_value rule.now)) ≡ None }
         ensures ok { IfOk result
             (λ edited. changed_rule self.old (arc_value rule.now) ≡ made self.new edited) }
-        ensures memory { IfErr result (λ fault. fault ≡ EditFault.NoMemory) }
         ensures unchanged { OnErr result (self.new ≡ self.old) }
     {
         // It has 2 to 256 states.
@@ -173,11 +180,10 @@ impl Document {
     }
 
     // Adds a bookmark.
-    fn add_bookmark(&mut self, generation: u64, view: View) -> Result<Edited, EditFault>
+    fn add_bookmark(&mut self, generation: u64, view: View) -> Result<Edited, AllocError>
         requires { first_refusal (for_bookmark self.old generation view) ≡ None }
         ensures ok { IfOk result
             (λ edited. changed_bookmarks self.old generation view ≡ made self.new edited) }
-        ensures memory { IfErr result (λ fault. fault ≡ EditFault.NoMemory) }
         ensures unchanged { OnErr result (self.new ≡ self.old) }
     {
         let id = self.last_bookmark + 1;

@@ -75,9 +75,10 @@ impl Model for Document {
 
 impl Document {
     /// The document that every experiment begins with: the rule `still`, an empty start, and
-    /// nothing else.
+    /// nothing else. It keeps the limits of documents.
     pub fn opening(alloc: Global, revision: u64) -> Result<Document, AllocError>
-        ensures { IfOk result (λ document. document ≡ opening revision) }
+        ensures opening { IfOk result (λ document. document ≡ opening revision) }
+        ensures sound { IfOk result (λ document. IsSound document) }
     {
         Ok(Document {
             rule: Arc::new(alloc, Rule::still(alloc)?)?,

@@ -1,9 +1,9 @@
 //! The document of an experiment, and what edits make of it.
 //!
 //! A document has a rule, a start, interventions and bookmarks. `check` gives the refusal of an
-//! edit, and `apply` makes exactly the document that the edit's definition gives, or refuses it and
-//! changes nothing. What a bookmark shows by definition, computed anew from the start, stands in
-//! `specs/Scratch.antt`.
+//! edit, and `make` makes exactly the document that the definition of an edit that fits gives, or
+//! finds no memory and changes nothing; `apply` is one after the other. What a bookmark shows by
+//! definition, computed anew from the start, stands in `specs/Scratch.antt`.
 //!
 //! An edit costs one pass over what it changes; rule and start are shared and not copied.
 #![tactic(auto)]
@@ -15,11 +15,9 @@ mod edit;
 mod fault;
 
 pub use basics::{Listing, Refusal};
-pub use bookmarks::{View, render};
+pub use bookmarks::View;
 pub use document::{Bookmark, Document, Intervention};
 pub use edit::{Edit, Edited};
 pub use fault::EditFault;
-pub use plane_core::{Bounds, Cell, CellSet, Next, NoStop, Plane, Stop};
-pub use rule_file::RuleFault;
+pub use plane_core::{CellSet, Next, Plane};
 pub use rule_tree::Rule;
-pub use step_engine::{EvolveFault, Evolved, Report, evolve, evolve_plain, fits};
