@@ -1,63 +1,102 @@
 use Rattle.std.proofs.Common.{sym, ap, subst, ◌∙◌, refl}
-use Rattle.desk_core.specs.declared.hand.Hand.TheVariants.{Empty, Ready, Waiting}
-use Rattle.desk_core.specs.Course.{Fits, Moment, job_in}
-use Rattle.desk_core.proofs.Turns.{Advances-received, Advances-sent, begins, fewer-empty, fewer-waiting}
-use Rattle.desk_core.proofs.course.Course.turn.Goals as goal
+use Rattle.desk_core.specs.declared.unsent.Unsent.TheVariants.{Nothing, Ready, Waiting}
+use Rattle.desk_core.specs.Progress.{Fits, Moment, job_in, moment, ready}
+use Rattle.desk_core.proofs.Steps.{GoesOn-on, GoesOn-told}
+use Rattle.desk_core.proofs.Turns.{Advances-received, Advances-sent, begins, fewer-nothing, fewer-waiting}
+use Rattle.desk_core.proofs.progress.Progress.turn.Goals as goal
 
 pub send-requires-clause-fits : goal.send-requires-clause-fits
 send-requires-clause-fits g c =
-    subst (λ hand. Fits c.issue.new.desk (g.P.Post.table c.args.post.now) (g.P.Post.floor c.args.post.now) (job_in hand)) (sym c.replace.ensures.value ∙ c.in-Ready.is)
+    subst (λ unsent. Fits c.issue.new.desk (g.P.Post.table c.args.post.now) (g.P.Post.floor c.args.post.now) (job_in unsent)) (sym c.replace.ensures.value ∙ c.in-Ready.is)
     (c.issue.ensures.fits (g.P.Post.table c.args.post.now) (g.P.Post.floor c.args.post.now) c.requires)
 
 pub receive-requires : goal.receive-requires
 receive-requires g c =
-    subst (λ hand. Fits c.issue.new.desk (g.P.Post.table c.args.post.now) (g.P.Post.floor c.args.post.now) (job_in hand)) (sym c.replace.ensures.value ∙ c.in-Waiting.is)
+    subst (λ unsent. Fits c.issue.new.desk (g.P.Post.table c.args.post.now) (g.P.Post.floor c.args.post.now) (job_in unsent)) (sym c.replace.ensures.value ∙ c.in-Waiting.is)
     (c.issue.ensures.fits (g.P.Post.table c.args.post.now) (g.P.Post.floor c.args.post.now) c.requires)
+
+pub returns-in-Ready-clause-goes : goal.returns-in-Ready-clause-goes
+returns-in-Ready-clause-goes g c =
+    let floor = g.P.Post.floor c.args.post.now in
+    let answers = g.P.Post.answers c.args.post.now in
+    GoesOn-on _ _ _ (c.issue.ensures.goes (g.P.Post.table c.args.post.now) floor answers c.requires)
+    (GoesOn-on _ _ _
+    (GoesOn-told c.issue.new.desk floor answers c.issue.new.self (ready c.in-Ready.job (record { unsent = c.replace.new.dest; cause = c.issue.new.self.cause }))
+    (ap job_in (sym c.in-Ready.is ∙ c.replace.ensures.value)) refl)
+    c.send.ensures.goes)
 
 pub returns-in-Ready-clause-prompt : goal.returns-in-Ready-clause-prompt
 returns-in-Ready-clause-prompt g c = λ prompt.
     let held = g.P.Post.held c.args.post.now in
     Advances-sent
-    (record { desk = c.args.desk.now; hand = c.args.self.now.hand; held = held })
-    (record { desk = c.issue.new.desk; hand = Ready c.in-Ready.job; held = held })
-    (record { desk = c.send.new.desk; hand = c.send.new.self.hand; held = g.P.Post.held c.send.new.post })
+    (moment c.args.desk.now c.args.self.now.unsent held)
+    (moment c.issue.new.desk (Ready c.in-Ready.job) held)
+    (moment c.send.new.desk c.send.new.self.unsent (g.P.Post.held c.send.new.post))
     c.args.self.now.cause c.issue.new.self.cause c.send.new.self.cause c.send.result
     c.send.ensures.goes.cause
     (begins c.args.desk.now c.issue.new.desk c.args.self.now c.issue.new.self held (Ready c.in-Ready.job) (sym c.replace.ensures.value ∙ c.in-Ready.is)
-    c.issue.ensures.goes.cause (c.issue.ensures.out held) (c.issue.ensures.turns held))
+    (c.issue.ensures.goes (g.P.Post.table c.args.post.now) (g.P.Post.floor c.args.post.now) (g.P.Post.answers c.args.post.now) c.requires).cause (c.issue.ensures.out held) (c.issue.ensures.turns held))
     (c.send.ensures.prompt prompt)
+
+pub returns-in-Waiting-clause-goes : goal.returns-in-Waiting-clause-goes
+returns-in-Waiting-clause-goes g c =
+    let floor = g.P.Post.floor c.args.post.now in
+    let answers = g.P.Post.answers c.args.post.now in
+    GoesOn-on _ _ _ (c.issue.ensures.goes (g.P.Post.table c.args.post.now) floor answers c.requires)
+    (GoesOn-on _ _ _
+    (GoesOn-told c.issue.new.desk floor answers c.issue.new.self (record { unsent = Ready c.in-Waiting.job; cause = c.issue.new.self.cause })
+    (ap job_in (sym c.in-Waiting.is ∙ c.replace.ensures.value)) refl)
+    c.receive.ensures.goes)
 
 pub returns-in-Waiting-clause-prompt : goal.returns-in-Waiting-clause-prompt
 returns-in-Waiting-clause-prompt g c = λ prompt.
     let held = g.P.Post.held c.args.post.now in
     let job = c.in-Waiting.job in
-    let mid : Moment = record { desk = c.issue.new.desk; hand = Waiting job; held = held } in
+    let mid : Moment = moment c.issue.new.desk (Waiting job) held in
     Advances-received
-    (record { desk = c.args.desk.now; hand = c.args.self.now.hand; held = held })
+    (moment c.args.desk.now c.args.self.now.unsent held)
     mid
-    (record { desk = c.receive.new.desk; hand = c.receive.new.self.hand; held = g.P.Post.held c.receive.new.post })
+    (moment c.receive.new.desk c.receive.new.self.unsent (g.P.Post.held c.receive.new.post))
     (Ready job)
     c.args.self.now.cause c.issue.new.self.cause c.receive.new.self.cause c.receive.result
     c.receive.ensures.goes.cause
     (begins c.args.desk.now c.issue.new.desk c.args.self.now c.issue.new.self held (Waiting job) (sym c.replace.ensures.value ∙ c.in-Waiting.is)
-    c.issue.ensures.goes.cause (c.issue.ensures.out held) (c.issue.ensures.turns held))
+    (c.issue.ensures.goes (g.P.Post.table c.args.post.now) (g.P.Post.floor c.args.post.now) (g.P.Post.answers c.args.post.now) c.requires).cause (c.issue.ensures.out held) (c.issue.ensures.turns held))
     refl
     (fewer-waiting mid job refl)
     (c.receive.ensures.prompt prompt)
 
+pub returns-in-Some-clause-goes : goal.returns-in-Some-clause-goes
+returns-in-Some-clause-goes g c =
+    let floor = g.P.Post.floor c.args.post.now in
+    let answers = g.P.Post.answers c.args.post.now in
+    GoesOn-on _ _ _ (c.issue.ensures.goes (g.P.Post.table c.args.post.now) floor answers c.requires)
+    (GoesOn-on _ _ _
+    (GoesOn-told c.issue.new.desk floor answers c.issue.new.self (record { unsent = c.replace.new.dest; cause = c.issue.new.self.cause })
+    (ap job_in (c.replace.ensures.after ∙ sym c.in-Nothing.is ∙ c.replace.ensures.value)) refl)
+    c.receive-in-Some.ensures.goes)
+
 pub returns-in-Some-clause-prompt : goal.returns-in-Some-clause-prompt
 returns-in-Some-clause-prompt g c = λ prompt.
     let held = g.P.Post.held c.args.post.now in
-    let mid : Moment = record { desk = c.issue.new.desk; hand = Empty; held = held } in
+    let mid : Moment = moment c.issue.new.desk Nothing held in
     Advances-received
-    (record { desk = c.args.desk.now; hand = c.args.self.now.hand; held = held })
+    (moment c.args.desk.now c.args.self.now.unsent held)
     mid
-    (record { desk = c.receive-in-Some.new.desk; hand = c.receive-in-Some.new.self.hand; held = g.P.Post.held c.receive-in-Some.new.post })
+    (moment c.receive-in-Some.new.desk c.receive-in-Some.new.self.unsent (g.P.Post.held c.receive-in-Some.new.post))
     c.replace.new.dest
     c.args.self.now.cause c.issue.new.self.cause c.receive-in-Some.new.self.cause c.receive-in-Some.result
     c.receive-in-Some.ensures.goes.cause
-    (begins c.args.desk.now c.issue.new.desk c.args.self.now c.issue.new.self held Empty (sym c.replace.ensures.value ∙ c.in-Empty.is)
-    c.issue.ensures.goes.cause (c.issue.ensures.out held) (c.issue.ensures.turns held))
+    (begins c.args.desk.now c.issue.new.desk c.args.self.now c.issue.new.self held Nothing (sym c.replace.ensures.value ∙ c.in-Nothing.is)
+    (c.issue.ensures.goes (g.P.Post.table c.args.post.now) (g.P.Post.floor c.args.post.now) (g.P.Post.answers c.args.post.now) c.requires).cause (c.issue.ensures.out held) (c.issue.ensures.turns held))
     (ap job_in c.replace.ensures.after)
-    (fewer-empty mid c.replace.new.dest c.in-Some.field-0 c.replace.ensures.after refl c.in-Some.ensures)
+    (fewer-nothing mid c.replace.new.dest c.in-Some.field-0 c.replace.ensures.after refl c.in-Some.ensures)
     (c.receive-in-Some.ensures.prompt prompt)
+
+pub returns-in-None-clause-goes : goal.returns-in-None-clause-goes
+returns-in-None-clause-goes g c =
+    let floor = g.P.Post.floor c.args.post.now in
+    let answers = g.P.Post.answers c.args.post.now in
+    GoesOn-on _ _ _ (c.issue.ensures.goes (g.P.Post.table c.args.post.now) floor answers c.requires)
+    (GoesOn-told c.issue.new.desk floor answers c.issue.new.self (record { unsent = c.replace.new.dest; cause = c.issue.new.self.cause })
+    (ap job_in (c.replace.ensures.after ∙ sym c.in-Nothing.is ∙ c.replace.ensures.value)) refl)
