@@ -1,16 +1,22 @@
 -- The rows from which what is needed is computed.
 use Rattle.std.proofs.Common.{◌≡◌, ℕ, zero, suc, ◌+◌, ◌-◌, ◌<◌, ◌∙◌, Bool, true, false, List, length, get_or, refl, sym, ap, subst, arith, Option, None, Some}
 use Rattle.std.specs.Prelude.{◌==◌, is_some, IsSome}
+use Rattle.std.specs.Arc.{arc_value}
+use Rattle.rule_tree.specs.Rule.{name_of, states_of}
 use Rattle.schedule.specs.declared.document.Bookmark.{Bookmark}
+use Rattle.schedule.specs.Scratch.{cells_at}
+use Rattle.revision_jobs.specs.declared.entry.Rendering.{Rendering}
+use Rattle.revision_jobs.specs.declared.entry.Step.{Step as Stepping}
 use Rattle.dependency_book.specs.declared.row.RowState.TheVariants.{Empty}
 use Rattle.dependency_book.specs.BookState.{BookState, arrival_known, bookmark_in}
+use Rattle.dependency_book.specs.Entered.{StepsTo, ViewsOf}
 use Rattle.dependency_book.specs.Held.{IsHeld}
 use Rattle.dependency_book.specs.Marks.{ComesBefore}
 use Rattle.dependency_book.specs.Needs.{StepIsNext, ViewIsNext}
 use Rattle.dependency_book.specs.RowState.{known}
 use Rattle.dependency_book.specs.Rows.{ArrivalRow, TextRow, keys, place_in, state_at, mark_rank, bookmark_rank}
 use Rattle.dependency_book.proofs.Outs.{ids_rise}
-use Rattle.dependency_book.proofs.Placed.{place_of-row, before_row, row_comes, before_one, row_stands, stands_in}
+use Rattle.dependency_book.proofs.Placed.{place_of-row, before_row, row_comes, before_one, row_stands, stands_in, in_at}
 use Rattle.dependency_book.proofs.Standing.{has, rank_at, place-has, rank-has, state_at-above, state_at-place}
 use Rattle.dependency_book.proofs.Tests.{either_way, clash, false_eq}
 
@@ -75,3 +81,35 @@ view_row d places id held next =
   where
     row_for : Bookmark → TextRow
     row_for b = record { key = b; state = Empty }
+
+-- the entries that are computed from these rows
+
+pub step_is : (d e : BookState) (m n : ℕ) (s : Stepping) → d ≡ e → ComesBefore e.plan n m → arrival_known e n ≡ Some (arc_value s.from) → arc_value s.rule ≡ d.plan.rule → s.cells ≡ cells_at d.plan.interventions n → s.gens ≡ m - n → StepsTo d m s
+step_is d e m n s same comes known rule cells span =
+    let under : n < m = comes.below in
+    record {
+      before = n;
+      comes = subst (λ (b : BookState). ComesBefore b.plan n m) (sym same) comes;
+      rule = rule;
+      from = subst (λ (b : BookState). arrival_known b n ≡ Some (arc_value s.from)) (sym same) known;
+      cells = cells;
+      gap = omega (arith, under, span);
+    }
+
+-- the bookmark of the row of a view
+bookmark_of : (d : BookState) (places : List ℕ) (id k : ℕ) (x : TextRow) → IsHeld d places → ViewRow d id k → x ≡ get_or d.texts k x → bookmark_in d.plan.bookmarks id ≡ Some x.key
+bookmark_of d places id k x held row is =
+    ap (bookmark_in d.plan.bookmarks) (sym (row.named x)) ∙ in_at d places k x held row.low ∙ ap (λ (r : TextRow). Some r.key) (sym is)
+
+pub view_is : (d e : BookState) (places : List ℕ) (id k : ℕ) (x : TextRow) (r : Rendering) → d ≡ e → IsHeld d places → ViewRow d id k → x ≡ get_or d.texts k x → arrival_known e x.key.generation ≡ Some (arc_value r.from) → r.view ≡ x.key.view
+    → r.cells ≡ cells_at d.plan.interventions x.key.generation → r.name ≡ name_of d.plan.rule → r.states ≡ states_of d.plan.rule → r.generation ≡ x.key.generation → ViewsOf d id r
+view_is d e places id k x r same held row is known view cells name states generation = record {
+  bookmark = x.key;
+  there = bookmark_of d places id k x held row is;
+  view = view;
+  from = subst (λ (b : BookState). arrival_known b x.key.generation ≡ Some (arc_value r.from)) (sym same) known;
+  cells = cells;
+  name = name;
+  states = states;
+  generation = generation;
+}

@@ -1,6 +1,7 @@
 pub mod Entering
 pub mod Followed
 pub mod Found
+pub mod Grown
 pub mod Leaves
 pub mod Loops
 pub mod Marked

@@ -1,5 +1,5 @@
 -- What stands after an edit is right, and just what the edit keeps.
-use Rattle.std.proofs.Common.{◌≡◌, ℕ, ◌<◌, ◌∙◌, Bool, true, false, not, ◌&&◌, ◌||◌, List, [], ◌∷◌, map, refl, sym, ap, subst, arith, Option, None, Some, Ok}
+use Rattle.std.proofs.Common.{◌≡◌, ℕ, ◌<◌, ◌∙◌, Bool, true, false, not, ◌&&◌, ◌||◌, List, [], ◌∷◌, map, refl, sym, ap, ap₂, subst, arith, Option, None, Some, Ok}
 use Rattle.std.specs.Prelude.{if◌then◌else◌, ◌==◌}
 use Rattle.std.proofs.lemmas.Bool.Decides.{nat_tests}
 use Rattle.schedule.specs.declared.document.Bookmark.{Bookmark}
@@ -190,7 +190,7 @@ edit_right d asked marks sound right keeps =
     }
 
 -- what an accepted edit made
-accepted : (o : Option EditFault) (c e : Changed) → unless_refused o c ≡ Ok e → c ≡ e
+pub accepted : (o : Option EditFault) (c e : Changed) → unless_refused o c ≡ Ok e → c ≡ e
 accepted None c e h = cc
 accepted (Some fault) c e h = absurd cc
 
@@ -211,3 +211,29 @@ revised_held d places q asked edited marks later held is sound are at =
           subst (λ (c : Changed). KeepsRows asked d (after_edit d c.plan felt marks) → IsRight (after_edit d c.plan felt marks)) is (λ k. edit_right d asked marks held.sound held.right k)
           (revised_keeps d q asked edited marks held.bookmarks is are);
     }
+
+-- a book that was made of another by an edit, from its parts
+abbrev pub made_of : BookState → Plan → List ArrivalRow → List TextRow → BookState
+made_of d q arrivals texts = record { table = d.table; plan = q; given = d.given; arrivals = arrivals; texts = texts }
+
+pub record IsMade (d : BookState) (q : Plan) (asked : Asked) (edited : Edited) (marks : List Mark) (arrivals : List ArrivalRow) (texts : List TextRow) : Type 0 where
+  pub edit_is : change d.plan asked ≡ Ok (made q edited)
+  pub sound : IsSound q
+  pub are_marks : AreMarksOf q marks
+  pub arrivals_are : arrivals ≡ map (remade_row mark_rank mark_stays (felt_from d.plan asked) d.arrivals) marks
+  pub texts_are : texts ≡ map (remade_row bookmark_rank bookmark_stays (felt_from d.plan asked) d.texts) q.bookmarks
+
+made_is : (d : BookState) (q : Plan) (asked : Asked) (edited : Edited) (marks : List Mark) (arrivals : List ArrivalRow) (texts : List TextRow) → IsMade d q asked edited marks arrivals texts → made_of d q arrivals texts ≡ after_edit d q (felt_from d.plan asked) marks
+made_is d q asked edited marks arrivals texts h = ap₂ (λ (rows : List ArrivalRow) (ts : List TextRow). made_of d q rows ts) h.arrivals_are h.texts_are
+
+pub made_held : (d : BookState) (places : List ℕ) (q : Plan) (asked : Asked) (edited : Edited) (marks : List Mark) (arrivals : List ArrivalRow) (texts : List TextRow) (later : List ℕ) → IsHeld d places → IsMade d q asked edited marks arrivals texts
+    → later ≡ places_of arrivals q.bookmarks → IsHeld (made_of d q arrivals texts) later
+made_held d places q asked edited marks arrivals texts later held h at =
+    subst (λ (e : BookState). IsHeld e later) (sym (made_is d q asked edited marks arrivals texts h))
+    (revised_held d places q asked edited marks later held (accepted (refusal d.plan asked) (changed d.plan asked) (made q edited) h.edit_is) h.sound h.are_marks (at ∙ ap (λ (rows : List ArrivalRow). places_of rows q.bookmarks) h.arrivals_are))
+
+pub made_keeps : (d : BookState) (places : List ℕ) (q : Plan) (asked : Asked) (edited : Edited) (marks : List Mark) (arrivals : List ArrivalRow) (texts : List TextRow) → IsHeld d places → IsMade d q asked edited marks arrivals texts
+    → KeepsRows asked d (made_of d q arrivals texts)
+made_keeps d places q asked edited marks arrivals texts held h =
+    subst (KeepsRows asked d) (sym (made_is d q asked edited marks arrivals texts h))
+    (revised_keeps d q asked edited marks held.bookmarks (accepted (refusal d.plan asked) (changed d.plan asked) (made q edited) h.edit_is) h.are_marks)

@@ -21,7 +21,7 @@ use Rattle.dependency_book.specs.Held.{IsHeld}
 use Rattle.dependency_book.specs.Jobs.{is_need, is_job, given_by, answered, cancelled, issued, IsFilled, IsNextJob, SameDocument, StepExpects}
 use Rattle.dependency_book.specs.Marks.{is_mark}
 use Rattle.dependency_book.specs.Needs.{IsNext}
-use Rattle.dependency_book.specs.Puts.{CanBePut, IsFree, Puts, can_change, missing}
+use Rattle.dependency_book.specs.Puts.{CanBePut, IsFree, Puts, can_change, filled_by, missing}
 use Rattle.dependency_book.specs.Right.{IsRight, GivesWanted, StandsRight, is_row, wanted, text_wanted}
 use Rattle.dependency_book.specs.RowState.{job_of, has_number}
 use Rattle.dependency_book.proofs.Outs.{numbered, none_at}
@@ -186,6 +186,24 @@ step_expects d (View id) place job right out index same is =
     not_text (entry.Step s) None is h = cc
     not_text (entry.Step s) (Some b) is h = cc
     not_text (entry.View r) o is h = is
+
+-- where an answer says that there was no room, its entry is a step
+no_room : (job : Job) (outcome : Result Value EvolveFault) → IsRightAnswer job outcome → outcome ≡ Err EvolveFault.NoRoom → IsStep (entry_of job.place)
+no_room job outcome h none = h.room none
+
+-- what came of an answer that a row expects
+pub filled_is : (d e : BookState) (need : Need) (place : Place) (job : Job) (outcome : Result Value EvolveFault) → IsRight d → expected d need ≡ numbered job.number place → index_of place ≡ index_of job.place → entry_of place ≡ entry_of job.place
+    → IsRightAnswer job outcome → Puts need (given_by outcome) d e → IsFilled d e (record { job = job; outcome = outcome }) (filled_by outcome)
+filled_is d e need place job (Ok v) right out same entry h puts =
+    let state = expected_state d need (record { number = job.number; place = place }) out in
+    let none : missing (row_of d need) ≡ 0 = ap missing state in
+    let count : wanting_of e + missing (row_of d need) ≡ wanting_of d + 0 = puts.wanting in
+    ((need, is_the_job d need place job out same), refl, omega (arith, none, count))
+filled_is d e need place job (Err fault) right out same entry h puts = (
+  (need, is_the_job d need place job out same),
+  refl,
+  λ room. step_expects d need place job right out same entry (no_room job (Err fault) h (ap (λ f. Err f) room)),
+)
 
 -- the books after an answer or a cancelling, and after a job is expected, are right
 

@@ -6,7 +6,7 @@ use Rattle.revision_jobs.specs.Value.{Value}
 use Rattle.dependency_book.specs.declared.need.Need.{Need}
 use Rattle.dependency_book.specs.Jobs.{is_job, answered, IsFilled}
 use Rattle.dependency_book.specs.BookState.{BookState, expected, row_of}
-use Rattle.dependency_book.proofs.Working.{put_answers, filled_right, none_answered, none_numbered, elsewhere}
+use Rattle.dependency_book.proofs.Working.{put_answers, filled_is, filled_right, none_answered, none_numbered, elsewhere}
 use Rattle.dependency_book.proofs.book.Book.fill.Goals as goal
 use Rattle.dependency_book.proofs.book.Book.fill.Goals.{in_default-2, in_default}
 
@@ -19,6 +19,16 @@ not_true h = cc
 
 abbrev answer_of : Job → Result Value EvolveFault → JobResult
 answer_of job outcome = record { job = job; outcome = outcome }
+
+pub returns-in-Some-clause-filled : goal.returns-in-Some-clause-filled
+returns-in-Some-clause-filled c =
+    let d = c.args.self.now in
+    let e = c.fill_row.new.self in
+    let job : Job = c.into_parts-job.result.0 in
+    let outcome = outcome_of c.into_parts-job.result.1 in
+    subst (λ (a : JobResult). IsFilled d e a c.fill_row.result) (ap₂ answer_of c.into_parts-job.ensures.job c.into_parts-job.ensures.outcome)
+    (subst (IsFilled d e (answer_of job outcome)) (sym c.fill_row.ensures.filled)
+    (filled_is d e c.in-Some.need c.in-Some.place.now job outcome c.expecting.ensures.right c.in-Some.ensures.row (c.if-same.ensures.index.0 refl) (c.if-same.ensures.entry refl) c.into_parts-job.ensures.right c.fill_row.ensures.row))
 
 pub returns-in-Some-clause-rows : goal.returns-in-Some-clause-rows
 returns-in-Some-clause-rows c = λ other.

@@ -1,0 +1,43 @@
+-- How many interventions and bookmarks an edit leaves.
+use Rattle.std.proofs.Common.{◌≡◌, ℕ, ◌+◌, ◌≤◌, Bool, List, [], ◌∷◌, ◌++◌, map, filter, length, ap, subst, sym, arith, length-append, Ok}
+use Rattle.std.proofs.lemmas.List.{length-map}
+use Rattle.schedule.specs.declared.edit.Edited.{Edited}
+use Rattle.schedule.specs.declared.document.Intervention.{Intervention}
+use Rattle.schedule.specs.declared.document.Bookmark.{Bookmark}
+use Rattle.schedule.specs.Asked.{Asked, InsertIntervention, ChangeIntervention, RemoveIntervention, SetCells, ReplaceStart, ReplaceRule, AddBookmark, MoveBookmark, RemoveBookmark}
+use Rattle.schedule.specs.Change.{Changed, changed, made, acting, marking}
+use Rattle.schedule.specs.Ids.{intervention_id, bookmark_id, changed_at, without}
+use Rattle.schedule.specs.Plan.{Plan}
+use Rattle.schedule.proofs.Shared.Ids.{length-filter_le}
+
+-- a document has at most one more intervention and one more bookmark than another
+pub record HasOneMore (p q : Plan) : Type 0 where
+  pub interventions : length q.interventions ≤ length p.interventions + 1
+  pub bookmarks : length q.bookmarks ≤ length p.bookmarks + 1
+
+no_more : {X : Type 0} (xs : List X) → length xs ≤ length xs + 1
+no_more xs = omega arith
+
+one_more : {X : Type 0} (xs : List X) (x : X) → length (xs ++ x ∷ []) ≤ length xs + 1
+one_more xs x = let long = length-append xs (x ∷ []) in omega (arith, long)
+
+none_more : {X : Type 0} (id : X → ℕ) (f : X → X) (xs : List X) (n : ℕ) → length (changed_at id f xs n) ≤ length xs + 1
+none_more id f xs n = let same : length (changed_at id f xs n) ≡ length xs = length-map xs _ in omega (arith, same)
+
+one_less : {X : Type 0} (id : X → ℕ) (xs : List X) (n : ℕ) → length (without id xs n) ≤ length xs + 1
+one_less id xs n = let less : length (without id xs n) ≤ length xs = length-filter_le _ xs in omega (arith, less)
+
+has_one_more : (p : Plan) (asked : Asked) → HasOneMore p (changed p asked).plan
+has_one_more p (InsertIntervention generation cells) = record { interventions = one_more p.interventions _; bookmarks = no_more p.bookmarks }
+has_one_more p (ChangeIntervention id generation cells) = record { interventions = none_more intervention_id (acting generation cells) p.interventions id; bookmarks = no_more p.bookmarks }
+has_one_more p (RemoveIntervention id) = record { interventions = one_less intervention_id p.interventions id; bookmarks = no_more p.bookmarks }
+has_one_more p (SetCells cells) = record { interventions = no_more p.interventions; bookmarks = no_more p.bookmarks }
+has_one_more p (ReplaceStart start) = record { interventions = no_more p.interventions; bookmarks = no_more p.bookmarks }
+has_one_more p (ReplaceRule rule) = record { interventions = no_more p.interventions; bookmarks = no_more p.bookmarks }
+has_one_more p (AddBookmark generation view) = record { interventions = no_more p.interventions; bookmarks = one_more p.bookmarks _ }
+has_one_more p (MoveBookmark id generation) = record { interventions = no_more p.interventions; bookmarks = none_more bookmark_id (marking generation) p.bookmarks id }
+has_one_more p (RemoveBookmark id) = record { interventions = no_more p.interventions; bookmarks = one_less bookmark_id p.bookmarks id }
+
+-- the document that an edit made
+pub made_one_more : (p q : Plan) (asked : Asked) (edited : Edited) → changed p asked ≡ made q edited → HasOneMore p q
+made_one_more p q asked edited is = subst (λ (c : Changed). HasOneMore p c.plan) is (has_one_more p asked)
