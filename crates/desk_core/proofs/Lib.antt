@@ -1,4 +1,4 @@
-mod Feeding
+mod Fed
 mod Happening
 mod Known
 mod Out

@@ -250,7 +250,7 @@ module _ (first mid last : BookState) (before answers : List JobResult) (floor :
   end = record { unsent = Nothing; cause = p.cause }
 
   whole : HasCome first before (stage last floor answers end)
-  whole = HasCome-cancelled first mid last before floor answers p end cancels refl refl
+  whole = HasCome-cancelled first mid last before floor answers p end cancels refl refl come
 
   sent_or_out : OutOrSent first last floor
   sent_or_out need job out = either (whole.out need job out)

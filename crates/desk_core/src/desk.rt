@@ -84,6 +84,7 @@ impl<'e> Desk<'e> {
         ensures bound { result ≤ length self.now.plan.bookmarks }
         ensures none { NothingOut self.now → wanting_of self.now ≡ 0 → result ≡ 0 }
         ensures few { length self.now.arrivals + length self.now.texts ≤ 12288 }
+        ensures right { IsRight self.now }
     {
         self.book.pending()
     }

@@ -15,7 +15,7 @@
 mod cause;
 mod collect;
 mod desk;
-mod feed;
+mod feeding;
 mod issue;
 mod progress;
 mod settling;
@@ -25,7 +25,7 @@ pub use cause::Cause;
 pub use collect::Collected;
 pub use dependency_book::Shown;
 pub use desk::Desk;
-pub use feed::feed;
+pub use feeding::feed;
 pub use issue::IssueFault;
 pub use revision_jobs::{
     Answer, Entries, Entry, InlinePost, Job, NoGate, Outcome, Place, Post, Received, Sent, work,

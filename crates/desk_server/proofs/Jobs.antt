@@ -1,5 +1,5 @@
 -- What is out after jobs were dropped.
-use Rattle.std.proofs.Common.{◌≡◌, ◌≢◌, inl, inr, ℕ, ◌-◌, ◌^◌, ◌<◌, ◌≤◌, Bool, true, false, cond, Option, None, Some, IfSome, ◌==◌, ◌&&◌, sym, ap, refl, subst, ◌∙◌, arith}
+use Rattle.std.proofs.Common.{◌≡◌, ◌≢◌, inl, inr, ℕ, ◌-◌, ◌^◌, ◌<◌, ◌≤◌, Bool, true, false, cond, List, Option, None, Some, IfSome, ◌==◌, ◌&&◌, sym, ap, refl, subst, ◌∙◌, arith}
 use Rattle.std.proofs.lemmas.Bool.Decides.{nat_tests}
 use Rattle.worlds.specs.World.{World}
 use Rattle.schedule.specs.Plan.{Plan, opening}
@@ -7,6 +7,7 @@ use Rattle.schedule.specs.Asked.{Asked}
 use Rattle.schedule.specs.declared.document.Bookmark.{Bookmark}
 use Rattle.revision_jobs.specs.declared.entries.Entries.{Entries}
 use Rattle.revision_jobs.specs.declared.answer.Job.{Job}
+use Rattle.revision_jobs.specs.Answer.{JobResult}
 use Rattle.revision_jobs.specs.Value.{pattern, text}
 use Rattle.dependency_book.specs.declared.row.RowState.{RowState}
 use Rattle.dependency_book.specs.declared.row.RowState.TheVariants.{Empty, Expected, Known}
@@ -17,8 +18,9 @@ use Rattle.dependency_book.specs.Jobs.{cancelled, IsFirstOut, SameBook}
 use Rattle.dependency_book.specs.Kept.{KeepsRows, text_kept, keeps_text, keeps_arrival}
 use Rattle.dependency_book.specs.Marks.{is_mark}
 use Rattle.dependency_book.specs.BookState.{BookState, row_of, expected, opened, arrival_row, text_row, bookmark_in, pending_of, NothingOut}
-use Rattle.desk_core.specs.Settling.{IsHeld, Serves}
-use Rattle.desk_server.specs.Jobs.{Carries, CarriesOn, IsFresh, DropsJobs, IsDoneWith}
+use Rattle.desk_core.specs.declared.cause.Cause.{Cause}
+use Rattle.desk_core.specs.Settling.{Explains, IsHeld, Serves}
+use Rattle.desk_server.specs.Jobs.{Carries, CarriesOn, IsFresh, DropsJobs, IsDoneWith, KeepsCauses}
 
 -- where nothing is dropped
 pub drops_none : (old new : BookState) → new ≡ old → DropsJobs old new
@@ -150,6 +152,11 @@ carries_same table floor is_prompt held post old new drops c = record {
     out = λ e need job x. c.out e need job (drops.out need job x);
   };
 }
+
+-- what explained a cause before jobs were given up
+pub causes_kept : (old new : BookState) (answers : List JobResult) (cause : Option Cause) → KeepsCauses old new → IfSome cause (Explains old answers) → IfSome cause (Explains new answers)
+causes_kept old new answers None keeps h = tt
+causes_kept old new answers (Some cause) keeps h = keeps answers cause h
 
 -- a settling leaves a post that carries on
 pub carries_settled : {P : Type 0} (table : P → Entries) (floor : P → ℕ) (is_prompt : P → Bool) (held : P → Option Job) (first last : P) (old new : BookState) (more : Type 0) → Carries table floor is_prompt held first old
