@@ -5,10 +5,11 @@ use Rattle.schedule.specs.declared.edit.Edited.{Edited}
 use Rattle.schedule.specs.declared.document.Intervention.{Intervention}
 use Rattle.schedule.specs.declared.document.Bookmark.{Bookmark}
 use Rattle.schedule.specs.Asked.{Asked, InsertIntervention, ChangeIntervention, RemoveIntervention, SetCells, ReplaceStart, ReplaceRule, AddBookmark, MoveBookmark, RemoveBookmark}
-use Rattle.schedule.specs.Change.{Changed, changed, made, acting, marking}
+use Rattle.schedule.specs.Change.{Changed, change, changed, made, refusal, acting, marking}
 use Rattle.schedule.specs.Ids.{intervention_id, bookmark_id, changed_at, without}
 use Rattle.schedule.specs.Plan.{Plan}
 use Rattle.schedule.proofs.Shared.Ids.{length-filter_le}
+use Rattle.dependency_book.proofs.Revised.{accepted}
 
 -- a document has at most one more intervention and one more bookmark than another
 pub record HasOneMore (p q : Plan) : Type 0 where
@@ -39,5 +40,5 @@ has_one_more p (MoveBookmark id generation) = record { interventions = no_more p
 has_one_more p (RemoveBookmark id) = record { interventions = no_more p.interventions; bookmarks = one_less bookmark_id p.bookmarks id }
 
 -- the document that an edit made
-pub made_one_more : (p q : Plan) (asked : Asked) (edited : Edited) → changed p asked ≡ made q edited → HasOneMore p q
-made_one_more p q asked edited is = subst (λ (c : Changed). HasOneMore p c.plan) is (has_one_more p asked)
+pub made_one_more : (p q : Plan) (asked : Asked) (edited : Edited) → change p asked ≡ Ok (made q edited) → HasOneMore p q
+made_one_more p q asked edited is = subst (λ (c : Changed). HasOneMore p c.plan) (accepted (refusal p asked) (changed p asked) (made q edited) is) (has_one_more p asked)

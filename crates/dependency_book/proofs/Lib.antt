@@ -13,6 +13,7 @@ pub mod Placed
 pub mod Putting
 pub mod Remaking
 pub mod Revised
+pub mod Showing
 pub mod Standing
 pub mod Tests
 pub mod Walk

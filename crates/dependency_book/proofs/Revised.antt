@@ -5,6 +5,7 @@ use Rattle.std.proofs.lemmas.Bool.Decides.{nat_tests}
 use Rattle.schedule.specs.declared.document.Bookmark.{Bookmark}
 use Rattle.schedule.specs.declared.edit.Edited.{Edited}
 use Rattle.schedule.specs.declared.fault.EditFault.{EditFault}
+use Rattle.schedule.specs.Ids.{IdsRise}
 use Rattle.schedule.specs.Plan.{Plan}
 use Rattle.schedule.specs.Asked.{Asked}
 use Rattle.schedule.specs.Change.{Changed, change, changed, made, refusal, unless_refused}
@@ -14,6 +15,7 @@ use Rattle.revision_jobs.specs.declared.answer.Job.{Job}
 use Rattle.revision_jobs.specs.Value.{Value, pattern, text}
 use Rattle.dependency_book.specs.declared.row.RowState.{RowState}
 use Rattle.dependency_book.specs.declared.row.RowState.TheVariants.{Empty, Expected, Known}
+use Rattle.dependency_book.specs.declared.row.Row.{Row}
 use Rattle.dependency_book.specs.declared.mark.Mark.{Mark}
 use Rattle.dependency_book.specs.declared.need.Need.{Need}
 use Rattle.dependency_book.specs.declared.need.Need.TheVariants.{Step, View}
@@ -25,7 +27,7 @@ use Rattle.dependency_book.specs.Marks.{is_mark}
 use Rattle.dependency_book.specs.Remade.{kept_at, remade_row}
 use Rattle.dependency_book.specs.Right.{IsRight, StandsRight, GivesWanted, wanted, text_wanted, is_row}
 use Rattle.dependency_book.specs.RowState.{state_map, job_of}
-use Rattle.dependency_book.specs.Rows.{ArrivalRow, TextRow, keys, state_at, mark_rank, bookmark_rank}
+use Rattle.dependency_book.specs.Rows.{ArrivalRow, TextRow, keys, IsRanked, state_at, mark_rank, bookmark_rank}
 use Rattle.dependency_book.proofs.Followed.{stays_for, texts_stay, kept_in}
 use Rattle.dependency_book.proofs.Leaves.{arrival_left, scratch_left}
 use Rattle.dependency_book.proofs.Remaking.{first_of, if_stays, kept_for, keys-remade, state_at-remade, kept_at-first, kept_at-any}
@@ -222,6 +224,16 @@ pub record IsMade (d : BookState) (q : Plan) (asked : Asked) (edited : Edited) (
   pub are_marks : AreMarksOf q marks
   pub arrivals_are : arrivals ≡ map (remade_row mark_rank mark_stays (felt_from d.plan asked) d.arrivals) marks
   pub texts_are : texts ≡ map (remade_row bookmark_rank bookmark_stays (felt_from d.plan asked) d.texts) q.bookmarks
+
+-- rows that were made anew from what equals this
+pub rows_made : {K V : Type 0} (rank : K → ℕ) (stays : Option ℕ → K → K → Bool) (felt from : Option ℕ) (old was : List (Row K V)) (ks now : List K) (rows : List (Row K V)) → rows ≡ map (remade_row rank stays felt old) ks → felt ≡ from → old ≡ was → ks ≡ now
+    → rows ≡ map (remade_row rank stays from was) now
+rows_made rank stays felt from old was ks now rows is a b c =
+    subst (λ f. rows ≡ map (remade_row rank stays f was) now) a (subst (λ o. rows ≡ map (remade_row rank stays felt o) now) b (subst (λ k. rows ≡ map (remade_row rank stays felt old) k) c is))
+
+pub made_ranked : (d : BookState) (q : Plan) (asked : Asked) (edited : Edited) (marks : List Mark) (arrivals : List ArrivalRow) (texts : List TextRow) → IsMade d q asked edited marks arrivals texts → IsRanked mark_rank arrivals
+made_ranked d q asked edited marks arrivals texts h =
+    subst (IsRanked mark_rank) (sym h.arrivals_are) (subst (IdsRise mark_rank) (sym (keys-remade mark_rank mark_stays (felt_from d.plan asked) d.arrivals marks)) h.are_marks.rise)
 
 made_is : (d : BookState) (q : Plan) (asked : Asked) (edited : Edited) (marks : List Mark) (arrivals : List ArrivalRow) (texts : List TextRow) → IsMade d q asked edited marks arrivals texts → made_of d q arrivals texts ≡ after_edit d q (felt_from d.plan asked) marks
 made_is d q asked edited marks arrivals texts h = ap₂ (λ (rows : List ArrivalRow) (ts : List TextRow). made_of d q rows ts) h.arrivals_are h.texts_are
