@@ -3,6 +3,10 @@ use Rattle.std.proofs.Common.{◌≡◌, ◌⊎◌, ℕ, ◌+◌, ◌<◌, ◌�
 use Rattle.std.specs.Prelude.{if◌then◌else◌, ◌==◌}
 use Rattle.std.proofs.lemmas.Bool.Decides.{nat_tests}
 use Rattle.revision_jobs.specs.declared.answer.Job.{Job}
+use Rattle.revision_jobs.specs.declared.entries.Entries.{Entries}
+use Rattle.revision_jobs.specs.declared.post.Sent.{Sent}
+use Rattle.revision_jobs.specs.declared.post.Sent.TheVariants.{Taken, Full, Closed}
+use Rattle.revision_jobs.specs.Posted.{IsSent, SendsPromptly}
 use Rattle.revision_jobs.specs.Value.{Value}
 use Rattle.dependency_book.specs.declared.row.RowState.{RowState}
 use Rattle.dependency_book.specs.declared.row.RowState.TheVariants.{Empty, Expected, Known}
@@ -15,7 +19,7 @@ use Rattle.dependency_book.specs.Right.{IsRight}
 use Rattle.desk_core.specs.Feed.{Feeds, floor_after}
 use Rattle.desk_core.specs.Issued.{IssuesFor}
 use Rattle.desk_core.specs.Progress.{Cancels}
-use Rattle.desk_core.specs.Settling.{IsHeld}
+use Rattle.desk_core.specs.Settling.{IsHeld, Serves}
 use Rattle.desk_core.proofs.Known.{same_need}
 use Rattle.desk_core.proofs.Out.{has_number-self, issued_out}
 use Rattle.desk_core.proofs.Steps.{SameDocument-on, SameDocument-same}
@@ -102,12 +106,23 @@ rows-undone old mid new need job issued right rows other =
     apart : is_need need other ≡ false → need ≡ other → ⊥
     apart differs same = let k : is_need need other ≡ true = subst (λ n. is_need need n ≡ true) same (its_need need) in cc
 
+-- a post that didn't take a job is as it was
+refused_floor : (job : Job) (before after : ℕ) (sent : Sent) → (sent ≡ Taken → ⊥) → IsSent job before after sent → after ≡ before
+refused_floor job before after Taken other h = absurd (other refl)
+refused_floor job before after (Full back) other h = h.1
+refused_floor job before after (Closed back) other h = h.1
+
+refused_held : (job : Job) (before after : Option Job) (sent : Sent) → (sent ≡ Taken → ⊥) → SendsPromptly job before after sent → after ≡ before
+refused_held job before after Taken other h = absurd (other refl)
+refused_held job before after (Full back) other h = h.1
+refused_held job before after (Closed back) other h = absurd h
+
 -- the last job wasn't taken
-pub Feeds-refused : (first old mid new : BookState) (need : Need) (job : Job) (before floor after taken : ℕ) → IssuesFor old mid job need → IsRight mid → Cancels job.number mid new → after ≡ floor → IsRight new → HasFed first old before floor taken → Feeds first new before after taken
-Feeds-refused first old mid new need job before floor after taken issued middle cancels same right h = record {
+pub Feeds-refused : (first old mid new : BookState) (need : Need) (job : Job) (before floor after taken : ℕ) (sent : Sent) → IssuesFor old mid job need → IsRight mid → Cancels job.number mid new → (sent ≡ Taken → ⊥) → IsSent job floor after sent → IsRight new → HasFed first old before floor taken → Feeds first new before after taken
+Feeds-refused first old mid new need job before floor after taken sent issued middle cancels other is right h = record {
   stays = λ other. subst (λ row. (row_of first other ≡ Empty) ⊎ (row ≡ row_of first other)) (sym (undone other)) (h.stays other);
   out = λ other out k. h.out other out (ap job_of (sym (undone other)) ∙ k);
-  floor = same ∙ h.floor;
+  floor = refused_floor job floor after sent other is ∙ h.floor;
   given = inr (let one = issued.given in let was = h.given in let still = cancels.book.given in omega (arith, one, was, still));
   document = SameDocument-on first mid new (SameDocument-on first old mid h.document issued.document) cancels.book.document;
   right = right;
@@ -129,6 +144,13 @@ Feeds-ended first old new before after taken same right h =
       right = right;
     }
 
+-- a post that took the job serves the desk still
+pub Serves-taken : (old new : BookState) (need : Need) (job : Job) (before after : Entries) (floor higher : ℕ) → IssuesFor old new job need → after ≡ before → higher ≡ job.number + 1 → Serves old before floor → Serves new after higher
+Serves-taken old new need job before after floor higher issued same rises h = record {
+  table = same ∙ h.table ∙ sym issued.document.table;
+  numbers = let is = issued.next.number in let one = issued.given in omega (arith, is, one, rises);
+}
+
 -- what a prompt post holds
 
 pub IsHeld-taken : (old new : BookState) (need : Need) (job : Job) (before after : Option Job) → IssuesFor old new job need → before ≡ None → after ≡ Some job → IsHeld before old → IsHeld after new
@@ -138,6 +160,6 @@ IsHeld-taken old new need job before after issued was is held other out k =
       | inr was_out ↦ absurd (let there = held other out was_out in cc)
     ]
 
-pub IsHeld-undone : (old mid new : BookState) (need : Need) (job : Job) (before after : Option Job) → IssuesFor old mid job need → IsRight mid → Cancels job.number mid new → after ≡ before → IsHeld before old → IsHeld after new
-IsHeld-undone old mid new need job before after issued middle cancels same held other out k =
-    same ∙ held other out (ap job_of (sym (rows-undone old mid new need job issued middle cancels.rows other)) ∙ k)
+pub IsHeld-undone : (old mid new : BookState) (need : Need) (job : Job) (before after : Option Job) (sent : Sent) → IssuesFor old mid job need → IsRight mid → Cancels job.number mid new → (sent ≡ Taken → ⊥) → SendsPromptly job before after sent → IsHeld before old → IsHeld after new
+IsHeld-undone old mid new need job before after sent issued middle cancels refused is held other out k =
+    refused_held job before after sent refused is ∙ held other out (ap job_of (sym (rows-undone old mid new need job issued middle cancels.rows other)) ∙ k)

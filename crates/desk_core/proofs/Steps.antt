@@ -191,6 +191,13 @@ GoesOn-sent d floor higher answers p job rises is none = record {
   comes = λ first before. HasCome-sent first d before floor higher answers p job rises is none;
 }
 
+-- a turn begins with what is issued, and goes on with what isn't sent taken out or not
+pub GoesOn-turn : (old mid : BookState) (floor : ℕ) (answers : List JobResult) (before issued shown : Progress) (t : Stage) → GoesOn (stage old floor answers before) (stage mid floor answers issued) → job_in shown.unsent ≡ job_in issued.unsent → shown.cause ≡ issued.cause
+    → GoesOn (stage mid floor answers shown) t → GoesOn (stage old floor answers before) t
+GoesOn-turn old mid floor answers before issued shown t h unsent cause k =
+    GoesOn-on (stage old floor answers before) (stage mid floor answers issued) t h
+    (GoesOn-on (stage mid floor answers issued) (stage mid floor answers shown) t (GoesOn-told mid floor answers issued shown unsent cause) k)
+
 -- the post's view of it
 pub GoesOn-post : (s : Stage) (d : BookState) (floor higher : ℕ) (answers more : List JobResult) (p : Progress) → higher ≡ floor → more ≡ answers → GoesOn s (stage d floor answers p) → GoesOn s (stage d higher more p)
 GoesOn-post s d floor higher answers more p same still h = subst (λ n. GoesOn s (stage d n more p)) (sym same) (subst (λ xs. GoesOn s (stage d floor xs p)) (sym still) h)

@@ -21,10 +21,11 @@ pub fn feed<P: Post>(rt: &impl Wait, desk: &mut Desk<'_>, post: &mut P) -> u32
 {
     let mut taken = 0;
     while let Ok(Some(job)) = desk.issue(rt) {
+        let number = job.number;
         match post.send(job) {
             Sent::Taken => taken += 1,
-            Sent::Full(job) | Sent::Closed(job) => {
-                desk.cancel(job.number);
+            _ => {
+                desk.cancel(number);
                 break;
             }
         }

@@ -1,9 +1,17 @@
-use Rattle.std.proofs.Common.{sym, ap, subst, ◌∙◌, refl}
+use Rattle.std.proofs.Common.{◌≡◌, sym, ap, subst, ◌∙◌, refl}
+use Rattle.desk_core.specs.declared.unsent.Unsent.{Unsent}
 use Rattle.desk_core.specs.declared.unsent.Unsent.TheVariants.{Nothing, Ready, Waiting}
-use Rattle.desk_core.specs.Progress.{Fits, Moment, job_in, moment, ready}
-use Rattle.desk_core.proofs.Steps.{GoesOn-on, GoesOn-told}
+use Rattle.desk_core.specs.declared.progress.Progress.{Progress}
+use Rattle.desk_core.specs.Progress.{Fits, Moment, job_in, moment, over, ready, stage}
+use Rattle.desk_core.proofs.Steps.{GoesOn-turn, GoesOn-same}
 use Rattle.desk_core.proofs.Turns.{Advances-received, Advances-sent, begins, fewer-nothing, fewer-waiting}
 use Rattle.desk_core.proofs.progress.Progress.turn.Goals as goal
+
+same_job_of : (before value shown : Unsent) → value ≡ before → value ≡ shown → job_in shown ≡ job_in before
+same_job_of before value shown is same = ap job_in (sym same ∙ is)
+
+same_job : (before value after : Unsent) → value ≡ before → value ≡ Nothing → after ≡ Nothing → job_in after ≡ job_in before
+same_job before value after is none left = ap job_in (left ∙ sym none ∙ is)
 
 pub send-requires-clause-fits : goal.send-requires-clause-fits
 send-requires-clause-fits g c =
@@ -19,11 +27,12 @@ pub returns-in-Ready-clause-goes : goal.returns-in-Ready-clause-goes
 returns-in-Ready-clause-goes g c =
     let floor = g.P.Post.floor c.args.post.now in
     let answers = g.P.Post.answers c.args.post.now in
-    GoesOn-on _ _ _ (c.issue.ensures.goes (g.P.Post.table c.args.post.now) floor answers c.requires)
-    (GoesOn-on _ _ _
-    (GoesOn-told c.issue.new.desk floor answers c.issue.new.self (ready c.in-Ready.job (record { unsent = c.replace.new.dest; cause = c.issue.new.self.cause }))
-    (ap job_in (sym c.in-Ready.is ∙ c.replace.ensures.value)) refl)
-    c.send.ensures.goes)
+    let left : Progress = record { unsent = c.replace.new.dest; cause = c.issue.new.self.cause } in
+    GoesOn-turn c.args.desk.now c.issue.new.desk floor answers c.args.self.now c.issue.new.self (ready c.in-Ready.job left)
+    (over g.P.Post.floor g.P.Post.answers c.send.new.post c.send.new.desk c.send.new.self)
+    (c.issue.ensures.goes (g.P.Post.table c.args.post.now) floor answers c.requires)
+    (same_job_of c.issue.new.self.unsent c.replace.result (Ready c.in-Ready.job) c.replace.ensures.value c.in-Ready.is) refl
+    c.send.ensures.goes
 
 pub returns-in-Ready-clause-prompt : goal.returns-in-Ready-clause-prompt
 returns-in-Ready-clause-prompt g c = λ prompt.
@@ -42,11 +51,12 @@ pub returns-in-Waiting-clause-goes : goal.returns-in-Waiting-clause-goes
 returns-in-Waiting-clause-goes g c =
     let floor = g.P.Post.floor c.args.post.now in
     let answers = g.P.Post.answers c.args.post.now in
-    GoesOn-on _ _ _ (c.issue.ensures.goes (g.P.Post.table c.args.post.now) floor answers c.requires)
-    (GoesOn-on _ _ _
-    (GoesOn-told c.issue.new.desk floor answers c.issue.new.self (record { unsent = Ready c.in-Waiting.job; cause = c.issue.new.self.cause })
-    (ap job_in (sym c.in-Waiting.is ∙ c.replace.ensures.value)) refl)
-    c.receive.ensures.goes)
+    let left : Progress = record { unsent = Ready c.in-Waiting.job; cause = c.issue.new.self.cause } in
+    GoesOn-turn c.args.desk.now c.issue.new.desk floor answers c.args.self.now c.issue.new.self left
+    (over g.P.Post.floor g.P.Post.answers c.receive.new.post c.receive.new.desk c.receive.new.self)
+    (c.issue.ensures.goes (g.P.Post.table c.args.post.now) floor answers c.requires)
+    (same_job_of c.issue.new.self.unsent c.replace.result (Waiting c.in-Waiting.job) c.replace.ensures.value c.in-Waiting.is) refl
+    c.receive.ensures.goes
 
 pub returns-in-Waiting-clause-prompt : goal.returns-in-Waiting-clause-prompt
 returns-in-Waiting-clause-prompt g c = λ prompt.
@@ -70,11 +80,12 @@ pub returns-in-Some-clause-goes : goal.returns-in-Some-clause-goes
 returns-in-Some-clause-goes g c =
     let floor = g.P.Post.floor c.args.post.now in
     let answers = g.P.Post.answers c.args.post.now in
-    GoesOn-on _ _ _ (c.issue.ensures.goes (g.P.Post.table c.args.post.now) floor answers c.requires)
-    (GoesOn-on _ _ _
-    (GoesOn-told c.issue.new.desk floor answers c.issue.new.self (record { unsent = c.replace.new.dest; cause = c.issue.new.self.cause })
-    (ap job_in (c.replace.ensures.after ∙ sym c.in-Nothing.is ∙ c.replace.ensures.value)) refl)
-    c.receive-in-Some.ensures.goes)
+    let left : Progress = record { unsent = c.replace.new.dest; cause = c.issue.new.self.cause } in
+    GoesOn-turn c.args.desk.now c.issue.new.desk floor answers c.args.self.now c.issue.new.self left
+    (over g.P.Post.floor g.P.Post.answers c.receive-in-Some.new.post c.receive-in-Some.new.desk c.receive-in-Some.new.self)
+    (c.issue.ensures.goes (g.P.Post.table c.args.post.now) floor answers c.requires)
+    (same_job c.issue.new.self.unsent c.replace.result c.replace.new.dest c.replace.ensures.value c.in-Nothing.is c.replace.ensures.after) refl
+    c.receive-in-Some.ensures.goes
 
 pub returns-in-Some-clause-prompt : goal.returns-in-Some-clause-prompt
 returns-in-Some-clause-prompt g c = λ prompt.
@@ -97,6 +108,19 @@ pub returns-in-None-clause-goes : goal.returns-in-None-clause-goes
 returns-in-None-clause-goes g c =
     let floor = g.P.Post.floor c.args.post.now in
     let answers = g.P.Post.answers c.args.post.now in
-    GoesOn-on _ _ _ (c.issue.ensures.goes (g.P.Post.table c.args.post.now) floor answers c.requires)
-    (GoesOn-told c.issue.new.desk floor answers c.issue.new.self (record { unsent = c.replace.new.dest; cause = c.issue.new.self.cause })
-    (ap job_in (c.replace.ensures.after ∙ sym c.in-Nothing.is ∙ c.replace.ensures.value)) refl)
+    let left : Progress = record { unsent = c.replace.new.dest; cause = c.issue.new.self.cause } in
+    let end = stage c.issue.new.desk floor answers left in
+    GoesOn-turn c.args.desk.now c.issue.new.desk floor answers c.args.self.now c.issue.new.self left end
+    (c.issue.ensures.goes (g.P.Post.table c.args.post.now) floor answers c.requires)
+    (same_job c.issue.new.self.unsent c.replace.result c.replace.new.dest c.replace.ensures.value c.in-Nothing.is c.replace.ensures.after) refl
+    (GoesOn-same end)
+
+pub receive-requires-in-Some : goal.receive-requires-in-Some
+receive-requires-in-Some g c =
+    subst (λ unsent. Fits c.issue.new.desk (g.P.Post.table c.args.post.now) (g.P.Post.floor c.args.post.now) (job_in unsent)) (sym c.replace.ensures.value ∙ c.in-Nothing.is ∙ sym c.replace.ensures.after)
+    (c.issue.ensures.fits (g.P.Post.table c.args.post.now) (g.P.Post.floor c.args.post.now) c.requires)
+
+pub returns-in-None-clause-fits : goal.returns-in-None-clause-fits
+returns-in-None-clause-fits g c =
+    subst (λ unsent. Fits c.issue.new.desk (g.P.Post.table c.args.post.now) (g.P.Post.floor c.args.post.now) (job_in unsent)) (sym c.replace.ensures.value ∙ c.in-Nothing.is ∙ sym c.replace.ensures.after)
+    (c.issue.ensures.fits (g.P.Post.table c.args.post.now) (g.P.Post.floor c.args.post.now) c.requires)
