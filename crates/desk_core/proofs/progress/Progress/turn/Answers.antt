@@ -1,4 +1,4 @@
-use Rattle.std.proofs.Common.{◌≡◌, sym, ap, subst, ◌∙◌, refl}
+use Rattle.std.proofs.Common.{◌≡◌, None, sym, ap, subst, ◌∙◌, refl}
 use Rattle.desk_core.specs.declared.unsent.Unsent.{Unsent}
 use Rattle.desk_core.specs.declared.unsent.Unsent.TheVariants.{Nothing, Ready, Waiting}
 use Rattle.desk_core.specs.declared.progress.Progress.{Progress}
@@ -12,6 +12,9 @@ same_job_of before value shown is same = ap job_in (sym same ∙ is)
 
 same_job : (before value after : Unsent) → value ≡ before → value ≡ Nothing → after ≡ Nothing → job_in after ≡ job_in before
 same_job before value after is none left = ap job_in (left ∙ sym none ∙ is)
+
+no_job : (after : Unsent) → after ≡ Nothing → job_in after ≡ None
+no_job after none = ap job_in none
 
 pub send-requires-clause-fits : goal.send-requires-clause-fits
 send-requires-clause-fits g c =
@@ -100,7 +103,7 @@ returns-in-Some-clause-prompt g c = λ prompt.
     c.receive-in-Some.ensures.goes.cause
     (begins c.args.desk.now c.issue.new.desk c.args.self.now c.issue.new.self held Nothing (sym c.replace.ensures.value ∙ c.in-Nothing.is)
     (c.issue.ensures.goes (g.P.Post.table c.args.post.now) (g.P.Post.floor c.args.post.now) (g.P.Post.answers c.args.post.now) c.requires).cause (c.issue.ensures.out held) (c.issue.ensures.turns held))
-    (ap job_in c.replace.ensures.after)
+    (no_job c.replace.new.dest c.replace.ensures.after)
     (fewer-nothing mid c.replace.new.dest c.in-Some.field-0 c.replace.ensures.after refl c.in-Some.ensures)
     (c.receive-in-Some.ensures.prompt prompt)
 
