@@ -1,5 +1,5 @@
 -- What is to be computed for what is needed next, and that it gives what is wanted.
-use Rattle.std.proofs.Common.{◌≡◌, ℕ, ◌+◌, ◌-◌, ◌<◌, ◌≤◌, ◌^◌, ◌∙◌, Bool, true, false, ◌||◌, List, [], ◌∷◌, ◌++◌, refl, sym, ap, ap₂, subst, arith, Option, None, Some}
+use Rattle.std.proofs.Common.{◌≡◌, ℕ, ◌+◌, ◌-◌, ◌<◌, ◌≤◌, ◌^◌, ◌∙◌, true, false, List, [], ◌∷◌, ◌++◌, refl, sym, ap, ap₂, subst, arith, Some}
 use Rattle.std.specs.Prelude.{◌==◌, All}
 use Rattle.std.specs.List.{list_any, AllByRecursion}
 use Rattle.std.proofs.lemmas.Bool.{or_parts}
@@ -26,15 +26,14 @@ use Rattle.revision_jobs.specs.declared.entry.Entry.{Entry}
 use Rattle.revision_jobs.specs.declared.entry.Entry.TheVariants as entry
 use Rattle.revision_jobs.specs.declared.entry.Rendering.{Rendering}
 use Rattle.revision_jobs.specs.declared.entry.Step.{Step as Stepping}
-use Rattle.revision_jobs.specs.Value.{Value, pattern, text, value, start_of, world_after, world_in, CanBeStepped, CanBeRendered}
+use Rattle.revision_jobs.specs.Value.{pattern, text, value, start_of, world_after, world_in, CanBeStepped, CanBeRendered}
 use Rattle.dependency_book.specs.declared.need.Need.{Need}
 use Rattle.dependency_book.specs.declared.need.Need.TheVariants.{Step, View}
 use Rattle.dependency_book.specs.declared.row.RowState.{RowState}
 use Rattle.dependency_book.specs.declared.row.RowState.TheVariants.{Empty, Expected, Known}
 use Rattle.dependency_book.specs.BookState.{BookState, arrival_row, arrival_known, bookmark_in}
 use Rattle.dependency_book.specs.Entered.{IsEntryOf, StepsTo, ViewsOf}
-use Rattle.dependency_book.specs.Marks.{ComesBefore, is_mark, stands_at}
-use Rattle.dependency_book.specs.Needs.{IsNext}
+use Rattle.dependency_book.specs.Marks.{is_mark, stands_at}
 use Rattle.dependency_book.specs.Right.{IsRight, StandsRight, wanted, text_wanted}
 use Rattle.dependency_book.specs.RowState.{known, state_map}
 use Rattle.dependency_book.proofs.Placed.{mark_near}

@@ -1,5 +1,5 @@
 -- What an edit makes of bookmarks, and what stays for them.
-use Rattle.std.proofs.Common.{◌≡◌, ℕ, ◌+◌, ◌∙◌, ◌++◌, ◌≢◌, Bool, true, false, not, ◌&&◌, List, [], ◌∷◌, refl, sym, ap, Option, None, Some}
+use Rattle.std.proofs.Common.{◌≡◌, ℕ, ◌+◌, ◌∙◌, ◌++◌, Bool, true, false, not, ◌&&◌, List, [], ◌∷◌, refl, sym, ap, Option, None, Some}
 use Rattle.std.specs.Prelude.{◌==◌, if◌then◌else◌}
 use Rattle.bookmarks.specs.declared.view.View.{View}
 use Rattle.schedule.specs.declared.document.Bookmark.{Bookmark}
@@ -10,7 +10,7 @@ use Rattle.schedule.specs.Ids.{bookmark_id, changed_at, without}
 use Rattle.dependency_book.specs.declared.row.RowState.{RowState}
 use Rattle.dependency_book.specs.declared.row.RowState.TheVariants.{Empty}
 use Rattle.dependency_book.specs.BookState.{bookmark_in}
-use Rattle.dependency_book.specs.Kept.{felt_from, leaves_after, bookmark_stays, keeps_text, text_kept, takes}
+use Rattle.dependency_book.specs.Kept.{felt_from, bookmark_stays, keeps_text, text_kept, takes}
 use Rattle.dependency_book.proofs.Remaking.{if_stays}
 use Rattle.dependency_book.proofs.Tests.{either_way, clash, true_eq, eq_true, eq_false}
 

@@ -1,5 +1,5 @@
 -- The rows from which what is needed is computed.
-use Rattle.std.proofs.Common.{◌≡◌, ℕ, zero, suc, ◌+◌, ◌-◌, ◌<◌, ◌∙◌, Bool, true, false, List, length, get_or, refl, sym, ap, subst, arith, Option, None, Some}
+use Rattle.std.proofs.Common.{◌≡◌, ℕ, ◌-◌, ◌<◌, ◌∙◌, true, false, List, length, get_or, refl, sym, ap, subst, arith, Some}
 use Rattle.std.specs.Prelude.{◌==◌, is_some, IsSome}
 use Rattle.std.specs.Arc.{arc_value}
 use Rattle.rule_tree.specs.Rule.{name_of, states_of}
@@ -18,7 +18,7 @@ use Rattle.dependency_book.specs.Rows.{ArrivalRow, TextRow, keys, place_in, stat
 use Rattle.dependency_book.proofs.Outs.{ids_rise}
 use Rattle.dependency_book.proofs.Placed.{place_of-row, before_row, row_comes, before_one, row_stands, stands_in, in_at}
 use Rattle.dependency_book.proofs.Standing.{has, rank_at, place-has, rank-has, state_at-above, state_at-place}
-use Rattle.dependency_book.proofs.Tests.{either_way, clash, false_eq}
+use Rattle.dependency_book.proofs.Tests.{either_way, clash}
 
 -- the row of a step, by its place
 pub record StepRow (d : BookState) (m k : ℕ) : Type 0 where

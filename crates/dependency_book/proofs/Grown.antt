@@ -1,9 +1,7 @@
 -- How many interventions and bookmarks an edit leaves.
-use Rattle.std.proofs.Common.{◌≡◌, ℕ, ◌+◌, ◌≤◌, Bool, List, [], ◌∷◌, ◌++◌, map, filter, length, ap, subst, sym, arith, length-append, Ok}
+use Rattle.std.proofs.Common.{◌≡◌, ℕ, ◌+◌, ◌≤◌, List, [], ◌∷◌, ◌++◌, length, subst, arith, length-append, Ok}
 use Rattle.std.proofs.lemmas.List.{length-map}
 use Rattle.schedule.specs.declared.edit.Edited.{Edited}
-use Rattle.schedule.specs.declared.document.Intervention.{Intervention}
-use Rattle.schedule.specs.declared.document.Bookmark.{Bookmark}
 use Rattle.schedule.specs.Asked.{Asked, InsertIntervention, ChangeIntervention, RemoveIntervention, SetCells, ReplaceStart, ReplaceRule, AddBookmark, MoveBookmark, RemoveBookmark}
 use Rattle.schedule.specs.Change.{Changed, change, changed, made, refusal, acting, marking}
 use Rattle.schedule.specs.Ids.{intervention_id, bookmark_id, changed_at, without}

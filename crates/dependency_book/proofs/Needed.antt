@@ -1,22 +1,20 @@
 -- What is needed next, by the rows.
-use Rattle.std.proofs.Common.{◌≡◌, ℕ, zero, suc, ◌+◌, ◌<◌, ◌≤◌, ◌∙◌, Bool, true, false, not, ◌&&◌, ◌||◌, nat_lt, nat_le, List, [], ◌∷◌, length, map, get_or, cond, max, refl, sym, ap, subst, arith, Option, None, Some}
-use Rattle.std.specs.Prelude.{◌==◌, is_some, IsSome, slice_get, count_by, if◌then◌else◌}
-use Rattle.std.specs.List.{list_any, AllByRecursion}
-use Rattle.std.specs.Option.{option_map, option_map_or}
+use Rattle.std.proofs.Common.{◌≡◌, ℕ, zero, suc, ◌<◌, ◌≤◌, ◌∙◌, Bool, true, false, not, ◌&&◌, nat_lt, nat_le, List, [], ◌∷◌, length, get_or, cond, max, refl, sym, ap, subst, arith, Option, None, Some}
+use Rattle.std.specs.Prelude.{◌==◌, is_some, IsSome, slice_get, count_by}
+use Rattle.std.specs.Option.{option_map_or}
 use Rattle.std.proofs.lemmas.Bool.Decides.{nat_tests}
 use Rattle.schedule.specs.declared.document.Bookmark.{Bookmark}
 use Rattle.dependency_book.specs.declared.row.RowState.{RowState}
 use Rattle.dependency_book.specs.declared.row.RowState.TheVariants.{Empty, Expected, Known}
 use Rattle.dependency_book.specs.declared.row.Row.{Row}
 use Rattle.dependency_book.specs.declared.mark.Mark.{Mark}
-use Rattle.dependency_book.specs.declared.need.Need.TheVariants.{Step, View}
 use Rattle.dependency_book.specs.BookState.{BookState, NothingOut, arrival_row, arrival_known, text_row, bookmark_in, is_pending, pending_of, wanting_of}
 use Rattle.dependency_book.specs.Held.{IsHeld, places_of}
 use Rattle.dependency_book.specs.Marks.{ComesBefore, is_mark}
-use Rattle.dependency_book.specs.Needs.{CanBeViewed, CanBeReached, ViewIsNext, StepIsNext, NothingIsNext, IsNext, is_awaited}
-use Rattle.dependency_book.specs.Ready.{can_view, place_ready, reach_of, viewable, steppable, known_before, IsFirstView, IsFirstStep, FirstStep}
-use Rattle.dependency_book.specs.RowState.{known, is_known, is_empty, job_of}
-use Rattle.dependency_book.specs.Rows.{ArrivalRow, TextRow, keys, IsRanked, state_at, place_in, mark_rank, bookmark_rank}
+use Rattle.dependency_book.specs.Needs.{CanBeViewed, CanBeReached, ViewIsNext, StepIsNext, is_awaited}
+use Rattle.dependency_book.specs.Ready.{place_ready, reach_of, viewable, steppable, known_before, IsFirstView, IsFirstStep}
+use Rattle.dependency_book.specs.RowState.{is_known, is_empty, job_of}
+use Rattle.dependency_book.specs.Rows.{ArrivalRow, TextRow, keys, place_in, mark_rank, bookmark_rank}
 use Rattle.dependency_book.proofs.Outs.{NoneOut, arrivals_none, texts_none, ids_rise}
 use Rattle.dependency_book.proofs.Placed.{mark_above, mark_is, row_stands, before_row, row_comes, before_one, in_at, text_stands, StandsIn, stands_in, bookmark_mark}
 use Rattle.dependency_book.proofs.Putting.{and_parts}

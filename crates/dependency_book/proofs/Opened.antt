@@ -1,5 +1,5 @@
 -- A book of the opening document.
-use Rattle.std.proofs.Common.{◌≡◌, ℕ, true, false, refl, sym, ap, subst, arith, ◌∙◌, None, Some, []}
+use Rattle.std.proofs.Common.{◌≡◌, ℕ, false, refl, sym, ap, arith, ◌∙◌, None, Some, []}
 use Rattle.std.specs.Prelude.{◌==◌}
 use Rattle.schedule.specs.Plan.{opening}
 use Rattle.schedule.specs.Sound.{IsSound}

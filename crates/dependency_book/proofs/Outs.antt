@@ -1,10 +1,9 @@
 -- Rows that expect jobs.
-use Rattle.std.proofs.Common.{◌≡◌, ℕ, ◌<◌, ◌≤◌, ◌∙◌, Bool, true, false, List, [], ◌∷◌, refl, sym, ap, ap₂, subst, arith, Option, None, Some}
+use Rattle.std.proofs.Common.{◌≡◌, ℕ, ◌<◌, ◌≤◌, ◌∙◌, true, false, List, [], ◌∷◌, refl, sym, ap, ap₂, subst, arith, Option, None, Some}
 use Rattle.std.specs.Prelude.{◌==◌, IfSome, min}
 use Rattle.std.specs.List.{AllByRecursion}
 use Rattle.schedule.specs.declared.document.Bookmark.{Bookmark}
 use Rattle.schedule.specs.Ids.{IdsRise, bookmark_id}
-use Rattle.schedule.specs.Sound.{IsSound}
 use Rattle.revision_jobs.specs.declared.answer.Job.{Job}
 use Rattle.revision_jobs.specs.declared.entries.Place.{Place}
 use Rattle.revision_jobs.specs.Value.{pattern, text}
@@ -18,7 +17,7 @@ use Rattle.dependency_book.specs.BookState.{BookState, NothingOut, arrival_row, 
 use Rattle.dependency_book.specs.Held.{IsHeld}
 use Rattle.dependency_book.specs.Jobs.{IsFirstOut}
 use Rattle.dependency_book.specs.RowState.{job_of, state_map, has_number, named_by, either, row_for, lesser, number_of, least_out}
-use Rattle.dependency_book.specs.Rows.{ArrivalRow, TextRow, keys, IsRanked, state_at, mark_rank, bookmark_rank}
+use Rattle.dependency_book.specs.Rows.{keys, IsRanked, state_at, mark_rank, bookmark_rank}
 use Rattle.dependency_book.proofs.Standing.{has, has-above, state_at-above}
 use Rattle.dependency_book.proofs.Tests.{either_way, clash, true_eq, eq_true, eq_false, false_eq}
 

@@ -1,23 +1,20 @@
 -- Marks and bookmarks by the places of their rows.
-use Rattle.std.proofs.Common.{◌≡◌, ℕ, zero, suc, ◌+◌, ◌-◌, ◌<◌, ◌≤◌, ◌^◌, ◌∙◌, ◌⊎◌, Bool, true, false, ◌||◌, nat_lt, nat_le, List, [], ◌∷◌, length, get_or, refl, sym, ap, subst, arith, inl, inr, Option, None, Some}
-use Rattle.std.specs.Prelude.{◌==◌, is_some, slice_get}
+use Rattle.std.proofs.Common.{◌≡◌, ℕ, zero, suc, ◌<◌, ◌≤◌, ◌^◌, ◌∙◌, ◌⊎◌, true, false, nat_lt, List, [], ◌∷◌, length, get_or, refl, sym, ap, subst, arith, inl, inr, Some}
+use Rattle.std.specs.Prelude.{◌==◌}
 use Rattle.std.specs.List.{list_any, AllByRecursion}
 use Rattle.schedule.specs.declared.document.Bookmark.{Bookmark}
 use Rattle.schedule.specs.declared.document.Intervention.{Intervention}
-use Rattle.schedule.specs.Ids.{IdsRise, bookmark_id}
 use Rattle.schedule.specs.Plan.{Plan}
 use Rattle.schedule.specs.Scratch.{acts_at}
 use Rattle.schedule.specs.Sound.{IsSound, IsAllowed}
 use Rattle.rule_tree.specs.Rule.{states_of}
-use Rattle.dependency_book.specs.declared.row.RowState.{RowState}
 use Rattle.dependency_book.specs.declared.row.Row.{Row}
-use Rattle.dependency_book.specs.BookState.{BookState, arrival_row, arrival_known, text_row, bookmark_in}
+use Rattle.dependency_book.specs.BookState.{BookState, arrival_row, text_row, bookmark_in}
 use Rattle.dependency_book.specs.Held.{IsHeld}
 use Rattle.dependency_book.specs.Marks.{ComesBefore, is_mark, stands_at}
-use Rattle.dependency_book.specs.RowState.{known, is_known}
-use Rattle.dependency_book.specs.Rows.{ArrivalRow, TextRow, keys, IsRanked, state_at, place_in, mark_rank, bookmark_rank}
+use Rattle.dependency_book.specs.Rows.{ArrivalRow, TextRow, keys, IsRanked, place_in, mark_rank, bookmark_rank}
 use Rattle.dependency_book.proofs.Outs.{ids_rise, over_zero}
-use Rattle.dependency_book.proofs.Standing.{has, rank_at, rank_rises, above_at, has-row, state_at-row, state_at-place, place_in-le, below_place, from_place, place-has, rank-has}
+use Rattle.dependency_book.proofs.Standing.{has, rank_at, rank_rises, above_at, has-row, state_at-row, below_place, from_place, place-has, rank-has}
 use Rattle.dependency_book.proofs.Tests.{either_way, clash, true_eq, false_eq, eq_true, eq_false, true_lt, false_lt}
 
 -- a row's own rank has its place

@@ -1,5 +1,5 @@
 -- Books in which something is put in a row.
-use Rattle.std.proofs.Common.{◌≡◌, ℕ, ◌+◌, ◌<◌, ◌≤◌, ◌∙◌, Bool, true, false, ◌&&◌, ◌||◌, nat_lt, List, [], ◌++◌, length, take, drop, append-nil, refl, sym, ap, subst, arith, Option, None, Some}
+use Rattle.std.proofs.Common.{◌≡◌, ℕ, ◌<◌, ◌≤◌, ◌∙◌, Bool, true, false, ◌&&◌, nat_lt, List, [], ◌++◌, length, take, drop, append-nil, refl, sym, ap, subst, arith, Some}
 use Rattle.std.specs.Prelude.{if◌then◌else◌, ◌==◌, map}
 use Rattle.std.proofs.lemmas.List.{drop_all, take_all}
 use Rattle.dependency_book.specs.declared.row.Row.{Row}
@@ -12,14 +12,14 @@ use Rattle.dependency_book.specs.declared.need.Need.TheVariants.{Step, View}
 use Rattle.dependency_book.specs.declared.row.RowState.{RowState}
 use Rattle.dependency_book.specs.declared.row.RowState.TheVariants.{Empty, Expected, Known}
 use Rattle.dependency_book.specs.AllMarks.{AreMarksOf}
-use Rattle.dependency_book.specs.BookState.{BookState, arrival_row, text_row, row_of, expected, wanting_of}
+use Rattle.dependency_book.specs.BookState.{BookState, arrival_row, text_row, row_of, expected}
 use Rattle.dependency_book.specs.Held.{IsHeld, places_of}
-use Rattle.dependency_book.specs.Jobs.{is_need, SameBook}
+use Rattle.dependency_book.specs.Jobs.{is_need}
 use Rattle.dependency_book.specs.Marks.{is_mark}
 use Rattle.dependency_book.specs.Puts.{CanBePut, IsFree, Puts, can_change, missing}
 use Rattle.dependency_book.specs.Right.{IsRight, StandsRight, wanted, is_row}
-use Rattle.dependency_book.specs.RowState.{state_map, job_of, has_number, is_empty}
-use Rattle.dependency_book.specs.Rows.{ArrivalRow, TextRow, keys, state_at, place_in, put, mark_rank, bookmark_rank}
+use Rattle.dependency_book.specs.RowState.{state_map, job_of, has_number}
+use Rattle.dependency_book.specs.Rows.{ArrivalRow, keys, state_at, put, mark_rank, bookmark_rank}
 use Rattle.dependency_book.proofs.Standing.{has, keys-put, length-keys, state_at-put_same, state_at-put_other, place_in-keys, count-put}
 use Rattle.dependency_book.proofs.Tests.{either_way, clash, true_eq, eq_true, eq_false, true_lt}
 use Rattle.dependency_book.proofs.Wanted.{same_right}

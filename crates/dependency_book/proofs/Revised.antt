@@ -9,12 +9,10 @@ use Rattle.schedule.specs.Ids.{IdsRise}
 use Rattle.schedule.specs.Plan.{Plan}
 use Rattle.schedule.specs.Asked.{Asked}
 use Rattle.schedule.specs.Change.{Changed, change, changed, made, refusal, unless_refused}
-use Rattle.schedule.specs.Scratch.{arrival, scratch}
 use Rattle.schedule.specs.Sound.{IsSound}
 use Rattle.revision_jobs.specs.declared.answer.Job.{Job}
-use Rattle.revision_jobs.specs.Value.{Value, pattern, text}
-use Rattle.dependency_book.specs.declared.row.RowState.{RowState}
-use Rattle.dependency_book.specs.declared.row.RowState.TheVariants.{Empty, Expected, Known}
+use Rattle.revision_jobs.specs.Value.{pattern, text}
+use Rattle.dependency_book.specs.declared.row.RowState.TheVariants.{Empty, Known}
 use Rattle.dependency_book.specs.declared.row.Row.{Row}
 use Rattle.dependency_book.specs.declared.mark.Mark.{Mark}
 use Rattle.dependency_book.specs.declared.need.Need.{Need}
@@ -25,14 +23,14 @@ use Rattle.dependency_book.specs.Held.{IsHeld, places_of}
 use Rattle.dependency_book.specs.Kept.{KeepsRows, felt_from, leaves_arrival, leaves_after, takes, keeps_arrival, keeps_text, text_kept, arrival_kept, mark_stays, bookmark_stays}
 use Rattle.dependency_book.specs.Marks.{is_mark}
 use Rattle.dependency_book.specs.Remade.{kept_at, remade_row}
-use Rattle.dependency_book.specs.Right.{IsRight, StandsRight, GivesWanted, wanted, text_wanted, is_row}
+use Rattle.dependency_book.specs.Right.{IsRight, StandsRight, wanted, text_wanted, is_row}
 use Rattle.dependency_book.specs.RowState.{state_map, job_of}
 use Rattle.dependency_book.specs.Rows.{ArrivalRow, TextRow, keys, IsRanked, state_at, mark_rank, bookmark_rank}
 use Rattle.dependency_book.proofs.Followed.{stays_for, texts_stay, kept_in}
 use Rattle.dependency_book.proofs.Leaves.{arrival_left, scratch_left}
-use Rattle.dependency_book.proofs.Remaking.{first_of, if_stays, kept_for, keys-remade, state_at-remade, kept_at-first, kept_at-any}
+use Rattle.dependency_book.proofs.Remaking.{first_of, kept_for, keys-remade, state_at-remade, kept_at-first, kept_at-any}
 use Rattle.dependency_book.proofs.Standing.{has, state_at-above}
-use Rattle.dependency_book.proofs.Tests.{either_way, clash, true_eq, eq_false}
+use Rattle.dependency_book.proofs.Tests.{either_way, true_eq}
 use Rattle.dependency_book.proofs.Wanted.{start_wanted, same_right}
 
 -- what stands after an edit that is felt from here and gives this document, with these marks

@@ -1,15 +1,15 @@
 -- What is shown of a bookmark, by the row at the place of its id.
-use Rattle.std.proofs.Common.{◌≡◌, ℕ, ◌<◌, ◌≤◌, ◌∙◌, List, [], ◌∷◌, length, get_or, refl, sym, ap, subst, arith, Option, None, Some}
+use Rattle.std.proofs.Common.{◌≡◌, ℕ, ◌<◌, ◌∙◌, List, [], ◌∷◌, length, get_or, refl, sym, ap, subst, Option, None, Some}
 use Rattle.std.specs.Prelude.{◌==◌, IsSome}
 use Rattle.schedule.specs.declared.document.Bookmark.{Bookmark}
 use Rattle.schedule.specs.Scratch.{scratch}
-use Rattle.revision_jobs.specs.Value.{Value, text}
+use Rattle.revision_jobs.specs.Value.{text}
 use Rattle.dependency_book.specs.declared.need.Need.TheVariants.{View}
 use Rattle.dependency_book.specs.declared.row.RowState.{RowState}
 use Rattle.dependency_book.specs.declared.row.RowState.TheVariants.{Empty, Expected, Known}
-use Rattle.dependency_book.specs.BookState.{BookState, bookmark_in, text_known, text_row}
+use Rattle.dependency_book.specs.BookState.{BookState, bookmark_in, text_row}
 use Rattle.dependency_book.specs.Held.{IsHeld}
-use Rattle.dependency_book.specs.Right.{IsRight, StandsRight, text_wanted}
+use Rattle.dependency_book.specs.Right.{StandsRight, text_wanted}
 use Rattle.dependency_book.specs.RowState.{known, state_map}
 use Rattle.dependency_book.specs.Rows.{TextRow, place_in, bookmark_rank}
 use Rattle.dependency_book.specs.Shown.{IsCurrent, IsPending}
@@ -72,8 +72,8 @@ its_id (c ∷ bs) id b is =
     (λ hit. let one : Some c ≡ Some b = rw hit at is in let same : c ≡ b = cc in ap (λ (x : Bookmark). x.id) (sym same) ∙ true_eq c.id id hit)
     (λ miss. its_id bs id b (rw miss at is))
 
-pub is_absent : (d : BookState) (places : List ℕ) (id : ℕ) → IsHeld d places → ((x : TextRow) → place_in bookmark_rank id d.texts < length d.texts → (get_or d.texts (place_in bookmark_rank id d.texts) x).key.id ≡ id → ⊥) → bookmark_in d.plan.bookmarks id ≡ None
-is_absent d places id held none = by_bookmark (bookmark_in d.plan.bookmarks id) refl
+absent_at : (d : BookState) (places : List ℕ) (id : ℕ) → IsHeld d places → ((x : TextRow) → place_in bookmark_rank id d.texts < length d.texts → (get_or d.texts (place_in bookmark_rank id d.texts) x).key.id ≡ id → ⊥) → bookmark_in d.plan.bookmarks id ≡ None
+absent_at d places id held none = by_bookmark (bookmark_in d.plan.bookmarks id) refl
   where
     row_for : Bookmark → TextRow
     row_for b = record { key = b; state = Empty }
@@ -86,3 +86,16 @@ is_absent d places id held none = by_bookmark (bookmark_in d.plan.bookmarks id) 
         let named : (get_or d.texts f.place x).key.id ≡ id = ap (λ (c : Bookmark). c.id) (f.is x) ∙ its_id d.plan.bookmarks id b is in
         let at : place_in bookmark_rank id d.texts ≡ f.place = ap (λ n. place_in bookmark_rank n d.texts) (sym named) ∙ place_of-row bookmark_rank d.texts f.place x (ids_rise d places held) f.low in
         absurd (none x (subst (λ k. k < length d.texts) (sym at) f.low) (subst (λ k. (get_or d.texts k x).key.id ≡ id) (sym at) named))
+
+pub is_absent : (d : BookState) (places : List ℕ) (id k : ℕ) (rows : List TextRow) → IsHeld d places → rows ≡ d.texts → k ≡ place_in bookmark_rank id d.texts → ((x : TextRow) → k < length rows → (get_or rows k x).key.id ≡ id → ⊥) → bookmark_in d.plan.bookmarks id ≡ None
+is_absent d places id k rows held is at none =
+    absent_at d places id held
+    (subst (λ j. (x : TextRow) → j < length d.texts → (get_or d.texts j x).key.id ≡ id → ⊥) at
+    (subst (λ (rs : List TextRow). (x : TextRow) → k < length rs → (get_or rs k x).key.id ≡ id → ⊥) is none))
+
+pub text_row_at : (d : BookState) (id k : ℕ) (x : TextRow) (rows : List TextRow) → rows ≡ d.texts → k < length rows → x ≡ get_or rows k x → x.key.id ≡ id → IsTextRow d id k x
+text_row_at d id k x rows is low here named = record {
+  low = subst (λ (rs : List TextRow). k < length rs) is low;
+  is = here ∙ ap (λ (rs : List TextRow). get_or rs k x) is;
+  named = named;
+}

@@ -1,19 +1,18 @@
 -- Rows by rising ranks: what stands at a rank, where its row is, and what is put there.
-use Rattle.std.proofs.Common.{◌≡◌, ℕ, zero, suc, ◌+◌, ◌<◌, ◌≤◌, ◌≢◌, ◌∙◌, Bool, true, false, cond, ◌||◌, ◌++◌, nat_lt, List, [], ◌∷◌, length, map, get_or, refl, sym, ap, subst, arith}
+use Rattle.std.proofs.Common.{◌≡◌, ℕ, zero, suc, ◌+◌, ◌<◌, ◌≤◌, ◌≢◌, ◌∙◌, Bool, true, false, cond, ◌++◌, nat_lt, List, [], ◌∷◌, length, get_or, refl, sym, ap, arith}
 use Rattle.std.specs.Prelude.{◌==◌, count_by, if◌then◌else◌}
 use Rattle.std.specs.List.{list_any, AllByRecursion}
 use Rattle.std.specs.List.Sorted.{IsNonDecreasingBy}
 use Rattle.std.proofs.Math.ListN.{set}
 use Rattle.std.proofs.lemmas.List.{length-map}
 use Rattle.std.proofs.lemmas.List.Sums.{sum_by-append}
-use Rattle.schedule.specs.Ids.{IdsRise}
 use Rattle.dependency_book.specs.declared.row.RowState.{RowState}
 use Rattle.dependency_book.specs.declared.row.RowState.TheVariants.{Empty}
 use Rattle.dependency_book.specs.declared.row.Row.{Row}
 use Rattle.dependency_book.specs.Puts.{missing}
 use Rattle.dependency_book.specs.RowState.{is_empty}
 use Rattle.dependency_book.specs.Rows.{keys, IsRanked, state_at, place_in, put}
-use Rattle.dependency_book.proofs.Tests.{either_way, clash, lt_true, lt_false, true_lt, false_lt, eq_true, eq_false, true_eq, false_eq}
+use Rattle.dependency_book.proofs.Tests.{either_way, clash, lt_true, true_lt, false_lt, eq_true, eq_false, true_eq, false_eq}
 
 -- whether a key has a rank
 abbrev pub has : {K : Type 0} → (K → ℕ) → ℕ → List K → Bool

@@ -1,33 +1,33 @@
 -- Jobs that rows expect, and what their answers give.
-use Rattle.std.proofs.Common.{◌≡◌, ℕ, ◌+◌, ◌<◌, ◌≤◌, ◌∙◌, Bool, true, false, ◌&&◌, List, refl, sym, ap, subst, arith, Option, None, Some, Result, Ok, Err}
-use Rattle.std.specs.Prelude.{◌==◌, nat_lt, [], ◌∷◌, if◌then◌else◌}
+use Rattle.std.proofs.Common.{◌≡◌, ℕ, ◌+◌, ◌<◌, ◌∙◌, Bool, true, false, ◌&&◌, List, refl, sym, ap, subst, arith, Option, None, Some, Result, Ok, Err}
+use Rattle.std.specs.Prelude.{◌==◌, nat_lt, [], ◌∷◌}
 use Rattle.step_engine.specs.declared.evolved.EvolveFault.{EvolveFault}
 use Rattle.schedule.specs.declared.document.Bookmark.{Bookmark}
 use Rattle.schedule.specs.Ids.{has_id, bookmark_id}
-use Rattle.schedule.specs.Scratch.{scratch}
 use Rattle.revision_jobs.specs.declared.entry.Entry.{Entry}
 use Rattle.revision_jobs.specs.declared.entry.Entry.TheVariants as entry
 use Rattle.revision_jobs.specs.declared.answer.Job.{Job}
 use Rattle.revision_jobs.specs.declared.entries.Place.{Place}
 use Rattle.revision_jobs.specs.Answer.{JobResult, IsRight as IsRightAnswer}
-use Rattle.revision_jobs.specs.Entries.{IsOf, entry_of, index_of}
-use Rattle.revision_jobs.specs.Value.{Value, IsStep, value, pattern, text}
+use Rattle.revision_jobs.specs.Entries.{entry_of, index_of}
+use Rattle.revision_jobs.specs.Room.{HasNoRoom}
+use Rattle.revision_jobs.specs.Value.{Value, value}
 use Rattle.dependency_book.specs.declared.need.Need.{Need}
 use Rattle.dependency_book.specs.declared.need.Need.TheVariants.{Step, View}
 use Rattle.dependency_book.specs.declared.row.RowState.{RowState}
 use Rattle.dependency_book.specs.declared.row.RowState.TheVariants.{Empty, Expected, Known}
 use Rattle.dependency_book.specs.BookState.{BookState, row_of, expected, bookmark_in, wanting_of}
 use Rattle.dependency_book.specs.Held.{IsHeld}
-use Rattle.dependency_book.specs.Jobs.{is_need, is_job, given_by, answered, cancelled, issued, IsFilled, IsNextJob, SameDocument, StepExpects}
+use Rattle.dependency_book.specs.Jobs.{is_need, is_job, given_by, answered, cancelled, IsFilled, IsNextJob, StepExpects}
 use Rattle.dependency_book.specs.Marks.{is_mark}
 use Rattle.dependency_book.specs.Needs.{IsNext}
-use Rattle.dependency_book.specs.Puts.{CanBePut, IsFree, Puts, can_change, filled_by, missing}
-use Rattle.dependency_book.specs.Right.{IsRight, GivesWanted, StandsRight, is_row, wanted, text_wanted}
+use Rattle.dependency_book.specs.Puts.{CanBePut, Puts, can_change, filled_by, missing}
+use Rattle.dependency_book.specs.Right.{IsRight, GivesWanted, StandsRight, is_row, text_wanted}
 use Rattle.dependency_book.specs.RowState.{job_of, has_number}
 use Rattle.dependency_book.proofs.Outs.{numbered, none_at}
 use Rattle.dependency_book.proofs.Entering.{entry_gives}
 use Rattle.dependency_book.proofs.Putting.{need_is, need_same, and_parts, put_right}
-use Rattle.dependency_book.proofs.Tests.{either_way, clash, eq_true, eq_false, false_eq, lt_true, true_lt, true_eq}
+use Rattle.dependency_book.proofs.Tests.{either_way, clash, eq_true, eq_false, false_eq, lt_true, true_lt}
 
 -- a row that expects a job
 
@@ -174,22 +174,18 @@ pub none_cancelled : (d : BookState) (n : ℕ) → ((need : Need) → has_number
 none_cancelled d n none need = sym (let off = none need in rw off refl)
 
 -- a job that found no room is a step's
-pub step_expects : (d : BookState) (need : Need) (place : Place) (job : Job) → IsRight d → expected d need ≡ numbered job.number place → index_of place ≡ index_of job.place → entry_of place ≡ entry_of job.place → IsStep (entry_of job.place) → StepExpects d job
-step_expects d (Step g) place job right out index same is =
+pub step_expects : (d : BookState) (need : Need) (place : Place) (job : Job) → IsRight d → expected d need ≡ numbered job.number place → index_of place ≡ index_of job.place → entry_of place ≡ entry_of job.place → ((limit : ℕ) × HasNoRoom limit (entry_of job.place)) → StepExpects d job
+step_expects d (Step g) place job right out index same spent =
     let can = expected_row d (Step g) (record { number = job.number; place = place }) right out in
     let parts = and_parts (nat_lt 0 g) (is_mark d.plan g) can in
     record { mark = g; above = true_lt 0 g parts.0; noted = parts.1; row = is_the_job d (Step g) place job out index }
-step_expects d (View id) place job right out index same is =
-    absurd (not_text (entry_of job.place) (bookmark_in d.plan.bookmarks id) is ((expected_gives d (View id) (record { number = job.number; place = place }) right out).gives ∙ ap (λ e. Some (value e)) same))
+step_expects d (View id) place job right out index same spent =
+    absurd (not_text (entry_of job.place) (bookmark_in d.plan.bookmarks id) spent.0 spent.1 ((expected_gives d (View id) (record { number = job.number; place = place }) right out).gives ∙ ap (λ e. Some (value e)) same))
   where
-    not_text : (e : Entry) (o : Option Bookmark) → IsStep e → text_wanted d.plan o ≡ Some (value e) → ⊥
-    not_text (entry.Step s) None is h = cc
-    not_text (entry.Step s) (Some b) is h = cc
-    not_text (entry.View r) o is h = is
-
--- where an answer says that there was no room, its entry is a step
-no_room : (job : Job) (outcome : Result Value EvolveFault) → IsRightAnswer job outcome → outcome ≡ Err EvolveFault.NoRoom → IsStep (entry_of job.place)
-no_room job outcome h none = h.room none
+    not_text : (e : Entry) (o : Option Bookmark) (limit : ℕ) → HasNoRoom limit e → text_wanted d.plan o ≡ Some (value e) → ⊥
+    not_text (entry.Step s) None limit is h = cc
+    not_text (entry.Step s) (Some b) limit is h = cc
+    not_text (entry.View r) o limit is h = is
 
 -- what came of an answer that a row expects
 pub filled_is : (d e : BookState) (need : Need) (place : Place) (job : Job) (outcome : Result Value EvolveFault) → IsRight d → expected d need ≡ numbered job.number place → index_of place ≡ index_of job.place → entry_of place ≡ entry_of job.place
@@ -202,7 +198,7 @@ filled_is d e need place job (Ok v) right out same entry h puts =
 filled_is d e need place job (Err fault) right out same entry h puts = (
   (need, is_the_job d need place job out same),
   refl,
-  λ room. step_expects d need place job right out same entry (no_room job (Err fault) h (ap (λ f. Err f) room)),
+  λ room. step_expects d need place job right out same entry (h.room (ap (λ f. Err f) room)),
 )
 
 -- the books after an answer or a cancelling, and after a job is expected, are right

@@ -1,5 +1,5 @@
 -- A book that is right for its document.
-use Rattle.std.specs.Prelude.{◌≡◌, ℕ, ◌<◌, ◌≤◌, Bool, ◌||◌, ◌==◌, false, Option, None, Some, ⊤}
+use Rattle.std.specs.Prelude.{◌≡◌, ◌<◌, ◌≤◌, Bool, ◌||◌, ◌==◌, false, Option, None, Some, ⊤}
 use Rattle.schedule.specs.declared.document.Bookmark.{Bookmark}
 use Rattle.schedule.specs.Ids.{has_id, bookmark_id}
 use Rattle.schedule.specs.Plan.{Plan}

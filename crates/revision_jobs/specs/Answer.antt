@@ -1,12 +1,13 @@
 -- What an answer says.
-use Rattle.std.specs.Prelude.{◌≡◌, IfOk, Result, Ok, Err}
+use Rattle.std.specs.Prelude.{◌≡◌, ℕ, IfOk, Result, Ok, Err}
 use Rattle.std.specs.Arc.{arc_value}
 use Rattle.step_engine.specs.declared.evolved.EvolveFault.{EvolveFault}
 use Rattle.revision_jobs.specs.declared.answer.Job.{Job}
 use Rattle.revision_jobs.specs.declared.answer.Outcome.{Outcome}
 use Rattle.revision_jobs.specs.declared.answer.Outcome.TheVariants.{Plane, Text, Gave}
 use Rattle.revision_jobs.specs.Entries.{entry_of}
-use Rattle.revision_jobs.specs.Value.{Value, IsStep, pattern, text, value}
+use Rattle.revision_jobs.specs.Room.{HasNoRoom}
+use Rattle.revision_jobs.specs.Value.{Value, pattern, text, value}
 
 -- the value in an outcome, or why there is none
 abbrev pub outcome_of : Outcome → Result Value EvolveFault
@@ -19,7 +20,8 @@ pub record JobResult : Type 0 where
   pub job : Job
   pub outcome : Result Value EvolveFault
 
--- a value in the answer to a job is that of the job's entry, and only of a step it is said that there was no room
+-- a value in the answer to a job is that of the job's entry, and that there was no room is said only
+-- where the entry has none at some limit
 pub record IsRight (job : Job) (outcome : Result Value EvolveFault) : Type 0 where
   pub value_is : IfOk outcome (λ found. found ≡ value (entry_of job.place))
-  pub room : outcome ≡ Err EvolveFault.NoRoom → IsStep (entry_of job.place)
+  pub room : outcome ≡ Err EvolveFault.NoRoom → (limit : ℕ) × HasNoRoom limit (entry_of job.place)

@@ -3,4 +3,5 @@ pub mod Entries
 pub mod Inline
 pub mod Past
 pub mod Posted
+pub mod Room
 pub mod Value

@@ -1,5 +1,5 @@
 -- What an entry comes to, and when it can be worked.
-use Rattle.std.specs.Prelude.{ℕ, List, All, ⊤}
+use Rattle.std.specs.Prelude.{ℕ, List, All}
 use Rattle.std.specs.Arc.{arc_value}
 use Rattle.worlds.specs.World.{World}
 use Rattle.worlds.specs.Lay.{lay}
@@ -43,9 +43,11 @@ value (entry.View r) = text (bytes_of r)
 
 -- the cells of a step can be laid, and what they give can evolve so long
 abbrev pub CanBeStepped : Step → Type 0
-CanBeStepped s = All CanBeLaid s.cells × CanEvolve (states_of (arc_value s.rule)) s.gens (start_of s)
+CanBeStepped s = All CanBeLaid s.cells
+    × CanEvolve (states_of (arc_value s.rule)) s.gens (start_of s)
 
--- the cells of a rendering can be laid, what they give has states of the rule, and the view keeps the limits of views
+-- the cells of a rendering can be laid, what they give has states of the rule, and the view keeps
+-- its limits
 abbrev pub CanBeRendered : Rendering → Type 0
 CanBeRendered r = All CanBeLaid r.cells × AllBelow r.states (world_in r) × IsWithin r.view
 
@@ -53,8 +55,3 @@ CanBeRendered r = All CanBeLaid r.cells × AllBelow r.states (world_in r) × IsW
 abbrev pub CanBeWorked : Entry → Type 0
 CanBeWorked (entry.Step s) = CanBeStepped s
 CanBeWorked (entry.View r) = CanBeRendered r
-
--- the entry is a step
-abbrev pub IsStep : Entry → Type 0
-IsStep (entry.Step s) = ⊤
-IsStep (entry.View r) = ⊥

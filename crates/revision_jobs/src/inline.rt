@@ -1,5 +1,6 @@
 //! A post without threads.
-ghost use Rattle.std.specs.Prelude.{◌≡◌, [], None};
+ghost use Rattle.std.specs.Prelude.{◌≡◌};
+ghost use Rattle.revision_jobs.specs.Inline.{new_inline};
 
 use crate::answer::Job;
 use crate::answers::Answers;
@@ -51,13 +52,7 @@ impl<'a> InlinePost<'a> {
     /// A post that holds no job and gave no answer. A step may keep at most `squares` squares, and
     /// never more than 16,777,216.
     pub fn new(alloc: Global, entries: &'a Entries, squares: u32) -> InlinePost<'a>
-        ensures { result ≡ record {
-          table = entries.now;
-          floor = 0;
-          held = None;
-          answers = [];
-          squares = squares;
-        } }
+        ensures { result ≡ new_inline entries.now squares }
     {
         InlinePost {
             entries,

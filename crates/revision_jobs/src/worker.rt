@@ -3,12 +3,12 @@ ghost use Rattle.std.specs.Prelude.{◌≡◌, Err, IfOk, Ok};
 ghost use Rattle.std.specs.Arc.{arc_value};
 ghost use Rattle.worlds.specs.Stop.{CountsStop};
 ghost use Rattle.revision_jobs.specs.Answer.{IsRight, outcome_of};
-ghost use Rattle.revision_jobs.specs.Entries.{IsOf};
+ghost use Rattle.revision_jobs.specs.Entries.{IsOf, entry_of};
+ghost use Rattle.revision_jobs.specs.Room.{HasNoRoom, IsStepSpent};
 ghost use Rattle.revision_jobs.specs.Value.{
   CanBeRendered,
   CanBeStepped,
   CanBeWorked,
-  IsStep,
   bytes_of,
   value,
   world_after,
@@ -42,6 +42,7 @@ pub fn work<G: Gate, S: Stop>(
     requires { IsOf entries.now job.place }
     ensures job { result.job ≡ job }
     ensures right { IsRight result.job result.outcome }
+    ensures room { result.outcome ≡ Err EvolveFault.NoRoom → HasNoRoom limit (entry_of job.place) }
 
     // It gave up for a stop exactly where the stop said yes.
     ensures stop { CountsStop result.outcome (Err EvolveFault.Stopped)
@@ -65,7 +66,7 @@ fn computed<S: Stop>(
 ) -> Result<Outcome, EvolveFault>
     requires { CanBeWorked entry.now }
     ensures value { IfOk result (λ outcome. outcome_of outcome ≡ Ok (value entry.now)) }
-    ensures room { result ≡ Err EvolveFault.NoRoom → IsStep entry.now }
+    ensures room { result ≡ Err EvolveFault.NoRoom → HasNoRoom limit entry.now }
     ensures stop { CountsStop result (Err EvolveFault.Stopped)
         (S.yes_count stop.old) (S.yes_count stop.new) }
 {
@@ -90,6 +91,7 @@ fn stepped<S: Stop>(
 ) -> Result<Plane, EvolveFault>
     requires { CanBeStepped step.now }
     ensures plane { IfOk result (λ plane. plane ≡ world_after step.now) }
+    ensures room { result ≡ Err EvolveFault.NoRoom → IsStepSpent limit step.now }
     ensures stop { CountsStop result (Err EvolveFault.Stopped)
         (S.yes_count stop.old) (S.yes_count stop.new) }
 {

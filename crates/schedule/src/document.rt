@@ -54,6 +54,28 @@ impl Intervention {
     {
         self.generation == generation
     }
+
+    /// An equal intervention.
+    pub(crate) fn copy(&self, alloc: Global) -> Result<Intervention, AllocError>
+        ensures { IfOk result (λ intervention. intervention ≡ self.now) }
+    {
+        Ok(Intervention {
+            id: self.id,
+            generation: self.generation,
+            cells: self.cells.copy(alloc)?,
+        })
+    }
+}
+
+// Equal interventions.
+fn copies(alloc: Global, interventions: &[Intervention]) -> Result<Vec<Intervention>, AllocError>
+    ensures { IfOk result (λ copies. copies.items ≡ interventions.now) }
+{
+    let mut copies = Vec::with_capacity(alloc, interventions.len())?;
+    for intervention in interventions {
+        copies.push(intervention.copy(alloc)?)?;
+    }
+    Ok(copies)
 }
 
 impl Model for Document {
@@ -89,6 +111,22 @@ impl Document {
             last_intervention: 0,
             last_bookmark: 0,
             alloc,
+        })
+    }
+
+    /// The same document. Rule and start are shared; interventions and bookmarks are copied.
+    pub fn copy(&self) -> Result<Document, AllocError>
+        ensures { IfOk result (λ document. document ≡ self.now) }
+    {
+        Ok(Document {
+            rule: Arc::try_clone(&self.rule)?,
+            start: Arc::try_clone(&self.start)?,
+            interventions: copies(self.alloc, &self.interventions)?,
+            bookmarks: Vec::from_slice(self.alloc, &self.bookmarks)?,
+            revision: self.revision,
+            last_intervention: self.last_intervention,
+            last_bookmark: self.last_bookmark,
+            alloc: self.alloc,
         })
     }
 

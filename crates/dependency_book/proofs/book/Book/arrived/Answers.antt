@@ -1,5 +1,5 @@
-use Rattle.std.proofs.Common.{◌≡◌, ◌<◌, ◌∙◌, ℕ, List, length, sym, ap, subst, arith, false, None, Some}
-use Rattle.std.specs.Prelude.{◌==◌, is_some, IsSome}
+use Rattle.std.proofs.Common.{◌≡◌, ◌∙◌, ℕ, List, length, sym, ap, subst, arith, None, Some}
+use Rattle.std.specs.Prelude.{is_some, IsSome}
 use Rattle.std.specs.Arc.{arc_value}
 use Rattle.worlds.specs.World.{World}
 use Rattle.dependency_book.specs.BookState.{BookState, arrival_known}

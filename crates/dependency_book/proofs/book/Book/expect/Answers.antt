@@ -1,4 +1,3 @@
-use Rattle.std.proofs.Common.{refl}
 use Rattle.dependency_book.specs.Inside.{state_of}
 use Rattle.dependency_book.specs.declared.need.Need.TheVariants.{Step, View}
 use Rattle.dependency_book.proofs.Working.{raised_held, may_expect_there, expected_right}

@@ -1,12 +1,8 @@
-use Rattle.std.proofs.Common.{◌≡◌, ◌∙◌, ap, ap₂, subst, sym}
+use Rattle.std.proofs.Common.{◌∙◌, ap, ap₂, subst, sym}
 use Rattle.dependency_book.specs.Inside.{state_of}
 use Rattle.dependency_book.specs.Jobs.{IsFirstOut}
 use Rattle.dependency_book.specs.RowState.{lesser, least_out}
 use Rattle.dependency_book.proofs.Outs.{first_out_is}
-use Rattle.dependency_book.proofs.Needed.{none_pending}
-use Rattle.dependency_book.proofs.Working.{step_expects}
-use Rattle.dependency_book.proofs.Revised.{revised_held}
-use Rattle.dependency_book.proofs.Putting.{text_held}
 use Rattle.dependency_book.proofs.book.Book.first_out.Goals as goal
 
 pub returns : goal.returns

@@ -1,11 +1,9 @@
-use Rattle.std.proofs.Common.{◌≡◌, ◌∙◌, ℕ, List, get_or, ap, sym, subst, refl, Option, None, Some}
+use Rattle.std.proofs.Common.{◌≡◌, ℕ, List, get_or, sym, subst, refl, Option, None, Some}
 use Rattle.std.specs.Prelude.{IfNone}
 use Rattle.schedule.specs.declared.document.Bookmark.{Bookmark}
 use Rattle.dependency_book.specs.declared.mark.Mark.{Mark}
-use Rattle.dependency_book.specs.declared.need.Need.{Need}
 use Rattle.dependency_book.specs.declared.need.Need.TheVariants.{Step, View}
-use Rattle.dependency_book.specs.declared.row.RowState.TheVariants.{Empty}
-use Rattle.dependency_book.specs.BookState.{BookState, NothingOut, pending_of, row_of}
+use Rattle.dependency_book.specs.BookState.{BookState, NothingOut, pending_of}
 use Rattle.dependency_book.specs.Held.{IsHeld}
 use Rattle.dependency_book.specs.Inside.{state_of}
 use Rattle.dependency_book.specs.Needs.{IsNext, ViewIsNext, StepIsNext, NothingIsNext}

@@ -1,4 +1,4 @@
-use Rattle.std.proofs.Common.{◌≡◌, ◌++◌, take, drop, length, List, sym, subst}
+use Rattle.std.proofs.Common.{◌++◌, take, drop, length, List, sym, subst}
 use Rattle.revision_jobs.specs.Value.{pattern}
 use Rattle.dependency_book.specs.declared.need.Need.TheVariants.{Step}
 use Rattle.dependency_book.specs.BookState.{BookState}

@@ -1,5 +1,4 @@
 use Rattle.std.proofs.Common.{◌≡◌, ◌∙◌, ◌-◌, true, Some, refl, sym, ap, subst}
-use Rattle.std.specs.Arc.{arc_value}
 use Rattle.schedule.specs.Scratch.{cells_at}
 use Rattle.revision_jobs.specs.declared.entry.Step.{Step as Stepping}
 use Rattle.dependency_book.specs.BookState.{BookState}

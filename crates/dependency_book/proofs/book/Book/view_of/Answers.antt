@@ -1,6 +1,5 @@
-use Rattle.std.proofs.Common.{◌≡◌, ◌<◌, ◌∙◌, ℕ, List, length, get_or, Some, refl, sym, ap, subst, arith}
+use Rattle.std.proofs.Common.{◌≡◌, ◌∙◌, ℕ, List, length, Some, refl, sym, ap, subst, arith}
 use Rattle.std.specs.Prelude.{IsSome}
-use Rattle.std.specs.Arc.{arc_value}
 use Rattle.worlds.specs.World.{World}
 use Rattle.rule_tree.specs.Rule.{name_of, states_of}
 use Rattle.schedule.specs.Scratch.{cells_at}
