@@ -1,5 +1,7 @@
-mod Out
-mod Steps
-mod Texts
-mod Turns
+mod Fed
 mod Happening
+mod Known
+mod Out
+pub mod Shared
+mod Steps
+mod Turns

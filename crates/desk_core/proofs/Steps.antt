@@ -1,7 +1,6 @@
--- How a settling goes on by what is issued, answered and cancelled.
-use Rattle.std.proofs.Common.{◌≡◌, ℕ, ◌+◌, ◌*◌, ◌≤◌, ◌∙◌, length, refl, sym, ap, subst, arith, Option, None, Some, Err, true, false}
+-- How a settling goes on by what is issued, sent, answered and cancelled.
+use Rattle.std.proofs.Common.{◌≡◌, ◌⊎◌, ℕ, ◌+◌, ◌*◌, ◌<◌, ◌≤◌, ◌∙◌, List, [], ◌∷◌, ◌++◌, length, refl, sym, ap, subst, inl, inr, arith, append_assoc, append-nil, Option, None, Some, Err, true, false}
 use Rattle.std.specs.Prelude.{IfSome, is_some, unwrap_or}
-use Rattle.std.proofs.lemmas.Bool.{cond-true}
 use Rattle.step_engine.specs.declared.evolved.EvolveFault.{EvolveFault}
 use Rattle.revision_jobs.specs.declared.answer.Job.{Job}
 use Rattle.revision_jobs.specs.declared.entries.Entries.{Entries}
@@ -9,130 +8,216 @@ use Rattle.revision_jobs.specs.Answer.{JobResult}
 use Rattle.revision_jobs.specs.Entries.{IsOf}
 use Rattle.dependency_book.specs.declared.need.Need.{Need}
 use Rattle.dependency_book.specs.declared.need.Need.TheVariants.{Step}
+use Rattle.dependency_book.specs.declared.row.RowState.TheVariants.{Empty}
+use Rattle.dependency_book.specs.RowState.{has_number}
 use Rattle.dependency_book.specs.Jobs.{SameBook, SameDocument, StepExpects, answered, cancelled, given_by, is_job}
-use Rattle.dependency_book.specs.Known.{Known, expected, row_of, wanting_of}
-use Rattle.dependency_book.specs.Marks.{is_noted}
+use Rattle.dependency_book.specs.BookState.{BookState, expected, row_of, wanting_of}
+use Rattle.dependency_book.specs.Right.{IsRight}
 use Rattle.desk_core.specs.declared.cause.Cause.{Cause}
 use Rattle.desk_core.specs.declared.cause.Cause.TheVariants.{NoMemory, NoRoom, Stopped as WasStopped, NumbersSpent}
 use Rattle.desk_core.specs.declared.collect.Collected.{Collected}
 use Rattle.desk_core.specs.declared.collect.Collected.TheVariants.{Accepted, Released, Stale}
+use Rattle.desk_core.specs.declared.issue.IssueFault.{IssueFault}
+use Rattle.desk_core.specs.declared.issue.IssueFault.TheVariants as issue
+use Rattle.desk_core.specs.declared.progress.Progress.{Progress}
+use Rattle.desk_core.specs.declared.unsent.Unsent.{Unsent}
+use Rattle.desk_core.specs.declared.unsent.Unsent.TheVariants.{Nothing, Ready, Waiting}
 use Rattle.desk_core.specs.Collected.{IsCollected}
-use Rattle.desk_core.specs.Course.{CanBeSent, Cancels, Fits, GivesUp, GoesOnBy, IsAtHand}
-use Rattle.desk_core.specs.Cause.{cause_of_answer}
-use Rattle.desk_core.specs.Issued.{IssuesFor}
-use Rattle.desk_core.specs.Shown.{Explains, IsHeld, Serves, Settles, WantsStep, rows_of}
-use Rattle.desk_core.proofs.Out.{IsAtHand-cancelled, IsHeld-at_hand}
-use Rattle.desk_core.proofs.Texts.{KeepsTexts-same, KeepsTexts-on, KeepsTexts-issued, KeepsTexts-answered, KeepsTexts-cancelled}
+use Rattle.desk_core.specs.Progress.{CanBeSent, Cancels, CancelsAny, Fits, GoesOn, HasCome, IsAccounted, IsAtHand, Stage, job_in, ready, stage}
+use Rattle.desk_core.specs.Cause.{cause_of_answer, cause_of_issue}
+use Rattle.desk_core.specs.Issued.{IssuesFor, RefusesIssue}
+use Rattle.desk_core.specs.Settling.{Explains, GaveUp, IsHeld, KeepsKnown, OutOrSent, Serves, Settles, WantsStep, rows_of}
+use Rattle.desk_core.proofs.Shared.Causes.{explains-kept, explains-collected, explains-refused}
+use Rattle.desk_core.proofs.Known.{KeepsKnown-same, KeepsKnown-on, KeepsKnown-issued, KeepsKnown-answered, KeepsKnown-cancelled}
+use Rattle.desk_core.proofs.Out.{IsAtHand-cancelled, IsHeld-at_hand, issued_out, answered_out, cancelled_out, not_numbered}
 
-SameDocument-on : (c d e : Known) → SameDocument c d → SameDocument d e → SameDocument c e
-SameDocument-on c d e h k = record {
-  table = cc;
-  plan = cc;
-  marks = cc;
-  bookmarks = cc;
+pub SameDocument-on : (c d e : BookState) → SameDocument c d → SameDocument d e → SameDocument c e
+SameDocument-on c d e h k = record { table = cc; plan = cc; marks = cc; bookmarks = cc }
+
+pub SameDocument-same : (d : BookState) → SameDocument d d
+SameDocument-same d = record { table = refl; plan = refl; marks = refl; bookmarks = refl }
+
+-- where settlings have come to
+
+pub HasCome-first : (d : BookState) (floor : ℕ) (answers : List JobResult) (p : Progress) → p.cause ≡ None → HasCome d answers (stage d floor answers p)
+HasCome-first d floor answers p none = record {
+  known = KeepsKnown-same d;
+  document = SameDocument-same d;
+  later = [];
+  gave = sym (append-nil answers);
+  cause = subst (λ c. IfSome c (Explains d [])) (sym none) tt;
+  out = λ need job out. inl out;
 }
 
-wants-kept : (old new : Known) → SameDocument old new → ((mark : ℕ) → row_of old (Step mark) ≡ None → row_of new (Step mark) ≡ None) → WantsStep old → WantsStep new
-wants-kept old new same rows wants = record {
-  mark = wants.mark;
-  above = wants.above;
-  noted = subst (λ p. is_noted p wants.mark ≡ true) (sym same.plan) wants.noted;
-  nothing = rows wants.mark wants.nothing;
+-- nothing changes but the progress, whose job stays
+HasCome-told : (first d : BookState) (before : List JobResult) (floor : ℕ) (answers : List JobResult) (p q : Progress) → job_in q.unsent ≡ job_in p.unsent → ((later : List JobResult) → IfSome p.cause (Explains d later) → IfSome q.cause (Explains d later)) → HasCome first before (stage d floor answers p) → HasCome first before (stage d floor answers q)
+HasCome-told first d before floor answers p q unsent cause h = record {
+  known = h.known;
+  document = h.document;
+  later = h.later;
+  gave = h.gave;
+  cause = cause h.later h.cause;
+  out = λ need job out. subst (λ u. (expected first need ≡ Some job) ⊎ ((u ≡ Some job) ⊎ (job.number < floor))) (sym unsent) (h.out need job out);
 }
 
--- a cause fits still where steps that are wanting stay so and numbers are at most added
-explains-kept : (old new : Known) (cause : Option Cause) → SameDocument old new → old.given ≤ new.given → ((mark : ℕ) → row_of old (Step mark) ≡ None → row_of new (Step mark) ≡ None) → IfSome cause (Explains old) → IfSome cause (Explains new)
-explains-kept old new None same given rows h = tt
-explains-kept old new (Some NoMemory) same given rows h = tt
-explains-kept old new (Some NoRoom) same given rows h = wants-kept old new same rows h
-explains-kept old new (Some WasStopped) same given rows h = tt
-explains-kept old new (Some NumbersSpent) same given rows h = omega (arith, given, h)
+-- a job is issued, where there is none to send and no cause
+HasCome-issued : (first old new : BookState) (before : List JobResult) (floor : ℕ) (answers : List JobResult) (p q : Progress) (need : Need) (job : Job) → p.unsent ≡ Nothing → q.unsent ≡ Ready job → q.cause ≡ None → IssuesFor old new job need → HasCome first before (stage old floor answers p) → HasCome first before (stage new floor answers q)
+HasCome-issued first old new before floor answers p q need job was is none issued h = record {
+  known = KeepsKnown-on first old new h.known (KeepsKnown-issued old new need job issued.empty issued.rows);
+  document = SameDocument-on first old new h.document issued.document;
+  later = h.later;
+  gave = h.gave;
+  cause = subst (λ c. IfSome c (Explains new h.later)) (sym none) tt;
+  out = λ other out k. accounted other out (issued_out old new need job issued.rows other out k);
+}
+  where
+    still : (other : Need) (out : Job) → IsAccounted first (stage old floor answers p) other out → IsAccounted first (stage new floor answers q) other out
+    still other out (inl first_out) = inl first_out
+    still other out (inr (inl there)) = let k = ap job_in was in absurd (cc)
+    still other out (inr (inr sent)) = inr (inr sent)
+    accounted : (other : Need) (out : Job) → (Some job ≡ Some out) ⊎ (expected old other ≡ Some out) → IsAccounted first (stage new floor answers q) other out
+    accounted other out (inl this) = inr (inl (ap job_in is ∙ this))
+    accounted other out (inr was_out) = still other out (h.out other out was_out)
 
--- why a job gave up fits: for want of room only a step's row expected it
-explains-released : (old new : Known) (answer : JobResult) (fault : EvolveFault) → ((need : Need) → row_of new need ≡ answered answer (row_of old need)) → SameDocument old new → answer.outcome ≡ Err fault → (fault ≡ EvolveFault.NoRoom → StepExpects old answer.job) → Explains new (cause_of_answer fault)
-explains-released old new answer EvolveFault.NoMemory rows same gave room = tt
-explains-released old new answer EvolveFault.Stopped rows same gave room = tt
-explains-released old new answer EvolveFault.NoRoom rows same gave room =
-    let step = room refl in
-    record {
-      mark = step.mark;
-      above = step.above;
-      noted = subst (λ p. is_noted p step.mark ≡ true) (sym same.plan) step.noted;
-      nothing =
-          rows (Step step.mark)
-          ∙ cond-true (is_job answer.job (expected old (Step step.mark))) (given_by answer.outcome) (row_of old (Step step.mark)) step.row
-          ∙ ap given_by gave;
-    }
+-- a job is sent
+pub HasCome-sent : (first d : BookState) (before : List JobResult) (floor higher : ℕ) (answers : List JobResult) (p : Progress) (job : Job) → floor ≤ job.number → higher ≡ job.number + 1 → p.unsent ≡ Nothing → HasCome first before (stage d floor answers (ready job p)) → HasCome first before (stage d higher answers p)
+HasCome-sent first d before floor higher answers p job rises is none h = record {
+  known = h.known;
+  document = h.document;
+  later = h.later;
+  gave = h.gave;
+  cause = h.cause;
+  out = λ other out k. accounted other out (h.out other out k);
+}
+  where
+    above : (out : Job) → Some job ≡ Some out → out.number < higher
+    above out same = let k : job ≡ out = cc in let n = ap (λ (j : Job). j.number) k in omega (arith, n, is)
+    accounted : (other : Need) (out : Job) → IsAccounted first (stage d floor answers (ready job p)) other out → IsAccounted first (stage d higher answers p) other out
+    accounted other out (inl first_out) = inl first_out
+    accounted other out (inr (inl this)) = inr (inr (above out this))
+    accounted other out (inr (inr sent)) = inr (inr (omega (arith, sent, rises, is)))
 
--- the first cause is told
-pub explains-first : (d : Known) (before : Option Cause) (cause : Cause) → Explains d cause → IfSome before (Explains d) → Explains d (unwrap_or before cause)
-explains-first d None cause h first = h
-explains-first d (Some c) cause h first = first
+-- an answer comes
+HasCome-answered : (first old new : BookState) (before : List JobResult) (floor : ℕ) (answers : List JobResult) (p q : Progress) (answer : JobResult) → ((need : Need) → row_of new need ≡ answered answer (row_of old need)) → SameBook old new → job_in q.unsent ≡ job_in p.unsent
+    → ((later : List JobResult) → IfSome p.cause (Explains new (later ++ answer ∷ [])) → IfSome q.cause (Explains new (later ++ answer ∷ [])))
+    → HasCome first before (stage old floor answers p) → HasCome first before (stage new floor (answers ++ answer ∷ []) q)
+HasCome-answered first old new before floor answers p q answer rows same unsent cause h = record {
+  known = KeepsKnown-on first old new h.known (KeepsKnown-answered old new answer rows);
+  document = SameDocument-on first old new h.document same.document;
+  later = h.later ++ answer ∷ [];
+  gave = ap (λ xs. xs ++ answer ∷ []) h.gave ∙ append_assoc before h.later (answer ∷ []);
+  cause = cause h.later (explains-kept old new h.later (answer ∷ []) p.cause same (λ mark none. rows (Step mark) ∙ ap (answered answer) none) h.cause);
+  out = λ other out k.
+      subst (λ u. (expected first other ≡ Some out) ⊎ ((u ≡ Some out) ⊎ (out.number < floor))) (sym unsent)
+      (h.out other out (answered_out old new answer rows other out k).0);
+}
 
-pub explains-collected : (old new : Known) (answer : JobResult) (fault : EvolveFault) → ((need : Need) → row_of new need ≡ answered answer (row_of old need)) → SameBook old new → IsCollected old new answer (Released fault) → Explains new (cause_of_answer fault)
-explains-collected old new answer fault rows same collected = explains-released old new answer fault rows same.document collected.1 collected.2
+-- the job that isn't sent yet is cancelled
+cancels-any : (first old new : BookState) (before : List JobResult) (floor : ℕ) (answers : List JobResult) (p q : Progress) (unsent : Option Job) → job_in p.unsent ≡ unsent → CancelsAny unsent old new → job_in q.unsent ≡ None → q.cause ≡ p.cause → HasCome first before (stage old floor answers p) → HasCome first before (stage new floor answers q)
+cancels-any first old new before floor answers p q None was same is cause h =
+    subst (λ d. HasCome first before (stage d floor answers q)) (sym same)
+    (HasCome-told first old before floor answers p q (is ∙ sym was) (λ later k. subst (λ c. IfSome c (Explains old later)) (sym cause) k) h)
+cancels-any first old new before floor answers p q (Some job) was cancels is cause h = record {
+  known = KeepsKnown-on first old new h.known (KeepsKnown-cancelled old new job.number cancels.rows);
+  document = SameDocument-on first old new h.document cancels.book.document;
+  later = h.later ++ [];
+  gave = h.gave ∙ ap (λ xs. before ++ xs) (sym (append-nil h.later));
+  cause = subst (λ c. IfSome c (Explains new (h.later ++ []))) (sym cause)
+      (explains-kept old new h.later [] p.cause cancels.book (λ mark none. cancels.rows (Step mark) ∙ ap (cancelled job.number) none) h.cause);
+  out = λ other out k. let left = cancelled_out job.number old new cancels.rows other out k in accounted other out left.1 (h.out other out left.0);
+}
+  where
+    accounted : (other : Need) (out : Job) → has_number job.number (Some out) ≡ false → IsAccounted first (stage old floor answers p) other out → IsAccounted first (stage new floor answers q) other out
+    accounted other out others (inl first_out) = inl first_out
+    accounted other out others (inr (inl there)) = absurd (not_numbered job out others (sym was ∙ there))
+    accounted other out others (inr (inr sent)) = inr (inr sent)
+
+pub HasCome-cancelled : (first old new : BookState) (before : List JobResult) (floor : ℕ) (answers : List JobResult) (p q : Progress) → CancelsAny (job_in p.unsent) old new → job_in q.unsent ≡ None → q.cause ≡ p.cause → HasCome first before (stage old floor answers p) → HasCome first before (stage new floor answers q)
+HasCome-cancelled first old new before floor answers p q = cancels-any first old new before floor answers p q (job_in p.unsent) refl
+
+-- how settlings go on
+
+pub GoesOn-same : (s : Stage) → GoesOn s s
+GoesOn-same s = record { cause = λ none. none; comes = λ first before h. h }
+
+pub GoesOn-on : (s t u : Stage) → GoesOn s t → GoesOn t u → GoesOn s u
+GoesOn-on s t u h k = record {
+  cause = λ none. h.cause (k.cause none);
+  comes = λ first before come. k.comes first before (h.comes first before come);
+}
+
+-- nothing changes but how the progress is told
+pub GoesOn-told : (d : BookState) (floor : ℕ) (answers : List JobResult) (p q : Progress) → job_in q.unsent ≡ job_in p.unsent → q.cause ≡ p.cause → GoesOn (stage d floor answers p) (stage d floor answers q)
+GoesOn-told d floor answers p q unsent cause = record {
+  cause = λ none. sym cause ∙ none;
+  comes = λ first before. HasCome-told first d before floor answers p q unsent (λ later h. subst (λ c. IfSome c (Explains d later)) (sym cause) h);
+}
+
+pub GoesOn-issued : (old new : BookState) (floor : ℕ) (answers : List JobResult) (p : Progress) (need : Need) (job : Job) → p.unsent ≡ Nothing → p.cause ≡ None → IssuesFor old new job need → GoesOn (stage old floor answers p) (stage new floor answers (ready job p))
+GoesOn-issued old new floor answers p need job was none issued = record {
+  cause = λ h. h;
+  comes = λ first before. HasCome-issued first old new before floor answers p (ready job p) need job was refl none issued;
+}
+
+pub GoesOn-refused : (old new : BookState) (floor : ℕ) (answers : List JobResult) (p q : Progress) (fault : IssueFault) → new ≡ old → q.unsent ≡ p.unsent → q.cause ≡ Some (cause_of_issue fault) → RefusesIssue old fault → GoesOn (stage old floor answers p) (stage new floor answers q)
+GoesOn-refused old new floor answers p q fault same unsent cause refuses = subst (λ d. GoesOn (stage old floor answers p) (stage d floor answers q)) (sym same) (record {
+  cause = λ none. absurd (cc);
+  comes = λ first before. HasCome-told first old before floor answers p q (ap job_in unsent) (λ later h. subst (λ c. IfSome c (Explains old later)) (sym cause) (explains-refused old later fault refuses));
+})
+
+pub GoesOn-answered : (old new : BookState) (floor : ℕ) (answers : List JobResult) (p : Progress) (answer : JobResult) → ((need : Need) → row_of new need ≡ answered answer (row_of old need)) → SameBook old new → GoesOn (stage old floor answers p) (stage new floor (answers ++ answer ∷ []) p)
+GoesOn-answered old new floor answers p answer rows same = record {
+  cause = λ none. none;
+  comes = λ first before. HasCome-answered first old new before floor answers p p answer rows same refl (λ later h. h);
+}
+
+pub GoesOn-released : (old new : BookState) (floor : ℕ) (answers : List JobResult) (p q : Progress) (answer : JobResult) (fault : EvolveFault) (told cause : Cause) → ((need : Need) → row_of new need ≡ answered answer (row_of old need)) → SameBook old new → IsCollected old new answer (Released fault) → told ≡ cause_of_answer fault → cause ≡ unwrap_or p.cause told
+    → q.unsent ≡ p.unsent → q.cause ≡ Some cause → GoesOn (stage old floor answers p) (stage new floor (answers ++ answer ∷ []) q)
+GoesOn-released old new floor answers p q answer fault told cause rows same collected is first unsent caused = record {
+  cause = λ none. absurd (cc);
+  comes = λ begun before. HasCome-answered begun old new before floor answers p q answer rows same (ap job_in unsent)
+      (λ later h. subst (λ c. IfSome c (Explains new (later ++ answer ∷ []))) (sym caused) (explains-collected old new later answer p.cause fault told cause rows same collected is first h));
+}
+
+pub GoesOn-cancelled : (old new : BookState) (floor : ℕ) (answers : List JobResult) (p q : Progress) → CancelsAny (job_in p.unsent) old new → job_in q.unsent ≡ None → q.cause ≡ p.cause → GoesOn (stage old floor answers p) (stage new floor answers q)
+GoesOn-cancelled old new floor answers p q cancels unsent cause = record {
+  cause = λ none. sym cause ∙ none;
+  comes = λ first before. HasCome-cancelled first old new before floor answers p q cancels unsent cause;
+}
+
+pub GoesOn-sent : (d : BookState) (floor higher : ℕ) (answers : List JobResult) (p : Progress) (job : Job) → floor ≤ job.number → higher ≡ job.number + 1 → p.unsent ≡ Nothing → GoesOn (stage d floor answers (ready job p)) (stage d higher answers p)
+GoesOn-sent d floor higher answers p job rises is none = record {
+  cause = λ h. h;
+  comes = λ first before. HasCome-sent first d before floor higher answers p job rises is none;
+}
+
+-- a turn begins with what is issued, and goes on with what isn't sent taken out or not
+pub GoesOn-turn : (old mid : BookState) (floor : ℕ) (answers : List JobResult) (before issued shown : Progress) (t : Stage) → GoesOn (stage old floor answers before) (stage mid floor answers issued) → job_in shown.unsent ≡ job_in issued.unsent → shown.cause ≡ issued.cause
+    → GoesOn (stage mid floor answers shown) t → GoesOn (stage old floor answers before) t
+GoesOn-turn old mid floor answers before issued shown t h unsent cause k =
+    GoesOn-on (stage old floor answers before) (stage mid floor answers issued) t h
+    (GoesOn-on (stage mid floor answers issued) (stage mid floor answers shown) t (GoesOn-told mid floor answers issued shown unsent cause) k)
+
+-- the post's view of it
+pub GoesOn-post : (s : Stage) (d : BookState) (floor higher : ℕ) (answers more : List JobResult) (p : Progress) → higher ≡ floor → more ≡ answers → GoesOn s (stage d floor answers p) → GoesOn s (stage d higher more p)
+GoesOn-post s d floor higher answers more p same still h = subst (λ n. GoesOn s (stage d n more p)) (sym same) (subst (λ xs. GoesOn s (stage d floor xs p)) (sym still) h)
 
 pub no_cause : (cause : Option Cause) → false ≡ is_some cause → cause ≡ None
 no_cause None h = refl
 no_cause (Some cause) h = absurd cc
 
-pub GoesOnBy-same : (d : Known) (before after : Option Cause) → (after ≡ None → before ≡ None) → (IfSome before (Explains d) → IfSome after (Explains d)) → GoesOnBy d d before after
-GoesOnBy-same d before after h explains = record {
-  texts = KeepsTexts-same d;
-  document = record { table = refl; plan = refl; marks = refl; bookmarks = refl };
-  given = omega arith;
-  cause = h;
-  explains = explains;
-}
+-- jobs at hand
 
-pub GoesOnBy-on : (c d e : Known) (first second third : Option Cause) → GoesOnBy c d first second → GoesOnBy d e second third → GoesOnBy c e first third
-GoesOnBy-on c d e first second third h k = record {
-  texts = KeepsTexts-on c d e h.texts k.texts;
-  document = SameDocument-on c d e h.document k.document;
-  given = omega arith;
-  cause = λ none. h.cause (k.cause none);
-  explains = λ fits. k.explains (h.explains fits);
-}
-
-pub GoesOnBy-issued : (old new : Known) (need : Need) (job : Job) (cause : Option Cause) → cause ≡ None → IssuesFor old new job need → GoesOnBy old new cause cause
-GoesOnBy-issued old new need job cause no_cause h = record {
-  texts = KeepsTexts-issued old new need job h.empty h.rows;
-  document = h.document;
-  given = omega (arith, h.given);
-  cause = λ none. none;
-  explains = λ fits. subst (λ c. IfSome c (Explains new)) (sym no_cause) tt;
-}
-
-pub GoesOnBy-answered : (old new : Known) (answer : JobResult) (before after : Option Cause) → ((need : Need) → row_of new need ≡ answered answer (row_of old need)) → SameBook old new → (after ≡ None → before ≡ None) → (IfSome before (Explains new) → IfSome after (Explains new)) → GoesOnBy old new before after
-GoesOnBy-answered old new answer before after rows same h explains = record {
-  texts = KeepsTexts-answered old new answer rows;
-  document = same.document;
-  given = omega (arith, same.given);
-  cause = h;
-  explains = λ fits. explains (explains-kept old new before same.document (omega (arith, same.given)) (λ mark none. rows (Step mark) ∙ ap (answered answer) none) fits);
-}
-
-pub GoesOnBy-cancelled : (old new : Known) (number : ℕ) (cause : Option Cause) → Cancels number old new → GoesOnBy old new cause cause
-GoesOnBy-cancelled old new number cause h = record {
-  texts = KeepsTexts-cancelled old new number h.rows;
-  document = h.book.document;
-  given = omega (arith, h.book.given);
-  cause = λ none. none;
-  explains = explains-kept old new cause h.book.document (omega (arith, h.book.given)) (λ mark none. h.rows (Step mark) ∙ ap (cancelled number) none);
-}
-
-pub GoesOnBy-given_up : (hand : Option Job) (old new : Known) (cause : Option Cause) → GivesUp hand old new → GoesOnBy old new cause cause
-GoesOnBy-given_up None old new cause h = subst (λ d. GoesOnBy old d cause cause) (sym h) (GoesOnBy-same old cause cause (λ none. none) (λ fits. fits))
-GoesOnBy-given_up (Some job) old new cause h = GoesOnBy-cancelled old new job.number cause h
-
-pub IsAtHand-given_up : (hand held : Option Job) (old new : Known) → GivesUp hand old new → IsAtHand hand held old → IsAtHand None held new
+pub IsAtHand-given_up : (unsent held : Option Job) (old new : BookState) → CancelsAny unsent old new → IsAtHand unsent held old → IsAtHand None held new
 IsAtHand-given_up None held old new h at_hand = subst (IsAtHand None held) (sym h) at_hand
 IsAtHand-given_up (Some job) held old new h at_hand = IsAtHand-cancelled old new job held h.rows at_hand
 
-pub IsHeld-given_up : (hand held : Option Job) (old new : Known) → GivesUp hand old new → IsAtHand hand held old → IsHeld held new
-IsHeld-given_up hand held old new h at_hand = IsHeld-at_hand held new (IsAtHand-given_up hand held old new h at_hand)
+pub IsHeld-given_up : (unsent held : Option Job) (old new : BookState) → CancelsAny unsent old new → IsAtHand unsent held old → IsHeld held new
+IsHeld-given_up unsent held old new h at_hand = IsHeld-at_hand held new (IsAtHand-given_up unsent held old new h at_hand)
 
-sent_on : (old new : Known) (floor : ℕ) (hand : Option Job) → SameBook old new → IfSome hand (CanBeSent old floor) → IfSome hand (CanBeSent new floor)
+-- jobs that can be sent
+
+sent_on : (old new : BookState) (floor : ℕ) (unsent : Option Job) → SameBook old new → IfSome unsent (CanBeSent old floor) → IfSome unsent (CanBeSent new floor)
 sent_on old new floor None same h = tt
 sent_on old new floor (Some job) same h = record {
   own = subst (λ table. IsOf table job.place) (sym same.document.table) h.own;
@@ -140,48 +225,62 @@ sent_on old new floor (Some job) same h = record {
   given = omega (arith, h.given, same.given);
 }
 
-pub Fits-book : (old new : Known) (entries : Entries) (floor : ℕ) (hand : Option Job) → SameBook old new → Fits old entries floor hand → Fits new entries floor hand
-Fits-book old new entries floor hand same h = record {
-  serves = record {
-    table = h.serves.table ∙ sym same.document.table;
-    numbers = let least = h.serves.numbers in omega (arith, least, same.given);
-  };
-  hand = sent_on old new floor hand same h.hand;
+pub Serves-book : (old new : BookState) (entries : Entries) (floor : ℕ) → SameBook old new → Serves old entries floor → Serves new entries floor
+Serves-book old new entries floor same h = record {
+  table = h.table ∙ sym same.document.table;
+  numbers = let least = h.numbers in omega (arith, least, same.given);
 }
 
-pub Fits-post : (d : Known) (before after : Entries) (floor higher : ℕ) (hand : Option Job) → after ≡ before → higher ≡ floor → Fits d before floor hand → Fits d after higher hand
-Fits-post d before after floor higher hand same_table same_floor h = subst (λ t. Fits d t higher hand) (sym same_table) (subst (λ f. Fits d before f hand) (sym same_floor) h)
+pub Fits-book : (old new : BookState) (entries : Entries) (floor : ℕ) (unsent : Option Job) → SameBook old new → Fits old entries floor unsent → Fits new entries floor unsent
+Fits-book old new entries floor unsent same h = record {
+  serves = Serves-book old new entries floor same h.serves;
+  unsent = sent_on old new floor unsent same h.unsent;
+}
+
+pub Fits-post : (d : BookState) (before after : Entries) (floor higher : ℕ) (unsent : Option Job) → after ≡ before → higher ≡ floor → Fits d before floor unsent → Fits d after higher unsent
+Fits-post d before after floor higher unsent same_table same_floor h = subst (λ t. Fits d t higher unsent) (sym same_table) (subst (λ f. Fits d before f unsent) (sym same_floor) h)
 
 -- an answer that isn't that a job gave up leaves as many rows wanting
-pub wanting-collected : (old new : Known) (answer : JobResult) (collected : Collected) → ((fault : EvolveFault) → collected ≡ Released fault → ⊥) → IsCollected old new answer collected → wanting_of new ≡ wanting_of old
-wanting-collected old new answer Accepted kept h = h.2
+pub wanting-collected : (old new : BookState) (answer : JobResult) (collected : Collected) → ((fault : EvolveFault) → collected ≡ Released fault → ⊥) → IsCollected old new answer collected → wanting_of new ≡ wanting_of old
+wanting-collected old new answer Accepted kept h = h.wanting
 wanting-collected old new answer (Released fault) kept h = absurd (kept fault refl)
 wanting-collected old new answer (Stale number revision) kept h = ap wanting_of h.same
 
--- a settling from its first desk to its last, over the one with which its turns end
-module _ (first mid last : Known) (hand : Option Job) (cause : Option Cause) (goes : GoesOnBy first mid None cause) (given_up : GivesUp hand mid last) where
-  whole : GoesOnBy first last None cause
-  whole = GoesOnBy-on first mid last None cause cause goes (GoesOnBy-given_up hand mid last cause given_up)
+-- a settling as a whole, whose last job that isn't sent is cancelled
 
-  pub settles-whole : Settles first last
-  settles-whole = record {
-    texts = whole.texts;
+CancelsAny-book : (unsent : Option Job) (old new : BookState) → CancelsAny unsent old new → SameBook old new
+CancelsAny-book None old new same = subst (SameBook old) (sym same) (record { document = SameDocument-same old; given = refl })
+CancelsAny-book (Some job) old new cancels = cancels.book
+
+module _ (first mid last : BookState) (before answers : List JobResult) (floor : ℕ) (p : Progress) (come : HasCome first before (stage mid floor answers p)) (cancels : CancelsAny (job_in p.unsent) mid last) where
+  abbrev end : Progress
+  end = record { unsent = Nothing; cause = p.cause }
+
+  whole : HasCome first before (stage last floor answers end)
+  whole = HasCome-cancelled first mid last before floor answers p end cancels refl refl come
+
+  sent_or_out : OutOrSent first last floor
+  sent_or_out need job out = either (whole.out need job out)
+    where
+      either : IsAccounted first (stage last floor answers end) need job → (expected first need ≡ Some job) ⊎ (job.number < floor)
+      either (inl was_out) = inl was_out
+      either (inr (inl there)) = absurd (cc)
+      either (inr (inr sent)) = inr sent
+
+  pub settles-whole : IsRight last → Settles first last floor
+  settles-whole right = record {
+    known = whole.known;
+    out = sent_or_out;
+    right = right;
     plan = whole.document.plan;
     table = whole.document.table;
   }
 
-  pub serves-whole : (entries : Entries) (floor : ℕ) → Serves mid entries floor → Serves last entries floor
-  serves-whole entries floor h =
-      let end = GoesOnBy-given_up hand mid last cause given_up in
-      let least = h.numbers in
-      let more = end.given in
-      record {
-        table = h.table ∙ sym end.document.table;
-        numbers = omega (arith, least, more);
-      }
+  pub serves-whole : (entries : Entries) → Serves mid entries floor → Serves last entries floor
+  serves-whole entries h = Serves-book mid last entries floor (CancelsAny-book (job_in p.unsent) mid last cancels) h
 
-  pub explains-whole : IfSome cause (Explains last)
-  explains-whole = whole.explains tt
+  pub gave-whole : (later : List JobResult) × (answers ≡ before ++ later) × IfSome p.cause (Explains last later)
+  gave-whole = (whole.later, whole.gave, whole.cause)
 
   pub enough-whole : length last.arrivals + length last.texts ≤ 12288 → 4 * rows_of first ≤ 1000000
   enough-whole few = let marks = whole.document.marks in let bookmarks = whole.document.bookmarks in omega arith

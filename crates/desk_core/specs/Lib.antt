@@ -1,7 +1,9 @@
 pub mod Cause
 pub mod Collected
-pub mod Course
-pub mod Issued
-pub mod Rows
-pub mod Shown
+pub mod Desk
+pub mod Edited
 pub mod Events
+pub mod Feed
+pub mod Issued
+pub mod Progress
+pub mod Settling

@@ -1,8 +1,9 @@
 //! Answers that come back, and jobs that are given up.
 ghost use Rattle.std.specs.Prelude.{◌≡◌, ◌↔◌, IsTrue};
 ghost use Rattle.revision_jobs.specs.Entries.{IsOf};
+ghost use Rattle.dependency_book.specs.BookState.{row_of};
 ghost use Rattle.dependency_book.specs.Jobs.{answered, cancelled, IsFirstOut, SameBook};
-ghost use Rattle.dependency_book.specs.Known.{row_of};
+ghost use Rattle.dependency_book.specs.Right.{IsRight};
 ghost use Rattle.dependency_book.specs.declared.need.Need.{Need};
 ghost use Rattle.desk_core.specs.Events.{core_of, after_event, collects, cancels};
 ghost use Rattle.desk_core.specs.Collected.{IsCollected, IsOut};
@@ -34,6 +35,7 @@ impl Desk<'_> {
             row_of self.new need ≡ answered answer (row_of self.old need) }
         ensures book { SameBook self.old self.new }
         ensures event { core_of self.new ≡ after_event (core_of self.old) (collects answer) }
+        ensures right { IsRight self.new }
     {
         let number = answer.number();
         match self.book.fill(answer) {
@@ -54,6 +56,7 @@ impl Desk<'_> {
             row_of self.new need ≡ cancelled number (row_of self.old need) }
         ensures book { SameBook self.old self.new }
         ensures event { core_of self.new ≡ after_event (core_of self.old) (cancels number) }
+        ensures right { IsRight self.new }
     {
         let Some(place) = self.book.forget(number) else {
             return false;

@@ -1,11 +1,11 @@
 //! The desk.
-ghost use Rattle.std.specs.Prelude.{◌≡◌, ◌⊎◌, ◌≤◌, ◌+◌, IfOk, IfErr, IfSome, OnErr, OnOk, length};
+ghost use Rattle.std.specs.Prelude.{◌≡◌, ◌⊎◌, ◌≤◌, ◌+◌, IfOk, IfErr, IfSome, OnErr, length};
 ghost use Rattle.schedule.specs.Asked.{asked_of};
-ghost use Rattle.schedule.specs.Change.{change, made, refusal};
-ghost use Rattle.dependency_book.specs.Kept.{KeepsRows};
-ghost use Rattle.desk_core.specs.Events.{core_of, after_event, edits};
-ghost use Rattle.desk_core.specs.Rows.{opened, pending_of, wanting_of, NothingOut};
-ghost use Rattle.desk_core.specs.Shown.{Shows};
+ghost use Rattle.schedule.specs.Change.{change, refusal};
+ghost use Rattle.dependency_book.specs.BookState.{opened, pending_of, wanting_of, NothingOut};
+ghost use Rattle.dependency_book.specs.Right.{IsRight};
+ghost use Rattle.dependency_book.specs.Shown.{Shows};
+ghost use Rattle.desk_core.specs.Edited.{Makes};
 
 use dependency_book::{Book, Shown};
 use revision_jobs::Entries;
@@ -23,24 +23,25 @@ pub struct Desk<'e> {
 impl<'e> Model for Desk<'e> {
     ghost use Rattle.std.specs.Coded.{codes};
     ghost use Rattle.worlds.specs.World.{coded_world};
-    ghost use Rattle.desk_core.specs.Rows.{Known};
+    ghost use Rattle.dependency_book.specs.BookState.{BookState};
 
-    ghost Value = { Known };
+    ghost Value = { BookState };
 
     ghost coded = { Prim.hlevel (codes, coded_world) };
 
     ghost view = { λ desk. desk.book };
 
-    ghost use Rattle.std.specs.Prelude.{◌≡◌};
+    ghost use Rattle.desk_core.specs.Desk.{HoldsRight};
 
-    ghost invariant = { λ desk. desk.entries.now ≡ desk.book.table };
+    ghost invariant = { λ desk. HoldsRight desk.entries.now desk.book };
 }
 
 impl<'e> Desk<'e> {
     /// A desk with the opening document of revision 0, whose jobs are of this table. So many results
     /// of steps may be kept beside the rows; none is so far.
     pub fn open(alloc: Global, entries: &'e Entries, _facts: u32) -> Result<Desk<'e>, AllocError>
-        ensures { IfOk result (λ desk. desk ≡ opened entries.now 0) }
+        ensures opened { IfOk result (λ desk. desk ≡ opened entries.now 0) }
+        ensures right { IfOk result IsRight }
     {
         Ok(Desk {
             book: Book::open(alloc, entries, 0)?,
@@ -58,16 +59,13 @@ impl<'e> Desk<'e> {
     /// Makes the change that the edit asks for and forgets exactly what the edit touches, or
     /// refuses it and changes nothing.
     pub fn edit(&mut self, edit: &Edit) -> Result<Edited, EditFault>
-        ensures ok { IfOk result (λ edited.
-            change self.old.plan (asked_of edit.now) ≡ Ok (made self.new.plan edited)) }
-        ensures keeps { OnOk result (KeepsRows (asked_of edit.now) self.old self.new) }
+        ensures ok { IfOk result (Makes (asked_of edit.now) self.old self.new) }
         ensures refused { IfErr result (λ fault.
             (fault ≡ EditFault.NoMemory) ⊎ (change self.old.plan (asked_of edit.now) ≡ Err fault)) }
         ensures first { IfSome (refusal self.old.plan (asked_of edit.now))
             (λ fault. result ≡ Err fault) }
         ensures unchanged { OnErr result (self.new ≡ self.old) }
-        ensures event { OnOk result
-            (core_of self.new ≡ after_event (core_of self.old) (edits (asked_of edit.now))) }
+        ensures right { IsRight self.new }
     {
         self.book.revise(edit)
     }
@@ -86,6 +84,7 @@ impl<'e> Desk<'e> {
         ensures bound { result ≤ length self.now.plan.bookmarks }
         ensures none { NothingOut self.now → wanting_of self.now ≡ 0 → result ≡ 0 }
         ensures few { length self.now.arrivals + length self.now.texts ≤ 12288 }
+        ensures right { IsRight self.now }
     {
         self.book.pending()
     }

@@ -1,6 +1,7 @@
 //! Issuing jobs.
 ghost use Rattle.std.specs.Prelude.{◌≡◌, IfOk, IfErr, OnErr};
-ghost use Rattle.desk_core.specs.Issued.{IsIssued, IssueHappens, RefusesIssue};
+ghost use Rattle.dependency_book.specs.Right.{IsRight};
+ghost use Rattle.desk_core.specs.Issued.{IsIssued, RefusesIssue};
 
 use crate::desk::Desk;
 use revision_jobs::Job;
@@ -34,8 +35,8 @@ impl From<AllocError> for IssueFault {
 }
 
 impl Desk<'_> {
-    /// A job for what is needed next, which nobody computes yet; None where nothing is, and then
-    /// nothing is pending unless a job is out. Its number is the next one, its entry stands in the
+    /// A job for what is to be computed next, which nobody computes yet; None where nothing is, and
+    /// then nothing is pending unless a job is out. Its number is the next one, its entry stands in the
     /// desk's table, and the row that needs it expects its answer. NumbersSpent where every number
     /// was given, else NoMemory; then nothing changes. It may wait for another thread that pushes an
     /// entry.
@@ -43,7 +44,7 @@ impl Desk<'_> {
         ensures issued { IfOk result (IsIssued self.old self.new) }
         ensures refused { IfErr result (RefusesIssue self.old) }
         ensures unchanged { OnErr result (self.new ≡ self.old) }
-        ensures event { IfOk result (IssueHappens self.old self.new) }
+        ensures right { IsRight self.new }
     {
         let Some(need) = self.book.next_need() else {
             return Ok(None);

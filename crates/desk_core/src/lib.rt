@@ -7,32 +7,29 @@
 //! What isn't known is computed by jobs, which a desk numbers and whoever likes works. An answer
 //! counts where a row of the present document expects its job, however late it comes and whatever
 //! edits were made meanwhile; any other is stale and changes nothing. `settle` issues, sends and
-//! collects over a post until nothing is needed.
+//! collects over a post until nothing is needed; `feed` only issues and sends.
 //!
 //! An edit keeps what it doesn't touch, known or expected. Nothing is computed here.
 #![tactic(auto)]
 
 mod cause;
 mod collect;
-mod course;
 mod desk;
-mod hand;
+mod feeding;
 mod issue;
+mod progress;
 mod settling;
-mod shown;
+mod unsent;
 
 pub use cause::Cause;
 pub use collect::Collected;
 pub use dependency_book::Shown;
 pub use desk::Desk;
+pub use feeding::feed;
 pub use issue::IssueFault;
 pub use revision_jobs::{
-    Answer, Entries, Entry, Gate, InlinePost, Job, NoGate, Outcome, Place, Post, Received, Sent,
-    work,
+    Answer, Entries, Entry, InlinePost, Job, NoGate, Outcome, Place, Post, Received, Sent, work,
 };
-pub use schedule::{
-    Bookmark, CellSet, Document, Edit, EditFault, Edited, Listing, Plane, Refusal, Rule, View,
-};
-pub use settling::settle;
-pub use shown::Settling;
+pub use schedule::{CellSet, Edit, EditFault, Edited, Listing, Plane, Refusal, Rule, View};
+pub use settling::{Settling, settle};
 pub use step_engine::EvolveFault;

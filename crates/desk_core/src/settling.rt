@@ -1,32 +1,44 @@
 //! Settling: issuing, sending and collecting until every bookmark is current.
-ghost use Rattle.std.specs.Prelude.{◌≡◌, ◌≤◌, ◌*◌, true};
-ghost use Rattle.desk_core.specs.Shown.{Ends, HasCause, IsHeld, Serves, Settles, rows_of};
+ghost use Rattle.std.specs.Prelude.{◌≡◌, ◌≤◌, ◌*◌, ◌++◌, List, true};
+ghost use Rattle.revision_jobs.specs.Answer.{JobResult};
+ghost use Rattle.desk_core.specs.Settling.{Ends, HasCause, IsHeld, Serves, Settles, rows_of};
 
-use crate::course::Course;
+use crate::cause::Cause;
 use crate::desk::Desk;
-use crate::shown::Settling;
+use crate::progress::Progress;
 use revision_jobs::Post;
 use std::sync::Wait;
+
+/// How settling ended.
+#[derive(Clone, Copy, Debug, PartialEq, Eq)]
+pub enum Settling {
+    /// Every bookmark is current.
+    Settled,
+    /// So many bookmarks are pending, at least one, for the cause that stopped the settling, if one
+    /// did.
+    Unsettled { pending: u32, cause: Option<Cause> },
+}
 
 /// Issues jobs for what isn't known, sends them and collects their answers, until every bookmark is
 /// current, the turns are spent, the post is closed or ended, or there is a cause to stop: a job
 /// gave up, or none can be issued. Then it only collects what is out. A turn is one send or one
-/// receive. The texts that were known stay, and a job that was issued and not sent is cancelled.
+/// receive. What was known stays so, and a job that was issued and not sent is cancelled.
 ///
 /// Over a prompt post that holds whatever is out, four turns for each mark and bookmark are always
 /// enough: it settles, or tells a cause. So are 1,000,000. It may wait where the post does.
 pub fn settle<P: Post>(rt: &impl Wait, desk: &mut Desk<'_>, post: &mut P, turns: u32) -> Settling
     requires { Serves desk.old (P.table post.old) (P.floor post.old) }
-    ensures ends { Ends desk.new result }
-    ensures settles { Settles desk.old desk.new }
+    ensures ends { (later : List JobResult) × (P.answers post.new ≡ P.answers post.old ++ later)
+        × Ends desk.new later result }
+    ensures settles { Settles desk.old desk.new (P.floor post.new) }
     ensures post { Serves desk.new (P.table post.new) (P.floor post.new)
         × (P.is_prompt post.new ≡ P.is_prompt post.old) }
     ensures prompt { P.is_prompt post.old ≡ true → IsHeld (P.held post.old) desk.old →
         IsHeld (P.held post.new) desk.new × (4 * rows_of desk.old ≤ turns → HasCause result) }
     ensures enough { 4 * rows_of desk.old ≤ 1000000 }
 {
-    let Course { hand, cause } = Course::run(rt, desk, post, turns);
-    hand.give_up(desk);
+    let Progress { unsent, cause } = Progress::run(rt, desk, post, turns);
+    unsent.cancel(desk);
     match desk.pending() {
         0 => Settling::Settled,
         pending => Settling::Unsettled { pending, cause },

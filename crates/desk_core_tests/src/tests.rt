@@ -334,6 +334,41 @@ const WORKED_BY_ANOTHER: &[Act] = &[
     Act::FirstOut(Some(0)),
 ];
 
+// What is fed is out, and is computed by a later settling once it was given up.
+const FED: &[Act] = &[
+    Act::Feed(1),
+    Act::FirstOut(Some(0)),
+    Act::Given(1),
+    Act::Waits(1),
+    Act::Feed(0),
+    Act::Cancel(0, true),
+    Act::Settle,
+    Act::Shows(1, "1 2\n"),
+];
+
+// The view at 0 and the step to 8 can both be computed at once. The post that takes one job has no
+// room for the second, which is cancelled; what was known stays so.
+const FED_TWICE: &[Act] = &[
+    Act::Edit(Change::Mark(0)),
+    Act::Feed(1),
+    Act::FirstOut(Some(0)),
+    Act::Given(2),
+    Act::Cancel(0, true),
+    Act::FirstOut(None),
+    Act::FeedLosing(2),
+    Act::FirstOut(Some(2)),
+    Act::Cancel(2, true),
+    Act::Cancel(3, true),
+    Act::Settle,
+    Act::Edit(Change::Mark(3)),
+    Act::FeedClosed,
+    Act::FirstOut(None),
+    Act::Given(8),
+    Act::Shows(1, "1 2\n"),
+    Act::Shows(2, "1 1\n"),
+    Act::Waits(3),
+];
+
 const LOST: &[Act] = &[
     Act::Lose(10),
     Act::FirstOut(Some(0)),
@@ -428,6 +463,16 @@ fn stopped_job_is_released(rt: HostRuntime) {
 #[test]
 fn desks_of_one_table_take_their_own_answers(rt: HostRuntime) {
     play(&rt, rt.alloc(), AT_8, WORKED_BY_ANOTHER);
+}
+
+#[test]
+fn fed_job_is_out(rt: HostRuntime) {
+    play(&rt, rt.alloc(), AT_8, FED);
+}
+
+#[test]
+fn as_many_jobs_are_fed_as_the_post_takes(rt: HostRuntime) {
+    play(&rt, rt.alloc(), AT_8, FED_TWICE);
 }
 
 #[test]

@@ -1,5 +1,5 @@
 -- What is out after jobs were dropped.
-use Rattle.std.proofs.Common.{◌≡◌, ◌≢◌, inl, inr, ℕ, ◌-◌, ◌^◌, ◌<◌, ◌≤◌, Bool, true, false, cond, Option, None, Some, IfSome, ◌==◌, ◌&&◌, sym, ap, refl, subst, ◌∙◌, arith}
+use Rattle.std.proofs.Common.{◌≡◌, ◌≢◌, inl, inr, ℕ, ◌-◌, ◌^◌, ◌<◌, ◌≤◌, Bool, true, false, cond, List, Option, None, Some, IfSome, ◌==◌, ◌&&◌, sym, ap, refl, subst, ◌∙◌, arith}
 use Rattle.std.proofs.lemmas.Bool.Decides.{nat_tests}
 use Rattle.worlds.specs.World.{World}
 use Rattle.schedule.specs.Plan.{Plan, opening}
@@ -7,28 +7,30 @@ use Rattle.schedule.specs.Asked.{Asked}
 use Rattle.schedule.specs.declared.document.Bookmark.{Bookmark}
 use Rattle.revision_jobs.specs.declared.entries.Entries.{Entries}
 use Rattle.revision_jobs.specs.declared.answer.Job.{Job}
+use Rattle.revision_jobs.specs.Answer.{JobResult}
 use Rattle.revision_jobs.specs.Value.{pattern, text}
-use Rattle.dependency_book.specs.declared.finding.Finding.{Finding}
-use Rattle.dependency_book.specs.declared.finding.Finding.TheVariants.{Expected, Found}
+use Rattle.dependency_book.specs.declared.row.RowState.{RowState}
+use Rattle.dependency_book.specs.declared.row.RowState.TheVariants.{Empty, Expected, Known}
 use Rattle.dependency_book.specs.declared.need.Need.{Need}
 use Rattle.dependency_book.specs.declared.need.Need.TheVariants.{Step, View}
-use Rattle.dependency_book.specs.Findings.{job_of, has_number, finding_map}
+use Rattle.dependency_book.specs.RowState.{job_of, has_number, state_map}
 use Rattle.dependency_book.specs.Jobs.{cancelled, IsFirstOut, SameBook}
 use Rattle.dependency_book.specs.Kept.{KeepsRows, text_kept, keeps_text, keeps_arrival}
-use Rattle.dependency_book.specs.Marks.{is_noted}
-use Rattle.dependency_book.specs.Known.{Known, row_of, expected, opened, arrival_row, text_row, bookmark_in, pending_of, NothingOut}
-use Rattle.desk_core.specs.Shown.{IsHeld, Serves}
-use Rattle.desk_server.specs.Jobs.{Carries, CarriesOn, IsFresh, DropsJobs, IsDoneWith}
+use Rattle.dependency_book.specs.Marks.{is_mark}
+use Rattle.dependency_book.specs.BookState.{BookState, row_of, expected, opened, arrival_row, text_row, bookmark_in, pending_of, NothingOut}
+use Rattle.desk_core.specs.declared.cause.Cause.{Cause}
+use Rattle.desk_core.specs.Settling.{Explains, IsHeld, Serves}
+use Rattle.desk_server.specs.Jobs.{Carries, CarriesOn, IsFresh, DropsJobs, IsDoneWith, KeepsCauses}
 
 -- where nothing is dropped
-pub drops_none : (old new : Known) → new ≡ old → DropsJobs old new
+pub drops_none : (old new : BookState) → new ≡ old → DropsJobs old new
 drops_none old new same = record {
-  table = ap (λ (d : Known). d.table) same;
-  given = ap (λ (d : Known). d.given) same;
-  out = λ need job e. subst (λ (d : Known). expected d need ≡ Some job) same e;
+  table = ap (λ (d : BookState). d.table) same;
+  given = ap (λ (d : BookState). d.given) same;
+  out = λ need job e. subst (λ (d : BookState). expected d need ≡ Some job) same e;
 }
 
-pub drops_drops : (a b c : Known) → DropsJobs a b → DropsJobs b c → DropsJobs a c
+pub drops_drops : (a b c : BookState) → DropsJobs a b → DropsJobs b c → DropsJobs a c
 drops_drops a b c f g = record {
   table = g.table ∙ f.table;
   given = g.given ∙ f.given;
@@ -36,16 +38,16 @@ drops_drops a b c f g = record {
 }
 
 -- what is out of a row that was emptied or not
-left_out : {V : Type 0} (b : Bool) (row : Option (Finding V)) (job : Job) → job_of (cond b None row) ≡ Some job → (job_of row ≡ Some job) × (b ≡ false)
+left_out : {V : Type 0} (b : Bool) (row : RowState V) (job : Job) → job_of (cond b Empty row) ≡ Some job → (job_of row ≡ Some job) × (b ≡ false)
 left_out true row job e = absurd (cc)
 left_out false row job e = (e, refl)
 
 -- cancelling
-cancelled_out : (n : ℕ) (old new : Known) → ((need : Need) → row_of new need ≡ cancelled n (row_of old need)) → (need : Need) (job : Job) → expected new need ≡ Some job
+cancelled_out : (n : ℕ) (old new : BookState) → ((need : Need) → row_of new need ≡ cancelled n (row_of old need)) → (need : Need) (job : Job) → expected new need ≡ Some job
     → (expected old need ≡ Some job) × (has_number n (expected old need) ≡ false)
 cancelled_out n old new rows need job e = left_out (has_number n (expected old need)) (row_of old need) job (sym (ap job_of (rows need)) ∙ e)
 
-pub cancel_drops : (n : ℕ) (old new : Known) → ((need : Need) → row_of new need ≡ cancelled n (row_of old need)) → SameBook old new → DropsJobs old new
+pub cancel_drops : (n : ℕ) (old new : BookState) → ((need : Need) → row_of new need ≡ cancelled n (row_of old need)) → SameBook old new → DropsJobs old new
 cancel_drops n old new rows same = record {
   table = same.document.table;
   given = same.given;
@@ -66,7 +68,7 @@ at_least n o job e h = subst (λ v. IfSome v (λ other. n ≤ other.number)) e h
 above : (n m k : ℕ) → n ≤ k → (k == n) ≡ false → (k == m) ≡ true → n < m
 above n m k few other same = grind (arith, nat_tests)
 
-first_rises : (n m : ℕ) (old new : Known) → ((need : Need) → row_of new need ≡ cancelled n (row_of old need)) → IsFirstOut old (Some n) → IsFirstOut new (Some m) → n < m
+first_rises : (n m : ℕ) (old new : BookState) → ((need : Need) → row_of new need ≡ cancelled n (row_of old need)) → IsFirstOut old (Some n) → IsFirstOut new (Some m) → n < m
 first_rises n m old new rows before after =
     let need = after.0.0 in
     let its = its_number m (expected new need) after.0.1 in
@@ -84,43 +86,43 @@ fewer n m few rises = omega arith
 some_left : (n : ℕ) → n < 2 ^ 32 → 0 < 2 ^ 32 - n
 some_left n few = omega arith
 
-pub first_falls : (n : ℕ) (next : Option ℕ) (old new : Known) → n < 2 ^ 32 → ((need : Need) → row_of new need ≡ cancelled n (row_of old need)) → IsFirstOut old (Some n) → IsFirstOut new next
+pub first_falls : (n : ℕ) (next : Option ℕ) (old new : BookState) → n < 2 ^ 32 → ((need : Need) → row_of new need ≡ cancelled n (row_of old need)) → IsFirstOut old (Some n) → IsFirstOut new next
     → numbers_from next < numbers_from (Some n)
 first_falls n None old new few rows before after = some_left n few
 first_falls n (Some m) old new few rows before after = fewer n m few (first_rises n m old new rows before after)
 
 -- an edit
-out_of_map : {V W : Type 0} (f : V → W) (row : Option (Finding V)) → job_of (finding_map f row) ≡ job_of row
-out_of_map f None = refl
-out_of_map f (Some (Expected job)) = refl
-out_of_map f (Some (Found value)) = refl
+out_of_map : {V W : Type 0} (f : V → W) (row : RowState V) → job_of (state_map f row) ≡ job_of row
+out_of_map f Empty = refl
+out_of_map f (Expected job) = refl
+out_of_map f (Known value) = refl
 
-kept_arrival : (at_start keeps : Bool) (world : World) (row : Option (Finding World)) (job : Job) → job_of (cond at_start (Some (Found world)) (cond keeps row None)) ≡ Some job → job_of row ≡ Some job
+kept_arrival : (at_start keeps : Bool) (world : World) (row : RowState World) (job : Job) → job_of (cond at_start (Known world) (cond keeps row Empty)) ≡ Some job → job_of row ≡ Some job
 kept_arrival true keeps world row job e = absurd (cc)
 kept_arrival false true world row job e = e
 kept_arrival false false world row job e = absurd (cc)
 
-kept_text : {V : Type 0} (keeps : Bool) (row : Option (Finding V)) (job : Job) → job_of (cond keeps row None) ≡ Some job → job_of row ≡ Some job
+kept_text : {V : Type 0} (keeps : Bool) (row : RowState V) (job : Job) → job_of (cond keeps row Empty) ≡ Some job → job_of row ≡ Some job
 kept_text true row job e = e
 kept_text false row job e = absurd (cc)
 
-kept_of : {V : Type 0} (p : Plan) (asked : Asked) (bookmark : Option Bookmark) (row : Option (Finding V)) (job : Job) → job_of (text_kept p asked bookmark row) ≡ Some job → job_of row ≡ Some job
+kept_of : {V : Type 0} (p : Plan) (asked : Asked) (bookmark : Option Bookmark) (row : RowState V) (job : Job) → job_of (text_kept p asked bookmark row) ≡ Some job → job_of row ≡ Some job
 kept_of p asked None row job e = absurd (cc)
 kept_of p asked (Some b) row job e = kept_text (keeps_text p asked b) row job e
 
-edit_keeps_out : (asked : Asked) (old new : Known) → KeepsRows asked old new → (need : Need) (job : Job) → expected new need ≡ Some job → expected old need ≡ Some job
+edit_keeps_out : (asked : Asked) (old new : BookState) → KeepsRows asked old new → (need : Need) (job : Job) → expected new need ≡ Some job → expected old need ≡ Some job
 edit_keeps_out asked old new keeps (Step g) job e =
     out_of_map pattern (arrival_row old g)
-    ∙ kept_arrival (g == 0) (is_noted new.plan g && keeps_arrival old.plan asked g) new.plan.start (arrival_row old g) job (sym (ap job_of (keeps.arrivals g)) ∙ (sym (out_of_map pattern (arrival_row new g)) ∙ e))
+    ∙ kept_arrival (g == 0) (is_mark new.plan g && keeps_arrival old.plan asked g) new.plan.start (arrival_row old g) job (sym (ap job_of (keeps.arrivals g)) ∙ (sym (out_of_map pattern (arrival_row new g)) ∙ e))
 edit_keeps_out asked old new keeps (View id) job e =
     out_of_map text (text_row old id)
     ∙ kept_of old.plan asked (bookmark_in old.plan.bookmarks id) (text_row old id) job (sym (ap job_of (keeps.texts id)) ∙ (sym (out_of_map text (text_row new id)) ∙ e))
 
-pub edit_drops : (asked : Asked) (old new : Known) → KeepsRows asked old new → DropsJobs old new
+pub edit_drops : (asked : Asked) (old new : BookState) → KeepsRows asked old new → DropsJobs old new
 edit_drops asked old new keeps = record { table = keeps.table; given = keeps.given; out = edit_keeps_out asked old new keeps }
 
 -- at the beginning
-none_at : (at_start : Bool) (world : World) (job : Job) → job_of (cond at_start (Some (Found world)) None) ≡ Some job → ⊥
+none_at : (at_start : Bool) (world : World) (job : Job) → job_of (cond at_start (Known world) Empty) ≡ Some job → ⊥
 none_at true world job e = cc
 none_at false world job e = cc
 
@@ -128,7 +130,7 @@ none_opened : (table : Entries) (held : Option Job) → IsHeld held (opened tabl
 none_opened table held (Step g) job e = absurd (none_at (g == 0) (opening 0).start job (sym (out_of_map pattern (arrival_row (opened table 0) g)) ∙ e))
 none_opened table held (View id) job e = absurd (cc)
 
-pub carries_first : {P : Type 0} (table : P → Entries) (floor : P → ℕ) (is_prompt : P → Bool) (held : P → Option Job) (post : P) (entries : Entries) (d : Known) → d ≡ opened entries 0
+pub carries_first : {P : Type 0} (table : P → Entries) (floor : P → ℕ) (is_prompt : P → Bool) (held : P → Option Job) (post : P) (entries : Entries) (d : BookState) → d ≡ opened entries 0
     → IsFresh table floor post entries → Carries table floor is_prompt held post d
 carries_first table floor is_prompt held post entries d same fresh = rw same (record {
   serves = record { table = fresh.own; numbers = subst (λ n. n ≤ 0) (sym fresh.none) (omega arith) };
@@ -136,12 +138,12 @@ carries_first table floor is_prompt held post entries d same fresh = rw same (re
 })
 
 -- where some text isn't known, no job is out
-pub nothing_out : (d : Known) (n : ℕ) → IsDoneWith d → n ≡ pending_of d → n ≢ 0 → NothingOut d
+pub nothing_out : (d : BookState) (n : ℕ) → IsDoneWith d → n ≡ pending_of d → n ≢ 0 → NothingOut d
 nothing_out d n (inl none) is some = absurd (some (is ∙ none))
 nothing_out d n (inr out) is some = out
 
 -- a post that wasn't touched carries the jobs of a desk that gave no new ones
-pub carries_same : {P : Type 0} (table : P → Entries) (floor : P → ℕ) (is_prompt : P → Bool) (held : P → Option Job) (post : P) (old new : Known) → DropsJobs old new
+pub carries_same : {P : Type 0} (table : P → Entries) (floor : P → ℕ) (is_prompt : P → Bool) (held : P → Option Job) (post : P) (old new : BookState) → DropsJobs old new
     → Carries table floor is_prompt held post old → CarriesOn table floor is_prompt held post post new
 carries_same table floor is_prompt held post old new drops c = record {
   kind = refl;
@@ -151,8 +153,13 @@ carries_same table floor is_prompt held post old new drops c = record {
   };
 }
 
+-- what explained a cause before jobs were given up
+pub causes_kept : (old new : BookState) (answers : List JobResult) (cause : Option Cause) → KeepsCauses old new → IfSome cause (Explains old answers) → IfSome cause (Explains new answers)
+causes_kept old new answers None keeps h = tt
+causes_kept old new answers (Some cause) keeps h = keeps answers cause h
+
 -- a settling leaves a post that carries on
-pub carries_settled : {P : Type 0} (table : P → Entries) (floor : P → ℕ) (is_prompt : P → Bool) (held : P → Option Job) (first last : P) (old new : Known) (more : Type 0) → Carries table floor is_prompt held first old
+pub carries_settled : {P : Type 0} (table : P → Entries) (floor : P → ℕ) (is_prompt : P → Bool) (held : P → Option Job) (first last : P) (old new : BookState) (more : Type 0) → Carries table floor is_prompt held first old
     → Serves new (table last) (floor last) → is_prompt last ≡ is_prompt first → (is_prompt first ≡ true → IsHeld (held first) old → IsHeld (held last) new × more) → CarriesOn table floor is_prompt held first last new
 carries_settled table floor is_prompt held first last old new more c serves kind prompt = record {
   kind = kind;
@@ -163,7 +170,7 @@ carries_settled table floor is_prompt held first last old new more c serves kind
 }
 
 -- what a desk is left with that gave jobs up after a post carried on
-pub carries_on : {P : Type 0} (table : P → Entries) (floor : P → ℕ) (is_prompt : P → Bool) (held : P → Option Job) (first last : P) (mid new : Known) → DropsJobs mid new
+pub carries_on : {P : Type 0} (table : P → Entries) (floor : P → ℕ) (is_prompt : P → Bool) (held : P → Option Job) (first last : P) (mid new : BookState) → DropsJobs mid new
     → CarriesOn table floor is_prompt held first last mid → CarriesOn table floor is_prompt held first last new
 carries_on table floor is_prompt held first last mid new drops c = record {
   kind = c.kind;
@@ -171,6 +178,6 @@ carries_on table floor is_prompt held first last mid new drops c = record {
 }
 
 -- after a round, and then another
-pub carries_further : {P : Type 0} (table : P → Entries) (floor : P → ℕ) (is_prompt : P → Bool) (held : P → Option Job) (first mid last : P) (d : Known) → is_prompt mid ≡ is_prompt first
+pub carries_further : {P : Type 0} (table : P → Entries) (floor : P → ℕ) (is_prompt : P → Bool) (held : P → Option Job) (first mid last : P) (d : BookState) → is_prompt mid ≡ is_prompt first
     → CarriesOn table floor is_prompt held mid last d → CarriesOn table floor is_prompt held first last d
 carries_further table floor is_prompt held first mid last d kind c = record { kind = c.kind ∙ kind; carries = c.carries }

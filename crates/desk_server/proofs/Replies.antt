@@ -5,9 +5,9 @@ use Rattle.std.proofs.lemmas.Bool.Decides.{nat_tests}
 use Rattle.schedule.specs.Plan.{Plan}
 use Rattle.schedule.specs.declared.fault.EditFault.TheVariants.{NoMemory}
 use Rattle.schedule.specs.declared.document.Bookmark.{Bookmark}
-use Rattle.desk_core.specs.Rows.{Known, bookmark_in, text_known, pending_of}
+use Rattle.dependency_book.specs.BookState.{BookState, bookmark_in, text_known, pending_of}
 use Rattle.desk_core.specs.declared.cause.Cause.{Cause}
-use Rattle.desk_core.specs.Shown.{IsPending, Shows}
+use Rattle.dependency_book.specs.Shown.{IsPending, Shows}
 use Rattle.dependency_book.specs.declared.shown.Shown.{Shown}
 use Rattle.dependency_book.specs.declared.shown.Shown.TheVariants.{Current, NoSuch}
 use Rattle.dependency_book.specs.declared.shown.Shown.TheVariants as shown
@@ -16,7 +16,7 @@ use Rattle.desk_server.specs.Shortage.{NoShortage, Memory, Unsettled, Pending}
 use Rattle.desk_server.specs.Answer.{Ask, Refuse, After, answer, refused, CanLackMemory, only, unless_fault, settled, obeyed}
 use Rattle.desk_server.specs.declared.command.Command.TheVariants.{Show}
 use Rattle.desk_server.specs.Reply.{pending_text, refused_text, settled_text, unsettled_text}
-use Rattle.desk_server.specs.Told.{text_of, ends, shown_text}
+use Rattle.desk_server.specs.Told.{reply_text, ends, shown_text}
 use Rattle.desk_server.specs.Heard.{AsksFor, Gives, GivesBy, GivesOrLacks, Serves}
 use Rattle.script_lines.specs.declared.text.Text.{Text}
 use Rattle.desk_server.specs.declared.fault.ScriptFault.{ScriptFault}
@@ -28,16 +28,16 @@ use Rattle.desk_server.specs.declared.reply.Reply.{Reply}
 use Rattle.desk_server.specs.declared.reply.Reply.TheVariants as reply
 
 -- a reply that changes nothing
-gives-only : (p : Plan) (new : Known) (r : Reply) (told : List ℕ) → new.plan ≡ p → text_of new r ≡ told → ends r ≡ false → Gives (only p told) r new
+gives-only : (p : Plan) (new : BookState) (r : Reply) (told : List ℕ) → new.plan ≡ p → reply_text new r ≡ told → ends r ≡ false → Gives (only p told) r new
 gives-only p new r told same is goes = ap (λ q. only q told) (sym same) ∙ sym (ap₂ (λ t e. after t e) is goes)
   where
     after : List ℕ → Bool → After
     after t e = record { told = t; plan = new.plan; ends = e }
 
 -- what was refused, or is out of memory
-pub gives-refused : {A E : Type 0} (p : Plan) (new : Known) (r : Reply) (told : E → Fault) (done : A → After) (fault none : E) (read : Result A E)
+pub gives-refused : {A E : Type 0} (p : Plan) (new : BookState) (r : Reply) (told : E → Fault) (done : A → After) (fault none : E) (read : Result A E)
     → told none ≡ of_edit NoMemory → new.plan ≡ p → (fault ≡ none) ⊎ (read ≡ Err fault)
-    → ((k : Known) → text_of k r ≡ refused_text (told fault)) → ends r ≡ false → GivesOrLacks p (unless_fault p told done read) r new
+    → ((k : BookState) → reply_text k r ≡ refused_text (told fault)) → ends r ≡ false → GivesOrLacks p (unless_fault p told done read) r new
 gives-refused p new r told done fault none read law same (inl memory) is goes = (Memory, λ _. tt, ap (λ f. only p (refused_text f)) (sym law ∙ sym (ap told memory)) ∙ gives-only p new r (refused_text (told fault)) same (is new) goes)
 gives-refused p new r told done fault none read law same (inr refused) is goes = (NoShortage, λ _. tt, ap (unless_fault p told done) refused ∙ gives-only p new r (refused_text (told fault)) same (is new) goes)
 
@@ -47,7 +47,7 @@ left true true x y h k = refl
 left true false x y h k = absurd (cc)
 left false b x y h k = absurd (cc)
 
-pub gives-unsettled : (prompt : Bool) (p : Plan) (new : Known) (n : ℕ) (cause : Option Cause) → new.plan ≡ p → (prompt ≡ true → IfNone cause (pending_of new ≡ 0)) → n ≡ pending_of new → n ≢ 0 → n ≤ length new.plan.bookmarks
+pub gives-unsettled : (prompt : Bool) (p : Plan) (new : BookState) (n : ℕ) (cause : Option Cause) → new.plan ≡ p → (prompt ≡ true → IfNone cause (pending_of new ≡ 0)) → n ≡ pending_of new → n ≢ 0 → n ≤ length new.plan.bookmarks
     → GivesBy prompt (λ short. settled short p) (reply.Unsettled n cause) new
 gives-unsettled prompt p new n cause same caused is some few = (
   Unsettled n cause,
@@ -65,11 +65,11 @@ some_of None h = absurd (cc)
 some_of (Some b) h = (b, refl)
 
 -- what is written of a pending one
-pub pending-shown : (known : Known) (id : ℕ) → IsPending known id → shown_text id (bookmark_in known.plan.bookmarks id) (text_known known id) ≡ pending_text id
+pub pending-shown : (known : BookState) (id : ℕ) → IsPending known id → shown_text id (bookmark_in known.plan.bookmarks id) (text_known known id) ≡ pending_text id
 pending-shown known id h = let b = some_of (bookmark_in known.plan.bookmarks id) h.there in ap₂ (shown_text id) b.1 h.unknown
 
 -- what is shown of a bookmark, current or not
-pub gives-shown : (prompt : Bool) (p : Plan) (new : Known) (id : ℕ) (s : Shown) → new.plan ≡ p → Shows new id s → GivesBy prompt (λ short. obeyed short p (Show id)) (reply.Shown id) new
+pub gives-shown : (prompt : Bool) (p : Plan) (new : BookState) (id : ℕ) (s : Shown) → new.plan ≡ p → Shows new id s → GivesBy prompt (λ short. obeyed short p (Show id)) (reply.Shown id) new
 gives-shown prompt p new id s same shows = subst (λ q. GivesBy prompt (λ short. obeyed short q (Show id)) (reply.Shown id) new) same (now s shows)
   where
     now : (s : Shown) → Shows new id s → GivesBy prompt (λ short. obeyed short new.plan (Show id)) (reply.Shown id) new
@@ -80,13 +80,13 @@ gives-shown prompt p new id s same shows = subst (λ q. GivesBy prompt (λ short
         (Pending, λ _. tt, rw (b.1, h.unknown) refl)
 
 -- a bookmark that is shown otherwise isn't pending
-pub not_pending : (d : Known) (id : ℕ) (s : Shown) → Shows d id s → s ≢ shown.Pending → ¬ IsPending d id
+pub not_pending : (d : BookState) (id : ℕ) (s : Shown) → Shows d id s → s ≢ shown.Pending → ¬ IsPending d id
 not_pending d id NoSuch none other h = let b = some_of (bookmark_in d.plan.bookmarks id) h.there in cc (none, b.1)
 not_pending d id (Current text) shows other h = cc (shows.known, h.unknown)
 not_pending d id shown.Pending shows other h = other refl
 
 -- memory was short for what was asked
-pub serves-memory : (prompt : Bool) (asked : Request) (r : Reply) (d : Known) → ((ask : Ask) → AsksFor asked ask → CanLackMemory ask) → text_of d r ≡ refused_text (of_edit NoMemory) → ends r ≡ false → Serves prompt asked r d d
+pub serves-memory : (prompt : Bool) (asked : Request) (r : Reply) (d : BookState) → ((ask : Ask) → AsksFor asked ask → CanLackMemory ask) → reply_text d r ≡ refused_text (of_edit NoMemory) → ends r ≡ false → Serves prompt asked r d d
 serves-memory prompt asked r d can is goes = λ ask asks. (Memory, λ _. tt, can ask asks d.plan ∙ gives-only d.plan d r (refused_text (of_edit NoMemory)) refl is goes)
 
 -- a text can lack it
@@ -104,7 +104,7 @@ plainly_refused p (BadCommand line) = refl
 plainly_refused p (NoEnd line) = refl
 
 -- what lines say was refused
-pub serves-refused : (prompt : Bool) (asked : Request) (fault : ScriptFault) (r : Reply) (d : Known) → asked ≡ request.Refuse fault → text_of d r ≡ refused_text (of_script fault) → ends r ≡ false → Serves prompt asked r d d
+pub serves-refused : (prompt : Bool) (asked : Request) (fault : ScriptFault) (r : Reply) (d : BookState) → asked ≡ request.Refuse fault → reply_text d r ≡ refused_text (of_script fault) → ends r ≡ false → Serves prompt asked r d d
 serves-refused prompt asked fault r d e is goes = λ ask asks.
     let one : ask ≡ Refuse fault = subst (λ q. AsksFor q ask) e asks in
     (NoShortage, λ _. tt, ap (answer NoShortage d.plan) one ∙ plainly_refused d.plan fault ∙ gives-only d.plan d r (refused_text (of_script fault)) refl is goes)

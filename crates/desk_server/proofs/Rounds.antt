@@ -10,12 +10,12 @@ use Rattle.script_lines.specs.Faults.{AppendsFront}
 use Rattle.script_lines.specs.Script.{Follows}
 use Rattle.script_lines.proofs.Shared.Told.{front_first, front_then}
 use Rattle.schedule.specs.Plan.{Plan, opening}
-use Rattle.desk_core.specs.Rows.{Known}
+use Rattle.dependency_book.specs.BookState.{BookState}
 use Rattle.std.specs.List.{AllByRecursion}
 use Rattle.desk_server.specs.Shortage.{Shortage, IsCaused, IsCausedOver, AllCausedOver}
 use Rattle.desk_server.specs.Answer.{Ask, After, answer}
 use Rattle.desk_server.specs.Script.{asks, Between, afters, replies_to, replies_by, replies_with}
-use Rattle.desk_server.specs.Told.{text_of, ends}
+use Rattle.desk_server.specs.Told.{reply_text, ends}
 use Rattle.desk_server.specs.Heard.{AsksFor, AsksIfAny, Hears, Gives, GivesBy, Serves, Served, BreaksOff}
 use Rattle.desk_server.specs.Run.{Answers, Finishes, StopsTelling, AnswersWhole, AnswersAll, AnswersFront}
 use Rattle.desk_server.specs.declared.request.Request.{Request}
@@ -50,15 +50,15 @@ told_behind : (b : Bool) (p : Plan) (rest : List Ask) (later : List Shortage) �
 told_behind true p rest later = refl
 told_behind false p rest later = refl
 
-after_is : (short : Shortage) (p : Plan) (ask : Ask) (r : Reply) (k : Known) → Gives (answer short p ask) r k → (rest : List Ask) (later : List Shortage)
-    → replies_to p (ask ∷ rest) (short ∷ later) ≡ text_of k r ++ cond (ends r) [] (replies_to k.plan rest later)
-after_is short p ask r k e rest later = ap (λ (a : After). a.told ++ flat_map (λ (b : After). b.told) (cond a.ends [] (afters a.plan rest later))) e ∙ ap (λ v. text_of k r ++ v) (told_behind (ends r) k.plan rest later)
+after_is : (short : Shortage) (p : Plan) (ask : Ask) (r : Reply) (k : BookState) → Gives (answer short p ask) r k → (rest : List Ask) (later : List Shortage)
+    → replies_to p (ask ∷ rest) (short ∷ later) ≡ reply_text k r ++ cond (ends r) [] (replies_to k.plan rest later)
+after_is short p ask r k e rest later = ap (λ (a : After). a.told ++ flat_map (λ (b : After). b.told) (cond a.ends [] (afters a.plan rest later))) e ∙ ap (λ v. reply_text k r ++ v) (told_behind (ends r) k.plan rest later)
 
 -- nothing was asked
 asked_nothing : (heard : Option Request) (asked : List Ask) → heard ≡ None → AsksIfAny heard asked → asked ≡ []
 asked_nothing heard asked e is = subst (λ o. AsksIfAny o asked) e is
 
-pub goes_on_silent : (prompt : Bool) (old new : Ahead) (told : Option (List ℕ)) (heard : Option Request) (last : Bool) (k : Known) (n m : ℕ) → heard ≡ None → last ≡ false
+pub goes_on_silent : (prompt : Bool) (old new : Ahead) (told : Option (List ℕ)) (heard : Option Request) (last : Bool) (k : BookState) (n m : ℕ) → heard ≡ None → last ≡ false
     → (h : Hears old new Between heard last n m) → Answers prompt old new told told k.plan k.plan n m
 goes_on_silent prompt old new told heard last k n m none e h = record {
   bytes = h.bytes;
@@ -70,7 +70,7 @@ goes_on_silent prompt old new told heard last k n m none e h = record {
   law = λ stop more later. ap (λ v. replies_to k.plan v later) (h.law stop more (follows-any last stop more e) ∙ ap (λ v. v ++ asks stop Between m (lines_until stop more)) (asked_nothing heard h.asked none h.is));
 }
 
-pub done_silent : (prompt : Bool) (old new : Ahead) (told : Option (List ℕ)) (heard : Option Request) (last : Bool) (k : Known) (n m : ℕ) → heard ≡ None → last ≡ true
+pub done_silent : (prompt : Bool) (old new : Ahead) (told : Option (List ℕ)) (heard : Option Request) (last : Bool) (k : BookState) (n m : ℕ) → heard ≡ None → last ≡ true
     → (h : Hears old new Between heard last n m) → Finishes prompt old new told told k.plan n
 done_silent prompt old new told heard last k n m none e h = record {
   bytes = h.bytes;
@@ -84,69 +84,69 @@ done_silent prompt old new told heard last k n m none e h = record {
 }
 
 -- one thing was asked, and the reply to it found
-pub served : (prompt : Bool) (heard : Option Request) (request : Request) (asked : List Ask) (j k : Known) (r : Reply) → heard ≡ Some request → AsksIfAny heard asked
+pub served : (prompt : Bool) (heard : Option Request) (request : Request) (asked : List Ask) (j k : BookState) (r : Reply) → heard ≡ Some request → AsksIfAny heard asked
     → Serves prompt request r j k → Served prompt r asked j k
 served prompt heard request asked j k r e is gives = let one = subst (λ o. AsksIfAny o asked) e is in (one.0, one.1, gives one.0 one.2)
 
 -- the replies from here on
-replies_from : (prompt : Bool) (old new : Ahead) (heard : Option Request) (last : Bool) (j k : Known) (n m : ℕ) (r : Reply)
+replies_from : (prompt : Bool) (old new : Ahead) (heard : Option Request) (last : Bool) (j k : BookState) (n m : ℕ) (r : Reply)
     → (h : Hears old new Between heard last n m) → (s : Served prompt r h.asked j k) → (stop : End) (more : List ℕ) (later : List Shortage) → Follows last stop more
-    → replies_to j.plan (asks stop Between n (lines_until stop (h.bytes ++ more))) (s.2.0 ∷ later) ≡ text_of k r ++ cond (ends r) [] (replies_to k.plan (asks stop Between m (lines_until stop more)) later)
+    → replies_to j.plan (asks stop Between n (lines_until stop (h.bytes ++ more))) (s.2.0 ∷ later) ≡ reply_text k r ++ cond (ends r) [] (replies_to k.plan (asks stop Between m (lines_until stop more)) later)
 replies_from prompt old new heard last j k n m r h s stop more later f =
     ap (λ v. replies_to j.plan v (s.2.0 ∷ later)) (h.law stop more f ∙ ap (λ v. v ++ asks stop Between m (lines_until stop more)) s.1) ∙ after_is s.2.0 j.plan s.0 r k s.2.2 (asks stop Between m (lines_until stop more)) later
 
-pub goes_on_told : (prompt : Bool) (old new : Ahead) (before after : Option (List ℕ)) (heard : Option Request) (last : Bool) (j k : Known) (n m : ℕ) (r : Reply) → last ≡ false → r ≢ reply.Bye
-    → (h : Hears old new Between heard last n m) → Served prompt r h.asked j k → Appends before after (text_of k r) → Answers prompt old new before after j.plan k.plan n m
+pub goes_on_told : (prompt : Bool) (old new : Ahead) (before after : Option (List ℕ)) (heard : Option Request) (last : Bool) (j k : BookState) (n m : ℕ) (r : Reply) → last ≡ false → r ≢ reply.Bye
+    → (h : Hears old new Between heard last n m) → Served prompt r h.asked j k → Appends before after (reply_text k r) → Answers prompt old new before after j.plan k.plan n m
 goes_on_told prompt old new before after heard last j k n m r e b h s w = record {
   bytes = h.bytes;
   shortages = s.2.0 ∷ [];
   caused = λ e. (s.2.1 e, tt);
-  told = text_of k r;
+  told = reply_text k r;
   taken = h.taken;
   wrote = w;
   law = λ stop more later. replies_from prompt old new heard last j k n m r h s stop more later (follows-any last stop more e)
-      ∙ ap (λ v. text_of k r ++ cond v [] (replies_to k.plan (asks stop Between m (lines_until stop more)) later)) (ends-other r b);
+      ∙ ap (λ v. reply_text k r ++ cond v [] (replies_to k.plan (asks stop Between m (lines_until stop more)) later)) (ends-other r b);
 }
 
 nothing_more : (v : Bool) (t : List ℕ) → t ++ cond v [] [] ≡ t
 nothing_more true t = append-nil t
 nothing_more false t = append-nil t
 
-pub done_last : (prompt : Bool) (old new : Ahead) (before after : Option (List ℕ)) (heard : Option Request) (last : Bool) (j k : Known) (n m : ℕ) (r : Reply) → last ≡ true
-    → (h : Hears old new Between heard last n m) → Served prompt r h.asked j k → Appends before after (text_of k r) → Finishes prompt old new before after j.plan n
+pub done_last : (prompt : Bool) (old new : Ahead) (before after : Option (List ℕ)) (heard : Option Request) (last : Bool) (j k : BookState) (n m : ℕ) (r : Reply) → last ≡ true
+    → (h : Hears old new Between heard last n m) → Served prompt r h.asked j k → Appends before after (reply_text k r) → Finishes prompt old new before after j.plan n
 done_last prompt old new before after heard last j k n m r e h s w = record {
   bytes = h.bytes;
   shortages = s.2.0 ∷ [];
   caused = λ e. (s.2.1 e, tt);
   taken = h.taken;
-  told = text_of k r;
+  told = reply_text k r;
   wrote = w;
   law = λ rest x. replies_from prompt old new heard last j k n m r h s Ended rest [] (follows_nothing last new.bytes rest h.at_end x)
-      ∙ ap (λ v. text_of k r ++ cond (ends r) [] (replies_to k.plan (asks Ended Between m (lines_until Ended v)) [])) (at_end_nil new.bytes rest (h.at_end e) x) ∙ nothing_more (ends r) (text_of k r);
+      ∙ ap (λ v. reply_text k r ++ cond (ends r) [] (replies_to k.plan (asks Ended Between m (lines_until Ended v)) [])) (at_end_nil new.bytes rest (h.at_end e) x) ∙ nothing_more (ends r) (reply_text k r);
 }
 
-pub done_bye : (prompt : Bool) (old new : Ahead) (before after : Option (List ℕ)) (heard : Option Request) (last : Bool) (j k : Known) (n m : ℕ) (r : Reply) → r ≡ reply.Bye
-    → (h : Hears old new Between heard last n m) → Served prompt r h.asked j k → Appends before after (text_of k r) → Finishes prompt old new before after j.plan n
+pub done_bye : (prompt : Bool) (old new : Ahead) (before after : Option (List ℕ)) (heard : Option Request) (last : Bool) (j k : BookState) (n m : ℕ) (r : Reply) → r ≡ reply.Bye
+    → (h : Hears old new Between heard last n m) → Served prompt r h.asked j k → Appends before after (reply_text k r) → Finishes prompt old new before after j.plan n
 done_bye prompt old new before after heard last j k n m r b h s w = record {
   bytes = h.bytes;
   shortages = s.2.0 ∷ [];
   caused = λ e. (s.2.1 e, tt);
   taken = h.taken;
-  told = text_of k r;
+  told = reply_text k r;
   wrote = w;
   law = λ rest x. replies_from prompt old new heard last j k n m r h s Ended rest [] (follows_nothing last new.bytes rest h.at_end x)
-      ∙ ap (λ v. text_of k r ++ cond (ends v) [] (replies_to k.plan (asks Ended Between m (lines_until Ended rest)) [])) b ∙ append-nil (text_of k r);
+      ∙ ap (λ v. reply_text k r ++ cond (ends v) [] (replies_to k.plan (asks Ended Between m (lines_until Ended rest)) [])) b ∙ append-nil (reply_text k r);
 }
 
-pub stops_telling : (prompt : Bool) (old new : Ahead) (before after : Option (List ℕ)) (heard : Option Request) (last : Bool) (j k : Known) (n m : ℕ) (r : Reply)
-    → (h : Hears old new Between heard last n m) → Served prompt r h.asked j k → AppendsFront before after (text_of k r) → StopsTelling prompt old new before after j.plan n
+pub stops_telling : (prompt : Bool) (old new : Ahead) (before after : Option (List ℕ)) (heard : Option Request) (last : Bool) (j k : BookState) (n m : ℕ) (r : Reply)
+    → (h : Hears old new Between heard last n m) → Served prompt r h.asked j k → AppendsFront before after (reply_text k r) → StopsTelling prompt old new before after j.plan n
 stops_telling prompt old new before after heard last j k n m r h s w = record {
   bytes = h.bytes;
   shortages = s.2.0 ∷ [];
   caused = λ e. (s.2.1 e, tt);
   taken = h.taken;
   law = λ rest x. subst (AppendsFront before after) (sym (replies_from prompt old new heard last j k n m r h s Ended rest [] (follows_nothing last new.bytes rest h.at_end x)))
-      (front_first before after (text_of k r) (cond (ends r) [] (replies_to k.plan (asks Ended Between m (lines_until Ended rest)) [])) w);
+      (front_first before after (reply_text k r) (cond (ends r) [] (replies_to k.plan (asks Ended Between m (lines_until Ended rest)) [])) w);
 }
 
 -- what was answered, and then what was answered next

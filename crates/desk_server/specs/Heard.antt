@@ -8,12 +8,12 @@ use Rattle.script_lines.specs.ScriptLine.{is_passed_over}
 use Rattle.script_lines.specs.Script.{Follows}
 use Rattle.script_lines.specs.Text.{IsText}
 use Rattle.schedule.specs.Plan.{Plan}
-use Rattle.desk_core.specs.Rows.{Known}
+use Rattle.dependency_book.specs.BookState.{BookState}
 use Rattle.desk_server.specs.Command.{command_of, format_of}
 use Rattle.desk_server.specs.Shortage.{Shortage, IsCausedOver}
 use Rattle.desk_server.specs.Answer.{Ask, Obey, Take, Refuse, After, answer, unless_memory, CanLackMemory}
 use Rattle.desk_server.specs.Script.{asks, asked_by, Place, Between}
-use Rattle.desk_server.specs.Told.{text_of, ends}
+use Rattle.desk_server.specs.Told.{reply_text, ends}
 use Rattle.desk_server.specs.declared.reply.Reply.{Reply}
 use Rattle.desk_server.specs.declared.command.Command.{Command}
 use Rattle.desk_server.specs.declared.request.Request.{Request}
@@ -63,24 +63,24 @@ abbrev pub ReadFails : {R : Type 0} → (R → Option (List ℕ)) → LineReadin
 ReadFails remaining old new = FailsOrFull old.failures new.failures new.given × IsDrawn remaining new
 
 -- the desk that is left, the reply and whether the script ends are those of an answer
-abbrev pub Gives : After → Reply → Known → Type 0
-Gives after reply new = after ≡ record { told = text_of new reply; plan = new.plan; ends = ends reply }
+abbrev pub Gives : After → Reply → BookState → Type 0
+Gives after reply new = after ≡ record { told = reply_text new reply; plan = new.plan; ends = ends reply }
 
 -- they are those of an answer, for some shortage; over a prompt post it has a cause
-abbrev pub GivesBy : Bool → (Shortage → After) → Reply → Known → Type 0
+abbrev pub GivesBy : Bool → (Shortage → After) → Reply → BookState → Type 0
 GivesBy prompt after reply new =
     (shortage : Shortage) × IsCausedOver prompt shortage × Gives (after shortage) reply new
 
 -- the same of an answer that being out of memory can take the place of, whatever the post
-abbrev pub GivesOrLacks : Plan → After → Reply → Known → Type 0
+abbrev pub GivesOrLacks : Plan → After → Reply → BookState → Type 0
 GivesOrLacks p after = GivesBy true (λ shortage. unless_memory shortage p after)
 
 -- whatever the request asks, they are those of the answer to that
-abbrev pub Serves : Bool → Request → Reply → Known → Known → Type 0
+abbrev pub Serves : Bool → Request → Reply → BookState → BookState → Type 0
 Serves prompt request reply old new =
     (ask : Ask) → AsksFor request ask → GivesBy prompt (λ short. answer short old.plan ask) reply new
 
 -- the reply to what was asked
-abbrev pub Served : Bool → Reply → List Ask → Known → Known → Type 0
+abbrev pub Served : Bool → Reply → List Ask → BookState → BookState → Type 0
 Served prompt reply asked old new =
     (ask : Ask) × (asked ≡ ask ∷ []) × GivesBy prompt (λ short. answer short old.plan ask) reply new

@@ -2,7 +2,7 @@
 use Rattle.std.specs.Prelude.{◌≡◌, ℕ, ◌+◌, ◌<◌, Bool, List, Option, IfSome, true}
 use Rattle.script_lines.specs.Ahead.{LineReading}
 use Rattle.script_lines.specs.Counted.{CountedWriting}
-use Rattle.desk_core.specs.Rows.{Known}
+use Rattle.dependency_book.specs.BookState.{BookState}
 use Rattle.desk_server.specs.Heard.{BreaksOff, ReadFails}
 use Rattle.desk_server.specs.Script.{Between}
 use Rattle.desk_server.specs.Run.{Answers, Finishes, StopsTelling, AnswersAll, AnswersWhole, AnswersFront}
@@ -14,13 +14,13 @@ pub record Works {R W : Type 0} (r s : LineReading R) (w x : CountedWriting W) :
   pub flushed : w.flushed ≡ true → x.flushed ≡ true
 
 -- something was heard and answered, and fewer bytes can come
-pub record GoesOn {R W : Type 0} (prompt : Bool) (r s : LineReading R) (w x : CountedWriting W) (j k : Known) : Type 0 where
+pub record GoesOn {R W : Type 0} (prompt : Bool) (r s : LineReading R) (w x : CountedWriting W) (j k : BookState) : Type 0 where
   pub answered : Answers prompt r.ahead s.ahead w.contents x.contents j.plan k.plan (r.lines + 1) (s.lines + 1)
   pub fewer : s.ahead.room < r.ahead.room
   pub works : Works r s w x
 
 -- the script was answered to its end
-pub record Ends {R W : Type 0} (prompt : Bool) (r s : LineReading R) (w x : CountedWriting W) (j : Known) : Type 0 where
+pub record Ends {R W : Type 0} (prompt : Bool) (r s : LineReading R) (w x : CountedWriting W) (j : BookState) : Type 0 where
   pub answered : Finishes prompt r.ahead s.ahead w.contents x.contents j.plan (r.lines + 1)
   pub works : Works r s w x
 
@@ -31,7 +31,7 @@ pub record ReadBreaks {R W : Type 0} (remaining : R → Option (List ℕ)) (r s 
   pub fails : ReadFails remaining r s
 
 -- a write failed within a reply
-pub record WriteBreaks {R W : Type 0} (prompt : Bool) (r s : LineReading R) (w x : CountedWriting W) (j : Known) : Type 0 where
+pub record WriteBreaks {R W : Type 0} (prompt : Bool) (r s : LineReading R) (w x : CountedWriting W) (j : BookState) : Type 0 where
   pub stopped : StopsTelling prompt r.ahead s.ahead w.contents x.contents j.plan (r.lines + 1)
   pub fails : x.failures ≡ w.failures + 1
 

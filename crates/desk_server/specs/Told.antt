@@ -1,9 +1,11 @@
 -- How a reply reads, with the texts that the desk knows.
-use Rattle.std.specs.Prelude.{◌≡◌, ℕ, List, [], ◌∷◌, ◌++◌, Bool, true, false, Option, None, Some, decimal, ⊤}
+use Rattle.std.specs.Prelude.{◌≡◌, ℕ, List, [], ◌∷◌, ◌++◌, Bool, true, false, Option, None, Some, IfSome, decimal, ⊤}
 use Rattle.schedule.specs.declared.document.Bookmark.{Bookmark}
 use Rattle.schedule.specs.declared.fault.EditFault.TheVariants.{NoSuchBookmark}
-use Rattle.desk_core.specs.Rows.{Known, bookmark_in, text_known, pending_of, NothingOut}
-use Rattle.desk_core.specs.Shown.{IsPending}
+use Rattle.revision_jobs.specs.Answer.{JobResult}
+use Rattle.dependency_book.specs.BookState.{BookState, bookmark_in, text_known, pending_of, NothingOut}
+use Rattle.dependency_book.specs.Shown.{IsPending}
+use Rattle.desk_core.specs.Settling.{Explains}
 use Rattle.desk_server.specs.declared.command.Command.{Command}
 use Rattle.desk_server.specs.declared.command.Command.TheVariants.{Edit, Settle, Show, Quit}
 use Rattle.desk_server.specs.declared.reply.Reply.{Reply}
@@ -20,13 +22,13 @@ shown_text id None text = refused_text (of_edit NoSuchBookmark)
 shown_text id (Some b) None = pending_text id
 shown_text id (Some b) (Some text) = current_text id text
 
-abbrev pub text_of : Known → Reply → List ℕ
-text_of known (reply.Accepted revision word number) = accepted_text revision word.now number
-text_of known reply.Settled = settled_text
-text_of known (reply.Unsettled pending cause) = unsettled_text pending cause
-text_of known (reply.Shown id) = shown_text id (bookmark_in known.plan.bookmarks id) (text_known known id)
-text_of known (reply.Refused number name place) = refused_text (fault_of number name.now place)
-text_of known reply.Bye = bye_text
+abbrev pub reply_text : BookState → Reply → List ℕ
+reply_text known (reply.Accepted revision word number) = accepted_text revision word.now number
+reply_text known reply.Settled = settled_text
+reply_text known (reply.Unsettled pending cause) = unsettled_text pending cause
+reply_text known (reply.Shown id) = shown_text id (bookmark_in known.plan.bookmarks id) (text_known known id)
+reply_text known (reply.Refused number name place) = refused_text (fault_of number name.now place)
+reply_text known reply.Bye = bye_text
 
 -- whether the script ends with the reply
 abbrev pub ends : Reply → Bool
@@ -40,12 +42,19 @@ ComputesFor Settle = ⊤
 ComputesFor (Show id) = ⊤
 ComputesFor Quit = ⊥
 
--- what such a command leaves, by its reply: every text known, or so many that aren't, and then no job out; where the bookmark isn't current, nothing left to compute or no job out
-abbrev pub Leaves : Reply → Known → Type 0
-Leaves reply.Settled known = pending_of known ≡ 0
-Leaves (reply.Unsettled pending cause) known = (pending ≡ pending_of known) × NothingOut known
-Leaves (reply.Shown id) known = IsPending known id → IsDoneWith known
-Leaves _ known = ⊤
+-- what such a command leaves, by its reply and the answers that the post gave meanwhile: every text known, or so many
+-- that aren't, then no job out, and a cause that is told is explained; where the bookmark isn't current, nothing left to
+-- compute or no job out
+abbrev pub Leaves : List JobResult → Reply → BookState → Type 0
+Leaves answers reply.Settled d = pending_of d ≡ 0
+Leaves answers (reply.Unsettled pending cause) d = (pending ≡ pending_of d) × NothingOut d × IfSome cause (Explains d answers)
+Leaves answers (reply.Shown id) d = IsPending d id → IsDoneWith d
+Leaves answers _ d = ⊤
+
+-- the post, seen by the answers that it gave, gave more, over which the command leaves this
+abbrev pub LeavesOver : {P : Type 0} → (P → List JobResult) → P → P → Reply → BookState → Type 0
+LeavesOver answers old new reply d =
+    (later : List JobResult) × (answers new ≡ answers old ++ later) × Leaves later reply d
 
 -- the bytes of one part after the other
 abbrev pub part_text : Part → List ℕ

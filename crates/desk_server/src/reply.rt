@@ -1,12 +1,12 @@
 //! Replies, and how they are written.
 ghost use Rattle.std.specs.Prelude.{◌≡◌, ◌+◌, ℕ, OnOk, OnErr, codes, false, true};
 ghost use Rattle.script_lines.specs.Faults.{Wrote};
-ghost use Rattle.desk_core.specs.Rows.{Known};
+ghost use Rattle.dependency_book.specs.BookState.{BookState};
 ghost use Rattle.std.specs.Option.{option_map_or};
 ghost use Rattle.desk_core.specs.Cause.{cause_number};
 ghost use Rattle.desk_server.specs.Faults.{fault_of};
 ghost use Rattle.desk_server.specs.Reply.{accepted_text, refused_text, unsettled_text};
-ghost use Rattle.desk_server.specs.Told.{text_of, ends, part_text, parts_text};
+ghost use Rattle.desk_server.specs.Told.{reply_text, ends, part_text, parts_text};
 
 use desk_core::{Cause, Desk, EditFault, Refusal, Shown};
 use script_lines::{CountedWriter, Failed};
@@ -52,7 +52,7 @@ pub enum Part<'a> {
 
 /// The reply to something refused.
 pub(crate) fn refused<F: Refusal>(fault: &F) -> Reply
-    ensures text { (known : Known) → text_of known result ≡ refused_text
+    ensures text { (known : BookState) → reply_text known result ≡ refused_text
         (fault_of (F.number_of fault.now) (F.name_of fault.now) (F.place_of fault.now)) }
     ensures goes_on { ends result ≡ false }
 {
@@ -193,7 +193,7 @@ fn tell_shown<W: Write, L: Ledger>(
     id: u64,
 ) -> Result<(), Failed>
     ensures bytes { Wrote writer.old.contents writer.new.contents result
-        (text_of desk.now (Reply.Shown id)) }
+        (reply_text desk.now (Reply.Shown id)) }
     ensures worked { OnOk result (writer.new.failures ≡ writer.old.failures) }
     ensures failed { OnErr result (writer.new.failures ≡ writer.old.failures + 1) }
 {
@@ -220,7 +220,7 @@ fn tell<W: Write, L: Ledger>(
     desk: &Desk<'_>,
     reply: Reply,
 ) -> Result<(), Failed>
-    ensures bytes { Wrote writer.old.contents writer.new.contents result (text_of desk.now reply) }
+    ensures bytes { Wrote writer.old.contents writer.new.contents result (reply_text desk.now reply) }
     ensures worked { OnOk result (writer.new.failures ≡ writer.old.failures) }
     ensures failed { OnErr result (writer.new.failures ≡ writer.old.failures + 1) }
 {
@@ -248,7 +248,7 @@ pub(crate) fn send<W: Write, L: Ledger>(
     desk: &Desk<'_>,
     reply: Reply,
 ) -> Result<(), Failed>
-    ensures bytes { Wrote writer.old.contents writer.new.contents result (text_of desk.now reply) }
+    ensures bytes { Wrote writer.old.contents writer.new.contents result (reply_text desk.now reply) }
     ensures worked { OnOk result (writer.new.failures ≡ writer.old.failures) }
     ensures failed { OnErr result (writer.new.failures ≡ writer.old.failures + 1) }
     ensures flushed { OnOk result (writer.new.flushed ≡ true) }

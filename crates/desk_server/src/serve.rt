@@ -2,12 +2,13 @@
 ghost use Rattle.std.specs.Prelude.{◌≡◌, IfNone, true};
 ghost use Rattle.std.specs.Arc.{arc_value};
 ghost use Rattle.schedule.specs.Asked.{asked_of};
-ghost use Rattle.desk_core.specs.Rows.{NothingOut, pending_of};
-ghost use Rattle.desk_core.specs.Shown.{IsPending};
+ghost use Rattle.dependency_book.specs.BookState.{NothingOut, pending_of};
+ghost use Rattle.dependency_book.specs.Shown.{IsPending};
 ghost use Rattle.desk_server.specs.Answer.{edited, id_word, obeyed, settled, started, taken};
 ghost use Rattle.desk_server.specs.Heard.{GivesBy, GivesOrLacks, Serves};
-ghost use Rattle.desk_server.specs.Jobs.{Carries, CarriesOn, DropsJobs, IsDoneWith};
-ghost use Rattle.desk_server.specs.Told.{ComputesFor, Leaves};
+ghost use Rattle.desk_server.specs.Jobs.{Carries, CarriesOn, DropsJobs};
+ghost use Rattle.desk_server.specs.Jobs.{IsDoneWith, IsExplained, KeepsCauses};
+ghost use Rattle.desk_server.specs.Told.{ComputesFor, LeavesOver};
 
 use crate::command::Command;
 use crate::format::Format;
@@ -137,6 +138,7 @@ fn take(alloc: Global, desk: &mut Desk<'_>, format: Format, text: &[u8]) -> Repl
 fn give_up(desk: &mut Desk<'_>)
     ensures plan { desk.new.plan ≡ desk.old.plan }
     ensures jobs { DropsJobs desk.old desk.new }
+    ensures causes { KeepsCauses desk.old desk.new }
     ensures none { NothingOut desk.new }
 {
     let mut first = desk.first_out();
@@ -152,6 +154,7 @@ fn compute<P: Post>(rt: &impl Wait, desk: &mut Desk<'_>, post: &mut P) -> Option
     requires { Carries P.table P.floor P.is_prompt P.held post.old desk.old }
     ensures plan { desk.new.plan ≡ desk.old.plan }
     ensures caused { P.is_prompt post.old ≡ true → IfNone result (pending_of desk.new ≡ 0) }
+    ensures explained { IsExplained P.answers post.old post.new desk.new result }
     ensures given_up { IsDoneWith desk.new }
     ensures post { CarriesOn P.table P.floor P.is_prompt P.held post.old post.new desk.new }
 {
@@ -168,7 +171,7 @@ fn settle<P: Post>(rt: &impl Wait, desk: &mut Desk<'_>, post: &mut P) -> Reply
     requires { Carries P.table P.floor P.is_prompt P.held post.old desk.old }
     ensures answer { GivesBy (P.is_prompt post.old) (λ short. settled short desk.old.plan)
         result desk.new }
-    ensures leaves { Leaves result desk.new }
+    ensures leaves { LeavesOver P.answers post.old post.new result desk.new }
     ensures post { CarriesOn P.table P.floor P.is_prompt P.held post.old post.new desk.new }
 {
     let cause = compute(rt, desk, post);
@@ -184,7 +187,7 @@ fn show<P: Post>(rt: &impl Wait, desk: &mut Desk<'_>, post: &mut P, id: u64) -> 
     ensures answer { GivesBy (P.is_prompt post.old)
         (λ short. obeyed short desk.old.plan (Command.Show id)) result desk.new }
     ensures at_once { ¬ IsPending desk.old id → (desk.new ≡ desk.old) × (post.new ≡ post.old) }
-    ensures leaves { Leaves result desk.new }
+    ensures leaves { LeavesOver P.answers post.old post.new result desk.new }
     ensures post { CarriesOn P.table P.floor P.is_prompt P.held post.old post.new desk.new }
 {
     if desk.shown(id) != Shown::Pending {
@@ -200,7 +203,8 @@ fn obey<P: Post>(rt: &impl Wait, desk: &mut Desk<'_>, post: &mut P, command: Com
     requires { Carries P.table P.floor P.is_prompt P.held post.old desk.old }
     ensures answer { GivesBy (P.is_prompt post.old) (λ short. obeyed short desk.old.plan command)
         result desk.new }
-    ensures leaves { ComputesFor command → Leaves result desk.new }
+    ensures leaves { ComputesFor command
+        → LeavesOver P.answers post.old post.new result desk.new }
     ensures post { CarriesOn P.table P.floor P.is_prompt P.held post.old post.new desk.new }
 {
     match command {
@@ -222,7 +226,7 @@ pub(crate) fn serve<P: Post>(
     requires { Carries P.table P.floor P.is_prompt P.held post.old desk.old }
     ensures answer { Serves (P.is_prompt post.old) request result desk.old desk.new }
     ensures leaves { (command : Command) → request ≡ Request.Obey command
-        → ComputesFor command → Leaves result desk.new }
+        → ComputesFor command → LeavesOver P.answers post.old post.new result desk.new }
     ensures post { CarriesOn P.table P.floor P.is_prompt P.held post.old post.new desk.new }
 {
     match request {

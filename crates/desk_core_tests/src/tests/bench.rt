@@ -6,7 +6,7 @@ use super::posts::{LosingPost, RefusingPost};
 use super::{Change, edit_of, same};
 use desk_core::{
     Answer, Cause, Collected, Desk, EditFault, Edited, Entries, Entry, EvolveFault, InlinePost,
-    Job, NoGate, Outcome, Place, Settling, Shown, settle, work,
+    Job, NoGate, Outcome, Place, Settling, Shown, feed, settle, work,
 };
 use std::alloc::Global;
 use std::marker::Model;
@@ -41,9 +41,9 @@ impl<'e> Model for Bench<'e> {
     ghost use Rattle.std.specs.Prelude.{◌≡◌, IfSome};
     ghost use Rattle.worlds.specs.World.{coded_world};
     ghost use Rattle.revision_jobs.specs.Entries.{IsOf};
-    ghost use Rattle.desk_core.specs.Rows.{Known};
+    ghost use Rattle.dependency_book.specs.BookState.{BookState};
 
-    ghost Value = { Known };
+    ghost Value = { BookState };
 
     ghost coded = { Prim.hlevel (codes, coded_world) };
 
@@ -84,6 +84,12 @@ pub(super) enum Act {
     Closed(u32),
     /// Settles with so many turns over a post that is full.
     Full(u32),
+    /// Feeds a post that takes one job, and so many are taken.
+    Feed(u32),
+    /// Feeds a post that loses each job, and so many are taken.
+    FeedLosing(u32),
+    /// Feeds a post that is closed.
+    FeedClosed,
     /// A job of this number is issued, for this.
     Issue(u32, Wanted),
     /// The stop of the job is raised.
@@ -149,6 +155,18 @@ impl<'e> Bench<'e> {
             Act::Lose(turns) => self.settle_over_losing(rt, turns),
             Act::Closed(turns) => self.settle_over_refusing(rt, turns, true),
             Act::Full(turns) => self.settle_over_refusing(rt, turns, false),
+            Act::Feed(taken) => {
+                let mut post = InlinePost::new(self.alloc, self.entries, SQUARES);
+                same(rt, &feed(rt, &mut self.desk, &mut post), &taken, act);
+            }
+            Act::FeedLosing(taken) => {
+                let mut post = LosingPost::new(self.entries);
+                same(rt, &feed(rt, &mut self.desk, &mut post), &taken, act);
+            }
+            Act::FeedClosed => {
+                let mut post = RefusingPost::new(self.entries, true);
+                same(rt, &feed(rt, &mut self.desk, &mut post), &0, act);
+            }
             Act::Issue(number, wanted) => self.issue(rt, number, &wanted),
             Act::Raise => self.raise(rt),
             Act::Work => self.work(rt),
@@ -202,7 +220,6 @@ impl<'e> Bench<'e> {
 
     // Settles over a post without threads.
     fn settled<R: Wait>(&mut self, rt: &R, squares: u32, turns: u32) -> Settling
-        requires { (64 ≤ squares) × (squares ≤ 16777216) }
     {
         let mut post = InlinePost::new(self.alloc, self.entries, squares);
         settle(rt, &mut self.desk, &mut post, turns)

@@ -1,58 +1,68 @@
 use Rattle.std.proofs.Common.{◌<◌, rules}
-use Rattle.desk_core.specs.Course.{job_in}
-use Rattle.desk_core.proofs.Steps.{IsHeld-given_up, enough-whole, explains-whole, serves-whole, settles-whole}
+use Rattle.desk_core.specs.Progress.{job_in}
+use Rattle.desk_core.proofs.Steps.{IsHeld-given_up, enough-whole, gave-whole, serves-whole, settles-whole}
 use Rattle.desk_core.proofs.Turns.{cause-left}
 use Rattle.desk_core.proofs.settling.settle.Goals as goal
 
+pub returns-in-0-clause-ends : goal.returns-in-0-clause-ends
+returns-in-0-clause-ends g c =
+    let run = c.run-unsent in
+    let gave = gave-whole c.args.desk.now run.new.desk c.cancel.new.desk (g.P.Post.answers c.args.post.now) (g.P.Post.answers run.new.post) (g.P.Post.floor run.new.post) run.result run.ensures.comes c.cancel.ensures in
+    (gave.0, gave.1, search rules)
+
 pub returns-in-0-clause-settles : goal.returns-in-0-clause-settles
 returns-in-0-clause-settles g c =
-    settles-whole c.args.desk.now c.run-hand.new.desk c.give_up.new.desk (job_in c.run-hand.result.hand) c.run-hand.result.cause c.run-hand.ensures.goes c.give_up.ensures
+    let run = c.run-unsent in
+    settles-whole c.args.desk.now run.new.desk c.cancel.new.desk (g.P.Post.answers c.args.post.now) (g.P.Post.answers run.new.post) (g.P.Post.floor run.new.post) run.result run.ensures.comes c.cancel.ensures c.pending.ensures.right
 
 pub returns-in-0-clause-post : goal.returns-in-0-clause-post
-returns-in-0-clause-post g c = (
-  serves-whole c.args.desk.now c.run-hand.new.desk c.give_up.new.desk (job_in c.run-hand.result.hand) c.run-hand.result.cause c.run-hand.ensures.goes c.give_up.ensures
-      (g.P.Post.table c.run-hand.new.post) (g.P.Post.floor c.run-hand.new.post) c.run-hand.ensures.fits.serves,
-  c.run-hand.ensures.kind,
-)
+returns-in-0-clause-post g c =
+    let run = c.run-unsent in (
+      serves-whole c.args.desk.now run.new.desk c.cancel.new.desk (g.P.Post.answers c.args.post.now) (g.P.Post.answers run.new.post) (g.P.Post.floor run.new.post) run.result run.ensures.comes c.cancel.ensures (g.P.Post.table run.new.post) run.ensures.fits.serves,
+      run.ensures.kind,
+    )
 
 pub returns-in-0-clause-prompt : goal.returns-in-0-clause-prompt
-returns-in-0-clause-prompt g c = λ prompt held. (
-  IsHeld-given_up (job_in c.run-hand.result.hand) (g.P.Post.held c.run-hand.new.post) c.run-hand.new.desk c.give_up.new.desk c.give_up.ensures (c.run-hand.ensures.out prompt held),
-  λ enough. tt,
-)
+returns-in-0-clause-prompt g c = λ prompt held.
+    let run = c.run-unsent in (
+      IsHeld-given_up (job_in run.result.unsent) (g.P.Post.held run.new.post) run.new.desk c.cancel.new.desk c.cancel.ensures (run.ensures.out prompt held),
+      λ enough. tt,
+    )
 
 pub returns-in-0-clause-enough : goal.returns-in-0-clause-enough
 returns-in-0-clause-enough g c =
-    enough-whole c.args.desk.now c.run-hand.new.desk c.give_up.new.desk (job_in c.run-hand.result.hand) c.run-hand.result.cause c.run-hand.ensures.goes c.give_up.ensures c.pending.ensures.few
+    let run = c.run-unsent in
+    enough-whole c.args.desk.now run.new.desk c.cancel.new.desk (g.P.Post.answers c.args.post.now) (g.P.Post.answers run.new.post) (g.P.Post.floor run.new.post) run.result run.ensures.comes c.cancel.ensures c.pending.ensures.few
 
 pub returns-in_default-clause-ends : goal.returns-in_default-clause-ends
 returns-in_default-clause-ends g c =
-    let some : 0 < c.pending.result = search rules in (
-      c.pending.ensures.count,
-      some,
-      c.pending.ensures.bound,
-      explains-whole c.args.desk.now c.run-hand.new.desk c.give_up.new.desk (job_in c.run-hand.result.hand) c.run-hand.result.cause c.run-hand.ensures.goes c.give_up.ensures,
-    )
+    let run = c.run-unsent in
+    let some : 0 < c.pending.result = search rules in
+    let gave = gave-whole c.args.desk.now run.new.desk c.cancel.new.desk (g.P.Post.answers c.args.post.now) (g.P.Post.answers run.new.post) (g.P.Post.floor run.new.post) run.result run.ensures.comes c.cancel.ensures in
+    (gave.0, gave.1, (c.pending.ensures.count, some, c.pending.ensures.bound, gave.2))
 
 pub returns-in_default-clause-settles : goal.returns-in_default-clause-settles
 returns-in_default-clause-settles g c =
-    settles-whole c.args.desk.now c.run-hand.new.desk c.give_up.new.desk (job_in c.run-hand.result.hand) c.run-hand.result.cause c.run-hand.ensures.goes c.give_up.ensures
+    let run = c.run-unsent in
+    settles-whole c.args.desk.now run.new.desk c.cancel.new.desk (g.P.Post.answers c.args.post.now) (g.P.Post.answers run.new.post) (g.P.Post.floor run.new.post) run.result run.ensures.comes c.cancel.ensures c.pending.ensures.right
 
 pub returns-in_default-clause-post : goal.returns-in_default-clause-post
-returns-in_default-clause-post g c = (
-  serves-whole c.args.desk.now c.run-hand.new.desk c.give_up.new.desk (job_in c.run-hand.result.hand) c.run-hand.result.cause c.run-hand.ensures.goes c.give_up.ensures
-      (g.P.Post.table c.run-hand.new.post) (g.P.Post.floor c.run-hand.new.post) c.run-hand.ensures.fits.serves,
-  c.run-hand.ensures.kind,
-)
+returns-in_default-clause-post g c =
+    let run = c.run-unsent in (
+      serves-whole c.args.desk.now run.new.desk c.cancel.new.desk (g.P.Post.answers c.args.post.now) (g.P.Post.answers run.new.post) (g.P.Post.floor run.new.post) run.result run.ensures.comes c.cancel.ensures (g.P.Post.table run.new.post) run.ensures.fits.serves,
+      run.ensures.kind,
+    )
 
 pub returns-in_default-clause-prompt : goal.returns-in_default-clause-prompt
-returns-in_default-clause-prompt g c = λ prompt held. (
-  IsHeld-given_up (job_in c.run-hand.result.hand) (g.P.Post.held c.run-hand.new.post) c.run-hand.new.desk c.give_up.new.desk c.give_up.ensures (c.run-hand.ensures.out prompt held),
-  λ enough.
-      let some : 0 < c.pending.result = search rules in
-      cause-left c.run-hand.new.desk c.give_up.new.desk c.run-hand.result c.pending.result (c.run-hand.ensures.done prompt held enough) c.give_up.ensures c.pending.ensures.count c.pending.ensures.none some,
-)
+returns-in_default-clause-prompt g c = λ prompt held.
+    let run = c.run-unsent in (
+      IsHeld-given_up (job_in run.result.unsent) (g.P.Post.held run.new.post) run.new.desk c.cancel.new.desk c.cancel.ensures (run.ensures.out prompt held),
+      λ enough.
+          let some : 0 < c.pending.result = search rules in
+          cause-left run.new.desk c.cancel.new.desk run.result c.pending.result (run.ensures.done prompt held enough) c.cancel.ensures c.pending.ensures.count c.pending.ensures.none some,
+    )
 
 pub returns-in_default-clause-enough : goal.returns-in_default-clause-enough
 returns-in_default-clause-enough g c =
-    enough-whole c.args.desk.now c.run-hand.new.desk c.give_up.new.desk (job_in c.run-hand.result.hand) c.run-hand.result.cause c.run-hand.ensures.goes c.give_up.ensures c.pending.ensures.few
+    let run = c.run-unsent in
+    enough-whole c.args.desk.now run.new.desk c.cancel.new.desk (g.P.Post.answers c.args.post.now) (g.P.Post.answers run.new.post) (g.P.Post.floor run.new.post) run.result run.ensures.comes c.cancel.ensures c.pending.ensures.few

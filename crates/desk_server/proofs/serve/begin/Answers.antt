@@ -3,7 +3,7 @@ use Rattle.std.specs.Arc.{arc_value}
 use Rattle.schedule.specs.Change.{Changed, change}
 use Rattle.schedule.specs.Asked.{ReplaceStart}
 use Rattle.schedule.specs.declared.fault.EditFault.TheVariants.{NoMemory}
-use Rattle.desk_core.specs.Rows.{Known}
+use Rattle.dependency_book.specs.BookState.{BookState}
 use Rattle.desk_server.specs.Shortage.{NoShortage}
 use Rattle.desk_server.specs.Answer.{accepted}
 use Rattle.desk_server.specs.Faults.{of_edit}
@@ -15,13 +15,13 @@ pub returns-in-Err-clause-answer : goal.returns-in-Err-clause-answer
 returns-in-Err-clause-answer c =
     let p = c.args.desk.now.plan in
     gives-refused p c.edit.new.self c.refused.result of_edit (λ (d : Changed). accepted d (codes " gen ") (Some c.args.generation)) c.in-Err.fault NoMemory (change p (ReplaceStart (arc_value c.args.start)))
-    refl (ap (λ (k : Known). k.plan) c.in-Err.ensures.unchanged) c.in-Err.ensures.refused c.refused.ensures.text c.refused.ensures.goes_on
+    refl (ap (λ (k : BookState). k.plan) c.in-Err.ensures.unchanged) c.in-Err.ensures.refused c.refused.ensures.text c.refused.ensures.goes_on
 
 pub returns-clause-answer : goal.returns-clause-answer
 returns-clause-answer c = (NoShortage, λ _. tt, search rules)
 
 pub returns-clause-jobs : goal.returns-clause-jobs
-returns-clause-jobs c = edit_drops (ReplaceStart (arc_value c.args.start)) _ _ c.in-Ok.ensures.keeps
+returns-clause-jobs c = edit_drops (ReplaceStart (arc_value c.args.start)) _ _ c.in-Ok.ensures.ok.keeps
 
 pub returns-in-Err-clause-jobs : goal.returns-in-Err-clause-jobs
 returns-in-Err-clause-jobs c = drops_none _ _ c.in-Err.ensures.unchanged

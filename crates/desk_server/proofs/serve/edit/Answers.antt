@@ -2,7 +2,7 @@ use Rattle.std.proofs.Common.{refl, ap, rules}
 use Rattle.schedule.specs.Asked.{asked_of}
 use Rattle.schedule.specs.Change.{Changed, change}
 use Rattle.schedule.specs.declared.fault.EditFault.TheVariants.{NoMemory}
-use Rattle.desk_core.specs.Rows.{Known}
+use Rattle.dependency_book.specs.BookState.{BookState}
 use Rattle.desk_server.specs.Shortage.{NoShortage}
 use Rattle.desk_server.specs.Answer.{id_word, accepted}
 use Rattle.desk_server.specs.Faults.{of_edit}
@@ -15,13 +15,13 @@ returns-in-Err-clause-answer c =
     let p = c.args.desk.now.plan in
     let asked = asked_of c.args.edit.now in
     gives-refused p c.edit.new.self c.refused.result of_edit (λ (d : Changed). accepted d (id_word asked) d.edited.id) c.in-Err.fault NoMemory (change p asked)
-    refl (ap (λ (k : Known). k.plan) c.in-Err.ensures.unchanged) c.in-Err.ensures.refused c.refused.ensures.text c.refused.ensures.goes_on
+    refl (ap (λ (k : BookState). k.plan) c.in-Err.ensures.unchanged) c.in-Err.ensures.refused c.refused.ensures.text c.refused.ensures.goes_on
 
 pub returns-in-Ok-clause-answer : goal.returns-in-Ok-clause-answer
 returns-in-Ok-clause-answer c = (NoShortage, λ _. tt, search rules)
 
 pub returns-in-Ok-clause-jobs : goal.returns-in-Ok-clause-jobs
-returns-in-Ok-clause-jobs c = edit_drops (asked_of c.args.edit.now) _ _ c.in-Ok.ensures.keeps
+returns-in-Ok-clause-jobs c = edit_drops (asked_of c.args.edit.now) _ _ c.in-Ok.ensures.ok.keeps
 
 pub returns-in-Err-clause-jobs : goal.returns-in-Err-clause-jobs
 returns-in-Err-clause-jobs c = drops_none _ _ c.in-Err.ensures.unchanged

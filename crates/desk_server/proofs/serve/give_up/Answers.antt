@@ -1,10 +1,11 @@
 use Rattle.std.proofs.Common.{◌∙◌, ◌<◌, ◌^◌, refl, sym, subst, rules}
 use Rattle.dependency_book.specs.Jobs.{IsFirstOut}
+use Rattle.desk_core.proofs.Shared.Causes.{explains-cancelled}
 use Rattle.desk_server.proofs.Jobs.{drops_none, drops_drops, cancel_drops, first_falls, numbers_from}
 use Rattle.desk_server.proofs.serve.give_up.Goals as goal
 
 pub loop-first-init : goal.loop-first-init
-loop-first-init c = record { plan = refl; drops = drops_none _ _ refl; first = c.first_out-first.ensures }
+loop-first-init c = record { plan = refl; drops = drops_none _ _ refl; causes = λ answers cause h. h; first = c.first_out-first.ensures }
 
 pub loop-first-smaller : goal.loop-first-smaller
 loop-first-smaller c =
@@ -16,5 +17,6 @@ pub loop-first-preserved : goal.loop-first-preserved
 loop-first-preserved c = record {
   plan = c.cancel.ensures.book.document.plan ∙ c.loop-first.invariant.plan;
   drops = drops_drops _ _ _ c.loop-first.invariant.drops (cancel_drops _ _ _ c.cancel.ensures.rows c.cancel.ensures.book);
+  causes = λ answers cause h. explains-cancelled _ _ _ c.cancel.ensures.rows c.cancel.ensures.book answers cause (c.loop-first.invariant.causes answers cause h);
   first = c.first_out-first-in-Some.ensures;
 }

@@ -1,6 +1,6 @@
 use Rattle.std.proofs.Common.{◌≡◌}
 use Rattle.dependency_book.specs.Jobs.{IsFirstOut}
-use Rattle.desk_server.specs.Jobs.{DropsJobs}
+use Rattle.desk_server.specs.Jobs.{DropsJobs, KeepsCauses}
 use Rattle.desk_server.proofs.Jobs.{numbers_from}
 use Rattle.desk_server.proofs.serve.give_up.Given as goal
 
@@ -8,6 +8,7 @@ abbrev pub invariant-loop-first : goal.invariant-loop-first
 invariant-loop-first l = record {
   plan : l.desk.plan ≡ l.fn.desk.plan;
   drops : DropsJobs l.fn.desk l.desk;
+  causes : KeepsCauses l.fn.desk l.desk;
   first : IsFirstOut l.desk l.first;
 }
 

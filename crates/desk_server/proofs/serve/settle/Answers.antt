@@ -15,4 +15,11 @@ returns-in_default-clause-answer g c =
 pub returns-in_default-clause-leaves : goal.returns-in_default-clause-leaves
 returns-in_default-clause-leaves g c =
     let some : c.pending.result ≢ 0 = search rules in
-    (c.pending.ensures.count, nothing_out c.compute-cause.new.desk c.pending.result c.compute-cause.ensures.given_up c.pending.ensures.count some)
+    let explained = c.compute-cause.ensures.explained in (
+      explained.0,
+      explained.1,
+      (c.pending.ensures.count, nothing_out c.compute-cause.new.desk c.pending.result c.compute-cause.ensures.given_up c.pending.ensures.count some, explained.2),
+    )
+
+pub returns-in-0-clause-leaves : goal.returns-in-0-clause-leaves
+returns-in-0-clause-leaves g c = let explained = c.compute-cause.ensures.explained in (explained.0, explained.1, search rules)

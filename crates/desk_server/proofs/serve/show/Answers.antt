@@ -1,5 +1,6 @@
-use Rattle.std.proofs.Common.{refl}
-use Rattle.desk_server.proofs.Replies.{gives-shown}
+use Rattle.std.proofs.Common.{◌≢◌, [], refl, sym, append-nil, rules}
+use Rattle.dependency_book.specs.declared.shown.Shown.TheVariants.{Pending}
+use Rattle.desk_server.proofs.Replies.{gives-shown, not_pending}
 use Rattle.desk_server.proofs.serve.show.Goals as goal
 
 pub returns-clause-answer : goal.returns-clause-answer
@@ -7,3 +8,11 @@ returns-clause-answer g c = gives-shown (g.P.Post.is_prompt c.args.post.now) c.a
 
 pub returns-then-ne-clause-answer : goal.returns-then-ne-clause-answer
 returns-then-ne-clause-answer g c = gives-shown (g.P.Post.is_prompt c.args.post.now) c.args.desk.now.plan c.args.desk.now c.args.id c.shown.result refl c.shown.ensures
+
+pub returns-clause-leaves : goal.returns-clause-leaves
+returns-clause-leaves g c = let explained = c.compute.ensures.explained in (explained.0, explained.1, λ pending. c.compute.ensures.given_up)
+
+pub returns-then-ne-clause-leaves : goal.returns-then-ne-clause-leaves
+returns-then-ne-clause-leaves g c =
+    let other : c.shown.result ≢ Pending = search rules in
+    ([], sym (append-nil (g.P.Post.answers c.args.post.now)), λ pending. absurd (not_pending c.args.desk.now c.args.id c.shown.result c.shown.ensures other pending))

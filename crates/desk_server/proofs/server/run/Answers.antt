@@ -1,6 +1,6 @@
 use Rattle.std.proofs.Common.{◌+◌, ◌∙◌, ap, subst, refl, Ok, Err}
 use Rattle.schedule.specs.Plan.{opening}
-use Rattle.desk_core.specs.Rows.{Known}
+use Rattle.dependency_book.specs.BookState.{BookState}
 use Rattle.script_lines.specs.Input.{FailsOrFull}
 use Rattle.desk_server.proofs.Jobs.{carries_first, carries_further}
 use Rattle.desk_server.proofs.Rounds.{answers_none, answers_answers, answers_finishes, answers_stops, answers_breaks, finishes_all, stops_front}
@@ -8,7 +8,7 @@ use Rattle.desk_server.proofs.server.run.Goals as goal
 
 pub script-init : goal.script-init
 script-init g c = rw c.begin.ensures (record {
-  answered = answers_none (g.P.Post.is_prompt c.args.post.now) _ _ _ (opening 0) c.in-Ok.desk.plan 1 refl (ap (λ (k : Known). k.plan) c.in-Ok.ensures);
+  answered = answers_none (g.P.Post.is_prompt c.args.post.now) _ _ _ (opening 0) c.in-Ok.desk.plan 1 refl (ap (λ (k : BookState). k.plan) c.in-Ok.ensures);
   post = record { kind = refl; carries = carries_first g.P.Post.table g.P.Post.floor g.P.Post.is_prompt g.P.Post.held c.args.post.now c.args.entries.now c.in-Ok.desk c.in-Ok.ensures c.requires };
   flushed = λ h. h;
   reads = refl;

@@ -1,0 +1,47 @@
+-- What is known stays so while jobs come and go.
+use Rattle.std.proofs.Common.{◌≡◌, ℕ, ◌∙◌, Bool, true, false, refl, sym, ap, arith}
+use Rattle.std.specs.Prelude.{if◌then◌else◌, ◌==◌}
+use Rattle.std.proofs.lemmas.Bool.Decides.{nat_tests}
+use Rattle.revision_jobs.specs.declared.answer.Job.{Job}
+use Rattle.revision_jobs.specs.Answer.{JobResult}
+use Rattle.revision_jobs.specs.Value.{Value}
+use Rattle.dependency_book.specs.declared.row.RowState.{RowState}
+use Rattle.dependency_book.specs.declared.row.RowState.TheVariants.{Empty, Expected, Known}
+use Rattle.dependency_book.specs.declared.need.Need.{Need}
+use Rattle.dependency_book.specs.declared.need.Need.TheVariants.{Step, View}
+use Rattle.dependency_book.specs.Jobs.{is_need, issued, answered, cancelled}
+use Rattle.dependency_book.specs.BookState.{BookState, row_of}
+use Rattle.desk_core.specs.Settling.{KeepsKnown}
+
+pub KeepsKnown-same : (d : BookState) → KeepsKnown d d
+KeepsKnown-same d need value is = is
+
+pub KeepsKnown-on : (c d e : BookState) → KeepsKnown c d → KeepsKnown d e → KeepsKnown c e
+KeepsKnown-on c d e h k need value is = k need value (h need value is)
+
+same_number : (m n : ℕ) → (m == n) ≡ true → m ≡ n
+same_number m n h = grind (arith, nat_tests)
+
+pub same_need : (need other : Need) → is_need need other ≡ true → need ≡ other
+same_need (Step m) (Step n) h = ap Step (same_number m n h)
+same_need (Step m) (View id) h = absurd (cc)
+same_need (View id) (Step m) h = absurd (cc)
+same_need (View id) (View other) h = ap View (same_number id other h)
+
+issued_known : (b : Bool) (row : RowState Value) (job : Job) (value : Value) → (b ≡ true → row ≡ Empty) → row ≡ Known value → (if b then Expected job else row) ≡ Known value
+issued_known true row job value empty is = let none = empty refl in absurd (cc)
+issued_known false row job value empty is = is
+
+-- a job is issued for a row in which nothing stands
+pub KeepsKnown-issued : (old new : BookState) (need : Need) (job : Job) → row_of old need ≡ Empty → ((other : Need) → row_of new other ≡ issued need job other (row_of old other)) → KeepsKnown old new
+KeepsKnown-issued old new need job empty rows other value is =
+    rows other
+    ∙ issued_known (is_need need other) (row_of old other) job value (λ same. ap (row_of old) (sym (same_need need other same)) ∙ empty) is
+
+-- an answer comes
+pub KeepsKnown-answered : (old new : BookState) (answer : JobResult) → ((need : Need) → row_of new need ≡ answered answer (row_of old need)) → KeepsKnown old new
+KeepsKnown-answered old new answer rows need value is = rows need ∙ ap (answered answer) is
+
+-- a job is cancelled
+pub KeepsKnown-cancelled : (old new : BookState) (number : ℕ) → ((need : Need) → row_of new need ≡ cancelled number (row_of old need)) → KeepsKnown old new
+KeepsKnown-cancelled old new number rows need value is = rows need ∙ ap (cancelled number) is

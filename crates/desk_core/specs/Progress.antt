@@ -1,0 +1,136 @@
+-- How a settling goes on: the job that isn't sent yet, what is out, and how many turns it takes at most.
+use Rattle.std.specs.Prelude.{◌≡◌, ◌⊎◌, ℕ, ◌+◌, ◌*◌, ◌<◌, ◌≤◌, List, ◌++◌, Option, None, Some, IfSome}
+use Rattle.core.specs.declared.ops.ControlFlow.{ControlFlow}
+use Rattle.core.specs.declared.ops.ControlFlow.TheVariants.{Continue, Break}
+use Rattle.revision_jobs.specs.declared.answer.Job.{Job}
+use Rattle.revision_jobs.specs.declared.entries.Entries.{Entries}
+use Rattle.revision_jobs.specs.Answer.{JobResult}
+use Rattle.revision_jobs.specs.Entries.{IsOf}
+use Rattle.dependency_book.specs.declared.need.Need.{Need}
+use Rattle.dependency_book.specs.Jobs.{SameBook, SameDocument, cancelled}
+use Rattle.dependency_book.specs.BookState.{BookState, row_of, expected, pending_of, wanting_of, NothingOut}
+use Rattle.desk_core.specs.declared.cause.Cause.{Cause}
+use Rattle.desk_core.specs.declared.progress.Progress.{Progress}
+use Rattle.desk_core.specs.declared.unsent.Unsent.{Unsent}
+use Rattle.desk_core.specs.declared.unsent.Unsent.TheVariants.{Nothing, Ready, Waiting}
+use Rattle.desk_core.specs.Settling.{Explains, KeepsKnown, Serves}
+
+-- the job that isn't sent yet, if there is one
+abbrev pub job_in : Unsent → Option Job
+job_in Nothing = None
+job_in (Ready job) = Some job
+job_in (Waiting job) = Some job
+
+-- the row that expects the job of this number expects nothing any more, and no other row changes
+pub record Cancels (number : ℕ) (old new : BookState) : Type 0 where
+  pub rows : (need : Need) → row_of new need ≡ cancelled number (row_of old need)
+  pub book : SameBook old new
+
+-- a job is cancelled; without one nothing changes
+abbrev pub CancelsAny : Option Job → BookState → BookState → Type 0
+CancelsAny None old new = new ≡ old
+CancelsAny (Some job) old new = Cancels job.number old new
+
+-- a job can be sent to a post of this floor: it is of the desk's table, and its number was given and isn't below the floor
+pub record CanBeSent (d : BookState) (floor : ℕ) (job : Job) : Type 0 where
+  pub own : IsOf d.table job.place
+  pub rises : floor ≤ job.number
+  pub given : job.number < d.given
+
+-- the post serves the desk, and the job that isn't sent yet can be sent to it
+pub record Fits (d : BookState) (entries : Entries) (floor : ℕ) (job : Option Job) : Type 0 where
+  pub serves : Serves d entries floor
+  pub unsent : IfSome job (CanBeSent d floor)
+
+-- the progress with this job to be sent next
+abbrev pub ready : Job → Progress → Progress
+ready job progress = record { unsent = Ready job; cause = progress.cause }
+
+-- where a settling is: what the desk knows, the floor of the post and the answers that it gave, and the progress
+pub record Stage : Type 0 where
+  pub desk : BookState
+  pub floor : ℕ
+  pub answers : List JobResult
+  pub progress : Progress
+
+abbrev pub stage : BookState → ℕ → List JobResult → Progress → Stage
+stage d floor answers progress = record { desk = d; floor = floor; answers = answers; progress = progress }
+
+-- the same, of a post
+abbrev pub over : {P : Type 0} → (P → ℕ) → (P → List JobResult) → P → BookState → Progress → Stage
+over floor answers post d progress = stage d (floor post) (answers post) progress
+
+-- a job that is out at a stage was out at first, isn't sent yet, or was sent
+abbrev pub IsAccounted : BookState → Stage → Need → Job → Type 0
+IsAccounted first s need job =
+    (expected first need ≡ Some job) ⊎ ((job_in s.progress.unsent ≡ Some job) ⊎ (job.number < s.floor))
+
+-- a settling that began with this desk, when its post had given these answers, has come so far: what was known is so
+-- still, the document is the same, and the answers since then explain the cause
+pub record HasCome (first : BookState) (before : List JobResult) (s : Stage) : Type 0 where
+  pub known : KeepsKnown first s.desk
+  pub document : SameDocument first s.desk
+  pub later : List JobResult
+  pub gave : s.answers ≡ before ++ later
+  pub cause : IfSome s.progress.cause (Explains s.desk later)
+  pub out : (need : Need) (job : Job) → expected s.desk need ≡ Some job → IsAccounted first s need job
+
+-- whatever settling came to the first stage comes to the second, and a cause stays
+pub record GoesOn (s t : Stage) : Type 0 where
+  pub cause : t.progress.cause ≡ None → s.progress.cause ≡ None
+  pub comes : (first : BookState) (before : List JobResult) → HasCome first before s → HasCome first before t
+
+-- each job that is out isn't sent yet or is held by the post
+abbrev pub IsAtHand : Option Job → Option Job → BookState → Type 0
+IsAtHand unsent held d = (need : Need) (job : Job) → expected d need ≡ Some job → (unsent ≡ Some job) ⊎ (held ≡ Some job)
+
+-- how many turns what isn't sent yet and what is held take at most
+abbrev pub turns_for : Unsent → Option Job → ℕ
+turns_for Nothing None = 0
+turns_for Nothing (Some held) = 1
+turns_for (Ready job) None = 2
+turns_for (Ready job) (Some held) = 4
+turns_for (Waiting job) held = 3
+
+-- a moment of a settling over a prompt post: what the desk knows, what isn't sent yet and what the post holds
+pub record Moment : Type 0 where
+  pub desk : BookState
+  pub unsent : Unsent
+  pub held : Option Job
+
+abbrev pub moment : BookState → Unsent → Option Job → Moment
+moment d unsent held = record { desk = d; unsent = unsent; held = held }
+
+-- each job that is out at a moment isn't sent yet or is held
+abbrev pub AllAtHand : Moment → Type 0
+AllAtHand m = IsAtHand (job_in m.unsent) m.held m.desk
+
+-- how many turns a settling takes at most from here
+abbrev pub turns_from : Moment → ℕ
+turns_from m = 3 * wanting_of m.desk + turns_for m.unsent m.held
+
+-- every bookmark is current, or will be seen to be since nothing is out and nothing wanting
+abbrev pub IsDone : BookState → Type 0
+IsDone d = (pending_of d ≡ 0) ⊎ (NothingOut d × (wanting_of d ≡ 0))
+
+-- a turn brings a settling nearer to its end; where it ends, nothing is left to send and nothing pending
+abbrev pub Nears : Moment → Moment → ControlFlow Unit Unit → Type 0
+Nears before after (Continue _) = turns_from after < turns_from before
+Nears before after (Break _) = (after.unsent ≡ Nothing) × (pending_of after.desk ≡ 0)
+
+-- what is out stays at hand, and the turn brings the settling nearer to its end unless there is a cause
+pub record Advances (before after : Moment) (cause : Option Cause) (next : ControlFlow Unit Unit) : Type 0 where
+  pub out : AllAtHand before → AllAtHand after
+  pub nears : AllAtHand before → cause ≡ None → Nears before after next
+
+-- what the post held was answered: what is out isn't sent yet, and unless there is a cause as many rows want a job
+pub record Receives (before after : Moment) (cause : Option Cause) (next : ControlFlow Unit Unit) : Type 0 where
+  pub out : AllAtHand before → AllAtHand after
+  pub nothing_held : after.held ≡ None
+  pub goes_on : next ≡ Continue tt
+  pub unsent : cause ≡ None → after.unsent ≡ before.unsent
+  pub wanting : cause ≡ None → wanting_of after.desk ≡ wanting_of before.desk
+
+-- where a settling ends without a cause, nothing is left to send and every bookmark current
+abbrev pub IsDoneBy : BookState → Progress → Type 0
+IsDoneBy d progress = progress.cause ≡ None → (progress.unsent ≡ Nothing) × IsDone d

@@ -1,0 +1,80 @@
+-- How settling ends, and what it leaves.
+use Rattle.std.specs.Prelude.{◌≡◌, ◌⊎◌, ℕ, ◌+◌, ◌<◌, ◌≤◌, true, List, length, Option, None, Some, IsSome, IfSome, Err, ⊤}
+use Rattle.std.specs.List.{Any}
+use Rattle.step_engine.specs.declared.evolved.EvolveFault.{EvolveFault}
+use Rattle.revision_jobs.specs.declared.answer.Job.{Job}
+use Rattle.revision_jobs.specs.declared.entries.Entries.{Entries}
+use Rattle.revision_jobs.specs.Answer.{JobResult}
+use Rattle.revision_jobs.specs.Value.{Value}
+use Rattle.dependency_book.specs.declared.need.Need.{Need}
+use Rattle.dependency_book.specs.declared.need.Need.TheVariants.{Step}
+use Rattle.dependency_book.specs.declared.row.RowState.TheVariants.{Empty, Known}
+use Rattle.dependency_book.specs.BookState.{BookState, row_of, expected, pending_of}
+use Rattle.dependency_book.specs.Marks.{is_mark}
+use Rattle.dependency_book.specs.Right.{IsRight}
+use Rattle.desk_core.specs.declared.cause.Cause.{Cause}
+use Rattle.desk_core.specs.declared.cause.Cause.TheVariants.{NoMemory, NoRoom, Stopped, NumbersSpent}
+use Rattle.desk_core.specs.declared.settling.Settling.{Settling}
+use Rattle.desk_core.specs.declared.settling.Settling.TheVariants.{Settled, Unsettled}
+
+-- one of the answers says that its job gave up, for this reason
+abbrev pub GaveUp : List JobResult → EvolveFault → Type 0
+GaveUp answers fault = Any (λ (answer : JobResult). answer.outcome ≡ Err fault) answers
+
+-- a step is wanting: to a generation above 0 at which an intervention or a bookmark is, of which nothing
+-- is known and for which no job is out
+pub record WantsStep (d : BookState) : Type 0 where
+  pub mark : ℕ
+  pub above : 0 < mark
+  pub is : is_mark d.plan mark ≡ true
+  pub nothing : row_of d (Step mark) ≡ Empty
+
+-- a cause is that of an answer that was given, for want of room to a step that is wanting, or of an issue that was
+-- refused: every number was given, or else memory was wanted
+abbrev pub Explains : BookState → List JobResult → Cause → Type 0
+Explains d answers NoMemory = GaveUp answers EvolveFault.NoMemory ⊎ (d.given < 16777216)
+Explains d answers NoRoom = GaveUp answers EvolveFault.NoRoom × WantsStep d
+Explains d answers Stopped = GaveUp answers EvolveFault.Stopped
+Explains d answers NumbersSpent = 16777216 ≤ d.given
+
+-- settling over these answers ends with every bookmark current, or with so many pending, for its cause if one is told
+abbrev pub Ends : BookState → List JobResult → Settling → Type 0
+Ends d answers Settled = pending_of d ≡ 0
+Ends d answers (Unsettled pending cause) =
+    (pending ≡ pending_of d) × (0 < pending) × (pending ≤ length d.plan.bookmarks) × IfSome cause (Explains d answers)
+
+-- if it ends with some pending, a cause is told
+abbrev pub HasCause : Settling → Type 0
+HasCause Settled = ⊤
+HasCause (Unsettled pending cause) = IsSome cause
+
+-- a post serves a desk: it is of the desk's table, and no number that it took is still to be given
+pub record Serves (d : BookState) (entries : Entries) (floor : ℕ) : Type 0 where
+  pub table : entries ≡ d.table
+  pub numbers : floor ≤ d.given
+
+-- each job that is out is the one that a post holds
+abbrev pub IsHeld : Option Job → BookState → Type 0
+IsHeld held d = (need : Need) (job : Job) → expected d need ≡ Some job → held ≡ Some job
+
+-- how many marks and bookmarks a document has
+abbrev pub rows_of : BookState → ℕ
+rows_of d = 1 + (length d.arrivals + length d.texts)
+
+-- each row whose value was known has it still
+abbrev pub KeepsKnown : BookState → BookState → Type 0
+KeepsKnown old new = (need : Need) (value : Value) → row_of old need ≡ Known value → row_of new need ≡ Known value
+
+-- each job that is out was so before, or was sent: the floor of the post is above its number
+abbrev pub OutOrSent : BookState → BookState → ℕ → Type 0
+OutOrSent old new floor =
+    (need : Need) (job : Job) → expected new need ≡ Some job → (expected old need ≡ Some job) ⊎ (job.number < floor)
+
+-- after settling over a post of this floor what was known is so still, what is out was so before or was sent, all
+-- is right, and the document and the table are the same
+pub record Settles (old new : BookState) (floor : ℕ) : Type 0 where
+  pub known : KeepsKnown old new
+  pub out : OutOrSent old new floor
+  pub right : IsRight new
+  pub plan : new.plan ≡ old.plan
+  pub table : new.table ≡ old.table
