@@ -75,6 +75,7 @@ HasCome-issued first old new before floor answers p q need job was is none issue
     still other out (inl first_out) = inl first_out
     still other out (inr (inl there)) = let k = ap job_in was in absurd (cc)
     still other out (inr (inr sent)) = inr (inr sent)
+
     accounted : (other : Need) (out : Job) → (Some job ≡ Some out) ⊎ (expected old other ≡ Some out) → IsAccounted first (stage new floor answers q) other out
     accounted other out (inl this) = inr (inl (ap job_in is ∙ this))
     accounted other out (inr was_out) = still other out (h.out other out was_out)
@@ -92,6 +93,7 @@ HasCome-sent first d before floor higher answers p job rises is none h = record 
   where
     above : (out : Job) → Some job ≡ Some out → out.number < higher
     above out same = let k : job ≡ out = cc in let n = ap (λ (j : Job). j.number) k in omega (arith, n, is)
+
     accounted : (other : Need) (out : Job) → IsAccounted first (stage d floor answers (ready job p)) other out → IsAccounted first (stage d higher answers p) other out
     accounted other out (inl first_out) = inl first_out
     accounted other out (inr (inl this)) = inr (inr (above out this))

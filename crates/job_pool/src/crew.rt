@@ -82,13 +82,7 @@ where
 }
 
 // Calls the body on a post, whose ends are closed when it returns, and on the input.
-fn attend<R: Wait, I, F, T>(
-    rt: &R,
-    jobs: JobSender,
-    back: AnswerReceiver,
-    input: I,
-    body: F,
-) -> T
+fn attend<R: Wait, I, F, T>(rt: &R, jobs: JobSender, back: AnswerReceiver, input: I, body: F) -> T
 where
     F: FnOnce(&mut PoolPost<'_, R>, I) -> T,
     requires table { back ≡ jobs.table }

@@ -219,8 +219,7 @@ impl<'e> Bench<'e> {
     }
 
     // Settles over a post without threads.
-    fn settled<R: Wait>(&mut self, rt: &R, squares: u32, turns: u32) -> Settling
-    {
+    fn settled<R: Wait>(&mut self, rt: &R, squares: u32, turns: u32) -> Settling {
         let mut post = InlinePost::new(self.alloc, self.entries, squares);
         settle(rt, &mut self.desk, &mut post, turns)
     }
