@@ -1,5 +1,5 @@
-use Rattle.std.proofs.Common.{◌≡◌, ◌<◌, ◌∙◌, sym, ap, ap₂, subst, arith, rules, length, get_or, SFits, w64, to_z, of_z, pos, ◌+ℤ◌, ◌-ℤ◌, ℤ}
-use Rattle.std.specs.Prelude.{All, unwrap_or}
+use Rattle.std.proofs.Common.{◌≡◌, ◌∙◌, sym, ap, subst, arith, rules, w64, to_z, of_z, pos, ◌+ℤ◌, ◌-ℤ◌}
+use Rattle.std.specs.Prelude.{All}
 use Rattle.std.proofs.lemmas.Int.{ints}
 use Rattle.worlds.specs.declared.cell.Cell.{Cell}
 use Rattle.square_tree.specs.Cells.{SpansSquare, IsHeld}
@@ -22,9 +22,10 @@ lay_cells-requires-clause-held c =
     let top_is : to_z w64 (of_z w64 c.args.top) ≡ c.args.top = search rules in
     subst (λ (ds : List Cell). All (λ c'. IsHeld p.result.level (c'.x -ℤ to_z w64 (of_z w64 c.args.left)) (c'.y -ℤ to_z w64 (of_z w64 c.args.top))) ds) (sym c.deref.ensures.value)
     (All-weaker (IsLiveWithin _ w) (λ c'. IsHeld p.result.level (c'.x -ℤ to_z w64 (of_z w64 c.args.left)) (c'.y -ℤ to_z w64 (of_z w64 c.args.top))) (λ c' h.
-    let l = h.inside.left in let r = h.inside.right in let t = h.inside.top in let d = h.inside.bottom in
-    (column_held p.result.level c.args.width _ _ c'.x p.ensures.columns (omega (arith, ints)) l r,
-      column_held p.result.level c.args.height _ _ c'.y p.ensures.rows (omega (arith, ints)) t d)) cells c.in_ok-cells.ensures.each)
+    let l = h.inside.left in let r = h.inside.right in let t = h.inside.top in let d = h.inside.bottom in (
+      column_held p.result.level c.args.width _ _ c'.x p.ensures.columns (omega (arith, ints)) l r,
+      column_held p.result.level c.args.height _ _ c'.y p.ensures.rows (omega (arith, ints)) t d,
+    )) cells c.in_ok-cells.ensures.each)
 
 pub returns : goal.returns
 returns c =
@@ -44,5 +45,5 @@ returns c =
           ∙ ap (λ ds. last_state ds (to_z w64 (of_z w64 c.args.left) +ℤ pos i) (to_z w64 (of_z w64 c.args.top) +ℤ pos j) 0) c.deref.ensures.value
           ∙ (λ k. last_state c.in_ok-cells.cells.items (left_is k +ℤ pos i) (top_is k +ℤ pos j) 0)
           ∙ last-within _ w (c.args.left +ℤ pos i) (c.args.top +ℤ pos j) c.in_ok-cells.cells.items c.in_ok-cells.ensures
-              (record { left = omega (arith, ints); right = omega (arith, ints); top = omega (arith, ints); bottom = omega (arith, ints) });
+          (record { left = omega (arith, ints); right = omega (arith, ints); top = omega (arith, ints); bottom = omega (arith, ints) });
     }
