@@ -1,5 +1,5 @@
 -- Places in a window, and the cells that are laid on its patch.
-use Rattle.std.proofs.Common.{◌≡◌, ◌∙◌, sym, ap, ap₂, refl, subst, ℕ, zero, suc, ◌+◌, ◌<◌, ◌≤◌, ◌^◌, ◌/◌, Bool, true, false, cond, List, [], ◌∷◌, ◌++◌, length, take, get_or, ℤ, pos, ◌+ℤ◌, ◌-ℤ◌, ◌≤ℤ◌, inl, inr, Option, None, Some, SFits, w64, to_z, of_z, pow_mono, mul_comm, arith}
+use Rattle.std.proofs.Common.{◌≡◌, ◌∙◌, sym, ap, ap₂, refl, subst, ℕ, ◌+◌, ◌<◌, ◌≤◌, ◌^◌, Bool, true, false, cond, List, [], ◌∷◌, ◌++◌, length, take, get_or, ℤ, pos, ◌+ℤ◌, ◌-ℤ◌, ◌≤ℤ◌, inl, inr, Option, Some, SFits, w64, to_z, of_z, pow_mono, mul_comm, arith}
 use Rattle.std.specs.Prelude.{All, unwrap_or, unsigned_abs, IsTrue, ◌&&◌, ◌*◌, nat_lt, nat_le, int_le, neg_ℤ}
 use Rattle.std.specs.FinMap as finite
 use Rattle.std.proofs.lemmas.Bool.{cases_lt, cond-true, cond-false, cond_both, false_from_ne_true, and_parts, ltb-true, leb-true}
@@ -10,10 +10,10 @@ use Rattle.std.proofs.lemmas.List.Elements.{All-head, All-tail}
 use Rattle.std.proofs.lemmas.List.Sums.{sum_by-cons}
 use Rattle.worlds.specs.declared.cell.Bounds.{Bounds}
 use Rattle.worlds.specs.declared.cell.Cell.{Cell}
-use Rattle.worlds.specs.World.{World, Place, cell, place_cmp, same_place, places_total}
+use Rattle.worlds.specs.World.{World, Place, cell, same_place, places_total}
 use Rattle.worlds.specs.Fill.{same_is, is_same}
 use Rattle.worlds.specs.Range.{IsInBox}
-use Rattle.square_tree.specs.Cells.{Cells, SpansSquare, IsHeld, least, state_at, put}
+use Rattle.square_tree.specs.Cells.{Cells, SpansSquare, IsHeld, state_at, put}
 use Rattle.plane_core.specs.Within.{IsLiveWithin, AreLiveWithin, count_at}
 use Rattle.bookmarks.specs.Within.{spans_plane}
 use Rattle.bookmarks.specs.Window.{last_state}

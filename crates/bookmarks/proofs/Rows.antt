@@ -6,7 +6,7 @@ use Rattle.std.proofs.lemmas.List.{take_more}
 use Rattle.std.proofs.lemmas.List.FromFn.{map-range_with_len_more}
 use Rattle.worlds.specs.World.{World, cell}
 use Rattle.square_tree.specs.Cells.{Cells, state_at}
-use Rattle.bookmarks.specs.Window.{row_states, row_line, line_of, window_text, next_state, ShowsWindow}
+use Rattle.bookmarks.specs.Window.{row_line, line_of, window_text, next_state, ShowsWindow}
 
 -- a piece behind others
 behind : List (List ℕ) → List ℕ → List ℕ

@@ -18,7 +18,7 @@ use std::alloc::Global;
 /// of 8 by 8 cells in `.`, `*` and `$`. The last node is the root, with the cell (0, 0) in its
 /// middle. A level above 62 is refused by TooDeep, a node beyond 16,777,216 by NoRoom, and a
 /// quadrant that is no earlier node of one level less by BadChild. The first faulty line is
-/// answered. NoMemory comes only where memory was wanted, and then at no line behind a fault.
+/// answered. NoMemory comes only out of memory, and then at no line behind a fault.
 pub fn read_mc(alloc: Global, text: &[u8]) -> Result<Loaded, McFault>
     ensures pattern { Gives McFault.NoMemory result (pattern_of text.now) }
     ensures no_memory { result ≡ Err McFault.NoMemory → MayWant text.now }

@@ -1,6 +1,5 @@
-use Rattle.std.proofs.Common.{◌≡◌, ◌+◌, ◌<◌, ◌∙◌, sym, ap, arith, rules, length, get_or, refl, take, unwrap_or, SFits, w64, to_z, of_z, pos, ◌+ℤ◌, ◌-ℤ◌, ℤ}
+use Rattle.std.proofs.Common.{◌≡◌, ◌+◌, ◌<◌, ◌∙◌, sym, ap, arith, rules, length, get_or, refl, take, unwrap_or, SFits, w64, to_z, of_z, ◌+ℤ◌, ℤ}
 use Rattle.std.specs.FinMap as finite
-use Rattle.std.proofs.lemmas.Int.{ints}
 use Rattle.worlds.specs.World.{place_cmp}
 use Rattle.square_tree.specs.Cells.{Cells, state_at}
 use Rattle.bookmarks.specs.Window.{last_state}

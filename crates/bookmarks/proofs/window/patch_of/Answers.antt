@@ -1,5 +1,5 @@
-use Rattle.std.proofs.Common.{◌≡◌, ◌<◌, ◌∙◌, sym, ap, ap₂, subst, arith, rules, length, get_or, SFits, w64, to_z, of_z, pos, ◌+ℤ◌, ◌-ℤ◌, ℤ}
-use Rattle.std.specs.Prelude.{All, unwrap_or}
+use Rattle.std.proofs.Common.{◌≡◌, ◌∙◌, sym, ap, subst, arith, rules, w64, to_z, of_z, pos, ◌+ℤ◌, ◌-ℤ◌}
+use Rattle.std.specs.Prelude.{All}
 use Rattle.std.proofs.lemmas.Int.{ints}
 use Rattle.worlds.specs.declared.cell.Cell.{Cell}
 use Rattle.square_tree.specs.Cells.{SpansSquare, IsHeld}
