@@ -8,7 +8,7 @@ use std::sync::ledger::Blank;
 
 fn main(rt: HostRuntime) -> ExitCode {
     let words = given_words(&rt);
-    let (status, _, _) = start::<_, _, _, Brand, Brand>(
+    let (status, _, _) = start::<_, _, _, _, Brand, Brand>(
         &rt,
         &rt,
         rt.alloc(),

@@ -1,10 +1,11 @@
 //! How the program ends.
 ghost use Rattle.std.specs.Prelude.{◌≡◌, MatchResult, option_map};
 ghost use Rattle.std.specs.Process.{exit_status};
-ghost use Rattle.desk_program.specs.Ending.{EndsBy, status_of, text_of};
+ghost use Rattle.desk_program.specs.Ending.{EndsBy, ending_without, status_of, text_of};
 
 use desk_server::RunFault;
-use desk_words::WordsFault;
+use desk_words::OptionFault;
+use job_pool::PoolFault;
 use std::process::ExitCode;
 
 /// How the program ends.
@@ -14,8 +15,11 @@ pub enum Ending {
     Done,
     /// The command line was refused, which was told.
     Refused,
-    /// A device failed, or there was no memory for the words, for a table of entries or for a desk.
+    /// A device failed, or there was no memory for the words, for a table of entries, for a pool or
+    /// for a desk.
     Failed(RunFault),
+    /// A worker's thread was refused.
+    NoWorker,
 }
 
 impl Ending {
@@ -30,8 +34,18 @@ impl Ending {
         }
     }
 
-    /// The exit status: 0 where all went well, 1 for a device, 2 for the command line, 3 for
-    /// memory.
+    /// The ending where there is no pool.
+    pub fn without_pool(fault: PoolFault) -> Ending
+        ensures { result ≡ ending_without fault }
+    {
+        match fault {
+            PoolFault::NoMemory => Ending::Failed(RunFault::NoMemory),
+            PoolFault::NoWorker => Ending::NoWorker,
+        }
+    }
+
+    /// The exit status: 0 where all went well, 1 for a device, 2 for the command line, 3 for memory
+    /// or a worker.
     pub fn status(self) -> u8
         ensures { result ≡ status_of self }
     {
@@ -39,7 +53,7 @@ impl Ending {
             Ending::Done => 0,
             Ending::Failed(RunFault::Read | RunFault::Write) => 1,
             Ending::Refused => 2,
-            Ending::Failed(RunFault::NoMemory) => 3,
+            Ending::Failed(RunFault::NoMemory) | Ending::NoWorker => 3,
         }
     }
 
@@ -52,29 +66,30 @@ impl Ending {
             Ending::Failed(RunFault::Read) => Some("desk: reading failed"),
             Ending::Failed(RunFault::Write) => Some("desk: writing failed"),
             Ending::Failed(RunFault::NoMemory) => Some("desk: no memory"),
+            Ending::NoWorker => Some("desk: no worker"),
         }
     }
 }
 
 /// Writes the help that was asked for to standard output, or says on standard error why the words
 /// were refused. Want of memory is told with the program's ending.
-pub fn report<R: Print + Eprint>(rt: &R, fault: &WordsFault) -> Ending
+pub fn report<R: Print + Eprint>(rt: &R, fault: &OptionFault) -> Ending
     ensures { EndsBy fault.now result }
 {
     match fault {
-        WordsFault::Help(text) => {
+        OptionFault::Help(text) => {
             if rt.print(text.as_str()).is_ok() {
                 Ending::Done
             } else {
                 Ending::Failed(RunFault::Write)
             }
         }
-        WordsFault::Refused(text) => {
+        OptionFault::Refused(text) => {
             // Where standard error takes nothing, the status alone tells.
             let _ = rt.eprint(text.as_str());
             Ending::Refused
         }
-        WordsFault::NoMemory => Ending::Failed(RunFault::NoMemory),
+        OptionFault::NoMemory => Ending::Failed(RunFault::NoMemory),
     }
 }
 

@@ -1,15 +1,17 @@
 //! What the program `desk` does, over any outputs and devices.
 //!
-//! `start` reads the words, opens a table of entries and a desk and answers the script, in that
-//! order, so that of several faults the first in that order is told. How it ends is an `Ending`, and
-//! each ending has one status and one text, which are proved. Memory is taken for the words, for the
-//! table, and then as the desk says.
+//! `start` reads the words, opens a table of entries, a pool of workers over it and a desk, and
+//! answers the script, in that order, so that of several faults the first in that order is told. How
+//! it ends is an `Ending`, and each ending has one status and one text, which are proved. Memory is
+//! taken for the words, the table and the pool, and then as the desk says; each worker keeps squares
+//! of its own.
 #![tactic(auto)]
 
+mod devices;
 mod ending;
 mod program;
 
 pub use desk_server::RunFault;
-pub use desk_words::{WordsFault, given_words};
+pub use desk_words::{OptionFault, given_words};
 pub use ending::{Ending, report, tell};
 pub use program::start;

@@ -1,64 +1,84 @@
 //! What the program does between its start and its ending.
-ghost use Rattle.std.specs.Prelude.{◌≤◌, Result, map, string_bytes};
-ghost use Rattle.desk_words.specs.Words.{Checks};
-ghost use Rattle.desk_words.specs.declared.options.Options.{Options};
-ghost use Rattle.desk_words.specs.declared.words.WordsFault.{WordsFault as Fault};
-ghost use Rattle.desk_program.specs.Start.{Answers, Opens, Starts};
+ghost use Rattle.std.specs.Prelude.{◌≡◌, ◌≤◌, IfOk, Result, drop, false, map, string_bytes, vec_len};
+ghost use Rattle.desk_words.specs.Words.{Checks, IsInRange};
+ghost use Rattle.desk_words.specs.declared.settings.Options.{Options as Chosen};
+ghost use Rattle.desk_words.specs.declared.words.OptionFault.{OptionFault as Fault};
+ghost use Rattle.job_pool.specs.Pool.{new_pool};
+ghost use Rattle.desk_program.specs.Start.{Answers, AreOpenable, Opens, Starts};
 
+use crate::devices::{Devices, answer_over};
 use crate::ending::{Ending, report, tell};
-use desk_server::{CountedReader, CountedWriter, Entries, InlinePost, RunFault, run};
-use desk_words::check_words;
-use std::alloc::Global;
+use desk_server::{Entries, RunFault};
+use desk_words::{Options, check_words};
+use job_pool::{NoPool, PoolPost, pool};
+use revision_jobs::NoGate;
+use std::alloc::{AllocError, Global};
 use std::io;
 use std::io::{Read, Write};
 use std::process::ExitCode;
 use std::sync::Wait;
 use std::sync::ledger::{Blank, Ledger};
+use std::thread::Threads;
 
-/// How many results of steps a desk may keep beside what its document needs.
-const FACTS: u32 = 64;
-
-// Answers the script that the reader gives, where a step may keep so many squares, and hands both
-// devices back. Each job is worked in this thread. Failures of the devices are counted in ledgers
-// of their own, made of the two blanks.
-fn answer<R: Read, W: Write, L: Ledger, M: Ledger>(
-    rt: &impl Wait,
-    alloc: Global,
-    squares: u32,
-    reader: R,
-    writer: W,
-    reader_blank: Blank,
-    writer_blank: Blank,
-) -> (Result<(), RunFault>, R, W)
-    requires reader { Opens reader_blank L.name L.parts }
-    requires writer { Opens writer_blank M.name M.parts }
-    requires bound { squares ≤ 16777216 }
-    ensures { Answers R.remaining W.contents reader writer result.0 result.1 result.2 }
+// A gate that does nothing for each worker.
+fn no_gates(alloc: Global, workers: u8) -> Result<Vec<NoGate>, AllocError>
+    ensures { IfOk result (λ gates. vec_len gates ≡ workers) }
 {
-    let Ok(entries) = Entries::new(alloc) else {
-        return (Err(RunFault::NoMemory), reader, writer);
-    };
-    let mut post = InlinePost::new(alloc, &entries, squares);
-    let mut reader = CountedReader::<_, L>::new(reader, reader_blank);
-    let mut writer = CountedWriter::<_, M>::new(writer, writer_blank);
-    let answered = run(
-        rt,
-        alloc,
-        &entries,
-        FACTS,
-        &mut reader,
-        &mut writer,
-        &mut post,
-    );
-    (answered, reader.into_inner(), writer.into_inner())
+    let mut gates = Vec::new(alloc);
+    'gates: for made in 0..workers {
+        gates.push(NoGate)?;
+    }
+    Ok(gates)
 }
 
-/// Reads the words, and answers the script if they are in order, with the squares that they choose;
-/// or says on the outputs why they are not, and leaves both devices untouched. It tells how that
-/// ended, gives the exit status, and hands both devices back. Failures of the devices are counted in
-/// ledgers of their own, made of the two blanks.
-pub fn start<H: Print + Eprint, R: Read, W: Write, L: Ledger, M: Ledger>(
-    rt: &impl Wait,
+// Answers the script over a pool of workers, and hands the reader and the writer back with how that
+// ended.
+fn answer<T, R, W, L: Ledger, M: Ledger>(
+    rt: &T,
+    alloc: Global,
+    options: Options,
+    devices: Devices<R, W>,
+) -> (Ending, R, W)
+where
+    T: Threads + Wait + Sync,
+    R: Read + Drop,
+    W: Write + Drop,
+    requires range { IsInRange options }
+    requires devices { AreOpenable devices L.name L.parts M.name M.parts }
+    ensures { Answers false R.remaining W.contents devices.reader devices.writer
+        result.0 result.1 result.2 }
+{
+    let no_memory = Ending::Failed(RunFault::NoMemory);
+    let Ok(entries) = Entries::new(alloc) else {
+        return (no_memory, devices.reader, devices.writer);
+    };
+    let Ok(gates) = no_gates(alloc, options.workers) else {
+        return (no_memory, devices.reader, devices.writer);
+    };
+    let facts = options.facts;
+    let body = |post: &mut PoolPost<'_, T>, devices: Devices<R, W>| -> (Ending, R, W)
+        requires post { post.old ≡ new_pool entries }
+        requires devices { AreOpenable devices L.name L.parts M.name M.parts }
+        ensures { Answers false R.remaining W.contents devices.reader devices.writer
+            result.0 result.1 result.2 }
+    { answer_over::<_, _, L, M, _>(rt, alloc, &entries, facts, post, devices) };
+    match pool(rt, alloc, &entries, gates, options.squares, devices, body) {
+        Ok(answered) => answered,
+        Err(
+            NoPool {
+                fault,
+                input: devices,
+            },
+        ) => (Ending::without_pool(fault), devices.reader, devices.writer),
+    }
+}
+
+/// Reads the words, and answers the script if they are in order, with the workers and the squares
+/// that they choose; or says on the outputs why they are not, and leaves both devices untouched. It
+/// tells how that ended, gives the exit status, and hands both devices back. Failures of the devices
+/// are counted in ledgers of their own, made of the two blanks.
+pub fn start<T, H: Print + Eprint, R, W, L: Ledger, M: Ledger>(
+    rt: &T,
     outputs: &H,
     alloc: Global,
     words: &io::Result<Vec<String>>,
@@ -67,25 +87,27 @@ pub fn start<H: Print + Eprint, R: Read, W: Write, L: Ledger, M: Ledger>(
     reader_blank: Blank,
     writer_blank: Blank,
 ) -> (ExitCode, R, W)
+where
+    T: Threads + Wait + Sync,
+    R: Read + Drop,
+    W: Write + Drop,
     requires reader { Opens reader_blank L.name L.parts }
     requires writer { Opens writer_blank M.name M.parts }
     // What the words come to is known, and with it how the program ends.
-    ensures { (checked : Result Options Fault)
-        × Checks (λ words. map string_bytes words.items) words.now checked
+    ensures { (checked : Result Chosen Fault)
+        × Checks (λ words. map string_bytes (drop 1 words.items)) words.now checked
         × Starts R.remaining W.contents reader writer checked result.0 result.1 result.2 }
 {
     match check_words(alloc, words) {
         Ok(options) => {
-            let (answered, reader, writer) = answer::<_, _, L, M>(
-                rt,
-                alloc,
-                options.squares,
+            let devices = Devices {
                 reader,
                 writer,
                 reader_blank,
                 writer_blank,
-            );
-            (tell(outputs, Ending::of_run(answered)), reader, writer)
+            };
+            let (ending, reader, writer) = answer::<_, _, _, L, M>(rt, alloc, options, devices);
+            (tell(outputs, ending), reader, writer)
         }
         Err(fault) => (tell(outputs, report(outputs, &fault)), reader, writer),
     }

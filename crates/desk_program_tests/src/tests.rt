@@ -1,5 +1,5 @@
 //! What is written where, and the endings.
-use desk_program::{Ending, RunFault, WordsFault, report, start, tell};
+use desk_program::{Ending, OptionFault, RunFault, report, start, tell};
 use std::alloc::Global;
 use std::cell::Cell;
 use std::fmt::{Debug, Display};
@@ -9,6 +9,7 @@ use std::marker::Brand;
 use std::process::{Abort, ExitCode};
 use std::sync::Wait;
 use std::sync::ledger::Blank;
+use std::thread::Threads;
 
 fn same<T: PartialEq + Debug, A: Debug>(rt: &impl Abort, found: &T, wanted: &T, at: &A) {
     assert_eq!(rt; *found, *wanted, "at {at:?}");
@@ -108,7 +109,7 @@ impl Write for Broken {
 fn is_told(
     rt: &impl Abort,
     alloc: Global,
-    fault: &WordsFault,
+    fault: &OptionFault,
     fails: bool,
     ending: Ending,
     out: Option<&str>,
@@ -128,14 +129,14 @@ fn texts_are_written_where_they_belong(rt: HostRuntime) {
     let alloc = rt.alloc();
     let written = Some("text\n");
     let unwritten = Ending::Failed(RunFault::Write);
-    let help = WordsFault::Help(text(&rt, alloc));
+    let help = OptionFault::Help(text(&rt, alloc));
     is_told(&rt, alloc, &help, false, Ending::Done, written, None);
     is_told(&rt, alloc, &help, true, unwritten, written, None);
-    let refused = WordsFault::Refused(text(&rt, alloc));
+    let refused = OptionFault::Refused(text(&rt, alloc));
     is_told(&rt, alloc, &refused, false, Ending::Refused, None, written);
     is_told(&rt, alloc, &refused, true, Ending::Refused, None, written);
     let want = Ending::Failed(RunFault::NoMemory);
-    is_told(&rt, alloc, &WordsFault::NoMemory, false, want, None, None);
+    is_told(&rt, alloc, &OptionFault::NoMemory, false, want, None, None);
 }
 
 fn tells(
@@ -173,6 +174,7 @@ fn each_ending_has_its_status_and_its_line(rt: HostRuntime) {
     ends(&rt, alloc, Ending::Refused, 2, None);
     let memory = Ending::Failed(RunFault::NoMemory);
     ends(&rt, alloc, memory, 3, Some("desk: no memory\n"));
+    ends(&rt, alloc, Ending::NoWorker, 3, Some("desk: no worker\n"));
 }
 
 fn words_of(rt: &impl Abort, alloc: Global, word: &str) -> Vec<String> {
@@ -187,15 +189,15 @@ fn words_of(rt: &impl Abort, alloc: Global, word: &str) -> Vec<String> {
 }
 
 // The program's status with this word, and what the writer then holds.
-fn started<R: Read + Drop, W: Write>(
-    rt: &(impl Abort + Wait),
+fn started<R: Read + Drop, W: Write + Drop>(
+    rt: &(impl Abort + Threads + Wait + Sync),
     outputs: &Outputs,
     word: &str,
     reader: R,
     writer: W,
 ) -> (ExitCode, W) {
     let words = Ok(words_of(rt, outputs.alloc, word));
-    let (status, _, written) = start::<_, _, _, Brand, Brand>(
+    let (status, _, written) = start::<_, _, _, _, Brand, Brand>(
         rt,
         outputs,
         outputs.alloc,
@@ -209,7 +211,7 @@ fn started<R: Read + Drop, W: Write>(
 }
 
 fn answers(
-    rt: &(impl Abort + Wait),
+    rt: &(impl Abort + Threads + Wait + Sync),
     alloc: Global,
     word: &str,
     script: &[u8],
@@ -227,6 +229,9 @@ fn words_come_before_the_script(rt: HostRuntime) {
     let alloc = rt.alloc();
     answers(&rt, alloc, "", b"quit\n", 0, b"bye\n");
     answers(&rt, alloc, "--squares=64", b"quit\n", 0, b"bye\n");
+    answers(&rt, alloc, "--workers=8", b"quit\n", 0, b"bye\n");
+    answers(&rt, alloc, "--workers=9", b"quit\n", 2, b"");
+    answers(&rt, alloc, "--facts=1", b"quit\n", 0, b"bye\n");
     answers(&rt, alloc, "--squares=63", b"quit\n", 2, b"");
     answers(&rt, alloc, "--help", b"quit\n", 0, b"");
     answers(&rt, alloc, "work", b"quit\n", 2, b"");
@@ -246,8 +251,22 @@ fn words_choose_the_squares(rt: HostRuntime) {
     answers(&rt, alloc, "--squares=64", WIDE, 0, unsettled);
 }
 
+// Three bookmarks over cells far from each other, settled twice with an edit between.
+const EDITED: &[u8] =
+    b"set 0 0 1 1000 0 1\nmark 1 counts\nmark 1 rle\nmark 5 counts\nsettle\nat 3 set 7 7 1\nsettle\nshow 1\nshow 3\n";
+
+#[test]
+fn any_workers_answer_the_same(rt: HostRuntime) {
+    let alloc = rt.alloc();
+    let wanted =
+        b"ok 1\nok 2 bookmark 1\nok 3 bookmark 2\nok 4 bookmark 3\nsettled\nok 5 intervention 1\nsettled\nbookmark 1 current 4\n1 2\nbookmark 3 current 4\n1 3\n";
+    answers(&rt, alloc, "--workers=1", EDITED, 0, wanted);
+    answers(&rt, alloc, "--workers=2", EDITED, 0, wanted);
+    answers(&rt, alloc, "--workers=8", EDITED, 0, wanted);
+}
+
 // The program's status with this word, where both devices fail.
-fn breaks(rt: &(impl Abort + Wait), alloc: Global, word: &str, status: u8) {
+fn breaks(rt: &(impl Abort + Threads + Wait + Sync), alloc: Global, word: &str, status: u8) {
     let outputs = Outputs::new(alloc, false);
     let (found, _) = started(rt, &outputs, word, Broken, Broken);
     same(rt, &found, &ExitCode::from(status), &word);
