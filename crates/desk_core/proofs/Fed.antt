@@ -1,6 +1,6 @@
 -- What feeding a post does with each job.
-use Rattle.std.proofs.Common.{◌≡◌, ◌⊎◌, ℕ, ◌+◌, ◌<◌, ◌≤◌, ◌∙◌, Bool, true, false, cond, refl, sym, ap, subst, inl, inr, arith, Option, None, Some}
-use Rattle.std.specs.Prelude.{if◌then◌else◌, ◌==◌}
+use Rattle.std.proofs.Common.{◌≡◌, ◌⊎◌, ℕ, ◌+◌, ◌<◌, ◌∙◌, Bool, true, false, refl, sym, ap, subst, inl, inr, arith, Option, None, Some}
+use Rattle.std.specs.Prelude.{if◌then◌else◌}
 use Rattle.std.proofs.lemmas.Bool.Decides.{nat_tests}
 use Rattle.revision_jobs.specs.declared.answer.Job.{Job}
 use Rattle.revision_jobs.specs.declared.entries.Entries.{Entries}
@@ -64,8 +64,10 @@ HasFed-taken first old new need job before floor higher taken more issued rises 
   where
     number : job.number + 1 ≡ first.given + (taken + 1)
     number = let is = issued.next.number in let was = h.given in omega (arith, is, was)
+
     this : (out : Job) → Some job ≡ Some out → out.number < first.given + more
     this out same = let k : job ≡ out = cc in let n = ap (λ (j : Job). j.number) k in let is = number in omega (arith, n, is, one)
+
     counted : (other : Need) (out : Job) → (Some job ≡ Some out) ⊎ (expected old other ≡ Some out) → (expected first other ≡ Some out) ⊎ (out.number < first.given + more)
     counted other out (inl same) = inr (this out same)
     counted other out (inr was_out) = elim (h.out other out was_out) [
@@ -103,6 +105,7 @@ rows-undone old mid new need job issued right rows other =
   where
     own : expected mid need ≡ Some job
     own = ap job_of (issued.rows need) ∙ ap (λ b. job_of {V = Value} (if b then Expected job else row_of old need)) (its_need need)
+
     apart : is_need need other ≡ false → need ≡ other → ⊥
     apart differs same = let k : is_need need other ≡ true = subst (λ n. is_need need n ≡ true) same (its_need need) in cc
 

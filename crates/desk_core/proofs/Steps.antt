@@ -1,5 +1,5 @@
 -- How a settling goes on by what is issued, sent, answered and cancelled.
-use Rattle.std.proofs.Common.{◌≡◌, ◌⊎◌, ℕ, ◌+◌, ◌*◌, ◌<◌, ◌≤◌, ◌∙◌, List, [], ◌∷◌, ◌++◌, length, refl, sym, ap, subst, inl, inr, arith, append_assoc, append-nil, Option, None, Some, Err, true, false}
+use Rattle.std.proofs.Common.{◌≡◌, ◌⊎◌, ℕ, ◌+◌, ◌*◌, ◌<◌, ◌≤◌, ◌∙◌, List, [], ◌∷◌, ◌++◌, length, refl, sym, ap, subst, inl, inr, arith, append_assoc, append-nil, Option, None, Some, false}
 use Rattle.std.specs.Prelude.{IfSome, is_some, unwrap_or}
 use Rattle.step_engine.specs.declared.evolved.EvolveFault.{EvolveFault}
 use Rattle.revision_jobs.specs.declared.answer.Job.{Job}
@@ -8,25 +8,21 @@ use Rattle.revision_jobs.specs.Answer.{JobResult}
 use Rattle.revision_jobs.specs.Entries.{IsOf}
 use Rattle.dependency_book.specs.declared.need.Need.{Need}
 use Rattle.dependency_book.specs.declared.need.Need.TheVariants.{Step}
-use Rattle.dependency_book.specs.declared.row.RowState.TheVariants.{Empty}
 use Rattle.dependency_book.specs.RowState.{has_number}
-use Rattle.dependency_book.specs.Jobs.{SameBook, SameDocument, StepExpects, answered, cancelled, given_by, is_job}
+use Rattle.dependency_book.specs.Jobs.{SameBook, SameDocument, answered, cancelled}
 use Rattle.dependency_book.specs.BookState.{BookState, expected, row_of, wanting_of}
 use Rattle.dependency_book.specs.Right.{IsRight}
 use Rattle.desk_core.specs.declared.cause.Cause.{Cause}
-use Rattle.desk_core.specs.declared.cause.Cause.TheVariants.{NoMemory, NoRoom, Stopped as WasStopped, NumbersSpent}
 use Rattle.desk_core.specs.declared.collect.Collected.{Collected}
 use Rattle.desk_core.specs.declared.collect.Collected.TheVariants.{Accepted, Released, Stale}
 use Rattle.desk_core.specs.declared.issue.IssueFault.{IssueFault}
-use Rattle.desk_core.specs.declared.issue.IssueFault.TheVariants as issue
 use Rattle.desk_core.specs.declared.progress.Progress.{Progress}
-use Rattle.desk_core.specs.declared.unsent.Unsent.{Unsent}
-use Rattle.desk_core.specs.declared.unsent.Unsent.TheVariants.{Nothing, Ready, Waiting}
+use Rattle.desk_core.specs.declared.unsent.Unsent.TheVariants.{Nothing, Ready}
 use Rattle.desk_core.specs.Collected.{IsCollected}
-use Rattle.desk_core.specs.Progress.{CanBeSent, Cancels, CancelsAny, Fits, GoesOn, HasCome, IsAccounted, IsAtHand, Stage, job_in, ready, stage}
+use Rattle.desk_core.specs.Progress.{CanBeSent, CancelsAny, Fits, GoesOn, HasCome, IsAccounted, IsAtHand, Stage, job_in, ready, stage}
 use Rattle.desk_core.specs.Cause.{cause_of_answer, cause_of_issue}
 use Rattle.desk_core.specs.Issued.{IssuesFor, RefusesIssue}
-use Rattle.desk_core.specs.Settling.{Explains, GaveUp, IsHeld, KeepsKnown, OutOrSent, Serves, Settles, WantsStep, rows_of}
+use Rattle.desk_core.specs.Settling.{Explains, IsHeld, OutOrSent, Serves, Settles, rows_of}
 use Rattle.desk_core.proofs.Shared.Causes.{explains-kept, explains-collected, explains-refused}
 use Rattle.desk_core.proofs.Known.{KeepsKnown-same, KeepsKnown-on, KeepsKnown-issued, KeepsKnown-answered, KeepsKnown-cancelled}
 use Rattle.desk_core.proofs.Out.{IsAtHand-cancelled, IsHeld-at_hand, issued_out, answered_out, cancelled_out, not_numbered}
@@ -75,6 +71,7 @@ HasCome-issued first old new before floor answers p q need job was is none issue
     still other out (inl first_out) = inl first_out
     still other out (inr (inl there)) = let k = ap job_in was in absurd (cc)
     still other out (inr (inr sent)) = inr (inr sent)
+
     accounted : (other : Need) (out : Job) → (Some job ≡ Some out) ⊎ (expected old other ≡ Some out) → IsAccounted first (stage new floor answers q) other out
     accounted other out (inl this) = inr (inl (ap job_in is ∙ this))
     accounted other out (inr was_out) = still other out (h.out other out was_out)
@@ -92,6 +89,7 @@ HasCome-sent first d before floor higher answers p job rises is none h = record 
   where
     above : (out : Job) → Some job ≡ Some out → out.number < higher
     above out same = let k : job ≡ out = cc in let n = ap (λ (j : Job). j.number) k in omega (arith, n, is)
+
     accounted : (other : Need) (out : Job) → IsAccounted first (stage d floor answers (ready job p)) other out → IsAccounted first (stage d higher answers p) other out
     accounted other out (inl first_out) = inl first_out
     accounted other out (inr (inl this)) = inr (inr (above out this))

@@ -1,4 +1,4 @@
-use Rattle.std.proofs.Common.{◌∙◌, None, refl}
+use Rattle.std.proofs.Common.{◌∙◌, refl}
 use Rattle.desk_core.specs.Progress.{moment}
 use Rattle.desk_core.proofs.Out.{IsAtHand-held}
 use Rattle.desk_core.proofs.Steps.{HasCome-first}
