@@ -22,7 +22,7 @@ use Rattle.dependency_book.specs.Kept.{KeepsRows, arrival_kept, keeps_arrival, k
 use Rattle.dependency_book.specs.BookState.{BookState, arrival_row, text_row, row_of, bookmark_in}
 use Rattle.dependency_book.specs.Marks.{is_mark}
 use Rattle.desk_core.specs.Edited.{Makes}
-use Rattle.desk_core.specs.Events.{Core, core_of, kept_row, after_edit, after_event, edits, issues, collects, cancels}
+use Rattle.desk_core.specs.Events.{Core, core_of, kept_row, after_edit, after_event, issues, collects, cancels}
 
 abbrev core : Plan → ℕ → (Need → RowState Value) → Core
 core p n rows = record { plan = p; given = n; rows = rows }

@@ -1,5 +1,5 @@
 -- How a settling goes on by what is issued, sent, answered and cancelled.
-use Rattle.std.proofs.Common.{◌≡◌, ◌⊎◌, ℕ, ◌+◌, ◌*◌, ◌<◌, ◌≤◌, ◌∙◌, List, [], ◌∷◌, ◌++◌, length, refl, sym, ap, subst, inl, inr, arith, append_assoc, append-nil, Option, None, Some, Err, true, false}
+use Rattle.std.proofs.Common.{◌≡◌, ◌⊎◌, ℕ, ◌+◌, ◌*◌, ◌<◌, ◌≤◌, ◌∙◌, List, [], ◌∷◌, ◌++◌, length, refl, sym, ap, subst, inl, inr, arith, append_assoc, append-nil, Option, None, Some, false}
 use Rattle.std.specs.Prelude.{IfSome, is_some, unwrap_or}
 use Rattle.step_engine.specs.declared.evolved.EvolveFault.{EvolveFault}
 use Rattle.revision_jobs.specs.declared.answer.Job.{Job}
@@ -8,25 +8,21 @@ use Rattle.revision_jobs.specs.Answer.{JobResult}
 use Rattle.revision_jobs.specs.Entries.{IsOf}
 use Rattle.dependency_book.specs.declared.need.Need.{Need}
 use Rattle.dependency_book.specs.declared.need.Need.TheVariants.{Step}
-use Rattle.dependency_book.specs.declared.row.RowState.TheVariants.{Empty}
 use Rattle.dependency_book.specs.RowState.{has_number}
-use Rattle.dependency_book.specs.Jobs.{SameBook, SameDocument, StepExpects, answered, cancelled, given_by, is_job}
+use Rattle.dependency_book.specs.Jobs.{SameBook, SameDocument, answered, cancelled}
 use Rattle.dependency_book.specs.BookState.{BookState, expected, row_of, wanting_of}
 use Rattle.dependency_book.specs.Right.{IsRight}
 use Rattle.desk_core.specs.declared.cause.Cause.{Cause}
-use Rattle.desk_core.specs.declared.cause.Cause.TheVariants.{NoMemory, NoRoom, Stopped as WasStopped, NumbersSpent}
 use Rattle.desk_core.specs.declared.collect.Collected.{Collected}
 use Rattle.desk_core.specs.declared.collect.Collected.TheVariants.{Accepted, Released, Stale}
 use Rattle.desk_core.specs.declared.issue.IssueFault.{IssueFault}
-use Rattle.desk_core.specs.declared.issue.IssueFault.TheVariants as issue
 use Rattle.desk_core.specs.declared.progress.Progress.{Progress}
-use Rattle.desk_core.specs.declared.unsent.Unsent.{Unsent}
-use Rattle.desk_core.specs.declared.unsent.Unsent.TheVariants.{Nothing, Ready, Waiting}
+use Rattle.desk_core.specs.declared.unsent.Unsent.TheVariants.{Nothing, Ready}
 use Rattle.desk_core.specs.Collected.{IsCollected}
-use Rattle.desk_core.specs.Progress.{CanBeSent, Cancels, CancelsAny, Fits, GoesOn, HasCome, IsAccounted, IsAtHand, Stage, job_in, ready, stage}
+use Rattle.desk_core.specs.Progress.{CanBeSent, CancelsAny, Fits, GoesOn, HasCome, IsAccounted, IsAtHand, Stage, job_in, ready, stage}
 use Rattle.desk_core.specs.Cause.{cause_of_answer, cause_of_issue}
 use Rattle.desk_core.specs.Issued.{IssuesFor, RefusesIssue}
-use Rattle.desk_core.specs.Settling.{Explains, GaveUp, IsHeld, KeepsKnown, OutOrSent, Serves, Settles, WantsStep, rows_of}
+use Rattle.desk_core.specs.Settling.{Explains, IsHeld, OutOrSent, Serves, Settles, rows_of}
 use Rattle.desk_core.proofs.Shared.Causes.{explains-kept, explains-collected, explains-refused}
 use Rattle.desk_core.proofs.Known.{KeepsKnown-same, KeepsKnown-on, KeepsKnown-issued, KeepsKnown-answered, KeepsKnown-cancelled}
 use Rattle.desk_core.proofs.Out.{IsAtHand-cancelled, IsHeld-at_hand, issued_out, answered_out, cancelled_out, not_numbered}

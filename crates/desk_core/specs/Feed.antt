@@ -1,5 +1,5 @@
 -- What feeding a post does to a desk.
-use Rattle.std.specs.Prelude.{◌≡◌, ◌⊎◌, ℕ, ◌+◌, ◌<◌, ◌≤◌, Some, if◌then◌else◌, ◌==◌}
+use Rattle.std.specs.Prelude.{◌≡◌, ◌⊎◌, ℕ, ◌+◌, ◌<◌, Some, if◌then◌else◌, ◌==◌}
 use Rattle.revision_jobs.specs.declared.answer.Job.{Job}
 use Rattle.dependency_book.specs.declared.need.Need.{Need}
 use Rattle.dependency_book.specs.declared.row.RowState.TheVariants.{Empty}

@@ -1,7 +1,7 @@
 -- How a settling goes on: the job that isn't sent yet, what is out, and how many turns it takes at most.
-use Rattle.std.specs.Prelude.{◌≡◌, ◌⊎◌, ℕ, ◌+◌, ◌*◌, ◌<◌, ◌≤◌, List, ◌++◌, Option, None, Some, IfSome}
-use Rattle.core.specs.declared.ops.ControlFlow.{ControlFlow}
-use Rattle.core.specs.declared.ops.ControlFlow.TheVariants.{Continue, Break}
+use Rattle.std.specs.Prelude.{◌≡◌, ◌⊎◌, ℕ, Bool, true, ◌+◌, ◌*◌, ◌<◌, ◌≤◌, List, [], ◌∷◌, ◌++◌, Option, None, Some, IfSome}
+use Rattle.std.specs.declared.ops.ControlFlow.{ControlFlow}
+use Rattle.std.specs.declared.ops.ControlFlow.TheVariants.{Continue, Break}
 use Rattle.revision_jobs.specs.declared.answer.Job.{Job}
 use Rattle.revision_jobs.specs.declared.entries.Entries.{Entries}
 use Rattle.revision_jobs.specs.Answer.{JobResult}
@@ -13,7 +13,7 @@ use Rattle.desk_core.specs.declared.cause.Cause.{Cause}
 use Rattle.desk_core.specs.declared.progress.Progress.{Progress}
 use Rattle.desk_core.specs.declared.unsent.Unsent.{Unsent}
 use Rattle.desk_core.specs.declared.unsent.Unsent.TheVariants.{Nothing, Ready, Waiting}
-use Rattle.desk_core.specs.Settling.{Explains, KeepsKnown, Serves}
+use Rattle.desk_core.specs.Settling.{Explains, KeepsKnown, Serves, rows_of}
 
 -- the job that isn't sent yet, if there is one
 abbrev pub job_in : Unsent → Option Job
@@ -80,9 +80,33 @@ pub record GoesOn (s t : Stage) : Type 0 where
   pub cause : t.progress.cause ≡ None → s.progress.cause ≡ None
   pub comes : (first : BookState) (before : List JobResult) → HasCome first before s → HasCome first before t
 
+-- so it goes on over a post, seen by its floor and the answers that it gave
+abbrev pub GoesOnOver : {P : Type 0} → (P → ℕ) → (P → List JobResult) → P → P → BookState → BookState → Progress → Progress → Type 0
+GoesOnOver floor answers p q d e before after = GoesOn (over floor answers p d before) (over floor answers q e after)
+
+-- so it goes on over any post that fits, which does nothing meanwhile
+abbrev pub GoesOnBy : BookState → BookState → Progress → Progress → Type 0
+GoesOnBy d e before after =
+    (table : Entries) (floor : ℕ) (answers : List JobResult) → Fits d table floor (job_in before.unsent)
+    → GoesOn (stage d floor answers before) (stage e floor answers after)
+
+-- so it goes on over any post that gives an answer meanwhile
+abbrev pub GoesOnWith : JobResult → BookState → BookState → Progress → Progress → Type 0
+GoesOnWith answer d e before after =
+    (floor : ℕ) (answers : List JobResult) → GoesOn (stage d floor answers before) (stage e floor (answers ++ answer ∷ []) after)
+
+-- what isn't sent yet fits every post still that it fitted
+abbrev pub StaysFit : BookState → BookState → Progress → Progress → Type 0
+StaysFit d e before after =
+    (table : Entries) (floor : ℕ) → Fits d table floor (job_in before.unsent) → Fits e table floor (job_in after.unsent)
+
 -- each job that is out isn't sent yet or is held by the post
 abbrev pub IsAtHand : Option Job → Option Job → BookState → Type 0
 IsAtHand unsent held d = (need : Need) (job : Job) → expected d need ≡ Some job → (unsent ≡ Some job) ⊎ (held ≡ Some job)
+
+-- whatever is held, what is out stays at hand
+abbrev pub StaysAtHand : BookState → BookState → Progress → Progress → Type 0
+StaysAtHand d e before after = (held : Option Job) → IsAtHand (job_in before.unsent) held d → IsAtHand (job_in after.unsent) held e
 
 -- how many turns what isn't sent yet and what is held take at most
 abbrev pub turns_for : Unsent → Option Job → ℕ
@@ -109,6 +133,15 @@ AllAtHand m = IsAtHand (job_in m.unsent) m.held m.desk
 abbrev pub turns_from : Moment → ℕ
 turns_from m = 3 * wanting_of m.desk + turns_for m.unsent m.held
 
+-- whatever is held, no more turns are taken from there unless there is a cause
+abbrev pub TakesNoMore : BookState → BookState → Progress → Progress → Type 0
+TakesNoMore d e before after =
+    (held : Option Job) → after.cause ≡ None → turns_from (moment e after.unsent held) ≤ turns_from (moment d before.unsent held)
+
+-- where none is left to send and there is no cause, nothing is pending unless a job is out
+abbrev pub SeesAll : BookState → Progress → Type 0
+SeesAll d progress = progress.unsent ≡ Nothing → progress.cause ≡ None → NothingOut d → pending_of d ≡ 0
+
 -- every bookmark is current, or will be seen to be since nothing is out and nothing wanting
 abbrev pub IsDone : BookState → Type 0
 IsDone d = (pending_of d ≡ 0) ⊎ (NothingOut d × (wanting_of d ≡ 0))
@@ -123,6 +156,11 @@ pub record Advances (before after : Moment) (cause : Option Cause) (next : Contr
   pub out : AllAtHand before → AllAtHand after
   pub nears : AllAtHand before → cause ≡ None → Nears before after next
 
+-- so it is over a prompt post, seen by what it holds
+abbrev pub AdvancesOver : {P : Type 0} → (P → Bool) → (P → Option Job) → P → P → BookState → BookState → Progress → Progress → ControlFlow Unit Unit → Type 0
+AdvancesOver is_prompt held p q d e before after next =
+    is_prompt p ≡ true → Advances (moment d before.unsent (held p)) (moment e after.unsent (held q)) after.cause next
+
 -- what the post held was answered: what is out isn't sent yet, and unless there is a cause as many rows want a job
 pub record Receives (before after : Moment) (cause : Option Cause) (next : ControlFlow Unit Unit) : Type 0 where
   pub out : AllAtHand before → AllAtHand after
@@ -131,6 +169,16 @@ pub record Receives (before after : Moment) (cause : Option Cause) (next : Contr
   pub unsent : cause ≡ None → after.unsent ≡ before.unsent
   pub wanting : cause ≡ None → wanting_of after.desk ≡ wanting_of before.desk
 
+-- so it is over a prompt post, seen by what it holds
+abbrev pub ReceivesOver : {P : Type 0} → (P → Bool) → (P → Option Job) → P → P → BookState → BookState → Progress → Progress → ControlFlow Unit Unit → Type 0
+ReceivesOver is_prompt held p q d e before after next =
+    is_prompt p ≡ true → Receives (moment d before.unsent (held p)) (moment e after.unsent (held q)) after.cause next
+
 -- where a settling ends without a cause, nothing is left to send and every bookmark current
 abbrev pub IsDoneBy : BookState → Progress → Type 0
 IsDoneBy d progress = progress.cause ≡ None → (progress.unsent ≡ Nothing) × IsDone d
+
+-- what a run over a prompt post leaves: what is out isn't sent yet or is held, and enough turns settle
+pub record RunsOut (held : Option Job) (old new : BookState) (turns : ℕ) (progress : Progress) : Type 0 where
+  pub out : IsAtHand (job_in progress.unsent) held new
+  pub done : 4 * rows_of old ≤ turns → IsDoneBy new progress

@@ -1,13 +1,11 @@
 //! The progress of a settling.
-ghost use Rattle.std.specs.Prelude.{◌≡◌, ◌≤◌, ◌*◌, ◌++◌, ◌∷◌, [], ℕ, List, Option, None, Some, true};
-ghost use Rattle.revision_jobs.specs.Answer.{JobResult};
-ghost use Rattle.revision_jobs.specs.declared.entries.Entries.{Entries};
-ghost use Rattle.revision_jobs.specs.declared.answer.Job.{Job};
+ghost use Rattle.std.specs.Prelude.{◌≡◌, None, Some, true};
 ghost use Rattle.revision_jobs.specs.Entries.{IsOf};
-ghost use Rattle.dependency_book.specs.BookState.{pending_of, wanting_of, NothingOut};
-ghost use Rattle.desk_core.specs.Progress.{Advances, Fits, GoesOn, HasCome, IsAtHand, IsDoneBy};
-ghost use Rattle.desk_core.specs.Progress.{Receives, job_in, moment, over, ready, stage, turns_from};
-ghost use Rattle.desk_core.specs.Settling.{IsHeld, rows_of};
+ghost use Rattle.dependency_book.specs.BookState.{wanting_of};
+ghost use Rattle.desk_core.specs.Progress.{AdvancesOver, Fits, GoesOnBy, GoesOnOver, GoesOnWith};
+ghost use Rattle.desk_core.specs.Progress.{HasCome, IsAtHand, ReceivesOver, RunsOut, SeesAll};
+ghost use Rattle.desk_core.specs.Progress.{StaysAtHand, StaysFit, TakesNoMore, job_in, over, ready};
+ghost use Rattle.desk_core.specs.Settling.{IsHeld};
 
 use crate::cause::Cause;
 use crate::collect::Collected;
@@ -39,10 +37,8 @@ impl Progress {
         ensures comes { HasCome desk.old (P.answers post.old)
             (over P.floor P.answers post.new desk.new result) }
         ensures kind { P.is_prompt post.new ≡ P.is_prompt post.old }
-        ensures out { P.is_prompt post.old ≡ true → IsHeld (P.held post.old) desk.old →
-            IsAtHand (job_in result.unsent) (P.held post.new) desk.new }
-        ensures done { P.is_prompt post.old ≡ true → IsHeld (P.held post.old) desk.old →
-            4 * rows_of desk.old ≤ turns → IsDoneBy desk.new result }
+        ensures prompt { P.is_prompt post.old ≡ true → IsHeld (P.held post.old) desk.old →
+            RunsOut (P.held post.new) desk.old desk.new turns result }
     {
         let mut progress = Progress {
             unsent: Unsent::Nothing,
@@ -67,12 +63,11 @@ impl Progress {
     ) -> ControlFlow<()>
         requires { Fits desk.old (P.table post.old) (P.floor post.old) (job_in self.old.unsent) }
         ensures fits { Fits desk.new (P.table post.new) (P.floor post.new) (job_in self.new.unsent) }
-        ensures goes { GoesOn (over P.floor P.answers post.old desk.old self.old)
-            (over P.floor P.answers post.new desk.new self.new) }
+        ensures goes { GoesOnOver P.floor P.answers post.old post.new
+            desk.old desk.new self.old self.new }
         ensures kind { P.is_prompt post.new ≡ P.is_prompt post.old }
-        ensures prompt { P.is_prompt post.old ≡ true → Advances
-            (moment desk.old self.old.unsent (P.held post.old))
-            (moment desk.new self.new.unsent (P.held post.new)) self.new.cause result }
+        ensures prompt { AdvancesOver P.is_prompt P.held post.old post.new
+            desk.old desk.new self.old self.new result }
     {
         self.issue(rt, desk);
         match mem::replace(&mut self.unsent, Unsent::Nothing) {
@@ -91,19 +86,11 @@ impl Progress {
     // Issues a job for what is to be computed next, where none is left to send and there is no
     // cause.
     fn issue(&mut self, rt: &impl Wait, desk: &mut Desk<'_>)
-        ensures goes { (table : Entries) (floor : ℕ) (answers : List JobResult)
-            → Fits desk.old table floor (job_in self.old.unsent)
-            → GoesOn (stage desk.old floor answers self.old) (stage desk.new floor answers self.new) }
-        ensures fits { (table : Entries) (floor : ℕ)
-            → Fits desk.old table floor (job_in self.old.unsent)
-            → Fits desk.new table floor (job_in self.new.unsent) }
-        ensures out { (held : Option Job) → IsAtHand (job_in self.old.unsent) held desk.old
-            → IsAtHand (job_in self.new.unsent) held desk.new }
-        ensures turns { (held : Option Job) → self.new.cause ≡ None →
-            turns_from (moment desk.new self.new.unsent held)
-            ≤ turns_from (moment desk.old self.old.unsent held) }
-        ensures none { self.new.unsent ≡ Unsent.Nothing → self.new.cause ≡ None
-            → NothingOut desk.new → pending_of desk.new ≡ 0 }
+        ensures goes { GoesOnBy desk.old desk.new self.old self.new }
+        ensures fits { StaysFit desk.old desk.new self.old self.new }
+        ensures out { StaysAtHand desk.old desk.new self.old self.new }
+        ensures turns { TakesNoMore desk.old desk.new self.old self.new }
+        ensures none { SeesAll desk.new self.new }
     {
         if !self.unsent.is_nothing() || self.cause.is_some() {
             return;
@@ -120,12 +107,11 @@ impl Progress {
         requires fits { Fits desk.old (P.table post.old) (P.floor post.old) (Some job) }
         requires none { self.old.unsent ≡ Unsent.Nothing }
         ensures fits { Fits desk.new (P.table post.new) (P.floor post.new) (job_in self.new.unsent) }
-        ensures goes { GoesOn (over P.floor P.answers post.old desk.old (ready job self.old))
-            (over P.floor P.answers post.new desk.new self.new) }
+        ensures goes { GoesOnOver P.floor P.answers post.old post.new
+            desk.old desk.new (ready job self.old) self.new }
         ensures kind { P.is_prompt post.new ≡ P.is_prompt post.old }
-        ensures prompt { P.is_prompt post.old ≡ true → Advances
-            (moment desk.old (Unsent.Ready job) (P.held post.old))
-            (moment desk.new self.new.unsent (P.held post.new)) self.new.cause result }
+        ensures prompt { AdvancesOver P.is_prompt P.held post.old post.new
+            desk.old desk.new (ready job self.old) self.new result }
     {
         match post.send(job) {
             Sent::Taken => ControlFlow::Continue(()),
@@ -144,12 +130,11 @@ impl Progress {
     fn receive<P: Post>(&mut self, desk: &mut Desk<'_>, post: &mut P) -> ControlFlow<()>
         requires { Fits desk.old (P.table post.old) (P.floor post.old) (job_in self.old.unsent) }
         ensures fits { Fits desk.new (P.table post.new) (P.floor post.new) (job_in self.new.unsent) }
-        ensures goes { GoesOn (over P.floor P.answers post.old desk.old self.old)
-            (over P.floor P.answers post.new desk.new self.new) }
+        ensures goes { GoesOnOver P.floor P.answers post.old post.new
+            desk.old desk.new self.old self.new }
         ensures kind { P.is_prompt post.new ≡ P.is_prompt post.old }
-        ensures prompt { P.is_prompt post.old ≡ true → Receives
-            (moment desk.old self.old.unsent (P.held post.old))
-            (moment desk.new self.new.unsent (P.held post.new)) self.new.cause result }
+        ensures prompt { ReceivesOver P.is_prompt P.held post.old post.new
+            desk.old desk.new self.old self.new result }
     {
         match post.receive() {
             Received::Answer(answer) => {
@@ -165,12 +150,8 @@ impl Progress {
     // yet is cancelled.
     fn collect(&mut self, desk: &mut Desk<'_>, answer: Answer)
         requires { IsOf desk.old.table answer.job.place }
-        ensures goes { (floor : ℕ) (answers : List JobResult) →
-            GoesOn (stage desk.old floor answers self.old)
-            (stage desk.new floor (answers ++ answer ∷ []) self.new) }
-        ensures fits { (table : Entries) (floor : ℕ)
-            → Fits desk.old table floor (job_in self.old.unsent)
-            → Fits desk.new table floor (job_in self.new.unsent) }
+        ensures goes { GoesOnWith answer desk.old desk.new self.old self.new }
+        ensures fits { StaysFit desk.old desk.new self.old self.new }
         ensures out { IsAtHand (job_in self.old.unsent) (Some answer.job) desk.old
             → IsAtHand (job_in self.new.unsent) None desk.new }
         ensures same { self.new.cause ≡ None → self.new.unsent ≡ self.old.unsent }

@@ -25,7 +25,7 @@ returns-in-0-clause-post g c =
 pub returns-in-0-clause-prompt : goal.returns-in-0-clause-prompt
 returns-in-0-clause-prompt g c = λ prompt held.
     let run = c.run-unsent in (
-      IsHeld-given_up (job_in run.result.unsent) (g.P.Post.held run.new.post) run.new.desk c.cancel.new.desk c.cancel.ensures (run.ensures.out prompt held),
+      IsHeld-given_up (job_in run.result.unsent) (g.P.Post.held run.new.post) run.new.desk c.cancel.new.desk c.cancel.ensures ((run.ensures.prompt prompt held).out),
       λ enough. tt,
     )
 
@@ -56,10 +56,10 @@ returns-in_default-clause-post g c =
 pub returns-in_default-clause-prompt : goal.returns-in_default-clause-prompt
 returns-in_default-clause-prompt g c = λ prompt held.
     let run = c.run-unsent in (
-      IsHeld-given_up (job_in run.result.unsent) (g.P.Post.held run.new.post) run.new.desk c.cancel.new.desk c.cancel.ensures (run.ensures.out prompt held),
+      IsHeld-given_up (job_in run.result.unsent) (g.P.Post.held run.new.post) run.new.desk c.cancel.new.desk c.cancel.ensures ((run.ensures.prompt prompt held).out),
       λ enough.
           let some : 0 < c.pending.result = search rules in
-          cause-left run.new.desk c.cancel.new.desk run.result c.pending.result (run.ensures.done prompt held enough) c.cancel.ensures c.pending.ensures.count c.pending.ensures.none some,
+          cause-left run.new.desk c.cancel.new.desk run.result c.pending.result ((run.ensures.prompt prompt held).done enough) c.cancel.ensures c.pending.ensures.count c.pending.ensures.none some,
     )
 
 pub returns-in_default-clause-enough : goal.returns-in_default-clause-enough

@@ -1,7 +1,5 @@
 use Rattle.std.proofs.Common.{rules}
-use Rattle.desk_core.proofs.Steps.{GoesOn-issued, GoesOn-refused, GoesOn-same, no_cause}
-use Rattle.desk_core.proofs.Out.{IsAtHand-issued}
-use Rattle.desk_core.proofs.Turns.{turns-issued}
+use Rattle.desk_core.proofs.Steps.{GoesOn-issued, no_cause}
 use Rattle.desk_core.proofs.progress.Progress.issue.Goals as goal
 
 pub returns-in-Ok-Some-clause-goes : goal.returns-in-Ok-Some-clause-goes

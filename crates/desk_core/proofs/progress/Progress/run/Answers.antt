@@ -1,4 +1,4 @@
-use Rattle.std.proofs.Common.{◌∙◌, None, refl}
+use Rattle.std.proofs.Common.{◌∙◌, refl}
 use Rattle.desk_core.specs.Progress.{moment}
 use Rattle.desk_core.proofs.Out.{IsAtHand-held}
 use Rattle.desk_core.proofs.Steps.{HasCome-first}
@@ -20,16 +20,18 @@ returns-in-Break-clause-comes g c = c.turn.ensures.goes.comes _ _ c.loop.invaria
 pub returns-in-Break-clause-kind : goal.returns-in-Break-clause-kind
 returns-in-Break-clause-kind g c = c.turn.ensures.kind ∙ c.loop.invariant.kind
 
-pub returns-in-Break-clause-out : goal.returns-in-Break-clause-out
-returns-in-Break-clause-out g c = λ prompt held. (c.turn.ensures.prompt (c.loop.invariant.kind ∙ prompt)).out (c.loop.invariant.out prompt held)
-
-pub returns-in-Break-clause-done : goal.returns-in-Break-clause-done
-returns-in-Break-clause-done g c = λ prompt held enough none.
-    done-at_end
-    (moment c.loop.desk c.loop.progress.unsent (g.P.Post.held c.loop.post))
-    (moment c.turn.new.desk c.turn.new.self.unsent (g.P.Post.held c.turn.new.post))
-    c.turn.result c.in-Break.is
-    ((c.turn.ensures.prompt (c.loop.invariant.kind ∙ prompt)).nears (c.loop.invariant.out prompt held) none)
+pub returns-in-Break-clause-prompt : goal.returns-in-Break-clause-prompt
+returns-in-Break-clause-prompt g c = λ prompt held.
+    let before = c.loop.invariant.kind ∙ prompt in
+    record {
+      out = (c.turn.ensures.prompt before).out (c.loop.invariant.out prompt held);
+      done = λ enough none.
+          done-at_end
+          (moment c.loop.desk c.loop.progress.unsent (g.P.Post.held c.loop.post))
+          (moment c.turn.new.desk c.turn.new.self.unsent (g.P.Post.held c.turn.new.post))
+          c.turn.result c.in-Break.is
+          ((c.turn.ensures.prompt before).nears (c.loop.invariant.out prompt held) none);
+    }
 
 pub loop-preserved : goal.loop-preserved
 loop-preserved g c = record {
@@ -48,7 +50,10 @@ loop-preserved g c = record {
 pub returns-clause-comes : goal.returns-clause-comes
 returns-clause-comes g c = c.loop.invariant.comes
 
-pub returns-clause-done : goal.returns-clause-done
-returns-clause-done g c = λ prompt held enough none.
-    turns-spent (moment c.loop.desk c.loop.progress.unsent (g.P.Post.held c.loop.post)) c.loop.counter c.args.turns
-    c.loop-test.false (c.loop.invariant.out prompt held) (c.loop.invariant.turns prompt held enough none)
+pub returns-clause-prompt : goal.returns-clause-prompt
+returns-clause-prompt g c = λ prompt held. record {
+  out = c.loop.invariant.out prompt held;
+  done = λ enough none.
+      turns-spent (moment c.loop.desk c.loop.progress.unsent (g.P.Post.held c.loop.post)) c.loop.counter c.args.turns
+      c.loop-test.false (c.loop.invariant.out prompt held) (c.loop.invariant.turns prompt held enough none);
+}
