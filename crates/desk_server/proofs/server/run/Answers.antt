@@ -8,8 +8,8 @@ use Rattle.desk_server.proofs.server.run.Goals as goal
 
 pub script-init : goal.script-init
 script-init g c = rw c.begin.ensures (record {
-  answered = answers_none (g.P.Post.is_prompt c.args.post.now) _ _ _ (opening 0) c.in-Ok.desk.plan 1 refl (ap (λ (k : BookState). k.plan) c.in-Ok.ensures);
-  post = record { kind = refl; carries = carries_first g.P.Post.table g.P.Post.floor g.P.Post.is_prompt g.P.Post.held c.args.post.now c.args.entries.now c.in-Ok.desk c.in-Ok.ensures c.requires };
+  answered = answers_none (g.P.Post.is_prompt c.args.post.now) _ _ _ (opening 0) c.in-Ok.desk.plan 1 refl (ap (λ (k : BookState). k.plan) c.in-Ok.ensures.opened);
+  post = record { kind = refl; carries = carries_first g.P.Post.table g.P.Post.floor g.P.Post.is_prompt g.P.Post.held c.args.post.now c.args.entries.now c.in-Ok.desk c.in-Ok.ensures.opened c.requires };
   flushed = λ h. h;
   reads = refl;
   writes = refl;
