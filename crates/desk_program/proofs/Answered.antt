@@ -1,5 +1,5 @@
 -- What a run leaves of its counted devices, as what it leaves of the devices themselves.
-use Rattle.std.proofs.Common.{◌≡◌, ◌≢◌, ◌∙◌, ℕ, ◌-◌, ◌^◌, Bool, List, Option, Result, Ok, Err, IfSome, OnOk, MatchResult, sym, refl, ap, ap₂, subst}
+use Rattle.std.proofs.Common.{◌≡◌, ◌≢◌, ◌∙◌, ℕ, ◌-◌, ◌^◌, Bool, List, Option, Result, Ok, Err, IfSome, OnOk, MatchResult, sym, ap, ap₂, subst}
 use Rattle.script_lines.specs.Ahead.{Ahead, LineReading, fresh_reader}
 use Rattle.script_lines.specs.Counted.{CountedWriting, fresh_writer}
 use Rattle.desk_server.specs.Run.{AnswersAll, AnswersFront, AnswersWhole}

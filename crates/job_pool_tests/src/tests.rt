@@ -9,7 +9,7 @@ use basics::Refusal;
 use bookmarks::View;
 use entries::{push_step, push_view, table};
 use gates::{Counting, Meeting, Waiting};
-use job_pool::{PoolFault, PoolPost, pool};
+use job_pool::{NoPool, PoolFault, PoolPost, pool};
 use revision_jobs::{Answer, Entries, Job, NoGate, Outcome, Place, Post, Received, Sent};
 use std::alloc::Global;
 use std::fmt::Debug;
@@ -112,6 +112,14 @@ fn no_gates(rt: &impl Abort, alloc: Global, count: u8) -> Vec<NoGate>
     gates
 }
 
+/// What the body answered.
+fn answered<T, I: Drop>(rt: &impl Abort, called: Result<T, NoPool<I>>) -> T {
+    match called {
+        Ok(answer) => answer,
+        Err(NoPool { fault, input: _ }) => panic!(rt; "no pool: {fault:?}"),
+    }
+}
+
 /// Stops the test where so many workers don't answer each of 40 jobs once.
 fn expect_each_answer<R: Abort + Threads + Wait + Sync>(rt: &R, alloc: Global, workers: u8)
     requires { (1 ≤ workers) × (workers ≤ 8) }
@@ -119,13 +127,13 @@ fn expect_each_answer<R: Abort + Threads + Wait + Sync>(rt: &R, alloc: Global, w
     let entries = table(rt, alloc);
     let place = push_view(rt, alloc, &entries, View::Counts);
     let gates = no_gates(rt, alloc, workers);
-    let body = |post: &mut PoolPost<'_, R>| -> u32
+    let body = |post: &mut PoolPost<'_, R>, jobs: u32| -> u32
         requires { IsOf post.old.table place }
     {
-        send_below(rt, post, &place, 40);
-        receive_texts(rt, post, 40, "empty\n")
+        send_below(rt, post, &place, jobs);
+        receive_texts(rt, post, jobs, "empty\n")
     };
-    let sum = pool(rt, alloc, &entries, gates, SQUARES, body).expect(rt, "a pool");
+    let sum = answered(rt, pool(rt, alloc, &entries, gates, SQUARES, 40, body));
     same(rt, &sum, &780, &workers);
 }
 
@@ -154,10 +162,10 @@ fn two_workers_run_at_once(rt: HostRuntime) {
         met: &met,
     };
     let gates = pair(&rt, alloc, one, other);
-    let body = |post: &mut PoolPost<'_, HostRuntime>| -> u32
+    let body = |post: &mut PoolPost<'_, HostRuntime>, _input: ()| -> u32
         requires { IsOf post.old.table counts × IsOf post.old.table rle }
     { work_two(&rt, post, &counts, &rle) };
-    let sum = pool(&rt, alloc, &entries, gates, SQUARES, body).expect(&rt, "a pool");
+    let sum = answered(&rt, pool(&rt, alloc, &entries, gates, SQUARES, (), body));
     same(&rt, &sum, &1, &"sum");
     assert!(rt; met.load(Ordering::SeqCst), "job 0 waited in vain");
 }
@@ -199,13 +207,13 @@ fn ends_with_answers_that_nobody_waits_for(rt: HostRuntime) {
     let place = push_view(&rt, alloc, &entries, View::Counts);
     let ended = AtomicU64::new(0);
     let gates = single(&rt, alloc, Counting { ended: &ended });
-    let body = |post: &mut PoolPost<'_, HostRuntime>| -> u64
+    let body = |post: &mut PoolPost<'_, HostRuntime>, _input: ()| -> u64
         requires { IsOf post.old.table place }
     {
         send_below(&rt, post, &place, 49);
         post.floor()
     };
-    let floor = pool(&rt, alloc, &entries, gates, SQUARES, body).expect(&rt, "a pool");
+    let floor = answered(&rt, pool(&rt, alloc, &entries, gates, SQUARES, (), body));
     same(&rt, &floor, &49, &"floor");
     same(&rt, &ended.load(Ordering::SeqCst), &49, &"worked");
 }
@@ -237,10 +245,10 @@ fn a_flag_stops_a_job_that_is_out(rt: HostRuntime) {
     let place = push_step(&rt, alloc, &entries, 5);
     let flag = AtomicBool::new(false);
     let gates = single(&rt, alloc, Waiting { flag: &flag });
-    let body = |post: &mut PoolPost<'_, HostRuntime>| -> Option<u8>
+    let body = |post: &mut PoolPost<'_, HostRuntime>, _input: ()| -> Option<u8>
         requires { (post.old.table ≡ entries) × IsOf entries place }
     { stop_one(&rt, &entries, post, &place, &flag) };
-    let number = pool(&rt, alloc, &entries, gates, SQUARES, body).expect(&rt, "a pool");
+    let number = answered(&rt, pool(&rt, alloc, &entries, gates, SQUARES, (), body));
     same(&rt, &number, &Some(72), &"stopped");
 }
 

@@ -1,0 +1,128 @@
+#!/usr/bin/env python3
+"""Measures the pool of workers of the program, by its scripts.
+
+- Two heavy views of one pattern: the wall time from `settle` to its reply, with one worker and with two.
+- The start of a pool: the wall time of a run that only quits, less that of a run that only writes its help.
+- A job's way there and back: the time that a settling of one job adds to a script of edits.
+"""
+
+import argparse
+import random
+import statistics
+import subprocess
+import time
+
+RULE = """rule
+@RULE X
+@TABLE
+n_states:2
+neighborhood:oneDimensional
+symmetries:none
+0,1,0,1
+0,0,1,1
+1,0,0,0
+1,1,1,0
+end
+"""
+
+
+class Desk:
+    """A program that runs, to which commands are given one at a time."""
+
+    def __init__(self, program, *words):
+        self.process = subprocess.Popen(
+            [program, *words], stdin=subprocess.PIPE, stdout=subprocess.PIPE)
+
+    def ask(self, text, wanted):
+        self.process.stdin.write(text.encode())
+        self.process.stdin.flush()
+        reply = self.process.stdout.readline().decode().strip()
+        if not reply.startswith(wanted):
+            raise SystemExit(f"the reply is {reply!r}, not {wanted!r}")
+
+    def quit(self):
+        self.ask("quit\n", "bye")
+        self.process.wait()
+
+
+def soup(side, cells):
+    """The RLE text of so many live cells in a square, strewn at random."""
+    live = set(random.Random(1).sample(range(side * side), cells))
+    rows = []
+    for y in range(side):
+        row = "".join("o" if y * side + x in live else "b" for x in range(side))
+        rows.append(row)
+    body = "$\n".join(rows)
+    return f"start rle\nx = {side}, y = {side}, rule = X\n{body}!\nend\n"
+
+
+def views(program, workers, pattern):
+    desk = Desk(program, "--workers", str(workers))
+    desk.ask(RULE, "ok")
+    desk.ask(pattern, "ok")
+    desk.ask("mark 0 mc\n", "ok")
+    desk.ask("mark 0 rle\n", "ok")
+    begun = time.perf_counter()
+    desk.ask("settle\n", "settled")
+    taken = time.perf_counter() - begun
+    desk.quit()
+    return taken
+
+
+def run_once(program, words, script):
+    begun = time.perf_counter()
+    subprocess.run([program, *words], input=script, stdout=subprocess.DEVNULL, check=True)
+    return time.perf_counter() - begun
+
+
+def edits(count, line):
+    """So many edits of one cell, each with this line behind it."""
+    body = "".join(f"set 0 0 {1 - turn % 2}\n{line}" for turn in range(count))
+    return (RULE + "mark 0 counts\n" + body + "quit\n").encode()
+
+
+def medians(runs, *calls):
+    """The median of each call's answers, the calls in turns."""
+    answers = [[] for _ in calls]
+    for _ in range(runs):
+        for answer, call in zip(answers, calls):
+            answer.append(call())
+    return [statistics.median(answer) for answer in answers]
+
+
+def main():
+    parser = argparse.ArgumentParser()
+    parser.add_argument("--desk", default="crates/desk/out/desk")
+    parser.add_argument("--runs", type=int, default=9)
+    parser.add_argument("--cells", type=int, default=1_000_000)
+    options = parser.parse_args()
+    program = options.desk
+
+    pattern = soup(2 * int(options.cells ** 0.5), options.cells)
+    one, two = medians(
+        options.runs,
+        lambda: views(program, 1, pattern),
+        lambda: views(program, 2, pattern))
+    print(f"two views of {options.cells} cells: one worker {one:.3f} s, two workers {two:.3f} s,"
+          f" ratio {two / one:.2f}")
+
+    for workers in (1, 2, 8):
+        words = ["--workers", str(workers)]
+        idle, started = medians(
+            10 * options.runs,
+            lambda: run_once(program, ["--help"], b""),
+            lambda: run_once(program, words, b"quit\n"))
+        print(f"a run that quits, {workers} workers: {1e3 * (started - idle):.2f} ms more than help")
+
+    count = 10_000
+    for workers in (1, 2, 8):
+        words = ["--workers", str(workers)]
+        plain, settled = medians(
+            options.runs,
+            lambda: run_once(program, words, edits(count, "")),
+            lambda: run_once(program, words, edits(count, "settle\n")))
+        print(f"a settling of one job, {workers} workers: {1e6 * (settled - plain) / count:.1f} us")
+
+
+if __name__ == "__main__":
+    main()
