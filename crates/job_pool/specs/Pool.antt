@@ -1,9 +1,11 @@
 -- What contracts see of a pool's post.
-use Rattle.std.specs.Prelude.{List, []}
+use Rattle.std.specs.Prelude.{◌≡◌, ℕ, List, [], length, All}
+use Rattle.std.specs.Fn.{Once, FnOnceReturnsAtMut}
+use Rattle.std.specs.Borrow.{MutBor}
 use Rattle.revision_jobs.specs.declared.entries.Entries.{Entries}
 use Rattle.revision_jobs.specs.Answer.{JobResult}
 use Rattle.job_queue.specs.declared.rule.Slip.{Slip}
-use Rattle.job_queue.specs.Ends.{Sending}
+use Rattle.job_queue.specs.Ends.{Sending, Taking, new_taker}
 
 -- its table, the slips of the jobs that it took, and the answers that it gave, the latest last
 pub record Pool : Type 0 where
@@ -18,3 +20,16 @@ pool_over jobs = record { table = jobs.table; sent = jobs.sent; answers = [] }
 -- a post of the table that took no job and gave no answer yet
 abbrev pub new_pool : Entries → Pool
 new_pool entries = record { table = entries; sent = []; answers = [] }
+
+-- the ends for so many workers: each takes jobs and sends answers of the table, and nothing was sent
+pub record AreEnds (table : Entries) (workers : ℕ) (takers : List Taking) (senders : List Entries)
+    : Type 0 where
+  pub takers_many : length takers ≡ workers
+  pub takers_new : All (λ taker. taker ≡ new_taker table) takers
+  pub senders_many : length senders ≡ workers
+  pub senders_own : All (λ sender. sender ≡ table) senders
+
+-- the body, called once on the post, answers this
+abbrev pub CallGives : {F T : Type 0} → Once F (MutBor Pool × Unit {0}) (T × (MutBor Pool × Unit {0}))
+    → F → Pool → T → Type 0
+CallGives call body post answer = (left : Pool) × FnOnceReturnsAtMut call body post answer left

@@ -1,8 +1,8 @@
 //! Starting workers, and calling a body on their post.
-ghost use Rattle.std.specs.Prelude.{◌≡◌, ◌≤◌, All, IfOk, vec_len};
-ghost use Rattle.std.specs.Fn.{FnOnceReturnsAtMut, FnOnceTakesAtMut};
-ghost use Rattle.job_queue.specs.Ends.{new_sender, new_taker};
-ghost use Rattle.job_pool.specs.Pool.{Pool, new_pool, pool_over};
+ghost use Rattle.std.specs.Prelude.{◌≡◌, ◌≤◌, IfOk, vec_len};
+ghost use Rattle.std.specs.Fn.{FnOnceTakesAtMut};
+ghost use Rattle.job_queue.specs.Ends.{new_sender};
+ghost use Rattle.job_pool.specs.Pool.{AreEnds, CallGives, new_pool, pool_over};
 
 use crate::answers::{AnswerReceiver, answer_queue};
 use crate::fault::PoolFault;
@@ -35,8 +35,7 @@ where
     F: FnOnce(&mut PoolPost<'_, R>) -> T + Drop,
     requires gates { (1 ≤ vec_len gates) × (vec_len gates ≤ 8) }
     requires body { FnOnceTakesAtMut F.FnOnce body (new_pool entries.now) }
-    ensures { IfOk result (λ answer. (after : Pool)
-        × FnOnceReturnsAtMut F.FnOnce body (new_pool entries.now) answer after) }
+    ensures { IfOk result (CallGives F.FnOnce body (new_pool entries.now)) }
 {
     let count = gates.len() as u8;
     let (sender, takers) = job_queue(alloc, entries, count)?;
@@ -46,13 +45,9 @@ where
         rt,
         move |scope| -> Result<T, PoolFault>
             requires ends { (sender ≡ new_sender entries.now) × (receiver ≡ entries.now) }
-            requires enough { (vec_len takers ≡ vec_len gates)
-                × (vec_len senders ≡ vec_len gates) }
-            requires workers { All (λ t. t ≡ new_taker entries.now) takers.items
-                × All (λ s. s ≡ entries.now) senders.items }
+            requires workers { AreEnds entries.now (vec_len gates) takers.items senders.items }
             requires body { FnOnceTakesAtMut F.FnOnce body (new_pool entries.now) }
-            ensures { IfOk result (λ answer. (after : Pool)
-                × FnOnceReturnsAtMut F.FnOnce body (new_pool entries.entry.now) answer after) }
+            ensures { IfOk result (CallGives F.FnOnce body (new_pool entries.entry.now)) }
         {
             let count = gates.len();
             let mut gates = gates;
@@ -84,7 +79,7 @@ where
     F: FnOnce(&mut PoolPost<'_, R>) -> T,
     requires table { back ≡ jobs.table }
     requires body { FnOnceTakesAtMut F.FnOnce body (pool_over jobs) }
-    ensures { (after : Pool) × FnOnceReturnsAtMut F.FnOnce body (pool_over jobs) result after }
+    ensures { CallGives F.FnOnce body (pool_over jobs) result }
 {
     let mut post = PoolPost::new(rt, jobs, back);
     body(&mut post)
