@@ -1,7 +1,8 @@
 #!/usr/bin/env python3
 """Measures the pool of workers of the program, by its scripts.
 
-- Two heavy views of one pattern: the wall time from `settle` to its reply, with one worker and with two.
+- Two views of one pattern: the wall time from `settle` to its reply, with one worker and with two; two RLE texts, and
+  an RLE text and a macrocell text.
 - The start of a pool: the wall time of a run that only quits, less that of a run that only writes its help.
 - A job's way there and back: the time that a settling of one job adds to a script of edits.
 """
@@ -56,12 +57,12 @@ def soup(side, cells):
     return f"start rle\nx = {side}, y = {side}, rule = X\n{body}!\nend\n"
 
 
-def views(program, workers, pattern):
+def views(program, workers, pattern, kinds):
     desk = Desk(program, "--workers", str(workers))
     desk.ask(RULE, "ok")
     desk.ask(pattern, "ok")
-    desk.ask("mark 0 mc\n", "ok")
-    desk.ask("mark 0 rle\n", "ok")
+    for kind in kinds:
+        desk.ask(f"mark 0 {kind}\n", "ok")
     begun = time.perf_counter()
     desk.ask("settle\n", "settled")
     taken = time.perf_counter() - begun
@@ -99,12 +100,13 @@ def main():
     program = options.desk
 
     pattern = soup(2 * int(options.cells ** 0.5), options.cells)
-    one, two = medians(
-        options.runs,
-        lambda: views(program, 1, pattern),
-        lambda: views(program, 2, pattern))
-    print(f"two views of {options.cells} cells: one worker {one:.3f} s, two workers {two:.3f} s,"
-          f" ratio {two / one:.2f}")
+    for kinds in (("rle", "rle"), ("rle", "mc")):
+        one, two = medians(
+            options.runs,
+            lambda: views(program, 1, pattern, kinds),
+            lambda: views(program, 2, pattern, kinds))
+        print(f"{' and '.join(kinds)} of {options.cells} cells: one worker {one:.3f} s,"
+              f" two workers {two:.3f} s, ratio {two / one:.2f}")
 
     for workers in (1, 2, 8):
         words = ["--workers", str(workers)]
