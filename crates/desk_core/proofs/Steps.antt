@@ -265,13 +265,17 @@ module _ (first mid last : BookState) (before answers : List JobResult) (floor :
       either (inr (inl there)) = absurd (cc)
       either (inr (inr sent)) = inr sent
 
-  pub settles-whole : IsRight last → Settles first last floor
-  settles-whole right = record {
+  enough-whole : length last.arrivals + length last.texts ≤ 12288 → 4 * rows_of first ≤ 1000000
+  enough-whole few = let marks = whole.document.marks in let bookmarks = whole.document.bookmarks in omega arith
+
+  pub settles-whole : IsRight last → length last.arrivals + length last.texts ≤ 12288 → Settles first last floor
+  settles-whole right few = record {
     known = whole.known;
     out = sent_or_out;
     right = right;
     plan = whole.document.plan;
     table = whole.document.table;
+    enough = enough-whole few;
   }
 
   pub serves-whole : (entries : Entries) → Serves mid entries floor → Serves last entries floor
@@ -279,6 +283,3 @@ module _ (first mid last : BookState) (before answers : List JobResult) (floor :
 
   pub gave-whole : (later : List JobResult) × (answers ≡ before ++ later) × IfSome p.cause (Explains last later)
   gave-whole = (whole.later, whole.gave, whole.cause)
-
-  pub enough-whole : length last.arrivals + length last.texts ≤ 12288 → 4 * rows_of first ≤ 1000000
-  enough-whole few = let marks = whole.document.marks in let bookmarks = whole.document.bookmarks in omega arith

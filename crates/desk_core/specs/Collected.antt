@@ -22,7 +22,8 @@ pub record IsReleased (old : BookState) (answer : JobResult) (fault : EvolveFaul
   pub gave_up : answer.outcome ≡ Err fault
   pub room : fault ≡ EvolveFault.NoRoom → StepExpects old answer.job
 
--- no row expects the job of an answer, which is told with its number and the present revision, and nothing changes
+-- no row expects the job of an answer, which is told with its number and the present revision, and
+-- nothing changes
 pub record IsStale (old new : BookState) (answer : JobResult) (number revision : ℕ) : Type 0 where
   pub unexpected : (need : Need) → is_job answer.job (expected old need) ≡ false
   pub job : number ≡ answer.job.number

@@ -10,8 +10,8 @@ use Rattle.desk_core.specs.Events.{core_of, after_event, issues}
 use Rattle.desk_core.specs.declared.issue.IssueFault.{IssueFault}
 use Rattle.desk_core.specs.declared.issue.IssueFault.TheVariants.{NumbersSpent, NoMemory}
 
--- the next job is that of this row, in which nothing stood; the row expects it, and no other row changes:
--- this is the event of the issue
+-- the next job is that of this row, in which nothing stood; the row expects it, and no other row
+-- changes: this is the event of the issue
 pub record IssuesFor (old new : BookState) (job : Job) (need : Need) : Type 0 where
   pub next : IsNextJob old need job
   pub empty : row_of old need ≡ Empty
@@ -21,8 +21,8 @@ pub record IssuesFor (old new : BookState) (job : Job) (need : Need) : Type 0 wh
   pub fewer : wanting_of new + 1 ≡ wanting_of old
   pub event : core_of new ≡ after_event (core_of old) (issues need job.place)
 
--- a job for what is to be computed next; none, and nothing changes, where nothing is, and then nothing is
--- pending unless a job is out
+-- a job for what is to be computed next; none, and nothing changes, where nothing is, and then nothing
+-- is pending unless a job is out
 abbrev pub IsIssued : BookState → BookState → Option Job → Type 0
 IsIssued old new None = IsNext old None × (new ≡ old) × (NothingOut new → pending_of new ≡ 0)
 IsIssued old new (Some job) = (need : Need) × IssuesFor old new job need

@@ -31,7 +31,8 @@ abbrev pub CancelsAny : Option Job → BookState → BookState → Type 0
 CancelsAny None old new = new ≡ old
 CancelsAny (Some job) old new = Cancels job.number old new
 
--- a job can be sent to a post of this floor: it is of the desk's table, and its number was given and isn't below the floor
+-- a job can be sent to a post of this floor: it is of the desk's table, and its number was given and isn't
+-- below the floor
 pub record CanBeSent (d : BookState) (floor : ℕ) (job : Job) : Type 0 where
   pub own : IsOf d.table job.place
   pub rises : floor ≤ job.number
@@ -46,7 +47,8 @@ pub record Fits (d : BookState) (entries : Entries) (floor : ℕ) (job : Option 
 abbrev pub ready : Job → Progress → Progress
 ready job progress = record { unsent = Ready job; cause = progress.cause }
 
--- where a settling is: what the desk knows, the floor of the post and the answers that it gave, and the progress
+-- where a settling is: what the desk knows, the floor of the post and the answers that it gave, and the
+-- progress
 pub record Stage : Type 0 where
   pub desk : BookState
   pub floor : ℕ
@@ -65,8 +67,8 @@ abbrev pub IsAccounted : BookState → Stage → Need → Job → Type 0
 IsAccounted first s need job =
     (expected first need ≡ Some job) ⊎ ((job_in s.progress.unsent ≡ Some job) ⊎ (job.number < s.floor))
 
--- a settling that began with this desk, when its post had given these answers, has come so far: what was known is so
--- still, the document is the same, and the answers since then explain the cause
+-- a settling that began with this desk, when its post had given these answers, has come so far: what was
+-- known is so still, the document is the same, and the answers since then explain the cause
 pub record HasCome (first : BookState) (before : List JobResult) (s : Stage) : Type 0 where
   pub known : KeepsKnown first s.desk
   pub document : SameDocument first s.desk
@@ -81,8 +83,10 @@ pub record GoesOn (s t : Stage) : Type 0 where
   pub comes : (first : BookState) (before : List JobResult) → HasCome first before s → HasCome first before t
 
 -- so it goes on over a post, seen by its floor and the answers that it gave
-abbrev pub GoesOnOver : {P : Type 0} → (P → ℕ) → (P → List JobResult) → P → P → BookState → BookState → Progress → Progress → Type 0
-GoesOnOver floor answers p q d e before after = GoesOn (over floor answers p d before) (over floor answers q e after)
+abbrev pub GoesOnOver : {P : Type 0} → (P → ℕ) → (P → List JobResult) → P → P
+    → BookState → BookState → Progress → Progress → Type 0
+GoesOnOver floor answers p q d e before after =
+    GoesOn (over floor answers p d before) (over floor answers q e after)
 
 -- so it goes on over any post that fits, which does nothing meanwhile
 abbrev pub GoesOnBy : BookState → BookState → Progress → Progress → Type 0
@@ -93,20 +97,29 @@ GoesOnBy d e before after =
 -- so it goes on over any post that gives an answer meanwhile
 abbrev pub GoesOnWith : JobResult → BookState → BookState → Progress → Progress → Type 0
 GoesOnWith answer d e before after =
-    (floor : ℕ) (answers : List JobResult) → GoesOn (stage d floor answers before) (stage e floor (answers ++ answer ∷ []) after)
+    (floor : ℕ) (answers : List JobResult)
+    → GoesOn (stage d floor answers before) (stage e floor (answers ++ answer ∷ []) after)
 
 -- what isn't sent yet fits every post still that it fitted
 abbrev pub StaysFit : BookState → BookState → Progress → Progress → Type 0
 StaysFit d e before after =
-    (table : Entries) (floor : ℕ) → Fits d table floor (job_in before.unsent) → Fits e table floor (job_in after.unsent)
+    (table : Entries) (floor : ℕ)
+    → Fits d table floor (job_in before.unsent) → Fits e table floor (job_in after.unsent)
 
 -- each job that is out isn't sent yet or is held by the post
 abbrev pub IsAtHand : Option Job → Option Job → BookState → Type 0
-IsAtHand unsent held d = (need : Need) (job : Job) → expected d need ≡ Some job → (unsent ≡ Some job) ⊎ (held ≡ Some job)
+IsAtHand unsent held d =
+    (need : Need) (job : Job) → expected d need ≡ Some job → (unsent ≡ Some job) ⊎ (held ≡ Some job)
 
 -- whatever is held, what is out stays at hand
 abbrev pub StaysAtHand : BookState → BookState → Progress → Progress → Type 0
-StaysAtHand d e before after = (held : Option Job) → IsAtHand (job_in before.unsent) held d → IsAtHand (job_in after.unsent) held e
+StaysAtHand d e before after =
+    (held : Option Job) → IsAtHand (job_in before.unsent) held d → IsAtHand (job_in after.unsent) held e
+
+-- the job that was held is answered: what is out afterwards isn't sent yet
+abbrev pub GivesBack : Job → BookState → BookState → Progress → Progress → Type 0
+GivesBack job d e before after =
+    IsAtHand (job_in before.unsent) (Some job) d → IsAtHand (job_in after.unsent) None e
 
 -- how many turns what isn't sent yet and what is held take at most
 abbrev pub turns_for : Unsent → Option Job → ℕ
@@ -116,7 +129,8 @@ turns_for (Ready job) None = 2
 turns_for (Ready job) (Some held) = 4
 turns_for (Waiting job) held = 3
 
--- a moment of a settling over a prompt post: what the desk knows, what isn't sent yet and what the post holds
+-- a moment of a settling over a prompt post: what the desk knows, what isn't sent yet and what the post
+-- holds
 pub record Moment : Type 0 where
   pub desk : BookState
   pub unsent : Unsent
@@ -136,7 +150,8 @@ turns_from m = 3 * wanting_of m.desk + turns_for m.unsent m.held
 -- whatever is held, no more turns are taken from there unless there is a cause
 abbrev pub TakesNoMore : BookState → BookState → Progress → Progress → Type 0
 TakesNoMore d e before after =
-    (held : Option Job) → after.cause ≡ None → turns_from (moment e after.unsent held) ≤ turns_from (moment d before.unsent held)
+    (held : Option Job) → after.cause ≡ None
+    → turns_from (moment e after.unsent held) ≤ turns_from (moment d before.unsent held)
 
 -- where none is left to send and there is no cause, nothing is pending unless a job is out
 abbrev pub SeesAll : BookState → Progress → Type 0
@@ -146,23 +161,30 @@ SeesAll d progress = progress.unsent ≡ Nothing → progress.cause ≡ None →
 abbrev pub IsDone : BookState → Type 0
 IsDone d = (pending_of d ≡ 0) ⊎ (NothingOut d × (wanting_of d ≡ 0))
 
--- a turn brings a settling nearer to its end; where it ends, nothing is left to send and nothing pending
+-- a turn brings a settling nearer to its end; where it ends, nothing is left to send and nothing is
+-- pending
 abbrev pub Nears : Moment → Moment → ControlFlow Unit Unit → Type 0
 Nears before after (Continue _) = turns_from after < turns_from before
 Nears before after (Break _) = (after.unsent ≡ Nothing) × (pending_of after.desk ≡ 0)
 
--- what is out stays at hand, and the turn brings the settling nearer to its end unless there is a cause
-pub record Advances (before after : Moment) (cause : Option Cause) (next : ControlFlow Unit Unit) : Type 0 where
+-- what is out stays at hand, and the turn brings the settling nearer to its end unless there is a
+-- cause
+pub record Advances (before after : Moment) (cause : Option Cause) (next : ControlFlow Unit Unit)
+    : Type 0 where
   pub out : AllAtHand before → AllAtHand after
   pub nears : AllAtHand before → cause ≡ None → Nears before after next
 
 -- so it is over a prompt post, seen by what it holds
-abbrev pub AdvancesOver : {P : Type 0} → (P → Bool) → (P → Option Job) → P → P → BookState → BookState → Progress → Progress → ControlFlow Unit Unit → Type 0
-AdvancesOver is_prompt held p q d e before after next =
-    is_prompt p ≡ true → Advances (moment d before.unsent (held p)) (moment e after.unsent (held q)) after.cause next
+abbrev pub NearsOver : {P : Type 0} → (P → Bool) → (P → Option Job) → P → P
+    → BookState → BookState → Progress → Progress → ControlFlow Unit Unit → Type 0
+NearsOver is_prompt held p q d e before after next =
+    is_prompt p ≡ true
+    → Advances (moment d before.unsent (held p)) (moment e after.unsent (held q)) after.cause next
 
--- what the post held was answered: what is out isn't sent yet, and unless there is a cause as many rows want a job
-pub record Receives (before after : Moment) (cause : Option Cause) (next : ControlFlow Unit Unit) : Type 0 where
+-- what the post held was answered: what is out isn't sent yet, and unless there is a cause as many rows
+-- want a job
+pub record Receives (before after : Moment) (cause : Option Cause) (next : ControlFlow Unit Unit)
+    : Type 0 where
   pub out : AllAtHand before → AllAtHand after
   pub nothing_held : after.held ≡ None
   pub goes_on : next ≡ Continue tt
@@ -170,15 +192,17 @@ pub record Receives (before after : Moment) (cause : Option Cause) (next : Contr
   pub wanting : cause ≡ None → wanting_of after.desk ≡ wanting_of before.desk
 
 -- so it is over a prompt post, seen by what it holds
-abbrev pub ReceivesOver : {P : Type 0} → (P → Bool) → (P → Option Job) → P → P → BookState → BookState → Progress → Progress → ControlFlow Unit Unit → Type 0
+abbrev pub ReceivesOver : {P : Type 0} → (P → Bool) → (P → Option Job) → P → P
+    → BookState → BookState → Progress → Progress → ControlFlow Unit Unit → Type 0
 ReceivesOver is_prompt held p q d e before after next =
-    is_prompt p ≡ true → Receives (moment d before.unsent (held p)) (moment e after.unsent (held q)) after.cause next
+    is_prompt p ≡ true
+    → Receives (moment d before.unsent (held p)) (moment e after.unsent (held q)) after.cause next
 
 -- where a settling ends without a cause, nothing is left to send and every bookmark current
 abbrev pub IsDoneBy : BookState → Progress → Type 0
 IsDoneBy d progress = progress.cause ≡ None → (progress.unsent ≡ Nothing) × IsDone d
 
 -- what a run over a prompt post leaves: what is out isn't sent yet or is held, and enough turns settle
-pub record RunsOut (held : Option Job) (old new : BookState) (turns : ℕ) (progress : Progress) : Type 0 where
+pub record Runs (held : Option Job) (old new : BookState) (turns : ℕ) (progress : Progress) : Type 0 where
   pub out : IsAtHand (job_in progress.unsent) held new
   pub done : 4 * rows_of old ≤ turns → IsDoneBy new progress

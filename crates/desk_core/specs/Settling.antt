@@ -1,5 +1,5 @@
 -- How settling ends, and what it leaves.
-use Rattle.std.specs.Prelude.{◌≡◌, ◌⊎◌, ℕ, ◌+◌, ◌<◌, ◌≤◌, true, List, length, Option, Some, IsSome, IfSome, Err, ⊤}
+use Rattle.std.specs.Prelude.{◌≡◌, ◌⊎◌, ℕ, ◌+◌, ◌*◌, ◌<◌, ◌≤◌, true, List, length, Option, Some, IsSome, IfSome, Err, ⊤, Bool, ◌++◌}
 use Rattle.std.specs.List.{Any}
 use Rattle.step_engine.specs.declared.evolved.EvolveFault.{EvolveFault}
 use Rattle.revision_jobs.specs.declared.answer.Job.{Job}
@@ -29,19 +29,26 @@ pub record WantsStep (d : BookState) : Type 0 where
   pub is : is_mark d.plan mark ≡ true
   pub nothing : row_of d (Step mark) ≡ Empty
 
--- a cause is that of an answer that was given, for want of room to a step that is wanting, or of an issue that was
--- refused: every number was given, or else memory was wanted
+-- a cause is that of an answer that was given, for want of room to a step that is wanting, or of an issue
+-- that was refused: every number was given, or else memory was wanted
 abbrev pub Explains : BookState → List JobResult → Cause → Type 0
 Explains d answers NoMemory = GaveUp answers EvolveFault.NoMemory ⊎ (d.given < 16777216)
 Explains d answers NoRoom = GaveUp answers EvolveFault.NoRoom × WantsStep d
 Explains d answers Stopped = GaveUp answers EvolveFault.Stopped
 Explains d answers NumbersSpent = 16777216 ≤ d.given
 
--- settling over these answers ends with every bookmark current, or with so many pending, for its cause if one is told
+-- settling over these answers ends with every bookmark current, or with so many pending, for its cause if
+-- one is told
 abbrev pub Ends : BookState → List JobResult → Settling → Type 0
 Ends d answers Settled = pending_of d ≡ 0
 Ends d answers (Unsettled pending cause) =
-    (pending ≡ pending_of d) × (0 < pending) × (pending ≤ length d.plan.bookmarks) × IfSome cause (Explains d answers)
+    (pending ≡ pending_of d) × (0 < pending) × (pending ≤ length d.plan.bookmarks)
+    × IfSome cause (Explains d answers)
+
+-- so it ends over the answers that a post gave meanwhile
+abbrev pub EndsOver : {P : Type 0} → (P → List JobResult) → P → P → BookState → Settling → Type 0
+EndsOver answers p q d ending =
+    (later : List JobResult) × (answers q ≡ answers p ++ later) × Ends d later ending
 
 -- if it ends with some pending, a cause is told
 abbrev pub HasCause : Settling → Type 0
@@ -57,24 +64,32 @@ pub record Serves (d : BookState) (entries : Entries) (floor : ℕ) : Type 0 whe
 abbrev pub IsHeld : Option Job → BookState → Type 0
 IsHeld held d = (need : Need) (job : Job) → expected d need ≡ Some job → held ≡ Some job
 
+-- this is so where a post is prompt and holds whatever is out
+abbrev pub IfPrompt : {P : Type 0} → (P → Bool) → (P → Option Job) → P → BookState → Type 0 → Type 0
+IfPrompt is_prompt held p d fact = is_prompt p ≡ true → IsHeld (held p) d → fact
+
 -- how many marks and bookmarks a document has
 abbrev pub rows_of : BookState → ℕ
 rows_of d = 1 + (length d.arrivals + length d.texts)
 
 -- each row whose value was known has it still
 abbrev pub KeepsKnown : BookState → BookState → Type 0
-KeepsKnown old new = (need : Need) (value : Value) → row_of old need ≡ Known value → row_of new need ≡ Known value
+KeepsKnown old new =
+    (need : Need) (value : Value) → row_of old need ≡ Known value → row_of new need ≡ Known value
 
 -- each job that is out was so before, or was sent: the floor of the post is above its number
 abbrev pub OutOrSent : BookState → BookState → ℕ → Type 0
 OutOrSent old new floor =
-    (need : Need) (job : Job) → expected new need ≡ Some job → (expected old need ≡ Some job) ⊎ (job.number < floor)
+    (need : Need) (job : Job) → expected new need ≡ Some job
+    → (expected old need ≡ Some job) ⊎ (job.number < floor)
 
--- after settling over a post of this floor what was known is so still, what is out was so before or was sent, all
--- is right, and the document and the table are the same
+-- after settling over a post of this floor what was known is so still, what is out was so before or was
+-- sent, all is right, and the document and the table are the same; no document has more rows than
+-- 1,000,000 turns are enough for
 pub record Settles (old new : BookState) (floor : ℕ) : Type 0 where
   pub known : KeepsKnown old new
   pub out : OutOrSent old new floor
   pub right : IsRight new
   pub plan : new.plan ≡ old.plan
   pub table : new.table ≡ old.table
+  pub enough : 4 * rows_of old ≤ 1000000

@@ -1,11 +1,11 @@
 //! The desk.
-ghost use Rattle.std.specs.Prelude.{◌≡◌, ◌⊎◌, ◌≤◌, ◌+◌, IfOk, IfErr, IfSome, OnErr, length};
+ghost use Rattle.std.specs.Prelude.{◌≡◌, ◌≤◌, ◌+◌, IfOk, IfErr, IfSome, OnErr, length};
 ghost use Rattle.schedule.specs.Asked.{asked_of};
-ghost use Rattle.schedule.specs.Change.{change, refusal};
+ghost use Rattle.schedule.specs.Change.{refusal};
 ghost use Rattle.dependency_book.specs.BookState.{opened, pending_of, wanting_of, NothingOut};
 ghost use Rattle.dependency_book.specs.Right.{IsRight};
 ghost use Rattle.dependency_book.specs.Shown.{Shows};
-ghost use Rattle.desk_core.specs.Edited.{Makes};
+ghost use Rattle.desk_core.specs.Edited.{Makes, Refuses};
 
 use dependency_book::{Book, Shown};
 use revision_jobs::Entries;
@@ -60,8 +60,7 @@ impl<'e> Desk<'e> {
     /// refuses it and changes nothing.
     pub fn edit(&mut self, edit: &Edit) -> Result<Edited, EditFault>
         ensures ok { IfOk result (Makes (asked_of edit.now) self.old self.new) }
-        ensures refused { IfErr result (λ fault.
-            (fault ≡ EditFault.NoMemory) ⊎ (change self.old.plan (asked_of edit.now) ≡ Err fault)) }
+        ensures refused { IfErr result (Refuses (asked_of edit.now) self.old) }
         ensures first { IfSome (refusal self.old.plan (asked_of edit.now))
             (λ fault. result ≡ Err fault) }
         ensures unchanged { OnErr result (self.new ≡ self.old) }

@@ -1,7 +1,7 @@
 //! Feeding a post with jobs.
-ghost use Rattle.std.specs.Prelude.{◌≡◌, true};
+ghost use Rattle.std.specs.Prelude.{◌≡◌};
 ghost use Rattle.desk_core.specs.Feed.{Feeds};
-ghost use Rattle.desk_core.specs.Settling.{IsHeld, Serves};
+ghost use Rattle.desk_core.specs.Settling.{IfPrompt, IsHeld, Serves};
 
 use crate::desk::Desk;
 use revision_jobs::{Post, Sent};
@@ -16,8 +16,8 @@ pub fn feed<P: Post>(rt: &impl Wait, desk: &mut Desk<'_>, post: &mut P) -> u32
     ensures post { Serves desk.new (P.table post.new) (P.floor post.new)
         × (P.is_prompt post.new ≡ P.is_prompt post.old) }
     ensures silent { P.answers post.new ≡ P.answers post.old }
-    ensures prompt { P.is_prompt post.old ≡ true → IsHeld (P.held post.old) desk.old →
-        IsHeld (P.held post.new) desk.new }
+    ensures held { IfPrompt P.is_prompt P.held post.old desk.old
+        (IsHeld (P.held post.new) desk.new) }
 {
     let mut taken = 0;
     while let Ok(Some(job)) = desk.issue(rt) {

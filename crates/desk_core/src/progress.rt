@@ -2,10 +2,10 @@
 ghost use Rattle.std.specs.Prelude.{◌≡◌, None, Some, true};
 ghost use Rattle.revision_jobs.specs.Entries.{IsOf};
 ghost use Rattle.dependency_book.specs.BookState.{wanting_of};
-ghost use Rattle.desk_core.specs.Progress.{AdvancesOver, Fits, GoesOnBy, GoesOnOver, GoesOnWith};
-ghost use Rattle.desk_core.specs.Progress.{HasCome, IsAtHand, ReceivesOver, RunsOut, SeesAll};
+ghost use Rattle.desk_core.specs.Progress.{Fits, GivesBack, GoesOnBy, GoesOnOver, GoesOnWith};
+ghost use Rattle.desk_core.specs.Progress.{HasCome, NearsOver, ReceivesOver, Runs, SeesAll};
 ghost use Rattle.desk_core.specs.Progress.{StaysAtHand, StaysFit, TakesNoMore, job_in, over, ready};
-ghost use Rattle.desk_core.specs.Settling.{IsHeld};
+ghost use Rattle.desk_core.specs.Settling.{IfPrompt};
 
 use crate::cause::Cause;
 use crate::collect::Collected;
@@ -37,8 +37,8 @@ impl Progress {
         ensures comes { HasCome desk.old (P.answers post.old)
             (over P.floor P.answers post.new desk.new result) }
         ensures kind { P.is_prompt post.new ≡ P.is_prompt post.old }
-        ensures prompt { P.is_prompt post.old ≡ true → IsHeld (P.held post.old) desk.old →
-            RunsOut (P.held post.new) desk.old desk.new turns result }
+        ensures prompt { IfPrompt P.is_prompt P.held post.old desk.old
+            (Runs (P.held post.new) desk.old desk.new turns result) }
     {
         let mut progress = Progress {
             unsent: Unsent::Nothing,
@@ -66,7 +66,7 @@ impl Progress {
         ensures goes { GoesOnOver P.floor P.answers post.old post.new
             desk.old desk.new self.old self.new }
         ensures kind { P.is_prompt post.new ≡ P.is_prompt post.old }
-        ensures prompt { AdvancesOver P.is_prompt P.held post.old post.new
+        ensures prompt { NearsOver P.is_prompt P.held post.old post.new
             desk.old desk.new self.old self.new result }
     {
         self.issue(rt, desk);
@@ -110,7 +110,7 @@ impl Progress {
         ensures goes { GoesOnOver P.floor P.answers post.old post.new
             desk.old desk.new (ready job self.old) self.new }
         ensures kind { P.is_prompt post.new ≡ P.is_prompt post.old }
-        ensures prompt { AdvancesOver P.is_prompt P.held post.old post.new
+        ensures prompt { NearsOver P.is_prompt P.held post.old post.new
             desk.old desk.new (ready job self.old) self.new result }
     {
         match post.send(job) {
@@ -152,8 +152,7 @@ impl Progress {
         requires { IsOf desk.old.table answer.job.place }
         ensures goes { GoesOnWith answer desk.old desk.new self.old self.new }
         ensures fits { StaysFit desk.old desk.new self.old self.new }
-        ensures out { IsAtHand (job_in self.old.unsent) (Some answer.job) desk.old
-            → IsAtHand (job_in self.new.unsent) None desk.new }
+        ensures out { GivesBack answer.job desk.old desk.new self.old self.new }
         ensures same { self.new.cause ≡ None → self.new.unsent ≡ self.old.unsent }
         ensures wanting { self.new.cause ≡ None → wanting_of desk.new ≡ wanting_of desk.old }
     {

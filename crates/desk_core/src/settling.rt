@@ -1,7 +1,6 @@
 //! Settling: issuing, sending and collecting until every bookmark is current.
-ghost use Rattle.std.specs.Prelude.{◌≡◌, ◌≤◌, ◌*◌, ◌++◌, List, true};
-ghost use Rattle.revision_jobs.specs.Answer.{JobResult};
-ghost use Rattle.desk_core.specs.Settling.{Ends, HasCause, IsHeld, Serves, Settles, rows_of};
+ghost use Rattle.std.specs.Prelude.{◌≡◌, ◌≤◌, ◌*◌};
+ghost use Rattle.desk_core.specs.Settling.{EndsOver, HasCause, IfPrompt, IsHeld, Serves, Settles, rows_of};
 
 use crate::cause::Cause;
 use crate::desk::Desk;
@@ -28,14 +27,14 @@ pub enum Settling {
 /// enough: it settles, or tells a cause. So are 1,000,000. It may wait where the post does.
 pub fn settle<P: Post>(rt: &impl Wait, desk: &mut Desk<'_>, post: &mut P, turns: u32) -> Settling
     requires { Serves desk.old (P.table post.old) (P.floor post.old) }
-    ensures ends { (later : List JobResult) × (P.answers post.new ≡ P.answers post.old ++ later)
-        × Ends desk.new later result }
+    ensures ends { EndsOver P.answers post.old post.new desk.new result }
     ensures settles { Settles desk.old desk.new (P.floor post.new) }
     ensures post { Serves desk.new (P.table post.new) (P.floor post.new)
         × (P.is_prompt post.new ≡ P.is_prompt post.old) }
-    ensures prompt { P.is_prompt post.old ≡ true → IsHeld (P.held post.old) desk.old →
-        IsHeld (P.held post.new) desk.new × (4 * rows_of desk.old ≤ turns → HasCause result) }
-    ensures enough { 4 * rows_of desk.old ≤ 1000000 }
+    ensures held { IfPrompt P.is_prompt P.held post.old desk.old
+        (IsHeld (P.held post.new) desk.new) }
+    ensures caused { IfPrompt P.is_prompt P.held post.old desk.old
+        (4 * rows_of desk.old ≤ turns → HasCause result) }
 {
     let Progress { unsent, cause } = Progress::run(rt, desk, post, turns);
     unsent.cancel(desk);

@@ -1,5 +1,5 @@
 -- What is out after jobs were dropped.
-use Rattle.std.proofs.Common.{◌≡◌, ◌≢◌, inl, inr, ℕ, ◌-◌, ◌^◌, ◌<◌, ◌≤◌, Bool, true, false, cond, List, Option, None, Some, IfSome, ◌==◌, ◌&&◌, sym, ap, refl, subst, ◌∙◌, arith}
+use Rattle.std.proofs.Common.{◌≡◌, ◌≢◌, inl, inr, ℕ, ◌-◌, ◌^◌, ◌<◌, ◌≤◌, Bool, true, false, cond, List, Option, None, Some, IfSome, IfNone, IsSome, ◌==◌, ◌&&◌, sym, ap, refl, subst, ◌∙◌, arith}
 use Rattle.std.proofs.lemmas.Bool.Decides.{nat_tests}
 use Rattle.worlds.specs.World.{World}
 use Rattle.schedule.specs.Plan.{Plan, opening}
@@ -158,14 +158,19 @@ pub causes_kept : (old new : BookState) (answers : List JobResult) (cause : Opti
 causes_kept old new answers None keeps h = tt
 causes_kept old new answers (Some cause) keeps h = keeps answers cause h
 
+-- a cause that is told
+pub none_untold : (cause : Option Cause) (fact : Type 0) → IsSome cause → IfNone cause fact
+none_untold None fact some = absurd (cc)
+none_untold (Some cause) fact some = tt
+
 -- a settling leaves a post that carries on
-pub carries_settled : {P : Type 0} (table : P → Entries) (floor : P → ℕ) (is_prompt : P → Bool) (held : P → Option Job) (first last : P) (old new : BookState) (more : Type 0) → Carries table floor is_prompt held first old
-    → Serves new (table last) (floor last) → is_prompt last ≡ is_prompt first → (is_prompt first ≡ true → IsHeld (held first) old → IsHeld (held last) new × more) → CarriesOn table floor is_prompt held first last new
-carries_settled table floor is_prompt held first last old new more c serves kind prompt = record {
+pub carries_settled : {P : Type 0} (table : P → Entries) (floor : P → ℕ) (is_prompt : P → Bool) (held : P → Option Job) (first last : P) (old new : BookState) → Carries table floor is_prompt held first old
+    → Serves new (table last) (floor last) → is_prompt last ≡ is_prompt first → (is_prompt first ≡ true → IsHeld (held first) old → IsHeld (held last) new) → CarriesOn table floor is_prompt held first last new
+carries_settled table floor is_prompt held first last old new c serves kind prompt = record {
   kind = kind;
   carries = record {
     serves = serves;
-    out = λ e. (prompt (sym kind ∙ e) (c.out (sym kind ∙ e))).0;
+    out = λ e. prompt (sym kind ∙ e) (c.out (sym kind ∙ e));
   };
 }
 

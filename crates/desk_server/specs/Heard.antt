@@ -18,8 +18,6 @@ use Rattle.desk_server.specs.declared.reply.Reply.{Reply}
 use Rattle.desk_server.specs.declared.command.Command.{Command}
 use Rattle.desk_server.specs.declared.request.Request.{Request}
 use Rattle.desk_server.specs.declared.request.Request.TheVariants as request
-use Rattle.desk_server.specs.declared.heard.Meaning.{Meaning}
-use Rattle.desk_server.specs.declared.heard.Meaning.TheVariants as meaning
 
 -- whatever line has this command, it can be out of memory
 abbrev pub LineCanLackMemory : Option Command → Type 0
@@ -36,12 +34,6 @@ AsksFor request.NoMemory ask = CanLackMemory ask
 abbrev pub AsksIfAny : Option Request → List Ask → Type 0
 AsksIfAny None asked = asked ≡ []
 AsksIfAny (Some r) asked = (ask : Ask) × (asked ≡ ask ∷ []) × AsksFor r ask
-
--- what line n means that says this
-abbrev pub Means : ℕ → Meaning → List ℕ → Type 0
-Means n meaning.Nothing says = is_passed_over says ≡ true
-Means n (meaning.Asks r) says = (is_passed_over says ≡ false) × (format_of says ≡ None) × AsksFor r (asked_by n (command_of says))
-Means n (meaning.OpensText format) says = (is_passed_over says ≡ false) × (format_of says ≡ Some format)
 
 -- bytes were taken that ask for `asked` from this place on, whatever may follow them; they begin on line n, and what follows begins on line m
 pub record Hears (old new : Ahead) (place : Place) (heard : Option Request) (last : Bool) (n m : ℕ) : Type 0 where

@@ -1,11 +1,10 @@
 //! The next thing that a script asks.
-ghost use Rattle.std.specs.Prelude.{◌≡◌, ◌+◌, ◌<◌, ◌≤◌, ℕ, List, [], IfOk, OnOk, OnErr, false};
+ghost use Rattle.std.specs.Prelude.{◌≡◌, ◌+◌, ◌<◌, ◌≤◌, [], IfOk, OnOk, OnErr, false};
 ghost use Rattle.script_lines.specs.Ahead.{Ahead};
-ghost use Rattle.script_lines.specs.KeptLine.{Says};
 ghost use Rattle.script_lines.specs.Script.{LineTaken};
-ghost use Rattle.desk_server.specs.Command.{command_of, format_of};
+ghost use Rattle.desk_server.specs.Command.{command_of};
 ghost use Rattle.desk_server.specs.Script.{Between, InText, asked_by};
-ghost use Rattle.desk_server.specs.Heard.{AsksFor, Means, Hears, BreaksOff, ReadFails};
+ghost use Rattle.desk_server.specs.Heard.{AsksFor, Hears, BreaksOff, ReadFails};
 
 use crate::command::read_command;
 use crate::fault::ScriptFault;
@@ -15,17 +14,6 @@ use script_lines::{CountedReader, Failed, Found, KeptLine, TextFound};
 use std::alloc::Global;
 use std::io::Read;
 use std::sync::ledger::Ledger;
-
-/// What a line means.
-#[derive(Drop)]
-pub enum Meaning {
-    /// It is passed over.
-    Nothing,
-    /// It asks this.
-    Asks(Request),
-    /// A text of this format follows.
-    OpensText(Format),
-}
 
 /// What was heard, if anything was asked, and whether nothing follows.
 #[derive(Drop)]
@@ -42,22 +30,6 @@ fn read_request(alloc: Global, words: &[u8], number: u64) -> Request
         Ok(Some(command)) => Request::Obey(command),
         Ok(None) => Request::Refuse(ScriptFault::BadCommand(number)),
         Err(_) => Request::NoMemory,
-    }
-}
-
-// What a line of this number means.
-fn meaning_of(alloc: Global, line: &KeptLine, number: u64) -> Meaning
-    ensures { (says : List ℕ) → Says line.now says → Means number result says }
-{
-    if line.is_passed_over() {
-        return Meaning::Nothing;
-    }
-    let Some(words) = line.words() else {
-        return Meaning::Asks(Request::NoMemory);
-    };
-    match read_format(words) {
-        Some(format) => Meaning::OpensText(format),
-        None => Meaning::Asks(read_request(alloc, words, number)),
     }
 }
 
@@ -108,25 +80,32 @@ fn listen_line<R: Read, L: Ledger>(
     ensures failed { OnErr result (ReadFails R.remaining reader.old reader.new) }
 {
     let number = reader.line_number();
-    match meaning_of(alloc, line, number) {
-        Meaning::Nothing => Ok(Heard {
+    if line.is_passed_over() {
+        return Ok(Heard {
             request: None,
             last,
-        }),
-        Meaning::Asks(request) => Ok(Heard {
+        });
+    }
+    let Some(words) = line.words() else {
+        return Ok(Heard {
+            request: Some(Request::NoMemory),
+            last,
+        });
+    };
+    let Some(format) = read_format(words) else {
+        let request = read_request(alloc, words, number);
+        return Ok(Heard {
             request: Some(request),
             last,
-        }),
-        Meaning::OpensText(format) => {
-            if last {
-                return Ok(Heard {
-                    request: Some(Request::Refuse(ScriptFault::NoEnd(number))),
-                    last,
-                });
-            }
-            listen_text(alloc, reader, line, format)
-        }
+        });
+    };
+    if last {
+        return Ok(Heard {
+            request: Some(Request::Refuse(ScriptFault::NoEnd(number))),
+            last,
+        });
     }
+    listen_text(alloc, reader, line, format)
 }
 
 /// What stands on the next line, with its text. At the end of the script nothing is asked.

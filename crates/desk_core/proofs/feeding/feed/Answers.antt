@@ -27,8 +27,8 @@ returns-in_default-send-clause-feeds g c =
     Feeds-refused c.args.desk.now c.loop-job.desk c.issue.new.self c.cancel.new.self issued.0 c.in-Ok-Some.job (g.P.Post.floor c.args.post.now) (g.P.Post.floor c.loop-job.post) (g.P.Post.floor c.send.new.self) c.loop-job.taken c.send.result
     issued.1 c.issue.ensures.right cancels c.in_default-send.not-Taken c.send.ensures.sent c.cancel.ensures.right c.loop-job.invariant.fed
 
-pub returns-in_default-send-clause-prompt : goal.returns-in_default-send-clause-prompt
-returns-in_default-send-clause-prompt g c = λ prompt held.
+pub returns-in_default-send-clause-held : goal.returns-in_default-send-clause-held
+returns-in_default-send-clause-held g c = λ prompt held.
     let issued = rw c.in-Ok-Some.field-0-is at c.in-Ok-Some.ensures.issued in
     let cancels : Cancels c.in-Ok-Some.job.number c.issue.new.self c.cancel.new.self = record { rows = c.cancel.ensures.rows; book = c.cancel.ensures.book } in
     IsHeld-undone c.loop-job.desk c.issue.new.self c.cancel.new.self issued.0 c.in-Ok-Some.job (g.P.Post.held c.loop-job.post) (g.P.Post.held c.send.new.self) c.send.result

@@ -1,6 +1,6 @@
 use Rattle.std.proofs.Common.{◌<◌, rules}
 use Rattle.desk_core.specs.Progress.{job_in}
-use Rattle.desk_core.proofs.Steps.{IsHeld-given_up, enough-whole, gave-whole, serves-whole, settles-whole}
+use Rattle.desk_core.proofs.Steps.{IsHeld-given_up, gave-whole, serves-whole, settles-whole}
 use Rattle.desk_core.proofs.Turns.{cause-left}
 use Rattle.desk_core.proofs.settling.settle.Goals as goal
 
@@ -13,7 +13,7 @@ returns-in-0-clause-ends g c =
 pub returns-in-0-clause-settles : goal.returns-in-0-clause-settles
 returns-in-0-clause-settles g c =
     let run = c.run-unsent in
-    settles-whole c.args.desk.now run.new.desk c.cancel.new.desk (g.P.Post.answers c.args.post.now) (g.P.Post.answers run.new.post) (g.P.Post.floor run.new.post) run.result run.ensures.comes c.cancel.ensures c.pending.ensures.right
+    settles-whole c.args.desk.now run.new.desk c.cancel.new.desk (g.P.Post.answers c.args.post.now) (g.P.Post.answers run.new.post) (g.P.Post.floor run.new.post) run.result run.ensures.comes c.cancel.ensures c.pending.ensures.right c.pending.ensures.few
 
 pub returns-in-0-clause-post : goal.returns-in-0-clause-post
 returns-in-0-clause-post g c =
@@ -22,17 +22,10 @@ returns-in-0-clause-post g c =
       run.ensures.kind,
     )
 
-pub returns-in-0-clause-prompt : goal.returns-in-0-clause-prompt
-returns-in-0-clause-prompt g c = λ prompt held.
-    let run = c.run-unsent in (
-      IsHeld-given_up (job_in run.result.unsent) (g.P.Post.held run.new.post) run.new.desk c.cancel.new.desk c.cancel.ensures ((run.ensures.prompt prompt held).out),
-      λ enough. tt,
-    )
-
-pub returns-in-0-clause-enough : goal.returns-in-0-clause-enough
-returns-in-0-clause-enough g c =
+pub returns-in-0-clause-held : goal.returns-in-0-clause-held
+returns-in-0-clause-held g c = λ prompt held.
     let run = c.run-unsent in
-    enough-whole c.args.desk.now run.new.desk c.cancel.new.desk (g.P.Post.answers c.args.post.now) (g.P.Post.answers run.new.post) (g.P.Post.floor run.new.post) run.result run.ensures.comes c.cancel.ensures c.pending.ensures.few
+    IsHeld-given_up (job_in run.result.unsent) (g.P.Post.held run.new.post) run.new.desk c.cancel.new.desk c.cancel.ensures ((run.ensures.prompt prompt held).out)
 
 pub returns-in_default-clause-ends : goal.returns-in_default-clause-ends
 returns-in_default-clause-ends g c =
@@ -44,7 +37,7 @@ returns-in_default-clause-ends g c =
 pub returns-in_default-clause-settles : goal.returns-in_default-clause-settles
 returns-in_default-clause-settles g c =
     let run = c.run-unsent in
-    settles-whole c.args.desk.now run.new.desk c.cancel.new.desk (g.P.Post.answers c.args.post.now) (g.P.Post.answers run.new.post) (g.P.Post.floor run.new.post) run.result run.ensures.comes c.cancel.ensures c.pending.ensures.right
+    settles-whole c.args.desk.now run.new.desk c.cancel.new.desk (g.P.Post.answers c.args.post.now) (g.P.Post.answers run.new.post) (g.P.Post.floor run.new.post) run.result run.ensures.comes c.cancel.ensures c.pending.ensures.right c.pending.ensures.few
 
 pub returns-in_default-clause-post : goal.returns-in_default-clause-post
 returns-in_default-clause-post g c =
@@ -53,16 +46,13 @@ returns-in_default-clause-post g c =
       run.ensures.kind,
     )
 
-pub returns-in_default-clause-prompt : goal.returns-in_default-clause-prompt
-returns-in_default-clause-prompt g c = λ prompt held.
-    let run = c.run-unsent in (
-      IsHeld-given_up (job_in run.result.unsent) (g.P.Post.held run.new.post) run.new.desk c.cancel.new.desk c.cancel.ensures ((run.ensures.prompt prompt held).out),
-      λ enough.
-          let some : 0 < c.pending.result = search rules in
-          cause-left run.new.desk c.cancel.new.desk run.result c.pending.result ((run.ensures.prompt prompt held).done enough) c.cancel.ensures c.pending.ensures.count c.pending.ensures.none some,
-    )
-
-pub returns-in_default-clause-enough : goal.returns-in_default-clause-enough
-returns-in_default-clause-enough g c =
+pub returns-in_default-clause-held : goal.returns-in_default-clause-held
+returns-in_default-clause-held g c = λ prompt held.
     let run = c.run-unsent in
-    enough-whole c.args.desk.now run.new.desk c.cancel.new.desk (g.P.Post.answers c.args.post.now) (g.P.Post.answers run.new.post) (g.P.Post.floor run.new.post) run.result run.ensures.comes c.cancel.ensures c.pending.ensures.few
+    IsHeld-given_up (job_in run.result.unsent) (g.P.Post.held run.new.post) run.new.desk c.cancel.new.desk c.cancel.ensures ((run.ensures.prompt prompt held).out)
+
+pub returns-in_default-clause-caused : goal.returns-in_default-clause-caused
+returns-in_default-clause-caused g c = λ prompt held enough.
+    let run = c.run-unsent in
+    let some : 0 < c.pending.result = search rules in
+    cause-left run.new.desk c.cancel.new.desk run.result c.pending.result ((run.ensures.prompt prompt held).done enough) c.cancel.ensures c.pending.ensures.count c.pending.ensures.none some
