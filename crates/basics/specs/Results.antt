@@ -12,7 +12,7 @@ abbrev pub Reads : {X A E : Type 0} → (X → A) → Result X E → Result A E 
 Reads view (Ok x) read = read ≡ Ok (view x)
 Reads view (Err e) read = read ≡ Err e
 
--- a call gave what the reading gives, unless memory was wanted, which is the fault `want`
+-- a call gave what the reading gives, unless memory ran out, which is the fault `want`
 abbrev pub GivesBy : {X A E : Type 0} → E → (X → A) → Result X E → Result A E → Type 0
 GivesBy want view (Ok x) read = read ≡ Ok (view x)
 GivesBy want view (Err e) read = (e ≡ want) ⊎ (read ≡ Err e)

@@ -27,6 +27,7 @@ pub count_lines-none : (w : World) (s : ℕ) → count_lines w s 0 ≡ []
 unfolding count_lines
 count_lines-none w s = refl
 
-pub count_lines-more : (w : World) (s n : ℕ) → count_lines w s (suc n) ≡ count_line s (count_of w s) ++ count_lines w (suc s) n
+pub count_lines-more : (w : World) (s n : ℕ)
+    → count_lines w s (suc n) ≡ count_line s (count_of w s) ++ count_lines w (suc s) n
 unfolding count_lines
 count_lines-more w s n = refl

@@ -10,7 +10,8 @@ use Rattle.bookmarks.specs.Window.{window_text}
 
 -- what a view of a world shows, under a rule of this name with so many states, at a generation
 abbrev pub text_of : View → World → List ℕ → ℕ → ℕ → List ℕ
-text_of (Window left top width height) w name states generation = window_text w left top width height
+text_of (Window left top width height) w name states generation =
+    window_text w left top width height
 text_of Counts w name states generation = counts_text w
 text_of Rle w name states generation = pattern_text w name generation states
 text_of Macrocell w name states generation = macrocell_text w name generation

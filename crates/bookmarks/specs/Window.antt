@@ -15,7 +15,8 @@ row_line w x y width = join_with_byte 32 (row_states w x y width) ++ codes "\n"
 
 -- the lines of the rows of a rectangle, from the top
 abbrev pub window_text : World → ℤ → ℤ → ℕ → ℕ → List ℕ
-window_text w left top width height = concat (map (λ k. row_line w left (top +ℤ pos k) width) (range_with_len 0 height))
+window_text w left top width height =
+    concat (map (λ k. row_line w left (top +ℤ pos k) width) (range_with_len 0 height))
 
 -- a state behind those of so many columns before it
 abbrev pub next_state : ℕ → ℕ → List ℕ

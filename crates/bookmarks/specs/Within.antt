@@ -5,7 +5,8 @@ use Rattle.bookmarks.specs.declared.view.View.TheVariants.{Window, Counts, Rle, 
 
 -- a window has 1 to 65,536 cells
 abbrev pub has_window_size : View → Bool
-has_window_size (Window left top width height) = nat_lt 0 width && nat_lt 0 height && nat_le (width * height) 65536
+has_window_size (Window left top width height) =
+    nat_lt 0 width && nat_lt 0 height && nat_le (width * height) 65536
 has_window_size Counts = true
 has_window_size Rle = true
 has_window_size Macrocell = true

@@ -1,4 +1,4 @@
--- The faults of a tree's head, of which none is a want of memory.
+-- The faults of a tree's head, of which none is 'out of memory'.
 use Rattle.std.proofs.Common.{ℕ, List, [], ◌∷◌, Option, Some, None, Result, Ok, arith}
 use Rattle.std.specs.Option.{option_map_or, ok_or}
 use Rattle.basics.specs.Results.{◌>>=◌}
@@ -10,7 +10,7 @@ use Rattle.decision_tree.specs.declared.descriptors.Descriptor.{Descriptor}
 use Rattle.decision_tree.specs.declared.descriptors.TreeHead.{TreeHead}
 use Rattle.decision_tree.specs.TreeLines.{Described, describe, descriptor_of, head_from, head_of}
 
--- a line that isn't what a tree has there is no want of memory
+-- a line that isn't what a tree has there isn't 'out of memory'
 some-none : {A B : Type 0} (o : Option A) (number : ℕ) (f : A → Result B RuleFault) → ((x : A) → WantsNone (f x)) → WantsNone (ok_or o (BadTree number) >>= f)
 some-none o number f rest h = grind (arith, rest)
 

@@ -13,10 +13,12 @@ nodes_in n (suc count) entries = take n entries ∷ nodes_in n count (drop n ent
 
 -- the tree of such nodes, of which the one of the number `root` is the last
 abbrev pub tree_of_kept : ℕ → Neighbors → ℕ → List ℕ → Tree
-tree_of_kept states neighbors root entries = record { states = states; neighbors = neighbors; nodes = nodes_in states (root + 1) entries }
+tree_of_kept states neighbors root entries =
+    record { states = states; neighbors = neighbors; nodes = nodes_in states (root + 1) entries }
 
 -- the tree of these entries is one that a file may have
-pub record IsKeptTree (states : ℕ) (neighbors : Neighbors) (root : ℕ) (entries : List ℕ) : Type 0 where
+pub record IsKeptTree (states : ℕ) (neighbors : Neighbors) (root : ℕ) (entries : List ℕ)
+    : Type 0 where
   pub at_least : least_states ≤ states
   pub at_most : states ≤ most_states
   pub filled : length entries ≡ (root + 1) * states
@@ -38,16 +40,21 @@ pub record IsTreeHead (head : TreeHead) : Type 0 where
 -- nodes of these depths, whose n entries each stand one after another
 abbrev pub nodes_of : ℕ → List ℕ → List ℕ → List Node
 nodes_of n [] entries = []
-nodes_of n (depth ∷ depths) entries = record { depth = depth; entries = take n entries } ∷ nodes_of n depths (drop n entries)
+nodes_of n (depth ∷ depths) entries =
+    record { depth = depth; entries = take n entries } ∷ nodes_of n depths (drop n entries)
 
 -- a number as it is kept until it is looked at: all from 2^32 - 1 on are alike
 abbrev pub saturated : ℕ → ℕ
 saturated n = min (2 ^ 32 - 1) n
 
--- nodes that lines may say: none is deeper than there are nodes, each leads to states through as many nodes as it is deep, and the last is as deep as the root
+-- nodes that lines may say: none is deeper than there are nodes, each leads to states through as
+-- many nodes as it is deep, and the last is as deep as the root
 pub record AreKept (head : TreeHead) (depths entries : List ℕ) : Type 0 where
   pub filled : length entries ≡ length depths * head.states
   pub few : length depths ≤ head.node_count
   pub low : EachIndex depths (λ k. slice_index depths k ≤ length depths)
-  pub leading : (number : ℕ) (inputs : List ℕ) → number < length depths → length inputs ≡ slice_index depths number → leads head.states (nodes_in head.states (length depths) entries) number inputs ≡ true
-  pub rooted : length depths ≡ head.node_count → slice_index depths (head.node_count - 1) ≡ depth_of_root head.neighbors
+  pub leading : (number : ℕ) (inputs : List ℕ) → number < length depths
+      → length inputs ≡ slice_index depths number
+      → leads head.states (nodes_in head.states (length depths) entries) number inputs ≡ true
+  pub rooted : length depths ≡ head.node_count
+      → slice_index depths (head.node_count - 1) ≡ depth_of_root head.neighbors

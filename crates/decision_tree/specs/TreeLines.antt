@@ -19,15 +19,25 @@ use Rattle.decision_tree.specs.Tree.{Entries, Tree, is_quiescent}
 
 -- the descriptor of this word
 abbrev pub descriptor_named : List ℕ → Option Descriptor
-descriptor_named word = if bytes_eq word (codes "num_states") then Some descriptor.States else (if bytes_eq word (codes "num_neighbors") then Some descriptor.Neighbors else (if bytes_eq word (codes "num_nodes") then Some descriptor.Nodes else None))
+descriptor_named word =
+    if bytes_eq word (codes "num_states") then Some descriptor.States
+        else
+            (if bytes_eq word (codes "num_neighbors") then Some descriptor.Neighbors
+                else (if bytes_eq word (codes "num_nodes") then Some descriptor.Nodes else None))
 
 -- a descriptor and its value, which an equals sign parts, if the line is one
 abbrev pub descriptor_of : List ℕ → Option (Descriptor × List ℕ)
-descriptor_of line = option_and_then (λ sign. option_map (λ d. (d, trim_start (drop (sign + 1) line))) (descriptor_named (trim_end (take sign line)))) (position (λ b. b == 61) line)
+descriptor_of line =
+    option_and_then
+        (λ sign. option_map (λ d. (d, trim_start (drop (sign + 1) line)))
+            (descriptor_named (trim_end (take sign line))))
+        (position (λ b. b == 61) line)
 
 -- four neighbours or eight
 abbrev pub neighbors_in : List ℕ → Option Neighbors
-neighbors_in value = option_and_then (λ n. if n == 4 then Some Four else (if n == 8 then Some Eight else None)) (number_of value)
+neighbors_in value =
+    option_and_then (λ n. if n == 4 then Some Four else (if n == 8 then Some Eight else None))
+        (number_of value)
 
 -- a tree may have so many nodes
 abbrev pub most_nodes : ℕ
@@ -53,16 +63,31 @@ once old described = if is_none old then described else None
 
 -- what one more descriptor says
 abbrev pub describe : Described → Descriptor → List ℕ → Option Described
-describe d descriptor.States value = once d.states (option_map (λ n. record d { states = Some n }) (states_in value))
-describe d descriptor.Neighbors value = once d.neighbors (option_map (λ n. record d { neighbors = Some n }) (neighbors_in value))
-describe d descriptor.Nodes value = once d.node_count (option_map (λ n. record d { node_count = Some n }) (node_count_in value))
+describe d descriptor.States value =
+    once d.states (option_map (λ n. record d { states = Some n }) (states_in value))
+describe d descriptor.Neighbors value =
+    once d.neighbors (option_map (λ n. record d { neighbors = Some n }) (neighbors_in value))
+describe d descriptor.Nodes value =
+    once d.node_count (option_map (λ n. record d { node_count = Some n }) (node_count_in value))
 
 -- the head, if all three descriptors were there
 abbrev pub head_of : Described → Option TreeHead
-head_of d = option_and_then (λ states. option_and_then (λ neighbors. option_map (λ count. record { states = states; neighbors = neighbors; node_count = count }) d.node_count) d.neighbors) d.states
+head_of d =
+    option_and_then
+        (λ states.
+            option_and_then
+                (λ neighbors.
+                    option_map
+                        (λ count.
+                            record { states = states; neighbors = neighbors; node_count = count })
+                        d.node_count)
+                d.neighbors)
+        d.states
 
--- the head that the first lines describe, up to one that is no descriptor, and the lines from there on; `last` is where missing lines show
-abbrev pub head_from : ℕ → Described → List NumberedLine → Result (TreeHead × List NumberedLine) RuleFault
+-- the head that the first lines describe, up to one that is no descriptor, and the lines from there
+-- on; `last` is where missing lines show
+abbrev pub head_from : ℕ → Described → List NumberedLine
+    → Result (TreeHead × List NumberedLine) RuleFault
 head_from last d [] = Err (BadTree last)
 head_from last d (line ∷ lines) =
     option_map_or
@@ -82,44 +107,61 @@ words line = filter is_word (slice_split is_blank line)
 -- the numbers that words write, if each writes one
 abbrev pub numbers_in : List (List ℕ) → Option (List ℕ)
 numbers_in [] = Some []
-numbers_in (word ∷ words) = option_and_then (λ n. option_map (λ ns. n ∷ ns) (numbers_in words)) (number_of word)
+numbers_in (word ∷ words) =
+    option_and_then (λ n. option_map (λ ns. n ∷ ns) (numbers_in words)) (number_of word)
 
 -- the node of some numbers, of which the first is its depth
 abbrev pub node_from : List ℕ → Option Node
 node_from [] = None
 node_from (depth ∷ entries) = Some (record { depth = depth; entries = entries })
 
--- the depth of the root: it has an entry for the first neighbour, and nodes of depth 1 have the next states
+-- the depth of the root: it has an entry for the first neighbour, and nodes of depth 1 have the
+-- next states
 abbrev pub depth_of_root : Neighbors → ℕ
 depth_of_root Four = 5
 depth_of_root Eight = 9
 
--- a node's entries are states below n at depth 1, and else the numbers of earlier nodes, of depth one less
+-- a node's entries are states below n at depth 1, and else the numbers of earlier nodes, of depth
+-- one less
 abbrev pub do_entries_fit : ℕ → List ℕ → Node → Bool
 do_entries_fit n depths node =
     if node.depth == 1 then list_all (λ state. nat_lt state n) node.entries else
-    list_all (λ number. nat_lt number (length depths) && (slice_index depths number + 1 == node.depth)) node.entries
+    list_all
+        (λ number. nat_lt number (length depths) && (slice_index depths number + 1 == node.depth))
+        node.entries
 
--- whether a node may stand behind nodes of these depths: there is room for it, it has an entry for each state, these fit, and the last node is as deep as the root
+-- whether a node may stand behind nodes of these depths: there is room for it, it has an entry for
+-- each state, these fit, and the last node is as deep as the root
 abbrev pub is_next : TreeHead → List ℕ → Node → Bool
 is_next head depths node =
     nat_lt (length depths) head.node_count
     && ((length node.entries == head.states)
     && (do_entries_fit head.states depths node
-    && (nat_lt (length depths + 1) head.node_count || (node.depth == depth_of_root head.neighbors))))
+    && (nat_lt (length depths + 1) head.node_count
+    || (node.depth == depth_of_root head.neighbors))))
 
 -- the node that a line says behind others
 abbrev pub node_of : TreeHead → List Node → List ℕ → Option Node
-node_of head nodes line = option_and_then (λ numbers. option_and_then (λ node. if is_next head (map (λ n. n.depth) nodes) node then Some node else None) (node_from numbers)) (numbers_in (words line))
+node_of head nodes line =
+    option_and_then
+        (λ numbers.
+            option_and_then
+                (λ node. if is_next head (map (λ n. n.depth) nodes) node then Some node else None)
+                (node_from numbers))
+        (numbers_in (words line))
 
 -- nodes, and the one behind them that a line says
 abbrev pub with_line : TreeHead → List Node → NumberedLine → Result (List Node) RuleFault
-with_line head nodes line = ok_or (option_map (λ node. nodes ++ node ∷ []) (node_of head nodes line.text)) (BadTree line.number)
+with_line head nodes line =
+    ok_or (option_map (λ node. nodes ++ node ∷ []) (node_of head nodes line.text))
+        (BadTree line.number)
 
 -- all nodes, where the lines after the head say those behind these
 abbrev pub nodes_from : ℕ → TreeHead → List Node → List NumberedLine → Result (List Node) RuleFault
-nodes_from last head nodes [] = if length nodes == head.node_count then Ok nodes else Err (BadTree last)
-nodes_from last head nodes (line ∷ lines) = with_line head nodes line >>= λ more. nodes_from last head more lines
+nodes_from last head nodes [] =
+    if length nodes == head.node_count then Ok nodes else Err (BadTree last)
+nodes_from last head nodes (line ∷ lines) =
+    with_line head nodes line >>= λ more. nodes_from last head more lines
 
 -- the number of the last line, or of the one that opens the section where there is none
 abbrev pub last_number : ℕ → List NumberedLine → ℕ
@@ -136,7 +178,9 @@ if_quiescent tree = if is_quiescent tree then Ok tree else Err NotQuiescent
 
 -- the tree of a head and nodes
 abbrev pub tree_from : TreeHead → List Node → Tree
-tree_from head nodes = record { states = head.states; neighbors = head.neighbors; nodes = map (λ node. node.entries) nodes }
+tree_from head nodes =
+    record { states = head.states; neighbors = head.neighbors;
+        nodes = map (λ node. node.entries) nodes }
 
 -- what the lines of a tree mean
 abbrev pub tree_of : Section → Result Tree RuleFault

@@ -29,12 +29,16 @@ written_lines head nodes =
 
 -- the section that they are, behind the line of this number that opens it
 abbrev pub written_section : ℕ → TreeHead → List Node → Section
-written_section opened head nodes = record { kind = section_kind.Tree; opened = opened; lines = numbered_from (opened + 1) (written_lines head nodes) }
+written_section opened head nodes =
+    record { kind = section_kind.Tree; opened = opened;
+        lines = numbered_from (opened + 1) (written_lines head nodes) }
 
 -- each of some nodes may stand behind these and those before it
 abbrev pub EachIsNext : TreeHead → List Node → List Node → Type 0
 EachIsNext head nodes [] = Unit {0}
-EachIsNext head nodes (node ∷ others) = (is_next head (map (λ n. n.depth) nodes) node ≡ true) × EachIsNext head (nodes ++ node ∷ []) others
+EachIsNext head nodes (node ∷ others) =
+    (is_next head (map (λ n. n.depth) nodes) node ≡ true)
+    × EachIsNext head (nodes ++ node ∷ []) others
 
 -- the nodes of a tree with this head in order, of which none is deeper than there are nodes
 pub record AreNodesOf (head : TreeHead) (nodes : List Node) : Type 0 where
@@ -44,4 +48,5 @@ pub record AreNodesOf (head : TreeHead) (nodes : List Node) : Type 0 where
 
 -- the text of a rule file of this name, which has the tree's section alone
 abbrev pub written_file : List ℕ → TreeHead → List Node → List ℕ
-written_file name head nodes = text_of_lines ((codes "@RULE " ++ name) ∷ codes "@TREE" ∷ written_lines head nodes)
+written_file name head nodes =
+    text_of_lines ((codes "@RULE " ++ name) ∷ codes "@TREE" ∷ written_lines head nodes)

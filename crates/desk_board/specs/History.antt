@@ -18,7 +18,8 @@ history_of x = list_of x.past ++ arc_value x.snapshot ∷ []
 
 -- each thread knows a beginning of the history
 abbrev pub Keeps : Latest → List (List Picture) → Type 0
-Keeps x views = (seat : ℕ) (v : List Picture) → get_elem? views seat ≡ some v → IsPrefix v (history_of x)
+Keeps x views =
+    (seat : ℕ) (v : List Picture) → get_elem? views seat ≡ some v → IsPrefix v (history_of x)
 
 -- afterwards the thread knows the history, which goes on from what it knew
 abbrev pub Sees : List Picture → Latest → Latest → List Picture → Type 0

@@ -29,5 +29,6 @@ OfOneBoard h k = IsPrefix h k ⊎ IsPrefix k h
 pub record SeesOn (before after : Sight) : Type 0 where
   pub goes_on : IsPrefix before.seen after.seen
   pub far : before.least ≤ length after.seen
-  pub told : (h : List Picture) → length h ≤ before.least → OfOneBoard h after.seen → IsPrefix h after.seen
+  pub told : (h : List Picture) → length h ≤ before.least → OfOneBoard h after.seen
+      → IsPrefix h after.seen
   pub least : after.least ≡ before.least

@@ -10,7 +10,7 @@ pub enum BoardFault {
     /// A viewer's place was refused.
     #[error("a viewer's place was refused")]
     NoViewer,
-    /// Memory was wanted.
+    /// Out of memory.
     #[error("there is not enough memory")]
     NoMemory,
 }
@@ -18,7 +18,7 @@ pub enum BoardFault {
 /// Why a snapshot wasn't published.
 #[derive(Clone, Copy, Debug, PartialEq, Eq, Error)]
 pub enum PublishFault {
-    /// Memory was wanted.
+    /// Out of memory.
     #[error("there is not enough memory")]
     NoMemory,
 }

@@ -15,6 +15,6 @@ pub record Makes (asked : Asked) (old new : BookState) (edited : Edited) : Type 
   pub keeps : KeepsRows asked old new
   pub event : core_of new ≡ after_event (core_of old) (edits asked)
 
--- memory was wanted, or the document refuses it for this
+-- memory ran out, or the document refuses it for this
 abbrev pub Refuses : Asked → BookState → EditFault → Type 0
 Refuses asked d fault = (fault ≡ EditFault.NoMemory) ⊎ (change d.plan asked ≡ Err fault)

@@ -25,18 +25,19 @@ pub record Core : Type 0 where
 abbrev pub core_of : BookState → Core
 core_of d = record { plan = d.plan; given = d.given; rows = λ need. row_of d need }
 
--- what happens to a desk: an edit is asked, a job is issued for a need with its entry at a place, an
--- answer is collected, or the job of a number is cancelled
+-- what happens to a desk: an edit is asked, a job is issued for a need with its entry at a place,
+-- an answer is collected, or the job of a number is cancelled
 pub data Event : Type 0 where
   edits : Asked → Event
   issues : Need → Place → Event
   collects : JobResult → Event
   cancels : ℕ → Event
 
--- what an edit of a document, which gives another one, keeps of what stands in the row of a need; what
--- arrives at 0 is the start
+-- what an edit of a document, which gives another one, keeps of what stands in the row of a need;
+-- what arrives at 0 is the start
 abbrev pub kept_row : Plan → Asked → Plan → Need → RowState Value → RowState Value
-kept_row p asked q (Step mark) row = if mark == 0 then Known (pattern q.start) else arrival_kept p asked q mark row
+kept_row p asked q (Step mark) row =
+    if mark == 0 then Known (pattern q.start) else arrival_kept p asked q mark row
 kept_row p asked q (View id) row = text_kept p asked (bookmark_in p.bookmarks id) row
 
 -- a core after an edit that gives a changed document; a refused one changes nothing

@@ -11,8 +11,8 @@ use Rattle.dependency_book.specs.Right.{IsRight}
 abbrev pub floor_after : ℕ → ℕ → ℕ → ℕ
 floor_after before first taken = if taken == 0 then before else first + taken
 
--- so many jobs were taken, whose numbers are those from the first that was given on; at most one more was
--- given, which isn't out; whatever stood in a row stands there still, and all is right
+-- so many jobs were taken, whose numbers are those from the first that was given on; at most one
+-- more was given, which isn't out; whatever stood in a row stands there still, and all is right
 pub record Feeds (old new : BookState) (before after taken : ℕ) : Type 0 where
   pub stays : (need : Need) → (row_of old need ≡ Empty) ⊎ (row_of new need ≡ row_of old need)
   pub out : (need : Need) (job : Job) → expected new need ≡ Some job

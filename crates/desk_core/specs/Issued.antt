@@ -21,8 +21,8 @@ pub record IssuesFor (old new : BookState) (job : Job) (need : Need) : Type 0 wh
   pub fewer : wanting_of new + 1 ≡ wanting_of old
   pub event : core_of new ≡ after_event (core_of old) (issues need job.place)
 
--- a job for what is to be computed next; none, and nothing changes, where nothing is, and then nothing
--- is pending unless a job is out
+-- a job for what is to be computed next; none, and nothing changes, where nothing is, and then
+-- nothing is pending unless a job is out
 abbrev pub IsIssued : BookState → BookState → Option Job → Type 0
 IsIssued old new None = IsNext old None × (new ≡ old) × (NothingOut new → pending_of new ≡ 0)
 IsIssued old new (Some job) = (need : Need) × IssuesFor old new job need
@@ -31,7 +31,7 @@ IsIssued old new (Some job) = (need : Need) × IssuesFor old new job need
 abbrev pub HasNext : BookState → Type 0
 HasNext d = (need : Need) × IsNext d (Some need)
 
--- something is to be computed; every number was given, or else memory was wanted
+-- something is to be computed; every number was given, or else memory ran out
 abbrev pub RefusesIssue : BookState → IssueFault → Type 0
 RefusesIssue d NumbersSpent = HasNext d × (16777216 ≤ d.given)
 RefusesIssue d NoMemory = HasNext d × (d.given < 16777216)

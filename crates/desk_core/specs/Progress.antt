@@ -1,4 +1,5 @@
--- How a settling goes on: the job that isn't sent yet, what is out, and how many turns it takes at most.
+-- How a settling goes on: the job that isn't sent yet, what is out, and how many turns it takes at
+-- most.
 use Rattle.std.specs.Prelude.{◌≡◌, ◌⊎◌, ℕ, Bool, true, ◌+◌, ◌*◌, ◌<◌, ◌≤◌, List, [], ◌∷◌, ◌++◌, Option, None, Some, IfSome}
 use Rattle.std.specs.declared.ops.ControlFlow.{ControlFlow}
 use Rattle.std.specs.declared.ops.ControlFlow.TheVariants.{Continue, Break}
@@ -31,8 +32,8 @@ abbrev pub CancelsAny : Option Job → BookState → BookState → Type 0
 CancelsAny None old new = new ≡ old
 CancelsAny (Some job) old new = Cancels job.number old new
 
--- a job can be sent to a post of this floor: it is of the desk's table, and its number was given and isn't
--- below the floor
+-- a job can be sent to a post of this floor: it is of the desk's table, and its number was given
+-- and isn't below the floor
 pub record CanBeSent (d : BookState) (floor : ℕ) (job : Job) : Type 0 where
   pub own : IsOf d.table job.place
   pub rises : floor ≤ job.number
@@ -47,8 +48,8 @@ pub record Fits (d : BookState) (entries : Entries) (floor : ℕ) (job : Option 
 abbrev pub ready : Job → Progress → Progress
 ready job progress = record { unsent = Ready job; cause = progress.cause }
 
--- where a settling is: what the desk knows, the floor of the post and the answers that it gave, and the
--- progress
+-- where a settling is: what the desk knows, the floor of the post and the answers that it gave, and
+-- the progress
 pub record Stage : Type 0 where
   pub desk : BookState
   pub floor : ℕ
@@ -56,7 +57,8 @@ pub record Stage : Type 0 where
   pub progress : Progress
 
 abbrev pub stage : BookState → ℕ → List JobResult → Progress → Stage
-stage d floor answers progress = record { desk = d; floor = floor; answers = answers; progress = progress }
+stage d floor answers progress =
+    record { desk = d; floor = floor; answers = answers; progress = progress }
 
 -- the same, of a post
 abbrev pub over : {P : Type 0} → (P → ℕ) → (P → List JobResult) → P → BookState → Progress → Stage
@@ -65,22 +67,26 @@ over floor answers post d progress = stage d (floor post) (answers post) progres
 -- a job that is out at a stage was out at first, isn't sent yet, or was sent
 abbrev pub IsAccounted : BookState → Stage → Need → Job → Type 0
 IsAccounted first s need job =
-    (expected first need ≡ Some job) ⊎ ((job_in s.progress.unsent ≡ Some job) ⊎ (job.number < s.floor))
+    (expected first need ≡ Some job)
+        ⊎ ((job_in s.progress.unsent ≡ Some job) ⊎ (job.number < s.floor))
 
--- a settling that began with this desk, when its post had given these answers, has come so far: what was
--- known is so still, the document is the same, and the answers since then explain the cause
+-- a settling that began with this desk, when its post had given these answers, has come so far:
+-- what was known is so still, the document is the same, and the answers since then explain the
+-- cause
 pub record HasCome (first : BookState) (before : List JobResult) (s : Stage) : Type 0 where
   pub known : KeepsKnown first s.desk
   pub document : SameDocument first s.desk
   pub later : List JobResult
   pub gave : s.answers ≡ before ++ later
   pub cause : IfSome s.progress.cause (Explains s.desk later)
-  pub out : (need : Need) (job : Job) → expected s.desk need ≡ Some job → IsAccounted first s need job
+  pub out : (need : Need) (job : Job) → expected s.desk need ≡ Some job
+      → IsAccounted first s need job
 
 -- whatever settling came to the first stage comes to the second, and a cause stays
 pub record GoesOn (s t : Stage) : Type 0 where
   pub cause : t.progress.cause ≡ None → s.progress.cause ≡ None
-  pub comes : (first : BookState) (before : List JobResult) → HasCome first before s → HasCome first before t
+  pub comes : (first : BookState) (before : List JobResult) → HasCome first before s
+      → HasCome first before t
 
 -- so it goes on over a post, seen by its floor and the answers that it gave
 abbrev pub GoesOnOver : {P : Type 0} → (P → ℕ) → (P → List JobResult) → P → P
@@ -91,7 +97,8 @@ GoesOnOver floor answers p q d e before after =
 -- so it goes on over any post that fits, which does nothing meanwhile
 abbrev pub GoesOnBy : BookState → BookState → Progress → Progress → Type 0
 GoesOnBy d e before after =
-    (table : Entries) (floor : ℕ) (answers : List JobResult) → Fits d table floor (job_in before.unsent)
+    (table : Entries) (floor : ℕ) (answers : List JobResult)
+        → Fits d table floor (job_in before.unsent)
     → GoesOn (stage d floor answers before) (stage e floor answers after)
 
 -- so it goes on over any post that gives an answer meanwhile
@@ -114,7 +121,8 @@ IsAtHand unsent held d =
 -- whatever is held, what is out stays at hand
 abbrev pub StaysAtHand : BookState → BookState → Progress → Progress → Type 0
 StaysAtHand d e before after =
-    (held : Option Job) → IsAtHand (job_in before.unsent) held d → IsAtHand (job_in after.unsent) held e
+    (held : Option Job) → IsAtHand (job_in before.unsent) held d
+        → IsAtHand (job_in after.unsent) held e
 
 -- the job that was held is answered: what is out afterwards isn't sent yet
 abbrev pub GivesBack : Job → BookState → BookState → Progress → Progress → Type 0
@@ -129,8 +137,8 @@ turns_for (Ready job) None = 2
 turns_for (Ready job) (Some held) = 4
 turns_for (Waiting job) held = 3
 
--- a moment of a settling over a prompt post: what the desk knows, what isn't sent yet and what the post
--- holds
+-- a moment of a settling over a prompt post: what the desk knows, what isn't sent yet and what the
+-- post holds
 pub record Moment : Type 0 where
   pub desk : BookState
   pub unsent : Unsent
@@ -155,7 +163,8 @@ TakesNoMore d e before after =
 
 -- where none is left to send and there is no cause, nothing is pending unless a job is out
 abbrev pub SeesAll : BookState → Progress → Type 0
-SeesAll d progress = progress.unsent ≡ Nothing → progress.cause ≡ None → NothingOut d → pending_of d ≡ 0
+SeesAll d progress =
+    progress.unsent ≡ Nothing → progress.cause ≡ None → NothingOut d → pending_of d ≡ 0
 
 -- every bookmark is current, or will be seen to be since nothing is out and nothing wanting
 abbrev pub IsDone : BookState → Type 0
@@ -181,8 +190,8 @@ NearsOver is_prompt held p q d e before after next =
     is_prompt p ≡ true
     → Advances (moment d before.unsent (held p)) (moment e after.unsent (held q)) after.cause next
 
--- what the post held was answered: what is out isn't sent yet, and unless there is a cause as many rows
--- want a job
+-- what the post held was answered: what is out isn't sent yet, and unless there is a cause as many
+-- rows want a job
 pub record Receives (before after : Moment) (cause : Option Cause) (next : ControlFlow Unit Unit)
     : Type 0 where
   pub out : AllAtHand before → AllAtHand after
@@ -202,7 +211,9 @@ ReceivesOver is_prompt held p q d e before after next =
 abbrev pub IsDoneBy : BookState → Progress → Type 0
 IsDoneBy d progress = progress.cause ≡ None → (progress.unsent ≡ Nothing) × IsDone d
 
--- what a run over a prompt post leaves: what is out isn't sent yet or is held, and enough turns settle
-pub record Runs (held : Option Job) (old new : BookState) (turns : ℕ) (progress : Progress) : Type 0 where
+-- what a run over a prompt post leaves: what is out isn't sent yet or is held, and enough turns
+-- settle
+pub record Runs (held : Option Job) (old new : BookState) (turns : ℕ) (progress : Progress)
+    : Type 0 where
   pub out : IsAtHand (job_in progress.unsent) held new
   pub done : 4 * rows_of old ≤ turns → IsDoneBy new progress

@@ -21,24 +21,24 @@ use Rattle.desk_core.specs.declared.settling.Settling.TheVariants.{Settled, Unse
 abbrev pub GaveUp : List JobResult → EvolveFault → Type 0
 GaveUp answers fault = Any (λ (answer : JobResult). answer.outcome ≡ Err fault) answers
 
--- a step is wanting: to a generation above 0 at which an intervention or a bookmark is, of which nothing
--- is known and for which no job is out
+-- a step is wanting: to a generation above 0 at which an intervention or a bookmark is, of which
+-- nothing is known and for which no job is out
 pub record WantsStep (d : BookState) : Type 0 where
   pub mark : ℕ
   pub above : 0 < mark
   pub is : is_mark d.plan mark ≡ true
   pub nothing : row_of d (Step mark) ≡ Empty
 
--- a cause is that of an answer that was given, for want of room to a step that is wanting, or of an issue
--- that was refused: every number was given, or else memory was wanted
+-- a cause is that of an answer that was given, for want of room to a step that is wanting, or of an
+-- issue that was refused: every number was given, or else memory ran out
 abbrev pub Explains : BookState → List JobResult → Cause → Type 0
 Explains d answers NoMemory = GaveUp answers EvolveFault.NoMemory ⊎ (d.given < 16777216)
 Explains d answers NoRoom = GaveUp answers EvolveFault.NoRoom × WantsStep d
 Explains d answers Stopped = GaveUp answers EvolveFault.Stopped
 Explains d answers NumbersSpent = 16777216 ≤ d.given
 
--- settling over these answers ends with every bookmark current, or with so many pending, for its cause if
--- one is told
+-- settling over these answers ends with every bookmark current, or with so many pending, for its
+-- cause if one is told
 abbrev pub Ends : BookState → List JobResult → Settling → Type 0
 Ends d answers Settled = pending_of d ≡ 0
 Ends d answers (Unsettled pending cause) =
@@ -83,9 +83,9 @@ OutOrSent old new floor =
     (need : Need) (job : Job) → expected new need ≡ Some job
     → (expected old need ≡ Some job) ⊎ (job.number < floor)
 
--- after settling over a post of this floor what was known is so still, what is out was so before or was
--- sent, all is right, and the document and the table are the same; no document has more rows than
--- 1,000,000 turns are enough for
+-- after settling over a post of this floor what was known is so still, what is out was so before or
+-- was sent, all is right, and the document and the table are the same; no document has more rows
+-- than 1,000,000 turns are enough for
 pub record Settles (old new : BookState) (floor : ℕ) : Type 0 where
   pub known : KeepsKnown old new
   pub out : OutOrSent old new floor

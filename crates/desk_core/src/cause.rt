@@ -6,7 +6,7 @@ use step_engine::EvolveFault;
 /// Why settling stopped before every bookmark was current.
 #[derive(Clone, Copy, Debug, PartialEq, Eq)]
 pub enum Cause {
-    /// Memory was wanted.
+    /// Out of memory.
     NoMemory,
     /// A step wanted more squares than it may keep.
     NoRoom,

@@ -18,7 +18,7 @@ pub enum IssueFault {
     /// 16,777,216 numbers were given.
     #[error("every number of a job was given")]
     NumbersSpent,
-    /// Memory was wanted.
+    /// Out of memory.
     #[error("there is not enough memory")]
     NoMemory,
 }

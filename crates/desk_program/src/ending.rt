@@ -72,7 +72,7 @@ impl Ending {
 }
 
 /// Writes the help that was asked for to standard output, or says on standard error why the words
-/// were refused. Want of memory is told with the program's ending.
+/// were refused. Out of memory is told with the program's ending.
 pub fn report<R: Print + Eprint>(rt: &R, fault: &OptionFault) -> Ending
     ensures { EndsBy fault.now result }
 {

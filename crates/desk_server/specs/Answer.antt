@@ -59,7 +59,8 @@ unless_fault p refusal done (Err fault) = refused p (refusal fault)
 
 -- an edit was made, which is replied with a number behind this word, if there is one
 abbrev pub accepted : Changed → List ℕ → Option ℕ → After
-accepted c word number = record { told = accepted_text c.edited.revision word number; plan = c.plan; ends = false }
+accepted c word number =
+    record { told = accepted_text c.edited.revision word number; plan = c.plan; ends = false }
 
 -- the word before the id that an edit gives, if it gives one
 abbrev pub id_word : Asked → List ℕ
@@ -69,26 +70,38 @@ id_word _ = []
 
 -- an edit was made or refused
 abbrev pub edited : Plan → Asked → After
-edited p asked = unless_fault p of_edit (λ (c : Changed). accepted c (id_word asked) c.edited.id) (change p asked)
+edited p asked =
+    unless_fault p of_edit (λ (c : Changed). accepted c (id_word asked) c.edited.id)
+        (change p asked)
 
 -- a start was taken or refused, whose file names this generation
 abbrev pub started : Plan → ℕ → World → After
-started p generation start = unless_fault p of_edit (λ (c : Changed). accepted c (codes " gen ") (Some generation)) (change p (ReplaceStart start))
+started p generation start =
+    unless_fault p of_edit (λ (c : Changed). accepted c (codes " gen ") (Some generation))
+        (change p (ReplaceStart start))
 
 -- what a text of a format means was taken or refused
 abbrev pub taken : Plan → Format → List ℕ → After
-taken p format.Rule text = unless_fault p of_rule (λ (rule : FileRule). edited p (ReplaceRule rule)) (rule_of text)
-taken p format.Rle text = unless_fault p of_pattern (λ (loaded : Loaded). started p loaded.generation loaded.plane) (pattern_of text)
-taken p format.Macrocell text = unless_fault p of_macrocell (λ (loaded : Loaded). started p loaded.generation loaded.plane) (macrocells.pattern_of text)
+taken p format.Rule text =
+    unless_fault p of_rule (λ (rule : FileRule). edited p (ReplaceRule rule)) (rule_of text)
+taken p format.Rle text =
+    unless_fault p of_pattern (λ (loaded : Loaded). started p loaded.generation loaded.plane)
+        (pattern_of text)
+taken p format.Macrocell text =
+    unless_fault p of_macrocell (λ (loaded : Loaded). started p loaded.generation loaded.plane)
+        (macrocells.pattern_of text)
 
 -- all texts were computed, or a shortage leaves some bookmarks pending
 abbrev pub settled : Shortage → Plan → After
 settled NoShortage p = only p settled_text
 settled Memory p = only p settled_text
-settled (Unsettled n cause) p = if nat_le 1 n && nat_le n (length p.bookmarks) then only p (unsettled_text n cause) else only p settled_text
+settled (Unsettled n cause) p =
+    if nat_le 1 n && nat_le n (length p.bookmarks) then only p (unsettled_text n cause)
+        else only p settled_text
 settled Pending p = only p settled_text
 
--- a bookmark of the document is shown with the text that starting over gives, unless a shortage left it pending
+-- a bookmark of the document is shown with the text that starting over gives, unless a shortage
+-- left it pending
 abbrev pub there : Shortage → Plan → ℕ → Bookmark → After
 there NoShortage p id b = only p (current_text id (scratch p b))
 there Memory p id b = no_memory p
@@ -111,7 +124,8 @@ obeyed short p Quit = record { told = bye_text; plan = p; ends = true }
 abbrev pub answer : Shortage → Plan → Ask → After
 answer short p (Obey command) = obeyed short p command
 answer short p (Take format text) = unless_memory short p (taken p format text)
-answer short p (Refuse (BadCommand line)) = unless_memory short p (refused p (of_script (BadCommand line)))
+answer short p (Refuse (BadCommand line)) = unless_memory short p
+    (refused p (of_script (BadCommand line)))
 answer short p (Refuse (NoEnd line)) = refused p (of_script (NoEnd line))
 
 -- where it is out of memory, that is replied and nothing changes

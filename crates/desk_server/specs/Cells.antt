@@ -9,4 +9,6 @@ use Rattle.desk_server.specs.declared.cells.CellFound.TheVariants as found
 abbrev pub NextCell : List ℕ → CellFound → Type 0
 NextCell bytes found.End = words bytes ≡ []
 NextCell bytes found.Bad = cells_of (words bytes) ≡ None
-NextCell bytes (found.Cell cell rest) = (cells_of (words bytes) ≡ before (Some cell) (cells_of (words rest.now))) × (length rest.now < length bytes)
+NextCell bytes (found.Cell cell rest) =
+    (cells_of (words bytes) ≡ before (Some cell) (cells_of (words rest.now)))
+    × (length rest.now < length bytes)

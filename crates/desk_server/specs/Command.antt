@@ -70,7 +70,8 @@ abbrev pub at_of : List (List ℕ) → Option Edit
 at_of rest = option_map (λ r. InsertIntervention r.0 r.1) (counted cells_set rest)
 
 abbrev pub change_of : List (List ℕ) → Option Edit
-change_of rest = option_map (λ r. ChangeIntervention r.0 r.1.0 r.1.1) (counted (counted cells_set) rest)
+change_of rest =
+    option_map (λ r. ChangeIntervention r.0 r.1.0 r.1.1) (counted (counted cells_set) rest)
 
 abbrev pub drop_of : List (List ℕ) → Option Edit
 drop_of rest = option_map RemoveIntervention (one_count rest)

@@ -26,7 +26,8 @@ LineCanLackMemory command = (n : ℕ) → CanLackMemory (asked_by n command)
 -- what a request asks: this, or something that is out of memory
 abbrev pub AsksFor : Request → Ask → Type 0
 AsksFor (request.Obey command) ask = ask ≡ Obey command
-AsksFor (request.Take format text) ask = (bytes : List ℕ) × (ask ≡ Take format bytes) × IsText text bytes
+AsksFor (request.Take format text) ask =
+    (bytes : List ℕ) × (ask ≡ Take format bytes) × IsText text bytes
 AsksFor (request.Refuse fault) ask = ask ≡ Refuse fault
 AsksFor request.NoMemory ask = CanLackMemory ask
 
@@ -35,12 +36,16 @@ abbrev pub AsksIfAny : Option Request → List Ask → Type 0
 AsksIfAny None asked = asked ≡ []
 AsksIfAny (Some r) asked = (ask : Ask) × (asked ≡ ask ∷ []) × AsksFor r ask
 
--- bytes were taken that ask for `asked` from this place on, whatever may follow them; they begin on line n, and what follows begins on line m
-pub record Hears (old new : Ahead) (place : Place) (heard : Option Request) (last : Bool) (n m : ℕ) : Type 0 where
+-- bytes were taken that ask for `asked` from this place on, whatever may follow them; they begin on
+-- line n, and what follows begins on line m
+pub record Hears (old new : Ahead) (place : Place) (heard : Option Request) (last : Bool) (n m : ℕ)
+    : Type 0 where
   pub bytes : List ℕ
   pub asked : List Ask
   pub taken : Takes old new bytes
-  pub law : (stop : End) (more : List ℕ) → Follows last stop more → asks stop place n (lines_until stop (bytes ++ more)) ≡ asked ++ asks stop Between m (lines_until stop more)
+  pub law : (stop : End) (more : List ℕ) → Follows last stop more
+      → asks stop place n (lines_until stop (bytes ++ more))
+          ≡ asked ++ asks stop Between m (lines_until stop more)
   pub is : AsksIfAny heard asked
   pub at_end : last ≡ true → IsAtEnd new.bytes
 
@@ -52,11 +57,13 @@ pub record BreaksOff (old new : Ahead) (place : Place) (n : ℕ) : Type 0 where
 
 -- a read failed, or 2^64 - 1 bytes came, and all that was read was taken
 abbrev pub ReadFails : {R : Type 0} → (R → Option (List ℕ)) → LineReading R → LineReading R → Type 0
-ReadFails remaining old new = FailsOrFull old.failures new.failures new.given × IsDrawn remaining new
+ReadFails remaining old new =
+    FailsOrFull old.failures new.failures new.given × IsDrawn remaining new
 
 -- the desk that is left, the reply and whether the script ends are those of an answer
 abbrev pub Gives : After → Reply → BookState → Type 0
-Gives after reply new = after ≡ record { told = reply_text new reply; plan = new.plan; ends = ends reply }
+Gives after reply new =
+    after ≡ record { told = reply_text new reply; plan = new.plan; ends = ends reply }
 
 -- they are those of an answer, for some shortage; over a prompt post it has a cause
 abbrev pub GivesBy : Bool → (Shortage → After) → Reply → BookState → Type 0
@@ -70,7 +77,8 @@ GivesOrLacks p after = GivesBy true (λ shortage. unless_memory shortage p after
 -- whatever the request asks, they are those of the answer to that
 abbrev pub Serves : Bool → Request → Reply → BookState → BookState → Type 0
 Serves prompt request reply old new =
-    (ask : Ask) → AsksFor request ask → GivesBy prompt (λ short. answer short old.plan ask) reply new
+    (ask : Ask) → AsksFor request ask
+        → GivesBy prompt (λ short. answer short old.plan ask) reply new
 
 -- the reply to what was asked
 abbrev pub Served : Bool → Reply → List Ask → BookState → BookState → Type 0

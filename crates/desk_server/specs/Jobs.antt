@@ -9,17 +9,23 @@ use Rattle.desk_core.specs.declared.cause.Cause.{Cause}
 use Rattle.desk_core.specs.Settling.{Explains, IsHeld, Serves}
 
 -- a post of the table that took no job
-pub record IsFresh {P : Type 0} (table : P → Entries) (floor : P → ℕ) (post : P) (entries : Entries) : Type 0 where
+pub record IsFresh {P : Type 0} (table : P → Entries) (floor : P → ℕ) (post : P) (entries : Entries)
+    : Type 0 where
   pub own : table post ≡ entries
   pub none : floor post ≡ 0
 
--- a post of the desk's table that took only numbers that the desk gave; if it is prompt it holds whatever job is out
-pub record Carries {P : Type 0} (table : P → Entries) (floor : P → ℕ) (is_prompt : P → Bool) (held : P → Option Job) (post : P) (d : BookState) : Type 0 where
+-- a post of the desk's table that took only numbers that the desk gave; if it is prompt it holds
+-- whatever job is out
+pub record Carries {P : Type 0} (table : P → Entries) (floor : P → ℕ) (is_prompt : P → Bool)
+    (held : P → Option Job) (post : P) (d : BookState)
+    : Type 0 where
   pub serves : Serves d (table post) (floor post)
   pub out : is_prompt post ≡ true → IsHeld (held post) d
 
 -- the post is of the kind that it was, and carries the jobs of the desk that is left
-pub record CarriesOn {P : Type 0} (table : P → Entries) (floor : P → ℕ) (is_prompt : P → Bool) (held : P → Option Job) (old new : P) (d : BookState) : Type 0 where
+pub record CarriesOn {P : Type 0} (table : P → Entries) (floor : P → ℕ) (is_prompt : P → Bool)
+    (held : P → Option Job) (old new : P) (d : BookState)
+    : Type 0 where
   pub kind : is_prompt new ≡ is_prompt old
   pub carries : Carries table floor is_prompt held new d
 
@@ -35,9 +41,13 @@ pub record DropsJobs (old new : BookState) : Type 0 where
 
 -- what explains a cause explains it still
 abbrev pub KeepsCauses : BookState → BookState → Type 0
-KeepsCauses old new = (answers : List JobResult) (cause : Cause) → Explains old answers cause → Explains new answers cause
+KeepsCauses old new =
+    (answers : List JobResult) (cause : Cause) → Explains old answers cause
+    → Explains new answers cause
 
 -- the post, seen by the answers that it gave, gave more, which explain the cause if there is one
-abbrev pub IsExplained : {P : Type 0} → (P → List JobResult) → P → P → BookState → Option Cause → Type 0
+abbrev pub IsExplained : {P : Type 0} → (P → List JobResult) → P → P → BookState → Option Cause
+    → Type 0
 IsExplained answers old new d cause =
-    (later : List JobResult) × (answers new ≡ answers old ++ later) × IfSome cause (Explains d later)
+    (later : List JobResult) × (answers new ≡ answers old ++ later)
+        × IfSome cause (Explains d later)

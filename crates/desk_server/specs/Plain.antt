@@ -13,12 +13,14 @@ use Rattle.desk_server.specs.Script.{afters}
 -- the reply is that bookmarks are pending, for a cause if the post is prompt
 abbrev pub ShowsUnsettled : Bool → List ℕ → Type 0
 ShowsUnsettled prompt told =
-    (n : ℕ) × (cause : Option Cause) × IsCausedOver prompt (Unsettled n cause) × (told ≡ unsettled_text n cause)
+    (n : ℕ) × (cause : Option Cause) × IsCausedOver prompt (Unsettled n cause)
+        × (told ≡ unsettled_text n cause)
 
 -- the reply is that memory is short, that bookmarks are pending, or that one is
 abbrev pub ShowsShortage : Bool → List ℕ → Type 0
 ShowsShortage prompt told =
-    (told ≡ refused_text (of_edit NoMemory)) ⊎ (ShowsUnsettled prompt told ⊎ ((id : ℕ) × (told ≡ pending_text id)))
+    (told ≡ refused_text (of_edit NoMemory))
+        ⊎ (ShowsUnsettled prompt told ⊎ ((id : ℕ) × (told ≡ pending_text id)))
 
 -- none of the replies shows a shortage
 abbrev pub NoneShows : Bool → List After → Type 0
@@ -27,5 +29,6 @@ NoneShows prompt = AllByRecursion (λ (after : After). ShowsShortage prompt afte
 -- then they are the replies where nothing is short
 abbrev pub PlainWithoutShortages : Type 0
 PlainWithoutShortages =
-    (prompt : Bool) (p : Plan) (asked : List Ask) (shortages : List Shortage) → AllCausedOver prompt shortages
+    (prompt : Bool) (p : Plan) (asked : List Ask) (shortages : List Shortage)
+        → AllCausedOver prompt shortages
     → NoneShows prompt (afters p asked shortages) → afters p asked shortages ≡ afters p asked []

@@ -20,11 +20,16 @@ settled_text = codes "settled\n"
 
 -- so many bookmarks are pending, for this cause, or 0 for none
 abbrev pub unsettled_text : ℕ → Option Cause → List ℕ
-unsettled_text pending cause = codes "unsettled " ++ (decimal pending ++ (codes " " ++ (decimal (option_map_or cause_number cause 0) ++ codes "\n")))
+unsettled_text pending cause =
+    codes "unsettled "
+    ++ (decimal pending
+        ++ (codes " " ++ (decimal (option_map_or cause_number cause 0) ++ codes "\n")))
 
 -- a bookmark's text, after a line with its length
 abbrev pub current_text : ℕ → List ℕ → List ℕ
-current_text id text = codes "bookmark " ++ (decimal id ++ (codes " current " ++ (decimal (length text) ++ (codes "\n" ++ text))))
+current_text id text =
+    codes "bookmark "
+    ++ (decimal id ++ (codes " current " ++ (decimal (length text) ++ (codes "\n" ++ text))))
 
 -- a bookmark's text isn't known
 abbrev pub pending_text : ℕ → List ℕ
@@ -32,7 +37,9 @@ pending_text id = codes "bookmark " ++ (decimal id ++ codes " pending\n")
 
 -- a refusal
 abbrev pub refused_text : Fault → List ℕ
-refused_text fault = codes "refused " ++ (decimal fault.number ++ (codes " " ++ (fault.name ++ with_number (codes " ") fault.place)))
+refused_text fault =
+    codes "refused "
+    ++ (decimal fault.number ++ (codes " " ++ (fault.name ++ with_number (codes " ") fault.place)))
 
 -- the script ends
 abbrev pub bye_text : List ℕ

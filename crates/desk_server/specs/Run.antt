@@ -8,36 +8,49 @@ use Rattle.schedule.specs.Plan.{Plan}
 use Rattle.desk_server.specs.Shortage.{Shortage, AllCausedOver}
 use Rattle.desk_server.specs.Script.{asks, Between, replies_to, replies_by, replies_with}
 
--- something was heard and answered: whatever follows, the replies are what was written and then those to what follows
-pub record Answers (prompt : Bool) (old new : Ahead) (before after : Option (List ℕ)) (p q : Plan) (n m : ℕ) : Type 0 where
+-- something was heard and answered: whatever follows, the replies are what was written and then
+-- those to what follows
+pub record Answers (prompt : Bool) (old new : Ahead) (before after : Option (List ℕ)) (p q : Plan)
+    (n m : ℕ)
+    : Type 0 where
   pub bytes : List ℕ
   pub shortages : List Shortage
   pub caused : AllCausedOver prompt shortages
   pub told : List ℕ
   pub taken : Takes old new bytes
   pub wrote : Appends before after told
-  pub law : (stop : End) (more : List ℕ) (later : List Shortage) → replies_to p (asks stop Between n (lines_until stop (bytes ++ more))) (shortages ++ later) ≡ told ++ replies_to q (asks stop Between m (lines_until stop more)) later
+  pub law : (stop : End) (more : List ℕ) (later : List Shortage)
+      → replies_to p (asks stop Between n (lines_until stop (bytes ++ more))) (shortages ++ later)
+          ≡ told ++ replies_to q (asks stop Between m (lines_until stop more)) later
 
 -- the script was answered to its end
-pub record Finishes (prompt : Bool) (old new : Ahead) (before after : Option (List ℕ)) (p : Plan) (n : ℕ) : Type 0 where
+pub record Finishes (prompt : Bool) (old new : Ahead) (before after : Option (List ℕ)) (p : Plan)
+    (n : ℕ)
+    : Type 0 where
   pub bytes : List ℕ
   pub shortages : List Shortage
   pub caused : AllCausedOver prompt shortages
   pub taken : Takes old new bytes
   pub told : List ℕ
   pub wrote : Appends before after told
-  pub law : (rest : List ℕ) → new.bytes ≡ Some rest → replies_to p (asks Ended Between n (lines_until Ended (bytes ++ rest))) shortages ≡ told
+  pub law : (rest : List ℕ) → new.bytes ≡ Some rest
+      → replies_to p (asks Ended Between n (lines_until Ended (bytes ++ rest))) shortages ≡ told
 
 -- of the replies a beginning was written
-pub record StopsTelling (prompt : Bool) (old new : Ahead) (before after : Option (List ℕ)) (p : Plan) (n : ℕ) : Type 0 where
+pub record StopsTelling (prompt : Bool) (old new : Ahead) (before after : Option (List ℕ))
+    (p : Plan) (n : ℕ)
+    : Type 0 where
   pub bytes : List ℕ
   pub shortages : List Shortage
   pub caused : AllCausedOver prompt shortages
   pub taken : Takes old new bytes
-  pub law : (rest : List ℕ) → new.bytes ≡ Some rest → AppendsFront before after (replies_to p (asks Ended Between n (lines_until Ended (bytes ++ rest))) shortages)
+  pub law : (rest : List ℕ) → new.bytes ≡ Some rest
+      → AppendsFront before after
+          (replies_to p (asks Ended Between n (lines_until Ended (bytes ++ rest))) shortages)
 
 -- what the reader gave was answered as far as commands were read whole
-pub record AnswersWhole (prompt : Bool) (old new : Ahead) (before after : Option (List ℕ)) : Type 0 where
+pub record AnswersWhole (prompt : Bool) (old new : Ahead) (before after : Option (List ℕ))
+    : Type 0 where
   pub read : List ℕ
   pub shortages : List Shortage
   pub caused : AllCausedOver prompt shortages
@@ -45,13 +58,15 @@ pub record AnswersWhole (prompt : Bool) (old new : Ahead) (before after : Option
   pub wrote : Appends before after (replies_by Broken read shortages)
 
 -- the replies to the script were written, for some shortages
-pub record AnswersAll (prompt : Bool) (before after : Option (List ℕ)) (script : List ℕ) : Type 0 where
+pub record AnswersAll (prompt : Bool) (before after : Option (List ℕ)) (script : List ℕ)
+    : Type 0 where
   pub shortages : List Shortage
   pub caused : AllCausedOver prompt shortages
   pub wrote : Appends before after (replies_with script shortages)
 
 -- a beginning of the replies was written, for some shortages
-pub record AnswersFront (prompt : Bool) (before after : Option (List ℕ)) (script : List ℕ) : Type 0 where
+pub record AnswersFront (prompt : Bool) (before after : Option (List ℕ)) (script : List ℕ)
+    : Type 0 where
   pub shortages : List Shortage
   pub caused : AllCausedOver prompt shortages
   pub wrote : AppendsFront before after (replies_with script shortages)

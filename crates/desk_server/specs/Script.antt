@@ -41,7 +41,8 @@ asks stop Between n [] = []
 asks stop (InText at format text) n [] = without_end stop at
 asks stop Between n (line ∷ rest) =
     if is_passed_over line.says then asks stop Between (n + 1) rest
-    else asked_at n line.says (format_of line.says) ++ asks stop (place_behind n (format_of line.says)) (n + 1) rest
+    else asked_at n line.says (format_of line.says)
+        ++ asks stop (place_behind n (format_of line.says)) (n + 1) rest
 asks stop (InText at format text) n (line ∷ rest) =
     if is_end line.says then Take format text ∷ asks stop Between (n + 1) rest
     else asks stop (InText at format (text ++ line.raw)) (n + 1) rest
@@ -66,9 +67,11 @@ afters p (ask ∷ rest) shortages =
 abbrev pub replies_to : Plan → List Ask → List Shortage → List ℕ
 replies_to p asked shortages = flat_map (λ (after : After). after.told) (afters p asked shortages)
 
--- the replies to a script, however its reading stopped, where the shortages say of one command after another what is short for it
+-- the replies to a script, however its reading stopped, where the shortages say of one command
+-- after another what is short for it
 abbrev pub replies_by : End → List ℕ → List Shortage → List ℕ
-replies_by stop script shortages = replies_to (opening 0) (asks stop Between 1 (lines_until stop script)) shortages
+replies_by stop script shortages =
+    replies_to (opening 0) (asks stop Between 1 (lines_until stop script)) shortages
 
 abbrev pub replies_with : List ℕ → List Shortage → List ℕ
 replies_with = replies_by Ended

@@ -3,7 +3,8 @@ use Rattle.std.specs.Prelude.{◌≡◌, ℕ, Bool, true, List, Option, IsSome, 
 use Rattle.std.specs.List.{AllByRecursion}
 use Rattle.desk_core.specs.declared.cause.Cause.{Cause}
 
--- nothing, memory, a settling that left so many bookmarks pending, for its cause if it has one, or a bookmark that stayed pending
+-- nothing, memory, a settling that left so many bookmarks pending, for its cause if it has one, or
+-- a bookmark that stayed pending
 pub data Shortage : Type 0 where
   NoShortage : Shortage
   Memory : Shortage

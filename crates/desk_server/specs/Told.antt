@@ -26,7 +26,8 @@ abbrev pub reply_text : BookState → Reply → List ℕ
 reply_text known (reply.Accepted revision word number) = accepted_text revision word.now number
 reply_text known reply.Settled = settled_text
 reply_text known (reply.Unsettled pending cause) = unsettled_text pending cause
-reply_text known (reply.Shown id) = shown_text id (bookmark_in known.plan.bookmarks id) (text_known known id)
+reply_text known (reply.Shown id) =
+    shown_text id (bookmark_in known.plan.bookmarks id) (text_known known id)
 reply_text known (reply.Refused number name place) = refused_text (fault_of number name.now place)
 reply_text known reply.Bye = bye_text
 
@@ -42,12 +43,13 @@ ComputesFor Settle = ⊤
 ComputesFor (Show id) = ⊤
 ComputesFor Quit = ⊥
 
--- what such a command leaves, by its reply and the answers that the post gave meanwhile: every text known, or so many
--- that aren't, then no job out, and a cause that is told is explained; where the bookmark isn't current, nothing left to
--- compute or no job out
+-- what such a command leaves, by its reply and the answers that the post gave meanwhile: every text
+-- known, or so many that aren't, then no job out, and a cause that is told is explained; where the
+-- bookmark isn't current, nothing left to compute or no job out
 abbrev pub Leaves : List JobResult → Reply → BookState → Type 0
 Leaves answers reply.Settled d = pending_of d ≡ 0
-Leaves answers (reply.Unsettled pending cause) d = (pending ≡ pending_of d) × NothingOut d × IfSome cause (Explains d answers)
+Leaves answers (reply.Unsettled pending cause) d =
+    (pending ≡ pending_of d) × NothingOut d × IfSome cause (Explains d answers)
 Leaves answers (reply.Shown id) d = IsPending d id → IsDoneWith d
 Leaves answers _ d = ⊤
 

@@ -58,7 +58,7 @@ fn read_show(rest: &[u8]) -> Option<Command>
     Some(Command::Show { id })
 }
 
-// The command that is an edit. Each edit can meet want of memory.
+// The command that is an edit. Each edit can run out of memory.
 fn read_edit_command(alloc: Global, word: &[u8], rest: &[u8]) -> Result<Option<Command>, AllocError>
     ensures ok { IfOk result (λ command. command
         ≡ option_map Command.Edit (edit_by word.now (words rest.now))) }

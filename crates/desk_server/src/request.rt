@@ -14,6 +14,6 @@ pub enum Request {
     Take { format: Format, text: Text },
     /// To refuse what lines say.
     Refuse(ScriptFault),
-    /// Something that memory was wanted for.
+    /// Something for which memory ran out.
     NoMemory,
 }

@@ -293,7 +293,7 @@ same_options o p workers facts squares =
     let make : ℕ → ℕ → ℕ → Options = λ w f s. record { workers = w; facts = f; squares = s } in
     ap₂ (λ w f. make w f o.squares) workers facts ∙ ap (make p.workers p.facts) squares
 
--- the numbers of choices are read, and an error is want of memory
+-- the numbers of choices are read, and an error is 'out of memory'
 pub asked_reads : (words : List Text) (r : Result Options Error) → FailsBy (faults words) r → IfOk r (Chooses words) → (choices : List Choice) → AsksWith choices words
     → MatchResult r (λ options. options ≡ chosen_by choices) (λ error. kind_of error ≡ OutOfMemory)
 unfolding number_in

@@ -54,7 +54,8 @@ setting_rule setting = record (new_rule (name_of setting)) {
   parser = Some (Unsigned (least_of setting) (most_of setting));
 }
 
--- the argument is that option: it excludes no other, and has its number in one piece, or else its default
+-- the argument is that option: it excludes no other, and has its number in one piece, or else its
+-- default
 pub record IsOptionOf (setting : Setting) (arg : Arg) : Type 0 where
   pub rule : rule_of arg ≡ setting_rule setting
   pub plain : IsPlainArg arg
@@ -68,7 +69,11 @@ nameless_app name = on_top (λ top. record top { no_binary_name = true }) (new_a
 
 -- the command `desk`, which has the settings and help
 abbrev pub desk : App
-desk = with_rule (with_rule (with_rule (nameless_app (codes "desk")) (setting_rule Workers)) (setting_rule Facts)) (setting_rule Squares)
+desk =
+    with_rule
+        (with_rule (with_rule (nameless_app (codes "desk")) (setting_rule Workers))
+            (setting_rule Facts))
+        (setting_rule Squares)
 
 -- why the words are not read, help among the reasons; nothing where they are read
 abbrev pub faults : List Text → Kinds
@@ -81,7 +86,8 @@ text_of setting words = one_of (name_of setting) (matches_of desk words)
 -- n is the number in the text, and in the setting's range
 abbrev pub IsNumberOf : Setting → Text → ℕ → Type 0
 IsNumberOf setting text n =
-    (n ≡ digits_value 10 (without_leading_plus text)) × (least_of setting ≤ n) × (n ≤ most_of setting)
+    (n ≡ digits_value 10 (without_leading_plus text)) × (least_of setting ≤ n)
+        × (n ≤ most_of setting)
 
 -- the words choose n for the setting
 abbrev pub ChoosesFor : Setting → List Text → ℕ → Type 0
@@ -108,16 +114,18 @@ IsNumberIn setting found n =
 -- each setting has the text that the words give it, which is a number of its range
 abbrev pub Gives : List Text → Found → Type 0
 Gives words found =
-    (setting : Setting) → HasNumber setting found × (one_text found (name_of setting) ≡ text_of setting words)
+    (setting : Setting)
+        → HasNumber setting found × (one_text found (name_of setting) ≡ text_of setting words)
 
 -- whatever is parsed by the command, each setting has a number
 abbrev pub AlwaysGives : Command → Type 0
-AlwaysGives command = (m : ArgMatches) → IsParsedFrom command m → (setting : Setting) → HasNumber setting (found_of m)
+AlwaysGives command =
+    (m : ArgMatches) → IsParsedFrom command m → (setting : Setting) → HasNumber setting (found_of m)
 
--- the error is an unknown word, or want of memory
+-- the error is an unknown word, or 'out of memory'
 abbrev pub IsUnknownOrMemory : Error → Type 0
 IsUnknownOrMemory error = (kind_of error ≡ UnknownArgument) ⊎ (kind_of error ≡ OutOfMemory)
 
--- the error is the help, or want of memory
+-- the error is the help, or 'out of memory'
 abbrev pub IsHelpOrMemory : Error → Type 0
 IsHelpOrMemory error = (kind_of error ≡ DisplayHelp) ⊎ (kind_of error ≡ OutOfMemory)

@@ -12,7 +12,8 @@ use Rattle.desk_words.specs.declared.settings.Setting.TheVariants.{Workers, Fact
 use Rattle.desk_words.specs.declared.words.OptionFault.{OptionFault}
 use Rattle.desk_words.specs.declared.words.OptionFault.TheVariants.{NoMemory}
 
--- a choice by a setting's option: the digits of its number, and whether they are a word of their own
+-- a choice by a setting's option: the digits of its number, and whether they are a word of their
+-- own
 pub record Choice : Type 0 where
   pub setting : Setting
   pub digits : List ℕ
@@ -56,7 +57,8 @@ with_number Squares n options = record options { squares = n }
 -- what the choices come to: where a setting isn't chosen, 2 workers, 64 facts, 4194304 squares
 abbrev pub chosen_by : List Choice → Options
 chosen_by [] = record { workers = 2; facts = 64; squares = 4194304 }
-chosen_by (choice ∷ choices) = with_number choice.setting (digits_value 10 choice.digits) (chosen_by choices)
+chosen_by (choice ∷ choices) =
+    with_number choice.setting (digits_value 10 choice.digits) (chosen_by choices)
 
 -- a word for help is asked with, and no other
 abbrev pub AsksForHelp : List (List ℕ) → Type 0
@@ -76,16 +78,20 @@ pub record IsInRange (options : Options) : Type 0 where
 
 -- what the words come to
 pub record ReadsWords (words : List (List ℕ)) (result : Result Options OptionFault) : Type 0 where
-  -- settings, each at most once and with a number of its range, are chosen, and refused but for memory
-  pub given : (choices : List Choice) → AsksWith choices words → MatchResult result (λ options. options ≡ chosen_by choices) (λ fault. fault ≡ NoMemory)
+  -- settings, each at most once and with a number of its range, are chosen, and refused but for
+  -- memory
+  pub given : (choices : List Choice) → AsksWith choices words
+      → MatchResult result (λ options. options ≡ chosen_by choices) (λ fault. fault ≡ NoMemory)
   -- words that begin with no option are refused
   pub plain : BeginsPlain words → IsErrAnd result IsRefusal
   -- help is answered where it is asked for
   pub help : AsksForHelp words → IsErrAnd result IsHelp
 
 -- what the words come to that a program was started with: one that is no UTF-8 is refused
-abbrev pub Checks : {V : Type 0} → (V → List (List ℕ)) → Result V Error → Result Options OptionFault → Type 0
+abbrev pub Checks : {V : Type 0} → (V → List (List ℕ)) → Result V Error → Result Options OptionFault
+    → Type 0
 Checks texts given result =
     IfOk given (λ words. ReadsWords (texts words) result)
-    × IfErr given (λ error. error_kind error ≡ OutOfMemory → IsErrAnd result (λ fault. fault ≡ NoMemory))
+    × IfErr given
+        (λ error. error_kind error ≡ OutOfMemory → IsErrAnd result (λ fault. fault ≡ NoMemory))
     × IfErr given (λ error. error_kind error ≢ OutOfMemory → IsErrAnd result IsRefusal)

@@ -64,7 +64,7 @@ fn number(matches: &ArgMatches<'_>, setting: Setting) -> u32
 /// Reads the words behind the program's name.
 ///
 /// The options are the settings and help. An error is a request for help, a refused word with the
-/// text for the user, or want of memory.
+/// text for the user, or 'out of memory'.
 pub(crate) fn read<'a, S: AsStr>(alloc: Global, words: &'a [S]) -> Result<Options, Error>
     ensures faults { FailsBy (faults (map S.text words.now)) result }
     ensures chosen { IfOk result (Chooses (map S.text words.now)) }

@@ -21,7 +21,8 @@ pool_over jobs = record { table = jobs.table; sent = jobs.sent; answers = [] }
 abbrev pub new_pool : Entries → Pool
 new_pool entries = record { table = entries; sent = []; answers = [] }
 
--- the ends for so many workers: each takes jobs and sends answers of the table, and nothing was sent
+-- the ends for so many workers: each takes jobs and sends answers of the table, and nothing was
+-- sent
 pub record AreEnds (table : Entries) (workers : ℕ) (takers : List Taking) (senders : List Entries)
     : Type 0 where
   pub takers_many : length takers ≡ workers
@@ -30,12 +31,14 @@ pub record AreEnds (table : Entries) (workers : ℕ) (takers : List Taking) (sen
   pub senders_own : All (λ sender. sender ≡ table) senders
 
 -- the body may be called once, on the post and the input
-abbrev pub CallTakes : {F I T : Type 0} → Once F (MutBor Pool × (I × Unit {0})) (T × (MutBor Pool × Unit {0}))
+abbrev pub CallTakes : {F I T : Type 0}
+    → Once F (MutBor Pool × (I × Unit {0})) (T × (MutBor Pool × Unit {0}))
     → F → Pool → I → Type 0
 CallTakes call body post input = (p : MutBor Pool) → p.now ≡ post → call.pre body (p, (input, tt))
 
 -- the body, called once on the post and the input, answers this
-pub record CallGives {F I T : Type 0} (call : Once F (MutBor Pool × (I × Unit {0})) (T × (MutBor Pool × Unit {0})))
+pub record CallGives {F I T : Type 0}
+    (call : Once F (MutBor Pool × (I × Unit {0})) (T × (MutBor Pool × Unit {0})))
     (body : F) (post : Pool) (input : I) (answer : T) : Type 0 where
   pub shown : MutBor Pool
   pub shows : shown.now ≡ post

@@ -11,7 +11,8 @@ use Rattle.job_queue.specs.Tables.{IsOfKnown, table_in}
 
 -- what an end knows: whether it sends, what it sent and took, and the table
 abbrev pub end_view : Bool → List Slip → List Slip → Option Entries → EndView
-end_view sends sent taken table = record { sends = sends; sent = sent; taken = taken; table = table }
+end_view sends sent taken table =
+    record { sends = sends; sent = sent; taken = taken; table = table }
 
 -- the end knows a table
 abbrev pub IsTabled : EndView → Type 0

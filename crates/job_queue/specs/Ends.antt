@@ -29,8 +29,8 @@ new_taker entries = record { table = entries; taken = [] }
 abbrev pub WasFull : List Slip → Type 0
 WasFull sent = (jobs : List Job) × (length jobs ≡ 16) × AreAmong (map slip_of jobs) sent
 
--- a job that was taken stands behind what was sent; one that wasn't comes back, and Full only from a
--- full queue
+-- a job that was taken stands behind what was sent; one that wasn't comes back, and Full only from
+-- a full queue
 abbrev pub IsOffered : Job → List Slip → List Slip → Sent → Type 0
 IsOffered job before after Taken = after ≡ before ++ slip_of job ∷ []
 IsOffered job before after (Full back) = (back ≡ job) × (after ≡ before) × WasFull before

@@ -22,8 +22,8 @@ abbrev pub RisesFrom : ℕ → List Slip → Type 0
 RisesFrom n [] = ⊤
 RisesFrom n (slip ∷ slips) = (n ≤ slip.number) × RisesFrom (slip.number + 1) slips
 
--- each slip of the first list stands in the second at least as often: however slips are weighed, the
--- first weighs no more
+-- each slip of the first list stands in the second at least as often: however slips are weighed,
+-- the first weighs no more
 abbrev pub AreAmong : List Slip → List Slip → Type 0
 AreAmong some all = (weight : Slip → ℕ) → sum_by weight some ≤ sum_by weight all
 

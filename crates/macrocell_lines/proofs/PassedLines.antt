@@ -56,7 +56,7 @@ left-more number lines rest line low h =
     let same : number + 1 - 1 ≡ number - 1 + 1 = omega arith in
     ap (λ n. drop n lines) same ∙ next.left
 
--- memory is wanted at a node
+-- memory runs out at a node
 pub wants-there : (number : ℕ) (lines rest : List (List ℕ)) (line : List ℕ) (before : MacrocellText) (node : Node) → 1 ≤ number → drop (number - 1) lines ≡ line ∷ rest → after_lines 2 nothing_said (take (number - 1) lines) ≡ Ok before → after_line (number + 1) before line ≡ Ok (record before { nodes = before.nodes ++ node ∷ [] }) → BeginsWithNodes (after_lines 2 nothing_said) lines
 wants-there number lines rest line before node low h passed k = record {
   count = number + 1 - 1;

@@ -31,7 +31,7 @@ pub enum McFault {
     /// There are more than 16,777,216 nodes.
     #[error("there are more than 16,777,216 nodes")]
     NoRoom,
-    /// Memory was wanted.
+    /// Out of memory.
     #[error("there is not enough memory")]
     NoMemory,
 }

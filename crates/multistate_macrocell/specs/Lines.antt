@@ -6,7 +6,8 @@ use Rattle.plane_core.specs.Rows.{kid}
 
 -- the first three lines: what the text is, the rule's name and the generation
 abbrev pub heading_text : List ℕ → ℕ → List ℕ
-heading_text name generation = codes "[M2] (experiment desk)\n#R " ++ name ++ codes "\n#G " ++ decimal generation ++ codes "\n"
+heading_text name generation =
+    codes "[M2] (experiment desk)\n#R " ++ name ++ codes "\n#G " ++ decimal generation ++ codes "\n"
 
 -- the line of a row: its level and its quadrants
 unfoldable pub row_line : SquareRow → List ℕ

@@ -8,7 +8,8 @@ use Rattle.plane_core.specs.Rows.{AreRows, IsNumber, kid, root_level, square_in}
 use Rattle.worlds.specs.Square.{Square, four}
 use Rattle.multistate_macrocell.specs.Quadtree.{square_of}
 
--- rows that grew, and in which n now names the square of level k, above level 0 as that of the last row
+-- rows that grew, and in which n now names the square of level k, above level 0 as that of the last
+-- row
 pub record Adds (old new : List SquareRow) (k n : ℕ) (square : Square) : Type 0 where
   pub more : List SquareRow
   pub grown : new ≡ old ++ more
@@ -28,7 +29,8 @@ pub record IsKnown (rows : List SquareRow) (numbers : List ℕ) (k n : ℕ) : Ty
   pub number : IsNumber rows k (row_number numbers n)
 
 -- the quadrants of a square of a level are known
-pub record AreKnown (rows : List SquareRow) (numbers : List ℕ) (level nw ne sw se : ℕ) : Type 0 where
+pub record AreKnown (rows : List SquareRow) (numbers : List ℕ) (level nw ne sw se : ℕ)
+    : Type 0 where
   pub low : 2 ≤ level
   pub high : level ≤ 62
   pub nw_known : IsKnown rows numbers (level - 1) nw
@@ -44,7 +46,8 @@ CanFollow rows numbers (Drawn bitmap) = Unit {0}
 
 -- the square of a node, whose quadrants are those of rows
 abbrev pub square_by : List SquareRow → List ℕ → Node → Square
-square_by rows numbers node = square_of (λ n. square_in rows (level_of node - 1) (row_number numbers n)) node
+square_by rows numbers node =
+    square_of (λ n. square_in rows (level_of node - 1) (row_number numbers n)) node
 
 -- the square of a row, whose quadrants are those of rows
 abbrev pub square_of_row : List SquareRow → SquareRow → Square

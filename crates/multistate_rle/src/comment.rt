@@ -28,7 +28,7 @@ pub(crate) fn plain_origin() -> Origin
     }
 }
 
-/// The origin after one more comment line, which changes it, and wants memory, only if it begins
+/// The origin after one more comment line, which changes it, and allocates, only if it begins
 /// with `#CXRLE`.
 pub(crate) fn after_comment(
     alloc: Global,

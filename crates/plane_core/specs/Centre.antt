@@ -7,7 +7,8 @@ use Rattle.plane_core.specs.Rows.{IsNumber, AreRows, square_in, root_level, worl
 -- the square of level k + 1 with one quadrant, of these four, and else empty
 abbrev pub cornered : ℕ → ℕ → Square → Square
 cornered k corner s =
-    four (cond (corner == 0) s (empty_square k)) (cond (corner == 1) s (empty_square k)) (cond (corner == 2) s (empty_square k)) (cond (corner == 3) s (empty_square k))
+    four (cond (corner == 0) s (empty_square k)) (cond (corner == 1) s (empty_square k))
+        (cond (corner == 2) s (empty_square k)) (cond (corner == 3) s (empty_square k))
 
 -- the square of level k + 2 in whose middle these four squares of level k meet, and else empty
 abbrev pub centred : ℕ → Square → Square → Square → Square → Square
@@ -19,7 +20,10 @@ is_passed corner place kid = (corner == place) || (kid == 0)
 
 -- whether each of the kids but that at the corner is 0
 abbrev pub is_alone : ℕ → List ℕ → Bool
-is_alone corner kids = is_passed corner 0 (get_or kids 0 0) && (is_passed corner 1 (get_or kids 1 0) && (is_passed corner 2 (get_or kids 2 0) && is_passed corner 3 (get_or kids 3 0)))
+is_alone corner kids =
+    is_passed corner 0 (get_or kids 0 0)
+    && (is_passed corner 1 (get_or kids 1 0)
+        && (is_passed corner 2 (get_or kids 2 0) && is_passed corner 3 (get_or kids 3 0)))
 
 -- no number above 0 names an empty square
 abbrev pub NoneEmpty : List SquareRow → Type 0
@@ -30,7 +34,8 @@ pub record AreFilled (rows : List SquareRow) : Type 0 where
   pub valid : AreRows rows
   pub none_empty : NoneEmpty rows
 
--- the square of level k + 1 that a number names has live cells in this quadrant alone, and inner names that quadrant
+-- the square of level k + 1 that a number names has live cells in this quadrant alone, and inner
+-- names that quadrant
 pub record IsCorner (rows : List SquareRow) (k number corner inner : ℕ) : Type 0 where
   pub names : IsNumber rows k inner
   pub square : square_in rows (suc k) number ≡ cornered k corner (square_in rows k inner)

@@ -36,9 +36,12 @@ unfoldable pub sum_to : (ℕ → ℕ) → ℕ → ℕ
 sum_to g zero = 0
 sum_to g (suc n) = sum_to g n + g n
 
--- the sum of f over the cells that are counted, and over those of the first rows' squares, each as often as it stands
+-- the sum of f over the cells that are counted, and over those of the first rows' squares, each as
+-- often as it stands
 abbrev pub held : List SquareRow → (ℕ → ℕ) → Tally → ℕ
-held rows f t = sum_to (λ s. get_or t.counts s 0 * f s) 256 + sum_to (λ i. get_or t.times.items i 0 * tally f (row_square rows i)) (length t.times.items)
+held rows f t =
+    sum_to (λ s. get_or t.counts s 0 * f s) 256
+    + sum_to (λ i. get_or t.times.items i 0 * tally f (row_square rows i)) (length t.times.items)
 
 -- a square that stands n times may be added: there are no more cells than in a square of level 62
 pub record HasRoom (rows : List SquareRow) (t : Tally) (n : ℕ) (square : Square) : Type 0 where
@@ -53,7 +56,8 @@ pub record Gains (rows : List SquareRow) (old new : Tally) (n : ℕ) (square : S
   pub states : length new.counts ≡ 256
   pub left : length new.times.items ≡ length old.times.items
 
--- the rows that are left, each as often as it stands, and the counts hold the live cells of the root
+-- the rows that are left, each as often as it stands, and the counts hold the live cells of the
+-- root
 pub record IsTallied (rows : List SquareRow) (root : Square) (t : Tally) : Type 0 where
   pub each : (f : ℕ → ℕ) → f 0 ≡ 0 → held rows f t ≡ tally f root
   pub most : held rows is_any t ≤ 2 ^ 124

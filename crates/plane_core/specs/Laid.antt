@@ -10,7 +10,9 @@ use Rattle.plane_core.specs.Rows.{IsNumber, AreRows, square_in, root_level, edge
 
 -- the square whose quadrants these numbers name
 abbrev pub square_of : List SquareRow → ℕ → List ℕ → Square
-square_of rows k kids = four (square_in rows k (get_or kids 0 0)) (square_in rows k (get_or kids 1 0)) (square_in rows k (get_or kids 2 0)) (square_in rows k (get_or kids 3 0))
+square_of rows k kids =
+    four (square_in rows k (get_or kids 0 0)) (square_in rows k (get_or kids 1 0))
+        (square_in rows k (get_or kids 2 0)) (square_in rows k (get_or kids 3 0))
 
 -- the kids name the quadrants, of level k, of the square that n names
 pub record AreQuadrants (rows : List SquareRow) (k n : ℕ) (kids : List ℕ) : Type 0 where
@@ -56,9 +58,11 @@ IsClear side left top w = (x y : ℤ) → IsIn side left top x y → cell w x y 
 
 -- the cells, in their order, that lie in the square of this side
 pub record AreThoseIn (side : ℕ) (left top : ℤ) (cells here : List CellSet) : Type 0 where
-  pub inside : (i : ℕ) (d : CellSet) → i < length here → IsIn side left top (get_or here i d).x (get_or here i d).y
+  pub inside : (i : ℕ) (d : CellSet) → i < length here
+      → IsIn side left top (get_or here i d).x (get_or here i d).y
   pub states : (i : ℕ) (d : CellSet) → i < length here → (get_or here i d).state < 256
-  pub mentions : (x y : ℤ) (s : ℕ) → IsIn side left top x y → last_mention here x y s ≡ last_mention cells x y s
+  pub mentions : (x y : ℤ) (s : ℕ) → IsIn side left top x y
+      → last_mention here x y s ≡ last_mention cells x y s
 
 -- a cell of the square of this side, with a state below 256
 abbrev pub IsCellOf : ℕ → ℤ → ℤ → CellSet → Type 0
@@ -76,26 +80,39 @@ pub record GoesOn (side : ℕ) (left top : ℤ) (c : CellSet) (old new : List Ce
   pub inside : IsIn side left top c.x c.y → new ≡ old ++ c ∷ []
   pub outside : (IsIn side left top c.x c.y → ⊥) → new ≡ old
 
--- a cell of the square with the upper left cell (left, top) is put on the list of its quadrant, of side half
+-- a cell of the square with the upper left cell (left, top) is put on the list of its quadrant, of
+-- side half
 pub record ArePut (half : ℕ) (left top : ℤ) (c : CellSet) (old new : Parts) : Type 0 where
   pub nw : GoesOn half left top c old.nw.items new.nw.items
   pub ne : GoesOn half (left +ℤ pos half) top c old.ne.items new.ne.items
   pub sw : GoesOn half left (top +ℤ pos half) c old.sw.items new.sw.items
   pub se : GoesOn half (left +ℤ pos half) (top +ℤ pos half) c old.se.items new.se.items
 
--- after names the square of level k with the upper left cell (left, top) that before named, with the cells laid on it
-pub record IsLaid (old new : List SquareRow) (k before after : ℕ) (left top : ℤ) (cells : List CellSet) : Type 0 where
+-- after names the square of level k with the upper left cell (left, top) that before named, with
+-- the cells laid on it
+pub record IsLaid (old new : List SquareRow) (k before after : ℕ) (left top : ℤ)
+    (cells : List CellSet)
+    : Type 0 where
   pub keeps : Keeps old new
   pub number : IsNumber new k after
-  pub each : (i j : ℕ) → i < 2 ^ k → j < 2 ^ k → cell_in k (square_in new k after) i j ≡ last_mention cells (left +ℤ pos i) (top +ℤ pos j) (cell_in k (square_in old k before) i j)
+  pub each : (i j : ℕ) → i < 2 ^ k → j < 2 ^ k
+      → cell_in k (square_in new k after) i j
+          ≡ last_mention cells (left +ℤ pos i) (top +ℤ pos j)
+              (cell_in k (square_in old k before) i j)
   pub last : 0 < k → before ≡ length old → after ≡ length new
 
--- new are the states old of the square of level 1 with the upper left cell (left, top), with the cells laid on it
+-- new are the states old of the square of level 1 with the upper left cell (left, top), with the
+-- cells laid on it
 pub record AreLaidStates (left top : ℤ) (cells : List CellSet) (old new : List ℕ) : Type 0 where
   pub count : length new ≡ length old
   pub small : (q : ℕ) → q < 4 → get_or new q 0 < 256
-  pub each : (q : ℕ) → q < 4 → get_or new q 0 ≡ last_mention cells (left +ℤ pos (q % 2)) (top +ℤ pos (q / 2)) (get_or old q 0)
+  pub each : (q : ℕ) → q < 4
+      → get_or new q 0
+          ≡ last_mention cells (left +ℤ pos (q % 2)) (top +ℤ pos (q / 2)) (get_or old q 0)
 
 -- each of the cells lies in the square of the root
 abbrev pub RootHolds : List SquareRow → List CellSet → Type 0
-RootHolds rows cells = All (λ c. IsIn (2 ^ root_level rows) (edge_of (root_level rows)) (edge_of (root_level rows)) c.x c.y) cells
+RootHolds rows cells =
+    All (λ c.
+        IsIn (2 ^ root_level rows) (edge_of (root_level rows)) (edge_of (root_level rows)) c.x c.y)
+        cells

@@ -12,7 +12,8 @@ WorldsHaveRows = (w : World) → HasMargin 0 w → AllBelow 256 w → AreSquares
 
 -- and it has no others
 abbrev pub WorldsHaveOneListOfRows : Type 0
-WorldsHaveOneListOfRows = (w : World) (rows : List SquareRow) → AreSquaresOf w rows → rows_of w ≡ rows
+WorldsHaveOneListOfRows =
+    (w : World) (rows : List SquareRow) → AreSquaresOf w rows → rows_of w ≡ rows
 
 -- the rows of the empty world are one, of the empty square of level 1
 abbrev pub EmptyWorldHasOneRow : Type 0

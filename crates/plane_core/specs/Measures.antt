@@ -28,11 +28,14 @@ no_measures = record { population = 0; greatest = 0; bounds = None }
 -- the measures of a world with one cell at (0, 0)
 abbrev pub measures_of_state : ℕ → Measures
 measures_of_state zero = no_measures
-measures_of_state (suc s) = record { population = 1; greatest = suc s; bounds = Some (record { left = pos 0; top = pos 0; right = pos 0; bottom = pos 0 }) }
+measures_of_state (suc s) =
+    record { population = 1; greatest = suc s;
+        bounds = Some (record { left = pos 0; top = pos 0; right = pos 0; bottom = pos 0 }) }
 
 -- the box moved by (x, y)
 abbrev pub moved_box : Bounds → ℤ → ℤ → Bounds
-moved_box b x y = record { left = b.left +ℤ x; top = b.top +ℤ y; right = b.right +ℤ x; bottom = b.bottom +ℤ y }
+moved_box b x y =
+    record { left = b.left +ℤ x; top = b.top +ℤ y; right = b.right +ℤ x; bottom = b.bottom +ℤ y }
 
 abbrev pub moved_bounds : Option Bounds → ℤ → ℤ → Option Bounds
 moved_bounds None x y = None
@@ -40,11 +43,14 @@ moved_bounds (Some b) x y = Some (moved_box b x y)
 
 -- the measures after a move by (x, y)
 abbrev pub placed : Measures → ℤ → ℤ → Measures
-placed m x y = record { population = m.population; greatest = m.greatest; bounds = moved_bounds m.bounds x y }
+placed m x y =
+    record { population = m.population; greatest = m.greatest; bounds = moved_bounds m.bounds x y }
 
 -- the least box that holds both
 abbrev pub joined_box : Bounds → Bounds → Bounds
-joined_box a b = record { left = int_min a.left b.left; top = int_min a.top b.top; right = int_max a.right b.right; bottom = int_max a.bottom b.bottom }
+joined_box a b =
+    record { left = int_min a.left b.left; top = int_min a.top b.top;
+        right = int_max a.right b.right; bottom = int_max a.bottom b.bottom }
 
 abbrev pub joined_bounds : Option Bounds → Option Bounds → Option Bounds
 joined_bounds None b = b
@@ -53,7 +59,9 @@ joined_bounds (Some a) (Some b) = Some (joined_box a b)
 
 -- the measures of two worlds together, of which no cell is live in both
 abbrev pub joined : Measures → Measures → Measures
-joined a b = record { population = a.population + b.population; greatest = max a.greatest b.greatest; bounds = joined_bounds a.bounds b.bounds }
+joined a b =
+    record { population = a.population + b.population; greatest = max a.greatest b.greatest;
+        bounds = joined_bounds a.bounds b.bounds }
 
 -- the box lies in the square of this side whose upper left cell is at (0, 0)
 pub record LiesIn (side : ℕ) (b : Bounds) : Type 0 where
@@ -85,7 +93,8 @@ measures_in all (suc k) (suc i) = get_or all i no_measures
 
 -- the measures of the square of the i-th row
 abbrev pub AreMeasuresAt : List SquareRow → ℕ → Measures → Type 0
-AreMeasuresAt rows i m = let k = (get_or rows i no_row).level in AreMeasuresOf (alone k (square_in rows k (suc i))) m
+AreMeasuresAt rows i m =
+    let k = (get_or rows i no_row).level in AreMeasuresOf (alone k (square_in rows k (suc i))) m
 
 -- the measures of the squares of the first rows
 pub record AreMeasured (rows : List SquareRow) (all : List Measures) : Type 0 where

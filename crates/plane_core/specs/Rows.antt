@@ -1,4 +1,5 @@
--- Lists of square rows, the squares that they stand for, and the one list that a world is written as.
+-- Lists of square rows, the squares that they stand for, and the one list that a world is written
+-- as.
 use Rattle.std.specs.Prelude.{◌≡◌, ℕ, zero, suc, ◌+◌, ◌-◌, ◌<◌, ◌≤◌, ◌^◌, Bool, true, false, ◌&&◌, ◌==◌, nat_eq, List, [], ◌∷◌, ◌++◌, length, take, get_or, ℤ, pos, neg_ℤ}
 use Rattle.std.specs.List.{list_any, position_or_len}
 use Rattle.std.specs.Cmp.Lexicographic.{pointwise}
@@ -17,7 +18,8 @@ row_at rows n = get_or rows (n - 1) no_row
 abbrev pub kid : SquareRow → ℕ → ℕ
 kid row q = get_or row.kids q 0
 
--- n names a square of level k: at level 0 it is a state, and above 0 or the number of a row of the level
+-- n names a square of level k: at level 0 it is a state, and above 0 or the number of a row of the
+-- level
 unfoldable pub IsNumber : List SquareRow → ℕ → ℕ → Type 0
 IsNumber rows zero n = n < 256
 IsNumber rows (suc k) n = 0 < n → (n ≤ length rows) × ((row_at rows n).level ≡ suc k)
@@ -42,7 +44,8 @@ square_in rows zero n = one n
 square_in rows (suc k) zero = empty_square (suc k)
 square_in rows (suc k) (suc i) =
     let row = get_or rows i no_row in
-    four (square_in rows k (kid row 0)) (square_in rows k (kid row 1)) (square_in rows k (kid row 2)) (square_in rows k (kid row 3))
+    four (square_in rows k (kid row 0)) (square_in rows k (kid row 1))
+        (square_in rows k (kid row 2)) (square_in rows k (kid row 3))
 
 -- the level of the root, which is the last row; with no rows the root is an empty square of level 1
 unfoldable pub root_level : List SquareRow → ℕ
@@ -57,9 +60,12 @@ root_of rows = square_in rows (root_level rows) (length rows)
 abbrev pub edge_of : ℕ → ℤ
 edge_of k = neg_ℤ (pos (2 ^ (k - 1)))
 
--- the world that rows stand for: that of the root, with the cell (0, 0) in its middle, and 0 elsewhere
+-- the world that rows stand for: that of the root, with the cell (0, 0) in its middle, and 0
+-- elsewhere
 unfoldable pub world_of_rows : List SquareRow → World
-world_of_rows rows = put_square (root_level rows) (root_of rows) (edge_of (root_level rows)) (edge_of (root_level rows)) blank
+world_of_rows rows =
+    put_square (root_level rows) (root_of rows) (edge_of (root_level rows))
+        (edge_of (root_level rows)) blank
 
 -- whether two lists of kids are one
 abbrev pub same_kids : List ℕ → List ℕ → Bool
@@ -80,9 +86,12 @@ numbered true there row rows n = record { rows = rows; number = 0 }
 numbered false true row rows n = record { rows = rows; number = n }
 numbered false false row rows n = record { rows = rows ++ row ∷ []; number = n }
 
--- the number of a row among others: 0 if it is empty, that of its equal if there is one, else the next, and then it is the last
+-- the number of a row among others: 0 if it is empty, that of its equal if there is one, else the
+-- next, and then it is the last
 unfoldable pub number_row : SquareRow → List SquareRow → Numbered
-number_row row rows = numbered (same_kids row.kids (0 ∷ 0 ∷ 0 ∷ 0 ∷ [])) (list_any (same_row row) rows) row rows (position_or_len (same_row row) rows + 1)
+number_row row rows =
+    numbered (same_kids row.kids (0 ∷ 0 ∷ 0 ∷ 0 ∷ [])) (list_any (same_row row) rows) row rows
+        (position_or_len (same_row row) rows + 1)
 
 -- the number of a square of level k among rows, after the walk nw, ne, sw, se has completed it
 unfoldable pub number_square : ℕ → Square → List SquareRow → Numbered
@@ -93,7 +102,8 @@ number_square (suc k) (four nw ne sw se) rows =
     let b = number_square k ne a.rows in
     let c = number_square k sw b.rows in
     let d = number_square k se c.rows in
-    number_row (record { level = suc k; kids = a.number ∷ b.number ∷ c.number ∷ d.number ∷ [] }) d.rows
+    number_row (record { level = suc k; kids = a.number ∷ b.number ∷ c.number ∷ d.number ∷ [] })
+        d.rows
 
 -- each live cell lies in the square of a root of level k
 abbrev pub Fits : ℕ → World → Type 0
@@ -124,7 +134,8 @@ pub record AreKept (rows : List SquareRow) : Type 0 where
   pub walked : completed (root_level rows) (root_of rows) ≡ rows
   pub least : IsLeastLevel (root_level rows) (world_of_rows rows)
 
--- the rows of their world as it is written, which are those of the empty square where no cell is live
+-- the rows of their world as it is written, which are those of the empty square where no cell is
+-- live
 pub record AreCanonical (rows : List SquareRow) : Type 0 where
   pub valid : AreRows rows
   pub walked : written (completed (root_level rows) (root_of rows)) ≡ rows

@@ -12,11 +12,14 @@ Has k t rows n = number_square k t rows ≡ record { rows = rows; number = n }
 abbrev pub Walks : ℕ → Square → List SquareRow → List SquareRow → ℕ → Type 0
 Walks k t old new n = number_square k t old ≡ record { rows = new; number = n }
 
--- what is remembered of a row is the number of its square among the completed rows, of which numbers can tell
+-- what is remembered of a row is the number of its square among the completed rows, of which
+-- numbers can tell
 pub record Remembers (rows done : List SquareRow) (numbers : List (Option ℕ)) : Type 0 where
   pub few : length done < 2 ^ 32
   pub count : length numbers ≡ length rows
-  pub each : (i n : ℕ) → i < length rows → get_or numbers i None ≡ Some n → Has (get_or rows i no_row).level (square_in rows (get_or rows i no_row).level (suc i)) done n
+  pub each : (i n : ℕ) → i < length rows → get_or numbers i None ≡ Some n
+      → Has (get_or rows i no_row).level (square_in rows (get_or rows i no_row).level (suc i)) done
+          n
 
 -- the rows that a walk of their root gives: each is the one of its square, and isn't empty
 pub record AreWalked (rows : List SquareRow) : Type 0 where

@@ -19,7 +19,8 @@ holds_all w k = list_all (λ cell. is_within k cell.0.1 && is_within k cell.0.0)
 unfoldable pub least_level : World → ℕ
 least_level w = 1 + position_or_len (holds_all w) (range_with_len 1 62)
 
--- the rows of a world: each distinct square that isn't empty once, in the order in which the walk nw,
--- ne, sw, se from the least root completes them; those of the empty world are one row of level 1
+-- the rows of a world: each distinct square that isn't empty once, in the order in which the walk
+-- nw, ne, sw, se from the least root completes them; those of the empty world are one row of level
+-- 1
 unfoldable pub rows_of : World → List SquareRow
 rows_of w = let k = least_level w in written (completed k (square_at w k (edge_of k) (edge_of k)))

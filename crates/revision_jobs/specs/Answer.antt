@@ -20,8 +20,8 @@ pub record JobResult : Type 0 where
   pub job : Job
   pub outcome : Result Value EvolveFault
 
--- a value in the answer to a job is that of the job's entry, and that there was no room is said only
--- where the entry has none at some limit
+-- a value in the answer to a job is that of the job's entry, and that there was no room is said
+-- only where the entry has none at some limit
 pub record IsRight (job : Job) (outcome : Result Value EvolveFault) : Type 0 where
   pub value_is : IfOk outcome (λ found. found ≡ value (entry_of job.place))
   pub room : outcome ≡ Err EvolveFault.NoRoom → (limit : ℕ) × HasNoRoom limit (entry_of job.place)

@@ -5,8 +5,8 @@ use Rattle.revision_jobs.specs.declared.answer.Job.{Job}
 use Rattle.revision_jobs.specs.Answer.{JobResult}
 use Rattle.revision_jobs.specs.Entries.{IsOf}
 
--- its table, one more than the greatest number that it took, the job that it holds, the answers that
--- it gave, and how many squares a step may keep
+-- its table, one more than the greatest number that it took, the job that it holds, the answers
+-- that it gave, and how many squares a step may keep
 pub record Inline : Type 0 where
   pub table : Entries
   pub floor : ℕ

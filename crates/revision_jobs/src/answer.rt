@@ -24,7 +24,7 @@ pub enum Outcome {
     Plane(Arc<Plane>),
     /// The text of a view.
     Text(Arc<Listing<u8>>),
-    /// Why there is none: no room, which is outcome_of of a step alone, a stop, or want of memory.
+    /// Why there is none: no room, which is outcome_of of a step alone, a stop, or 'out of memory'.
     Gave(EvolveFault),
 }
 

@@ -1,4 +1,5 @@
--- What a rule file means, however its lines are written: each statement is proved by a function of the same name.
+-- What a rule file means, however its lines are written: each statement is proved by a function of
+-- the same name.
 use Rattle.std.specs.Prelude.{◌≡◌, ◌≢◌, ℕ, ◌==◌, Bool, true, false, List, [], ◌∷◌, ◌++◌, map, Result, Ok, Err}
 use Rattle.std.specs.List.{AllByRecursion}
 use Rattle.text_lines.specs.Blanks.{IsBlank, trim}
@@ -10,7 +11,8 @@ use Rattle.rule_file.specs.declared.fault.RuleFault.TheVariants.{NoRuleLine}
 use Rattle.rule_file.specs.declared.text.SectionKind.{SectionKind}
 use Rattle.rule_file.specs.RuleFile.{RuleFile, file_of, opens_section}
 
--- what a file says, whichever of its lines say it: the rule's name, the kind of the section, and what the section's lines say
+-- what a file says, whichever of its lines say it: the rule's name, the kind of the section, and
+-- what the section's lines say
 pub record Saying : Type 0 where
   pub name : List ℕ
   pub kind : SectionKind
@@ -18,7 +20,9 @@ pub record Saying : Type 0 where
 
 -- a file without the numbers of its lines
 abbrev pub saying : RuleFile → Saying
-saying file = record { name = file.name; kind = file.section.kind; lines = map (λ line. line.text) file.section.lines }
+saying file =
+    record { name = file.name; kind = file.section.kind;
+        lines = map (λ line. line.text) file.section.lines }
 
 -- what the file of some bytes says, or why it is none
 abbrev pub saying_of : List ℕ → Result Saying RuleFault
@@ -44,19 +48,31 @@ LinesSayAll = (text other : List ℕ) → says text ≡ says other → file_of t
 
 -- a text with a carriage return before each line feed is the file that it is without them
 abbrev pub LineEndsDoNotMatter : Type 0
-LineEndsDoNotMatter = (text : List ℕ) → AllByRecursion (λ b. b ≢ 13) text → file_of (with_carriage_returns text) ≡ file_of text
+LineEndsDoNotMatter =
+    (text : List ℕ) → AllByRecursion (λ b. b ≢ 13) text
+    → file_of (with_carriage_returns text) ≡ file_of text
 
 -- blanks at the ends of a line change nothing
 abbrev pub BlanksDoNotMatter : Type 0
-BlanksDoNotMatter = (before front line back after : List ℕ) → IsOneLine line → AllByRecursion IsBlank front → AllByRecursion IsBlank back
-    → file_of (before ++ 10 ∷ ((front ++ (line ++ back)) ++ 10 ∷ after)) ≡ file_of (before ++ 10 ∷ (line ++ 10 ∷ after))
+BlanksDoNotMatter =
+    (before front line back after : List ℕ) → IsOneLine line → AllByRecursion IsBlank front
+    → AllByRecursion IsBlank back
+    → file_of (before ++ 10 ∷ ((front ++ (line ++ back)) ++ 10 ∷ after))
+        ≡ file_of (before ++ 10 ∷ (line ++ 10 ∷ after))
 
--- behind the line that names the rule, a comment at the end of a line that opens no section changes nothing
+-- behind the line that names the rule, a comment at the end of a line that opens no section changes
+-- nothing
 abbrev pub CommentsDoNotMatter : Type 0
-CommentsDoNotMatter = (before line comment after : List ℕ) → NamesRule before → IsOneLine line → NoLineFeed comment → opens_section (trim line) ≡ false
-    → file_of (before ++ 10 ∷ ((line ++ 35 ∷ comment) ++ 10 ∷ after)) ≡ file_of (before ++ 10 ∷ (line ++ 10 ∷ after))
+CommentsDoNotMatter =
+    (before line comment after : List ℕ) → NamesRule before → IsOneLine line → NoLineFeed comment
+    → opens_section (trim line) ≡ false
+    → file_of (before ++ 10 ∷ ((line ++ 35 ∷ comment) ++ 10 ∷ after))
+        ≡ file_of (before ++ 10 ∷ (line ++ 10 ∷ after))
 
--- there, a blank line or a comment between two lines changes nothing but the numbers of the lines behind it
+-- there, a blank line or a comment between two lines changes nothing but the numbers of the lines
+-- behind it
 abbrev pub RemarksDoNotMatter : Type 0
-RemarksDoNotMatter = (before line after : List ℕ) → NamesRule before → NoLineFeed line → is_remark (trim (strip_carriage_return line)) ≡ true
+RemarksDoNotMatter =
+    (before line after : List ℕ) → NamesRule before → NoLineFeed line
+    → is_remark (trim (strip_carriage_return line)) ≡ true
     → saying_of (before ++ 10 ∷ (line ++ 10 ∷ after)) ≡ saying_of (before ++ 10 ∷ after)

@@ -34,7 +34,8 @@ numbered_from n (text ∷ texts) = record { number = n; text = text } ∷ number
 
 -- what follows `front` in bytes that begin with it
 abbrev pub after : List ℕ → List ℕ → Option (List ℕ)
-after front bytes = if starts_with nat_eq bytes front then Some (drop (length front) bytes) else None
+after front bytes =
+    if starts_with nat_eq bytes front then Some (drop (length front) bytes) else None
 
 -- a byte that may stand in a rule's name: printable, and neither a blank nor a colon
 abbrev pub is_name_byte : ℕ → Bool
@@ -46,12 +47,15 @@ is_name name = not (length name == 0) && list_all is_name_byte name
 
 -- the name that a line gives to the rule, if it does
 abbrev pub rule_name : List ℕ → Option (List ℕ)
-rule_name line = option_and_then (λ name. if is_name name then Some name else None) (after (codes "@RULE ") line)
+rule_name line =
+    option_and_then (λ name. if is_name name then Some name else None) (after (codes "@RULE ") line)
 
 -- the name that the first line that isn't blank gives, and the lines after it
 abbrev pub named : List NumberedLine → Result (List ℕ × List NumberedLine) RuleFault
 named [] = Err NoRuleLine
-named (line ∷ lines) = if length line.text == 0 then named lines else ok_or (option_map (λ name. (name, lines)) (rule_name line.text)) NoRuleLine
+named (line ∷ lines) =
+    if length line.text == 0 then named lines
+        else ok_or (option_map (λ name. (name, lines)) (rule_name line.text)) NoRuleLine
 
 -- a line that begins with @ opens a section, and so ends the one before
 abbrev pub opens_section : List ℕ → Bool
@@ -64,7 +68,9 @@ first_word line = before_first is_blank line
 
 -- the kind of the section that a line opens, of those that say what a rule does
 abbrev pub section_kind : List ℕ → Option SectionKind
-section_kind line = if bytes_eq (first_word line) (codes "@TABLE") then Some Table else (if bytes_eq (first_word line) (codes "@TREE") then Some Tree else None)
+section_kind line =
+    if bytes_eq (first_word line) (codes "@TABLE") then Some Table
+        else (if bytes_eq (first_word line) (codes "@TREE") then Some Tree else None)
 
 -- what stands before the first #
 abbrev pub without_comment : List ℕ → List ℕ
@@ -82,12 +88,16 @@ said line = unless_blank line.number (trim (without_comment line.text))
 -- what the lines of a section say, up to the line that opens the next one
 abbrev pub section_lines : List NumberedLine → List NumberedLine
 section_lines [] = []
-section_lines (line ∷ lines) = if opens_section line.text then [] else said line ++ section_lines lines
+section_lines (line ∷ lines) =
+    if opens_section line.text then [] else said line ++ section_lines lines
 
 -- the first section that says what the rule does
 abbrev pub section_of : List NumberedLine → Result Section RuleFault
 section_of [] = Err NoTable
-section_of (line ∷ lines) = option_map_or (λ kind. Ok (record { kind = kind; opened = line.number; lines = section_lines lines })) (section_kind line.text) (section_of lines)
+section_of (line ∷ lines) =
+    option_map_or
+        (λ kind. Ok (record { kind = kind; opened = line.number; lines = section_lines lines }))
+        (section_kind line.text) (section_of lines)
 
 -- what a file is, or why it is none
 abbrev pub file_of : List ℕ → Result RuleFile RuleFault

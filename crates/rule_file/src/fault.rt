@@ -49,7 +49,7 @@ pub enum RuleFault {
     /// A cell of state 0 among such cells would change.
     #[error("state 0 is not quiescent")]
     NotQuiescent,
-    /// Memory was wanted.
+    /// Out of memory.
     #[error("there is not enough memory")]
     NoMemory,
 }

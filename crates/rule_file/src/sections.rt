@@ -18,7 +18,7 @@ use text_lines::{find_byte, is_blank, trim};
 ///
 /// The first line that isn't blank is `@RULE`, a space and the name, else the file is refused by
 /// NoRuleLine. Later lines that begin with `@` open sections; a file with neither a table nor a
-/// tree is refused by NoTable. NoMemory comes only where memory was wanted, and last: where the
+/// tree is refused by NoTable. NoMemory comes only where memory ran out, and last: where the
 /// file has a fault, that fault is the answer.
 pub fn cut(alloc: Global, text: &[u8]) -> Result<RuleText<'_>, RuleFault>
     ensures file { Gives result (file_of text.now) }

@@ -38,7 +38,9 @@ abbrev pub is_sound : Kind → Bool
 is_sound (Table t) = table_rule.is_sound t
 is_sound (Tree t) = tree_rule.is_sound t
 
--- the next state of a cell under a rule. A rule's laws, that nine zeros give 0 and that the answer is a state, are asked of all values of this type, also of those that aren't sound: there it is 0. The rule that a file means is sound, so that this is `plain_next` (`RulesOfFilesArePlain`)
+-- the next state of a cell under a rule. A rule's laws, that nine zeros give 0 and that the answer
+-- is a state, are asked of all values of this type, also of those that aren't sound: there it is 0.
+-- The rule that a file means is sound, so that this is `plain_next` (`RulesOfFilesArePlain`)
 abbrev pub next_of : NamedRule → List ℕ → ℕ
 next_of rule around = if is_sound rule.kind then plain_next rule.kind around else 0
 
@@ -57,17 +59,22 @@ rule_of bytes = do
   kind ← kind_of file.section
   Ok (record { name = file.name; kind = kind })
 
--- no tree that a file may say does what this table does with as few nodes as a translated tree may have
+-- no tree that a file may say does what this table does with as few nodes as a translated tree may
+-- have
 abbrev pub IsTooLarge : table_values.Table → Type 0
-IsTooLarge t = (section : Section) (tree : tree_rule.Tree) → tree_of section ≡ Ok tree → Translates t tree → node_limit < length tree.nodes
+IsTooLarge t =
+    (section : Section) (tree : tree_rule.Tree) → tree_of section ≡ Ok tree → Translates t tree
+    → node_limit < length tree.nodes
 
--- the tree that is asked for the next states: a tree is asked itself, and in place of a table its translation, unless that is too large
+-- the tree that is asked for the next states: a tree is asked itself, and in place of a table its
+-- translation, unless that is too large
 abbrev pub IsAsked : Kind → Option tree_rule.Tree → Type 0
 IsAsked (Tree t) asked = asked ≡ Some t
 IsAsked (Table t) None = IsTooLarge t
 IsAsked (Table t) (Some tree) = Translates t tree
 
--- what is kept of a table or tree: it is one that a file may have, and a table's translation is there unless it is too large
+-- what is kept of a table or tree: it is one that a file may have, and a table's translation is
+-- there unless it is too large
 abbrev pub IsTranslated : Kind → Option tree_rule.Tree → Type 0
 IsTranslated (Tree t) translation = translation ≡ None
 IsTranslated (Table t) translation = IsAsked (Table t) translation

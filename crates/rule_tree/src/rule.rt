@@ -50,7 +50,7 @@ impl Rule {
     /// or tree says what the rule does.
     ///
     /// A file that means no rule is refused by the one fault that it has. NoMemory comes only
-    /// where memory was wanted, and never where the file has no name or neither a table nor a tree.
+    /// where memory ran out, and never where the file has no name or neither a table nor a tree.
     pub fn read(alloc: Global, text: &[u8]) -> Result<Rule, RuleFault>
         ensures rule { Gives result (rule_of text.now) }
         ensures plain { IfOk result (λ rule. next_of rule ≡ plain_next rule.kind) }

@@ -8,7 +8,8 @@ use Rattle.bookmarks.specs.declared.view.View.{View}
 use Rattle.schedule.specs.declared.edit.Edit.{Edit}
 use Rattle.schedule.specs.declared.edit.Edit.TheVariants as edit
 
--- an intervention is inserted, changed or removed by its id; cells of the start are set; another start or rule is taken; a bookmark is added, or moved or removed by its id
+-- an intervention is inserted, changed or removed by its id; cells of the start are set; another
+-- start or rule is taken; a bookmark is added, or moved or removed by its id
 pub data Asked : Type 0 where
   InsertIntervention : ℕ → List CellSet → Asked
   ChangeIntervention : ℕ → ℕ → List CellSet → Asked

@@ -54,7 +54,8 @@ all_set_below n interventions = list_all (λ (i : Intervention). set_below n i.c
 abbrev pub spent : Plan → List (Bool × EditFault)
 spent p = (nat_le (2 ^ 64 - 1) p.revision, RevisionSpent) ∷ []
 
--- the refusals of setting cells of the start in the order in which they are looked at, each with whether it applies
+-- the refusals of setting cells of the start in the order in which they are looked at, each with
+-- whether it applies
 abbrev pub for_cells : Plan → List CellSet → List (Bool × EditFault)
 for_cells p cells =
     (nat_lt 10000 (length cells), TooManyCells)
@@ -78,7 +79,8 @@ for_changed_intervention p id generation cells =
 
 -- those of removing it
 abbrev pub for_removed_intervention : Plan → ℕ → List (Bool × EditFault)
-for_removed_intervention p id = (not (has_id intervention_id p.interventions id), NoSuchIntervention) ∷ spent p
+for_removed_intervention p id =
+    (not (has_id intervention_id p.interventions id), NoSuchIntervention) ∷ spent p
 
 -- those of taking another start
 abbrev pub for_start : Plan → World → List (Bool × EditFault)
@@ -89,7 +91,10 @@ for_start p start =
 
 -- those of taking another rule
 abbrev pub for_rule : Plan → Rule → List (Bool × EditFault)
-for_rule p rule = (not (lies_below (states_of rule) p.start && all_set_below (states_of rule) p.interventions), CellStateTooHigh) ∷ spent p
+for_rule p rule =
+    (not (lies_below (states_of rule) p.start && all_set_below (states_of rule) p.interventions),
+        CellStateTooHigh)
+    ∷ spent p
 
 -- those of adding a bookmark
 abbrev pub for_bookmark : Plan → ℕ → View → List (Bool × EditFault)
@@ -130,9 +135,11 @@ first_refusal (r ∷ rest) = if r.0 then Some r.1 else first_refusal rest
 
 -- whether something fits is answered by them
 abbrev pub Checks : {A : Type 0} → Result A EditFault → List (Bool × EditFault) → Type 0
-Checks result refusals = MatchResult result (λ _. first_refusal refusals ≡ None) (λ fault. first_refusal refusals ≡ Some fault)
+Checks result refusals =
+    MatchResult result (λ _. first_refusal refusals ≡ None)
+        (λ fault. first_refusal refusals ≡ Some fault)
 
--- why an edit of a document is refused, if it is; want of memory aside
+-- why an edit of a document is refused, if it is; 'out of memory' aside
 abbrev pub refusal : Plan → Asked → Option EditFault
 refusal p asked = first_refusal (refusals p asked)
 
@@ -156,7 +163,9 @@ answered p = record { revision = p.revision + 1; id = None }
 abbrev pub with_intervention : Plan → ℕ → List CellSet → Changed
 with_intervention p generation cells = record {
   plan = record (revised p) {
-    interventions = p.interventions ++ record { id = p.last_intervention + 1; generation = generation; cells = cells } ∷ [];
+    interventions =
+        p.interventions
+        ++ record { id = p.last_intervention + 1; generation = generation; cells = cells } ∷ [];
     last_intervention = p.last_intervention + 1;
   };
   edited = record { revision = p.revision + 1; id = Some (p.last_intervention + 1) };
@@ -169,7 +178,10 @@ acting generation cells i = record i { generation = generation; cells = cells }
 -- the document with the intervention of an id at this generation, with these cells
 abbrev pub with_changed_intervention : Plan → ℕ → ℕ → List CellSet → Changed
 with_changed_intervention p id generation cells = record {
-  plan = record (revised p) { interventions = changed_at intervention_id (acting generation cells) p.interventions id };
+  plan =
+      record (revised p)
+          { interventions = changed_at intervention_id (acting generation cells) p.interventions id
+              };
   edited = answered p;
 }
 
@@ -205,7 +217,9 @@ changed_rule p rule = record {
 abbrev pub changed_bookmarks : Plan → ℕ → View → Changed
 changed_bookmarks p generation view = record {
   plan = record (revised p) {
-    bookmarks = p.bookmarks ++ record { id = p.last_bookmark + 1; generation = generation; view = view } ∷ [];
+    bookmarks =
+        p.bookmarks ++ record { id = p.last_bookmark + 1; generation = generation; view = view }
+        ∷ [];
     last_bookmark = p.last_bookmark + 1;
   };
   edited = record { revision = p.revision + 1; id = Some (p.last_bookmark + 1) };
@@ -218,7 +232,8 @@ marking generation b = record b { generation = generation }
 -- the document with the bookmark of an id at this generation
 abbrev pub with_moved_bookmark : Plan → ℕ → ℕ → Changed
 with_moved_bookmark p id generation = record {
-  plan = record (revised p) { bookmarks = changed_at bookmark_id (marking generation) p.bookmarks id };
+  plan =
+      record (revised p) { bookmarks = changed_at bookmark_id (marking generation) p.bookmarks id };
   edited = answered p;
 }
 

@@ -6,7 +6,8 @@ use Rattle.rule_tree.specs.Rule.{still}
 use Rattle.schedule.specs.declared.document.Intervention.{Intervention}
 use Rattle.schedule.specs.declared.document.Bookmark.{Bookmark}
 
--- a rule, a start, interventions and bookmarks by rising id, the revision, and the last ids that were given
+-- a rule, a start, interventions and bookmarks by rising id, the revision, and the last ids that
+-- were given
 pub record Plan : Type 0 where
   pub rule : Rule
   pub start : World

@@ -1,4 +1,5 @@
--- What a bookmark shows by definition: the pattern computed anew from the start, one generation after another.
+-- What a bookmark shows by definition: the pattern computed anew from the start, one generation
+-- after another.
 use Rattle.std.specs.Prelude.{ℕ, Bool, List, [], flat_map, if◌then◌else◌, ◌==◌}
 use Rattle.worlds.specs.declared.cell.CellSet.{CellSet}
 use Rattle.worlds.specs.World.{World}

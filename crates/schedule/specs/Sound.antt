@@ -10,7 +10,8 @@ use Rattle.schedule.specs.declared.document.Bookmark.{Bookmark}
 use Rattle.schedule.specs.Plan.{Plan}
 use Rattle.schedule.specs.Ids.{IdsRise, intervention_id, bookmark_id}
 
--- the cells lie where an edit may name them: in -2^60 <= x, y < 2^60, which is 2^60 from the edges of the range of planes
+-- the cells lie where an edit may name them: in -2^60 <= x, y < 2^60, which is 2^60 from the edges
+-- of the range of planes
 abbrev pub AreNamed : List CellSet → Type 0
 AreNamed = AllByRecursion (λ c. IsInside (2 ^ 60) c.x c.y)
 
@@ -31,7 +32,8 @@ pub record IsSound (p : Plan) : Type 0 where
   pub start_inside : HasMargin (2 ^ 60) p.start
   pub interventions_allowed : AllByRecursion (IsAllowed (states_of p.rule)) p.interventions
   pub interventions_rise : IdsRise intervention_id p.interventions
-  pub interventions_given : AllByRecursion (λ (i : Intervention). i.id ≤ p.last_intervention) p.interventions
+  pub interventions_given : AllByRecursion (λ (i : Intervention). i.id ≤ p.last_intervention)
+      p.interventions
   pub few_interventions : length p.interventions ≤ 4096
   pub interventions_within : p.last_intervention ≤ p.revision
   pub bookmarks_near : AllByRecursion (λ (b : Bookmark). b.generation ≤ 2 ^ 60) p.bookmarks

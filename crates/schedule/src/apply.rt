@@ -25,7 +25,7 @@ use std::sync::Arc;
 
 impl Document {
     /// Makes the change that the edit asks for, or refuses it by its first refusal and changes
-    /// nothing. NoMemory comes only where memory was wanted, and after all other refusals.
+    /// nothing. NoMemory comes only where memory ran out, and after all other refusals.
     pub fn apply(&mut self, edit: &Edit) -> Result<Edited, EditFault>
         ensures ok { IfOk result
             (λ edited. change self.old (asked_of edit.now) ≡ Ok (made self.new edited)) }
@@ -40,7 +40,7 @@ impl Document {
     }
 
     /// Makes the change of an edit that fits, as `check` tells. The only refusal that is left is
-    /// want of memory, and then nothing changes.
+    /// memory running out, and then nothing changes.
     pub fn make(&mut self, edit: &Edit) -> Result<Edited, AllocError>
         requires { first_refusal (refusals self.old (asked_of edit.now)) ≡ None }
         ensures ok { IfOk result

@@ -39,7 +39,7 @@ pub enum EditFault {
     /// The revision is the greatest there is.
     #[error("no revision is left")]
     RevisionSpent,
-    /// Memory was wanted.
+    /// Out of memory.
     #[error("there is not enough memory")]
     NoMemory,
 }

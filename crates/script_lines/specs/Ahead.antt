@@ -12,8 +12,8 @@ pub record Takes (old new : Ahead) (bs : List ℕ) : Type 0 where
   pub consumed : Consumes old.bytes new.bytes bs
   pub counted : new.room + length bs ≡ old.room
 
--- a reader of lines: the reader that it stands on, what is ahead of it, how many lines of the script
--- were taken, how many bytes the reader gave, and how often it failed
+-- a reader of lines: the reader that it stands on, what is ahead of it, how many lines of the
+-- script were taken, how many bytes the reader gave, and how often it failed
 pub record LineReading (R : Type 0) : Type 0 where
   pub inner : R
   pub ahead : Ahead

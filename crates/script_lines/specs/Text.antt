@@ -1,7 +1,7 @@
--- The bytes of a text, unless memory was wanted for them.
+-- The bytes of a text, unless memory ran out.
 use Rattle.std.specs.Prelude.{◌≡◌, ℕ, ◌++◌, List, Option, Some, None, length}
 
--- the text grew by these bytes, unless memory was wanted
+-- the text grew by these bytes, unless memory ran out
 abbrev pub Grows : Option (List ℕ) → Option (List ℕ) → List ℕ → Type 0
 Grows old None bs = Unit {0}
 Grows None (Some ys) bs = ⊥
@@ -12,7 +12,7 @@ abbrev pub len_of : Option (List ℕ) → ℕ
 len_of None = 0
 len_of (Some xs) = length xs
 
--- it is these bytes, unless memory was wanted
+-- it is these bytes, unless memory ran out
 abbrev pub IsText : Option (List ℕ) → List ℕ → Type 0
 IsText None bs = Unit {0}
 IsText (Some xs) bs = xs ≡ bs

@@ -41,7 +41,7 @@ pub enum Found {
 }
 
 /// What a line says, each run of spaces cut to one space, or a beginning of it of 64 bytes or more
-/// where memory was wanted for the rest.
+/// where memory ran out.
 #[derive(Debug, Drop)]
 pub struct KeptLine {
     kept: Vec<u8>,
@@ -84,7 +84,7 @@ impl KeptLine {
         self.tail != Tail::Cut && self.kept.as_slice() == b"end".as_slice()
     }
 
-    /// Bytes that have the words of the line, or None where memory was wanted: then the words with
+    /// Bytes that have the words of the line, or None where memory ran out: then the words with
     /// one space between each two are more than 64 bytes.
     pub fn words(&self) -> Option<&[u8]>
         ensures { (says : List ℕ) → Says self.now says → MatchOption result

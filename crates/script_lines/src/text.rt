@@ -6,7 +6,7 @@ ghost use Rattle.std.specs.Option.{option_map};
 use std::alloc::Global;
 use std::marker::Model;
 
-/// The bytes of a text, or nothing where memory was wanted for them: what was kept by then is
+/// The bytes of a text, or nothing where memory ran out: what was kept by then is
 /// given up at once.
 #[derive(Debug, Drop)]
 pub struct Text {
@@ -39,7 +39,7 @@ impl Text {
         Text { bytes: None }
     }
 
-    /// The bytes, unless memory was wanted for them.
+    /// The bytes, unless memory ran out.
     pub fn bytes(&self) -> Option<&[u8]>
         ensures { MatchOption result (self.now ≡ None) (λ bytes. self.now ≡ Some bytes.now) }
     {

@@ -5,7 +5,8 @@ use Rattle.std.specs.Coded.{Coded, code_by, coded_ℕ, coded_ℤ, coded×}
 use Rattle.std.specs.FinMap as finite
 use Rattle.square_tree.specs.Place.{place_cmp}
 
--- the level of the square, and a finite map from places to states, in which 0 is a state like the others
+-- the level of the square, and a finite map from places to states, in which 0 is a state like the
+-- others
 pub record Cells : Type 0 where
   pub level : ℕ
   pub states : finite.FinMap place_cmp ℕ
@@ -13,7 +14,9 @@ pub record Cells : Type 0 where
 -- the code by which proofs tell them apart
 abbrev pub coded_cells : Coded Cells
 coded_cells =
-    code_by (ℕ × finite.FinMap place_cmp ℕ) (coded× coded_ℕ (finite.code (coded× coded_ℤ coded_ℤ) coded_ℕ)) (λ c. (c.level, c.states)) (λ p. record { level = p.0; states = p.1 }) (λ _. refl)
+    code_by (ℕ × finite.FinMap place_cmp ℕ)
+        (coded× coded_ℕ (finite.code (coded× coded_ℤ coded_ℤ) coded_ℕ)) (λ c. (c.level, c.states))
+        (λ p. record { level = p.0; states = p.1 }) (λ _. refl)
 
 -- how far the square of a level reaches to the west and to the north of (0, 0)
 abbrev pub reach : ℕ → ℕ
@@ -46,12 +49,16 @@ put c x y s = record c { states = finite.insert c.states (y, x) s }
 
 -- what the first says, and where it says nothing what the second says, in the square of the second
 abbrev pub overlaid : Cells → Cells → Cells
-overlaid c d = record d { states = finite.from_entries (finite.entries c.states ++ finite.entries d.states) }
+overlaid c d =
+    record d { states = finite.from_entries (finite.entries c.states ++ finite.entries d.states) }
 
--- of each place the new one says what the old one says, or what it says once the other is laid on it
+-- of each place the new one says what the old one says, or what it says once the other is laid on
+-- it
 pub record IsPartlyOverlaid (other old new : Cells) : Type 0 where
   pub level : new.level ≡ old.level
-  pub states : (x y : ℤ) → (state_at new x y ≡ state_at old x y) ⊎ (state_at new x y ≡ state_at (overlaid other old) x y)
+  pub states : (x y : ℤ)
+      → (state_at new x y ≡ state_at old x y)
+          ⊎ (state_at new x y ≡ state_at (overlaid other old) x y)
 
 -- the states of so many cells from (x, y) to the right, 0 where nothing is said
 abbrev pub row_states : Cells → ℤ → ℤ → ℕ → List ℕ
@@ -59,4 +66,5 @@ row_states c x y width = map (λ k. unwrap_or (state_at c (x +ℤ pos k) y) 0) (
 
 -- those of the rows of a rectangle, from the top
 abbrev pub window_states : Cells → ℤ → ℤ → ℕ → ℕ → List ℕ
-window_states c left top width height = concat (map (λ k. row_states c left (top +ℤ pos k) width) (range_with_len 0 height))
+window_states c left top width height =
+    concat (map (λ k. row_states c left (top +ℤ pos k) width) (range_with_len 0 height))

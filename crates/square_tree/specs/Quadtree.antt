@@ -3,7 +3,8 @@ use Rattle.std.specs.Prelude.{ℕ, ◌-◌, ◌^◌, ◌≡◌, ◌<◌, nat_lt,
 use Rattle.square_tree.specs.declared.tree.PatchTree.{PatchTree, Keep, Cell, Quad'}
 use Rattle.square_tree.specs.declared.tree.Four.{Four}
 
--- a square that says nothing, the state of one cell, or the quadrants in the north-west, north-east, south-west and south-east
+-- a square that says nothing, the state of one cell, or the quadrants in the north-west,
+-- north-east, south-west and south-east
 pub data Quadtree : Type 0 where
   keep : Quadtree
   cell : ℕ → Quadtree
@@ -23,9 +24,11 @@ quadtree_of_four f = quad (quadtree f.nw) (quadtree f.ne) (quadtree f.sw) (quadt
 abbrev pub HasLevel : ℕ → Quadtree → Type 0
 HasLevel l keep = Unit {0}
 HasLevel l (cell s) = l ≡ 0
-HasLevel l (quad nw ne sw se) = (0 < l) × HasLevel (l - 1) nw × HasLevel (l - 1) ne × HasLevel (l - 1) sw × HasLevel (l - 1) se
+HasLevel l (quad nw ne sw se) =
+    (0 < l) × HasLevel (l - 1) nw × HasLevel (l - 1) ne × HasLevel (l - 1) sw × HasLevel (l - 1) se
 
--- what a quadtree of the level l says of the cell in column x and row y, counted from the north-west corner
+-- what a quadtree of the level l says of the cell in column x and row y, counted from the
+-- north-west corner
 abbrev pub at : Quadtree → ℕ → ℕ → ℕ → Option ℕ
 at keep l x y = None
 at (cell s) l x y = if x == 0 && y == 0 then Some s else None

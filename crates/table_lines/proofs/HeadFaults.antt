@@ -1,4 +1,4 @@
--- The faults of a table's head, of which none is a want of memory.
+-- The faults of a table's head, of which none is 'out of memory'.
 use Rattle.std.proofs.Common.{ℕ, List, [], ◌∷◌, arith, Ok}
 use Rattle.basics.specs.Results.{◌>>=◌}
 use Rattle.rule_file.proofs.Shared.Readings.{WantsNone}

@@ -16,7 +16,7 @@ module _ {A X : Type 0} (o : Option X) (first : X → Result Described RuleFault
       → (r ≡ Ok y → P y) → step o first f r ≡ Ok y → P y
   by_step P Q y one later other h = grind arith
 
-  -- no memory is wanted
+  -- memory doesn't run out
   pub step-none : ((x : X) → WantsNone (first x)) → ((e : Described) → WantsNone (f e)) → WantsNone r → WantsNone (step o first f r)
   step-none one later other h = grind arith
 

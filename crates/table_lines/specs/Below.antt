@@ -21,4 +21,5 @@ admits_below n t = list_all (entry_below n) t.inputs && entry_below n t.result
 
 -- all states of these variables are below n
 abbrev pub VariablesBelow : ℕ → Variables → Type 0
-VariablesBelow n variables = (name : List ℕ) (v : Variable) → variables.named name ≡ Some v → all_below n v.states ≡ true
+VariablesBelow n variables =
+    (name : List ℕ) (v : Variable) → variables.named name ≡ Some v → all_below n v.states ≡ true

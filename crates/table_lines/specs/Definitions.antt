@@ -10,7 +10,9 @@ use Rattle.table_lines.specs.Variables.{Variables, states_or_fault}
 
 -- the variables that are kept by their names
 abbrev pub variables_of : kept.Variables → Variables
-variables_of variables = record { defined = variables.defined; named = λ name. lookup (λ key. bytes_eq name key.now) variables.by_name.entries }
+variables_of variables =
+    record { defined = variables.defined;
+        named = λ name. lookup (λ key. bytes_eq name key.now) variables.by_name.entries }
 
 -- some states, if they are below the count of states
 abbrev pub unless_too_high : ℕ → List ℕ → Option (List ℕ)
@@ -18,4 +20,5 @@ unless_too_high n states = if all_below n states then Some states else None
 
 -- the set that a member stands for, unless a state of it is too high
 abbrev pub member_set : ℕ → Variables → ℕ → List ℕ → Result (Option (List ℕ)) RuleFault
-member_set n variables number member = states_or_fault variables number member >>= λ states. Ok (unless_too_high n states)
+member_set n variables number member =
+    states_or_fault variables number member >>= λ states. Ok (unless_too_high n states)

@@ -17,11 +17,22 @@ use Rattle.table_lines.specs.declared.descriptors.Descriptor.TheVariants as desc
 
 -- the descriptor of this word
 abbrev pub descriptor_named : List ℕ → Option Descriptor
-descriptor_named word = if bytes_eq word (codes "n_states") then Some descriptor.States else (if bytes_eq word (codes "neighborhood") then Some descriptor.Neighborhood else (if bytes_eq word (codes "symmetries") then Some descriptor.Symmetries else None))
+descriptor_named word =
+    if bytes_eq word (codes "n_states") then Some descriptor.States
+        else
+            (if bytes_eq word (codes "neighborhood") then Some descriptor.Neighborhood
+                else
+                    (if bytes_eq word (codes "symmetries") then Some descriptor.Symmetries
+                        else None))
 
 -- a descriptor and its value, which a colon parts, if the line is one
 abbrev pub descriptor_of : List ℕ → Option (Descriptor × List ℕ)
-descriptor_of line = option_and_then (λ colon. option_map (λ d. (d, trim_start (drop (colon + 1) line))) (descriptor_named (trim_end (take colon line)))) (position (λ b. b == 58) line)
+descriptor_of line =
+    option_and_then
+        (λ colon.
+            option_map (λ d. (d, trim_start (drop (colon + 1) line)))
+                (descriptor_named (trim_end (take colon line))))
+        (position (λ b. b == 58) line)
 
 -- what the descriptors said so far; the symmetry is a name until the neighbourhood is known
 pub record Described : Type 0 where
@@ -44,15 +55,22 @@ abbrev pub fitting : Described → Result Described RuleFault
 fitting d = if are_unfit d.neighborhood d.symmetry then Err BadSymmetry else Ok d
 
 -- a descriptor is described once
-abbrev pub once : {X : Type 0} → ℕ → Option X → Result Described RuleFault → Result Described RuleFault
+abbrev pub once : {X : Type 0} → ℕ → Option X → Result Described RuleFault
+    → Result Described RuleFault
 once number None described = described
 once number (Some x) described = Err (BadTransition number)
 
 -- what one more descriptor says
 abbrev pub describe : Described → ℕ → Descriptor → List ℕ → Result Described RuleFault
-describe d number descriptor.States value = once number d.states (ok_or (states_in value) BadStates >>= λ n. Ok (record d { states = Some n }))
-describe d number descriptor.Neighborhood value = once number d.neighborhood (ok_or (neighborhood_named value) BadNeighborhood >>= λ n. fitting (record d { neighborhood = Some n }))
-describe d number descriptor.Symmetries value = once number d.symmetry (fitting (record d { symmetry = Some value }))
+describe d number descriptor.States value =
+    once number d.states
+        (ok_or (states_in value) BadStates >>= λ n. Ok (record d { states = Some n }))
+describe d number descriptor.Neighborhood value =
+    once number d.neighborhood
+        (ok_or (neighborhood_named value) BadNeighborhood >>= λ n.
+            fitting (record d { neighborhood = Some n }))
+describe d number descriptor.Symmetries value =
+    once number d.symmetry (fitting (record d { symmetry = Some value }))
 
 -- the head, if all three descriptors were there
 abbrev pub head_of : Described → Result Head RuleFault
@@ -63,7 +81,10 @@ head_of d = do
   symmetry ← ok_or (symmetry_named neighborhood name) BadSymmetry
   Ok (record { states = states; neighborhood = neighborhood; symmetry = symmetry })
 
--- the head that the first lines describe, up to one that is no descriptor, and the lines from there on
+-- the head that the first lines describe, up to one that is no descriptor, and the lines from there
+-- on
 abbrev pub head_from : Described → List NumberedLine → Result (Head × List NumberedLine) RuleFault
 head_from d [] = head_of d >>= λ head. Ok (head, [])
-head_from d (line ∷ lines) = option_map_or (λ x. describe d line.number x.0 x.1 >>= λ e. head_from e lines) (descriptor_of line.text) (head_of d >>= λ head. Ok (head, line ∷ lines))
+head_from d (line ∷ lines) =
+    option_map_or (λ x. describe d line.number x.0 x.1 >>= λ e. head_from e lines)
+        (descriptor_of line.text) (head_of d >>= λ head. Ok (head, line ∷ lines))

@@ -11,6 +11,8 @@ parts text = map trim (slice_split (λ b. b == 44) text)
 abbrev pub single_bytes : List ℕ → List (List ℕ)
 single_bytes line = map (λ b. b ∷ []) line
 
--- the entries that a line has: what stands between its commas, or, in a line without commas, each byte, where ten states at most have a digit each
+-- the entries that a line has: what stands between its commas, or, in a line without commas, each
+-- byte, where ten states at most have a digit each
 abbrev pub fields : ℕ → List ℕ → List (List ℕ)
-fields states line = if nat_le states 10 && not (list_any (λ b. b == 44) line) then single_bytes line else parts line
+fields states line =
+    if nat_le states 10 && not (list_any (λ b. b == 44) line) then single_bytes line else parts line

@@ -12,7 +12,8 @@ neighborhood_named name =
     (if bytes_eq name (codes "hexagonal") then Some Hexagonal else
     (if bytes_eq name (codes "oneDimensional") then Some OneDimensional else None)))
 
--- the places of a cell's neighbours in the order C, N, NE, E, SE, S, SW, W, NW, as a transition lists them
+-- the places of a cell's neighbours in the order C, N, NE, E, SE, S, SW, W, NW, as a transition
+-- lists them
 abbrev pub places_of : Neighborhood → List ℕ
 places_of VonNeumann = 1 ∷ 3 ∷ 5 ∷ 7 ∷ []
 places_of Moore = 1 ∷ 2 ∷ 3 ∷ 4 ∷ 5 ∷ 6 ∷ 7 ∷ 8 ∷ []

@@ -7,7 +7,9 @@ use Rattle.table_lines.specs.States.{same_set, word_of}
 
 -- its four words
 abbrev pub hash_input_of : List ℕ → List (List ℕ)
-hash_input_of set = fed.u64 (word_of set 0) ++ fed.u64 (word_of set 1) ++ fed.u64 (word_of set 2) ++ fed.u64 (word_of set 3)
+hash_input_of set =
+    fed.u64 (word_of set 0) ++ fed.u64 (word_of set 1) ++ fed.u64 (word_of set 2)
+    ++ fed.u64 (word_of set 3)
 
 -- equal sets have equal words
 pub same_input : (a b : List ℕ) → same_set a b ≡ true → hash_input_of a ≡ hash_input_of b

@@ -8,9 +8,15 @@ use Rattle.table_lines.specs.declared.symmetry.Symmetry.TheVariants as symmetry
 
 -- the symmetries of each neighbourhood
 abbrev pub symmetries_of : Neighborhood → List Symmetry
-symmetries_of VonNeumann = symmetry.None ∷ symmetry.Rotate4 ∷ symmetry.Rotate4Reflect ∷ symmetry.ReflectHorizontal ∷ symmetry.Permute ∷ []
-symmetries_of Moore = symmetry.None ∷ symmetry.Rotate4 ∷ symmetry.Rotate8 ∷ symmetry.Rotate4Reflect ∷ symmetry.Rotate8Reflect ∷ symmetry.ReflectHorizontal ∷ symmetry.Permute ∷ []
-symmetries_of Hexagonal = symmetry.None ∷ symmetry.Rotate2 ∷ symmetry.Rotate3 ∷ symmetry.Rotate6 ∷ symmetry.Rotate6Reflect ∷ symmetry.Permute ∷ []
+symmetries_of VonNeumann =
+    symmetry.None ∷ symmetry.Rotate4 ∷ symmetry.Rotate4Reflect ∷ symmetry.ReflectHorizontal
+    ∷ symmetry.Permute ∷ []
+symmetries_of Moore =
+    symmetry.None ∷ symmetry.Rotate4 ∷ symmetry.Rotate8 ∷ symmetry.Rotate4Reflect
+    ∷ symmetry.Rotate8Reflect ∷ symmetry.ReflectHorizontal ∷ symmetry.Permute ∷ []
+symmetries_of Hexagonal =
+    symmetry.None ∷ symmetry.Rotate2 ∷ symmetry.Rotate3 ∷ symmetry.Rotate6 ∷ symmetry.Rotate6Reflect
+    ∷ symmetry.Permute ∷ []
 symmetries_of OneDimensional = symmetry.None ∷ symmetry.Reflect ∷ symmetry.Permute ∷ []
 
 -- the name of a symmetry
@@ -30,4 +36,5 @@ name_of_symmetry symmetry.Permute = codes "permute"
 
 -- the symmetry of this name among those of the neighbourhood
 abbrev pub symmetry_named : Neighborhood → List ℕ → Option Symmetry
-symmetry_named neighborhood name = find (λ s. bytes_eq name (name_of_symmetry s)) (symmetries_of neighborhood)
+symmetry_named neighborhood name =
+    find (λ s. bytes_eq name (name_of_symmetry s)) (symmetries_of neighborhood)

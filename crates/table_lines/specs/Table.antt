@@ -5,7 +5,8 @@ use Rattle.table_lines.specs.declared.neighborhood.Neighborhood.{Neighborhood}
 use Rattle.table_lines.specs.declared.symmetry.Symmetry.{Symmetry}
 use Rattle.table_lines.specs.declared.transition.Transition.{Transition}
 
--- a table: how many states there are, which cells are neighbours, in which arrangements they may stand, and the transitions in order
+-- a table: how many states there are, which cells are neighbours, in which arrangements they may
+-- stand, and the transitions in order
 pub record Table : Type 0 where
   pub states : ℕ
   pub neighborhood : Neighborhood
@@ -14,4 +15,6 @@ pub record Table : Type 0 where
 
 -- the table of this head and these transitions
 abbrev pub headed : Head → List Transition → Table
-headed head transitions = record { states = head.states; neighborhood = head.neighborhood; symmetry = head.symmetry; transitions = transitions }
+headed head transitions =
+    record { states = head.states; neighborhood = head.neighborhood; symmetry = head.symmetry;
+        transitions = transitions }

@@ -33,15 +33,20 @@ no_variables = record { defined = 0; named = λ name. None }
 
 -- a byte that may stand in a variable's name: printable, and none of the signs , { } = # :
 abbrev pub is_variable_byte : ℕ → Bool
-is_variable_byte b = nat_le 33 b && nat_le b 126 && not (b == 44 || (b == 123 || (b == 125 || (b == 61 || (b == 35 || b == 58)))))
+is_variable_byte b =
+    nat_le 33 b && nat_le b 126
+    && not (b == 44 || (b == 123 || (b == 125 || (b == 61 || (b == 35 || b == 58)))))
 
 -- one such byte or more, not all of them digits
 abbrev pub is_variable_name : List ℕ → Bool
-is_variable_name name = not (length name == 0) && list_all is_variable_byte name && is_none (number_of name)
+is_variable_name name =
+    not (length name == 0) && list_all is_variable_byte name && is_none (number_of name)
 
 -- what stands between a brace at either end, or the text itself, if it has a brace at neither end
 abbrev pub unbraced : List ℕ → Option (List ℕ)
-unbraced text = if opens text && closes text then Some (drop 1 (take (length text - 1) text)) else (if opens text || closes text then None else Some text)
+unbraced text =
+    if opens text && closes text then Some (drop 1 (take (length text - 1) text))
+        else (if opens text || closes text then None else Some text)
   where
     opens : List ℕ → Bool
     opens text = starts_with nat_eq text (123 ∷ [])
@@ -51,11 +56,20 @@ unbraced text = if opens text && closes text then Some (drop 1 (take (length tex
 
 -- the name that a line defines, and the members of its set
 abbrev pub definition_in : List ℕ → Option (List ℕ × List (List ℕ))
-definition_in line = option_and_then (λ sign. option_and_then (λ set. if is_variable_name (trim (drop 3 (take sign line))) then Some (trim (drop 3 (take sign line)), parts set) else None) (unbraced (trim (drop (sign + 1) line)))) (position (λ b. b == 61) line)
+definition_in line =
+    option_and_then
+        (λ sign. option_and_then
+            (λ set. if is_variable_name (trim (drop 3 (take sign line)))
+                then Some (trim (drop 3 (take sign line)), parts set) else None)
+            (unbraced (trim (drop (sign + 1) line))))
+        (position (λ b. b == 61) line)
 
--- the states that a member stands for: a number for itself, and a name for those of an earlier variable
+-- the states that a member stands for: a number for itself, and a name for those of an earlier
+-- variable
 abbrev pub member_states : Variables → List ℕ → Option (List ℕ)
-member_states variables member = option_map_or (λ n. Some (n ∷ [])) (number_of member) (option_map (λ v. v.states) (variables.named member))
+member_states variables member =
+    option_map_or (λ n. Some (n ∷ [])) (number_of member)
+        (option_map (λ v. v.states) (variables.named member))
 
 -- whether all states of some sets are below the count of states
 abbrev pub are_below : ℕ → List (List ℕ) → Bool
@@ -71,7 +85,8 @@ each f (x ∷ xs) = do
 
 -- the states of a member, or its fault
 abbrev pub states_or_fault : Variables → ℕ → List ℕ → Result (List ℕ) RuleFault
-states_or_fault variables number member = ok_or (member_states variables member) (BadVariable number)
+states_or_fault variables number member =
+    ok_or (member_states variables member) (BadVariable number)
 
 -- all states of some sets
 abbrev pub union : List (List ℕ) → List ℕ
@@ -87,7 +102,10 @@ set_of n variables number members = do
 abbrev pub with_definition : Variables → List ℕ → List ℕ → Variables
 with_definition variables name states = record {
   defined = variables.defined + 1;
-  named = λ other. if bytes_eq name other then Some (record { number = variables.defined; states = states }) else variables.named other;
+  named =
+      λ other. if bytes_eq name other
+          then Some (record { number = variables.defined; states = states })
+          else variables.named other;
 }
 
 -- the variables after a line that is to define one

@@ -37,7 +37,8 @@ definition_line number set = codes "var " ++ variable_name number ++ set_text se
 -- a definition for each of some sets, the first of this number
 abbrev pub definition_lines : ℕ → List (List ℕ) → List (List ℕ)
 definition_lines number [] = []
-definition_lines number (set ∷ sets) = definition_line number set ∷ definition_lines (number + 1) sets
+definition_lines number (set ∷ sets) =
+    definition_line number set ∷ definition_lines (number + 1) sets
 
 -- an entry: a state in digits, or the name of a variable
 abbrev pub entry_text : Entry → List ℕ
@@ -48,7 +49,8 @@ entry_text (OneOf v) = variable_name v.number
 abbrev pub transition_line : Transition → List ℕ
 transition_line t = join_with_byte 44 (map entry_text (t.inputs ++ t.result ∷ []))
 
--- the lines of a table whose variables are these sets: three descriptors, one for each set, and one for each transition
+-- the lines of a table whose variables are these sets: three descriptors, one for each set, and one
+-- for each transition
 abbrev pub written_lines : List (List ℕ) → Table → List (List ℕ)
 written_lines sets table =
     (codes "n_states:" ++ decimal table.states)
@@ -71,8 +73,11 @@ abbrev pub IsEntryOf : ℕ → List (List ℕ) → Entry → Type 0
 IsEntryOf n sets (State s) = s < n
 IsEntryOf n sets (OneOf v) = (v.number < length sets) × (v.states ≡ slice_index_or sets v.number [])
 
--- a transition of such entries, one for the cell and each neighbour, whose result is a state or stands among them
-pub record IsTransitionOf (n : ℕ) (neighborhood : Neighborhood) (sets : List (List ℕ)) (t : Transition) : Type 0 where
+-- a transition of such entries, one for the cell and each neighbour, whose result is a state or
+-- stands among them
+pub record IsTransitionOf (n : ℕ) (neighborhood : Neighborhood) (sets : List (List ℕ))
+    (t : Transition)
+    : Type 0 where
   pub inputs : AllByRecursion (IsEntryOf n sets) t.inputs
   pub result : IsEntryOf n sets t.result
   pub full : is_full neighborhood t ≡ true
@@ -82,11 +87,14 @@ pub record IsTransitionOf (n : ℕ) (neighborhood : Neighborhood) (sets : List (
 pub record IsTableOf (sets : List (List ℕ)) (table : Table) : Type 0 where
   pub at_least : least_states ≤ table.states
   pub at_most : table.states ≤ most_states
-  pub symmetry : symmetry_named table.neighborhood (name_of_symmetry table.symmetry) ≡ Some table.symmetry
+  pub symmetry : symmetry_named table.neighborhood (name_of_symmetry table.symmetry)
+      ≡ Some table.symmetry
   pub few : length sets ≤ 2 ^ 64
   pub defined : AllByRecursion (IsSet table.states) sets
-  pub transitions : AllByRecursion (IsTransitionOf table.states table.neighborhood sets) table.transitions
+  pub transitions : AllByRecursion (IsTransitionOf table.states table.neighborhood sets)
+      table.transitions
 
 -- the text of a rule file of this name, which has the table's section alone
 abbrev pub written_file : List ℕ → List (List ℕ) → Table → List ℕ
-written_file name sets table = text_of_lines ((codes "@RULE " ++ name) ∷ codes "@TABLE" ∷ written_lines sets table)
+written_file name sets table =
+    text_of_lines ((codes "@RULE " ++ name) ∷ codes "@TABLE" ∷ written_lines sets table)

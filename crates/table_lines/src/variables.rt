@@ -47,7 +47,7 @@ impl<'a> Variables<'a> {
     /// Takes the variable that a line defines, in place of an earlier one of its name.
     ///
     /// BadVariable is answered for a line that isn't well formed or names an unknown variable, and
-    /// only then StateTooHigh. NoMemory comes only where memory was wanted.
+    /// only then StateTooHigh. NoMemory comes only where memory ran out.
     pub fn define(&mut self, head: Head, line: &RuleLine<'a>) -> Result<(), RuleFault>
         requires at_most { head.states ≤ most_states }
         requires below { VariablesBelow head.states (variables_of self.old) }

@@ -24,9 +24,13 @@ distinct same (x ∷ xs) = x ∷ filter (λ y. not (same x y)) (distinct same xs
 abbrev pub sets_of : Transition → List (List ℕ)
 sets_of t = map admitted t.inputs
 
--- the expanded transitions of a transition without bound variables: one for each list of sets that a map of the symmetry gives
+-- the expanded transitions of a transition without bound variables: one for each list of sets that
+-- a map of the symmetry gives
 abbrev pub expanded_one : Symmetry → Transition → List Expanded
-expanded_one symmetry t = map (λ neighbours. record { inputs = take 1 (sets_of t) ++ neighbours; result = given t.result }) (distinct same_sets (arrangements symmetry (drop 1 (sets_of t))))
+expanded_one symmetry t =
+    map (λ neighbours.
+        record { inputs = take 1 (sets_of t) ++ neighbours; result = given t.result })
+        (distinct same_sets (arrangements symmetry (drop 1 (sets_of t))))
 
 -- those of any transition: those of each assignment
 abbrev pub expanded_of : Symmetry → Transition → List Expanded
@@ -45,7 +49,8 @@ all_have (x ∷ sets) (s ∷ states) = has x s && all_have sets states
 
 -- the result of the first expanded transition whose sets have these states
 abbrev pub first_match : List Expanded → List ℕ → Option ℕ
-first_match rows inputs = option_map (λ row. row.result) (find (λ row. all_have row.inputs inputs) rows)
+first_match rows inputs =
+    option_map (λ row. row.result) (find (λ row. all_have row.inputs inputs) rows)
 
 -- a table may have so many expanded transitions
 abbrev pub transition_limit : ℕ

@@ -58,12 +58,14 @@ third = south_east ∷ south ∷ west ∷ north_west ∷ north ∷ east ∷ []
 abbrev pub half : List ℕ
 half = south ∷ west ∷ north_west ∷ north ∷ east ∷ south_east ∷ []
 
--- the neighbours the other way round, from the north; of four and of eight this exchanges east and west
+-- the neighbours the other way round, from the north; of four and of eight this exchanges east and
+-- west
 abbrev pub four_reversed : List ℕ
 four_reversed = north ∷ west ∷ south ∷ east ∷ []
 
 abbrev pub eight_reversed : List ℕ
-eight_reversed = north ∷ north_west ∷ west ∷ south_west ∷ south ∷ south_east ∷ east ∷ north_east ∷ []
+eight_reversed =
+    north ∷ north_west ∷ west ∷ south_west ∷ south ∷ south_east ∷ east ∷ north_east ∷ []
 
 abbrev pub six_reversed : List ℕ
 six_reversed = north ∷ north_west ∷ west ∷ south ∷ south_east ∷ east ∷ []
@@ -91,25 +93,34 @@ is_among lists list = list_any (bytes_eq list) lists
 
 -- one map after another: what stands where the second takes each neighbour from
 abbrev pub then_map : List ℕ → List ℕ → List ℕ → List ℕ
-then_map places first second = map (λ place. slice_index first (position_or_len (nat_eq place) places)) second
+then_map places first second =
+    map (λ place. slice_index first (position_or_len (nat_eq place) places)) second
 
 -- some maps, one after another
 abbrev pub composed : List ℕ → List (List ℕ) → List ℕ
 composed places [] = places
 composed places (m ∷ ms) = then_map places m (composed places ms)
 
--- maps that are all compositions of some generators: the identity is there, with a map each that a generator makes of it, each is composed of generators, and each is undone by another
+-- maps that are all compositions of some generators: the identity is there, with a map each that a
+-- generator makes of it, each is composed of generators, and each is undone by another
 pub record AreCompositions (places : List ℕ) (generators maps : List (List ℕ)) : Type 0 where
   pub identity : is_among maps places ≡ true
-  pub closed : list_all (λ g. list_all (λ m. is_among maps (then_map places g m)) maps) generators ≡ true
+  pub closed : list_all (λ g. list_all (λ m. is_among maps (then_map places g m)) maps) generators
+      ≡ true
   pub words : List (List (List ℕ))
   pub letters : list_all (λ word. list_all (is_among generators) word) words ≡ true
   pub made : maps ≡ map (composed places) words
-  pub undone : list_all (λ m. list_any (λ k. bytes_eq (then_map places m k) places) maps) maps ≡ true
+  pub undone : list_all (λ m. list_any (λ k. bytes_eq (then_map places m k) places) maps) maps
+      ≡ true
 
--- the maps of each symmetry that a neighbourhood has, but `permute`, are all compositions of its generators
+-- the maps of each symmetry that a neighbourhood has, but `permute`, are all compositions of its
+-- generators
 abbrev pub SymmetriesAreGenerated : Type 0
-SymmetriesAreGenerated = (neighborhood : Neighborhood) (symmetry : Symmetry) → symmetry_named neighborhood (name_of_symmetry symmetry) ≡ Some symmetry → symmetry ≢ Permute → AreCompositions (places_of neighborhood) (generators neighborhood symmetry) (arrangements symmetry (places_of neighborhood))
+SymmetriesAreGenerated =
+    (neighborhood : Neighborhood) (symmetry : Symmetry)
+    → symmetry_named neighborhood (name_of_symmetry symmetry) ≡ Some symmetry → symmetry ≢ Permute
+    → AreCompositions (places_of neighborhood) (generators neighborhood symmetry)
+        (arrangements symmetry (places_of neighborhood))
 
 -- whether a list is one of all neighbours, each once: it is as long, and each stands in it
 abbrev pub is_order : List ℕ → List ℕ → Bool
@@ -117,4 +128,7 @@ is_order places list = (length list == length places) && list_all (has list) pla
 
 -- `permute` takes the neighbours in exactly all orders
 abbrev pub PermuteTakesAllOrders : Type 0
-PermuteTakesAllOrders = (neighborhood : Neighborhood) (list : List ℕ) → is_among (arrangements Permute (places_of neighborhood)) list ≡ is_order (places_of neighborhood) list
+PermuteTakesAllOrders =
+    (neighborhood : Neighborhood) (list : List ℕ)
+    → is_among (arrangements Permute (places_of neighborhood)) list
+        ≡ is_order (places_of neighborhood) list

@@ -8,16 +8,19 @@ use Rattle.table_lines.specs.declared.symmetry.Symmetry.{Symmetry}
 use Rattle.table_lines.specs.declared.transition.Transition.{Transition}
 use Rattle.table_symmetry.specs.Expanded.{expanded_of, transition_limit}
 
--- why a list doesn't grow by so many: memory was wanted, or they are too many
+-- why a list doesn't grow by so many: memory ran out, or they are too many
 abbrev pub IsTooLong : RuleFault → ℕ → Type 0
-IsTooLong fault count = (fault ≡ NoMemory) ⊎ ((fault ≡ TooManyTransitions) × (transition_limit < count))
+IsTooLong fault count =
+    (fault ≡ NoMemory) ⊎ ((fault ≡ TooManyTransitions) × (transition_limit < count))
 
 -- these are the expanded transitions of some transitions, and not too many
 abbrev pub ExpandTo : Symmetry → List Transition → List Expanded → Type 0
-ExpandTo symmetry transitions rows = (rows ≡ flat_map (expanded_of symmetry) transitions) × (length rows ≤ transition_limit)
+ExpandTo symmetry transitions rows =
+    (rows ≡ flat_map (expanded_of symmetry) transitions) × (length rows ≤ transition_limit)
 
 -- a list grew by some more
-abbrev pub Grows : {U : Type 0} → Result U RuleFault → List Expanded → List Expanded → List Expanded → Type 0
+abbrev pub Grows : {U : Type 0} → Result U RuleFault → List Expanded → List Expanded → List Expanded
+    → Type 0
 Grows (Ok u) old new more = (new ≡ old ++ more) × (length new ≤ transition_limit)
 Grows (Err fault) old new more = IsTooLong fault (length old + length more)
 

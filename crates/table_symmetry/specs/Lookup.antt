@@ -12,7 +12,9 @@ use Rattle.table_symmetry.specs.States.{has, is_bit_set, word_of}
 
 -- a column of bits has this bit of each word
 abbrev pub HasBits : List ℕ → List ℕ → ℕ → Type 0
-HasBits column words bit = (row : ℕ) → row < length words → bit_at (slice_index column (row / 64)) (row % 64) ≡ bit_at (slice_index words row) bit
+HasBits column words bit =
+    (row : ℕ) → row < length words
+    → bit_at (slice_index column (row / 64)) (row % 64) ≡ bit_at (slice_index words row) bit
 
 -- a row's set at a place
 abbrev pub set_at : ℕ → Expanded → List ℕ
@@ -24,30 +26,46 @@ word_of_each place word rows = map (λ row. word_of (set_at place row) word) row
 
 -- each row has a set for the cell and each neighbour
 abbrev pub HaveInputs : Neighborhood → List Expanded → Type 0
-HaveInputs neighborhood rows = All (λ (row : Expanded). length row.inputs ≡ length (places_of neighborhood) + 1) rows
+HaveInputs neighborhood rows =
+    All (λ (row : Expanded). length row.inputs ≡ length (places_of neighborhood) + 1) rows
 
 -- a column of bits tells which rows' sets at the place have the state
 abbrev pub TellsRows : List Expanded → ℕ → ℕ → List ℕ → Type 0
-TellsRows rows place state column = (row : ℕ) (d : Expanded) → row < length rows → is_bit_set column row ≡ has (set_at place (slice_index_or rows row d)) state
+TellsRows rows place state column =
+    (row : ℕ) (d : Expanded) → row < length rows
+    → is_bit_set column row ≡ has (set_at place (slice_index_or rows row d)) state
 
 -- for each state below n such a column
 abbrev pub HasColumns : List Expanded → ℕ → ℕ → List (List ℕ) → Type 0
-HasColumns rows n place columns = (state : ℕ) → state < n → TellsRows rows place state (slice_index_or columns state [])
+HasColumns rows n place columns =
+    (state : ℕ) → state < n → TellsRows rows place state (slice_index_or columns state [])
 
--- whether the row of this number has each state at its place, where each place has a column of bits for each state
+-- whether the row of this number has each state at its place, where each place has a column of bits
+-- for each state
 abbrev pub row_has : List (List (List ℕ)) → List ℕ → ℕ → Bool
-row_has columns inputs row = list_all (λ p. is_bit_set (slice_index_or p.0 p.1 []) row) (zip columns inputs)
+row_has columns inputs row =
+    list_all (λ p. is_bit_set (slice_index_or p.0 p.1 []) row) (zip columns inputs)
 
 -- the bits of a word tell which of 64 rows have each state at its place
 abbrev pub TellRows : List (List (List ℕ)) → List ℕ → ℕ → ℕ → Type 0
-TellRows columns inputs word bits = (bit : ℕ) → bit < 64 → (bit_at bits bit == 1) ≡ row_has columns inputs (64 * word + bit)
+TellRows columns inputs word bits =
+    (bit : ℕ) → bit < 64 → (bit_at bits bit == 1) ≡ row_has columns inputs (64 * word + bit)
 
--- a look-up of these rows, for states below n: it has their results, and its columns tell which of them match the states at and around a cell
-pub record IsLookupOf (rows : List Expanded) (n : ℕ) (neighborhood : Neighborhood) (lookup : Lookup) : Type 0 where
+-- a look-up of these rows, for states below n: it has their results, and its columns tell which of
+-- them match the states at and around a cell
+pub record IsLookupOf (rows : List Expanded) (n : ℕ) (neighborhood : Neighborhood) (lookup : Lookup)
+    : Type 0 where
   pub around : lookup.neighborhood ≡ neighborhood
   pub results : lookup.results ≡ map (λ row. row.result) rows
-  pub tells : (states : List ℕ) → AreNineBelow n states → (row : ℕ) (d : Expanded) → row < length rows → row_has lookup.columns (inputs_of neighborhood states) row ≡ all_have (slice_index_or rows row d).inputs (inputs_of neighborhood states)
+  pub tells : (states : List ℕ) → AreNineBelow n states → (row : ℕ) (d : Expanded)
+      → row < length rows
+      → row_has lookup.columns (inputs_of neighborhood states) row
+          ≡ all_have (slice_index_or rows row d).inputs (inputs_of neighborhood states)
 
--- what a look-up finds for the states at and around a cell: what the first row that matches gives, of whatever rows it is the look-up
+-- what a look-up finds for the states at and around a cell: what the first row that matches gives,
+-- of whatever rows it is the look-up
 abbrev pub Finds : Lookup → List ℕ → Option ℕ → Type 0
-Finds lookup around found = (rows : List Expanded) (n : ℕ) (neighborhood : Neighborhood) → IsLookupOf rows n neighborhood lookup → AreNineBelow n around → found ≡ first_match rows (inputs_of neighborhood around)
+Finds lookup around found =
+    (rows : List Expanded) (n : ℕ) (neighborhood : Neighborhood)
+    → IsLookupOf rows n neighborhood lookup → AreNineBelow n around
+    → found ≡ first_match rows (inputs_of neighborhood around)

@@ -26,7 +26,9 @@ without v vs = filter (λ w. not (v.number == w.number)) vs
 abbrev pub bound_variables : List Entry → List Variable
 bound_variables [] = []
 bound_variables (State s ∷ entries) = bound_variables entries
-bound_variables (OneOf v ∷ entries) = if list_any (is_variable v) entries then v ∷ without v (bound_variables entries) else bound_variables entries
+bound_variables (OneOf v ∷ entries) =
+    if list_any (is_variable v) entries then v ∷ without v (bound_variables entries)
+        else bound_variables entries
 
 -- the bound variables of a transition, whose result counts too
 abbrev pub bound_in : Transition → List Variable
@@ -38,7 +40,8 @@ valued_entry v state e = if is_variable v e then State state else e
 
 -- a transition, where the variable has this value throughout
 abbrev pub valued : Variable → ℕ → Transition → Transition
-valued v state t = record { inputs = map (valued_entry v state) t.inputs; result = valued_entry v state t.result }
+valued v state t =
+    record { inputs = map (valued_entry v state) t.inputs; result = valued_entry v state t.result }
 
 -- a transition under all assignments of these variables, the values of the first rising slowest
 abbrev pub assigned : List Variable → Transition → List Transition
@@ -58,25 +61,31 @@ all_admit (e ∷ entries) (s ∷ states) = has (admitted e) s && all_admit entri
 
 -- the entries of a transition, its neighbours' as each map of the symmetry puts them
 abbrev pub arranged : Table → Transition → List (List Entry)
-arranged table t = map (λ neighbours. take 1 t.inputs ++ neighbours) (arrangements table.symmetry (drop 1 t.inputs))
+arranged table t =
+    map (λ neighbours. take 1 t.inputs ++ neighbours)
+        (arrangements table.symmetry (drop 1 t.inputs))
 
 -- a transition matches a cell and its neighbours, if its entries admit them in some arrangement
 abbrev pub matches : Table → List ℕ → Transition → Bool
-matches table around t = list_any (λ entries. all_admit entries (inputs_of table.neighborhood around)) (arranged table t)
+matches table around t =
+    list_any (λ entries. all_admit entries (inputs_of table.neighborhood around)) (arranged table t)
 
--- the state that an entry gives; a result that is a variable is bound, and so a state under each assignment
+-- the state that an entry gives; a result that is a variable is bound, and so a state under each
+-- assignment
 abbrev pub given : Entry → ℕ
 given (State a) = a
 given (OneOf v) = 0
 
 -- the result of a transition under the first assignment with which it matches
 abbrev pub result_of : Table → List ℕ → Transition → Option ℕ
-result_of table around t = option_map (λ u. given u.result) (find (matches table around) (assignments t))
+result_of table around t =
+    option_map (λ u. given u.result) (find (matches table around) (assignments t))
 
 -- the result of the first transition that matches, else the state of the cell
 abbrev pub first_result : Table → List ℕ → List Transition → ℕ
 first_result table around [] = slice_index around 0
-first_result table around (t ∷ ts) = unwrap_or (result_of table around t) (first_result table around ts)
+first_result table around (t ∷ ts) =
+    unwrap_or (result_of table around t) (first_result table around ts)
 
 -- the next state of a cell, by the nine states at and around it
 abbrev pub next : Table → List ℕ → ℕ

@@ -12,4 +12,5 @@ is_sound table = is_quiescent table && list_all (gives_states table.states) tabl
 
 -- the table in which each cell keeps its state
 abbrev pub still_table : Table
-still_table = record { states = 2; neighborhood = OneDimensional; symmetry = symmetry.None; transitions = [] }
+still_table =
+    record { states = 2; neighborhood = OneDimensional; symmetry = symmetry.None; transitions = [] }

@@ -19,7 +19,7 @@ use table_lines::{TableLines, read_lines};
 /// Reads the lines of a section as those of a table.
 ///
 /// The first faulty line is answered (see `read_lines`); after all lines come TooManyTransitions
-/// and NotQuiescent. NoMemory comes only where memory was wanted, and never where the descriptors
+/// and NotQuiescent. NoMemory comes only where memory ran out, and never where the descriptors
 /// have a fault.
 pub fn read_table(alloc: Global, text: &RuleText) -> Result<TableRule, RuleFault>
     ensures table { Gives result (table_of text.now.section.lines) }

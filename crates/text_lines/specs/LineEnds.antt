@@ -9,4 +9,5 @@ text_of_lines lines = flat_map (λ line. line ++ 10 ∷ []) lines
 -- the text with a carriage return directly before each line feed
 abbrev pub with_carriage_returns : List ℕ → List ℕ
 with_carriage_returns [] = []
-with_carriage_returns (b ∷ bs) = if b == 10 then 13 ∷ 10 ∷ with_carriage_returns bs else b ∷ with_carriage_returns bs
+with_carriage_returns (b ∷ bs) =
+    if b == 10 then 13 ∷ 10 ∷ with_carriage_returns bs else b ∷ with_carriage_returns bs

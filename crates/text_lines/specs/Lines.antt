@@ -23,11 +23,13 @@ abbrev pub NoLineFeed : List ℕ → Type 0
 NoLineFeed [] = Unit {0}
 NoLineFeed (b ∷ bs) = ((b == 10) ≡ false) × NoLineFeed bs
 
--- the line of these bytes and a line feed; a carriage return directly before the line feed belongs to the line's end
+-- the line of these bytes and a line feed; a carriage return directly before the line feed belongs
+-- to the line's end
 abbrev pub full_line : List ℕ → Line
 full_line bs = record { says = trim (strip_carriage_return bs); raw = bs ++ 10 ∷ [] }
 
--- what stands behind the last line feed is a line too, unless nothing does or the reading broke off there
+-- what stands behind the last line feed is a line too, unless nothing does or the reading broke off
+-- there
 abbrev pub last_line : End → List ℕ → List Line
 last_line Broken bs = []
 last_line Ended [] = []
@@ -36,7 +38,9 @@ last_line Ended (b ∷ bs) = record { says = trim (b ∷ bs); raw = b ∷ bs } �
 -- the lines of some bytes, where the first line began with `begun`
 abbrev pub lines_from : End → List ℕ → List ℕ → List Line
 lines_from stop begun [] = last_line stop begun
-lines_from stop begun (b ∷ bs) = if b == 10 then full_line begun ∷ lines_from stop [] bs else lines_from stop (begun ++ b ∷ []) bs
+lines_from stop begun (b ∷ bs) =
+    if b == 10 then full_line begun ∷ lines_from stop [] bs
+        else lines_from stop (begun ++ b ∷ []) bs
 
 -- the lines of a text that stopped in this way
 abbrev pub lines_until : End → List ℕ → List Line

@@ -9,7 +9,8 @@ abbrev pub are_digits : List ℕ → Bool
 are_digits [] = false
 are_digits (b ∷ bs) = list_all is_ascii_digit (b ∷ bs)
 
--- the number that decimal digits write, of any length and with zeros before it; other bytes write none
+-- the number that decimal digits write, of any length and with zeros before it; other bytes write
+-- none
 abbrev pub number_of : List ℕ → Option ℕ
 number_of bs = if are_digits bs then Some (digits_value 10 bs) else None
 

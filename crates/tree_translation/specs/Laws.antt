@@ -9,4 +9,6 @@ use Rattle.decision_tree.specs.TreeLines.{tree_of}
 
 -- a tree of a file that does what a table does has as many nodes as the table needs
 abbrev pub TreesHaveTheNodesNeeded : Type 0
-TreesHaveTheNodesNeeded = (table : Table) (count : ℕ) (section : Section) (tree : Tree) → NeedsNodes table count → tree_of section ≡ Ok tree → Translates table tree → count ≤ length tree.nodes
+TreesHaveTheNodesNeeded =
+    (table : Table) (count : ℕ) (section : Section) (tree : Tree) → NeedsNodes table count
+    → tree_of section ≡ Ok tree → Translates table tree → count ≤ length tree.nodes

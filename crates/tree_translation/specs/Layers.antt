@@ -41,15 +41,18 @@ rest_at layer number = (tail_at layer number).rest
 
 -- whether a tail lets the input be this state
 abbrev pub lets : Layer → ℕ → ℕ → Bool
-lets layer number state = allows (slice_index_or layer.sets.items (tail_at layer number).set None) state
+lets layer number state =
+    allows (slice_index_or layer.sets.items (tail_at layer number).set None) state
 
 -- the result that a tail has for these inputs
 abbrev pub result_of : List Layer → ℕ → List ℕ → Option ℕ
 result_of [] number inputs = Some number
 result_of (layer ∷ layers) number [] = None
-result_of (layer ∷ layers) number (s ∷ inputs) = if lets layer number s then result_of layers (rest_at layer number) inputs else None
+result_of (layer ∷ layers) number (s ∷ inputs) =
+    if lets layer number s then result_of layers (rest_at layer number) inputs else None
 
--- how many numbers there are for what is left before these layers: behind the last there are the states
+-- how many numbers there are for what is left before these layers: behind the last there are the
+-- states
 abbrev pub count_of : ℕ → List Layer → ℕ
 count_of states [] = states
 count_of states (layer ∷ layers) = length layer.tails.items
@@ -66,28 +69,40 @@ Fit states (layer ∷ layers) = IsLayer layer (count_of states layers) × Fit st
 
 -- a tail gives what a row gives
 abbrev pub StandsFor : List Layer → List (Option ℕ) → Expanded → ℕ → Type 0
-StandsFor layers order row number = (inputs : List ℕ) → length inputs ≡ length order → result_of layers number inputs ≡ (if all_allow (asked order row.inputs) inputs then Some row.result else None)
+StandsFor layers order row number =
+    (inputs : List ℕ) → length inputs ≡ length order
+    → result_of layers number inputs
+        ≡ (if all_allow (asked order row.inputs) inputs then Some row.result else None)
 
 -- the layers of these rows, and the number of the tail of each
-pub record AreLayersOf (states : ℕ) (order : List (Option ℕ)) (rows : List Expanded) (layers : List Layer) (numbers : List ℕ) : Type 0 where
+pub record AreLayersOf (states : ℕ) (order : List (Option ℕ)) (rows : List Expanded)
+    (layers : List Layer) (numbers : List ℕ)
+    : Type 0 where
   pub depth : length layers ≡ length order
   pub fit : Fit states layers
   pub count : length numbers ≡ length rows
   pub inside : All (λ n. n < count_of states layers) numbers
   pub few : All (λ (layer : Layer). length layer.tails.items ≤ length rows) layers
-  pub stand : (k : ℕ) (d : Expanded) → k < length rows → StandsFor layers order (slice_index_or rows k d) (slice_index numbers k)
+  pub stand : (k : ℕ) (d : Expanded) → k < length rows
+      → StandsFor layers order (slice_index_or rows k d) (slice_index numbers k)
 
 -- one more layer before those, by what was left of each row
-pub record IsLayerOf (place : Option ℕ) (rows : List Expanded) (rests : List ℕ) (layer : Layer) (numbers : List ℕ) : Type 0 where
+pub record IsLayerOf (place : Option ℕ) (rows : List Expanded) (rests : List ℕ) (layer : Layer)
+    (numbers : List ℕ)
+    : Type 0 where
   pub count : length numbers ≡ length rows
   pub inside : All (λ n. n < length layer.tails.items) numbers
   pub few : length layer.tails.items ≤ length rows
-  pub asks : (k : ℕ) (d : Expanded) → k < length rows → slice_index_or layer.sets.items (tail_at layer (slice_index numbers k)).set None ≡ asked_at place (slice_index_or rows k d).inputs
-  pub leaves : (k : ℕ) → k < length rows → rest_at layer (slice_index numbers k) ≡ slice_index rests k
+  pub asks : (k : ℕ) (d : Expanded) → k < length rows
+      → slice_index_or layer.sets.items (tail_at layer (slice_index numbers k)).set None
+          ≡ asked_at place (slice_index_or rows k d).inputs
+  pub leaves : (k : ℕ) → k < length rows
+      → rest_at layer (slice_index numbers k) ≡ slice_index rests k
 
 -- a key that is equal to this one has this number
 abbrev pub IsKeptAt : {X : Type 0} → (X → X → Bool) → List X → X → ℕ → Type 0
-IsKeptAt {X} eq keys key number = (kept : X) × (slice_get keys number ≡ Some kept) × (eq key kept ≡ true)
+IsKeptAt {X} eq keys key number = (kept : X) × (slice_get keys number ≡ Some kept)
+    × (eq key kept ≡ true)
 
 -- one more came behind those that were there, or it was there
 abbrev pub IsGrownBy : {X : Type 0} → List X → X → List X → Type 0

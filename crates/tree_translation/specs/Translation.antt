@@ -26,7 +26,8 @@ neighbors_of OneDimensional = Four
 pub record Translates (table : Table) (tree : Tree) : Type 0 where
   pub states : tree.states ≡ table.states
   pub neighbors : tree.neighbors ≡ neighbors_of table.neighborhood
-  pub same : (around : List ℕ) → All (λ s. s < table.states) around → next tree around ≡ table_rule.next table around
+  pub same : (around : List ℕ) → All (λ s. s < table.states) around
+      → next tree around ≡ table_rule.next table around
 
 -- how many nodes a translated tree may have
 abbrev pub node_limit : ℕ
@@ -49,13 +50,16 @@ last_of [] = 0
 last_of (s ∷ []) = s
 last_of (s ∷ t ∷ inputs) = last_of (t ∷ inputs)
 
--- what tails do: the result of the first that has one for the inputs, else the last input, which is the cell's state
+-- what tails do: the result of the first that has one for the inputs, else the last input, which is
+-- the cell's state
 abbrev pub outcome : List Layer → List ℕ → List ℕ → ℕ
-outcome layers list inputs = unwrap_or (first_some (λ number. result_of layers number inputs) list) (last_of inputs)
+outcome layers list inputs =
+    unwrap_or (first_some (λ number. result_of layers number inputs) list) (last_of inputs)
 
 -- what is asked of what a tail leaves behind an input of this state
 abbrev pub asked_behind : Layer → ℕ → (ℕ → Option ℕ) → ℕ → Option ℕ
-asked_behind layer state f number = if lets layer number state then f (rest_at layer number) else None
+asked_behind layer state f number =
+    if lets layer number state then f (rest_at layer number) else None
 
 -- what is left of tails behind an input of this state:
 -- whatever is asked of what they leave, the first answer is the same
@@ -64,18 +68,35 @@ LeftOf layer state list left =
     (f : ℕ → Option ℕ) → first_some f left ≡ first_some (asked_behind layer state f) list
 
 -- a node that does what a list of tails does
-pub record Does (states : ℕ) (layers : List Layer) (nodes : List Entries) (list : List ℕ) (number : ℕ) : Type 0 where
-  pub leading : (inputs : List ℕ) → length inputs ≡ length layers → leads states nodes number inputs ≡ true
-  pub follows : (inputs : List ℕ) → length inputs ≡ length layers → list_all (λ s. nat_lt s states) inputs ≡ true → follow nodes number inputs ≡ outcome layers list inputs
+pub record Does (states : ℕ) (layers : List Layer) (nodes : List Entries) (list : List ℕ)
+    (number : ℕ)
+    : Type 0 where
+  pub leading : (inputs : List ℕ) → length inputs ≡ length layers
+      → leads states nodes number inputs ≡ true
+  pub follows : (inputs : List ℕ) → length inputs ≡ length layers
+      → list_all (λ s. nat_lt s states) inputs ≡ true
+      → follow nodes number inputs ≡ outcome layers list inputs
 
--- what rows do, whose inputs are asked in this order: the first that allows the inputs gives its result, else the cell keeps its state, which is the last input
+-- what rows do, whose inputs are asked in this order: the first that allows the inputs gives its
+-- result, else the cell keeps its state, which is the last input
 abbrev pub rows_give : List (Option ℕ) → List Expanded → List ℕ → ℕ
-rows_give order rows inputs = unwrap_or (first_some (λ (row : Expanded). if all_allow (asked order row.inputs) inputs then Some row.result else None) rows) (last_of inputs)
+rows_give order rows inputs =
+    unwrap_or
+        (first_some
+            (λ (row : Expanded). if all_allow (asked order row.inputs) inputs then Some row.result
+                else None)
+            rows)
+        (last_of inputs)
 
 -- nodes of which the last does what the rows do
-pub record DoesRows (states : ℕ) (order : List (Option ℕ)) (rows : List Expanded) (nodes : List Entries) : Type 0 where
-  pub leading : (inputs : List ℕ) → length inputs ≡ length order → leads states nodes (length nodes - 1) inputs ≡ true
-  pub follows : (inputs : List ℕ) → length inputs ≡ length order → list_all (λ s. nat_lt s states) inputs ≡ true → follow nodes (length nodes - 1) inputs ≡ rows_give order rows inputs
+pub record DoesRows (states : ℕ) (order : List (Option ℕ)) (rows : List Expanded)
+    (nodes : List Entries)
+    : Type 0 where
+  pub leading : (inputs : List ℕ) → length inputs ≡ length order
+      → leads states nodes (length nodes - 1) inputs ≡ true
+  pub follows : (inputs : List ℕ) → length inputs ≡ length order
+      → list_all (λ s. nat_lt s states) inputs ≡ true
+      → follow nodes (length nodes - 1) inputs ≡ rows_give order rows inputs
 
 -- rows with results among so many states, and an order of one input or more for them
 pub record CanTranslate (states : ℕ) (order : List (Option ℕ)) (rows : List Expanded) : Type 0 where
@@ -88,13 +109,22 @@ pub record CanTranslate (states : ℕ) (order : List (Option ℕ)) (rows : List 
 -- nodes of which the last is the root of a tree that does what a table does
 pub record DoTable (table : Table) (nodes : List Entries) : Type 0 where
   pub width : All (λ node. length node ≡ table.states) nodes
-  pub leading : (inputs : List ℕ) → length inputs ≡ length (order_of table.neighborhood) → leads table.states nodes (length nodes - 1) inputs ≡ true
-  pub same : (around : List ℕ) → All (λ s. s < table.states) around → follow nodes (length nodes - 1) (inputs_of (neighbors_of table.neighborhood) around) ≡ table_rule.next table around
+  pub leading : (inputs : List ℕ) → length inputs ≡ length (order_of table.neighborhood)
+      → leads table.states nodes (length nodes - 1) inputs ≡ true
+  pub same : (around : List ℕ) → All (λ s. s < table.states) around
+      → follow nodes (length nodes - 1) (inputs_of (neighbors_of table.neighborhood) around)
+          ≡ table_rule.next table around
 
 -- for each state of the last input the first result that is left, or the state
 pub record AreLeaves (states : ℕ) (layer : Layer) (list leaf : List ℕ) : Type 0 where
   pub width : length leaf ≡ states
-  pub each : (s : ℕ) → s < states → slice_index leaf s ≡ unwrap_or (first_some (λ number. if lets layer number s then Some (rest_at layer number) else None) list) s
+  pub each : (s : ℕ) → s < states
+      → slice_index leaf s
+          ≡ unwrap_or
+              (first_some
+                  (λ number. if lets layer number s then Some (rest_at layer number) else None)
+                  list)
+              s
 
 -- lists of numbers below a count
 abbrev pub AllInside : ℕ → List (List ℕ) → Type 0

@@ -30,7 +30,7 @@ use table_symmetry::{Expanded, Neighborhood, TableRule};
 ///
 /// A hexagonal table becomes a tree of eight neighbours and a one-dimensional one a tree of four,
 /// which don't look at the neighbours that the table doesn't have. TreeTooLarge comes where even
-/// the smallest tree has more than 1,000,000 nodes, NoMemory only where memory was wanted.
+/// the smallest tree has more than 1,000,000 nodes, NoMemory only where memory ran out.
 pub fn from_table(alloc: Global, table: &TableRule) -> Result<TreeRule, TreeFault>
     ensures translates { IfOk result (λ tree. Translates table.now tree) }
     ensures few { IfOk result (λ tree. length tree.nodes ≤ node_limit) }

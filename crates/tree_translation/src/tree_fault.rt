@@ -12,7 +12,7 @@ pub enum TreeFault {
     /// The tree would have more than 1,000,000 nodes.
     #[error("the tree has more than 1,000,000 nodes")]
     TreeTooLarge,
-    /// Memory was wanted.
+    /// Out of memory.
     #[error("there is not enough memory")]
     NoMemory,
 }

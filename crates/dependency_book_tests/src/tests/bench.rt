@@ -223,7 +223,7 @@ impl<'e> Bench<'e> {
         )
     }
 
-    // Where memory is wanted the row is needed still.
+    // Where memory runs out the row is needed still.
     fn fill(&mut self, rt: &impl Abort, wanted: &Filled) {
         let last = self.last.as_ref().expect(rt, "an answer");
         let answer = last.again().expect(rt, "memory");

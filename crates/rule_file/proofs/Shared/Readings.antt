@@ -1,4 +1,4 @@
--- Readings, one after another: what they tell where they give a value, and where none wants memory.
+-- Readings, one after another: what they tell where they give a value, and where none runs out of memory.
 use Rattle.std.proofs.Common.{◌≡◌, ◌≢◌, Bool, true, false, Option, Some, None, Result, Ok, Err, IsErrAnd, option_map, ok_or, if◌then◌else◌, refl, ap, ◌∙◌}
 use Rattle.basics.specs.Results.{◌>>=◌}
 use Rattle.rule_file.specs.declared.fault.RuleFault.{RuleFault}
@@ -24,7 +24,7 @@ map-some f (Some x) y h = (x, refl, cc)
 abbrev pub WantsNone : {A : Type 0} → Result A RuleFault → Type 0
 WantsNone {A} r = ◌≢◌ {A = Result A RuleFault} r (Err NoMemory)
 
--- so a call that hands on such a fault doesn't say that memory was wanted
+-- so a call that hands on such a fault doesn't say that memory ran out
 pub handed_on : {A B : Type 0} (result : Result A RuleFault) (read : Result B RuleFault) (e : RuleFault) → IsErrAnd result (λ f. f ≡ e) → read ≡ Err e → WantsNone read → result ≢ Err NoMemory
 handed_on (Ok x) read e is at none h = absurd is
 handed_on (Err f) read e is at none h = let wanted : e ≡ NoMemory = cc in none (at ∙ ap Err wanted)

@@ -325,7 +325,7 @@ fn word_count(words: &[u8]) -> usize {
     count
 }
 
-// Whether the line is read whole, or memory was wanted where it may be.
+// Whether the line is read whole, or memory ran out where it may.
 fn is_read<L: Ledger>(alloc: Global, blank: Blank, row: &Long) -> bool
     requires name { blank.name ≡ L.name }
     requires parts { blank.parts ≡ L.parts }

@@ -38,7 +38,7 @@ impl<Q: Ask> Ask for Noting<Q> {
     }
 
     fn ask(&mut self, around: &Around) -> u8 {
-        // An ask that isn't kept for want of memory is missed in the test.
+        // An ask that isn't kept for 'out of memory' is missed in the test.
         let _kept = self.asked.push(*around);
         self.rule.ask(around)
     }
