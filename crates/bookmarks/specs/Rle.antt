@@ -8,4 +8,4 @@ use Rattle.multistate_rle.specs.PatternText.{rle_text}
 abbrev pub pattern_text : World → List ℕ → ℕ → ℕ → List ℕ
 pattern_text w name generation states =
     if nat_lt 1000000 (population w) then codes "too many cells\n"
-        else rle_text w name generation states
+    else rle_text w name generation states

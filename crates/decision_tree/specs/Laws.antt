@@ -29,7 +29,7 @@ is_descriptor line = is_some (descriptor_of line.text)
 abbrev pub DescriptorsInAnyOrder : Type 0
 DescriptorsInAnyOrder =
     (section : Section) (front : List NumberedLine) (line next : NumberedLine)
-        (rest : List NumberedLine) (tree : Tree)
+    (rest : List NumberedLine) (tree : Tree)
     → list_all is_descriptor front ≡ true → is_descriptor line ≡ true → is_descriptor next ≡ true
     → tree_of (record section { lines = front ++ line ∷ next ∷ rest }) ≡ Ok tree
     → tree_of (record section { lines = front ++ next ∷ line ∷ rest }) ≡ Ok tree
@@ -48,4 +48,4 @@ WrittenIsItsFile =
     (name : List ℕ) (head : TreeHead) (nodes : List Node) → is_name name ≡ true → IsTreeHead head
     → AreNodesOf head nodes
     → file_of (written_file name head nodes)
-        ≡ Ok (record { name = name; section = written_section 2 head nodes })
+    ≡ Ok (record { name = name; section = written_section 2 head nodes })

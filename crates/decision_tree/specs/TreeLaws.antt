@@ -13,8 +13,8 @@ use Rattle.decision_tree.specs.Tree.{Entries, Tree, node_at, follow, leads, inpu
 pub next-quiet : (tree : Tree) → is_sound tree ≡ true → next tree nine_zeros ≡ 0
 next-quiet tree sound =
     let quiet : is_quiescent tree ≡ true =
-        (and_parts (is_quiescent tree)
-            (leads tree.states tree.nodes (root_of tree) (places_of tree.neighbors)) sound).0 in
+    (and_parts (is_quiescent tree)
+    (leads tree.states tree.nodes (root_of tree) (places_of tree.neighbors)) sound).0 in
     search (rules, tests)
 
 -- a node that leads on has n entries
@@ -22,8 +22,8 @@ pub leads-width : (n : ℕ) (nodes : List Entries) (number input : ℕ) (inputs 
     → leads n nodes number (input ∷ inputs) ≡ true → length (node_at nodes number) ≡ n
 leads-width n nodes number input inputs h =
     let width : (length (node_at nodes number) == n) ≡ true =
-        (and_parts (length (node_at nodes number) == n)
-            (list_all (λ entry. leads n nodes entry inputs) (node_at nodes number)) h).0 in
+    (and_parts (length (node_at nodes number) == n)
+    (list_all (λ entry. leads n nodes entry inputs) (node_at nodes number)) h).0 in
     search (rules, tests)
 
 -- the entry that an input chooses leads on
@@ -33,7 +33,7 @@ pub leads-on : (n : ℕ) (nodes : List Entries) (number input : ℕ) (inputs : L
 leads-on n nodes number input inputs h low =
     let node = node_at nodes number in
     let all : list_all (λ entry. leads n nodes entry inputs) node ≡ true =
-        (and_parts (length node == n) (list_all (λ entry. leads n nodes entry inputs) node) h).1 in
+    (and_parts (length node == n) (list_all (λ entry. leads n nodes entry inputs) node) h).1 in
     let width : length node ≡ n = leads-width n nodes number input inputs h in
     AllPass-from_list_all (λ entry. leads n nodes entry inputs) node all input 0 (omega arith)
 
@@ -46,7 +46,7 @@ follow-below n nodes number (input ∷ inputs) h low =
     let parts = and_parts (nat_lt input n) (list_all (λ s. nat_lt s n) inputs) low in
     let first : nat_lt input n ≡ true = parts.0 in
     follow-below n nodes (slice_index (node_at nodes number) input) inputs
-        (leads-on n nodes number input inputs h (search (rules, tests))) parts.1
+    (leads-on n nodes number input inputs h (search (rules, tests))) parts.1
 
 low_by : (n s : ℕ) (rest : Bool) → s < n → rest ≡ true → (nat_lt s n && rest) ≡ true
 low_by n s rest low h =
@@ -76,15 +76,15 @@ inputs-low n neighbors states low =
     elim neighbors as (λ m. list_all (λ s. nat_lt s n) (inputs_of m states) ≡ true) [
       | Four ↦ low_by n _ _ (low 1)
           (low_by n _ _ (low 7)
-              (low_by n _ _ (low 3) (low_by n _ _ (low 5) (low_by n _ _ (low 0) refl))))
+          (low_by n _ _ (low 3) (low_by n _ _ (low 5) (low_by n _ _ (low 0) refl))))
       | Eight ↦ low_by n _ _ (low 8)
           (low_by n _ _ (low 2)
-              (low_by n _ _ (low 6)
-                  (low_by n _ _ (low 4)
-                      (low_by n _ _ (low 1)
-                          (low_by n _ _ (low 7)
-                              (low_by n _ _ (low 3)
-                                  (low_by n _ _ (low 5) (low_by n _ _ (low 0) refl))))))))
+          (low_by n _ _ (low 6)
+          (low_by n _ _ (low 4)
+          (low_by n _ _ (low 1)
+          (low_by n _ _ (low 7)
+          (low_by n _ _ (low 3)
+          (low_by n _ _ (low 5) (low_by n _ _ (low 0) refl))))))))
     ]
 
 -- the inputs are states where the states at and around the cell are
@@ -100,6 +100,6 @@ next-below tree states sound nine =
     let some : slice_index states 0 < tree.states = nine.below 0 0 (omega (arith, nine.nine)) in
     follow-below tree.states tree.nodes (root_of tree) (inputs_of tree.neighbors states)
     (leads-inputs tree.states tree.nodes (root_of tree) tree.neighbors states
-        (and_parts (is_quiescent tree)
-            (leads tree.states tree.nodes (root_of tree) (places_of tree.neighbors)) sound).1)
+    (and_parts (is_quiescent tree)
+    (leads tree.states tree.nodes (root_of tree) (places_of tree.neighbors)) sound).1)
     (inputs-below tree.states tree.neighbors states (omega (arith, some)) nine.below)

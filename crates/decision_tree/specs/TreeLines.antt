@@ -21,23 +21,23 @@ use Rattle.decision_tree.specs.Tree.{Entries, Tree, is_quiescent}
 abbrev pub descriptor_named : List ℕ → Option Descriptor
 descriptor_named word =
     if bytes_eq word (codes "num_states") then Some descriptor.States
-        else
-            (if bytes_eq word (codes "num_neighbors") then Some descriptor.Neighbors
-                else (if bytes_eq word (codes "num_nodes") then Some descriptor.Nodes else None))
+    else
+    (if bytes_eq word (codes "num_neighbors") then Some descriptor.Neighbors
+    else (if bytes_eq word (codes "num_nodes") then Some descriptor.Nodes else None))
 
 -- a descriptor and its value, which an equals sign parts, if the line is one
 abbrev pub descriptor_of : List ℕ → Option (Descriptor × List ℕ)
 descriptor_of line =
     option_and_then
-        (λ sign. option_map (λ d. (d, trim_start (drop (sign + 1) line)))
-            (descriptor_named (trim_end (take sign line))))
-        (position (λ b. b == 61) line)
+    (λ sign. option_map (λ d. (d, trim_start (drop (sign + 1) line)))
+    (descriptor_named (trim_end (take sign line))))
+    (position (λ b. b == 61) line)
 
 -- four neighbours or eight
 abbrev pub neighbors_in : List ℕ → Option Neighbors
 neighbors_in value =
     option_and_then (λ n. if n == 4 then Some Four else (if n == 8 then Some Eight else None))
-        (number_of value)
+    (number_of value)
 
 -- a tree may have so many nodes
 abbrev pub most_nodes : ℕ
@@ -74,15 +74,15 @@ describe d descriptor.Nodes value =
 abbrev pub head_of : Described → Option TreeHead
 head_of d =
     option_and_then
-        (λ states.
-            option_and_then
-                (λ neighbors.
-                    option_map
-                        (λ count.
-                            record { states = states; neighbors = neighbors; node_count = count })
-                        d.node_count)
-                d.neighbors)
-        d.states
+    (λ states.
+    option_and_then
+    (λ neighbors.
+    option_map
+    (λ count.
+    record { states = states; neighbors = neighbors; node_count = count })
+    d.node_count)
+    d.neighbors)
+    d.states
 
 -- the head that the first lines describe, up to one that is no descriptor, and the lines from there
 -- on; `last` is where missing lines show
@@ -127,8 +127,8 @@ abbrev pub do_entries_fit : ℕ → List ℕ → Node → Bool
 do_entries_fit n depths node =
     if node.depth == 1 then list_all (λ state. nat_lt state n) node.entries else
     list_all
-        (λ number. nat_lt number (length depths) && (slice_index depths number + 1 == node.depth))
-        node.entries
+    (λ number. nat_lt number (length depths) && (slice_index depths number + 1 == node.depth))
+    node.entries
 
 -- whether a node may stand behind nodes of these depths: there is room for it, it has an entry for
 -- each state, these fit, and the last node is as deep as the root
@@ -144,17 +144,17 @@ is_next head depths node =
 abbrev pub node_of : TreeHead → List Node → List ℕ → Option Node
 node_of head nodes line =
     option_and_then
-        (λ numbers.
-            option_and_then
-                (λ node. if is_next head (map (λ n. n.depth) nodes) node then Some node else None)
-                (node_from numbers))
-        (numbers_in (words line))
+    (λ numbers.
+    option_and_then
+    (λ node. if is_next head (map (λ n. n.depth) nodes) node then Some node else None)
+    (node_from numbers))
+    (numbers_in (words line))
 
 -- nodes, and the one behind them that a line says
 abbrev pub with_line : TreeHead → List Node → NumberedLine → Result (List Node) RuleFault
 with_line head nodes line =
     ok_or (option_map (λ node. nodes ++ node ∷ []) (node_of head nodes line.text))
-        (BadTree line.number)
+    (BadTree line.number)
 
 -- all nodes, where the lines after the head say those behind these
 abbrev pub nodes_from : ℕ → TreeHead → List Node → List NumberedLine → Result (List Node) RuleFault
@@ -179,8 +179,11 @@ if_quiescent tree = if is_quiescent tree then Ok tree else Err NotQuiescent
 -- the tree of a head and nodes
 abbrev pub tree_from : TreeHead → List Node → Tree
 tree_from head nodes =
-    record { states = head.states; neighbors = head.neighbors;
-        nodes = map (λ node. node.entries) nodes }
+    record {
+      states = head.states;
+      neighbors = head.neighbors;
+      nodes = map (λ node. node.entries) nodes;
+    }
 
 -- what the lines of a tree mean
 abbrev pub tree_of : Section → Result Tree RuleFault

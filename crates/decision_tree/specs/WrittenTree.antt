@@ -30,8 +30,11 @@ written_lines head nodes =
 -- the section that they are, behind the line of this number that opens it
 abbrev pub written_section : ℕ → TreeHead → List Node → Section
 written_section opened head nodes =
-    record { kind = section_kind.Tree; opened = opened;
-        lines = numbered_from (opened + 1) (written_lines head nodes) }
+    record {
+      kind = section_kind.Tree;
+      opened = opened;
+      lines = numbered_from (opened + 1) (written_lines head nodes);
+    }
 
 -- each of some nodes may stand behind these and those before it
 abbrev pub EachIsNext : TreeHead → List Node → List Node → Type 0

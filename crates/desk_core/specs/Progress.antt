@@ -68,7 +68,7 @@ over floor answers post d progress = stage d (floor post) (answers post) progres
 abbrev pub IsAccounted : BookState → Stage → Need → Job → Type 0
 IsAccounted first s need job =
     (expected first need ≡ Some job)
-        ⊎ ((job_in s.progress.unsent ≡ Some job) ⊎ (job.number < s.floor))
+    ⊎ ((job_in s.progress.unsent ≡ Some job) ⊎ (job.number < s.floor))
 
 -- a settling that began with this desk, when its post had given these answers, has come so far:
 -- what was known is so still, the document is the same, and the answers since then explain the
@@ -98,7 +98,7 @@ GoesOnOver floor answers p q d e before after =
 abbrev pub GoesOnBy : BookState → BookState → Progress → Progress → Type 0
 GoesOnBy d e before after =
     (table : Entries) (floor : ℕ) (answers : List JobResult)
-        → Fits d table floor (job_in before.unsent)
+    → Fits d table floor (job_in before.unsent)
     → GoesOn (stage d floor answers before) (stage e floor answers after)
 
 -- so it goes on over any post that gives an answer meanwhile
@@ -122,7 +122,7 @@ IsAtHand unsent held d =
 abbrev pub StaysAtHand : BookState → BookState → Progress → Progress → Type 0
 StaysAtHand d e before after =
     (held : Option Job) → IsAtHand (job_in before.unsent) held d
-        → IsAtHand (job_in after.unsent) held e
+    → IsAtHand (job_in after.unsent) held e
 
 -- the job that was held is answered: what is out afterwards isn't sent yet
 abbrev pub GivesBack : Job → BookState → BookState → Progress → Progress → Type 0

@@ -31,8 +31,8 @@ abbrev pub AnswersRead : Bool → Option (List ℕ) → Option (List ℕ) → Op
     → Option (List ℕ) → Type 0
 AnswersRead prompt old new before after =
     (given : ℕ)
-        × AnswersWhole prompt (all_ahead old) (record { bytes = new; room = 2 ^ 64 - 1 - given })
-            before after
+    × AnswersWhole prompt (all_ahead old) (record { bytes = new; room = 2 ^ 64 - 1 - given })
+    before after
 
 -- what was read and written, by how the answering over a post ended, which is prompt or not
 pub record Answers {R W : Type 0} (prompt : Bool) (remaining : R → Option (List ℕ))
@@ -61,4 +61,4 @@ Starts remaining contents r w checked status s x =
     (ending : Ending)
     × (exit_status status ≡ status_of ending)
     × MatchResult checked (λ _. Answers false remaining contents r w ending s x)
-        (λ fault. EndsBy fault ending × (s ≡ r) × (x ≡ w))
+    (λ fault. EndsBy fault ending × (s ≡ r) × (x ≡ w))

@@ -72,13 +72,13 @@ id_word _ = []
 abbrev pub edited : Plan → Asked → After
 edited p asked =
     unless_fault p of_edit (λ (c : Changed). accepted c (id_word asked) c.edited.id)
-        (change p asked)
+    (change p asked)
 
 -- a start was taken or refused, whose file names this generation
 abbrev pub started : Plan → ℕ → World → After
 started p generation start =
     unless_fault p of_edit (λ (c : Changed). accepted c (codes " gen ") (Some generation))
-        (change p (ReplaceStart start))
+    (change p (ReplaceStart start))
 
 -- what a text of a format means was taken or refused
 abbrev pub taken : Plan → Format → List ℕ → After
@@ -86,10 +86,10 @@ taken p format.Rule text =
     unless_fault p of_rule (λ (rule : FileRule). edited p (ReplaceRule rule)) (rule_of text)
 taken p format.Rle text =
     unless_fault p of_pattern (λ (loaded : Loaded). started p loaded.generation loaded.plane)
-        (pattern_of text)
+    (pattern_of text)
 taken p format.Macrocell text =
     unless_fault p of_macrocell (λ (loaded : Loaded). started p loaded.generation loaded.plane)
-        (macrocells.pattern_of text)
+    (macrocells.pattern_of text)
 
 -- all texts were computed, or a shortage leaves some bookmarks pending
 abbrev pub settled : Shortage → Plan → After
@@ -97,7 +97,7 @@ settled NoShortage p = only p settled_text
 settled Memory p = only p settled_text
 settled (Unsettled n cause) p =
     if nat_le 1 n && nat_le n (length p.bookmarks) then only p (unsettled_text n cause)
-        else only p settled_text
+    else only p settled_text
 settled Pending p = only p settled_text
 
 -- a bookmark of the document is shown with the text that starting over gives, unless a shortage

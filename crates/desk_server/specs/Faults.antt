@@ -37,17 +37,17 @@ fault_of number name place = record { number = number; name = name; place = plac
 abbrev pub of_rule : RuleFault → Fault
 of_rule fault =
     fault_of (rule_faults.fault_number fault) (rule_faults.fault_name fault)
-        (rule_faults.fault_place fault)
+    (rule_faults.fault_place fault)
 
 abbrev pub of_pattern : RleFault → Fault
 of_pattern fault =
     fault_of (pattern_faults.fault_number fault) (pattern_faults.fault_name fault)
-        (pattern_faults.fault_place fault)
+    (pattern_faults.fault_place fault)
 
 abbrev pub of_macrocell : McFault → Fault
 of_macrocell fault =
     fault_of (macrocell_faults.fault_number fault) (macrocell_faults.fault_name fault)
-        (macrocell_faults.fault_place fault)
+    (macrocell_faults.fault_place fault)
 
 abbrev pub of_edit : EditFault → Fault
 of_edit fault = fault_of (edit_faults.fault_number fault) (edit_faults.fault_name fault) None

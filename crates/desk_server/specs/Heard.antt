@@ -45,7 +45,7 @@ pub record Hears (old new : Ahead) (place : Place) (heard : Option Request) (las
   pub taken : Takes old new bytes
   pub law : (stop : End) (more : List ℕ) → Follows last stop more
       → asks stop place n (lines_until stop (bytes ++ more))
-          ≡ asked ++ asks stop Between m (lines_until stop more)
+      ≡ asked ++ asks stop Between m (lines_until stop more)
   pub is : AsksIfAny heard asked
   pub at_end : last ≡ true → IsAtEnd new.bytes
 
@@ -78,7 +78,7 @@ GivesOrLacks p after = GivesBy true (λ shortage. unless_memory shortage p after
 abbrev pub Serves : Bool → Request → Reply → BookState → BookState → Type 0
 Serves prompt request reply old new =
     (ask : Ask) → AsksFor request ask
-        → GivesBy prompt (λ short. answer short old.plan ask) reply new
+    → GivesBy prompt (λ short. answer short old.plan ask) reply new
 
 -- the reply to what was asked
 abbrev pub Served : Bool → Reply → List Ask → BookState → BookState → Type 0

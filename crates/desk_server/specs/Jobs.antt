@@ -50,4 +50,4 @@ abbrev pub IsExplained : {P : Type 0} → (P → List JobResult) → P → P →
     → Type 0
 IsExplained answers old new d cause =
     (later : List JobResult) × (answers new ≡ answers old ++ later)
-        × IfSome cause (Explains d later)
+    × IfSome cause (Explains d later)

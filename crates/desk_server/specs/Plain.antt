@@ -14,13 +14,13 @@ use Rattle.desk_server.specs.Script.{afters}
 abbrev pub ShowsUnsettled : Bool → List ℕ → Type 0
 ShowsUnsettled prompt told =
     (n : ℕ) × (cause : Option Cause) × IsCausedOver prompt (Unsettled n cause)
-        × (told ≡ unsettled_text n cause)
+    × (told ≡ unsettled_text n cause)
 
 -- the reply is that memory is short, that bookmarks are pending, or that one is
 abbrev pub ShowsShortage : Bool → List ℕ → Type 0
 ShowsShortage prompt told =
     (told ≡ refused_text (of_edit NoMemory))
-        ⊎ (ShowsUnsettled prompt told ⊎ ((id : ℕ) × (told ≡ pending_text id)))
+    ⊎ (ShowsUnsettled prompt told ⊎ ((id : ℕ) × (told ≡ pending_text id)))
 
 -- none of the replies shows a shortage
 abbrev pub NoneShows : Bool → List After → Type 0
@@ -30,5 +30,5 @@ NoneShows prompt = AllByRecursion (λ (after : After). ShowsShortage prompt afte
 abbrev pub PlainWithoutShortages : Type 0
 PlainWithoutShortages =
     (prompt : Bool) (p : Plan) (asked : List Ask) (shortages : List Shortage)
-        → AllCausedOver prompt shortages
+    → AllCausedOver prompt shortages
     → NoneShows prompt (afters p asked shortages) → afters p asked shortages ≡ afters p asked []

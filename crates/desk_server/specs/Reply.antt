@@ -23,7 +23,7 @@ abbrev pub unsettled_text : ℕ → Option Cause → List ℕ
 unsettled_text pending cause =
     codes "unsettled "
     ++ (decimal pending
-        ++ (codes " " ++ (decimal (option_map_or cause_number cause 0) ++ codes "\n")))
+    ++ (codes " " ++ (decimal (option_map_or cause_number cause 0) ++ codes "\n")))
 
 -- a bookmark's text, after a line with its length
 abbrev pub current_text : ℕ → List ℕ → List ℕ

@@ -21,7 +21,7 @@ pub record Answers (prompt : Bool) (old new : Ahead) (before after : Option (Lis
   pub wrote : Appends before after told
   pub law : (stop : End) (more : List ℕ) (later : List Shortage)
       → replies_to p (asks stop Between n (lines_until stop (bytes ++ more))) (shortages ++ later)
-          ≡ told ++ replies_to q (asks stop Between m (lines_until stop more)) later
+      ≡ told ++ replies_to q (asks stop Between m (lines_until stop more)) later
 
 -- the script was answered to its end
 pub record Finishes (prompt : Bool) (old new : Ahead) (before after : Option (List ℕ)) (p : Plan)
@@ -46,7 +46,7 @@ pub record StopsTelling (prompt : Bool) (old new : Ahead) (before after : Option
   pub taken : Takes old new bytes
   pub law : (rest : List ℕ) → new.bytes ≡ Some rest
       → AppendsFront before after
-          (replies_to p (asks Ended Between n (lines_until Ended (bytes ++ rest))) shortages)
+      (replies_to p (asks Ended Between n (lines_until Ended (bytes ++ rest))) shortages)
 
 -- what the reader gave was answered as far as commands were read whole
 pub record AnswersWhole (prompt : Bool) (old new : Ahead) (before after : Option (List ℕ))

@@ -42,7 +42,7 @@ asks stop (InText at format text) n [] = without_end stop at
 asks stop Between n (line ∷ rest) =
     if is_passed_over line.says then asks stop Between (n + 1) rest
     else asked_at n line.says (format_of line.says)
-        ++ asks stop (place_behind n (format_of line.says)) (n + 1) rest
+    ++ asks stop (place_behind n (format_of line.says)) (n + 1) rest
 asks stop (InText at format text) n (line ∷ rest) =
     if is_end line.says then Take format text ∷ asks stop Between (n + 1) rest
     else asks stop (InText at format (text ++ line.raw)) (n + 1) rest

@@ -71,9 +71,9 @@ nameless_app name = on_top (λ top. record top { no_binary_name = true }) (new_a
 abbrev pub desk : App
 desk =
     with_rule
-        (with_rule (with_rule (nameless_app (codes "desk")) (setting_rule Workers))
-            (setting_rule Facts))
-        (setting_rule Squares)
+    (with_rule (with_rule (nameless_app (codes "desk")) (setting_rule Workers))
+    (setting_rule Facts))
+    (setting_rule Squares)
 
 -- why the words are not read, help among the reasons; nothing where they are read
 abbrev pub faults : List Text → Kinds
@@ -87,7 +87,7 @@ text_of setting words = one_of (name_of setting) (matches_of desk words)
 abbrev pub IsNumberOf : Setting → Text → ℕ → Type 0
 IsNumberOf setting text n =
     (n ≡ digits_value 10 (without_leading_plus text)) × (least_of setting ≤ n)
-        × (n ≤ most_of setting)
+    × (n ≤ most_of setting)
 
 -- the words choose n for the setting
 abbrev pub ChoosesFor : Setting → List Text → ℕ → Type 0
@@ -115,7 +115,7 @@ IsNumberIn setting found n =
 abbrev pub Gives : List Text → Found → Type 0
 Gives words found =
     (setting : Setting)
-        → HasNumber setting found × (one_text found (name_of setting) ≡ text_of setting words)
+    → HasNumber setting found × (one_text found (name_of setting) ≡ text_of setting words)
 
 -- whatever is parsed by the command, each setting has a number
 abbrev pub AlwaysGives : Command → Type 0

@@ -93,5 +93,5 @@ abbrev pub Checks : {V : Type 0} → (V → List (List ℕ)) → Result V Error 
 Checks texts given result =
     IfOk given (λ words. ReadsWords (texts words) result)
     × IfErr given
-        (λ error. error_kind error ≡ OutOfMemory → IsErrAnd result (λ fault. fault ≡ NoMemory))
+    (λ error. error_kind error ≡ OutOfMemory → IsErrAnd result (λ fault. fault ≡ NoMemory))
     × IfErr given (λ error. error_kind error ≢ OutOfMemory → IsErrAnd result IsRefusal)

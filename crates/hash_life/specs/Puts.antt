@@ -28,7 +28,7 @@ Puts next zero (suc n) s P = P s
 Puts next (suc k) (suc n) s P =
     All (λ q. Puts next k (min (suc n) (2 ^ k)) q P) (nine_of s)
     × All (λ q. Puts next k (suc n - min (suc n) (2 ^ k)) q P)
-        (fours_of (map (result next k (min (suc n) (2 ^ k))) (nine_of s)))
+    (fours_of (map (result next k (min (suc n) (2 ^ k))) (nine_of s)))
 
 -- each of its states is below n
 unfoldable pub IsBelow : ℕ → Square → Type 0

@@ -30,14 +30,14 @@ abbrev pub next_of : (List ℕ → ℕ) → Square → Square → Square → Squ
     → Square → Square → Square
 next_of next c n ne e se s sw w nw =
     one (next
-        (state_of c ∷ state_of n ∷ state_of ne ∷ state_of e ∷ state_of se ∷ state_of s ∷ state_of sw
-            ∷ state_of w ∷ state_of nw ∷ []))
+    (state_of c ∷ state_of n ∷ state_of ne ∷ state_of e ∷ state_of se ∷ state_of s ∷ state_of sw
+    ∷ state_of w ∷ state_of nw ∷ []))
 
 -- the four cells in the middle of a square of level 2 one generation later
 abbrev pub later : (List ℕ → ℕ) → Square → Square
 later next (four (four a b c d) (four e f g h) (four i j k l) (four m n o p)) =
     four (next_of next d b e g m j i c a) (next_of next g e f h n m j d b)
-        (next_of next j d g m o l k i c) (next_of next m g h n p o l j d)
+    (next_of next j d g m o l k i c) (next_of next m g h n p o l j d)
 later next s = s
 
 -- four results of the squares that nine results make, which are given by rows
@@ -50,7 +50,7 @@ four_of_nine r a b c d e f g h i =
 abbrev pub in_two : (Square → Square) → (Square → Square) → Square → Square
 in_two f g (four nw ne sw se) =
     four_of_nine g (f nw) (f (between nw ne)) (f ne) (f (amid nw sw))
-        (f (middle (four nw ne sw se))) (f (amid ne se)) (f sw) (f (between sw se)) (f se)
+    (f (middle (four nw ne sw se))) (f (amid ne se)) (f sw) (f (between sw se)) (f se)
 in_two f g s = s
 
 -- the middle of a square of level k + 2, n generations later: first as many as 2^k of them, and
@@ -67,4 +67,4 @@ abbrev pub ResultIsSteps : Type 0
 ResultIsSteps =
     (next : List ℕ → ℕ) → next nine_zeros ≡ 0 → (w : World) (k n : ℕ) (x y : ℤ) → n ≤ 2 ^ k →
     result next k n (square_at w (suc (suc k)) x y)
-        ≡ square_at (iterate n (step next) w) (suc k) (x +ℤ pos (2 ^ k)) (y +ℤ pos (2 ^ k))
+    ≡ square_at (iterate n (step next) w) (suc k) (x +ℤ pos (2 ^ k)) (y +ℤ pos (2 ^ k))

@@ -19,7 +19,7 @@ WrittenMeansTheSame =
     (w : World) (name : List ℕ) (generation : ℕ) → HasMargin 0 w → AllBelow 256 w
     → length (rows_of w) ≤ 16777216 → IsName name → generation < 2 ^ 64
     → pattern_of (macrocell_text w name generation)
-        ≡ Ok (record { plane = w; rule_name = name; generation = generation })
+    ≡ Ok (record { plane = w; rule_name = name; generation = generation })
 
 -- each cell of a world is that of the square of level k in the middle of which the cell (0, 0)
 -- lies, as far from its edges, and outside it no cell is live
@@ -34,4 +34,4 @@ NodesShowTheirRoot =
     (nodes : List Node) (root : Node) → AreNodes nodes
     → slice_get nodes (length nodes - 1) ≡ Some root
     → ShowsRoot (world_of_nodes nodes) (level_of root)
-        (square_named nodes (level_of root) (length nodes))
+    (square_named nodes (level_of root) (length nodes))

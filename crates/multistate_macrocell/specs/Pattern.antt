@@ -10,8 +10,11 @@ use Rattle.multistate_macrocell.specs.Quadtree.{world_of_nodes}
 -- the pattern that a text says
 abbrev pub said_pattern : MacrocellText → Loaded
 said_pattern said =
-    record { plane = world_of_nodes said.nodes; rule_name = said.heading.rule_name;
-        generation = said.heading.generation }
+    record {
+      plane = world_of_nodes said.nodes;
+      rule_name = said.heading.rule_name;
+      generation = said.heading.generation;
+    }
 
 -- the pattern that a text means
 abbrev pub pattern_of : List ℕ → Result Loaded McFault

@@ -17,7 +17,7 @@ drawn bitmap zero x y = one (if is_live bitmap x y then 1 else 0)
 drawn bitmap (suc k) x y =
     let h = 2 ^ k in
     four (drawn bitmap k x y) (drawn bitmap k (x + h) y) (drawn bitmap k x (y + h))
-        (drawn bitmap k (x + h) (y + h))
+    (drawn bitmap k (x + h) (y + h))
 
 -- the square of a node, by the squares that the numbers of its quadrants name
 unfoldable pub square_of : (ℕ → Square) → Node → Square
@@ -42,4 +42,4 @@ world_of_root nodes k n = put_square k (square_named nodes k n) (edge_of k) (edg
 unfoldable pub world_of_nodes : List Node → World
 world_of_nodes nodes =
     option_map_or (λ root. world_of_root nodes (level_of root) (length nodes))
-        (slice_get nodes (length nodes - 1)) blank
+    (slice_get nodes (length nodes - 1)) blank

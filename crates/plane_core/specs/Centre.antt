@@ -8,7 +8,7 @@ use Rattle.plane_core.specs.Rows.{IsNumber, AreRows, square_in, root_level, worl
 abbrev pub cornered : ℕ → ℕ → Square → Square
 cornered k corner s =
     four (cond (corner == 0) s (empty_square k)) (cond (corner == 1) s (empty_square k))
-        (cond (corner == 2) s (empty_square k)) (cond (corner == 3) s (empty_square k))
+    (cond (corner == 2) s (empty_square k)) (cond (corner == 3) s (empty_square k))
 
 -- the square of level k + 2 in whose middle these four squares of level k meet, and else empty
 abbrev pub centred : ℕ → Square → Square → Square → Square → Square
@@ -23,7 +23,7 @@ abbrev pub is_alone : ℕ → List ℕ → Bool
 is_alone corner kids =
     is_passed corner 0 (get_or kids 0 0)
     && (is_passed corner 1 (get_or kids 1 0)
-        && (is_passed corner 2 (get_or kids 2 0) && is_passed corner 3 (get_or kids 3 0)))
+    && (is_passed corner 2 (get_or kids 2 0) && is_passed corner 3 (get_or kids 3 0)))
 
 -- no number above 0 names an empty square
 abbrev pub NoneEmpty : List SquareRow → Type 0

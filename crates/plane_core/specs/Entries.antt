@@ -51,7 +51,7 @@ cell-world_of [] x y = cell-blank x y
 cell-world_of (e ∷ es) x y =
     cell-put (world_of es) e.0.1 e.0.0 e.1 x y
     ∙ unwrap_or-cond (same_place (y, x) e.0) e.1 _ (lookup (same_place (y, x)) es)
-        (cell-world_of es x y)
+    (cell-world_of es x y)
 
 -- lists that differ at one place make worlds that differ there
 pub world_of-put : (es fs : List (Place × ℕ)) (x y : ℤ) (s : ℕ)
@@ -59,9 +59,9 @@ pub world_of-put : (es fs : List (Place × ℕ)) (x y : ℤ) (s : ℕ)
     → world_of fs ≡ put (world_of es) x y s
 world_of-put es fs x y s h =
     same_world _ _
-        (λ x' y'. cell-world_of fs x' y' ∙ h (y', x')
-            ∙ ap (cond (same_place (y', x') (y, x)) s) (sym (cell-world_of es x' y'))
-            ∙ sym (cell-put (world_of es) x y s x' y'))
+    (λ x' y'. cell-world_of fs x' y' ∙ h (y', x')
+    ∙ ap (cond (same_place (y', x') (y, x)) s) (sym (cell-world_of es x' y'))
+    ∙ sym (cell-put (world_of es) x y s x' y'))
 
 -- no cells make the blank world
 pub world_of-none : world_of [] ≡ blank
@@ -86,10 +86,10 @@ pub world_of-update : (es fs : List (Place × ℕ)) (w : World) (x y : ℤ) (s :
     → world_of fs ≡ put w x y s
 world_of-update es fs w x y s o fx fy is kept h =
     world_of-put es fs x y s
-        (λ q. ap (λ r. unwrap_or r 0) (h q) ∙ unwrap_or-branch (same_place (passed y x) q) o _
-            ∙ ap₂ (λ (r : Place) n. cond (same_place r q) n (state_at es q)) (passed-same y x fy fx)
-                kept
-            ∙ ap (λ b. cond b s (state_at es q)) ((eq_by_cmp_equiv places_total).symm (y, x) q))
+    (λ q. ap (λ r. unwrap_or r 0) (h q) ∙ unwrap_or-branch (same_place (passed y x) q) o _
+    ∙ ap₂ (λ (r : Place) n. cond (same_place r q) n (state_at es q)) (passed-same y x fy fx)
+    kept
+    ∙ ap (λ b. cond b s (state_at es q)) ((eq_by_cmp_equiv places_total).symm (y, x) q))
     ∙ ap (λ v. put v x y s) is
 
 put-first : (k : Place) (n : ℕ) (es : List (Place × ℕ))
@@ -99,8 +99,8 @@ unfolding as_entry
 put-first k n [] h = refl
 put-first k n (e ∷ es) h =
     ap (λ o. by_order o ((k, n) ∷ map as_entry (e ∷ es)) ((e.0, n) ∷ map as_entry es)
-        (as_entry e ∷ map.Entries.put place_cmp k n (map as_entry es)))
-        h.0
+    (as_entry e ∷ map.Entries.put place_cmp k n (map as_entry es)))
+    h.0
 
 put-live : (w : World) (k : Place) (s : ℕ) → 0 < s → put w k.1 k.0 s ≡ map.insert w k (s - 1)
 put-live w k zero h = absurd (omega (arith, h))
@@ -121,7 +121,7 @@ unfolding as_entry
 one_more [] h = refl
 one_more (e ∷ es) h =
     ap₂ (λ (s : ℕ) (fs : List (Place × ℕ)). (e.0, s) ∷ fs) (let k : 0 < e.1 = h.0.0 in omega arith)
-        (one_more es h.1)
+    (one_more es h.1)
 
 -- a list of live cells in order is the list of its world
 pub live-world_of : (es : List (Place × ℕ)) → IsStrictlySortedBy place_cmp (keys_of es) → AllKept es
@@ -140,10 +140,9 @@ pub AllKept-insert : (es : List (Place × ℕ)) (k : Place) (s : ℕ) → IsKept
 AllKept-insert [] k s h a = (h, a)
 AllKept-insert (e ∷ es) k s h a =
     elim (place_cmp k e.0) as
-        (λ o. AllKept
-            (match_ordering o ((k, s) ∷ e ∷ es) ((e.0, s) ∷ es)
-                (e ∷ insert_entry place_cmp es k s)))
-        [
+    (λ o. AllKept
+    (match_ordering o ((k, s) ∷ e ∷ es) ((e.0, s) ∷ es)
+    (e ∷ insert_entry place_cmp es k s))) [
       | Less ↦ (h, a)
       | Equal ↦ ((h.0, a.0.1), a.1)
       | Greater ↦ (a.0, AllKept-insert es k s h a.1)
@@ -155,14 +154,14 @@ pub AllKept-remove : (es : List (Place × ℕ)) (test : Place → Bool) → AllK
 AllKept-remove [] test a = a
 AllKept-remove (e ∷ es) test a =
     elim (test e.0) as (λ b. AllKept (cond b es (e ∷ remove_entry test es)))
-        [ true ↦ a.1 | false ↦ (a.0, AllKept-remove es test a.1) ]
+    [ true ↦ a.1 | false ↦ (a.0, AllKept-remove es test a.1) ]
 
 -- the live cells of a plane lie in the range of planes
 pub HasMargin-kept : (es : List (Place × ℕ)) (w : World) → world_of es ≡ w → AllKept es
     → HasMargin 0 w
 HasMargin-kept es w is kept x y live =
     let listed : 0 < state_at es (y, x) =
-        subst (λ s. 0 < s) (ap (λ v. cell v x y) (sym is) ∙ cell-world_of es x y) live in
+    subst (λ s. 0 < s) (ap (λ v. cell v x y) (sym is) ∙ cell-world_of es x y) live in
     (by_place es (λ x y s. (0 < s) × IsInside 0 x y) kept x y listed).1
 
 -- a live cell in range, as the code passes it on, is kept

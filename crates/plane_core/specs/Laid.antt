@@ -12,7 +12,7 @@ use Rattle.plane_core.specs.Rows.{IsNumber, AreRows, square_in, root_level, edge
 abbrev pub square_of : List SquareRow → ℕ → List ℕ → Square
 square_of rows k kids =
     four (square_in rows k (get_or kids 0 0)) (square_in rows k (get_or kids 1 0))
-        (square_in rows k (get_or kids 2 0)) (square_in rows k (get_or kids 3 0))
+    (square_in rows k (get_or kids 2 0)) (square_in rows k (get_or kids 3 0))
 
 -- the kids name the quadrants, of level k, of the square that n names
 pub record AreQuadrants (rows : List SquareRow) (k n : ℕ) (kids : List ℕ) : Type 0 where
@@ -97,8 +97,8 @@ pub record IsLaid (old new : List SquareRow) (k before after : ℕ) (left top : 
   pub number : IsNumber new k after
   pub each : (i j : ℕ) → i < 2 ^ k → j < 2 ^ k
       → cell_in k (square_in new k after) i j
-          ≡ last_mention cells (left +ℤ pos i) (top +ℤ pos j)
-              (cell_in k (square_in old k before) i j)
+      ≡ last_mention cells (left +ℤ pos i) (top +ℤ pos j)
+      (cell_in k (square_in old k before) i j)
   pub last : 0 < k → before ≡ length old → after ≡ length new
 
 -- new are the states old of the square of level 1 with the upper left cell (left, top), with the
@@ -108,11 +108,11 @@ pub record AreLaidStates (left top : ℤ) (cells : List CellSet) (old new : List
   pub small : (q : ℕ) → q < 4 → get_or new q 0 < 256
   pub each : (q : ℕ) → q < 4
       → get_or new q 0
-          ≡ last_mention cells (left +ℤ pos (q % 2)) (top +ℤ pos (q / 2)) (get_or old q 0)
+      ≡ last_mention cells (left +ℤ pos (q % 2)) (top +ℤ pos (q / 2)) (get_or old q 0)
 
 -- each of the cells lies in the square of the root
 abbrev pub RootHolds : List SquareRow → List CellSet → Type 0
 RootHolds rows cells =
     All (λ c.
-        IsIn (2 ^ root_level rows) (edge_of (root_level rows)) (edge_of (root_level rows)) c.x c.y)
-        cells
+    IsIn (2 ^ root_level rows) (edge_of (root_level rows)) (edge_of (root_level rows)) c.x c.y)
+    cells

@@ -29,8 +29,11 @@ no_measures = record { population = 0; greatest = 0; bounds = None }
 abbrev pub measures_of_state : ℕ → Measures
 measures_of_state zero = no_measures
 measures_of_state (suc s) =
-    record { population = 1; greatest = suc s;
-        bounds = Some (record { left = pos 0; top = pos 0; right = pos 0; bottom = pos 0 }) }
+    record {
+      population = 1;
+      greatest = suc s;
+      bounds = Some (record { left = pos 0; top = pos 0; right = pos 0; bottom = pos 0 });
+    }
 
 -- the box moved by (x, y)
 abbrev pub moved_box : Bounds → ℤ → ℤ → Bounds
@@ -49,8 +52,12 @@ placed m x y =
 -- the least box that holds both
 abbrev pub joined_box : Bounds → Bounds → Bounds
 joined_box a b =
-    record { left = int_min a.left b.left; top = int_min a.top b.top;
-        right = int_max a.right b.right; bottom = int_max a.bottom b.bottom }
+    record {
+      left = int_min a.left b.left;
+      top = int_min a.top b.top;
+      right = int_max a.right b.right;
+      bottom = int_max a.bottom b.bottom;
+    }
 
 abbrev pub joined_bounds : Option Bounds → Option Bounds → Option Bounds
 joined_bounds None b = b
@@ -60,8 +67,11 @@ joined_bounds (Some a) (Some b) = Some (joined_box a b)
 -- the measures of two worlds together, of which no cell is live in both
 abbrev pub joined : Measures → Measures → Measures
 joined a b =
-    record { population = a.population + b.population; greatest = max a.greatest b.greatest;
-        bounds = joined_bounds a.bounds b.bounds }
+    record {
+      population = a.population + b.population;
+      greatest = max a.greatest b.greatest;
+      bounds = joined_bounds a.bounds b.bounds;
+    }
 
 -- the box lies in the square of this side whose upper left cell is at (0, 0)
 pub record LiesIn (side : ℕ) (b : Bounds) : Type 0 where

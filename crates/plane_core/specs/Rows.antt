@@ -45,7 +45,7 @@ square_in rows (suc k) zero = empty_square (suc k)
 square_in rows (suc k) (suc i) =
     let row = get_or rows i no_row in
     four (square_in rows k (kid row 0)) (square_in rows k (kid row 1))
-        (square_in rows k (kid row 2)) (square_in rows k (kid row 3))
+    (square_in rows k (kid row 2)) (square_in rows k (kid row 3))
 
 -- the level of the root, which is the last row; with no rows the root is an empty square of level 1
 unfoldable pub root_level : List SquareRow → ℕ
@@ -65,7 +65,7 @@ edge_of k = neg_ℤ (pos (2 ^ (k - 1)))
 unfoldable pub world_of_rows : List SquareRow → World
 world_of_rows rows =
     put_square (root_level rows) (root_of rows) (edge_of (root_level rows))
-        (edge_of (root_level rows)) blank
+    (edge_of (root_level rows)) blank
 
 -- whether two lists of kids are one
 abbrev pub same_kids : List ℕ → List ℕ → Bool
@@ -91,7 +91,7 @@ numbered false false row rows n = record { rows = rows ++ row ∷ []; number = n
 unfoldable pub number_row : SquareRow → List SquareRow → Numbered
 number_row row rows =
     numbered (same_kids row.kids (0 ∷ 0 ∷ 0 ∷ 0 ∷ [])) (list_any (same_row row) rows) row rows
-        (position_or_len (same_row row) rows + 1)
+    (position_or_len (same_row row) rows + 1)
 
 -- the number of a square of level k among rows, after the walk nw, ne, sw, se has completed it
 unfoldable pub number_square : ℕ → Square → List SquareRow → Numbered
@@ -103,7 +103,7 @@ number_square (suc k) (four nw ne sw se) rows =
     let c = number_square k sw b.rows in
     let d = number_square k se c.rows in
     number_row (record { level = suc k; kids = a.number ∷ b.number ∷ c.number ∷ d.number ∷ [] })
-        d.rows
+    d.rows
 
 -- each live cell lies in the square of a root of level k
 abbrev pub Fits : ℕ → World → Type 0

@@ -19,7 +19,7 @@ pub record Remembers (rows done : List SquareRow) (numbers : List (Option ℕ)) 
   pub count : length numbers ≡ length rows
   pub each : (i n : ℕ) → i < length rows → get_or numbers i None ≡ Some n
       → Has (get_or rows i no_row).level (square_in rows (get_or rows i no_row).level (suc i)) done
-          n
+      n
 
 -- the rows that a walk of their root gives: each is the one of its square, and isn't empty
 pub record AreWalked (rows : List SquareRow) : Type 0 where

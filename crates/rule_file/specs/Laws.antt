@@ -21,8 +21,11 @@ pub record Saying : Type 0 where
 -- a file without the numbers of its lines
 abbrev pub saying : RuleFile → Saying
 saying file =
-    record { name = file.name; kind = file.section.kind;
-        lines = map (λ line. line.text) file.section.lines }
+    record {
+      name = file.name;
+      kind = file.section.kind;
+      lines = map (λ line. line.text) file.section.lines;
+    }
 
 -- what the file of some bytes says, or why it is none
 abbrev pub saying_of : List ℕ → Result Saying RuleFault
@@ -58,7 +61,7 @@ BlanksDoNotMatter =
     (before front line back after : List ℕ) → IsOneLine line → AllByRecursion IsBlank front
     → AllByRecursion IsBlank back
     → file_of (before ++ 10 ∷ ((front ++ (line ++ back)) ++ 10 ∷ after))
-        ≡ file_of (before ++ 10 ∷ (line ++ 10 ∷ after))
+    ≡ file_of (before ++ 10 ∷ (line ++ 10 ∷ after))
 
 -- behind the line that names the rule, a comment at the end of a line that opens no section changes
 -- nothing
@@ -67,7 +70,7 @@ CommentsDoNotMatter =
     (before line comment after : List ℕ) → NamesRule before → IsOneLine line → NoLineFeed comment
     → opens_section (trim line) ≡ false
     → file_of (before ++ 10 ∷ ((line ++ 35 ∷ comment) ++ 10 ∷ after))
-        ≡ file_of (before ++ 10 ∷ (line ++ 10 ∷ after))
+    ≡ file_of (before ++ 10 ∷ (line ++ 10 ∷ after))
 
 -- there, a blank line or a comment between two lines changes nothing but the numbers of the lines
 -- behind it

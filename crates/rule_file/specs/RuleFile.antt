@@ -55,7 +55,7 @@ abbrev pub named : List NumberedLine → Result (List ℕ × List NumberedLine) 
 named [] = Err NoRuleLine
 named (line ∷ lines) =
     if length line.text == 0 then named lines
-        else ok_or (option_map (λ name. (name, lines)) (rule_name line.text)) NoRuleLine
+    else ok_or (option_map (λ name. (name, lines)) (rule_name line.text)) NoRuleLine
 
 -- a line that begins with @ opens a section, and so ends the one before
 abbrev pub opens_section : List ℕ → Bool
@@ -70,7 +70,7 @@ first_word line = before_first is_blank line
 abbrev pub section_kind : List ℕ → Option SectionKind
 section_kind line =
     if bytes_eq (first_word line) (codes "@TABLE") then Some Table
-        else (if bytes_eq (first_word line) (codes "@TREE") then Some Tree else None)
+    else (if bytes_eq (first_word line) (codes "@TREE") then Some Tree else None)
 
 -- what stands before the first #
 abbrev pub without_comment : List ℕ → List ℕ
@@ -96,8 +96,8 @@ abbrev pub section_of : List NumberedLine → Result Section RuleFault
 section_of [] = Err NoTable
 section_of (line ∷ lines) =
     option_map_or
-        (λ kind. Ok (record { kind = kind; opened = line.number; lines = section_lines lines }))
-        (section_kind line.text) (section_of lines)
+    (λ kind. Ok (record { kind = kind; opened = line.number; lines = section_lines lines }))
+    (section_kind line.text) (section_of lines)
 
 -- what a file is, or why it is none
 abbrev pub file_of : List ℕ → Result RuleFile RuleFault

@@ -18,7 +18,7 @@ MayHaveStates n = (least_states ≤ n) × (n ≤ most_states)
 abbrev pub number_within : ℕ → ℕ → List ℕ → Option ℕ
 number_within least most value =
     option_and_then (λ n. if nat_le least n && nat_le n most then Some n else None)
-        (number_of value)
+    (number_of value)
 
 -- how many states a value says
 abbrev pub states_in : List ℕ → Option ℕ

@@ -34,7 +34,7 @@ WrittenTablesAreRules =
     (name : List ℕ) (sets : List (List ℕ)) (table : table_values.Table) → is_name name ≡ true
     → table_text.IsTableOf sets table → within_limits table ≡ Ok table
     → rule_of (table_text.written_file name sets table)
-        ≡ Ok (record { name = name; kind = Table table })
+    ≡ Ok (record { name = name; kind = Table table })
 
 -- so does the text that is written for a name and a tree
 abbrev pub WrittenTreesAreRules : Type 0
@@ -42,4 +42,4 @@ WrittenTreesAreRules =
     (name : List ℕ) (head : TreeHead) (nodes : List Node) → is_name name ≡ true → IsTreeHead head
     → tree_text.AreNodesOf head nodes → is_quiescent (tree_from head nodes) ≡ true
     → rule_of (tree_text.written_file name head nodes)
-        ≡ Ok (record { name = name; kind = Tree (tree_from head nodes) })
+    ≡ Ok (record { name = name; kind = Tree (tree_from head nodes) })

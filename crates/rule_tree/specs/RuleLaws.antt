@@ -38,7 +38,7 @@ pub next_of-below : (rule : NamedRule) (states : List ℕ) → AreNineBelow (sta
 next_of-below rule states nine =
     let low : slice_index states 0 < states_of rule = nine.below 0 0 (omega (arith, nine.nine)) in
     guarded-below (is_sound rule.kind) (states_of rule) (plain_next rule.kind states)
-        (omega (arith, low)) (plain-below rule.kind states nine)
+    (omega (arith, low)) (plain-below rule.kind states nine)
 
 -- the next state under a sound rule is that of its table or tree
 pub next_of-plain : (rule : NamedRule) → is_sound rule.kind ≡ true

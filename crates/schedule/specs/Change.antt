@@ -91,9 +91,10 @@ for_start p start =
 
 -- those of taking another rule
 abbrev pub for_rule : Plan → Rule → List (Bool × EditFault)
-for_rule p rule =
-    (not (lies_below (states_of rule) p.start && all_set_below (states_of rule) p.interventions),
-        CellStateTooHigh)
+for_rule p rule = (
+  not (lies_below (states_of rule) p.start && all_set_below (states_of rule) p.interventions),
+  CellStateTooHigh,
+)
     ∷ spent p
 
 -- those of adding a bookmark
@@ -137,7 +138,7 @@ first_refusal (r ∷ rest) = if r.0 then Some r.1 else first_refusal rest
 abbrev pub Checks : {A : Type 0} → Result A EditFault → List (Bool × EditFault) → Type 0
 Checks result refusals =
     MatchResult result (λ _. first_refusal refusals ≡ None)
-        (λ fault. first_refusal refusals ≡ Some fault)
+    (λ fault. first_refusal refusals ≡ Some fault)
 
 -- why an edit of a document is refused, if it is; 'out of memory' aside
 abbrev pub refusal : Plan → Asked → Option EditFault
@@ -179,9 +180,9 @@ acting generation cells i = record i { generation = generation; cells = cells }
 abbrev pub with_changed_intervention : Plan → ℕ → ℕ → List CellSet → Changed
 with_changed_intervention p id generation cells = record {
   plan =
-      record (revised p)
-          { interventions = changed_at intervention_id (acting generation cells) p.interventions id
-              };
+      record (revised p) {
+        interventions = changed_at intervention_id (acting generation cells) p.interventions id;
+      };
   edited = answered p;
 }
 

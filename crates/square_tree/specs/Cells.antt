@@ -15,8 +15,8 @@ pub record Cells : Type 0 where
 abbrev pub coded_cells : Coded Cells
 coded_cells =
     code_by (ℕ × finite.FinMap place_cmp ℕ)
-        (coded× coded_ℕ (finite.code (coded× coded_ℤ coded_ℤ) coded_ℕ)) (λ c. (c.level, c.states))
-        (λ p. record { level = p.0; states = p.1 }) (λ _. refl)
+    (coded× coded_ℕ (finite.code (coded× coded_ℤ coded_ℤ) coded_ℕ)) (λ c. (c.level, c.states))
+    (λ p. record { level = p.0; states = p.1 }) (λ _. refl)
 
 -- how far the square of a level reaches to the west and to the north of (0, 0)
 abbrev pub reach : ℕ → ℕ
@@ -58,7 +58,7 @@ pub record IsPartlyOverlaid (other old new : Cells) : Type 0 where
   pub level : new.level ≡ old.level
   pub states : (x y : ℤ)
       → (state_at new x y ≡ state_at old x y)
-          ⊎ (state_at new x y ≡ state_at (overlaid other old) x y)
+      ⊎ (state_at new x y ≡ state_at (overlaid other old) x y)
 
 -- the states of so many cells from (x, y) to the right, 0 where nothing is said
 abbrev pub row_states : Cells → ℤ → ℤ → ℕ → List ℕ

@@ -13,7 +13,7 @@ entries (cell s) l x y = ((y, x), s) ∷ []
 entries (quad nw ne sw se) l x y =
     let h = pos (2 ^ (l - 1)) in
     (entries nw (l - 1) x y ++ entries ne (l - 1) (x +ℤ h) y)
-        ++ (entries sw (l - 1) x (y +ℤ h) ++ entries se (l - 1) (x +ℤ h) (y +ℤ h))
+    ++ (entries sw (l - 1) x (y +ℤ h) ++ entries se (l - 1) (x +ℤ h) (y +ℤ h))
 
 -- the states that a quadtree of the level says of places
 unfoldable pub states_of : ℕ → Quadtree → finite.FinMap place_cmp ℕ

@@ -28,7 +28,7 @@ pub record IsPartlyLaid (l x y k : ℕ) (other old new : Quadtree) : Type 0 wher
   pub level : HasLevel l new
   pub says : (x' y' : ℕ)
       → (at new l x' y' ≡ at old l x' y')
-          ⊎ (at new l x' y' ≡ option_or (at_from x y k other x' y') (at old l x' y'))
+      ⊎ (at new l x' y' ≡ option_or (at_from x y k other x' y') (at old l x' y'))
 
 -- the same, where both squares lie around (0, 0)
 abbrev pub IsLaidAround : ℕ → ℕ → Quadtree → Quadtree → Quadtree → Type 0

@@ -11,8 +11,10 @@ use Rattle.table_lines.specs.Variables.{Variables, states_or_fault}
 -- the variables that are kept by their names
 abbrev pub variables_of : kept.Variables → Variables
 variables_of variables =
-    record { defined = variables.defined;
-        named = λ name. lookup (λ key. bytes_eq name key.now) variables.by_name.entries }
+    record {
+      defined = variables.defined;
+      named = λ name. lookup (λ key. bytes_eq name key.now) variables.by_name.entries;
+    }
 
 -- some states, if they are below the count of states
 abbrev pub unless_too_high : ℕ → List ℕ → Option (List ℕ)

@@ -19,20 +19,20 @@ use Rattle.table_lines.specs.declared.descriptors.Descriptor.TheVariants as desc
 abbrev pub descriptor_named : List ℕ → Option Descriptor
 descriptor_named word =
     if bytes_eq word (codes "n_states") then Some descriptor.States
-        else
-            (if bytes_eq word (codes "neighborhood") then Some descriptor.Neighborhood
-                else
-                    (if bytes_eq word (codes "symmetries") then Some descriptor.Symmetries
-                        else None))
+    else
+    (if bytes_eq word (codes "neighborhood") then Some descriptor.Neighborhood
+    else
+    (if bytes_eq word (codes "symmetries") then Some descriptor.Symmetries
+    else None))
 
 -- a descriptor and its value, which a colon parts, if the line is one
 abbrev pub descriptor_of : List ℕ → Option (Descriptor × List ℕ)
 descriptor_of line =
     option_and_then
-        (λ colon.
-            option_map (λ d. (d, trim_start (drop (colon + 1) line)))
-                (descriptor_named (trim_end (take colon line))))
-        (position (λ b. b == 58) line)
+    (λ colon.
+    option_map (λ d. (d, trim_start (drop (colon + 1) line)))
+    (descriptor_named (trim_end (take colon line))))
+    (position (λ b. b == 58) line)
 
 -- what the descriptors said so far; the symmetry is a name until the neighbourhood is known
 pub record Described : Type 0 where
@@ -64,11 +64,11 @@ once number (Some x) described = Err (BadTransition number)
 abbrev pub describe : Described → ℕ → Descriptor → List ℕ → Result Described RuleFault
 describe d number descriptor.States value =
     once number d.states
-        (ok_or (states_in value) BadStates >>= λ n. Ok (record d { states = Some n }))
+    (ok_or (states_in value) BadStates >>= λ n. Ok (record d { states = Some n }))
 describe d number descriptor.Neighborhood value =
     once number d.neighborhood
-        (ok_or (neighborhood_named value) BadNeighborhood >>= λ n.
-            fitting (record d { neighborhood = Some n }))
+    (ok_or (neighborhood_named value) BadNeighborhood >>= λ n.
+    fitting (record d { neighborhood = Some n }))
 describe d number descriptor.Symmetries value =
     once number d.symmetry (fitting (record d { symmetry = Some value }))
 
@@ -87,4 +87,4 @@ abbrev pub head_from : Described → List NumberedLine → Result (Head × List 
 head_from d [] = head_of d >>= λ head. Ok (head, [])
 head_from d (line ∷ lines) =
     option_map_or (λ x. describe d line.number x.0 x.1 >>= λ e. head_from e lines)
-        (descriptor_of line.text) (head_of d >>= λ head. Ok (head, line ∷ lines))
+    (descriptor_of line.text) (head_of d >>= λ head. Ok (head, line ∷ lines))

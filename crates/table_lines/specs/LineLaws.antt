@@ -25,7 +25,7 @@ is_descriptor line = is_some (descriptor_of line.text)
 abbrev pub DescriptorsInAnyOrder : Type 0
 DescriptorsInAnyOrder =
     (front : List NumberedLine) (line next : NumberedLine) (rest : List NumberedLine)
-        (table : Table)
+    (table : Table)
     → list_all is_descriptor front ≡ true → is_descriptor line ≡ true → is_descriptor next ≡ true
     → lines_of (front ++ line ∷ next ∷ rest) ≡ Ok table
     → lines_of (front ++ next ∷ line ∷ rest) ≡ Ok table
@@ -56,9 +56,13 @@ WrittenIsItsFile =
     (name : List ℕ) (sets : List (List ℕ)) (table : Table) → is_name name ≡ true
     → IsTableOf sets table
     → file_of (written_file name sets table)
-        ≡ Ok
-            (record { name = name;
-                section =
-                    record { kind = section_kind.Table; opened = 2;
-                        lines = written_table 3 sets table }
-                    })
+    ≡ Ok
+    (record {
+      name = name;
+      section =
+          record {
+            kind = section_kind.Table;
+            opened = 2;
+            lines = written_table 3 sets table;
+          };
+    })

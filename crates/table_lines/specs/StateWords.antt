@@ -21,17 +21,20 @@ has_passing p s xs = any-filter_same (nat_eq s) p (p s) (λ k h. ap p (sym (eqb-
 has_range : (a n s : ℕ) → a ≤ s → s < a + n → has (range_with_len a n) s ≡ true
 has_range a n s low high =
     let e : get_or (range_with_len a n) (s - a) 0 ≡ a + (s - a) =
-        get_or-range_with_len a n (s - a) 0 (omega arith) in
+    get_or-range_with_len a n (s - a) 0 (omega arith) in
     list_any_at (nat_eq s) (range_with_len a n) (s - a) 0 (rw length-range_with_len (omega arith))
-        (eq-eqb s _ (omega arith))
+    (eq-eqb s _ (omega arith))
 
 passing-agree : (p q : ℕ → Bool) (a n : ℕ) → ((s : ℕ) → a ≤ s → s < a + n → p s ≡ q s)
     → filter p (range_with_len a n) ≡ filter q (range_with_len a n)
 passing-agree p q a zero h = refl
 passing-agree p q a (suc n) h =
-    rw (h a (omega arith) (omega arith), passing-agree p q (a + 1) n
-        (λ s l m. h s (omega arith) (omega arith)))
-        refl
+    rw (
+      h a (omega arith) (omega arith),
+      passing-agree p q (a + 1) n
+          (λ s l m. h s (omega arith) (omega arith)),
+    )
+    refl
 
 passing_none : (a n : ℕ) → filter (λ s. false) (range_with_len a n) ≡ []
 passing_none a zero = refl
@@ -43,9 +46,9 @@ passing_one t a (suc n) l h =
     elim (cases_eq a t) [
       | inl e ↦ rw (eq-eqb a t e, e)
           (ap (λ xs. t ∷ xs)
-              (passing-agree (λ s. s == t) (λ s. false) (t + 1) n
-                  (λ s m k. ne_eqb s t (omega arith))
-                  ∙ passing_none (t + 1) n))
+          (passing-agree (λ s. s == t) (λ s. false) (t + 1) n
+          (λ s m k. ne_eqb s t (omega arith))
+          ∙ passing_none (t + 1) n))
       | inr ne ↦ rw (ne_eqb a t ne) (passing_one t (a + 1) n (omega arith) (omega arith))
     ]
 
@@ -91,13 +94,13 @@ digits word (suc n) a f each low =
     let here : a + 0 ≡ a = omega arith in
     let first : f a ≡ (bit_at word 0 == 1) = sym (ap f here) ∙ each 0 (omega arith) in
     let value : cond (f a) 1 0 ≡ word % 2 =
-        ap (λ b. cond b 1 0) first ∙ digit_value (bit_at word 0) (bit_at-lt word 0)
-            ∙ bit_at_lowest word in
+    ap (λ b. cond b 1 0) first ∙ digit_value (bit_at word 0) (bit_at-lt word 0)
+    ∙ bit_at_lowest word in
     let later : (i : ℕ) → i < n → f (a + 1 + i) ≡ (bit_at (word / 2) i == 1) = λ i h.
     let there : a + suc i ≡ a + 1 + i = omega arith in
     sym (ap f there) ∙ each (suc i) (omega (arith, h)) ∙ ap (λ k. k == 1) (bit_at-suc word i) in
     let rest : number_of_bits (map f (range_with_len (a + 1) n)) ≡ word / 2 =
-        digits (word / 2) n (a + 1) f later (half_of word n low) in
+    digits (word / 2) n (a + 1) f later (half_of word n low) in
     omega (arith, value, rest)
 
 -- a word of a set that is kept in words is that word
@@ -125,10 +128,10 @@ four_words (a ∷ b ∷ c ∷ d ∷ e ∷ more) h = absurd (omega (arith, h))
 pub words-kept : (words : List ℕ) → AreWords words → words_of (rising (is_bit_set words)) ≡ words
 words-kept words h =
     let at : (q : ℕ) → q < 4 → word_of (rising (is_bit_set words)) q ≡ get_or words q 0 =
-        λ q l. word-kept words q l (h.small q 0 (omega (arith, h.four))) in
+    λ q l. word-kept words q l (h.small q 0 (omega (arith, h.four))) in
     (λ i. at 0 (omega arith) i ∷ at 1 (omega arith) i ∷ at 2 (omega arith) i ∷ at 3 (omega arith) i
-        ∷ [])
-        ∙ four_words words h.four
+    ∷ [])
+    ∙ four_words words h.four
 
 -- the words that make a set are those of its states
 pub same_words : (set : Inside) → AreWords set.words

@@ -16,5 +16,9 @@ pub record Table : Type 0 where
 -- the table of this head and these transitions
 abbrev pub headed : Head → List Transition → Table
 headed head transitions =
-    record { states = head.states; neighborhood = head.neighborhood; symmetry = head.symmetry;
-        transitions = transitions }
+    record {
+      states = head.states;
+      neighborhood = head.neighborhood;
+      symmetry = head.symmetry;
+      transitions = transitions;
+    }

@@ -32,13 +32,15 @@ admitted (OneOf v) = v.states
 abbrev pub entry_of : ℕ → Variables → ℕ → List ℕ → Result Entry RuleFault
 entry_of states variables number field =
     option_map_or (λ n. if nat_lt n states then Ok (State n) else Err (StateTooHigh number))
-        (number_of field) (ok_or (option_map OneOf (variables.named field)) (BadTransition number))
+    (number_of field) (ok_or (option_map OneOf (variables.named field)) (BadTransition number))
 
 -- the transition of some entries, whose last is the result
 abbrev pub transition_from : List Entry → Transition
 transition_from entries =
-    record { inputs = take (length entries - 1) entries;
-        result = slice_index_or entries (length entries - 1) (State 0) }
+    record {
+      inputs = take (length entries - 1) entries;
+      result = slice_index_or entries (length entries - 1) (State 0);
+    }
 
 -- a free variable, which stands in no input
 abbrev pub is_free : List Entry → Entry → Bool
@@ -54,7 +56,7 @@ abbrev pub transition_of : Head → Variables → NumberedLine → Result Transi
 transition_of head variables line =
     if length (fields head.states line.text) == length (places_of head.neighborhood) + 2 then
     (each (entry_of head.states variables line.number) (fields head.states line.text) >>= λ entries.
-        unless_free line.number (transition_from entries))
+    unless_free line.number (transition_from entries))
     else Err (BadTransition line.number)
 
 -- whether a transition has an input for the cell and each neighbour
@@ -68,7 +70,7 @@ transitions_of head variables [] = Ok []
 transitions_of head variables (line ∷ lines) =
     if is_some (descriptor_of line.text) then Err (BadTransition line.number) else
     (if defines_variable line.text
-        then (variables_after head variables line >>= λ more. transitions_of head more lines) else
+    then (variables_after head variables line >>= λ more. transitions_of head more lines) else
     (do
       t ← transition_of head variables line
       ts ← transitions_of head variables lines

@@ -46,7 +46,7 @@ is_variable_name name =
 abbrev pub unbraced : List ℕ → Option (List ℕ)
 unbraced text =
     if opens text && closes text then Some (drop 1 (take (length text - 1) text))
-        else (if opens text || closes text then None else Some text)
+    else (if opens text || closes text then None else Some text)
   where
     opens : List ℕ → Bool
     opens text = starts_with nat_eq text (123 ∷ [])
@@ -58,18 +58,18 @@ unbraced text =
 abbrev pub definition_in : List ℕ → Option (List ℕ × List (List ℕ))
 definition_in line =
     option_and_then
-        (λ sign. option_and_then
-            (λ set. if is_variable_name (trim (drop 3 (take sign line)))
-                then Some (trim (drop 3 (take sign line)), parts set) else None)
-            (unbraced (trim (drop (sign + 1) line))))
-        (position (λ b. b == 61) line)
+    (λ sign. option_and_then
+    (λ set. if is_variable_name (trim (drop 3 (take sign line)))
+    then Some (trim (drop 3 (take sign line)), parts set) else None)
+    (unbraced (trim (drop (sign + 1) line))))
+    (position (λ b. b == 61) line)
 
 -- the states that a member stands for: a number for itself, and a name for those of an earlier
 -- variable
 abbrev pub member_states : Variables → List ℕ → Option (List ℕ)
 member_states variables member =
     option_map_or (λ n. Some (n ∷ [])) (number_of member)
-        (option_map (λ v. v.states) (variables.named member))
+    (option_map (λ v. v.states) (variables.named member))
 
 -- whether all states of some sets are below the count of states
 abbrev pub are_below : ℕ → List (List ℕ) → Bool
@@ -104,8 +104,8 @@ with_definition variables name states = record {
   defined = variables.defined + 1;
   named =
       λ other. if bytes_eq name other
-          then Some (record { number = variables.defined; states = states })
-          else variables.named other;
+      then Some (record { number = variables.defined; states = states })
+      else variables.named other;
 }
 
 -- the variables after a line that is to define one

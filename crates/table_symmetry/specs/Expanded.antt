@@ -29,8 +29,8 @@ sets_of t = map admitted t.inputs
 abbrev pub expanded_one : Symmetry → Transition → List Expanded
 expanded_one symmetry t =
     map (λ neighbours.
-        record { inputs = take 1 (sets_of t) ++ neighbours; result = given t.result })
-        (distinct same_sets (arrangements symmetry (drop 1 (sets_of t))))
+    record { inputs = take 1 (sets_of t) ++ neighbours; result = given t.result })
+    (distinct same_sets (arrangements symmetry (drop 1 (sets_of t))))
 
 -- those of any transition: those of each assignment
 abbrev pub expanded_of : Symmetry → Transition → List Expanded

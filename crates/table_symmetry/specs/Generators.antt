@@ -120,7 +120,7 @@ SymmetriesAreGenerated =
     (neighborhood : Neighborhood) (symmetry : Symmetry)
     → symmetry_named neighborhood (name_of_symmetry symmetry) ≡ Some symmetry → symmetry ≢ Permute
     → AreCompositions (places_of neighborhood) (generators neighborhood symmetry)
-        (arrangements symmetry (places_of neighborhood))
+    (arrangements symmetry (places_of neighborhood))
 
 -- whether a list is one of all neighbours, each once: it is as long, and each stands in it
 abbrev pub is_order : List ℕ → List ℕ → Bool
@@ -131,4 +131,4 @@ abbrev pub PermuteTakesAllOrders : Type 0
 PermuteTakesAllOrders =
     (neighborhood : Neighborhood) (list : List ℕ)
     → is_among (arrangements Permute (places_of neighborhood)) list
-        ≡ is_order (places_of neighborhood) list
+    ≡ is_order (places_of neighborhood) list

@@ -60,7 +60,7 @@ pub record IsLookupOf (rows : List Expanded) (n : ℕ) (neighborhood : Neighborh
   pub tells : (states : List ℕ) → AreNineBelow n states → (row : ℕ) (d : Expanded)
       → row < length rows
       → row_has lookup.columns (inputs_of neighborhood states) row
-          ≡ all_have (slice_index_or rows row d).inputs (inputs_of neighborhood states)
+      ≡ all_have (slice_index_or rows row d).inputs (inputs_of neighborhood states)
 
 -- what a look-up finds for the states at and around a cell: what the first row that matches gives,
 -- of whatever rows it is the look-up

@@ -28,7 +28,7 @@ bound_variables [] = []
 bound_variables (State s ∷ entries) = bound_variables entries
 bound_variables (OneOf v ∷ entries) =
     if list_any (is_variable v) entries then v ∷ without v (bound_variables entries)
-        else bound_variables entries
+    else bound_variables entries
 
 -- the bound variables of a transition, whose result counts too
 abbrev pub bound_in : Transition → List Variable
@@ -63,7 +63,7 @@ all_admit (e ∷ entries) (s ∷ states) = has (admitted e) s && all_admit entri
 abbrev pub arranged : Table → Transition → List (List Entry)
 arranged table t =
     map (λ neighbours. take 1 t.inputs ++ neighbours)
-        (arrangements table.symmetry (drop 1 t.inputs))
+    (arrangements table.symmetry (drop 1 t.inputs))
 
 -- a transition matches a cell and its neighbours, if its entries admit them in some arrangement
 abbrev pub matches : Table → List ℕ → Transition → Bool

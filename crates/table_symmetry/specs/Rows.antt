@@ -18,4 +18,4 @@ pub record AreExpanded (table : Table) (rows : List Expanded) : Type 0 where
   pub below : All (λ (row : Expanded). row.result < table.states) rows
   pub first : (around : List ℕ)
       → unwrap_or (first_match rows (inputs_of table.neighborhood around)) (slice_index around 0)
-          ≡ next table around
+      ≡ next table around

@@ -40,7 +40,7 @@ abbrev pub lines_from : End → List ℕ → List ℕ → List Line
 lines_from stop begun [] = last_line stop begun
 lines_from stop begun (b ∷ bs) =
     if b == 10 then full_line begun ∷ lines_from stop [] bs
-        else lines_from stop (begun ++ b ∷ []) bs
+    else lines_from stop (begun ++ b ∷ []) bs
 
 -- the lines of a text that stopped in this way
 abbrev pub lines_until : End → List ℕ → List Line

@@ -72,7 +72,7 @@ abbrev pub StandsFor : List Layer → List (Option ℕ) → Expanded → ℕ →
 StandsFor layers order row number =
     (inputs : List ℕ) → length inputs ≡ length order
     → result_of layers number inputs
-        ≡ (if all_allow (asked order row.inputs) inputs then Some row.result else None)
+    ≡ (if all_allow (asked order row.inputs) inputs then Some row.result else None)
 
 -- the layers of these rows, and the number of the tail of each
 pub record AreLayersOf (states : ℕ) (order : List (Option ℕ)) (rows : List Expanded)
@@ -95,7 +95,7 @@ pub record IsLayerOf (place : Option ℕ) (rows : List Expanded) (rests : List �
   pub few : length layer.tails.items ≤ length rows
   pub asks : (k : ℕ) (d : Expanded) → k < length rows
       → slice_index_or layer.sets.items (tail_at layer (slice_index numbers k)).set None
-          ≡ asked_at place (slice_index_or rows k d).inputs
+      ≡ asked_at place (slice_index_or rows k d).inputs
   pub leaves : (k : ℕ) → k < length rows
       → rest_at layer (slice_index numbers k) ≡ slice_index rests k
 

@@ -32,7 +32,7 @@ pub record NeedsNodes (table : Table) (count : ℕ) : Type 0 where
   pub below : AllInside table.states beginnings
   pub short : All
       (λ (beginning : List ℕ). length beginning
-          < length (places_of (neighbors_of table.neighborhood)))
+      < length (places_of (neighbors_of table.neighborhood)))
       beginnings
   pub apart : (i j : ℕ) → i < j → j < count
       → NeedTwoNodes table (slice_index_or beginnings i []) (slice_index_or beginnings j [])

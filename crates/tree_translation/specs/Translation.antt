@@ -82,11 +82,11 @@ pub record Does (states : ℕ) (layers : List Layer) (nodes : List Entries) (lis
 abbrev pub rows_give : List (Option ℕ) → List Expanded → List ℕ → ℕ
 rows_give order rows inputs =
     unwrap_or
-        (first_some
-            (λ (row : Expanded). if all_allow (asked order row.inputs) inputs then Some row.result
-                else None)
-            rows)
-        (last_of inputs)
+    (first_some
+    (λ (row : Expanded). if all_allow (asked order row.inputs) inputs then Some row.result
+    else None)
+    rows)
+    (last_of inputs)
 
 -- nodes of which the last does what the rows do
 pub record DoesRows (states : ℕ) (order : List (Option ℕ)) (rows : List Expanded)
@@ -113,18 +113,18 @@ pub record DoTable (table : Table) (nodes : List Entries) : Type 0 where
       → leads table.states nodes (length nodes - 1) inputs ≡ true
   pub same : (around : List ℕ) → All (λ s. s < table.states) around
       → follow nodes (length nodes - 1) (inputs_of (neighbors_of table.neighborhood) around)
-          ≡ table_rule.next table around
+      ≡ table_rule.next table around
 
 -- for each state of the last input the first result that is left, or the state
 pub record AreLeaves (states : ℕ) (layer : Layer) (list leaf : List ℕ) : Type 0 where
   pub width : length leaf ≡ states
   pub each : (s : ℕ) → s < states
       → slice_index leaf s
-          ≡ unwrap_or
-              (first_some
-                  (λ number. if lets layer number s then Some (rest_at layer number) else None)
-                  list)
-              s
+      ≡ unwrap_or
+      (first_some
+      (λ number. if lets layer number s then Some (rest_at layer number) else None)
+      list)
+      s
 
 -- lists of numbers below a count
 abbrev pub AllInside : ℕ → List (List ℕ) → Type 0
