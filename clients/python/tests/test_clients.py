@@ -114,7 +114,8 @@ class DeskTest(WithFiles):
             (lambda: self.desk.rule(bad_rule), 8, "BadTransition", 9, f"{bad_rule}, line 9: refused 8 BadTransition"),
             (lambda: self.desk.start(bad_rle), 22, "BadRun", 4, f"{bad_rle}, line 4: refused 22 BadRun"),
             (lambda: self.desk.start(bad_mc), 32, "BadChild", 4, f"{bad_mc}, line 4: refused 32 BadChild"),
-            (lambda: self.desk.set([(0, 0, 2)]), 42, "CellStateTooHigh", None, "`set 0 0 2`: refused 42 CellStateTooHigh"),
+            (lambda: self.desk.set([(0, 0, 2)]), 42, "CellStateTooHigh", None,
+             "`set 0 0 2`: refused 42 CellStateTooHigh"),
             (lambda: self.desk.set([]), 80, "BadCommand", None, "`set `: refused 80 BadCommand"),
         ]
         for call, number, name, place, text in cases:
@@ -206,7 +207,7 @@ class PictureTest(WithFiles):
         rows = [".1233333", "3.......3", "3.......3" + "3" * 15, "3.......3", ".3333333"]
         self.assertEqual([line.rstrip(".") for line in run.stdout.splitlines()], rows)
         run = called("picture.py", "examples/wire.rule", "examples/wire.rle", "--at", 1, "--window", 0, 0, 3, 2)
-        self.assertEqual(run.stdout, "123\n3..\n")
+        self.assertEqual(run.stdout, ".23\n1..\n")
 
     def test_a_png_has_the_cells_in_the_colors_of_the_rule(self):
         path = self.folder / "wire.png"
@@ -290,7 +291,7 @@ class DocumentsTest(unittest.TestCase):
 
     def test_the_clients_show_help_with_an_example(self):
         for script in ("curve.py", "picture.py"):
-            run = subprocess.run([sys.executable, "-B", str(CLIENTS / script), "--help"], capture_output=True, text=True)
+            run = called(script, "--help")
             self.assertIn("examples/brain.rule examples/brain.rle", run.stdout)
 
 
