@@ -24,7 +24,7 @@ example, in the repository's folder:
 """
 Color = Tuple[int, int, int]
 # The most pixels a side of a PNG, and the most cells of the program's windows.
-MOST_PIXELS, MOST_CELLS = 2048, 65536
+MOST_PIXELS, MOST_CELLS = 1024, 65536
 
 
 class Frame(NamedTuple):

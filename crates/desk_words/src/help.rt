@@ -3,9 +3,9 @@
 /// The commands of a script, the exit statuses and an example.
 pub(crate) const COMMANDS: &str = "\
 Commands of a script, one a line; blank lines and lines that begin with # are passed over:
-  rule                      takes the rule that the next lines up to the line `end` say, as .rule
-  start rle                 takes the pattern that the next lines up to `end` say, as RLE
-  start mc                  the same, as macrocell text
+  rule                      takes the rule of a .rule file: the lines up to one that is just `end`
+  start rle                 takes the pattern of an RLE text, the lines up to `end`, as the start
+  start mc                  takes that of a macrocell text
   set X Y S ..              sets cells of the start to states, each by three numbers
   at G set X Y S ..         adds an intervention: these cells are set at generation G
   change ID G set X Y S ..  gives an intervention another generation and other cells
