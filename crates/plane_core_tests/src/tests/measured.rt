@@ -1,20 +1,8 @@
 //! What a plane tells of its cells without listing them.
-use plane_core::{Plane, SquareRow, are_rows};
+use super::{full, row, same, squared};
+use plane_core::{Bounds, Plane, SquareRow};
 use std::alloc::Global;
-use std::fmt::Debug;
 use std::process::Abort;
-use worlds::Bounds;
-
-fn row(level: u8, kids: [u32; 4]) -> SquareRow {
-    SquareRow { level, kids }
-}
-
-fn same<T: PartialEq + Debug, A: Debug>(rt: &impl Abort, found: &T, wanted: &T, at: &A) {
-    assert!(rt;
-        found == wanted,
-        "at {at:?}: {found:?} in place of {wanted:?}"
-    );
-}
 
 #[derive(Clone, Copy)]
 struct Case {
@@ -25,8 +13,7 @@ struct Case {
 
 /// The plane of the rows has these measures.
 fn measures(rt: &impl Abort, alloc: Global, rows: &[SquareRow], wanted: &Case) {
-    assert!(rt; are_rows(rows), "the rows stand for no plane");
-    let plane = Plane::from_squares(alloc, rows).expect(rt, "memory");
+    let plane = squared(rt, alloc, rows);
     same(rt, &plane.population(), &wanted.population, &rows.len());
     same(rt, &plane.greatest(), &wanted.greatest, &rows.len());
     same(rt, &plane.bounds(), &wanted.bounds, &rows.len());
@@ -34,8 +21,7 @@ fn measures(rt: &impl Abort, alloc: Global, rows: &[SquareRow], wanted: &Case) {
 
 /// The plane of the rows has as many cells of the state.
 fn has_count(rt: &impl Abort, alloc: Global, rows: &[SquareRow], state: usize, wanted: u128) {
-    assert!(rt; are_rows(rows), "the rows stand for no plane");
-    let plane = Plane::from_squares(alloc, rows).expect(rt, "memory");
+    let plane = squared(rt, alloc, rows);
     let counts = plane.counts().expect(rt, "memory");
     assert!(rt; state < 256);
     same(rt, &counts[state], &wanted, &state);
@@ -43,8 +29,7 @@ fn has_count(rt: &impl Abort, alloc: Global, rows: &[SquareRow], state: usize, w
 
 /// How many live cells there are by the counts of their states.
 fn total(rt: &impl Abort, alloc: Global, rows: &[SquareRow]) -> u128 {
-    assert!(rt; are_rows(rows), "the rows stand for no plane");
-    let plane = Plane::from_squares(alloc, rows).expect(rt, "memory");
+    let plane = squared(rt, alloc, rows);
     let counts = plane.counts().expect(rt, "memory");
     let mut total = 0;
     for count in counts {
@@ -146,21 +131,10 @@ fn bounds_lie_where_the_cells_do(rt: HostRuntime) {
     measures(&rt, alloc, &south_west, &wanted);
 }
 
-/// A square of level `k`, for `k` up to 61, whose cells are all live.
-fn full(rt: &impl Abort, alloc: Global) -> Vec<SquareRow> {
-    let mut rows = Vec::new(alloc);
-    rows.push(row(1, [1; 4])).expect(rt, "memory");
-    for level in 2..62u8 {
-        let kid = u32::from(level) - 1;
-        rows.push(row(level, [kid; 4])).expect(rt, "memory");
-    }
-    rows
-}
-
 #[test]
 fn sixty_one_rows_of_live_cells(rt: HostRuntime) {
     let alloc = rt.alloc();
-    let rows = full(&rt, alloc);
+    let rows = full(&rt, alloc, 61);
     let cells = 5_316_911_983_139_663_491_615_228_241_121_378_304;
     let wanted = Case {
         population: cells,
@@ -179,8 +153,7 @@ fn sixty_one_rows_of_live_cells(rt: HostRuntime) {
 
 #[test]
 fn a_copy_has_the_same_measures(rt: HostRuntime) {
-    assert!(&rt; are_rows(&SPREAD), "the rows stand for no plane");
-    let plane = Plane::from_squares(rt.alloc(), &SPREAD).expect(&rt, "memory");
+    let plane = squared(&rt, rt.alloc(), &SPREAD);
     let copy = plane.copy().expect(&rt, "memory");
     same(&rt, &copy.population(), &4, &"copy");
     same(&rt, &copy.greatest(), &7, &"copy");

@@ -1,11 +1,8 @@
 //! Trees, and how they are asked.
-use super::{expect_of_tree, same};
-use plane_core::{CellSet, Next, NoStop, Plane};
-use rule_file::{RuleFault, cut};
-use rule_tree::{Rule, TreeRule, read_tree};
+use super::{STILL, expect_next, read, same};
+use decision_tree::TreeRule;
 use std::alloc::Global;
 use std::process::Abort;
-use step_engine::{evolve_plain, fits};
 
 // Each cell copies its western neighbour.
 pub const W: &[u8] = b"@RULE W\n\
@@ -44,15 +41,6 @@ const W_AGAIN: &[u8] = b"\r\n\
     @COLORS\r\n\
     5 6 6\r\n";
 
-/// Five nodes under which a cell keeps its own state.
-pub const STILL: &str = "1 0 1\n2 0 0\n3 1 1\n4 2 2\n5 3 3";
-
-/// The tree of a file.
-pub fn read(alloc: Global, text: &[u8]) -> Result<TreeRule, RuleFault> {
-    let file = cut(alloc, text)?;
-    read_tree(alloc, &file)
-}
-
 fn tree_of(rt: &impl Abort, alloc: Global, text: &[u8]) -> TreeRule {
     read(alloc, text).expect(rt, "a tree")
 }
@@ -65,8 +53,8 @@ fn expect_states(rt: &impl Abort, rule: &TreeRule, wanted: u16) {
 fn expect_west(rt: &impl Abort, rule: &TreeRule, number: u8) {
     let (n, w, e) = (number / 16 % 2, number / 8 % 2, number / 4 % 2);
     let (s, c) = (number / 2 % 2, number % 2);
-    expect_of_tree(rt, rule, [c, n, 0, e, 0, s, 0, w, 0], w);
-    expect_of_tree(rt, rule, [c, n, 1, e, 1, s, 1, w, 1], w);
+    expect_next(rt, rule, [c, n, 0, e, 0, s, 0, w, 0], w);
+    expect_next(rt, rule, [c, n, 1, e, 1, s, 1, w, 1], w);
 }
 
 fn expect_west_everywhere(rt: &impl Abort, alloc: Global, text: &[u8]) {
@@ -81,24 +69,6 @@ fn expect_west_everywhere(rt: &impl Abort, alloc: Global, text: &[u8]) {
 fn west_is_copied(rt: HostRuntime) {
     expect_west_everywhere(&rt, rt.alloc(), W);
     expect_west_everywhere(&rt, rt.alloc(), W_AGAIN);
-}
-
-#[test]
-fn west_is_copied_to_the_east(rt: HostRuntime) {
-    let alloc = rt.alloc();
-    let rule = Rule::read(alloc, W).expect(&rt, "a rule");
-    let cell = CellSet {
-        x: 0,
-        y: 0,
-        state: 1,
-    };
-    let start = Plane::empty(alloc).lay(&[cell]).expect(&rt, "memory");
-    assert!(rt; fits(&start, 3));
-    assert!(rt; u16::from(start.greatest()) < rule.states());
-    let evolved = evolve_plain(alloc, &rule, &start, 3, &mut NoStop, 0);
-    let end = evolved.expect(&rt, "memory").plane;
-    same(&rt, &end.get(3, 0), &1, &"three cells to the east");
-    same(&rt, &end.population(), &1, &"live cells");
 }
 
 // One live cell, at each of the nine places in turn.
@@ -116,7 +86,7 @@ const ONE_LIVE: [[u8; 9]; 9] = [
 
 fn expect_place(rt: &impl Abort, rule: &TreeRule, around: [u8; 9], place: usize) {
     let wanted = around.get(place).copied().expect(rt, "a place");
-    expect_of_tree(rt, rule, around, wanted);
+    expect_next(rt, rule, around, wanted);
 }
 
 // A tree of so many nodes that copies the state at this place, of C, N, NE, E, SE, S, SW, W, NW.
@@ -131,7 +101,7 @@ fn expect_copies(rt: &impl Abort, alloc: Global, case: &Copier) {
     let head = "num_states=2\nnum_neighbors=8";
     let text = format!(in alloc; "@RULE T\n@TREE\n{head}\nnum_nodes={count}\n{nodes}\n");
     let rule = tree_of(rt, alloc, text.expect(rt, "memory").as_bytes());
-    expect_of_tree(rt, &rule, [0; 9], 0);
+    expect_next(rt, &rule, [0; 9], 0);
     for around in ONE_LIVE {
         expect_place(rt, &rule, around, case.place);
     }
@@ -199,7 +169,7 @@ fn every_place_is_told_apart(rt: HostRuntime) {
 }
 
 fn expect_at(rt: &impl Abort, rule: &TreeRule, centre: u8, north: u8, wanted: u8) {
-    expect_of_tree(rt, rule, [centre, north, 1, 2, 1, 2, 1, 2, 1], wanted);
+    expect_next(rt, rule, [centre, north, 1, 2, 1, 2, 1, 2, 1], wanted);
 }
 
 #[test]
@@ -237,7 +207,7 @@ fn expect_described(rt: &impl Abort, alloc: Global, a: &str, b: &str, c: &str) {
     let text = format!(in alloc; "@RULE T\n@TREE\n{a}\n{b}\n{c}\n{STILL}\n");
     let rule = tree_of(rt, alloc, text.expect(rt, "memory").as_bytes());
     expect_states(rt, &rule, 2);
-    expect_of_tree(rt, &rule, [1, 0, 1, 0, 1, 0, 1, 0, 1], 1);
+    expect_next(rt, &rule, [1, 0, 1, 0, 1, 0, 1, 0, 1], 1);
 }
 
 #[test]

@@ -1,5 +1,5 @@
 //! Lines that are no definition of a variable, or no transition.
-use super::helpers::{ends, table};
+use super::{ends, table};
 use std::alloc::Global;
 use std::process::Abort;
 

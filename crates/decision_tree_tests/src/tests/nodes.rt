@@ -1,6 +1,6 @@
 //! The faults of a tree's lines.
-use super::same;
-use super::trees::{STILL, W, read};
+use super::trees::W;
+use super::{STILL, read, same};
 use basics::Refusal;
 use std::alloc::Global;
 use std::process::Abort;

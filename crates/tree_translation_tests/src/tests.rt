@@ -1,13 +1,15 @@
 //! Tables with the trees to which they are translated. Next states are worked out by hand, or are
 //! those of the table itself.
-use super::{expect_of_tree, nine_bits, of_tree, same};
 use basics::Refusal;
+use decision_tree::TreeRule;
 use plane_core::Around;
 use rule_file::cut;
-use rule_tree::{TreeFault, TreeRule, from_table};
 use std::alloc::{AllocError, Global};
+use std::fmt::Debug;
 use std::process::Abort;
 use table_symmetry::{TableRule, read_table};
+use test_planes::are_below;
+use tree_translation::{TreeFault, from_table};
 
 // One neighbour alone.
 const LONE: &str = "n_states:2\nneighborhood:vonNeumann\nsymmetries:rotate4\n0,1,0,0,0,1\n";
@@ -35,6 +37,11 @@ const NEEDLESS: &str = "n_states:2\nneighborhood:oneDimensional\nsymmetries:none
 
 const NO_LINES: &str = "n_states:3\nneighborhood:hexagonal\nsymmetries:none\n";
 
+/// Stops the test where what was found isn't what is wanted.
+fn same<T: PartialEq + Debug, A: Debug>(rt: &impl Abort, found: &T, wanted: &T, at: &A) {
+    assert!(rt; *found == *wanted, "{at:?}: {found:?} is not {wanted:?}");
+}
+
 // A file with a table of these lines.
 fn file_of(rt: &impl Abort, alloc: Global, lines: &str) -> String {
     let text = format!(in alloc; "@RULE T\n@TABLE\n{lines}");
@@ -60,12 +67,40 @@ fn tree_of(rt: &impl Abort, alloc: Global, lines: &str) -> TreeRule {
 
 // What a table gives for these nine states, if it has them.
 fn of_table(table: &TableRule, around: [u8; 9]) -> Option<u8> {
-    let states = table.states();
-    if around.iter().all(|state| u16::from(*state) < states) {
+    if are_below(&around, table.states()) {
         Some(table.next(&Around(around)))
     } else {
         None
     }
+}
+
+// What a tree gives for these nine states, if it has them.
+fn of_tree(tree: &TreeRule, around: [u8; 9]) -> Option<u8> {
+    if are_below(&around, tree.states()) {
+        Some(tree.next(&Around(around)))
+    } else {
+        None
+    }
+}
+
+// Stops the test where the tree doesn't have these nine states, or this isn't the next.
+fn expect_next(rt: &impl Abort, tree: &TreeRule, around: [u8; 9], wanted: u8) {
+    same(rt, &of_tree(tree, around), &Some(wanted), &around);
+}
+
+// The bits of a number, as nine states.
+fn nine_bits(number: u16) -> [u8; 9] {
+    [
+        (number % 2) as u8,
+        (number / 2 % 2) as u8,
+        (number / 4 % 2) as u8,
+        (number / 8 % 2) as u8,
+        (number / 16 % 2) as u8,
+        (number / 32 % 2) as u8,
+        (number / 64 % 2) as u8,
+        (number / 128 % 2) as u8,
+        (number / 256 % 2) as u8,
+    ]
 }
 
 // Counts nine states up, each of which is at most the last. Behind the greatest come zeros.
@@ -126,40 +161,40 @@ fn every_nine_states(rt: HostRuntime) {
 fn neighbors_alone(rt: HostRuntime) {
     let alloc = rt.alloc();
     let lone = tree_of(&rt, alloc, LONE);
-    expect_of_tree(&rt, &lone, [0, 1, 0, 0, 0, 0, 0, 0, 0], 1);
-    expect_of_tree(&rt, &lone, [0, 0, 1, 0, 1, 0, 1, 1, 1], 1);
-    expect_of_tree(&rt, &lone, [0, 0, 0, 1, 0, 0, 0, 1, 0], 0);
-    expect_of_tree(&rt, &lone, [1, 0, 0, 0, 0, 0, 0, 0, 0], 1);
+    expect_next(&rt, &lone, [0, 1, 0, 0, 0, 0, 0, 0, 0], 1);
+    expect_next(&rt, &lone, [0, 0, 1, 0, 1, 0, 1, 1, 1], 1);
+    expect_next(&rt, &lone, [0, 0, 0, 1, 0, 0, 0, 1, 0], 0);
+    expect_next(&rt, &lone, [1, 0, 0, 0, 0, 0, 0, 0, 0], 1);
     let star = tree_of(&rt, alloc, STAR);
-    expect_of_tree(&rt, &star, [0, 0, 0, 0, 0, 2, 0, 0, 0], 2);
-    expect_of_tree(&rt, &star, [0, 0, 2, 1, 2, 0, 2, 0, 2], 1);
-    expect_of_tree(&rt, &star, [0, 2, 0, 0, 0, 0, 0, 1, 0], 0);
-    expect_of_tree(&rt, &star, [2, 1, 0, 0, 0, 0, 0, 0, 0], 2);
+    expect_next(&rt, &star, [0, 0, 0, 0, 0, 2, 0, 0, 0], 2);
+    expect_next(&rt, &star, [0, 0, 2, 1, 2, 0, 2, 0, 2], 1);
+    expect_next(&rt, &star, [0, 2, 0, 0, 0, 0, 0, 1, 0], 0);
+    expect_next(&rt, &star, [2, 1, 0, 0, 0, 0, 0, 0, 0], 2);
     let south_west = tree_of(&rt, alloc, SOUTH_WEST);
-    expect_of_tree(&rt, &south_west, [0, 0, 0, 0, 0, 0, 1, 0, 0], 1);
-    expect_of_tree(&rt, &south_west, [0, 0, 0, 0, 1, 0, 0, 0, 0], 0);
-    expect_of_tree(&rt, &south_west, [0, 0, 1, 0, 0, 0, 1, 0, 0], 0);
-    expect_of_tree(&rt, &south_west, [0, 0, 1, 0, 0, 0, 0, 0, 0], 0);
+    expect_next(&rt, &south_west, [0, 0, 0, 0, 0, 0, 1, 0, 0], 1);
+    expect_next(&rt, &south_west, [0, 0, 0, 0, 1, 0, 0, 0, 0], 0);
+    expect_next(&rt, &south_west, [0, 0, 1, 0, 0, 0, 1, 0, 0], 0);
+    expect_next(&rt, &south_west, [0, 0, 1, 0, 0, 0, 0, 0, 0], 0);
 }
 
 #[test]
 fn pairs_of_neighbors(rt: HostRuntime) {
     let alloc = rt.alloc();
     let pair = tree_of(&rt, alloc, PAIR);
-    expect_of_tree(&rt, &pair, [0, 1, 0, 1, 0, 0, 0, 0, 0], 1);
-    expect_of_tree(&rt, &pair, [0, 1, 1, 0, 0, 0, 1, 0, 1], 1);
-    expect_of_tree(&rt, &pair, [0, 1, 0, 0, 1, 0, 0, 0, 0], 0);
-    expect_of_tree(&rt, &pair, [0, 1, 1, 0, 0, 0, 1, 0, 0], 0);
+    expect_next(&rt, &pair, [0, 1, 0, 1, 0, 0, 0, 0, 0], 1);
+    expect_next(&rt, &pair, [0, 1, 1, 0, 0, 0, 1, 0, 1], 1);
+    expect_next(&rt, &pair, [0, 1, 0, 0, 1, 0, 0, 0, 0], 0);
+    expect_next(&rt, &pair, [0, 1, 1, 0, 0, 0, 1, 0, 0], 0);
     let one_of_two = tree_of(&rt, alloc, ONE_OF_TWO);
-    expect_of_tree(&rt, &one_of_two, [0, 0, 0, 0, 0, 0, 0, 1, 0], 1);
-    expect_of_tree(&rt, &one_of_two, [1, 1, 1, 0, 1, 1, 1, 0, 1], 0);
-    expect_of_tree(&rt, &one_of_two, [1, 0, 0, 1, 0, 1, 0, 0, 0], 1);
-    expect_of_tree(&rt, &one_of_two, [0, 1, 0, 1, 0, 0, 0, 1, 0], 0);
+    expect_next(&rt, &one_of_two, [0, 0, 0, 0, 0, 0, 0, 1, 0], 1);
+    expect_next(&rt, &one_of_two, [1, 1, 1, 0, 1, 1, 1, 0, 1], 0);
+    expect_next(&rt, &one_of_two, [1, 0, 0, 1, 0, 1, 0, 0, 0], 1);
+    expect_next(&rt, &one_of_two, [0, 1, 0, 1, 0, 0, 0, 1, 0], 0);
     let shadowed = tree_of(&rt, alloc, SHADOWED);
-    expect_of_tree(&rt, &shadowed, [0, 0, 1, 0, 0, 0, 0, 2, 0], 2);
-    expect_of_tree(&rt, &shadowed, [0, 1, 0, 0, 0, 1, 0, 0, 0], 1);
-    expect_of_tree(&rt, &shadowed, [0, 0, 0, 0, 0, 0, 0, 0, 2], 2);
-    expect_of_tree(&rt, &shadowed, [1, 0, 0, 0, 0, 0, 0, 0, 0], 0);
+    expect_next(&rt, &shadowed, [0, 0, 1, 0, 0, 0, 0, 2, 0], 2);
+    expect_next(&rt, &shadowed, [0, 1, 0, 0, 0, 1, 0, 0, 0], 1);
+    expect_next(&rt, &shadowed, [0, 0, 0, 0, 0, 0, 0, 0, 2], 2);
+    expect_next(&rt, &shadowed, [1, 0, 0, 0, 0, 0, 0, 0, 0], 0);
 }
 
 // These states with 0 where the neighbourhood has none.
@@ -199,7 +234,7 @@ fn further_cells_change_nothing(rt: HostRuntime) {
 
 fn expect_kept(rt: &impl Abort, tree: &TreeRule, around: [u8; 9]) {
     let [centre, ..] = around;
-    expect_of_tree(rt, tree, around, centre);
+    expect_next(rt, tree, around, centre);
 }
 
 #[test]
@@ -327,14 +362,14 @@ fn pairs_of_eight_states(rt: HostRuntime) {
     let table = four_pairs_table(&rt, alloc, 8);
     let tree = translated(&rt, alloc, &table);
     same(&rt, &tree.states(), &8, &"states");
-    expect_of_tree(&rt, &tree, [0, 0, 0, 0, 0, 0, 0, 0, 0], 0);
-    expect_of_tree(&rt, &tree, [0, 0, 0, 0, 0, 5, 0, 0, 5], 1);
-    expect_of_tree(&rt, &tree, [0, 0, 0, 0, 0, 5, 0, 0, 4], 0);
-    expect_of_tree(&rt, &tree, [0, 0, 7, 7, 0, 0, 0, 0, 0], 1);
-    expect_of_tree(&rt, &tree, [0, 0, 0, 0, 0, 0, 1, 1, 0], 1);
-    expect_of_tree(&rt, &tree, [0, 2, 0, 0, 2, 0, 0, 0, 0], 1);
-    expect_of_tree(&rt, &tree, [6, 2, 0, 0, 2, 0, 0, 0, 0], 6);
-    expect_of_tree(&rt, &tree, [0, 1, 2, 3, 4, 5, 6, 7, 1], 0);
-    expect_of_tree(&rt, &tree, [0, 1, 2, 3, 4, 5, 7, 7, 1], 1);
-    expect_of_tree(&rt, &tree, [0, 2, 1, 2, 3, 3, 2, 1, 2], 0);
+    expect_next(&rt, &tree, [0, 0, 0, 0, 0, 0, 0, 0, 0], 0);
+    expect_next(&rt, &tree, [0, 0, 0, 0, 0, 5, 0, 0, 5], 1);
+    expect_next(&rt, &tree, [0, 0, 0, 0, 0, 5, 0, 0, 4], 0);
+    expect_next(&rt, &tree, [0, 0, 7, 7, 0, 0, 0, 0, 0], 1);
+    expect_next(&rt, &tree, [0, 0, 0, 0, 0, 0, 1, 1, 0], 1);
+    expect_next(&rt, &tree, [0, 2, 0, 0, 2, 0, 0, 0, 0], 1);
+    expect_next(&rt, &tree, [6, 2, 0, 0, 2, 0, 0, 0, 0], 6);
+    expect_next(&rt, &tree, [0, 1, 2, 3, 4, 5, 6, 7, 1], 0);
+    expect_next(&rt, &tree, [0, 1, 2, 3, 4, 5, 7, 7, 1], 1);
+    expect_next(&rt, &tree, [0, 2, 1, 2, 3, 3, 2, 1, 2], 0);
 }

@@ -1,29 +1,12 @@
+//! Planes as the rows of their squares.
+use super::{EDGE, full, row, same, squared};
 use plane_core::{Plane, SquareRow, are_rows};
 use std::alloc::Global;
-use std::fmt::Debug;
 use std::process::Abort;
-
-const EDGE: i64 = 1 << 61;
-
-fn row(level: u8, kids: [u32; 4]) -> SquareRow {
-    SquareRow { level, kids }
-}
-
-fn same<T: PartialEq + Debug, A: Debug>(rt: &impl Abort, found: &T, wanted: &T, at: &A) {
-    assert!(rt;
-        found == wanted,
-        "at {at:?}: {found:?} in place of {wanted:?}"
-    );
-}
-
-fn plane_of(rt: &impl Abort, alloc: Global, rows: &[SquareRow]) -> Plane {
-    assert!(rt; are_rows(rows), "the rows stand for no plane");
-    Plane::from_squares(alloc, rows).expect(rt, "memory")
-}
 
 /// The given rows become the wanted ones.
 fn becomes(rt: &impl Abort, alloc: Global, given: &[SquareRow], wanted: &[SquareRow]) {
-    let plane = plane_of(rt, alloc, given);
+    let plane = squared(rt, alloc, given);
     let found = plane.squares().expect(rt, "memory");
     let wanted = wanted.to_vec(alloc).expect(rt, "memory");
     same(rt, &found, &wanted, &given.len());
@@ -132,7 +115,7 @@ fn cells_lie_in_their_quadrants(rt: HostRuntime) {
         row(3, [2, 0, 0, 1]),
     ];
     assert!(&rt; !are_rows(&rows));
-    let plane = plane_of(&rt, alloc, &rows[..2]);
+    let plane = squared(&rt, alloc, &rows[..2]);
     has(&rt, &plane, -2, -2, 1);
     has(&rt, &plane, -1, -2, 2);
     has(&rt, &plane, -2, -1, 3);
@@ -143,23 +126,12 @@ fn cells_lie_in_their_quadrants(rt: HostRuntime) {
     has(&rt, &Plane::empty(alloc), 0, 0, 0);
 }
 
-/// A square of level 62 whose cells are all live.
-fn doubled(rt: &impl Abort, alloc: Global) -> Vec<SquareRow> {
-    let mut rows = Vec::new(alloc);
-    rows.push(row(1, [1; 4])).expect(rt, "memory");
-    for level in 2..63u8 {
-        let kid = u32::from(level) - 1;
-        rows.push(row(level, [kid; 4])).expect(rt, "memory");
-    }
-    rows
-}
-
 #[test]
 fn a_full_plane_has_62_rows(rt: HostRuntime) {
     let alloc = rt.alloc();
-    let rows = doubled(&rt, alloc);
+    let rows = full(&rt, alloc, 62);
     becomes(&rt, alloc, &rows, &rows);
-    let plane = plane_of(&rt, alloc, &rows);
+    let plane = squared(&rt, alloc, &rows);
     has(&rt, &plane, 0, 0, 1);
     has(&rt, &plane, -EDGE, -EDGE, 1);
     has(&rt, &plane, EDGE - 1, -EDGE, 1);
@@ -171,7 +143,7 @@ fn a_full_plane_has_62_rows(rt: HostRuntime) {
 
 /// Whether the planes of two lists of rows are equal.
 fn are_equal(rt: &impl Abort, alloc: Global, a: &[SquareRow], b: &[SquareRow]) -> bool {
-    plane_of(rt, alloc, a).equals(&plane_of(rt, alloc, b))
+    squared(rt, alloc, a).equals(&squared(rt, alloc, b))
 }
 
 #[test]
@@ -194,7 +166,7 @@ fn equal_planes_have_equal_cells(rt: HostRuntime) {
 
 #[test]
 fn a_copy_is_equal(rt: HostRuntime) {
-    let plane = plane_of(&rt, rt.alloc(), &[row(1, [0, 9, 0, 0])]);
+    let plane = squared(&rt, rt.alloc(), &[row(1, [0, 9, 0, 0])]);
     let copy = plane.copy().expect(&rt, "memory");
     assert!(&rt; copy.equals(&plane));
 }

@@ -1,8 +1,8 @@
 //! Tables with the transitions that their lines say.
-use super::helpers::{read, same, table};
+use super::{read, same, table};
 use std::alloc::Global;
 use std::process::Abort;
-use table_symmetry::{Entry, TableLines, Transition, Variable};
+use table_lines::{Entry, TableLines, Transition, Variable};
 
 // Lines after the head, of a table of so many states, and their entries: a state as itself, a
 // variable as the number of its definition and its states in braces.
@@ -296,4 +296,25 @@ fn inputs_take_no_more_room_than_they_need(rt: HostRuntime) {
     for case in &INPUTS {
         have_room(&rt, rt.alloc(), case);
     }
+}
+
+// Stops the test where the result of the first transition doesn't stand at the wanted inputs.
+fn stands_at(rt: &impl Abort, lines: &TableLines, wanted: [bool; 3]) {
+    let transition = lines.transitions().first().expect(rt, "a transition");
+    let Entry::OneOf(variable) = transition.result else {
+        panic!(rt; "the result is no variable");
+    };
+    let inputs = transition.inputs.as_slice();
+    for (entry, wanted) in inputs.iter().zip(wanted) {
+        same(rt, &variable.stands_at(entry), &wanted, entry);
+    }
+    same(rt, &variable.stands_among(inputs), &true, &"inputs");
+}
+
+// Two variables of the same states are two.
+#[test]
+fn variables_stand_where_they_are_named(rt: HostRuntime) {
+    let text = "var a={1,2}\nvar b={1,2}\nb,a,1,a";
+    let lines = lines_of(&rt, rt.alloc(), 3, "oneDimensional", text);
+    stands_at(&rt, &lines, [false, true, false]);
 }

@@ -1,7 +1,8 @@
 //! Tables with their first fault: its number, and its line where it has one.
-use super::helpers::{Outcome, ends, table};
+use super::{Outcome, ends, read, same, table};
 use std::alloc::Global;
 use std::process::Abort;
+use table_lines::{Neighborhood, Symmetry};
 
 // Lines from the head on.
 struct HeadFault {
@@ -356,5 +357,62 @@ fn faults_of_descriptors(rt: HostRuntime) {
 fn entries_of_each_neighborhood(rt: HostRuntime) {
     for case in &COUNTS {
         counts_end(&rt, rt.alloc(), case);
+    }
+}
+
+// What a head says, and how many neighbours a cell has then.
+struct Told {
+    lines: &'static str,
+    states: u16,
+    neighborhood: Neighborhood,
+    symmetry: Symmetry,
+    neighbors: usize,
+}
+
+const TOLD: [Told; 4] = [
+    Told {
+        lines: "n_states:2\nneighborhood:vonNeumann\nsymmetries:rotate4reflect",
+        states: 2,
+        neighborhood: Neighborhood::VonNeumann,
+        symmetry: Symmetry::Rotate4Reflect,
+        neighbors: 4,
+    },
+    Told {
+        lines: "symmetries:permute\nneighborhood:Moore\nn_states:256",
+        states: 256,
+        neighborhood: Neighborhood::Moore,
+        symmetry: Symmetry::Permute,
+        neighbors: 8,
+    },
+    Told {
+        lines: "neighborhood : hexagonal\nn_states : 010 # ten\nsymmetries : rotate6",
+        states: 10,
+        neighborhood: Neighborhood::Hexagonal,
+        symmetry: Symmetry::Rotate6,
+        neighbors: 6,
+    },
+    Told {
+        lines: "n_states:3\nsymmetries:reflect\nneighborhood:oneDimensional",
+        states: 3,
+        neighborhood: Neighborhood::OneDimensional,
+        symmetry: Symmetry::Reflect,
+        neighbors: 2,
+    },
+];
+
+fn head_tells(rt: &impl Abort, alloc: Global, case: &Told) {
+    let table = read(rt, alloc, case.lines).expect(rt, "lines of a table");
+    same(rt, &table.states(), &case.states, &case.lines);
+    same(rt, &table.neighborhood(), &case.neighborhood, &case.lines);
+    same(rt, &table.symmetry(), &case.symmetry, &case.lines);
+    let neighbors = table.neighborhood().count();
+    same(rt, &neighbors, &case.neighbors, &case.lines);
+    same(rt, &table.transitions().len(), &0, &case.lines);
+}
+
+#[test]
+fn heads_tell_what_they_describe(rt: HostRuntime) {
+    for case in &TOLD {
+        head_tells(&rt, rt.alloc(), case);
     }
 }

@@ -1,7 +1,9 @@
-use super::{EDGE, Row, cells_of, expect_rows, laid, plane_of, same};
-use plane_core::{Bounds, Plane};
+//! Cells that are laid on planes, and what planes tell of them.
+use super::{EDGE, plane_of, same};
+use plane_core::{Bounds, Cell, Plane};
 use std::alloc::Global;
 use std::process::Abort;
+use test_planes::{Row, all_can_be_laid, laid, rows_of, sets_of};
 
 const LAST: i64 = EDGE - 1;
 
@@ -13,17 +15,29 @@ struct Laying {
     after: &'static [Row],
 }
 
+/// Stops the test where the live cells of the plane aren't the rows in this order.
+fn expect_rows(rt: &impl Abort, alloc: Global, plane: &Plane, rows: &[Row], name: &str) {
+    let found = rows_of(alloc, plane).expect(rt, "memory, and at most a thousand live cells");
+    same(rt, &found.as_slice(), &rows, &name);
+}
+
 /// Stops the test where the cells of a case don't give its rows, or change the plane before.
 fn expect_laid(rt: &impl Abort, alloc: Global, case: &Laying) {
     let plane = plane_of(rt, alloc, case.before);
-    let later = laid(rt, alloc, &plane, case.cells);
+    let later = laid(alloc, &plane, case.cells).expect(rt, "memory, and rows within the plane");
     let copy = later.copy().expect(rt, "memory");
+    same(
+        rt,
+        &later.equals(&plane_of(rt, alloc, case.after)),
+        &true,
+        &case.what,
+    );
     expect_rows(rt, alloc, &later, case.after, case.what);
     expect_rows(rt, alloc, &plane, case.before, case.what);
     expect_rows(rt, alloc, &copy, case.after, case.what);
 }
 
-const LAYINGS: [Laying; 8] = [
+const LAYINGS: [Laying; 10] = [
     Laying {
         what: "nothing",
         before: &[],
@@ -72,6 +86,23 @@ const LAYINGS: [Laying; 8] = [
         cells: &[(LAST, LAST, 2), (-EDGE, -EDGE, 1), (LAST, -EDGE, 3)],
         after: &[(-EDGE, -EDGE, 1), (LAST, -EDGE, 3), (LAST, LAST, 2)],
     },
+    Laying {
+        what: "three corners are taken away",
+        before: &[
+            (-EDGE, -EDGE, 1),
+            (LAST, -EDGE, 2),
+            (-EDGE, LAST, 3),
+            (LAST, LAST, 4),
+        ],
+        cells: &[(-EDGE, -EDGE, 0), (LAST, -EDGE, 0), (-EDGE, LAST, 0)],
+        after: &[(LAST, LAST, 4)],
+    },
+    Laying {
+        what: "all cells are taken away",
+        before: &[(100, -7, 2), (0, 0, 1)],
+        cells: &[(0, 0, 0), (100, -7, 0)],
+        after: &[],
+    },
 ];
 
 #[test]
@@ -79,6 +110,23 @@ fn lays_cells(rt: HostRuntime) {
     let alloc = rt.alloc();
     for case in &LAYINGS {
         expect_laid(&rt, alloc, case);
+    }
+}
+
+/// Stops the test where the plane that is made of the cells isn't the one on which they are laid.
+fn expect_made(rt: &impl Abort, alloc: Global, case: &Laying) {
+    let cells = sets_of(alloc, case.cells).expect(rt, "memory");
+    assert!(rt; all_can_be_laid(&cells), "a row lies outside the plane");
+    let plane = Plane::from_cells(alloc, cells).expect(rt, "memory");
+    let wanted = plane_of(rt, alloc, case.cells);
+    same(rt, &plane.equals(&wanted), &true, &case.what);
+}
+
+#[test]
+fn makes_planes_of_cells(rt: HostRuntime) {
+    let alloc = rt.alloc();
+    for case in &LAYINGS {
+        expect_made(&rt, alloc, case);
     }
 }
 
@@ -216,12 +264,15 @@ fn expect_within(rt: &impl Abort, alloc: Global, case: &Boxed) {
         bottom,
     };
     let found = plane.cells_within(&within).expect(rt, "memory");
-    let wanted = cells_of(rt, alloc, case.wanted);
-    same(rt, &found.len(), &wanted.len(), &case.what);
-    for cell in &wanted {
-        let listed = found.iter().any(|other| *other == *cell);
-        same(rt, &listed, &true, &case.what);
+    same(rt, &found.len(), &case.wanted.len(), &case.what);
+    for row in case.wanted {
+        same(rt, &has_row(&found, *row), &true, &case.what);
     }
+}
+
+fn has_row(cells: &[Cell], row: Row) -> bool {
+    let (x, y, state) = row;
+    cells.iter().any(|cell| cell.x == x && cell.y == y && u16::from(cell.state) == state)
 }
 
 const CROSS: [Row; 5] = [(3, -1, 1), (2, 0, 2), (3, 0, 3), (4, 0, 255), (3, 1, 5)];

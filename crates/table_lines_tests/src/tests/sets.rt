@@ -1,8 +1,8 @@
 //! Sets of states. The cases stand at the ends of the bytes, the words and the halves.
-use super::helpers::same;
+use super::same;
 use std::alloc::Global;
 use std::process::Abort;
-use table_symmetry::StateSet;
+use table_lines::StateSet;
 
 struct Put {
     states: &'static [u8],
