@@ -23,9 +23,10 @@ mod row;
 mod rule;
 mod seen;
 mod snapshot;
-mod text;
+mod taking;
 mod viewer;
 
+pub use desk_core::Text;
 pub use fault::{BoardFault, PublishFault};
 pub use opening::board;
 pub use publisher::Publisher;
@@ -33,5 +34,5 @@ pub use receipt::Receipt;
 pub use row::ShownRow;
 pub use seen::Seen;
 pub use snapshot::Snapshot;
-pub use text::Text;
+pub use taking::snapshot;
 pub use viewer::Viewer;
