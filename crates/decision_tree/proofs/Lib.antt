@@ -6,3 +6,4 @@ mod KeptNumbers
 mod LastLine
 mod NextNode
 mod Reordered
+mod SameTrees

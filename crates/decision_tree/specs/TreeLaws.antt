@@ -1,5 +1,5 @@
 -- What holds of every tree that a file may have.
-use Rattle.std.specs.Prelude.{◌≡◌, ℕ, zero, suc, All, ◌==◌, ◌<◌, ◌&&◌, Bool, true, false, List, [], ◌∷◌, length, slice_index, if◌then◌else◌, nat_lt}
+use Rattle.std.specs.Prelude.{◌≡◌, ℕ, zero, suc, All, ◌==◌, ◌<◌, ◌&&◌, Bool, true, List, [], ◌∷◌, length, slice_index, nat_lt}
 use Rattle.std.specs.List.{list_all}
 use Rattle.std.proofs.Common.{refl, arith, rules, tests}
 use Rattle.std.proofs.lemmas.Bool.{and_parts}

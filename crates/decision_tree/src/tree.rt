@@ -1,5 +1,5 @@
 //! Rules that are given by a tree.
-ghost use Rattle.std.specs.Prelude.{◌≡◌, ◌<◌, ◌≤◌, ◌+◌, All};
+ghost use Rattle.std.specs.Prelude.{◌≡◌, ◌↔◌, ◌<◌, ◌≤◌, ◌+◌, All, IsTrue};
 ghost use Rattle.rule_file.specs.States.{least_states, most_states};
 ghost use Rattle.decision_tree.specs.Kept.{nodes_in, Stores};
 ghost use Rattle.decision_tree.specs.Tree.{follow, inputs_of, next, places_of};
@@ -64,6 +64,17 @@ impl TreeRule {
         ensures at_most { result ≤ most_states }
     {
         self.states
+    }
+
+    /// Whether the other tree is the same: it has as many states, the same neighbours and the same
+    /// nodes in the same order. Takes no memory.
+    pub fn equals(&self, other: &TreeRule) -> bool
+        ensures { IsTrue result ↔ (self.now ≡ other.now) }
+    {
+        if self.states != other.states || self.neighbors != other.neighbors {
+            return false;
+        }
+        self.entries == other.entries
     }
 
     /// The next state of the cell in the middle. All nine states are below `states`.

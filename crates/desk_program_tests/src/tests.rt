@@ -255,14 +255,31 @@ fn words_choose_the_squares(rt: HostRuntime) {
 const EDITED: &[u8] =
     b"set 0 0 1 1000 0 1\nmark 1 counts\nmark 1 rle\nmark 5 counts\nsettle\nat 3 set 7 7 1\nsettle\nshow 1\nshow 3\n";
 
+// An intervention while the step to generation 8 is worked.
+const WORKED: &[u8] =
+    b"rule\n@RULE X\n@TABLE\nn_states:2\nneighborhood:oneDimensional\nsymmetries:none\n0,1,0,1\n0,0,1,1\n1,0,0,0\n1,1,1,0\nend\nset 0 0 1\nmark 8 counts\nwork\nat 4 set 0 0 1\nsettle\nshow 1\n";
+
+// The script has these replies with 1, 2 and 8 workers.
+fn any_workers(
+    rt: &(impl Abort + Threads + Wait + Sync),
+    alloc: Global,
+    script: &[u8],
+    wanted: &[u8],
+) {
+    answers(rt, alloc, "--workers=1", script, 0, wanted);
+    answers(rt, alloc, "--workers=2", script, 0, wanted);
+    answers(rt, alloc, "--workers=8", script, 0, wanted);
+}
+
 #[test]
 fn any_workers_answer_the_same(rt: HostRuntime) {
     let alloc = rt.alloc();
     let wanted =
         b"ok 1\nok 2 bookmark 1\nok 3 bookmark 2\nok 4 bookmark 3\nsettled\nok 5 intervention 1\nsettled\nbookmark 1 current 4\n1 2\nbookmark 3 current 4\n1 3\n";
-    answers(&rt, alloc, "--workers=1", EDITED, 0, wanted);
-    answers(&rt, alloc, "--workers=2", EDITED, 0, wanted);
-    answers(&rt, alloc, "--workers=8", EDITED, 0, wanted);
+    any_workers(&rt, alloc, EDITED, wanted);
+    let wanted =
+        b"ok 1\nok 2\nok 3 bookmark 1\nworking\nok 4 intervention 1\nsettled\nbookmark 1 current 4\n1 4\n";
+    any_workers(&rt, alloc, WORKED, wanted);
 }
 
 // The program's status with this word, where both devices fail.

@@ -22,6 +22,7 @@ use Rattle.desk_server.specs.declared.command.Command.TheVariants as command
 -- the commands whose words are fixed, and the formats
 abbrev is_fixed : Option Command → Bool
 is_fixed (Some command.Settle) = true
+is_fixed (Some command.Work) = true
 is_fixed (Some command.Quit) = true
 is_fixed _ = false
 
@@ -38,6 +39,7 @@ other-lacks : (n : ℕ) (c : Option Command) → is_fixed c ≡ false → CanLac
 other-lacks n None h = λ p. refl
 other-lacks n (Some (command.Edit edit)) h = λ p. refl
 other-lacks n (Some command.Settle) h = absurd (cc)
+other-lacks n (Some command.Work) h = absurd (cc)
 other-lacks n (Some (command.Show id)) h = λ p. shown-lacks p id (bookmark_in p.bookmarks id)
 other-lacks n (Some command.Quit) h = absurd (cc)
 
@@ -75,14 +77,15 @@ IsShort word rest = (length word ≤ 6) × (length (join_with_byte 32 rest) ≤ 
 
 -- of a command of fixed words
 command-short : (word : List ℕ) (rest : List (List ℕ)) → is_fixed (command_by word rest) ≡ true → IsShort word rest
-command-short word rest h = chosen (bytes_eq word (codes "settle")) (bytes_eq word (codes "show")) (bytes_eq word (codes "quit")) (short word (codes "settle") 6 (omega arith)) (short word (codes "quit") 6 (omega arith)) h
+command-short word rest h = chosen (bytes_eq word (codes "settle")) (bytes_eq word (codes "work")) (bytes_eq word (codes "show")) (bytes_eq word (codes "quit")) (short word (codes "settle") 6 (omega arith)) (short word (codes "work") 6 (omega arith)) (short word (codes "quit") 6 (omega arith)) h
   where
-    chosen : (a b c : Bool) → (a ≡ true → length word ≤ 6) → (c ≡ true → length word ≤ 6)
-        → is_fixed (cond a (alone (Some command.Settle) rest) (cond b (option_map command.Show (one_count rest)) (cond c (alone (Some command.Quit) rest) (option_map command.Edit (edit_by word rest))))) ≡ true → IsShort word rest
-    chosen true b c s q k = (s refl, alone-fixed command.Settle rest k)
-    chosen false true c s q k = absurd (cc (k, show-open (one_count rest)))
-    chosen false false true s q k = (q refl, alone-fixed command.Quit rest k)
-    chosen false false false s q k = absurd (cc (k, edit-open (edit_by word rest)))
+    chosen : (a b c d : Bool) → (a ≡ true → length word ≤ 6) → (b ≡ true → length word ≤ 6) → (d ≡ true → length word ≤ 6)
+        → is_fixed (cond a (alone (Some command.Settle) rest) (cond b (alone (Some command.Work) rest) (cond c (option_map command.Show (one_count rest)) (cond d (alone (Some command.Quit) rest) (option_map command.Edit (edit_by word rest)))))) ≡ true → IsShort word rest
+    chosen true b c d s w q k = (s refl, alone-fixed command.Settle rest k)
+    chosen false true c d s w q k = (w refl, alone-fixed command.Work rest k)
+    chosen false false true d s w q k = absurd (cc (k, show-open (one_count rest)))
+    chosen false false false true s w q k = (q refl, alone-fixed command.Quit rest k)
+    chosen false false false false s w q k = absurd (cc (k, edit-open (edit_by word rest)))
 
 -- of the command of a text
 start-short : (ws : List (List ℕ)) → opens (start_of ws) ≡ true → length (join_with_byte 32 ws) ≤ 3

@@ -13,7 +13,7 @@ use Rattle.desk_server.specs.Script.{first_shortage, later_shortages, afters}
 use Rattle.desk_server.specs.Plain.{ShowsShortage, NoneShows}
 use Rattle.desk_server.specs.declared.fault.ScriptFault.TheVariants.{BadCommand, NoEnd}
 use Rattle.desk_server.specs.declared.command.Command.{Command}
-use Rattle.desk_server.specs.declared.command.Command.TheVariants.{Edit, Settle, Show, Quit}
+use Rattle.desk_server.specs.declared.command.Command.TheVariants.{Edit, Settle, Work, Show, Quit}
 
 -- an answer is the plain one, or its reply shows the shortage
 abbrev IsPlain : Bool → After → After → Type 0
@@ -45,6 +45,7 @@ shown-plain prompt Pending p id (Some b) = inr (inr (inr (id, refl)))
 obeyed-plain : (prompt : Bool) (short : Shortage) (p : Plan) (command : Command) → IsCausedOver prompt short → IsPlain prompt (obeyed short p command) (obeyed NoShortage p command)
 obeyed-plain prompt short p (Edit edit) h = unless-plain prompt short p (edited p (asked_of edit))
 obeyed-plain prompt short p Settle h = settled-plain prompt short p h
+obeyed-plain prompt short p Work h = inl refl
 obeyed-plain prompt short p (Show id) h = shown-plain prompt short p id (bookmark_in p.bookmarks id)
 obeyed-plain prompt short p Quit h = inl refl
 

@@ -31,6 +31,7 @@ caused-append (x ∷ xs) ys h k = (h.0, caused-append xs ys h.1 k)
 pub ends-other : (r : Reply) → r ≢ reply.Bye → ends r ≡ false
 ends-other (reply.Accepted revision word number) h = refl
 ends-other reply.Settled h = refl
+ends-other reply.Working h = refl
 ends-other (reply.Unsettled pending cause) h = refl
 ends-other (reply.Shown id) h = refl
 ends-other (reply.Refused number name place) h = refl

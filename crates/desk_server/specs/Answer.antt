@@ -18,10 +18,10 @@ use Rattle.desk_server.specs.declared.fault.ScriptFault.TheVariants.{BadCommand,
 use Rattle.desk_server.specs.declared.format.Format.{Format}
 use Rattle.desk_server.specs.declared.format.Format.TheVariants as format
 use Rattle.desk_server.specs.declared.command.Command.{Command}
-use Rattle.desk_server.specs.declared.command.Command.TheVariants.{Edit, Settle, Show, Quit}
+use Rattle.desk_server.specs.declared.command.Command.TheVariants.{Edit, Settle, Work, Show, Quit}
 use Rattle.desk_server.specs.Faults.{Fault, of_rule, of_pattern, of_macrocell, of_edit, of_script}
 use Rattle.desk_server.specs.Shortage.{Shortage, NoShortage, Memory, Unsettled, Pending}
-use Rattle.desk_server.specs.Reply.{accepted_text, settled_text, unsettled_text, current_text, pending_text, refused_text, bye_text}
+use Rattle.desk_server.specs.Reply.{accepted_text, settled_text, working_text, unsettled_text, current_text, pending_text, refused_text, bye_text}
 
 -- what is asked of the desk: a command, what a text of a format means, or to refuse what lines say
 pub data Ask : Type 0 where
@@ -117,6 +117,7 @@ shown short p id (Some b) = there short p id b
 abbrev pub obeyed : Shortage → Plan → Command → After
 obeyed short p (Edit edit) = unless_memory short p (edited p (asked_of edit))
 obeyed short p Settle = settled short p
+obeyed short p Work = only p working_text
 obeyed short p (Show id) = shown short p id (bookmark_in p.bookmarks id)
 obeyed short p Quit = record { told = bye_text; plan = p; ends = true }
 

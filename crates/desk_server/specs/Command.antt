@@ -106,9 +106,10 @@ edit_by word rest =
 abbrev pub command_by : List ℕ → List (List ℕ) → Option Command
 command_by word rest =
     if bytes_eq word (codes "settle") then alone (Some command.Settle) rest
+    else (if bytes_eq word (codes "work") then alone (Some command.Work) rest
     else (if bytes_eq word (codes "show") then option_map command.Show (one_count rest)
     else (if bytes_eq word (codes "quit") then alone (Some command.Quit) rest
-    else option_map command.Edit (edit_by word rest)))
+    else option_map command.Edit (edit_by word rest))))
 
 abbrev pub command_of_words : List (List ℕ) → Option Command
 command_of_words [] = None

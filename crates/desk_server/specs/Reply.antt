@@ -18,6 +18,10 @@ accepted_text revision word number = codes "ok " ++ (decimal revision ++ with_nu
 abbrev pub settled_text : List ℕ
 settled_text = codes "settled\n"
 
+-- jobs for what isn't known were sent
+abbrev pub working_text : List ℕ
+working_text = codes "working\n"
+
 -- so many bookmarks are pending, for this cause, or 0 for none
 abbrev pub unsettled_text : ℕ → Option Cause → List ℕ
 unsettled_text pending cause =

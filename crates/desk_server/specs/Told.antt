@@ -7,14 +7,14 @@ use Rattle.dependency_book.specs.BookState.{BookState, bookmark_in, text_known, 
 use Rattle.dependency_book.specs.Shown.{IsPending}
 use Rattle.desk_core.specs.Settling.{Explains}
 use Rattle.desk_server.specs.declared.command.Command.{Command}
-use Rattle.desk_server.specs.declared.command.Command.TheVariants.{Edit, Settle, Show, Quit}
+use Rattle.desk_server.specs.declared.command.Command.TheVariants.{Edit, Settle, Work, Show, Quit}
 use Rattle.desk_server.specs.declared.reply.Reply.{Reply}
 use Rattle.desk_server.specs.declared.reply.Reply.TheVariants as reply
 use Rattle.desk_server.specs.declared.reply.Part.{Part}
 use Rattle.desk_server.specs.declared.reply.Part.TheVariants as part
 use Rattle.desk_server.specs.Jobs.{IsDoneWith}
 use Rattle.desk_server.specs.Faults.{fault_of, of_edit}
-use Rattle.desk_server.specs.Reply.{accepted_text, settled_text, unsettled_text, current_text, pending_text, refused_text, bye_text}
+use Rattle.desk_server.specs.Reply.{accepted_text, settled_text, working_text, unsettled_text, current_text, pending_text, refused_text, bye_text}
 
 -- a bookmark that is shown: no such one, or without or with its text
 abbrev pub shown_text : ℕ → Option Bookmark → Option (List ℕ) → List ℕ
@@ -25,6 +25,7 @@ shown_text id (Some b) (Some text) = current_text id text
 abbrev pub reply_text : BookState → Reply → List ℕ
 reply_text known (reply.Accepted revision word number) = accepted_text revision word.now number
 reply_text known reply.Settled = settled_text
+reply_text known reply.Working = working_text
 reply_text known (reply.Unsettled pending cause) = unsettled_text pending cause
 reply_text known (reply.Shown id) =
     shown_text id (bookmark_in known.plan.bookmarks id) (text_known known id)
@@ -36,10 +37,11 @@ abbrev pub ends : Reply → Bool
 ends reply.Bye = true
 ends _ = false
 
--- the command has the desk compute what isn't known
+-- the command waits until what isn't known is computed
 abbrev pub ComputesFor : Command → Type 0
 ComputesFor (Edit edit) = ⊥
 ComputesFor Settle = ⊤
+ComputesFor Work = ⊥
 ComputesFor (Show id) = ⊤
 ComputesFor Quit = ⊥
 

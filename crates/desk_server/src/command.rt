@@ -18,6 +18,8 @@ pub enum Command {
     Edit(Edit),
     /// All texts are to be computed.
     Settle,
+    /// Jobs for what isn't known are to be sent, and their answers not waited for.
+    Work,
     /// The text of the bookmark of this id is to be shown.
     Show { id: u64 },
     /// The script ends.
@@ -42,6 +44,8 @@ fn read_by(alloc: Global, word: &[u8], rest: &[u8]) -> Result<Option<Command>, A
 {
     if word == b"settle".as_slice() {
         Ok(alone(Command::Settle, rest))
+    } else if word == b"work".as_slice() {
+        Ok(alone(Command::Work, rest))
     } else if word == b"show".as_slice() {
         Ok(read_show(rest))
     } else if word == b"quit".as_slice() {

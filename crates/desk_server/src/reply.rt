@@ -24,6 +24,8 @@ pub enum Reply {
     },
     /// Every bookmark is current.
     Settled,
+    /// Jobs for what isn't known were sent, as far as the post took them.
+    Working,
     /// So many bookmarks are pending, for this cause, if one was met.
     Unsettled {
         pending: u32,
@@ -231,6 +233,7 @@ fn tell<W: Write, L: Ledger>(
             number,
         } => tell_accepted(writer, revision, word, number),
         Reply::Settled => writer.tell(b"settled\n"),
+        Reply::Working => writer.tell(b"working\n"),
         Reply::Unsettled { pending, cause } => tell_unsettled(writer, pending, cause),
         Reply::Shown { id } => tell_shown(writer, desk, id),
         Reply::Refused {

@@ -181,6 +181,18 @@ fn settle<P: Post>(rt: &impl Wait, desk: &mut Desk<'_>, post: &mut P) -> Reply
     }
 }
 
+// Sends jobs for what isn't known, as many as the post takes, and waits for no answer.
+fn work<P: Post>(rt: &impl Wait, desk: &mut Desk<'_>, post: &mut P) -> Reply
+    requires { Carries P.table P.floor P.is_prompt P.held post.old desk.old }
+    ensures answer { GivesBy (P.is_prompt post.old)
+        (λ short. obeyed short desk.old.plan Command.Work) result desk.new }
+    ensures silent { P.answers post.new ≡ P.answers post.old }
+    ensures post { CarriesOn P.table P.floor P.is_prompt P.held post.old post.new desk.new }
+{
+    desk_core::feed(rt, desk, post);
+    Reply::Working
+}
+
 // Shows a bookmark: at once, unless its text isn't known. Then what isn't known is computed first.
 fn show<P: Post>(rt: &impl Wait, desk: &mut Desk<'_>, post: &mut P, id: u64) -> Reply
     requires { Carries P.table P.floor P.is_prompt P.held post.old desk.old }
@@ -210,6 +222,7 @@ fn obey<P: Post>(rt: &impl Wait, desk: &mut Desk<'_>, post: &mut P, command: Com
     match command {
         Command::Edit(change) => edit(desk, &change),
         Command::Settle => settle(rt, desk, post),
+        Command::Work => work(rt, desk, post),
         Command::Show { id } => show(rt, desk, post, id),
         Command::Quit => Reply::Bye,
     }

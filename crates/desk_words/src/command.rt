@@ -5,6 +5,7 @@ ghost use Rattle.desk_words.specs.Words.{AsksForHelp, AsksWith, BeginsPlain, Cho
 ghost use Rattle.desk_words.specs.Command.{AlwaysGives, Chooses, Gives, HasNumber, IsHelpOrMemory};
 ghost use Rattle.desk_words.specs.Command.{IsNumberIn, IsOptionOf, IsUnknownOrMemory, desk, faults};
 
+use crate::help::COMMANDS;
 use crate::settings::{Options, Setting};
 use clap::builder::ValueParser;
 use clap::error::ErrorKind;
@@ -36,6 +37,7 @@ fn command<'a>(alloc: Global) -> Result<Command<'a>, AllocError>
 {
     Command::new(alloc, "desk")
         .about(ABOUT)
+        .after_help(COMMANDS)
         .no_binary_name(true)
         .arg(option(alloc, Setting::Workers))?
         .arg(option(alloc, Setting::Facts))?

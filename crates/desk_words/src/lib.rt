@@ -8,6 +8,7 @@
 #![tactic(auto)]
 
 mod command;
+mod help;
 mod settings;
 mod words;
 

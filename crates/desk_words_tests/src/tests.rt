@@ -56,8 +56,15 @@ enum Verdict {
 
 const END: &str = "\n\nFor more information, try '--help'.\n";
 
-const HELP: &str =
-    "\n\nUsage: desk [OPTIONS]\n\nOptions:\n      --workers <N>  How many workers compute, from 1 to 8 [default: 2]\n      --squares <N>  How many squares the engine of a worker may hold, from 64 to 16777216. A square takes about 48 bytes: 4194304 take about 200 MB [default: 4194304]\n  -h, --help         Print help\n";
+const OPTIONS: &str =
+    "\n\nUsage: desk [OPTIONS]\n\nOptions:\n      --workers <N>  How many workers compute, from 1 to 8 [default: 2]\n      --squares <N>  How many squares the engine of a worker may hold, from 64 to 16777216. A square takes about 48 bytes: 4194304 take about 200 MB [default: 4194304]\n  -h, --help         Print help\n\nCommands of a script,";
+
+fn is_help(text: &str) -> bool {
+    text.contains(OPTIONS)
+        && text.contains("\n  mark G window X Y W H ")
+        && text.contains("\n\nExit status:\n  0  ")
+        && text.ends_with("echo show 1; } | desk\n")
+}
 
 fn refusal(text: &str) -> Verdict {
     if !text.ends_with(END) {
@@ -86,7 +93,7 @@ fn refusal(text: &str) -> Verdict {
 fn said(answer: &Result<Options, OptionFault>) -> Verdict {
     match answer {
         Ok(read) => Verdict::Chosen(read.workers, read.facts, read.squares),
-        Err(OptionFault::Help(text)) if text.as_str().ends_with(HELP) => Verdict::Help,
+        Err(OptionFault::Help(text)) if is_help(text.as_str()) => Verdict::Help,
         Err(OptionFault::Refused(text)) => refusal(text.as_str()),
         Err(_) => Verdict::Other,
     }

@@ -1,5 +1,4 @@
 pub mod Standing
-pub mod Memos
 pub mod Asked
 pub mod Picked
 pub mod Shared

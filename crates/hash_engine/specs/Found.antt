@@ -83,6 +83,12 @@ pub record CanBeAsked (state_count : ℕ) (t : Table) (root : Square) : Type 0 w
   pub level : (2 ≤ level_of root) × (level_of root ≤ 63)
   pub below : IsBelow state_count (cells_of t root)
 
+-- its result can be asked for where results are remembered, all of which are right
+pub record CanSearch (next : List ℕ → ℕ) (state_count : ℕ) (t : Table) (memo : Memo) (root : Square)
+    : Type 0 where
+  pub asked : CanBeAsked state_count t root
+  pub right : IsRight next t.rows memo
+
 -- the square is the one in the middle of the root so many generations later, in the table that came
 -- of the root's
 pub record IsLater (next : List ℕ → ℕ) (generations : ℕ) (t : Table) (root : Square) (u : Table)

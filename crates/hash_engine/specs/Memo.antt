@@ -1,5 +1,5 @@
 -- What is remembered.
-use Rattle.std.specs.Prelude.{◌≡◌, ◌≢◌, ℕ, suc, ◌+◌, ◌-◌, ◌^◌, ◌<◌, List, get_or}
+use Rattle.std.specs.Prelude.{◌≡◌, ◌≢◌, ℕ, suc, ◌+◌, ◌-◌, ◌^◌, ◌<◌, List, [], get_or}
 use Rattle.square_table.specs.Squares.{IsNumber, square_in, first_number}
 use Rattle.hash_life.specs.Result.{result}
 use Rattle.hash_engine.specs.Standing.{StandsFor}
@@ -23,6 +23,10 @@ pub record AreKnown (next : List ℕ → ℕ) (count : ℕ → ℕ) (rows : List
 pub record IsRight (next : List ℕ → ℕ) (rows : List (List ℕ)) (memo : Memo) : Type 0 where
   pub full : AreKnown next (λ k. 2 ^ k) rows memo.full.items
   pub part : AreKnown next (λ k. get_or memo.counts k 0) rows memo.part.items
+
+-- no result by a full count is remembered
+abbrev pub HasNoFull : Memo → Type 0
+HasNoFull memo = memo.full.items ≡ []
 
 -- each result that is remembered is right, and none is of the square of 4 by 4 cells with the
 -- number n by one generation
@@ -51,3 +55,8 @@ Recalls memo k generations n = λ r. (next : List ℕ → ℕ) (rows : List (Lis
 abbrev pub StaysRight : ℕ → ℕ → ℕ → ℕ → Memo → Memo → Type 0
 StaysRight k generations n r old new = (next : List ℕ → ℕ) (rows : List (List ℕ)) →
     IsRight next rows old → IsResult next rows k generations n r → IsRight next rows new
+
+-- whatever it was right for, it is right for still
+abbrev pub StaysRightFor : Memo → Memo → Type 0
+StaysRightFor old new = (next : List ℕ → ℕ) (rows : List (List ℕ)) →
+    IsRight next rows old → IsRight next rows new

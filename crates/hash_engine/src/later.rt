@@ -4,7 +4,8 @@ ghost use Rattle.std.specs.Prelude.{◌≡◌, [], ◌∷◌, IfOk, OnOk, Err};
 ghost use Rattle.square_table.specs.Made.{IsFull};
 ghost use Rattle.hash_engine.specs.Adding.{GrowsOnWay};
 ghost use Rattle.hash_engine.specs.Asked.{AsksFour, StandOn};
-ghost use Rattle.hash_engine.specs.Found.{KeepsRule, Stays, CanBeAsked, CanSeek, CanSeekAll, CanCompute, CanPut, IsFound, AreFound, IsEnd, Finds, AsksOnceFor};
+ghost use Rattle.hash_engine.specs.Found.{KeepsRule, Stays, CanBeAsked, CanSearch, CanSeek, CanSeekAll, CanCompute, CanPut, IsFound, AreFound, IsEnd, IsLater, Finds, AsksOnceFor};
+ghost use Rattle.hash_engine.specs.Memo.{IsRight};
 
 use crate::counts::count_squares;
 use crate::fault::ResultFault;
@@ -155,6 +156,32 @@ fn all_later<Q: Ask, S: Stop>(
     Ok(())
 }
 
+/// The result of a square of level k + 2, as `result` finds it, by what is remembered of the table's
+/// squares under the rule.
+///
+/// What is found on the way is remembered, also where the search is refused or stopped.
+pub fn search<'a, Q: Ask, S: Stop>(
+    table: &mut SquareTable<'a>,
+    memo: &mut Memo,
+    rule: &mut Q,
+    root: Square<'a>,
+    generations: u64,
+    stop: &mut S,
+) -> Result<Square<'a>, ResultFault>
+    requires { CanSearch (Q.meaning rule.old) (Q.state_count rule.old) table.old memo.old root }
+    ensures grows { GrowsOnWay (Q.meaning rule.old) generations table.old root.entry table.new }
+    ensures rule { KeepsRule Q.meaning Q.state_count rule.old rule.new }
+    ensures right { IsRight (Q.meaning rule.old) table.new.rows memo.new }
+    ensures square { IfOk result
+        (IsLater (Q.meaning rule.old) generations table.old root.entry table.new) }
+    ensures end { IsEnd table.new (S.yes_count stop.old) (S.yes_count stop.new) result }
+{
+    memo.turn_to(generations);
+    let k = root.level() - 2;
+    let number = later(table, memo, rule, stop, k, generations, root.number())?;
+    Ok(table.square(k + 1, number)?)
+}
+
 /// The result of a square of level k + 2, which is the square in its middle so many generations
 /// later.
 pub fn result<'a, Q: Ask, S: Stop>(
@@ -175,7 +202,8 @@ pub fn result<'a, Q: Ask, S: Stop>(
     ensures end { IsEnd table.new (S.yes_count stop.old) (S.yes_count stop.new) result }
 {
     let k = root.level() - 2;
-    let mut memo = Memo::nothing(alloc, k, generations);
+    let mut memo = Memo::nothing(alloc);
+    memo.turn_to(generations);
     let number = later(table, &mut memo, rule, stop, k, generations, root.number())?;
     let counts = count_squares(table, &memo);
     Ok(Found {

@@ -18,4 +18,5 @@ mod parts;
 
 pub use asking::Asking;
 pub use fault::ResultFault;
-pub use later::{Found, result};
+pub use later::{Found, result, search};
+pub use memo::Memo;

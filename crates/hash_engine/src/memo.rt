@@ -1,8 +1,8 @@
 //! What is remembered of a computation: the results by the numbers of their squares.
 
-ghost use Rattle.std.specs.Prelude.{◌≡◌, ◌+◌, ◌-◌, ◌^◌, ◌<◌, ◌≤◌, ℕ, List, get_or, nat_lt, IfSome, IfNone, OnOk, OnErr, []};
+ghost use Rattle.std.specs.Prelude.{◌≡◌, ◌+◌, ◌-◌, ◌^◌, ◌<◌, ◌≤◌, ℕ, List, get_or, nat_lt, IfSome, IfNone, OnOk, OnErr};
 ghost use Rattle.square_table.specs.Squares.{first_number};
-ghost use Rattle.hash_engine.specs.Memo.{IsRight, IsNoted, IsRemembered, Recalls, StaysRight};
+ghost use Rattle.hash_engine.specs.Memo.{IsRight, IsNoted, IsRemembered, HasNoFull, Recalls, StaysRight, StaysRightFor};
 
 use std::alloc::{AllocError, Global};
 
@@ -17,24 +17,24 @@ pub(crate) fn full(k: u8) -> u64
     1u64 << k
 }
 
-/// The results that are known, for two counts of generations a level: the full one, and one other.
-/// The results stand by the numbers of the squares, 0 where none is known.
+/// The results that are known of a table's squares under one rule, for two counts of generations a
+/// level: the full one, and one other, which a search's generations decide.
 #[derive(Drop)]
-pub(crate) struct Memo {
+pub struct Memo {
+    // By the numbers of the squares, 0 where none is known.
     full: Vec<u32>,
     part: Vec<u32>,
-    // The other count, by k.
+    // The other count, by k, and the generations that decide it.
     counts: [u64; 62],
+    generations: u64,
 }
 
-// The counts less than the full ones for which squares of each level are asked on the way from
-// level k + 2, by as many generations.
-fn counts(k: u8, generations: u64) -> [u64; 62]
-    requires { k ≤ 61 }
-{
+// The counts less than the full ones for which squares of each level are asked on the way of a
+// search by as many generations, from whatever level it begins.
+fn counts(generations: u64) -> [u64; 62] {
     let mut counts = [0; 62];
     let mut rest = generations;
-    for level in (0..=k).rev() {
+    for level in (0..62u8).rev() {
         counts[usize::from(level)] = rest;
         let half = full(level) / 2;
         if rest > half {
@@ -72,17 +72,31 @@ fn note(known: &mut Vec<u32>, number: u32, found: u32) -> Result<(), AllocError>
 }
 
 impl Memo {
-    /// Nothing yet, for what is asked on the way from level k + 2 by as many generations.
-    pub(crate) fn nothing(alloc: Global, k: u8, generations: u64) -> Memo
-        requires { k ≤ 61 }
+    /// Nothing yet.
+    pub fn nothing(alloc: Global) -> Memo
         ensures right { (next : List ℕ → ℕ) (rows : List (List ℕ)) → IsRight next rows result }
-        ensures full { result.full.items ≡ [] }
+        ensures none { HasNoFull result }
     {
         Memo {
             full: Vec::new(alloc),
             part: Vec::new(alloc),
-            counts: counts(k, generations),
+            counts: [0; 62],
+            generations: 0,
         }
+    }
+
+    /// Makes it ready for a search by so many generations. Results by the other counts are given up
+    /// where the last search was by another number.
+    pub(crate) fn turn_to(&mut self, generations: u64)
+        ensures right { StaysRightFor self.old self.new }
+        ensures full { self.new.full.items ≡ self.old.full.items }
+    {
+        if generations == self.generations {
+            return;
+        }
+        self.part.clear();
+        self.counts = counts(generations);
+        self.generations = generations;
     }
 
     /// The result of a square of level k + 2 by as many generations, where it is known.

@@ -12,13 +12,18 @@ use Rattle.decision_tree.specs.TreeLines.{Node, tree_from}
 use Rattle.decision_tree.specs.WrittenTree as tree_text
 use Rattle.rule_tree.specs.declared.rule.Kind.TheVariants.{Table, Tree}
 use Rattle.rule_tree.specs.NamedRule.{NamedRule}
-use Rattle.rule_tree.specs.Rule.{next_of, plain_next, rule_of}
+use Rattle.rule_tree.specs.Rule.{AreAlike, AreEqual, next_of, plain_next, rule_of}
 
 -- the next state under the rule that a file means is that of its table or tree
 abbrev pub RulesOfFilesArePlain : Type 0
 RulesOfFilesArePlain =
     (bytes : List ℕ) (rule : NamedRule) → rule_of bytes ≡ Ok rule
     → next_of rule ≡ plain_next rule.kind
+
+-- equal rules have the same states, and give the same next state of every cell
+abbrev pub EqualRulesAreAlike : Type 0
+EqualRulesAreAlike =
+    (rule other : NamedRule) → AreEqual rule other → AreAlike rule other
 
 -- a text that says what another says, whichever of its lines say it, means the same rule: where
 -- blank lines and comments stand doesn't matter

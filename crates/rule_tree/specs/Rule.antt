@@ -59,6 +59,15 @@ rule_of bytes = do
   kind ← kind_of file.section
   Ok (record { name = file.name; kind = kind })
 
+-- rules of the same kind with equal parts, whatever their names are
+abbrev pub AreEqual : NamedRule → NamedRule → Type 0
+AreEqual rule other = rule.kind ≡ other.kind
+
+-- rules of the same states that give the same next state of every cell
+pub record AreAlike (rule other : NamedRule) : Type 0 where
+  pub states : states_of rule ≡ states_of other
+  pub next : next_of rule ≡ next_of other
+
 -- no tree that a file may say does what this table does with as few nodes as a translated tree may
 -- have
 abbrev pub IsTooLarge : table_values.Table → Type 0

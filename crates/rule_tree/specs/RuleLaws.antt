@@ -6,7 +6,7 @@ use Rattle.table_symmetry.specs.RuleLaws as table
 use Rattle.rule_tree.specs.declared.rule.Kind.{Kind}
 use Rattle.rule_tree.specs.declared.rule.Kind.TheVariants.{Table, Tree}
 use Rattle.rule_tree.specs.NamedRule.{NamedRule}
-use Rattle.rule_tree.specs.Rule.{is_sound, next_of, plain_next, states_of, states_of_kind}
+use Rattle.rule_tree.specs.Rule.{AreAlike, AreEqual, is_sound, next_of, plain_next, states_of, states_of_kind}
 use Rattle.decision_tree.specs.TreeLaws as tree
 
 guarded-quiet : (sound : Bool) (n : ℕ) → (sound ≡ true → n ≡ 0) → (if sound then n else 0) ≡ 0
@@ -46,3 +46,11 @@ pub next_of-plain : (rule : NamedRule) → is_sound rule.kind ≡ true
 next_of-plain rule sound =
     let guarded : Bool → List ℕ → ℕ = λ b around. if b then plain_next rule.kind around else 0 in
     ap guarded sound
+
+-- equal rules are alike
+pub equal-alike : (rule other : NamedRule) → AreEqual rule other → AreAlike rule other
+equal-alike rule other same =
+    record {
+      states = ap states_of_kind same;
+      next = ap (λ kind around. if is_sound kind then plain_next kind around else 0) same;
+    }

@@ -1,10 +1,15 @@
 //! Laws of the definitions, each the contract of a function that does nothing.
-ghost use Rattle.rule_tree.specs.Laws.{RulesAreWhatIsSaid, RulesOfFilesArePlain};
+ghost use Rattle.rule_tree.specs.Laws.{EqualRulesAreAlike, RulesAreWhatIsSaid, RulesOfFilesArePlain};
 ghost use Rattle.rule_tree.specs.Laws.{WrittenTablesAreRules, WrittenTreesAreRules};
 
 /// The next state under the rule that a file means is that of its table or tree.
 pub fn rules_of_files_are_plain()
     ensures { RulesOfFilesArePlain }
+{}
+
+/// Equal rules, names aside, have the same states and give the same next state of every cell.
+pub fn equal_rules_are_alike()
+    ensures { EqualRulesAreAlike }
 {}
 
 /// Texts that say the same mean the same rule, whichever of their lines say it: where blank lines

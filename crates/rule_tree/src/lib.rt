@@ -11,8 +11,8 @@ mod rule;
 
 pub use decision_tree::{Neighbors, TreeRule, read_tree};
 pub use laws::{
-    rules_are_what_is_said, rules_of_files_are_plain, written_tables_are_rules,
-    written_trees_are_rules,
+    equal_rules_are_alike, rules_are_what_is_said, rules_of_files_are_plain,
+    written_tables_are_rules, written_trees_are_rules,
 };
 pub use rule::Rule;
 pub use tree_translation::{TreeFault, from_table, trees_have_the_nodes_needed};

@@ -1,9 +1,9 @@
 //! Rules as files have them.
-ghost use Rattle.std.specs.Prelude.{◌≡◌, ◌<◌, All, Err, IfOk, IsOk};
+ghost use Rattle.std.specs.Prelude.{◌≡◌, ◌↔◌, ◌<◌, All, Err, IfOk, IsOk, IsTrue};
 ghost use Rattle.std.specs.Option.{option_map};
 ghost use Rattle.rule_file.specs.Results.{Gives, GivesBy};
 ghost use Rattle.rule_file.specs.RuleFile.{file_of};
-ghost use Rattle.rule_tree.specs.Rule.{IsAsked, IsKeptRule, kind_of, name_of, next_of, plain_next, rule_of, states_of, still};
+ghost use Rattle.rule_tree.specs.Rule.{AreAlike, AreEqual, IsAsked, IsKeptRule, kind_of, name_of, next_of, plain_next, rule_of, states_of, still};
 ghost use Rattle.table_symmetry.specs.Rows.{AreExpanded};
 
 use basics::Listing;
@@ -20,6 +20,19 @@ use tree_translation::{TreeFault, from_rows};
 pub enum Kind {
     Table(TableRule),
     Tree(TreeRule),
+}
+
+impl Kind {
+    // Whether the other is of the same kind with equal parts.
+    fn equals(&self, other: &Kind) -> bool
+        ensures { IsTrue result ↔ (self.now ≡ other.now) }
+    {
+        match (self, other) {
+            (Kind::Table(table), Kind::Table(other)) => table.equals(other),
+            (Kind::Tree(tree), Kind::Tree(other)) => tree.equals(other),
+            _ => false,
+        }
+    }
 }
 
 /// A rule of a cellular automaton: a table or a tree with a name.
@@ -86,6 +99,17 @@ impl Rule {
         ensures { result.now ≡ name_of self.now }
     {
         self.name.as_slice()
+    }
+
+    /// Whether the other rule is the same but for its name: both are tables with equal parts, or
+    /// both are trees with equal parts. Takes no memory.
+    ///
+    /// Equal rules have the same states, and give the same next state of every cell.
+    pub fn equals(&self, other: &Rule) -> bool
+        ensures same { IsTrue result ↔ AreEqual self.now other.now }
+        ensures alike { IsTrue result → AreAlike self.now other.now }
+    {
+        self.kind.equals(&other.kind)
     }
 
     /// The tree that is asked for the next states: the rule's own, or the translation of its table.

@@ -6,3 +6,4 @@ pub mod Listed
 pub mod Room
 pub mod Reach
 pub mod Padded
+pub mod Kept

@@ -1,5 +1,5 @@
 -- Squares with room round them.
-use Rattle.std.specs.Prelude.{◌≡◌, ℕ, ◌+◌, ◌-◌, List, Contains}
+use Rattle.std.specs.Prelude.{◌≡◌, ℕ, suc, ◌+◌, ◌-◌, List, Contains}
 use Rattle.worlds.specs.World.{World}
 use Rattle.worlds.specs.Square as squares
 use Rattle.worlds.specs.Square.{one, four, empty_square}
@@ -7,6 +7,7 @@ use Rattle.square_table.specs.declared.square.Square.{Square}
 use Rattle.square_table.specs.Squares.{Table, IsNumber, square_in, IsHeld, Grows, level_of, cells_of}
 use Rattle.square_table.specs.Made.{AreAmong, HasEmpty, HasStart, HoldsWithin}
 use Rattle.square_table.specs.Centred.{IsCentred}
+use Rattle.step_engine.specs.Reach.{IsRoomLevel}
 
 -- the square of level k + 2 in whose middle the square of these four of level k stands, and which
 -- else is empty
@@ -49,4 +50,18 @@ pub record AddsRound (t : Table) (square : Square) (level : ℕ) (u : Table) : T
   pub grows : Grows t u
   pub among : (w : World) (all : List squares.Square) →
       IsCentred w (level_of square) (cells_of t square) → HasStart all w level →
+      AreAmong all t.rows → AreAmong all u.rows
+
+-- root is the square of the world at the least level with room for n generations
+pub record IsRooted (w : World) (n : ℕ) (u : Table) (root : Square) : Type 0 where
+  pub held : IsHeld u root
+  pub level : (k : ℕ) → IsRoomLevel n w k → level_of root ≡ suc (suc k)
+  pub centred : IsCentred w (level_of root) (cells_of u root)
+
+-- the table has more rows, or none, of squares that the world starts with up to that level
+pub record AddsStart (w : World) (n : ℕ) (t u : Table) : Type 0 where
+  pub grows : Grows t u
+  pub k : ℕ
+  pub root : IsRoomLevel n w k
+  pub among : (all : List squares.Square) → HasStart all w (suc (suc k)) →
       AreAmong all t.rows → AreAmong all u.rows

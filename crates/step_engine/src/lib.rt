@@ -4,6 +4,7 @@
 //! finds the result of the whole for any number of generations (R. Wm. Gosper, Exploiting
 //! Regularities in Large Cellular Spaces, Physica 10D, 1984), and packs it as a plane. What is the
 //! same in space or time is computed once, so that a pattern may be carried 2^60 generations ahead.
+//! An `Engine` keeps the squares and their results from one call to the next.
 //!
 //! `evolve_plain` goes one generation after another. Between them a generation is the list of its
 //! live cells and the same cells as a patch. The next one comes of asking the rule once at each
@@ -15,6 +16,7 @@ mod asked;
 mod engine;
 mod evolved;
 mod generation;
+mod kept;
 mod margin;
 mod padding;
 mod reach;
@@ -25,5 +27,6 @@ mod spot;
 pub use engine::evolve_plain;
 pub use evolved::{EvolveFault, Evolved, Report};
 pub use hash_engine::Asking;
+pub use kept::Engine;
 pub use margin::fits;
 pub use shared::{evolve, evolve_by};

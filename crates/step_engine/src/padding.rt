@@ -1,9 +1,12 @@
 //! Squares with room round them.
-ghost use Rattle.std.specs.Prelude.{◌≡◌, ◌≤◌, IfOk, Err};
+ghost use Rattle.std.specs.Prelude.{◌≡◌, ◌≤◌, ◌^◌, IfOk, Err};
+ghost use Rattle.worlds.specs.Range.{HasMargin};
 ghost use Rattle.square_table.specs.Squares.{IsHeld, level_of};
 ghost use Rattle.square_table.specs.Made.{IsFull};
-ghost use Rattle.step_engine.specs.Padded.{IsPadded, IsPaddedNumber, IsWidened, AddsPadded, AddsRound};
+ghost use Rattle.step_engine.specs.Padded.{IsPadded, IsPaddedNumber, IsWidened, IsRooted, AddsPadded, AddsRound, AddsStart};
 
+use crate::reach::room_level;
+use plane_core::Plane;
 use square_table::{Square, SquareTable, TableFault};
 
 // The number of the square of one level more in whose middle a square stands, and which else is
@@ -36,8 +39,8 @@ fn padded<'a>(table: &mut SquareTable<'a>, square: Square<'a>) -> Result<Square<
     Ok(table.square(square.level() + 1, number)?)
 }
 
-/// A square round the origin, with empty ones round it until it has the level.
-pub(crate) fn with_room<'a>(
+// A square round the origin, with empty ones round it until it has the level.
+fn with_room<'a>(
     table: &mut SquareTable<'a>,
     square: Square<'a>,
     level: u8,
@@ -53,4 +56,21 @@ pub(crate) fn with_room<'a>(
         square = padded(table, square)?;
     }
     Ok(square)
+}
+
+/// The square of a plane round the origin, at the least level at which its middle has room for so
+/// many generations.
+pub(crate) fn rooted<'a>(
+    table: &mut SquareTable<'a>,
+    plane: &Plane,
+    generations: u64,
+) -> Result<Square<'a>, TableFault>
+    requires { (generations ≤ 2 ^ 60) × HasMargin generations plane.now }
+    ensures root { IfOk result (IsRooted plane.now generations table.new) }
+    ensures adds { AddsStart plane.now generations table.old table.new }
+    ensures full { result ≡ Err TableFault.NoRoom → IsFull table.new }
+{
+    let level = room_level(plane, generations) + 2;
+    let start = table.load(plane)?;
+    with_room(table, start, level)
 }

@@ -1,5 +1,5 @@
 //! Many generations of a plane at once, by squares that are shared.
-ghost use Rattle.std.specs.Prelude.{◌≡◌, IfOk, Err};
+ghost use Rattle.std.specs.Prelude.{◌≡◌, [], min, IfOk, Err};
 ghost use Rattle.worlds.specs.Iterate.{iterate};
 ghost use Rattle.worlds.specs.Step.{step};
 ghost use Rattle.worlds.specs.Stop.{CountsStop};
@@ -7,16 +7,26 @@ ghost use Rattle.hash_engine.specs.Found.{KeepsRule};
 ghost use Rattle.step_engine.specs.Evolved.{CanEvolve, IsEvolved, IsReport, IsRoomSpent, AsksOnceOf};
 
 use crate::evolved::{EvolveFault, Evolved, Report};
-use crate::padding::with_room;
-use crate::reach::room_level;
+use crate::padding::rooted;
 use bumpalo::Bump;
 use hash_engine::{Asking, result};
 use plane_core::{Ask, Next, Plane, Stop};
 use square_table::SquareTable;
-use std::alloc::Global;
+use std::alloc::{AllocError, Global};
 
 // A table may hold no more squares.
 const MOST_SQUARES: u32 = 1 << 24;
+
+/// A table with no square, that may hold up to `limit`, at most 16,777,216.
+pub(crate) fn no_squares<'a>(
+    alloc: Global,
+    arena: &'a Bump,
+    limit: u32,
+) -> Result<SquareTable<'a>, AllocError>
+    ensures { IfOk result (λ t. t ≡ record { rows = []; limit = min limit 16777216 }) }
+{
+    SquareTable::new(alloc, arena, limit.min(MOST_SQUARES))
+}
 
 /// The plane `generations` later, by Gosper's algorithm for any number of generations (R. Wm. Gosper,
 /// Exploiting Regularities in Large Cellular Spaces, Physica 10D, 1984), where the rule counts its
@@ -47,11 +57,9 @@ pub fn evolve_by<Q: Ask, S: Stop>(
     ensures no_room { result ≡ Err EvolveFault.NoRoom →
         IsRoomSpent limit (Q.meaning rule.old) plane.now generations }
 {
-    let level = room_level(plane, generations) + 2;
     let arena = Bump::new(alloc);
-    let mut table = SquareTable::new(alloc, &arena, limit.min(MOST_SQUARES))?;
-    let start = table.load(plane)?;
-    let root = with_room(&mut table, start, level)?;
+    let mut table = no_squares(alloc, &arena, limit)?;
+    let root = rooted(&mut table, plane, generations)?;
     let found = result(alloc, &mut table, rule, root, generations, stop)?;
     let plane = table.pack(found.square)?;
     let report = Report {

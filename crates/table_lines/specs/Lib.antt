@@ -2,6 +2,7 @@ pub mod Below
 pub mod Definitions
 pub mod Descriptors
 pub mod Entries
+pub mod Equality
 pub mod Fields
 pub mod LineLaws
 pub mod Lines

@@ -20,7 +20,7 @@ pub enum Descriptor {
 }
 
 /// What a table has beside its transitions.
-#[derive(Clone, Copy, Debug)]
+#[derive(Clone, Copy, Debug, PartialEq, Eq)]
 pub struct Head {
     pub states: u16,
     pub neighborhood: Neighborhood,

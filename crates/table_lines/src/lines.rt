@@ -1,5 +1,5 @@
 //! The lines of a table as a value, before its limits are looked at.
-ghost use Rattle.std.specs.Prelude.{◌≡◌, ◌≤◌, [], Err, IsOk, IsTrue};
+ghost use Rattle.std.specs.Prelude.{◌≡◌, ◌↔◌, ◌≤◌, [], Err, IsOk, IsTrue};
 ghost use Rattle.std.specs.List.{list_all};
 ghost use Rattle.rule_file.specs.Results.{Gives};
 ghost use Rattle.rule_file.specs.States.{least_states, most_states};
@@ -81,6 +81,13 @@ impl TableLines {
         ensures full { IsTrue (list_all (is_full self.now.neighborhood) result.now) }
     {
         self.transitions.as_slice()
+    }
+
+    /// Whether the other table is the same. Takes no memory.
+    pub fn equals(&self, other: &TableLines) -> bool
+        ensures { IsTrue result ↔ (self.now ≡ other.now) }
+    {
+        self.head == other.head && self.transitions.as_slice() == other.transitions.as_slice()
     }
 
     /// Gives the transitions without taking memory.

@@ -8,7 +8,7 @@ use basics::Listing;
 
 /// A variable: the number of its definition among those of the table, by which it is told from
 /// others, and the states that it stands for.
-#[derive(Clone, Copy, Debug)]
+#[derive(Clone, Copy, Debug, PartialEq, Eq)]
 pub struct Variable {
     pub number: u64,
     pub states: StateSet,
@@ -34,7 +34,7 @@ impl Variable {
 }
 
 /// What stands at one place of a transition: a state, or a variable.
-#[derive(Clone, Copy, Debug)]
+#[derive(Clone, Copy, Debug, PartialEq, Eq)]
 pub enum Entry {
     State(u8),
     OneOf(Variable),
@@ -45,4 +45,22 @@ pub enum Entry {
 pub struct Transition {
     pub inputs: Listing<Entry>,
     pub result: Entry,
+}
+
+impl PartialEq for Transition {
+    ghost use Rattle.table_lines.specs.Equality.{partial_laws, same_transition};
+
+    ghost eq = { same_transition };
+
+    ghost laws = { partial_laws };
+
+    fn eq(&self, other: &Transition) -> bool {
+        self.inputs.as_slice() == other.inputs.as_slice() && self.result == other.result
+    }
+}
+
+impl Eq for Transition {
+    ghost use Rattle.table_lines.specs.Equality.{laws};
+
+    ghost laws = { laws };
 }

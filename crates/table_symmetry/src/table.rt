@@ -1,5 +1,5 @@
 //! Rules that are given by a table.
-ghost use Rattle.std.specs.Prelude.{◌≡◌, ◌<◌, ◌≤◌, All, IfOk};
+ghost use Rattle.std.specs.Prelude.{◌≡◌, ◌↔◌, ◌<◌, ◌≤◌, All, IfOk, IsTrue};
 ghost use Rattle.rule_file.specs.States.{least_states, most_states};
 ghost use Rattle.table_symmetry.specs.NextState.{next};
 ghost use Rattle.table_symmetry.specs.Rows.{AreExpanded};
@@ -90,6 +90,14 @@ impl TableRule {
         ensures at_most { result ≤ most_states }
     {
         self.lines.states()
+    }
+
+    /// Whether the other table is the same: it has as many states, the same neighbourhood and
+    /// symmetry, and the same transitions in the same order. Takes no memory.
+    pub fn equals(&self, other: &TableRule) -> bool
+        ensures { IsTrue result ↔ (self.now ≡ other.now) }
+    {
+        self.lines.equals(&other.lines)
     }
 
     /// The next state of the cell in the middle. All nine states are below `states`.

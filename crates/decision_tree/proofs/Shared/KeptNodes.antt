@@ -1,13 +1,20 @@
 -- The nodes whose entries are kept one after another.
-use Rattle.std.proofs.Common.{◌≡◌, ℕ, zero, suc, ◌+◌, ◌*◌, ◌-◌, ◌<◌, ◌≤◌, List, [], ◌∷◌, ◌++◌, length, map, take, drop, slice_index, slice_index_or, refl, ap, arith}
+use Rattle.std.proofs.Common.{◌≡◌, ℕ, zero, suc, ◌+◌, ◌*◌, ◌-◌, ◌<◌, ◌≤◌, List, [], ◌∷◌, ◌++◌, length, map, take, drop, slice_index, slice_index_or, refl, ap, ◌∙◌, arith}
 use Rattle.std.proofs.lemmas.Grind.{common_steps}
-use Rattle.std.proofs.lemmas.List.{take-append-le, drop-append-le, nil_from_length, take_all}
+use Rattle.std.specs.List.{concat}
+use Rattle.std.proofs.lemmas.List.{take-append-drop, take-append-le, drop-append-le, nil_from_length, take_all}
 use Rattle.decision_tree.specs.Kept.{nodes_in, nodes_of}
 use Rattle.decision_tree.specs.Tree.{Entries, node_at}
 
 pub length-nodes_in : (n count : ℕ) (entries : List ℕ) → length (nodes_in n count entries) ≡ count
 length-nodes_in n zero entries = refl
 length-nodes_in n (suc count) entries = ap suc (length-nodes_in n count (drop n entries))
+
+-- the entries of all nodes, one node after another
+pub entries-nodes_in : (n count : ℕ) (entries : List ℕ) → length entries ≡ count * n → concat (nodes_in n count entries) ≡ entries
+entries-nodes_in n zero entries filled = grind (arith, common_steps, nil_from_length entries)
+entries-nodes_in n (suc count) entries filled =
+    ap (λ rest. take n entries ++ rest) (entries-nodes_in n count (drop n entries) (grind (arith, common_steps))) ∙ take-append-drop n entries
 
 -- an entry of a node, by its place among all entries
 pub entry-in : (n count : ℕ) (entries : List ℕ) (number input : ℕ) → number < count → input < n → slice_index (node_at (nodes_in n count entries) number) input ≡ slice_index entries (number * n + input)

@@ -127,6 +127,34 @@ fn answers_may_come_in_another_order(rt: HostRuntime) {
     answers_over(&rt, alloc, &entries, &mut post, SCRIPT, SETTLED, 3);
 }
 
+// Each `work` sends what is neither known nor out, whether or not it is answered.
+#[test]
+fn work_sends_what_is_needed(rt: HostRuntime) {
+    let alloc = rt.alloc();
+    let script = b"mark 0 counts\nmark 0 rle\nwork\nwork\nsettle\nwork\n";
+    let replies = b"ok 1 bookmark 1\nok 2 bookmark 2\nworking\nworking\nunsettled 2 0\nworking\n";
+    swallows(&rt, alloc, true, script, replies, 4);
+    let script = b"mark 0 counts\nwork\nshow 1\n";
+    let replies = b"ok 1 bookmark 1\nworking\nbookmark 1 pending\n";
+    closes(&rt, alloc, 0, script, replies, 0);
+}
+
+// The first job is the step to generation 8. The intervention drops it, and its answer is stale.
+const WORKED: &[u8] =
+    b"rule\n@RULE X\n@TABLE\nn_states:2\nneighborhood:oneDimensional\nsymmetries:none\n0,1,0,1\n0,0,1,1\n1,0,0,0\n1,1,1,0\nend\nset 0 0 1\nmark 8 counts\nwork\nat 4 set 0 0 1\nsettle\nshow 1\n";
+
+const WORKED_REPLIES: &[u8] =
+    b"ok 1\nok 2\nok 3 bookmark 1\nworking\nok 4 intervention 1\nsettled\nbookmark 1 current 4\n1 4\n";
+
+#[test]
+fn an_edit_drops_what_work_sent(rt: HostRuntime) {
+    let alloc = rt.alloc();
+    let entries = Entries::new(alloc).expect(&rt, "memory");
+    let mut post = InlinePost::new(alloc, &entries, SQUARES);
+    answers_over(&rt, alloc, &entries, &mut post, WORKED, WORKED_REPLIES, 4);
+    closes(&rt, alloc, 4, WORKED, WORKED_REPLIES, 4);
+}
+
 // The second bookmark is never computed, since the first is shown at once.
 #[test]
 fn a_current_bookmark_is_shown_at_once(rt: HostRuntime) {

@@ -33,8 +33,8 @@ const SCRIPTS: &[Row] = &[
         replies: b"refused 80 BadCommand 1\n",
     },
     Row {
-        script: b"\nwork\nrule X\nquit now\nshow\nshow 1 2\nshow x\nsettle 1\nstart x\n",
-        replies: b"refused 80 BadCommand 2\nrefused 80 BadCommand 3\nrefused 80 BadCommand 4\nrefused 80 BadCommand 5\nrefused 80 BadCommand 6\nrefused 80 BadCommand 7\nrefused 80 BadCommand 8\nrefused 80 BadCommand 9\n",
+        script: b"\nworks\nrule X\nquit now\nshow\nshow 1 2\nshow x\nsettle 1\nwork 1\nstart x\n",
+        replies: b"refused 80 BadCommand 2\nrefused 80 BadCommand 3\nrefused 80 BadCommand 4\nrefused 80 BadCommand 5\nrefused 80 BadCommand 6\nrefused 80 BadCommand 7\nrefused 80 BadCommand 8\nrefused 80 BadCommand 9\nrefused 80 BadCommand 10\n",
     },
     Row {
         script: b"set\nset 0\nset 0 0\nset 0 0 1 2\nset 0 0 -1\nset a 0 0\nmark 1\nmark counts\nmark -1 counts\nmark 1 macrocell\nmark 1 counts 2\n",

@@ -12,7 +12,7 @@ use Rattle.square_table.specs.Made.{Adds}
 use Rattle.hash_engine.specs.Adding.{AddsFor}
 use Rattle.hash_engine.specs.Found.{CanSeek, CanSeekAll}
 use Rattle.hash_engine.proofs.Standing.{above}
-use Rattle.hash_engine.proofs.Memos.{IsRight-grows, IsResult-made}
+use Rattle.hash_engine.proofs.Shared.Memos.{IsRight-grows, IsResult-made}
 use Rattle.hash_engine.proofs.Computed.{IsReady-lower, IsReady-same, IsRight-same, IsRight-back, IsSameRule-itself, IsSameRule-then, nine_stand, nine_ready, fours_ready, StandsFor-computed, StandsFor-higher, none_stands}
 use Rattle.hash_engine.proofs.Shared.Puts.{none_put, higher_remembered}
 use Rattle.hash_engine.proofs.Once.{asked_in_two, asked_turn}

@@ -1,6 +1,6 @@
 use Rattle.std.proofs.Common.{◌<◌, arith}
 use Rattle.hash_engine.proofs.Standing.{above}
-use Rattle.hash_engine.proofs.Memos.{IsRight-grows, IsResult-made}
+use Rattle.hash_engine.proofs.Shared.Memos.{IsRight-grows, IsResult-made}
 use Rattle.hash_engine.proofs.Computed.{base_below, base_stands}
 use Rattle.hash_engine.proofs.Shared.Puts.{put_once}
 use Rattle.hash_engine.proofs.Adding.{AddsFor-later}

@@ -13,7 +13,7 @@ later-requires g c =
       low = omega (arith, c.requires.level.1, c.level-k.ensures);
       ready = IsReady-root (g.Q.Ask.meaning c.args.rule.now) (g.Q.Ask.state_count c.args.rule.now) (g.met.Q.Ask.below c.args.rule.now) c.args.table.now (level_of c.args.root) (c.level-k.result - 2) c.args.generations (number_of c.args.root) c.number.result level c.number.ensures
           c.requires.held.numbered c.requires.below;
-      right = c.nothing-memo.ensures.right (g.Q.Ask.meaning c.args.rule.now) c.args.table.now.rows;
+      right = c.turn_to.ensures.right (g.Q.Ask.meaning c.args.rule.now) c.args.table.now.rows (c.nothing-memo.ensures.right (g.Q.Ask.meaning c.args.rule.now) c.args.table.now.rows);
     }
 
 pub returns-clause-found : goal.returns-clause-found
@@ -30,7 +30,7 @@ returns-clause-once g c = λ w x y few at.
     let level : level_of c.args.root ≡ suc (suc k) = omega (arith, c.requires.level.0, c.level-k.ensures) in
     let enough : c.args.generations ≤ 2 ^ k = subst (λ l. c.args.generations ≤ 2 ^ (l - 2)) (sym c.level-k.ensures) few in
     let cells : square_in c.args.table.now.rows (level_of c.args.root) c.number.result ≡ square_at w (level_of c.args.root) x y = ap (square_in c.args.table.now.rows (level_of c.args.root)) c.number.ensures ∙ at in
-    let found : AsksForMore (g.Q.Ask.meaning c.args.rule.now) k c.args.generations (c.number.result ∷ []) c.args.table.now c.later.new.table c.nothing-memo.result c.later.new.memo (g.Q.Ask.asks c.args.rule.now) (g.Q.Ask.asks c.later.new.rule) =
+    let found : AsksForMore (g.Q.Ask.meaning c.args.rule.now) k c.args.generations (c.number.result ∷ []) c.args.table.now c.later.new.table c.turn_to.new.self c.later.new.memo (g.Q.Ask.asks c.args.rule.now) (g.Q.Ask.asks c.later.new.rule) =
     record { four = c.in_ok-number.ensures.four; stand = c.in_ok-number.ensures.stand } in
-    asked_once (g.Q.Ask.meaning c.args.rule.now) (g.met.Q.Ask.quiet c.args.rule.now) w (level_of c.args.root) k c.args.generations c.number.result c.count_squares-counts.result.base x y c.args.table.now c.later.new.table c.nothing-memo.result c.later.new.memo
-    (g.Q.Ask.asks c.args.rule.now) (g.Q.Ask.asks c.later.new.rule) enough level cells c.nothing-memo.ensures.full c.in_ok-number.ensures.stays.right c.count_squares-counts.ensures.distinct c.count_squares-counts.ensures.put found
+    asked_once (g.Q.Ask.meaning c.args.rule.now) (g.met.Q.Ask.quiet c.args.rule.now) w (level_of c.args.root) k c.args.generations c.number.result c.count_squares-counts.result.base x y c.args.table.now c.later.new.table c.turn_to.new.self c.later.new.memo
+    (g.Q.Ask.asks c.args.rule.now) (g.Q.Ask.asks c.later.new.rule) enough level cells (c.turn_to.ensures.full ∙ c.nothing-memo.ensures.none) c.in_ok-number.ensures.stays.right c.count_squares-counts.ensures.distinct c.count_squares-counts.ensures.put found

@@ -1,7 +1,7 @@
 use Rattle.std.proofs.Common.{◌^◌, ◌∙◌, sym, ap, get_or, subst}
 use Rattle.std.proofs.lemmas.Option.{IfSome_then}
 use Rattle.hash_engine.specs.Memo.{AreKnown}
-use Rattle.hash_engine.proofs.Memos.{recalled}
+use Rattle.hash_engine.proofs.Shared.Memos.{recalled}
 use Rattle.hash_engine.proofs.memo.Memo.recall.Goals as goal
 
 pub returns-then-generations-full-clause-some : goal.returns-then-generations-full-clause-some

@@ -1,0 +1,299 @@
+"""Tests of the clients against the built program, and of the table of refusals against the code.
+
+    python3 -m unittest discover -s clients/python/tests
+
+The environment's DESK names the program; without it crates/desk/out/desk is taken.
+"""
+import csv
+import gzip
+import os
+import re
+import struct
+import subprocess
+import sys
+import tempfile
+import unittest
+import warnings
+import zlib
+from pathlib import Path
+
+sys.dont_write_bytecode = True
+ROOT = Path(__file__).resolve().parents[3]
+CLIENTS, EXAMPLES = ROOT / "clients/python", ROOT / "examples"
+sys.path.insert(0, str(CLIENTS))
+
+from desk import BUILT, Desk, Ended, Pending, Refused, RuleNameWarning, Settling, Trouble, Window  # noqa: E402
+from picture import Squares, colors_of, framed  # noqa: E402
+
+PROGRAM = os.environ.get("DESK") or BUILT
+X_RULE = (
+    "@RULE X\n@TABLE\nn_states:2\nneighborhood:oneDimensional\nsymmetries:none\n0,1,0,1\n0,0,1,1\n1,0,0,0\n1,1,1,0\n"
+)
+
+
+def called(script, *words, python=sys.executable):
+    """What a client writes and its exit status."""
+    run = [python, "-B", str(CLIENTS / script), *map(str, words), "--desk", PROGRAM]
+    return subprocess.run(run, cwd=ROOT, capture_output=True, text=True, timeout=50)
+
+
+class WithFiles(unittest.TestCase):
+    def setUp(self):
+        folder = tempfile.TemporaryDirectory()
+        self.addCleanup(folder.cleanup)
+        self.folder = Path(folder.name)
+
+    def file(self, name, text):
+        path = self.folder / name
+        path.write_bytes(text if isinstance(text, bytes) else text.encode())
+        return str(path)
+
+
+class DeskTest(WithFiles):
+    def setUp(self):
+        super().setUp()
+        self.desk = Desk(PROGRAM)
+        self.addCleanup(self.desk.close)
+
+    def test_all_commands_that_edit_and_show(self):
+        desk, row = self.desk, Window(-2, 0, 5, 1)
+        desk.rule(self.file("x.rule", X_RULE))
+        desk.set([(0, 0, 1)])
+        counts, window = desk.mark(2, "counts"), desk.mark(2, row)
+        self.assertEqual(desk.show(counts), {1: 2})
+        self.assertEqual(desk.show(window), [[1, 0, 0, 0, 1]])
+        intervention = desk.at(1, [(1, 0, 0)])
+        self.assertEqual(desk.show(window), [[1, 0, 1, 0, 0]])
+        desk.change(intervention, 2, [(0, 0, 1), (1, 0, 1)])
+        self.assertEqual(desk.show(window), [[1, 0, 1, 1, 1]])
+        desk.drop(intervention)
+        desk.move(window, 1)
+        self.assertEqual(desk.show(window), [[0, 1, 0, 1, 0]])
+        desk.unmark(window)
+        with self.assertRaises(Refused) as caught:
+            desk.show(window)
+        self.assertEqual((caught.exception.number, caught.exception.name), (44, "NoSuchBookmark"))
+        self.assertEqual(desk.settle(), Settling(0, 0))
+        self.assertEqual(desk.revision, 9)
+
+    def test_texts_of_patterns(self):
+        self.desk.rule(self.file("x.rule", X_RULE))
+        self.desk.set([(0, 0, 1)])
+        found = [self.desk.show(self.desk.mark(2, view)) for view in ("rle", "mc")]
+        self.assertEqual(found[0], "#CXRLE Pos=-2,0 Gen=2\nx = 5, y = 1, rule = X\no3bo!\n")
+        self.assertEqual(found[1], "[M2] (experiment desk)\n#R X\n#G 2\n1 1 0 0 0\n2 0 1 0 0\n3 0 0 2 2\n")
+        self.assertEqual(self.desk.show(self.desk.mark(0, Window(9, 9, 1, 2))), [[0], [0]])
+        self.desk.set([(0, 0, 0)])
+        self.assertEqual(self.desk.show(self.desk.mark(0, "counts")), {})
+
+    def test_work_waits_for_nothing(self):
+        self.desk.mark(5, "counts")
+        try:
+            self.desk.work()
+        except Refused as refused:
+            self.assertEqual(refused.number, 80)
+            self.skipTest("this program has no command `work` yet")
+        self.assertEqual(self.desk.settle(), Settling(0, 0))
+
+    def test_starts_from_either_format_packed_and_without_a_last_line_end(self):
+        rle, mc = "#CXRLE Pos=1,2 Gen=7\nx = 2, y = 1\n2o!", "[M2]\n#G 3\n1 1 0 0 1"
+        names = {"a.rle": rle.encode(), "a.rle.gz": gzip.compress(rle.encode()), "a.mc": mc.encode()}
+        cells = {name: ([[0, 0, 0], [0, 1, 1]] if "rle" in name else [[0, 0], [0, 0]]) for name in names}
+        for name, text in names.items():
+            with self.subTest(name):
+                self.assertEqual(self.desk.start(self.file(name, text)), 7 if "rle" in name else 3)
+                window = Window(0, 1, len(cells[name][0]), 2)
+                self.assertEqual(self.desk.show(self.desk.mark(0, window)), cells[name])
+        self.assertEqual(self.desk.show(self.desk.mark(0, Window(-1, -1, 2, 2))), [[1, 0], [0, 1]])
+
+    def test_a_refusal_has_the_line_of_the_users_file(self):
+        bad_rule = self.file("bad.rule", X_RULE.replace("1,0,0,0", "# fine\n1,0,0"))
+        bad_rle = self.file("bad.rle", "#C a comment\nx = 3, y = 3\no$o$\n?o!\n")
+        bad_mc = self.file("bad.mc", "[M2]\n1 0 1 0 0\n\n3 1 0 0 0\n")
+        cases = [
+            (lambda: self.desk.rule(bad_rule), 8, "BadTransition", 9, f"{bad_rule}, line 9: refused 8 BadTransition"),
+            (lambda: self.desk.start(bad_rle), 22, "BadRun", 4, f"{bad_rle}, line 4: refused 22 BadRun"),
+            (lambda: self.desk.start(bad_mc), 32, "BadChild", 4, f"{bad_mc}, line 4: refused 32 BadChild"),
+            (lambda: self.desk.set([(0, 0, 2)]), 42, "CellStateTooHigh", None,
+             "`set 0 0 2`: refused 42 CellStateTooHigh"),
+            (lambda: self.desk.set([]), 80, "BadCommand", None, "`set `: refused 80 BadCommand"),
+        ]
+        for call, number, name, place, text in cases:
+            with self.subTest(name), self.assertRaises(Refused) as caught:
+                call()
+            found = caught.exception
+            self.assertEqual((found.number, found.name, found.place, str(found)), (number, name, place, text))
+        self.desk.set([(0, 0, 1)])
+        self.assertEqual(self.desk.show(self.desk.mark(0, "counts")), {1: 1})
+
+    def test_names_of_rules_are_compared(self):
+        rule, named = self.file("x.rule", X_RULE), "x = 1, y = 1, rule = {}\no!\n"
+        self.desk.rule(rule)
+        with warnings.catch_warnings():
+            warnings.simplefilter("error")
+            self.desk.start(self.file("same.rle", named.format("X")))
+            self.desk.start(self.file("none.rle", "x = 1, y = 1\no!\n"))
+        with self.assertWarnsRegex(RuleNameWarning, "names the rule Y, and the rule is X"):
+            self.desk.start(self.file("other.rle", named.format("Y")))
+        with self.assertWarns(RuleNameWarning):
+            self.desk.start(self.file("other.mc", "[M2]\n#R Z\n1 1 0 0 0\n"))
+
+    def test_what_cannot_be_sent_or_read(self):
+        for name, text in (("end.rule", X_RULE + " end \n"), ("cut.gz", gzip.compress(b"x" * 99)[:-9])):
+            with self.subTest(name), self.assertRaisesRegex(Trouble, name):
+                self.desk.rule(self.file(name, text))
+        with self.assertRaisesRegex(Trouble, "nowhere"):
+            self.desk.rule("nowhere.rule")
+        with self.assertRaisesRegex(Trouble, "desk.sh"):
+            Desk("/nowhere/desk")
+
+    def test_what_cannot_be_computed_is_pending(self):
+        with Desk(PROGRAM, squares=64) as desk:
+            desk.rule(str(EXAMPLES / "brain.rule"))
+            desk.start(str(EXAMPLES / "brain.rle"))
+            bookmark = desk.mark(64, "counts")
+            self.assertEqual(desk.settle(), Settling(1, 71))
+            with self.assertRaises(Pending):
+                desk.show(bookmark)
+
+    def test_a_program_that_ends_early(self):
+        quits = self.file("quits", "#!/bin/sh\nread line\necho no more >&2\nexit 3\n")
+        os.chmod(quits, 0o755)
+        with Desk(quits) as desk, self.assertRaisesRegex(Ended, "status 3: no more"):
+            desk.mark(1, "counts")
+        with Desk(PROGRAM, squares=1) as desk, self.assertRaisesRegex(Ended, "status 2: error: invalid value '1'"):
+            desk.settle()
+
+
+class CurveTest(WithFiles):
+    def test_numbers_are_those_of_a_script(self):
+        table = self.folder / "brain.csv"
+        words = ("--to", 64, "--points", 5, "--csv", table)
+        run = called("curve.py", "examples/brain.rule", "examples/brain.rle", *words)
+        self.assertEqual(run.returncode, 0, run.stderr)
+        self.assertIn("5 of 5 bookmarks are current", run.stderr)
+        texts = [(EXAMPLES / f"brain.{kind}").read_text() for kind in ("rule", "rle")]
+        marks = "".join(f"mark {at} counts\n" for at in (0, 16, 32, 48, 64))
+        shows = "".join(f"show {it}\n" for it in range(1, 6))
+        script = f"rule\n{texts[0]}\nend\nstart rle\n{texts[1]}\nend\n{marks}{shows}"
+        said = subprocess.run([PROGRAM], input=script, capture_output=True, text=True, timeout=50).stdout
+        parts = re.split(r"bookmark \d current \d+\n", said)[1:]
+        wanted = [[str(at), *re.findall(r"(?m)^\d+ (\d+)$", part)] for at, part in zip((0, 16, 32, 48, 64), parts)]
+        with open(table, encoding="utf-8") as file:
+            found = list(csv.reader(file))
+        self.assertEqual(found, [["generation", "state 1", "state 2"], *wanted])
+        self.assertEqual([line.split() for line in run.stdout.splitlines()[1:]], wanted)
+
+    def test_too_few_squares_keep_what_is_known(self):
+        words = ("--to", 2**16, "--points", 3, "--squares", 3000)
+        run = called("curve.py", "examples/brain.rule", "examples/brain.rle", *words)
+        self.assertEqual(run.returncode, 1)
+        self.assertIn("--squares N allows more", run.stderr)
+        self.assertEqual(run.stdout.split()[-3:], ["0", "14", "4"])
+
+    def test_a_plot_or_a_clear_word(self):
+        plot = self.folder / "plot.png"
+        run = called("curve.py", "examples/brain.rule", "examples/brain.rle", "--to", 8, "--png", plot)
+        if run.returncode == 0:
+            self.assertTrue(plot.read_bytes().startswith(b"\x89PNG"))
+        else:
+            self.assertIn("this Python has no matplotlib", run.stderr)
+        self.assertIn("generation", run.stdout)
+
+
+class PictureTest(WithFiles):
+    def test_letters_of_a_box_and_of_a_window(self):
+        run = called("picture.py", "examples/wire.rule", "examples/wire.rle", "--at", 0)
+        rows = [".1233333", "3.......3", "3.......3" + "3" * 15, "3.......3", ".3333333"]
+        self.assertEqual([line.rstrip(".") for line in run.stdout.splitlines()], rows)
+        run = called("picture.py", "examples/wire.rule", "examples/wire.rle", "--at", 1, "--window", 0, 0, 3, 2)
+        self.assertEqual(run.stdout, ".23\n1..\n")
+
+    def test_a_png_has_the_cells_in_the_colors_of_the_rule(self):
+        path = self.folder / "wire.png"
+        run = called("picture.py", "examples/wire.rule", "examples/wire.rle", "--at", 0, "--png", path)
+        self.assertEqual(run.returncode, 0, run.stderr)
+        chunks, rest = {}, path.read_bytes()[8:]
+        while rest:
+            (size,) = struct.unpack(">I", rest[:4])
+            chunks[rest[4:8]], rest = rest[8 : 8 + size], rest[12 + size :]
+        width, height = struct.unpack(">II", chunks[b"IHDR"][:8])
+        lines = zlib.decompress(chunks[b"IDAT"])
+        self.assertEqual((width, height, len(lines)), (24 * 16, 5 * 16, (24 * 16 + 1) * 5 * 16))
+        self.assertEqual(list(lines[1 : 1 + 16 * 9 : 16]), [0, 1, 2, 3, 3, 3, 3, 3, 0])
+        self.assertEqual(list(chunks[b"PLTE"][:12]), [32, 32, 40, 80, 160, 255, 255, 255, 255, 255, 160, 0])
+
+    def test_a_pattern_beyond_the_rle_view_is_scaled_down(self):
+        rule = self.file("still.rule", X_RULE.split("0,1")[0])
+        run = called("picture.py", rule, "examples/doubling.mc", "--at", 0, "--png", self.folder / "all.png")
+        self.assertEqual(run.returncode, 0, run.stderr)
+        self.assertIn(f"1024 by 1024 from ({-2**60}, {-2**60}), {2**51} by {2**51} cells a pixel", run.stderr)
+
+    def test_macrocell_texts_are_drawn_as_their_cells(self):
+        squares = Squares("[M2] (experiment desk)\n#R X\n#G 0\n1 0 1 2 3\n2 0 1 0 0\n3 0 2 2 0\n")
+        self.assertEqual(squares.box(), Window(-2, -4, 6, 6))
+        rows = squares.drawn(framed(Window(-4, -4, 8, 8), 8, 8))
+        live = {(x - 4, y - 4): state for y, row in enumerate(rows) for x, state in enumerate(row) if state}
+        wanted = {(3, -4): 1, (2, -3): 2, (3, -3): 3, (-1, 0): 1, (-2, 1): 2, (-1, 1): 3}
+        self.assertEqual(live, wanted)
+        self.assertEqual(framed(Window(-3, 5, 9, 1), 4, 4)[:], (-4, 4, 3, 1, 4))
+
+    def test_colors(self):
+        colors = b"0 0 200 0 200 0 from, to\n# no\n2 1 2 3 two\n"
+        found = colors_of(b"@RULE C\n@TABLE\nn_states:4\n@COLORS\n" + colors + b"@ICONS\n3 9 9 9\n")
+        self.assertEqual(found[:4], [(48, 48, 48), (0, 0, 200), (1, 2, 3), (0, 200, 0)])
+
+
+class DocumentsTest(unittest.TestCase):
+    def rows(self):
+        text = (ROOT / "docs/REFUSALS.md").read_text(encoding="utf-8")
+        return re.findall(r"(?m)^\| (\d+) \| (\w+) \| ([^|]+) \|", text)
+
+    def test_refusals_are_those_of_the_code(self):
+        wanted, code = {}, ""
+        for path in sorted(ROOT.glob("crates/*/src/*.rt")):
+            text = path.read_text(encoding="utf-8")
+            for fault in re.findall(r"impl Refusal for (\w+)", text):
+                numbers = dict(re.findall(rf"{fault}::(\w+)(?:\(_\))? => (\d+),", text))
+                names = dict(re.findall(rf"{fault}::(\w+)(?:\(_\))? => \"(\w+)\"", text))
+                placed = set(re.findall(rf"{fault}::(\w+)\((?:line|offset)\)", text))
+                self.assertEqual(set(numbers), set(names), path)
+                of = "text byte" if fault == "RleFault" else "script line" if fault == "ScriptFault" else "text line"
+                for variant, number in numbers.items():
+                    wanted.setdefault(int(number), set()).add((names[variant], of if variant in placed else "-"))
+            code += text
+        self.assertIn("Cause::NumbersSpent => 73", code)
+        found = {int(number): {(name, place)} for number, name, place in self.rows()}
+        self.assertEqual({it: found.get(it) for it in wanted}, wanted)
+        self.assertLessEqual(set(found) - set(wanted), {60, 73})
+        self.assertEqual(len(found), len(self.rows()))
+
+    def test_causes_are_those_of_the_code(self):
+        code = (ROOT / "crates/desk_core/src/cause.rt").read_text(encoding="utf-8")
+        text = (ROOT / "docs/REFUSALS.md").read_text(encoding="utf-8").split("## Why")[1]
+        self.assertEqual({"0", *re.findall(r"Cause::\w+ => (\d+)", code)}, set(re.findall(r"(?m)^\| (\d+) \|", text)))
+
+    def test_files_are_those_of_the_scripts(self):
+        script = (EXAMPLES / "wire.script").read_text(encoding="utf-8")
+        rule = (EXAMPLES / "wire.rule").read_text(encoding="utf-8").split("\n@COLORS")[0]
+        self.assertIn(f"rule\n{rule}end\n", script)
+        doubling = (EXAMPLES / "doubling.mc").read_text(encoding="utf-8")
+        self.assertIn(f"start mc\n{doubling}end\n", (EXAMPLES / "doubling.script").read_text(encoding="utf-8"))
+
+    def test_help_names_the_commands_of_the_readme(self):
+        said = subprocess.run([PROGRAM, "--help"], capture_output=True, text=True, timeout=50).stdout
+        if "Commands of a script" not in said:
+            self.skipTest("this program's help has no commands yet")
+        readme = (ROOT / "README.md").read_text(encoding="utf-8")
+        table = re.findall(r"(?m)^\| `(\w+)", readme.split("| command |")[1].split("\n\n")[0])
+        helped = re.findall(r"(?m)^  ([a-z]+)\b", said.split("Commands of a script")[1].split("\n\n")[0])
+        self.assertEqual(set(table), set(helped))
+
+    def test_the_clients_show_help_with_an_example(self):
+        for script in ("curve.py", "picture.py"):
+            run = called(script, "--help")
+            self.assertIn("examples/brain.rule examples/brain.rle", run.stdout)
+
+
+if __name__ == "__main__":
+    unittest.main()

@@ -1,0 +1,34 @@
+//! What the help says behind the options.
+
+/// The commands of a script, the exit statuses and an example.
+pub(crate) const COMMANDS: &str = "\
+Commands of a script, one a line; blank lines and lines that begin with # are passed over:
+  rule                      takes the rule of a .rule file: the lines up to one that is just `end`
+  start rle                 takes the pattern of an RLE text, the lines up to `end`, as the start
+  start mc                  takes that of a macrocell text
+  set X Y S ..              sets cells of the start to states, each by three numbers
+  at G set X Y S ..         adds an intervention: these cells are set at generation G
+  change ID G set X Y S ..  gives an intervention another generation and other cells
+  drop ID                   removes an intervention
+  mark G counts             adds a bookmark at generation G, of the number of cells of each state
+  mark G rle                one of the pattern as RLE
+  mark G mc                 one of the pattern as macrocell text
+  mark G window X Y W H     one of the states of W by H cells, from (X, Y) to the right and down
+  move ID G                 moves a bookmark to generation G
+  unmark ID                 removes a bookmark
+  work                      lets the workers begin and doesn't wait for them
+  settle                    computes the texts of all bookmarks
+  show ID                   does so, and then shows the text of a bookmark
+  quit                      ends the script
+
+Exit status:
+  0  the script was answered, also where commands were refused, or help was written
+  1  standard input or standard output failed
+  2  the words of the command line are refused
+  3  memory ran out at the start, or a worker's thread was refused
+
+Example: the cells of each state at generation 1000, from a rule file and a pattern file:
+  { echo rule; cat a.rule; echo; echo end
+    echo start rle; cat a.rle; echo; echo end
+    echo mark 1000 counts; echo show 1; } | desk
+";
