@@ -22,7 +22,7 @@ mod receipt;
 mod row;
 mod rule;
 mod seen;
-mod snapshot;
+mod snapshots;
 mod taking;
 mod viewer;
 
@@ -33,6 +33,6 @@ pub use publisher::Publisher;
 pub use receipt::Receipt;
 pub use row::ShownRow;
 pub use seen::Seen;
-pub use snapshot::Snapshot;
+pub use snapshots::Snapshot;
 pub use taking::snapshot;
 pub use viewer::Viewer;

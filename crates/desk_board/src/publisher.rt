@@ -7,7 +7,7 @@ use crate::fault::PublishFault;
 use crate::latest::Latest;
 use crate::receipt::Receipt;
 use crate::rule::{Beginning, BoardRule, See};
-use crate::snapshot::Snapshot;
+use crate::snapshots::Snapshot;
 use core::mem::replace_with;
 use left_right::writer::Writer;
 use std::alloc::{AllocError, Global};

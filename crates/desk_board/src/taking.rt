@@ -4,7 +4,7 @@ ghost use Rattle.std.specs.Option.{option_map};
 ghost use Rattle.desk_board.specs.Picture.{picture_of};
 
 use crate::row::ShownRow;
-use crate::snapshot::Snapshot;
+use crate::snapshots::Snapshot;
 use desk_core::{Desk, Text};
 use std::alloc::{AllocError, Global};
 
@@ -23,7 +23,7 @@ pub fn snapshot(alloc: Global, desk: &Desk<'_>) -> Result<Snapshot, AllocError>
 
 // The text, if there is one, by one more owner of its bytes.
 fn shared(text: Option<&Text>) -> Result<Option<Text>, AllocError>
-    ensures { IfOk result (λ shared. shared ≡ option_map (λ bytes. bytes.now) text) }
+    ensures { IfOk result (λ shared. shared ≡ option_map (λ bytes. bytes.now) text.entry) }
 {
     match text {
         Some(text) => Ok(Some(text.share()?)),
