@@ -6,6 +6,8 @@
 //! before: it doesn't depend on how the threads take turns.
 #![tactic(auto)]
 
+ghost use Rattle.std.specs.Prelude.{◌≡◌};
+
 mod editing;
 mod watching;
 
