@@ -1,13 +1,28 @@
 //! Equality of rules, whose names don't matter.
 use super::same;
-use super::trees::W;
 use rule_tree::Rule;
 use std::alloc::Global;
 use std::process::Abort;
 
+// A table with a variable and two transitions.
 const T: &[u8] = b"@RULE T\n@TABLE\n\
     n_states:3\nneighborhood:oneDimensional\nsymmetries:none\n\
     var a={1,2}\n0,a,0,a\n1,0,0,2\n";
+
+// Each cell copies its western neighbour.
+const W: &[u8] = b"@RULE W\n\
+    @TREE\n\
+    num_states=2\n\
+    num_neighbors=4\n\
+    num_nodes=8\n\
+    1 0 0\n\
+    1 1 1\n\
+    2 0 0\n\
+    2 1 1\n\
+    3 2 2\n\
+    3 3 3\n\
+    4 4 5\n\
+    5 6 6\n";
 
 fn expect_equal(rt: &impl Abort, alloc: Global, text: &[u8], other: &[u8], wanted: bool) {
     let rule = Rule::read(alloc, text).expect(rt, "a rule");
