@@ -2,6 +2,7 @@ mod asks;
 mod edges;
 mod engine;
 mod faults;
+mod kept;
 mod rules;
 mod shared;
 mod stops;
