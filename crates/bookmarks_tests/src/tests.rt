@@ -1,16 +1,13 @@
 //! Worked texts of views.
-ghost use Rattle.std.specs.Prelude.{◌<◌, All, IsTrue};
-ghost use Rattle.worlds.specs.Range.{AllBelow, CanBeLaid};
+ghost use Rattle.std.specs.Prelude.{IsTrue};
 ghost use Rattle.bookmarks.specs.Within.{IsWithin};
 
 use bookmarks::{View, render};
-use plane_core::{CellSet, Plane};
+use plane_core::Plane;
 use std::alloc::Global;
 use std::fmt::Debug;
 use std::process::Abort;
-
-/// A cell as a row of a table gives it: x, y and its state.
-type Row = (i64, i64, u8);
+use test_planes::{Row, is_below};
 
 /// The cells of a pattern, and the text that one view of it shows.
 struct Pattern {
@@ -34,64 +31,15 @@ fn same<T: PartialEq + Debug, A: Debug>(rt: &impl Abort, found: &T, wanted: &T, 
     assert!(rt; found == wanted, "{at:?}: {found:?}, not {wanted:?}");
 }
 
-fn can_be_laid(cell: &CellSet) -> bool
-    ensures { IsTrue result → CanBeLaid cell.now }
-{
-    if cell.x < LEAST {
-        return false;
-    }
-    if cell.x > GREATEST {
-        return false;
-    }
-    if cell.y < LEAST {
-        return false;
-    }
-    if cell.y > GREATEST {
-        return false;
-    }
-    cell.state < 256
-}
-
-fn all_can_be_laid(cells: &[CellSet]) -> bool
-    ensures { IsTrue result → All CanBeLaid cells.now }
-{
-    cells.iter().all(|cell| can_be_laid(cell))
-}
-
-fn is_below(plane: &Plane, states: u16) -> bool
-    ensures { IsTrue result → AllBelow states plane.now }
-{
-    u16::from(plane.greatest()) < states
-}
-
 fn is_within(view: &View) -> bool
     ensures { IsTrue result → IsWithin view.now }
 {
     view.has_window_size() && view.lies_in_range()
 }
 
-fn push_cell(rt: &impl Abort, cells: &mut Vec<CellSet>, row: &Row) {
-    let cell = CellSet {
-        x: row.0,
-        y: row.1,
-        state: u16::from(row.2),
-    };
-    cells.push(cell).expect(rt, "memory");
-}
-
-fn cells_of(rt: &impl Abort, alloc: Global, rows: &[Row]) -> Vec<CellSet> {
-    let mut cells = Vec::new(alloc);
-    for row in rows {
-        push_cell(rt, &mut cells, row);
-    }
-    cells
-}
-
 /// The plane with the rows, laid in turn.
 fn plane_of(rt: &impl Abort, alloc: Global, rows: &[Row]) -> Plane {
-    let cells = cells_of(rt, alloc, rows);
-    assert!(rt; all_can_be_laid(&cells), "a row lies outside the plane");
-    Plane::empty(alloc).lay(&cells).expect(rt, "memory")
+    test_planes::plane_of(alloc, rows).expect(rt, "memory, and rows within the plane")
 }
 
 /// The text of a view of the plane, under a rule with this name and so many states.

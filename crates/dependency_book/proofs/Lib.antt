@@ -2,6 +2,7 @@ pub mod Entering
 pub mod Followed
 pub mod Found
 pub mod Grown
+pub mod Handed
 pub mod Leaves
 pub mod Loops
 pub mod Marked

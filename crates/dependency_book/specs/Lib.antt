@@ -16,3 +16,4 @@ pub mod Room
 pub mod RowState
 pub mod Rows
 pub mod Shown
+pub mod ShownRows

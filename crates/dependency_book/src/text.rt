@@ -1,14 +1,15 @@
 //! Texts of bookmarks.
-ghost use Rattle.std.specs.Prelude.{◌≡◌};
+ghost use Rattle.std.specs.Prelude.{◌≡◌, IfOk};
 ghost use Rattle.std.specs.Arc.{arc_value};
 
 use schedule::Listing;
+use std::alloc::AllocError;
 use std::marker::Model;
 use std::sync::Arc;
 
 /// The text of a bookmark, shared, which contracts see as its bytes.
 #[derive(Drop)]
-pub(crate) struct Text {
+pub struct Text {
     bytes: Arc<Listing<u8>>,
 }
 
@@ -30,8 +31,17 @@ impl Text {
         Text { bytes }
     }
 
+    /// The same text, by one more owner of its bytes.
+    pub fn share(&self) -> Result<Text, AllocError>
+        ensures { IfOk result (λ text. text ≡ self.now) }
+    {
+        Ok(Text {
+            bytes: Arc::try_clone(&self.bytes)?,
+        })
+    }
+
     /// The bytes.
-    pub(crate) fn as_slice(&self) -> &[u8]
+    pub fn as_slice(&self) -> &[u8]
         ensures { result.now ≡ self.now }
     {
         self.bytes.as_slice()

@@ -1,5 +1,5 @@
 -- The history of a board: each snapshot that was published, in order.
-use Rattle.std.specs.Prelude.{◌≡◌, ℕ, List, [], ◌∷◌, ◌++◌}
+use Rattle.std.specs.Prelude.{◌≡◌, ℕ, List, [], ◌∷◌, ◌++◌, Result, MatchResult}
 use Rattle.std.specs.Arc.{arc_value}
 use mathlib.Core.Option.{some}
 use mathlib.Core.List.{IsPrefix}
@@ -24,3 +24,8 @@ Keeps x views =
 -- afterwards the thread knows the history, which goes on from what it knew
 abbrev pub Sees : List Picture → Latest → Latest → List Picture → Type 0
 Sees v x y w = IsPrefix v w × (w ≡ history_of y)
+
+-- afterwards the history is that of the next, or as it was where that was refused
+abbrev pub GoesOn : {T E : Type 0} → Latest → Latest → Latest → Result T E → Type 0
+GoesOn next old new result =
+    MatchResult result (λ _. history_of new ≡ history_of next) (λ _. history_of new ≡ history_of old)

@@ -1,9 +1,11 @@
 -- What a snapshot shows.
-use Rattle.std.specs.Prelude.{◌≡◌, List, IfSome, map}
+use Rattle.std.specs.Prelude.{◌≡◌, ℕ, List, Option, IfSome, map}
 use Rattle.std.specs.List.{AllByRecursion}
 use Rattle.schedule.specs.declared.document.Bookmark.{Bookmark}
 use Rattle.schedule.specs.Plan.{Plan}
 use Rattle.schedule.specs.Scratch.{scratch}
+use Rattle.dependency_book.specs.BookState.{BookState}
+use Rattle.dependency_book.specs.ShownRows.{shown_rows}
 use Rattle.desk_board.specs.declared.row.ShownRow.{ShownRow}
 
 -- a document, and rows of bookmarks
@@ -13,6 +15,14 @@ pub record Picture : Type 0 where
 
 abbrev pub picture : Plan → List ShownRow → Picture
 picture plan rows = record { plan = plan; rows = rows }
+
+-- the row of a bookmark with its text, if there is one
+abbrev pub row_of : Bookmark × Option (List ℕ) → ShownRow
+row_of shown = record { bookmark = shown.0; text = shown.1 }
+
+-- the document of a desk, and a row for each of its bookmarks with what is shown of it
+abbrev pub picture_of : BookState → Picture
+picture_of d = picture d.plan (map row_of (shown_rows d))
 
 -- the bookmarks of rows
 abbrev pub bookmarks_of : List ShownRow → List Bookmark

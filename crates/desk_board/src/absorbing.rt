@@ -6,7 +6,7 @@ ghost use Rattle.desk_board.specs.History.{history_of};
 
 use crate::latest::Latest;
 use crate::past::Past;
-use crate::snapshot::Snapshot;
+use crate::snapshots::Snapshot;
 use left_right::Absorb;
 use std::alloc::{AllocError, Global};
 use std::sync::Arc;

@@ -3,7 +3,7 @@ ghost use Rattle.std.specs.Prelude.{◌≡◌, ◌+◌, length};
 ghost use Rattle.desk_board.specs.Pasts.{list_of};
 
 use crate::past::Past;
-use crate::snapshot::Snapshot;
+use crate::snapshots::Snapshot;
 use std::alloc::Global;
 use std::sync::Arc;
 

@@ -7,7 +7,7 @@ use crate::fault::BoardFault;
 use crate::latest::Latest;
 use crate::past::Past;
 use crate::publisher::{BoardWriter, Publisher};
-use crate::snapshot::Snapshot;
+use crate::snapshots::Snapshot;
 use crate::viewer::Viewer;
 use left_right::writer::Writer;
 use std::alloc::{AllocError, Global};

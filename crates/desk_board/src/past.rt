@@ -2,7 +2,7 @@
 ghost use Rattle.std.specs.Prelude.{◌≡◌, ◌++◌, ◌∷◌, []};
 ghost use Rattle.desk_board.specs.Pasts.{list_of};
 
-use crate::snapshot::Snapshot;
+use crate::snapshots::Snapshot;
 use std::snapshot::Snapshot as Ghost;
 
 /// A list of snapshots that contracts see. A value of it holds none of them, so it costs the same

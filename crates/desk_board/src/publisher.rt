@@ -1,13 +1,13 @@
 //! The one that publishes.
-ghost use Rattle.std.specs.Prelude.{◌≡◌, ◌++◌, ◌∷◌, [], MatchResult, IfOk, OnErr};
+ghost use Rattle.std.specs.Prelude.{◌≡◌, ◌++◌, ◌∷◌, [], IfOk, OnErr};
 ghost use mathlib.Core.List.{IsPrefix};
-ghost use Rattle.desk_board.specs.History.{history_of};
+ghost use Rattle.desk_board.specs.History.{GoesOn, history_of};
 
 use crate::fault::PublishFault;
 use crate::latest::Latest;
 use crate::receipt::Receipt;
 use crate::rule::{Beginning, BoardRule, See};
-use crate::snapshot::Snapshot;
+use crate::snapshots::Snapshot;
 use core::mem::replace_with;
 use left_right::writer::Writer;
 use std::alloc::{AllocError, Global};
@@ -46,9 +46,7 @@ fn show<R: Wait>(
     next: Latest,
 ) -> (BoardWriter, Result<(), AllocError>)
     requires { IsPrefix (history_of writer.desk.shown.value) (history_of next) }
-    ensures { MatchResult result.1
-        (λ _. history_of result.0.desk.shown.value ≡ history_of next)
-        (λ _. history_of result.0.desk.shown.value ≡ history_of writer.desk.shown.value) }
+    ensures { GoesOn next writer.desk.shown.value result.0.desk.shown.value result.1 }
 {
     let Ok(()) = writer.append(next) else {
         return (writer, Err(AllocError));
@@ -63,9 +61,7 @@ fn show<R: Wait>(
 // `show`, in place.
 fn advance<R: Wait>(writer: &mut BoardWriter, rt: &R, next: Latest) -> Result<(), AllocError>
     requires { IsPrefix (history_of writer.old.desk.shown.value) (history_of next) }
-    ensures { MatchResult result
-        (λ _. history_of writer.new.desk.shown.value ≡ history_of next)
-        (λ _. history_of writer.new.desk.shown.value ≡ history_of writer.old.desk.shown.value) }
+    ensures { GoesOn next writer.old.desk.shown.value writer.new.desk.shown.value result }
 {
     replace_with(writer, rt, |writer, rt| show(writer, rt, next))
 }

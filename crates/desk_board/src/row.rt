@@ -1,6 +1,6 @@
 //! Rows of a snapshot.
 
-use crate::text::Text;
+use desk_core::Text;
 use schedule::Bookmark;
 
 /// A bookmark with its text, or with none while it is pending.

@@ -3,7 +3,7 @@ ghost use Rattle.std.specs.Prelude.{[]};
 ghost use Rattle.desk_board.specs.History.{Keeps, Sees};
 
 use crate::latest::Latest;
-use crate::snapshot::Snapshot;
+use crate::snapshots::Snapshot;
 use crossbeam_utils::rule::{Outcome, Protocol};
 use std::collections::LinkedList;
 

@@ -5,7 +5,7 @@ ghost use Rattle.desk_board.specs.History.{EndsWith};
 use crate::latest::Latest;
 use crate::past::Past;
 use crate::rule::{Beginning, BoardRule};
-use crate::snapshot::Snapshot;
+use crate::snapshots::Snapshot;
 use crate::viewer::Viewer;
 use left_right::reader::Reading;
 use std::marker::Model;

@@ -1,4 +1,5 @@
 //! Snapshots that are published, and what viewers are shown.
+mod desks;
 mod threads;
 
 ghost use Rattle.std.specs.Prelude.{◌<◌, ◌≤◌};

@@ -18,12 +18,13 @@ mod desk;
 mod feeding;
 mod issue;
 mod progress;
+mod rows;
 mod settling;
 mod unsent;
 
 pub use cause::Cause;
 pub use collect::Collected;
-pub use dependency_book::Shown;
+pub use dependency_book::{Shown, ShownRows, Text};
 pub use desk::Desk;
 pub use feeding::feed;
 pub use issue::IssueFault;

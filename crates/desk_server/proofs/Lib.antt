@@ -5,4 +5,5 @@ pub mod Hearing
 pub mod Replies
 pub mod Parts
 pub mod Rounds
+pub mod Noted
 pub mod Plain

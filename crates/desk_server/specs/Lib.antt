@@ -12,4 +12,5 @@ pub mod Jobs
 pub mod Told
 pub mod Heard
 pub mod Run
+pub mod Watch
 pub mod Round

@@ -1,6 +1,7 @@
 -- How a round, and how a run, ends for its reader, its writer and its desk.
 use Rattle.std.specs.Prelude.{◌≡◌, ℕ, ◌+◌, ◌<◌, Bool, List, Option, IfSome, true}
 use Rattle.script_lines.specs.Ahead.{LineReading}
+use Rattle.schedule.specs.Plan.{Plan}
 use Rattle.script_lines.specs.Counted.{CountedWriting}
 use Rattle.dependency_book.specs.BookState.{BookState}
 use Rattle.desk_server.specs.Heard.{BreaksOff, ReadFails}
@@ -14,19 +15,19 @@ pub record Works {R W : Type 0} (r s : LineReading R) (w x : CountedWriting W) :
   pub flushed : w.flushed ≡ true → x.flushed ≡ true
 
 -- something was heard and answered, and fewer bytes can come
-pub record GoesOn {R W : Type 0} (prompt : Bool) (r s : LineReading R) (w x : CountedWriting W)
-    (j k : BookState)
+pub record GoesOn {R W : Type 0} (noted : List Plan → Type 0) (prompt : Bool)
+    (r s : LineReading R) (w x : CountedWriting W) (j k : BookState)
     : Type 0 where
-  pub answered : Answers prompt r.ahead s.ahead w.contents x.contents j.plan k.plan (r.lines + 1)
-      (s.lines + 1)
+  pub answered : Answers noted prompt r.ahead s.ahead w.contents x.contents j.plan k.plan
+      (r.lines + 1) (s.lines + 1)
   pub fewer : s.ahead.room < r.ahead.room
   pub works : Works r s w x
 
 -- the script was answered to its end
-pub record Ends {R W : Type 0} (prompt : Bool) (r s : LineReading R) (w x : CountedWriting W)
-    (j : BookState)
+pub record Ends {R W : Type 0} (noted : List Plan → Type 0) (prompt : Bool)
+    (r s : LineReading R) (w x : CountedWriting W) (j : BookState)
     : Type 0 where
-  pub answered : Finishes prompt r.ahead s.ahead w.contents x.contents j.plan (r.lines + 1)
+  pub answered : Finishes noted prompt r.ahead s.ahead w.contents x.contents j.plan (r.lines + 1)
   pub works : Works r s w x
 
 -- the reading broke off, and nothing was written

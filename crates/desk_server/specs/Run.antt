@@ -6,35 +6,39 @@ use Rattle.text_lines.specs.Lines.{End, Ended, Broken, lines_until}
 use Rattle.script_lines.specs.Faults.{AppendsFront}
 use Rattle.schedule.specs.Plan.{Plan}
 use Rattle.desk_server.specs.Shortage.{Shortage, AllCausedOver}
-use Rattle.desk_server.specs.Script.{asks, Between, replies_to, replies_by, replies_with}
+use Rattle.desk_server.specs.Answer.{After}
+use Rattle.desk_server.specs.Script.{asks, Between, afters, documents_of, texts_of}
+use Rattle.desk_server.specs.Script.{replies_to, replies_by, replies_with}
 
--- something was heard and answered: whatever follows, the replies are what was written and then
--- those to what follows
-pub record Answers (prompt : Bool) (old new : Ahead) (before after : Option (List ℕ)) (p q : Plan)
-    (n m : ℕ)
+-- something was heard and answered: whatever follows, the answers are those that were given, which
+-- were written, and then those to what follows; and `noted` holds of the documents after them
+pub record Answers (noted : List Plan → Type 0) (prompt : Bool) (old new : Ahead)
+    (before after : Option (List ℕ)) (p q : Plan) (n m : ℕ)
     : Type 0 where
   pub bytes : List ℕ
   pub shortages : List Shortage
   pub caused : AllCausedOver prompt shortages
-  pub told : List ℕ
+  pub given : List After
   pub taken : Takes old new bytes
-  pub wrote : Appends before after told
+  pub wrote : Appends before after (texts_of given)
+  pub notes : noted (documents_of given)
   pub law : (stop : End) (more : List ℕ) (later : List Shortage)
-      → replies_to p (asks stop Between n (lines_until stop (bytes ++ more))) (shortages ++ later)
-      ≡ told ++ replies_to q (asks stop Between m (lines_until stop more)) later
+      → afters p (asks stop Between n (lines_until stop (bytes ++ more))) (shortages ++ later)
+      ≡ given ++ afters q (asks stop Between m (lines_until stop more)) later
 
--- the script was answered to its end
-pub record Finishes (prompt : Bool) (old new : Ahead) (before after : Option (List ℕ)) (p : Plan)
-    (n : ℕ)
+-- the script was answered to its end, and `noted` holds of the documents after the answers
+pub record Finishes (noted : List Plan → Type 0) (prompt : Bool) (old new : Ahead)
+    (before after : Option (List ℕ)) (p : Plan) (n : ℕ)
     : Type 0 where
   pub bytes : List ℕ
   pub shortages : List Shortage
   pub caused : AllCausedOver prompt shortages
   pub taken : Takes old new bytes
-  pub told : List ℕ
-  pub wrote : Appends before after told
+  pub given : List After
+  pub wrote : Appends before after (texts_of given)
+  pub notes : noted (documents_of given)
   pub law : (rest : List ℕ) → new.bytes ≡ Some rest
-      → replies_to p (asks Ended Between n (lines_until Ended (bytes ++ rest))) shortages ≡ told
+      → afters p (asks Ended Between n (lines_until Ended (bytes ++ rest))) shortages ≡ given
 
 -- of the replies a beginning was written
 pub record StopsTelling (prompt : Bool) (old new : Ahead) (before after : Option (List ℕ))

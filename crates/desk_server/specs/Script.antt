@@ -63,9 +63,20 @@ afters p (ask ∷ rest) shortages =
     let after = answer (first_shortage shortages) p ask in
     after ∷ (if after.ends then [] else afters after.plan rest (later_shortages shortages))
 
+-- the document after a reply, unless the script ends with that
+abbrev pub document_after : After → List Plan
+document_after after = if after.ends then [] else after.plan ∷ []
+
+abbrev pub documents_of : List After → List Plan
+documents_of = flat_map document_after
+
+-- the texts of replies
+abbrev pub texts_of : List After → List ℕ
+texts_of = flat_map (λ (after : After). after.told)
+
 -- the replies to all
 abbrev pub replies_to : Plan → List Ask → List Shortage → List ℕ
-replies_to p asked shortages = flat_map (λ (after : After). after.told) (afters p asked shortages)
+replies_to p asked shortages = texts_of (afters p asked shortages)
 
 -- the replies to a script, however its reading stopped, where the shortages say of one command
 -- after another what is short for it
@@ -75,6 +86,11 @@ replies_by stop script shortages =
 
 abbrev pub replies_with : List ℕ → List Shortage → List ℕ
 replies_with = replies_by Ended
+
+-- the document after each reply to a script but `bye`, in order
+abbrev pub documents_with : List ℕ → List Shortage → List Plan
+documents_with script shortages =
+    documents_of (afters (opening 0) (asks Ended Between 1 (lines_until Ended script)) shortages)
 
 -- the replies to a script for which nothing is short
 abbrev pub replies : List ℕ → List ℕ

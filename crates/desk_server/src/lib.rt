@@ -6,6 +6,8 @@
 //! memory says so and changes nothing, or leaves a bookmark pending, as does a step that wants more
 //! squares than it may keep. What a settling leaves pending it says with its cause.
 //!
+//! `run_with_board` does the same, and publishes a snapshot of the desk after each reply but `bye`.
+//!
 //! What isn't known is computed by jobs over a post, which the caller opens beside the table of
 //! entries that the jobs are of.
 //!
@@ -25,9 +27,10 @@ mod request;
 mod serve;
 mod server;
 mod view;
+mod watch;
 mod words;
 
 pub use desk_core::{Entries, InlinePost, Post};
 pub use laws::plain_without_shortages;
 pub use script_lines::{CountedReader, CountedWriter};
-pub use server::{RunFault, run};
+pub use server::{RunFault, run, run_with_board};

@@ -1,13 +1,16 @@
 //! A script, answered while it is read.
-ghost use Rattle.std.specs.Prelude.{◌≡◌, Err, Ok, OnOk};
+ghost use Rattle.std.specs.Prelude.{◌≡◌, IfSome, Err, Ok, OnOk};
 ghost use Rattle.desk_server.specs.Heard.{ReadFails};
 ghost use Rattle.desk_server.specs.Jobs.{Carries, CarriesOn, IsFresh};
 ghost use Rattle.desk_server.specs.Round.{Completes, Ends, GoesOn, ReadBreaks, ReadStops};
 ghost use Rattle.desk_server.specs.Round.{WriteBreaks, WriteStops};
+ghost use Rattle.desk_server.specs.Watch.{NotesReplies, NotesUnlessMissed, ShowsReplies};
 
 use crate::heard::{Heard, listen};
 use crate::reply::{Reply, send};
 use crate::serve::serve;
+use crate::watch::{Unwatched, Watch, note};
+use desk_board::Publisher;
 use desk_core::{Desk, Entries, Post};
 use script_lines::{CountedReader, CountedWriter, KeptLine};
 use std::alloc::Global;
@@ -34,8 +37,8 @@ enum Device {
     Writer,
 }
 
-// Hears one command, and answers it.
-fn round<R: Read, W: Write, L: Ledger, M: Ledger, P: Post>(
+// Hears one command, answers it, and lets the document after the reply be noted.
+fn round<R: Read, W: Write, L: Ledger, M: Ledger, P: Post, V: Watch>(
     rt: &impl Wait,
     alloc: Global,
     reader: &mut CountedReader<R, L>,
@@ -43,14 +46,18 @@ fn round<R: Read, W: Write, L: Ledger, M: Ledger, P: Post>(
     line: &mut KeptLine,
     desk: &mut Desk<'_>,
     post: &mut P,
+    watch: &mut V,
+    missed: &mut u64,
 ) -> Result<ControlFlow<()>, Device>
     requires { Carries P.table P.floor P.is_prompt P.held post.old desk.old }
-    ensures goes_on { result ≡ Ok (ControlFlow.Continue tt) → GoesOn (P.is_prompt post.old)
-        reader.old reader.new writer.old writer.new desk.old desk.new }
+    ensures goes_on { result ≡ Ok (ControlFlow.Continue tt) → GoesOn
+        (NotesUnlessMissed V.notes missed.old missed.new watch.old watch.new)
+        (P.is_prompt post.old) reader.old reader.new writer.old writer.new desk.old desk.new }
     ensures post { result ≡ Ok (ControlFlow.Continue tt)
         → CarriesOn P.table P.floor P.is_prompt P.held post.old post.new desk.new }
-    ensures done { result ≡ Ok (ControlFlow.Break tt) → Ends (P.is_prompt post.old)
-        reader.old reader.new writer.old writer.new desk.old }
+    ensures done { result ≡ Ok (ControlFlow.Break tt) → Ends
+        (NotesUnlessMissed V.notes missed.old missed.new watch.old watch.new)
+        (P.is_prompt post.old) reader.old reader.new writer.old writer.new desk.old }
     ensures read { result ≡ Err Device.Reader
         → ReadBreaks R.remaining reader.old reader.new writer.old writer.new }
     ensures write { result ≡ Err Device.Writer → WriteBreaks (P.is_prompt post.old)
@@ -71,14 +78,67 @@ fn round<R: Read, W: Write, L: Ledger, M: Ledger, P: Post>(
     if send(writer, desk, reply).is_err() {
         return Err(Device::Writer);
     }
-    if last {
+    if reply == Reply::Bye {
         return Ok(ControlFlow::Break(()));
     }
-    Ok(if reply == Reply::Bye {
+    note(watch, alloc, desk, missed);
+    Ok(if last {
         ControlFlow::Break(())
     } else {
         ControlFlow::Continue(())
     })
+}
+
+// `run`, while somebody looks on. Ok says how many documents weren't noted.
+fn answer_all<R: Read, W: Write, L: Ledger, M: Ledger, P: Post, V: Watch>(
+    rt: &impl Wait,
+    alloc: Global,
+    entries: &Entries,
+    facts: u32,
+    reader: &mut CountedReader<R, L>,
+    writer: &mut CountedWriter<W, M>,
+    post: &mut P,
+    watch: &mut V,
+) -> Result<u64, RunFault>
+    requires { IsFresh P.table P.floor post.old entries.now }
+    ensures done { OnOk result
+        (Completes (P.is_prompt post.old) reader.old reader.new writer.old writer.new) }
+    ensures noted { result ≡ Ok 0 → IfSome reader.old.ahead.bytes (NotesReplies V.notes
+        (P.is_prompt post.old) writer.old.contents writer.new.contents watch.old watch.new) }
+    ensures read { result ≡ Err RunFault.Read → ReadStops (P.is_prompt post.old)
+        reader.old reader.new writer.old writer.new }
+    ensures fails { result ≡ Err RunFault.Read → ReadFails R.remaining reader.old reader.new }
+    ensures write { result ≡ Err RunFault.Write
+        → WriteStops (P.is_prompt post.old) reader.old writer.old writer.new }
+    ensures no_memory { result ≡ Err RunFault.NoMemory
+        → (reader.new ≡ reader.old) × (writer.new ≡ writer.old) }
+{
+    let Ok(mut desk) = Desk::open(alloc, entries, facts) else {
+        return Err(RunFault::NoMemory);
+    };
+    let Ok(mut line) = KeptLine::new(alloc) else {
+        return Err(RunFault::NoMemory);
+    };
+    let mut missed = 0;
+    reader.begin();
+    'script: loop {
+        match round(
+            rt,
+            alloc,
+            reader,
+            writer,
+            &mut line,
+            &mut desk,
+            post,
+            watch,
+            &mut missed,
+        ) {
+            Ok(ControlFlow::Continue(())) => {}
+            Ok(ControlFlow::Break(())) => return Ok(missed),
+            Err(Device::Reader) => return Err(RunFault::Read),
+            Err(Device::Writer) => return Err(RunFault::Write),
+        }
+    }
 }
 
 /// Reads a script, and writes and hands on the reply to each command before it reads the next.
@@ -118,19 +178,60 @@ pub fn run<R: Read, W: Write, L: Ledger, M: Ledger, P: Post>(
     ensures no_memory { result ≡ Err RunFault.NoMemory
         → (reader.new ≡ reader.old) × (writer.new ≡ writer.old) }
 {
-    let Ok(mut desk) = Desk::open(alloc, entries, facts) else {
-        return Err(RunFault::NoMemory);
-    };
-    let Ok(mut line) = KeptLine::new(alloc) else {
-        return Err(RunFault::NoMemory);
-    };
-    reader.begin();
-    'script: loop {
-        match round(rt, alloc, reader, writer, &mut line, &mut desk, post) {
-            Ok(ControlFlow::Continue(())) => {}
-            Ok(ControlFlow::Break(())) => return Ok(()),
-            Err(Device::Reader) => return Err(RunFault::Read),
-            Err(Device::Writer) => return Err(RunFault::Write),
-        }
+    match answer_all(
+        rt,
+        alloc,
+        entries,
+        facts,
+        reader,
+        writer,
+        post,
+        &mut Unwatched,
+    ) {
+        Ok(_) => Ok(()),
+        Err(fault) => Err(fault),
     }
+}
+
+/// Does as `run` does, and publishes a snapshot of the desk after each reply but `bye`. Ok says how
+/// many snapshots were refused, which are passed over. It may wait for viewers too.
+pub fn run_with_board<R: Read, W: Write, L: Ledger, M: Ledger, P: Post, B: Wait>(
+    rt: &impl Wait,
+    alloc: Global,
+    entries: &Entries,
+    facts: u32,
+    reader: &mut CountedReader<R, L>,
+    writer: &mut CountedWriter<W, M>,
+    post: &mut P,
+    publisher: &mut Publisher<B>,
+) -> Result<u64, RunFault>
+    // The post is of the table, and took no job before.
+    requires { IsFresh P.table P.floor post.old entries.now }
+
+    // The replies to the script were written, for some shortages; no failure was counted, and what
+    // was written was handed on.
+    ensures done { OnOk result
+        (Completes (P.is_prompt post.old) reader.old reader.new writer.old writer.new) }
+
+    // Where no snapshot was refused, the history has one more for each of these replies but `bye`,
+    // in order, with the document after that reply.
+    ensures shown { result ≡ Ok 0 → IfSome reader.old.ahead.bytes (ShowsReplies
+        (P.is_prompt post.old) writer.old.contents writer.new.contents
+        publisher.old publisher.new) }
+
+    // Where a read failed, or 2^64 - 1 bytes came, all that was read was taken, and the commands
+    // that were read whole were answered.
+    ensures read { result ≡ Err RunFault.Read → ReadStops (P.is_prompt post.old)
+        reader.old reader.new writer.old writer.new }
+    ensures fails { result ≡ Err RunFault.Read → ReadFails R.remaining reader.old reader.new }
+
+    // Where a write failed, a beginning of the replies was written.
+    ensures write { result ≡ Err RunFault.Write
+        → WriteStops (P.is_prompt post.old) reader.old writer.old writer.new }
+
+    // Where there was no memory to begin with, nothing was read or written.
+    ensures no_memory { result ≡ Err RunFault.NoMemory
+        → (reader.new ≡ reader.old) × (writer.new ≡ writer.old) }
+{
+    answer_all(rt, alloc, entries, facts, reader, writer, post, publisher)
 }

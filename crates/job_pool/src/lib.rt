@@ -7,7 +7,8 @@
 //! of the post are closed and the workers are joined: each goes on until the queue is empty, and
 //! drops what nobody waits for.
 //!
-//! A worker keeps the squares of its own steps, so so many workers may keep so many times as many.
+//! A worker keeps an engine, with its squares and their results, from one job to the next as long
+//! as the rule stays the same, so so many workers may keep so many times as many squares.
 //! Nothing is claimed of the order of answers, of fairness, or that an answer comes.
 #![tactic(auto)]
 

@@ -1,11 +1,16 @@
 //! What a worker does.
-ghost use Rattle.std.specs.Prelude.{◌≡◌};
+ghost use Rattle.std.specs.Prelude.{◌≡◌, IfSome};
+ghost use Rattle.revision_jobs.specs.Entries.{IsOf};
 
 use crate::answers::AnswerSender;
+use bumpalo::Bump;
 use job_queue::JobTaker;
-use revision_jobs::{Entries, Gate, work};
+use revision_jobs::{Entries, Gate, Job, work, work_by};
 use std::alloc::Global;
 use std::sync::Wait;
+
+// An engine is given up after so many jobs, since its arena keeps some bytes of each.
+const MOST_JOBS: u32 = 4096;
 
 /// Works the jobs that it takes, each with its entry's own stop, and sends their answers back, until
 /// there is no job and the sender is gone. What nobody waits for any more is dropped.
@@ -22,12 +27,51 @@ where
     G: Drop,
     requires { (jobs.table ≡ entries.now) × (back ≡ entries.now) }
 {
+    let mut next = jobs.take(rt);
     for _ in rt.forever() {
-        let Some(job) = jobs.take(rt) else {
+        let Some(job) = next else {
             break;
         };
-        let mut stop = entries.stop(&job.place);
-        let answer = work(alloc, job, entries, &mut gate, &mut stop, squares);
-        back.send(rt, answer);
+        next = work_alike(
+            rt, alloc, entries, &mut jobs, &mut back, &mut gate, squares, job,
+        );
     }
+}
+
+// Works a job, and those that are taken next as long as the engine for its rule serves them. The job
+// that wants another engine isn't worked.
+fn work_alike<R: Wait, G: Gate>(
+    rt: &R,
+    alloc: Global,
+    entries: &Entries,
+    jobs: &mut JobTaker,
+    back: &mut AnswerSender,
+    gate: &mut G,
+    squares: u32,
+    job: Job,
+) -> Option<Job>
+    requires table { (jobs.old.table ≡ entries.now) × (back.old ≡ entries.now) }
+    requires own { IsOf entries.now job.place }
+    ensures table { (jobs.new.table ≡ entries.now) × (back.new ≡ entries.now) }
+    ensures own { IfSome result (λ job. IsOf entries.now job.place) }
+{
+    let arena = Bump::new(alloc);
+    let Ok(Some(mut engine)) = entries.at(&job.place).engine(alloc, &arena, squares) else {
+        let mut stop = entries.stop(&job.place);
+        let answer = work(alloc, job, entries, gate, &mut stop, squares);
+        back.send(rt, answer);
+        return jobs.take(rt);
+    };
+    let mut next = Some(job);
+    for _ in 0..MOST_JOBS {
+        let job = next?;
+        if !entries.at(&job.place).is_served_by(engine.rule()) {
+            return Some(job);
+        }
+        let mut stop = entries.stop(&job.place);
+        let answer = work_by(alloc, &mut engine, job, entries, gate, &mut stop);
+        back.send(rt, answer);
+        next = jobs.take(rt);
+    }
+    next
 }

@@ -7,7 +7,7 @@ mod gates;
 
 use basics::Refusal;
 use bookmarks::View;
-use entries::{push_step, push_view, table};
+use entries::{GONE, STILL, push_dot, push_step, push_view, table};
 use gates::{Counting, Meeting, Waiting};
 use job_pool::{NoPool, PoolFault, PoolPost, pool};
 use revision_jobs::{Answer, Entries, Job, NoGate, Outcome, Place, Post, Received, Sent};
@@ -250,6 +250,45 @@ fn a_flag_stops_a_job_that_is_out(rt: HostRuntime) {
     { stop_one(&rt, &entries, post, &place, &flag) };
     let number = answered(&rt, pool(&rt, alloc, &entries, gates, SQUARES, (), body));
     same(&rt, &number, &Some(72), &"stopped");
+}
+
+/// Stops the test where the answer isn't a pattern of one cell, or of none for an odd number.
+fn expect_dot(rt: &impl Abort, answer: Answer) {
+    let (job, outcome) = answer.into_parts();
+    let wanted = if job.number % 2 == 0 { 1 } else { 0 };
+    match outcome {
+        Outcome::Plane(plane) => same(rt, &plane.population(), &wanted, &job.number),
+        Outcome::Text(_) => panic!(rt; "a text"),
+        Outcome::Gave(fault) => panic!(rt; "{fault:?}"),
+    }
+}
+
+/// Sends jobs of the two places by turns, and receives their answers.
+fn work_by_turns<P: Post>(rt: &impl Abort, post: &mut P, still: &Place, gone: &Place)
+    requires { IsOf (P.table post.old) still.now × IsOf (P.table post.old) gone.now }
+{
+    assert!(rt; is_taken(rt, post, 0, still), "0");
+    assert!(rt; is_taken(rt, post, 1, gone), "1");
+    assert!(rt; is_taken(rt, post, 2, still), "2");
+    assert!(rt; is_taken(rt, post, 3, gone), "3");
+    expect_dot(rt, received(rt, post));
+    expect_dot(rt, received(rt, post));
+    expect_dot(rt, received(rt, post));
+    expect_dot(rt, received(rt, post));
+}
+
+// What a worker keeps of one rule isn't used for another.
+#[test]
+fn a_worker_goes_on_under_another_rule(rt: HostRuntime) {
+    let alloc = rt.alloc();
+    let entries = table(&rt, alloc);
+    let still = push_dot(&rt, alloc, &entries, STILL);
+    let gone = push_dot(&rt, alloc, &entries, GONE);
+    let gates = no_gates(&rt, alloc, 1);
+    let body = |post: &mut PoolPost<'_, HostRuntime>, _input: ()| -> ()
+        requires { IsOf post.old.table still × IsOf post.old.table gone }
+    { work_by_turns(&rt, post, &still, &gone) };
+    answered(&rt, pool(&rt, alloc, &entries, gates, SQUARES, (), body));
 }
 
 #[test]

@@ -7,13 +7,11 @@ mod writing;
 
 use basics::Refusal;
 use multistate_rle::{RleFault, read_rle};
-use plane_core::{Cell, Loaded, Plane};
+use plane_core::{Loaded, Plane};
 use std::alloc::Global;
 use std::fmt::Debug;
 use std::process::Abort;
-
-/// A live cell as a row of a table gives it: x, y and its state.
-type Row = (i64, i64, u8);
+use test_planes::{Row, rows_of};
 
 // The header `x = 1, y = 1` is line 1, and the body begins at offset 13.
 const PLAIN: &[u8] = b"x = 1, y = 1\n";
@@ -36,33 +34,10 @@ fn joined(rt: &impl Abort, alloc: Global, front: &[u8], back: &[u8]) -> Vec<u8> 
     text
 }
 
-fn push_cell(rt: &impl Abort, cells: &mut Vec<Cell>, row: Row) {
-    let cell = Cell {
-        x: row.0,
-        y: row.1,
-        state: row.2,
-    };
-    cells.push(cell).expect(rt, "memory");
-}
-
-fn cells_of(rt: &impl Abort, alloc: Global, rows: &[Row]) -> Vec<Cell> {
-    let mut cells = Vec::new(alloc);
-    for row in rows {
-        push_cell(rt, &mut cells, *row);
-    }
-    cells
-}
-
-fn live_cells(rt: &impl Abort, plane: &Plane) -> Vec<Cell> {
-    let found = plane.live(1000).expect(rt, "memory");
-    found.expect(rt, "at most a thousand live cells")
-}
-
 /// Stops the test where the live cells of the plane aren't these, row by row.
 fn expect_cells(rt: &impl Abort, alloc: Global, plane: &Plane, rows: &[Row], text: &[u8]) {
-    let wanted = cells_of(rt, alloc, rows);
-    let found = live_cells(rt, plane);
-    same(rt, &found.as_slice(), &wanted.as_slice(), &text);
+    let found = rows_of(alloc, plane).expect(rt, "memory, and at most a thousand live cells");
+    same(rt, &found.as_slice(), &rows, &text);
 }
 
 /// Stops the test where the text isn't read as a pattern of this name and generation.

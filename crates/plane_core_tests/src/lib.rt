@@ -2,10 +2,4 @@
 #![tactic(auto)]
 
 #[cfg(test)]
-mod laid;
-#[cfg(test)]
-mod measured;
-#[cfg(test)]
-mod rows;
-#[cfg(test)]
 mod tests;

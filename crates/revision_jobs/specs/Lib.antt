@@ -4,4 +4,5 @@ pub mod Inline
 pub mod Past
 pub mod Posted
 pub mod Room
+pub mod Serving
 pub mod Value

@@ -28,8 +28,8 @@ pub enum Outcome {
     Gave(EvolveFault),
 }
 
-/// The answer to a job. A value in it is the value of the job's entry, which is why `work` and
-/// `again` alone make answers.
+/// The answer to a job. A value in it is the value of the job's entry, which is why `work`,
+/// `work_by` and `again` alone make answers.
 ///
 /// Contracts see the job, and the value or why there is none.
 #[derive(Drop)]

@@ -1,10 +1,15 @@
 //! What is to be computed.
+ghost use Rattle.std.specs.Prelude.{◌↔◌, IfOk, IsTrue};
+ghost use Rattle.revision_jobs.specs.Serving.{HasRule, IsEngineFor, Serves};
 
 use basics::Listing;
 use bookmarks::View;
+use bumpalo::Bump;
 use plane_core::{CellSet, Plane};
 use rule_tree::Rule;
+use std::alloc::{AllocError, Global};
 use std::sync::Arc;
+use step_engine::Engine;
 
 /// A pattern or a text that is to be computed. Both begin with the pattern `from`, on which the
 /// cells are laid in turn, so that the last mention of a cell wins. The cells lie in
@@ -37,4 +42,33 @@ pub struct Rendering {
     pub name: Listing<u8>,
     pub states: u16,
     pub generation: u64,
+}
+
+impl Entry {
+    /// Whether an engine for the rule computes the entry: the rule of a step is the same but for its
+    /// name, and for a view any engine will do.
+    pub fn is_served_by(&self, rule: &Rule) -> bool
+        ensures same { IsTrue result ↔ HasRule rule.now self.now }
+        ensures serves { IsTrue result → Serves rule.now self.now }
+    {
+        match self {
+            Entry::Step(step) => rule.equals(&step.rule),
+            Entry::View(_) => true,
+        }
+    }
+
+    /// An engine for the rule of a step, which may hold so many squares. A view needs none.
+    pub fn engine<'a>(
+        &'a self,
+        alloc: Global,
+        arena: &'a Bump,
+        squares: u32,
+    ) -> Result<Option<Engine<'a, Rule>>, AllocError>
+        ensures { IfOk result (λ engine. IsEngineFor squares self.now engine) }
+    {
+        match self {
+            Entry::Step(step) => Ok(Some(Engine::new(alloc, arena, &*step.rule, squares)?)),
+            Entry::View(_) => Ok(None),
+        }
+    }
 }

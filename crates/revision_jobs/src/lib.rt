@@ -2,9 +2,9 @@
 //!
 //! A table of entries says what is to be computed, each a step over some generations or the text of
 //! a view. It only grows, threads share it without a lock, and a place in it shows one entry for
-//! good. A job is a place with a number. Its answer is made by `work` alone, and the answer's type
-//! keeps that a value in it is the value of the entry, so whoever is handed an answer may use it,
-//! however late or often it comes. A post is where jobs are sent and answers come from;
+//! good. A job is a place with a number. `work` and `work_by` alone make its answer, and the
+//! answer's type keeps that a value in it is the value of the entry, so whoever is handed an answer
+//! may use it, however late or often it comes. A post is where jobs are sent and answers come from;
 //! `InlinePost` works them in the caller's thread.
 //!
 //! Reading an entry, its stop flag or its index costs the same however long the table is. `work`
@@ -31,4 +31,4 @@ pub use gate::{Gate, NoGate};
 pub use inline::InlinePost;
 pub use post::{Post, Received, Sent};
 pub use stop::EntryStop;
-pub use worker::work;
+pub use worker::{work, work_by};

@@ -2,14 +2,18 @@
 ghost use Rattle.std.specs.Prelude.{◌≡◌, Err, IfOk, Ok};
 ghost use Rattle.std.specs.Arc.{arc_value};
 ghost use Rattle.worlds.specs.Stop.{CountsStop};
+ghost use Rattle.rule_tree.specs.Rule.{AreAlike};
 ghost use Rattle.revision_jobs.specs.Answer.{IsRight, outcome_of};
 ghost use Rattle.revision_jobs.specs.Entries.{IsOf, entry_of};
 ghost use Rattle.revision_jobs.specs.Room.{HasNoRoom, IsStepSpent};
+ghost use Rattle.revision_jobs.specs.Serving.{CanServe, Serves};
 ghost use Rattle.revision_jobs.specs.Value.{
   CanBeRendered,
   CanBeStepped,
   CanBeWorked,
   bytes_of,
+  pattern,
+  text,
   value,
   world_after,
 };
@@ -21,10 +25,12 @@ use crate::gate::Gate;
 use crate::laid::Laid;
 use basics::Listing;
 use bookmarks::render;
-use plane_core::{Plane, Stop};
+use bumpalo::Bump;
+use plane_core::Stop;
+use rule_tree::Rule;
 use std::alloc::{AllocError, Global};
 use std::sync::Arc;
-use step_engine::{EvolveFault, evolve};
+use step_engine::{Engine, EvolveFault};
 
 /// Works a job of this table's, between the gate's two calls. A step may keep at most `limit`
 /// squares, and never more than 16,777,216.
@@ -57,7 +63,35 @@ pub fn work<G: Gate, S: Stop>(
     Answer { job, outcome }
 }
 
-// The value of an entry.
+/// Works a job as `work` does, by an engine for the rule of its entry, which keeps its squares and
+/// their results for later jobs. A step may keep as many squares as the engine may hold.
+pub fn work_by<G: Gate, S: Stop>(
+    alloc: Global,
+    engine: &mut Engine<'_, Rule>,
+    job: Job,
+    entries: &Entries,
+    gate: &mut G,
+    stop: &mut S,
+) -> Answer
+    requires { CanServe engine.old.rule entries.now job }
+    ensures job { result.job ≡ job }
+    ensures right { IsRight result.job result.outcome }
+    ensures room { result.outcome ≡ Err EvolveFault.NoRoom →
+        HasNoRoom engine.old.limit (entry_of job.place) }
+    ensures stop { CountsStop result.outcome (Err EvolveFault.Stopped)
+        (S.yes_count stop.old) (S.yes_count stop.new) }
+    ensures engine { engine.new ≡ engine.old }
+{
+    gate.begin(job.number);
+    let outcome = match computed_by(alloc, engine, entries.at(&job.place), stop) {
+        Ok(outcome) => outcome,
+        Err(fault) => Outcome::Gave(fault),
+    };
+    gate.end(job.number);
+    Answer { job, outcome }
+}
+
+// The value of an entry, by an engine that is made for it.
 fn computed<S: Stop>(
     alloc: Global,
     entry: &Entry,
@@ -72,38 +106,58 @@ fn computed<S: Stop>(
 {
     match entry {
         Entry::Step(step) => {
-            let plane = stepped(alloc, step, stop, limit)?;
-            Ok(Outcome::Plane(shared(alloc, plane)?))
+            let arena = Bump::new(alloc);
+            let mut engine = Engine::new(alloc, &arena, &*step.rule, limit)?;
+            stepped(alloc, &mut engine, step, stop)
         }
-        Entry::View(rendering) => {
-            let text = rendered(alloc, rendering)?;
-            Ok(Outcome::Text(shared(alloc, text)?))
-        }
+        Entry::View(rendering) => Ok(rendered(alloc, rendering)?),
     }
 }
 
-// The pattern that comes of a step.
-fn stepped<S: Stop>(
+// The value of an entry, by an engine that serves it.
+fn computed_by<S: Stop>(
     alloc: Global,
-    step: &Step,
+    engine: &mut Engine<'_, Rule>,
+    entry: &Entry,
     stop: &mut S,
-    limit: u32,
-) -> Result<Plane, EvolveFault>
-    requires { CanBeStepped step.now }
-    ensures plane { IfOk result (λ plane. plane ≡ world_after step.now) }
-    ensures room { result ≡ Err EvolveFault.NoRoom → IsStepSpent limit step.now }
+) -> Result<Outcome, EvolveFault>
+    requires { CanBeWorked entry.now × Serves engine.old.rule entry.now }
+    ensures value { IfOk result (λ outcome. outcome_of outcome ≡ Ok (value entry.now)) }
+    ensures room { result ≡ Err EvolveFault.NoRoom → HasNoRoom engine.old.limit entry.now }
     ensures stop { CountsStop result (Err EvolveFault.Stopped)
         (S.yes_count stop.old) (S.yes_count stop.new) }
+    ensures engine { engine.new ≡ engine.old }
+{
+    match entry {
+        Entry::Step(step) => stepped(alloc, engine, step, stop),
+        Entry::View(rendering) => Ok(rendered(alloc, rendering)?),
+    }
+}
+
+// The pattern that comes of a step, by an engine that does as its rule.
+fn stepped<S: Stop>(
+    alloc: Global,
+    engine: &mut Engine<'_, Rule>,
+    step: &Step,
+    stop: &mut S,
+) -> Result<Outcome, EvolveFault>
+    requires { CanBeStepped step.now × AreAlike engine.old.rule (arc_value step.now.rule) }
+    ensures value { IfOk result
+        (λ outcome. outcome_of outcome ≡ Ok (pattern (world_after step.now))) }
+    ensures room { result ≡ Err EvolveFault.NoRoom → IsStepSpent engine.old.limit step.now }
+    ensures stop { CountsStop result (Err EvolveFault.Stopped)
+        (S.yes_count stop.old) (S.yes_count stop.new) }
+    ensures engine { engine.new ≡ engine.old }
 {
     let laid = Laid::on(&step.from, step.cells.as_slice())?;
-    let evolved = evolve(alloc, &*step.rule, laid.plane(), step.gens, stop, limit)?;
-    Ok(evolved.plane)
+    let plane = engine.evolve(laid.plane(), step.gens, stop)?;
+    Ok(Outcome::Plane(shared(alloc, plane)?))
 }
 
 // The text of a view.
-fn rendered(alloc: Global, rendering: &Rendering) -> Result<Listing<u8>, AllocError>
+fn rendered(alloc: Global, rendering: &Rendering) -> Result<Outcome, AllocError>
     requires { CanBeRendered rendering.now }
-    ensures { IfOk result (λ text. text ≡ bytes_of rendering.now) }
+    ensures { IfOk result (λ outcome. outcome_of outcome ≡ Ok (text (bytes_of rendering.now))) }
 {
     let laid = Laid::on(&rendering.from, rendering.cells.as_slice())?;
     let text = render(
@@ -114,7 +168,7 @@ fn rendered(alloc: Global, rendering: &Rendering) -> Result<Listing<u8>, AllocEr
         rendering.states,
         rendering.generation,
     )?;
-    Ok(Listing::from_vec(text))
+    Ok(Outcome::Text(shared(alloc, Listing::from_vec(text))?))
 }
 
 fn shared<T: Drop>(alloc: Global, value: T) -> Result<Arc<T>, AllocError>

@@ -1,6 +1,5 @@
 //! Worked jobs of the rule X.
-ghost use Rattle.std.specs.Prelude.{◌<◌, All, IsTrue};
-ghost use Rattle.worlds.specs.Range.{AllBelow, CanBeLaid};
+ghost use Rattle.std.specs.Prelude.{IsTrue};
 ghost use Rattle.bookmarks.specs.Within.{IsWithin};
 ghost use Rattle.revision_jobs.specs.Entries.{IsOf};
 ghost use Rattle.step_engine.specs.Evolved.{CanEvolve};
@@ -19,52 +18,18 @@ use std::fmt::Debug;
 use std::process::Abort;
 use std::sync::{Arc, Wait};
 use step_engine::fits;
-
-/// A cell of row 0 as a table gives it: x and its state.
-type Spot = (i64, u16);
+use test_planes::{Row, all_can_be_laid, is_below, sets_of};
 
 // A cell is 1 next where exactly one of its two neighbours is. Two of the eight cases are left to
 // the cell's own state.
 const X: &[u8] =
     b"@RULE X\n@TABLE\nn_states:2\nneighborhood:oneDimensional\nsymmetries:none\n0,1,0,1\n0,0,1,1\n1,0,0,0\n1,1,1,0\n";
 
-const EDGE: i64 = 1 << 61;
-
 const MOST_GENERATIONS: u64 = 1 << 60;
 
 /// Stops the test where what was found isn't what was wanted.
 fn same<T: PartialEq + Debug, A: Debug>(rt: &impl Abort, found: &T, wanted: &T, at: &A) {
     assert!(rt; *found == *wanted, "{at:?}: {found:?}, not {wanted:?}");
-}
-
-fn can_be_laid(cell: &CellSet) -> bool
-    ensures { IsTrue result → CanBeLaid cell.now }
-{
-    if cell.x < -EDGE {
-        return false;
-    }
-    if cell.x >= EDGE {
-        return false;
-    }
-    if cell.y < -EDGE {
-        return false;
-    }
-    if cell.y >= EDGE {
-        return false;
-    }
-    cell.state < 256
-}
-
-fn all_can_be_laid(cells: &[CellSet]) -> bool
-    ensures { IsTrue result → All CanBeLaid cells.now }
-{
-    cells.iter().all(|cell| can_be_laid(cell))
-}
-
-fn is_below(plane: &Plane, states: u16) -> bool
-    ensures { IsTrue result → AllBelow states plane.now }
-{
-    u16::from(plane.greatest()) < states
 }
 
 fn can_evolve(plane: &Plane, states: u16, gens: u64) -> bool
@@ -79,31 +44,12 @@ fn is_within(view: &View) -> bool
     view.has_window_size() && view.lies_in_range()
 }
 
-fn push_cell(rt: &impl Abort, cells: &mut Vec<CellSet>, spot: &Spot) {
-    let cell = CellSet {
-        x: spot.0,
-        y: 0,
-        state: spot.1,
-    };
-    cells.push(cell).expect(rt, "memory");
+fn cells_of(rt: &impl Abort, alloc: Global, rows: &[Row]) -> Listing<CellSet> {
+    Listing::from_vec(sets_of(alloc, rows).expect(rt, "memory"))
 }
 
-fn cells_of(rt: &impl Abort, alloc: Global, spots: &[Spot]) -> Listing<CellSet> {
-    let mut cells = Vec::new(alloc);
-    for spot in spots {
-        push_cell(rt, &mut cells, spot);
-    }
-    Listing::from_vec(cells)
-}
-
-fn plane_of(rt: &impl Abort, alloc: Global, spots: &[Spot]) -> Plane {
-    let cells = cells_of(rt, alloc, spots);
-    assert!(rt;
-        all_can_be_laid(cells.as_slice()),
-        "a cell lies outside the plane"
-    );
-    let plane = Plane::empty(alloc).lay(cells.as_slice());
-    plane.expect(rt, "memory")
+fn plane_of(rt: &impl Abort, alloc: Global, rows: &[Row]) -> Plane {
+    test_planes::plane_of(alloc, rows).expect(rt, "memory, and rows within the plane")
 }
 
 fn shared(rt: &impl Abort, alloc: Global, plane: Plane) -> Arc<Plane> {
@@ -179,7 +125,7 @@ fn push_view<R: Abort + Wait>(
 fn push_from_one<R: Abort + Wait>(rt: &R, alloc: Global, entries: &Entries, gens: u64) -> Place
     ensures { IsOf entries.now result }
 {
-    let from = shared(rt, alloc, plane_of(rt, alloc, &[(0, 1)]));
+    let from = shared(rt, alloc, plane_of(rt, alloc, &[(0, 0, 1)]));
     let none = cells_of(rt, alloc, &[]);
     push_step(rt, alloc, entries, from, none, gens)
 }

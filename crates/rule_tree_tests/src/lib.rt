@@ -1,4 +1,4 @@
-//! The tests of `rule_tree`.
+//! Tests of `rule_tree`, by its public calls.
 #![tactic(auto)]
 
 #[cfg(test)]

@@ -5,19 +5,12 @@ mod marks;
 mod rules;
 mod starts;
 
-ghost use Rattle.std.specs.Prelude.{◌<◌, All, IsTrue};
-ghost use Rattle.worlds.specs.Range.{CanBeLaid};
-
-use schedule::{
-    CellSet, Document, Edit, EditFault, Edited, Listing, Next, Plane, Refusal, Rule, View,
-};
+use schedule::{CellSet, Document, Edit, EditFault, Edited, Listing, Next, Refusal, Rule, View};
 use std::alloc::Global;
 use std::fmt::Debug;
 use std::process::Abort;
 use std::sync::Arc;
-
-/// A cell as a row of a table gives it: x, y and its state.
-type Row = (i64, i64, u16);
+use test_planes::{Row, plane_of, sets_of};
 
 /// A window by its left column, its top row, its width and its height.
 type Window = (i64, i64, u32, u32);
@@ -44,75 +37,27 @@ fn same<T: PartialEq + Debug, A: Debug>(rt: &impl Abort, found: &T, wanted: &T, 
     assert!(rt; found == wanted, "{at:?}: {found:?}, not {wanted:?}");
 }
 
-fn push_cell(rt: &impl Abort, cells: &mut Vec<CellSet>, row: &Row) {
-    let cell = CellSet {
-        x: row.0,
-        y: row.1,
-        state: row.2,
-    };
-    cells.push(cell).expect(rt, "memory");
-}
-
-fn cells_of(rt: &impl Abort, alloc: Global, rows: &[Row]) -> Vec<CellSet> {
-    let mut cells = Vec::new(alloc);
-    for row in rows {
-        push_cell(rt, &mut cells, row);
-    }
-    cells
+fn cells_of(rt: &impl Abort, alloc: Global, rows: &[Row]) -> Listing<CellSet> {
+    Listing::from_vec(sets_of(alloc, rows).expect(rt, "memory"))
 }
 
 /// The edit that sets the cells of the rows.
 fn set(rt: &impl Abort, alloc: Global, rows: &[Row]) -> Edit {
     Edit::SetCells {
-        cells: Listing::from_vec(cells_of(rt, alloc, rows)),
+        cells: cells_of(rt, alloc, rows),
     }
 }
 
 /// The edit that sets the cell (0, 0) so many times, and then that of the row.
-fn set_many(rt: &impl Abort, alloc: Global, count: usize, last: &Row) -> Edit {
-    let mut cells = Vec::new(alloc);
-    for _ in 0..count {
-        push_cell(rt, &mut cells, &(0, 0, 1));
-    }
-    push_cell(rt, &mut cells, last);
-    Edit::SetCells {
-        cells: Listing::from_vec(cells),
-    }
-}
-
-fn can_be_laid(cell: &CellSet) -> bool
-    ensures { IsTrue result → CanBeLaid cell.now }
-{
-    if cell.x < LEAST {
-        return false;
-    }
-    if cell.x > GREATEST {
-        return false;
-    }
-    if cell.y < LEAST {
-        return false;
-    }
-    if cell.y > GREATEST {
-        return false;
-    }
-    cell.state < 256
-}
-
-fn all_can_be_laid(cells: &[CellSet]) -> bool
-    ensures { IsTrue result → All CanBeLaid cells.now }
-{
-    cells.iter().all(|cell| can_be_laid(cell))
-}
-
-fn plane_of(rt: &impl Abort, alloc: Global, rows: &[Row]) -> Plane {
-    let cells = cells_of(rt, alloc, rows);
-    assert!(rt; all_can_be_laid(&cells), "a row lies outside the plane");
-    Plane::empty(alloc).lay(&cells).expect(rt, "memory")
+fn set_many(rt: &impl Abort, alloc: Global, count: usize, last: Row) -> Edit {
+    let mut rows = Vec::from_elem(alloc, (0, 0, 1), count).expect(rt, "memory");
+    rows.push(last).expect(rt, "memory");
+    set(rt, alloc, &rows)
 }
 
 /// The edit that takes the pattern of the rows as the start.
 fn start_of(rt: &impl Abort, alloc: Global, rows: &[Row]) -> Edit {
-    let plane = plane_of(rt, alloc, rows);
+    let plane = plane_of(alloc, rows).expect(rt, "memory, and rows within the plane");
     Edit::ReplaceStart(Arc::new(alloc, plane).expect(rt, "memory"))
 }
 

@@ -1,4 +1,4 @@
-//! The tests of `table_symmetry`.
+//! Tests of `table_symmetry`, by its public calls.
 #![tactic(auto)]
 
 #[cfg(test)]

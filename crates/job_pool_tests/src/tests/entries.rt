@@ -7,7 +7,7 @@ ghost use Rattle.revision_jobs.specs.Entries.{IsOf};
 
 use basics::Listing;
 use bookmarks::View;
-use plane_core::{Next, Plane};
+use plane_core::{CellSet, Next, Plane};
 use revision_jobs::{Entries, Entry, Place, Rendering, Step};
 use rule_tree::Rule;
 use std::alloc::Global;
@@ -15,9 +15,19 @@ use std::process::Abort;
 use std::sync::{Arc, Wait};
 use step_engine::fits;
 
-// A rule of two states whose every cell stays as it is.
-const STILL: &[u8] =
+/// A rule of two states whose every cell stays as it is.
+pub(super) const STILL: &[u8] =
     b"@RULE Still\n@TABLE\nn_states:2\nneighborhood:oneDimensional\nsymmetries:none\n";
+
+/// One under which a live cell with empty neighbours dies.
+pub(super) const GONE: &[u8] =
+    b"@RULE Gone\n@TABLE\nn_states:2\nneighborhood:oneDimensional\nsymmetries:none\n1,0,0,0\n";
+
+const DOT: &[CellSet] = &[CellSet {
+    x: 0,
+    y: 0,
+    state: 1,
+}];
 
 pub(super) fn table(rt: &impl Abort, alloc: Global) -> Entries {
     Entries::new(alloc).expect(rt, "memory")
@@ -75,8 +85,34 @@ pub(super) fn push_step<R: Abort + Wait>(
 ) -> Place
     ensures { IsOf entries.now result }
 {
-    let rule = Rule::read(alloc, STILL).expect(rt, "a rule");
-    let plane = Plane::empty(alloc);
+    push_step_of(rt, alloc, entries, STILL, Plane::empty(alloc), gens)
+}
+
+/// Stores a step of one live cell over one generation.
+pub(super) fn push_dot<R: Abort + Wait>(
+    rt: &R,
+    alloc: Global,
+    entries: &Entries,
+    text: &[u8],
+) -> Place
+    ensures { IsOf entries.now result }
+{
+    let plane = Plane::empty(alloc).lay(DOT).expect(rt, "memory");
+    push_step_of(rt, alloc, entries, text, plane, 1)
+}
+
+/// Stores a step of the pattern under the rule of a text.
+fn push_step_of<R: Abort + Wait>(
+    rt: &R,
+    alloc: Global,
+    entries: &Entries,
+    text: &[u8],
+    plane: Plane,
+    gens: u64,
+) -> Place
+    ensures { IsOf entries.now result }
+{
+    let rule = Rule::read(alloc, text).expect(rt, "a rule");
     assert!(rt; can_evolve(&plane, rule.states(), gens), "there is no room");
     let step = Step {
         rule: Arc::new(alloc, rule).expect(rt, "memory"),

@@ -3,17 +3,13 @@ use super::{Refusal, read, same};
 use multistate_macrocell::{McFault, read_mc};
 use std::alloc::Global;
 use std::process::Abort;
+use test_planes::{Row, rows_of};
 
-/// Stops the test where these lines don't mean exactly these cells, of those near the middle.
-fn expect_cells(rt: &impl Abort, alloc: Global, text: &[u8], wanted: &[(i64, i64, u8)]) {
-    let plane = read(rt, alloc, text).plane;
-    for y in -9..9 {
-        for x in -9..9 {
-            let live = wanted.iter().find(|cell| (cell.0, cell.1) == (x, y));
-            let state = live.map_or(0, |cell| cell.2);
-            same(rt, &plane.get(x, y), &state, &(x, y));
-        }
-    }
+/// Stops the test where these lines don't mean exactly these cells, row by row.
+fn expect_cells(rt: &impl Abort, alloc: Global, text: &[u8], wanted: &[Row]) {
+    let found = rows_of(alloc, &read(rt, alloc, text).plane);
+    let found = found.expect(rt, "memory, and at most a thousand live cells");
+    same(rt, &found.as_slice(), &wanted, &text);
 }
 
 /// Stops the test where the text isn't refused by this number with this line.

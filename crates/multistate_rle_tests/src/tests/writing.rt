@@ -1,13 +1,13 @@
 //! Patterns as they are written.
-ghost use Rattle.std.specs.Prelude.{◌<◌, ◌≤◌, All, IsTrue};
+ghost use Rattle.std.specs.Prelude.{◌≤◌, IsTrue};
 ghost use Rattle.worlds.specs.Live.{population};
-ghost use Rattle.worlds.specs.Range.{AllBelow, CanBeLaid};
 
-use super::{Row, same};
+use super::same;
 use multistate_rle::{MOST_WRITTEN, read_rle, write_rle};
-use plane_core::{CellSet, Plane};
+use plane_core::Plane;
 use std::alloc::Global;
 use std::process::Abort;
+use test_planes::{Row, is_below};
 
 const LEAST: i64 = -(1 << 61);
 
@@ -15,63 +15,14 @@ const GREATEST: i64 = (1 << 61) - 1;
 
 const FAR: i64 = 1 << 60;
 
-fn can_be_laid(cell: &CellSet) -> bool
-    ensures { IsTrue result → CanBeLaid cell.now }
-{
-    if cell.x < LEAST {
-        return false;
-    }
-    if cell.x > GREATEST {
-        return false;
-    }
-    if cell.y < LEAST {
-        return false;
-    }
-    if cell.y > GREATEST {
-        return false;
-    }
-    cell.state < 256
-}
-
-fn all_can_be_laid(cells: &[CellSet]) -> bool
-    ensures { IsTrue result → All CanBeLaid cells.now }
-{
-    cells.iter().all(|cell| can_be_laid(cell))
-}
-
-fn is_below(plane: &Plane, states: u16) -> bool
-    ensures { IsTrue result → AllBelow states plane.now }
-{
-    u16::from(plane.greatest()) < states
-}
-
 fn is_small(plane: &Plane) -> bool
     ensures { IsTrue result → population plane.now ≤ 1_000_000 }
 {
     plane.population() <= u128::from(MOST_WRITTEN)
 }
 
-fn push_set(rt: &impl Abort, cells: &mut Vec<CellSet>, row: Row) {
-    let cell = CellSet {
-        x: row.0,
-        y: row.1,
-        state: u16::from(row.2),
-    };
-    cells.push(cell).expect(rt, "memory");
-}
-
-fn sets_of(rt: &impl Abort, alloc: Global, rows: &[Row]) -> Vec<CellSet> {
-    let mut cells = Vec::new(alloc);
-    for row in rows {
-        push_set(rt, &mut cells, *row);
-    }
-    cells
-}
-
-/// The plane with the cells, laid in turn.
-fn plane_of(rt: &impl Abort, alloc: Global, cells: &[CellSet]) -> Plane {
-    assert!(rt; all_can_be_laid(cells), "a cell lies outside the plane");
-    Plane::empty(alloc).lay(cells).expect(rt, "memory")
+fn plane_of(rt: &impl Abort, alloc: Global, rows: &[Row]) -> Plane {
+    test_planes::plane_of(alloc, rows).expect(rt, "memory, and rows within the plane")
 }
 
 /// The text of the plane's pattern, which is to be one that can be written.
@@ -101,7 +52,7 @@ struct Pattern {
 
 /// Stops the test where a case isn't written as its text.
 fn expect_written(rt: &impl Abort, alloc: Global, case: &Pattern) {
-    let plane = plane_of(rt, alloc, &sets_of(rt, alloc, case.rows));
+    let plane = plane_of(rt, alloc, case.rows);
     let text = written(rt, alloc, &plane, case.name, case.generation, case.states);
     same(rt, &text.as_slice(), &case.wanted.as_bytes(), &case.what);
 }
@@ -279,7 +230,7 @@ struct Filled {
 fn expect_filled(rt: &impl Abort, alloc: Global, case: &Filled) {
     let mut rows = every_other(rt, alloc, case.count);
     rows.push(case.last).expect(rt, "memory");
-    let plane = plane_of(rt, alloc, &sets_of(rt, alloc, &rows));
+    let plane = plane_of(rt, alloc, &rows);
     let text = written(rt, alloc, &plane, "X", 0, case.states);
     same(rt, &text.as_slice(), &case.wanted.as_bytes(), &case.what);
 }

@@ -1,7 +1,7 @@
 ghost use Rattle.std.specs.Prelude.{◌≡◌};
 ghost use Rattle.revision_jobs.specs.Entries.{IsOf};
 
-use super::{Spot, cells_of, plane_of, push_from_one, push_step, push_view, same, shared, table};
+use super::{cells_of, plane_of, push_from_one, push_step, push_view, same, shared, table};
 use basics::{Listing, Refusal};
 use bookmarks::View;
 use plane_core::{NoStop, Plane, Stop};
@@ -9,6 +9,7 @@ use revision_jobs::{Answer, Entries, Gate, Job, NoGate, Outcome, Place, work};
 use std::alloc::Global;
 use std::process::Abort;
 use std::sync::{Arc, Wait};
+use test_planes::Row;
 
 /// More squares than any of these jobs needs.
 const SQUARES: u32 = 4096;
@@ -47,7 +48,7 @@ fn expect_text(rt: &impl Abort, answer: Answer, wanted: &str) {
 }
 
 /// Stops the test where so many generations of the one live cell (0, 0) aren't the cells.
-fn expect_steps<R: Abort + Wait>(rt: &R, alloc: Global, gens: u64, wanted: &[Spot]) {
+fn expect_steps<R: Abort + Wait>(rt: &R, alloc: Global, gens: u64, wanted: &[Row]) {
     let entries = table(rt, alloc);
     let place = push_from_one(rt, alloc, &entries, gens);
     let plane = plane_in(rt, worked(alloc, &entries, 0, place));
@@ -60,22 +61,27 @@ fn expect_steps<R: Abort + Wait>(rt: &R, alloc: Global, gens: u64, wanted: &[Spo
 #[test]
 fn steps(rt: HostRuntime) {
     let alloc = rt.alloc();
-    expect_steps(&rt, alloc, 0, &[(0, 1)]);
-    expect_steps(&rt, alloc, 1, &[(-1, 1), (1, 1)]);
-    expect_steps(&rt, alloc, 2, &[(-2, 1), (2, 1)]);
-    expect_steps(&rt, alloc, 3, &[(-3, 1), (-1, 1), (1, 1), (3, 1)]);
-    expect_steps(&rt, alloc, 8, &[(-8, 1), (8, 1)]);
+    expect_steps(&rt, alloc, 0, &[(0, 0, 1)]);
+    expect_steps(&rt, alloc, 1, &[(-1, 0, 1), (1, 0, 1)]);
+    expect_steps(&rt, alloc, 2, &[(-2, 0, 1), (2, 0, 1)]);
+    expect_steps(
+        &rt,
+        alloc,
+        3,
+        &[(-3, 0, 1), (-1, 0, 1), (1, 0, 1), (3, 0, 1)],
+    );
+    expect_steps(&rt, alloc, 8, &[(-8, 0, 1), (8, 0, 1)]);
 }
 
 #[test]
 fn lays_before_it_steps(rt: HostRuntime) {
     let alloc = rt.alloc();
     let entries = table(&rt, alloc);
-    let from = shared(&rt, alloc, plane_of(&rt, alloc, &[(-1, 1), (1, 1)]));
-    let cells = cells_of(&rt, alloc, &[(1, 1), (1, 0)]);
+    let from = shared(&rt, alloc, plane_of(&rt, alloc, &[(-1, 0, 1), (1, 0, 1)]));
+    let cells = cells_of(&rt, alloc, &[(1, 0, 1), (1, 0, 0)]);
     let place = push_step(&rt, alloc, &entries, from, cells, 1);
     let plane = plane_in(&rt, worked(alloc, &entries, 0, place));
-    assert!(rt; plane.equals(&plane_of(&rt, alloc, &[(-2, 1), (0, 1)])));
+    assert!(rt; plane.equals(&plane_of(&rt, alloc, &[(-2, 0, 1), (0, 0, 1)])));
 }
 
 /// Stops the test where the view of the pattern, with the cells laid on it, isn't the text.
@@ -83,8 +89,8 @@ fn expect_view<R: Abort + Wait>(
     rt: &R,
     alloc: Global,
     view: View,
-    from: &[Spot],
-    cells: &[Spot],
+    from: &[Row],
+    cells: &[Row],
     wanted: &str,
 ) {
     let entries = table(rt, alloc);
@@ -103,11 +109,18 @@ fn views(rt: HostRuntime) {
         width: 5,
         height: 1,
     };
-    let ends = [(-2, 1), (2, 1)];
+    let ends = [(-2, 0, 1), (2, 0, 1)];
     expect_view(&rt, alloc, View::Counts, &ends, &[], "1 2\n");
     expect_view(&rt, alloc, View::Counts, &[], &[], "empty\n");
     expect_view(&rt, alloc, window, &ends, &[], "1 0 0 0 1\n");
-    expect_view(&rt, alloc, window, &ends, &[(2, 0), (0, 1)], "1 0 1 0 0\n");
+    expect_view(
+        &rt,
+        alloc,
+        window,
+        &ends,
+        &[(2, 0, 0), (0, 0, 1)],
+        "1 0 1 0 0\n",
+    );
     let rle = "#CXRLE Pos=-2,0 Gen=2\nx = 5, y = 1, rule = X\no3bo!\n";
     expect_view(&rt, alloc, View::Rle, &ends, &[], rle);
     let macrocell = "[M2] (experiment desk)\n#R X\n#G 2\n1 1 0 0 0\n2 0 1 0 0\n3 0 0 2 2\n";
@@ -131,7 +144,7 @@ fn answers_again(rt: HostRuntime) {
 fn texts_again(rt: HostRuntime) {
     let alloc = rt.alloc();
     let entries = table(&rt, alloc);
-    let from = shared(&rt, alloc, plane_of(&rt, alloc, &[(-4, 1), (4, 1)]));
+    let from = shared(&rt, alloc, plane_of(&rt, alloc, &[(-4, 0, 1), (4, 0, 1)]));
     let none = cells_of(&rt, alloc, &[]);
     let place = push_view(&rt, alloc, &entries, View::Counts, from, none, 4);
     let answer = worked(alloc, &entries, 1, place);
@@ -178,7 +191,7 @@ fn keeps_to_its_limit(rt: HostRuntime) {
     let alloc = rt.alloc();
     expect_no_room(&rt, alloc, 0);
     expect_no_room(&rt, alloc, 64);
-    let ends = [(-(1 << 60), 1), (1 << 60, 1)];
+    let ends = [(-(1 << 60), 0, 1), (1 << 60, 0, 1)];
     expect_steps(&rt, alloc, 1 << 60, &ends);
 }
 
@@ -211,7 +224,7 @@ fn passes_the_end_after_its_work(rt: HostRuntime) {
     let mut stop = entries.stop(&job.place);
     let answer = work(alloc, job, &entries, &mut gate, &mut stop, SQUARES);
     let plane = plane_in(&rt, answer);
-    assert!(rt; plane.equals(&plane_of(&rt, alloc, &[(-1, 1), (1, 1)])));
+    assert!(rt; plane.equals(&plane_of(&rt, alloc, &[(-1, 0, 1), (1, 0, 1)])));
     assert!(rt; stop.poll(), "the flag is raised");
 }
 

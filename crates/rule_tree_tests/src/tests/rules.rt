@@ -1,11 +1,12 @@
 //! Rules, by tables and by trees.
-use super::trees::W;
 use super::{expect_next, same};
 use basics::Refusal;
-use plane_core::Next;
+use plane_core::{Next, NoStop};
 use rule_tree::Rule;
 use std::alloc::Global;
 use std::process::Abort;
+use step_engine::{evolve_plain, fits};
+use test_planes::{is_below, plane_of, rows_of};
 
 // A cell is 1 next where exactly one of its neighbours is. Two of the eight cases are left to the
 // cell's own state.
@@ -38,6 +39,20 @@ const X_AGAIN: &[u8] = b"\r\n\
     1,1,1,0\r\n\
     @COLORS\r\n\
     9,9,9,9\r\n";
+
+// Each cell copies its eastern neighbour. A tree asks for N, W, E, S and C, from the root down.
+const E: &[u8] = b"@RULE E\n\
+    @TREE\n\
+    num_states=2\n\
+    num_neighbors=4\n\
+    num_nodes=7\n\
+    1 0 0\n\
+    1 1 1\n\
+    2 0 0\n\
+    2 1 1\n\
+    3 2 3\n\
+    4 4 4\n\
+    5 5 5\n";
 
 /// The number and the line of the fault, or 0 where the file is read.
 type Outcome = (u8, Option<u64>);
@@ -211,19 +226,36 @@ fn still_rules(rt: HostRuntime) {
     expect_between(&rt, &rule, 1, 1, 1, 1);
 }
 
-// Its cells copy the state of their western neighbours.
 #[test]
 fn trees_are_rules(rt: HostRuntime) {
-    let rule = rule_of(&rt, rt.alloc(), W);
-    expect_name(&rt, &rule, b"W", 2);
+    let rule = rule_of(&rt, rt.alloc(), E);
+    expect_name(&rt, &rule, b"E", 2);
     same(&rt, &rule.tree().is_some(), &true, &"a tree");
-    expect_between(&rt, &rule, 0, 0, 1, 0);
-    expect_between(&rt, &rule, 0, 1, 0, 1);
+    expect_between(&rt, &rule, 0, 1, 0, 0);
+    expect_between(&rt, &rule, 0, 0, 1, 1);
     expect_between(&rt, &rule, 1, 0, 0, 0);
     expect_between(&rt, &rule, 1, 1, 1, 1);
-    expect_between(&rt, &rule, 1, 0, 1, 0);
-    let cut_off = W.get(..97).expect(&rt, "its length is 103");
+    expect_between(&rt, &rule, 1, 1, 0, 0);
+    let cut_off = E.get(..E.len() - 2).expect(&rt, "more than two bytes");
     expect_outcome(&rt, rt.alloc(), cut_off, &(12, Some(12)));
+}
+
+#[test]
+fn trees_are_stepped(rt: HostRuntime) {
+    let alloc = rt.alloc();
+    let rule = rule_of(&rt, alloc, E);
+    let start = plane_of(alloc, &[(0, 0, 1), (2, 5, 1)]).expect(&rt, "memory");
+    assert!(rt; fits(&start, 3) && is_below(&start, rule.states()));
+    let evolved = evolve_plain(alloc, &rule, &start, 3, &mut NoStop, 0);
+    let plane = evolved.expect(&rt, "memory").plane;
+    let rows = rows_of(alloc, &plane).expect(&rt, "memory");
+    let wanted = [(-3, 0, 1), (-1, 5, 1)];
+    same(
+        &rt,
+        &rows.as_slice(),
+        &wanted.as_slice(),
+        &"three cells to the west",
+    );
 }
 
 #[test]

@@ -94,7 +94,7 @@ fn lists_of_cells(rt: HostRuntime) {
 type Many = (usize, Row, u8);
 
 fn check_many(rt: &impl Abort, alloc: Global, case: &Many) {
-    let edit = set_many(rt, alloc, case.0, &case.1);
+    let edit = set_many(rt, alloc, case.0, case.1);
     check_edit(rt, alloc, 0, &edit, case.2, case);
 }
 

@@ -3,26 +3,18 @@ use super::{
     Cells, EDGE, FAR, FOUR_STATES, Row, THREE_STATES, apply, cells_of, check_edit, mark, number,
     opening, plain, replace, same, set,
 };
-use schedule::{CellSet, Document, Edit, Edited, Listing};
+use schedule::{Document, Edit, Edited};
 use std::alloc::Global;
 use std::process::Abort;
 
-/// A list of edits' cells that sets (0, 0) to 1.
-fn one_cell(rt: &impl Abort, alloc: Global) -> Listing<CellSet> {
-    Listing::from_vec(cells_of(rt, alloc, &[(0, 0, 1)]))
-}
-
 fn insert(rt: &impl Abort, alloc: Global, generation: u64) -> Edit {
-    Edit::InsertIntervention {
-        generation,
-        cells: one_cell(rt, alloc),
-    }
+    insert_cells(rt, alloc, generation, &[(0, 0, 1)])
 }
 
 fn insert_cells(rt: &impl Abort, alloc: Global, generation: u64, rows: &[Row]) -> Edit {
     Edit::InsertIntervention {
         generation,
-        cells: Listing::from_vec(cells_of(rt, alloc, rows)),
+        cells: cells_of(rt, alloc, rows),
     }
 }
 
@@ -30,7 +22,7 @@ fn change(rt: &impl Abort, alloc: Global, id: u64, generation: u64, rows: &[Row]
     Edit::ChangeIntervention {
         id,
         generation,
-        cells: Listing::from_vec(cells_of(rt, alloc, rows)),
+        cells: cells_of(rt, alloc, rows),
     }
 }
 

@@ -60,7 +60,7 @@ fn no_revision_is_left(rt: HostRuntime) {
     check_spent(&rt, alloc, &mark(0), 49, "bookmark");
     check_spent(&rt, alloc, &set(&rt, alloc, &[(EDGE, 0, 0)]), 41, "outside");
     check_spent(&rt, alloc, &set(&rt, alloc, &[(0, 0, 2)]), 42, "high");
-    let many = set_many(&rt, alloc, 10_000, &(0, 0, 1));
+    let many = set_many(&rt, alloc, 10_000, (0, 0, 1));
     check_spent(&rt, alloc, &many, 47, "many");
     check_spent(&rt, alloc, &mark(FAR + 1), 40, "far");
 }

@@ -1,5 +1,6 @@
 //! Tables with what they expand to and what they give.
-use super::helpers::{gives, listed, next, outcome, read_rule, rule, same};
+use super::{gives, listed, next, read, rule, same};
+use rule_file::RuleFault;
 use std::alloc::Global;
 use std::process::Abort;
 use table_symmetry::{Expanded, TableRule};
@@ -265,12 +266,8 @@ fn four_pairs(rt: &impl Abort, alloc: Global) -> String {
 }
 
 fn is_restless(rt: &impl Abort, alloc: Global, lines: &str) {
-    same(
-        rt,
-        &outcome(read_rule(rt, alloc, lines)),
-        &(13, None),
-        &lines,
-    );
+    let fault = read(rt, alloc, lines).err();
+    same(rt, &fault, &Some(RuleFault::NotQuiescent), &lines);
 }
 
 #[test]

@@ -1,6 +1,6 @@
 //! Tables with the first of their transitions that matches, worked out by hand. Where none does
 //! the cell keeps its state, which is no result of these tables.
-use super::helpers::{gives, rule, table};
+use super::{gives, rule};
 use std::alloc::Global;
 use std::process::Abort;
 use table_symmetry::TableRule;
@@ -98,7 +98,9 @@ fn rule_of(
     neighborhood: &str,
     lines: &str,
 ) -> TableRule {
-    let lines = table(rt, alloc, states, neighborhood, lines);
+    let lines = format!(in alloc;
+        "n_states:{states}\nneighborhood:{neighborhood}\nsymmetries:none\n{lines}"
+    ).expect(rt, "memory");
     rule(rt, alloc, lines.as_str())
 }
 

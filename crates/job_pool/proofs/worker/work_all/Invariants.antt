@@ -1,5 +1,11 @@
 use Rattle.std.proofs.Common.{◌≡◌}
+use Rattle.std.specs.Prelude.{IfSome}
+use Rattle.revision_jobs.specs.Entries.{IsOf}
 use Rattle.job_pool.proofs.worker.work_all.Given as goal
 
 abbrev pub invariant-loop : goal.invariant-loop
-invariant-loop g l = (l.jobs.table ≡ l.entries) × (l.back ≡ l.entries)
+invariant-loop g l = record {
+  jobs : l.jobs.table ≡ l.entries;
+  back : l.back ≡ l.entries;
+  own : IfSome l.next (λ job. IsOf l.entries job.place);
+}

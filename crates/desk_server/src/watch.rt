@@ -1,0 +1,60 @@
+//! Who looks on while a script is answered.
+ghost use Rattle.std.specs.Prelude.{◌≡◌, ◌∷◌, [], true};
+ghost use Rattle.desk_server.specs.Watch.{NotesUnlessMissed};
+
+use desk_board::{Publisher, snapshot};
+use desk_core::Desk;
+use std::alloc::Global;
+use std::sync::Wait;
+
+/// Notes the document of a desk after each reply. `notes` says what a note of a document changes.
+pub(crate) trait Watch {
+    ghost use Rattle.schedule.specs.Plan.{Plan};
+
+    ghost notes: { Self → Plan → Self → Type 0 };
+
+    /// Whether the desk's document was noted. Nothing is promised where it wasn't.
+    fn note(&mut self, alloc: Global, desk: &Desk<'_>) -> bool
+        ensures { result ≡ true → notes self.old desk.now.plan self.new };
+}
+
+/// Nobody looks on.
+#[derive(Drop)]
+pub(crate) struct Unwatched;
+
+impl Watch for Unwatched {
+    ghost use Rattle.std.specs.Prelude.{⊤};
+
+    ghost notes = { λ _ _ _. ⊤ };
+
+    fn note(&mut self, _alloc: Global, _desk: &Desk<'_>) -> bool {
+        true
+    }
+}
+
+/// Publishes a snapshot of the desk.
+impl<B: Wait> Watch for Publisher<B> {
+    ghost use Rattle.desk_server.specs.Watch.{ShowsNext};
+
+    ghost notes = { ShowsNext };
+
+    fn note(&mut self, alloc: Global, desk: &Desk<'_>) -> bool {
+        let Ok(snapshot) = snapshot(alloc, desk) else {
+            return false;
+        };
+        let Ok(_receipt) = self.publish(snapshot) else {
+            return false;
+        };
+        true
+    }
+}
+
+/// Notes the desk's document, or counts that it wasn't noted.
+pub(crate) fn note<V: Watch>(watch: &mut V, alloc: Global, desk: &Desk<'_>, missed: &mut u64)
+    ensures { NotesUnlessMissed V.notes missed.old missed.new watch.old watch.new
+        (desk.now.plan ∷ []) }
+{
+    if !watch.note(alloc, desk) {
+        *missed = missed.saturating_add(1);
+    }
+}

@@ -1,0 +1,5 @@
+//! Tests of `table_lines`, by its public calls.
+#![tactic(auto)]
+
+#[cfg(test)]
+mod tests;
