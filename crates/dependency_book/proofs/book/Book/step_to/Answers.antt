@@ -1,10 +1,9 @@
-use Rattle.std.proofs.Common.{◌≡◌, ◌∙◌, ◌-◌, true, Some, refl, sym, ap, subst}
+use Rattle.std.proofs.Common.{◌∙◌, ◌-◌, Some, refl, sym, ap, subst}
 use Rattle.schedule.specs.Scratch.{cells_at}
 use Rattle.revision_jobs.specs.declared.entry.Step.{Step as Stepping}
 use Rattle.dependency_book.specs.BookState.{BookState}
 use Rattle.dependency_book.specs.Entered.{StepsTo}
 use Rattle.dependency_book.specs.Inside.{state_of}
-use Rattle.dependency_book.specs.Marks.{is_mark}
 use Rattle.dependency_book.proofs.Found.{step_is}
 use Rattle.dependency_book.proofs.book.Book.step_to.Goals as goal
 
