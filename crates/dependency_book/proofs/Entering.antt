@@ -26,7 +26,7 @@ use Rattle.revision_jobs.specs.declared.entry.Entry.{Entry}
 use Rattle.revision_jobs.specs.declared.entry.Entry.TheVariants as entry
 use Rattle.revision_jobs.specs.declared.entry.Rendering.{Rendering}
 use Rattle.revision_jobs.specs.declared.entry.Step.{Step as Stepping}
-use Rattle.revision_jobs.specs.Value.{pattern, text, value, start_of, world_after, world_in, CanBeStepped, CanBeRendered}
+use Rattle.revision_jobs.specs.Value.{pattern, text, value, start_of, world_after, world_in, CanBeStepped, CanBeRendered, CanBeWorked}
 use Rattle.dependency_book.specs.declared.need.Need.{Need}
 use Rattle.dependency_book.specs.declared.need.Need.TheVariants.{Step, View}
 use Rattle.dependency_book.specs.declared.row.RowState.{RowState}
@@ -34,6 +34,7 @@ use Rattle.dependency_book.specs.declared.row.RowState.TheVariants.{Empty, Expec
 use Rattle.dependency_book.specs.BookState.{BookState, arrival_row, arrival_known, bookmark_in}
 use Rattle.dependency_book.specs.Entered.{IsEntryOf, StepsTo, ViewsOf}
 use Rattle.dependency_book.specs.Marks.{is_mark, stands_at}
+use Rattle.dependency_book.specs.Needs.{IsNext}
 use Rattle.dependency_book.specs.Right.{IsRight, StandsRight, wanted, text_wanted}
 use Rattle.dependency_book.specs.RowState.{known, state_map}
 use Rattle.dependency_book.proofs.Placed.{mark_near}
@@ -101,7 +102,7 @@ entry_gives d (View id) (entry.View r) right h =
 cells_laid : (p : Plan) (g : ℕ) (cells : List CellSet) → IsSound p → cells ≡ cells_at p.interventions g → All CanBeLaid cells
 cells_laid p g cells sound is = subst (All CanBeLaid) (sym is) (CanBeLaid-named (states_of p.rule) (cells_at p.interventions g) sound.few_states (AreNamed-at p g sound) (SetBelow-at p g sound))
 
-pub step_workable : (d : BookState) (m : ℕ) (s : Stepping) → IsSound d.plan → IsRight d → is_mark d.plan m ≡ true → StepsTo d m s → CanBeStepped s
+step_workable : (d : BookState) (m : ℕ) (s : Stepping) → IsSound d.plan → IsRight d → is_mark d.plan m ≡ true → StepsTo d m s → CanBeStepped s
 step_workable d m s sound right there h =
     let n = h.before in
     let near : m ≤ 2 ^ 60 = mark_near d.plan m sound there in
@@ -123,7 +124,7 @@ each_within (c ∷ bs) id b all there =
     (λ hit. let one : Some c ≡ Some b = rw hit at there in let same : c ≡ b = cc in subst (λ (x : Bookmark). IsWithin x.view) same all.0)
     (λ miss. each_within bs id b all.1 (rw miss at there))
 
-pub view_workable : (d : BookState) (id : ℕ) (r : Rendering) → IsSound d.plan → IsRight d → ViewsOf d id r → CanBeRendered r
+view_workable : (d : BookState) (id : ℕ) (r : Rendering) → IsSound d.plan → IsRight d → ViewsOf d id r → CanBeRendered r
 view_workable d id r sound right h =
     let g = h.bookmark.generation in
     let left = view_after d id r right h in (
@@ -131,3 +132,10 @@ view_workable d id r sound right h =
       subst (λ n. AllBelow n (world_in r)) (sym h.states) (subst (AllBelow (states_of d.plan.rule)) (sym left) (AllBelow-after d.plan g sound)),
       subst IsWithin (sym h.view) (each_within d.plan.bookmarks id h.bookmark sound.views_within h.there),
     )
+
+-- the entry of what is needed next can be worked
+pub entry_workable : (d : BookState) (need : Need) (e : Entry) → IsRight d → IsNext d (Some need) → IsEntryOf d need e → CanBeWorked e
+entry_workable d (Step m) (entry.Step s) right next h = step_workable d m s right.sound right next.can.is h
+entry_workable d (Step m) (entry.View r) right next h = absurd h
+entry_workable d (View id) (entry.Step s) right next h = absurd h
+entry_workable d (View id) (entry.View r) right next h = view_workable d id r right.sound right h

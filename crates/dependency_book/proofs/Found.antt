@@ -28,8 +28,8 @@ pub record StepRow (d : BookState) (m k : ℕ) : Type 0 where
 
 pub step_row : (d : BookState) (places : List ℕ) (m : ℕ) → IsHeld d places → StepIsNext d m → StepRow d m (place_in mark_rank m d.arrivals)
 step_row d places m held next =
-    let there : has mark_rank m (keys d.arrivals) ≡ true = held.marks.are m next.can.above ∙ next.can.is in
-    let low = place-has mark_rank m d.arrivals held.marks.rise there in
+    let there : has mark_rank m (keys d.arrivals) ≡ true = held.right.marks.are m next.can.above ∙ next.can.is in
+    let low = place-has mark_rank m d.arrivals held.right.marks.rise there in
     record {
       low = low;
       comes = λ x. comes there low x;
@@ -37,7 +37,7 @@ step_row d places m held next =
     }
   where
     comes : has mark_rank m (keys d.arrivals) ≡ true → place_in mark_rank m d.arrivals < length d.arrivals → (x : ArrivalRow) → ComesBefore d.plan (before_row d.arrivals (place_in mark_rank m d.arrivals) x) m
-    comes there low x = subst (ComesBefore d.plan (before_row d.arrivals (place_in mark_rank m d.arrivals) x)) (rank-has mark_rank m d.arrivals x held.marks.rise there) (row_comes d places (place_in mark_rank m d.arrivals) x held low)
+    comes there low x = subst (ComesBefore d.plan (before_row d.arrivals (place_in mark_rank m d.arrivals) x)) (rank-has mark_rank m d.arrivals x held.right.marks.rise there) (row_comes d places (place_in mark_rank m d.arrivals) x held low)
 
 -- what is known at the row before
 pub row_known : (d : BookState) (places : List ℕ) (k : ℕ) (x : ArrivalRow) → IsHeld d places → k < length d.arrivals → arrival_known d (rank_at mark_rank d.arrivals k x) ≡ known (get_or d.arrivals k x).state
@@ -52,10 +52,10 @@ pub arrived_row : (d : BookState) (places : List ℕ) (g : ℕ) → IsHeld d pla
 arrived_row d places g held high some =
     let there : has mark_rank g (keys d.arrivals) ≡ true =
     either_way (has mark_rank g (keys d.arrivals)) (λ hit. hit) (λ miss. absurd (nothing (state_at-above mark_rank g d.arrivals miss) some)) in
-    let low = place-has mark_rank g d.arrivals held.marks.rise there in
+    let low = place-has mark_rank g d.arrivals held.right.marks.rise there in
     record {
       low = low;
-      shows = λ x. let at = state_at-place mark_rank g d.arrivals x held.marks.rise low (rank-has mark_rank g d.arrivals x held.marks.rise there) in rw high (ap known at);
+      shows = λ x. let at = state_at-place mark_rank g d.arrivals x held.right.marks.rise low (rank-has mark_rank g d.arrivals x held.right.marks.rise there) in rw high (ap known at);
     }
   where
     nothing : state_at mark_rank g d.arrivals ≡ Empty → IsSome (arrival_known d g) → ⊥
@@ -70,7 +70,7 @@ pub record ViewRow (d : BookState) (id k : ℕ) : Type 0 where
 pub view_row : (d : BookState) (places : List ℕ) (id : ℕ) → IsHeld d places → ViewIsNext d id → ViewRow d id (place_in bookmark_rank id d.texts)
 view_row d places id held next =
     let b = next.bookmark in
-    let f = stands_in d.texts b.id b (ap (λ bs. bookmark_in bs b.id) held.bookmarks ∙ next.can.there) in
+    let f = stands_in d.texts b.id b (ap (λ bs. bookmark_in bs b.id) held.right.bookmarks ∙ next.can.there) in
     let one : (x : TextRow) → (get_or d.texts f.place x).key.id ≡ id = λ x. ap (λ (c : Bookmark). c.id) (f.is x) ∙ next.named in
     let at : place_in bookmark_rank id d.texts ≡ f.place = ap (λ n. place_in bookmark_rank n d.texts) (sym (one (row_for b))) ∙ place_of-row bookmark_rank d.texts f.place (row_for b) (ids_rise d places held) f.low in
     subst (ViewRow d id) (sym at) (record {

@@ -7,6 +7,8 @@ use Rattle.schedule.specs.Change.{Changed, change, changed, made, refusal, actin
 use Rattle.schedule.specs.Ids.{intervention_id, bookmark_id, changed_at, without}
 use Rattle.schedule.specs.Plan.{Plan}
 use Rattle.schedule.proofs.Shared.Ids.{length-filter_le}
+use Rattle.dependency_book.specs.declared.room.Room.{Room}
+use Rattle.dependency_book.specs.Room.{HasRoom}
 use Rattle.dependency_book.proofs.Revised.{accepted}
 
 -- a document has at most one more intervention and one more bookmark than another
@@ -37,6 +39,23 @@ has_one_more p (AddBookmark generation view) = record { interventions = no_more 
 has_one_more p (MoveBookmark id generation) = record { interventions = no_more p.interventions; bookmarks = none_more bookmark_id (marking generation) p.bookmarks id }
 has_one_more p (RemoveBookmark id) = record { interventions = no_more p.interventions; bookmarks = one_less bookmark_id p.bookmarks id }
 
--- the document that an edit made
-pub made_one_more : (p q : Plan) (asked : Asked) (edited : Edited) → change p asked ≡ Ok (made q edited) → HasOneMore p q
-made_one_more p q asked edited is = subst (λ (c : Changed). HasOneMore p c.plan) (accepted (refusal p asked) (changed p asked) (made q edited) is) (has_one_more p asked)
+-- room for one more of each is room for the document that an edit made
+pub made_room : (room : Room) (p q : Plan) (asked : Asked) (edited : Edited) → change p asked ≡ Ok (made q edited) → HasRoom room (length p.interventions + 1) (length p.bookmarks + 1) → HasRoom room (length q.interventions) (length q.bookmarks)
+made_room room p q asked edited is h =
+    let more = subst (λ (c : Changed). HasOneMore p c.plan) (accepted (refusal p asked) (changed p asked) (made q edited) is) (has_one_more p asked) in
+    let i = more.interventions in
+    let b = more.bookmarks in
+    let marks = h.marks in
+    let arrivals = h.arrivals in
+    let texts = h.texts in
+    let places = h.places in
+    record {
+      no_marks = h.no_marks;
+      no_arrivals = h.no_arrivals;
+      no_texts = h.no_texts;
+      no_places = h.no_places;
+      marks = omega (arith, i, b, marks);
+      arrivals = omega (arith, i, b, arrivals);
+      texts = omega (arith, b, texts);
+      places = omega (arith, b, places);
+    }

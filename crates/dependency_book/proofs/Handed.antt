@@ -41,7 +41,7 @@ abbrev row_of_key : Bookmark → RowState (List ℕ) → Bookmark × Option (Lis
 row_of_key b s = (b, known s)
 
 pub handed_rows : (d : BookState) (places : List ℕ) → IsHeld d places → map handed d.texts ≡ shown_rows d
-handed_rows d places held = by_keys bookmark_rank row_of_key d.texts (ids_rise d places held) ∙ ap (map (shown_row d)) held.bookmarks
+handed_rows d places held = by_keys bookmark_rank row_of_key d.texts (ids_rise d places held) ∙ ap (map (shown_row d)) held.right.bookmarks
 
 -- bookmarks by rising id are each the first of their id
 
@@ -75,4 +75,4 @@ each_scratch d [] right there = tt
 each_scratch d (b ∷ bs) right there = (its_scratch d b (text_row d b.id) (right.stands (View b.id)) there.0, each_scratch d bs right there.1)
 
 pub are_scratch : (d : BookState) (places : List ℕ) → IsHeld d places → AllByRecursion (IsScratch d.plan) (shown_rows d)
-are_scratch d places held = each_scratch d d.plan.bookmarks held.right (each_first d.plan.bookmarks held.sound.bookmarks_rise)
+are_scratch d places held = each_scratch d d.plan.bookmarks held.right (each_first d.plan.bookmarks held.right.sound.bookmarks_rise)

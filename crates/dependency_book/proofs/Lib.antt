@@ -9,11 +9,13 @@ pub mod Marked
 pub mod Merged
 pub mod Needed
 pub mod Opened
+pub mod Passed
 pub mod Outs
 pub mod Placed
 pub mod Putting
 pub mod Remaking
 pub mod Revised
+pub mod Shared
 pub mod Showing
 pub mod Standing
 pub mod Tests

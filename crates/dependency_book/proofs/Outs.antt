@@ -1,6 +1,6 @@
 -- Rows that expect jobs.
 use Rattle.std.proofs.Common.{◌≡◌, ℕ, ◌<◌, ◌≤◌, ◌∙◌, true, false, List, [], ◌∷◌, refl, sym, ap, ap₂, subst, arith, Option, None, Some}
-use Rattle.std.specs.Prelude.{◌==◌, IfSome, min}
+use Rattle.std.specs.Prelude.{◌==◌, ◌||◌, IfSome, IsSome, is_some, min}
 use Rattle.std.specs.List.{AllByRecursion}
 use Rattle.schedule.specs.declared.document.Bookmark.{Bookmark}
 use Rattle.schedule.specs.Ids.{IdsRise, bookmark_id}
@@ -15,8 +15,8 @@ use Rattle.dependency_book.specs.declared.need.Need.{Need}
 use Rattle.dependency_book.specs.declared.need.Need.TheVariants.{Step, View}
 use Rattle.dependency_book.specs.BookState.{BookState, NothingOut, arrival_row, text_row, expected}
 use Rattle.dependency_book.specs.Held.{IsHeld}
-use Rattle.dependency_book.specs.Jobs.{IsFirstOut}
-use Rattle.dependency_book.specs.RowState.{job_of, state_map, has_number, named_by, either, row_for, lesser, number_of, least_out}
+use Rattle.dependency_book.specs.Jobs.{IsAnyOut, IsFirstOut}
+use Rattle.dependency_book.specs.RowState.{any_out, job_of, state_map, has_number, named_by, either, row_for, lesser, number_of, least_out}
 use Rattle.dependency_book.specs.Rows.{keys, IsRanked, state_at, mark_rank, bookmark_rank}
 use Rattle.dependency_book.proofs.Standing.{has, has-above, state_at-above}
 use Rattle.dependency_book.proofs.Tests.{either_way, clash, true_eq, eq_true, eq_false, false_eq}
@@ -55,18 +55,18 @@ none_out {K} {V} rank (r ∷ rs) ranked none = (
 )
 
 zero_absent : (d : BookState) (places : List ℕ) → IsHeld d places → has mark_rank 0 (keys d.arrivals) ≡ false
-zero_absent d places held = has-above mark_rank 0 0 (keys d.arrivals) held.marks.above (omega arith)
+zero_absent d places held = has-above mark_rank 0 0 (keys d.arrivals) held.right.marks.above (omega arith)
 
 pub arrivals_none : (d : BookState) (places : List ℕ) → IsHeld d places → NothingOut d → NoneOut d.arrivals
 arrivals_none d places held out =
-    none_out mark_rank d.arrivals held.marks.rise
+    none_out mark_rank d.arrivals held.right.marks.rise
     (λ g.
     either_way (g == 0)
     (λ hit. ap job_of (state_at-above mark_rank g d.arrivals (ap (λ n. has mark_rank n (keys d.arrivals)) (true_eq g 0 hit) ∙ zero_absent d places held)))
     (λ miss. sym (out_at d g miss) ∙ out (Step g)))
 
 pub ids_rise : (d : BookState) (places : List ℕ) → IsHeld d places → IsRanked bookmark_rank d.texts
-ids_rise d places held = subst (IdsRise bookmark_id) (sym held.bookmarks) held.sound.bookmarks_rise
+ids_rise d places held = subst (IdsRise bookmark_id) (sym held.right.bookmarks) held.right.sound.bookmarks_rise
 
 pub texts_none : (d : BookState) (places : List ℕ) → IsHeld d places → NothingOut d → NoneOut d.texts
 texts_none d places held out = none_out bookmark_rank d.texts (ids_rise d places held) (λ id. sym (out_for d id) ∙ out (View id))
@@ -132,7 +132,7 @@ expecting_none d n arrivals texts (View id) = ap (has_number n) (out_for d id) �
 
 pub expecting_mark : (d : BookState) (places : List ℕ) (n : ℕ) (key : Mark) (place : Place) → IsHeld d places → row_for n d.arrivals ≡ Some (key, place) → expected d (Step key.generation) ≡ numbered n place
 expecting_mark d places n key place held is =
-    let f = row_for-is mark_rank n d.arrivals key place held.marks.rise is in
+    let f = row_for-is mark_rank n d.arrivals key place held.right.marks.rise is in
     either_way (key.generation == 0)
     (λ hit. clash (has mark_rank key.generation (keys d.arrivals)) f.there (ap (λ m. has mark_rank m (keys d.arrivals)) (true_eq key.generation 0 hit) ∙ zero_absent d places held))
     (λ miss. out_at d key.generation miss ∙ f.out)
@@ -235,3 +235,28 @@ first_of d places (Some n) held h =
 
 pub first_out_is : (d : BookState) (places : List ℕ) → IsHeld d places → IsFirstOut d (lesser (least_out d.arrivals) (least_out d.texts))
 first_out_is d places held = first_of d places (lesser (least_out d.arrivals) (least_out d.texts)) held refl
+
+-- whether a row expects a job
+
+some_out : {K V : Type 0} (rows : List (Row K V)) → any_out rows ≡ is_some (least_out rows)
+some_out [] = refl
+some_out (r ∷ rs) = ap (λ b. is_some (job_of r.state) || b) (some_out rs) ∙ either_some (job_of r.state) (least_out rs)
+  where
+    either_some : (o : Option Job) (rest : Option ℕ) → (is_some o || is_some rest) ≡ is_some (lesser (number_of o) rest)
+    either_some None rest = refl
+    either_some (Some job) None = refl
+    either_some (Some job) (Some n) = refl
+
+pub any_out_is : (d : BookState) (places : List ℕ) → IsHeld d places → IsAnyOut d (any_out d.arrivals || any_out d.texts)
+any_out_is d places held =
+    subst (IsAnyOut d) (sym (ap₂ (λ a b. a || b) (some_out d.arrivals) (some_out d.texts))) (of_first (least_out d.arrivals) (least_out d.texts) (first_out_is d places held))
+  where
+    has_one : (n : ℕ) (o : Option Job) → has_number n o ≡ true → IsSome o
+    has_one n None h = absurd cc
+    has_one n (Some job) h = refl
+
+    of_first : (a b : Option ℕ) → IsFirstOut d (lesser a b) → IsAnyOut d (is_some a || is_some b)
+    of_first None None none = none
+    of_first None (Some n) first = (first.0.0, has_one n (expected d first.0.0) first.0.1)
+    of_first (Some m) None first = (first.0.0, has_one m (expected d first.0.0) first.0.1)
+    of_first (Some m) (Some n) first = (first.0.0, has_one (min m n) (expected d first.0.0) first.0.1)

@@ -33,13 +33,13 @@ place_of-row rank rows k d ranked low =
 -- marks by their rows
 
 pub mark_above : (d : BookState) (places : List ℕ) (k : ℕ) (x : ArrivalRow) → IsHeld d places → k < length d.arrivals → 0 < rank_at mark_rank d.arrivals k x
-mark_above d places k x held low = above_at mark_rank 0 d.arrivals k x held.marks.above low
+mark_above d places k x held low = above_at mark_rank 0 d.arrivals k x held.right.marks.above low
 
 pub mark_is : (d : BookState) (places : List ℕ) (k : ℕ) (x : ArrivalRow) → IsHeld d places → k < length d.arrivals → is_mark d.plan (rank_at mark_rank d.arrivals k x) ≡ true
-mark_is d places k x held low = sym (held.marks.are (rank_at mark_rank d.arrivals k x) (mark_above d places k x held low)) ∙ has-row mark_rank d.arrivals k x low
+mark_is d places k x held low = sym (held.right.marks.are (rank_at mark_rank d.arrivals k x) (mark_above d places k x held low)) ∙ has-row mark_rank d.arrivals k x low
 
 pub row_stands : (d : BookState) (places : List ℕ) (k : ℕ) (x : ArrivalRow) → IsHeld d places → k < length d.arrivals → arrival_row d (rank_at mark_rank d.arrivals k x) ≡ (get_or d.arrivals k x).state
-row_stands d places k x held low = rw (over_zero (rank_at mark_rank d.arrivals k x) (mark_above d places k x held low)) (state_at-row mark_rank d.arrivals k x held.marks.rise low)
+row_stands d places k x held low = rw (over_zero (rank_at mark_rank d.arrivals k x) (mark_above d places k x held low)) (state_at-row mark_rank d.arrivals k x held.right.marks.rise low)
 
 -- the mark before that of a row
 abbrev pub before_row : List ArrivalRow → ℕ → ArrivalRow → ℕ
@@ -55,7 +55,7 @@ row_comes d places k x held low = record {
   where
     under : (d : BookState) (places : List ℕ) (k : ℕ) (x : ArrivalRow) → IsHeld d places → k < length d.arrivals → before_row d.arrivals k x < rank_at mark_rank d.arrivals k x
     under d places zero x held low = mark_above d places zero x held low
-    under d places (suc k) x held low = rank_rises mark_rank d.arrivals k (suc k) x held.marks.rise (omega arith) low
+    under d places (suc k) x held low = rank_rises mark_rank d.arrivals k (suc k) x held.right.marks.rise (omega arith) low
 
     was : (d : BookState) (places : List ℕ) (k : ℕ) (x : ArrivalRow) → IsHeld d places → k < length d.arrivals → (before_row d.arrivals k x ≡ 0) ⊎ (is_mark d.plan (before_row d.arrivals k x) ≡ true)
     was d places zero x held low = inl refl
@@ -64,14 +64,14 @@ row_comes d places k x held low = record {
     not_there : (d : BookState) (places : List ℕ) (k : ℕ) (x : ArrivalRow) (g : ℕ) → IsHeld d places → k < length d.arrivals → before_row d.arrivals k x < g → g < rank_at mark_rank d.arrivals k x → has mark_rank g (keys d.arrivals) ≡ true → ⊥
     not_there d places k x g held low over less there =
         let p = place_in mark_rank g d.arrivals in
-        let at : rank_at mark_rank d.arrivals p x ≡ g = rank-has mark_rank g d.arrivals x held.marks.rise there in
-        let fits : p < length d.arrivals = place-has mark_rank g d.arrivals held.marks.rise there in
+        let at : rank_at mark_rank d.arrivals p x ≡ g = rank-has mark_rank g d.arrivals x held.right.marks.rise there in
+        let fits : p < length d.arrivals = place-has mark_rank g d.arrivals held.right.marks.rise there in
         either_way (nat_lt p k)
         (λ hit. earlier d places k p x g held low over (true_lt p k hit) at)
         (λ miss.
         let from = false_lt p k miss in
         either_way (nat_lt k p)
-        (λ later. let up = rank_rises mark_rank d.arrivals k p x held.marks.rise (true_lt k p later) fits in omega (arith, up, at, less))
+        (λ later. let up = rank_rises mark_rank d.arrivals k p x held.right.marks.rise (true_lt k p later) fits in omega (arith, up, at, less))
         (λ none. let same : p ≡ k = (let to = false_lt k p none in omega (arith, from, to)) in let here : rank_at mark_rank d.arrivals k x ≡ g = ap (λ n. rank_at mark_rank d.arrivals n x) (sym same) ∙ at in omega (arith, here, less)))
       where
         less_than : (p k : ℕ) → p < suc k → (p == k) ≡ false → p < k
@@ -82,12 +82,12 @@ row_comes d places k x held low = record {
         earlier d places (suc k) p x g held low over less at =
             either_way (p == k)
             (λ hit. let here : rank_at mark_rank d.arrivals k x ≡ g = ap (λ n. rank_at mark_rank d.arrivals n x) (sym (true_eq p k hit)) ∙ at in omega (arith, here, over))
-            (λ miss. let up = rank_rises mark_rank d.arrivals p k x held.marks.rise (less_than p k less miss) (omega (arith, low)) in omega (arith, up, at, over))
+            (λ miss. let up = rank_rises mark_rank d.arrivals p k x held.right.marks.rise (less_than p k less miss) (omega (arith, low)) in omega (arith, up, at, over))
 
     none : (d : BookState) (places : List ℕ) (k : ℕ) (x : ArrivalRow) (g : ℕ) → IsHeld d places → k < length d.arrivals → before_row d.arrivals k x < g → g < rank_at mark_rank d.arrivals k x → is_mark d.plan g ≡ false
     none d places k x g held low over less =
         either_way (is_mark d.plan g)
-        (λ hit. absurd (not_there d places k x g held low over less (held.marks.are g (omega (arith, over)) ∙ hit)))
+        (λ hit. absurd (not_there d places k x g held low over less (held.right.marks.are g (omega (arith, over)) ∙ hit)))
         (λ miss. miss)
 
 -- one mark alone comes before another
@@ -131,7 +131,7 @@ bookmark_at (r ∷ rs) (suc k) x ranked low =
     rw (eq_false r.key.id (get_or rs k x).key.id (λ same. omega (arith, same, up))) (bookmark_at rs k x ranked.1 (omega (arith, low)))
 
 pub in_at : (d : BookState) (places : List ℕ) (k : ℕ) (x : TextRow) → IsHeld d places → k < length d.texts → bookmark_in d.plan.bookmarks (get_or d.texts k x).key.id ≡ Some (get_or d.texts k x).key
-in_at d places k x held low = ap (λ bs. bookmark_in bs (get_or d.texts k x).key.id) (sym held.bookmarks) ∙ bookmark_at d.texts k x (ids_rise d places held) low
+in_at d places k x held low = ap (λ bs. bookmark_in bs (get_or d.texts k x).key.id) (sym held.right.bookmarks) ∙ bookmark_at d.texts k x (ids_rise d places held) low
 
 pub text_stands : (d : BookState) (places : List ℕ) (k : ℕ) (x : TextRow) → IsHeld d places → k < length d.texts → text_row d (get_or d.texts k x).key.id ≡ (get_or d.texts k x).state
 text_stands d places k x held low = state_at-row bookmark_rank d.texts k x (ids_rise d places held) low

@@ -5,6 +5,8 @@ use Rattle.std.proofs.lemmas.List.{drop_all, take_all}
 use Rattle.dependency_book.specs.declared.row.Row.{Row}
 use Rattle.worlds.specs.World.{World}
 use Rattle.schedule.specs.declared.document.Bookmark.{Bookmark}
+use Rattle.schedule.specs.Plan.{Plan}
+use Rattle.schedule.specs.Sound.{IsSound}
 use Rattle.revision_jobs.specs.declared.answer.Job.{Job}
 use Rattle.revision_jobs.specs.Value.{Value, pattern, text}
 use Rattle.dependency_book.specs.declared.need.Need.{Need}
@@ -17,7 +19,7 @@ use Rattle.dependency_book.specs.Held.{IsHeld, places_of}
 use Rattle.dependency_book.specs.Jobs.{is_need}
 use Rattle.dependency_book.specs.Marks.{is_mark}
 use Rattle.dependency_book.specs.Puts.{CanBePut, IsFree, Puts, can_change, missing}
-use Rattle.dependency_book.specs.Right.{IsRight, StandsRight, wanted, is_row}
+use Rattle.dependency_book.specs.Right.{IsRight, StandsRight, wanted}
 use Rattle.dependency_book.specs.RowState.{state_map, job_of, has_number}
 use Rattle.dependency_book.specs.Rows.{ArrivalRow, keys, state_at, put, mark_rank, bookmark_rank}
 use Rattle.dependency_book.proofs.Standing.{has, keys-put, length-keys, state_at-put_same, state_at-put_other, place_in-keys, count-put}
@@ -40,13 +42,6 @@ pub and_parts : (a b : Bool) → (a && b) ≡ true → (a ≡ true) × (b ≡ tr
 and_parts true b h = (refl, h)
 and_parts false b h = absurd cc
 
--- a row that may change is one of the document
-pub change_row : (d : BookState) (need : Need) → can_change d.plan need ≡ true → is_row d.plan need ≡ true
-change_row d (Step g) h =
-    let parts = and_parts (nat_lt 0 g) (is_mark d.plan g) h in
-    either_way (g == 0) (λ hit. rw hit refl) (λ miss. rw miss parts.1)
-change_row d (View id) h = h
-
 -- a book in which something is put is right
 
 number_of_state : (s : RowState Value) (i : Job) → job_of s ≡ Some i → s ≡ Expected i
@@ -66,18 +61,15 @@ put_right d e need s right can puts =
     let plan = puts.book.document.plan in
     let given = puts.book.given in
     record {
+      sound = subst IsSound (sym plan) right.sound;
+      marks = subst (λ p. AreMarksOf p (keys e.arrivals)) (sym plan) (subst (AreMarksOf d.plan) (sym puts.book.document.marks) right.marks);
+      bookmarks = puts.book.document.bookmarks ∙ right.bookmarks ∙ ap (λ (p : Plan). p.bookmarks) (sym plan);
       stands = λ other.
           same_right d e other (row_of e other) table given (ap (λ p. wanted p other) plan)
           (subst (StandsRight d other) (sym (puts.rows other))
           (either_way (is_need need other)
           (λ hit. rw hit (subst (λ n. StandsRight d n s) (need_is need other hit) can.right))
           (λ miss. rw miss (right.stands other))));
-      rows = λ other none.
-          let off : is_row d.plan other ≡ false = ap (λ p. is_row p other) (sym plan) ∙ none in
-          puts.rows other
-          ∙ either_way (is_need need other)
-          (λ hit. clash (is_row d.plan other) (ap (is_row d.plan) (sym (need_is need other hit)) ∙ change_row d need can.there) off)
-          (λ miss. rw miss (right.rows other off));
       once = λ a b i j out other same.
           either_way (is_need need a)
           (λ a_is.
@@ -117,7 +109,7 @@ arrival_puts d g s marks can =
     let off : (g == 0) ≡ false = eq_false g 0 (let some = m.0 in λ same. omega (arith, same, some)) in
     record {
       book = record {
-        document = record { table = refl; plan = refl; marks = length-keys (put mark_rank g s d.arrivals) d.arrivals (keys-put mark_rank g s d.arrivals); bookmarks = refl };
+        document = record { table = refl; plan = refl; marks = keys-put mark_rank g s d.arrivals; bookmarks = refl };
         given = refl;
       };
       rows = arrival_rows d g s m.1 off;
@@ -147,7 +139,7 @@ text_puts d id s bookmarks can =
     let there : has bookmark_rank id (keys d.texts) ≡ true = ap (has bookmark_rank id) bookmarks ∙ can in
     record {
       book = record {
-        document = record { table = refl; plan = refl; marks = refl; bookmarks = length-keys (put bookmark_rank id s d.texts) d.texts (keys-put bookmark_rank id s d.texts) };
+        document = record { table = refl; plan = refl; marks = refl; bookmarks = keys-put bookmark_rank id s d.texts };
         given = refl;
       };
       rows = text_rows d id s there;
@@ -171,23 +163,15 @@ same_places : (xs ys : List ArrivalRow) (bs : List Bookmark) → keys xs ≡ key
 same_places xs ys bs same = ap (λ (f : Bookmark → ℕ). map f bs) (λ i b. place_in-keys mark_rank b.generation xs ys same i)
 
 pub arrival_held : (d : BookState) (places : List ℕ) (g : ℕ) (s : RowState World) → IsHeld d places → CanBePut d (Step g) (state_map pattern s) → IsHeld (with_arrival d g s) places
-arrival_held d places g s held can =
-    let same = keys-put mark_rank g s d.arrivals in
-    record {
-      sound = held.sound;
-      marks = subst (AreMarksOf d.plan) (sym same) held.marks;
-      bookmarks = held.bookmarks;
-      places = held.places ∙ same_places d.arrivals (put mark_rank g s d.arrivals) d.plan.bookmarks (sym same);
-      right = put_right d (with_arrival d g s) (Step g) (state_map pattern s) held.right can (arrival_puts d g s held.marks can.there);
-    }
+arrival_held d places g s held can = record {
+  places = held.places ∙ same_places d.arrivals (put mark_rank g s d.arrivals) d.plan.bookmarks (sym (keys-put mark_rank g s d.arrivals));
+  right = put_right d (with_arrival d g s) (Step g) (state_map pattern s) held.right can (arrival_puts d g s held.right.marks can.there);
+}
 
 pub text_held : (d : BookState) (places : List ℕ) (id : ℕ) (s : RowState (List ℕ)) → IsHeld d places → CanBePut d (View id) (state_map text s) → IsHeld (with_text d id s) places
 text_held d places id s held can = record {
-  sound = held.sound;
-  marks = held.marks;
-  bookmarks = keys-put bookmark_rank id s d.texts ∙ held.bookmarks;
   places = held.places;
-  right = put_right d (with_text d id s) (View id) (state_map text s) held.right can (text_puts d id s held.bookmarks can.there);
+  right = put_right d (with_text d id s) (View id) (state_map text s) held.right can (text_puts d id s held.right.bookmarks can.there);
 }
 
 -- a vector whose rows are all written is the rows that were written

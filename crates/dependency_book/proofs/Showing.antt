@@ -82,7 +82,7 @@ absent_at d places id held none = by_bookmark (bookmark_in d.plan.bookmarks id) 
     by_bookmark None is = is
     by_bookmark (Some b) is =
         let x = row_for b in
-        let f = stands_in d.texts id b (ap (λ bs. bookmark_in bs id) held.bookmarks ∙ is) in
+        let f = stands_in d.texts id b (ap (λ bs. bookmark_in bs id) held.right.bookmarks ∙ is) in
         let named : (get_or d.texts f.place x).key.id ≡ id = ap (λ (c : Bookmark). c.id) (f.is x) ∙ its_id d.plan.bookmarks id b is in
         let at : place_in bookmark_rank id d.texts ≡ f.place = ap (λ n. place_in bookmark_rank n d.texts) (sym named) ∙ place_of-row bookmark_rank d.texts f.place x (ids_rise d places held) f.low in
         absurd (none x (subst (λ k. k < length d.texts) (sym at) f.low) (subst (λ k. (get_or d.texts k x).key.id ≡ id) (sym at) named))

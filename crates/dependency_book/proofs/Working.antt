@@ -17,14 +17,18 @@ use Rattle.dependency_book.specs.declared.need.Need.TheVariants.{Step, View}
 use Rattle.dependency_book.specs.declared.row.RowState.{RowState}
 use Rattle.dependency_book.specs.declared.row.RowState.TheVariants.{Empty, Expected, Known}
 use Rattle.dependency_book.specs.BookState.{BookState, row_of, expected, bookmark_in, wanting_of}
+use Rattle.dependency_book.specs.declared.cursor.Cursor.{Cursor}
+use Rattle.dependency_book.specs.Cursor.{HasPassed, IsHeldWith}
 use Rattle.dependency_book.specs.Held.{IsHeld}
 use Rattle.dependency_book.specs.Jobs.{is_need, is_job, given_by, answered, cancelled, IsFilled, IsNextJob, StepExpects}
 use Rattle.dependency_book.specs.Marks.{is_mark}
 use Rattle.dependency_book.specs.Needs.{IsNext}
 use Rattle.dependency_book.specs.Puts.{CanBePut, Puts, can_change, filled_by, missing}
-use Rattle.dependency_book.specs.Right.{IsRight, GivesWanted, StandsRight, is_row, text_wanted}
+use Rattle.dependency_book.specs.Right.{IsRight, GivesWanted, StandsRight, text_wanted}
 use Rattle.dependency_book.specs.RowState.{job_of, has_number}
-use Rattle.dependency_book.proofs.Outs.{numbered, none_at}
+use Rattle.dependency_book.specs.Rows.{keys, mark_rank, bookmark_rank}
+use Rattle.dependency_book.proofs.Outs.{numbered, none_at, out_at, out_for}
+use Rattle.dependency_book.proofs.Standing.{has, state_at-above}
 use Rattle.dependency_book.proofs.Entering.{entry_gives}
 use Rattle.dependency_book.proofs.Putting.{need_is, need_same, and_parts, put_right}
 use Rattle.dependency_book.proofs.Tests.{either_way, clash, eq_true, eq_false, false_eq, lt_true, true_lt}
@@ -45,20 +49,24 @@ expected_gives d need job right out = subst (StandsRight d need) (expected_state
 
 -- the row may change
 pub expected_row : (d : BookState) (need : Need) (job : Job) → IsRight d → expected d need ≡ Some job → can_change d.plan need ≡ true
-expected_row d need job right out = by_kind need out (either_way (is_row d.plan need) (λ hit. hit) (λ miss. absurd (not_both (row_of d need) (right.rows need miss) (expected_state d need job out))))
+expected_row d need job right out = there need out
   where
-    not_both : (s : RowState Value) → s ≡ Empty → s ≡ Expected job → ⊥
-    not_both s none some = cc
+    none_some : {A : Type 0} → None ≡ Some job → A
+    none_some h = absurd cc
 
-    by_kind : (n : Need) → expected d n ≡ Some job → is_row d.plan n ≡ true → can_change d.plan n ≡ true
-    by_kind (View id) some there = there
-    by_kind (Step g) some there =
+    there : (n : Need) → expected d n ≡ Some job → can_change d.plan n ≡ true
+    there (View id) some =
+        either_way (has bookmark_rank id (keys d.texts))
+        (λ hit. sym (ap (has bookmark_rank id) right.bookmarks) ∙ hit)
+        (λ miss. none_some (sym (out_for d id ∙ ap job_of (state_at-above bookmark_rank id d.texts miss)) ∙ some))
+    there (Step g) some =
         either_way (g == 0)
-        (λ hit. absurd (let none = sym (none_at d g hit) ∙ some in none_some job none))
-        (λ miss. let marked : is_mark d.plan g ≡ true = rw miss at there in rw (lt_true 0 g (let apart = false_eq g 0 miss in omega (arith, apart)), marked) refl)
-      where
-        none_some : (job : Job) → None ≡ Some job → ⊥
-        none_some job h = cc
+        (λ hit. none_some (sym (none_at d g hit) ∙ some))
+        (λ miss.
+        let up : 0 < g = (let apart = false_eq g 0 miss in omega (arith, apart)) in
+        either_way (has mark_rank g (keys d.arrivals))
+        (λ hit. rw (lt_true 0 g up, sym (right.marks.are g up) ∙ hit) refl)
+        (λ off. none_some (sym (out_at d g miss ∙ ap job_of (state_at-above mark_rank g d.arrivals off)) ∙ some)))
 
 -- a job for what is needed next
 
@@ -96,8 +104,10 @@ may_expect d given need job right next more =
 -- the book with one more number given is right
 pub raised_right : (d : BookState) → IsRight d → d.given < 16777216 → IsRight (record d { given = d.given + 1 })
 raised_right d right few = record {
+  sound = right.sound;
+  marks = right.marks;
+  bookmarks = right.bookmarks;
   stands = λ need. raised need (row_of d need) (right.stands need);
-  rows = right.rows;
   once = right.once;
   few = omega (arith, few);
 }
@@ -217,7 +227,11 @@ pub next_few : (d s : BookState) (need : Need) (job : Job) → d ≡ s → IsNex
 next_few d s need job same next = let number = next.number in let few = next.few in let one : d.given ≡ s.given = ap (λ (x : BookState). x.given) same in omega (arith, number, few, one)
 
 pub raised_held : (d s : BookState) (places : List ℕ) (need : Need) (job : Job) → d ≡ s → IsNextJob s need job → IsHeld d places → IsHeld (raised d) places
-raised_held d s places need job same next held = record { sound = held.sound; marks = held.marks; bookmarks = held.bookmarks; places = held.places; right = raised_right d held.right (next_few d s need job same next) }
+raised_held d s places need job same next held = record { places = held.places; right = raised_right d held.right (next_few d s need job same next) }
+
+-- and has passed the same rows
+pub kept_with : (d : BookState) (places : List ℕ) (cursor : Cursor) → HasPassed d places cursor → IsHeld (raised d) places → IsHeldWith (raised d) places cursor
+kept_with d places cursor passed held = record { held = held; passed = record { views = passed.views; steps = passed.steps } }
 
 pub may_expect_there : (d s : BookState) (need kind : Need) (job : Job) → d ≡ s → need ≡ kind → IsNextJob s need job → IsRight d → CanBePut (raised d) kind (Expected job)
 may_expect_there d s need kind job same is next right =

@@ -1,5 +1,5 @@
 -- What jobs and their answers change in the rows of a book.
-use Rattle.std.specs.Prelude.{◌≡◌, ℕ, ◌≤◌, ◌<◌, Bool, false, ◌&&◌, Option, None, Some, IfSome, Result, Ok, Err, length, if◌then◌else◌, ◌==◌, true}
+use Rattle.std.specs.Prelude.{◌≡◌, ℕ, ◌≤◌, ◌<◌, Bool, false, ◌&&◌, Option, None, Some, IfSome, IsSome, Result, Ok, Err, if◌then◌else◌, ◌==◌, true}
 use Rattle.std.specs.Result.{IsOk}
 use Rattle.step_engine.specs.declared.evolved.EvolveFault.{EvolveFault}
 use Rattle.revision_jobs.specs.declared.answer.Job.{Job}
@@ -15,9 +15,10 @@ use Rattle.dependency_book.specs.declared.need.Need.{Need}
 use Rattle.dependency_book.specs.declared.need.Need.TheVariants.{Step, View}
 use Rattle.dependency_book.specs.Entered.{IsEntryOf}
 use Rattle.dependency_book.specs.RowState.{job_of, has_number}
-use Rattle.dependency_book.specs.BookState.{BookState, expected, wanting_of}
+use Rattle.dependency_book.specs.BookState.{BookState, NothingOut, expected, wanting_of}
 use Rattle.dependency_book.specs.Marks.{is_mark}
 use Rattle.dependency_book.specs.Needs.{IsNext}
+use Rattle.dependency_book.specs.Rows.{keys}
 
 -- whether two needs are one
 abbrev pub is_need : Need → Need → Bool
@@ -80,27 +81,39 @@ IsFilled old new answer (Released fault) =
 IsFilled old new answer NotExpected =
     ((need : Need) → is_job answer.job (expected old need) ≡ false) × (new ≡ old)
 
+-- no row expects a job of this number
+abbrev pub NoneExpects : BookState → ℕ → Type 0
+NoneExpects d number = (need : Need) → has_number number (expected d need) ≡ false
+
+-- the row of a need expects the job of this number, whose entry is at this place
+abbrev pub Expects : BookState → ℕ → Need → Place → Type 0
+Expects d number need place = expected d need ≡ Some (record { number = number; place = place })
+
 -- the place is one of the table, and that of the job of this number that a row expects; or no row
 -- expects one
 abbrev pub IsForgotten : BookState → ℕ → Option Place → Type 0
-IsForgotten d number None = (need : Need) → has_number number (expected d need) ≡ false
+IsForgotten d number None = NoneExpects d number
 IsForgotten d number (Some place) =
-    IsOf d.table place
-    × ((need : Need) × (expected d need ≡ Some (record { number = number; place = place })))
+    IsOf d.table place × ((need : Need) × Expects d number need place)
+
+-- a row expects a job; or none does
+abbrev pub IsAnyOut : BookState → Bool → Type 0
+IsAnyOut d true = (need : Need) × IsSome (expected d need)
+IsAnyOut d false = NothingOut d
 
 -- the number is the least of the jobs that are out; or none is out
 abbrev pub IsFirstOut : BookState → Option ℕ → Type 0
-IsFirstOut d None = (need : Need) → expected d need ≡ None
+IsFirstOut d None = NothingOut d
 IsFirstOut d (Some number) =
     ((need : Need) × (has_number number (expected d need) ≡ true))
     × ((need : Need) → IfSome (expected d need) (λ job. number ≤ job.number))
 
--- the document, the table and how many rows there are are the same
+-- the document, the table and what there are rows for are the same
 pub record SameDocument (old new : BookState) : Type 0 where
   pub table : new.table ≡ old.table
   pub plan : new.plan ≡ old.plan
-  pub marks : length new.arrivals ≡ length old.arrivals
-  pub bookmarks : length new.texts ≡ length old.texts
+  pub marks : keys new.arrivals ≡ keys old.arrivals
+  pub bookmarks : keys new.texts ≡ keys old.texts
 
 -- so are they, and how many numbers were given
 pub record SameBook (old new : BookState) : Type 0 where

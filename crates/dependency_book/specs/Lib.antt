@@ -1,5 +1,6 @@
 pub mod AllMarks
 pub mod BookState
+pub mod Cursor
 pub mod Entered
 pub mod Held
 pub mod Inside

@@ -53,3 +53,14 @@ abbrev pub IsNext : BookState → Option Need → Type 0
 IsNext d None = NothingIsNext d
 IsNext d (Some (Step mark)) = StepIsNext d mark
 IsNext d (Some (View id)) = ViewIsNext d id
+
+-- the bookmark of this id can be viewed, and has the least id of those that can; or none can
+abbrev pub IsNextView : BookState → Option ℕ → Type 0
+IsNextView d None = (b : Bookmark) → CanBeViewed d b → ⊥
+IsNextView d (Some id) = ViewIsNext d id
+
+-- this mark is the least that can be reached; or none can
+abbrev pub IsNextStep : BookState → Option ℕ → Type 0
+IsNextStep d None = (mark : ℕ) → CanBeReached d mark → ⊥
+IsNextStep d (Some mark) =
+    CanBeReached d mark × ((other : ℕ) → CanBeReached d other → mark ≤ other)

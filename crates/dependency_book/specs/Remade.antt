@@ -1,8 +1,16 @@
 -- Rows made anew from keys.
-use Rattle.std.specs.Prelude.{ℕ, Bool, List, [], ◌∷◌, Option, if◌then◌else◌, ◌==◌}
+use Rattle.std.specs.Prelude.{◌≡◌, ℕ, Bool, List, [], ◌∷◌, map, Option, if◌then◌else◌, ◌==◌}
+use Rattle.schedule.specs.Plan.{Plan}
+use Rattle.schedule.specs.Sound.{IsSound}
 use Rattle.dependency_book.specs.declared.row.RowState.{RowState}
 use Rattle.dependency_book.specs.declared.row.RowState.TheVariants.{Empty}
 use Rattle.dependency_book.specs.declared.row.Row.{Row}
+use Rattle.dependency_book.specs.declared.mark.Mark.{Mark}
+use Rattle.dependency_book.specs.declared.room.Rows.{Rows}
+use Rattle.dependency_book.specs.AllMarks.{AreMarksOf}
+use Rattle.dependency_book.specs.Held.{places_of}
+use Rattle.dependency_book.specs.Kept.{mark_stays, bookmark_stays}
+use Rattle.dependency_book.specs.Rows.{ArrivalRow, TextRow, mark_rank, bookmark_rank}
 
 -- what stands in the first row of a rank if its key passes a test, else nothing
 abbrev pub kept_at : {K V : Type 0} → (K → ℕ) → (K → Bool) → ℕ → List (Row K V) → RowState V
@@ -17,3 +25,15 @@ remade_row rank stays felt old key = record {
   key = key;
   state = kept_at rank (stays felt key) (rank key) old;
 }
+
+-- the rows of a document's marks and bookmarks, made of old ones after an edit that is felt from
+-- here, with the places of the bookmarks' marks
+pub record AreRemade (p : Plan) (arrivals : List ArrivalRow) (texts : List TextRow)
+    (felt : Option ℕ) (rows : Rows) : Type 0 where
+  pub sound : IsSound p
+  pub marks : List Mark
+  pub are : AreMarksOf p marks
+  pub arrivals_are : rows.arrivals.items ≡ map (remade_row mark_rank mark_stays felt arrivals) marks
+  pub texts_are :
+      rows.texts.items ≡ map (remade_row bookmark_rank bookmark_stays felt texts) p.bookmarks
+  pub places_are : rows.places.items ≡ places_of rows.arrivals.items p.bookmarks

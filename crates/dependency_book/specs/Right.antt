@@ -1,9 +1,9 @@
 -- A book that is right for its document.
-use Rattle.std.specs.Prelude.{◌≡◌, ◌<◌, ◌≤◌, Bool, ◌||◌, ◌==◌, false, Option, None, Some, ⊤}
+use Rattle.std.specs.Prelude.{◌≡◌, ◌<◌, ◌≤◌, Option, None, Some, ⊤}
 use Rattle.schedule.specs.declared.document.Bookmark.{Bookmark}
-use Rattle.schedule.specs.Ids.{has_id, bookmark_id}
 use Rattle.schedule.specs.Plan.{Plan}
 use Rattle.schedule.specs.Scratch.{arrival, scratch}
+use Rattle.schedule.specs.Sound.{IsSound}
 use Rattle.revision_jobs.specs.declared.answer.Job.{Job}
 use Rattle.revision_jobs.specs.Entries.{IsOf, entry_of}
 use Rattle.revision_jobs.specs.Value.{Value, pattern, text, value}
@@ -12,12 +12,8 @@ use Rattle.dependency_book.specs.declared.row.RowState.TheVariants.{Empty, Expec
 use Rattle.dependency_book.specs.declared.need.Need.{Need}
 use Rattle.dependency_book.specs.declared.need.Need.TheVariants.{Step, View}
 use Rattle.dependency_book.specs.BookState.{BookState, row_of, expected, bookmark_in}
-use Rattle.dependency_book.specs.Marks.{is_mark}
-
--- whether a document has the mark or the bookmark that a need names
-abbrev pub is_row : Plan → Need → Bool
-is_row p (Step mark) = mark == 0 || is_mark p mark
-is_row p (View id) = has_id bookmark_id p.bookmarks id
+use Rattle.dependency_book.specs.AllMarks.{AreMarksOf}
+use Rattle.dependency_book.specs.Rows.{keys}
 
 -- the text that starting over gives for a bookmark
 abbrev pub text_wanted : Plan → Option Bookmark → Option Value
@@ -42,12 +38,14 @@ StandsRight d need Empty = ⊤
 StandsRight d need (Expected job) = GivesWanted d need job
 StandsRight d need (Known found) = wanted d.plan need ≡ Some found
 
--- each known arrival is what arrives, each known text is what starting over gives, and each job
--- that is out gives that; nothing stands but for marks and bookmarks of the document, and no two
--- rows expect jobs of one number
+-- the document keeps its limits, and the rows are those of its marks above 0 and of its bookmarks,
+-- in order; each known arrival is what arrives, each known text is what starting over gives, and
+-- each job that is out gives that; no two rows expect jobs of one number
 pub record IsRight (d : BookState) : Type 0 where
+  pub sound : IsSound d.plan
+  pub marks : AreMarksOf d.plan (keys d.arrivals)
+  pub bookmarks : keys d.texts ≡ d.plan.bookmarks
   pub stands : (need : Need) → StandsRight d need (row_of d need)
-  pub rows : (need : Need) → is_row d.plan need ≡ false → row_of d need ≡ Empty
   pub once : (a b : Need) (i j : Job) →
       expected d a ≡ Some i → expected d b ≡ Some j → i.number ≡ j.number → a ≡ b
   pub few : d.given ≤ 16777216

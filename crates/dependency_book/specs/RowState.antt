@@ -1,5 +1,6 @@
 -- What stands in a row: nothing, a job that is out for it, or the value.
 use Rattle.std.specs.Prelude.{ℕ, Bool, true, false, List, [], ◌∷◌, Option, None, Some, is_some, if◌then◌else◌, ◌==◌, min}
+use Rattle.std.specs.List.{list_any}
 use Rattle.revision_jobs.specs.declared.answer.Job.{Job}
 use Rattle.revision_jobs.specs.declared.entries.Place.{Place}
 use Rattle.dependency_book.specs.declared.row.RowState.{RowState}
@@ -53,6 +54,10 @@ either (Some a) other = Some a
 abbrev pub row_for : {K V : Type 0} → ℕ → List (Row K V) → Option (K × Place)
 row_for n [] = None
 row_for n (r ∷ rs) = either (named_by n r.key (job_of r.state)) (row_for n rs)
+
+-- whether a row expects a job
+abbrev pub any_out : {K V : Type 0} → List (Row K V) → Bool
+any_out rows = list_any (λ r. is_some (job_of r.state)) rows
 
 -- the lesser of two numbers, if there is any
 abbrev pub lesser : Option ℕ → Option ℕ → Option ℕ

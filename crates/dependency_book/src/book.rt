@@ -5,15 +5,15 @@ ghost use Rattle.dependency_book.specs.BookState.{
   opened,
   pending_of,
   row_of,
-  wanting_of,
 };
-ghost use Rattle.dependency_book.specs.Needs.{IsNext};
+ghost use Rattle.dependency_book.specs.Needs.{IsNext, IsNextStep, IsNextView};
 ghost use Rattle.dependency_book.specs.Right.{IsRight};
 ghost use Rattle.dependency_book.specs.Shown.{Shows};
 ghost use Rattle.dependency_book.specs.declared.row.RowState.TheVariants.{Empty};
 
+use crate::cursor::Cursor;
 use crate::marks::ArrivalRow;
-use crate::need::{Need, next_step, next_view};
+use crate::need::{Need, first_step, first_view, is_awaited};
 use crate::row::place_in;
 use crate::shown::Shown;
 use crate::texts::{TextRow, pending_count};
@@ -33,6 +33,7 @@ pub struct Book<'e> {
     pub(crate) texts: Vec<TextRow>,
     // Where the mark of each bookmark stands among the arrivals.
     pub(crate) places: Vec<usize>,
+    pub(crate) cursor: Cursor,
     pub(crate) alloc: Global,
 }
 
@@ -46,11 +47,11 @@ impl<'e> Model for Book<'e> {
     ghost coded = { Prim.hlevel (codes, coded_world) };
 
     ghost use Rattle.dependency_book.specs.Inside.{state_of};
-    ghost use Rattle.dependency_book.specs.Held.{IsHeld};
+    ghost use Rattle.dependency_book.specs.Cursor.{IsHeldWith};
 
     ghost view = { state_of };
 
-    ghost invariant = { λ book. IsHeld (state_of book) book.places.items };
+    ghost invariant = { λ book. IsHeldWith (state_of book) book.places.items book.cursor };
 }
 
 impl<'e> Book<'e> {
@@ -66,6 +67,7 @@ impl<'e> Book<'e> {
             arrivals: Vec::new(alloc),
             texts: Vec::new(alloc),
             places: Vec::new(alloc),
+            cursor: Cursor::start(),
             alloc,
         })
     }
@@ -95,8 +97,6 @@ impl<'e> Book<'e> {
     pub fn pending(&self) -> u32
         ensures count { result ≡ pending_of self.now }
         ensures bound { result ≤ length self.now.plan.bookmarks }
-        ensures none { NothingOut self.now → wanting_of self.now ≡ 0 → result ≡ 0 }
-        ensures few { length self.now.arrivals + length self.now.texts ≤ 12288 }
     {
         pending_count(&self.texts) as u32
     }
@@ -106,19 +106,52 @@ impl<'e> Book<'e> {
     /// least mark at or below a bookmark at which the arrival isn't known where that at the mark
     /// before it is. None where every text is known, where only arrivals above every bookmark
     /// aren't, and where all that is needed waits for jobs that are out.
-    pub fn next_need(&self) -> Option<Need>
-        ensures next { IsNext self.now result }
-        ensures empty { IfSome result (λ need. row_of self.now need ≡ Empty) }
-        ensures settled { IfNone result (NothingOut self.now → pending_of self.now ≡ 0) }
+    pub fn next_need(&mut self) -> Option<Need>
+        ensures same { self.new ≡ self.old }
+        ensures next { IsNext self.new result }
+        ensures empty { IfSome result (λ need. row_of self.new need ≡ Empty) }
+        ensures settled { IfNone result (NothingOut self.new → pending_of self.new ≡ 0) }
     {
-        if let Some(place) = next_view(&self.arrivals, &self.texts, &self.places) {
-            return Some(Need::View {
-                id: self.texts[place].key.id,
-            });
+        if let Some(id) = self.next_view() {
+            return Some(Need::View { id });
         }
-        let mark = next_step(self.document.bookmarks(), &self.arrivals)?;
-        Some(Need::Step {
-            mark: mark.generation,
-        })
+        let mark = self.next_step()?;
+        Some(Need::Step { mark })
+    }
+
+    // The least id of the bookmarks that can be viewed. The search goes on where the last one ended.
+    fn next_view(&mut self) -> Option<u64>
+        ensures same { self.new ≡ self.old }
+        ensures next { IsNextView self.new result }
+    {
+        match first_view(&self.arrivals, &self.texts, &self.places, self.cursor.views) {
+            Some(place) => {
+                self.cursor.views = place;
+                Some(self.texts[place].key.id)
+            }
+            None => {
+                self.cursor.views = self.texts.len();
+                None
+            }
+        }
+    }
+
+    // The least mark to which a step can be made. The search goes on where the last one ended.
+    fn next_step(&mut self) -> Option<u64>
+        ensures same { self.new ≡ self.old }
+        ensures next { IsNextStep self.new result }
+        ensures right { IsRight self.new }
+    {
+        let Some(place) = first_step(&self.arrivals, self.cursor.steps) else {
+            self.cursor.steps = self.arrivals.len();
+            return None;
+        };
+        self.cursor.steps = place;
+        let mark = self.arrivals[place].key.generation;
+        if is_awaited(self.document.bookmarks(), mark) {
+            Some(mark)
+        } else {
+            None
+        }
     }
 }

@@ -7,6 +7,7 @@ ghost use Rattle.dependency_book.specs.BookState.{arrival_known};
 ghost use Rattle.dependency_book.specs.Entered.{IsEntryOf};
 ghost use Rattle.dependency_book.specs.Marks.{ComesBefore};
 ghost use Rattle.dependency_book.specs.Needs.{IsNext};
+ghost use Rattle.dependency_book.specs.Right.{IsRight};
 
 use crate::book::Book;
 use crate::need::Need;
@@ -35,7 +36,7 @@ impl Book<'_> {
     fn step_to(&self, mark: u64) -> Result<Entry, AllocError>
         requires { IsNext self.now (Some (Need.Step mark)) }
         ensures entry { IfOk result (λ entry. IsEntryOf self.now (Need.Step mark) entry) }
-        ensures workable { IfOk result CanBeWorked }
+        ensures right { IsRight self.now }
     {
         let (before, from) = self.before(mark);
         let interventions = self.document.interventions();
@@ -68,7 +69,7 @@ impl Book<'_> {
     fn view_of(&self, id: u64) -> Result<Entry, AllocError>
         requires { IsNext self.now (Some (Need.View id)) }
         ensures entry { IfOk result (λ entry. IsEntryOf self.now (Need.View id) entry) }
-        ensures workable { IfOk result CanBeWorked }
+        ensures right { IsRight self.now }
     {
         let bookmark = self.texts[place_in(&self.texts, id)].key;
         let rule = self.document.rule();

@@ -1,15 +1,15 @@
 //! Jobs for the rows of a book, and what their answers change.
-ghost use Rattle.std.specs.Prelude.{◌≡◌, ◌+◌, MatchOption, IfSome, Some, true, false};
+ghost use Rattle.std.specs.Prelude.{◌≡◌, ◌+◌, MatchOption, IfSome, true};
 ghost use Rattle.std.specs.Arc.{arc_value};
 ghost use Rattle.revision_jobs.specs.Answer.{outcome_of};
 ghost use Rattle.revision_jobs.specs.Entries.{IsOf};
 ghost use Rattle.revision_jobs.specs.Value.{pattern, text};
 ghost use Rattle.dependency_book.specs.declared.row.RowState.TheVariants.{Empty, Known};
-ghost use Rattle.dependency_book.specs.RowState.{has_number, state_map};
+ghost use Rattle.dependency_book.specs.RowState.{state_map};
 ghost use Rattle.dependency_book.specs.Jobs.{issued, answered, cancelled, given_by};
-ghost use Rattle.dependency_book.specs.Jobs.{IsFilled, IsFirstOut, IsForgotten, IsNextJob};
-ghost use Rattle.dependency_book.specs.Jobs.{SameBook, SameDocument};
-ghost use Rattle.dependency_book.specs.BookState.{row_of, expected, wanting_of};
+ghost use Rattle.dependency_book.specs.Jobs.{IsAnyOut, IsFilled, IsFirstOut, IsForgotten, IsNextJob};
+ghost use Rattle.dependency_book.specs.Jobs.{Expects, NoneExpects, SameBook, SameDocument};
+ghost use Rattle.dependency_book.specs.BookState.{row_of, wanting_of};
 ghost use Rattle.dependency_book.specs.Right.{IsRight};
 ghost use Rattle.dependency_book.specs.Puts.{CanBePut, Puts, can_change, filled_by};
 
@@ -17,7 +17,7 @@ use crate::arrival::Arrival;
 use crate::book::Book;
 use crate::filled::Filled;
 use crate::need::Need;
-use crate::row::{RowState, least_out, lesser, put, row_for};
+use crate::row::{RowState, any_out, least_out, lesser, put, row_for};
 use crate::text::Text;
 use revision_jobs::{Answer, Job, Outcome, Place};
 use schedule::{Listing, Plane};
@@ -84,6 +84,13 @@ impl Book<'_> {
         Some(place)
     }
 
+    /// Whether a job is out.
+    pub fn is_out(&self) -> bool
+        ensures { IsAnyOut self.now result }
+    {
+        any_out(&self.arrivals) || any_out(&self.texts)
+    }
+
     /// The least number of the jobs that are out.
     pub fn first_out(&self) -> Option<u32>
         ensures { IsFirstOut self.now result }
@@ -93,10 +100,8 @@ impl Book<'_> {
 
     // The need whose row expects the job of this number, with the place of the job's entry.
     fn expecting(&self, number: u32) -> Option<(Need, &Place)>
-        ensures row { MatchOption result
-            ((need : Need) → has_number number (expected self.now need) ≡ false)
-            (λ row. expected self.now row.0
-            ≡ Some (record { number = number; place = row.1.now })) }
+        ensures row { MatchOption result (NoneExpects self.now number)
+            (λ row. Expects self.now number row.0 row.1.now) }
         ensures own { IfSome result (λ row. IsOf self.now.table row.1.now) }
         ensures right { IsRight self.now }
     {
@@ -158,19 +163,21 @@ impl Book<'_> {
         }
     }
 
-    // Puts what is known, or out, in the row of a mark.
+    // Puts what is known, or out, in the row of a mark. Only a job that is out makes nothing ready.
     fn put_arrival(&mut self, mark: u64, state: RowState<Arrival>)
         requires { CanBePut self.old (Need.Step mark) (state_map pattern state) }
         ensures { Puts (Need.Step mark) (state_map pattern state) self.old self.new }
     {
+        self.cursor = self.cursor.if_stays(state.is_expected());
         put(&mut self.arrivals, mark, state);
     }
 
-    // Puts what is known, or out, in the row of a bookmark.
+    // Puts what is known, or out, in the row of a bookmark. Neither makes another row ready.
     fn put_text(&mut self, id: u64, state: RowState<Text>)
         requires { CanBePut self.old (Need.View id) (state_map text state) }
         ensures { Puts (Need.View id) (state_map text state) self.old self.new }
     {
+        self.cursor = self.cursor.if_stays(!state.is_empty());
         put(&mut self.texts, id, state);
     }
 }

@@ -11,11 +11,13 @@
 //! out for it, and takes what its answer says, whatever edits that keep the row were made since. An
 //! answer that no row expects changes nothing.
 //!
-//! An edit and an answer each cost a search and one pass over the rows. Nothing is computed here.
+//! An edit and an answer each cost a search and one pass over the rows. The search for what is needed
+//! next goes on where the last one ended. Nothing is computed here.
 #![tactic(auto)]
 
 mod arrival;
 mod book;
+mod cursor;
 mod entered;
 mod filled;
 mod jobs;
@@ -24,6 +26,7 @@ mod marks;
 mod need;
 mod remade;
 mod revise;
+mod room;
 mod row;
 mod rows;
 mod shown;

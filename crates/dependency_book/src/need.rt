@@ -1,10 +1,10 @@
 //! What a book needs.
-ghost use Rattle.std.specs.Prelude.{◌≡◌, length};
-ghost use Rattle.dependency_book.specs.Ready.{IsFirstStep, IsFirstView};
-ghost use Rattle.dependency_book.specs.Ready.{can_view, place_ready, reach_of};
-ghost use Rattle.dependency_book.specs.Rows.{IsRanked, mark_rank};
+ghost use Rattle.std.specs.Prelude.{◌≡◌, ◌<◌, length};
+ghost use Rattle.dependency_book.specs.Needs.{is_awaited};
+ghost use Rattle.dependency_book.specs.Ready.{IsFirst, NoneBefore};
+ghost use Rattle.dependency_book.specs.Ready.{can_view, place_ready, steppable, viewable};
+ghost use Rattle.dependency_book.specs.Rows.{ArrivalRow};
 
-use crate::mark::Mark;
 use crate::marks::ArrivalRow;
 use crate::texts::TextRow;
 use schedule::Bookmark;
@@ -40,16 +40,18 @@ fn can_view(arrivals: &[ArrivalRow], row: &TextRow, place: usize) -> bool
 }
 
 /// The place of the first text for which nothing stands where what arrives at its generation is
-/// known. The places are those of the texts' marks among the arrivals.
-pub(crate) fn next_view(
+/// known. The places are those of the texts' marks among the arrivals. No text before `from` is one.
+pub(crate) fn first_view(
     arrivals: &[ArrivalRow],
     texts: &[TextRow],
     places: &[usize],
+    from: usize,
 ) -> Option<usize>
-    requires { length places.now ≡ length texts.now }
-    ensures { IsFirstView arrivals.now texts.now places.now result }
+    requires long { length places.now ≡ length texts.now }
+    requires passed { NoneBefore (viewable arrivals.now texts.now places.now) from }
+    ensures { IsFirst (viewable arrivals.now texts.now places.now) (length texts.now) result }
 {
-    for index in 0..texts.len() {
+    for index in from..texts.len() {
         if can_view(arrivals, &texts[index], places[index]) {
             return Some(index);
         }
@@ -57,33 +59,36 @@ pub(crate) fn next_view(
     None
 }
 
-// The greatest generation of a bookmark, or 0 where there is none.
-fn reach_of(bookmarks: &[Bookmark]) -> u64
-    ensures { result ≡ reach_of bookmarks.now }
+// Whether nothing stands in the row at a place where what arrives before it is known.
+fn can_step(arrivals: &[ArrivalRow], place: usize) -> bool
+    requires { place < length arrivals.now }
+    ensures { (x : ArrivalRow) → result ≡ steppable arrivals.now place x }
 {
-    let mut reach = 0;
-    for bookmark in bookmarks {
-        reach = bookmark.generation.max(reach);
+    if !arrivals[place].state.is_empty() {
+        return false;
     }
-    reach
+    place == 0 || arrivals[place - 1].state.is_known()
 }
 
-/// The first mark that a bookmark is at or above, at which nothing stands where what arrives at the
-/// mark before it is known.
-pub(crate) fn next_step(bookmarks: &[Bookmark], arrivals: &[ArrivalRow]) -> Option<Mark>
-    requires { IsRanked mark_rank arrivals.now }
-    ensures { IsFirstStep (reach_of bookmarks.now) arrivals.now result }
+/// The place of the first mark at which nothing stands where what arrives at the mark before it is
+/// known. No mark before `from` is one.
+pub(crate) fn first_step(arrivals: &[ArrivalRow], from: usize) -> Option<usize>
+    requires { NoneBefore (steppable arrivals.now) from }
+    ensures { IsFirst (steppable arrivals.now) (length arrivals.now) result }
 {
-    let reach = reach_of(bookmarks);
-    let mut before = true;
-    for row in arrivals {
-        if row.key.generation > reach {
-            return None;
+    for place in from..arrivals.len() {
+        if can_step(arrivals, place) {
+            return Some(place);
         }
-        if before && row.state.is_empty() {
-            return Some(row.key);
-        }
-        before = row.state.is_known();
     }
     None
+}
+
+/// Whether a bookmark is at or above a generation.
+pub(crate) fn is_awaited(bookmarks: &[Bookmark], generation: u64) -> bool
+    ensures { result ≡ is_awaited bookmarks.now generation }
+{
+    bookmarks
+        .iter()
+        .any(|bookmark| generation <= bookmark.generation)
 }

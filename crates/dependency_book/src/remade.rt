@@ -37,11 +37,8 @@ fn taken<K: Ranked, V: Drop>(
     }
     let row = &mut rows[place];
     let state = mem::replace(&mut row.state, RowState::Empty);
-    if key.stays(felt, &row.key) {
-        state
-    } else {
-        RowState::Empty
-    }
+    let stays = key.stays(felt, &row.key);
+    state.if_stays(stays)
 }
 
 /// The rows of these keys: what stood in the old row of the same rank where it stays, else nothing.

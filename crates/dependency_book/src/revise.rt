@@ -1,48 +1,15 @@
 //! How an edit changes a book.
-ghost use Rattle.std.specs.Prelude.{◌≡◌, ◌≤◌, ◌⊎◌, IfOk, IfErr, IfSome, OnErr, OnOk};
-ghost use Rattle.std.specs.Prelude.{length, vec_capacity, []};
+ghost use Rattle.std.specs.Prelude.{◌≡◌, ◌⊎◌, IfOk, IfErr, IfSome, OnErr, OnOk};
 ghost use Rattle.schedule.specs.Asked.{asked_of};
 ghost use Rattle.schedule.specs.Change.{change, made, refusal};
-ghost use Rattle.dependency_book.specs.Held.{places_of};
 ghost use Rattle.dependency_book.specs.Kept.{KeepsRows, generation_of, felt_from};
 ghost use Rattle.dependency_book.specs.Right.{IsRight};
-ghost use Rattle.dependency_book.specs.Room.{HasRoom};
-ghost use Rattle.dependency_book.specs.Rows.{IsRanked, mark_rank};
 
 use crate::book::Book;
-use crate::mark::Mark;
-use crate::marks::{ArrivalRow, marks_of};
-use crate::remade::remade;
-use crate::row::place_in;
-use crate::texts::TextRow;
-use schedule::{Bookmark, Document, Edit, EditFault, Edited, Intervention};
-use std::alloc::{AllocError, Global};
+use crate::cursor::Cursor;
+use crate::room::Room;
+use schedule::{Document, Edit, EditFault, Edited, Intervention};
 use std::mem;
-
-// Room for the rows of a document after one more edit.
-#[derive(Drop)]
-struct Room {
-    marks: Vec<Mark>,
-    arrivals: Vec<ArrivalRow>,
-    texts: Vec<TextRow>,
-    places: Vec<usize>,
-}
-
-impl Room {
-    // The room for a document with at most one more intervention and one more bookmark.
-    fn beside(alloc: Global, document: &Document) -> Result<Room, AllocError>
-        ensures { IfOk result (λ room. HasRoom room document.now) }
-    {
-        let bookmarks = document.bookmarks().len() + 1;
-        let marks = document.interventions().len() + bookmarks + 1;
-        Ok(Room {
-            marks: Vec::with_capacity(alloc, marks)?,
-            arrivals: Vec::with_capacity(alloc, marks)?,
-            texts: Vec::with_capacity(alloc, bookmarks)?,
-            places: Vec::with_capacity(alloc, bookmarks)?,
-        })
-    }
-}
 
 impl Book<'_> {
     /// Makes the change that the edit asks for and forgets exactly what the edit touches, or
@@ -67,20 +34,16 @@ impl Book<'_> {
         ensures right { IsRight self.new }
     {
         self.document.check(edit)?;
-        let Room {
-            marks,
-            arrivals,
-            texts,
-            places,
-        } = Room::beside(self.alloc, &self.document)?;
+        let room = Room::beside(self.alloc, &self.document)?;
         let felt = felt_from(&self.document, edit);
         let edited = self.document.make(edit)?;
-        let marks = marks_of(marks, &self.document);
-        let old = mem::replace(&mut self.arrivals, Vec::new(self.alloc));
-        self.arrivals = remade(arrivals, &marks, old, felt);
-        let old = mem::replace(&mut self.texts, Vec::new(self.alloc));
-        self.texts = remade(texts, self.document.bookmarks(), old, felt);
-        self.places = places_of(places, &self.arrivals, self.document.bookmarks());
+        let arrivals = mem::replace(&mut self.arrivals, Vec::new(self.alloc));
+        let texts = mem::replace(&mut self.texts, Vec::new(self.alloc));
+        let rows = room.rows_of(&self.document, arrivals, texts, felt);
+        self.arrivals = rows.arrivals;
+        self.texts = rows.texts;
+        self.places = rows.places;
+        self.cursor = Cursor::start();
         Ok(edited)
     }
 }
@@ -110,18 +73,4 @@ fn generation_of(interventions: &[Intervention], id: u64) -> u64
         }
     }
     0
-}
-
-// Where the marks of bookmarks stand among rows. The places stand in the room, which is empty and
-// has a place for each bookmark.
-fn places_of(room: Vec<usize>, arrivals: &[ArrivalRow], bookmarks: &[Bookmark]) -> Vec<usize>
-    requires room { room.items ≡ [] × length bookmarks.now ≤ vec_capacity room }
-    requires ranked { IsRanked mark_rank arrivals.now }
-    ensures { result.items ≡ places_of arrivals.now bookmarks.now }
-{
-    let mut places = room;
-    for bookmark in bookmarks {
-        places.push_reserved(place_in(arrivals, bookmark.generation));
-    }
-    places
 }

@@ -1,6 +1,6 @@
 //! Rows: what is known, or under way, of what stands at keys.
-ghost use Rattle.std.specs.Prelude.{◌≡◌, ℕ, Bool, Option, MatchOption, None, Some};
-ghost use Rattle.dependency_book.specs.RowState.{is_empty, is_known, job_of, known};
+ghost use Rattle.std.specs.Prelude.{◌≡◌, ℕ, Bool, Option, MatchOption, None, Some, if◌then◌else◌, is_some};
+ghost use Rattle.dependency_book.specs.RowState.{any_out, is_empty, is_known, job_of, known};
 ghost use Rattle.dependency_book.specs.RowState.{least_out, lesser, number_of, row_for};
 ghost use Rattle.dependency_book.specs.Rows.{IsRanked, place_in, put};
 
@@ -64,6 +64,13 @@ impl<V> RowState<V> {
         matches!(self, RowState::Empty)
     }
 
+    /// Whether a job is out.
+    pub(crate) fn is_expected(&self) -> bool
+        ensures { result ≡ is_some (job_of self.now) }
+    {
+        matches!(self, RowState::Expected(_))
+    }
+
     // The number of the job that is out, if one is.
     fn number_out(&self) -> Option<u32>
         ensures { result ≡ number_of (job_of self.now) }
@@ -72,6 +79,15 @@ impl<V> RowState<V> {
             RowState::Expected(job) => Some(job.number),
             RowState::Empty | RowState::Known(_) => None,
         }
+    }
+}
+
+impl<V: Drop> RowState<V> {
+    /// The same where it stays, else nothing.
+    pub(crate) fn if_stays(self, stays: bool) -> RowState<V>
+        ensures { result ≡ (if stays then self else RowState.Empty) }
+    {
+        if stays { self } else { RowState::Empty }
     }
 }
 
@@ -108,6 +124,13 @@ pub(crate) fn row_for<K: Copy, V>(rows: &[Row<K, V>], number: u32) -> Option<(K,
         }
     }
     None
+}
+
+/// Whether a row expects a job.
+pub(crate) fn any_out<K, V>(rows: &[Row<K, V>]) -> bool
+    ensures { result ≡ any_out rows.now }
+{
+    rows.iter().any(|row| row.state.is_expected())
 }
 
 /// The lesser of two numbers, if there is any.

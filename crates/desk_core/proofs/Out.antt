@@ -1,6 +1,6 @@
 -- Jobs that are out after one is issued, answered or cancelled.
 use Rattle.std.proofs.Common.{◌≡◌, ◌⊎◌, ℕ, ◌∙◌, Bool, true, false, refl, sym, ap, subst, inl, inr, arith, Option, None, Some, Result, Ok, Err}
-use Rattle.std.specs.Prelude.{if◌then◌else◌, ◌==◌, ◌&&◌}
+use Rattle.std.specs.Prelude.{if◌then◌else◌, ◌==◌, ◌&&◌, IsSome}
 use Rattle.std.proofs.lemmas.Bool.Decides.{nat_tests}
 use Rattle.step_engine.specs.declared.evolved.EvolveFault.{EvolveFault}
 use Rattle.revision_jobs.specs.declared.answer.Job.{Job}
@@ -11,7 +11,7 @@ use Rattle.dependency_book.specs.declared.row.RowState.{RowState}
 use Rattle.dependency_book.specs.declared.row.RowState.TheVariants.{Empty, Expected, Known}
 use Rattle.dependency_book.specs.declared.need.Need.{Need}
 use Rattle.dependency_book.specs.RowState.{job_of, has_number}
-use Rattle.dependency_book.specs.Jobs.{given_by, is_job, is_need, issued, answered, cancelled, IsFirstOut}
+use Rattle.dependency_book.specs.Jobs.{given_by, is_job, is_need, issued, answered, cancelled, IsAnyOut}
 use Rattle.dependency_book.specs.BookState.{BookState, row_of, expected}
 use Rattle.desk_core.specs.Progress.{IsAtHand}
 use Rattle.desk_core.specs.Settling.{IsHeld}
@@ -115,12 +115,12 @@ IsAtHand-cancelled old new job held rows at_hand need other out =
       | inr before ↦ inr before
     ]
 
-named_job : (number : ℕ) (job : Option Job) → has_number number job ≡ true → (found : Job) × (job ≡ Some found)
-named_job number None h = absurd (cc)
-named_job number (Some job) h = (job, refl)
+some_job : (job : Option Job) → IsSome job → (found : Job) × (job ≡ Some found)
+some_job None h = absurd (cc)
+some_job (Some job) h = (job, refl)
 
 -- where a job is out and none is left to send, the post holds one
-pub held_out : (d : BookState) (number : ℕ) (held : Option Job) → IsFirstOut d (Some number) → IsAtHand None held d → (job : Job) × (held ≡ Some job)
-held_out d number held first at_hand =
-    let out = named_job number (expected d first.0.0) first.0.1 in
-    (out.0, held_alone held out.0 (at_hand first.0.0 out.0 out.1))
+pub held_out : (d : BookState) (held : Option Job) → IsAnyOut d true → IsAtHand None held d → (job : Job) × (held ≡ Some job)
+held_out d held any at_hand =
+    let out = some_job (expected d any.0) any.1 in
+    (out.0, held_alone held out.0 (at_hand any.0 out.0 out.1))

@@ -1,6 +1,7 @@
 -- How a settling goes on by what is issued, sent, answered and cancelled.
 use Rattle.std.proofs.Common.{◌≡◌, ◌⊎◌, ℕ, ◌+◌, ◌*◌, ◌<◌, ◌≤◌, ◌∙◌, List, [], ◌∷◌, ◌++◌, length, refl, sym, ap, subst, inl, inr, arith, append_assoc, append-nil, Option, None, Some, false}
 use Rattle.std.specs.Prelude.{IfSome, is_some, unwrap_or}
+use Rattle.std.proofs.lemmas.List.{length-map}
 use Rattle.step_engine.specs.declared.evolved.EvolveFault.{EvolveFault}
 use Rattle.revision_jobs.specs.declared.answer.Job.{Job}
 use Rattle.revision_jobs.specs.declared.entries.Entries.{Entries}
@@ -12,6 +13,9 @@ use Rattle.dependency_book.specs.RowState.{has_number}
 use Rattle.dependency_book.specs.Jobs.{SameBook, SameDocument, answered, cancelled}
 use Rattle.dependency_book.specs.BookState.{BookState, expected, row_of, wanting_of}
 use Rattle.dependency_book.specs.Right.{IsRight}
+use Rattle.dependency_book.specs.declared.row.Row.{Row}
+use Rattle.dependency_book.specs.Rows.{keys}
+use Rattle.dependency_book.proofs.Shared.Settled.{few_rows}
 use Rattle.desk_core.specs.declared.cause.Cause.{Cause}
 use Rattle.desk_core.specs.declared.collect.Collected.{Collected}
 use Rattle.desk_core.specs.declared.collect.Collected.TheVariants.{Accepted, Released, Stale}
@@ -265,17 +269,24 @@ module _ (first mid last : BookState) (before answers : List JobResult) (floor :
       either (inr (inl there)) = absurd (cc)
       either (inr (inr sent)) = inr sent
 
-  enough-whole : length last.arrivals + length last.texts ≤ 12288 → 4 * rows_of first ≤ 1000000
-  enough-whole few = let marks = whole.document.marks in let bookmarks = whole.document.bookmarks in omega arith
+  same_length : {K V : Type 0} (xs ys : List (Row K V)) → keys xs ≡ keys ys → length xs ≡ length ys
+  same_length xs ys same = sym (length-map xs (λ r. r.key)) ∙ ap length same ∙ length-map ys (λ r. r.key)
 
-  pub settles-whole : IsRight last → length last.arrivals + length last.texts ≤ 12288 → Settles first last floor
-  settles-whole right few = record {
+  enough-whole : IsRight last → 4 * rows_of first ≤ 1000000
+  enough-whole right =
+      let few = few_rows last right in
+      let marks = same_length last.arrivals first.arrivals whole.document.marks in
+      let bookmarks = same_length last.texts first.texts whole.document.bookmarks in
+      omega (arith, few, marks, bookmarks)
+
+  pub settles-whole : IsRight last → Settles first last floor
+  settles-whole right = record {
     known = whole.known;
     out = sent_or_out;
     right = right;
     plan = whole.document.plan;
     table = whole.document.table;
-    enough = enough-whole few;
+    enough = enough-whole right;
   }
 
   pub serves-whole : (entries : Entries) → Serves mid entries floor → Serves last entries floor

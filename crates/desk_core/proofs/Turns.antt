@@ -1,12 +1,12 @@
 -- How a turn brings a settling nearer to its end.
-use Rattle.std.proofs.Common.{◌≡◌, ◌⊎◌, ℕ, ◌+◌, ◌*◌, ◌<◌, ◌≤◌, ◌∙◌, refl, sym, ap, subst, inl, inr, arith, Option, None, Some, ControlFlow, Continue, Break}
+use Rattle.std.proofs.Common.{◌≡◌, ◌⊎◌, ℕ, true, ◌+◌, ◌*◌, ◌<◌, ◌≤◌, ◌∙◌, refl, sym, ap, subst, inl, inr, arith, Option, None, Some, ControlFlow, Continue, Break}
 use Rattle.std.specs.Prelude.{IsSome}
 use Rattle.std.proofs.lemmas.List.Sums.{count_by-le-length}
 use Rattle.revision_jobs.specs.declared.answer.Job.{Job}
 use Rattle.dependency_book.specs.declared.need.Need.{Need}
 use Rattle.dependency_book.specs.RowState.{is_empty}
 use Rattle.dependency_book.specs.Rows.{ArrivalRow, TextRow}
-use Rattle.dependency_book.specs.Jobs.{IsFirstOut}
+use Rattle.dependency_book.specs.Jobs.{IsAnyOut}
 use Rattle.dependency_book.specs.BookState.{BookState, expected, pending_of, wanting_of, NothingOut}
 use Rattle.desk_core.specs.declared.cause.Cause.{Cause}
 use Rattle.desk_core.specs.declared.progress.Progress.{Progress}
@@ -73,9 +73,9 @@ pub fewer-waiting : (mid : Moment) (job : Job) → mid.unsent ≡ Waiting job �
 fewer-waiting mid job is at_hand = less_waiting job mid.unsent mid.held is
 
 -- a turn that receives with nothing to send since a job is out
-pub fewer-nothing : (mid : Moment) (shown : Unsent) (number : ℕ) → shown ≡ Nothing → mid.unsent ≡ Nothing → IsFirstOut mid.desk (Some number) → AllAtHand mid → turns_for shown None < turns_for mid.unsent mid.held
-fewer-nothing mid shown number nothing is first at_hand =
-    let out = held_out mid.desk number mid.held first (subst (λ u. IsAtHand (job_in u) mid.held mid.desk) is at_hand) in
+pub fewer-nothing : (mid : Moment) (shown : Unsent) → shown ≡ Nothing → mid.unsent ≡ Nothing → IsAnyOut mid.desk true → AllAtHand mid → turns_for shown None < turns_for mid.unsent mid.held
+fewer-nothing mid shown nothing is any at_hand =
+    let out = held_out mid.desk mid.held any (subst (λ u. IsAtHand (job_in u) mid.held mid.desk) is at_hand) in
     less_held shown mid.unsent mid.held out.0 nothing is out.1
 
 -- a turn begins with what wasn't sent or is issued

@@ -2,7 +2,7 @@
 ghost use Rattle.std.specs.Prelude.{◌≡◌, ◌↔◌, IsTrue};
 ghost use Rattle.revision_jobs.specs.Entries.{IsOf};
 ghost use Rattle.dependency_book.specs.BookState.{row_of};
-ghost use Rattle.dependency_book.specs.Jobs.{answered, cancelled, IsFirstOut, SameBook};
+ghost use Rattle.dependency_book.specs.Jobs.{answered, cancelled, IsAnyOut, IsFirstOut, SameBook};
 ghost use Rattle.dependency_book.specs.Right.{IsRight};
 ghost use Rattle.dependency_book.specs.declared.need.Need.{Need};
 ghost use Rattle.desk_core.specs.Events.{core_of, after_event, collects, cancels};
@@ -63,6 +63,13 @@ impl Desk<'_> {
         };
         self.entries.raise(&place);
         true
+    }
+
+    /// Whether a job is out.
+    pub fn is_out(&self) -> bool
+        ensures { IsAnyOut self.now result }
+    {
+        self.book.is_out()
     }
 
     /// The least number of the jobs that are out.

@@ -1,8 +1,8 @@
 //! The desk.
-ghost use Rattle.std.specs.Prelude.{◌≡◌, ◌≤◌, ◌+◌, IfOk, IfErr, IfSome, OnErr, length};
+ghost use Rattle.std.specs.Prelude.{◌≡◌, ◌≤◌, IfOk, IfErr, IfSome, OnErr, length};
 ghost use Rattle.schedule.specs.Asked.{asked_of};
 ghost use Rattle.schedule.specs.Change.{refusal};
-ghost use Rattle.dependency_book.specs.BookState.{opened, pending_of, wanting_of, NothingOut};
+ghost use Rattle.dependency_book.specs.BookState.{opened, pending_of};
 ghost use Rattle.dependency_book.specs.Right.{IsRight};
 ghost use Rattle.dependency_book.specs.Shown.{Shows};
 ghost use Rattle.desk_core.specs.Edited.{Makes, Refuses};
@@ -81,8 +81,6 @@ impl<'e> Desk<'e> {
     pub fn pending(&self) -> u32
         ensures count { result ≡ pending_of self.now }
         ensures bound { result ≤ length self.now.plan.bookmarks }
-        ensures none { NothingOut self.now → wanting_of self.now ≡ 0 → result ≡ 0 }
-        ensures few { length self.now.arrivals + length self.now.texts ≤ 12288 }
         ensures right { IsRight self.now }
     {
         self.book.pending()

@@ -76,10 +76,13 @@ impl Progress {
                 self.unsent = Unsent::Ready(job);
                 self.receive(desk, post)
             }
-            Unsent::Nothing => match desk.first_out() {
-                Some(_) => self.receive(desk, post),
-                None => ControlFlow::Break(()),
-            },
+            Unsent::Nothing => {
+                if desk.is_out() {
+                    self.receive(desk, post)
+                } else {
+                    ControlFlow::Break(())
+                }
+            }
         }
     }
 

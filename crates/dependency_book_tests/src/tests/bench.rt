@@ -165,8 +165,9 @@ impl<'e> Bench<'e> {
         same(rt, &self.book.shown(id), wanted, &id);
     }
 
-    fn next(&self, rt: &impl Abort, wanted: &Need) -> Need
-        ensures { IsNext self.now (Some result) }
+    fn next(&mut self, rt: &impl Abort, wanted: &Need) -> Need
+        ensures same { self.new ≡ self.old }
+        ensures next { IsNext self.new (Some result) }
     {
         let next = self.book.next_need().expect(rt, "a need");
         same(rt, &next, wanted, &"the next need");

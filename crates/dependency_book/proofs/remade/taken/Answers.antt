@@ -1,7 +1,6 @@
-use Rattle.std.proofs.Common.{◌≡◌, ℕ, ◌<◌, ◌≤◌, ◌≢◌, ◌∙◌, Bool, List, true, length, get_or, sym, ap, subst, arith}
+use Rattle.std.proofs.Common.{◌≡◌, ℕ, ◌<◌, ◌≤◌, ◌≢◌, ◌∙◌, Bool, List, true, length, get_or, sym, ap, ap₂, subst, arith}
 use Rattle.std.specs.Prelude.{if◌then◌else◌}
 use Rattle.std.proofs.Math.ListN.{set}
-use Rattle.std.proofs.lemmas.Bool.{cond-true, cond-false}
 use Rattle.dependency_book.specs.declared.row.RowState.{RowState}
 use Rattle.dependency_book.specs.declared.row.RowState.TheVariants.{Empty}
 use Rattle.dependency_book.specs.declared.row.Row.{Row}
@@ -9,7 +8,7 @@ use Rattle.dependency_book.specs.Remade.{kept_at}
 use Rattle.dependency_book.specs.Rows.{keys, IsRanked, place_in, put}
 use Rattle.dependency_book.proofs.Remaking.{kept_at-place, kept_at-absent}
 use Rattle.dependency_book.proofs.Standing.{has, rank_at, place-has, rank-has, put-place, put-absent, get_or-any}
-use Rattle.dependency_book.proofs.remade.taken.Goals.{Joined-then-place-rows, Then-stays, Joined-state, then-place-rows-via-then-place-rows, then-place-rows-via-else-place-rows+then-rank}
+use Rattle.dependency_book.proofs.remade.taken.Goals.{Joined-then-place-rows, then-place-rows-via-then-place-rows, then-place-rows-via-else-place-rows+then-rank}
 use Rattle.dependency_book.proofs.remade.taken.Goals as goal
 
 -- no row has the rank if the one at its place hasn't
@@ -52,43 +51,20 @@ pub returns-then-place-rows-clause-rows : goal.returns-then-place-rows-clause-ro
 returns-then-place-rows-clause-rows g c =
     sym (put-absent g.K.Ranked.rank (g.K.Ranked.rank c.args.key.now) Empty c.args.rows.now c.requires.1 (absent g c))
 
-pub returns-then-stays-clause-state : goal.returns-then-stays-clause-state
-returns-then-stays-clause-state g c =
+pub returns-clause-state : goal.returns-clause-state
+returns-clause-state g c =
     let rank = g.K.Ranked.rank in
     let rows = c.args.rows.now in
     let x = c.index-rows-place-2.result in
     let row = get_or rows c.args.place x in
-    let test : Bool = g.K.Ranked.stays c.args.felt c.args.key.now row.key in
     let is : rank_at rank rows c.args.place x ≡ rank c.args.key.now =
     ap (λ r. rank r.key) (get_or-any rows c.args.place x c.index-rows-place.result c.if-place-rows.false) ∙ sym c.rank.ensures ∙ c.if-rank.false ∙ c.rank-else-place-rows.ensures in
-    c.replace-state.ensures.value
-    ∙ sym (kept_row rank (g.K.Ranked.stays c.args.felt c.args.key.now) (rank c.args.key.now) c.args.place rows x c.requires.1 c.requires.0 c.if-place-rows.false is
-    ∙ cond-true test row.state Empty (sym c.stays.ensures ∙ c.if-stays.true))
+    c.if_stays.ensures
+    ∙ ap₂ (λ b s. if b then s else Empty) c.stays-stays.ensures c.replace-state.ensures.value
+    ∙ sym (kept_row rank (g.K.Ranked.stays c.args.felt c.args.key.now) (rank c.args.key.now) c.args.place rows x c.requires.1 c.requires.0 c.if-place-rows.false is)
 
-pub returns-then-stays-clause-rows : goal.returns-then-stays-clause-rows
-returns-then-stays-clause-rows g c =
-    let rank = g.K.Ranked.rank in
-    let rows = c.args.rows.now in
-    let x = c.index-rows-place-2.result in
-    let is : rank_at rank rows c.args.place x ≡ rank c.args.key.now =
-    ap (λ r. rank r.key) (get_or-any rows c.args.place x c.index-rows-place.result c.if-place-rows.false) ∙ sym c.rank.ensures ∙ c.if-rank.false ∙ c.rank-else-place-rows.ensures in
-    ap (λ s. set rows c.args.place (record { key = (get_or rows c.args.place x).key; state = s })) c.replace-state.ensures.after
-    ∙ put_row rank (rank c.args.key.now) c.args.place rows x Empty c.requires.1 c.requires.0 c.if-place-rows.false is
-
-pub returns-else-stays-clause-state : goal.returns-else-stays-clause-state
-returns-else-stays-clause-state g c =
-    let rank = g.K.Ranked.rank in
-    let rows = c.args.rows.now in
-    let x = c.index-rows-place-2.result in
-    let row = get_or rows c.args.place x in
-    let test : Bool = g.K.Ranked.stays c.args.felt c.args.key.now row.key in
-    let is : rank_at rank rows c.args.place x ≡ rank c.args.key.now =
-    ap (λ r. rank r.key) (get_or-any rows c.args.place x c.index-rows-place.result c.if-place-rows.false) ∙ sym c.rank.ensures ∙ c.if-rank.false ∙ c.rank-else-place-rows.ensures in
-    sym (kept_row rank (g.K.Ranked.stays c.args.felt c.args.key.now) (rank c.args.key.now) c.args.place rows x c.requires.1 c.requires.0 c.if-place-rows.false is
-    ∙ cond-false test row.state Empty (sym c.stays.ensures ∙ c.if-stays.false))
-
-pub returns-else-stays-clause-rows : goal.returns-else-stays-clause-rows
-returns-else-stays-clause-rows g c =
+pub returns-clause-rows : goal.returns-clause-rows
+returns-clause-rows g c =
     let rank = g.K.Ranked.rank in
     let rows = c.args.rows.now in
     let x = c.index-rows-place-2.result in

@@ -1,4 +1,5 @@
-use Rattle.std.proofs.Common.{◌<◌, rules}
+use Rattle.std.proofs.Common.{◌<◌, ◌∙◌, rules}
+use Rattle.dependency_book.proofs.Shared.Settled.{none_pending}
 use Rattle.desk_core.specs.Progress.{job_in}
 use Rattle.desk_core.proofs.Steps.{IsHeld-given_up, gave-whole, serves-whole, settles-whole}
 use Rattle.desk_core.proofs.Turns.{cause-left}
@@ -13,7 +14,7 @@ returns-in-0-clause-ends g c =
 pub returns-in-0-clause-settles : goal.returns-in-0-clause-settles
 returns-in-0-clause-settles g c =
     let run = c.run-unsent in
-    settles-whole c.args.desk.now run.new.desk c.cancel.new.desk (g.P.Post.answers c.args.post.now) (g.P.Post.answers run.new.post) (g.P.Post.floor run.new.post) run.result run.ensures.comes c.cancel.ensures c.pending.ensures.right c.pending.ensures.few
+    settles-whole c.args.desk.now run.new.desk c.cancel.new.desk (g.P.Post.answers c.args.post.now) (g.P.Post.answers run.new.post) (g.P.Post.floor run.new.post) run.result run.ensures.comes c.cancel.ensures c.pending.ensures.right
 
 pub returns-in-0-clause-post : goal.returns-in-0-clause-post
 returns-in-0-clause-post g c =
@@ -37,7 +38,7 @@ returns-in_default-clause-ends g c =
 pub returns-in_default-clause-settles : goal.returns-in_default-clause-settles
 returns-in_default-clause-settles g c =
     let run = c.run-unsent in
-    settles-whole c.args.desk.now run.new.desk c.cancel.new.desk (g.P.Post.answers c.args.post.now) (g.P.Post.answers run.new.post) (g.P.Post.floor run.new.post) run.result run.ensures.comes c.cancel.ensures c.pending.ensures.right c.pending.ensures.few
+    settles-whole c.args.desk.now run.new.desk c.cancel.new.desk (g.P.Post.answers c.args.post.now) (g.P.Post.answers run.new.post) (g.P.Post.floor run.new.post) run.result run.ensures.comes c.cancel.ensures c.pending.ensures.right
 
 pub returns-in_default-clause-post : goal.returns-in_default-clause-post
 returns-in_default-clause-post g c =
@@ -55,4 +56,4 @@ pub returns-in_default-clause-caused : goal.returns-in_default-clause-caused
 returns-in_default-clause-caused g c = λ prompt held enough.
     let run = c.run-unsent in
     let some : 0 < c.pending.result = search rules in
-    cause-left run.new.desk c.cancel.new.desk run.result c.pending.result ((run.ensures.prompt prompt held).done enough) c.cancel.ensures c.pending.ensures.count c.pending.ensures.none some
+    cause-left run.new.desk c.cancel.new.desk run.result c.pending.result ((run.ensures.prompt prompt held).done enough) c.cancel.ensures c.pending.ensures.count (λ out none. c.pending.ensures.count ∙ none_pending c.cancel.new.desk c.pending.ensures.right out none) some

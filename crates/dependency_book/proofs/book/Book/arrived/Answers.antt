@@ -17,7 +17,7 @@ row_at d e places g k rows same held high some is at = subst (ArrivedRow d g) (s
 pub index-row-requires : goal.index-row-requires
 index-row-requires c =
     let d = state_of c.self.inside in
-    let row = row_at d c.args.self.now c.self.inside.places.items c.args.generation c.place_in.result c.deref.result.now c.self.view_is c.self.invariant c.if-generation-eq0.false c.requires c.deref.ensures.value c.place_in.ensures in
+    let row = row_at d c.args.self.now c.self.inside.places.items c.args.generation c.place_in.result c.deref.result.now c.self.view_is c.self.invariant.held c.if-generation-eq0.false c.requires c.deref.ensures.value c.place_in.ensures in
     let low = row.low in
     let len = c.deref.ensures.len in
     let same : length c.deref.result.now ≡ length d.arrivals = ap (λ (rows : List ArrivalRow). length rows) c.deref.ensures.value in
@@ -26,7 +26,7 @@ index-row-requires c =
 pub unreachable-requires : goal.unreachable-requires
 unreachable-requires c =
     let d = state_of c.self.inside in
-    let row = row_at d c.args.self.now c.self.inside.places.items c.args.generation c.place_in.result c.deref.result.now c.self.view_is c.self.invariant c.if-generation-eq0.false c.requires c.deref.ensures.value c.place_in.ensures in
+    let row = row_at d c.args.self.now c.self.inside.places.items c.args.generation c.place_in.result c.deref.result.now c.self.view_is c.self.invariant.held c.if-generation-eq0.false c.requires c.deref.ensures.value c.place_in.ensures in
     let x = c.index-row.result.now in
     let none : arrival_known d c.args.generation ≡ None = row.shows x ∙ ap (λ (r : ArrivalRow). known r.state) (sym c.index-row.ensures) ∙ c.in-None.ensures in
     let some : IsSome (arrival_known d c.args.generation) = subst (λ s. IsSome (arrival_known s c.args.generation)) (sym c.self.view_is) c.requires in
@@ -35,7 +35,7 @@ unreachable-requires c =
 pub returns : goal.returns
 returns c =
     let d = state_of c.self.inside in
-    let row = row_at d c.args.self.now c.self.inside.places.items c.args.generation c.place_in.result c.deref.result.now c.self.view_is c.self.invariant c.if-generation-eq0.false c.requires c.deref.ensures.value c.place_in.ensures in
+    let row = row_at d c.args.self.now c.self.inside.places.items c.args.generation c.place_in.result c.deref.result.now c.self.view_is c.self.invariant.held c.if-generation-eq0.false c.requires c.deref.ensures.value c.place_in.ensures in
     let x = c.index-row.result.now in
     subst (λ (e : BookState). arrival_known e c.args.generation ≡ Some (arc_value c.plane.result.now)) c.self.view_is
     (row.shows x ∙ ap (λ (r : ArrivalRow). known r.state) (sym c.index-row.ensures) ∙ c.in-Some.ensures ∙ ap (λ (w : World). Some w) (sym c.plane.ensures))

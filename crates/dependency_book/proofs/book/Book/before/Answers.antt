@@ -22,7 +22,7 @@ row_at d e places m k rows same held next is at = subst (StepRow d m) (sym (at �
 pub returns-then-place-eq0-clause-mark : goal.returns-then-place-eq0-clause-mark
 returns-then-place-eq0-clause-mark c =
     let d = state_of c.self.inside in
-    let row = row_at d c.args.self.now c.self.inside.places.items c.args.mark c.place_in-place.result c.deref.result.now c.self.view_is c.self.invariant c.requires c.deref.ensures.value c.place_in-place.ensures in
+    let row = row_at d c.args.self.now c.self.inside.places.items c.args.mark c.place_in-place.result c.deref.result.now c.self.view_is c.self.invariant.held c.requires c.deref.ensures.value c.place_in-place.ensures in
     let x : ArrivalRow = record { key = record { generation = 0 }; state = Empty } in
     let zero_row = subst (λ k. ComesBefore d.plan (before_row d.arrivals k x) c.args.mark) c.if-place-eq0.true (row.comes x) in
     subst (λ (e : BookState). ComesBefore e.plan 0 c.args.mark) c.self.view_is zero_row
@@ -30,7 +30,7 @@ returns-then-place-eq0-clause-mark c =
 pub index-row-requires : goal.index-row-requires
 index-row-requires c =
     let d = state_of c.self.inside in
-    let row = row_at d c.args.self.now c.self.inside.places.items c.args.mark c.place_in-place.result c.deref.result.now c.self.view_is c.self.invariant c.requires c.deref.ensures.value c.place_in-place.ensures in
+    let row = row_at d c.args.self.now c.self.inside.places.items c.args.mark c.place_in-place.result c.deref.result.now c.self.view_is c.self.invariant.held c.requires c.deref.ensures.value c.place_in-place.ensures in
     let low = row.low in
     let apart = c.if-place-eq0.false in
     let len = c.deref.ensures.len in
@@ -60,20 +60,20 @@ before_at d places m k x held row apart is =
 pub unreachable-requires : goal.unreachable-requires
 unreachable-requires c =
     let d = state_of c.self.inside in
-    let row = row_at d c.args.self.now c.self.inside.places.items c.args.mark c.place_in-place.result c.deref.result.now c.self.view_is c.self.invariant c.requires c.deref.ensures.value c.place_in-place.ensures in
-    let b = before_at d c.self.inside.places.items c.args.mark c.place_in-place.result c.index-row.result.now c.self.invariant row c.if-place-eq0.false c.index-row.ensures in
+    let row = row_at d c.args.self.now c.self.inside.places.items c.args.mark c.place_in-place.result c.deref.result.now c.self.view_is c.self.invariant.held c.requires c.deref.ensures.value c.place_in-place.ensures in
+    let b = before_at d c.self.inside.places.items c.args.mark c.place_in-place.result c.index-row.result.now c.self.invariant.held row c.if-place-eq0.false c.index-row.ensures in
     clash (is_some (known c.index-row.result.now.state)) b.arrived (ap is_some (c.in-None.ensures))
 
 pub returns-clause-mark : goal.returns-clause-mark
 returns-clause-mark c =
     let d = state_of c.self.inside in
-    let row = row_at d c.args.self.now c.self.inside.places.items c.args.mark c.place_in-place.result c.deref.result.now c.self.view_is c.self.invariant c.requires c.deref.ensures.value c.place_in-place.ensures in
-    let b = before_at d c.self.inside.places.items c.args.mark c.place_in-place.result c.index-row.result.now c.self.invariant row c.if-place-eq0.false c.index-row.ensures in
+    let row = row_at d c.args.self.now c.self.inside.places.items c.args.mark c.place_in-place.result c.deref.result.now c.self.view_is c.self.invariant.held c.requires c.deref.ensures.value c.place_in-place.ensures in
+    let b = before_at d c.self.inside.places.items c.args.mark c.place_in-place.result c.index-row.result.now c.self.invariant.held row c.if-place-eq0.false c.index-row.ensures in
     subst (λ (e : BookState). ComesBefore e.plan c.index-row.result.now.key.generation c.args.mark) c.self.view_is b.comes
 
 pub returns-clause-known : goal.returns-clause-known
 returns-clause-known c =
     let d = state_of c.self.inside in
-    let row = row_at d c.args.self.now c.self.inside.places.items c.args.mark c.place_in-place.result c.deref.result.now c.self.view_is c.self.invariant c.requires c.deref.ensures.value c.place_in-place.ensures in
-    let b = before_at d c.self.inside.places.items c.args.mark c.place_in-place.result c.index-row.result.now c.self.invariant row c.if-place-eq0.false c.index-row.ensures in
+    let row = row_at d c.args.self.now c.self.inside.places.items c.args.mark c.place_in-place.result c.deref.result.now c.self.view_is c.self.invariant.held c.requires c.deref.ensures.value c.place_in-place.ensures in
+    let b = before_at d c.self.inside.places.items c.args.mark c.place_in-place.result c.index-row.result.now c.self.invariant.held row c.if-place-eq0.false c.index-row.ensures in
     subst (λ (e : BookState). arrival_known e c.index-row.result.now.key.generation ≡ Some (arc_value c.plane.result.now)) c.self.view_is (b.shows ∙ c.in-Some.ensures ∙ ap (λ (w : World). Some w) (sym c.plane.ensures))

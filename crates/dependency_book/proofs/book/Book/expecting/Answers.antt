@@ -15,7 +15,7 @@ returns-in-Some-clause-row c =
     let d = state_of c.self.inside in
     let is : row_for c.args.number d.arrivals ≡ Some (c.in-Some.mark, c.in-Some.place.now) = ap (λ (rows : List ArrivalRow). row_for c.args.number rows) (sym c.deref.ensures.value) ∙ c.in-Some.ensures in
     subst (λ (e : BookState). expected e (Step c.in-Some.mark.generation) ≡ numbered c.args.number c.in-Some.place.now) c.self.view_is
-    (expecting_mark d c.self.inside.places.items c.args.number c.in-Some.mark c.in-Some.place.now c.self.invariant is)
+    (expecting_mark d c.self.inside.places.items c.args.number c.in-Some.mark c.in-Some.place.now c.self.invariant.held is)
 
 pub returns-in_err-bookmark-clause-row : goal.returns-in_err-bookmark-clause-row
 returns-in_err-bookmark-clause-row c =
@@ -34,20 +34,20 @@ returns-clause-row c =
     let d = state_of c.self.inside in
     let is : row_for c.args.number d.texts ≡ Some (c.in_ok-bookmark.bookmark, c.in_ok-bookmark.place.now) = ap (λ (rows : List TextRow). row_for c.args.number rows) (sym c.deref-2.ensures.value) ∙ c.in_ok-bookmark.ensures in
     subst (λ (e : BookState). expected e (View c.in_ok-bookmark.bookmark.id) ≡ numbered c.args.number c.in_ok-bookmark.place.now) c.self.view_is
-    (expecting_text d c.self.inside.places.items c.args.number c.in_ok-bookmark.bookmark c.in_ok-bookmark.place.now c.self.invariant is)
+    (expecting_text d c.self.inside.places.items c.args.number c.in_ok-bookmark.bookmark c.in_ok-bookmark.place.now c.self.invariant.held is)
 
 pub returns-in-Some-clause-own : goal.returns-in-Some-clause-own
 returns-in-Some-clause-own c =
     let d = state_of c.self.inside in
     let is : row_for c.args.number d.arrivals ≡ Some (c.in-Some.mark, c.in-Some.place.now) = ap (λ (rows : List ArrivalRow). row_for c.args.number rows) (sym c.deref.ensures.value) ∙ c.in-Some.ensures in
-    let out = expecting_mark d c.self.inside.places.items c.args.number c.in-Some.mark c.in-Some.place.now c.self.invariant is in
-    let gives = expected_gives d (Step c.in-Some.mark.generation) (record { number = c.args.number; place = c.in-Some.place.now }) c.self.invariant.right out in
+    let out = expecting_mark d c.self.inside.places.items c.args.number c.in-Some.mark c.in-Some.place.now c.self.invariant.held is in
+    let gives = expected_gives d (Step c.in-Some.mark.generation) (record { number = c.args.number; place = c.in-Some.place.now }) c.self.invariant.held.right out in
     subst (λ (e : BookState). IsOf e.table c.in-Some.place.now) c.self.view_is gives.own
 
 pub returns-clause-own : goal.returns-clause-own
 returns-clause-own c =
     let d = state_of c.self.inside in
     let is : row_for c.args.number d.texts ≡ Some (c.in_ok-bookmark.bookmark, c.in_ok-bookmark.place.now) = ap (λ (rows : List TextRow). row_for c.args.number rows) (sym c.deref-2.ensures.value) ∙ c.in_ok-bookmark.ensures in
-    let out = expecting_text d c.self.inside.places.items c.args.number c.in_ok-bookmark.bookmark c.in_ok-bookmark.place.now c.self.invariant is in
-    let gives = expected_gives d (View c.in_ok-bookmark.bookmark.id) (record { number = c.args.number; place = c.in_ok-bookmark.place.now }) c.self.invariant.right out in
+    let out = expecting_text d c.self.inside.places.items c.args.number c.in_ok-bookmark.bookmark c.in_ok-bookmark.place.now c.self.invariant.held is in
+    let gives = expected_gives d (View c.in_ok-bookmark.bookmark.id) (record { number = c.args.number; place = c.in_ok-bookmark.place.now }) c.self.invariant.held.right out in
     subst (λ (e : BookState). IsOf e.table c.in_ok-bookmark.place.now) c.self.view_is gives.own

@@ -6,7 +6,7 @@ use Rattle.revision_jobs.specs.Value.{Value}
 use Rattle.dependency_book.specs.declared.need.Need.{Need}
 use Rattle.dependency_book.specs.Jobs.{is_job, answered, IsFilled}
 use Rattle.dependency_book.specs.BookState.{BookState, expected, row_of}
-use Rattle.dependency_book.proofs.Working.{put_answers, filled_is, filled_right, none_answered, none_numbered, elsewhere}
+use Rattle.dependency_book.proofs.Working.{may_stand, put_answers, filled_is, filled_right, none_answered, none_numbered, elsewhere}
 use Rattle.dependency_book.proofs.book.Book.fill.Goals as goal
 use Rattle.dependency_book.proofs.book.Book.fill.Goals.{in_default-2, in_default}
 
@@ -19,6 +19,10 @@ not_true h = cc
 
 abbrev answer_of : Job → Result Value EvolveFault → JobResult
 answer_of job outcome = record { job = job; outcome = outcome }
+
+pub fill_row-requires : goal.fill_row-requires
+fill_row-requires c =
+    may_stand c.args.self.now c.in-Some.need c.in-Some.place.now c.into_parts-job.result.0 (outcome_of c.into_parts-job.result.1) c.expecting.ensures.right c.in-Some.ensures.row (c.if-same.ensures.entry refl) c.into_parts-job.ensures.right
 
 pub returns-in-Some-clause-filled : goal.returns-in-Some-clause-filled
 returns-in-Some-clause-filled c =

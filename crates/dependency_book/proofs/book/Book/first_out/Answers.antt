@@ -9,4 +9,4 @@ pub returns : goal.returns
 returns c =
     subst (λ d. IsFirstOut d c.lesser.result) c.self.view_is
     (subst (IsFirstOut (state_of c.self.inside)) (sym (c.lesser.ensures ∙ ap₂ lesser (c.least_out.ensures ∙ ap least_out c.deref.ensures.value) (c.least_out-2.ensures ∙ ap least_out c.deref-2.ensures.value)))
-    (first_out_is (state_of c.self.inside) c.self.inside.places.items c.self.invariant))
+    (first_out_is (state_of c.self.inside) c.self.inside.places.items c.self.invariant.held))

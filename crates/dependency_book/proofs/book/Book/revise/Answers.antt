@@ -1,94 +1,37 @@
-use Rattle.std.proofs.Common.{◌≡◌, ◌∙◌, List, length, refl, sym, ap, ap₂, subst, arith}
-use Rattle.schedule.specs.declared.document.Bookmark.{Bookmark}
-use Rattle.schedule.specs.Asked.{Asked, asked_of}
-use Rattle.schedule.specs.Plan.{Plan}
-use Rattle.dependency_book.specs.declared.mark.Mark.{Mark}
+use Rattle.std.proofs.Common.{refl, sym, subst}
+use Rattle.schedule.specs.Asked.{asked_of}
 use Rattle.dependency_book.specs.BookState.{BookState}
-use Rattle.dependency_book.specs.Held.{places_of}
+use Rattle.dependency_book.specs.Cursor.{HasPassed}
 use Rattle.dependency_book.specs.Inside.{state_of}
-use Rattle.dependency_book.specs.Kept.{KeepsRows, felt_from, mark_stays, bookmark_stays}
-use Rattle.dependency_book.specs.Rows.{ArrivalRow, IsRanked, mark_rank, bookmark_rank}
-use Rattle.dependency_book.proofs.Grown.{made_one_more}
-use Rattle.dependency_book.proofs.Revised.{IsMade, made_of, made_held, made_keeps, made_ranked, rows_made}
+use Rattle.dependency_book.specs.Kept.{KeepsRows}
+use Rattle.dependency_book.proofs.Grown.{made_room}
+use Rattle.dependency_book.proofs.Passed.{passed_none}
+use Rattle.dependency_book.proofs.Revised.{Revises, revises, with_rows}
+use Rattle.dependency_book.proofs.book.Book.revise.Goals.{After-self-1}
 use Rattle.dependency_book.proofs.book.Book.revise.Goals as goal
 
-pub marks_of-marks-requires-clause-room : goal.marks_of-marks-requires-clause-room
-marks_of-marks-requires-clause-room c =
-    let more = made_one_more c.self.inside.document c.make.new.self (asked_of c.args.edit.now) c.in_ok-edited.edited c.in_ok-edited.ensures.ok in
-    let i = more.interventions in
-    let b = more.bookmarks in
-    let room = c.in_ok-marks.ensures.marks in
-    omega (arith, i, b, room)
+pub rows_of-rows-requires-clause-room : goal.rows_of-rows-requires-clause-room
+rows_of-rows-requires-clause-room c =
+    made_room c.in_ok-room.room c.self.inside.document c.make.new.self (asked_of c.args.edit.now) c.in_ok-edited.edited c.in_ok-edited.ensures.ok c.in_ok-room.ensures
 
-pub remade-requires-clause-room : goal.remade-requires-clause-room
-remade-requires-clause-room c =
-    let more = made_one_more c.self.inside.document c.make.new.self (asked_of c.args.edit.now) c.in_ok-edited.edited c.in_ok-edited.ensures.ok in
-    let i = more.interventions in
-    let b = more.bookmarks in
-    let room = c.in_ok-marks.ensures.arrivals in
-    let few = c.marks_of-marks.ensures.few in
-    let same : length c.deref.result.now ≡ length c.marks_of-marks.result.items = ap (λ (marks : List Mark). length marks) c.deref.ensures.value in
-    (c.in_ok-marks.ensures.no_arrivals, omega (arith, i, b, room, few, same))
-
-pub remade-requires-2-clause-room : goal.remade-requires-2-clause-room
-remade-requires-2-clause-room c =
-    let more = made_one_more c.self.inside.document c.make.new.self (asked_of c.args.edit.now) c.in_ok-edited.edited c.in_ok-edited.ensures.ok in
-    let b = more.bookmarks in
-    let room = c.in_ok-marks.ensures.texts in
-    let same : length c.bookmarks.result.now ≡ length c.make.new.self.bookmarks = ap (λ (bs : List Bookmark). length bs) c.bookmarks.ensures.bookmarks in
-    (c.in_ok-marks.ensures.no_texts, omega (arith, b, room, same))
-
-pub places_of-requires-clause-room : goal.places_of-requires-clause-room
-places_of-requires-clause-room c =
-    let more = made_one_more c.self.inside.document c.make.new.self (asked_of c.args.edit.now) c.in_ok-edited.edited c.in_ok-edited.ensures.ok in
-    let b = more.bookmarks in
-    let room = c.in_ok-marks.ensures.places in
-    let same : length c.bookmarks-2.result.now ≡ length c.make.new.self.bookmarks = ap (λ (bs : List Bookmark). length bs) c.bookmarks-2.ensures.bookmarks in
-    (c.in_ok-marks.ensures.no_places, omega (arith, b, room, same))
-
-pub places_of-requires-clause-ranked : goal.places_of-requires-clause-ranked
-places_of-requires-clause-ranked c =
-    let d = state_of c.self.inside in
-    let q : Plan = c.make.new.self in
-    let asked : Asked = asked_of c.args.edit.now in
-    let made : IsMade d q asked c.in_ok-edited.edited c.marks_of-marks.result.items c.remade.result.items c.remade-2.result.items = record {
-      edit_is = c.in_ok-edited.ensures.ok;
-      sound = c.bookmarks.ensures.sound;
-      are_marks = c.marks_of-marks.ensures;
-      arrivals_are = rows_made mark_rank mark_stays c.felt_from-felt.result (felt_from d.plan asked) c.replace-old.result.items d.arrivals c.deref.result.now c.marks_of-marks.result.items c.remade.result.items c.remade.ensures c.felt_from-felt.ensures (rw c.replace-old.ensures.value refl) c.deref.ensures.value;
-      texts_are = rows_made bookmark_rank bookmark_stays c.felt_from-felt.result (felt_from d.plan asked) c.replace-old-2.result.items d.texts c.bookmarks.result.now q.bookmarks c.remade-2.result.items c.remade-2.ensures c.felt_from-felt.ensures (rw c.replace-old-2.ensures.value refl) c.bookmarks.ensures.bookmarks;
-    } in
-    subst (IsRanked mark_rank) (sym c.deref-2.ensures.value) (made_ranked d q asked c.in_ok-edited.edited c.marks_of-marks.result.items c.remade.result.items c.remade-2.result.items made)
+-- what was made of the book
+made : (c : After-self-1) → Revises (asked_of c.args.edit.now) (state_of c.self.inside) (with_rows (state_of c.self.inside) c.make.new.self c.rows_of-rows.result.arrivals.items c.rows_of-rows.result.texts.items)
+made c =
+    revises (state_of c.self.inside) c.make.new.self (asked_of c.args.edit.now) c.in_ok-edited.edited c.replace-arrivals.result.items c.replace-texts.result.items c.felt_from-felt.result c.rows_of-rows.result c.self.invariant.held.right c.in_ok-edited.ensures.ok
+    (rw c.replace-arrivals.ensures.value refl) (rw c.replace-texts.ensures.value refl) c.felt_from-felt.ensures c.rows_of-rows.ensures
 
 pub invariant_of-self-2 : goal.invariant_of-self-2
 invariant_of-self-2 c =
-    let d = state_of c.self.inside in
-    let q : Plan = c.make.new.self in
-    let asked : Asked = asked_of c.args.edit.now in
-    let made : IsMade d q asked c.in_ok-edited.edited c.marks_of-marks.result.items c.remade.result.items c.remade-2.result.items = record {
-      edit_is = c.in_ok-edited.ensures.ok;
-      sound = c.bookmarks.ensures.sound;
-      are_marks = c.marks_of-marks.ensures;
-      arrivals_are = rows_made mark_rank mark_stays c.felt_from-felt.result (felt_from d.plan asked) c.replace-old.result.items d.arrivals c.deref.result.now c.marks_of-marks.result.items c.remade.result.items c.remade.ensures c.felt_from-felt.ensures (rw c.replace-old.ensures.value refl) c.deref.ensures.value;
-      texts_are = rows_made bookmark_rank bookmark_stays c.felt_from-felt.result (felt_from d.plan asked) c.replace-old-2.result.items d.texts c.bookmarks.result.now q.bookmarks c.remade-2.result.items c.remade-2.ensures c.felt_from-felt.ensures (rw c.replace-old-2.ensures.value refl) c.bookmarks.ensures.bookmarks;
-    } in
-    made_held d c.self.inside.places.items q asked c.in_ok-edited.edited c.marks_of-marks.result.items c.remade.result.items c.remade-2.result.items c.places_of.result.items c.self.invariant made
-    (c.places_of.ensures ∙ ap₂ (λ (rows : List ArrivalRow) (bs : List Bookmark). places_of rows bs) c.deref-2.ensures.value c.bookmarks-2.ensures.bookmarks)
+    let e = with_rows (state_of c.self.inside) c.make.new.self c.rows_of-rows.result.arrivals.items c.rows_of-rows.result.texts.items in
+    let places = c.rows_of-rows.result.places.items in
+    record {
+      held = record { places = c.rows_of-rows.ensures.places_are; right = (made c).1 };
+      passed = subst (HasPassed e places) (sym c.start-self-inside.ensures) (passed_none e places);
+    }
 
 pub returns-clause-keeps : goal.returns-clause-keeps
 returns-clause-keeps c =
-    let d = state_of c.self.inside in
-    let q : Plan = c.make.new.self in
-    let asked : Asked = asked_of c.args.edit.now in
-    let made : IsMade d q asked c.in_ok-edited.edited c.marks_of-marks.result.items c.remade.result.items c.remade-2.result.items = record {
-      edit_is = c.in_ok-edited.ensures.ok;
-      sound = c.bookmarks.ensures.sound;
-      are_marks = c.marks_of-marks.ensures;
-      arrivals_are = rows_made mark_rank mark_stays c.felt_from-felt.result (felt_from d.plan asked) c.replace-old.result.items d.arrivals c.deref.result.now c.marks_of-marks.result.items c.remade.result.items c.remade.ensures c.felt_from-felt.ensures (rw c.replace-old.ensures.value refl) c.deref.ensures.value;
-      texts_are = rows_made bookmark_rank bookmark_stays c.felt_from-felt.result (felt_from d.plan asked) c.replace-old-2.result.items d.texts c.bookmarks.result.now q.bookmarks c.remade-2.result.items c.remade-2.ensures c.felt_from-felt.ensures (rw c.replace-old-2.ensures.value refl) c.bookmarks.ensures.bookmarks;
-    } in
-    subst (λ (old : BookState). KeepsRows asked old (made_of d q c.remade.result.items c.remade-2.result.items)) c.self.view_is
-    (made_keeps d c.self.inside.places.items q asked c.in_ok-edited.edited c.marks_of-marks.result.items c.remade.result.items c.remade-2.result.items c.self.invariant made)
+    subst (λ (old : BookState). KeepsRows (asked_of c.args.edit.now) old (with_rows (state_of c.self.inside) c.make.new.self c.rows_of-rows.result.arrivals.items c.rows_of-rows.result.texts.items)) c.self.view_is (made c).0
 
 pub returns-clause-right : goal.returns-clause-right
-returns-clause-right c = (invariant_of-self-2 c).right
+returns-clause-right c = (made c).1

@@ -1,11 +1,9 @@
-use Rattle.std.proofs.Common.{◌≡◌, ◌∙◌, ◌-◌, true, Some, refl, sym, ap, subst}
+use Rattle.std.proofs.Common.{◌∙◌, ◌-◌, Some, refl, sym, ap, subst}
 use Rattle.schedule.specs.Scratch.{cells_at}
 use Rattle.revision_jobs.specs.declared.entry.Step.{Step as Stepping}
 use Rattle.dependency_book.specs.BookState.{BookState}
 use Rattle.dependency_book.specs.Entered.{StepsTo}
 use Rattle.dependency_book.specs.Inside.{state_of}
-use Rattle.dependency_book.specs.Marks.{is_mark}
-use Rattle.dependency_book.proofs.Entering.{step_workable}
 use Rattle.dependency_book.proofs.Found.{step_is}
 use Rattle.dependency_book.proofs.book.Book.step_to.Goals as goal
 
@@ -15,12 +13,4 @@ returns-clause-entry c =
     let n = c.before-before.result.0 in
     let s : Stepping = record { rule = c.in_ok-try_clone.field-0; from = c.in_ok-try_clone-2.field-0; cells = c.in_ok-cells_at.field-0; gens = c.args.mark - n } in
     subst (λ (e : BookState). StepsTo e c.args.mark s) c.self.view_is
-    (step_is d c.args.self.now c.args.mark n s c.self.view_is c.before-before.ensures.mark (c.before-before.ensures.known ∙ ap (λ w. Some w) (sym c.in_ok-try_clone-2.ensures)) (c.in_ok-try_clone.ensures ∙ c.rule.ensures) (c.in_ok-cells_at.ensures ∙ ap (λ is. cells_at is n) c.interventions-interventions.ensures) refl)
-
-pub returns-clause-workable : goal.returns-clause-workable
-returns-clause-workable c =
-    let d = state_of c.self.inside in
-    let n = c.before-before.result.0 in
-    let s : Stepping = record { rule = c.in_ok-try_clone.field-0; from = c.in_ok-try_clone-2.field-0; cells = c.in_ok-cells_at.field-0; gens = c.args.mark - n } in
-    step_workable d c.args.mark s c.self.invariant.sound c.self.invariant.right (subst (λ (e : BookState). is_mark e.plan c.args.mark ≡ true) (sym c.self.view_is) c.requires.can.is)
     (step_is d c.args.self.now c.args.mark n s c.self.view_is c.before-before.ensures.mark (c.before-before.ensures.known ∙ ap (λ w. Some w) (sym c.in_ok-try_clone-2.ensures)) (c.in_ok-try_clone.ensures ∙ c.rule.ensures) (c.in_ok-cells_at.ensures ∙ ap (λ is. cells_at is n) c.interventions-interventions.ensures) refl)

@@ -10,7 +10,6 @@ use Rattle.dependency_book.specs.Held.{IsHeld}
 use Rattle.dependency_book.specs.Inside.{state_of}
 use Rattle.dependency_book.specs.Needs.{ViewIsNext}
 use Rattle.dependency_book.specs.Rows.{TextRow, place_in, bookmark_rank}
-use Rattle.dependency_book.proofs.Entering.{view_workable}
 use Rattle.dependency_book.proofs.Found.{ViewRow, view_row, view_is}
 use Rattle.dependency_book.proofs.book.Book.view_of.Goals as goal
 
@@ -21,7 +20,7 @@ row_at d e places id k rows same held next is at = subst (ViewRow d id) (sym (at
 pub index-requires : goal.index-requires
 index-requires c =
     let d = state_of c.self.inside in
-    let row = row_at d c.args.self.now c.self.inside.places.items c.args.id c.place_in.result c.deref.result.now c.self.view_is c.self.invariant c.requires c.deref.ensures.value c.place_in.ensures in
+    let row = row_at d c.args.self.now c.self.inside.places.items c.args.id c.place_in.result c.deref.result.now c.self.view_is c.self.invariant.held c.requires c.deref.ensures.value c.place_in.ensures in
     let low = row.low in
     let len = c.deref.ensures.len in
     let same : length c.deref.result.now ≡ length d.texts = ap (λ (rows : List TextRow). length rows) c.deref.ensures.value in
@@ -30,34 +29,20 @@ index-requires c =
 pub arrived-requires : goal.arrived-requires
 arrived-requires c =
     let d = state_of c.self.inside in
-    let row = row_at d c.args.self.now c.self.inside.places.items c.args.id c.place_in.result c.deref.result.now c.self.view_is c.self.invariant c.requires c.deref.ensures.value c.place_in.ensures in
+    let row = row_at d c.args.self.now c.self.inside.places.items c.args.id c.place_in.result c.deref.result.now c.self.view_is c.self.invariant.held c.requires c.deref.ensures.value c.place_in.ensures in
     let x : TextRow = c.index.result.now in
     subst (λ (e : BookState). IsSome (arrival_known e x.key.generation)) c.self.view_is (subst (λ (r : TextRow). IsSome (arrival_known d r.key.generation)) (sym c.index.ensures) (row.arrived x))
 
 pub returns-clause-entry : goal.returns-clause-entry
 returns-clause-entry c =
     let d = state_of c.self.inside in
-    let row = row_at d c.args.self.now c.self.inside.places.items c.args.id c.place_in.result c.deref.result.now c.self.view_is c.self.invariant c.requires c.deref.ensures.value c.place_in.ensures in
+    let row = row_at d c.args.self.now c.self.inside.places.items c.args.id c.place_in.result c.deref.result.now c.self.view_is c.self.invariant.held c.requires c.deref.ensures.value c.place_in.ensures in
     let x : TextRow = c.index.result.now in
     let g = x.key.generation in
     let r : Rendering = record { view = x.key.view; from = c.in_ok-try_clone.field-0; cells = c.in_ok-cells_at.field-0; name = c.in_ok-copied.field-0; states = c.states.result; generation = g } in
     let h =
-    view_is d c.args.self.now c.self.inside.places.items c.args.id c.place_in.result x r c.self.view_is c.self.invariant row c.index.ensures (c.arrived.ensures ∙ ap (λ (w : World). Some w) (sym c.in_ok-try_clone.ensures)) refl
+    view_is d c.args.self.now c.self.inside.places.items c.args.id c.place_in.result x r c.self.view_is c.self.invariant.held row c.index.ensures (c.arrived.ensures ∙ ap (λ (w : World). Some w) (sym c.in_ok-try_clone.ensures)) refl
     (c.in_ok-cells_at.ensures ∙ ap (λ is. cells_at is g) c.interventions-interventions.ensures)
     (c.in_ok-copied.ensures ∙ c.name.ensures ∙ ap name_of (c.deref-2.ensures ∙ c.rule-rule.ensures))
     (c.states.ensures.count ∙ ap states_of (c.deref-3.ensures ∙ c.rule-rule.ensures)) refl in
     subst (λ (e : BookState). ViewsOf e c.args.id r) c.self.view_is h
-
-pub returns-clause-workable : goal.returns-clause-workable
-returns-clause-workable c =
-    let d = state_of c.self.inside in
-    let row = row_at d c.args.self.now c.self.inside.places.items c.args.id c.place_in.result c.deref.result.now c.self.view_is c.self.invariant c.requires c.deref.ensures.value c.place_in.ensures in
-    let x : TextRow = c.index.result.now in
-    let g = x.key.generation in
-    let r : Rendering = record { view = x.key.view; from = c.in_ok-try_clone.field-0; cells = c.in_ok-cells_at.field-0; name = c.in_ok-copied.field-0; states = c.states.result; generation = g } in
-    let h =
-    view_is d c.args.self.now c.self.inside.places.items c.args.id c.place_in.result x r c.self.view_is c.self.invariant row c.index.ensures (c.arrived.ensures ∙ ap (λ (w : World). Some w) (sym c.in_ok-try_clone.ensures)) refl
-    (c.in_ok-cells_at.ensures ∙ ap (λ is. cells_at is g) c.interventions-interventions.ensures)
-    (c.in_ok-copied.ensures ∙ c.name.ensures ∙ ap name_of (c.deref-2.ensures ∙ c.rule-rule.ensures))
-    (c.states.ensures.count ∙ ap states_of (c.deref-3.ensures ∙ c.rule-rule.ensures)) refl in
-    view_workable d c.args.id r c.self.invariant.sound c.self.invariant.right h

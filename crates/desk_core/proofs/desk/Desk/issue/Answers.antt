@@ -1,4 +1,4 @@
-use Rattle.std.proofs.Common.{subst, rules, Some}
+use Rattle.std.proofs.Common.{◌∙◌, subst, rules, Some}
 use Rattle.revision_jobs.specs.declared.answer.Job.{Job}
 use Rattle.revision_jobs.specs.declared.entries.Place.{Place}
 use Rattle.dependency_book.specs.BookState.{BookState}
@@ -8,7 +8,7 @@ use Rattle.desk_core.proofs.desk.Desk.issue.Goals as goal
 
 pub returns-clause-issued : goal.returns-clause-issued
 returns-clause-issued g c =
-    let old : BookState = c.self.inside.book in
+    let old : BookState = c.next_need.new.self in
     let new : BookState = c.expect.new.self in
     let need = c.in-Some.need in
     let number = c.given-number.result in
@@ -22,5 +22,5 @@ returns-clause-issued g c =
       fewer = c.expect.ensures.fewer;
       event = issues-core old new need expected c.given-number.ensures c.expect.ensures.document.plan c.expect.ensures.given c.expect.ensures.rows;
     } in
-    subst (λ (d : BookState). IsIssued d new (Some (record { number = number; place = c.in_ok-place.place }))) c.self.view_is
+    subst (λ (d : BookState). IsIssued d new (Some (record { number = number; place = c.in_ok-place.place }))) (c.next_need.ensures.same ∙ c.self.view_is)
     (subst (λ (p : Place). IsIssued old new (Some (record { number = number; place = p }))) c.share.ensures (need, issued))

@@ -1,4 +1,5 @@
 use Rattle.std.proofs.Common.{◌≡◌, None, sym, ap, subst, ◌∙◌, refl}
+use Rattle.dependency_book.specs.Jobs.{IsAnyOut}
 use Rattle.desk_core.specs.declared.unsent.Unsent.{Unsent}
 use Rattle.desk_core.specs.declared.unsent.Unsent.TheVariants.{Nothing, Ready, Waiting}
 use Rattle.desk_core.specs.declared.progress.Progress.{Progress}
@@ -79,36 +80,36 @@ returns-in-Waiting-clause-prompt g c = λ prompt.
     (fewer-waiting mid job refl)
     (c.receive.ensures.prompt prompt)
 
-pub returns-in-Some-clause-goes : goal.returns-in-Some-clause-goes
-returns-in-Some-clause-goes g c =
+pub returns-then-is_out-clause-goes : goal.returns-then-is_out-clause-goes
+returns-then-is_out-clause-goes g c =
     let floor = g.P.Post.floor c.args.post.now in
     let answers = g.P.Post.answers c.args.post.now in
     let left : Progress = record { unsent = c.replace.new.dest; cause = c.issue.new.self.cause } in
     GoesOn-turn c.args.desk.now c.issue.new.desk floor answers c.args.self.now c.issue.new.self left
-    (over g.P.Post.floor g.P.Post.answers c.receive-in-Some.new.post c.receive-in-Some.new.desk c.receive-in-Some.new.self)
+    (over g.P.Post.floor g.P.Post.answers c.receive-then-is_out.new.post c.receive-then-is_out.new.desk c.receive-then-is_out.new.self)
     (c.issue.ensures.goes (g.P.Post.table c.args.post.now) floor answers c.requires)
     (same_job c.issue.new.self.unsent c.replace.result c.replace.new.dest c.replace.ensures.value c.in-Nothing.is c.replace.ensures.after) refl
-    c.receive-in-Some.ensures.goes
+    c.receive-then-is_out.ensures.goes
 
-pub returns-in-Some-clause-prompt : goal.returns-in-Some-clause-prompt
-returns-in-Some-clause-prompt g c = λ prompt.
+pub returns-then-is_out-clause-prompt : goal.returns-then-is_out-clause-prompt
+returns-then-is_out-clause-prompt g c = λ prompt.
     let held = g.P.Post.held c.args.post.now in
     let mid : Moment = moment c.issue.new.desk Nothing held in
     Advances-received
     (moment c.args.desk.now c.args.self.now.unsent held)
     mid
-    (moment c.receive-in-Some.new.desk c.receive-in-Some.new.self.unsent (g.P.Post.held c.receive-in-Some.new.post))
+    (moment c.receive-then-is_out.new.desk c.receive-then-is_out.new.self.unsent (g.P.Post.held c.receive-then-is_out.new.post))
     c.replace.new.dest
-    c.args.self.now.cause c.issue.new.self.cause c.receive-in-Some.new.self.cause c.receive-in-Some.result
-    c.receive-in-Some.ensures.goes.cause
+    c.args.self.now.cause c.issue.new.self.cause c.receive-then-is_out.new.self.cause c.receive-then-is_out.result
+    c.receive-then-is_out.ensures.goes.cause
     (begins c.args.desk.now c.issue.new.desk c.args.self.now c.issue.new.self held Nothing (sym c.replace.ensures.value ∙ c.in-Nothing.is)
     (c.issue.ensures.goes (g.P.Post.table c.args.post.now) (g.P.Post.floor c.args.post.now) (g.P.Post.answers c.args.post.now) c.requires).cause (c.issue.ensures.out held) (c.issue.ensures.turns held))
     (no_job c.replace.new.dest c.replace.ensures.after)
-    (fewer-nothing mid c.replace.new.dest c.in-Some.field-0 c.replace.ensures.after refl c.in-Some.ensures)
-    (c.receive-in-Some.ensures.prompt prompt)
+    (fewer-nothing mid c.replace.new.dest c.replace.ensures.after refl (subst (IsAnyOut c.issue.new.desk) c.if-is_out.true c.is_out.ensures))
+    (c.receive-then-is_out.ensures.prompt prompt)
 
-pub returns-in-None-clause-goes : goal.returns-in-None-clause-goes
-returns-in-None-clause-goes g c =
+pub returns-else-is_out-clause-goes : goal.returns-else-is_out-clause-goes
+returns-else-is_out-clause-goes g c =
     let floor = g.P.Post.floor c.args.post.now in
     let answers = g.P.Post.answers c.args.post.now in
     let left : Progress = record { unsent = c.replace.new.dest; cause = c.issue.new.self.cause } in
@@ -118,12 +119,12 @@ returns-in-None-clause-goes g c =
     (same_job c.issue.new.self.unsent c.replace.result c.replace.new.dest c.replace.ensures.value c.in-Nothing.is c.replace.ensures.after) refl
     (GoesOn-same end)
 
-pub receive-requires-in-Some : goal.receive-requires-in-Some
-receive-requires-in-Some g c =
+pub receive-requires-then-is_out : goal.receive-requires-then-is_out
+receive-requires-then-is_out g c =
     subst (λ unsent. Fits c.issue.new.desk (g.P.Post.table c.args.post.now) (g.P.Post.floor c.args.post.now) (job_in unsent)) (sym c.replace.ensures.value ∙ c.in-Nothing.is ∙ sym c.replace.ensures.after)
     (c.issue.ensures.fits (g.P.Post.table c.args.post.now) (g.P.Post.floor c.args.post.now) c.requires)
 
-pub returns-in-None-clause-fits : goal.returns-in-None-clause-fits
-returns-in-None-clause-fits g c =
+pub returns-else-is_out-clause-fits : goal.returns-else-is_out-clause-fits
+returns-else-is_out-clause-fits g c =
     subst (λ unsent. Fits c.issue.new.desk (g.P.Post.table c.args.post.now) (g.P.Post.floor c.args.post.now) (job_in unsent)) (sym c.replace.ensures.value ∙ c.in-Nothing.is ∙ sym c.replace.ensures.after)
     (c.issue.ensures.fits (g.P.Post.table c.args.post.now) (g.P.Post.floor c.args.post.now) c.requires)

@@ -1,7 +1,7 @@
 use Rattle.std.proofs.Common.{◌≡◌, take, vec_len}
 use Rattle.std.specs.Prelude.{vec_capacity}
 use Rattle.dependency_book.specs.Held.{places_of}
-use Rattle.dependency_book.proofs.revise.places_of.Given as goal
+use Rattle.dependency_book.proofs.room.places_of.Given as goal
 
 abbrev pub invariant-loop-bookmark : goal.invariant-loop-bookmark
 invariant-loop-bookmark l = record {

@@ -1,0 +1,12 @@
+use Rattle.std.proofs.Common.{◌∙◌, sym, subst}
+use Rattle.schedule.specs.Ids.{IdsRise}
+use Rattle.dependency_book.specs.Kept.{mark_stays}
+use Rattle.dependency_book.specs.Rows.{IsRanked, mark_rank}
+use Rattle.dependency_book.proofs.Remaking.{keys-remade}
+use Rattle.dependency_book.proofs.room.Room.rows_of.Goals as goal
+
+pub places_of-places-requires-clause-ranked : goal.places_of-places-requires-clause-ranked
+places_of-places-requires-clause-ranked c =
+    subst (IsRanked mark_rank) (sym (c.deref-2.ensures.value ∙ c.remade-arrivals.ensures))
+    (subst (IdsRise mark_rank) (sym (keys-remade mark_rank mark_stays c.args.felt c.args.arrivals.items c.deref.result.now))
+    (subst (IdsRise mark_rank) (sym c.deref.ensures.value) c.marks_of-marks.ensures.rise))
