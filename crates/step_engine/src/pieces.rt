@@ -1,5 +1,5 @@
 //! Many generations of a plane in pieces, where there is no room for all at once.
-ghost use Rattle.std.specs.Prelude.{◌≡◌, IfOk, Err};
+ghost use Rattle.std.specs.Prelude.{◌≡◌, ◌<◌, ◌≤◌, IfOk, Err};
 ghost use Rattle.worlds.specs.Iterate.{iterate};
 ghost use Rattle.worlds.specs.Step.{step};
 ghost use Rattle.worlds.specs.Stop.{CountsStop};
@@ -79,6 +79,9 @@ impl<'a, R: Next> Engine<'a, R> {
 }
 
 // Half as many, but not fewer than the least.
-fn halved(many: u64, least: u64) -> u64 {
+fn halved(many: u64, least: u64) -> u64
+    ensures least { least ≤ result }
+    ensures fewer { 1 ≤ least → least < many → result < many }
+{
     many.div_ceil(2).max(least)
 }
