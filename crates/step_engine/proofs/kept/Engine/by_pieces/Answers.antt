@@ -1,4 +1,4 @@
-use Rattle.std.proofs.Common.{rules, ◌≡◌, ◌+◌, ◌-◌, ◌*◌, ◌<◌, ◌≤◌, refl, sym, subst, ap, ◌∙◌, arith}
+use Rattle.std.proofs.Common.{rules, ◌≡◌, ◌+◌, ◌-◌, ◌≤◌, refl, sym, subst, ap, ◌∙◌, arith}
 use Rattle.worlds.specs.Iterate.{iterate, iterate-zero}
 use Rattle.worlds.specs.Step.{step}
 use Rattle.step_engine.specs.Evolved.{CanEvolve}
