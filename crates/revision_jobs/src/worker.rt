@@ -36,7 +36,8 @@ use step_engine::{Engine, EvolveFault};
 /// squares, and never more than 16,777,216.
 ///
 /// The answer has the value of the job's entry, or says why there is none: NoRoom where a step
-/// would need more squares, Stopped where the stop said yes, NoMemory where a growth was refused.
+/// would need more squares, and a 4,096th of it would too, Stopped where the stop said yes, NoMemory
+/// where a growth was refused.
 pub fn work<G: Gate, S: Stop>(
     alloc: Global,
     job: Job,
@@ -150,7 +151,7 @@ fn stepped<S: Stop>(
     ensures engine { engine.new ≡ engine.old }
 {
     let laid = Laid::on(&step.from, step.cells.as_slice())?;
-    let plane = engine.evolve(laid.plane(), step.gens, stop)?;
+    let plane = engine.evolve_in_pieces(laid.plane(), step.gens, stop)?;
     Ok(Outcome::Plane(shared(alloc, plane)?))
 }
 

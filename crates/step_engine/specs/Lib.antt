@@ -7,3 +7,4 @@ pub mod Room
 pub mod Reach
 pub mod Padded
 pub mod Kept
+pub mod Pieces
