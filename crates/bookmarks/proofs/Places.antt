@@ -14,7 +14,7 @@ use Rattle.worlds.specs.Fill.{same_is, is_same}
 use Rattle.worlds.specs.Range.{IsInBox}
 use Rattle.plane_core.specs.Within.{IsLiveWithin, AreLiveWithin, count_at}
 use Rattle.bookmarks.specs.Within.{spans_plane}
-use Rattle.bookmarks.specs.Window.{last_state, state_at}
+use Rattle.bookmarks.specs.Window.{last_state, state_at, IsIn}
 
 abbrev pub no_cell : Cell
 no_cell = record { x = pos 0; y = pos 0; state = 0 }
@@ -67,6 +67,45 @@ same_place_of left top x y i j x' y' across down h =
     let ey : top +ℤ pos y ≡ y' = ap (λ (p : Place). p.0) e in
     let ex : left +ℤ pos x ≡ x' = ap (λ (p : Place). p.1) e in
     (omega (arith, ints), omega (arith, ints))
+
+-- a cell of a box is among the places of its rectangle
+pub is_in : (left top : ℤ) (width height size : ℕ) (b : Bounds) (c : Cell) → size ≡ width * height → b.left ≡ left → b.top ≡ top → (b.right +ℤ pos 1) ≡ left +ℤ pos width → (b.bottom +ℤ pos 1) ≡ top +ℤ pos height
+    → IsInBox b c.x c.y → IsIn left top width size c
+is_in left top width height size b c sized l t r d inside =
+    let from_left = inside.left in
+    let to_right = inside.right in
+    let from_top = inside.top in
+    let to_bottom = inside.bottom in
+    let column = unsigned_abs (c.x -ℤ left) in
+    let row = unsigned_abs (c.y -ℤ top) in
+    let narrow : column < width = omega (arith, ints, l, r, from_left, to_right) in
+    let low : row < height = omega (arith, ints, t, d, from_top, to_bottom) in
+    record {
+      column = column;
+      row = row;
+      across = omega (arith, ints, l, from_left);
+      down = omega (arith, ints, t, from_top);
+      narrow = narrow;
+      listed = subst (λ n. row * width + column < n) (sym sized) (number_below width height column row narrow low);
+    }
+
+-- how far a coordinate lies from such an edge
+pub offset : (z edge : ℤ) (n : ℕ) → SFits w64 z → SFits w64 edge → n ≤ 65536 → z ≡ edge +ℤ pos n → unsigned_abs (to_z w64 (of_z w64 (to_z w64 (of_z w64 z) -ℤ to_z w64 (of_z w64 edge)))) ≡ n
+offset z edge n fz fe small is =
+    let apart : z -ℤ edge ≡ pos n = omega (arith, ints, is) in
+    let fits : unsigned_abs (pos n) < 2 ^ 63 = omega (arith, ints, small) in
+    (λ i. unsigned_abs (to_z w64 (of_z w64 (to_z-of_z w64 z fz i -ℤ to_z-of_z w64 edge fe i))))
+    ∙ ap (λ m. unsigned_abs (to_z w64 (of_z w64 m))) apart
+    ∙ ap unsigned_abs (to_z-of_z w64 (pos n) (fits_signed_from_abs w64 (pos n) fits))
+
+-- the number of a cell's place, as it is reckoned
+pub number : (left top : ℤ) (width size : ℕ) (c : Cell) → SFits w64 left → SFits w64 top → SFits w64 c.x → SFits w64 c.y → size ≤ 65536 → (h : IsIn left top width size c)
+    → unsigned_abs (to_z w64 (of_z w64 (to_z w64 (of_z w64 c.y) -ℤ to_z w64 (of_z w64 top)))) * width + unsigned_abs (to_z w64 (of_z w64 (to_z w64 (of_z w64 c.x) -ℤ to_z w64 (of_z w64 left)))) ≡ h.row * width + h.column
+number left top width size c fl ft fx fy small h =
+    let listed = h.listed in
+    let narrow = h.narrow in
+    let times : h.row * 1 ≤ h.row * width = mul-le-mul_left h.row (omega (arith, narrow)) in
+    ap₂ (λ (r q : ℕ). r * width + q) (offset c.y top h.row fy ft (omega (arith, times, listed, small)) h.down) (offset c.x left h.column fx fl (omega (arith, listed, small)) h.across)
 
 -- one more state is set
 pub shown-set : (states after : List ℕ) (cs : List Cell) (k n : ℕ) (d : Cell) (left top : ℤ) (width size i j : ℕ) → k < length cs → length states ≡ size
