@@ -1,10 +1,9 @@
--- Places in a window, and the cells that are laid on its patch.
-use Rattle.std.proofs.Common.{◌≡◌, ◌∙◌, sym, ap, ap₂, refl, subst, ℕ, ◌+◌, ◌<◌, ◌≤◌, ◌^◌, Bool, true, false, cond, List, [], ◌∷◌, ◌++◌, length, take, get_or, ℤ, pos, ◌+ℤ◌, ◌-ℤ◌, ◌≤ℤ◌, inl, inr, Option, Some, SFits, w64, to_z, of_z, pow_mono, mul_comm, arith}
+-- Places in a window, and the cells whose states are set in its list.
+use Rattle.std.proofs.Common.{◌≡◌, ◌≢◌, ◌∙◌, sym, ap, ap₂, refl, subst, ℕ, ◌+◌, ◌<◌, ◌≤◌, ◌^◌, Bool, true, false, cond, List, [], ◌∷◌, ◌++◌, length, take, get_or, set, get_or-set_same, get_or-set_other, ℤ, pos, ◌+ℤ◌, ◌-ℤ◌, ◌≤ℤ◌, inl, inr, Option, Some, SFits, w64, to_z, of_z, pow_mono, mul_comm, arith}
 use Rattle.std.specs.Prelude.{All, unwrap_or, unsigned_abs, IsTrue, ◌&&◌, ◌*◌, nat_lt, nat_le, int_le, neg_ℤ}
-use Rattle.std.specs.FinMap as finite
 use Rattle.std.proofs.lemmas.Bool.{cases_lt, cond-true, cond-false, cond_both, false_from_ne_true, and_parts, ltb-true, leb-true}
 use Rattle.std.proofs.lemmas.Int.{ints, fits_signed_from_abs, to_z-of_z}
-use Rattle.std.proofs.Math.Nat.{le-mul_of_pos_right}
+use Rattle.std.proofs.Math.Nat.{mul-le-mul_left}
 use Rattle.std.proofs.lemmas.List.{take_more}
 use Rattle.std.proofs.lemmas.List.Elements.{All-head, All-tail}
 use Rattle.std.proofs.lemmas.List.Sums.{sum_by-cons}
@@ -13,10 +12,9 @@ use Rattle.worlds.specs.declared.cell.Cell.{Cell}
 use Rattle.worlds.specs.World.{World, Place, cell, same_place, places_total}
 use Rattle.worlds.specs.Fill.{same_is, is_same}
 use Rattle.worlds.specs.Range.{IsInBox}
-use Rattle.square_tree.specs.Cells.{Cells, SpansSquare, IsHeld, state_at, put}
 use Rattle.plane_core.specs.Within.{IsLiveWithin, AreLiveWithin, count_at}
 use Rattle.bookmarks.specs.Within.{spans_plane}
-use Rattle.bookmarks.specs.Window.{last_state}
+use Rattle.bookmarks.specs.Window.{last_state, state_at, IsIn}
 
 abbrev pub no_cell : Cell
 no_cell = record { x = pos 0; y = pos 0; state = 0 }
@@ -29,83 +27,113 @@ spanned z n inside =
     let high : z ≤ℤ (pos (2 ^ 61) -ℤ pos n) = (let h = parts.1 in grind (arith, ints)) in
     (low, omega (arith, ints))
 
--- a window with cells, of which there are at most 65,536, has at most so many columns and rows
-pub sides : (width height : ℕ) → IsTrue (nat_lt 0 width && nat_lt 0 height && nat_le (width * height) 65536) → (width ≤ 65536) × (height ≤ 65536)
-sides width height h =
-    let outer = and_parts (nat_lt 0 width && nat_lt 0 height) (nat_le (width * height) 65536) h in
-    let inner = and_parts (nat_lt 0 width) (nat_lt 0 height) outer.0 in
-    let across = ltb-true 0 width inner.0 in
-    let down = ltb-true 0 height inner.1 in
-    let area = leb-true (width * height) 65536 outer.1 in
-    let wide = le-mul_of_pos_right width down in
-    let high = le-mul_of_pos_right height across in
-    let turned : height * width ≡ width * height = mul_comm height width in
-    (omega (arith, area, wide), omega (arith, area, high, turned))
+-- a window has at most 65,536 cells
+pub area : (width height : ℕ) → IsTrue (nat_lt 0 width && nat_lt 0 height && nat_le (width * height) 65536) → width * height ≤ 65536
+area width height h = leb-true (width * height) 65536 (and_parts (nat_lt 0 width && nat_lt 0 height) (nat_le (width * height) 65536) h).1
 
--- the columns up to one that the square holds
-pub columns_up_to : (l n : ℕ) (z : ℤ) → z ≡ pos n -ℤ pos 1 → SpansSquare l z 1 → SpansSquare l (pos 0) n
-columns_up_to l n z is h = let to = h.to in record { from = omega (arith, ints); to = omega (arith, ints) }
+-- no row behind another has its numbers
+row_bound : (width x y i j : ℕ) → i < width → y * width + x ≡ j * width + i → y ≤ j
+row_bound width x y i j narrow same =
+    elim (cases_lt j y) [
+      | inl below ↦
+          let more : width * (j + 1) ≤ width * y = mul-le-mul_left width (omega (arith, below)) in
+          absurd (omega (arith, more, same, narrow))
+      | inr le ↦ le
+    ]
 
--- a column among them
-pub column_held : (l n : ℕ) (first last z : ℤ) → SpansSquare l (pos 0) n → last ≡ first +ℤ pos n -ℤ pos 1 → first ≤ℤ z → z ≤ℤ last → SpansSquare l (z -ℤ first) 1
-column_held l n first last z spans is low high = let from = spans.from in let to = spans.to in record { from = omega (arith, ints); to = omega (arith, ints) }
+-- in rows of so many columns a number stands for one column and one row
+pub same_number : (width x y i j : ℕ) → x < width → i < width → y * width + x ≡ j * width + i → (x ≡ i) × (y ≡ j)
+same_number width x y i j here there same =
+    let low = row_bound width x y i j there same in
+    let high = row_bound width i j x y here (sym same) in
+    let row : y ≡ j = omega (arith, low, high) in
+    let times : y * width ≡ j * width = ap (λ n. n * width) row in
+    (omega (arith, times, same), row)
 
-pub column_spans : (l n k : ℕ) → SpansSquare l (pos 0) n → k < n → SpansSquare l (pos k) 1
-column_spans l n k spans below = let from = spans.from in let to = spans.to in record { from = omega (arith, ints); to = omega (arith, ints) }
-
--- how far a coordinate of a small square lies from a first one is a number of 64 bits
-pub distance : (l : ℕ) (z first : ℤ) → l ≤ 17 → SFits w64 z → SFits w64 first → SpansSquare l (z -ℤ first) 1 → to_z w64 (of_z w64 (to_z w64 (of_z w64 z) -ℤ to_z w64 (of_z w64 first))) ≡ z -ℤ first
-distance l z first low fz ff h =
-    let from = h.from in let to = h.to in
-    let side : 2 ^ l ≤ 2 ^ 17 = pow_mono low in
-    let small : unsigned_abs (z -ℤ first) < 2 ^ 63 = omega (arith, ints) in
-    (λ i. to_z w64 (of_z w64 (to_z-of_z w64 z fz i -ℤ to_z-of_z w64 first ff i))) ∙ to_z-of_z w64 (z -ℤ first) (fits_signed_from_abs w64 (z -ℤ first) small)
-
--- the same place in the same square
-pub held_at : (l m : ℕ) (x y x' y' : ℤ) → m ≡ l → x' ≡ x → y' ≡ y → IsHeld l x y → IsHeld m x' y'
-held_at l m x y x' y' level ex ey h =
-    let column = subst (λ n. SpansSquare n x 1) (sym level) h.0 in
-    let row = subst (λ n. SpansSquare n y 1) (sym level) h.1 in
-    (subst (λ z. SpansSquare m z 1) (sym ex) column, subst (λ z. SpansSquare m z 1) (sym ey) row)
-
-either : (b : Bool) (s : ℕ) (o : Option ℕ) → unwrap_or (cond b (Some s) o) 0 ≡ cond b s (unwrap_or o 0)
-either true s o = refl
-either false s o = refl
+-- a column and a row of a rectangle have a number below that of its cells
+pub number_below : (width height i j : ℕ) → i < width → j < height → j * width + i < width * height
+number_below width height i j across down =
+    let rows : width * (j + 1) ≤ width * height = mul-le-mul_left width (omega (arith, down)) in
+    omega (arith, rows, across)
 
 last-push : (cs : List Cell) (c : Cell) (x y : ℤ) (s : ℕ) → last_state (cs ++ c ∷ []) x y s ≡ cond (same_place (y, x) (c.y, c.x)) c.state (last_state cs x y s)
 last-push [] c x y s = refl
 last-push (d ∷ cs) c x y s = last-push cs c x y (cond (same_place (y, x) (d.y, d.x)) d.state s)
 
-same_bool : (a b : Bool) → (a ≡ true → b ≡ true) → (b ≡ true → a ≡ true) → a ≡ b
-same_bool true b h g = sym (h refl)
-same_bool false b h g = sym (false_from_ne_true b (λ e. let k = g e in cc))
+-- columns and rows from (left, top) on are the same where the places are
+same_place_of : (left top : ℤ) (x y i j : ℕ) (x' y' : ℤ) → x' ≡ left +ℤ pos i → y' ≡ top +ℤ pos j → same_place (top +ℤ pos y, left +ℤ pos x) (y', x') ≡ true → (x ≡ i) × (y ≡ j)
+same_place_of left top x y i j x' y' across down h =
+    let e = same_is (top +ℤ pos y, left +ℤ pos x) (y', x') h in
+    let ey : top +ℤ pos y ≡ y' = ap (λ (p : Place). p.0) e in
+    let ex : left +ℤ pos x ≡ x' = ap (λ (p : Place). p.1) e in
+    (omega (arith, ints), omega (arith, ints))
 
--- a place of the patch is that of the cell where it is so far from (left, top)
-moved : (left top x y x' y' : ℤ) → same_place (y, x) (y' -ℤ top, x' -ℤ left) ≡ same_place (top +ℤ y, left +ℤ x) (y', x')
-moved left top x y x' y' =
-    same_bool (same_place (y, x) (y' -ℤ top, x' -ℤ left)) (same_place (top +ℤ y, left +ℤ x) (y', x')) (λ h.
-    let e = same_is (y, x) (y' -ℤ top, x' -ℤ left) h in
-    let ey : y ≡ y' -ℤ top = ap (λ (p : Place). p.0) e in
-    let ex : x ≡ x' -ℤ left = ap (λ (p : Place). p.1) e in
-    is_same (top +ℤ y, left +ℤ x) (y', x') (omega (arith, ints)) (omega (arith, ints))) (λ h.
-    let e = same_is (top +ℤ y, left +ℤ x) (y', x') h in
-    let ey : top +ℤ y ≡ y' = ap (λ (p : Place). p.0) e in
-    let ex : left +ℤ x ≡ x' = ap (λ (p : Place). p.1) e in
-    is_same (y, x) (y' -ℤ top, x' -ℤ left) (omega (arith, ints)) (omega (arith, ints)))
+-- a cell of a box is among the places of its rectangle
+pub is_in : (left top : ℤ) (width height size : ℕ) (b : Bounds) (c : Cell) → size ≡ width * height → b.left ≡ left → b.top ≡ top → (b.right +ℤ pos 1) ≡ left +ℤ pos width → (b.bottom +ℤ pos 1) ≡ top +ℤ pos height
+    → IsInBox b c.x c.y → IsIn left top width size c
+is_in left top width height size b c sized l t r d inside =
+    let from_left = inside.left in
+    let to_right = inside.right in
+    let from_top = inside.top in
+    let to_bottom = inside.bottom in
+    let column = unsigned_abs (c.x -ℤ left) in
+    let row = unsigned_abs (c.y -ℤ top) in
+    let narrow : column < width = omega (arith, ints, l, r, from_left, to_right) in
+    let low : row < height = omega (arith, ints, t, d, from_top, to_bottom) in
+    record {
+      column = column;
+      row = row;
+      across = omega (arith, ints, l, from_left);
+      down = omega (arith, ints, t, from_top);
+      narrow = narrow;
+      listed = subst (λ n. row * width + column < n) (sym sized) (number_below width height column row narrow low);
+    }
 
--- one more cell is set
-pub shown-set : (p q : Cells) (cs : List Cell) (i : ℕ) (d : Cell) (left top x' y' : ℤ) → i < length cs
-    → ((x y : ℤ) → unwrap_or (state_at p x y) 0 ≡ last_state (take i cs) (left +ℤ x) (top +ℤ y) 0)
-    → x' ≡ (get_or cs i d).x -ℤ left → y' ≡ (get_or cs i d).y -ℤ top → q ≡ put p x' y' (get_or cs i d).state
-    → (x y : ℤ) → unwrap_or (state_at q x y) 0 ≡ last_state (take (i + 1) cs) (left +ℤ x) (top +ℤ y) 0
-shown-set p q cs i d left top x' y' below shown ex ey is x y =
-    let c : Cell = get_or cs i d in
-    ap (λ (v : Cells). unwrap_or (state_at v x y) 0) (is ∙ ap (λ z. put p z y' c.state) ex ∙ ap (λ z. put p (c.x -ℤ left) z c.state) ey)
-    ∙ ap (λ o. unwrap_or o 0) (finite.get-insert places_total p.states (c.y -ℤ top, c.x -ℤ left) c.state (y, x))
-    ∙ either (same_place (y, x) (c.y -ℤ top, c.x -ℤ left)) c.state (state_at p x y)
-    ∙ ap₂ (λ b n. cond b c.state n) (moved left top x y c.x c.y) (shown x y)
-    ∙ sym (last-push (take i cs) c (left +ℤ x) (top +ℤ y) 0)
-    ∙ ap (λ ds. last_state ds (left +ℤ x) (top +ℤ y) 0) (sym (take_more cs i d below))
+-- how far a coordinate lies from such an edge
+pub offset : (z edge : ℤ) (n : ℕ) → SFits w64 z → SFits w64 edge → n ≤ 65536 → z ≡ edge +ℤ pos n → unsigned_abs (to_z w64 (of_z w64 (to_z w64 (of_z w64 z) -ℤ to_z w64 (of_z w64 edge)))) ≡ n
+offset z edge n fz fe small is =
+    let apart : z -ℤ edge ≡ pos n = omega (arith, ints, is) in
+    let fits : unsigned_abs (pos n) < 2 ^ 63 = omega (arith, ints, small) in
+    (λ i. unsigned_abs (to_z w64 (of_z w64 (to_z-of_z w64 z fz i -ℤ to_z-of_z w64 edge fe i))))
+    ∙ ap (λ m. unsigned_abs (to_z w64 (of_z w64 m))) apart
+    ∙ ap unsigned_abs (to_z-of_z w64 (pos n) (fits_signed_from_abs w64 (pos n) fits))
+
+-- the number of a cell's place, as it is reckoned
+pub number : (left top : ℤ) (width size : ℕ) (c : Cell) → SFits w64 left → SFits w64 top → SFits w64 c.x → SFits w64 c.y → size ≤ 65536 → (h : IsIn left top width size c)
+    → unsigned_abs (to_z w64 (of_z w64 (to_z w64 (of_z w64 c.y) -ℤ to_z w64 (of_z w64 top)))) * width + unsigned_abs (to_z w64 (of_z w64 (to_z w64 (of_z w64 c.x) -ℤ to_z w64 (of_z w64 left)))) ≡ h.row * width + h.column
+number left top width size c fl ft fx fy small h =
+    let listed = h.listed in
+    let narrow = h.narrow in
+    let times : h.row * 1 ≤ h.row * width = mul-le-mul_left h.row (omega (arith, narrow)) in
+    ap₂ (λ (r q : ℕ). r * width + q) (offset c.y top h.row fy ft (omega (arith, times, listed, small)) h.down) (offset c.x left h.column fx fl (omega (arith, listed, small)) h.across)
+
+-- one more state is set
+pub shown-set : (states after : List ℕ) (cs : List Cell) (k n : ℕ) (d : Cell) (left top : ℤ) (width size i j : ℕ) → k < length cs → length states ≡ size
+    → (get_or cs k d).x ≡ left +ℤ pos i → (get_or cs k d).y ≡ top +ℤ pos j → i < width → n ≡ j * width + i → n < size
+    → ((x y : ℕ) → x < width → y * width + x < size → state_at states width x y ≡ last_state (take k cs) (left +ℤ pos x) (top +ℤ pos y) 0)
+    → after ≡ set states n (get_or cs k d).state
+    → (x y : ℕ) → x < width → y * width + x < size → state_at after width x y ≡ last_state (take (k + 1) cs) (left +ℤ pos x) (top +ℤ pos y) 0
+shown-set states after cs k n d left top width size i j below sized across down narrow numbered listed shown is x y inside held =
+    let c : Cell = get_or cs k d in
+    let X = left +ℤ pos x in
+    let Y = top +ℤ pos y in
+    let here : get_or (set states n c.state) (y * width + x) 0 ≡ cond (same_place (Y, X) (c.y, c.x)) c.state (last_state (take k cs) X Y 0) =
+        elim (same_place (Y, X) (c.y, c.x)) as (λ b. same_place (Y, X) (c.y, c.x) ≡ b → get_or (set states n c.state) (y * width + x) 0 ≡ cond b c.state (last_state (take k cs) X Y 0)) [
+          | true ↦ λ e.
+              let at = same_place_of left top x y i j c.x c.y across down e in
+              let number : y * width + x ≡ n = (let row : y * width ≡ j * width = ap (λ m. m * width) at.1 in omega (arith, row, at.0, numbered)) in
+              ap (λ m. get_or (set states n c.state) m 0) number ∙ get_or-set_same states n c.state 0 (omega (arith, sized, listed))
+          | false ↦ λ e.
+              let other : y * width + x ≢ n = λ same.
+                  let at = same_number width x y i j inside narrow (same ∙ numbered) in
+                  let yes = is_same (Y, X) (c.y, c.x) (ap (λ m. top +ℤ pos m) at.1 ∙ sym down) (ap (λ m. left +ℤ pos m) at.0 ∙ sym across) in
+                  let k = sym yes ∙ e in cc in
+              get_or-set_other states n (y * width + x) c.state 0 other ∙ shown x y inside held
+        ] refl in
+    ap (λ l. get_or l (y * width + x) 0) is
+    ∙ here
+    ∙ sym (last-push (take k cs) c X Y 0)
+    ∙ ap (λ ds. last_state ds X Y 0) (sym (take_more cs k d below))
 
 count-more : (x y : ℤ) (c : Cell) (cs : List Cell) → count_at x y (c ∷ cs) ≡ cond (same_place (y, x) (c.y, c.x)) 1 0 + count_at x y cs
 count-more x y c cs = sum_by-cons (λ (c : Cell). cond (same_place (y, x) (c.y, c.x)) 1 0) c cs

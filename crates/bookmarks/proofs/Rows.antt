@@ -1,11 +1,11 @@
 -- Steps of the text of a window.
-use Rattle.std.proofs.Common.{◌≡◌, ◌∙◌, sym, ap, refl, ℕ, zero, suc, ◌+◌, ◌<◌, ◌≤◌, List, [], ◌∷◌, ◌++◌, ℤ, pos, ◌+ℤ◌, map, length, take, get_or, append_assoc, append-nil, arith}
-use Rattle.std.specs.Prelude.{decimal, codes, unwrap_or}
+use Rattle.std.proofs.Common.{◌≡◌, ◌∙◌, sym, ap, refl, ℕ, zero, suc, ◌+◌, ◌<◌, ◌≤◌, List, [], ◌∷◌, ◌++◌, ℤ, pos, ◌+ℤ◌, map, length, take, drop, get_or, length-take, length-drop, get_or-take, get_or-drop, ◌*◌, append_assoc, append-nil, arith}
+use Rattle.std.specs.Prelude.{decimal, codes}
 use Rattle.std.specs.List.{join_with_byte, range_with_len, concat}
 use Rattle.std.proofs.lemmas.List.{take_more}
-use Rattle.std.proofs.lemmas.List.FromFn.{map-range_with_len_more}
+use Rattle.std.proofs.lemmas.List.FromFn.{map-range_with_len_more, fill_by_all}
+use Rattle.std.proofs.Math.Nat.{mul-le-mul_left}
 use Rattle.worlds.specs.World.{World, cell}
-use Rattle.square_tree.specs.Cells.{Cells, state_at}
 use Rattle.bookmarks.specs.Window.{row_line, line_of, window_text, next_state, ShowsWindow}
 
 -- a piece behind others
@@ -48,20 +48,22 @@ window-more w left top width k =
     sym (concat-push (map (λ k. row_line w left (top +ℤ pos k) width) (range_with_len 0 k)) (row_line w left (top +ℤ pos k) width))
     ∙ ap concat (sym (map-range_with_len_more (λ k. row_line w left (top +ℤ pos k) width) 0 k k (omega arith)))
 
--- the same numbers in decimal
-same_decimals : (f g : ℕ → ℕ) (a n : ℕ) → ((k : ℕ) → a ≤ k → k < a + n → f k ≡ g k) → map decimal (map f (range_with_len a n)) ≡ map (λ k. decimal (g k)) (range_with_len a n)
-same_decimals f g a zero h = refl
-same_decimals f g a (suc n) h =
-    let head : f a ≡ g a = h a (omega arith) (omega arith) in
-    let tail = same_decimals f g (a + 1) n (λ k low high. h k (omega (arith, low)) (omega (arith, high))) in
-    λ i. decimal (head i) ∷ tail i
+decimals-of : (f : ℕ → ℕ) (ks : List ℕ) → map decimal (map f ks) ≡ map (λ k. decimal (f k)) ks
+decimals-of f [] = refl
+decimals-of f (k ∷ ks) = ap (λ ps. decimal (f k) ∷ ps) (decimals-of f ks)
 
--- the line of a row of a patch that shows the window
-pub shown-line : (patch : Cells) (w : World) (left top : ℤ) (width height j : ℕ) (row : ℤ) → ShowsWindow patch w left top width height → j < height → row ≡ pos j
-    → line_of (map (λ k. unwrap_or (state_at patch (pos 0 +ℤ pos k) row) 0) (range_with_len 0 width)) ≡ row_line w left (top +ℤ pos j) width
-shown-line patch w left top width height j row shows below is =
-    ap (λ ps. join_with_byte 32 ps ++ codes "\n")
-    (same_decimals (λ k. unwrap_or (state_at patch (pos 0 +ℤ pos k) row) 0) (λ k. cell w (left +ℤ pos k) (top +ℤ pos j)) 0 width
-    (λ k low high. ap (λ y. unwrap_or (state_at patch (pos 0 +ℤ pos k) y) 0) is
-    ∙ ap (λ n. unwrap_or (state_at patch (pos n) (pos j)) 0) (let e : 0 + k ≡ k = omega arith in e)
-    ∙ shows.states k j (omega (arith, high)) below))
+-- the line of a row of a list that has the window's states
+pub shown-line : (states : List ℕ) (w : World) (left top : ℤ) (width height j : ℕ) → ShowsWindow states w left top width height → j < height
+    → line_of (take width (drop (j * width) states)) ≡ row_line w left (top +ℤ pos j) width
+shown-line states w left top width height j shows below =
+    let state : ℕ → ℕ = λ k. cell w (left +ℤ pos k) (top +ℤ pos j) in
+    let part : List ℕ = take width (drop (j * width) states) in
+    let last : width * (j + 1) ≤ width * height = mul-le-mul_left width (omega (arith, below)) in
+    let sized = shows.size in
+    let size : length part ≡ width = simp (length-take, length-drop) (omega (arith, sized, last)) in
+    let row : part ≡ map state (range_with_len 0 width) =
+        fill_by_all state part width 0 size (λ k across.
+        get_or-take width (drop (j * width) states) k 0 across
+        ∙ get_or-drop (j * width) states k 0
+        ∙ shows.states k j across below) in
+    ap line_of row ∙ ap (λ ps. join_with_byte 32 ps ++ codes "\n") (decimals-of state (range_with_len 0 width))

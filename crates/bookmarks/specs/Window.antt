@@ -1,9 +1,8 @@
 -- The text of a window.
-use Rattle.std.specs.Prelude.{◌≡◌, ℕ, zero, suc, ◌<◌, cond, List, [], ◌∷◌, ◌++◌, ℤ, pos, ◌+ℤ◌, map, unwrap_or, codes, decimal}
+use Rattle.std.specs.Prelude.{◌≡◌, ℕ, zero, suc, ◌<◌, cond, List, [], ◌∷◌, ◌++◌, ℤ, pos, ◌+ℤ◌, map, length, get_or, ◌+◌, ◌*◌, codes, decimal}
 use Rattle.std.specs.List.{join_with_byte, range_with_len, concat}
 use Rattle.worlds.specs.declared.cell.Cell.{Cell}
 use Rattle.worlds.specs.World.{World, cell, same_place}
-use Rattle.square_tree.specs.Cells.{Cells, SpansSquare, state_at}
 
 -- the states of so many cells from (x, y) to the right, in decimal
 abbrev pub row_states : World → ℤ → ℤ → ℕ → List (List ℕ)
@@ -32,9 +31,22 @@ abbrev pub last_state : List Cell → ℤ → ℤ → ℕ → ℕ
 last_state [] x y s = s
 last_state (c ∷ cs) x y s = last_state cs x y (cond (same_place (y, x) (c.y, c.x)) c.state s)
 
--- a patch says of the columns and rows of a rectangle the states of its cells, where they are live
-pub record ShowsWindow (patch : Cells) (w : World) (left top : ℤ) (width height : ℕ) : Type 0 where
-  pub columns : SpansSquare patch.level (pos 0) width
-  pub rows : SpansSquare patch.level (pos 0) height
+-- the state of a column and a row in a list of the states of rows of so many columns
+abbrev pub state_at : List ℕ → ℕ → ℕ → ℕ → ℕ
+state_at states width column row = get_or states (row * width + column) 0
+
+-- the cell is at a column, of so many from the left, and at a row from the top, of those that such
+-- a list of so many states has
+pub record IsIn (left top : ℤ) (width size : ℕ) (c : Cell) : Type 0 where
+  pub column : ℕ
+  pub row : ℕ
+  pub across : c.x ≡ left +ℤ pos column
+  pub down : c.y ≡ top +ℤ pos row
+  pub narrow : column < width
+  pub listed : row * width + column < size
+
+-- a list has the states of a rectangle's places, row by row
+pub record ShowsWindow (listed : List ℕ) (w : World) (left top : ℤ) (width height : ℕ) : Type 0 where
+  pub size : length listed ≡ width * height
   pub states : (i j : ℕ) → i < width → j < height
-      → unwrap_or (state_at patch (pos i) (pos j)) 0 ≡ cell w (left +ℤ pos i) (top +ℤ pos j)
+      → state_at listed width i j ≡ cell w (left +ℤ pos i) (top +ℤ pos j)

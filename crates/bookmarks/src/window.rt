@@ -1,19 +1,14 @@
 //! The text of a window.
 //!
-//! The live cells of the rectangle are found by one walk over the plane, and laid on a patch that
-//! says of each column and row which state is there. The text is read off the patch.
-ghost use Rattle.std.specs.Prelude.{◌≡◌, ℤ, pos, ◌+ℤ◌, ◌-ℤ◌, ◌≤◌, ◌++◌, All, unwrap_or, IfOk, OnOk, IsTrue};
-ghost use Rattle.square_tree.specs.Cells.{SpansSquare, IsHeld, blank, state_at, row_states};
-ghost use Rattle.bookmarks.specs.Window.{ShowsWindow, last_state, line_of, next_state, window_text};
+//! The live cells of the rectangle are found by one walk over the plane, and their states are set in
+//! a list of the states of all its places, row by row. The text is read off that list.
+ghost use Rattle.std.specs.Prelude.{◌≡◌, ℕ, ◌*◌, ◌+◌, ◌<◌, ◌≤◌, ◌++◌, All, IfOk, OnOk, IsTrue, take, drop, length, pos, ◌+ℤ◌, replicate};
+ghost use Rattle.bookmarks.specs.Window.{IsIn, ShowsWindow, last_state, line_of, next_state, state_at, window_text};
 ghost use Rattle.bookmarks.specs.Within.{spans_plane};
 
 use itoa::Buffer;
 use plane_core::{Bounds, Cell, Plane};
-use square_tree::Patch;
 use std::alloc::{AllocError, Global};
-
-// A patch of this level has 65,536 columns and rows from (0, 0) on.
-const GREATEST_LEVEL: u8 = 17;
 
 /// A line for each row of the rectangle from the top, with the states from the left.
 pub(crate) fn window_text(
@@ -24,92 +19,71 @@ pub(crate) fn window_text(
     width: u32,
     height: u32,
 ) -> Result<Vec<u8>, AllocError>
-    requires small { (width ≤ 65536) × (height ≤ 65536) }
+    requires small { width * height ≤ 65536 }
     requires inside { IsTrue (spans_plane left width) × IsTrue (spans_plane top height) }
     ensures { IfOk result (λ text. text.items ≡ window_text plane.now left top width height) }
 {
-    let patch = patch_of(alloc, plane, left, top, width, height)?;
+    let states = states_of(alloc, plane, left, top, width, height)?;
     let mut text = Vec::new(alloc);
     for row in 0..height {
-        push_row(&mut text, &patch, row, width)?;
+        push_row(&mut text, &states, row, width)?;
     }
     Ok(text)
 }
 
-// What the rectangle shows, by column and row.
-fn patch_of(
+// The states of the rectangle's places, row by row from the top.
+fn states_of(
     alloc: Global,
     plane: &Plane,
     left: i64,
     top: i64,
     width: u32,
     height: u32,
-) -> Result<Patch<Global>, AllocError>
-    requires small { (width ≤ 65536) × (height ≤ 65536) }
+) -> Result<Vec<u8>, AllocError>
+    requires small { width * height ≤ 65536 }
     requires inside { IsTrue (spans_plane left width) × IsTrue (spans_plane top height) }
-    ensures { IfOk result (λ patch. ShowsWindow patch plane.now left top width height) }
+    ensures { IfOk result (λ states. ShowsWindow states.items plane.now left top width height) }
 {
-    let mut patch = patch_for(alloc, width, height);
     let cells = plane.cells_within(&Bounds {
         left,
         top,
         right: left + i64::from(width) - 1,
         bottom: top + i64::from(height) - 1,
     })?;
-    lay_cells(&mut patch, &cells, left, top)?;
-    Ok(patch)
+    let mut states = vec![in alloc; 0; width as usize * height as usize]?;
+    set_states(&mut states, &cells, left, top, width);
+    Ok(states)
 }
 
-// A patch that keeps all its cells, of the least level that has so many columns and rows.
-fn patch_for(alloc: Global, width: u32, height: u32) -> Patch<Global>
-    requires { (width ≤ 65536) × (height ≤ 65536) }
-    ensures keeps { result ≡ blank result.level }
-    ensures level { result.level ≤ 17 }
-    ensures columns { SpansSquare result.level (pos 0) width }
-    ensures rows { SpansSquare result.level (pos 0) height }
-{
-    for level in 1..GREATEST_LEVEL {
-        let patch = Patch::new(alloc, level);
-        if patch.holds(i64::from(width) - 1, i64::from(height) - 1) {
-            return patch;
-        }
-    }
-    Patch::new(alloc, GREATEST_LEVEL)
-}
-
-// Sets the cells one after another, each at its column and row from (left, top).
-fn lay_cells(
-    patch: &mut Patch<Global>,
-    cells: &[Cell],
-    left: i64,
-    top: i64,
-) -> Result<(), AllocError>
-    requires keeps { (patch.old ≡ blank patch.old.level) × (patch.old.level ≤ 17) }
-    requires held { All (λ c. IsHeld patch.old.level (c.x -ℤ left) (c.y -ℤ top)) cells.now }
-    ensures level { OnOk result (patch.new.level ≡ patch.old.level) }
-    ensures states { OnOk result ((x y : ℤ) → unwrap_or (state_at patch.new x y) 0
-        ≡ last_state cells.now (left +ℤ x) (top +ℤ y) 0) }
+// Sets the states of the cells one after another, each at its column and row from (left, top).
+fn set_states(states: &mut [u8], cells: &[Cell], left: i64, top: i64, width: u32)
+    requires blank { states.old ≡ replicate (length states.old) 0 }
+    requires small { length states.old ≤ 65536 }
+    requires held { All (IsIn left top width (length states.old)) cells.now }
+    ensures size { length states.new ≡ length states.old }
+    ensures states { (x y : ℕ) → x < width → y * width + x < length states.old
+        → state_at states.new width x y ≡ last_state cells.now (left +ℤ pos x) (top +ℤ pos y) 0 }
 {
     for cell in cells {
-        patch.set(cell.x - left, cell.y - top, cell.state)?;
+        let column = (cell.x - left) as usize;
+        let row = (cell.y - top) as usize;
+        states[row * width as usize + column] = cell.state;
     }
-    Ok(())
 }
 
-// Adds the line of a row of the patch.
+// Adds the line of a row of the list.
 fn push_row(
     text: &mut Vec<u8>,
-    patch: &Patch<Global>,
+    states: &[u8],
     row: u32,
     width: u32,
 ) -> Result<(), AllocError>
-    requires columns { SpansSquare patch.now.level (pos 0) width }
-    requires row { SpansSquare patch.now.level (pos row) 1 }
+    requires row { row * width + width ≤ length states.now }
     ensures { OnOk result (text.new.items ≡ text.old.items
-        ++ line_of (row_states patch.now (pos 0) (pos row) width)) }
+        ++ line_of (take width (drop (row * width) states.now))) }
 {
-    let states = patch.window(0, i64::from(row), width, 1)?;
-    push_line(text, &states)
+    let first = row as usize * width as usize;
+    push_line(text, &states[first..first + width as usize])
 }
 
 // Adds the line of some states.

@@ -1,9 +1,9 @@
 use Rattle.std.proofs.Common.{subst}
 use Rattle.std.specs.Prelude.{IsTrue}
 use Rattle.bookmarks.specs.Within.{has_window_size}
-use Rattle.bookmarks.proofs.Places.{sides}
+use Rattle.bookmarks.proofs.Places.{area}
 use Rattle.bookmarks.proofs.text.render.Goals as goal
 
 pub window_text-requires-clause-small : goal.window_text-requires-clause-small
 window_text-requires-clause-small c =
-    sides c.in-Window.width c.in-Window.height (subst (λ v. IsTrue (has_window_size v)) c.in-Window.is c.requires.within.0)
+    area c.in-Window.width c.in-Window.height (subst (λ v. IsTrue (has_window_size v)) c.in-Window.is c.requires.within.0)

@@ -1,5 +1,4 @@
-use Rattle.std.proofs.Common.{◌≡◌, refl, ◌<◌, ◌∙◌, sym, ap, ◌+◌, ◌++◌, pos, ◌+ℤ◌, arith, rules, to_z, of_z, w64}
-use Rattle.square_tree.specs.Cells.{row_states}
+use Rattle.std.proofs.Common.{◌≡◌, refl, ◌<◌, ◌∙◌, sym, ap, ◌+◌, ◌*◌, ◌++◌, pos, ◌+ℤ◌, take, drop, arith, rules, to_z, of_z, w64}
 use Rattle.bookmarks.specs.Window.{row_line, line_of, window_text}
 use Rattle.bookmarks.proofs.Rows.{window-more, shown-line}
 use Rattle.bookmarks.proofs.window.window_text.Goals as goal
@@ -9,12 +8,15 @@ loop-row-preserved c =
     let w = c.args.plane.now in
     let k = c.loop-row.row in
     let width = c.args.width in
+    let listed = c.in_ok-states.states.items in
+    let states = c.deref.result.now in
     let below : k < c.args.height = omega arith in
     let left : to_z w64 (of_z w64 c.args.left) ≡ c.args.left = search rules in
     let top : to_z w64 (of_z w64 c.args.top) ≡ c.args.top = search rules in
     let before : c.loop-row.text.items ≡ window_text w c.args.left c.args.top width k = search rules in
-    let line : line_of (row_states c.in_ok-patch.patch (pos 0) (pos k) width) ≡ row_line w c.args.left (c.args.top +ℤ pos k) width =
-    shown-line c.in_ok-patch.patch w (to_z w64 (of_z w64 c.args.left)) (to_z w64 (of_z w64 c.args.top)) width c.args.height k (pos k) c.in_ok-patch.ensures below refl
+    let line : line_of (take width (drop (k * width) states)) ≡ row_line w c.args.left (c.args.top +ℤ pos k) width =
+    ap (λ l. line_of (take width (drop (k * width) l))) c.deref.ensures.value
+    ∙ shown-line listed w (to_z w64 (of_z w64 c.args.left)) (to_z w64 (of_z w64 c.args.top)) width c.args.height k c.in_ok-states.ensures below
     ∙ (λ i. row_line w (left i) (top i +ℤ pos k) width) in
     c.in_ok-push_row.ensures
     ∙ ap (λ t. c.loop-row.text.items ++ t) line
