@@ -1,7 +1,7 @@
 -- Places in a window, and the cells whose states are set in its list.
-use Rattle.std.proofs.Common.{◌≡◌, ◌≢◌, ◌∙◌, sym, ap, ap₂, refl, subst, ℕ, ◌+◌, ◌<◌, ◌≤◌, ◌^◌, Bool, true, false, cond, List, [], ◌∷◌, ◌++◌, length, take, get_or, set, get_or-set_same, get_or-set_other, ℤ, pos, ◌+ℤ◌, ◌-ℤ◌, ◌≤ℤ◌, inl, inr, Option, Some, SFits, w64, to_z, of_z, pow_mono, mul_comm, arith}
-use Rattle.std.specs.Prelude.{All, unwrap_or, unsigned_abs, IsTrue, ◌&&◌, ◌*◌, nat_lt, nat_le, int_le, neg_ℤ}
-use Rattle.std.proofs.lemmas.Bool.{cases_lt, cond-true, cond-false, cond_both, false_from_ne_true, and_parts, ltb-true, leb-true}
+use Rattle.std.proofs.Common.{◌≡◌, ◌≢◌, ◌∙◌, sym, ap, ap₂, refl, subst, ℕ, ◌+◌, ◌<◌, ◌≤◌, ◌^◌, true, false, cond, List, [], ◌∷◌, ◌++◌, length, take, get_or, set, get_or-set_same, get_or-set_other, ℤ, pos, ◌+ℤ◌, ◌-ℤ◌, ◌≤ℤ◌, inl, inr, SFits, w64, to_z, of_z, arith}
+use Rattle.std.specs.Prelude.{All, unsigned_abs, IsTrue, ◌&&◌, ◌*◌, nat_lt, nat_le, int_le, neg_ℤ}
+use Rattle.std.proofs.lemmas.Bool.{cases_lt, cond-true, cond-false, cond_both, false_from_ne_true, and_parts, leb-true}
 use Rattle.std.proofs.lemmas.Int.{ints, fits_signed_from_abs, to_z-of_z}
 use Rattle.std.proofs.Math.Nat.{mul-le-mul_left}
 use Rattle.std.proofs.lemmas.List.{take_more}
@@ -9,7 +9,7 @@ use Rattle.std.proofs.lemmas.List.Elements.{All-head, All-tail}
 use Rattle.std.proofs.lemmas.List.Sums.{sum_by-cons}
 use Rattle.worlds.specs.declared.cell.Bounds.{Bounds}
 use Rattle.worlds.specs.declared.cell.Cell.{Cell}
-use Rattle.worlds.specs.World.{World, Place, cell, same_place, places_total}
+use Rattle.worlds.specs.World.{World, Place, cell, same_place}
 use Rattle.worlds.specs.Fill.{same_is, is_same}
 use Rattle.worlds.specs.Range.{IsInBox}
 use Rattle.plane_core.specs.Within.{IsLiveWithin, AreLiveWithin, count_at}
@@ -118,18 +118,18 @@ shown-set states after cs k n d left top width size i j below sized across down 
     let X = left +ℤ pos x in
     let Y = top +ℤ pos y in
     let here : get_or (set states n c.state) (y * width + x) 0 ≡ cond (same_place (Y, X) (c.y, c.x)) c.state (last_state (take k cs) X Y 0) =
-        elim (same_place (Y, X) (c.y, c.x)) as (λ b. same_place (Y, X) (c.y, c.x) ≡ b → get_or (set states n c.state) (y * width + x) 0 ≡ cond b c.state (last_state (take k cs) X Y 0)) [
-          | true ↦ λ e.
-              let at = same_place_of left top x y i j c.x c.y across down e in
-              let number : y * width + x ≡ n = (let row : y * width ≡ j * width = ap (λ m. m * width) at.1 in omega (arith, row, at.0, numbered)) in
-              ap (λ m. get_or (set states n c.state) m 0) number ∙ get_or-set_same states n c.state 0 (omega (arith, sized, listed))
-          | false ↦ λ e.
-              let other : y * width + x ≢ n = λ same.
-                  let at = same_number width x y i j inside narrow (same ∙ numbered) in
-                  let yes = is_same (Y, X) (c.y, c.x) (ap (λ m. top +ℤ pos m) at.1 ∙ sym down) (ap (λ m. left +ℤ pos m) at.0 ∙ sym across) in
-                  let k = sym yes ∙ e in cc in
-              get_or-set_other states n (y * width + x) c.state 0 other ∙ shown x y inside held
-        ] refl in
+    elim (same_place (Y, X) (c.y, c.x)) as (λ b. same_place (Y, X) (c.y, c.x) ≡ b → get_or (set states n c.state) (y * width + x) 0 ≡ cond b c.state (last_state (take k cs) X Y 0)) [
+      | true ↦ λ e.
+          let at = same_place_of left top x y i j c.x c.y across down e in
+          let number : y * width + x ≡ n = (let row : y * width ≡ j * width = ap (λ m. m * width) at.1 in omega (arith, row, at.0, numbered)) in
+          ap (λ m. get_or (set states n c.state) m 0) number ∙ get_or-set_same states n c.state 0 (omega (arith, sized, listed))
+      | false ↦ λ e.
+          let other : y * width + x ≢ n = λ same.
+          let at = same_number width x y i j inside narrow (same ∙ numbered) in
+          let yes = is_same (Y, X) (c.y, c.x) (ap (λ m. top +ℤ pos m) at.1 ∙ sym down) (ap (λ m. left +ℤ pos m) at.0 ∙ sym across) in
+          let k = sym yes ∙ e in cc in
+          get_or-set_other states n (y * width + x) c.state 0 other ∙ shown x y inside held
+    ] refl in
     ap (λ l. get_or l (y * width + x) 0) is
     ∙ here
     ∙ sym (last-push (take k cs) c X Y 0)

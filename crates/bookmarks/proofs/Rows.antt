@@ -62,8 +62,8 @@ shown-line states w left top width height j shows below =
     let sized = shows.size in
     let size : length part ≡ width = simp (length-take, length-drop) (omega (arith, sized, last)) in
     let row : part ≡ map state (range_with_len 0 width) =
-        fill_by_all state part width 0 size (λ k across.
-        get_or-take width (drop (j * width) states) k 0 across
-        ∙ get_or-drop (j * width) states k 0
-        ∙ shows.states k j across below) in
+    fill_by_all state part width 0 size (λ k across.
+    get_or-take width (drop (j * width) states) k 0 across
+    ∙ get_or-drop (j * width) states k 0
+    ∙ shows.states k j across below) in
     ap line_of row ∙ ap (λ ps. join_with_byte 32 ps ++ codes "\n") (decimals-of state (range_with_len 0 width))

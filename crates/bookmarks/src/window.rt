@@ -72,12 +72,7 @@ fn set_states(states: &mut [u8], cells: &[Cell], left: i64, top: i64, width: u32
 }
 
 // Adds the line of a row of the list.
-fn push_row(
-    text: &mut Vec<u8>,
-    states: &[u8],
-    row: u32,
-    width: u32,
-) -> Result<(), AllocError>
+fn push_row(text: &mut Vec<u8>, states: &[u8], row: u32, width: u32) -> Result<(), AllocError>
     requires row { row * width + width ≤ length states.now }
     ensures { OnOk result (text.new.items ≡ text.old.items
         ++ line_of (take width (drop (row * width) states.now))) }

@@ -1,6 +1,5 @@
-use Rattle.std.proofs.Common.{◌≡◌, refl, ℕ, ◌*◌, ◌+◌, ◌<◌, ◌≤◌, ◌∙◌, ap, sym, subst, length, length-set, get_or, set, take, pos, ◌+ℤ◌, arith, rules, Fits, SFits, w64, ℤ, ◌-ℤ◌, to_z, of_z}
-use Rattle.std.specs.Prelude.{unsigned_abs}
-use Rattle.bookmarks.specs.Window.{IsIn, state_at, last_state}
+use Rattle.std.proofs.Common.{◌≡◌, refl, ℕ, ◌*◌, ◌+◌, ◌<◌, ◌∙◌, sym, subst, length, length-set, get_or, take, pos, ◌+ℤ◌, arith, rules, Fits, SFits, w64, to_z, of_z}
+use Rattle.bookmarks.specs.Window.{state_at, last_state}
 use Rattle.bookmarks.proofs.Places.{no_cell, number, shown-set}
 use Rattle.bookmarks.proofs.window.set_states.Goals as goal
 
