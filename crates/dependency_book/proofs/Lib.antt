@@ -11,6 +11,7 @@ pub mod Needed
 pub mod Opened
 pub mod Passed
 pub mod Outs
+pub mod Owned
 pub mod Placed
 pub mod Putting
 pub mod Remaking

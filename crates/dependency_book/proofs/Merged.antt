@@ -1,14 +1,17 @@
 -- Rows that are made anew one key after another, each of which takes what stood in an old row.
-use Rattle.std.proofs.Common.{◌≡◌, ℕ, zero, suc, ◌+◌, ◌<◌, ◌≤◌, ◌∙◌, ◌++◌, Bool, List, [], ◌∷◌, Option, length, map, take, drop, get_or, sym, ap, arith}
+use Rattle.std.proofs.Common.{◌≡◌, ℕ, zero, suc, ◌+◌, ◌<◌, ◌≤◌, ◌∙◌, ◌++◌, ◌⊎◌, Bool, List, [], ◌∷◌, Option, length, map, take, drop, get_or, sym, ap, subst, arith, inl, inr}
 use Rattle.std.specs.List.{AllByRecursion}
 use Rattle.std.proofs.lemmas.List.{map-append, take_more}
 use Rattle.std.proofs.lemmas.Grind.{common_steps}
 use Rattle.schedule.specs.Ids.{IdsRise}
+use Rattle.revision_jobs.specs.declared.entries.Entries.{Entries}
 use Rattle.dependency_book.specs.declared.row.RowState.{RowState}
 use Rattle.dependency_book.specs.declared.row.RowState.TheVariants.{Empty}
 use Rattle.dependency_book.specs.declared.row.Row.{Row}
 use Rattle.dependency_book.specs.Remade.{kept_at, remade_row}
+use Rattle.dependency_book.specs.RowState.{OutsAreOf}
 use Rattle.dependency_book.specs.Rows.{IsRanked, place_in, put}
+use Rattle.dependency_book.proofs.Owned.{own_put}
 use Rattle.dependency_book.proofs.Remaking.{kept_at-put_other, put_keeps}
 use Rattle.dependency_book.proofs.Standing.{keys-put, length-keys, place_in-keys, place_rises, get_or-any}
 
@@ -58,7 +61,7 @@ pub record StillLeft {K V : Type 0} (rank : K → ℕ) (stays : K → K → Bool
   pub place : (j : ℕ) (d : K) → i ≤ j → j < length ks → from ≤ place_in rank (key_at rank ks j d) old
 
 -- so it does when one key has taken what it keeps
-pub still_left : {K V : Type 0} (rank : K → ℕ) (stays : K → K → Bool) (ks : List K) (i place : ℕ) (was old : List (Row K V)) (x : K) → IdsRise rank ks → i < length ks → x ≡ get_or ks i x → StillLeft rank stays ks i place was old
+still_left : {K V : Type 0} (rank : K → ℕ) (stays : K → K → Bool) (ks : List K) (i place : ℕ) (was old : List (Row K V)) (x : K) → IdsRise rank ks → i < length ks → x ≡ get_or ks i x → StillLeft rank stays ks i place was old
     → StillLeft rank stays ks (i + 1) (place_in rank (rank x) old) was (put rank (rank x) Empty old)
 still_left rank stays ks i place was old x rise low is before = record {
   ranked = put_keeps rank (rank x) Empty old before.ranked;
@@ -78,3 +81,41 @@ still_left rank stays ks i place was old x rise low is before = record {
         let here : rank x ≡ key_at rank ks i d = ap rank (is ∙ get_or-any ks i x d low) in
         let up = key_rises rank ks i j d rise (omega (arith, more)) fits in
         omega (arith, here, up)
+
+-- and when it has taken nothing
+none_left : {K V : Type 0} (rank : K → ℕ) (stays : K → K → Bool) (ks : List K) (i place : ℕ) (was old : List (Row K V)) (x : K) → IdsRise rank ks → i < length ks → x ≡ get_or ks i x → StillLeft rank stays ks i place was old
+    → StillLeft rank stays ks (i + 1) (place_in rank (rank x) old) was old
+none_left rank stays ks i place was old x rise low is before = record {
+  ranked = before.ranked;
+  left = λ j d more fits. before.left j d (omega (arith, more)) fits;
+  place = λ j d more fits.
+      let here : rank x ≡ key_at rank ks i d = ap rank (is ∙ get_or-any ks i x d low) in
+      let up = key_rises rank ks i j d rise (omega (arith, more)) fits in
+      place_rises rank (rank x) (key_at rank ks j d) old (omega (arith, here, up));
+}
+
+-- what stood at a rank was taken from the rows, or nothing was
+abbrev pub IsTaken : {K V : Type 0} → (K → ℕ) → ℕ → List (Row K V) → List (Row K V) → Type 0
+IsTaken rank n old new = (new ≡ put rank n Empty old) ⊎ (new ≡ old)
+
+pub taken_length : {K V : Type 0} (rank : K → ℕ) (n : ℕ) (old new : List (Row K V)) → IsTaken rank n old new → length new ≡ length old
+taken_length {K} {V} rank n old new taken =
+    elim taken [
+      | inl took ↦ ap (λ (rows : List (Row K V)). length rows) took ∙ length-put rank n Empty old
+      | inr same ↦ ap (λ (rows : List (Row K V)). length rows) same
+    ]
+
+pub taken_own : {K V : Type 0} (entries : Entries) (rank : K → ℕ) (n : ℕ) (old new : List (Row K V)) → IsTaken rank n old new → OutsAreOf entries old → OutsAreOf entries new
+taken_own entries rank n old new taken own =
+    elim taken [
+      | inl took ↦ subst (OutsAreOf entries) (sym took) (own_put entries rank n old own)
+      | inr same ↦ subst (OutsAreOf entries) (sym same) own
+    ]
+
+pub taken_left : {K V : Type 0} (rank : K → ℕ) (stays : K → K → Bool) (ks : List K) (i place : ℕ) (was old new : List (Row K V)) (x : K) → IdsRise rank ks → i < length ks → x ≡ get_or ks i x → StillLeft rank stays ks i place was old → IsTaken rank (rank x) old new
+    → StillLeft rank stays ks (i + 1) (place_in rank (rank x) old) was new
+taken_left rank stays ks i place was old new x rise low is before taken =
+    elim taken [
+      | inl took ↦ subst (StillLeft rank stays ks (i + 1) (place_in rank (rank x) old) was) (sym took) (still_left rank stays ks i place was old x rise low is before)
+      | inr same ↦ subst (StillLeft rank stays ks (i + 1) (place_in rank (rank x) old) was) (sym same) (none_left rank stays ks i place was old x rise low is before)
+    ]

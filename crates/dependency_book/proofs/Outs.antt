@@ -54,7 +54,7 @@ none_out {K} {V} rank (r ∷ rs) ranked none = (
       (λ miss. let there = none n in rw miss at there)),
 )
 
-zero_absent : (d : BookState) (places : List ℕ) → IsHeld d places → has mark_rank 0 (keys d.arrivals) ≡ false
+pub zero_absent : (d : BookState) (places : List ℕ) → IsHeld d places → has mark_rank 0 (keys d.arrivals) ≡ false
 zero_absent d places held = has-above mark_rank 0 0 (keys d.arrivals) held.right.marks.above (omega arith)
 
 pub arrivals_none : (d : BookState) (places : List ℕ) → IsHeld d places → NothingOut d → NoneOut d.arrivals

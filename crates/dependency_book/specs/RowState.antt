@@ -1,8 +1,10 @@
 -- What stands in a row: nothing, a job that is out for it, or the value.
-use Rattle.std.specs.Prelude.{ℕ, Bool, true, false, List, [], ◌∷◌, Option, None, Some, is_some, if◌then◌else◌, ◌==◌, min}
-use Rattle.std.specs.List.{list_any}
+use Rattle.std.specs.Prelude.{ℕ, Bool, true, false, List, [], ◌∷◌, Option, None, Some, IfSome, is_some, if◌then◌else◌, ◌==◌, min}
+use Rattle.std.specs.List.{AllByRecursion, list_any}
 use Rattle.revision_jobs.specs.declared.answer.Job.{Job}
+use Rattle.revision_jobs.specs.declared.entries.Entries.{Entries}
 use Rattle.revision_jobs.specs.declared.entries.Place.{Place}
+use Rattle.revision_jobs.specs.Entries.{IsOf}
 use Rattle.dependency_book.specs.declared.row.RowState.{RowState}
 use Rattle.dependency_book.specs.declared.row.RowState.TheVariants.{Empty, Expected, Known}
 use Rattle.dependency_book.specs.declared.row.Row.{Row}
@@ -58,6 +60,11 @@ row_for n (r ∷ rs) = either (named_by n r.key (job_of r.state)) (row_for n rs)
 -- whether a row expects a job
 abbrev pub any_out : {K V : Type 0} → List (Row K V) → Bool
 any_out rows = list_any (λ r. is_some (job_of r.state)) rows
+
+-- each job that rows expect has its entry in this table
+abbrev pub OutsAreOf : {K V : Type 0} → Entries → List (Row K V) → Type 0
+OutsAreOf entries rows =
+    AllByRecursion (λ r. IfSome (job_of r.state) (λ job. IsOf entries job.place)) rows
 
 -- the lesser of two numbers, if there is any
 abbrev pub lesser : Option ℕ → Option ℕ → Option ℕ

@@ -17,7 +17,7 @@ use crate::arrival::Arrival;
 use crate::book::Book;
 use crate::filled::Filled;
 use crate::need::Need;
-use crate::row::{RowState, any_out, least_out, lesser, put, row_for};
+use crate::row::{RowState, any_out, least_out, lesser, put, raise_all, row_for};
 use crate::text::Text;
 use revision_jobs::{Answer, Job, Outcome, Place};
 use schedule::{Listing, Plane};
@@ -89,6 +89,14 @@ impl Book<'_> {
         ensures { IsAnyOut self.now result }
     {
         any_out(&self.arrivals) || any_out(&self.texts)
+    }
+
+    /// Asks whoever works a job that is out to stop. Its answer is still expected.
+    pub fn stop_all(&self)
+        ensures right { IsRight self.now }
+    {
+        raise_all(self.entries, &self.arrivals);
+        raise_all(self.entries, &self.texts);
     }
 
     /// The least number of the jobs that are out.

@@ -1,11 +1,13 @@
 //! Rows made anew from the keys of a document.
-ghost use Rattle.std.specs.Prelude.{◌≡◌, ◌≤◌, [], length, map, vec_capacity};
+ghost use Rattle.std.specs.Prelude.{◌≡◌, ◌≤◌, ◌⊎◌, [], length, map, vec_capacity};
 ghost use Rattle.schedule.specs.Ids.{IdsRise};
 ghost use Rattle.dependency_book.specs.Remade.{kept_at, remade_row};
+ghost use Rattle.dependency_book.specs.RowState.{OutsAreOf};
 ghost use Rattle.dependency_book.specs.Rows.{IsRanked, place_in, put};
 ghost use Rattle.dependency_book.specs.declared.row.RowState.TheVariants.{Empty};
 
-use crate::row::{Ranked, Row, RowState};
+use crate::row::{Ranked, Row, RowState, raise_all};
+use revision_jobs::Entries;
 use std::mem;
 
 // The first place from `at` on at which a row's rank isn't below this one.
@@ -21,7 +23,7 @@ fn place_from<K: Ranked, V>(rows: &[Row<K, V>], at: usize, rank: u64) -> usize
     rows.len()
 }
 
-// What stood in the row at the place of a key, if it stays. Nothing stands there afterwards.
+// What stood in the row at the place of a key, if it stays. Then nothing stands there afterwards.
 fn taken<K: Ranked, V: Drop>(
     rows: &mut [Row<K, V>],
     place: usize,
@@ -30,20 +32,23 @@ fn taken<K: Ranked, V: Drop>(
 ) -> RowState<V>
     requires { place ≡ place_in K.rank (K.rank key.now) rows.old × IsRanked K.rank rows.old }
     ensures state { result ≡ kept_at K.rank (K.stays felt key.now) (K.rank key.now) rows.old }
-    ensures rows { rows.new ≡ put K.rank (K.rank key.now) Empty rows.old }
+    ensures rows { (rows.new ≡ put K.rank (K.rank key.now) Empty rows.old)
+        ⊎ (rows.new ≡ rows.old) }
 {
     if place >= rows.len() || rows[place].key.rank() != key.rank() {
         return RowState::Empty;
     }
-    let row = &mut rows[place];
-    let state = mem::replace(&mut row.state, RowState::Empty);
-    let stays = key.stays(felt, &row.key);
-    state.if_stays(stays)
+    if !key.stays(felt, &rows[place].key) {
+        return RowState::Empty;
+    }
+    mem::replace(&mut rows[place].state, RowState::Empty)
 }
 
 /// The rows of these keys: what stood in the old row of the same rank where it stays, else nothing.
-/// They stand in the room, which is empty and has a place for each.
+/// They stand in the room, which is empty and has a place for each. Whoever works a job of the table
+/// that an old row expected and that doesn't stay is asked to stop.
 pub(crate) fn remade<K: Ranked + Copy, V: Drop>(
+    entries: &Entries,
     room: Vec<Row<K, V>>,
     keys: &[K],
     old: Vec<Row<K, V>>,
@@ -51,6 +56,7 @@ pub(crate) fn remade<K: Ranked + Copy, V: Drop>(
 ) -> Vec<Row<K, V>>
     requires room { room.items ≡ [] × length keys.now ≤ vec_capacity room }
     requires ranked { IsRanked K.rank old.items × IdsRise K.rank keys.now }
+    requires own { OutsAreOf entries.now old.items }
     ensures { result.items ≡ map (remade_row K.rank K.stays felt old.items) keys.now }
 {
     let mut rows = room;
@@ -61,5 +67,6 @@ pub(crate) fn remade<K: Ranked + Copy, V: Drop>(
         let state = taken(&mut old, place, key, felt);
         rows.push_reserved(Row { key: *key, state });
     }
+    raise_all(entries, &old);
     rows
 }

@@ -16,7 +16,8 @@ impl Book<'_> {
     /// refuses it and changes nothing.
     ///
     /// What an edit keeps is what is known in a row, or the job that is out for it: a row that it
-    /// touches knows nothing afterwards and expects nothing.
+    /// touches knows nothing afterwards and expects nothing, and whoever works a job that was out
+    /// for it is asked to stop.
     ///
     /// An edit of interventions keeps what arrives at marks up to the lesser of the generations
     /// that it names and changes, and the texts of bookmarks below that. An edit of bookmarks keeps
@@ -39,7 +40,7 @@ impl Book<'_> {
         let edited = self.document.make(edit)?;
         let arrivals = mem::replace(&mut self.arrivals, Vec::new(self.alloc));
         let texts = mem::replace(&mut self.texts, Vec::new(self.alloc));
-        let rows = room.rows_of(&self.document, arrivals, texts, felt);
+        let rows = room.rows_of(self.entries, &self.document, arrivals, texts, felt);
         self.arrivals = rows.arrivals;
         self.texts = rows.texts;
         self.places = rows.places;

@@ -3,6 +3,7 @@ ghost use Rattle.std.specs.Prelude.{◌≡◌, ◌≤◌, ◌+◌, IfOk, [], len
 ghost use Rattle.dependency_book.specs.Held.{places_of};
 ghost use Rattle.dependency_book.specs.Remade.{AreRemade};
 ghost use Rattle.dependency_book.specs.Room.{HasRoom};
+ghost use Rattle.dependency_book.specs.RowState.{OutsAreOf};
 ghost use Rattle.dependency_book.specs.Rows.{IsRanked, bookmark_rank, mark_rank};
 
 use crate::mark::Mark;
@@ -10,6 +11,7 @@ use crate::marks::{ArrivalRow, marks_of};
 use crate::remade::remade;
 use crate::row::place_in;
 use crate::texts::TextRow;
+use revision_jobs::Entries;
 use schedule::{Bookmark, Document};
 use std::alloc::{AllocError, Global};
 
@@ -48,8 +50,10 @@ impl Room {
 
     /// The rows of a document: what stood in the old row of the same mark or bookmark where it stays
     /// after an edit that is first felt at a generation, if it changes any pattern, else nothing.
+    /// Whoever works a job of the table that doesn't stay is asked to stop.
     pub(crate) fn rows_of(
         self,
+        entries: &Entries,
         document: &Document,
         arrivals: Vec<ArrivalRow>,
         texts: Vec<TextRow>,
@@ -58,12 +62,13 @@ impl Room {
         requires room { HasRoom self
             (length document.now.interventions) (length document.now.bookmarks) }
         requires ranked { IsRanked mark_rank arrivals.items × IsRanked bookmark_rank texts.items }
+        requires own { OutsAreOf entries.now arrivals.items × OutsAreOf entries.now texts.items }
         ensures { AreRemade document.now arrivals.items texts.items felt result }
     {
         let Room { marks, rows } = self;
         let marks = marks_of(marks, document);
-        let arrivals = remade(rows.arrivals, &marks, arrivals, felt);
-        let texts = remade(rows.texts, document.bookmarks(), texts, felt);
+        let arrivals = remade(entries, rows.arrivals, &marks, arrivals, felt);
+        let texts = remade(entries, rows.texts, document.bookmarks(), texts, felt);
         let places = places_of(rows.places, &arrivals, document.bookmarks());
         Rows {
             arrivals,

@@ -1,10 +1,11 @@
 //! Rows: what is known, or under way, of what stands at keys.
-ghost use Rattle.std.specs.Prelude.{◌≡◌, ℕ, Bool, Option, MatchOption, None, Some, if◌then◌else◌, is_some};
-ghost use Rattle.dependency_book.specs.RowState.{any_out, is_empty, is_known, job_of, known};
+ghost use Rattle.std.specs.Prelude.{◌≡◌, ℕ, Bool, Option, MatchOption, None, Some, is_some};
+ghost use Rattle.dependency_book.specs.RowState.{OutsAreOf, any_out, is_empty, is_known};
+ghost use Rattle.dependency_book.specs.RowState.{job_of, known};
 ghost use Rattle.dependency_book.specs.RowState.{least_out, lesser, number_of, row_for};
 ghost use Rattle.dependency_book.specs.Rows.{IsRanked, place_in, put};
 
-use revision_jobs::{Job, Place};
+use revision_jobs::{Entries, Job, Place};
 
 /// What stands in a row.
 #[derive(Drop)]
@@ -82,15 +83,6 @@ impl<V> RowState<V> {
     }
 }
 
-impl<V: Drop> RowState<V> {
-    /// The same where it stays, else nothing.
-    pub(crate) fn if_stays(self, stays: bool) -> RowState<V>
-        ensures { result ≡ (if stays then self else RowState.Empty) }
-    {
-        if stays { self } else { RowState::Empty }
-    }
-}
-
 /// How many rows stand before the place of a rank.
 pub(crate) fn place_in<K: Ranked, V>(rows: &[Row<K, V>], rank: u64) -> usize
     requires { IsRanked K.rank rows.now }
@@ -131,6 +123,17 @@ pub(crate) fn any_out<K, V>(rows: &[Row<K, V>]) -> bool
     ensures { result ≡ any_out rows.now }
 {
     rows.iter().any(|row| row.state.is_expected())
+}
+
+/// Asks whoever works a job that a row expects to stop.
+pub(crate) fn raise_all<K, V>(entries: &Entries, rows: &[Row<K, V>])
+    requires { OutsAreOf entries.now rows.now }
+{
+    for row in rows {
+        if let RowState::Expected(job) = &row.state {
+            entries.raise(&job.place);
+        }
+    }
 }
 
 /// The lesser of two numbers, if there is any.

@@ -177,6 +177,7 @@ const FILLED_LATE: &[Act] = &[
     Act::FirstOut(Some(7)),
     // A bookmark between leaves what is out.
     Act::Mark(12),
+    Act::IsAsked(false),
     Act::FirstOut(Some(7)),
     Act::Fill(Filled::Row),
     Act::FirstOut(None),
@@ -189,12 +190,14 @@ const DROPPED: &[Act] = &[
         x: 1,
     },
     Act::Issue(Need::View { id: 2 }),
+    Act::IsAsked(false),
     // An intervention before takes what is out.
     Act::Insert {
         generation: 2,
         x: 0,
     },
     Act::FirstOut(None),
+    Act::IsAsked(true),
     Act::Fill(Filled::NotExpected),
     Act::Waits(2),
     Act::Settle(8),
@@ -226,6 +229,25 @@ const FORGOTTEN: &[Act] = &[
     Act::Forget(false),
     Act::Fill(Filled::NotExpected),
     Act::Next(Some(Need::View { id: 4 })),
+];
+
+const REMOVED: &[Act] = &[
+    Act::Mark(0),
+    Act::Issue(Need::View { id: 4 }),
+    Act::Unmark(3),
+    Act::IsAsked(false),
+    Act::Unmark(4),
+    Act::IsAsked(true),
+];
+
+const ALL_STOPPED: &[Act] = &[
+    Act::Mark(0),
+    Act::Issue(Need::View { id: 4 }),
+    Act::StopAll,
+    Act::IsAsked(true),
+    // The answer is expected still.
+    Act::FirstOut(Some(6)),
+    Act::Fill(Filled::Row),
 ];
 
 const NUMBERED: &[Act] = &[
@@ -307,6 +329,16 @@ fn answer_from_another_place_is_not_expected(rt: HostRuntime) {
 #[test]
 fn job_is_forgotten_once(rt: HostRuntime) {
     play(&rt, rt.alloc(), SETTLED, FORGOTTEN);
+}
+
+#[test]
+fn removed_bookmark_asks_its_worker_to_stop(rt: HostRuntime) {
+    play(&rt, rt.alloc(), SETTLED, REMOVED);
+}
+
+#[test]
+fn whoever_works_is_asked_to_stop(rt: HostRuntime) {
+    play(&rt, rt.alloc(), SETTLED, ALL_STOPPED);
 }
 
 #[test]

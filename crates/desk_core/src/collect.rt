@@ -65,6 +65,14 @@ impl Desk<'_> {
         true
     }
 
+    /// Asks whoever works a job that is out to stop. Its answer is still expected, and nothing that
+    /// is known is lost.
+    pub fn stop_all(&self)
+        ensures right { IsRight self.now }
+    {
+        self.book.stop_all();
+    }
+
     /// Whether a job is out.
     pub fn is_out(&self) -> bool
         ensures { IsAnyOut self.now result }

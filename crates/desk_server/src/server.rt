@@ -134,9 +134,18 @@ fn answer_all<R: Read, W: Write, L: Ledger, M: Ledger, P: Post, V: Watch>(
             &mut missed,
         ) {
             Ok(ControlFlow::Continue(())) => {}
-            Ok(ControlFlow::Break(())) => return Ok(missed),
-            Err(Device::Reader) => return Err(RunFault::Read),
-            Err(Device::Writer) => return Err(RunFault::Write),
+            Ok(ControlFlow::Break(())) => {
+                desk.stop_all();
+                return Ok(missed);
+            }
+            Err(Device::Reader) => {
+                desk.stop_all();
+                return Err(RunFault::Read);
+            }
+            Err(Device::Writer) => {
+                desk.stop_all();
+                return Err(RunFault::Write);
+            }
         }
     }
 }

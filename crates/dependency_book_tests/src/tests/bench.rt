@@ -6,6 +6,7 @@ ghost use Rattle.dependency_book.specs.Needs.{IsNext};
 
 use super::{cell, rule_x, same};
 use dependency_book::{Book, Filled, Need, Shown};
+use plane_core::Stop;
 use revision_jobs::{Answer, Entries, Job, NoGate, Place, work};
 use schedule::{Edit, View};
 use std::alloc::Global;
@@ -77,6 +78,10 @@ pub(super) enum Act {
     Settle(u32),
     /// The last answer's job is forgotten, if a row expects it.
     Forget(bool),
+    /// Whoever works a job that is out is asked to stop.
+    StopAll,
+    /// Whether whoever works the last answer's job is asked to stop.
+    IsAsked(bool),
     Next(Option<Need>),
     FirstOut(Option<u32>),
     Given(u32),
@@ -120,6 +125,8 @@ impl<'e> Bench<'e> {
             Act::Compute(need) => self.compute(rt, &need),
             Act::Settle(rows) => self.settle(rt, rows),
             Act::Forget(wanted) => self.forget(rt, wanted),
+            Act::StopAll => self.book.stop_all(),
+            Act::IsAsked(wanted) => self.is_asked(rt, wanted),
             Act::Next(wanted) => same(rt, &self.book.next_need(), &wanted, act),
             Act::FirstOut(wanted) => same(rt, &self.book.first_out(), &wanted, act),
             Act::Given(wanted) => same(rt, &self.book.given(), &wanted, act),
@@ -262,5 +269,11 @@ impl<'e> Bench<'e> {
             None => false,
         };
         same(rt, &found, &wanted, &"forgotten");
+    }
+
+    fn is_asked(&self, rt: &impl Abort, wanted: bool) {
+        let last = self.last.as_ref().expect(rt, "an answer");
+        let asked = self.entries.stop(last.place()).poll();
+        same(rt, &asked, &wanted, &"asked to stop");
     }
 }

@@ -1,8 +1,8 @@
 use Rattle.std.proofs.Common.{◌≡◌, ◌+◌, ◌∙◌, ◌++◌, [], ◌∷◌, length, sym, ap, ap₂, subst, arith}
-use Rattle.dependency_book.specs.declared.row.RowState.TheVariants.{Empty}
 use Rattle.dependency_book.specs.Remade.{kept_at}
-use Rattle.dependency_book.specs.Rows.{place_in, put}
-use Rattle.dependency_book.proofs.Merged.{StillLeft, still_left, remade_more, written, length-put}
+use Rattle.dependency_book.specs.RowState.{OutsAreOf}
+use Rattle.dependency_book.specs.Rows.{place_in}
+use Rattle.dependency_book.proofs.Merged.{IsTaken, StillLeft, remade_more, taken_left, taken_length, taken_own, written}
 use Rattle.dependency_book.proofs.remade.remade.Goals as goal
 
 pub loop-key-preserved : goal.loop-key-preserved
@@ -14,16 +14,16 @@ loop-key-preserved g c =
     let i = c.loop-key.key-index in
     let olds = c.loop-key.old.items in
     let inv = c.loop-key.invariant in
-    let taken : c.taken-state.new.rows ≡ put rank (rank x) Empty olds = c.taken-state.ensures.rows ∙ ap (λ rows. put rank (rank x) Empty rows) c.deref_mut.ensures.value in
-    let long : length c.taken-state.new.rows ≡ c.loop-key.old.len =
-    ap length c.taken-state.ensures.rows ∙ length-put rank (rank x) Empty c.deref_mut.result.now ∙ c.deref_mut.ensures.len in
-    let back = written c.loop-key.old.len c.taken-state.new.rows olds long ∙ taken in
+    let news = c.taken-state.new.rows in
+    let taken : IsTaken rank (rank x) olds news = subst (λ rows. IsTaken rank (rank x) rows news) c.deref_mut.ensures.value c.taken-state.ensures.rows in
+    let long : length news ≡ c.loop-key.old.len = taken_length rank (rank x) c.deref_mut.result.now news c.taken-state.ensures.rows ∙ c.deref_mut.ensures.len in
+    let back = sym (written c.loop-key.old.len news olds long) in
     let at : c.place_from-place.result ≡ place_in rank (rank x) olds = c.place_from-place.ensures ∙ ap₂ (λ n rows. place_in rank n rows) c.rank.ensures c.deref.ensures.value in
     let before : StillLeft rank stays ks i c.loop-key.place c.args.old.items olds = record { ranked = inv.ranked; left = inv.left; place = inv.place } in
     let after =
-    subst (λ rows. StillLeft rank stays ks (i + 1) c.place_from-place.result c.args.old.items rows) (sym back)
-    (subst (λ n. StillLeft rank stays ks (i + 1) n c.args.old.items (put rank (rank x) Empty olds)) (sym at)
-    (still_left rank stays ks i c.loop-key.place c.args.old.items olds x c.requires.ranked.1 c.loop-key-test.true c.key-item.is before)) in
+    subst (λ rows. StillLeft rank stays ks (i + 1) c.place_from-place.result c.args.old.items rows) back
+    (subst (λ n. StillLeft rank stays ks (i + 1) n c.args.old.items news) (sym at)
+    (taken_left rank stays ks i c.loop-key.place c.args.old.items olds news x c.requires.ranked.1 c.loop-key-test.true c.key-item.is before taken)) in
     let push = c.push_reserved.ensures in
     let kept : c.taken-state.result ≡ kept_at rank (stays x) (rank x) c.args.old.items =
     c.taken-state.ensures.state ∙ ap (λ rows. kept_at rank (stays x) (rank x) rows) c.deref_mut.ensures.value ∙ subst (λ y. kept_at rank (stays y) (rank y) olds ≡ kept_at rank (stays y) (rank y) c.args.old.items) (sym c.key-item.is) (inv.left i x (omega arith) c.loop-key-test.true) in
@@ -34,4 +34,5 @@ loop-key-preserved g c =
       ranked = after.ranked;
       left = after.left;
       place = after.place;
+      own = subst (OutsAreOf c.args.entries.now) back (taken_own c.args.entries.now rank (rank x) olds news taken inv.own);
     }

@@ -1,6 +1,7 @@
 use Rattle.std.proofs.Common.{◌≡◌, ℕ, ◌≤◌, ◌<◌, take, map, length, get_or, vec_len}
 use Rattle.std.specs.Prelude.{vec_capacity}
 use Rattle.dependency_book.specs.Remade.{kept_at, remade_row}
+use Rattle.dependency_book.specs.RowState.{OutsAreOf}
 use Rattle.dependency_book.specs.Rows.{IsRanked, place_in}
 use Rattle.dependency_book.proofs.remade.remade.Given as goal
 
@@ -15,4 +16,5 @@ invariant-loop-key g l =
       ranked : IsRanked rank l.old.items;
       left : (j : ℕ) (k : g.row.K.Denot) → l.key-index ≤ j → j < length l.keys → kept_at rank (stays l.felt (get_or l.keys j k)) (rank (get_or l.keys j k)) l.old.items ≡ kept_at rank (stays l.felt (get_or l.keys j k)) (rank (get_or l.keys j k)) l.fn.old.items;
       place : (j : ℕ) (k : g.row.K.Denot) → l.key-index ≤ j → j < length l.keys → l.place ≤ place_in rank (rank (get_or l.keys j k)) l.old.items;
+      own : OutsAreOf l.entries l.old.items;
     }

@@ -1,4 +1,4 @@
-use Rattle.std.proofs.Common.{◌≡◌, ℕ, ◌<◌, ◌≤◌, ◌≢◌, ◌∙◌, Bool, List, true, length, get_or, sym, ap, ap₂, subst, arith}
+use Rattle.std.proofs.Common.{◌≡◌, ℕ, ◌<◌, ◌≤◌, ◌≢◌, ◌∙◌, Bool, List, true, false, length, get_or, inl, sym, ap, subst, arith}
 use Rattle.std.specs.Prelude.{if◌then◌else◌}
 use Rattle.std.proofs.Math.ListN.{set}
 use Rattle.dependency_book.specs.declared.row.RowState.{RowState}
@@ -47,28 +47,39 @@ pub returns-then-place-rows-clause-state : goal.returns-then-place-rows-clause-s
 returns-then-place-rows-clause-state g c =
     sym (kept_at-absent g.K.Ranked.rank (g.K.Ranked.stays c.args.felt c.args.key.now) (g.K.Ranked.rank c.args.key.now) c.args.rows.now (absent g c))
 
-pub returns-then-place-rows-clause-rows : goal.returns-then-place-rows-clause-rows
-returns-then-place-rows-clause-rows g c =
-    sym (put-absent g.K.Ranked.rank (g.K.Ranked.rank c.args.key.now) Empty c.args.rows.now c.requires.1 (absent g c))
+-- the row at the place has the key's rank, so what is kept is by that row
+kept_there : {K V : Type 0} (rank : K → ℕ) (stays : K → Bool) (n k : ℕ) (rows : List (Row K V)) (d : Row K V) (b : Bool) → IsRanked rank rows → k ≡ place_in rank n rows → k < length rows → rank_at rank rows k d ≡ n → stays (get_or rows k d).key ≡ b
+    → (if b then (get_or rows k d).state else Empty) ≡ kept_at rank stays n rows
+kept_there rank stays n k rows d b ranked at low is on = sym (kept_row rank stays n k rows d ranked at low is ∙ ap (λ c. if c then (get_or rows k d).state else Empty) on)
+
+pub returns-then-not-stays-clause-state : goal.returns-then-not-stays-clause-state
+returns-then-not-stays-clause-state g c =
+    let rank = g.K.Ranked.rank in
+    let rows = c.args.rows.now in
+    let x = c.index-rows-place-2.result in
+    let is : rank_at rank rows c.args.place x ≡ rank c.args.key.now =
+    ap (λ r. rank r.key) (get_or-any rows c.args.place x c.index-rows-place.result c.if-place-rows.false) ∙ sym c.rank.ensures ∙ c.if-rank.false ∙ c.rank-else-place-rows.ensures in
+    let off : g.K.Ranked.stays c.args.felt c.args.key.now (get_or rows c.args.place x).key ≡ false = sym c.stays.ensures ∙ c.if-not-stays.true in
+    kept_there rank (g.K.Ranked.stays c.args.felt c.args.key.now) (rank c.args.key.now) c.args.place rows x false c.requires.1 c.requires.0 c.if-place-rows.false is off
 
 pub returns-clause-state : goal.returns-clause-state
 returns-clause-state g c =
     let rank = g.K.Ranked.rank in
     let rows = c.args.rows.now in
-    let x = c.index-rows-place-2.result in
-    let row = get_or rows c.args.place x in
+    let x = c.index-rows-place-3.result in
+    let low = c.if-place-rows.false in
     let is : rank_at rank rows c.args.place x ≡ rank c.args.key.now =
-    ap (λ r. rank r.key) (get_or-any rows c.args.place x c.index-rows-place.result c.if-place-rows.false) ∙ sym c.rank.ensures ∙ c.if-rank.false ∙ c.rank-else-place-rows.ensures in
-    c.if_stays.ensures
-    ∙ ap₂ (λ b s. if b then s else Empty) c.stays-stays.ensures c.replace-state.ensures.value
-    ∙ sym (kept_row rank (g.K.Ranked.stays c.args.felt c.args.key.now) (rank c.args.key.now) c.args.place rows x c.requires.1 c.requires.0 c.if-place-rows.false is)
+    ap (λ r. rank r.key) (get_or-any rows c.args.place x c.index-rows-place.result low) ∙ sym c.rank.ensures ∙ c.if-rank.false ∙ c.rank-else-place-rows.ensures in
+    let on : g.K.Ranked.stays c.args.felt c.args.key.now (get_or rows c.args.place x).key ≡ true =
+    ap (λ (r : Row g.row.K.Denot g.row.V.Denot). g.K.Ranked.stays c.args.felt c.args.key.now r.key) (get_or-any rows c.args.place x c.index-rows-place-2.result low) ∙ sym c.stays.ensures ∙ c.if-not-stays.false in
+    c.replace.ensures.value ∙ kept_there rank (g.K.Ranked.stays c.args.felt c.args.key.now) (rank c.args.key.now) c.args.place rows x true c.requires.1 c.requires.0 low is on
 
 pub returns-clause-rows : goal.returns-clause-rows
 returns-clause-rows g c =
     let rank = g.K.Ranked.rank in
     let rows = c.args.rows.now in
-    let x = c.index-rows-place-2.result in
+    let x = c.index-rows-place-3.result in
     let is : rank_at rank rows c.args.place x ≡ rank c.args.key.now =
     ap (λ r. rank r.key) (get_or-any rows c.args.place x c.index-rows-place.result c.if-place-rows.false) ∙ sym c.rank.ensures ∙ c.if-rank.false ∙ c.rank-else-place-rows.ensures in
-    ap (λ s. set rows c.args.place (record { key = (get_or rows c.args.place x).key; state = s })) c.replace-state.ensures.after
-    ∙ put_row rank (rank c.args.key.now) c.args.place rows x Empty c.requires.1 c.requires.0 c.if-place-rows.false is
+    inl (ap (λ s. set rows c.args.place (record { key = (get_or rows c.args.place x).key; state = s })) c.replace.ensures.after
+    ∙ put_row rank (rank c.args.key.now) c.args.place rows x Empty c.requires.1 c.requires.0 c.if-place-rows.false is)
