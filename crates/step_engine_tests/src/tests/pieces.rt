@@ -58,7 +58,10 @@ fn both<R: Next>(
     plane: &Plane,
     generations: u64,
 ) -> (Result<Plane, EvolveFault>, Result<Plane, EvolveFault>) {
-    assert!(rt; is_below(plane, engine.rule().states()), "a state isn't the rule's");
+    assert!(rt;
+        is_below(plane, engine.rule().states()),
+        "a state isn't the rule's"
+    );
     assert!(rt; generations <= 1 << 60);
     assert!(rt; fits(plane, generations));
     let at_once = engine.evolve(plane, generations, &mut NoStop);
@@ -119,5 +122,10 @@ fn finds_no_room_however_many_generations_there_are(rt: HostRuntime) {
     let mut engine = Engine::new(alloc, &arena, &OneOfTwo, 64).expect(&rt, "memory");
     let (at_once, in_pieces) = both(&rt, &mut engine, &plane, 1 << 60);
     same(&rt, &at_once.err(), &Some(EvolveFault::NoRoom), &"at once");
-    same(&rt, &in_pieces.err(), &Some(EvolveFault::NoRoom), &"in pieces");
+    same(
+        &rt,
+        &in_pieces.err(),
+        &Some(EvolveFault::NoRoom),
+        &"in pieces",
+    );
 }

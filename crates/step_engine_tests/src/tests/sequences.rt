@@ -28,7 +28,11 @@ impl Dice {
 
 /// A row of a cell near the origin, in state 1.
 fn cell(dice: &mut Dice) -> Row {
-    (i64::from(dice.throw() % 16) - 8, i64::from(dice.throw() % 16) - 8, 1)
+    (
+        i64::from(dice.throw() % 16) - 8,
+        i64::from(dice.throw() % 16) - 8,
+        1,
+    )
 }
 
 /// Up to seven cells.

@@ -30,7 +30,7 @@ evolve-requires g c =
     let least : count ≤ c.loop-left.left = search (rules, arith) in
     let within : before + count ≤ c.args.generations = omega (arith, few, least) in
     let can : CanEvolve states count (iterate before (step next) c.args.plane.now) =
-        CanEvolve-later states before count c.args.generations next c.args.plane.now (g.met.R.Next.quiet c.args.self.now.rule) (g.met.R.Next.below c.args.self.now.rule) within c.requires in
+    CanEvolve-later states before count c.args.generations next c.args.plane.now (g.met.R.Next.quiet c.args.self.now.rule) (g.met.R.Next.below c.args.self.now.rule) within c.requires in
     subst (λ w. CanEvolve (g.R.Next.state_count c.loop-left.self.rule) count w) (sym is.came) (subst (λ e. CanEvolve (g.R.Next.state_count e.rule) count (iterate before (step next) c.args.plane.now)) (sym is.same) can)
 
 pub loop-left-preserved-in-Ok : goal.loop-left-preserved-in-Ok
