@@ -9,8 +9,8 @@ use Rattle.revision_jobs.specs.declared.entry.Entry.TheVariants as entry
 use Rattle.revision_jobs.specs.declared.entry.Step.{Step}
 use Rattle.revision_jobs.specs.Value.{start_of}
 
--- as many different squares as may be kept are made on the way of the step at once, and on the way of
--- a small piece of it
+-- as many different squares as may be kept are made on the way of the step, and on the way of a piece
+-- of it that is at most a 4,096th
 abbrev pub IsStepSpent : ℕ → Step → Type 0
 IsStepSpent limit s = IsRoomSpent limit (next_of (arc_value s.rule)) (start_of s) s.gens
     × IsPieceSpent limit (next_of (arc_value s.rule)) (start_of s) s.gens

@@ -36,7 +36,7 @@ use step_engine::{Engine, EvolveFault};
 /// squares, and never more than 16,777,216.
 ///
 /// The answer has the value of the job's entry, or says why there is none: NoRoom where a step
-/// would need more squares, and a 4,096th of it would too, Stopped where the stop said yes, NoMemory
+/// would need more squares, and so would a 4,096th of it, Stopped where the stop said yes, NoMemory
 /// where a growth was refused.
 pub fn work<G: Gate, S: Stop>(
     alloc: Global,

@@ -18,8 +18,8 @@ impl<'a, R: Next> Engine<'a, R> {
     /// way of all of them at once.
     ///
     /// Then the plane is evolved by half of them at a time, by a quarter where there is no room
-    /// either, and so on, down to a 4,096th. So NoRoom comes after at most 4,096 pieces and thirteen
-    /// that had no room.
+    /// either, and so on, down to a 4,096th. So there are at most 4,096 pieces, and at most thirteen
+    /// of them that had no room.
     pub fn evolve_in_pieces<S: Stop>(
         &mut self,
         plane: &Plane,

@@ -3,7 +3,9 @@ mod edges;
 mod engine;
 mod faults;
 mod kept;
+mod pieces;
 mod rules;
+mod sequences;
 mod shared;
 mod stops;
 

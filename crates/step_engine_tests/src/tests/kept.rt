@@ -48,7 +48,7 @@ const SEQUENCE: &[Case] = &[
 ];
 
 /// Stops the test where the engine answers other than `evolve`.
-fn expect_alike<R: Next>(
+pub fn expect_alike<R: Next>(
     rt: &impl Abort,
     alloc: Global,
     engine: &mut Engine<'_, R>,
