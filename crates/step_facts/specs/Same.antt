@@ -1,12 +1,10 @@
 -- When two steps are the same.
 use Rattle.std.specs.Prelude.{◌≡◌, ℕ, Bool, true, false, ◌==◌, ◌&&◌, List}
-use Rattle.std.proofs.Common.{refl, sym, ap, ◌∙◌, rules}
-use Rattle.std.proofs.lemmas.Bool.{and_parts, eqb-true}
 use Rattle.std.specs.Arc.{arc_value}
-use Rattle.std.specs.Cmp.{IsEquivalence}
 use Rattle.std.specs.Coded.{Coded, codes}
 use base.Stored.{Gv, gnil, gnum, gcons}
 use Rattle.worlds.specs.World.{World, coded_world}
+use Rattle.worlds.specs.Live.{population}
 use Rattle.worlds.specs.declared.cell.CellSet.{CellSet}
 use Rattle.rule_tree.specs.declared.rule.Kind.{Kind}
 use Rattle.revision_jobs.specs.declared.entry.Step.{Step}
@@ -27,12 +25,18 @@ asked_of s = record {
   gens = s.gens;
 }
 
+-- as many generations pass, as many cells are live, and the same cells are laid
+pub record HaveSameParts (s t : Step) : Type 0 where
+  pub gens : s.gens ≡ t.gens
+  pub population : population (arc_value s.from) ≡ population (arc_value t.from)
+  pub cells : s.cells ≡ t.cells
+
 -- a code that tells such apart
 pub coded_asked : Coded Asked
 coded_asked = hlevel (codes, coded_world)
 
 -- whether two codes are one
-pub same_code : Gv → Gv → Bool
+unfoldable pub same_code : Gv → Gv → Bool
 same_code gnil gnil = true
 same_code (gnum m) (gnum n) = m == n
 same_code (gcons a b) (gcons c d) = same_code a c && same_code b d
@@ -44,5 +48,5 @@ same_code (gcons a b) gnil = false
 same_code (gcons a b) (gnum n) = false
 
 -- whether two steps are the same but for the names of their rules
-pub same_step : Step → Step → Bool
+unfoldable pub same_step : Step → Step → Bool
 same_step s t = same_code (coded_asked.code (asked_of s)) (coded_asked.code (asked_of t))

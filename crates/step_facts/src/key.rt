@@ -1,8 +1,8 @@
 //! Steps as keys.
 ghost use Rattle.std.specs.Prelude.{◌≡◌, ◌↔◌, IsTrue};
-ghost use Rattle.step_facts.specs.Same.{asked_of, same_step};
+ghost use Rattle.step_facts.specs.Same.{HaveSameParts, asked_of};
 
-use plane_core::Next;
+use plane_core::CellSet;
 use revision_jobs::Step;
 use std::hash::{Hash, Hasher};
 
@@ -12,16 +12,38 @@ pub(crate) struct Key {
     pub(crate) step: Step,
 }
 
-// Whether two steps are the same but for the names of their rules. Numbers are compared first.
+// Whether two lists of cells are the same.
+fn are_same_cells(cells: &[CellSet], others: &[CellSet]) -> bool
+    ensures { IsTrue result ↔ (cells.now ≡ others.now) }
+{
+    cells == others
+}
+
+// Whether as many generations pass and as many cells are live, and the same cells are laid.
+fn have_same_parts(step: &Step, other: &Step) -> bool
+    ensures { IsTrue result ↔ HaveSameParts step.now other.now }
+{
+    if step.gens != other.gens {
+        return false;
+    }
+    if step.from.population() != other.from.population() {
+        return false;
+    }
+    are_same_cells(step.cells.as_slice(), other.cells.as_slice())
+}
+
+// Whether two steps are the same but for the names of their rules. Rules and patterns are compared
+// only where all else is the same.
 fn are_same(step: &Step, other: &Step) -> bool
     ensures { IsTrue result ↔ (asked_of step.now ≡ asked_of other.now) }
 {
-    step.gens == other.gens
-        && step.cells.as_slice() == other.cells.as_slice()
-        && step.from.population() == other.from.population()
-        && step.from.bounds() == other.from.bounds()
-        && step.rule.equals(&other.rule)
-        && step.from.equals(&other.from)
+    if !have_same_parts(step, other) {
+        return false;
+    }
+    if !step.rule.equals(&other.rule) {
+        return false;
+    }
+    step.from.equals(&other.from)
 }
 
 impl PartialEq for Key {
