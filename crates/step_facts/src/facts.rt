@@ -82,9 +82,11 @@ impl Facts {
             IfSome found (λ plane. arc_value plane ≡ world_after step)) }
     {
         let key = Key { step };
-        match self.cache.get(&key) {
-            Some(plane) => Ok(Some(Arc::try_clone(plane)?)),
-            None => Ok(None),
-        }
+        let found = match self.cache.peek(&key) {
+            Some(plane) => Arc::try_clone(plane)?,
+            None => return Ok(None),
+        };
+        self.cache.promote(&key);
+        Ok(Some(found))
     }
 }

@@ -1,0 +1,99 @@
+-- What a cache of facts keeps.
+use Rattle.std.proofs.Common.{◌≡◌, ℕ, Bool, true, false, cond, List, [], ◌∷◌, ◌⊎◌, inl, inr, Contains, Option, Some, None, refl, sym, ap, ◌∙◌, subst}
+use Rattle.std.specs.declared.sync.Arc.{Arc}
+use Rattle.std.specs.declared.alloc.Global.{Global}
+use Rattle.std.specs.Arc.{arc_value}
+use Rattle.std.specs.List.{AllByRecursion}
+use Rattle.std.specs.Map.{lookup}
+use Rattle.std.specs.Option.{option_map}
+use Rattle.lru.specs.LruCache.{LruCache, promoted, put_entries}
+use Rattle.lru.proofs.CallerLemmas.{Contains-promoted, Contains-put_entries, Contains-lookup, lookup-put_entries}
+use Rattle.lru.proofs.Splits.{Contains-head, Contains-tail, Contains-cons}
+use Rattle.worlds.specs.World.{World}
+use Rattle.worlds.specs.Iterate.{iterate}
+use Rattle.worlds.specs.Lay.{lay}
+use Rattle.worlds.specs.Step.{step}
+use Rattle.rule_tree.specs.Rule.{next_of}
+use Rattle.revision_jobs.specs.declared.entry.Step.{Step}
+use Rattle.revision_jobs.specs.Value.{world_after}
+use Rattle.step_facts.specs.declared.key.Key.{Key}
+use Rattle.step_facts.specs.Kept.{fact_of, facts_of}
+use Rattle.step_facts.specs.Known.{IsTrueFact, known}
+use Rattle.step_facts.specs.Laws.{laws, same_step-is}
+use Rattle.step_facts.specs.Same.{Asked, asked_of, same_step}
+
+abbrev Kept : Type 0
+Kept = Key × Arc World Global
+
+abbrev IsRight : Kept → Type 0
+IsRight e = IsTrueFact (fact_of e)
+
+abbrev pub AreRight : List Kept → Type 0
+AreRight es = AllByRecursion IsTrueFact (facts_of es)
+
+abbrev pub same_key : Key → Key → Bool
+same_key a b = same_step a.step b.step
+
+each : (es : List Kept) → AreRight es → (e : Kept) → Contains es e → IsRight e
+each [] all e (k, below, at) = absurd (omega (Rattle.std.proofs.Common.arith, below))
+each (f ∷ es) all e there = elim (Contains-cons f es e there) [
+  | inl same ↦ subst IsRight same all.0
+  | inr later ↦ each es all.1 e later
+]
+
+every : (es : List Kept) → ((e : Kept) → Contains es e → IsRight e) → AreRight es
+every [] h = tt
+every (e ∷ es) h = (h e (Contains-head e es), every es (λ f there. h f (Contains-tail e es f there)))
+
+abbrev came : Asked → World
+came a =
+    iterate a.gens (step (next_of (record { name = []; kind = a.kind }))) (lay a.cells a.from)
+
+-- of the same steps comes the same
+pub same_comes : (s t : Step) → same_step s t ≡ true → world_after s ≡ world_after t
+same_comes s t h = ap came (same_step-is s t h)
+
+pub right-promoted : (test : Key → Bool) (es : List Kept) → AreRight es
+    → AreRight (promoted test es)
+right-promoted test es all =
+    every (promoted test es) (λ e there. each es all e (Contains-promoted test es e there))
+
+module _ (c : LruCache Key (Arc World Global)) (k : Key) (v : Arc World Global) (right : arc_value v ≡ world_after k.step) where
+  put_right : AreRight c.entries → (e : Kept) → Contains (put_entries same_key c k v) e → IsRight e
+  put_right all e there = elim (Contains-put_entries same_key c k v e there) [
+    | inl was ↦ each c.entries all e was
+    | inr put ↦ elim put.1 [
+      | inl key ↦ ap (λ w. arc_value w) put.0 ∙ right ∙ sym (ap (λ (j : Key). world_after j.step) key)
+      | inr found ↦ ap (λ w. arc_value w) put.0 ∙ right ∙ same_comes k.step e.0.step found.1.1
+    ]
+  ]
+
+  pub right-put : AreRight c.entries → AreRight (put_entries same_key c k v)
+  right-put all = every (put_entries same_key c k v) (put_right all)
+
+map_found : (b : Bool) (w : Arc World Global) (o : Option World) (p : Option (Arc World Global))
+    → o ≡ option_map (λ a. arc_value a) p
+    → cond b (Some (arc_value w)) o ≡ option_map (λ a. arc_value a) (cond b (Some w) p)
+map_found true w o p h = refl
+map_found false w o p h = h
+
+-- what is known of a step, by its entry
+pub known-entries : (es : List Kept) (k : Key)
+    → known (facts_of es) k.step ≡ option_map (λ a. arc_value a) (lookup (same_key k) es)
+known-entries [] k = refl
+known-entries (e ∷ es) k =
+    map_found (same_key k e.0) e.1 (known (facts_of es) k.step) (lookup (same_key k) es) (known-entries es k)
+
+-- what was put is known
+pub known-put : (c : LruCache Key (Arc World Global)) (k : Key) (v : Arc World Global)
+    → known (facts_of (put_entries same_key c k v)) k.step ≡ Some (arc_value v)
+known-put c k v =
+    known-entries (put_entries same_key c k v) k
+    ∙ ap (λ o. option_map (λ a. arc_value a) o) (lookup-put_entries same_key c k v laws)
+
+-- what is known is right
+pub known-right : (es : List Kept) (k : Key) (v : Arc World Global) → AreRight es
+    → lookup (same_key k) es ≡ Some v → arc_value v ≡ world_after k.step
+known-right es k v all h =
+    let there = Contains-lookup (same_key k) es v h in
+    each es all (there.0, v) there.1.0 ∙ sym (same_comes k.step there.0.step there.1.1)
