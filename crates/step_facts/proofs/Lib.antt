@@ -1,3 +1,3 @@
 pub mod Cells
 pub mod Parts
-pub mod Facts
+pub mod Keeping

@@ -1,12 +1,12 @@
 -- What a cache of facts keeps.
-use Rattle.std.proofs.Common.{◌≡◌, ℕ, Bool, true, false, cond, List, [], ◌∷◌, ◌⊎◌, inl, inr, Contains, Option, Some, None, refl, sym, ap, ◌∙◌, subst}
+use Rattle.std.proofs.Common.{arith, ◌≡◌, ℕ, Bool, true, false, cond, List, [], ◌∷◌, ◌⊎◌, inl, inr, Contains, Option, Some, None, Result, Ok, Err, OnOk, OnErr, refl, sym, ap, ◌∙◌, subst}
 use Rattle.std.specs.declared.sync.Arc.{Arc}
 use Rattle.std.specs.declared.alloc.Global.{Global}
 use Rattle.std.specs.Arc.{arc_value}
 use Rattle.std.specs.List.{AllByRecursion}
 use Rattle.std.specs.Map.{lookup}
 use Rattle.std.specs.Option.{option_map}
-use Rattle.lru.specs.LruCache.{LruCache, promoted, put_entries}
+use Rattle.lru.specs.LruCache.{LruCache, lru_cache, promoted, put_entries}
 use Rattle.lru.proofs.CallerLemmas.{Contains-promoted, Contains-put_entries, Contains-lookup, lookup-put_entries}
 use Rattle.lru.proofs.Splits.{Contains-head, Contains-tail, Contains-cons}
 use Rattle.worlds.specs.World.{World}
@@ -18,9 +18,9 @@ use Rattle.revision_jobs.specs.declared.entry.Step.{Step}
 use Rattle.revision_jobs.specs.Value.{world_after}
 use Rattle.step_facts.specs.declared.key.Key.{Key}
 use Rattle.step_facts.specs.Kept.{fact_of, facts_of}
-use Rattle.step_facts.specs.Known.{IsTrueFact, known}
+use Rattle.step_facts.specs.Known.{Fact, IsTrueFact, known}
 use Rattle.step_facts.specs.Laws.{laws, same_step-is}
-use Rattle.step_facts.specs.Same.{Asked, asked_of, same_step}
+use Rattle.step_facts.specs.Same.{Asked, asked_of, coded_asked, same_code, same_step}
 
 abbrev Kept : Type 0
 Kept = Key × Arc World Global
@@ -35,7 +35,7 @@ abbrev pub same_key : Key → Key → Bool
 same_key a b = same_step a.step b.step
 
 each : (es : List Kept) → AreRight es → (e : Kept) → Contains es e → IsRight e
-each [] all e (k, below, at) = absurd (omega (Rattle.std.proofs.Common.arith, below))
+each [] all e (k, below, at) = absurd (omega (arith, below))
 each (f ∷ es) all e there = elim (Contains-cons f es e there) [
   | inl same ↦ subst IsRight same all.0
   | inr later ↦ each es all.1 e later
@@ -48,6 +48,16 @@ every (e ∷ es) h = (h e (Contains-head e es), every es (λ f there. h f (Conta
 abbrev came : Asked → World
 came a =
     iterate a.gens (step (next_of (record { name = []; kind = a.kind }))) (lay a.cells a.from)
+
+pub equal_comes : (s t : Step) → asked_of s ≡ asked_of t → world_after s ≡ world_after t
+equal_comes s t e = ap came e
+
+-- of the same steps the same is known
+pub known-equal : (facts : List Fact) (s t : Step) → asked_of s ≡ asked_of t
+    → known facts s ≡ known facts t
+unfolding same_step
+known-equal facts s t e =
+    ap (λ (a : Asked). lookup (λ (u : Step). same_code (coded_asked.code a) (coded_asked.code (asked_of u))) facts) e
 
 -- of the same steps comes the same
 pub same_comes : (s t : Step) → same_step s t ≡ true → world_after s ≡ world_after t
@@ -64,12 +74,22 @@ module _ (c : LruCache Key (Arc World Global)) (k : Key) (v : Arc World Global) 
     | inl was ↦ each c.entries all e was
     | inr put ↦ elim put.1 [
       | inl key ↦ ap (λ w. arc_value w) put.0 ∙ right ∙ sym (ap (λ (j : Key). world_after j.step) key)
-      | inr found ↦ ap (λ w. arc_value w) put.0 ∙ right ∙ same_comes k.step e.0.step found.1.1
+      | inr found ↦ ap (λ w. arc_value w) put.0 ∙ right ∙ same_comes k.step e.0.step found.2
     ]
   ]
 
   pub right-put : AreRight c.entries → AreRight (put_entries same_key c k v)
   right-put all = every (put_entries same_key c k v) (put_right all)
+
+  -- so they are after a put that may fail
+  pub right-after : {X E : Type 0} (new : LruCache Key (Arc World Global)) (r : Result X E)
+      → AreRight c.entries
+      → OnOk r (new ≡ lru_cache (put_entries same_key c k v) c.cap) → OnErr r (new ≡ c)
+      → AreRight new.entries
+  right-after new (Ok x) all done undone =
+      subst (λ (d : LruCache Key (Arc World Global)). AreRight d.entries) (sym done) (right-put all)
+  right-after new (Err e) all done undone =
+      subst (λ (d : LruCache Key (Arc World Global)). AreRight d.entries) (sym undone) all
 
 map_found : (b : Bool) (w : Arc World Global) (o : Option World) (p : Option (Arc World Global))
     → o ≡ option_map (λ a. arc_value a) p
@@ -96,4 +116,4 @@ pub known-right : (es : List Kept) (k : Key) (v : Arc World Global) → AreRight
     → lookup (same_key k) es ≡ Some v → arc_value v ≡ world_after k.step
 known-right es k v all h =
     let there = Contains-lookup (same_key k) es v h in
-    each es all (there.0, v) there.1.0 ∙ sym (same_comes k.step there.0.step there.1.1)
+    each es all (there.0, v) there.1 ∙ sym (same_comes k.step there.0.step there.2)
