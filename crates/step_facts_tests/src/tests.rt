@@ -73,8 +73,9 @@ fn value_of(rt: &impl Abort, alloc: Global, step: &Step) -> Arc<Plane>
     ensures { arc_value result ≡ world_after step.now }
 {
     let laid = step.from.lay(step.cells.as_slice()).expect(rt, "memory");
-    let evolved =
-        evolve_plain(alloc, &*step.rule, &laid, step.gens, &mut NoStop, 0).expect(rt, "memory");
+    let evolved = evolve_plain(alloc, &*step.rule, &laid, step.gens, &mut NoStop, 0).expect(
+        rt, "memory",
+    );
     Arc::new(alloc, evolved.plane).expect(rt, "memory")
 }
 
