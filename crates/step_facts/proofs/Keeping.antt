@@ -1,13 +1,14 @@
 -- What a cache of facts keeps.
 use Rattle.std.proofs.Common.{arith, ◌≡◌, ℕ, Bool, true, false, cond, List, [], ◌∷◌, ◌⊎◌, inl, inr, Contains, Option, Some, None, Result, Ok, Err, OnOk, OnErr, refl, sym, ap, ◌∙◌, subst}
+use Rattle.std.proofs.lemmas.Bool.{both_ways}
 use Rattle.std.specs.declared.sync.Arc.{Arc}
 use Rattle.std.specs.declared.alloc.Global.{Global}
 use Rattle.std.specs.Arc.{arc_value}
 use Rattle.std.specs.List.{AllByRecursion}
-use Rattle.std.specs.Map.{lookup}
-use Rattle.std.specs.Option.{option_map}
+use Rattle.std.specs.Map.{lookup, lookup_entry, remove_entry}
+use Rattle.std.specs.Option.{option_map, option_map_or}
 use Rattle.lru.specs.LruCache.{LruCache, lru_cache, promoted, put_entries}
-use Rattle.lru.proofs.CallerLemmas.{Contains-promoted, Contains-put_entries, Contains-lookup, lookup-put_entries}
+use Rattle.lru.proofs.CallerLemmas.{Contains-lookup_entry, Contains-promoted, Contains-put_entries, Contains-lookup, lookup-put_entries}
 use Rattle.lru.proofs.Splits.{Contains-head, Contains-tail, Contains-cons}
 use Rattle.worlds.specs.World.{World}
 use Rattle.worlds.specs.Iterate.{iterate}
@@ -19,7 +20,7 @@ use Rattle.revision_jobs.specs.Value.{world_after}
 use Rattle.step_facts.specs.declared.key.Key.{Key}
 use Rattle.step_facts.specs.Kept.{fact_of, facts_of}
 use Rattle.step_facts.specs.Known.{Fact, IsTrueFact, known}
-use Rattle.step_facts.specs.Laws.{laws, same_step-is}
+use Rattle.step_facts.specs.Laws.{alike, laws, same_step-is}
 use Rattle.step_facts.specs.Same.{Asked, asked_of, coded_asked, same_code, same_step}
 
 abbrev Kept : Type 0
@@ -117,3 +118,69 @@ pub known-right : (es : List Kept) (k : Key) (v : Arc World Global) → AreRight
 known-right es k v all h =
     let there = Contains-lookup (same_key k) es v h in
     each es all (there.0, v) there.1 ∙ sym (same_comes k.step there.0.step there.2)
+
+-- what passes neither test is found among the rest
+passed_over : (p t : Key → Bool) → ((u : Key) → t u ≡ true → p u ≡ false) → (es : List Kept)
+    → lookup p (remove_entry t es) ≡ lookup p es
+passed_over p t apart [] = refl
+passed_over p t apart (e ∷ es) =
+    (elim (t e.0) as (λ b. t e.0 ≡ b → lookup p (cond b es (e ∷ remove_entry t es)) ≡ cond (p e.0) (Some e.1) (lookup p es)) [
+      | true ↦ λ h. ap (λ b. cond b (Some e.1) (lookup p es)) (sym (apart e.0 h))
+      | false ↦ λ h. ap (λ o. cond (p e.0) (Some e.1) o) (passed_over p t apart es)
+    ]) refl
+
+-- equal tests find the same
+same_found : (p t : Key → Bool) → ((u : Key) → p u ≡ t u) → (es : List Kept)
+    → lookup p es ≡ lookup t es
+same_found p t equal [] = refl
+same_found p t equal (e ∷ es) =
+    λ i. cond (equal e.0 i) (Some e.1) (same_found p t equal es i)
+
+pick : (b : Bool) (e : Kept) (o : Option (Arc World Global)) (p : Option Kept)
+    → o ≡ option_map (λ f. f.1) p → cond b (Some e.1) o ≡ option_map (λ f. f.1) (cond b (Some e) p)
+pick true e o p h = refl
+pick false e o p h = h
+
+entry_value : (t : Key → Bool) (es : List Kept)
+    → lookup t es ≡ option_map (λ f. f.1) (lookup_entry t es)
+entry_value t [] = refl
+entry_value t (e ∷ es) =
+    pick (t e.0) e (lookup t es) (lookup_entry t es) (entry_value t es)
+
+module _ (k q : Key) (es : List Kept) where
+  -- keys that are the same as one are the same as others alike
+  like : (f : Key) → same_key q f ≡ true → same_key k f ≡ true → (u : Key)
+      → same_key q u ≡ same_key k u
+  like f p t u = alike q.step f.step u.step p ∙ sym (alike k.step f.step u.step t)
+
+  apart : (f : Key) → same_key q f ≡ false → same_key k f ≡ true → (u : Key)
+      → same_key k u ≡ true → (b : Bool) → same_key q u ≡ b → b ≡ false
+  apart f p t u h true e = absurd (both_ways _ p (like u e h f ∙ t))
+  apart f p t u h false e = refl
+
+  after_front : (f : Kept) → lookup_entry (same_key k) es ≡ Some f → same_key k f.0 ≡ true
+      → (b : Bool) → same_key q f.0 ≡ b
+      → cond b (Some f.1) (lookup (same_key q) (remove_entry (same_key k) es)) ≡ lookup (same_key q) es
+  after_front f h t true p =
+      sym (same_found (same_key q) (same_key k) (like f.0 p t) es
+      ∙ entry_value (same_key k) es ∙ ap (λ o. option_map (λ (g : Kept). g.1) o) h)
+  after_front f h t false p =
+      passed_over (same_key q) (same_key k) (λ u s. apart f.0 p t u s (same_key q u) refl) es
+
+  front : (o : Option Kept) → lookup_entry (same_key k) es ≡ o
+      → lookup (same_key q) (option_map_or (λ f. f ∷ remove_entry (same_key k) es) o es) ≡ lookup (same_key q) es
+  front None h = refl
+  front (Some f) h =
+      after_front f h (Contains-lookup_entry (same_key k) es f h).1 (same_key q f.0) refl
+
+  -- what is known stays known when a fact is used
+  pub lookup-used : lookup (same_key q) (promoted (same_key k) es) ≡ lookup (same_key q) es
+  lookup-used = front (lookup_entry (same_key k) es) refl
+
+pub known-used : (k : Key) (s : Step) (es : List Kept)
+    → known (facts_of (promoted (same_key k) es)) s ≡ known (facts_of es) s
+known-used k s es =
+    let q : Key = record { step = s } in
+    known-entries (promoted (same_key k) es) q
+    ∙ ap (λ o. option_map (λ a. arc_value a) o) (lookup-used k q es)
+    ∙ sym (known-entries es q)

@@ -3,6 +3,7 @@ ghost use Rattle.std.specs.Prelude.{◌≡◌, [], Some, IfOk, OnErr, OnOk, IfSo
 ghost use Rattle.std.specs.Arc.{arc_value};
 ghost use Rattle.std.specs.Option.{option_map};
 ghost use Rattle.revision_jobs.specs.Value.{world_after};
+ghost use Rattle.revision_jobs.specs.declared.entry.Step.{Step};
 ghost use Rattle.step_facts.specs.Known.{known};
 
 use crate::key::Key;
@@ -80,6 +81,7 @@ impl Facts {
             option_map (λ plane. arc_value plane) found ≡ known self.old step) }
         ensures right { IfOk result (λ found.
             IfSome found (λ plane. arc_value plane ≡ world_after step)) }
+        ensures others { (other : Step) → known self.new other ≡ known self.old other }
     {
         let key = Key { step };
         let found = match self.cache.peek(&key) {
