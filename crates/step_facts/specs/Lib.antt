@@ -1,0 +1,5 @@
+pub mod Fed
+pub mod Kept
+pub mod Known
+pub mod Laws
+pub mod Same
