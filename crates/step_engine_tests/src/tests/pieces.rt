@@ -105,13 +105,11 @@ fn goes_in_pieces_where_there_is_no_room_for_all(rt: HostRuntime) {
     assert!(rt; fits(&plane, 45));
     let answer = evolve_plain(alloc, &rule, &plane, 45, &mut NoStop, 0);
     let wanted = answer.expect(&rt, "a plane").plane;
-    let mut alone = 0u32;
+    let mut any = false;
     for tens in 0..60u32 {
-        if is_in_pieces_alone(&rt, alloc, &rule, &plane, 45, &wanted, tens * 10) {
-            alone += 1;
-        }
+        any |= is_in_pieces_alone(&rt, alloc, &rule, &plane, 45, &wanted, tens * 10);
     }
-    assert!(rt; 0 < alone, "no answer in pieces alone");
+    assert!(rt; any, "no answer in pieces alone");
 }
 
 #[test]
