@@ -86,7 +86,7 @@ impl Rule {
         let name = Listing::from_vec(b"still".to_vec(alloc)?);
         let table = TableRule::still(alloc);
         let rows = table.expand()?;
-        let translation = translated(alloc, &table, &rows)?;
+        let translation = translated(alloc, &table, rows)?;
         Ok(Rule {
             name,
             kind: Kind::Table(table),
@@ -132,7 +132,7 @@ fn read_kind(alloc: Global, file: &RuleText) -> Result<(Kind, Option<TreeRule>),
     match file.kind() {
         SectionKind::Table => {
             let (table, rows) = read_expanded(alloc, file)?;
-            let translation = translated(alloc, &table, &rows)?;
+            let translation = translated(alloc, &table, rows)?;
             Ok((Kind::Table(table), translation))
         }
         SectionKind::Tree => Ok((Kind::Tree(read_tree(alloc, file)?), None)),
@@ -143,9 +143,9 @@ fn read_kind(alloc: Global, file: &RuleText) -> Result<(Kind, Option<TreeRule>),
 fn translated(
     alloc: Global,
     table: &TableRule,
-    rows: &[Expanded],
+    rows: Vec<Expanded>,
 ) -> Result<Option<TreeRule>, AllocError>
-    requires { AreExpanded table.now rows.now }
+    requires { AreExpanded table.now rows.items }
     ensures { IfOk result (λ tree. IsAsked (Kind.Table table.now) tree) }
 {
     match from_rows(alloc, table, rows) {

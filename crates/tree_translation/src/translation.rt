@@ -39,12 +39,17 @@ pub fn from_table(alloc: Global, table: &TableRule) -> Result<TreeRule, TreeFaul
         NeedsNodes table.now (node_limit + 1)) }
 {
     let rows = table.expand()?;
-    from_rows(alloc, table, &rows)
+    from_rows(alloc, table, rows)
 }
 
-/// The same as `from_table`, where the table's expanded transitions are there already.
-pub fn from_rows(alloc: Global, table: &TableRule, rows: &[Expanded]) -> Result<TreeRule, TreeFault>
-    requires { AreExpanded table.now rows.now }
+/// The same as `from_table`, where the table's expanded transitions are there already. They are
+/// freed before the nodes are made.
+pub fn from_rows(
+    alloc: Global,
+    table: &TableRule,
+    rows: Vec<Expanded>,
+) -> Result<TreeRule, TreeFault>
+    requires { AreExpanded table.now rows.items }
     ensures translates { IfOk result (λ tree. Translates table.now tree) }
     ensures few { IfOk result (λ tree. length tree.nodes ≤ node_limit) }
     ensures smallest { IfOk result (λ tree. NeedsNodes table.now (length tree.nodes)) }
@@ -61,22 +66,24 @@ fn nodes_for(
     alloc: Global,
     states: u16,
     order: &[Option<usize>],
-    rows: &[Expanded],
+    rows: Vec<Expanded>,
 ) -> Result<IndexSet<Listed>, TreeFault>
-    requires { CanTranslate states order.now rows.now }
-    ensures does { IfOk result (λ nodes. DoesRows states order.now rows.now
+    requires { CanTranslate states order.now rows.items }
+    ensures does { IfOk result (λ nodes. DoesRows states order.now rows.items
         (entries_in nodes.keys)) }
     ensures few { IfOk result (λ nodes. length nodes.keys ≤ node_limit) }
     ensures width { IfOk result (λ nodes. All
         (λ node. length node ≡ states) (entries_in nodes.keys)) }
     ensures needed { IfOk result (λ nodes. NeedStarts states (length order.now)
-        (λ k inputs. rows_give order.now rows.now inputs) 1 (length nodes.keys)) }
+        (λ k inputs. rows_give order.now rows.items inputs) 1 (length nodes.keys)) }
     ensures large { IfErr result (λ fault. fault ≡ TreeTooLarge →
-        NeedStarts states (length order.now) (λ k inputs. rows_give order.now rows.now inputs) 1
+        NeedStarts states (length order.now) (λ k inputs. rows_give order.now rows.items inputs) 1
         (node_limit + 1)) }
 {
-    let (layers, numbers) = layers_of(alloc, order, rows)?;
+    let (layers, numbers) = layers_of(alloc, order, rows.as_slice())?;
     let mut marks = Vec::from_elem(alloc, false, rows.len())?;
+    // a million rows take as much memory as half a million nodes
+    drop(rows);
     let mut found = Found {
         numbers: HashMap::new(alloc),
         nodes: IndexSet::new(alloc),

@@ -17,22 +17,22 @@ order c = rw (c.order_of-order.ensures, c.neighborhood.ensures)
 
 -- what the rows need, the table needs
 needs : (c : After-states) (count : ℕ)
-    → NeedStarts c.states.result (length c.order_of-order.result.now) (λ k inputs. rows_give c.order_of-order.result.now c.args.rows.now inputs) 1 count
+    → NeedStarts c.states.result (length c.order_of-order.result.now) (λ k inputs. rows_give c.order_of-order.result.now c.args.rows.items inputs) 1 count
     → NeedsNodes c.args.table.now count
 needs c count needed =
-    needs-nodes c.args.table.now c.args.rows.now count (omega (arith, c.states.ensures.count, c.states.ensures.at_least)) c.requires
+    needs-nodes c.args.table.now c.args.rows.items count (omega (arith, c.states.ensures.count, c.states.ensures.at_least)) c.requires
     (rw (c.states.ensures.count, order c) at needed)
 
 pub finish-requires-clause-does : goal.finish-requires-clause-does
 finish-requires-clause-does c =
     let table = c.args.table.now in
     let order_is = order (goal.at.finish-requires-clause-does c).After-states in
-    let does : DoesRows table.states (order_of table.neighborhood) c.args.rows.now (entries_in c.as_slice.result.now) =
+    let does : DoesRows table.states (order_of table.neighborhood) c.args.rows.items (entries_in c.as_slice.result.now) =
     rw c.as_slice.ensures.keys (rw (c.states.ensures.count, order_is) at c.in_ok-nodes.ensures.does) in
     record {
       width = rw c.as_slice.ensures.keys (rw c.states.ensures.count at c.in_ok-nodes.ensures.width);
       leading = does.leading;
-      same = next-rows table c.args.rows.now (entries_in c.as_slice.result.now) (omega (arith, c.states.ensures.count, c.states.ensures.at_least)) does c.requires;
+      same = next-rows table c.args.rows.items (entries_in c.as_slice.result.now) (omega (arith, c.states.ensures.count, c.states.ensures.at_least)) does c.requires;
     }
 
 pub returns-clause-smallest : goal.returns-clause-smallest

@@ -12,28 +12,28 @@ use Rattle.tree_translation.proofs.translation.nodes_for.Goals as goal
 use Rattle.tree_translation.proofs.translation.nodes_for.Goals.{After-deref-2, In_ok-layers}
 
 -- the layers are those of the rows
-are : (c : In_ok-layers) → AreLayersOf c.args.states c.args.order.now c.args.rows.now c.in_ok-layers.layers.items c.in_ok-layers.numbers.items
-are c = c.in_ok-layers.ensures.layers c.args.states c.requires.below
+are : (c : In_ok-layers) → AreLayersOf c.args.states c.args.order.now c.args.rows.items c.in_ok-layers.layers.items c.in_ok-layers.numbers.items
+are c = rw c.as_slice.ensures.value at (c.in_ok-layers.ensures.layers c.args.states (rw c.as_slice.ensures.value c.requires.below))
 
 -- the tails of all rows give what the rows give
-left : (c : After-deref-2) → AreLayersOf c.args.states c.args.order.now c.args.rows.now c.in_ok-layers.layers.items c.in_ok-layers.numbers.items
-    → IsLeft c.args.states c.deref.result.now (rows_give c.args.order.now c.args.rows.now) 0 c.deref-2.result.now
+left : (c : After-deref-2) → AreLayersOf c.args.states c.args.order.now c.args.rows.items c.in_ok-layers.layers.items c.in_ok-layers.numbers.items
+    → IsLeft c.args.states c.deref.result.now (rows_give c.args.order.now c.args.rows.items) 0 c.deref-2.result.now
 left c made =
-    let give = rows_give c.args.order.now c.args.rows.now in
+    let give = rows_give c.args.order.now c.args.rows.items in
     rw (c.deref.ensures.value, c.deref-2.ensures.value)
     (IsLeft-first c.args.states c.in_ok-layers.layers.items give c.in_ok-layers.numbers.items
-    (λ rest long. sym (rows-outcome c.args.states c.args.order.now c.args.rows.now c.in_ok-layers.layers.items c.in_ok-layers.numbers.items rest made (long ∙ made.depth))))
+    (λ rest long. sym (rows-outcome c.args.states c.args.order.now c.args.rows.items c.in_ok-layers.layers.items c.in_ok-layers.numbers.items rest made (long ∙ made.depth))))
 
 pub number_of-requires : goal.number_of-requires
 number_of-requires c =
     let made = are (goal.at.number_of-requires c).In_ok-layers in
-    let room : length c.as_mut_slice.result.now ≡ length c.args.rows.now = search (rules) in
+    let room : length c.as_mut_slice.result.now ≡ length c.args.rows.items = search (rules) in
     record {
       fit = rw (c.deref.ensures.value, room) (record { some = c.requires.some; at_most = c.requires.at_most; fit = made.fit; few = made.few });
       tails = rw (c.deref.ensures.value, c.deref-2.ensures.value)
           (tails-first c.args.states c.in_ok-layers.layers.items c.in_ok-layers.numbers.items (omega (arith, made.depth, c.requires.asked)) made.inside);
       clear = rw (c.as_mut_slice.ensures.value, c.in_ok-marks.ensures.items_if_clones_equal (λ y h. h))
-          (All-replicate (λ (b : Bool). b ≡ false) (length c.args.rows.now) false refl);
+          (All-replicate (λ (b : Bool). b ≡ false) c.len.result false refl);
       known = search (rules);
     }
 
@@ -41,7 +41,7 @@ pub returns-in_err-number_of-clause-large : goal.returns-in_err-number_of-clause
 returns-in_err-number_of-clause-large c =
     let at = goal.at.returns-in_err-number_of-clause-large c in
     let made = are at.In_ok-layers in
-    let give = rows_give c.args.order.now c.args.rows.now in
+    let give = rows_give c.args.order.now c.args.rows.items in
     passed-on c.from_residual-in_err-number_of.result c.in_err-number_of.field-0.0 _ c.from_residual-in_err-number_of.ensures.1
     (λ e. subst (λ depth. NeedStarts c.args.states depth (λ k inputs. give inputs) 1 (node_limit + 1)) (ap length c.deref.ensures.value ∙ made.depth)
     (c.in_err-number_of.ensures.large e give (AreBegun-none c.args.states (length c.deref.result.now) give c.new-2.result.keys (search (rules))) (left at.After-deref-2 made)))
@@ -53,7 +53,7 @@ returns-clause-does c =
     let none : c.new-2.result.keys ≡ [] = search (rules) in
     let last : c.in_ok-number_of.field-0 + 1 ≡ length keys = c.in_ok-number_of.ensures.last (rw none (All-nil (λ (x : Listed). 0 < x.input))) in
     let root : c.in_ok-number_of.field-0 ≡ length (entries_in keys) - 1 = omega (arith, last, length-listed keys) in
-    DoesRows-root c.args.states c.args.order.now c.args.rows.now c.in_ok-layers.layers.items c.in_ok-layers.numbers.items (entries_in keys) made
+    DoesRows-root c.args.states c.args.order.now c.args.rows.items c.in_ok-layers.layers.items c.in_ok-layers.numbers.items (entries_in keys) made
     (rw (root, c.deref.ensures.value, c.deref-2.ensures.value) at c.in_ok-number_of.ensures.number.does)
 
 pub returns-clause-width : goal.returns-clause-width
@@ -63,7 +63,7 @@ pub returns-clause-needed : goal.returns-clause-needed
 returns-clause-needed c =
     let at = goal.at.returns-clause-needed c in
     let made = are at.In_ok-layers in
-    let give = rows_give c.args.order.now c.args.rows.now in
+    let give = rows_give c.args.order.now c.args.rows.items in
     let grows = c.in_ok-number_of.ensures.grows in
     let keys : List Listed = c.number_of.new.found.nodes.keys in
     subst (λ depth. NeedStarts c.args.states depth (λ k inputs. give inputs) 1 (length keys)) (ap length c.deref.ensures.value ∙ made.depth)
