@@ -7,7 +7,7 @@ use Rattle.std.proofs.lemmas.List.{length_push, get_or_push}
 use Rattle.worlds.specs.Square.{Square, one, four, IsSquare}
 use Rattle.plane_core.specs.declared.row.SquareRow.{SquareRow}
 use Rattle.plane_core.specs.Rows.{no_row, AreRows, IsNumber, square_in, number_row, number_square, numbered, same_row, root_level, root_of, AreCanonical, completed, empty_row, written}
-use Rattle.plane_core.proofs.Shared.Numbering.{Grows, Grows-more, number_row-is, number_square-grows, not_found}
+use Rattle.plane_core.proofs.Shared.Numbering.{Grows, Grows-more, not_found}
 use Rattle.plane_core.proofs.Shared.Sound.{row_kept, IsNumber-from, square_in-grown, EachHas, IsSound, number_square-sound, AreRows-none, EachHas-none, row_of}
 use Rattle.plane_core.proofs.Shared.Roots.{rooted, root-IsSquare}
 use Rattle.square_table.specs.Made.{HoldsWithin}

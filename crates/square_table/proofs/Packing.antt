@@ -1,9 +1,8 @@
 -- The squares of a table that are packed as the rows of a plane.
-use Rattle.std.proofs.Common.{◌≡◌, ℕ, zero, suc, ◌+◌, ◌-◌, ◌<◌, ◌≤◌, ◌^◌, List, [], ◌∷◌, ◌++◌, length, get_or, Option, Some, None, Result, Ok, Err, sym, ap, ◌∙◌, subst, arith, inl, inr, lit<, get_or-set_same, get_or-set_other}
-use Rattle.std.specs.Prelude.{IfSome, IfOk, OnOk}
-use Rattle.std.proofs.Math.ListN.{set}
-use Rattle.std.proofs.lemmas.Bool.{cases_eq}
-use Rattle.std.proofs.lemmas.List.{length-set}
+use Rattle.std.proofs.Common.{◌≡◌, ℕ, zero, suc, ◌+◌, ◌-◌, ◌<◌, ◌≤◌, ◌^◌, List, [], ◌∷◌, ◌++◌, length, get_or, Option, Some, None, Result, Ok, Err, sym, ap, ◌∙◌, subst, arith, inl, inr, lit<}
+use Rattle.std.specs.Prelude.{nat_eq, IfSome, IfOk, OnOk}
+use Rattle.std.specs.HashMap.{get, Updates}
+use Rattle.std.proofs.lemmas.Bool.{cases_eq, ne_eqb}
 use Rattle.worlds.specs.Square.{Square, four}
 use Rattle.plane_core.specs.declared.row.SquareRow.{SquareRow}
 use Rattle.plane_core.specs.Rows as listed
@@ -13,8 +12,8 @@ use Rattle.plane_core.specs.Laid.{Keeps, IsAdded}
 use Rattle.plane_core.proofs.Shared.Adding.{Keeps-then, quadrants-none, added, root_added}
 use Rattle.plane_core.proofs.Shared.Sound as sound
 use Rattle.square_table.specs.Squares.{IsNumber, AreNumbers, square_of, first_number, kids_at}
+use Rattle.square_table.specs.declared.pack.Packed.{Packed}
 use Rattle.square_table.specs.Packing.{IsPacked, IsPacking, AreRowsOf}
-use Rattle.square_table.proofs.Shared.Tables.{above_zero}
 use Rattle.square_table.proofs.Shared.Numbers.{one_level}
 use Rattle.square_table.proofs.Shared.Growth.{AreNumbers-quadrants, square_in-quadrants}
 use Rattle.square_table.proofs.Loading.{square_in-cell}
@@ -39,42 +38,25 @@ known-kept : (rows : List (List ℕ)) (old new : List SquareRow) (k n : ℕ) (o 
 known-kept rows old new k n None keeps h = tt
 known-kept rows old new k n (Some m) keeps h = IsPacked-kept rows old new k n m keeps h
 
--- a row that is remembered is packed
-pub recalled : (rows : List (List ℕ)) (squares : List SquareRow) (numbers : List (Option ℕ)) (k n m : ℕ) → 0 < k → IsPacking rows squares numbers → IsNumber rows k n → get_or numbers (n - first_number) None ≡ Some m → IsPacked rows squares k n m
-recalled rows squares numbers k n m low packing is e =
-    let there = above_zero rows k n low is in
-    let i = n - first_number in
-    let at : first_number + i ≡ n = omega (arith, there.0) in
-    let within : i < length rows = omega (arith, there.0, there.1) in
-    let known = packing.known i k within (subst (IsNumber rows k) (sym at) is) in
-    subst (λ p. IsPacked rows squares k p m) at (subst (λ (o : Option ℕ). IfSome o (IsPacked rows squares k (first_number + i))) e known)
+-- a square that is remembered is packed
+pub recalled : (rows : List (List ℕ)) (packed : Packed) (k n m : ℕ) → 0 < k → IsPacking rows packed → IsNumber rows k n → get nat_eq packed.numbers n ≡ Some m → IsPacked rows packed.squares.items k n m
+recalled rows packed k n m low packing is e = subst (λ (o : Option ℕ). IfSome o (IsPacked rows packed.squares.items k n)) e (packing.known k n low is)
 
--- its place
-pub place_within : (rows : List (List ℕ)) (k n : ℕ) → 0 < k → IsNumber rows k n → (first_number ≤ n) × (n - first_number < length rows)
-place_within rows k n low is = let there = above_zero rows k n low is in (there.0, omega (arith, there.0, there.1))
-
--- one more row is remembered
-pub remembered : (rows : List (List ℕ)) (old new : List SquareRow) (numbers : List (Option ℕ)) (k n m : ℕ) → 0 < k → IsPacking rows old numbers → Keeps old new → IsNumber rows k n → IsPacked rows new k n m → IsPacking rows new (set numbers (n - first_number) (Some m))
-remembered rows old new numbers k n m low packing keeps is packed =
-    let place = n - first_number in
-    let there = place_within rows k n low is in
-    let fits : place < length numbers = omega (arith, there.1, packing.count) in
-    record {
-      valid = keeps.valid;
-      few = keeps.few;
-      count = length-set numbers place (Some m) ∙ packing.count;
-      known = λ i j h is_j. elim (cases_eq i place) [
-        | inl same ↦
-            let at : n ≡ first_number + i = omega (arith, same, there.0) in
-            let level : k ≡ j = one_level rows k j n is (subst (IsNumber rows j) (sym at) is_j) in
-            let set_to : get_or (set numbers place (Some m)) i None ≡ Some m = ap (λ p. get_or (set numbers place (Some m)) p None) same ∙ get_or-set_same numbers place (Some m) None fits in
-            subst (λ (o : Option ℕ). IfSome o (IsPacked rows new j (first_number + i))) (sym set_to)
-            (subst (λ p. IsPacked rows new j p m) at (subst (λ l. IsPacked rows new l n m) level packed))
-        | inr other ↦
-            subst (λ (o : Option ℕ). IfSome o (IsPacked rows new j (first_number + i))) (sym (get_or-set_other numbers place i (Some m) None other))
-            (known-kept rows old new j (first_number + i) _ keeps (packing.known i j h is_j))
-      ];
-    }
+-- one more square is remembered
+pub remembered : (rows : List (List ℕ)) (old new : Packed) (k n m : ℕ) → IsPacking rows old → Keeps old.squares.items new.squares.items → IsNumber rows k n → IsPacked rows new.squares.items k n m
+    → Updates nat_eq old.numbers new.numbers n (Some m) → IsPacking rows new
+remembered rows old new k n m packing keeps is packed updates = record {
+  valid = keeps.valid;
+  few = keeps.few;
+  known = λ j q low is_q. elim (cases_eq n q) [
+    | inl same ↦
+        let level : k ≡ j = one_level rows k j n is (subst (IsNumber rows j) (sym same) is_q) in
+        subst (λ p. IfSome (get nat_eq new.numbers p) (IsPacked rows new.squares.items j p)) same
+        (subst (λ (o : Option ℕ). IfSome o (IsPacked rows new.squares.items j n)) (sym updates.1) (subst (λ l. IsPacked rows new.squares.items l n m) level packed))
+    | inr other ↦
+        subst (λ (o : Option ℕ). IfSome o (IsPacked rows new.squares.items j q)) (sym (updates.2 q (ne_eqb n q other))) (known-kept rows old.squares.items new.squares.items j q _ keeps (packing.known j q low is_q))
+  ];
+}
 
 -- four numbers of a level
 pub number_at : (rows : List (List ℕ)) (k : ℕ) (kids : List ℕ) (q : ℕ) → q < 4 → AreNumbers rows k kids → IsNumber rows k (get_or kids q 0)

@@ -1,13 +1,15 @@
 -- Squares of a table that become the rows of a plane.
-use Rattle.std.specs.Prelude.{◌≡◌, ℕ, ◌+◌, ◌-◌, ◌<◌, ◌^◌, List, length, get_or, Option, None, IfSome}
+use Rattle.std.specs.Prelude.{◌≡◌, ℕ, ◌-◌, ◌<◌, ◌^◌, List, length, get_or, nat_eq, IfSome}
+use Rattle.std.specs.HashMap.{get}
 use Rattle.worlds.specs.Square.{Square}
 use Rattle.plane_core.specs.declared.row.SquareRow.{SquareRow}
 use Rattle.plane_core.specs.Rows as listed
 use Rattle.plane_core.specs.Laid as laid
 use Rattle.plane_core.specs.Laid.{IsAdded}
+use Rattle.square_table.specs.declared.pack.Packed.{Packed}
 use Rattle.square_table.specs.declared.pack.Quarters.{Quarters}
 use Rattle.square_table.specs.declared.square.Square as squares
-use Rattle.square_table.specs.Squares.{Table, IsNumber, square_in, square_of, first_number, level_of, cells_of}
+use Rattle.square_table.specs.Squares.{Table, IsNumber, square_in, square_of, level_of, cells_of}
 use Rattle.square_table.specs.Centred.{CentredAlike}
 
 -- m is the number among a plane's rows of the square of level k that n stands for in the table
@@ -15,14 +17,12 @@ pub record IsPacked (rows : List (List ℕ)) (squares : List SquareRow) (k n m :
   pub number : listed.IsNumber squares k m
   pub square : listed.square_in squares k m ≡ square_in rows k n
 
--- rows of a plane, and what is remembered of each row of the table: its number among them
-pub record IsPacking (rows : List (List ℕ)) (squares : List SquareRow) (numbers : List (Option ℕ))
-    : Type 0 where
-  pub valid : listed.AreRows squares
-  pub few : length squares < 2 ^ 32
-  pub count : length numbers ≡ length rows
-  pub known : (i k : ℕ) → i < length rows → IsNumber rows k (first_number + i) →
-      IfSome (get_or numbers i None) (IsPacked rows squares k (first_number + i))
+-- the rows are a plane's, and what is remembered of squares of the table that aren't cells is right
+pub record IsPacking (rows : List (List ℕ)) (packed : Packed) : Type 0 where
+  pub valid : listed.AreRows packed.squares.items
+  pub few : length packed.squares.items < 2 ^ 32
+  pub known : (k n : ℕ) → 0 < k → IsNumber rows k n →
+      IfSome (get nat_eq packed.numbers n) (IsPacked rows packed.squares.items k n)
 
 -- rows of a plane whose root is the square, of level k
 pub record AreRowsOf (k : ℕ) (s : Square) (squares : List SquareRow) : Type 0 where

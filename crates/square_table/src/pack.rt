@@ -14,9 +14,7 @@ use crate::square::Square;
 use crate::table::SquareTable;
 use plane_core::{Plane, SquareRow};
 use std::alloc::AllocError;
-
-// Numbers of a table's squares from it on are those of rows.
-const FIRST_NUMBER: u32 = 256;
+use std::collections::HashMap;
 
 // The highest level of a plane's root.
 const MOST_LEVEL: u8 = 62;
@@ -28,11 +26,12 @@ struct Quarters {
     level: u8,
 }
 
-// The rows that are packed, and for each row of the table its number among them, if it has one.
+// The rows that are packed, and by the number in the table of each square that was seen its number
+// among them. A list by the table's numbers would cost what the table holds, which may be far more.
 #[derive(Drop)]
 struct Packed {
     squares: Vec<SquareRow>,
-    numbers: Vec<Option<u32>>,
+    numbers: HashMap<u32, u32>,
 }
 
 // Adds a row of quadrants, and gives its number.
@@ -114,11 +113,10 @@ impl<'a> SquareTable<'a> {
     ) -> Result<[u32; 4], AllocError>
         requires level { level ≤ 61 }
         requires kids { AreNumbers self.now.rows level kids }
-        requires packed { IsPacking self.now.rows packed.old.squares.items packed.old.numbers.items }
+        requires packed { IsPacking self.now.rows packed.old }
         ensures keeps { OnOk result (Keeps packed.old.squares.items packed.new.squares.items) }
         ensures kids { IfOk result (ArePacked self.now.rows packed.new.squares.items level kids) }
-        ensures packed { OnOk result
-            (IsPacking self.now.rows packed.new.squares.items packed.new.numbers.items) }
+        ensures packed { OnOk result (IsPacking self.now.rows packed.new) }
     {
         let nw = self.pack_square(packed, level, kids[0])?;
         let ne = self.pack_square(packed, level, kids[1])?;
@@ -132,23 +130,21 @@ impl<'a> SquareTable<'a> {
     fn pack_square(&self, packed: &mut Packed, level: u8, number: u32) -> Result<u32, AllocError>
         requires level { level ≤ 61 }
         requires number { IsNumber self.now.rows level number }
-        requires packed { IsPacking self.now.rows packed.old.squares.items packed.old.numbers.items }
+        requires packed { IsPacking self.now.rows packed.old }
         ensures keeps { OnOk result (Keeps packed.old.squares.items packed.new.squares.items) }
         ensures square { IfOk result
             (IsPacked self.now.rows packed.new.squares.items level number) }
-        ensures packed { OnOk result
-            (IsPacking self.now.rows packed.new.squares.items packed.new.numbers.items) }
+        ensures packed { OnOk result (IsPacking self.now.rows packed.new) }
     {
         if level == 0 {
             return Ok(number);
         }
-        let place = (number - FIRST_NUMBER) as usize;
-        if let Some(known) = packed.numbers[place] {
-            return Ok(known);
+        if let Some(known) = packed.numbers.get(&number) {
+            return Ok(*known);
         }
         let kids = self.pack_kids(packed, level - 1, self.quadrants(number))?;
         let known = add_row(&mut packed.squares, level, kids)?;
-        packed.numbers[place] = Some(known);
+        packed.numbers.insert(number, known)?;
         Ok(known)
     }
 
@@ -161,7 +157,7 @@ impl<'a> SquareTable<'a> {
     {
         let mut packed = Packed {
             squares: Vec::new(self.alloc()),
-            numbers: vec![in self.alloc(); None; self.len() as usize]?,
+            numbers: HashMap::new(self.alloc()),
         };
         let kids = self.pack_kids(&mut packed, root.level - 1, root.kids)?;
         push_row(&mut packed.squares, root.level, kids)?;
@@ -170,8 +166,8 @@ impl<'a> SquareTable<'a> {
 
     /// The plane whose cells round (0, 0) are those of the square, of a level of at least 1.
     ///
-    /// It costs a step for each distinct square in it, and 8 bytes for each of the table beside the
-    /// rows of the plane. It is refused for memory alone.
+    /// It costs a step and some bytes for each distinct square in it, however many others the table
+    /// holds. It is refused for memory alone.
     pub fn pack(&self, square: Square<'a>) -> Result<Plane, AllocError>
         requires held { IsHeld self.now square }
         requires level { 1 ≤ level_of square }

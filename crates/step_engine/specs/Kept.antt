@@ -1,21 +1,29 @@
 -- Squares and results that an engine keeps from one call to the next.
-use Rattle.std.specs.Prelude.{◌≡◌, ℕ, min, List, []}
+use Rattle.std.specs.Prelude.{◌≡◌, ℕ, min, List, [], Option, IfSome}
 use Rattle.worlds.specs.World.{World}
 use Rattle.square_table.specs.Squares.{Table}
 use Rattle.hash_engine.specs.Memo.{IsRight}
 use Rattle.hash_engine.specs.declared.memo.Memo.{Memo}
+use Rattle.step_engine.specs.declared.kept.Packed.{Packed}
 use Rattle.step_engine.specs.Evolved.{IsRoomSpent}
+use Rattle.step_engine.specs.Padded.{IsSquareOf}
 
 -- an engine as contracts see it: its rule, and how many squares it may hold
 pub record RuleEngine (R : Type 0) : Type 0 where
   pub rule : R
   pub limit : ℕ
 
--- what an engine keeps: no more squares than it may hold, and results of theirs that are all
--- HashLife's under its rule
-pub record IsKept (next : List ℕ → ℕ) (most : ℕ) (table : Table) (memo : Memo) : Type 0 where
+-- the square is one of the table's, and the plane's round the origin
+abbrev pub IsPackedIn : Table → Packed → Type 0
+IsPackedIn table packed = IsSquareOf table packed.plane packed.square
+
+-- what an engine keeps: no more squares than it may hold, results of theirs that are all HashLife's
+-- under its rule, and a plane with its square
+pub record IsKept (next : List ℕ → ℕ) (most : ℕ) (table : Table) (memo : Memo)
+    (packed : Option Packed) : Type 0 where
   pub limit : table.limit ≡ min most 16777216
   pub right : IsRight next table.rows memo
+  pub latest : IfSome packed (IsPackedIn table)
 
 -- what may be kept before a pass may be kept after it
 pub record StaysKept (next : List ℕ → ℕ) (t u : Table) (memo : Memo) : Type 0 where

@@ -1,5 +1,5 @@
 -- Squares with room round them.
-use Rattle.std.specs.Prelude.{◌≡◌, ℕ, suc, ◌+◌, ◌-◌, List, Contains}
+use Rattle.std.specs.Prelude.{◌≡◌, ℕ, suc, ◌+◌, ◌-◌, ◌≤◌, List, Contains}
 use Rattle.worlds.specs.World.{World}
 use Rattle.worlds.specs.Square as squares
 use Rattle.worlds.specs.Square.{one, four, empty_square}
@@ -51,6 +51,12 @@ pub record AddsRound (t : Table) (square : Square) (level : ℕ) (u : Table) : T
   pub among : (w : World) (all : List squares.Square) →
       IsCentred w (level_of square) (cells_of t square) → HasStart all w level →
       AreAmong all t.rows → AreAmong all u.rows
+
+-- the handle is of a square of the table that is the world's round the origin
+pub record IsSquareOf (t : Table) (w : World) (s : Square) : Type 0 where
+  pub held : IsHeld t s
+  pub low : 1 ≤ level_of s
+  pub centred : IsCentred w (level_of s) (cells_of t s)
 
 -- root is the square of the world at the least level with room for n generations
 pub record IsRooted (w : World) (n : ℕ) (u : Table) (root : Square) : Type 0 where

@@ -1,11 +1,13 @@
 //! An engine that keeps its squares and their results from one call to the next.
-ghost use Rattle.std.specs.Prelude.{◌≡◌, IfOk, Err};
+ghost use Rattle.std.specs.Prelude.{◌≡◌, IfOk, IfSome, Err};
 ghost use Rattle.worlds.specs.Iterate.{iterate};
 ghost use Rattle.worlds.specs.Step.{step};
 ghost use Rattle.worlds.specs.Stop.{CountsStop};
+ghost use Rattle.square_table.specs.Squares.{Table};
 ghost use Rattle.hash_engine.specs.Memo.{IsRight};
 ghost use Rattle.step_engine.specs.Evolved.{CanEvolve, IsRoomSpent};
-ghost use Rattle.step_engine.specs.Kept.{StaysKept, SpendsNew};
+ghost use Rattle.step_engine.specs.Kept.{IsPackedIn, StaysKept, SpendsNew};
+ghost use Rattle.step_engine.specs.Padded.{IsSquareOf};
 
 use crate::evolved::EvolveFault;
 use crate::padding::rooted;
@@ -13,14 +15,35 @@ use crate::shared::no_squares;
 use bumpalo::Bump;
 use hash_engine::{Asking, Memo, search};
 use plane_core::{Ask, Next, Plane, Stop};
-use square_table::SquareTable;
+use square_table::{Square, SquareTable};
 use std::alloc::{AllocError, Global};
 use std::marker::Model;
 
-// The plane `generations` later, in the squares of a table and by what is remembered of them.
-fn pass<Q: Ask, S: Stop>(
-    table: &mut SquareTable<'_>,
+// A plane, and one of its squares round the origin.
+#[derive(Drop)]
+struct Packed<'a> {
+    plane: Plane,
+    square: Square<'a>,
+}
+
+// The square of a plane, where it is the one that was packed last.
+fn recalled<'a>(latest: Option<&Packed<'a>>, plane: &Plane) -> Option<Square<'a>>
+    ensures { (table : Table) → IfSome latest.entry (λ packed. IsPackedIn table packed.now) →
+        IfSome result (IsSquareOf table plane.now) }
+{
+    match latest {
+        Some(packed) if packed.plane.equals(plane) => Some(packed.square),
+        _ => None,
+    }
+}
+
+// The plane `generations` later, in the squares of a table and by what is remembered of them. It is
+// noted as the latest with its square, so that an evolution that goes on from it needn't look for
+// the squares of its rows.
+fn pass<'a, Q: Ask, S: Stop>(
+    table: &mut SquareTable<'a>,
     memo: &mut Memo,
+    latest: &mut Option<Packed<'a>>,
     rule: &mut Q,
     plane: &Plane,
     generations: u64,
@@ -28,21 +51,33 @@ fn pass<Q: Ask, S: Stop>(
 ) -> Result<Plane, EvolveFault>
     requires evolve { CanEvolve (Q.state_count rule.old) generations plane.now }
     requires right { IsRight (Q.meaning rule.old) table.old.rows memo.old }
+    requires latest { IfSome latest.old (IsPackedIn table.old) }
     ensures plane { IfOk result (λ later.
         later ≡ iterate generations (step (Q.meaning rule.old)) plane.now) }
     ensures stays { StaysKept (Q.meaning rule.old) table.old table.new memo.new }
+    ensures latest { IfSome latest.new (IsPackedIn table.new) }
     ensures stop { CountsStop result (Err EvolveFault.Stopped)
         (S.yes_count stop.old) (S.yes_count stop.new) }
     ensures no_room { result ≡ Err EvolveFault.NoRoom →
         SpendsNew (Q.meaning rule.old) plane.now generations table.old }
 {
-    let root = rooted(table, plane, generations)?;
+    let known = recalled(latest.as_ref(), plane);
+    *latest = None;
+    let root = rooted(table, known, plane, generations)?;
     let found = search(table, memo, rule, root, generations, stop)?;
-    Ok(table.pack(found)?)
+    let later = table.pack(found)?;
+    if let Ok(plane) = later.copy() {
+        *latest = Some(Packed {
+            plane,
+            square: found,
+        });
+    }
+    Ok(later)
 }
 
 /// An engine for one rule, which keeps the squares of the planes that it evolved and their results:
-/// what an earlier call found isn't computed again.
+/// what an earlier call found isn't computed again. It keeps a copy of the plane that it gave last,
+/// too, so that a call that goes on from it begins at its square.
 ///
 /// Contracts see the rule, and how many squares the engine may hold.
 #[derive(Drop)]
@@ -53,6 +88,7 @@ pub struct Engine<'a, R: Next> {
     limit: u32,
     table: SquareTable<'a>,
     memo: Memo,
+    latest: Option<Packed<'a>>,
 }
 
 impl<'a, R: Next> Model for Engine<'a, R> {
@@ -62,7 +98,7 @@ impl<'a, R: Next> Model for Engine<'a, R> {
 
     ghost view = { λ e. record { rule = e.rule.now; limit = e.limit } };
 
-    ghost invariant = { λ e. IsKept (R.meaning e.rule.now) e.limit e.table e.memo };
+    ghost invariant = { λ e. IsKept (R.meaning e.rule.now) e.limit e.table e.memo e.latest };
 }
 
 impl<'a, R: Next> Engine<'a, R> {
@@ -83,6 +119,7 @@ impl<'a, R: Next> Engine<'a, R> {
             limit,
             table: no_squares(alloc, arena, limit)?,
             memo: Memo::nothing(alloc),
+            latest: None,
         })
     }
 
@@ -119,6 +156,7 @@ impl<'a, R: Next> Engine<'a, R> {
         let found = pass(
             &mut self.table,
             &mut self.memo,
+            &mut self.latest,
             &mut Asking::new(self.rule),
             plane,
             generations,
@@ -127,11 +165,13 @@ impl<'a, R: Next> Engine<'a, R> {
         if was_new || !matches!(&found, Err(EvolveFault::NoRoom)) {
             return found;
         }
+        self.latest = None;
         self.table = no_squares(self.alloc, self.arena, self.limit)?;
         self.memo = Memo::nothing(self.alloc);
         pass(
             &mut self.table,
             &mut self.memo,
+            &mut self.latest,
             &mut Asking::new(self.rule),
             plane,
             generations,

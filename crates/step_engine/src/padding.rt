@@ -1,9 +1,10 @@
 //! Squares with room round them.
-ghost use Rattle.std.specs.Prelude.{◌≡◌, ◌≤◌, ◌^◌, IfOk, Err};
+ghost use Rattle.std.specs.Prelude.{◌≡◌, ◌≤◌, ◌^◌, ℕ, IfOk, IfSome, Err};
 ghost use Rattle.worlds.specs.Range.{HasMargin};
 ghost use Rattle.square_table.specs.Squares.{IsHeld, level_of};
 ghost use Rattle.square_table.specs.Made.{IsFull};
-ghost use Rattle.step_engine.specs.Padded.{IsPadded, IsPaddedNumber, IsWidened, IsRooted, AddsPadded, AddsRound, AddsStart};
+ghost use Rattle.square_table.specs.Loading.{GrowsFor, IsRootLevel};
+ghost use Rattle.step_engine.specs.Padded.{IsSquareOf, IsPadded, IsPaddedNumber, IsWidened, IsRooted, AddsPadded, AddsRound, AddsStart};
 
 use crate::reach::room_level;
 use plane_core::Plane;
@@ -58,19 +59,42 @@ fn with_room<'a>(
     Ok(square)
 }
 
+// The square of a plane: the one that is known, where its level isn't above this one, or else one
+// that is made of the plane's rows.
+fn start<'a>(
+    table: &mut SquareTable<'a>,
+    known: Option<Square<'a>>,
+    plane: &Plane,
+    level: u8,
+) -> Result<Square<'a>, TableFault>
+    requires known { IfSome known (IsSquareOf table.old plane.now) }
+    requires level { (j : ℕ) → IsRootLevel j plane.now → j ≤ level }
+    ensures square { IfOk result (IsSquareOf table.new plane.now) }
+    ensures level { IfOk result (λ square. level_of square ≤ level) }
+    ensures grows { GrowsFor plane.now table.old table.new }
+    ensures full { result ≡ Err TableFault.NoRoom → IsFull table.new }
+{
+    match known {
+        Some(square) if square.level() <= level => Ok(square),
+        _ => table.load(plane),
+    }
+}
+
 /// The square of a plane round the origin, at the least level at which its middle has room for so
-/// many generations.
+/// many generations. Where one of its squares is known, none of the plane's rows is looked up.
 pub(crate) fn rooted<'a>(
     table: &mut SquareTable<'a>,
+    known: Option<Square<'a>>,
     plane: &Plane,
     generations: u64,
 ) -> Result<Square<'a>, TableFault>
-    requires { (generations ≤ 2 ^ 60) × HasMargin generations plane.now }
+    requires known { IfSome known (IsSquareOf table.old plane.now) }
+    requires room { (generations ≤ 2 ^ 60) × HasMargin generations plane.now }
     ensures root { IfOk result (IsRooted plane.now generations table.new) }
     ensures adds { AddsStart plane.now generations table.old table.new }
     ensures full { result ≡ Err TableFault.NoRoom → IsFull table.new }
 {
     let level = room_level(plane, generations) + 2;
-    let start = table.load(plane)?;
+    let start = start(table, known, plane, level)?;
     with_room(table, start, level)
 }

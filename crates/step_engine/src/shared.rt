@@ -59,7 +59,7 @@ pub fn evolve_by<Q: Ask, S: Stop>(
 {
     let arena = Bump::new(alloc);
     let mut table = no_squares(alloc, &arena, limit)?;
-    let root = rooted(&mut table, plane, generations)?;
+    let root = rooted(&mut table, None, plane, generations)?;
     let found = result(alloc, &mut table, rule, root, generations, stop)?;
     let plane = table.pack(found.square)?;
     let report = Report {

@@ -47,7 +47,7 @@ const SEQUENCE: &[Case] = &[
     },
 ];
 
-/// Stops the test where the engine answers other than `evolve`.
+/// What the engine gives. The test stops where `evolve` answers otherwise.
 pub fn expect_alike<R: Next>(
     rt: &impl Abort,
     alloc: Global,
@@ -55,7 +55,7 @@ pub fn expect_alike<R: Next>(
     plane: &Plane,
     generations: u64,
     limit: u32,
-) {
+) -> Option<Plane> {
     let rule = engine.rule();
     assert!(rt; is_below(plane, rule.states()), "a state isn't the rule's");
     assert!(rt; generations <= 1 << 60);
@@ -65,8 +65,12 @@ pub fn expect_alike<R: Next>(
         Ok(wanted) => {
             let found = found.expect(rt, "a plane");
             assert!(rt; found.equals(&wanted.plane), "{generations}: another plane");
+            Some(found)
         }
-        Err(wanted) => same(rt, &found.err(), &Some(wanted), &generations),
+        Err(wanted) => {
+            same(rt, &found.err(), &Some(wanted), &generations);
+            None
+        }
     }
 }
 

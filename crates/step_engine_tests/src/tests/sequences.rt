@@ -2,7 +2,7 @@ use super::kept::expect_alike;
 use super::rules::{OneOfTwo, Star};
 use super::{Row, plane_of};
 use bumpalo::Bump;
-use plane_core::Next;
+use plane_core::{Next, Plane};
 use std::alloc::Global;
 use std::process::Abort;
 use step_engine::Engine;
@@ -54,18 +54,37 @@ fn generations(dice: &mut Dice) -> u64 {
     }
 }
 
+fn random_plane(rt: &impl Abort, alloc: Global, dice: &mut Dice) -> Plane {
+    let rows = cells(rt, alloc, dice);
+    plane_of(rt, alloc, &rows)
+}
+
+/// Stops the test where an engine answers other than `evolve` on the way of a random plane, and on
+/// the way of what it gave.
+fn expect_pair<R: Next>(
+    rt: &impl Abort,
+    alloc: Global,
+    engine: &mut Engine<'_, R>,
+    dice: &mut Dice,
+    limit: u32,
+) {
+    let plane = random_plane(rt, alloc, dice);
+    let first = generations(dice);
+    let second = generations(dice);
+    if let Some(later) = expect_alike(rt, alloc, engine, &plane, first, limit) {
+        expect_alike(rt, alloc, engine, &later, second, limit);
+    }
+}
+
 /// Stops the test where an engine of some small limit answers other than `evolve` in a sequence of
-/// random planes and counts.
+/// random planes, what it gave of each, and random counts.
 fn expect_sequence<R: Next>(rt: &impl Abort, alloc: Global, rule: &R, seed: u64) {
     let mut dice = Dice { state: seed };
     let limit = u32::from(dice.throw());
     let arena = Bump::new(alloc);
     let mut engine = Engine::new(alloc, &arena, rule, limit).expect(rt, "memory");
     for _ in 0..6 {
-        let rows = cells(rt, alloc, &mut dice);
-        let plane = plane_of(rt, alloc, &rows);
-        let generations = generations(&mut dice);
-        expect_alike(rt, alloc, &mut engine, &plane, generations, limit);
+        expect_pair(rt, alloc, &mut engine, &mut dice, limit);
     }
 }
 

@@ -52,4 +52,4 @@ returns-clause-plane g c =
     let next = g.Q.Ask.meaning c.args.rule.now in
     let quiet = g.met.Q.Ask.quiet c.args.rule.now in
     let root = root-for c.args.plane.now c.args.generations c.args.table.now c.rooted.new.table _ c.rooted.ensures.adds c.in_ok-root.ensures.root in
-    one_world _ _ _ _ c.in_ok-pack.ensures (root-later next quiet c.args.plane.now c.args.generations c.rooted.new.table c.search.new.table _ _ root c.in_ok-found.ensures.square)
+    one_world _ _ _ _ c.in_ok-later.ensures (root-later next quiet c.args.plane.now c.args.generations c.rooted.new.table c.search.new.table _ _ root c.in_ok-found.ensures.square)

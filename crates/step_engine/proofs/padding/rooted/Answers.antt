@@ -3,25 +3,22 @@ use Rattle.std.proofs.lemmas.Result.{IfOk-weaker}
 use Rattle.step_engine.proofs.Spent.{low_enough, AddsStart-loaded, AddsStart-widened, IsRooted-widened}
 use Rattle.step_engine.proofs.padding.rooted.Goals as goal
 
+pub start-requires-clause-level : goal.start-requires-clause-level
+start-requires-clause-level c = λ j is. low_enough c.args.generations c.room_level-level.result j (c.room_level-level.result + 2) c.args.plane.now c.room_level-level.ensures is refl
+
 pub with_room-requires-clause-level : goal.with_room-requires-clause-level
-with_room-requires-clause-level c =
-    let is = c.room_level-level.ensures in
-    let few = is.few in (
-      c.in_ok-start.ensures.square.level.low,
-      low_enough c.args.generations c.room_level-level.result _ (c.room_level-level.result + 2) c.args.plane.now is c.in_ok-start.ensures.square.level refl,
-      omega (arith, few),
-    )
+with_room-requires-clause-level c = let few = c.room_level-level.ensures.few in (c.in_ok-start.ensures.square.low, c.in_ok-start.ensures.level, omega (arith, few))
 
 pub returns-in_err-start-clause-adds : goal.returns-in_err-start-clause-adds
-returns-in_err-start-clause-adds c = AddsStart-loaded c.args.plane.now c.args.generations c.room_level-level.result c.args.table.now c.load.new.self c.room_level-level.ensures c.load.ensures.grows
+returns-in_err-start-clause-adds c = AddsStart-loaded c.args.plane.now c.args.generations c.room_level-level.result c.args.table.now c.start.new.table c.room_level-level.ensures c.start.ensures.grows
 
 pub returns-clause-root : goal.returns-clause-root
 returns-clause-root c =
     IfOk-weaker c.with_room.result _ _
-    (λ root is. IsRooted-widened c.args.plane.now c.args.generations c.room_level-level.result (c.room_level-level.result + 2) c.load.new.self c.with_room.new.table _ root refl c.room_level-level.ensures c.in_ok-start.ensures.square.centred is)
+    (λ root is. IsRooted-widened c.args.plane.now c.args.generations c.room_level-level.result (c.room_level-level.result + 2) c.start.new.table c.with_room.new.table _ root refl c.room_level-level.ensures c.in_ok-start.ensures.square.centred is)
     c.with_room.ensures.widened
 
 pub returns-clause-adds : goal.returns-clause-adds
 returns-clause-adds c =
-    AddsStart-widened c.args.plane.now c.args.generations c.room_level-level.result (c.room_level-level.result + 2) c.args.table.now c.load.new.self c.with_room.new.table _ refl c.room_level-level.ensures
+    AddsStart-widened c.args.plane.now c.args.generations c.room_level-level.result (c.room_level-level.result + 2) c.args.table.now c.start.new.table c.with_room.new.table _ refl c.room_level-level.ensures
     c.in_ok-start.ensures.grows c.in_ok-start.ensures.square.centred c.with_room.ensures.adds

@@ -1,8 +1,7 @@
-use Rattle.std.proofs.Common.{◌≡◌, ◌-◌, ◌<◌, get_or, None, Some, sym, ◌∙◌, arith}
-use Rattle.std.proofs.lemmas.List.{get_or_read}
-use Rattle.square_table.specs.Squares.{first_number}
+use Rattle.std.proofs.Common.{sym, ap, ◌∙◌, arith}
+use Rattle.std.specs.Option.{option_copied}
 use Rattle.square_table.proofs.Shared.Tables.{above_zero}
-use Rattle.square_table.proofs.Packing.{four_packed, packed_state, place_within, recalled, quadrant_numbers, pushed, remembered}
+use Rattle.square_table.proofs.Packing.{four_packed, packed_state, recalled, quadrant_numbers, pushed, remembered}
 use Rattle.square_table.proofs.table.SquareTable.+pack.Goals as goal
 
 pub pack_kids-returns-clause-kids : goal.pack_kids-returns-clause-kids
@@ -14,22 +13,10 @@ pack_kids-returns-clause-kids t c =
 pub pack_square-returns-then-level-eq0-clause-square : goal.pack_square-returns-then-level-eq0-clause-square
 pack_square-returns-then-level-eq0-clause-square t c = packed_state c.args.self.now.rows c.args.packed.now.squares.items c.args.level c.args.number c.if-level-eq0.true c.requires.number
 
-pub pack_square-overflow_sub-place : goal.pack_square-overflow_sub-place
-pack_square-overflow_sub-place t c = (place_within c.args.self.now.rows c.args.level c.args.number (omega (arith, c.if-level-eq0.false)) c.requires.number).0
-
-pub pack_square-index-requires : goal.pack_square-index-requires
-pack_square-index-requires t c =
-    let there = place_within c.args.self.now.rows c.args.level c.args.number (omega (arith, c.if-level-eq0.false)) c.requires.number in
-    omega (arith, there.1, c.requires.packed.count, c.args.packed.now.numbers.ok.0)
-
 pub pack_square-returns-in-Some-clause-square : goal.pack_square-returns-in-Some-clause-square
 pack_square-returns-in-Some-clause-square t c =
-    let numbers = c.args.packed.now.numbers.items in
-    let low : 0 < c.args.level = omega (arith, c.if-level-eq0.false) in
-    let there = place_within c.args.self.now.rows c.args.level c.args.number low c.requires.number in
-    let place = c.args.number - first_number in
-    let known : get_or numbers place None ≡ Some c.in-Some.known = sym (get_or_read numbers place c.index.result.now (omega (arith, there.1, c.requires.packed.count)) c.index.ensures None) ∙ c.in-Some.is in
-    recalled c.args.self.now.rows c.args.packed.now.squares.items numbers c.args.level c.args.number c.in-Some.known low c.requires.packed c.requires.number known
+    recalled c.args.self.now.rows c.args.packed.now c.args.level c.args.number c.in-Some.known.now (omega (arith, c.if-level-eq0.false)) c.requires.packed c.requires.number
+    (sym c.get.ensures.value ∙ ap option_copied c.in-Some.is)
 
 pub pack_square-quadrants-requires-clause-above : goal.pack_square-quadrants-requires-clause-above
 pack_square-quadrants-requires-clause-above t c = (above_zero c.args.self.now.rows c.args.level c.args.number (omega (arith, c.if-level-eq0.false)) c.requires.number).0
@@ -53,8 +40,8 @@ pack_square-returns-clause-square t c =
 
 pub pack_square-returns-clause-packed : goal.pack_square-returns-clause-packed
 pack_square-returns-clause-packed t c =
-    let low : 0 < c.args.level = omega (arith, c.if-level-eq0.false) in
-    remembered c.args.self.now.rows c.pack_kids.new.packed.squares.items c.add_row.new.squares.items c.pack_kids.new.packed.numbers.items c.args.level c.args.number c.in_ok-known.known low
+    remembered c.args.self.now.rows c.pack_kids.new.packed (record { squares = c.add_row.new.squares; numbers = c.insert.new.self }) c.args.level c.args.number c.in_ok-known.known
     c.in_ok-kids.ensures.packed c.in_ok-known.ensures.keeps c.requires.number
-    (pushed c.args.self.now.rows c.pack_kids.new.packed.squares.items c.add_row.new.squares.items c.args.level c.args.number c.in_ok-known.known c.quadrants.result c.in_ok-kids.kids low c.requires.number
+    (pushed c.args.self.now.rows c.pack_kids.new.packed.squares.items c.add_row.new.squares.items c.args.level c.args.number c.in_ok-known.known c.quadrants.result c.in_ok-kids.kids (omega (arith, c.if-level-eq0.false)) c.requires.number
     c.quadrants.ensures c.in_ok-kids.ensures.kids c.in_ok-known.ensures.number c.in_ok-known.ensures.square)
+    c.in_ok-insert.ensures.updates
