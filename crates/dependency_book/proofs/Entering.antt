@@ -38,18 +38,9 @@ use Rattle.dependency_book.specs.Needs.{IsNext}
 use Rattle.dependency_book.specs.Right.{IsRight, StandsRight, wanted, text_wanted}
 use Rattle.dependency_book.specs.RowState.{known, state_map}
 use Rattle.dependency_book.proofs.Placed.{mark_near}
+use Rattle.dependency_book.proofs.Shared.Gives as gives
 use Rattle.dependency_book.proofs.Tests.{either_way, clash, eq_true}
 use Rattle.dependency_book.proofs.Walk.{own_cells-other, arrival-gap}
-
--- nothing is laid where no mark is
-none_laid : (is : List Intervention) (g : ℕ) → list_any (λ (i : Intervention). acts_at i g) is ≡ false → cells_at is g ≡ []
-none_laid [] g none = refl
-none_laid (i ∷ is) g none =
-    let parts = or_parts (acts_at i g) (list_any (λ (j : Intervention). acts_at j g) is) none in
-    ap₂ (λ own more. own ++ more) (own_cells-other i g (λ same. clash (acts_at i g) (eq_true i.generation g same) parts.0)) (none_laid is g parts.1)
-
-quiet_at : (p : Plan) (g : ℕ) → is_mark p g ≡ false → cells_at p.interventions g ≡ []
-quiet_at p g none = none_laid p.interventions g (or_parts (list_any (λ (i : Intervention). acts_at i g) p.interventions) (list_any (λ (b : Bookmark). stands_at b g) p.bookmarks) none).0
 
 -- what is known to arrive does
 pub known_arrives : (d : BookState) (g : ℕ) (w : World) → IsRight d → arrival_known d g ≡ Some w → w ≡ arrival d.plan g
@@ -64,38 +55,12 @@ known_arrives d g w right h = of_state (arrival_row d g) h (right.stands (Step g
         let world : arrival d.plan g ≡ v = cc in
         sym same ∙ sym world
 
--- the step to a mark
-
-step_gives : (d : BookState) (m : ℕ) (s : Stepping) → IsRight d → StepsTo d m s → world_after s ≡ arrival d.plan m
-step_gives d m s right h =
-    let n = h.before in
-    let under : n < m = h.comes.below in
-    let gap : n + s.gens ≡ m = h.gap in
-    let span : s.gens ≡ m - n = omega (arith, gap) in
-    let left = start_of s in
-    arrival-gap d.plan n m (arc_value s.from) (world_after s) left under (λ g over less. quiet_at d.plan g (h.comes.between g over less)) (known_arrives d n (arc_value s.from) right h.from)
-    (ap (λ cs. lay cs (arc_value s.from)) h.cells)
-    (ap₂ (λ k (r : Rule). iterate k (step (next_of r)) left) span h.rule)
-
--- the view of a bookmark
-
-same_text : (f : ViewOf → World → List ℕ → ℕ → ℕ → List ℕ) (v v' : ViewOf) (w w' : World) (n n' : List ℕ) (s s' g g' : ℕ) → v ≡ v' → w ≡ w' → n ≡ n' → s ≡ s' → g ≡ g' → f v w n s g ≡ f v' w' n' s' g'
-same_text f v v' w w' n n' s s' g g' a b c d e = cc
-
 view_after : (d : BookState) (id : ℕ) (r : Rendering) → IsRight d → (h : ViewsOf d id r) → world_in r ≡ after d.plan h.bookmark.generation
-view_after d id r right h = ap₂ lay h.cells (known_arrives d h.bookmark.generation (arc_value r.from) right h.from)
+view_after d id r right h = gives.view_after d.plan (arrival_known d) id r (λ g w is. known_arrives d g w right is) h
 
 -- the entry that is to be computed gives what is wanted
 pub entry_gives : (d : BookState) (need : Need) (e : Entry) → IsRight d → IsEntryOf d need e → wanted d.plan need ≡ Some (value e)
-entry_gives d (Step m) (entry.Step s) right h = ap (λ w. Some (pattern w)) (sym (step_gives d m s right h))
-entry_gives d (Step m) (entry.View r) right h = absurd h
-entry_gives d (View id) (entry.Step s) right h = absurd h
-entry_gives d (View id) (entry.View r) right h =
-    let g = h.bookmark.generation in
-    ap (text_wanted d.plan) h.there
-    ∙ ap (λ bytes. Some (text bytes))
-    (sym (same_text text_of r.view h.bookmark.view (world_in r) (after d.plan g) r.name (name_of d.plan.rule) r.states (states_of d.plan.rule) r.generation g
-    h.view (view_after d id r right h) h.name h.states h.generation))
+entry_gives d need e right h = gives.entry_gives d.plan (arrival_known d) need e (λ g w is. known_arrives d g w right is) h
 
 -- and can be worked
 

@@ -1,5 +1,5 @@
 -- What an edit makes of bookmarks, and what stays for them.
-use Rattle.std.proofs.Common.{◌≡◌, ℕ, ◌+◌, ◌∙◌, ◌++◌, Bool, true, false, not, ◌&&◌, List, [], ◌∷◌, refl, sym, ap, Option, None, Some}
+use Rattle.std.proofs.Common.{◌≡◌, ℕ, ◌+◌, ◌∙◌, ◌++◌, ◌⊎◌, Bool, true, false, not, ◌&&◌, List, [], ◌∷◌, refl, sym, ap, subst, Option, None, Some, inl, inr}
 use Rattle.std.specs.Prelude.{◌==◌, if◌then◌else◌}
 use Rattle.bookmarks.specs.declared.view.View.{View}
 use Rattle.schedule.specs.declared.document.Bookmark.{Bookmark}
@@ -10,7 +10,8 @@ use Rattle.schedule.specs.Ids.{bookmark_id, changed_at, without}
 use Rattle.dependency_book.specs.declared.row.RowState.{RowState}
 use Rattle.dependency_book.specs.declared.row.RowState.TheVariants.{Empty}
 use Rattle.dependency_book.specs.BookState.{bookmark_in}
-use Rattle.dependency_book.specs.Kept.{felt_from, bookmark_stays, keeps_text, text_kept, takes}
+use Rattle.dependency_book.specs.Felt.{felt_from}
+use Rattle.dependency_book.specs.Kept.{bookmark_stays, keeps_text, leaves_after, text_kept, takes}
 use Rattle.dependency_book.proofs.Remaking.{if_stays}
 use Rattle.dependency_book.proofs.Tests.{either_way, clash, true_eq, eq_true, eq_false}
 
@@ -59,44 +60,59 @@ in_is (c ∷ bs) id b is =
 
 -- what stays, for each kind of edit
 
-same_kept : {V : Type 0} (p : Plan) (asked : Asked) (o : Option Bookmark) (s : RowState V) → ((b : Bookmark) → takes asked b ≡ false) → stays_for (felt_from p asked) o o s ≡ text_kept p asked o s
-same_kept p asked None s f = refl
-same_kept p asked (Some b) s f = rw (eq_true b.generation b.generation refl, f b) refl
+same_kept : {V : Type 0} (felt : Option ℕ) (asked : Asked) (o : Option Bookmark) (s : RowState V) → ((b : Bookmark) → takes asked b ≡ false) → stays_for felt o o s ≡ text_kept felt asked o s
+same_kept felt asked None s f = refl
+same_kept felt asked (Some b) s f = rw (eq_true b.generation b.generation refl, f b) refl
 
-added_kept : {V : Type 0} (p : Plan) (g : ℕ) (view : View) (o later : Option Bookmark) (s : RowState V) → ((c : Bookmark) → o ≡ Some c → later ≡ Some c) → stays_for None later o s ≡ text_kept p (AddBookmark g view) o s
-added_kept p g view None None s f = refl
-added_kept p g view None (Some b) s f = refl
-added_kept p g view (Some c) later s f = rw (f c refl) (rw (eq_true c.generation c.generation refl) refl)
+added_kept : {V : Type 0} (felt : Option ℕ) (g : ℕ) (view : View) (o later : Option Bookmark) (s : RowState V) → ((c : Bookmark) → o ≡ Some c → later ≡ Some c) → stays_for felt later o s ≡ text_kept felt (AddBookmark g view) o s
+added_kept felt g view None None s f = refl
+added_kept felt g view None (Some b) s f = refl
+added_kept felt g view (Some c) later s f = rw (f c refl) (rw (eq_true c.generation c.generation refl) refl)
 
-moved_kept : {V : Type 0} (p : Plan) (i g : ℕ) (o : Option Bookmark) (s : RowState V) → stays_for None (moved_in i g o) o s ≡ text_kept p (MoveBookmark i g) o s
-moved_kept p i g None s = refl
-moved_kept p i g (Some b) s =
+moved_kept : {V : Type 0} (i g : ℕ) (o : Option Bookmark) (s : RowState V) → stays_for None (moved_in i g o) o s ≡ text_kept None (MoveBookmark i g) o s
+moved_kept i g None s = refl
+moved_kept i g (Some b) s =
     either_way (b.id == i)
     (λ hit. rw hit (either_way (b.generation == g) (λ same. rw same refl) (λ other. rw other refl)))
     (λ miss. rw miss (rw (eq_true b.generation b.generation refl) refl))
 
-removed_kept : {V : Type 0} (p : Plan) (i id : ℕ) (o : Option Bookmark) (s : RowState V) → ((b : Bookmark) → o ≡ Some b → b.id ≡ id) → stays_for None (if i == id then None else o) o s ≡ text_kept p (RemoveBookmark i) o s
-removed_kept p i id None s f = either_way (i == id) (λ hit. rw hit refl) (λ miss. rw miss refl)
-removed_kept p i id (Some b) s f =
+removed_kept : {V : Type 0} (i id : ℕ) (o : Option Bookmark) (s : RowState V) → ((b : Bookmark) → o ≡ Some b → b.id ≡ id) → stays_for None (if i == id then None else o) o s ≡ text_kept None (RemoveBookmark i) o s
+removed_kept i id None s f = either_way (i == id) (λ hit. rw hit refl) (λ miss. rw miss refl)
+removed_kept i id (Some b) s f =
     let named = f b refl in
     either_way (i == id)
     (λ hit. let it : (b.id == i) ≡ true = eq_true b.id i (named ∙ sym (true_eq i id hit)) in rw (hit, it) refl)
     (λ miss. let off : (b.id == i) ≡ false = eq_false b.id i (λ same. clash (i == id) (eq_true i id (sym same ∙ named)) miss) in rw (miss, off) (rw (eq_true b.generation b.generation refl) refl))
 
+-- from where an edit may be felt
+abbrev pub MayBeFelt : Plan → Asked → Option ℕ → Type 0
+MayBeFelt p asked felt = (felt ≡ None) ⊎ (felt ≡ felt_from p asked)
+
+nowhere : (felt : Option ℕ) → (felt ≡ None) ⊎ (felt ≡ None) → felt ≡ None
+nowhere felt (inl is) = is
+nowhere felt (inr is) = is
+
 -- what stands for a bookmark after an edit is what the edit keeps
-pub texts_stay : {V : Type 0} (p : Plan) (asked : Asked) (id : ℕ) (s : RowState V) → stays_for (felt_from p asked) (bookmark_in (changed p asked).plan.bookmarks id) (bookmark_in p.bookmarks id) s ≡ text_kept p asked (bookmark_in p.bookmarks id) s
-texts_stay p (InsertIntervention g cells) id s = same_kept p (InsertIntervention g cells) (bookmark_in p.bookmarks id) s (λ b. refl)
-texts_stay p (ChangeIntervention i g cells) id s = same_kept p (ChangeIntervention i g cells) (bookmark_in p.bookmarks id) s (λ b. refl)
-texts_stay p (RemoveIntervention i) id s = same_kept p (RemoveIntervention i) (bookmark_in p.bookmarks id) s (λ b. refl)
-texts_stay p (SetCells cells) id s = same_kept p (SetCells cells) (bookmark_in p.bookmarks id) s (λ b. refl)
-texts_stay p (ReplaceStart start) id s = same_kept p (ReplaceStart start) (bookmark_in p.bookmarks id) s (λ b. refl)
-texts_stay p (ReplaceRule rule) id s = same_kept p (ReplaceRule rule) (bookmark_in p.bookmarks id) s (λ b. refl)
-texts_stay p (AddBookmark g view) id s =
+pub texts_stay : {V : Type 0} (p : Plan) (asked : Asked) (felt : Option ℕ) (id : ℕ) (s : RowState V) → MayBeFelt p asked felt → stays_for felt (bookmark_in (changed p asked).plan.bookmarks id) (bookmark_in p.bookmarks id) s ≡ text_kept felt asked (bookmark_in p.bookmarks id) s
+texts_stay p (InsertIntervention g cells) felt id s so = same_kept felt (InsertIntervention g cells) (bookmark_in p.bookmarks id) s (λ b. refl)
+texts_stay p (ChangeIntervention i g cells) felt id s so = same_kept felt (ChangeIntervention i g cells) (bookmark_in p.bookmarks id) s (λ b. refl)
+texts_stay p (RemoveIntervention i) felt id s so = same_kept felt (RemoveIntervention i) (bookmark_in p.bookmarks id) s (λ b. refl)
+texts_stay p (SetCells cells) felt id s so = same_kept felt (SetCells cells) (bookmark_in p.bookmarks id) s (λ b. refl)
+texts_stay p (ReplaceStart start) felt id s so = same_kept felt (ReplaceStart start) (bookmark_in p.bookmarks id) s (λ b. refl)
+texts_stay p (ReplaceRule rule) felt id s so = same_kept felt (ReplaceRule rule) (bookmark_in p.bookmarks id) s (λ b. refl)
+texts_stay p (AddBookmark g view) felt id s so =
     let b : Bookmark = record { id = p.last_bookmark + 1; generation = g; view = view } in
-    added_kept p g view (bookmark_in p.bookmarks id) (bookmark_in (p.bookmarks ++ b ∷ []) id) s (λ c is. in_added p.bookmarks b id c is)
-texts_stay p (MoveBookmark i g) id s = ap (λ later. stays_for None later (bookmark_in p.bookmarks id) s) (in_moved p.bookmarks i g id) ∙ moved_kept p i g (bookmark_in p.bookmarks id) s
-texts_stay p (RemoveBookmark i) id s =
-    ap (λ later. stays_for None later (bookmark_in p.bookmarks id) s) (in_removed p.bookmarks i id) ∙ removed_kept p i id (bookmark_in p.bookmarks id) s (λ b is. in_is p.bookmarks id b is)
+    added_kept felt g view (bookmark_in p.bookmarks id) (bookmark_in (p.bookmarks ++ b ∷ []) id) s (λ c is. in_added p.bookmarks b id c is)
+texts_stay p (MoveBookmark i g) felt id s so =
+    let now = bookmark_in (changed_at bookmark_id (marking g) p.bookmarks i) id in
+    let was = bookmark_in p.bookmarks id in
+    subst (λ f. stays_for f now was s ≡ text_kept f (MoveBookmark i g) was s) (sym (nowhere felt so))
+    (ap (λ later. stays_for None later was s) (in_moved p.bookmarks i g id) ∙ moved_kept i g was s)
+texts_stay p (RemoveBookmark i) felt id s so =
+    let now = bookmark_in (without bookmark_id p.bookmarks i) id in
+    let was = bookmark_in p.bookmarks id in
+    subst (λ f. stays_for f now was s ≡ text_kept f (RemoveBookmark i) was s) (sym (nowhere felt so))
+    (ap (λ later. stays_for None later was s) (in_removed p.bookmarks i id) ∙ removed_kept i id was s (λ b is. in_is p.bookmarks id b is))
 
 -- a bookmark whose text is kept stays as it is
 
@@ -114,17 +130,20 @@ moved_stays i g b h =
     (λ other. clash (not (not (b.generation == g))) kept (rw other refl)))
     (λ miss. rw miss refl)
 
-pub kept_in : (p : Plan) (asked : Asked) (id : ℕ) (b : Bookmark) → keeps_text p asked b ≡ true → bookmark_in p.bookmarks id ≡ Some b → bookmark_in (changed p asked).plan.bookmarks id ≡ Some b
-kept_in p (InsertIntervention g cells) id b keep is = is
-kept_in p (ChangeIntervention i g cells) id b keep is = is
-kept_in p (RemoveIntervention i) id b keep is = is
-kept_in p (SetCells cells) id b keep is = is
-kept_in p (ReplaceStart start) id b keep is = is
-kept_in p (ReplaceRule rule) id b keep is = is
-kept_in p (AddBookmark g view) id b keep is = in_added p.bookmarks (record { id = p.last_bookmark + 1; generation = g; view = view }) id b is
-kept_in p (MoveBookmark i g) id b keep is = in_moved p.bookmarks i g id ∙ ap (moved_in i g) is ∙ ap (λ c. Some c) (moved_stays i g b keep)
-kept_in p (RemoveBookmark i) id b keep is =
+pub kept_in : (p : Plan) (asked : Asked) (felt : Option ℕ) (id : ℕ) (b : Bookmark) → keeps_text felt asked b ≡ true → bookmark_in p.bookmarks id ≡ Some b → bookmark_in (changed p asked).plan.bookmarks id ≡ Some b
+kept_in p (InsertIntervention g cells) felt id b keep is = is
+kept_in p (ChangeIntervention i g cells) felt id b keep is = is
+kept_in p (RemoveIntervention i) felt id b keep is = is
+kept_in p (SetCells cells) felt id b keep is = is
+kept_in p (ReplaceStart start) felt id b keep is = is
+kept_in p (ReplaceRule rule) felt id b keep is = is
+kept_in p (AddBookmark g view) felt id b keep is = in_added p.bookmarks (record { id = p.last_bookmark + 1; generation = g; view = view }) id b is
+kept_in p (MoveBookmark i g) felt id b keep is =
+    let left = (and_parts (leaves_after felt b.generation) (not (takes (MoveBookmark i g) b)) keep).1 in
+    in_moved p.bookmarks i g id ∙ ap (moved_in i g) is ∙ ap (λ c. Some c) (moved_stays i g b left)
+kept_in p (RemoveBookmark i) felt id b keep is =
+    let left = (and_parts (leaves_after felt b.generation) (not (takes (RemoveBookmark i) b)) keep).1 in
     in_removed p.bookmarks i id
     ∙ either_way (i == id)
-    (λ hit. clash (not (b.id == i)) keep (ap not (eq_true b.id i (in_is p.bookmarks id b is ∙ sym (true_eq i id hit)))))
+    (λ hit. clash (not (b.id == i)) left (ap not (eq_true b.id i (in_is p.bookmarks id b is ∙ sym (true_eq i id hit)))))
     (λ miss. rw miss is)

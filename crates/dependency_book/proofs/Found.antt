@@ -1,5 +1,5 @@
 -- The rows from which what is needed is computed.
-use Rattle.std.proofs.Common.{◌≡◌, ℕ, ◌-◌, ◌<◌, ◌∙◌, true, false, List, length, get_or, refl, sym, ap, subst, arith, Some}
+use Rattle.std.proofs.Common.{◌≡◌, ℕ, ◌-◌, ◌<◌, ◌∙◌, true, false, List, length, get_or, refl, sym, ap, subst, arith, None, Some}
 use Rattle.std.specs.Prelude.{◌==◌, is_some, IsSome}
 use Rattle.std.specs.Arc.{arc_value}
 use Rattle.rule_tree.specs.Rule.{name_of, states_of}
@@ -12,7 +12,7 @@ use Rattle.dependency_book.specs.BookState.{BookState, arrival_known, bookmark_i
 use Rattle.dependency_book.specs.Entered.{StepsTo, ViewsOf}
 use Rattle.dependency_book.specs.Held.{IsHeld}
 use Rattle.dependency_book.specs.Marks.{ComesBefore}
-use Rattle.dependency_book.specs.Needs.{StepIsNext, ViewIsNext}
+use Rattle.dependency_book.specs.Needs.{IsLedTo, ViewIsNext}
 use Rattle.dependency_book.specs.RowState.{known}
 use Rattle.dependency_book.specs.Rows.{ArrivalRow, TextRow, keys, place_in, state_at, mark_rank, bookmark_rank}
 use Rattle.dependency_book.proofs.Outs.{ids_rise}
@@ -26,14 +26,14 @@ pub record StepRow (d : BookState) (m k : ℕ) : Type 0 where
   pub comes : (x : ArrivalRow) → ComesBefore d.plan (before_row d.arrivals k x) m
   pub arrived : (x : ArrivalRow) → is_some (arrival_known d (before_row d.arrivals k x)) ≡ true
 
-pub step_row : (d : BookState) (places : List ℕ) (m : ℕ) → IsHeld d places → StepIsNext d m → StepRow d m (place_in mark_rank m d.arrivals)
-step_row d places m held next =
-    let there : has mark_rank m (keys d.arrivals) ≡ true = held.right.marks.are m next.can.above ∙ next.can.is in
+pub step_row : (d : BookState) (places : List ℕ) (m : ℕ) → IsHeld d places → IsLedTo d m → StepRow d m (place_in mark_rank m d.arrivals)
+step_row d places m held led =
+    let there : has mark_rank m (keys d.arrivals) ≡ true = held.right.marks.are m led.above ∙ led.is in
     let low = place-has mark_rank m d.arrivals held.right.marks.rise there in
     record {
       low = low;
       comes = λ x. comes there low x;
-      arrived = λ x. ap (λ n. is_some (arrival_known d n)) (before_one d.plan (before_row d.arrivals (place_in mark_rank m d.arrivals) x) next.can.before m (comes there low x) next.can.comes) ∙ next.can.arrived;
+      arrived = λ x. ap (λ n. is_some (arrival_known d n)) (before_one d.plan (before_row d.arrivals (place_in mark_rank m d.arrivals) x) led.before m (comes there low x) led.comes) ∙ led.arrived;
     }
   where
     comes : has mark_rank m (keys d.arrivals) ≡ true → place_in mark_rank m d.arrivals < length d.arrivals → (x : ArrivalRow) → ComesBefore d.plan (before_row d.arrivals (place_in mark_rank m d.arrivals) x) m
@@ -60,6 +60,29 @@ arrived_row d places g held high some =
   where
     nothing : state_at mark_rank g d.arrivals ≡ Empty → IsSome (arrival_known d g) → ⊥
     nothing none is = let known_one : is_some (arrival_known d g) ≡ true = is in let gone : is_some (arrival_known d g) ≡ false = rw (high, none) refl in clash (is_some (arrival_known d g)) known_one gone
+
+-- what is known at a generation above 0, by the row at its place
+pub arrival_at : (d : BookState) (places : List ℕ) (g k : ℕ) (x : ArrivalRow) (rows : List ArrivalRow) → IsHeld d places → rows ≡ d.arrivals → k < length rows → x ≡ get_or rows k x → x.key.generation ≡ g → arrival_known d g ≡ known x.state
+arrival_at d places g k x rows held is low here named =
+    let at : x ≡ get_or d.arrivals k x = here ∙ ap (λ (rs : List ArrivalRow). get_or rs k x) is in
+    let fits : k < length d.arrivals = subst (λ (rs : List ArrivalRow). k < length rs) is low in
+    subst (λ (r : ArrivalRow). arrival_known d r.key.generation ≡ known r.state → arrival_known d g ≡ known x.state) at
+    (λ there. ap (arrival_known d) (sym named) ∙ there)
+    (row_known d places k x held fits)
+
+unknown_at : (d : BookState) (places : List ℕ) (g : ℕ) → IsHeld d places → (g == 0) ≡ false → ((x : ArrivalRow) → place_in mark_rank g d.arrivals < length d.arrivals → (get_or d.arrivals (place_in mark_rank g d.arrivals) x).key.generation ≡ g → ⊥) → arrival_known d g ≡ None
+unknown_at d places g held high none =
+    let x : ArrivalRow = record { key = record { generation = g }; state = Empty } in
+    either_way (has mark_rank g (keys d.arrivals))
+    (λ there. absurd (none x (place-has mark_rank g d.arrivals held.right.marks.rise there) (rank-has mark_rank g d.arrivals x held.right.marks.rise there)))
+    (λ miss. let gone = state_at-above mark_rank g d.arrivals miss in rw high (ap known gone))
+
+-- and where no row stands there
+pub arrival_unknown : (d : BookState) (places : List ℕ) (g k : ℕ) (rows : List ArrivalRow) → IsHeld d places → (g == 0) ≡ false → rows ≡ d.arrivals → k ≡ place_in mark_rank g d.arrivals → ((x : ArrivalRow) → k < length rows → (get_or rows k x).key.generation ≡ g → ⊥) → arrival_known d g ≡ None
+arrival_unknown d places g k rows held high is at none =
+    unknown_at d places g held high
+    (subst (λ j. (x : ArrivalRow) → j < length d.arrivals → (get_or d.arrivals j x).key.generation ≡ g → ⊥) at
+    (subst (λ (rs : List ArrivalRow). (x : ArrivalRow) → k < length rs → (get_or rs k x).key.generation ≡ g → ⊥) is none))
 
 -- the row of a view, by its place
 pub record ViewRow (d : BookState) (id k : ℕ) : Type 0 where

@@ -18,14 +18,15 @@ use Rattle.schedule.specs.Change.{changed, acting}
 use Rattle.schedule.specs.Ids.{IdsRise, intervention_id, changed_at, without}
 use Rattle.schedule.specs.Scratch.{own_cells, cells_at, arrival, after, scratch}
 use Rattle.schedule.specs.Sound.{IsSound}
-use Rattle.dependency_book.specs.Kept.{generation_of, felt_from, leaves_arrival, leaves_after}
+use Rattle.dependency_book.specs.Felt.{generation_of, felt_from}
+use Rattle.dependency_book.specs.Kept.{keeps_arrival, leaves_after}
 use Rattle.dependency_book.proofs.Tests.{either_way, true_eq, eq_false, true_lt}
 use Rattle.dependency_book.proofs.Walk.{own_cells-other}
 
-pub same_inserted : (is : List Intervention) (i : Intervention) (k : ℕ) → k < i.generation → cells_at is k ≡ cells_at (is ++ i ∷ []) k
-same_inserted is i k under =
+pub same_inserted : (is : List Intervention) (i : Intervention) (k : ℕ) → (i.generation ≡ k → ⊥) → cells_at is k ≡ cells_at (is ++ i ∷ []) k
+same_inserted is i k apart =
     sym (flat_map-append (λ j. own_cells j k) is (i ∷ [])
-    ∙ ap (λ cs. cells_at is k ++ cs) (append-nil (own_cells i k) ∙ own_cells-other i k (λ same. omega (arith, same, under)))
+    ∙ ap (λ cs. cells_at is k ++ cs) (append-nil (own_cells i k) ∙ own_cells-other i k apart)
     ∙ append-nil (cells_at is k))
 
 -- an id that is below all
@@ -33,22 +34,21 @@ same_above : (f : Intervention → Intervention) (is : List Intervention) (id : 
 same_above f [] id h = refl
 same_above f (i ∷ is) id h = ap₂ (λ j js. j ∷ js) (cond-false (i.id == id) (f i) i (eq_false i.id id (let k : id < i.id = h.0 in λ same. omega (arith, same, k)))) (same_above f is id h.1)
 
-pub same_changed : (is : List Intervention) (id g : ℕ) (cells : List CellSet) (k : ℕ) → IdsRise intervention_id is → k < g → k < generation_of is id → cells_at is k ≡ cells_at (changed_at intervention_id (acting g cells) is id) k
-same_changed [] id g cells k rise under before = refl
-same_changed (i ∷ is) id g cells k rise under before =
+pub same_changed : (is : List Intervention) (id g : ℕ) (cells : List CellSet) (k : ℕ) → IdsRise intervention_id is → (g ≡ k → ⊥) → (generation_of is id ≡ k → ⊥) → cells_at is k ≡ cells_at (changed_at intervention_id (acting g cells) is id) k
+same_changed [] id g cells k rise apart before = refl
+same_changed (i ∷ is) id g cells k rise apart before =
     let test = i.id == id in
     let rest = changed_at intervention_id (acting g cells) is id in
     either_way test
     (λ hit.
-    let here : k < i.generation = subst (λ n. k < n) (cond-true test i.generation (generation_of is id) hit) before in
-    let off : own_cells i k ≡ [] = own_cells-other i k (λ same. omega (arith, same, here)) in
-    let on : own_cells (acting g cells i) k ≡ [] = own_cells-other (acting g cells i) k (λ same. omega (arith, same, under)) in
+    let off : own_cells i k ≡ [] = own_cells-other i k (λ same. before (cond-true test i.generation (generation_of is id) hit ∙ same)) in
+    let on : own_cells (acting g cells i) k ≡ [] = own_cells-other (acting g cells i) k apart in
     let id_is = true_eq i.id id hit in
     let still : rest ≡ is = same_above (acting g cells) is id (subst (λ n. AllByRecursion (λ j. n < intervention_id j) is) id_is rise.0) in
     ap₂ (λ own more. own ++ more) (off ∙ sym on) (ap (λ js. cells_at js k) (sym still))
     ∙ ap (λ (j : Intervention). own_cells j k ++ cells_at rest k) (sym (cond-true test (acting g cells i) i hit)))
     (λ miss.
-    ap (λ cs. own_cells i k ++ cs) (same_changed is id g cells k rise.1 under (subst (λ n. k < n) (cond-false test i.generation (generation_of is id) miss) before))
+    ap (λ cs. own_cells i k ++ cs) (same_changed is id g cells k rise.1 apart (λ same. before (cond-false test i.generation (generation_of is id) miss ∙ same)))
     ∙ ap (λ (j : Intervention). own_cells j k ++ cells_at rest k) (sym (cond-false test (acting g cells i) i miss)))
 
 without_above : (is : List Intervention) (id : ℕ) → AllByRecursion (λ j. id < intervention_id j) is → without intervention_id is id ≡ is
@@ -57,20 +57,19 @@ without_above (i ∷ is) id h =
     let rest = without intervention_id is id in
     cond-true (not (i.id == id)) (i ∷ rest) rest (ap not (eq_false i.id id (let k : id < i.id = h.0 in λ same. omega (arith, same, k)))) ∙ ap (λ js. i ∷ js) (without_above is id h.1)
 
-pub same_removed : (is : List Intervention) (id k : ℕ) → IdsRise intervention_id is → k < generation_of is id → cells_at is k ≡ cells_at (without intervention_id is id) k
+pub same_removed : (is : List Intervention) (id k : ℕ) → IdsRise intervention_id is → (generation_of is id ≡ k → ⊥) → cells_at is k ≡ cells_at (without intervention_id is id) k
 same_removed [] id k rise before = refl
 same_removed (i ∷ is) id k rise before =
     let test = i.id == id in
     let rest = without intervention_id is id in
     either_way test
     (λ hit.
-    let here : k < i.generation = subst (λ n. k < n) (cond-true test i.generation (generation_of is id) hit) before in
     let id_is = true_eq i.id id hit in
     let still : rest ≡ is = without_above is id (subst (λ n. AllByRecursion (λ j. n < intervention_id j) is) id_is rise.0) in
-    ap (λ own. own ++ cells_at is k) (own_cells-other i k (λ same. omega (arith, same, here)))
+    ap (λ own. own ++ cells_at is k) (own_cells-other i k (λ same. before (cond-true test i.generation (generation_of is id) hit ∙ same)))
     ∙ ap (λ js. cells_at js k) (sym still ∙ sym (cond-false (not test) (i ∷ rest) rest (ap not hit))))
     (λ miss.
-    ap (λ cs. own_cells i k ++ cs) (same_removed is id k rise.1 (subst (λ n. k < n) (cond-false test i.generation (generation_of is id) miss) before))
+    ap (λ cs. own_cells i k ++ cs) (same_removed is id k rise.1 (λ same. before (cond-false test i.generation (generation_of is id) miss ∙ same)))
     ∙ ap (λ js. cells_at js k) (sym (cond-true (not test) (i ∷ rest) rest (ap not miss))))
 
 -- what arrives up to there, and what is shown below
@@ -84,6 +83,9 @@ same_scratch p q f b rule start same under =
     let world : after p b.generation ≡ after q b.generation = ap₂ lay (same b.generation under) (same_arrival p q f b.generation rule start same (omega (arith, under))) in
     ap₂ (λ r w. text_of b.view w (name_of r) (states_of r) b.generation) rule world
 
+above : (k n : ℕ) → k < n → n ≡ k → ⊥
+above k n under same = omega (arith, under, same)
+
 le_from : (m n : ℕ) → nat_le m n ≡ true → m ≤ n
 le_from m n h = grind (arith, nat_tests)
 
@@ -94,16 +96,16 @@ min_right : (k m n : ℕ) → k < min m n → k < n
 min_right k m n h = omega (arith, h)
 
 -- an edit leaves what arrives above 0 up to where it is felt
-pub arrival_left : (p : Plan) (asked : Asked) (g : ℕ) → IsSound p → 0 < g → leaves_arrival (felt_from p asked) g ≡ true → arrival p g ≡ arrival (changed p asked).plan g
+pub arrival_left : (p : Plan) (asked : Asked) (g : ℕ) → IsSound p → 0 < g → keeps_arrival (felt_from p asked) g ≡ true → arrival p g ≡ arrival (changed p asked).plan g
 arrival_left p (InsertIntervention generation cells) g sound some stays =
     let i : Intervention = record { id = p.last_intervention + 1; generation = generation; cells = cells } in
-    same_arrival p (changed p (InsertIntervention generation cells)).plan generation g refl refl (λ k under. same_inserted p.interventions i k under) (le_from g generation stays)
+    same_arrival p (changed p (InsertIntervention generation cells)).plan generation g refl refl (λ k under. same_inserted p.interventions i k (above k generation under)) (le_from g generation stays)
 arrival_left p (ChangeIntervention id generation cells) g sound some stays =
     let f = min generation (generation_of p.interventions id) in
     same_arrival p (changed p (ChangeIntervention id generation cells)).plan f g refl refl
-    (λ k under. same_changed p.interventions id generation cells k sound.interventions_rise (min_left k generation (generation_of p.interventions id) under) (min_right k generation (generation_of p.interventions id) under)) (le_from g f stays)
+    (λ k under. same_changed p.interventions id generation cells k sound.interventions_rise (above k generation (min_left k generation (generation_of p.interventions id) under)) (above k (generation_of p.interventions id) (min_right k generation (generation_of p.interventions id) under))) (le_from g f stays)
 arrival_left p (RemoveIntervention id) g sound some stays =
-    same_arrival p (changed p (RemoveIntervention id)).plan (generation_of p.interventions id) g refl refl (λ k under. same_removed p.interventions id k sound.interventions_rise under) (le_from g (generation_of p.interventions id) stays)
+    same_arrival p (changed p (RemoveIntervention id)).plan (generation_of p.interventions id) g refl refl (λ k under. same_removed p.interventions id k sound.interventions_rise (above k (generation_of p.interventions id) under)) (le_from g (generation_of p.interventions id) stays)
 arrival_left p (SetCells cells) g sound some stays = let none = le_from g 0 stays in absurd (omega (arith, none, some))
 arrival_left p (ReplaceStart start) g sound some stays = let none = le_from g 0 stays in absurd (omega (arith, none, some))
 arrival_left p (ReplaceRule rule) g sound some stays = let none = le_from g 0 stays in absurd (omega (arith, none, some))
@@ -115,13 +117,13 @@ arrival_left p (RemoveBookmark id) g sound some stays = refl
 pub scratch_left : (p : Plan) (asked : Asked) (b : Bookmark) → IsSound p → leaves_after (felt_from p asked) b.generation ≡ true → scratch p b ≡ scratch (changed p asked).plan b
 scratch_left p (InsertIntervention generation cells) b sound stays =
     let i : Intervention = record { id = p.last_intervention + 1; generation = generation; cells = cells } in
-    same_scratch p (changed p (InsertIntervention generation cells)).plan generation b refl refl (λ k under. same_inserted p.interventions i k under) (true_lt b.generation generation stays)
+    same_scratch p (changed p (InsertIntervention generation cells)).plan generation b refl refl (λ k under. same_inserted p.interventions i k (above k generation under)) (true_lt b.generation generation stays)
 scratch_left p (ChangeIntervention id generation cells) b sound stays =
     let f = min generation (generation_of p.interventions id) in
     same_scratch p (changed p (ChangeIntervention id generation cells)).plan f b refl refl
-    (λ k under. same_changed p.interventions id generation cells k sound.interventions_rise (min_left k generation (generation_of p.interventions id) under) (min_right k generation (generation_of p.interventions id) under)) (true_lt b.generation f stays)
+    (λ k under. same_changed p.interventions id generation cells k sound.interventions_rise (above k generation (min_left k generation (generation_of p.interventions id) under)) (above k (generation_of p.interventions id) (min_right k generation (generation_of p.interventions id) under))) (true_lt b.generation f stays)
 scratch_left p (RemoveIntervention id) b sound stays =
-    same_scratch p (changed p (RemoveIntervention id)).plan (generation_of p.interventions id) b refl refl (λ k under. same_removed p.interventions id k sound.interventions_rise under) (true_lt b.generation (generation_of p.interventions id) stays)
+    same_scratch p (changed p (RemoveIntervention id)).plan (generation_of p.interventions id) b refl refl (λ k under. same_removed p.interventions id k sound.interventions_rise (above k (generation_of p.interventions id) under)) (true_lt b.generation (generation_of p.interventions id) stays)
 scratch_left p (SetCells cells) b sound stays = let none = true_lt b.generation 0 stays in absurd (omega (arith, none))
 scratch_left p (ReplaceStart start) b sound stays = let none = true_lt b.generation 0 stays in absurd (omega (arith, none))
 scratch_left p (ReplaceRule rule) b sound stays = let none = true_lt b.generation 0 stays in absurd (omega (arith, none))

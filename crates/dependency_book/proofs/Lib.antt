@@ -14,12 +14,14 @@ pub mod Outs
 pub mod Owned
 pub mod Placed
 pub mod Putting
+mod Recalled
 pub mod Remaking
 pub mod Revised
 pub mod Shared
 pub mod Showing
 pub mod Standing
 pub mod Tests
+pub mod Unfelt
 pub mod Walk
 pub mod Wanted
 pub mod Working

@@ -10,7 +10,7 @@ use Rattle.dependency_book.specs.declared.mark.Mark.{Mark}
 use Rattle.dependency_book.specs.BookState.{BookState, NothingOut, arrival_row, arrival_known, text_row, bookmark_in, is_pending, pending_of, wanting_of}
 use Rattle.dependency_book.specs.Held.{IsHeld, places_of}
 use Rattle.dependency_book.specs.Marks.{ComesBefore, is_mark}
-use Rattle.dependency_book.specs.Needs.{CanBeViewed, CanBeReached, IsNextStep, IsNextView, is_awaited}
+use Rattle.dependency_book.specs.Needs.{CanBeViewed, CanBeReached, IsLedTo, IsNextStep, StepIsNext, IsNextView, is_awaited}
 use Rattle.dependency_book.specs.Ready.{IsFirst, place_ready, viewable, steppable, known_before}
 use Rattle.dependency_book.specs.RowState.{is_known, is_empty, job_of}
 use Rattle.dependency_book.specs.Rows.{ArrivalRow, TextRow, keys, place_in, mark_rank, bookmark_rank}
@@ -144,18 +144,42 @@ awaited_below (b ∷ bs) g m le h =
 abbrev pub IsAwaited : BookState → ℕ → ArrivalRow → Type 0
 IsAwaited d k x = is_awaited d.plan.bookmarks (rank_at mark_rank d.arrivals k x) ≡ true
 
+is_led : (d : BookState) (places : List ℕ) (k : ℕ) (x : ArrivalRow) → IsHeld d places → k < length d.arrivals → known_before d.arrivals k x ≡ true → IsLedTo d (rank_at mark_rank d.arrivals k x)
+is_led d places k x held low known = record {
+  above = mark_above d places k x held low;
+  is = mark_is d places k x held low;
+  before = before_row d.arrivals k x;
+  comes = row_comes d places k x held low;
+  arrived = before_known d places k x held low ∙ known;
+}
+
 can_be_reached : (d : BookState) (places : List ℕ) (k : ℕ) (x : ArrivalRow) → IsHeld d places → k < length d.arrivals → steppable d.arrivals k x ≡ true → IsAwaited d k x → CanBeReached d (rank_at mark_rank d.arrivals k x)
 can_be_reached d places k x held low can awaited =
     let parts = and_parts (known_before d.arrivals k x) (is_empty (get_or d.arrivals k x).state) can in
+    let led = is_led d places k x held low parts.0 in
     record {
-      above = mark_above d places k x held low;
-      is = mark_is d places k x held low;
+      above = led.above;
+      is = led.is;
       awaited = awaited;
       empty = row_stands d places k x held low ∙ empty_is (get_or d.arrivals k x).state parts.1;
-      before = before_row d.arrivals k x;
-      comes = row_comes d places k x held low;
-      arrived = before_known d places k x held low ∙ parts.0;
+      before = led.before;
+      comes = led.comes;
+      arrived = led.arrived;
     }
+
+-- nothing stands in the row of a mark to which a step can be made, whether a bookmark awaits it or not
+pub steps_there : (d : BookState) (places : List ℕ) (k : ℕ) (x : ArrivalRow) → IsHeld d places → x ≡ get_or d.arrivals k x → k < length d.arrivals → steppable d.arrivals k x ≡ true
+    → IsLedTo d x.key.generation × (arrival_row d x.key.generation ≡ Empty)
+steps_there d places k x held is low can =
+    let parts = and_parts (known_before d.arrivals k x) (is_empty (get_or d.arrivals k x).state) can in
+    let named : rank_at mark_rank d.arrivals k x ≡ x.key.generation = ap (λ (r : ArrivalRow). r.key.generation) (sym is) in (
+      subst (IsLedTo d) named (is_led d places k x held low parts.0),
+      ap (arrival_row d) (sym named) ∙ row_stands d places k x held low ∙ empty_is (get_or d.arrivals k x).state parts.1,
+    )
+
+-- a step that is needed next leads to its mark
+pub next_led : (d : BookState) (mark : ℕ) → StepIsNext d mark → IsLedTo d mark
+next_led d mark next = record { above = next.can.above; is = next.can.is; before = next.can.before; comes = next.can.comes; arrived = next.can.arrived }
 
 -- a mark that can be reached is that of a row which a step can be made to
 record ReachedAt (d : BookState) (mark : ℕ) : Type 0 where

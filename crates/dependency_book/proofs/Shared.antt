@@ -1,2 +1,5 @@
 -- Lemmas that other crates may cite.
+pub mod Gives
+pub mod Recalling
 pub mod Settled
+pub mod StillWanted

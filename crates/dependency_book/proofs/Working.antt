@@ -188,7 +188,7 @@ pub step_expects : (d : BookState) (need : Need) (place : Place) (job : Job) →
 step_expects d (Step g) place job right out index same spent =
     let can = expected_row d (Step g) (record { number = job.number; place = place }) right out in
     let parts = and_parts (nat_lt 0 g) (is_mark d.plan g) can in
-    record { mark = g; above = true_lt 0 g parts.0; noted = parts.1; row = is_the_job d (Step g) place job out index }
+    record { mark = g; above = true_lt 0 g parts.0; noted = parts.1; row = is_the_job d (Step g) place job out index; spent = spent }
 step_expects d (View id) place job right out index same spent =
     absurd (not_text (entry_of job.place) (bookmark_in d.plan.bookmarks id) spent.0 spent.1 ((expected_gives d (View id) (record { number = job.number; place = place }) right out).gives ∙ ap (λ e. Some (value e)) same))
   where

@@ -1,8 +1,10 @@
 -- What is to be computed for a row.
-use Rattle.std.specs.Prelude.{◌≡◌, ℕ, ◌+◌, Some}
+use Rattle.std.specs.Prelude.{◌≡◌, ℕ, ◌+◌, Option, Some}
 use Rattle.std.specs.Arc.{arc_value}
 use Rattle.rule_tree.specs.Rule.{name_of, states_of}
+use Rattle.worlds.specs.World.{World}
 use Rattle.schedule.specs.declared.document.Bookmark.{Bookmark}
+use Rattle.schedule.specs.Plan.{Plan}
 use Rattle.schedule.specs.Scratch.{cells_at}
 use Rattle.revision_jobs.specs.declared.entry.Entry.{Entry}
 use Rattle.revision_jobs.specs.declared.entry.Entry.TheVariants as entry
@@ -13,30 +15,43 @@ use Rattle.dependency_book.specs.declared.need.Need.TheVariants.{Step, View}
 use Rattle.dependency_book.specs.BookState.{BookState, arrival_known, bookmark_in}
 use Rattle.dependency_book.specs.Marks.{ComesBefore}
 
--- from what arrives at the mark before, on which the cells of that mark are laid, over the gap
-pub record StepsTo (d : BookState) (mark : ℕ) (s : Stepping) : Type 0 where
+-- from what arrives at the mark before, where that is known, on which the cells of that mark are
+-- laid, over the gap
+pub record StepsFrom (p : Plan) (arrives : ℕ → Option World)
+    (mark : ℕ) (s : Stepping) : Type 0 where
   pub before : ℕ
-  pub comes : ComesBefore d.plan before mark
-  pub rule : arc_value s.rule ≡ d.plan.rule
-  pub from : arrival_known d before ≡ Some (arc_value s.from)
-  pub cells : s.cells ≡ cells_at d.plan.interventions before
+  pub comes : ComesBefore p before mark
+  pub rule : arc_value s.rule ≡ p.rule
+  pub from : arrives before ≡ Some (arc_value s.from)
+  pub cells : s.cells ≡ cells_at p.interventions before
   pub gap : before + s.gens ≡ mark
 
--- the view of a bookmark, of what arrives at its generation, on which the cells of that generation
--- are laid
-pub record ViewsOf (d : BookState) (id : ℕ) (r : Rendering) : Type 0 where
+-- the view of a bookmark, of what arrives at its generation, where that is known, on which the cells
+-- of that generation are laid
+pub record ViewsFrom (p : Plan) (arrives : ℕ → Option World)
+    (id : ℕ) (r : Rendering) : Type 0 where
   pub bookmark : Bookmark
-  pub there : bookmark_in d.plan.bookmarks id ≡ Some bookmark
+  pub there : bookmark_in p.bookmarks id ≡ Some bookmark
   pub view : r.view ≡ bookmark.view
-  pub from : arrival_known d bookmark.generation ≡ Some (arc_value r.from)
-  pub cells : r.cells ≡ cells_at d.plan.interventions bookmark.generation
-  pub name : r.name ≡ name_of d.plan.rule
-  pub states : r.states ≡ states_of d.plan.rule
+  pub from : arrives bookmark.generation ≡ Some (arc_value r.from)
+  pub cells : r.cells ≡ cells_at p.interventions bookmark.generation
+  pub name : r.name ≡ name_of p.rule
+  pub states : r.states ≡ states_of p.rule
   pub generation : r.generation ≡ bookmark.generation
 
--- the entry is what is to be computed for the row that a need names
+-- the entry is what is to be computed for the row that a need names, where this is known to arrive
+abbrev pub IsEntryFrom : Plan → (ℕ → Option World) → Need → Entry → Type 0
+IsEntryFrom p arrives (Step mark) (entry.Step s) = StepsFrom p arrives mark s
+IsEntryFrom p arrives (Step mark) (entry.View r) = ⊥
+IsEntryFrom p arrives (View id) (entry.Step s) = ⊥
+IsEntryFrom p arrives (View id) (entry.View r) = ViewsFrom p arrives id r
+
+-- so it is with what a book knows
+abbrev pub StepsTo : BookState → ℕ → Stepping → Type 0
+StepsTo d mark s = StepsFrom d.plan (arrival_known d) mark s
+
+abbrev pub ViewsOf : BookState → ℕ → Rendering → Type 0
+ViewsOf d id r = ViewsFrom d.plan (arrival_known d) id r
+
 abbrev pub IsEntryOf : BookState → Need → Entry → Type 0
-IsEntryOf d (Step mark) (entry.Step s) = StepsTo d mark s
-IsEntryOf d (Step mark) (entry.View r) = ⊥
-IsEntryOf d (View id) (entry.Step s) = ⊥
-IsEntryOf d (View id) (entry.View r) = ViewsOf d id r
+IsEntryOf d need e = IsEntryFrom d.plan (arrival_known d) need e

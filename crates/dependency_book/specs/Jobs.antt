@@ -6,6 +6,7 @@ use Rattle.revision_jobs.specs.declared.answer.Job.{Job}
 use Rattle.revision_jobs.specs.declared.entries.Place.{Place}
 use Rattle.revision_jobs.specs.Answer.{JobResult}
 use Rattle.revision_jobs.specs.Entries.{IsOf, entry_of, index_of}
+use Rattle.revision_jobs.specs.Room.{HasNoRoom}
 use Rattle.revision_jobs.specs.Value.{Value}
 use Rattle.dependency_book.specs.declared.filled.Filled.{Filled}
 use Rattle.dependency_book.specs.declared.filled.Filled.TheVariants.{Row, Released, NotExpected}
@@ -19,6 +20,10 @@ use Rattle.dependency_book.specs.BookState.{BookState, NothingOut, expected, wan
 use Rattle.dependency_book.specs.Marks.{is_mark}
 use Rattle.dependency_book.specs.Needs.{IsNext}
 use Rattle.dependency_book.specs.Rows.{keys}
+
+-- a job with what came of it
+abbrev pub result_of : Job → Result Value EvolveFault → JobResult
+result_of job outcome = record { job = job; outcome = outcome }
 
 -- whether two needs are one
 abbrev pub is_need : Need → Need → Bool
@@ -62,18 +67,20 @@ pub record IsNextJob (d : BookState) (need : Need) (job : Job) : Type 0 where
 abbrev pub IsExpected : BookState → Job → Type 0
 IsExpected d job = (need : Need) × (is_job job (expected d need) ≡ true)
 
--- the row of a step expects the job: that of a mark of the document above 0
+-- the row of a step expects the job, that of a mark of the document above 0, and the step has no room
+-- at some limit
 pub record StepExpects (d : BookState) (job : Job) : Type 0 where
   pub mark : ℕ
   pub above : 0 < mark
   pub noted : is_mark d.plan mark ≡ true
   pub row : is_job job (expected d (Step mark)) ≡ true
+  pub spent : (limit : ℕ) × HasNoRoom limit (entry_of job.place)
 
--- what came of an answer: a row was filled; or it expects nothing any more because the job gave up,
+-- what came of an answer: a row was filled, and no more rows are empty; or it expects nothing any more because the job gave up,
 -- for want of room if it is a step's; or no row expects the job, and nothing changes
 abbrev pub IsFilled : BookState → BookState → JobResult → Filled → Type 0
 IsFilled old new answer Row =
-    IsExpected old answer.job × IsOk answer.outcome × (wanting_of new ≡ wanting_of old)
+    IsExpected old answer.job × IsOk answer.outcome × (wanting_of new ≤ wanting_of old)
 IsFilled old new answer (Released fault) =
     IsExpected old answer.job
     × (answer.outcome ≡ Err fault)

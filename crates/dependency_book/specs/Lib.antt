@@ -2,6 +2,7 @@ pub mod AllMarks
 pub mod BookState
 pub mod Cursor
 pub mod Entered
+pub mod Felt
 pub mod Held
 pub mod Inside
 pub mod Jobs
@@ -10,6 +11,7 @@ pub mod Marks
 pub mod Needs
 pub mod Puts
 pub mod Ready
+pub mod Recalled
 pub mod Remade
 pub mod Right
 pub mod Room

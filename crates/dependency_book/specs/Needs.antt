@@ -19,6 +19,14 @@ pub record CanBeViewed (d : BookState) (b : Bookmark) : Type 0 where
   pub arrived : IsSome (arrival_known d b.generation)
   pub empty : text_row d b.id ≡ Empty
 
+-- a step leads to a mark above 0: what arrives at the mark before it is known
+pub record IsLedTo (d : BookState) (mark : ℕ) : Type 0 where
+  pub above : 0 < mark
+  pub is : is_mark d.plan mark ≡ true
+  pub before : ℕ
+  pub comes : ComesBefore d.plan before mark
+  pub arrived : IsSome (arrival_known d before)
+
 -- a mark can be reached by a step: a bookmark is at it or above, what arrives there isn't known and
 -- no job is out for it, and what arrives at the mark before it is known
 pub record CanBeReached (d : BookState) (mark : ℕ) : Type 0 where

@@ -1,10 +1,11 @@
 -- A book that is right for its document.
-use Rattle.std.specs.Prelude.{◌≡◌, ◌<◌, ◌≤◌, Option, None, Some, ⊤}
+use Rattle.std.specs.Prelude.{◌≡◌, ℕ, ◌<◌, ◌≤◌, Option, None, Some, ⊤}
 use Rattle.schedule.specs.declared.document.Bookmark.{Bookmark}
 use Rattle.schedule.specs.Plan.{Plan}
 use Rattle.schedule.specs.Scratch.{arrival, scratch}
 use Rattle.schedule.specs.Sound.{IsSound}
 use Rattle.revision_jobs.specs.declared.answer.Job.{Job}
+use Rattle.revision_jobs.specs.declared.entries.Entries.{Entries}
 use Rattle.revision_jobs.specs.Entries.{IsOf, entry_of}
 use Rattle.revision_jobs.specs.Value.{Value, pattern, text, value}
 use Rattle.dependency_book.specs.declared.row.RowState.{RowState}
@@ -25,18 +26,27 @@ abbrev pub wanted : Plan → Need → Option Value
 wanted p (Step mark) = Some (pattern (arrival p mark))
 wanted p (View id) = text_wanted p (bookmark_in p.bookmarks id)
 
--- a job of the table whose number was given gives what is wanted in the row of a need
-pub record GivesWanted (d : BookState) (need : Need) (job : Job) : Type 0 where
-  pub own : IsOf d.table job.place
-  pub gives : wanted d.plan need ≡ Some (value (entry_of job.place))
-  pub given : job.number < d.given
+-- a job of the table, of whose numbers so many were given, gives what a document wants in the row
+-- of a need
+pub record Gives (table : Entries) (numbers : ℕ) (p : Plan) (need : Need) (job : Job)
+    : Type 0 where
+  pub own : IsOf table job.place
+  pub gives : wanted p need ≡ Some (value (entry_of job.place))
+  pub given : job.number < numbers
 
 -- what stands in the row of a need is right: nothing, a job that gives what is wanted, or what is
 -- wanted
+abbrev pub Stands : Entries → ℕ → Plan → Need → RowState Value → Type 0
+Stands table numbers p need Empty = ⊤
+Stands table numbers p need (Expected job) = Gives table numbers p need job
+Stands table numbers p need (Known found) = wanted p need ≡ Some found
+
+-- so it is in a book
+abbrev pub GivesWanted : BookState → Need → Job → Type 0
+GivesWanted d need job = Gives d.table d.given d.plan need job
+
 abbrev pub StandsRight : BookState → Need → RowState Value → Type 0
-StandsRight d need Empty = ⊤
-StandsRight d need (Expected job) = GivesWanted d need job
-StandsRight d need (Known found) = wanted d.plan need ≡ Some found
+StandsRight d need state = Stands d.table d.given d.plan need state
 
 -- the document keeps its limits, and the rows are those of its marks above 0 and of its bookmarks,
 -- in order; each known arrival is what arrives, each known text is what starting over gives, and

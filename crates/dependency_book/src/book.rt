@@ -21,9 +21,11 @@ use revision_jobs::Entries;
 use schedule::Document;
 use std::alloc::{AllocError, Global};
 use std::marker::Model;
+use std::num::NonZeroUsize;
+use step_facts::Facts;
 
-/// A document, what is known to arrive at its marks, the texts of its bookmarks that are known, and
-/// the jobs of a table of entries that are out for others.
+/// A document, what is known to arrive at its marks, the texts of its bookmarks that are known, the
+/// jobs of a table of entries that are out for others, and steps with what came of them.
 #[derive(Drop)]
 pub struct Book<'e> {
     pub(crate) entries: &'e Entries,
@@ -34,6 +36,7 @@ pub struct Book<'e> {
     // Where the mark of each bookmark stands among the arrivals.
     pub(crate) places: Vec<usize>,
     pub(crate) cursor: Cursor,
+    pub(crate) facts: Facts,
     pub(crate) alloc: Global,
 }
 
@@ -55,8 +58,14 @@ impl<'e> Model for Book<'e> {
 }
 
 impl<'e> Book<'e> {
-    /// A book of the opening document at a revision, whose jobs are of this table.
-    pub fn open(alloc: Global, entries: &'e Entries, revision: u64) -> Result<Book<'e>, AllocError>
+    /// A book of the opening document at a revision, whose jobs are of this table. At most so many
+    /// steps are kept with what came of them.
+    pub fn open(
+        alloc: Global,
+        entries: &'e Entries,
+        revision: u64,
+        facts: NonZeroUsize,
+    ) -> Result<Book<'e>, AllocError>
         ensures opened { IfOk result (λ book. book ≡ opened entries.now revision) }
         ensures right { IfOk result IsRight }
     {
@@ -68,6 +77,7 @@ impl<'e> Book<'e> {
             texts: Vec::new(alloc),
             places: Vec::new(alloc),
             cursor: Cursor::start(),
+            facts: Facts::new(alloc, facts)?,
             alloc,
         })
     }

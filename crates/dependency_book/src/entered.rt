@@ -4,9 +4,9 @@ ghost use Rattle.std.specs.Arc.{arc_value};
 ghost use Rattle.schedule.specs.Scratch.{cells_at};
 ghost use Rattle.revision_jobs.specs.Value.{CanBeWorked};
 ghost use Rattle.dependency_book.specs.BookState.{arrival_known};
-ghost use Rattle.dependency_book.specs.Entered.{IsEntryOf};
+ghost use Rattle.dependency_book.specs.Entered.{IsEntryOf, StepsTo};
 ghost use Rattle.dependency_book.specs.Marks.{ComesBefore};
-ghost use Rattle.dependency_book.specs.Needs.{IsNext};
+ghost use Rattle.dependency_book.specs.Needs.{IsLedTo, IsNext};
 ghost use Rattle.dependency_book.specs.Right.{IsRight};
 
 use crate::book::Book;
@@ -27,30 +27,30 @@ impl Book<'_> {
         ensures workable { IfOk result CanBeWorked }
     {
         match need {
-            Need::Step { mark } => self.step_to(*mark),
+            Need::Step { mark } => Ok(Entry::Step(self.step_to(*mark)?)),
             Need::View { id } => self.view_of(*id),
         }
     }
 
-    // The step to a mark.
-    fn step_to(&self, mark: u64) -> Result<Entry, AllocError>
-        requires { IsNext self.now (Some (Need.Step mark)) }
-        ensures entry { IfOk result (λ entry. IsEntryOf self.now (Need.Step mark) entry) }
+    /// The step to a mark, from what is known to arrive at the mark before it.
+    pub(crate) fn step_to(&self, mark: u64) -> Result<Step, AllocError>
+        requires { IsLedTo self.now mark }
+        ensures step { IfOk result (StepsTo self.now mark) }
         ensures right { IsRight self.now }
     {
         let (before, from) = self.before(mark);
         let interventions = self.document.interventions();
-        Ok(Entry::Step(Step {
+        Ok(Step {
             rule: Arc::try_clone(self.document.rule())?,
             from: Arc::try_clone(from)?,
             cells: cells_at(self.alloc, interventions, before)?,
             gens: mark - before,
-        }))
+        })
     }
 
     // The mark before a mark, and what arrives there.
     fn before(&self, mark: u64) -> (u64, &Arc<Plane>)
-        requires { IsNext self.now (Some (Need.Step mark)) }
+        requires { IsLedTo self.now mark }
         ensures mark { ComesBefore self.now.plan result.0 mark }
         ensures known { arrival_known self.now result.0 ≡ Some (arc_value result.1.now) }
     {
@@ -100,8 +100,8 @@ impl Book<'_> {
     }
 }
 
-// The cells that the interventions of a generation set, by rising id.
-fn cells_at(
+/// The cells that the interventions of a generation set, by rising id.
+pub(crate) fn cells_at(
     alloc: Global,
     interventions: &[Intervention],
     generation: u64,

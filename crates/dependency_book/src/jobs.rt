@@ -1,15 +1,16 @@
 //! Jobs for the rows of a book, and what their answers change.
 ghost use Rattle.std.specs.Prelude.{◌≡◌, ◌+◌, MatchOption, IfSome, true};
 ghost use Rattle.std.specs.Arc.{arc_value};
-ghost use Rattle.revision_jobs.specs.Answer.{outcome_of};
+ghost use Rattle.revision_jobs.specs.Answer.{IsRight as IsRightAnswer, outcome_of};
 ghost use Rattle.revision_jobs.specs.Entries.{IsOf};
 ghost use Rattle.revision_jobs.specs.Value.{pattern, text};
 ghost use Rattle.dependency_book.specs.declared.row.RowState.TheVariants.{Empty, Known};
 ghost use Rattle.dependency_book.specs.RowState.{state_map};
-ghost use Rattle.dependency_book.specs.Jobs.{issued, answered, cancelled, given_by};
+ghost use Rattle.dependency_book.specs.Jobs.{issued, answered, cancelled, given_by, result_of};
 ghost use Rattle.dependency_book.specs.Jobs.{IsAnyOut, IsFilled, IsFirstOut, IsForgotten, IsNextJob};
 ghost use Rattle.dependency_book.specs.Jobs.{Expects, NoneExpects, SameBook, SameDocument};
 ghost use Rattle.dependency_book.specs.BookState.{row_of, wanting_of};
+ghost use Rattle.dependency_book.specs.Recalled.{Fills};
 ghost use Rattle.dependency_book.specs.Right.{IsRight};
 ghost use Rattle.dependency_book.specs.Puts.{CanBePut, Puts, can_change, filled_by};
 
@@ -50,17 +51,38 @@ impl Book<'_> {
     }
 
     /// Takes an answer of the book's table. Where a row expects its job, the row has the answer's
-    /// value, or expects nothing any more where the job gave up; no other row changes. It takes no
-    /// memory.
+    /// value, or expects nothing any more where the job gave up. What came of a step is kept, also
+    /// where no row expects it any more.
+    ///
+    /// Where a row was filled, what is known by steps that were computed before is entered too,
+    /// where nothing is known and no job is out. No other row changes. Where memory is wanting for
+    /// keeping or looking, nothing is kept or found.
     pub fn fill(&mut self, answer: Answer) -> Filled
         requires own { IsOf self.old.table answer.job.place }
         ensures filled { IsFilled self.old self.new answer result }
-        ensures rows { (need : Need) →
-            row_of self.new need ≡ answered answer (row_of self.old need) }
+        ensures fills { Fills answer self.old self.new }
         ensures book { SameBook self.old self.new }
         ensures right { IsRight self.new }
     {
         let (job, outcome) = answer.into_parts();
+        self.keep_fact(&job, &outcome);
+        let filled = self.take(job, outcome);
+        if matches!(filled, Filled::Row) {
+            self.recall_all();
+        }
+        filled
+    }
+
+    // Puts an outcome in the row that expects the job, if one does.
+    fn take(&mut self, job: Job, outcome: Outcome) -> Filled
+        requires own { IsOf self.old.table job.place }
+        requires right { IsRightAnswer job (outcome_of outcome) }
+        ensures filled { IsFilled self.old self.new (result_of job (outcome_of outcome)) result }
+        ensures rows { (need : Need) → row_of self.new need
+            ≡ answered (result_of job (outcome_of outcome)) (row_of self.old need) }
+        ensures book { SameBook self.old self.new }
+        ensures right { IsRight self.new }
+    {
         match self.expecting(job.number) {
             Some((need, place)) if self.entries.same(place, &job.place) => {
                 self.fill_row(need, outcome)
@@ -171,8 +193,8 @@ impl Book<'_> {
         }
     }
 
-    // Puts what is known, or out, in the row of a mark. Only a job that is out makes nothing ready.
-    fn put_arrival(&mut self, mark: u64, state: RowState<Arrival>)
+    /// Puts what is known, or out, in the row of a mark. Only a job that is out makes nothing ready.
+    pub(crate) fn put_arrival(&mut self, mark: u64, state: RowState<Arrival>)
         requires { CanBePut self.old (Need.Step mark) (state_map pattern state) }
         ensures { Puts (Need.Step mark) (state_map pattern state) self.old self.new }
     {

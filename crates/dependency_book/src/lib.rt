@@ -5,25 +5,30 @@
 //! What arrives at a mark depends on what arrives at the one before it, and the text of a bookmark
 //! on what arrives at its generation. Whatever is known is right: a known arrival is the pattern
 //! that the document's history has at that mark, and a known text is the one that a fresh
-//! computation gives. An edit keeps exactly the rows that it doesn't touch.
+//! computation gives. An edit keeps exactly the rows that it doesn't touch, which are all where one
+//! of interventions is seen to change no pattern.
 //!
 //! What isn't known is computed by jobs, in any order and by anybody: a row expects the job that is
 //! out for it, and takes what its answer says, whatever edits that keep the row were made since. An
 //! answer that no row expects changes nothing.
 //!
-//! An edit and an answer each cost a search and one pass over the rows. The search for what is needed
-//! next goes on where the last one ended. Nothing is computed here.
+//! An edit and an answer each cost a search and one pass over the rows. An edit of interventions
+//! also lays cells twice on the pattern that arrives where it changes what acts, if that is known,
+//! and compares the two. The search for what is needed next goes on where the last one ended. No
+//! step is computed here.
 #![tactic(auto)]
 
 mod arrival;
 mod book;
 mod cursor;
 mod entered;
+mod felt;
 mod filled;
 mod jobs;
 mod mark;
 mod marks;
 mod need;
+mod recall;
 mod remade;
 mod revise;
 mod room;

@@ -59,8 +59,8 @@ pub(crate) fn first_view(
     None
 }
 
-// Whether nothing stands in the row at a place where what arrives before it is known.
-fn can_step(arrivals: &[ArrivalRow], place: usize) -> bool
+/// Whether nothing stands in the row at a place where what arrives before it is known.
+pub(crate) fn can_step(arrivals: &[ArrivalRow], place: usize) -> bool
     requires { place < length arrivals.now }
     ensures { (x : ArrivalRow) → result ≡ steppable arrivals.now place x }
 {

@@ -21,10 +21,14 @@ fn same<T: PartialEq + Debug, A: Debug>(rt: &impl Abort, found: &T, wanted: &T, 
     assert!(rt; found == wanted, "{at:?}: {found:?}, not {wanted:?}");
 }
 
-/// The one cell, set to 1.
-fn cell(rt: &impl Abort, alloc: Global, x: i64) -> Listing<CellSet> {
+/// The cell (x, 0), set to a state.
+fn cell(x: i64, state: u16) -> CellSet {
+    CellSet { x, y: 0, state }
+}
+
+/// The one cell.
+fn listed(rt: &impl Abort, alloc: Global, set: CellSet) -> Listing<CellSet> {
     let mut cells = Vec::new(alloc);
-    let set = CellSet { x, y: 0, state: 1 };
     cells.push(set).expect(rt, "memory");
     Listing::from_vec(cells)
 }
@@ -119,6 +123,83 @@ const CHANGED: &[Act] = &[
     Act::Waits(2),
     Act::Waits(3),
     Act::Next(Some(Need::View { id: 2 })),
+];
+
+const UNFELT: &[Act] = &[
+    // The cell is 0 there.
+    Act::Clear {
+        generation: 8,
+        x: 1,
+    },
+    Act::Shows(1, "1 2\n"),
+    Act::Shows(2, "1 2\n"),
+    Act::Shows(3, "1 4\n"),
+    Act::Next(None),
+    Act::Remove(1),
+    Act::Shows(3, "1 4\n"),
+    // What arrives at 4 isn't known.
+    Act::Clear {
+        generation: 4,
+        x: 1,
+    },
+    Act::Shows(1, "1 2\n"),
+    Act::Waits(2),
+    Act::Waits(3),
+    Act::Next(Some(Need::Step { mark: 4 })),
+];
+
+const FELT: &[Act] = &[
+    Act::Insert {
+        generation: 8,
+        x: 1,
+    },
+    Act::Shows(1, "1 2\n"),
+    Act::Waits(2),
+    Act::Waits(3),
+    Act::Next(Some(Need::View { id: 2 })),
+];
+
+// The four cells at 20 are -20, -12, 12 and 20.
+const FELT_LATER: &[Act] = &[
+    Act::Clear {
+        generation: 8,
+        x: 12,
+    },
+    Act::Settle(0),
+    Act::Shows(1, "1 2\n"),
+    Act::Shows(2, "1 2\n"),
+    Act::Shows(3, "1 4\n"),
+    Act::ChangeClear {
+        id: 1,
+        generation: 20,
+        x: 12,
+    },
+    Act::Waits(3),
+    Act::Settle(8),
+    Act::Shows(2, "1 2\n"),
+    Act::Shows(3, "1 3\n"),
+    // Moved back it is felt at 20 too.
+    Act::ChangeClear {
+        id: 1,
+        generation: 8,
+        x: 12,
+    },
+    Act::Waits(3),
+    Act::Settle(8),
+    Act::Shows(3, "1 4\n"),
+];
+
+// A job that is out across an edit that isn't felt fills its row.
+const UNFELT_OUT: &[Act] = &[
+    Act::Mark(30),
+    Act::Issue(Need::Step { mark: 30 }),
+    Act::Clear {
+        generation: 8,
+        x: 1,
+    },
+    Act::IsAsked(false),
+    Act::Fill(Filled::Row),
+    Act::Settle(1),
 ];
 
 const MOVED: &[Act] = &[
@@ -294,6 +375,26 @@ fn inserted_intervention_touches_what_is_later(rt: HostRuntime) {
 #[test]
 fn changed_intervention_touches_from_the_lesser_generation(rt: HostRuntime) {
     play(&rt, rt.alloc(), SETTLED, CHANGED);
+}
+
+#[test]
+fn intervention_that_changes_no_pattern_keeps_all(rt: HostRuntime) {
+    play(&rt, rt.alloc(), SETTLED, UNFELT);
+}
+
+#[test]
+fn intervention_that_changes_a_pattern_is_felt(rt: HostRuntime) {
+    play(&rt, rt.alloc(), SETTLED, FELT);
+}
+
+#[test]
+fn moved_intervention_is_felt_at_either_generation(rt: HostRuntime) {
+    play(&rt, rt.alloc(), SETTLED, FELT_LATER);
+}
+
+#[test]
+fn job_stays_out_across_an_edit_that_changes_no_pattern(rt: HostRuntime) {
+    play(&rt, rt.alloc(), SETTLED, UNFELT_OUT);
 }
 
 #[test]

@@ -28,7 +28,6 @@ fn option(alloc: Global, setting: Setting) -> Arg<'static>
         .value_parser(ValueParser::unsigned(least, most))
         .default_value(setting.usual())
         .help(setting.help())
-        .hide(setting.is_hidden())
 }
 
 fn command<'a>(alloc: Global) -> Result<Command<'a>, AllocError>

@@ -62,16 +62,12 @@ impl Setting {
     pub(crate) fn help(self) -> &'static str {
         match self {
             Setting::Workers => "How many workers compute, from 1 to 8",
-            Setting::Facts => "How many results of steps are kept for later, from 1 to 4096",
+            Setting::Facts => {
+                "How many results of steps a desk may keep, with their patterns, from 1 to 4096"
+            }
             Setting::Squares => {
                 "How many squares the engine of a worker may hold, from 64 to 16777216. A square takes about 48 bytes: 4194304 take about 200 MB"
             }
         }
-    }
-
-    /// The help leaves it out.
-    pub(crate) fn is_hidden(self) -> bool {
-        // Nothing that is kept has a use yet.
-        self == Setting::Facts
     }
 }

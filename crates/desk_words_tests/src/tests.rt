@@ -43,7 +43,7 @@ enum Verdict {
     Unknown,
     // A word with a value that it doesn't take.
     Value,
-    // A number of squares that is none, or too few or too many.
+    // A number that is none, or too few or too many.
     Number,
     // The option a second time.
     Again,
@@ -57,7 +57,7 @@ enum Verdict {
 const END: &str = "\n\nFor more information, try '--help'.\n";
 
 const OPTIONS: &str =
-    "\n\nUsage: desk [OPTIONS]\n\nOptions:\n      --workers <N>  How many workers compute, from 1 to 8 [default: 2]\n      --squares <N>  How many squares the engine of a worker may hold, from 64 to 16777216. A square takes about 48 bytes: 4194304 take about 200 MB [default: 4194304]\n  -h, --help         Print help\n\nCommands of a script,";
+    "\n\nUsage: desk [OPTIONS]\n\nOptions:\n      --workers <N>  How many workers compute, from 1 to 8 [default: 2]\n      --facts <N>    How many results of steps a desk may keep, with their patterns, from 1 to 4096 [default: 64]\n      --squares <N>  How many squares the engine of a worker may hold, from 64 to 16777216. A square takes about 48 bytes: 4194304 take about 200 MB [default: 4194304]\n  -h, --help         Print help\n\nCommands of a script,";
 
 fn is_help(text: &str) -> bool {
     text.contains(OPTIONS)

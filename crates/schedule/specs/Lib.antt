@@ -1,3 +1,4 @@
+pub mod Alike
 pub mod Faults
 pub mod Plan
 pub mod Kept

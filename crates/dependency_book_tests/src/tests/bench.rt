@@ -4,13 +4,14 @@ ghost use Rattle.revision_jobs.specs.Entries.{IsOf, entry_of};
 ghost use Rattle.dependency_book.specs.Entered.{IsEntryOf};
 ghost use Rattle.dependency_book.specs.Needs.{IsNext};
 
-use super::{cell, rule_x, same};
+use super::{cell, listed, rule_x, same};
 use dependency_book::{Book, Filled, Need, Shown};
 use plane_core::Stop;
 use revision_jobs::{Answer, Entries, Job, NoGate, Place, work};
-use schedule::{Edit, View};
+use schedule::{CellSet, Edit, View};
 use std::alloc::Global;
 use std::marker::Model;
+use std::num::NonZeroUsize;
 use std::process::Abort;
 use std::sync::Wait;
 use step_engine::EvolveFault;
@@ -62,6 +63,10 @@ pub(super) enum Act {
     Insert { generation: u64, x: i64 },
     /// Moves the intervention of an id, which sets the cell (x, 0) then.
     Change { id: u64, generation: u64, x: i64 },
+    /// Inserts an intervention that takes the cell (x, 0) away.
+    Clear { generation: u64, x: i64 },
+    /// Moves the intervention of an id, which takes the cell (x, 0) away then.
+    ChangeClear { id: u64, generation: u64, x: i64 },
     /// Removes the intervention of this id.
     Remove(u64),
     /// The need is the next. Its job goes out, and is worked.
@@ -101,7 +106,7 @@ impl<'e> Bench<'e> {
         Bench {
             alloc,
             entries,
-            book: Book::open(alloc, entries, 7).expect(rt, "memory"),
+            book: Book::open(alloc, entries, 7, NonZeroUsize::MIN).expect(rt, "memory"),
             last: None,
         }
     }
@@ -115,8 +120,12 @@ impl<'e> Bench<'e> {
                 self.revise(rt, &Edit::MoveBookmark { id, generation });
             }
             Act::Unmark(id) => self.revise(rt, &Edit::RemoveBookmark { id }),
-            Act::Insert { generation, x } => self.insert(rt, generation, x),
-            Act::Change { id, generation, x } => self.change(rt, id, generation, x),
+            Act::Insert { generation, x } => self.insert(rt, generation, cell(x, 1)),
+            Act::Change { id, generation, x } => self.change(rt, id, generation, cell(x, 1)),
+            Act::Clear { generation, x } => self.insert(rt, generation, cell(x, 0)),
+            Act::ChangeClear { id, generation, x } => {
+                self.change(rt, id, generation, cell(x, 0));
+            }
             Act::Remove(id) => self.revise(rt, &Edit::RemoveIntervention { id }),
             Act::Issue(need) => self.issue(rt, &need, false),
             Act::Stop(need) => self.issue(rt, &need, true),
@@ -144,7 +153,7 @@ impl<'e> Bench<'e> {
 
     fn start(&mut self, rt: &impl Abort) {
         self.revise(rt, &rule_x(rt, self.alloc));
-        let cells = cell(rt, self.alloc, 0);
+        let cells = listed(rt, self.alloc, cell(0, 1));
         self.revise(rt, &Edit::SetCells { cells });
     }
 
@@ -153,13 +162,13 @@ impl<'e> Bench<'e> {
         self.revise(rt, &Edit::AddBookmark { generation, view });
     }
 
-    fn insert(&mut self, rt: &impl Abort, generation: u64, x: i64) {
-        let cells = cell(rt, self.alloc, x);
+    fn insert(&mut self, rt: &impl Abort, generation: u64, set: CellSet) {
+        let cells = listed(rt, self.alloc, set);
         self.revise(rt, &Edit::InsertIntervention { generation, cells });
     }
 
-    fn change(&mut self, rt: &impl Abort, id: u64, generation: u64, x: i64) {
-        let cells = cell(rt, self.alloc, x);
+    fn change(&mut self, rt: &impl Abort, id: u64, generation: u64, set: CellSet) {
+        let cells = listed(rt, self.alloc, set);
         let edit = Edit::ChangeIntervention {
             id,
             generation,

@@ -7,7 +7,7 @@ use Rattle.dependency_book.specs.BookState.{BookState, arrival_known}
 use Rattle.dependency_book.specs.Held.{IsHeld}
 use Rattle.dependency_book.specs.Inside.{state_of}
 use Rattle.dependency_book.specs.Marks.{ComesBefore}
-use Rattle.dependency_book.specs.Needs.{StepIsNext}
+use Rattle.dependency_book.specs.Needs.{IsLedTo}
 use Rattle.dependency_book.specs.RowState.{known}
 use Rattle.dependency_book.specs.Rows.{ArrivalRow, place_in, mark_rank}
 use Rattle.dependency_book.proofs.Found.{StepRow, step_row, row_known}
@@ -16,8 +16,8 @@ use Rattle.dependency_book.proofs.Tests.{clash}
 use Rattle.dependency_book.proofs.book.Book.before.Goals as goal
 
 -- the row of the step, at the place that was found
-row_at : (d e : BookState) (places : List ℕ) (m k : ℕ) (rows : List ArrivalRow) → d ≡ e → IsHeld d places → StepIsNext e m → rows ≡ d.arrivals → k ≡ place_in mark_rank m rows → StepRow d m k
-row_at d e places m k rows same held next is at = subst (StepRow d m) (sym (at ∙ ap (place_in mark_rank m) is)) (step_row d places m held (subst (λ s. StepIsNext s m) (sym same) next))
+row_at : (d e : BookState) (places : List ℕ) (m k : ℕ) (rows : List ArrivalRow) → d ≡ e → IsHeld d places → IsLedTo e m → rows ≡ d.arrivals → k ≡ place_in mark_rank m rows → StepRow d m k
+row_at d e places m k rows same held next is at = subst (StepRow d m) (sym (at ∙ ap (place_in mark_rank m) is)) (step_row d places m held (subst (λ s. IsLedTo s m) (sym same) next))
 
 pub returns-then-place-eq0-clause-mark : goal.returns-then-place-eq0-clause-mark
 returns-then-place-eq0-clause-mark c =

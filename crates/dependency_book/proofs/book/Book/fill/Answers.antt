@@ -1,78 +1,39 @@
-use Rattle.std.proofs.Common.{◌≡◌, ◌∙◌, true, false, Option, None, Some, Result, MatchOption, refl, sym, ap, ap₂, subst}
-use Rattle.step_engine.specs.declared.evolved.EvolveFault.{EvolveFault}
-use Rattle.revision_jobs.specs.declared.answer.Job.{Job}
-use Rattle.revision_jobs.specs.Answer.{JobResult, outcome_of}
-use Rattle.revision_jobs.specs.Value.{Value}
-use Rattle.dependency_book.specs.declared.need.Need.{Need}
-use Rattle.dependency_book.specs.Jobs.{is_job, answered, IsFilled}
-use Rattle.dependency_book.specs.BookState.{BookState, expected, row_of}
-use Rattle.dependency_book.proofs.Working.{may_stand, put_answers, filled_is, filled_right, none_answered, none_numbered, elsewhere}
+use Rattle.std.proofs.Common.{◌≡◌, ◌∙◌, true, false, ap₂, subst, sym}
+use Rattle.revision_jobs.specs.Answer.{outcome_of}
+use Rattle.dependency_book.specs.declared.filled.Filled.{Filled}
+use Rattle.dependency_book.specs.declared.filled.Filled.TheVariants.{Row}
+use Rattle.dependency_book.specs.Jobs.{IsFilled, SameBook, result_of}
+use Rattle.dependency_book.proofs.Tests.{clash}
+use Rattle.dependency_book.proofs.Recalled.{recalls_right, took_fills, took_filled}
+use Rattle.dependency_book.proofs.Shared.Recalling.{book_then, filled_still, recalls_book, recalls_none}
+use Rattle.dependency_book.proofs.book.Book.fill.Goals.{in-Row, in_default}
 use Rattle.dependency_book.proofs.book.Book.fill.Goals as goal
-use Rattle.dependency_book.proofs.book.Book.fill.Goals.{in_default-2, in_default}
 
-match_none : {T : Type 0} (A : Type 0) (P : T → Type 0) (o : Option T) → MatchOption o A P → o ≡ None → A
-match_none A P None h is = h
-match_none A P (Some x) h is = absurd cc
+pub returns-then-matches-clause-filled : goal.returns-then-matches-clause-filled
+returns-then-matches-clause-filled c =
+    let given = result_of c.into_parts-job.result.0 (outcome_of c.into_parts-job.result.1) in
+    let answer_is = ap₂ result_of c.into_parts-job.ensures.job c.into_parts-job.ensures.outcome in
+    let taken = took_filled c.args.self.now c.keep_fact.new.self c.take-filled.new.self c.args.answer given c.take-filled.result c.keep_fact.ensures answer_is c.take-filled.ensures.filled in
+    let row : c.take-filled.result ≡ Row = elim c.match-matches.branch [ in-Row w ↦ w.in-Row.is | in_default w ↦ absurd (clash c.match-matches.matches c.if-matches.true w.matches-is) ] in
+    subst (IsFilled c.args.self.now c.recall_all.new.self c.args.answer) (sym row)
+    (filled_still c.args.self.now c.take-filled.new.self c.recall_all.new.self c.args.answer (subst (IsFilled c.args.self.now c.take-filled.new.self c.args.answer) row taken) c.recall_all.ensures)
 
-not_true : false ≡ true → ⊥
-not_true h = cc
+pub returns-then-matches-clause-fills : goal.returns-then-matches-clause-fills
+returns-then-matches-clause-fills c =
+    let given = result_of c.into_parts-job.result.0 (outcome_of c.into_parts-job.result.1) in
+    let answer_is = ap₂ result_of c.into_parts-job.ensures.job c.into_parts-job.ensures.outcome in
+    took_fills c.args.self.now c.keep_fact.new.self c.take-filled.new.self c.recall_all.new.self c.args.answer given c.keep_fact.ensures answer_is c.take-filled.ensures.book c.take-filled.ensures.rows c.recall_all.ensures
 
-abbrev answer_of : Job → Result Value EvolveFault → JobResult
-answer_of job outcome = record { job = job; outcome = outcome }
+pub returns-then-matches-clause-book : goal.returns-then-matches-clause-book
+returns-then-matches-clause-book c =
+    book_then c.args.self.now c.take-filled.new.self c.recall_all.new.self (subst (λ d. SameBook d c.take-filled.new.self) c.keep_fact.ensures c.take-filled.ensures.book)
+    (recalls_book c.take-filled.new.self c.recall_all.new.self c.recall_all.ensures)
 
-pub fill_row-requires : goal.fill_row-requires
-fill_row-requires c =
-    may_stand c.args.self.now c.in-Some.need c.in-Some.place.now c.into_parts-job.result.0 (outcome_of c.into_parts-job.result.1) c.expecting.ensures.right c.in-Some.ensures.row (c.if-same.ensures.entry refl) c.into_parts-job.ensures.right
+pub returns-then-matches-clause-right : goal.returns-then-matches-clause-right
+returns-then-matches-clause-right c = recalls_right c.take-filled.new.self c.recall_all.new.self c.take-filled.ensures.right c.recall_all.ensures
 
-pub returns-in-Some-clause-filled : goal.returns-in-Some-clause-filled
-returns-in-Some-clause-filled c =
-    let d = c.args.self.now in
-    let e = c.fill_row.new.self in
-    let job : Job = c.into_parts-job.result.0 in
-    let outcome = outcome_of c.into_parts-job.result.1 in
-    subst (λ (a : JobResult). IsFilled d e a c.fill_row.result) (ap₂ answer_of c.into_parts-job.ensures.job c.into_parts-job.ensures.outcome)
-    (subst (IsFilled d e (answer_of job outcome)) (sym c.fill_row.ensures.filled)
-    (filled_is d e c.in-Some.need c.in-Some.place.now job outcome c.expecting.ensures.right c.in-Some.ensures.row (c.if-same.ensures.index.0 refl) (c.if-same.ensures.entry refl) c.into_parts-job.ensures.right c.fill_row.ensures.row))
-
-pub returns-in-Some-clause-rows : goal.returns-in-Some-clause-rows
-returns-in-Some-clause-rows c = λ other.
-    let d = c.args.self.now in
-    let answer = answer_of c.into_parts-job.result.0 (outcome_of c.into_parts-job.result.1) in
-    put_answers d c.fill_row.new.self c.in-Some.need c.in-Some.place.now answer c.expecting.ensures.right c.in-Some.ensures.row (c.if-same.ensures.index.0 refl) c.fill_row.ensures.row other
-    ∙ ap (λ (a : JobResult). answered a (row_of d other)) (ap₂ answer_of c.into_parts-job.ensures.job c.into_parts-job.ensures.outcome)
-
-pub returns-in-Some-clause-right : goal.returns-in-Some-clause-right
-returns-in-Some-clause-right c =
-    filled_right c.args.self.now c.fill_row.new.self c.in-Some.need c.in-Some.place.now c.into_parts-job.result.0 (outcome_of c.into_parts-job.result.1) c.expecting.ensures.right c.in-Some.ensures.row (c.if-same.ensures.entry refl) c.into_parts-job.ensures.right c.fill_row.ensures.row
-
--- no row expects the job
-none_expects : (d : BookState) (job : Job) (answer : JobResult) → job ≡ answer.job → ((need : Need) → is_job job (expected d need) ≡ false) → (need : Need) → is_job answer.job (expected d need) ≡ false
-none_expects d job answer same none = subst (λ (j : Job). (need : Need) → is_job j (expected d need) ≡ false) same none
-
-pub returns-clause-filled : goal.returns-clause-filled
-returns-clause-filled c =
-    let d = c.args.self.now in
-    let job : Job = c.into_parts-job.result.0 in
-    let right = c.expecting.ensures.right in
-    elim c.match-expecting.branch [
-      | in_default-2 w ↦
-          let none = elsewhere d w.in-Some.need w.in-Some.place.now job right w.in-Some.ensures.row (λ is. not_true (w.if-same.ensures.index.1 is)) in
-          subst (IsFilled d d c.args.answer) (sym w.result-is) (none_expects d job c.args.answer c.into_parts-job.ensures.job none, refl)
-      | in_default w ↦
-          let none = none_numbered d job (match_none _ _ c.expecting.result c.expecting.ensures.row w.in_default.is) in
-          subst (IsFilled d d c.args.answer) (sym w.result-is) (none_expects d job c.args.answer c.into_parts-job.ensures.job none, refl)
-    ]
-
-pub returns-clause-rows : goal.returns-clause-rows
-returns-clause-rows c =
-    let d = c.args.self.now in
-    let job : Job = c.into_parts-job.result.0 in
-    let right = c.expecting.ensures.right in
-    elim c.match-expecting.branch [
-      | in_default-2 w ↦
-          let none = elsewhere d w.in-Some.need w.in-Some.place.now job right w.in-Some.ensures.row (λ is. not_true (w.if-same.ensures.index.1 is)) in
-          none_answered d c.args.answer (none_expects d job c.args.answer c.into_parts-job.ensures.job none)
-      | in_default w ↦
-          let none = none_numbered d job (match_none _ _ c.expecting.result c.expecting.ensures.row w.in_default.is) in
-          none_answered d c.args.answer (none_expects d job c.args.answer c.into_parts-job.ensures.job none)
-    ]
+pub returns-else-matches-clause-fills : goal.returns-else-matches-clause-fills
+returns-else-matches-clause-fills c =
+    let given = result_of c.into_parts-job.result.0 (outcome_of c.into_parts-job.result.1) in
+    let answer_is = ap₂ result_of c.into_parts-job.ensures.job c.into_parts-job.ensures.outcome in
+    took_fills c.args.self.now c.keep_fact.new.self c.take-filled.new.self c.take-filled.new.self c.args.answer given c.keep_fact.ensures answer_is c.take-filled.ensures.book c.take-filled.ensures.rows (recalls_none c.take-filled.new.self)

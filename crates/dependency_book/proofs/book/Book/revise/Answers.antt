@@ -1,50 +1,14 @@
-use Rattle.std.proofs.Common.{◌≡◌, List, refl, sym, subst}
-use Rattle.schedule.specs.Asked.{asked_of}
-use Rattle.dependency_book.specs.BookState.{BookState}
-use Rattle.dependency_book.specs.Cursor.{HasPassed}
-use Rattle.dependency_book.specs.Inside.{state_of}
-use Rattle.dependency_book.specs.Kept.{KeepsRows}
-use Rattle.dependency_book.proofs.Grown.{made_room}
-use Rattle.dependency_book.specs.RowState.{OutsAreOf}
-use Rattle.dependency_book.specs.Rows.{ArrivalRow, TextRow}
-use Rattle.dependency_book.proofs.Owned.{arrivals_own, texts_own}
-use Rattle.dependency_book.proofs.Passed.{passed_none}
-use Rattle.dependency_book.proofs.Revised.{Revises, revises, with_rows}
-use Rattle.dependency_book.proofs.book.Book.revise.Goals.{After-self-1}
+use Rattle.std.proofs.Common.{◌≡◌, ◌∙◌, Ok, ap, sym}
+use Rattle.schedule.specs.Change.{made}
+use Rattle.schedule.specs.Plan.{Plan}
+use Rattle.dependency_book.proofs.Recalled.{recalls_right}
+use Rattle.dependency_book.proofs.Shared.Recalling.{recalls_book}
 use Rattle.dependency_book.proofs.book.Book.revise.Goals as goal
 
-pub rows_of-rows-requires-clause-room : goal.rows_of-rows-requires-clause-room
-rows_of-rows-requires-clause-room c =
-    made_room c.in_ok-room.room c.self.inside.document c.make.new.self (asked_of c.args.edit.now) c.in_ok-edited.edited c.in_ok-edited.ensures.ok c.in_ok-room.ensures
-
-pub rows_of-rows-requires-clause-own : goal.rows_of-rows-requires-clause-own
-rows_of-rows-requires-clause-own c =
-    let d = state_of c.self.inside in
-    let places = c.self.inside.places.items in
-    let arrivals : c.replace-arrivals.result.items ≡ d.arrivals = rw c.replace-arrivals.ensures.value refl in
-    let texts : c.replace-texts.result.items ≡ d.texts = rw c.replace-texts.ensures.value refl in (
-      subst (λ (rows : List ArrivalRow). OutsAreOf d.table rows) (sym arrivals) (arrivals_own d places c.self.invariant.held),
-      subst (λ (rows : List TextRow). OutsAreOf d.table rows) (sym texts) (texts_own d places c.self.invariant.held),
-    )
-
--- what was made of the book
-made : (c : After-self-1) → Revises (asked_of c.args.edit.now) (state_of c.self.inside) (with_rows (state_of c.self.inside) c.make.new.self c.rows_of-rows.result.arrivals.items c.rows_of-rows.result.texts.items)
-made c =
-    revises (state_of c.self.inside) c.make.new.self (asked_of c.args.edit.now) c.in_ok-edited.edited c.replace-arrivals.result.items c.replace-texts.result.items c.felt_from-felt.result c.rows_of-rows.result c.self.invariant.held.right c.in_ok-edited.ensures.ok
-    (rw c.replace-arrivals.ensures.value refl) (rw c.replace-texts.ensures.value refl) c.felt_from-felt.ensures c.rows_of-rows.ensures
-
-pub invariant_of-self-2 : goal.invariant_of-self-2
-invariant_of-self-2 c =
-    let e = with_rows (state_of c.self.inside) c.make.new.self c.rows_of-rows.result.arrivals.items c.rows_of-rows.result.texts.items in
-    let places = c.rows_of-rows.result.places.items in
-    record {
-      held = record { places = c.rows_of-rows.ensures.places_are; right = (made c).1 };
-      passed = subst (HasPassed e places) (sym c.start-self-inside.ensures) (passed_none e places);
-    }
-
-pub returns-clause-keeps : goal.returns-clause-keeps
-returns-clause-keeps c =
-    subst (λ (old : BookState). KeepsRows (asked_of c.args.edit.now) old (with_rows (state_of c.self.inside) c.make.new.self c.rows_of-rows.result.arrivals.items c.rows_of-rows.result.texts.items)) c.self.view_is (made c).0
+pub returns-clause-ok : goal.returns-clause-ok
+returns-clause-ok c =
+    let same = (recalls_book c.remake.new.self c.recall_all.new.self c.recall_all.ensures).document.plan in
+    c.in_ok-edited.ensures.ok ∙ ap (λ (p : Plan). Ok (made p c.in_ok-edited.edited)) (sym same)
 
 pub returns-clause-right : goal.returns-clause-right
-returns-clause-right c = (made c).1
+returns-clause-right c = recalls_right c.remake.new.self c.recall_all.new.self c.remake.ensures.right c.recall_all.ensures

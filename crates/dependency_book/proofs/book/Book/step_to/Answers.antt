@@ -7,8 +7,8 @@ use Rattle.dependency_book.specs.Inside.{state_of}
 use Rattle.dependency_book.proofs.Found.{step_is}
 use Rattle.dependency_book.proofs.book.Book.step_to.Goals as goal
 
-pub returns-clause-entry : goal.returns-clause-entry
-returns-clause-entry c =
+pub returns-clause-step : goal.returns-clause-step
+returns-clause-step c =
     let d = state_of c.self.inside in
     let n = c.before-before.result.0 in
     let s : Stepping = record { rule = c.in_ok-try_clone.field-0; from = c.in_ok-try_clone-2.field-0; cells = c.in_ok-cells_at.field-0; gens = c.args.mark - n } in

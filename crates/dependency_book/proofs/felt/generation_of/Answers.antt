@@ -3,9 +3,9 @@ use Rattle.std.specs.Prelude.{◌==◌}
 use Rattle.std.proofs.lemmas.Bool.{cond-true, cond-false}
 use Rattle.std.proofs.lemmas.Bool.Decides.{nat_tests}
 use Rattle.schedule.specs.declared.document.Intervention.{Intervention}
-use Rattle.dependency_book.specs.Kept.{generation_of}
+use Rattle.dependency_book.specs.Felt.{generation_of}
 use Rattle.dependency_book.proofs.Loops.{past, decided, ended}
-use Rattle.dependency_book.proofs.revise.generation_of.Goals as goal
+use Rattle.dependency_book.proofs.felt.generation_of.Goals as goal
 
 pub loop-intervention-preserved : goal.loop-intervention-preserved
 loop-intervention-preserved c =

@@ -1,0 +1,27 @@
+use Rattle.std.proofs.Common.{◌≡◌, ◌<◌, ◌∙◌, true, ap, length, subst, sym}
+use Rattle.revision_jobs.specs.Value.{pattern}
+use Rattle.dependency_book.specs.declared.row.RowState.TheVariants.{Empty}
+use Rattle.dependency_book.specs.BookState.{BookState, arrival_row}
+use Rattle.dependency_book.specs.Inside.{state_of}
+use Rattle.dependency_book.specs.Needs.{IsLedTo}
+use Rattle.dependency_book.specs.Ready.{steppable}
+use Rattle.dependency_book.specs.RowState.{state_map}
+use Rattle.dependency_book.proofs.Needed.{steps_there}
+use Rattle.dependency_book.proofs.book.Book.recall_at.Goals as goal
+
+pub recall-requires-clause-led : goal.recall-requires-clause-led
+recall-requires-clause-led c =
+    let d = state_of c.self.inside in
+    let x = c.index.result.now in
+    let low = subst (λ (e : BookState). c.args.place < length e.arrivals) (sym c.self.view_is) c.requires in
+    let can = subst (λ rows. steppable rows c.args.place x ≡ true) c.deref.ensures.value (sym (c.can_step.ensures x) ∙ c.if-not-can_step.false) in
+    subst (λ (e : BookState). IsLedTo e x.key.generation) c.self.view_is (steps_there d c.self.inside.places.items c.args.place x c.self.invariant.held c.index.ensures low can).0
+
+pub recall-requires-clause-empty : goal.recall-requires-clause-empty
+recall-requires-clause-empty c =
+    let d = state_of c.self.inside in
+    let x = c.index.result.now in
+    let low = subst (λ (e : BookState). c.args.place < length e.arrivals) (sym c.self.view_is) c.requires in
+    let can = subst (λ rows. steppable rows c.args.place x ≡ true) c.deref.ensures.value (sym (c.can_step.ensures x) ∙ c.if-not-can_step.false) in
+    ap (state_map pattern)
+    (subst (λ (e : BookState). arrival_row e x.key.generation ≡ Empty) c.self.view_is (steps_there d c.self.inside.places.items c.args.place x c.self.invariant.held c.index.ensures low can).1)
