@@ -1,5 +1,5 @@
 -- What is known stays so while jobs come and go.
-use Rattle.std.proofs.Common.{◌≡◌, ℕ, ◌∙◌, Bool, true, false, refl, sym, ap, arith}
+use Rattle.std.proofs.Common.{◌≡◌, ℕ, ◌∙◌, Bool, true, false, refl, sym, ap, arith, inl, inr}
 use Rattle.std.specs.Prelude.{if◌then◌else◌, ◌==◌}
 use Rattle.std.proofs.lemmas.Bool.Decides.{nat_tests}
 use Rattle.revision_jobs.specs.declared.answer.Job.{Job}
@@ -11,6 +11,8 @@ use Rattle.dependency_book.specs.declared.need.Need.{Need}
 use Rattle.dependency_book.specs.declared.need.Need.TheVariants.{Step, View}
 use Rattle.dependency_book.specs.Jobs.{is_need, issued, answered, cancelled}
 use Rattle.dependency_book.specs.BookState.{BookState, row_of}
+use Rattle.dependency_book.specs.Recalled.{Fills, Recalls}
+use Rattle.dependency_book.proofs.Shared.Recalling.{Stays, recalls_row}
 use Rattle.desk_core.specs.Settling.{KeepsKnown}
 
 pub KeepsKnown-same : (d : BookState) → KeepsKnown d d
@@ -39,9 +41,24 @@ KeepsKnown-issued old new need job empty rows other value is =
     ∙ issued_known (is_need need other) (row_of old other) job value (λ same. ap (row_of old) (sym (same_need need other same)) ∙ empty) is
 
 -- an answer comes
-pub KeepsKnown-answered : (old new : BookState) (answer : JobResult) → ((need : Need) → row_of new need ≡ answered answer (row_of old need)) → KeepsKnown old new
+KeepsKnown-answered : (old new : BookState) (answer : JobResult) → ((need : Need) → row_of new need ≡ answered answer (row_of old need)) → KeepsKnown old new
 KeepsKnown-answered old new answer rows need value is = rows need ∙ ap (answered answer) is
 
 -- a job is cancelled
 pub KeepsKnown-cancelled : (old new : BookState) (number : ℕ) → ((need : Need) → row_of new need ≡ cancelled number (row_of old need)) → KeepsKnown old new
 KeepsKnown-cancelled old new number rows need value is = rows need ∙ ap (cancelled number) is
+
+-- what was computed before is entered
+KeepsKnown-recalled : (d e : BookState) → Recalls d e → KeepsKnown d e
+KeepsKnown-recalled d e h need value is = by_row (recalls_row d e need h)
+  where
+    known_empty : Known value ≡ Empty → ⊥
+    known_empty h = cc
+
+    by_row : Stays (row_of d need) (row_of e need) → row_of e need ≡ Known value
+    by_row (inl same) = same ∙ is
+    by_row (inr k) = absurd (known_empty (sym is ∙ k.0))
+
+-- an answer comes, and what was computed before is entered
+pub KeepsKnown-filled : (old new : BookState) (answer : JobResult) → Fills answer old new → KeepsKnown old new
+KeepsKnown-filled old new answer h = KeepsKnown-on old h.put new (KeepsKnown-answered old h.put answer h.rows) (KeepsKnown-recalled h.put new h.recalls)

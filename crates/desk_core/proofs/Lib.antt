@@ -5,3 +5,4 @@ mod Out
 pub mod Shared
 mod Steps
 mod Turns
+mod Whatever

@@ -13,6 +13,8 @@ use Rattle.dependency_book.specs.declared.need.Need.{Need}
 use Rattle.dependency_book.specs.RowState.{job_of, has_number}
 use Rattle.dependency_book.specs.Jobs.{given_by, is_job, is_need, issued, answered, cancelled, IsAnyOut}
 use Rattle.dependency_book.specs.BookState.{BookState, row_of, expected}
+use Rattle.dependency_book.specs.Recalled.{Fills}
+use Rattle.desk_core.proofs.Shared.Recalled.{recalls_out}
 use Rattle.desk_core.specs.Progress.{IsAtHand}
 use Rattle.desk_core.specs.Settling.{IsHeld}
 
@@ -51,8 +53,12 @@ answered_row answer (Expected job) other h =
     let k = answered_by (is_job answer.job (Some job)) answer.outcome job other h in
     (k.1, ap (is_job answer.job) (sym k.1) ∙ k.0)
 
-pub answered_out : (old new : BookState) (answer : JobResult) → ((need : Need) → row_of new need ≡ answered answer (row_of old need)) → (need : Need) (out : Job) → expected new need ≡ Some out → (expected old need ≡ Some out) × (is_job answer.job (Some out) ≡ false)
+answered_out : (old new : BookState) (answer : JobResult) → ((need : Need) → row_of new need ≡ answered answer (row_of old need)) → (need : Need) (out : Job) → expected new need ≡ Some out → (expected old need ≡ Some out) × (is_job answer.job (Some out) ≡ false)
 answered_out old new answer rows need out h = answered_row answer (row_of old need) out (subst (λ r. job_of r ≡ Some out) (rows need) h)
+
+-- an answer comes, and what was computed before is entered
+pub filled_out : (old new : BookState) (answer : JobResult) → Fills answer old new → (need : Need) (out : Job) → expected new need ≡ Some out → (expected old need ≡ Some out) × (is_job answer.job (Some out) ≡ false)
+filled_out old new answer h need out is = answered_out old h.put answer h.rows need out (recalls_out h.put new need out h.recalls is)
 
 -- a job is cancelled
 
@@ -98,9 +104,9 @@ IsAtHand-issued old new need job held rows at_hand other out is =
     ]
 
 -- what is out after the answer to the job that was held isn't sent yet
-pub IsAtHand-answered : (old new : BookState) (answer : JobResult) (unsent : Option Job) → ((need : Need) → row_of new need ≡ answered answer (row_of old need)) → IsAtHand unsent (Some answer.job) old → IsAtHand unsent None new
-IsAtHand-answered old new answer unsent rows at_hand need other out =
-    let k = answered_out old new answer rows need other out in
+pub IsAtHand-answered : (old new : BookState) (answer : JobResult) (unsent : Option Job) → Fills answer old new → IsAtHand unsent (Some answer.job) old → IsAtHand unsent None new
+IsAtHand-answered old new answer unsent fills at_hand need other out =
+    let k = filled_out old new answer fills need other out in
     elim (at_hand need other k.0) [
       | inl this ↦ inl this
       | inr held ↦ absurd (not_this answer.job other k.1 held)

@@ -8,10 +8,10 @@ use Rattle.revision_jobs.specs.declared.entries.Entries.{Entries}
 use Rattle.revision_jobs.specs.Answer.{JobResult}
 use Rattle.revision_jobs.specs.Entries.{IsOf}
 use Rattle.dependency_book.specs.declared.need.Need.{Need}
-use Rattle.dependency_book.specs.declared.need.Need.TheVariants.{Step}
 use Rattle.dependency_book.specs.RowState.{has_number}
-use Rattle.dependency_book.specs.Jobs.{SameBook, SameDocument, answered, cancelled}
+use Rattle.dependency_book.specs.Jobs.{SameBook, SameDocument}
 use Rattle.dependency_book.specs.BookState.{BookState, expected, row_of, wanting_of}
+use Rattle.dependency_book.specs.Recalled.{Fills}
 use Rattle.dependency_book.specs.Right.{IsRight}
 use Rattle.dependency_book.specs.declared.row.Row.{Row}
 use Rattle.dependency_book.specs.Rows.{keys}
@@ -28,8 +28,8 @@ use Rattle.desk_core.specs.Cause.{cause_of_answer, cause_of_issue}
 use Rattle.desk_core.specs.Issued.{IssuesFor, RefusesIssue}
 use Rattle.desk_core.specs.Settling.{Explains, IsHeld, OutOrSent, Serves, Settles, rows_of}
 use Rattle.desk_core.proofs.Shared.Causes.{explains-kept, explains-collected, explains-refused}
-use Rattle.desk_core.proofs.Known.{KeepsKnown-same, KeepsKnown-on, KeepsKnown-issued, KeepsKnown-answered, KeepsKnown-cancelled}
-use Rattle.desk_core.proofs.Out.{IsAtHand-cancelled, IsHeld-at_hand, issued_out, answered_out, cancelled_out, not_numbered}
+use Rattle.desk_core.proofs.Known.{KeepsKnown-same, KeepsKnown-on, KeepsKnown-issued, KeepsKnown-filled, KeepsKnown-cancelled}
+use Rattle.desk_core.proofs.Out.{IsAtHand-cancelled, IsHeld-at_hand, issued_out, filled_out, cancelled_out, not_numbered}
 
 pub SameDocument-on : (c d e : BookState) → SameDocument c d → SameDocument d e → SameDocument c e
 SameDocument-on c d e h k = record { table = cc; plan = cc; marks = cc; bookmarks = cc }
@@ -100,18 +100,18 @@ HasCome-sent first d before floor higher answers p job rises is none h = record 
     accounted other out (inr (inr sent)) = inr (inr (omega (arith, sent, rises, is)))
 
 -- an answer comes
-HasCome-answered : (first old new : BookState) (before : List JobResult) (floor : ℕ) (answers : List JobResult) (p q : Progress) (answer : JobResult) → ((need : Need) → row_of new need ≡ answered answer (row_of old need)) → SameBook old new → job_in q.unsent ≡ job_in p.unsent
+HasCome-answered : (first old new : BookState) (before : List JobResult) (floor : ℕ) (answers : List JobResult) (p q : Progress) (answer : JobResult) → Fills answer old new → SameBook old new → job_in q.unsent ≡ job_in p.unsent
     → ((later : List JobResult) → IfSome p.cause (Explains new (later ++ answer ∷ [])) → IfSome q.cause (Explains new (later ++ answer ∷ [])))
     → HasCome first before (stage old floor answers p) → HasCome first before (stage new floor (answers ++ answer ∷ []) q)
-HasCome-answered first old new before floor answers p q answer rows same unsent cause h = record {
-  known = KeepsKnown-on first old new h.known (KeepsKnown-answered old new answer rows);
+HasCome-answered first old new before floor answers p q answer fills same unsent cause h = record {
+  known = KeepsKnown-on first old new h.known (KeepsKnown-filled old new answer fills);
   document = SameDocument-on first old new h.document same.document;
   later = h.later ++ answer ∷ [];
   gave = ap (λ xs. xs ++ answer ∷ []) h.gave ∙ append_assoc before h.later (answer ∷ []);
-  cause = cause h.later (explains-kept old new h.later (answer ∷ []) p.cause same (λ mark none. rows (Step mark) ∙ ap (answered answer) none) h.cause);
+  cause = cause h.later (explains-kept old new h.later (answer ∷ []) p.cause same h.cause);
   out = λ other out k.
       subst (λ u. (expected first other ≡ Some out) ⊎ ((u ≡ Some out) ⊎ (out.number < floor))) (sym unsent)
-      (h.out other out (answered_out old new answer rows other out k).0);
+      (h.out other out (filled_out old new answer fills other out k).0);
 }
 
 -- the job that isn't sent yet is cancelled
@@ -125,7 +125,7 @@ cancels-any first old new before floor answers p q (Some job) was cancels is cau
   later = h.later ++ [];
   gave = h.gave ∙ ap (λ xs. before ++ xs) (sym (append-nil h.later));
   cause = subst (λ c. IfSome c (Explains new (h.later ++ []))) (sym cause)
-      (explains-kept old new h.later [] p.cause cancels.book (λ mark none. cancels.rows (Step mark) ∙ ap (cancelled job.number) none) h.cause);
+      (explains-kept old new h.later [] p.cause cancels.book h.cause);
   out = λ other out k. let left = cancelled_out job.number old new cancels.rows other out k in accounted other out left.1 (h.out other out left.0);
 }
   where
@@ -167,18 +167,18 @@ GoesOn-refused old new floor answers p q fault same unsent cause refuses = subst
   comes = λ first before. HasCome-told first old before floor answers p q (ap job_in unsent) (λ later h. subst (λ c. IfSome c (Explains old later)) (sym cause) (explains-refused old later fault refuses));
 })
 
-pub GoesOn-answered : (old new : BookState) (floor : ℕ) (answers : List JobResult) (p : Progress) (answer : JobResult) → ((need : Need) → row_of new need ≡ answered answer (row_of old need)) → SameBook old new → GoesOn (stage old floor answers p) (stage new floor (answers ++ answer ∷ []) p)
-GoesOn-answered old new floor answers p answer rows same = record {
+pub GoesOn-answered : (old new : BookState) (floor : ℕ) (answers : List JobResult) (p : Progress) (answer : JobResult) → Fills answer old new → SameBook old new → GoesOn (stage old floor answers p) (stage new floor (answers ++ answer ∷ []) p)
+GoesOn-answered old new floor answers p answer fills same = record {
   cause = λ none. none;
-  comes = λ first before. HasCome-answered first old new before floor answers p p answer rows same refl (λ later h. h);
+  comes = λ first before. HasCome-answered first old new before floor answers p p answer fills same refl (λ later h. h);
 }
 
-pub GoesOn-released : (old new : BookState) (floor : ℕ) (answers : List JobResult) (p q : Progress) (answer : JobResult) (fault : EvolveFault) (told cause : Cause) → ((need : Need) → row_of new need ≡ answered answer (row_of old need)) → SameBook old new → IsCollected old new answer (Released fault) → told ≡ cause_of_answer fault → cause ≡ unwrap_or p.cause told
+pub GoesOn-released : (old new : BookState) (floor : ℕ) (answers : List JobResult) (p q : Progress) (answer : JobResult) (fault : EvolveFault) (told cause : Cause) → Fills answer old new → SameBook old new → IsCollected old new answer (Released fault) → told ≡ cause_of_answer fault → cause ≡ unwrap_or p.cause told
     → q.unsent ≡ p.unsent → q.cause ≡ Some cause → GoesOn (stage old floor answers p) (stage new floor (answers ++ answer ∷ []) q)
-GoesOn-released old new floor answers p q answer fault told cause rows same collected is first unsent caused = record {
+GoesOn-released old new floor answers p q answer fault told cause fills same collected is first unsent caused = record {
   cause = λ none. absurd (cc);
-  comes = λ begun before. HasCome-answered begun old new before floor answers p q answer rows same (ap job_in unsent)
-      (λ later h. subst (λ c. IfSome c (Explains new (later ++ answer ∷ []))) (sym caused) (explains-collected old new later answer p.cause fault told cause rows same collected is first h));
+  comes = λ begun before. HasCome-answered begun old new before floor answers p q answer fills same (ap job_in unsent)
+      (λ later h. subst (λ c. IfSome c (Explains new (later ++ answer ∷ []))) (sym caused) (explains-collected old new later answer p.cause fault told cause collected is first h));
 }
 
 pub GoesOn-cancelled : (old new : BookState) (floor : ℕ) (answers : List JobResult) (p q : Progress) → CancelsAny (job_in p.unsent) old new → job_in q.unsent ≡ None → q.cause ≡ p.cause → GoesOn (stage old floor answers p) (stage new floor answers q)
@@ -242,11 +242,11 @@ Fits-book old new entries floor unsent same h = record {
 pub Fits-post : (d : BookState) (before after : Entries) (floor higher : ℕ) (unsent : Option Job) → after ≡ before → higher ≡ floor → Fits d before floor unsent → Fits d after higher unsent
 Fits-post d before after floor higher unsent same_table same_floor h = subst (λ t. Fits d t higher unsent) (sym same_table) (subst (λ f. Fits d before f unsent) (sym same_floor) h)
 
--- an answer that isn't that a job gave up leaves as many rows wanting
-pub wanting-collected : (old new : BookState) (answer : JobResult) (collected : Collected) → ((fault : EvolveFault) → collected ≡ Released fault → ⊥) → IsCollected old new answer collected → wanting_of new ≡ wanting_of old
+-- after an answer that isn't that a job gave up no more rows are wanting
+pub wanting-collected : (old new : BookState) (answer : JobResult) (collected : Collected) → ((fault : EvolveFault) → collected ≡ Released fault → ⊥) → IsCollected old new answer collected → wanting_of new ≤ wanting_of old
 wanting-collected old new answer Accepted kept h = h.wanting
 wanting-collected old new answer (Released fault) kept h = absurd (kept fault refl)
-wanting-collected old new answer (Stale number revision) kept h = ap wanting_of h.same
+wanting-collected old new answer (Stale number revision) kept h = let same = ap wanting_of h.same in omega (arith, same)
 
 -- a settling as a whole, whose last job that isn't sent is cancelled
 

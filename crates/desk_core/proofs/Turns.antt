@@ -49,7 +49,7 @@ Advances-sent before mid after first second third next cause h k = record {
   nears = λ at_hand none. nears_on before mid after next (h.turns (cause none)) (k.nears (h.out at_hand) none);
 }
 
-nearer : (before mid after : Moment) (shown : Unsent) → turns_from mid ≤ turns_from before → after.unsent ≡ shown → after.held ≡ None → wanting_of after.desk ≡ wanting_of mid.desk → turns_for shown None < turns_for mid.unsent mid.held → turns_from after < turns_from before
+nearer : (before mid after : Moment) (shown : Unsent) → turns_from mid ≤ turns_from before → after.unsent ≡ shown → after.held ≡ None → wanting_of after.desk ≤ wanting_of mid.desk → turns_for shown None < turns_for mid.unsent mid.held → turns_from after < turns_from before
 nearer before mid after shown h unsent held wanting fewer =
     let same : turns_for after.unsent after.held ≡ turns_for shown None = ap (λ x. turns_for x after.held) unsent ∙ ap (turns_for shown) held in
     omega (arith, same, wanting)

@@ -1,5 +1,5 @@
 -- What comes of an answer.
-use Rattle.std.specs.Prelude.{◌≡◌, ℕ, Err, true, false}
+use Rattle.std.specs.Prelude.{◌≡◌, ℕ, ◌≤◌, Err, true, false}
 use Rattle.std.specs.Result.{IsOk}
 use Rattle.step_engine.specs.declared.evolved.EvolveFault.{EvolveFault}
 use Rattle.revision_jobs.specs.Answer.{JobResult}
@@ -10,13 +10,14 @@ use Rattle.dependency_book.specs.BookState.{BookState, expected, wanting_of}
 use Rattle.desk_core.specs.declared.collect.Collected.{Collected}
 use Rattle.desk_core.specs.declared.collect.Collected.TheVariants.{Accepted, Released, Stale}
 
--- a row expects the job of an answer with a value, and as many rows are empty afterwards
+-- a row expects the job of an answer with a value, and no more rows are empty afterwards
 pub record IsAccepted (old new : BookState) (answer : JobResult) : Type 0 where
   pub expected : IsExpected old answer.job
   pub value : IsOk answer.outcome
-  pub wanting : wanting_of new ≡ wanting_of old
+  pub wanting : wanting_of new ≤ wanting_of old
 
 -- a row expects the job of an answer that says why there is no value: want of room only of a step
+-- that has none at some limit
 pub record IsReleased (old : BookState) (answer : JobResult) (fault : EvolveFault) : Type 0 where
   pub expected : IsExpected old answer.job
   pub gave_up : answer.outcome ≡ Err fault

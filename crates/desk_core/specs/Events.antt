@@ -1,17 +1,24 @@
 -- The core of a desk, and what each event makes of it.
-use Rattle.std.specs.Prelude.{ℕ, ◌+◌, Result, Ok, Err, if◌then◌else◌, ◌==◌}
+use Rattle.std.specs.Prelude.{◌≡◌, ℕ, ◌+◌, ◌<◌, ◌≤◌, List, [], ◌∷◌, Option, None, Some, Result, Ok, Err, if◌then◌else◌, ◌==◌, ⊤}
+use Rattle.worlds.specs.World.{World}
+use Rattle.rule_tree.specs.Rule.{states_of}
 use Rattle.schedule.specs.declared.fault.EditFault.{EditFault}
-use Rattle.schedule.specs.Asked.{Asked}
-use Rattle.schedule.specs.Change.{Changed, change}
+use Rattle.schedule.specs.Asked.{Asked, InsertIntervention, ChangeIntervention, RemoveIntervention, SetCells, ReplaceStart, ReplaceRule, AddBookmark, MoveBookmark, RemoveBookmark}
+use Rattle.schedule.specs.Change.{Changed, change, changed}
 use Rattle.schedule.specs.Plan.{Plan}
+use Rattle.revision_jobs.specs.declared.entries.Entries.{Entries}
 use Rattle.revision_jobs.specs.declared.entries.Place.{Place}
+use Rattle.revision_jobs.specs.declared.entry.Step.{Step as Stepping}
+use Rattle.revision_jobs.specs.Entries.{IsOf, entry_of}
 use Rattle.revision_jobs.specs.Answer.{JobResult}
-use Rattle.revision_jobs.specs.Value.{Value, pattern}
+use Rattle.revision_jobs.specs.Value.{Value, pattern, text, world_after}
 use Rattle.dependency_book.specs.declared.row.RowState.{RowState}
-use Rattle.dependency_book.specs.declared.row.RowState.TheVariants.{Known}
+use Rattle.dependency_book.specs.declared.row.RowState.TheVariants.{Empty, Expected, Known}
 use Rattle.dependency_book.specs.declared.need.Need.{Need}
 use Rattle.dependency_book.specs.declared.need.Need.TheVariants.{Step, View}
-use Rattle.dependency_book.specs.Jobs.{issued, answered, cancelled}
+use Rattle.dependency_book.specs.Entered.{IsEntryFrom, StepsFrom}
+use Rattle.dependency_book.specs.Felt.{IsFelt}
+use Rattle.dependency_book.specs.Jobs.{is_need, issued, answered, cancelled}
 use Rattle.dependency_book.specs.Kept.{arrival_kept, text_kept}
 use Rattle.dependency_book.specs.BookState.{BookState, row_of, bookmark_in}
 
@@ -25,33 +32,40 @@ pub record Core : Type 0 where
 abbrev pub core_of : BookState → Core
 core_of d = record { plan = d.plan; given = d.given; rows = λ need. row_of d need }
 
--- what happens to a desk: an edit is asked, a job is issued for a need with its entry at a place,
--- an answer is collected, or the job of a number is cancelled
+-- what happens to a desk: an edit is asked, which is felt from some generation; a job is issued for a need with its entry at a place,
+-- an answer is collected, the job of a number is cancelled, or what comes of a step is entered for
+-- the mark that it leads to without a job, because it was computed before
 pub data Event : Type 0 where
-  edits : Asked → Event
+  edits : Asked → Option ℕ → Event
   issues : Need → Place → Event
   collects : JobResult → Event
   cancels : ℕ → Event
+  recalls : ℕ → Stepping → Event
 
--- what an edit of a document, which gives another one, keeps of what stands in the row of a need;
--- what arrives at 0 is the start
-abbrev pub kept_row : Plan → Asked → Plan → Need → RowState Value → RowState Value
-kept_row p asked q (Step mark) row =
-    if mark == 0 then Known (pattern q.start) else arrival_kept p asked q mark row
-kept_row p asked q (View id) row = text_kept p asked (bookmark_in p.bookmarks id) row
+-- what an edit of a document, which gives another one and is felt from there, keeps of what stands in
+-- the row of a need; what arrives at 0 is the start
+abbrev pub kept_row : Plan → Asked → Option ℕ → Plan → Need → RowState Value → RowState Value
+kept_row p asked felt q (Step mark) row =
+    if mark == 0 then Known (pattern q.start) else arrival_kept felt q mark row
+kept_row p asked felt q (View id) row = text_kept felt asked (bookmark_in p.bookmarks id) row
 
 -- a core after an edit that gives a changed document; a refused one changes nothing
-abbrev pub after_edit : Core → Asked → Result Changed EditFault → Core
-after_edit c asked (Ok changed) = record {
+abbrev pub after_edit : Core → Asked → Option ℕ → Result Changed EditFault → Core
+after_edit c asked felt (Ok changed) = record {
   plan = changed.plan;
   given = c.given;
-  rows = λ need. kept_row c.plan asked changed.plan need (c.rows need);
+  rows = λ need. kept_row c.plan asked felt changed.plan need (c.rows need);
 }
-after_edit c asked (Err fault) = c
+after_edit c asked felt (Err fault) = c
+
+-- what stands in a row after what comes of a step was entered for a mark
+abbrev pub recalled : ℕ → Stepping → Need → RowState Value → RowState Value
+recalled mark s need row =
+    if is_need (Step mark) need then Known (pattern (world_after s)) else row
 
 -- a core after an event
 abbrev pub after_event : Core → Event → Core
-after_event c (edits asked) = after_edit c asked (change c.plan asked)
+after_event c (edits asked felt) = after_edit c asked felt (change c.plan asked)
 after_event c (issues need place) = record {
   plan = c.plan;
   given = c.given + 1;
@@ -59,3 +73,71 @@ after_event c (issues need place) = record {
 }
 after_event c (collects answer) = record c { rows = λ need. answered answer (c.rows need) }
 after_event c (cancels number) = record c { rows = λ need. cancelled number (c.rows need) }
+after_event c (recalls mark s) = record c { rows = λ need. recalled mark s need (c.rows need) }
+
+-- a core after what comes of these steps was entered for their marks
+abbrev pub after_recalls : Core → List (ℕ × Stepping) → Core
+after_recalls c [] = c
+after_recalls c (r ∷ rs) = after_recalls (after_event c (recalls r.0 r.1)) rs
+
+-- the world that stands in a row, if one is known
+abbrev pub world_in : RowState Value → Option World
+world_in Empty = None
+world_in (Expected job) = None
+world_in (Known (pattern w)) = Some w
+world_in (Known (text bytes)) = None
+
+-- the world that is known to arrive at a generation
+abbrev pub arrival_in : Core → ℕ → Option World
+arrival_in c g = world_in (c.rows (Step g))
+
+-- a rule that is asked for has 2 to 256 states
+abbrev pub MayBeAsked : Asked → Type 0
+MayBeAsked (InsertIntervention generation cells) = ⊤
+MayBeAsked (ChangeIntervention id generation cells) = ⊤
+MayBeAsked (RemoveIntervention id) = ⊤
+MayBeAsked (SetCells cells) = ⊤
+MayBeAsked (ReplaceStart start) = ⊤
+MayBeAsked (ReplaceRule rule) = (2 ≤ states_of rule) × (states_of rule ≤ 256)
+MayBeAsked (AddBookmark generation view) = ⊤
+MayBeAsked (MoveBookmark id generation) = ⊤
+MayBeAsked (RemoveBookmark id) = ⊤
+
+-- a job may be issued for a need: nothing stands in its row, the entry at the place, which is one of
+-- the table, is what is to be computed for that row, and numbers are left
+pub record CanIssue (table : Entries) (c : Core) (need : Need) (place : Place) : Type 0 where
+  pub empty : c.rows need ≡ Empty
+  pub own : IsOf table place
+  pub entry : IsEntryFrom c.plan (arrival_in c) need (entry_of place)
+  pub few : c.given < 16777216
+
+-- a step may be entered for a mark: nothing stands in its row, and the step is what is to be
+-- computed for that row
+pub record CanRecall (c : Core) (mark : ℕ) (s : Stepping) : Type 0 where
+  pub empty : c.rows (Step mark) ≡ Empty
+  pub own : StepsFrom c.plan (arrival_in c) mark s
+
+-- these steps may be entered for their marks, one after the other
+abbrev pub CanRecallAll : Core → List (ℕ × Stepping) → Type 0
+CanRecallAll c [] = ⊤
+CanRecallAll c (r ∷ rs) =
+    CanRecall c r.0 r.1 × CanRecallAll (after_event c (recalls r.0 r.1)) rs
+
+-- a core after an event, when also what was computed before was entered
+pub record Follows (event : Event) (c d : Core) : Type 0 where
+  pub entered : List (ℕ × Stepping)
+  pub can : CanRecallAll (after_event c event) entered
+  pub is : d ≡ after_recalls (after_event c event) entered
+
+-- an edit may be asked, and is felt from there
+pub record CanEdit (c : Core) (asked : Asked) (felt : Option ℕ) : Type 0 where
+  pub rule : MayBeAsked asked
+  pub felt_there : IsFelt (arrival_in c) c.plan asked (changed c.plan asked).plan felt
+
+-- an event may happen to a core
+abbrev pub CanHappen : Entries → Core → Event → Type 0
+CanHappen table c (edits asked felt) = CanEdit c asked felt
+CanHappen table c (issues need place) = CanIssue table c need place
+CanHappen table c (collects answer) = ⊤
+CanHappen table c (cancels number) = ⊤
+CanHappen table c (recalls mark s) = CanRecall c mark s

@@ -6,12 +6,12 @@ use Rattle.dependency_book.specs.declared.row.RowState.TheVariants.{Empty}
 use Rattle.dependency_book.specs.Jobs.{issued, IsNextJob, SameDocument}
 use Rattle.dependency_book.specs.BookState.{BookState, row_of, wanting_of, pending_of, NothingOut}
 use Rattle.dependency_book.specs.Needs.{IsNext}
-use Rattle.desk_core.specs.Events.{core_of, after_event, issues}
+use Rattle.desk_core.specs.Events.{CanIssue, core_of, after_event, issues}
 use Rattle.desk_core.specs.declared.issue.IssueFault.{IssueFault}
 use Rattle.desk_core.specs.declared.issue.IssueFault.TheVariants.{NumbersSpent, NoMemory}
 
 -- the next job is that of this row, in which nothing stood; the row expects it, and no other row
--- changes: this is the event of the issue
+-- changes: this is the event of the issue, which may happen
 pub record IssuesFor (old new : BookState) (job : Job) (need : Need) : Type 0 where
   pub next : IsNextJob old need job
   pub empty : row_of old need ≡ Empty
@@ -19,6 +19,7 @@ pub record IssuesFor (old new : BookState) (job : Job) (need : Need) : Type 0 wh
   pub document : SameDocument old new
   pub given : new.given ≡ old.given + 1
   pub fewer : wanting_of new + 1 ≡ wanting_of old
+  pub can : CanIssue old.table (core_of old) need job.place
   pub event : core_of new ≡ after_event (core_of old) (issues need job.place)
 
 -- a job for what is to be computed next; none, and nothing changes, where nothing is, and then

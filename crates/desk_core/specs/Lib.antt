@@ -1,5 +1,6 @@
 pub mod Cause
 pub mod Collected
+pub mod Configuration
 pub mod Desk
 pub mod Edited
 pub mod Events

@@ -190,7 +190,7 @@ NearsOver is_prompt held p q d e before after next =
     is_prompt p ≡ true
     → Advances (moment d before.unsent (held p)) (moment e after.unsent (held q)) after.cause next
 
--- what the post held was answered: what is out isn't sent yet, and unless there is a cause as many
+-- what the post held was answered: what is out isn't sent yet, and unless there is a cause no more
 -- rows want a job
 pub record Receives (before after : Moment) (cause : Option Cause) (next : ControlFlow Unit Unit)
     : Type 0 where
@@ -198,7 +198,7 @@ pub record Receives (before after : Moment) (cause : Option Cause) (next : Contr
   pub nothing_held : after.held ≡ None
   pub goes_on : next ≡ Continue tt
   pub unsent : cause ≡ None → after.unsent ≡ before.unsent
-  pub wanting : cause ≡ None → wanting_of after.desk ≡ wanting_of before.desk
+  pub wanting : cause ≡ None → wanting_of after.desk ≤ wanting_of before.desk
 
 -- so it is over a prompt post, seen by what it holds
 abbrev pub ReceivesOver : {P : Type 0} → (P → Bool) → (P → Option Job) → P → P

@@ -5,12 +5,12 @@ use Rattle.step_engine.specs.declared.evolved.EvolveFault.{EvolveFault}
 use Rattle.revision_jobs.specs.declared.answer.Job.{Job}
 use Rattle.revision_jobs.specs.declared.entries.Entries.{Entries}
 use Rattle.revision_jobs.specs.Answer.{JobResult}
+use Rattle.revision_jobs.specs.Entries.{entry_of}
+use Rattle.revision_jobs.specs.Room.{HasNoRoom}
 use Rattle.revision_jobs.specs.Value.{Value}
 use Rattle.dependency_book.specs.declared.need.Need.{Need}
-use Rattle.dependency_book.specs.declared.need.Need.TheVariants.{Step}
-use Rattle.dependency_book.specs.declared.row.RowState.TheVariants.{Empty, Known}
+use Rattle.dependency_book.specs.declared.row.RowState.TheVariants.{Known}
 use Rattle.dependency_book.specs.BookState.{BookState, row_of, expected, pending_of}
-use Rattle.dependency_book.specs.Marks.{is_mark}
 use Rattle.dependency_book.specs.Right.{IsRight}
 use Rattle.desk_core.specs.declared.cause.Cause.{Cause}
 use Rattle.desk_core.specs.declared.cause.Cause.TheVariants.{NoMemory, NoRoom, Stopped, NumbersSpent}
@@ -21,19 +21,18 @@ use Rattle.desk_core.specs.declared.settling.Settling.TheVariants.{Settled, Unse
 abbrev pub GaveUp : List JobResult → EvolveFault → Type 0
 GaveUp answers fault = Any (λ (answer : JobResult). answer.outcome ≡ Err fault) answers
 
--- a step is wanting: to a generation above 0 at which an intervention or a bookmark is, of which
--- nothing is known and for which no job is out
-pub record WantsStep (d : BookState) : Type 0 where
-  pub mark : ℕ
-  pub above : 0 < mark
-  pub is : is_mark d.plan mark ≡ true
-  pub nothing : row_of d (Step mark) ≡ Empty
+-- one of the answers says that its job gave up for want of room, and its job's entry has none at some
+-- limit
+abbrev pub FoundNoRoom : List JobResult → Type 0
+FoundNoRoom answers = Any (λ (answer : JobResult).
+    (answer.outcome ≡ Err EvolveFault.NoRoom)
+    × ((limit : ℕ) × HasNoRoom limit (entry_of answer.job.place))) answers
 
--- a cause is that of an answer that was given, for want of room to a step that is wanting, or of an
+-- a cause is that of an answer that was given, for want of room to an entry that has none, or of an
 -- issue that was refused: every number was given, or else memory ran out
 abbrev pub Explains : BookState → List JobResult → Cause → Type 0
 Explains d answers NoMemory = GaveUp answers EvolveFault.NoMemory ⊎ (d.given < 16777216)
-Explains d answers NoRoom = GaveUp answers EvolveFault.NoRoom × WantsStep d
+Explains d answers NoRoom = FoundNoRoom answers
 Explains d answers Stopped = GaveUp answers EvolveFault.Stopped
 Explains d answers NumbersSpent = 16777216 ≤ d.given
 

@@ -2,10 +2,11 @@
 ghost use Rattle.std.specs.Prelude.{◌≡◌, ◌↔◌, IsTrue};
 ghost use Rattle.revision_jobs.specs.Entries.{IsOf};
 ghost use Rattle.dependency_book.specs.BookState.{row_of};
-ghost use Rattle.dependency_book.specs.Jobs.{answered, cancelled, IsAnyOut, IsFirstOut, SameBook};
+ghost use Rattle.dependency_book.specs.Jobs.{cancelled, IsAnyOut, IsFirstOut, SameBook};
+ghost use Rattle.dependency_book.specs.Recalled.{Fills};
 ghost use Rattle.dependency_book.specs.Right.{IsRight};
 ghost use Rattle.dependency_book.specs.declared.need.Need.{Need};
-ghost use Rattle.desk_core.specs.Events.{core_of, after_event, collects, cancels};
+ghost use Rattle.desk_core.specs.Events.{core_of, after_event, collects, cancels, Follows};
 ghost use Rattle.desk_core.specs.Collected.{IsCollected, IsOut};
 
 use crate::desk::Desk;
@@ -27,14 +28,17 @@ pub enum Collected {
 
 impl Desk<'_> {
     /// Takes an answer of the desk's table, however late it is or how often it comes. Whether a row
-    /// expects its job decides, and no comparison of revisions. It takes no memory.
+    /// expects its job decides, and no comparison of revisions.
+    ///
+    /// What came of a step is kept beside the rows, and where a row was filled, what is known by such
+    /// steps is entered too. Where there is no memory for that nothing is kept or found; an answer
+    /// is never refused.
     pub fn collect(&mut self, answer: Answer) -> Collected
         requires own { IsOf self.old.table answer.job.place }
         ensures collected { IsCollected self.old self.new answer result }
-        ensures rows { (need : Need) →
-            row_of self.new need ≡ answered answer (row_of self.old need) }
+        ensures fills { Fills answer self.old self.new }
         ensures book { SameBook self.old self.new }
-        ensures event { core_of self.new ≡ after_event (core_of self.old) (collects answer) }
+        ensures event { Follows (collects answer) (core_of self.old) (core_of self.new) }
         ensures right { IsRight self.new }
     {
         let number = answer.number();

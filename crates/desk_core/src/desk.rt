@@ -12,6 +12,7 @@ use revision_jobs::Entries;
 use schedule::{Document, Edit, EditFault, Edited};
 use std::alloc::{AllocError, Global};
 use std::marker::Model;
+use std::num::NonZeroUsize;
 
 /// A document, what is known of it, and the jobs of a table of entries that are out for the rest.
 #[derive(Drop)]
@@ -37,14 +38,15 @@ impl<'e> Model for Desk<'e> {
 }
 
 impl<'e> Desk<'e> {
-    /// A desk with the opening document of revision 0, whose jobs are of this table. So many results
-    /// of steps may be kept beside the rows; none is so far.
-    pub fn open(alloc: Global, entries: &'e Entries, _facts: u32) -> Result<Desk<'e>, AllocError>
+    /// A desk with the opening document of revision 0, whose jobs are of this table. At most so many
+    /// steps are kept with what came of them, and at least one.
+    pub fn open(alloc: Global, entries: &'e Entries, facts: u32) -> Result<Desk<'e>, AllocError>
         ensures opened { IfOk result (λ desk. desk ≡ opened entries.now 0) }
         ensures right { IfOk result IsRight }
     {
+        let facts = NonZeroUsize::new(facts as usize).unwrap_or(NonZeroUsize::MIN);
         Ok(Desk {
-            book: Book::open(alloc, entries, 0)?,
+            book: Book::open(alloc, entries, 0, facts)?,
             entries,
         })
     }
@@ -57,7 +59,8 @@ impl<'e> Desk<'e> {
     }
 
     /// Makes the change that the edit asks for and forgets exactly what the edit touches, or
-    /// refuses it and changes nothing.
+    /// refuses it and changes nothing. An edit of interventions that is seen to change no pattern
+    /// touches nothing. What is known by steps that were computed before is entered then.
     pub fn edit(&mut self, edit: &Edit) -> Result<Edited, EditFault>
         ensures ok { IfOk result (Makes (asked_of edit.now) self.old self.new) }
         ensures refused { IfErr result (Refuses (asked_of edit.now) self.old) }

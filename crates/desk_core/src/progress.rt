@@ -1,5 +1,5 @@
 //! The progress of a settling.
-ghost use Rattle.std.specs.Prelude.{◌≡◌, None, Some, true};
+ghost use Rattle.std.specs.Prelude.{◌≡◌, ◌≤◌, None, Some, true};
 ghost use Rattle.revision_jobs.specs.Entries.{IsOf};
 ghost use Rattle.dependency_book.specs.BookState.{wanting_of};
 ghost use Rattle.desk_core.specs.Progress.{Fits, GivesBack, GoesOnBy, GoesOnOver, GoesOnWith};
@@ -157,7 +157,7 @@ impl Progress {
         ensures fits { StaysFit desk.old desk.new self.old self.new }
         ensures out { GivesBack answer.job desk.old desk.new self.old self.new }
         ensures same { self.new.cause ≡ None → self.new.unsent ≡ self.old.unsent }
-        ensures wanting { self.new.cause ≡ None → wanting_of desk.new ≡ wanting_of desk.old }
+        ensures wanting { self.new.cause ≡ None → wanting_of desk.new ≤ wanting_of desk.old }
     {
         if let Collected::Released(fault) = desk.collect(answer) {
             self.cause = Some(self.cause.unwrap_or(Cause::of_answer(fault)));

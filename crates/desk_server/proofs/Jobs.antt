@@ -16,6 +16,9 @@ use Rattle.dependency_book.specs.declared.need.Need.TheVariants.{Step, View}
 use Rattle.dependency_book.specs.RowState.{job_of, has_number, state_map}
 use Rattle.dependency_book.specs.Jobs.{cancelled, IsFirstOut, SameBook}
 use Rattle.dependency_book.specs.Kept.{KeepsRows, text_kept, keeps_text, keeps_arrival}
+use Rattle.dependency_book.specs.Recalled.{Revises}
+use Rattle.dependency_book.proofs.Shared.Recalling.{recalls_book}
+use Rattle.desk_core.proofs.Shared.Recalled.{recalls_out}
 use Rattle.dependency_book.specs.Marks.{is_mark}
 use Rattle.dependency_book.specs.BookState.{BookState, row_of, expected, opened, arrival_row, text_row, bookmark_in, pending_of, NothingOut}
 use Rattle.desk_core.specs.declared.cause.Cause.{Cause}
@@ -106,20 +109,26 @@ kept_text : {V : Type 0} (keeps : Bool) (row : RowState V) (job : Job) → job_o
 kept_text true row job e = e
 kept_text false row job e = absurd (cc)
 
-kept_of : {V : Type 0} (p : Plan) (asked : Asked) (bookmark : Option Bookmark) (row : RowState V) (job : Job) → job_of (text_kept p asked bookmark row) ≡ Some job → job_of row ≡ Some job
-kept_of p asked None row job e = absurd (cc)
-kept_of p asked (Some b) row job e = kept_text (keeps_text p asked b) row job e
+kept_of : {V : Type 0} (felt : Option ℕ) (asked : Asked) (bookmark : Option Bookmark) (row : RowState V) (job : Job) → job_of (text_kept felt asked bookmark row) ≡ Some job → job_of row ≡ Some job
+kept_of felt asked None row job e = absurd (cc)
+kept_of felt asked (Some b) row job e = kept_text (keeps_text felt asked b) row job e
 
-edit_keeps_out : (asked : Asked) (old new : BookState) → KeepsRows asked old new → (need : Need) (job : Job) → expected new need ≡ Some job → expected old need ≡ Some job
-edit_keeps_out asked old new keeps (Step g) job e =
+edit_keeps_out : (asked : Asked) (felt : Option ℕ) (old new : BookState) → KeepsRows asked felt old new → (need : Need) (job : Job) → expected new need ≡ Some job → expected old need ≡ Some job
+edit_keeps_out asked felt old new keeps (Step g) job e =
     out_of_map pattern (arrival_row old g)
-    ∙ kept_arrival (g == 0) (is_mark new.plan g && keeps_arrival old.plan asked g) new.plan.start (arrival_row old g) job (sym (ap job_of (keeps.arrivals g)) ∙ (sym (out_of_map pattern (arrival_row new g)) ∙ e))
-edit_keeps_out asked old new keeps (View id) job e =
+    ∙ kept_arrival (g == 0) (is_mark new.plan g && keeps_arrival felt g) new.plan.start (arrival_row old g) job (sym (ap job_of (keeps.arrivals g)) ∙ (sym (out_of_map pattern (arrival_row new g)) ∙ e))
+edit_keeps_out asked felt old new keeps (View id) job e =
     out_of_map text (text_row old id)
-    ∙ kept_of old.plan asked (bookmark_in old.plan.bookmarks id) (text_row old id) job (sym (ap job_of (keeps.texts id)) ∙ (sym (out_of_map text (text_row new id)) ∙ e))
+    ∙ kept_of felt asked (bookmark_in old.plan.bookmarks id) (text_row old id) job (sym (ap job_of (keeps.texts id)) ∙ (sym (out_of_map text (text_row new id)) ∙ e))
 
-pub edit_drops : (asked : Asked) (old new : BookState) → KeepsRows asked old new → DropsJobs old new
-edit_drops asked old new keeps = record { table = keeps.table; given = keeps.given; out = edit_keeps_out asked old new keeps }
+pub edit_drops : (asked : Asked) (old new : BookState) → Revises asked old new → DropsJobs old new
+edit_drops asked old new h =
+    let book = recalls_book h.kept new h.recalls in
+    record {
+      table = book.document.table ∙ h.keeps.keeps.table;
+      given = book.given ∙ h.keeps.keeps.given;
+      out = λ need job e. edit_keeps_out asked h.keeps.felt old h.kept h.keeps.keeps need job (recalls_out h.kept new need job h.recalls e);
+    }
 
 -- at the beginning
 none_at : (at_start : Bool) (world : World) (job : Job) → job_of (cond at_start (Known world) Empty) ≡ Some job → ⊥

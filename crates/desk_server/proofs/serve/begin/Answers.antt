@@ -21,7 +21,7 @@ pub returns-clause-answer : goal.returns-clause-answer
 returns-clause-answer c = (NoShortage, λ _. tt, search rules)
 
 pub returns-clause-jobs : goal.returns-clause-jobs
-returns-clause-jobs c = edit_drops (ReplaceStart (arc_value c.args.start)) _ _ c.in-Ok.ensures.ok.keeps
+returns-clause-jobs c = edit_drops (ReplaceStart (arc_value c.args.start)) _ _ c.in-Ok.ensures.ok.revises
 
 pub returns-in-Err-clause-jobs : goal.returns-in-Err-clause-jobs
 returns-in-Err-clause-jobs c = drops_none _ _ c.in-Err.ensures.unchanged

@@ -23,7 +23,7 @@ returns-in-Settled-clause-explained g c = let ends = c.in-Settled.ensures.ends i
 pub returns-in-Unsettled-clause-explained : goal.returns-in-Unsettled-clause-explained
 returns-in-Unsettled-clause-explained g c =
     let ends = c.in-Unsettled.ensures.ends in
-    (ends.0, ends.1, causes_kept _ _ ends.0 c.in-Unsettled.cause c.give_up.ensures.causes ends.2.3)
+    (ends.0, ends.1, causes_kept c.settle.new.desk c.give_up.new.desk ends.0 c.in-Unsettled.cause c.give_up.ensures.causes ends.2.3)
 
 pub returns-in-Unsettled-clause-caused : goal.returns-in-Unsettled-clause-caused
 returns-in-Unsettled-clause-caused g c = λ prompt.

@@ -21,7 +21,7 @@ pub returns-in-Ok-clause-answer : goal.returns-in-Ok-clause-answer
 returns-in-Ok-clause-answer c = (NoShortage, λ _. tt, search rules)
 
 pub returns-in-Ok-clause-jobs : goal.returns-in-Ok-clause-jobs
-returns-in-Ok-clause-jobs c = edit_drops (asked_of c.args.edit.now) _ _ c.in-Ok.ensures.ok.keeps
+returns-in-Ok-clause-jobs c = edit_drops (asked_of c.args.edit.now) _ _ c.in-Ok.ensures.ok.revises
 
 pub returns-in-Err-clause-jobs : goal.returns-in-Err-clause-jobs
 returns-in-Err-clause-jobs c = drops_none _ _ c.in-Err.ensures.unchanged

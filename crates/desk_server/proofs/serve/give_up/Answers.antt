@@ -17,6 +17,6 @@ pub loop-first-preserved : goal.loop-first-preserved
 loop-first-preserved c = record {
   plan = c.cancel.ensures.book.document.plan ∙ c.loop-first.invariant.plan;
   drops = drops_drops _ _ _ c.loop-first.invariant.drops (cancel_drops _ _ _ c.cancel.ensures.rows c.cancel.ensures.book);
-  causes = λ answers cause h. explains-cancelled _ _ _ c.cancel.ensures.rows c.cancel.ensures.book answers cause (c.loop-first.invariant.causes answers cause h);
+  causes = λ answers cause h. explains-cancelled c.loop-first.desk c.cancel.new.self c.cancel.ensures.book answers cause (c.loop-first.invariant.causes answers cause h);
   first = c.first_out-first-in-Some.ensures;
 }

@@ -1,7 +1,11 @@
-use Rattle.std.proofs.Common.{subst}
-use Rattle.std.specs.Prelude.{IfOk}
-use Rattle.schedule.specs.Asked.{asked_of}
+use Rattle.std.proofs.Common.{◌≡◌, ◌∙◌, ap, subst, sym, Result, Ok, Err}
+use Rattle.std.specs.Prelude.{IfOk, OnErr, OnOk}
+use Rattle.schedule.specs.declared.edit.Edited.{Edited}
+use Rattle.schedule.specs.declared.fault.EditFault.{EditFault}
+use Rattle.schedule.specs.Asked.{Asked, asked_of}
 use Rattle.dependency_book.specs.BookState.{BookState}
+use Rattle.dependency_book.specs.Recalled.{Revises}
+use Rattle.dependency_book.proofs.Shared.Recalling.{recalls_book}
 use Rattle.desk_core.specs.Edited.{Makes}
 use Rattle.desk_core.proofs.Happening.{edits-answered}
 use Rattle.desk_core.proofs.desk.Desk.edit.Goals as goal
@@ -10,4 +14,14 @@ pub returns-clause-ok : goal.returns-clause-ok
 returns-clause-ok c =
     let asked = asked_of c.args.edit.now in
     subst (λ (old : BookState). IfOk c.revise.result (Makes asked old c.revise.new.self)) c.self.view_is
-    (edits-answered c.revise.result c.self.inside.book c.revise.new.self asked c.revise.ensures.ok c.revise.ensures.keeps)
+    (edits-answered c.revise.result c.self.inside.book c.revise.new.self asked c.revise.ensures.ok c.revise.ensures.revises)
+
+table_stays : (r : Result Edited EditFault) (old new : BookState) (asked : Asked) → OnOk r (Revises asked old new) → OnErr r (new ≡ old) → new.table ≡ old.table
+table_stays (Ok edited) old new asked h same = (recalls_book h.kept new h.recalls).document.table ∙ h.keeps.keeps.table
+table_stays (Err fault) old new asked h same = ap (λ (d : BookState). d.table) same
+
+pub invariant_of-self : goal.invariant_of-self
+invariant_of-self c = record {
+  table = c.self.invariant.table ∙ sym (table_stays c.revise.result c.self.inside.book c.revise.new.self (asked_of c.args.edit.now) c.revise.ensures.revises c.revise.ensures.unchanged);
+  right = c.revise.ensures.right;
+}

@@ -2,8 +2,9 @@ use Rattle.std.proofs.Common.{◌∙◌, subst, rules, Some}
 use Rattle.revision_jobs.specs.declared.answer.Job.{Job}
 use Rattle.revision_jobs.specs.declared.entries.Place.{Place}
 use Rattle.dependency_book.specs.BookState.{BookState}
+use Rattle.dependency_book.specs.Jobs.{IsNextJob}
 use Rattle.desk_core.specs.Issued.{IsIssued, IssuesFor}
-use Rattle.desk_core.proofs.Happening.{issues-core}
+use Rattle.desk_core.proofs.Happening.{can_issue, issues-core}
 use Rattle.desk_core.proofs.desk.Desk.issue.Goals as goal
 
 pub returns-clause-issued : goal.returns-clause-issued
@@ -13,13 +14,15 @@ returns-clause-issued g c =
     let need = c.in-Some.need in
     let number = c.given-number.result in
     let expected : Job = record { number = number; place = c.share.result } in
+    let next : IsNextJob old need expected = search rules in
     let issued : IssuesFor old new expected need = record {
-      next = search rules;
+      next = next;
       empty = c.in-Some.ensures.empty;
       rows = c.expect.ensures.rows;
       document = c.expect.ensures.document;
       given = c.expect.ensures.given;
       fewer = c.expect.ensures.fewer;
+      can = can_issue old need expected next c.in-Some.ensures.empty;
       event = issues-core old new need expected c.given-number.ensures c.expect.ensures.document.plan c.expect.ensures.given c.expect.ensures.rows;
     } in
     subst (λ (d : BookState). IsIssued d new (Some (record { number = number; place = c.in_ok-place.place }))) (c.next_need.ensures.same ∙ c.self.view_is)
