@@ -1,6 +1,9 @@
 //! Worked desks, with what they show and what is out.
+mod bad_posts;
 mod bench;
 mod posts;
+mod takers;
+mod unruly;
 
 use bench::{Act, Bench, Wanted};
 use desk_core::{
@@ -92,12 +95,17 @@ fn edit_of(rt: &impl Abort, alloc: Global, change: Change) -> Edit {
     }
 }
 
-/// Does these acts, and then those, in a desk of the opening document.
-fn play<R: Abort + Wait>(rt: &R, alloc: Global, before: &[Act], acts: &[Act]) {
+/// Does these acts, and then those, in a desk of the opening document that keeps so many steps.
+fn play_keeping<R: Abort + Wait>(rt: &R, alloc: Global, facts: u32, before: &[Act], acts: &[Act]) {
     let entries = Entries::new(alloc).expect(rt, "memory");
-    let mut bench = Bench::open(rt, alloc, &entries);
+    let mut bench = Bench::open(rt, alloc, &entries, facts);
     bench.act_all(rt, before);
     bench.act_all(rt, acts);
+}
+
+/// The same in a desk that keeps one.
+fn play<R: Abort + Wait>(rt: &R, alloc: Global, before: &[Act], acts: &[Act]) {
+    play_keeping(rt, alloc, 1, before, acts);
 }
 
 // The rule X and the cell (0, 0) in state 1, at revision 2.
@@ -113,6 +121,29 @@ const AT_8: &[Act] = &[
     Act::Edit(Change::Set(&[(0, 0, 1)])),
     Act::Edit(Change::Mark(8)),
 ];
+
+// Counts at 8 were computed, and then once more with an intervention at 4, which was removed again:
+// five jobs, of which the steps lead from 0 to 8, from 0 to 4 and from 4 to 8.
+const CHANGED_AND_PUT_BACK: &[Act] = &[
+    Act::Edit(Change::Rule),
+    Act::Edit(Change::Set(&[(0, 0, 1)])),
+    Act::Edit(Change::Mark(8)),
+    Act::Settle,
+    Act::Edit(Change::Insert(4)),
+    Act::Settle,
+    Act::Given(5),
+    Act::Edit(Change::Remove(1)),
+    Act::Waits(1),
+];
+
+const STEP_IS_REMEMBERED: &[Act] = &[
+    Act::Issue(5, Wanted::View(8)),
+    Act::Work,
+    Act::Collect(Collected::Accepted),
+    Act::Shows(1, "1 2\n"),
+];
+
+const STEP_IS_FORGOTTEN: &[Act] = &[Act::Issue(5, Wanted::Step(8))];
 
 const OPENED: &[Act] = &[
     Act::Revision(0),
@@ -394,6 +425,14 @@ const WITHOUT_TURNS: &[Act] = &[
     }),
     Act::Given(0),
 ];
+
+#[test]
+fn steps_that_were_computed_are_remembered(rt: HostRuntime) {
+    let alloc = rt.alloc();
+    play_keeping(&rt, alloc, 64, CHANGED_AND_PUT_BACK, STEP_IS_REMEMBERED);
+    play_keeping(&rt, alloc, 4096, CHANGED_AND_PUT_BACK, STEP_IS_REMEMBERED);
+    play_keeping(&rt, alloc, 1, CHANGED_AND_PUT_BACK, STEP_IS_FORGOTTEN);
+}
 
 #[test]
 fn opens(rt: HostRuntime) {

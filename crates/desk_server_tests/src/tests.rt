@@ -12,6 +12,7 @@ mod posts;
 mod room;
 mod scripts;
 mod starts;
+mod unruly_faults;
 mod views;
 
 use crate::tests::devices::{Narrow, Pieces};

@@ -1,4 +1,5 @@
 //! Macrocell files with the patterns that they mean, worked out by hand.
+mod beginnings;
 mod reading;
 mod writing;
 

@@ -7,6 +7,7 @@ ghost use Rattle.step_engine.specs.Evolved.{CanEvolve};
 mod answers;
 mod entries;
 mod posts;
+mod stops;
 
 use basics::Listing;
 use bookmarks::View;

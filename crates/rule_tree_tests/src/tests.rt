@@ -1,4 +1,5 @@
 //! Files with the rules that they mean, worked out by hand.
+mod beginnings;
 mod equality;
 mod rules;
 

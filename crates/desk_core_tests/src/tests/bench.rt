@@ -120,12 +120,17 @@ pub(super) enum Act {
 }
 
 impl<'e> Bench<'e> {
-    /// A desk of the opening document.
-    pub(super) fn open(rt: &impl Abort, alloc: Global, entries: &'e Entries) -> Bench<'e> {
+    /// A desk of the opening document, which keeps so many steps.
+    pub(super) fn open(
+        rt: &impl Abort,
+        alloc: Global,
+        entries: &'e Entries,
+        facts: u32,
+    ) -> Bench<'e> {
         Bench {
             alloc,
             entries,
-            desk: Desk::open(alloc, entries, 1).expect(rt, "memory"),
+            desk: Desk::open(alloc, entries, facts).expect(rt, "memory"),
             job: None,
             answer: None,
         }

@@ -85,3 +85,27 @@ fn beginnings_of_a_placed_file(rt: HostRuntime) {
         expect_placed(&rt, rt.alloc(), len);
     }
 }
+
+// Two cells of rule X, of generation 2. The lines end before 22, 45 and 51.
+const WRITTEN: &[u8] = b"#CXRLE Pos=-2,0 Gen=2\nx = 5, y = 1, rule = X\no3bo!\n";
+
+/// Stops the test where the first bytes of WRITTEN aren't read as this.
+fn expect_written(rt: &impl Abort, alloc: Global, len: usize) {
+    let text = &WRITTEN[..len.min(WRITTEN.len())];
+    match len {
+        0..=22 => expect_outcome(rt, alloc, text, 20, None),
+        // Whole at 34 without a rule, and from 42 on with one.
+        23..=33 | 35..=41 => expect_outcome(rt, alloc, text, 21, None),
+        34 | 42 | 43 => expect_read(rt, alloc, text, &[], b"", 2),
+        44 | 45 => expect_read(rt, alloc, text, &[], b"X", 2),
+        46..=48 => expect_read(rt, alloc, text, &[(-2, 0, 1)], b"X", 2),
+        _ => expect_read(rt, alloc, text, &[(-2, 0, 1), (2, 0, 1)], b"X", 2),
+    }
+}
+
+#[test]
+fn beginnings_of_a_written_file(rt: HostRuntime) {
+    for len in 0..52usize {
+        expect_written(&rt, rt.alloc(), len);
+    }
+}

@@ -1,0 +1,147 @@
+//! A post that loses, repeats, delays and reorders answers, as a list says.
+ghost use Rattle.std.specs.Prelude.{◌≡◌, ◌≤◌};
+ghost use Rattle.std.specs.Option.{ForSome};
+ghost use Rattle.revision_jobs.specs.Entries.{IsOf};
+ghost use Rattle.revision_jobs.specs.Posted.{IsReceived};
+
+use desk_core::{Answer, Entries, InlinePost, Job, Post, Received, Sent};
+use revision_jobs::Answers;
+use std::alloc::Global;
+
+/// What the post does where it is asked for an answer.
+#[derive(Clone, Copy, Debug)]
+pub(super) enum Deed {
+    /// It gives none.
+    Waits,
+    /// It answers the job in its first place, or else the one in its second.
+    First,
+    /// It answers the job in its second place, or else the one in its first.
+    Second,
+    /// It loses the answer that `First` would give.
+    Loses,
+    /// It gives once more the answer that it gave last.
+    Again,
+}
+
+/// A post that holds two jobs, and does what its list says, from its front on. Behind the list it
+/// answers what it holds.
+#[derive(Drop)]
+pub(super) struct Unruly<'a> {
+    pub(super) first: InlinePost<'a>,
+    second: InlinePost<'a>,
+    last: Option<Answer>,
+    deeds: &'static [Deed],
+    pub(super) floor: u64,
+    answers: Answers,
+    ghost same: { second.table ≡ first.table },
+    ghost below: { (first.floor ≤ floor) × (second.floor ≤ floor) },
+    ghost own: { ForSome last (λ answer. IsOf first.table answer.job.place) },
+}
+
+// What the one post answers, or else the other.
+fn either<'a>(one: &mut InlinePost<'a>, other: &mut InlinePost<'a>) -> Received
+    requires { other.old.table ≡ one.old.table }
+    ensures tables { (one.new.table ≡ one.old.table) × (other.new.table ≡ other.old.table) }
+    ensures floors { (one.new.floor ≡ one.old.floor) × (other.new.floor ≡ other.old.floor) }
+    ensures own { IsReceived one.old.table result }
+{
+    match one.receive() {
+        Received::Nothing => other.receive(),
+        received => received,
+    }
+}
+
+impl<'a> Unruly<'a> {
+    /// A post without jobs.
+    pub(super) fn new(
+        alloc: Global,
+        entries: &'a Entries,
+        squares: u32,
+        deeds: &'static [Deed],
+    ) -> Unruly<'a>
+        ensures { (result.first.table ≡ entries.now) × (result.floor ≡ 0) }
+    {
+        Unruly {
+            first: InlinePost::new(alloc, entries, squares),
+            second: InlinePost::new(alloc, entries, squares),
+            last: None,
+            deeds,
+            floor: 0,
+            answers: Answers::none(),
+        }
+    }
+
+    // The next of the list.
+    fn deed(&mut self) -> Deed
+        ensures { (self.new.first ≡ self.old.first) × (self.new.floor ≡ self.old.floor)
+            × (self.new.answers ≡ self.old.answers) }
+    {
+        match self.deeds.split_first() {
+            Some((deed, rest)) => {
+                self.deeds = rest;
+                *deed
+            }
+            None => Deed::First,
+        }
+    }
+
+    fn does(&mut self, deed: Deed) -> Received
+        ensures kept { (self.new.first.table ≡ self.old.first.table)
+            × (self.new.floor ≡ self.old.floor) × (self.new.answers ≡ self.old.answers) }
+        ensures own { IsReceived self.old.first.table result }
+    {
+        match deed {
+            Deed::Waits => Received::Nothing,
+            Deed::First => either(&mut self.first, &mut self.second),
+            Deed::Second => either(&mut self.second, &mut self.first),
+            Deed::Loses => {
+                let _lost = either(&mut self.first, &mut self.second);
+                Received::Nothing
+            }
+            Deed::Again => match self.last.take() {
+                Some(answer) => Received::Answer(answer),
+                None => Received::Nothing,
+            },
+        }
+    }
+}
+
+impl<'a> Post for Unruly<'a> {
+    ghost use Rattle.std.specs.Prelude.{None, false};
+
+    ghost table = { λ post. post.first.table };
+
+    ghost floor = { λ post. post.floor };
+
+    ghost answers = { λ post. post.answers };
+
+    ghost is_prompt = { λ _. false };
+
+    ghost held = { λ _. None };
+
+    fn send(&mut self, job: Job) -> Sent {
+        let floor = u64::from(job.number) + 1;
+        let sent = match self.first.send(job) {
+            Sent::Full(job) => self.second.send(job),
+            sent => sent,
+        };
+        if let Sent::Taken = sent {
+            self.floor = floor;
+        }
+        sent
+    }
+
+    fn receive(&mut self) -> Received {
+        let deed = self.deed();
+        let received = self.does(deed);
+        if let Received::Answer(answer) = &received {
+            self.last = answer.again().ok();
+            self.answers.push(answer);
+        }
+        received
+    }
+
+    fn floor(&self) -> u64 {
+        self.floor
+    }
+}
