@@ -16,6 +16,18 @@ HasBits column words bit =
     (row : ℕ) → row < length words
     → bit_at (slice_index column (row / 64)) (row % 64) ≡ bit_at (slice_index words row) bit
 
+-- none of 64 words has a bit that this one doesn't have
+abbrev pub HasBitsOf : ℕ → List ℕ → ℕ → Type 0
+HasBitsOf union words number =
+    (bit place : ℕ) → place < 64 → bit_at union bit ≡ 0
+    → bit_at (slice_index words (64 * number + place)) bit ≡ 0
+
+-- for each 64 words such a one
+pub record HaveBitsOf (unions words : List ℕ) : Type 0 where
+  pub count : length unions ≡ (length words + 63) / 64
+  pub each : (number : ℕ) → number < length unions
+      → HasBitsOf (slice_index unions number) words number
+
 -- a row's set at a place
 abbrev pub set_at : ℕ → Expanded → List ℕ
 set_at place row = slice_index_or row.inputs place []

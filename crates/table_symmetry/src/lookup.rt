@@ -1,10 +1,10 @@
 //! The fast search for the first of many rows that matches.
-ghost use Rattle.std.specs.Prelude.{◌≡◌, ◌≤◌, ◌<◌, ◌+◌, ℕ, [], length, take, slice_index, slice_index_or, IfOk, All};
+ghost use Rattle.std.specs.Prelude.{◌≡◌, ◌≤◌, ◌<◌, ◌+◌, ◌*◌, ℕ, [], length, take, slice_index, slice_index_or, IfOk, All};
 ghost use Rattle.std.specs.Int.{bit_at};
 ghost use Rattle.rule_file.specs.States.{most_states};
 ghost use Rattle.table_symmetry.specs.NextState.{inputs_of, places_of};
 ghost use Rattle.table_symmetry.specs.States.{word_of};
-ghost use Rattle.table_symmetry.specs.Lookup.{Finds, HasBits, HasColumns, HaveInputs, IsLookupOf, TellRows, set_at, word_of_each};
+ghost use Rattle.table_symmetry.specs.Lookup.{Finds, HasBits, HasBitsOf, HasColumns, HaveBitsOf, HaveInputs, IsLookupOf, TellRows, set_at, word_of_each};
 
 use crate::expansion::Expanded;
 use basics::Listing;
@@ -140,12 +140,15 @@ fn columns_of(
 {
     let mut columns = Vec::new(alloc);
     let mut words = Vec::new(alloc);
+    let mut unions = Vec::new(alloc);
     for state in 0..states {
         // a quarter of all the sets at a time stays in the cache
         if state % 64 == 0 {
             words = words_of(alloc, place, usize::from(state / 64), rows)?;
+            unions = unions_of(alloc, &words)?;
         }
-        columns.push(Listing::from_vec(column(alloc, &words, u32::from(state % 64))?))?;
+        let column = column(alloc, &words, &unions, u32::from(state % 64))?;
+        columns.push(Listing::from_vec(column))?;
     }
     Ok(Listing::from_vec(columns))
 }
@@ -175,17 +178,54 @@ fn word_in(row: &Expanded, place: usize, word: usize) -> u64
     row.inputs.as_slice()[place].word(word)
 }
 
+/// For each 64 of the words the bits that one of them has.
+fn unions_of(alloc: Global, words: &[u64]) -> Result<Vec<u64>, AllocError>
+    ensures { IfOk result (λ unions. HaveBitsOf unions.items words.now) }
+{
+    let count = words.len().div_ceil(64);
+    let mut unions = Vec::with_capacity(alloc, count)?;
+    for number in 0..count {
+        unions.push(bits_of_any(block(words, number)))?;
+    }
+    Ok(unions)
+}
+
+/// The words from 64 times the number on, 64 at most.
+fn block(words: &[u64], number: usize) -> &[u64]
+    requires { 64 * number ≤ length words.now }
+    ensures few { length result.now ≤ 64 }
+    ensures each { (place : ℕ) → place < 64 →
+        slice_index result.now place ≡ slice_index words.now (64 * number + place) }
+{
+    let rest = &words[64 * number..];
+    &rest[..rest.len().min(64)]
+}
+
 /// One bit of each word, 64 of them in a word.
-fn column(alloc: Global, words: &[u64], bit: u32) -> Result<Vec<u64>, AllocError>
-    requires { bit < 64 }
+fn column(alloc: Global, words: &[u64], unions: &[u64], bit: u32) -> Result<Vec<u64>, AllocError>
+    requires bit { bit < 64 }
+    requires unions { HaveBitsOf unions.now words.now }
     ensures { IfOk result (λ column. HasBits column.items words.now bit) }
 {
-    let mut column = Vec::new(alloc);
-    for number in 0..words.len().div_ceil(64) {
-        let rest = &words[64 * number..];
-        column.push(bits(&rest[..rest.len().min(64)], bit))?;
+    let mut column = Vec::with_capacity(alloc, unions.len())?;
+    for (number, union) in unions.iter().enumerate() {
+        column.push(column_word(words, number, *union, bit))?;
     }
     Ok(column)
+}
+
+/// One bit of each of 64 words, of which most often none has it.
+fn column_word(words: &[u64], number: usize, union: u64, bit: u32) -> u64
+    requires number { 64 * number ≤ length words.now }
+    requires bit { bit < 64 }
+    requires union { HasBitsOf union words.now number }
+    ensures { (place : ℕ) → place < 64 →
+        bit_at result place ≡ bit_at (slice_index words.now (64 * number + place)) bit }
+{
+    if (union >> bit) & 1 == 0 {
+        return 0;
+    }
+    bits(block(words, number), bit)
 }
 
 /// One bit of each word, the first lowest.
@@ -197,6 +237,18 @@ fn bits(words: &[u64], bit: u32) -> u64
     let mut bits = 0;
     for (place, word) in words.iter().enumerate() {
         bits |= ((*word >> bit) & 1) << place;
+    }
+    bits
+}
+
+/// The bits that one of the words has.
+fn bits_of_any(words: &[u64]) -> u64
+    ensures { (bit : ℕ) → bit_at result bit ≡ 0 →
+        (place : ℕ) → bit_at (slice_index words.now place) bit ≡ 0 }
+{
+    let mut bits = 0;
+    for word in words {
+        bits |= *word;
     }
     bits
 }

@@ -5,7 +5,8 @@ mod Doing
 mod Layering
 mod MadeNodes
 mod NodeLists
-pub mod Shared
+mod Runs
 mod TailsLeft
 mod TailsNear
 mod Translating
+pub mod Shared

@@ -12,9 +12,10 @@ use Rattle.std.proofs.lemmas.Slice.Eq.{bytes_eq-Decides}
 use Rattle.indexmap.specs.IndexSet.{insert_key}
 use Rattle.tree_translation.specs.declared.layers.Layer.{Layer}
 use Rattle.tree_translation.specs.declared.listed.Listed.{Listed}
+use Rattle.tree_translation.specs.declared.listed.Node.{Node}
 use Rattle.tree_translation.specs.declared.numbering.Found.{Found}
 use Rattle.tree_translation.specs.Layers.{Fit, IsGrownBy, IsLayer, count_of}
-use Rattle.tree_translation.specs.Numbering.{AreBegun, AreEntries, AreFit, AreNodes, AreTailsAt, Grows, IsBegun, IsEntry, IsFull, IsLeft, IsNode, IsNumberOf, IsStored, NeedsTooMany, entries_in, input_at, same_listed}
+use Rattle.tree_translation.specs.Numbering.{AreBegun, AreEntries, AreFit, AreNodes, AreTailsAt, Grows, IsBegun, IsEntry, IsFull, IsLeft, IsNode, IsNumberOf, IsStored, NeedsTooMany, entries_in, input_at, same_listed, same_node}
 use Rattle.tree_translation.specs.Starts.{NeedStarts, Start, StartsApart, start_at}
 use Rattle.tree_translation.specs.Translation.{Does, LeftOf, node_limit, outcome}
 use Rattle.decision_tree.specs.Tree.{Entries, follow, node_at}
@@ -26,19 +27,19 @@ use Rattle.std.proofs.lemmas.List.{get_or_default}
 use Rattle.tree_translation.proofs.Doing.{Does-append, Does-branch, Does-leaf, outcome-left}
 
 -- nodes that differ in their numbers differ in their inputs or entries
-listed-apart : (nodes : List Listed) → IsDistinct same_listed nodes → (i j : ℕ) → i < j → j < length nodes → input_at nodes i ≡ input_at nodes j → node_at (entries_in nodes) i ≢ node_at (entries_in nodes) j
+listed-apart : (nodes : List Node) → IsDistinct same_node nodes → (i j : ℕ) → i < j → j < length nodes → input_at nodes i ≡ input_at nodes j → node_at (entries_in nodes) i ≢ node_at (entries_in nodes) j
 listed-apart [] distinct i j l m inputs entries = absurd (omega (arith, m))
 listed-apart (key ∷ keys) distinct i j l m inputs entries =
-    grind (arith, common_steps, inputs, entries, apart_from_distinct same_listed (key ∷ keys) i j key distinct l m, bytes_eq-Decides, eq-eqb, and_from)
+    grind (arith, common_steps, inputs, entries, apart_from_distinct same_node (key ∷ keys) i j key distinct l m, bytes_eq-Decides, eq-eqb, and_from)
 
 -- what is followed from two nodes differs behind some rest
-pub record FollowsDiffer (states depth : ℕ) (nodes : List Listed) (i j : ℕ) : Type 0 where
+pub record FollowsDiffer (states depth : ℕ) (nodes : List Node) (i j : ℕ) : Type 0 where
   pub rest : List ℕ
   pub below : All (λ s. s < states) rest
   pub long : input_at nodes i + length rest ≡ depth
   pub differ : follow (entries_in nodes) i rest ≢ follow (entries_in nodes) j rest
 
-module _ (states depth : ℕ) (nodes : List Listed) (are : AreNodes states depth nodes) where
+module _ (states depth : ℕ) (nodes : List Node) (are : AreNodes states depth nodes) where
   -- two nodes of an input have a place where their entries differ
   entries-differ : (i j : ℕ) → i < length nodes → j < length nodes → i ≢ j → input_at nodes i ≡ input_at nodes j
       → DifferAt (node_at (entries_in nodes) i) (node_at (entries_in nodes) j)
@@ -71,7 +72,7 @@ module _ (states depth : ℕ) (nodes : List Listed) (are : AreNodes states depth
       }
 
   -- what is followed from a node stays where more nodes come
-  follow-before : (more : List Listed) (k : ℕ) (rest : List ℕ) → k < length nodes → input_at nodes k + length rest ≡ depth → All (λ s. s < states) rest
+  follow-before : (more : List Node) (k : ℕ) (rest : List ℕ) → k < length nodes → input_at nodes k + length rest ≡ depth → All (λ s. s < states) rest
       → follow (entries_in (nodes ++ more)) k rest ≡ follow (entries_in nodes) k rest
   follow-before more k [] l long low = refl
   follow-before more k (s ∷ []) l long low = grind (arith, common_steps, map-append)
@@ -84,7 +85,7 @@ module _ (states depth : ℕ) (nodes : List Listed) (are : AreNodes states depth
       rw at (follow-before more entry (t ∷ rest) (node.inside s under deeper) (omega (arith, node.down s under deeper, long)) (All-tail (λ s. s < states) s (t ∷ rest) low))
 
   -- where more nodes come, a node still does what begins there
-  IsBegun-append : (give : List ℕ → ℕ) (more : List Listed) (k : ℕ) → k < length nodes → IsBegun states depth give nodes k → IsBegun states depth give (nodes ++ more) k
+  IsBegun-append : (give : List ℕ → ℕ) (more : List Node) (k : ℕ) → k < length nodes → IsBegun states depth give nodes k → IsBegun states depth give (nodes ++ more) k
   IsBegun-append give more k l begun =
       let same : input_at (nodes ++ more) k ≡ input_at nodes k = grind (arith, common_steps, map-append) in
       record {
@@ -95,7 +96,7 @@ module _ (states depth : ℕ) (nodes : List Listed) (are : AreNodes states depth
       }
 
   -- they stay nodes where one more of its input comes
-  AreNodes-push : (node : Listed) → IsNode states depth nodes node.input node.numbers.items → IsDistinct same_listed (nodes ++ node ∷ [])
+  AreNodes-push : (node : Node) → IsNode states depth nodes node.input node.entries → IsDistinct same_node (nodes ++ node ∷ [])
       → AreNodes states depth (nodes ++ node ∷ [])
   AreNodes-push node is apart = grind (arith, common_steps, map-append)
 
@@ -117,12 +118,12 @@ gather (suc count) P f =
     }
 
 -- a start for a node
-record StartsAt (states depth : ℕ) (give : List ℕ → ℕ) (nodes : List Listed) (k : ℕ) (start : Start) : Type 0 where
+record StartsAt (states depth : ℕ) (give : List ℕ → ℕ) (nodes : List Node) (k : ℕ) (start : Start) : Type 0 where
   begun : IsBegun states depth give nodes k
   is : start ≡ record { number = 0; inputs = begun.beginning }
 
 -- different nodes that begin somewhere are all needed
-pub nodes-needed : (states depth : ℕ) (give : List ℕ → ℕ) (nodes : List Listed) → AreNodes states depth nodes → AreBegun states depth give nodes → NeedStarts states depth (λ k inputs. give inputs) 1 (length nodes)
+pub nodes-needed : (states depth : ℕ) (give : List ℕ → ℕ) (nodes : List Node) → AreNodes states depth nodes → AreBegun states depth give nodes → NeedStarts states depth (λ k inputs. give inputs) 1 (length nodes)
 nodes-needed states depth give nodes are begun = record {
   starts = all.starts;
   many = all.many;
@@ -156,7 +157,7 @@ nodes-needed states depth give nodes are begun = record {
     ]
 
 -- more nodes change nothing of those before
-module _ (nodes more : List Listed) where
+module _ (nodes more : List Node) where
   pub IsNumberOf-append : (states : ℕ) (layers : List Layer) (input : ℕ) (list : List ℕ) (number : ℕ) → 0 < states → IsNumberOf states layers nodes input list number → IsNumberOf states layers (nodes ++ more) input list number
   IsNumberOf-append states layers input list number some is = record {
     inside = omega (arith, is.inside, length-append nodes more);
@@ -177,7 +178,7 @@ list_all-below : (n : ℕ) (xs : List ℕ) → All (λ s. s < n) xs → list_all
 list_all-below n xs low = list_all-from_AllPass (λ s. nat_lt s n) xs (λ k d l. grind (arith, nat_tests, low k d l))
 
 -- a node that does what a list does begins where the list is left
-IsBegun-left : (states : ℕ) (layers : List Layer) (nodes : List Listed) (input : ℕ) (list : List ℕ) (number : ℕ) (give : List ℕ → ℕ) → IsLeft states layers give input list → IsNumberOf states layers nodes input list number → IsBegun states (length layers) give nodes number
+IsBegun-left : (states : ℕ) (layers : List Layer) (nodes : List Node) (input : ℕ) (list : List ℕ) (number : ℕ) (give : List ℕ → ℕ) → IsLeft states layers give input list → IsNumberOf states layers nodes input list number → IsBegun states (length layers) give nodes number
 IsBegun-left states layers nodes input list number give left is = record {
   beginning = left.beginning;
   long = left.long ∙ sym is.at;
@@ -203,7 +204,7 @@ module _ (layers : List Layer) (input : ℕ) (here : Layer) (behind : List Layer
   many-behind there = omega (arith, length-drop input layers, ap length from)
 
 -- a node of these entries does what the list does
-does-made : (states : ℕ) (layers : List Layer) (nodes : List Listed) (input : ℕ) (list entries : List ℕ) (number : ℕ) → Fit states layers → AreTailsAt layers input list → AreEntries states layers nodes input list entries → node_at (entries_in nodes) number ≡ entries → Does states (drop input layers) (entries_in nodes) list number
+does-made : (states : ℕ) (layers : List Layer) (nodes : List Node) (input : ℕ) (list entries : List ℕ) (number : ℕ) → Fit states layers → AreTailsAt layers input list → AreEntries states layers nodes input list entries → node_at (entries_in nodes) number ≡ entries → Does states (drop input layers) (entries_in nodes) list number
 does-made states layers nodes input list entries number fit tails are at = by (drop input layers) refl
   where
     by : (ls : List Layer) → drop input layers ≡ ls → Does states ls (entries_in nodes) list number
@@ -223,11 +224,11 @@ does-made states layers nodes input list entries number fit tails are at = by (d
         }) at
 
 -- the number of a node of these entries
-number-made : (states : ℕ) (layers : List Layer) (nodes : List Listed) (node : Listed) (input : ℕ) (list : List ℕ) (number : ℕ) → Fit states layers → AreTailsAt layers input list → node.input ≡ input → AreEntries states layers nodes input list node.numbers.items → IsStored nodes node number → IsNumberOf states layers nodes input list number
+number-made : (states : ℕ) (layers : List Layer) (nodes : List Node) (node : Node) (input : ℕ) (list : List ℕ) (number : ℕ) → Fit states layers → AreTailsAt layers input list → node.input ≡ input → AreEntries states layers nodes input list node.entries → IsStored nodes node number → IsNumberOf states layers nodes input list number
 number-made states layers nodes node input list number fit tails same are stored = record {
   inside = stored.inside;
   at = stored.input ∙ same;
-  does = does-made states layers nodes input list node.numbers.items number fit tails are stored.entries;
+  does = does-made states layers nodes input list node.entries number fit tails are stored.entries;
 }
 
 -- behind a state a list of tails is left
@@ -257,7 +258,7 @@ Grows-behind states layers input list left s old mid new more under is first sec
   known = second.known;
   more = first.more ++ second.more;
   joined = second.joined ∙ ap (λ xs. xs ++ second.more) first.joined ∙ append_assoc old.nodes.keys first.more second.more;
-  late = All-append (λ (node : Listed). input + 1 ≤ node.input) first.more second.more first.late second.late;
+  late = All-append (λ (node : Node). input + 1 ≤ node.input) first.more second.more first.late second.late;
   begun = λ give begun before. second.begun give (first.begun give begun before) (IsLeft-behind states layers give input list left s more under is before);
 }
 
@@ -267,28 +268,28 @@ NeedsTooMany-behind states layers input list left s old mid more under is first 
     large give (first.begun give begun before) (IsLeft-behind states layers give input list left s more under is before)
 
 -- no node of this input is among nodes of later inputs
-is-later : (nodes : List Listed) (input number : ℕ) → All (λ (x : Listed). input < x.input) nodes → number < length nodes → input_at nodes number ≡ input → ⊥
+is-later : (nodes : List Node) (input number : ℕ) → All (λ (x : Node). input < x.input) nodes → number < length nodes → input_at nodes number ≡ input → ⊥
 is-later [] input number later inside at = absurd (omega (arith, inside))
-is-later (node ∷ nodes) input number later inside at = omega (arith, at, get_or-map (λ (n : Listed). n.input) (node ∷ nodes) number node 0 inside, later number node inside)
+is-later (node ∷ nodes) input number later inside at = omega (arith, at, get_or-map (λ (n : Node). n.input) (node ∷ nodes) number node 0 inside, later number node inside)
 
 -- what comes with the node that a list gets
 pub record IsMade (states : ℕ) (layers : List Layer) (input : ℕ) (list : List ℕ) (old new : Found) (number : ℕ) : Type 0 where
   pub numbered : IsNumberOf states layers new.nodes.keys input list number
   pub grows : Grows states layers input input list old new
-  pub last : All (λ (n : Listed). input < n.input) old.nodes.keys → number + 1 ≡ length new.nodes.keys
+  pub last : All (λ (n : Node). input < n.input) old.nodes.keys → number + 1 ≡ length new.nodes.keys
 
-module _ (states : ℕ) (layers : List Layer) (room input : ℕ) (list : List ℕ) (old mid : Found) (node : Listed) (fit : AreFit states layers room) (tails : AreTailsAt layers input list) (grown : Grows states layers input (input + 1) list old mid) (are : AreEntries states layers mid.nodes.keys input list node.numbers.items) (same : node.input ≡ input) where
-  abbrev before : List Listed
+module _ (states : ℕ) (layers : List Layer) (room input : ℕ) (list : List ℕ) (old mid : Found) (node : Node) (fit : AreFit states layers room) (tails : AreTailsAt layers input list) (grown : Grows states layers input (input + 1) list old mid) (are : AreEntries states layers mid.nodes.keys input list node.entries) (same : node.input ≡ input) where
+  abbrev before : List Node
   before = mid.nodes.keys
 
-  abbrev after : List Listed
+  abbrev after : List Node
   after = mid.nodes.keys ++ node ∷ []
 
   some : 0 < states
   some = omega (arith, fit.some)
 
   -- the node is one of its input
-  is-node : IsNode states (length layers) before node.input node.numbers.items
+  is-node : IsNode states (length layers) before node.input node.entries
   is-node = record {
     wide = are.width;
     early = omega (arith, same, tails.there);
@@ -296,7 +297,7 @@ module _ (states : ℕ) (layers : List Layer) (room input : ℕ) (list : List �
     down = λ s l m. (are.each (omega (arith, same, m)) s l).number_of.at ∙ ap (λ n. n + 1) (sym same);
   }
 
-  nodes-with : IsDistinct same_listed after → AreNodes states (length layers) after
+  nodes-with : IsDistinct same_node after → AreNodes states (length layers) after
   nodes-with apart = AreNodes-push states (length layers) before grown.known.nodes node is-node apart
 
   begun-with : (give : List ℕ → ℕ) → AreBegun states (length layers) give old.nodes.keys → IsLeft states layers give input list → AreBegun states (length layers) give after
@@ -304,7 +305,7 @@ module _ (states : ℕ) (layers : List Layer) (room input : ℕ) (list : List �
       below_more (IsBegun states (length layers) give after) (length before)
       (λ m h. IsBegun-append states (length layers) before grown.known.nodes give (node ∷ []) m h (grown.begun give begun left m h))
       (IsBegun-left states layers after input list (length before) give left (number-made states layers after node input list (length before) fit.fit tails same
-      (AreEntries-append before (node ∷ []) states layers input list node.numbers.items some are) (grind (arith, common_steps, map-append))))
+      (AreEntries-append before (node ∷ []) states layers input list node.entries some are) (grind (arith, common_steps, map-append))))
       k (omega (arith, l, length-append before (node ∷ [])))
 
   -- where no more nodes may come, too many are needed
@@ -313,12 +314,12 @@ module _ (states : ℕ) (layers : List Layer) (room input : ℕ) (list : List �
       subst (NeedStarts states (length layers) (λ k inputs. give inputs) 1) (length-append before (node ∷ []) ∙ omega (arith, full.all))
       (nodes-needed states (length layers) give after (nodes-with full.apart) (begun-with give begun left))
 
-  module _ (new : Found) (number : ℕ) (key : Listed) (key_input : key.input ≡ input) (key_list : key.numbers.items ≡ list) (stored : IsStored new.nodes.keys node number) (put : IsGrownBy mid.nodes.keys node new.nodes.keys) (apart : IsDistinct same_listed new.nodes.keys) (few : length new.nodes.keys ≤ node_limit) (numbers : (q : Listed) → get same_listed new.numbers q ≡ cond (same_listed key q) (Some number) (get same_listed mid.numbers q)) where
+  module _ (new : Found) (number : ℕ) (key : Listed) (key_input : key.input ≡ input) (key_list : key.numbers.items ≡ list) (stored : IsStored new.nodes.keys node number) (put : IsGrownBy mid.nodes.keys node new.nodes.keys) (apart : IsDistinct same_node new.nodes.keys) (few : length new.nodes.keys ≤ node_limit) (numbers : (q : Listed) → get same_listed new.numbers q ≡ cond (same_listed key q) (Some number) (get same_listed mid.numbers q)) where
     -- what the node brings
     record Brings : Type 0 where
-      more : List Listed
+      more : List Node
       joined : new.nodes.keys ≡ before ++ more
-      late : All (λ (n : Listed). input ≤ n.input) more
+      late : All (λ (n : Node). input ≤ n.input) more
       nodes : AreNodes states (length layers) new.nodes.keys
       begun : (give : List ℕ → ℕ) → AreBegun states (length layers) give old.nodes.keys → IsLeft states layers give input list → AreBegun states (length layers) give new.nodes.keys
 
@@ -326,14 +327,14 @@ module _ (states : ℕ) (layers : List Layer) (room input : ℕ) (list : List �
     brings (inl e) = record {
       more = [];
       joined = e ∙ sym (append-nil before);
-      late = All-nil (λ (n : Listed). input ≤ n.input);
+      late = All-nil (λ (n : Node). input ≤ n.input);
       nodes = rw e grown.known.nodes;
       begun = λ give begun left. rw e (grown.begun give begun left);
     }
     brings (inr e) = record {
       more = node ∷ [];
       joined = e;
-      late = All-cons (λ (n : Listed). input ≤ n.input) node [] (omega (arith, same)) (All-nil (λ (n : Listed). input ≤ n.input));
+      late = All-cons (λ (n : Node). input ≤ n.input) node [] (omega (arith, same)) (All-nil (λ (n : Node). input ≤ n.input));
       nodes = rw e (nodes-with (rw e at apart));
       begun = λ give begun left. rw e (begun-with give begun left);
     }
@@ -343,7 +344,7 @@ module _ (states : ℕ) (layers : List Layer) (room input : ℕ) (list : List �
 
     made-number : IsNumberOf states layers new.nodes.keys input list number
     made-number = number-made states layers new.nodes.keys node input list number fit.fit tails same
-        (rw brought.joined (AreEntries-append before brought.more states layers input list node.numbers.items some are)) stored
+        (rw brought.joined (AreEntries-append before brought.more states layers input list node.entries some are)) stored
 
     remembers : (q : Listed) (n : ℕ) → get same_listed new.numbers q ≡ Some n → IsNumberOf states layers new.nodes.keys q.input q.numbers.items n
     remembers q n is = elim (same_listed key q) as (λ b. same_listed key q ≡ b → IsNumberOf states layers new.nodes.keys q.input q.numbers.items n) [
@@ -361,16 +362,16 @@ module _ (states : ℕ) (layers : List Layer) (room input : ℕ) (list : List �
       known = record { few = few; nodes = brought.nodes; numbers = remembers };
       more = grown.more ++ brought.more;
       joined = brought.joined ∙ ap (λ xs. xs ++ brought.more) grown.joined ∙ append_assoc old.nodes.keys grown.more brought.more;
-      late = All-append (λ (n : Listed). input ≤ n.input) grown.more brought.more (λ k d l. omega (arith, grown.late k d l)) brought.late;
+      late = All-append (λ (n : Node). input ≤ n.input) grown.more brought.more (λ k d l. omega (arith, grown.late k d l)) brought.late;
       begun = brought.begun;
     }
 
     -- where no node is of this input yet, it is the last
-    made-last : All (λ (n : Listed). input < n.input) old.nodes.keys → number + 1 ≡ length new.nodes.keys
+    made-last : All (λ (n : Node). input < n.input) old.nodes.keys → number + 1 ≡ length new.nodes.keys
     made-last later = by put
       where
-        beyond : All (λ (n : Listed). input < n.input) before
-        beyond = rw grown.joined (All-append (λ (n : Listed). input < n.input) old.nodes.keys grown.more later (λ k d l. omega (arith, grown.late k d l)))
+        beyond : All (λ (n : Node). input < n.input) before
+        beyond = rw grown.joined (All-append (λ (n : Node). input < n.input) old.nodes.keys grown.more later (λ k d l. omega (arith, grown.late k d l)))
 
         by : IsGrownBy mid.nodes.keys node new.nodes.keys → number + 1 ≡ length new.nodes.keys
         by (inl e) = absurd (is-later before input number beyond (grind (arith, stored.inside, e)) (ap (λ ns. input_at ns number) (sym e) ∙ stored.input ∙ same))
@@ -383,11 +384,11 @@ module _ (states : ℕ) (layers : List Layer) (room input : ℕ) (list : List �
     made = record { numbered = made-number; grows = made-grows; last = made-last }
 
 -- a number that is remembered is of no later input
-pub remembered-last : (states : ℕ) (layers : List Layer) (nodes : List Listed) (input : ℕ) (list : List ℕ) (number n : ℕ) → IsNumberOf states layers nodes input list number → All (λ (x : Listed). input < x.input) nodes → n + 1 ≡ length nodes
+pub remembered-last : (states : ℕ) (layers : List Layer) (nodes : List Node) (input : ℕ) (list : List ℕ) (number n : ℕ) → IsNumberOf states layers nodes input list number → All (λ (x : Node). input < x.input) nodes → n + 1 ≡ length nodes
 remembered-last states layers nodes input list number n is later = absurd (is-later nodes input number later is.inside is.at)
 
 -- a node that equals the key of this number is stored there
-pub stored-listed : (keys : List Listed) (number : ℕ) (node key : Listed) → slice_get keys number ≡ Some key → same_listed node key ≡ true → IsStored keys node number
+pub stored-listed : (keys : List Node) (number : ℕ) (node key : Node) → slice_get keys number ≡ Some key → same_node node key ≡ true → IsStored keys node number
 stored-listed keys number node key at same =
     grind (arith, common_steps, slice_get_within keys number key at, get_or_from_slice_get keys number key key at, and_parts, bytes_eq-Decides, eqb-true)
 
@@ -397,15 +398,15 @@ position-none p [] none = refl
 position-none p (x ∷ xs) none = grind (arith, position-none p xs)
 
 -- a node whose number is in the limit leaves them in the limit
-pub few-inserted : (keys keys' : List Listed) (node : Listed) (index : ℕ) → keys' ≡ insert_key same_listed keys node → index ≡ position_or_len (same_listed node) keys → length keys ≤ node_limit → index < node_limit → length keys' ≤ node_limit
+pub few-inserted : (keys keys' : List Node) (node : Node) (index : ℕ) → keys' ≡ insert_key same_node keys node → index ≡ position_or_len (same_node node) keys → length keys ≤ node_limit → index < node_limit → length keys' ≤ node_limit
 few-inserted keys keys' node index inserted place few low = grind (arith, common_steps, position-none)
 
 -- where a node's entries stand
-pub listed-at : (nodes : List Listed) (k : ℕ) (d : Listed) → k < length nodes → node_at (entries_in nodes) k ≡ (slice_index_or nodes k d).numbers.items
-listed-at nodes k d l = get_or-map (λ (n : Listed). n.numbers.items) nodes k d [] l
+pub listed-at : (nodes : List Node) (k : ℕ) (d : Node) → k < length nodes → node_at (entries_in nodes) k ≡ (slice_index_or nodes k d).entries
+listed-at nodes k d l = get_or-map (λ (n : Node). n.entries) nodes k d [] l
 
-pub length-listed : (nodes : List Listed) → length (entries_in nodes) ≡ length nodes
-length-listed nodes = length-map nodes (λ (n : Listed). n.numbers.items)
+pub length-listed : (nodes : List Node) → length (entries_in nodes) ≡ length nodes
+length-listed nodes = length-map nodes (λ (n : Node). n.entries)
 
 -- the last layer leaves states
 pub layer-last : (states : ℕ) (layers : List Layer) (input : ℕ) (d : Layer) → Fit states layers → input + 1 ≡ length layers → IsLayer (slice_index_or layers input d) states
@@ -438,9 +439,9 @@ IsLeft-first states layers give list same = record {
 }
 
 -- no nodes begin nowhere
-pub AreBegun-none : (states depth : ℕ) (give : List ℕ → ℕ) (nodes : List Listed) → nodes ≡ [] → AreBegun states depth give nodes
+pub AreBegun-none : (states depth : ℕ) (give : List ℕ → ℕ) (nodes : List Node) → nodes ≡ [] → AreBegun states depth give nodes
 AreBegun-none states depth give nodes none k l = absurd (omega (arith, l, ap length none))
 
 -- a node's width, wherever it is looked at
-pub nodes-wide : (states depth : ℕ) (nodes : List Listed) → AreNodes states depth nodes → All (λ (node : Entries). length node ≡ states) (entries_in nodes)
+pub nodes-wide : (states depth : ℕ) (nodes : List Node) → AreNodes states depth nodes → All (λ (node : Entries). length node ≡ states) (entries_in nodes)
 nodes-wide states depth nodes are k d l = rw (get_or_default (entries_in nodes) k d [] l) (are.each k (omega (arith, l, length-listed nodes))).wide

@@ -3,6 +3,8 @@ pub mod Layers
 pub mod Near
 pub mod NodesNeeded
 pub mod Numbering
+pub mod Packed
+pub mod PackedForms
 pub mod Starts
 pub mod TailsFound
 pub mod Translation

@@ -6,38 +6,43 @@ use Rattle.std.specs.HashMap.{get}
 use Rattle.rule_file.specs.States.{most_states}
 use Rattle.tree_translation.specs.declared.layers.Layer.{Layer}
 use Rattle.tree_translation.specs.declared.listed.Listed.{Listed}
+use Rattle.tree_translation.specs.declared.listed.Node.{Node}
 use Rattle.tree_translation.specs.declared.numbering.Found.{Found}
 use Rattle.tree_translation.specs.Layers.{Fit}
 use Rattle.tree_translation.specs.Starts.{NeedStarts}
 use Rattle.tree_translation.specs.Translation.{AreLeaves, Does, LeftOf, node_limit, outcome}
 use Rattle.decision_tree.specs.Tree.{Entries, follow, node_at}
 
--- two of them are the same
+-- two lists are the same
 abbrev pub same_listed : Listed → Listed → Bool
 same_listed a b = (a.input == b.input) && bytes_eq a.numbers.items b.numbers.items
 
-abbrev pub inputs_in : List Listed → List ℕ
-inputs_in nodes = map (λ (node : Listed). node.input) nodes
+-- two nodes are the same
+abbrev pub same_node : Node → Node → Bool
+same_node a b = (a.input == b.input) && bytes_eq a.entries b.entries
 
-abbrev pub entries_in : List Listed → List Entries
-entries_in nodes = map (λ (node : Listed). node.numbers.items) nodes
+abbrev pub inputs_in : List Node → List ℕ
+inputs_in nodes = map (λ (node : Node). node.input) nodes
 
-abbrev pub input_at : List Listed → ℕ → ℕ
+abbrev pub entries_in : List Node → List Entries
+entries_in nodes = map (λ (node : Node). node.entries) nodes
+
+abbrev pub input_at : List Node → ℕ → ℕ
 input_at nodes number = slice_index (inputs_in nodes) number
 
 -- a node stands here
-pub record IsStored (nodes : List Listed) (node : Listed) (number : ℕ) : Type 0 where
+pub record IsStored (nodes : List Node) (node : Node) (number : ℕ) : Type 0 where
   pub inside : number < length nodes
   pub input : input_at nodes number ≡ node.input
-  pub entries : node_at (entries_in nodes) number ≡ node.numbers.items
+  pub entries : node_at (entries_in nodes) number ≡ node.entries
 
 -- a tree may have no more nodes than these, and this one isn't among them
-pub record IsFull (nodes : List Listed) (node : Listed) : Type 0 where
+pub record IsFull (nodes : List Node) (node : Node) : Type 0 where
   pub all : length nodes ≡ node_limit
-  pub apart : IsDistinct same_listed (nodes ++ node ∷ [])
+  pub apart : IsDistinct same_node (nodes ++ node ∷ [])
 
 -- a node of this input: where more inputs follow, its entries are nodes of the next
-pub record IsNode (states depth : ℕ) (nodes : List Listed) (input : ℕ) (entries : Entries)
+pub record IsNode (states depth : ℕ) (nodes : List Node) (input : ℕ) (entries : Entries)
     : Type 0 where
   pub wide : length entries ≡ states
   pub early : input < depth
@@ -46,13 +51,13 @@ pub record IsNode (states depth : ℕ) (nodes : List Listed) (input : ℕ) (entr
       → input_at nodes (slice_index entries s) ≡ input + 1
 
 -- different nodes
-pub record AreNodes (states depth : ℕ) (nodes : List Listed) : Type 0 where
+pub record AreNodes (states depth : ℕ) (nodes : List Node) : Type 0 where
   pub each : (k : ℕ) → k < length nodes
       → IsNode states depth nodes (input_at nodes k) (node_at (entries_in nodes) k)
-  pub apart : IsDistinct same_listed nodes
+  pub apart : IsDistinct same_node nodes
 
 -- the number of a node that does what a list of tails does from this input on
-pub record IsNumberOf (states : ℕ) (layers : List Layer) (nodes : List Listed) (input : ℕ)
+pub record IsNumberOf (states : ℕ) (layers : List Layer) (nodes : List Node) (input : ℕ)
     (list : List ℕ) (number : ℕ)
     : Type 0 where
   pub inside : number < length nodes
@@ -67,7 +72,7 @@ pub record Knows (states : ℕ) (layers : List Layer) (found : Found) : Type 0 w
       → IsNumberOf states layers found.nodes.keys key.input key.numbers.items number
 
 -- behind some beginning of inputs this gives what a node does
-pub record IsBegun (states depth : ℕ) (give : List ℕ → ℕ) (nodes : List Listed) (number : ℕ)
+pub record IsBegun (states depth : ℕ) (give : List ℕ → ℕ) (nodes : List Node) (number : ℕ)
     : Type 0 where
   pub beginning : List ℕ
   pub long : length beginning ≡ input_at nodes number
@@ -76,7 +81,7 @@ pub record IsBegun (states depth : ℕ) (give : List ℕ → ℕ) (nodes : List 
       → All (λ s. s < states) rest
       → give (beginning ++ rest) ≡ follow (entries_in nodes) number rest
 
-abbrev pub AreBegun : ℕ → ℕ → (List ℕ → ℕ) → List Listed → Type 0
+abbrev pub AreBegun : ℕ → ℕ → (List ℕ → ℕ) → List Node → Type 0
 AreBegun states depth give nodes = (k : ℕ) → k < length nodes → IsBegun states depth give nodes k
 
 -- behind some beginning of inputs this gives what a list of tails does
@@ -94,9 +99,9 @@ pub record Grows (states : ℕ) (layers : List Layer) (input from : ℕ) (list :
     (old new : Found)
     : Type 0 where
   pub known : Knows states layers new
-  pub more : List Listed
+  pub more : List Node
   pub joined : new.nodes.keys ≡ old.nodes.keys ++ more
-  pub late : All (λ (node : Listed). from ≤ node.input) more
+  pub late : All (λ (node : Node). from ≤ node.input) more
   pub begun : (give : List ℕ → ℕ) → AreBegun states (length layers) give old.nodes.keys
       → IsLeft states layers give input list → AreBegun states (length layers) give new.nodes.keys
 
@@ -108,7 +113,7 @@ NeedsTooMany states layers input list found =
     → NeedStarts states (length layers) (λ k inputs. give inputs) 1 (node_limit + 1)
 
 -- the number of a node for what is left of a list behind a state
-pub record IsEntry (states : ℕ) (layers : List Layer) (nodes : List Listed) (input : ℕ)
+pub record IsEntry (states : ℕ) (layers : List Layer) (nodes : List Node) (input : ℕ)
     (list : List ℕ) (state number : ℕ)
     : Type 0 where
   pub left : List ℕ
@@ -116,7 +121,7 @@ pub record IsEntry (states : ℕ) (layers : List Layer) (nodes : List Listed) (i
   pub number_of : IsNumberOf states layers nodes (input + 1) left number
 
 -- the entries of a node that does what a list of tails does
-pub record AreEntries (states : ℕ) (layers : List Layer) (nodes : List Listed) (input : ℕ)
+pub record AreEntries (states : ℕ) (layers : List Layer) (nodes : List Node) (input : ℕ)
     (list entries : List ℕ)
     : Type 0 where
   pub width : length entries ≡ states

@@ -11,6 +11,7 @@ mod layers;
 mod listed;
 mod near;
 mod numbering;
+mod packed;
 mod sharing;
 mod translation;
 mod tree_fault;

@@ -14,8 +14,9 @@ ghost use Rattle.tree_translation.specs.TailsFound.{AreMarked, IsFound};
 ghost use Rattle.tree_translation.specs.Translation.{AreLeaves, LeftOf, first_some};
 
 use crate::layers::Layer;
-use crate::listed::Listed;
+use crate::listed::{Listed, Node};
 use crate::near::{states_alike, tails_near};
+use crate::packed::Packed;
 use crate::sharing::add_node;
 use crate::tree_fault::TreeFault;
 use indexmap::IndexSet;
@@ -26,7 +27,7 @@ use std::collections::HashMap;
 #[derive(Debug, Drop)]
 pub struct Found {
     pub numbers: HashMap<Listed, u32>,
-    pub nodes: IndexSet<Listed>,
+    pub nodes: IndexSet<Node>,
 }
 
 /// What was left behind a state, and its number.
@@ -66,9 +67,9 @@ pub fn number_of(
         return Ok(*number);
     }
     let entries = entries_of(alloc, states, layers, input, list, marks, found)?;
-    let node = Listed {
+    let node = Node {
         input,
-        numbers: entries,
+        entries: Packed::of(alloc, entries)?,
     };
     let number = add_node(&mut found.nodes, node)?;
     found.numbers.insert(key, number)?;

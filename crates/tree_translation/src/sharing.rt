@@ -4,10 +4,10 @@ ghost use Rattle.std.specs.List.{IsDistinct};
 ghost use Rattle.tree_translation.specs.declared.tree_fault.TreeFault.TheVariants.{TreeTooLarge};
 ghost use Rattle.decision_tree.specs.Kept.{nodes_in};
 ghost use Rattle.tree_translation.specs.Layers.{IsGrownBy};
-ghost use Rattle.tree_translation.specs.Numbering.{IsFull, IsStored, entries_in, same_listed};
+ghost use Rattle.tree_translation.specs.Numbering.{IsFull, IsStored, entries_in, same_node};
 ghost use Rattle.tree_translation.specs.Translation.{node_limit};
 
-use crate::listed::Listed;
+use crate::listed::Node;
 use crate::tree_fault::TreeFault;
 use indexmap::IndexSet;
 use std::alloc::{AllocError, Global};
@@ -19,11 +19,11 @@ const NODE_LIMIT: usize = 1_000_000;
 ///
 /// TreeTooLarge comes where they would be more than 1,000,000, NoMemory only where memory was
 /// wanted.
-pub fn add_node(nodes: &mut IndexSet<Listed>, node: Listed) -> Result<u32, TreeFault>
+pub fn add_node(nodes: &mut IndexSet<Node>, node: Node) -> Result<u32, TreeFault>
     requires few { length nodes.old.keys ≤ node_limit }
     ensures stored { IfOk result (λ number. IsStored nodes.new.keys node number) }
     ensures grown { OnOk result (IsGrownBy nodes.old.keys node nodes.new.keys) }
-    ensures apart { OnOk result (IsDistinct same_listed nodes.new.keys) }
+    ensures apart { OnOk result (IsDistinct same_node nodes.new.keys) }
     ensures few { OnOk result (length nodes.new.keys ≤ node_limit) }
     ensures large { IfErr result (λ fault. fault ≡ TreeTooLarge → IsFull nodes.old.keys node) }
 {
@@ -35,15 +35,16 @@ pub fn add_node(nodes: &mut IndexSet<Listed>, node: Listed) -> Result<u32, TreeF
 }
 
 /// The entries of all nodes, one after another.
-pub fn joined(alloc: Global, states: u16, nodes: &[Listed]) -> Result<Vec<u32>, AllocError>
+pub fn joined(alloc: Global, states: u16, nodes: &[Node]) -> Result<Vec<u32>, AllocError>
     requires width { All (λ node. length node ≡ states) (entries_in nodes.now) }
     ensures filled { IfOk result (λ entries. length entries.items ≡ length nodes.now * states) }
     ensures nodes { IfOk result (λ entries. nodes_in states
         (length nodes.now) entries.items ≡ entries_in nodes.now) }
 {
-    let mut entries = Vec::new(alloc);
+    let count = nodes.len().saturating_mul(usize::from(states));
+    let mut entries = Vec::with_capacity(alloc, count)?;
     for node in nodes {
-        entries.extend_from_slice(&node.numbers)?;
+        node.entries.add_to(&mut entries)?;
     }
     Ok(entries)
 }

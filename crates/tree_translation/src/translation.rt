@@ -16,7 +16,7 @@ ghost use Rattle.table_symmetry.specs.Rows.{AreExpanded};
 ghost use Rattle.tree_translation.specs.Translation.{CanTranslate, DoTable, DoesRows, Translates, neighbors_of, node_limit, order_of, rows_give};
 
 use crate::layers::layers_of;
-use crate::listed::Listed;
+use crate::listed::Node;
 use crate::numbering::{Found, number_of};
 use crate::sharing::joined;
 use crate::tree_fault::TreeFault;
@@ -67,7 +67,7 @@ fn nodes_for(
     states: u16,
     order: &[Option<usize>],
     rows: Vec<Expanded>,
-) -> Result<IndexSet<Listed>, TreeFault>
+) -> Result<IndexSet<Node>, TreeFault>
     requires { CanTranslate states order.now rows.items }
     ensures does { IfOk result (λ nodes. DoesRows states order.now rows.items
         (entries_in nodes.keys)) }
@@ -142,7 +142,7 @@ fn order_of(neighborhood: Neighborhood) -> &'static [Option<usize>]
 }
 
 // The tree of these nodes, of which the last is the root.
-fn finish(alloc: Global, table: &TableRule, nodes: &[Listed]) -> Result<TreeRule, TreeFault>
+fn finish(alloc: Global, table: &TableRule, nodes: &[Node]) -> Result<TreeRule, TreeFault>
     requires few { length nodes.now ≤ node_limit }
     requires does { DoTable table.now (entries_in nodes.now) }
     requires quiet { next table.now nine_zeros ≡ 0 }

@@ -6,4 +6,4 @@ use Rattle.table_symmetry.proofs.lookup.column.Given as goal
 abbrev pub invariant-loop-number : goal.invariant-loop-number
 invariant-loop-number l =
     (length l.column.items ≡ l.number)
-    × ((row : ℕ) → row < 64 * l.number → bit_at (get_or l.column.items (row / 64) 0) (row % 64) ≡ bit_at (get_or l.words row 0) l.bit)
+    × ((row : ℕ) → row < length l.words → row < 64 * l.number → bit_at (get_or l.column.items (row / 64) 0) (row % 64) ≡ bit_at (get_or l.words row 0) l.bit)

@@ -1,7 +1,5 @@
-use Rattle.std.proofs.Common.{◌≡◌, ℕ, ◌/◌, List, Vec, Global, get_or, take, ap, ◌∙◌}
+use Rattle.std.proofs.Common.{ℕ, Vec, Global, get_or, take, ap, ◌∙◌}
 use Rattle.std.proofs.lemmas.List.{take_more}
-use Rattle.tree_translation.specs.Layers.{lets}
-use Rattle.tree_translation.specs.Near.{AreNear}
 use Rattle.tree_translation.proofs.TailsNear.{lets-none, near-more, near-passed}
 use Rattle.tree_translation.proofs.near.tails_of_block.Goals as goal
 use Rattle.tree_translation.proofs.near.tails_of_block.Goals.{then-word-ne0+in_ok-push, else-word-ne0}

@@ -1,6 +1,7 @@
 use Rattle.std.proofs.Common.{All, ◌/◌, ◌≤◌, ◌≡◌, ◌<◌, ◌+◌, ◌∙◌, ℕ, length, slice_index, slice_index_or, refl, sym, arith, rules}
 use Rattle.tree_translation.specs.declared.layers.Layer.{Layer}
 use Rattle.tree_translation.specs.declared.listed.Listed.{Listed}
+use Rattle.tree_translation.specs.declared.listed.Node.{Node}
 use Rattle.tree_translation.specs.declared.numbering.Found.{Found}
 use Rattle.tree_translation.specs.Layers.{IsLayer}
 use Rattle.tree_translation.specs.Near.{AreAlike}
@@ -106,22 +107,24 @@ number_of-returns-in-Some-clause-last t c =
 
 pub number_of-returns-in_err-number-clause-large : goal.number_of-returns-in_err-number-clause-large
 number_of-returns-in_err-number-clause-large t c =
-    let node : Listed = record { input = c.args.input; numbers = c.in_ok-entries.entries } in
+    let node : Node = record { input = c.args.input; entries = c.in_ok-of.field-0 } in
     let entries = c.in_ok-entries.ensures in
     passed-on c.from_residual-in_err-number.result c.in_err-number.field-0.0 _ c.from_residual-in_err-number.ensures.1
-    (λ e. too-many c.args.states c.args.layers.now (length c.args.marks.now) c.args.input c.args.list.now c.args.found.now c.entries_of.new.found node c.requires.fit c.requires.tails entries.grows entries.entries refl
+    (λ e. too-many c.args.states c.args.layers.now (length c.args.marks.now) c.args.input c.args.list.now c.args.found.now c.entries_of.new.found node c.requires.fit c.requires.tails entries.grows
+    (rw c.in_ok-of.ensures entries.entries) refl
     (c.in_err-number.ensures.large e))
 
 -- what comes with the node of the list
 new_node : (t : ℕ) (c : number_of-In_ok-insert t)
     → IsMade c.args.states c.args.layers.now c.args.input c.args.list.now c.args.found.now (record { numbers = c.insert.new.self; nodes = c.add_node.new.nodes }) c.in_ok-number.number
 new_node t c =
-    let node : Listed = record { input = c.args.input; numbers = c.in_ok-entries.entries } in
+    let node : Node = record { input = c.args.input; entries = c.in_ok-of.field-0 } in
     let key : Listed = record { input = c.args.input; numbers = c.in_ok-to_vec.field-0 } in
     let new : Found = record { numbers = c.insert.new.self; nodes = c.add_node.new.nodes } in
     let entries = c.in_ok-entries.ensures in
     let stored = c.in_ok-number.ensures in
-    made c.args.states c.args.layers.now (length c.args.marks.now) c.args.input c.args.list.now c.args.found.now c.entries_of.new.found node c.requires.fit c.requires.tails entries.grows entries.entries refl
+    made c.args.states c.args.layers.now (length c.args.marks.now) c.args.input c.args.list.now c.args.found.now c.entries_of.new.found node c.requires.fit c.requires.tails entries.grows
+    (rw c.in_ok-of.ensures entries.entries) refl
     new c.in_ok-number.number key refl (c.in_ok-to_vec.ensures.items_if_clones_equal
     (λ x y h. h)) stored.stored stored.grown stored.apart stored.few c.in_ok-insert.ensures.updates.0
 

@@ -1,6 +1,6 @@
 use Rattle.std.proofs.Common.{◌≡◌, ◌∙◌, ◌+◌, ◌++◌, ◌∷◌, [], length, take, arith}
 use Rattle.std.proofs.lemmas.List.{length-append, map_more}
-use Rattle.tree_translation.specs.declared.listed.Listed.{Listed}
+use Rattle.tree_translation.specs.declared.listed.Node.{Node}
 use Rattle.tree_translation.specs.Numbering.{entries_in}
 use Rattle.decision_tree.specs.Tree.{node_at}
 use Rattle.decision_tree.proofs.Shared.KeptNodes.{nodes_in-push}
@@ -13,12 +13,12 @@ loop-node-preserved c =
     let old = c.loop-node.entries.items in
     let node = c.node-item.result in
     let rows = c.args.nodes.now in
-    let at : node_at (entries_in rows) i ≡ node.numbers.items = rw (listed-at rows i node c.loop-node-test.true, ← c.node-item.is) in
-    let width : length node.numbers.items ≡ c.args.states = rw at at (c.requires.width i [] (omega (arith, c.loop-node-test.true, length-listed rows))) in
-    let more : c.extend_from_slice.new.self.items ≡ old ++ node.numbers.items = rw c.deref.ensures.value at c.in_ok-extend_from_slice.ensures.items in
-    let kept : entries_in (take (i + 1) rows) ≡ entries_in (take i rows) ++ node.numbers.items ∷ [] =
-    rw (map_more (λ (x : Listed). x.numbers.items) rows i node c.loop-node-test.true, ← c.node-item.is) in
+    let at : node_at (entries_in rows) i ≡ node.entries = rw (listed-at rows i node c.loop-node-test.true, ← c.node-item.is) in
+    let width : length node.entries ≡ c.args.states = rw at at (c.requires.width i [] (omega (arith, c.loop-node-test.true, length-listed rows))) in
+    let more : c.add_to.new.numbers.items ≡ old ++ node.entries = c.in_ok-add_to.ensures in
+    let kept : entries_in (take (i + 1) rows) ≡ entries_in (take i rows) ++ node.entries ∷ [] =
+    rw (map_more (λ (x : Node). x.entries) rows i node c.loop-node-test.true, ← c.node-item.is) in
     record {
-      filled = rw more (length-append old node.numbers.items ∙ omega (arith, width, c.loop-node.invariant.filled));
-      nodes = rw (more, kept, ← c.loop-node.invariant.nodes) (nodes_in-push c.args.states i old node.numbers.items c.loop-node.invariant.filled width);
+      filled = rw more (length-append old node.entries ∙ omega (arith, width, c.loop-node.invariant.filled));
+      nodes = rw (more, kept, ← c.loop-node.invariant.nodes) (nodes_in-push c.args.states i old node.entries c.loop-node.invariant.filled width);
     }

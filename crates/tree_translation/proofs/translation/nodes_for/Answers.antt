@@ -1,6 +1,6 @@
 use Rattle.std.proofs.Common.{Bool, false, refl, ◌≡◌, ◌<◌, ◌+◌, ◌-◌, ◌∙◌, List, [], length, sym, ap, subst, arith, rules}
 use Rattle.std.proofs.lemmas.List.Elements.{All-nil, All-replicate}
-use Rattle.tree_translation.specs.declared.listed.Listed.{Listed}
+use Rattle.tree_translation.specs.declared.listed.Node.{Node}
 use Rattle.tree_translation.specs.Layers.{AreLayersOf}
 use Rattle.tree_translation.specs.Numbering.{IsLeft, entries_in}
 use Rattle.tree_translation.specs.Starts.{NeedStarts}
@@ -49,9 +49,9 @@ returns-in_err-number_of-clause-large c =
 pub returns-clause-does : goal.returns-clause-does
 returns-clause-does c =
     let made = are (goal.at.returns-clause-does c).In_ok-layers in
-    let keys : List Listed = c.number_of.new.found.nodes.keys in
+    let keys : List Node = c.number_of.new.found.nodes.keys in
     let none : c.new-2.result.keys ≡ [] = search (rules) in
-    let last : c.in_ok-number_of.field-0 + 1 ≡ length keys = c.in_ok-number_of.ensures.last (rw none (All-nil (λ (x : Listed). 0 < x.input))) in
+    let last : c.in_ok-number_of.field-0 + 1 ≡ length keys = c.in_ok-number_of.ensures.last (rw none (All-nil (λ (x : Node). 0 < x.input))) in
     let root : c.in_ok-number_of.field-0 ≡ length (entries_in keys) - 1 = omega (arith, last, length-listed keys) in
     DoesRows-root c.args.states c.args.order.now c.args.rows.items c.in_ok-layers.layers.items c.in_ok-layers.numbers.items (entries_in keys) made
     (rw (root, c.deref.ensures.value, c.deref-2.ensures.value) at c.in_ok-number_of.ensures.number.does)
@@ -65,7 +65,7 @@ returns-clause-needed c =
     let made = are at.In_ok-layers in
     let give = rows_give c.args.order.now c.args.rows.items in
     let grows = c.in_ok-number_of.ensures.grows in
-    let keys : List Listed = c.number_of.new.found.nodes.keys in
+    let keys : List Node = c.number_of.new.found.nodes.keys in
     subst (λ depth. NeedStarts c.args.states depth (λ k inputs. give inputs) 1 (length keys)) (ap length c.deref.ensures.value ∙ made.depth)
     (nodes-needed c.args.states (length c.deref.result.now) give keys grows.known.nodes
     (grows.begun give (AreBegun-none c.args.states (length c.deref.result.now) give c.new-2.result.keys (search (rules))) (left at.After-deref-2 made)))
