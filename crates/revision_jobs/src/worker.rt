@@ -13,6 +13,7 @@ ghost use Rattle.revision_jobs.specs.Value.{
   CanBeWorked,
   bytes_of,
   pattern,
+  start_of,
   text,
   value,
   world_after,
@@ -26,7 +27,7 @@ use crate::laid::Laid;
 use basics::Listing;
 use bookmarks::render;
 use bumpalo::Bump;
-use plane_core::Stop;
+use plane_core::{Plane, Stop};
 use rule_tree::Rule;
 use std::alloc::{AllocError, Global};
 use std::sync::Arc;
@@ -150,9 +151,24 @@ fn stepped<S: Stop>(
         (S.yes_count stop.old) (S.yes_count stop.new) }
     ensures engine { engine.new ≡ engine.old }
 {
+    if step.gens == 0 {
+        return Ok(Outcome::Plane(begun(alloc, step)?));
+    }
     let laid = Laid::on(&step.from, step.cells.as_slice())?;
     let plane = engine.evolve_in_pieces(laid.plane(), step.gens, stop)?;
     Ok(Outcome::Plane(shared(alloc, plane)?))
+}
+
+// The pattern on which a step's cells are laid, which is the same one where there are none.
+fn begun(alloc: Global, step: &Step) -> Result<Arc<Plane>, AllocError>
+    requires { CanBeStepped step.now }
+    ensures { IfOk result (λ plane. arc_value plane ≡ start_of step.now) }
+{
+    let cells = step.cells.as_slice();
+    if cells.is_empty() {
+        return Arc::try_clone(&step.from);
+    }
+    shared(alloc, step.from.lay(cells)?)
 }
 
 // The text of a view.
