@@ -49,17 +49,25 @@ pub AllBelow-lies : (n : ℕ) (w : World) → 0 < n → lies_below n w ≡ true 
 AllBelow-lies n w some h x y =
     at_least_one (cell w x y) n some (λ alive.
     subst (λ s. s < n) (sym (cell-state_at w x y))
-    (by_place (live w) (λ _ _ s. s < n) (each_passes (λ (e : Place × ℕ). nat_lt e.1 n) _ (live w) (λ e k. grind (arith, nat_tests)) h) x y (subst (λ s. 0 < s) (cell-state_at w x y) alive)))
+    (by_place (live w) (λ _ _ s. s < n) (each_passes (λ (e : Place × ℕ). nat_lt e.1 n) _ (live w)
+    (λ e k. grind (arith, nat_tests)) h) x y (subst (λ s. 0 < s) (cell-state_at w x y) alive)))
 
-lies_from : (n g : ℕ) (w : World) (es : List (Place × ℕ)) → g < n → AllBelow (g + 1) w → AllByRecursion (λ (e : Place × ℕ). (cell w e.0.1 e.0.0 ≡ e.1) × (0 < e.1)) es → AllByRecursion (λ (e : Place × ℕ). e.1 < n) es
+lies_from : (n g : ℕ) (w : World) (es : List (Place × ℕ)) → g < n → AllBelow (g + 1) w
+    → AllByRecursion (λ (e : Place × ℕ). (cell w e.0.1 e.0.0 ≡ e.1) × (0 < e.1)) es
+    → AllByRecursion (λ (e : Place × ℕ). e.1 < n) es
 lies_from n g w [] h above all = tt
-lies_from n g w (e ∷ es) h above all = ((let k = above e.0.1 e.0.0 in let i = all.0.0 in omega (arith, k, i)), lies_from n g w es h above all.1)
+lies_from n g w (e ∷ es) h above all = (
+  (let k = above e.0.1 e.0.0 in let i = all.0.0 in omega (arith, k, i)),
+  lies_from n g w es h above all.1,
+)
 
 -- by the greatest state
 pub lies_below_is : (w : World) (g n : ℕ) → IsGreatest w g → 0 < n → nat_lt g n ≡ lies_below n w
 lies_below_is w g n most some =
     elim (nat_lt g n) as (λ b. nat_lt g n ≡ b → b ≡ lies_below n w) [
-      | true ↦ λ e. sym (all_pass (λ (e : Place × ℕ). nat_lt e.1 n) (λ e. e.1 < n) (live w) (λ e k. grind (arith, nat_tests)) (lies_from n g w (live w) (grind (arith, nat_tests)) most.above (live-states w)))
+      | true ↦ λ e. sym (all_pass (λ (e : Place × ℕ). nat_lt e.1 n) (λ e. e.1 < n) (live w)
+          (λ e k. grind (arith, nat_tests)) (lies_from n g w (live w) (grind (arith, nat_tests)) most.above
+          (live-states w)))
       | false ↦ λ e.
           elim (lies_below n w) as (λ b. lies_below n w ≡ b → false ≡ b) [
             | true ↦ λ k. let l = most.least n (AllBelow-lies n w some k) in absurd (grind (arith, nat_tests))
@@ -71,7 +79,9 @@ lies_below_is w g n most some =
 pub HasMargin-lies : (w : World) → lies_near w ≡ true → HasMargin (2 ^ 60) w
 HasMargin-lies w h x y alive =
     let is = cell-state_at w x y in
-    by_place (live w) (λ x y _. IsInside (2 ^ 60) x y) (each_passes (λ (e : Place × ℕ). is_named e.0.1 && is_named e.0.0) _ (live w) (λ e k. place_inside e.0.1 e.0.0 k) h) x y (subst (λ s. 0 < s) is alive)
+    by_place (live w) (λ x y _. IsInside (2 ^ 60) x y)
+    (each_passes (λ (e : Place × ℕ). is_named e.0.1 && is_named e.0.0) _ (live w)
+    (λ e k. place_inside e.0.1 e.0.0 k) h) x y (subst (λ s. 0 < s) is alive)
 
 both : (a b : Bool) → a ≡ true → b ≡ true → (a && b) ≡ true
 both a b h k = ap (λ t. t && b) h ∙ k
@@ -82,16 +92,20 @@ passes_le y z h = grind (arith, ints)
 passes_lt : (y z : ℤ) → y <ℤ z → int_lt y z ≡ true
 passes_lt y z h = grind (arith, ints)
 
-span_near : (low z high : ℤ) → int_le (neg_ℤ (pos (2 ^ 60))) low ≡ true → int_lt high (pos (2 ^ 60)) ≡ true → low ≤ℤ z → z ≤ℤ high → is_named z ≡ true
-span_near low z high h k l m = both (int_le (neg_ℤ (pos (2 ^ 60))) z) (int_lt z (pos (2 ^ 60))) (grind (arith, ints)) (grind (arith, ints))
+span_near : (low z high : ℤ) → int_le (neg_ℤ (pos (2 ^ 60))) low ≡ true → int_lt high (pos (2 ^ 60)) ≡ true → low ≤ℤ z
+    → z ≤ℤ high → is_named z ≡ true
+span_near low z high h k l m = both (int_le (neg_ℤ (pos (2 ^ 60))) z) (int_lt z (pos (2 ^ 60))) (grind (arith, ints))
+    (grind (arith, ints))
 
 -- a place in such a box
 in_box_near : (b : Bounds) (x y : ℤ) → box_near b ≡ true → IsInBox b x y → (is_named x && is_named y) ≡ true
 in_box_near b x y h inside =
-    let parts = and_parts (int_le (neg_ℤ (pos (2 ^ 60))) b.left && int_lt b.right (pos (2 ^ 60))) (int_le (neg_ℤ (pos (2 ^ 60))) b.top && int_lt b.bottom (pos (2 ^ 60))) h in
+    let parts = and_parts (int_le (neg_ℤ (pos (2 ^ 60))) b.left && int_lt b.right (pos (2 ^ 60)))
+    (int_le (neg_ℤ (pos (2 ^ 60))) b.top && int_lt b.bottom (pos (2 ^ 60))) h in
     let columns = and_parts (int_le (neg_ℤ (pos (2 ^ 60))) b.left) (int_lt b.right (pos (2 ^ 60))) parts.0 in
     let rows = and_parts (int_le (neg_ℤ (pos (2 ^ 60))) b.top) (int_lt b.bottom (pos (2 ^ 60))) parts.1 in
-    both (is_named x) (is_named y) (span_near b.left x b.right columns.0 columns.1 inside.left inside.right) (span_near b.top y b.bottom rows.0 rows.1 inside.top inside.bottom)
+    both (is_named x) (is_named y) (span_near b.left x b.right columns.0 columns.1 inside.left inside.right)
+    (span_near b.top y b.bottom rows.0 rows.1 inside.top inside.bottom)
 
 least_near : (z : ℤ) → neg_ℤ (pos (2 ^ 61)) ≤ℤ (z -ℤ pos (2 ^ 60)) → int_le (neg_ℤ (pos (2 ^ 60))) z ≡ true
 least_near z h = let k : neg_ℤ (pos (2 ^ 60)) ≤ℤ z = omega (arith, ints, h) in passes_le (neg_ℤ (pos (2 ^ 60))) z k
@@ -105,17 +119,22 @@ box_near-live w b box inside =
     let right = (inside b.right box.touched_right.0 box.touched_right.1).right in
     let top = (inside box.touched_top.0 b.top box.touched_top.1).top in
     let bottom = (inside box.touched_bottom.0 b.bottom box.touched_bottom.1).bottom in
-    both (int_le (neg_ℤ (pos (2 ^ 60))) b.left && int_lt b.right (pos (2 ^ 60))) (int_le (neg_ℤ (pos (2 ^ 60))) b.top && int_lt b.bottom (pos (2 ^ 60)))
-    (both (int_le (neg_ℤ (pos (2 ^ 60))) b.left) (int_lt b.right (pos (2 ^ 60))) (least_near b.left left) (most_near b.right right))
-    (both (int_le (neg_ℤ (pos (2 ^ 60))) b.top) (int_lt b.bottom (pos (2 ^ 60))) (least_near b.top top) (most_near b.bottom bottom))
+    both (int_le (neg_ℤ (pos (2 ^ 60))) b.left && int_lt b.right (pos (2 ^ 60)))
+    (int_le (neg_ℤ (pos (2 ^ 60))) b.top && int_lt b.bottom (pos (2 ^ 60)))
+    (both (int_le (neg_ℤ (pos (2 ^ 60))) b.left) (int_lt b.right (pos (2 ^ 60))) (least_near b.left left)
+    (most_near b.right right))
+    (both (int_le (neg_ℤ (pos (2 ^ 60))) b.top) (int_lt b.bottom (pos (2 ^ 60))) (least_near b.top top)
+    (most_near b.bottom bottom))
 
 -- by the bounding box
 pub lies_near_is : (w : World) (b : Bounds) → IsBoundingBox b w → box_near b ≡ lies_near w
 lies_near_is w b box =
     elim (box_near b) as (λ t. box_near b ≡ t → t ≡ lies_near w) [
       | true ↦ λ e.
-          sym (all_pass (λ (d : Place × ℕ). is_named d.0.1 && is_named d.0.0) (λ d. IsInBox b d.0.1 d.0.0) (live w) (λ d k. in_box_near b d.0.1 d.0.0 e k)
-          (all_so (λ (d : Place × ℕ). (cell w d.0.1 d.0.0 ≡ d.1) × (0 < d.1)) (λ d. IsInBox b d.0.1 d.0.0) (live w) (λ d k. box.holds d.0.1 d.0.0 (subst (λ s. 0 < s) (sym k.0) k.1)) (live-states w)))
+          sym (all_pass (λ (d : Place × ℕ). is_named d.0.1 && is_named d.0.0) (λ d. IsInBox b d.0.1 d.0.0) (live w)
+          (λ d k. in_box_near b d.0.1 d.0.0 e k)
+          (all_so (λ (d : Place × ℕ). (cell w d.0.1 d.0.0 ≡ d.1) × (0 < d.1)) (λ d. IsInBox b d.0.1 d.0.0) (live w)
+          (λ d k. box.holds d.0.1 d.0.0 (subst (λ s. 0 < s) (sym k.0) k.1)) (live-states w)))
       | false ↦ λ e.
           elim (lies_near w) as (λ t. lies_near w ≡ t → false ≡ t) [
             | true ↦ λ k. sym e ∙ box_near-live w b box (HasMargin-lies w k)
@@ -125,4 +144,5 @@ lies_near_is w b box =
 
 -- where no cell is live
 pub lies_near-blank : (w : World) → w ≡ blank → lies_near w ≡ true
-lies_near-blank w is = ap lies_near is ∙ ap (λ es. list_all (λ (e : Place × ℕ). is_named e.0.1 && is_named e.0.0) es) (live-entries blank ∙ ap (map as_live) entries-blank)
+lies_near-blank w is = ap lies_near is ∙ ap (λ es. list_all (λ (e : Place × ℕ). is_named e.0.1 && is_named e.0.0) es)
+    (live-entries blank ∙ ap (map as_live) entries-blank)

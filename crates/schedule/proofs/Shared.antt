@@ -1,5 +1,11 @@
 -- Lemmas that other crates may cite.
+pub mod Alike
+pub mod Arrivals
+pub mod Branches
 pub mod Changed
+pub mod Felt
 pub mod Fits
 pub mod History
 pub mod Ids
+pub mod Lines
+pub mod Reach

@@ -8,27 +8,33 @@ use Rattle.bookmarks.specs.declared.view.View.{View}
 use Rattle.schedule.specs.declared.edit.Edit.{Edit}
 use Rattle.schedule.specs.declared.edit.Edit.TheVariants as edit
 
--- an intervention is inserted, changed or removed by its id; cells of the start are set; another
--- start or rule is taken; a bookmark is added, or moved or removed by its id
+-- an intervention is inserted into a branch, or changed or removed by its id; cells of the start
+-- are set; another start or rule is taken; a bookmark is added to a branch, or moved or removed by
+-- its id; a branch is added to a parent at a generation, or removed
 pub data Asked : Type 0 where
-  InsertIntervention : ℕ → List CellSet → Asked
+  InsertIntervention : ℕ → ℕ → List CellSet → Asked
   ChangeIntervention : ℕ → ℕ → List CellSet → Asked
   RemoveIntervention : ℕ → Asked
   SetCells : List CellSet → Asked
   ReplaceStart : World → Asked
   ReplaceRule : Rule → Asked
-  AddBookmark : ℕ → View → Asked
+  AddBookmark : ℕ → ℕ → View → Asked
   MoveBookmark : ℕ → ℕ → Asked
   RemoveBookmark : ℕ → Asked
+  AddBranch : ℕ → ℕ → Asked
+  RemoveBranch : ℕ → Asked
 
 -- what an edit asks for
 abbrev pub asked_of : Edit → Asked
-asked_of (edit.InsertIntervention generation cells) = InsertIntervention generation cells
+asked_of (edit.InsertIntervention branch generation cells) =
+    InsertIntervention branch generation cells
 asked_of (edit.ChangeIntervention id generation cells) = ChangeIntervention id generation cells
 asked_of (edit.RemoveIntervention id) = RemoveIntervention id
 asked_of (edit.SetCells cells) = SetCells cells
 asked_of (edit.ReplaceStart start) = ReplaceStart (arc_value start)
 asked_of (edit.ReplaceRule rule) = ReplaceRule (arc_value rule)
-asked_of (edit.AddBookmark generation view) = AddBookmark generation view
+asked_of (edit.AddBookmark branch generation view) = AddBookmark branch generation view
 asked_of (edit.MoveBookmark id generation) = MoveBookmark id generation
 asked_of (edit.RemoveBookmark id) = RemoveBookmark id
+asked_of (edit.AddBranch parent generation) = AddBranch parent generation
+asked_of (edit.RemoveBranch branch) = RemoveBranch branch

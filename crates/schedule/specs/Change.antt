@@ -1,6 +1,7 @@
 -- What an edit makes of a document, and why it is refused.
-use Rattle.std.specs.Prelude.{◌≡◌, ℕ, ◌+◌, ◌-◌, ◌^◌, ◌&&◌, Bool, not, nat_lt, nat_le, int_le, int_lt, List, [], ◌∷◌, ◌++◌, length, ℤ, pos, neg_ℤ, Option, None, Some, Result, Ok, Err, MatchResult, if◌then◌else◌}
+use Rattle.std.specs.Prelude.{◌≡◌, ℕ, ◌+◌, ◌-◌, ◌^◌, ◌&&◌, ◌||◌, ◌==◌, is_none, Bool, not, nat_lt, nat_le, int_le, int_lt, List, [], ◌∷◌, ◌++◌, length, ℤ, pos, neg_ℤ, Option, None, Some, Result, Ok, Err, MatchResult, if◌then◌else◌}
 use Rattle.std.specs.List.{list_all}
+use Rattle.std.specs.Option.{unwrap_or}
 use Rattle.worlds.specs.declared.cell.CellSet.{CellSet}
 use Rattle.worlds.specs.World.{World}
 use Rattle.worlds.specs.Lay.{lay}
@@ -10,17 +11,23 @@ use Rattle.rule_tree.specs.Rule.{states_of}
 use Rattle.schedule.specs.declared.document.Intervention.{Intervention}
 use Rattle.schedule.specs.declared.edit.Edited.{Edited}
 use Rattle.schedule.specs.declared.fault.EditFault.{EditFault}
-use Rattle.schedule.specs.declared.fault.EditFault.TheVariants.{GenerationTooFar, CellOutOfRange, CellStateTooHigh, NoSuchIntervention, NoSuchBookmark, TooManyInterventions, TooManyBookmarks, TooManyCells, BadWindow, RevisionSpent}
+use Rattle.schedule.specs.declared.fault.EditFault.TheVariants.{GenerationTooFar, CellOutOfRange, CellStateTooHigh, NoSuchIntervention, NoSuchBookmark, TooManyInterventions, TooManyBookmarks, TooManyCells, BadWindow, RevisionSpent, NoSuchBranch, BeforeFork, BranchInUse, TooManyBranches}
 use Rattle.bookmarks.specs.declared.view.View.{View}
 use Rattle.bookmarks.specs.Within.{has_window_size, lies_in_range}
 use Rattle.schedule.specs.Plan.{Plan}
-use Rattle.schedule.specs.Asked.{Asked, InsertIntervention, ChangeIntervention, RemoveIntervention, SetCells, ReplaceStart, ReplaceRule, AddBookmark, MoveBookmark, RemoveBookmark}
-use Rattle.schedule.specs.Ids.{intervention_id, bookmark_id, has_id, changed_at, without}
+use Rattle.schedule.specs.Asked.{Asked, InsertIntervention, ChangeIntervention, RemoveIntervention, SetCells, ReplaceStart, ReplaceRule, AddBookmark, MoveBookmark, RemoveBookmark, AddBranch, RemoveBranch}
+use Rattle.schedule.specs.Ids.{intervention_id, bookmark_id, branch_id, has_id, changed_at, without}
+use Rattle.schedule.specs.Branches.{has_branch, fork_of, intervention_branch, bookmark_branch, has_interventions, has_bookmarks, has_children}
 use Rattle.schedule.specs.declared.document.Bookmark.{Bookmark}
+use Rattle.schedule.specs.declared.branch.Branch.{Branch}
 
 -- a generation beyond 2^60
 abbrev pub is_too_far : ℕ → Bool
 is_too_far generation = nat_lt (2 ^ 60) generation
+
+-- a generation below the fork of a branch
+abbrev pub is_before_fork : Plan → ℕ → ℕ → Bool
+is_before_fork p b generation = nat_lt generation (fork_of p.branches b)
 
 -- a coordinate that a named cell may have, from -2^60 up to but not including 2^60
 abbrev pub is_named : ℤ → Bool
@@ -63,19 +70,27 @@ for_cells p cells =
     ∷ (not (set_below (states_of p.rule) cells), CellStateTooHigh)
     ∷ spent p
 
--- those of inserting an intervention
-abbrev pub for_intervention : Plan → ℕ → List CellSet → List (Bool × EditFault)
-for_intervention p generation cells =
-    (is_too_far generation, GenerationTooFar)
+-- those of inserting an intervention into a branch
+abbrev pub for_intervention : Plan → ℕ → ℕ → List CellSet → List (Bool × EditFault)
+for_intervention p b generation cells =
+    (not (has_branch p.branches b), NoSuchBranch)
+    ∷ (is_too_far generation, GenerationTooFar)
+    ∷ (is_before_fork p b generation, BeforeFork)
     ∷ (nat_le 4096 (length p.interventions), TooManyInterventions)
+    ∷ for_cells p cells
+
+-- those of changing an intervention, where its branch is known if it is there
+abbrev pub for_acting : Plan → Option ℕ → ℕ → List CellSet → List (Bool × EditFault)
+for_acting p b generation cells =
+    (is_none b, NoSuchIntervention)
+    ∷ (is_too_far generation, GenerationTooFar)
+    ∷ (is_before_fork p (unwrap_or b 0) generation, BeforeFork)
     ∷ for_cells p cells
 
 -- those of changing the intervention of an id
 abbrev pub for_changed_intervention : Plan → ℕ → ℕ → List CellSet → List (Bool × EditFault)
 for_changed_intervention p id generation cells =
-    (not (has_id intervention_id p.interventions id), NoSuchIntervention)
-    ∷ (is_too_far generation, GenerationTooFar)
-    ∷ for_cells p cells
+    for_acting p (intervention_branch p.interventions id) generation cells
 
 -- those of removing it
 abbrev pub for_removed_intervention : Plan → ℕ → List (Bool × EditFault)
@@ -97,37 +112,67 @@ for_rule p rule = (
 )
     ∷ spent p
 
--- those of adding a bookmark
-abbrev pub for_bookmark : Plan → ℕ → View → List (Bool × EditFault)
-for_bookmark p generation view =
-    (is_too_far generation, GenerationTooFar)
+-- those of adding a bookmark to a branch
+abbrev pub for_bookmark : Plan → ℕ → ℕ → View → List (Bool × EditFault)
+for_bookmark p b generation view =
+    (not (has_branch p.branches b), NoSuchBranch)
+    ∷ (is_too_far generation, GenerationTooFar)
+    ∷ (is_before_fork p b generation, BeforeFork)
     ∷ (nat_le 4096 (length p.bookmarks), TooManyBookmarks)
     ∷ (not (has_window_size view), BadWindow)
     ∷ (not (lies_in_range view), CellOutOfRange)
     ∷ spent p
 
+-- those of moving a bookmark, where its branch is known if it is there
+abbrev pub for_marking : Plan → Option ℕ → ℕ → List (Bool × EditFault)
+for_marking p b generation =
+    (is_none b, NoSuchBookmark)
+    ∷ (is_too_far generation, GenerationTooFar)
+    ∷ (is_before_fork p (unwrap_or b 0) generation, BeforeFork)
+    ∷ spent p
+
 -- those of moving the bookmark of an id
 abbrev pub for_moved_bookmark : Plan → ℕ → ℕ → List (Bool × EditFault)
 for_moved_bookmark p id generation =
-    (not (has_id bookmark_id p.bookmarks id), NoSuchBookmark)
-    ∷ (is_too_far generation, GenerationTooFar)
-    ∷ spent p
+    for_marking p (bookmark_branch p.bookmarks id) generation
 
 -- those of removing it
 abbrev pub for_removed_bookmark : Plan → ℕ → List (Bool × EditFault)
 for_removed_bookmark p id = (not (has_id bookmark_id p.bookmarks id), NoSuchBookmark) ∷ spent p
 
+-- those of adding a branch to a parent
+abbrev pub for_branch : Plan → ℕ → ℕ → List (Bool × EditFault)
+for_branch p parent generation =
+    (not (has_branch p.branches parent), NoSuchBranch)
+    ∷ (is_too_far generation, GenerationTooFar)
+    ∷ (is_before_fork p parent generation, BeforeFork)
+    ∷ (nat_le 64 (length p.branches), TooManyBranches)
+    ∷ spent p
+
+-- whether a branch may not be removed: it is 0, has an intervention or a bookmark, or is a parent
+abbrev pub is_in_use : Plan → ℕ → Bool
+is_in_use p b =
+    (b == 0 || has_interventions p.interventions b)
+    || (has_bookmarks p.bookmarks b || has_children p.branches b)
+
+-- those of removing a branch
+abbrev pub for_removed_branch : Plan → ℕ → List (Bool × EditFault)
+for_removed_branch p b =
+    (not (has_branch p.branches b), NoSuchBranch) ∷ (is_in_use p b, BranchInUse) ∷ spent p
+
 -- those of an edit
 abbrev pub refusals : Plan → Asked → List (Bool × EditFault)
-refusals p (InsertIntervention generation cells) = for_intervention p generation cells
+refusals p (InsertIntervention b generation cells) = for_intervention p b generation cells
 refusals p (ChangeIntervention id generation cells) = for_changed_intervention p id generation cells
 refusals p (RemoveIntervention id) = for_removed_intervention p id
 refusals p (SetCells cells) = for_cells p cells
 refusals p (ReplaceStart start) = for_start p start
 refusals p (ReplaceRule rule) = for_rule p rule
-refusals p (AddBookmark generation view) = for_bookmark p generation view
+refusals p (AddBookmark b generation view) = for_bookmark p b generation view
 refusals p (MoveBookmark id generation) = for_moved_bookmark p id generation
 refusals p (RemoveBookmark id) = for_removed_bookmark p id
+refusals p (AddBranch parent generation) = for_branch p parent generation
+refusals p (RemoveBranch b) = for_removed_branch p b
 
 -- the first that applies
 abbrev pub first_refusal : List (Bool × EditFault) → Option EditFault
@@ -160,13 +205,20 @@ revised p = record p { revision = p.revision + 1 }
 abbrev pub answered : Plan → Edited
 answered p = record { revision = p.revision + 1; id = None }
 
--- the document with one more intervention, whose id is the next
-abbrev pub with_intervention : Plan → ℕ → List CellSet → Changed
-with_intervention p generation cells = record {
+-- the intervention that gets the next id
+abbrev pub next_intervention : Plan → ℕ → ℕ → List CellSet → Intervention
+next_intervention p b generation cells = record {
+  id = p.last_intervention + 1;
+  branch = b;
+  generation = generation;
+  cells = cells;
+}
+
+-- the document with one more intervention
+abbrev pub with_intervention : Plan → ℕ → ℕ → List CellSet → Changed
+with_intervention p b generation cells = record {
   plan = record (revised p) {
-    interventions =
-        p.interventions
-        ++ record { id = p.last_intervention + 1; generation = generation; cells = cells } ∷ [];
+    interventions = p.interventions ++ next_intervention p b generation cells ∷ [];
     last_intervention = p.last_intervention + 1;
   };
   edited = record { revision = p.revision + 1; id = Some (p.last_intervention + 1) };
@@ -214,13 +266,20 @@ changed_rule p rule = record {
   edited = answered p;
 }
 
--- the document with one more bookmark, whose id is the next
-abbrev pub changed_bookmarks : Plan → ℕ → View → Changed
-changed_bookmarks p generation view = record {
+-- the bookmark that gets the next id
+abbrev pub next_bookmark : Plan → ℕ → ℕ → View → Bookmark
+next_bookmark p b generation view = record {
+  id = p.last_bookmark + 1;
+  branch = b;
+  generation = generation;
+  view = view;
+}
+
+-- the document with one more bookmark
+abbrev pub changed_bookmarks : Plan → ℕ → ℕ → View → Changed
+changed_bookmarks p b generation view = record {
   plan = record (revised p) {
-    bookmarks =
-        p.bookmarks ++ record { id = p.last_bookmark + 1; generation = generation; view = view }
-        ∷ [];
+    bookmarks = p.bookmarks ++ next_bookmark p b generation view ∷ [];
     last_bookmark = p.last_bookmark + 1;
   };
   edited = record { revision = p.revision + 1; id = Some (p.last_bookmark + 1) };
@@ -245,17 +304,44 @@ without_bookmark p id = record {
   edited = answered p;
 }
 
+-- the branch that gets the next id
+abbrev pub next_branch : Plan → ℕ → ℕ → Branch
+next_branch p parent generation = record {
+  id = p.last_branch + 1;
+  parent = parent;
+  fork = generation;
+}
+
+-- the document with one more branch
+abbrev pub with_branch : Plan → ℕ → ℕ → Changed
+with_branch p parent generation = record {
+  plan = record (revised p) {
+    branches = p.branches ++ next_branch p parent generation ∷ [];
+    last_branch = p.last_branch + 1;
+  };
+  edited = record { revision = p.revision + 1; id = Some (p.last_branch + 1) };
+}
+
+-- the document without a branch
+abbrev pub without_branch : Plan → ℕ → Changed
+without_branch p b = record {
+  plan = record (revised p) { branches = without branch_id p.branches b };
+  edited = answered p;
+}
+
 -- what an edit makes of a document that it fits
 abbrev pub changed : Plan → Asked → Changed
-changed p (InsertIntervention generation cells) = with_intervention p generation cells
+changed p (InsertIntervention b generation cells) = with_intervention p b generation cells
 changed p (ChangeIntervention id generation cells) = with_changed_intervention p id generation cells
 changed p (RemoveIntervention id) = without_intervention p id
 changed p (SetCells cells) = changed_cells p cells
 changed p (ReplaceStart start) = changed_start p start
 changed p (ReplaceRule rule) = changed_rule p rule
-changed p (AddBookmark generation view) = changed_bookmarks p generation view
+changed p (AddBookmark b generation view) = changed_bookmarks p b generation view
 changed p (MoveBookmark id generation) = with_moved_bookmark p id generation
 changed p (RemoveBookmark id) = without_bookmark p id
+changed p (AddBranch parent generation) = with_branch p parent generation
+changed p (RemoveBranch b) = without_branch p b
 
 -- the refusal, if there is one, or else the document
 abbrev pub unless_refused : Option EditFault → Changed → Result Changed EditFault

@@ -1,7 +1,7 @@
 -- The number and the name of each fault of an edit.
 use Rattle.std.specs.Prelude.{ℕ, List, codes}
 use Rattle.schedule.specs.declared.fault.EditFault.{EditFault}
-use Rattle.schedule.specs.declared.fault.EditFault.TheVariants.{GenerationTooFar, CellOutOfRange, CellStateTooHigh, NoSuchIntervention, NoSuchBookmark, TooManyInterventions, TooManyBookmarks, TooManyCells, BadWindow, RevisionSpent, NoMemory}
+use Rattle.schedule.specs.declared.fault.EditFault.TheVariants.{GenerationTooFar, CellOutOfRange, CellStateTooHigh, NoSuchIntervention, NoSuchBookmark, TooManyInterventions, TooManyBookmarks, TooManyCells, BadWindow, RevisionSpent, NoSuchBranch, BeforeFork, BranchInUse, TooManyBranches, NoMemory}
 
 abbrev pub fault_number : EditFault → ℕ
 fault_number GenerationTooFar = 40
@@ -14,6 +14,10 @@ fault_number TooManyBookmarks = 46
 fault_number TooManyCells = 47
 fault_number BadWindow = 48
 fault_number RevisionSpent = 49
+fault_number NoSuchBranch = 50
+fault_number BeforeFork = 51
+fault_number BranchInUse = 52
+fault_number TooManyBranches = 53
 fault_number NoMemory = 70
 
 abbrev pub fault_name : EditFault → List ℕ
@@ -27,4 +31,8 @@ fault_name TooManyBookmarks = codes "TooManyBookmarks"
 fault_name TooManyCells = codes "TooManyCells"
 fault_name BadWindow = codes "BadWindow"
 fault_name RevisionSpent = codes "RevisionSpent"
+fault_name NoSuchBranch = codes "NoSuchBranch"
+fault_name BeforeFork = codes "BeforeFork"
+fault_name BranchInUse = codes "BranchInUse"
+fault_name TooManyBranches = codes "TooManyBranches"
 fault_name NoMemory = codes "NoMemory"

@@ -3,12 +3,16 @@ use Rattle.std.specs.Prelude.{ℕ, ◌<◌, ◌==◌, not, Bool, List, [], ◌�
 use Rattle.std.specs.List.{AllByRecursion, list_any}
 use Rattle.schedule.specs.declared.document.Intervention.{Intervention}
 use Rattle.schedule.specs.declared.document.Bookmark.{Bookmark}
+use Rattle.schedule.specs.declared.branch.Branch.{Branch}
 
 abbrev pub intervention_id : Intervention → ℕ
 intervention_id i = i.id
 
 abbrev pub bookmark_id : Bookmark → ℕ
 bookmark_id b = b.id
+
+abbrev pub branch_id : Branch → ℕ
+branch_id b = b.id
 
 -- each element's id is below those of all later ones
 abbrev pub IdsRise : {X : Type 0} → (X → ℕ) → List X → Type 0

@@ -9,7 +9,9 @@ plan_of d = record {
   start = arc_value d.start;
   interventions = d.interventions.items;
   bookmarks = d.bookmarks.items;
+  branches = d.branches.items;
   revision = d.revision;
   last_intervention = d.last_intervention;
   last_bookmark = d.last_bookmark;
+  last_branch = d.last_branch;
 }

@@ -1,10 +1,13 @@
-pub mod Alike
 pub mod Faults
 pub mod Plan
+pub mod Branches
+pub mod History
 pub mod Kept
 pub mod Sound
 pub mod Scratch
+pub mod Alike
 pub mod Ids
 pub mod Asked
 pub mod Change
+pub mod Laws
 pub mod Near

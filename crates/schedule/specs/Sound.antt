@@ -1,5 +1,5 @@
 -- What holds of every document.
-use Rattle.std.specs.Prelude.{ℕ, ◌<◌, ◌≤◌, ◌^◌, List, length}
+use Rattle.std.specs.Prelude.{◌≡◌, ℕ, ◌<◌, ◌≤◌, ◌^◌, true, List, length}
 use Rattle.std.specs.List.{AllByRecursion}
 use Rattle.worlds.specs.Range.{IsInside, HasMargin, AllBelow}
 use Rattle.worlds.specs.declared.cell.CellSet.{CellSet}
@@ -7,8 +7,10 @@ use Rattle.rule_tree.specs.Rule.{states_of}
 use Rattle.bookmarks.specs.Within.{IsWithin}
 use Rattle.schedule.specs.declared.document.Intervention.{Intervention}
 use Rattle.schedule.specs.declared.document.Bookmark.{Bookmark}
+use Rattle.schedule.specs.declared.branch.Branch.{Branch}
 use Rattle.schedule.specs.Plan.{Plan}
-use Rattle.schedule.specs.Ids.{IdsRise, intervention_id, bookmark_id}
+use Rattle.schedule.specs.Ids.{IdsRise, intervention_id, bookmark_id, branch_id}
+use Rattle.schedule.specs.Branches.{has_branch, fork_of}
 
 -- the cells lie where an edit may name them: in -2^60 <= x, y < 2^60, which is 2^60 from the edges
 -- of the range of planes
@@ -24,6 +26,36 @@ pub record IsAllowed (n : ℕ) (i : Intervention) : Type 0 where
   pub near : i.generation ≤ 2 ^ 60
   pub named : AreNamed i.cells
   pub below : SetBelow n i.cells
+
+-- a generation at or above the fork of a branch that is there
+pub record IsPlaced (branches : List Branch) (b g : ℕ) : Type 0 where
+  pub there : has_branch branches b ≡ true
+  pub from_fork : fork_of branches b ≤ g
+
+-- a branch that leaves one of a lesser id, which is there, at or above the fork of that one
+pub record IsForked (branches : List Branch) (x : Branch) : Type 0 where
+  pub later : x.parent < x.id
+  pub placed : IsPlaced branches x.parent x.fork
+  pub near : x.fork ≤ 2 ^ 60
+
+-- each intervention stands in a branch that is there, at or above its fork
+abbrev pub ArePlaced : List Branch → List Intervention → Type 0
+ArePlaced branches =
+    AllByRecursion (λ (i : Intervention). IsPlaced branches i.branch i.generation)
+
+-- each bookmark does
+abbrev pub AreMarked : List Branch → List Bookmark → Type 0
+AreMarked branches = AllByRecursion (λ (b : Bookmark). IsPlaced branches b.branch b.generation)
+
+-- the limits that the branches keep
+pub record AreSound (p : Plan) : Type 0 where
+  pub forked : AllByRecursion (IsForked p.branches) p.branches
+  pub rise : IdsRise branch_id p.branches
+  pub given : AllByRecursion (λ (x : Branch). x.id ≤ p.last_branch) p.branches
+  pub few : length p.branches ≤ 64
+  pub within : p.last_branch ≤ p.revision
+  pub interventions_placed : ArePlaced p.branches p.interventions
+  pub bookmarks_placed : AreMarked p.branches p.bookmarks
 
 -- the limits that every edit keeps
 pub record IsSound (p : Plan) : Type 0 where
@@ -42,3 +74,4 @@ pub record IsSound (p : Plan) : Type 0 where
   pub bookmarks_given : AllByRecursion (λ (b : Bookmark). b.id ≤ p.last_bookmark) p.bookmarks
   pub few_bookmarks : length p.bookmarks ≤ 4096
   pub bookmarks_within : p.last_bookmark ≤ p.revision
+  pub branches_sound : AreSound p

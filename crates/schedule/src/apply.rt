@@ -1,6 +1,7 @@
 //! How an edit changes a document.
 ghost use Rattle.std.specs.Prelude.{◌≡◌, ◌⊎◌, ◌==◌, IfOk, IfErr, IfSome, OnErr, position};
-ghost use Rattle.schedule.specs.Ids.{IdsRise, intervention_id, bookmark_id, changed_at, without};
+ghost use Rattle.schedule.specs.Ids.{IdsRise, intervention_id, bookmark_id, branch_id};
+ghost use Rattle.schedule.specs.Ids.{changed_at, without};
 ghost use Rattle.std.specs.Arc.{arc_value};
 ghost use Rattle.schedule.specs.Asked.{asked_of};
 ghost use Rattle.schedule.specs.Change.{change, made, refusal, refusals, first_refusal};
@@ -12,7 +13,10 @@ ghost use Rattle.schedule.specs.Change.{for_cells, for_start, for_rule, for_book
 ghost use Rattle.schedule.specs.Change.{for_intervention, for_changed_intervention};
 ghost use Rattle.schedule.specs.Change.{for_removed_intervention};
 ghost use Rattle.schedule.specs.Change.{for_moved_bookmark, for_removed_bookmark};
+ghost use Rattle.schedule.specs.Change.{for_branch, for_removed_branch};
+ghost use Rattle.schedule.specs.Change.{with_branch, without_branch};
 
+use crate::branch::Branch;
 use crate::document::{Bookmark, Document, Intervention};
 use crate::edit::{Edit, Edited};
 use crate::fault::EditFault;
@@ -48,9 +52,11 @@ impl Document {
         ensures unchanged { OnErr result (self.new ≡ self.old) }
     {
         match edit {
-            Edit::InsertIntervention { generation, cells } => {
-                self.insert_intervention(*generation, cells.as_slice())
-            }
+            Edit::InsertIntervention {
+                branch,
+                generation,
+                cells,
+            } => self.insert_intervention(*branch, *generation, cells.as_slice()),
             Edit::ChangeIntervention {
                 id,
                 generation,
@@ -60,27 +66,35 @@ impl Document {
             Edit::SetCells { cells } => self.set_cells(cells.as_slice()),
             Edit::ReplaceStart(start) => self.replace_start(start),
             Edit::ReplaceRule(rule) => self.replace_rule(rule),
-            Edit::AddBookmark { generation, view } => self.add_bookmark(*generation, *view),
+            Edit::AddBookmark {
+                branch,
+                generation,
+                view,
+            } => self.add_bookmark(*branch, *generation, *view),
             Edit::MoveBookmark { id, generation } => Ok(self.move_bookmark(*id, *generation)),
             Edit::RemoveBookmark { id } => Ok(self.remove_bookmark(*id)),
+            Edit::AddBranch { parent, generation } => self.add_branch(*parent, *generation),
+            Edit::RemoveBranch { branch } => Ok(self.remove_branch(*branch)),
         }
     }
 
-    // Adds an intervention.
+    // Adds an intervention to a branch.
     fn insert_intervention(
         &mut self,
+        branch: u64,
         generation: u64,
         cells: &[CellSet],
     ) -> Result<Edited, AllocError>
-        requires { first_refusal (for_intervention self.old generation cells.now) ≡ None }
+        requires { first_refusal (for_intervention self.old branch generation cells.now) ≡ None }
         ensures ok { IfOk result (λ edited.
-            with_intervention self.old generation cells.now ≡ made self.new edited) }
+            with_intervention self.old branch generation cells.now ≡ made self.new edited) }
         ensures unchanged { OnErr result (self.new ≡ self.old) }
     {
         let id = self.last_intervention + 1;
         let cells = Listing::from_vec(Vec::from_slice(self.alloc, cells)?);
         self.interventions.push(Intervention {
             id,
+            branch,
             generation,
             cells,
         })?;
@@ -179,16 +193,22 @@ impl Document {
         })
     }
 
-    // Adds a bookmark.
-    fn add_bookmark(&mut self, generation: u64, view: View) -> Result<Edited, AllocError>
-        requires { first_refusal (for_bookmark self.old generation view) ≡ None }
+    // Adds a bookmark to a branch.
+    fn add_bookmark(
+        &mut self,
+        branch: u64,
+        generation: u64,
+        view: View,
+    ) -> Result<Edited, AllocError>
+        requires { first_refusal (for_bookmark self.old branch generation view) ≡ None }
         ensures ok { IfOk result
-            (λ edited. changed_bookmarks self.old generation view ≡ made self.new edited) }
+            (λ edited. changed_bookmarks self.old branch generation view ≡ made self.new edited) }
         ensures unchanged { OnErr result (self.new ≡ self.old) }
     {
         let id = self.last_bookmark + 1;
         self.bookmarks.push(Bookmark {
             id,
+            branch,
             generation,
             view,
         })?;
@@ -219,6 +239,40 @@ impl Document {
         ensures { without_bookmark self.old id ≡ made self.new result }
     {
         remove_bookmark_in(&mut self.bookmarks, id);
+        self.revision += 1;
+        Edited {
+            revision: self.revision,
+            id: None,
+        }
+    }
+
+    // Adds a branch that leaves a parent.
+    fn add_branch(&mut self, parent: u64, generation: u64) -> Result<Edited, AllocError>
+        requires { first_refusal (for_branch self.old parent generation) ≡ None }
+        ensures ok { IfOk result
+            (λ edited. with_branch self.old parent generation ≡ made self.new edited) }
+        ensures unchanged { OnErr result (self.new ≡ self.old) }
+    {
+        let id = self.last_branch + 1;
+        self.branches.push(Branch {
+            id,
+            parent,
+            fork: generation,
+        })?;
+        self.last_branch = id;
+        self.revision += 1;
+        Ok(Edited {
+            revision: self.revision,
+            id: Some(id),
+        })
+    }
+
+    // Removes a branch.
+    fn remove_branch(&mut self, branch: u64) -> Edited
+        requires { first_refusal (for_removed_branch self.old branch) ≡ None }
+        ensures { without_branch self.old branch ≡ made self.new result }
+    {
+        remove_branch_in(&mut self.branches, branch);
         self.revision += 1;
         Edited {
             revision: self.revision,
@@ -278,4 +332,11 @@ fn remove_bookmark_in(bookmarks: &mut Vec<Bookmark>, id: u64)
     ensures { bookmarks.new.items ≡ without bookmark_id bookmarks.old.items id }
 {
     bookmarks.retain(|bookmark| bookmark.id != id);
+}
+
+// Takes the branch of an id out, if there is one.
+fn remove_branch_in(branches: &mut Vec<Branch>, id: u64)
+    ensures { branches.new.items ≡ without branch_id branches.old.items id }
+{
+    branches.retain(|branch| branch.id != id);
 }

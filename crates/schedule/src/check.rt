@@ -7,10 +7,14 @@ ghost use Rattle.schedule.specs.Change.{for_cells, for_start, for_rule, for_book
 ghost use Rattle.schedule.specs.Change.{for_intervention, for_changed_intervention};
 ghost use Rattle.schedule.specs.Change.{for_removed_intervention};
 ghost use Rattle.schedule.specs.Change.{for_moved_bookmark, for_removed_bookmark};
+ghost use Rattle.schedule.specs.Change.{for_branch, for_removed_branch, is_in_use};
+ghost use Rattle.schedule.specs.Branches.{has_interventions, has_bookmarks, element_at};
+ghost use Rattle.std.specs.Option.{option_map};
 ghost use Rattle.schedule.specs.Ids.{has_id, intervention_id, bookmark_id};
 ghost use Rattle.schedule.specs.Near.{box_near};
 
-use crate::document::{Document, Intervention};
+use crate::branch::{fork_of, has_branch, has_children};
+use crate::document::{Bookmark, Document, Intervention};
 use crate::edit::Edit;
 use crate::fault::EditFault;
 use bookmarks::View;
@@ -25,6 +29,9 @@ pub const MOST_INTERVENTIONS: usize = 4096;
 
 /// There are at most this many bookmarks.
 pub const MOST_BOOKMARKS: usize = 4096;
+
+/// There are at most this many branches besides 0.
+pub const MOST_BRANCHES: usize = 64;
 
 /// One edit names at most this many cells.
 pub const MOST_CELLS: usize = 10_000;
@@ -101,9 +108,11 @@ impl Document {
         ensures { Checks result (refusals self.now (asked_of edit.now)) }
     {
         match edit {
-            Edit::InsertIntervention { generation, cells } => {
-                self.check_intervention(*generation, cells.as_slice())
-            }
+            Edit::InsertIntervention {
+                branch,
+                generation,
+                cells,
+            } => self.check_intervention(*branch, *generation, cells.as_slice()),
             Edit::ChangeIntervention {
                 id,
                 generation,
@@ -113,9 +122,15 @@ impl Document {
             Edit::SetCells { cells } => self.check_cells(cells.as_slice()),
             Edit::ReplaceStart(start) => self.check_start(start),
             Edit::ReplaceRule(rule) => self.check_rule(rule),
-            Edit::AddBookmark { generation, view } => self.check_bookmark(*generation, view),
+            Edit::AddBookmark {
+                branch,
+                generation,
+                view,
+            } => self.check_bookmark(*branch, *generation, view),
             Edit::MoveBookmark { id, generation } => self.check_moved_bookmark(*id, *generation),
             Edit::RemoveBookmark { id } => self.check_removed_bookmark(*id),
+            Edit::AddBranch { parent, generation } => self.check_branch(*parent, *generation),
+            Edit::RemoveBranch { branch } => self.check_removed_branch(*branch),
         }
     }
 
@@ -135,12 +150,61 @@ impl Document {
         self.bookmarks.iter().any(|bookmark| bookmark.id == id)
     }
 
-    // Whether the document may get an intervention with these cells at this generation.
-    fn check_intervention(&self, generation: u64, cells: &[CellSet]) -> Result<(), EditFault>
-        ensures { Checks result (for_intervention self.now generation cells.now) }
+    // Whether a branch has an intervention.
+    fn has_interventions(&self, branch: u64) -> bool
+        ensures { result ≡ has_interventions self.now.interventions branch }
     {
+        self.interventions
+            .iter()
+            .any(|intervention| intervention.branch == branch)
+    }
+
+    // Whether a branch has a bookmark.
+    fn has_bookmarks(&self, branch: u64) -> bool
+        ensures { result ≡ has_bookmarks self.now.bookmarks branch }
+    {
+        self.bookmarks
+            .iter()
+            .any(|bookmark| bookmark.branch == branch)
+    }
+
+    // The intervention of this id, if there is one.
+    fn intervention_at(&self, id: u64) -> Option<&Intervention>
+        ensures { option_map (λ i. i.now) result
+            ≡ element_at intervention_id self.now.interventions id }
+    {
+        self.interventions
+            .iter()
+            .find(|intervention| intervention.id == id)
+    }
+
+    // The bookmark of this id, if there is one.
+    fn bookmark_at(&self, id: u64) -> Option<Bookmark>
+        ensures { result ≡ element_at bookmark_id self.now.bookmarks id }
+    {
+        self.bookmarks
+            .iter()
+            .copied()
+            .find(|bookmark| bookmark.id == id)
+    }
+
+    // Whether the document may get an intervention with these cells at this generation of a branch.
+    fn check_intervention(
+        &self,
+        branch: u64,
+        generation: u64,
+        cells: &[CellSet],
+    ) -> Result<(), EditFault>
+        ensures { Checks result (for_intervention self.now branch generation cells.now) }
+    {
+        if !has_branch(&self.branches, branch) {
+            return Err(EditFault::NoSuchBranch);
+        }
         if generation > FARTHEST_GENERATION {
             return Err(EditFault::GenerationTooFar);
+        }
+        if generation < fork_of(&self.branches, branch) {
+            return Err(EditFault::BeforeFork);
         }
         if self.interventions.len() >= MOST_INTERVENTIONS {
             return Err(EditFault::TooManyInterventions);
@@ -157,11 +221,14 @@ impl Document {
     ) -> Result<(), EditFault>
         ensures { Checks result (for_changed_intervention self.now id generation cells.now) }
     {
-        if !self.has_intervention(id) {
+        let Some(intervention) = self.intervention_at(id) else {
             return Err(EditFault::NoSuchIntervention);
-        }
+        };
         if generation > FARTHEST_GENERATION {
             return Err(EditFault::GenerationTooFar);
+        }
+        if generation < fork_of(&self.branches, intervention.branch) {
+            return Err(EditFault::BeforeFork);
         }
         self.check_cells(cells)
     }
@@ -180,11 +247,14 @@ impl Document {
     fn check_moved_bookmark(&self, id: u64, generation: u64) -> Result<(), EditFault>
         ensures { Checks result (for_moved_bookmark self.now id generation) }
     {
-        if !self.has_bookmark(id) {
+        let Some(bookmark) = self.bookmark_at(id) else {
             return Err(EditFault::NoSuchBookmark);
-        }
+        };
         if generation > FARTHEST_GENERATION {
             return Err(EditFault::GenerationTooFar);
+        }
+        if generation < fork_of(&self.branches, bookmark.branch) {
+            return Err(EditFault::BeforeFork);
         }
         self.check_revision()
     }
@@ -249,12 +319,18 @@ impl Document {
         self.check_revision()
     }
 
-    // Whether the document may get a bookmark with this view at this generation.
-    fn check_bookmark(&self, generation: u64, view: &View) -> Result<(), EditFault>
-        ensures { Checks result (for_bookmark self.now generation view.now) }
+    // Whether the document may get a bookmark with this view at this generation of a branch.
+    fn check_bookmark(&self, branch: u64, generation: u64, view: &View) -> Result<(), EditFault>
+        ensures { Checks result (for_bookmark self.now branch generation view.now) }
     {
+        if !has_branch(&self.branches, branch) {
+            return Err(EditFault::NoSuchBranch);
+        }
         if generation > FARTHEST_GENERATION {
             return Err(EditFault::GenerationTooFar);
+        }
+        if generation < fork_of(&self.branches, branch) {
+            return Err(EditFault::BeforeFork);
         }
         if self.bookmarks.len() >= MOST_BOOKMARKS {
             return Err(EditFault::TooManyBookmarks);
@@ -264,6 +340,47 @@ impl Document {
         }
         if !view.lies_in_range() {
             return Err(EditFault::CellOutOfRange);
+        }
+        self.check_revision()
+    }
+
+    // Whether the document may get a branch that leaves this parent at this generation.
+    fn check_branch(&self, parent: u64, generation: u64) -> Result<(), EditFault>
+        ensures { Checks result (for_branch self.now parent generation) }
+    {
+        if !has_branch(&self.branches, parent) {
+            return Err(EditFault::NoSuchBranch);
+        }
+        if generation > FARTHEST_GENERATION {
+            return Err(EditFault::GenerationTooFar);
+        }
+        if generation < fork_of(&self.branches, parent) {
+            return Err(EditFault::BeforeFork);
+        }
+        if self.branches.len() >= MOST_BRANCHES {
+            return Err(EditFault::TooManyBranches);
+        }
+        self.check_revision()
+    }
+
+    // Whether this branch may not be removed.
+    fn is_in_use(&self, branch: u64) -> bool
+        ensures { result ≡ is_in_use self.now branch }
+    {
+        branch == 0
+            || self.has_interventions(branch)
+            || (self.has_bookmarks(branch) || has_children(&self.branches, branch))
+    }
+
+    // Whether this branch may be removed.
+    fn check_removed_branch(&self, branch: u64) -> Result<(), EditFault>
+        ensures { Checks result (for_removed_branch self.now branch) }
+    {
+        if !has_branch(&self.branches, branch) {
+            return Err(EditFault::NoSuchBranch);
+        }
+        if self.is_in_use(branch) {
+            return Err(EditFault::BranchInUse);
         }
         self.check_revision()
     }

@@ -9,13 +9,15 @@ use std::sync::Arc;
 /// A change that a user asks for.
 #[derive(Drop)]
 pub enum Edit {
-    /// Adds an intervention at a generation of at most 2^60. It sets at most 10,000 cells in
-    /// `-2^60 <= x, y < 2^60`; the last mention of a cell wins.
+    /// Adds an intervention to a branch, at a generation from the branch's fork to 2^60. It sets at
+    /// most 10,000 cells in `-2^60 <= x, y < 2^60`; the last mention of a cell wins.
     InsertIntervention {
+        branch: u64,
         generation: u64,
         cells: Listing<CellSet>,
     },
-    /// Gives the intervention of this id another generation and other cells, with the same limits.
+    /// Gives the intervention of this id another generation of its branch and other cells, with the
+    /// same limits.
     ChangeIntervention {
         id: u64,
         generation: u64,
@@ -35,13 +37,14 @@ pub enum Edit {
     ReplaceStart(Arc<Plane>),
     /// Takes another rule, whose states are enough for the start and for all interventions.
     ReplaceRule(Arc<Rule>),
-    /// Adds a bookmark at a generation of at most 2^60. A window has 1 to 65,536 cells, all of them
-    /// in `-2^61 <= x, y < 2^61`.
+    /// Adds a bookmark to a branch, at a generation from the branch's fork to 2^60. A window has 1
+    /// to 65,536 cells, all of them in `-2^61 <= x, y < 2^61`.
     AddBookmark {
+        branch: u64,
         generation: u64,
         view: View,
     },
-    /// Moves the bookmark of this id to a generation of at most 2^60.
+    /// Moves the bookmark of this id to a generation from its branch's fork to 2^60.
     MoveBookmark {
         id: u64,
         generation: u64,
@@ -50,6 +53,17 @@ pub enum Edit {
     RemoveBookmark {
         id: u64,
     },
+    /// Adds a branch that leaves its parent at a generation from the parent's fork to 2^60, after
+    /// that generation's interventions.
+    AddBranch {
+        parent: u64,
+        generation: u64,
+    },
+    /// Removes the branch, whose id isn't given again. It has no intervention and no bookmark, and
+    /// no branch leaves it; branch 0 stays.
+    RemoveBranch {
+        branch: u64,
+    },
 }
 
 /// What an accepted edit answers.
@@ -57,6 +71,6 @@ pub enum Edit {
 pub struct Edited {
     /// The document's revision after the edit.
     pub revision: u64,
-    /// The id of the intervention or bookmark that the edit made, if it made one.
+    /// The id of the intervention, bookmark or branch that the edit made, if it made one.
     pub id: Option<u64>,
 }

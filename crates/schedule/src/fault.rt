@@ -39,6 +39,18 @@ pub enum EditFault {
     /// The revision is the greatest there is.
     #[error("no revision is left")]
     RevisionSpent,
+    /// The document has no branch of that id.
+    #[error("there is no such branch")]
+    NoSuchBranch,
+    /// A generation is below the fork of its branch, or of the parent of a new branch.
+    #[error("the branch begins at a later generation")]
+    BeforeFork,
+    /// The branch is 0, or it has interventions, bookmarks or branches that leave it.
+    #[error("the branch is in use")]
+    BranchInUse,
+    /// There are 64 branches besides 0.
+    #[error("there are 64 branches already")]
+    TooManyBranches,
     /// Out of memory.
     #[error("there is not enough memory")]
     NoMemory,
@@ -82,6 +94,10 @@ impl Refusal for EditFault {
             EditFault::TooManyCells => 47,
             EditFault::BadWindow => 48,
             EditFault::RevisionSpent => 49,
+            EditFault::NoSuchBranch => 50,
+            EditFault::BeforeFork => 51,
+            EditFault::BranchInUse => 52,
+            EditFault::TooManyBranches => 53,
             EditFault::NoMemory => 70,
         }
     }
@@ -98,6 +114,10 @@ impl Refusal for EditFault {
             EditFault::TooManyCells => "TooManyCells",
             EditFault::BadWindow => "BadWindow",
             EditFault::RevisionSpent => "RevisionSpent",
+            EditFault::NoSuchBranch => "NoSuchBranch",
+            EditFault::BeforeFork => "BeforeFork",
+            EditFault::BranchInUse => "BranchInUse",
+            EditFault::TooManyBranches => "TooManyBranches",
             EditFault::NoMemory => "NoMemory",
         }
     }

@@ -1,23 +1,32 @@
 //! The document of an experiment, and what edits make of it.
 //!
-//! A document has a rule, a start, interventions and bookmarks. `check` gives the refusal of an
-//! edit, and `make` makes exactly the document that the definition of an edit that fits gives, or
-//! finds no memory and changes nothing; `apply` is one after the other. What a bookmark shows by
-//! definition, computed anew from the start, stands in `specs/Scratch.antt`.
+//! A document has a rule, a start, interventions, bookmarks and branches of history. `check` gives
+//! the refusal of an edit, and `make` makes exactly the document that the definition of an edit
+//! that fits gives, or finds no memory and changes nothing; `apply` is one after the other. What a
+//! bookmark shows by definition, computed anew from the start along the line of its branch, stands
+//! in `specs/Scratch.antt`, and the laws of branches in `specs/Laws.antt`.
 //!
 //! An edit costs one pass over what it changes; rule and start are shared and not copied.
 #![tactic(auto)]
 
 mod apply;
+mod branch;
 mod check;
 mod document;
 mod edit;
 mod fault;
+mod laws;
 
 pub use basics::{Listing, Refusal};
 pub use bookmarks::View;
+pub use branch::Branch;
 pub use document::{Bookmark, Document, Intervention};
 pub use edit::{Edit, Edited};
 pub use fault::EditFault;
+pub use laws::{
+    arrival_depends_on_its_line, arrival_depends_on_worlds, branch_begins, branch_steps,
+    branch_undisturbed, new_branch_keeps_arrivals, reach_is_greatest,
+    removed_branch_keeps_arrivals, start_arrives, without_branches,
+};
 pub use plane_core::{CellSet, Next, Plane};
 pub use rule_tree::Rule;

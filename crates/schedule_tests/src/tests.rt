@@ -1,4 +1,5 @@
 //! Worked edits, with what they answer.
+mod branches;
 mod generations_and_cells;
 mod interventions;
 mod marks;
@@ -62,14 +63,24 @@ fn start_of(rt: &impl Abort, alloc: Global, rows: &[Row]) -> Edit {
 }
 
 fn mark(generation: u64) -> Edit {
+    mark_on(0, generation)
+}
+
+fn mark_on(branch: u64, generation: u64) -> Edit {
     Edit::AddBookmark {
+        branch,
         generation,
         view: View::Counts,
     }
 }
 
 fn mark_window(generation: u64, window: &Window) -> Edit {
+    mark_window_on(0, generation, window)
+}
+
+fn mark_window_on(branch: u64, generation: u64, window: &Window) -> Edit {
     Edit::AddBookmark {
+        branch,
         generation,
         view: View::Window {
             left: window.0,
@@ -167,6 +178,7 @@ fn check_opening(rt: &impl Abort, alloc: Global, revision: u64) {
     same(rt, &document.start().population(), &0, &revision);
     same(rt, &document.interventions().len(), &0, &revision);
     same(rt, &document.bookmarks().len(), &0, &revision);
+    same(rt, &document.branches().len(), &0, &revision);
     same(rt, &document.revision(), &revision, &revision);
 }
 

@@ -1,44 +1,57 @@
 -- A document that an edit changes keeps its limits.
-use Rattle.std.specs.Prelude.{◌≡◌, ◌<◌, ◌≤◌, Option, None, ⊤}
-use Rattle.std.proofs.Common.{refl, arith}
+use Rattle.std.specs.Prelude.{◌≡◌, ◌<◌, ◌≤◌, None, ⊤}
+use Rattle.std.proofs.Common.{refl}
 use Rattle.rule_tree.specs.Rule.{states_of}
-use Rattle.schedule.specs.Asked.{Asked, InsertIntervention, ChangeIntervention, RemoveIntervention, SetCells, ReplaceStart, ReplaceRule, AddBookmark, MoveBookmark, RemoveBookmark}
+use Rattle.schedule.specs.Asked.{Asked, InsertIntervention, ChangeIntervention, RemoveIntervention, SetCells, ReplaceStart, ReplaceRule, AddBookmark, MoveBookmark, RemoveBookmark, AddBranch, RemoveBranch}
 use Rattle.schedule.specs.Change.{changed, refusal}
 use Rattle.schedule.specs.Plan.{Plan}
 use Rattle.schedule.specs.Sound.{IsSound}
-use Rattle.schedule.proofs.Sounds.{IsSound-cells, IsSound-start, IsSound-rule, IsSound-intervention, IsSound-changed_intervention, IsSound-removed_intervention, IsSound-bookmark, IsSound-moved_bookmark, IsSound-removed_bookmark}
+use Rattle.schedule.proofs.Sounds.{IsSound-cells, IsSound-start, IsSound-rule, IsSound-intervention, IsSound-changed_intervention, IsSound-removed_intervention, IsSound-bookmark, IsSound-moved_bookmark, IsSound-removed_bookmark, IsSound-branch, IsSound-removed_branch}
 
 -- a rule that is asked for has states, and not too many
 abbrev pub HasStates : Asked → Type 0
-HasStates (InsertIntervention generation cells) = ⊤
+HasStates (InsertIntervention b generation cells) = ⊤
 HasStates (ChangeIntervention id generation cells) = ⊤
 HasStates (RemoveIntervention id) = ⊤
 HasStates (SetCells cells) = ⊤
 HasStates (ReplaceStart start) = ⊤
 HasStates (ReplaceRule rule) = (0 < states_of rule) × (states_of rule ≤ 256)
-HasStates (AddBookmark generation view) = ⊤
+HasStates (AddBookmark b generation view) = ⊤
 HasStates (MoveBookmark id generation) = ⊤
 HasStates (RemoveBookmark id) = ⊤
+HasStates (AddBranch parent generation) = ⊤
+HasStates (RemoveBranch b) = ⊤
 
-pub sound_changed : (p : Plan) (asked : Asked) → IsSound p → 0 < states_of p.rule → HasStates asked → refusal p asked ≡ None → IsSound (changed p asked).plan
-sound_changed p (InsertIntervention generation cells) sound some has free = IsSound-intervention p generation cells _ _ sound free refl refl refl refl
-sound_changed p (ChangeIntervention id generation cells) sound some has free = IsSound-changed_intervention p id generation cells _ sound free refl
+pub sound_changed : (p : Plan) (asked : Asked) → IsSound p → 0 < states_of p.rule → HasStates asked
+    → refusal p asked ≡ None → IsSound (changed p asked).plan
+sound_changed p (InsertIntervention b generation cells) sound some has free =
+    IsSound-intervention p b generation cells _ _ sound free refl refl refl refl refl
+sound_changed p (ChangeIntervention id generation cells) sound some has free =
+    IsSound-changed_intervention p id generation cells _ sound free refl
 sound_changed p (RemoveIntervention id) sound some has free = IsSound-removed_intervention p id _ sound refl
 sound_changed p (SetCells cells) sound some has free = IsSound-cells p cells _ sound free refl
 sound_changed p (ReplaceStart start) sound some has free = IsSound-start p start sound free some
 sound_changed p (ReplaceRule rule) sound some has free = IsSound-rule p rule sound free has.0 has.1
-sound_changed p (AddBookmark generation view) sound some has free = IsSound-bookmark p generation view _ sound free refl
-sound_changed p (MoveBookmark id generation) sound some has free = IsSound-moved_bookmark p id generation _ sound free refl
+sound_changed p (AddBookmark b generation view) sound some has free =
+    IsSound-bookmark p b generation view _ sound free refl
+sound_changed p (MoveBookmark id generation) sound some has free =
+    IsSound-moved_bookmark p id generation _ sound free refl
 sound_changed p (RemoveBookmark id) sound some has free = IsSound-removed_bookmark p id _ sound refl
+sound_changed p (AddBranch parent generation) sound some has free =
+    IsSound-branch p parent generation _ sound free refl
+sound_changed p (RemoveBranch b) sound some has free = IsSound-removed_branch p b _ sound free refl
 
 -- and its rule still has states
-pub some_changed : (p : Plan) (asked : Asked) → 0 < states_of p.rule → HasStates asked → 0 < states_of (changed p asked).plan.rule
-some_changed p (InsertIntervention generation cells) some has = some
+pub some_changed : (p : Plan) (asked : Asked) → 0 < states_of p.rule → HasStates asked
+    → 0 < states_of (changed p asked).plan.rule
+some_changed p (InsertIntervention b generation cells) some has = some
 some_changed p (ChangeIntervention id generation cells) some has = some
 some_changed p (RemoveIntervention id) some has = some
 some_changed p (SetCells cells) some has = some
 some_changed p (ReplaceStart start) some has = some
 some_changed p (ReplaceRule rule) some has = has.0
-some_changed p (AddBookmark generation view) some has = some
+some_changed p (AddBookmark b generation view) some has = some
 some_changed p (MoveBookmark id generation) some has = some
 some_changed p (RemoveBookmark id) some has = some
+some_changed p (AddBranch parent generation) some has = some
+some_changed p (RemoveBranch b) some has = some

@@ -13,6 +13,7 @@ fn insert(rt: &impl Abort, alloc: Global, generation: u64) -> Edit {
 
 fn insert_cells(rt: &impl Abort, alloc: Global, generation: u64, rows: &[Row]) -> Edit {
     Edit::InsertIntervention {
+        branch: 0,
         generation,
         cells: cells_of(rt, alloc, rows),
     }
@@ -127,8 +128,9 @@ fn intervention_acts_at_its_generation(rt: HostRuntime) {
     let mut document = opening(&rt, alloc, 0);
     apply(&rt, &mut document, &insert(&rt, alloc, 4));
     for intervention in document.interventions() {
-        same(&rt, &intervention.acts_at(4), &true, &4);
-        same(&rt, &intervention.acts_at(3), &false, &3);
+        same(&rt, &intervention.acts_at(0, 4), &true, &4);
+        same(&rt, &intervention.acts_at(0, 3), &false, &3);
+        same(&rt, &intervention.acts_at(1, 4), &false, &"branch 1");
     }
 }
 

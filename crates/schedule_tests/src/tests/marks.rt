@@ -17,6 +17,7 @@ fn check_one_of_many(rt: &impl Abort, k: u16, bookmark: &Bookmark) {
     let k = u64::from(k);
     let wanted = Bookmark {
         id: 1 + k,
+        branch: 0,
         generation: k / 2,
         view: View::Counts,
     };

@@ -99,6 +99,10 @@ fn faults(rt: HostRuntime) {
     check_fault(&rt, EditFault::TooManyCells, 47, "TooManyCells");
     check_fault(&rt, EditFault::BadWindow, 48, "BadWindow");
     check_fault(&rt, EditFault::RevisionSpent, 49, "RevisionSpent");
+    check_fault(&rt, EditFault::NoSuchBranch, 50, "NoSuchBranch");
+    check_fault(&rt, EditFault::BeforeFork, 51, "BeforeFork");
+    check_fault(&rt, EditFault::BranchInUse, 52, "BranchInUse");
+    check_fault(&rt, EditFault::TooManyBranches, 53, "TooManyBranches");
     check_fault(&rt, EditFault::NoMemory, 70, "NoMemory");
 }
 

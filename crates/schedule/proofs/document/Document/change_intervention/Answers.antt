@@ -14,11 +14,17 @@ invariant_of-self c =
     let p = plan_of c.self.inside in
     let id = c.args.id in
     let generation = c.args.generation in
-    let free : first_refusal (for_changed_intervention p id generation c.args.cells.now) ≡ None = subst (λ q. first_refusal (for_changed_intervention q id generation c.args.cells.now) ≡ None) (sym c.self.view_is) c.requires in
+    let free : first_refusal (for_changed_intervention p id generation c.args.cells.now) ≡ None =
+    subst (λ q. first_refusal (for_changed_intervention q id generation c.args.cells.now) ≡ None)
+    (sym c.self.view_is) c.requires in
     let list = c.self.inside.interventions in
     let f = acting generation c.args.cells.now in
     let same : c.change_in.new.interventions ≡ changed_at intervention_id f list.items id =
     c.change_in.ensures
-    ∙ ap₂ (λ (cells : List CellSet) (is : List Intervention). changed_at intervention_id (acting generation cells) is id) (c.from_vec-cells.ensures ∙ c.in_ok-from_slice.ensures.items) c.deref_mut.ensures.value in
-    let long : length c.change_in.new.interventions ≡ list.len = ap length same ∙ length-map list.items (λ (i : Intervention). if i.id == id then f i else i) ∙ sym list.ok.0 in
-    IsSound-changed_intervention p id generation c.args.cells.now _ c.self.invariant free (with_items_is list c.change_in.new.interventions long ∙ same)
+    ∙ ap₂ (λ (cells : List CellSet) (is : List Intervention). changed_at intervention_id
+    (acting generation cells) is id) (c.from_vec-cells.ensures ∙ c.in_ok-from_slice.ensures.items)
+    c.deref_mut.ensures.value in
+    let long : length c.change_in.new.interventions ≡ list.len = ap length same
+    ∙ length-map list.items (λ (i : Intervention). if i.id == id then f i else i) ∙ sym list.ok.0 in
+    IsSound-changed_intervention p id generation c.args.cells.now _ c.self.invariant free
+    (with_items_is list c.change_in.new.interventions long ∙ same)

@@ -7,5 +7,8 @@ use Rattle.schedule.proofs.document.Document.insert_intervention.Goals as goal
 pub invariant_of-self-2 : goal.invariant_of-self-2
 invariant_of-self-2 c =
     let p = plan_of c.self.inside in
-    let free : first_refusal (for_intervention p c.args.generation c.args.cells.now) ≡ None = subst (λ q. first_refusal (for_intervention q c.args.generation c.args.cells.now) ≡ None) (sym c.self.view_is) c.requires in
-    IsSound-intervention p c.args.generation c.args.cells.now _ _ c.self.invariant free c.in_ok-push.ensures.items refl refl (c.from_vec-cells.ensures ∙ c.in_ok-from_slice.ensures.items)
+    let free : first_refusal (for_intervention p c.args.branch c.args.generation c.args.cells.now) ≡ None =
+    subst (λ q. first_refusal (for_intervention q c.args.branch c.args.generation c.args.cells.now) ≡ None)
+    (sym c.self.view_is) c.requires in
+    IsSound-intervention p c.args.branch c.args.generation c.args.cells.now _ _ c.self.invariant free
+    c.in_ok-push.ensures.items refl refl refl (c.from_vec-cells.ensures ∙ c.in_ok-from_slice.ensures.items)

@@ -13,9 +13,13 @@ invariant_of-self c =
     let p = plan_of c.self.inside in
     let id = c.args.id in
     let generation = c.args.generation in
-    let free : first_refusal (for_moved_bookmark p id generation) ≡ None = subst (λ q. first_refusal (for_moved_bookmark q id generation) ≡ None) (sym c.self.view_is) c.requires in
+    let free : first_refusal (for_moved_bookmark p id generation) ≡ None =
+    subst (λ q. first_refusal (for_moved_bookmark q id generation) ≡ None) (sym c.self.view_is) c.requires in
     let list = c.self.inside.bookmarks in
     let f = marking generation in
-    let same : c.move_in.new.bookmarks ≡ changed_at bookmark_id f list.items id = c.move_in.ensures ∙ ap (λ (bs : List Bookmark). changed_at bookmark_id f bs id) c.deref_mut.ensures.value in
-    let long : length c.move_in.new.bookmarks ≡ list.len = ap length same ∙ length-map list.items (λ (b : Bookmark). if b.id == id then f b else b) ∙ sym list.ok.0 in
-    IsSound-moved_bookmark p id generation _ c.self.invariant free (with_items_is list c.move_in.new.bookmarks long ∙ same)
+    let same : c.move_in.new.bookmarks ≡ changed_at bookmark_id f list.items id = c.move_in.ensures
+    ∙ ap (λ (bs : List Bookmark). changed_at bookmark_id f bs id) c.deref_mut.ensures.value in
+    let long : length c.move_in.new.bookmarks ≡ list.len = ap length same
+    ∙ length-map list.items (λ (b : Bookmark). if b.id == id then f b else b) ∙ sym list.ok.0 in
+    IsSound-moved_bookmark p id generation _ c.self.invariant free
+    (with_items_is list c.move_in.new.bookmarks long ∙ same)

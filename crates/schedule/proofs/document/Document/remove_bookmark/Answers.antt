@@ -3,4 +3,5 @@ use Rattle.schedule.proofs.Sounds.{IsSound-removed_bookmark}
 use Rattle.schedule.proofs.document.Document.remove_bookmark.Goals as goal
 
 pub invariant_of-self : goal.invariant_of-self
-invariant_of-self c = IsSound-removed_bookmark (plan_of c.self.inside) c.args.id _ c.self.invariant c.remove_bookmark_in.ensures
+invariant_of-self c = IsSound-removed_bookmark
+    (plan_of c.self.inside) c.args.id _ c.self.invariant c.remove_bookmark_in.ensures

@@ -12,7 +12,11 @@ pub invariant_of-self : goal.invariant_of-self
 invariant_of-self c =
     let p = plan_of c.self.inside in
     let rule : Rule = arc_value c.args.rule.now in
-    let free : first_refusal (for_rule p rule) ≡ None = subst (λ p. first_refusal (for_rule p rule) ≡ None) (sym c.self.view_is) c.requires in
-    let many : 2 ≤ states_of rule = subst (λ n. 2 ≤ n) (c.states-states.ensures.count ∙ ap states_of c.deref.ensures) c.states-states.ensures.at_least in
-    let few : states_of rule ≤ 256 = subst (λ n. n ≤ 256) (c.states-states.ensures.count ∙ ap states_of c.deref.ensures) c.states-states.ensures.at_most in
-    subst (λ (r : Rule). IsSound (record (revised p) { rule = r })) (sym c.in_ok-rule.ensures) (IsSound-rule p rule c.self.invariant free (omega (arith, many)) few)
+    let free : first_refusal (for_rule p rule) ≡ None =
+    subst (λ p. first_refusal (for_rule p rule) ≡ None) (sym c.self.view_is) c.requires in
+    let many : 2 ≤ states_of rule = subst (λ n. 2 ≤ n)
+    (c.states-states.ensures.count ∙ ap states_of c.deref.ensures) c.states-states.ensures.at_least in
+    let few : states_of rule ≤ 256 = subst (λ n. n ≤ 256)
+    (c.states-states.ensures.count ∙ ap states_of c.deref.ensures) c.states-states.ensures.at_most in
+    subst (λ (r : Rule). IsSound (record (revised p) { rule = r })) (sym c.in_ok-rule.ensures)
+    (IsSound-rule p rule c.self.invariant free (omega (arith, many)) few)

@@ -7,10 +7,13 @@ use Rattle.schedule.proofs.document.Document.set_cells.Goals as goal
 
 pub lay-requires : goal.lay-requires
 lay-requires c =
-    let free : first_refusal (for_cells (plan_of c.self.inside) c.args.cells.now) ≡ None = subst (λ p. first_refusal (for_cells p c.args.cells.now) ≡ None) (sym c.self.view_is) c.requires in
+    let free : first_refusal (for_cells (plan_of c.self.inside) c.args.cells.now) ≡ None =
+    subst (λ p. first_refusal (for_cells p c.args.cells.now) ≡ None) (sym c.self.view_is) c.requires in
     CanBeLaid-fit (plan_of c.self.inside) c.args.cells.now c.self.invariant.few_states free
 
 pub invariant_of-self : goal.invariant_of-self
 invariant_of-self c =
-    let free : first_refusal (for_cells (plan_of c.self.inside) c.args.cells.now) ≡ None = subst (λ p. first_refusal (for_cells p c.args.cells.now) ≡ None) (sym c.self.view_is) c.requires in
-    IsSound-cells (plan_of c.self.inside) c.args.cells.now _ c.self.invariant free (c.in_ok-start.ensures.ok ∙ c.in_ok-lay.ensures ∙ ap (lay c.args.cells.now) c.deref.ensures)
+    let free : first_refusal (for_cells (plan_of c.self.inside) c.args.cells.now) ≡ None =
+    subst (λ p. first_refusal (for_cells p c.args.cells.now) ≡ None) (sym c.self.view_is) c.requires in
+    IsSound-cells (plan_of c.self.inside) c.args.cells.now _ c.self.invariant free
+    (c.in_ok-start.ensures.ok ∙ c.in_ok-lay.ensures ∙ ap (lay c.args.cells.now) c.deref.ensures)
