@@ -22,38 +22,47 @@ use Rattle.dependency_book.proofs.Outs.{ids_rise}
 
 -- what is made of each row is made of its key and of what stands at it
 
-later : {K V W : Type 0} (rank : K → ℕ) (f : K → RowState V → W) (r : Row K V) (rs : List (Row K V)) (ks : List K) → AllByRecursion (λ k. rank r.key < rank k) ks
+later : {K V W : Type 0} (rank : K → ℕ) (f : K → RowState V → W) (r : Row K V) (rs : List (Row K V)) (ks : List K)
+    → AllByRecursion (λ k. rank r.key < rank k) ks
     → map (λ k. f k (state_at rank (rank k) rs)) ks ≡ map (λ k. f k (state_at rank (rank k) (r ∷ rs))) ks
 later rank f r rs [] above = refl
 later rank f r rs (k ∷ ks) above =
     ap₂ (λ x xs. x ∷ xs)
-    (ap (f k) (sym (cond-false (rank r.key == rank k) r.state (state_at rank (rank k) rs) (let low : rank r.key < rank k = above.0 in grind (arith, nat_tests)))))
+    (ap (f k)
+    (sym (cond-false (rank r.key == rank k) r.state (state_at rank (rank k) rs)
+    (let low : rank r.key < rank k = above.0 in grind (arith, nat_tests)))))
     (later rank f r rs ks above.1)
 
-by_keys : {K V W : Type 0} (rank : K → ℕ) (f : K → RowState V → W) (rows : List (Row K V)) → IsRanked rank rows → map (λ r. f r.key r.state) rows ≡ map (λ k. f k (state_at rank (rank k) rows)) (keys rows)
+by_keys : {K V W : Type 0} (rank : K → ℕ) (f : K → RowState V → W) (rows : List (Row K V)) → IsRanked rank rows
+    → map (λ r. f r.key r.state) rows ≡ map (λ k. f k (state_at rank (rank k) rows)) (keys rows)
 by_keys rank f [] ranked = refl
 by_keys rank f (r ∷ rs) ranked =
     ap₂ (λ x xs. x ∷ xs)
-    (ap (f r.key) (sym (cond-true (rank r.key == rank r.key) r.state (state_at rank (rank r.key) rs) (grind (arith, nat_tests)))))
+    (ap (f r.key)
+    (sym (cond-true (rank r.key == rank r.key) r.state (state_at rank (rank r.key) rs) (grind (arith, nat_tests)))))
     (by_keys rank f rs ranked.1 ∙ later rank f r rs (keys rs) ranked.0)
 
 abbrev row_of_key : Bookmark → RowState (List ℕ) → Bookmark × Option (List ℕ)
 row_of_key b s = (b, known s)
 
 pub handed_rows : (d : BookState) (places : List ℕ) → IsHeld d places → map handed d.texts ≡ shown_rows d
-handed_rows d places held = by_keys bookmark_rank row_of_key d.texts (ids_rise d places held) ∙ ap (map (shown_row d)) held.right.bookmarks
+handed_rows d places held = by_keys bookmark_rank row_of_key d.texts (ids_rise d places held)
+    ∙ ap (map (shown_row d)) held.right.bookmarks
 
 -- bookmarks by rising id are each the first of their id
 
-first_later : (b : Bookmark) (bs cs : List Bookmark) → AllByRecursion (λ (c : Bookmark). b.id < c.id) cs → AllByRecursion (λ (c : Bookmark). bookmark_in bs c.id ≡ Some c) cs
+first_later : (b : Bookmark) (bs cs : List Bookmark) → AllByRecursion (λ (c : Bookmark). b.id < c.id) cs
+    → AllByRecursion (λ (c : Bookmark). bookmark_in bs c.id ≡ Some c) cs
     → AllByRecursion (λ (c : Bookmark). bookmark_in (b ∷ bs) c.id ≡ Some c) cs
 first_later b bs [] above there = tt
 first_later b bs (c ∷ cs) above there = (
-  cond-false (b.id == c.id) (Some b) (bookmark_in bs c.id) (let low : b.id < c.id = above.0 in grind (arith, nat_tests)) ∙ there.0,
+  cond-false (b.id == c.id) (Some b) (bookmark_in bs c.id) (let low : b.id < c.id = above.0 in grind (arith, nat_tests))
+      ∙ there.0,
   first_later b bs cs above.1 there.1,
 )
 
-each_first : (bs : List Bookmark) → IdsRise bookmark_id bs → AllByRecursion (λ (b : Bookmark). bookmark_in bs b.id ≡ Some b) bs
+each_first : (bs : List Bookmark) → IdsRise bookmark_id bs
+    → AllByRecursion (λ (b : Bookmark). bookmark_in bs b.id ≡ Some b) bs
 each_first [] rise = tt
 each_first (b ∷ bs) rise = (
   cond-true (b.id == b.id) (Some b) (bookmark_in bs b.id) (grind (arith, nat_tests)),
@@ -62,7 +71,8 @@ each_first (b ∷ bs) rise = (
 
 -- each text that is known is right
 
-its_scratch : (d : BookState) (b : Bookmark) (s : RowState (List ℕ)) → StandsRight d (View b.id) (state_map text s) → bookmark_in d.plan.bookmarks b.id ≡ Some b → IfSome (known s) (λ bytes. bytes ≡ scratch d.plan b)
+its_scratch : (d : BookState) (b : Bookmark) (s : RowState (List ℕ)) → StandsRight d (View b.id) (state_map text s)
+    → bookmark_in d.plan.bookmarks b.id ≡ Some b → IfSome (known s) (λ bytes. bytes ≡ scratch d.plan b)
 its_scratch d b Empty right there = tt
 its_scratch d b (Expected job) right there = tt
 its_scratch d b (Known found) right there =
@@ -70,9 +80,13 @@ its_scratch d b (Known found) right there =
     let made : scratch d.plan b ≡ found = cc in
     sym made
 
-each_scratch : (d : BookState) (bs : List Bookmark) → IsRight d → AllByRecursion (λ (b : Bookmark). bookmark_in d.plan.bookmarks b.id ≡ Some b) bs → AllByRecursion (IsScratch d.plan) (map (shown_row d) bs)
+each_scratch : (d : BookState) (bs : List Bookmark) → IsRight d
+    → AllByRecursion (λ (b : Bookmark). bookmark_in d.plan.bookmarks b.id ≡ Some b) bs
+    → AllByRecursion (IsScratch d.plan) (map (shown_row d) bs)
 each_scratch d [] right there = tt
-each_scratch d (b ∷ bs) right there = (its_scratch d b (text_row d b.id) (right.stands (View b.id)) there.0, each_scratch d bs right there.1)
+each_scratch d (b ∷ bs) right there =
+    (its_scratch d b (text_row d b.id) (right.stands (View b.id)) there.0, each_scratch d bs right there.1)
 
 pub are_scratch : (d : BookState) (places : List ℕ) → IsHeld d places → AllByRecursion (IsScratch d.plan) (shown_rows d)
-are_scratch d places held = each_scratch d d.plan.bookmarks held.right (each_first d.plan.bookmarks held.right.sound.bookmarks_rise)
+are_scratch d places held =
+    each_scratch d d.plan.bookmarks held.right (each_first d.plan.bookmarks held.right.sound.bookmarks_rise)

@@ -4,17 +4,21 @@ pub mod Found
 pub mod Grown
 pub mod Handed
 pub mod Leaves
+pub mod Listed
 pub mod Loops
 pub mod Marked
 pub mod Merged
 pub mod Needed
 pub mod Opened
 pub mod Passed
+pub mod Ranks
 pub mod Outs
 pub mod Owned
 pub mod Placed
 pub mod Putting
+pub mod Readied
 mod Recalled
+pub mod Reaching
 pub mod Remaking
 pub mod Revised
 pub mod Shared

@@ -1,5 +1,5 @@
 -- Rows that expect jobs.
-use Rattle.std.proofs.Common.{◌≡◌, ℕ, ◌<◌, ◌≤◌, ◌∙◌, true, false, List, [], ◌∷◌, refl, sym, ap, ap₂, subst, arith, Option, None, Some}
+use Rattle.std.proofs.Common.{◌≡◌, ℕ, ◌≤◌, ◌∙◌, true, false, List, [], ◌∷◌, refl, sym, ap, ap₂, subst, arith, Option, None, Some}
 use Rattle.std.specs.Prelude.{◌==◌, ◌||◌, IfSome, IsSome, is_some, min}
 use Rattle.std.specs.List.{AllByRecursion}
 use Rattle.schedule.specs.declared.document.Bookmark.{Bookmark}
@@ -15,9 +15,11 @@ use Rattle.dependency_book.specs.declared.need.Need.{Need}
 use Rattle.dependency_book.specs.declared.need.Need.TheVariants.{Step, View}
 use Rattle.dependency_book.specs.BookState.{BookState, NothingOut, arrival_row, text_row, expected}
 use Rattle.dependency_book.specs.Held.{IsHeld}
-use Rattle.dependency_book.specs.Jobs.{IsAnyOut, IsFirstOut}
+use Rattle.dependency_book.specs.Jobs.{IsAnyOut, IsFirstOut, step_to}
+use Rattle.dependency_book.specs.Marks.{is_start, mark_at}
 use Rattle.dependency_book.specs.RowState.{any_out, job_of, state_map, has_number, named_by, either, row_for, lesser, number_of, least_out}
 use Rattle.dependency_book.specs.Rows.{keys, IsRanked, state_at, mark_rank, bookmark_rank}
+use Rattle.dependency_book.proofs.Ranks.{rank_zero, start_is}
 use Rattle.dependency_book.proofs.Standing.{has, has-above, state_at-above}
 use Rattle.dependency_book.proofs.Tests.{either_way, clash, true_eq, eq_true, eq_false, false_eq}
 
@@ -26,50 +28,62 @@ job_of-map f Empty = refl
 job_of-map f (Expected job) = refl
 job_of-map f (Known v) = refl
 
--- the job in the row of a mark above 0, and no job at 0
-pub out_at : (d : BookState) (g : ℕ) → (g == 0) ≡ false → expected d (Step g) ≡ job_of (state_at mark_rank g d.arrivals)
-out_at d g miss = job_of-map pattern (arrival_row d g) ∙ rw miss refl
+-- the job in the row of a mark besides the start, and no job at the start
+pub out_at : (d : BookState) (m : Mark) → is_start m ≡ false
+    → expected d (step_to m) ≡ job_of (state_at mark_rank (mark_rank m) d.arrivals)
+out_at d m miss = job_of-map pattern (arrival_row d m) ∙ rw miss refl
 
-pub none_at : (d : BookState) (g : ℕ) → (g == 0) ≡ true → expected d (Step g) ≡ None
-none_at d g hit = job_of-map pattern (arrival_row d g) ∙ rw hit refl
+pub none_at : (d : BookState) (m : Mark) → is_start m ≡ true → expected d (step_to m) ≡ None
+none_at d m hit = job_of-map pattern (arrival_row d m) ∙ rw hit refl
 
 pub out_for : (d : BookState) (id : ℕ) → expected d (View id) ≡ job_of (text_row d id)
 out_for d id = job_of-map text (text_row d id)
-
-pub over_zero : (g : ℕ) → 0 < g → (g == 0) ≡ false
-over_zero g some = eq_false g 0 (λ same. omega (arith, same, some))
 
 -- rows of which none expects a job
 
 abbrev pub NoneOut : {K V : Type 0} → List (Row K V) → Type 0
 NoneOut rows = AllByRecursion (λ (r : Row _ _). job_of r.state ≡ None) rows
 
-none_out : {K V : Type 0} (rank : K → ℕ) (rows : List (Row K V)) → IsRanked rank rows → ((n : ℕ) → job_of (state_at rank n rows) ≡ None) → NoneOut rows
+none_out : {K V : Type 0} (rank : K → ℕ) (rows : List (Row K V)) → IsRanked rank rows
+    → ((k : K) → job_of (state_at rank (rank k) rows) ≡ None) → NoneOut rows
 none_out rank [] ranked none = tt
 none_out {K} {V} rank (r ∷ rs) ranked none = (
-  (let here = none (rank r.key) in rw (eq_true (rank r.key) (rank r.key) refl) at here),
-  none_out rank rs ranked.1 (λ n.
-      either_way (rank r.key == n)
-      (λ hit. ap job_of (state_at-above rank n rs (has-above rank (rank r.key) n (keys rs) ranked.0 (let is = true_eq (rank r.key) n hit in omega (arith, is)))))
-      (λ miss. let there = none n in rw miss at there)),
+  (let here = none r.key in rw (eq_true (rank r.key) (rank r.key) refl) at here),
+  none_out rank rs ranked.1 (λ k.
+      either_way (rank r.key == rank k)
+      (λ hit. ap job_of
+      (state_at-above rank (rank k) rs
+      (has-above rank (rank r.key) (rank k) (keys rs) ranked.0
+      (let is = true_eq (rank r.key) (rank k) hit in omega (arith, is)))))
+      (λ miss. let there = none k in rw miss at there)),
 )
 
-pub zero_absent : (d : BookState) (places : List ℕ) → IsHeld d places → has mark_rank 0 (keys d.arrivals) ≡ false
-zero_absent d places held = has-above mark_rank 0 0 (keys d.arrivals) held.right.marks.above (omega arith)
+-- the start has no row
+no_start : (ms : List Mark) → AllByRecursion (λ (m : Mark). is_start m ≡ false) ms
+    → has mark_rank (mark_rank (mark_at 0 0)) ms ≡ false
+no_start [] none = refl
+no_start (m ∷ ms) none = rw (eq_false (mark_rank m) 0 (λ zero. clash (is_start m) (rank_zero m zero) none.0))
+    (no_start ms none.1)
+
+pub start_absent : (d : BookState) (places : List ℕ) (m : Mark) → IsHeld d places → is_start m ≡ true
+    → has mark_rank (mark_rank m) (keys d.arrivals) ≡ false
+start_absent d places m held hit = ap (λ n. has mark_rank (mark_rank n) (keys d.arrivals)) (start_is m hit)
+    ∙ no_start (keys d.arrivals) held.right.marks.above
 
 pub arrivals_none : (d : BookState) (places : List ℕ) → IsHeld d places → NothingOut d → NoneOut d.arrivals
 arrivals_none d places held out =
     none_out mark_rank d.arrivals held.right.marks.rise
-    (λ g.
-    either_way (g == 0)
-    (λ hit. ap job_of (state_at-above mark_rank g d.arrivals (ap (λ n. has mark_rank n (keys d.arrivals)) (true_eq g 0 hit) ∙ zero_absent d places held)))
-    (λ miss. sym (out_at d g miss) ∙ out (Step g)))
+    (λ m.
+    either_way (is_start m)
+    (λ hit. ap job_of (state_at-above mark_rank (mark_rank m) d.arrivals (start_absent d places m held hit)))
+    (λ miss. sym (out_at d m miss) ∙ out (step_to m)))
 
 pub ids_rise : (d : BookState) (places : List ℕ) → IsHeld d places → IsRanked bookmark_rank d.texts
 ids_rise d places held = subst (IdsRise bookmark_id) (sym held.right.bookmarks) held.right.sound.bookmarks_rise
 
 pub texts_none : (d : BookState) (places : List ℕ) → IsHeld d places → NothingOut d → NoneOut d.texts
-texts_none d places held out = none_out bookmark_rank d.texts (ids_rise d places held) (λ id. sym (out_for d id) ∙ out (View id))
+texts_none d places held out =
+    none_out bookmark_rank d.texts (ids_rise d places held) (λ b. sym (out_for d b.id) ∙ out (View b.id))
 
 -- the row that expects the job of a number
 
@@ -79,7 +93,9 @@ numbered n place = Some (record { number = n; place = place })
 
 unnamed : {K : Type 0} (n : ℕ) (key : K) (o : Option Job) → named_by n key o ≡ None → has_number n o ≡ false
 unnamed n key None h = refl
-unnamed n key (Some job) h = either_way (job.number == n) (λ hit. absurd (let taken : Some (key, job.place) ≡ None = rw hit at h in no_some taken)) (λ miss. miss)
+unnamed n key (Some job) h =
+    either_way (job.number == n)
+    (λ hit. absurd (let taken : Some (key, job.place) ≡ None = rw hit at h in no_some taken)) (λ miss. miss)
   where
     no_some : {A : Type 0} {a : A} → Some a ≡ None → ⊥
     no_some h = cc
@@ -88,7 +104,8 @@ either_none : {A : Type 0} (o p : Option A) → either o p ≡ None → (o ≡ N
 either_none None p h = (refl, h)
 either_none (Some a) p h = absurd cc
 
-pub row_for-none : {K V : Type 0} (rank : K → ℕ) (n m : ℕ) (rows : List (Row K V)) → row_for n rows ≡ None → has_number n (job_of (state_at rank m rows)) ≡ false
+pub row_for-none : {K V : Type 0} (rank : K → ℕ) (n m : ℕ) (rows : List (Row K V)) → row_for n rows ≡ None
+    → has_number n (job_of (state_at rank m rows)) ≡ false
 row_for-none rank n m [] h = refl
 row_for-none rank n m (r ∷ rs) h =
     let parts = either_none (named_by n r.key (job_of r.state)) (row_for n rs) h in
@@ -96,22 +113,27 @@ row_for-none rank n m (r ∷ rs) h =
     (λ hit. rw hit (unnamed n r.key (job_of r.state) parts.0))
     (λ miss. rw miss (row_for-none rank n m rs parts.1))
 
-named_or : {K A : Type 0} (n : ℕ) (k key : K) (o : Option Job) (rest : Option (K × Place)) (place : Place) → either (named_by n k o) rest ≡ Some (key, place) → (k ≡ key → o ≡ numbered n place → A) → (rest ≡ Some (key, place) → A) → A
+named_or : {K A : Type 0} (n : ℕ) (k key : K) (o : Option Job) (rest : Option (K × Place)) (place : Place)
+    → either (named_by n k o) rest ≡ Some (key, place) → (k ≡ key → o ≡ numbered n place → A)
+    → (rest ≡ Some (key, place) → A) → A
 named_or n k key None rest place h here later = later h
 named_or {K} n k key (Some job) rest place h here later =
     either_way (job.number == n)
     (λ hit.
     let whole : Some (k, job.place) ≡ Some (key, place) = rw hit at h in
     let pair : (k, job.place) ≡ (key, place) = cc in
-    here (ap (λ (p : K × Place). p.0) pair) (ap₂ numbered (true_eq job.number n hit) (ap (λ (p : K × Place). p.1) pair)))
+    here (ap (λ (p : K × Place). p.0) pair)
+    (ap₂ numbered (true_eq job.number n hit) (ap (λ (p : K × Place). p.1) pair)))
     (λ miss. later (rw miss at h))
 
 -- it is the row of its key's rank
-pub record ExpectsAt {K V : Type 0} (rank : K → ℕ) (n : ℕ) (rows : List (Row K V)) (key : K) (place : Place) : Type 0 where
+pub record ExpectsAt {K V : Type 0} (rank : K → ℕ) (n : ℕ) (rows : List (Row K V)) (key : K)
+    (place : Place) : Type 0 where
   pub there : has rank (rank key) (keys rows) ≡ true
   pub out : job_of (state_at rank (rank key) rows) ≡ numbered n place
 
-pub row_for-is : {K V : Type 0} (rank : K → ℕ) (n : ℕ) (rows : List (Row K V)) (key : K) (place : Place) → IsRanked rank rows → row_for n rows ≡ Some (key, place) → ExpectsAt rank n rows key place
+pub row_for-is : {K V : Type 0} (rank : K → ℕ) (n : ℕ) (rows : List (Row K V)) (key : K) (place : Place)
+    → IsRanked rank rows → row_for n rows ≡ Some (key, place) → ExpectsAt rank n rows key place
 row_for-is rank n [] key place ranked h = absurd cc
 row_for-is rank n (r ∷ rs) key place ranked h =
     let g = rank key in
@@ -120,25 +142,34 @@ row_for-is rank n (r ∷ rs) key place ranked h =
     (λ later.
     let f = row_for-is rank n rs key place ranked.1 later in
     let miss : (rank r.key == g) ≡ false =
-    either_way (rank r.key == g) (λ hit. clash (has rank g (keys rs)) f.there (has-above rank (rank r.key) g (keys rs) ranked.0 (let is = true_eq (rank r.key) g hit in omega (arith, is)))) (λ off. off) in
+    either_way (rank r.key == g)
+    (λ hit. clash (has rank g (keys rs)) f.there
+    (has-above rank (rank r.key) g (keys rs) ranked.0 (let is = true_eq (rank r.key) g hit in omega (arith, is))))
+    (λ off. off) in
     record { there = rw miss f.there; out = rw miss f.out })
 
-pub expecting_none : (d : BookState) (n : ℕ) → row_for n d.arrivals ≡ None → row_for n d.texts ≡ None → (need : Need) → has_number n (expected d need) ≡ false
-expecting_none d n arrivals texts (Step g) =
-    either_way (g == 0)
-    (λ hit. ap (has_number n) (none_at d g hit))
-    (λ miss. ap (has_number n) (out_at d g miss) ∙ row_for-none mark_rank n g d.arrivals arrivals)
-expecting_none d n arrivals texts (View id) = ap (has_number n) (out_for d id) ∙ row_for-none bookmark_rank n id d.texts texts
+pub expecting_none : (d : BookState) (n : ℕ) → row_for n d.arrivals ≡ None → row_for n d.texts ≡ None → (need : Need)
+    → has_number n (expected d need) ≡ false
+expecting_none d n arrivals texts (Step branch mark) =
+    let m = mark_at branch mark in
+    either_way (is_start m)
+    (λ hit. ap (has_number n) (none_at d m hit))
+    (λ miss. ap (has_number n) (out_at d m miss) ∙ row_for-none mark_rank n (mark_rank m) d.arrivals arrivals)
+expecting_none d n arrivals texts (View id) = ap (has_number n) (out_for d id)
+    ∙ row_for-none bookmark_rank n id d.texts texts
 
-pub expecting_mark : (d : BookState) (places : List ℕ) (n : ℕ) (key : Mark) (place : Place) → IsHeld d places → row_for n d.arrivals ≡ Some (key, place) → expected d (Step key.generation) ≡ numbered n place
+pub expecting_mark : (d : BookState) (places : List ℕ) (n : ℕ) (key : Mark) (place : Place) → IsHeld d places
+    → row_for n d.arrivals ≡ Some (key, place) → expected d (step_to key) ≡ numbered n place
 expecting_mark d places n key place held is =
     let f = row_for-is mark_rank n d.arrivals key place held.right.marks.rise is in
-    either_way (key.generation == 0)
-    (λ hit. clash (has mark_rank key.generation (keys d.arrivals)) f.there (ap (λ m. has mark_rank m (keys d.arrivals)) (true_eq key.generation 0 hit) ∙ zero_absent d places held))
-    (λ miss. out_at d key.generation miss ∙ f.out)
+    either_way (is_start key)
+    (λ hit. clash (has mark_rank (mark_rank key) (keys d.arrivals)) f.there (start_absent d places key held hit))
+    (λ miss. out_at d key miss ∙ f.out)
 
-pub expecting_text : (d : BookState) (places : List ℕ) (n : ℕ) (key : Bookmark) (place : Place) → IsHeld d places → row_for n d.texts ≡ Some (key, place) → expected d (View key.id) ≡ numbered n place
-expecting_text d places n key place held is = out_for d key.id ∙ (row_for-is bookmark_rank n d.texts key place (ids_rise d places held) is).out
+pub expecting_text : (d : BookState) (places : List ℕ) (n : ℕ) (key : Bookmark) (place : Place) → IsHeld d places
+    → row_for n d.texts ≡ Some (key, place) → expected d (View key.id) ≡ numbered n place
+expecting_text d places n key place held is =
+    out_for d key.id ∙ (row_for-is bookmark_rank n d.texts key place (ids_rise d places held) is).out
 
 -- the least number that is out
 
@@ -168,22 +199,26 @@ number_none : (o : Option Job) → number_of o ≡ None → o ≡ None
 number_none None h = refl
 number_none (Some job) h = absurd cc
 
-least_out-none : {K V : Type 0} (rank : K → ℕ) (m : ℕ) (rows : List (Row K V)) → least_out rows ≡ None → job_of (state_at rank m rows) ≡ None
+least_out-none : {K V : Type 0} (rank : K → ℕ) (m : ℕ) (rows : List (Row K V)) → least_out rows ≡ None
+    → job_of (state_at rank m rows) ≡ None
 least_out-none rank m [] h = refl
 least_out-none rank m (r ∷ rs) h =
     let parts = lesser_none (number_of (job_of r.state)) (least_out rs) h in
-    either_way (rank r.key == m) (λ hit. rw hit (number_none (job_of r.state) parts.0)) (λ miss. rw miss (least_out-none rank m rs parts.1))
+    either_way (rank r.key == m) (λ hit. rw hit (number_none (job_of r.state) parts.0))
+    (λ miss. rw miss (least_out-none rank m rs parts.1))
 
 above_least : (o : Option Job) (n : ℕ) → IfSome (number_of o) (λ m. n ≤ m) → IfSome o (λ job. n ≤ job.number)
 above_least None n h = tt
 above_least (Some job) n h = h
 
 -- each job that is out has a number at or above n, where the least is
-each_above : {K V : Type 0} (rank : K → ℕ) (m : ℕ) (rows : List (Row K V)) (n : ℕ) → IfSome (least_out rows) (λ k. n ≤ k) → IfSome (job_of (state_at rank m rows)) (λ job. n ≤ job.number)
+each_above : {K V : Type 0} (rank : K → ℕ) (m : ℕ) (rows : List (Row K V)) (n : ℕ)
+    → IfSome (least_out rows) (λ k. n ≤ k) → IfSome (job_of (state_at rank m rows)) (λ job. n ≤ job.number)
 each_above rank m [] n h = tt
 each_above rank m (r ∷ rs) n h =
     let parts = lesser_le (number_of (job_of r.state)) (least_out rs) n h in
-    either_way (rank r.key == m) (λ hit. rw hit (above_least (job_of r.state) n parts.0)) (λ miss. rw miss (each_above rank m rs n parts.1))
+    either_way (rank r.key == m) (λ hit. rw hit (above_least (job_of r.state) n parts.0))
+    (λ miss. rw miss (each_above rank m rs n parts.1))
 
 -- a row expects the job of the least number
 
@@ -192,13 +227,15 @@ pub record HasPair {K : Type 0} (pair : Option (K × Place)) : Type 0 where
   pub place : Place
   pub is : pair ≡ Some (key, place)
 
-first_here : {K : Type 0} (n : ℕ) (key : K) (o : Option Job) (rest : Option (K × Place)) → number_of o ≡ Some n → HasPair (either (named_by n key o) rest)
+first_here : {K : Type 0} (n : ℕ) (key : K) (o : Option Job) (rest : Option (K × Place)) → number_of o ≡ Some n
+    → HasPair (either (named_by n key o) rest)
 first_here n key None rest h = absurd cc
 first_here {K} n key (Some job) rest h =
     let is : job.number ≡ n = cc in
     record { key = key; place = job.place; is = rw (eq_true job.number n is) refl }
 
-first_later : {K : Type 0} (n : ℕ) (key : K) (o : Option Job) (rest : Option (K × Place)) → HasPair rest → HasPair (either (named_by n key o) rest)
+first_later : {K : Type 0} (n : ℕ) (key : K) (o : Option Job) (rest : Option (K × Place)) → HasPair rest
+    → HasPair (either (named_by n key o) rest)
 first_later n key None rest h = h
 first_later {K} n key (Some job) rest h =
     either_way (job.number == n)
@@ -212,28 +249,45 @@ least_has (r ∷ rs) n h =
     (λ here. first_here n r.key (job_of r.state) (row_for n rs) here)
     (λ later. first_later n r.key (job_of r.state) (row_for n rs) (least_has rs n later))
 
-none_expected : (d : BookState) → least_out d.arrivals ≡ None → least_out d.texts ≡ None → (need : Need) → expected d need ≡ None
-none_expected d arrivals texts (Step g) = either_way (g == 0) (λ hit. none_at d g hit) (λ miss. out_at d g miss ∙ least_out-none mark_rank g d.arrivals arrivals)
+none_expected : (d : BookState) → least_out d.arrivals ≡ None → least_out d.texts ≡ None → (need : Need)
+    → expected d need ≡ None
+none_expected d arrivals texts (Step branch mark) =
+    let m = mark_at branch mark in
+    either_way (is_start m) (λ hit. none_at d m hit)
+    (λ miss. out_at d m miss ∙ least_out-none mark_rank (mark_rank m) d.arrivals arrivals)
 none_expected d arrivals texts (View id) = out_for d id ∙ least_out-none bookmark_rank id d.texts texts
 
-all_above : (d : BookState) (n : ℕ) → IfSome (least_out d.arrivals) (λ m. n ≤ m) × IfSome (least_out d.texts) (λ m. n ≤ m) → (need : Need) → IfSome (expected d need) (λ job. n ≤ job.number)
-all_above d n least (Step g) =
-    either_way (g == 0)
-    (λ hit. subst (λ (o : Option Job). IfSome o (λ job. n ≤ job.number)) (sym (none_at d g hit)) tt)
-    (λ miss. subst (λ (o : Option Job). IfSome o (λ job. n ≤ job.number)) (sym (out_at d g miss)) (each_above mark_rank g d.arrivals n least.0))
-all_above d n least (View id) = subst (λ (o : Option Job). IfSome o (λ job. n ≤ job.number)) (sym (out_for d id)) (each_above bookmark_rank id d.texts n least.1)
+all_above : (d : BookState) (n : ℕ) → IfSome (least_out d.arrivals) (λ m. n ≤ m)
+    × IfSome (least_out d.texts) (λ m. n ≤ m) → (need : Need) → IfSome (expected d need) (λ job. n ≤ job.number)
+all_above d n least (Step branch mark) =
+    let m = mark_at branch mark in
+    either_way (is_start m)
+    (λ hit. subst (λ (o : Option Job). IfSome o (λ job. n ≤ job.number)) (sym (none_at d m hit)) tt)
+    (λ miss. subst (λ (o : Option Job). IfSome o (λ job. n ≤ job.number)) (sym (out_at d m miss))
+    (each_above mark_rank (mark_rank m) d.arrivals n least.0))
+all_above d n least (View id) = subst (λ (o : Option Job). IfSome o (λ job. n ≤ job.number)) (sym (out_for d id))
+    (each_above bookmark_rank id d.texts n least.1)
 
-first_of : (d : BookState) (places : List ℕ) (o : Option ℕ) → IsHeld d places → lesser (least_out d.arrivals) (least_out d.texts) ≡ o → IsFirstOut d o
-first_of d places None held h = let parts = lesser_none (least_out d.arrivals) (least_out d.texts) h in λ need. none_expected d parts.0 parts.1 need
+first_of : (d : BookState) (places : List ℕ) (o : Option ℕ) → IsHeld d places
+    → lesser (least_out d.arrivals) (least_out d.texts) ≡ o → IsFirstOut d o
+first_of d places None held h = let parts = lesser_none (least_out d.arrivals) (least_out d.texts) h in λ need.
+    none_expected d parts.0 parts.1 need
 first_of d places (Some n) held h =
-    let above = lesser_le (least_out d.arrivals) (least_out d.texts) n (subst (λ (o : Option ℕ). IfSome o (λ m. n ≤ m)) (sym h) (omega arith)) in (
+    let above =
+    lesser_le (least_out d.arrivals) (least_out d.texts) n
+    (subst (λ (o : Option ℕ). IfSome o (λ m. n ≤ m)) (sym h) (omega arith)) in (
       lesser_is (least_out d.arrivals) (least_out d.texts) n h
-          (λ here. let f = least_has d.arrivals n here in (Step f.key.generation, ap (has_number n) (expecting_mark d places n f.key f.place held f.is) ∙ eq_true n n refl))
-          (λ there. let f = least_has d.texts n there in (View f.key.id, ap (has_number n) (expecting_text d places n f.key f.place held f.is) ∙ eq_true n n refl)),
+          (λ here. let f =
+          least_has d.arrivals n here in
+          (step_to f.key, ap (has_number n) (expecting_mark d places n f.key f.place held f.is) ∙ eq_true n n refl))
+          (λ there. let f =
+          least_has d.texts n there in
+          (View f.key.id, ap (has_number n) (expecting_text d places n f.key f.place held f.is) ∙ eq_true n n refl)),
       λ need. all_above d n above need,
     )
 
-pub first_out_is : (d : BookState) (places : List ℕ) → IsHeld d places → IsFirstOut d (lesser (least_out d.arrivals) (least_out d.texts))
+pub first_out_is : (d : BookState) (places : List ℕ) → IsHeld d places
+    → IsFirstOut d (lesser (least_out d.arrivals) (least_out d.texts))
 first_out_is d places held = first_of d places (lesser (least_out d.arrivals) (least_out d.texts)) held refl
 
 -- whether a row expects a job
@@ -247,9 +301,11 @@ some_out (r ∷ rs) = ap (λ b. is_some (job_of r.state) || b) (some_out rs) ∙
     either_some (Some job) None = refl
     either_some (Some job) (Some n) = refl
 
-pub any_out_is : (d : BookState) (places : List ℕ) → IsHeld d places → IsAnyOut d (any_out d.arrivals || any_out d.texts)
+pub any_out_is : (d : BookState) (places : List ℕ) → IsHeld d places
+    → IsAnyOut d (any_out d.arrivals || any_out d.texts)
 any_out_is d places held =
-    subst (IsAnyOut d) (sym (ap₂ (λ a b. a || b) (some_out d.arrivals) (some_out d.texts))) (of_first (least_out d.arrivals) (least_out d.texts) (first_out_is d places held))
+    subst (IsAnyOut d) (sym (ap₂ (λ a b. a || b) (some_out d.arrivals) (some_out d.texts)))
+    (of_first (least_out d.arrivals) (least_out d.texts) (first_out_is d places held))
   where
     has_one : (n : ℕ) (o : Option Job) → has_number n o ≡ true → IsSome o
     has_one n None h = absurd cc

@@ -1,45 +1,54 @@
 -- Jobs that rows expect have their entries in the table.
-use Rattle.std.proofs.Common.{◌≡◌, ℕ, zero, suc, ◌<◌, ◌∙◌, false, List, [], ◌∷◌, length, get_or, refl, sym, subst, arith, Option}
+use Rattle.std.proofs.Common.{ℕ, zero, suc, ◌<◌, List, [], ◌∷◌, length, get_or, refl, sym, subst, arith, Option}
 use Rattle.std.specs.Prelude.{◌==◌, IfSome}
 use Rattle.revision_jobs.specs.declared.answer.Job.{Job}
 use Rattle.revision_jobs.specs.declared.entries.Entries.{Entries}
 use Rattle.revision_jobs.specs.Entries.{IsOf}
 use Rattle.revision_jobs.specs.Value.{Value}
 use Rattle.dependency_book.specs.declared.need.Need.{Need}
-use Rattle.dependency_book.specs.declared.need.Need.TheVariants.{Step, View}
+use Rattle.dependency_book.specs.declared.need.Need.TheVariants.{View}
 use Rattle.dependency_book.specs.declared.row.RowState.{RowState}
 use Rattle.dependency_book.specs.declared.row.RowState.TheVariants.{Empty, Expected, Known}
 use Rattle.dependency_book.specs.declared.row.Row.{Row}
 use Rattle.dependency_book.specs.BookState.{BookState, expected, row_of}
 use Rattle.dependency_book.specs.Held.{IsHeld}
+use Rattle.dependency_book.specs.Jobs.{step_to}
+use Rattle.dependency_book.specs.Marks.{is_start}
 use Rattle.dependency_book.specs.Right.{StandsRight}
 use Rattle.dependency_book.specs.RowState.{OutsAreOf, job_of}
 use Rattle.dependency_book.specs.Rows.{keys, IsRanked, state_at, put, mark_rank, bookmark_rank}
-use Rattle.dependency_book.proofs.Outs.{ids_rise, out_at, out_for, zero_absent}
-use Rattle.dependency_book.proofs.Standing.{has, has-above, state_at-above}
+use Rattle.dependency_book.proofs.Outs.{ids_rise, out_at, out_for, start_absent}
+use Rattle.dependency_book.proofs.Standing.{has-above, state_at-above}
 use Rattle.dependency_book.proofs.Tests.{either_way, true_eq, eq_true}
 
 -- a job, if there is one, has its entry in a table
 abbrev pub IsOwn : Entries → Option Job → Type 0
 IsOwn entries o = IfSome o (λ job. IsOf entries job.place)
 
-pub own_at : {K V : Type 0} (entries : Entries) (rows : List (Row K V)) (k : ℕ) (x : Row K V) → OutsAreOf entries rows → k < length rows → IsOwn entries (job_of (get_or rows k x).state)
+pub own_at : {K V : Type 0} (entries : Entries) (rows : List (Row K V)) (k : ℕ) (x : Row K V) → OutsAreOf entries rows
+    → k < length rows → IsOwn entries (job_of (get_or rows k x).state)
 own_at entries [] k x own low = absurd (omega (arith, low))
 own_at entries (r ∷ rs) zero x own low = own.0
 own_at entries (r ∷ rs) (suc k) x own low = own_at entries rs k x own.1 (omega (arith, low))
 
-pub own_put : {K V : Type 0} (entries : Entries) (rank : K → ℕ) (n : ℕ) (rows : List (Row K V)) → OutsAreOf entries rows → OutsAreOf entries (put rank n Empty rows)
+pub own_put : {K V : Type 0} (entries : Entries) (rank : K → ℕ) (n : ℕ) (rows : List (Row K V)) → OutsAreOf entries rows
+    → OutsAreOf entries (put rank n Empty rows)
 own_put entries rank n [] own = tt
-own_put entries rank n (r ∷ rs) own = either_way (rank r.key == n) (λ hit. rw hit (tt, own.1)) (λ miss. rw miss (own.0, own_put entries rank n rs own.1))
+own_put entries rank n (r ∷ rs) own =
+    either_way (rank r.key == n) (λ hit. rw hit (tt, own.1)) (λ miss. rw miss (own.0, own_put entries rank n rs own.1))
 
-each_own : {K V : Type 0} (entries : Entries) (rank : K → ℕ) (rows : List (Row K V)) → IsRanked rank rows → ((n : ℕ) → IsOwn entries (job_of (state_at rank n rows))) → OutsAreOf entries rows
+each_own : {K V : Type 0} (entries : Entries) (rank : K → ℕ) (rows : List (Row K V)) → IsRanked rank rows
+    → ((k : K) → IsOwn entries (job_of (state_at rank (rank k) rows))) → OutsAreOf entries rows
 each_own entries rank [] ranked own = tt
 each_own entries rank (r ∷ rs) ranked own = (
-  (let here = own (rank r.key) in rw (eq_true (rank r.key) (rank r.key) refl) at here),
-  each_own entries rank rs ranked.1 (λ n.
-      either_way (rank r.key == n)
-      (λ hit. subst (λ s. IsOwn entries (job_of s)) (sym (state_at-above rank n rs (has-above rank (rank r.key) n (keys rs) ranked.0 (let is = true_eq (rank r.key) n hit in omega (arith, is))))) tt)
-      (λ miss. let there = own n in rw miss at there)),
+  (let here = own r.key in rw (eq_true (rank r.key) (rank r.key) refl) at here),
+  each_own entries rank rs ranked.1 (λ k.
+      either_way (rank r.key == rank k)
+      (λ hit. subst (λ s. IsOwn entries (job_of s))
+      (sym (state_at-above rank (rank k) rs
+      (has-above rank (rank r.key) (rank k) (keys rs) ranked.0
+      (let is = true_eq (rank r.key) (rank k) hit in omega (arith, is))))) tt)
+      (λ miss. let there = own k in rw miss at there)),
 )
 
 -- so has each job that is out
@@ -55,12 +64,13 @@ all_own d places held need = out_own d need (row_of d need) (held.right.stands n
 pub arrivals_own : (d : BookState) (places : List ℕ) → IsHeld d places → OutsAreOf d.table d.arrivals
 arrivals_own d places held =
     each_own d.table mark_rank d.arrivals held.right.marks.rise
-    (λ g.
-    either_way (g == 0)
-    (λ hit. subst (λ s. IsOwn d.table (job_of s)) (sym (state_at-above mark_rank g d.arrivals (subst (λ n. has mark_rank n (keys d.arrivals) ≡ false) (sym (true_eq g 0 hit)) (zero_absent d places held)))) tt)
-    (λ miss. subst (IsOwn d.table) (out_at d g miss) (all_own d places held (Step g))))
+    (λ m.
+    either_way (is_start m)
+    (λ hit. subst (λ s. IsOwn d.table (job_of s))
+    (sym (state_at-above mark_rank (mark_rank m) d.arrivals (start_absent d places m held hit))) tt)
+    (λ miss. subst (IsOwn d.table) (out_at d m miss) (all_own d places held (step_to m))))
 
 pub texts_own : (d : BookState) (places : List ℕ) → IsHeld d places → OutsAreOf d.table d.texts
 texts_own d places held =
     each_own d.table bookmark_rank d.texts (ids_rise d places held)
-    (λ id. subst (IsOwn d.table) (out_for d id) (all_own d places held (View id)))
+    (λ b. subst (IsOwn d.table) (out_for d b.id) (all_own d places held (View b.id)))

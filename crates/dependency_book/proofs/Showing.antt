@@ -25,19 +25,24 @@ pub record IsTextRow (d : BookState) (id k : ℕ) (x : TextRow) : Type 0 where
 
 -- what is known of the bookmark is what stands in its row
 
-its_bookmark : (d : BookState) (places : List ℕ) (id k : ℕ) (x : TextRow) → IsHeld d places → IsTextRow d id k x → bookmark_in d.plan.bookmarks id ≡ Some x.key
+its_bookmark : (d : BookState) (places : List ℕ) (id k : ℕ) (x : TextRow) → IsHeld d places → IsTextRow d id k x
+    → bookmark_in d.plan.bookmarks id ≡ Some x.key
 its_bookmark d places id k x held row =
-    subst (λ (r : TextRow). bookmark_in d.plan.bookmarks r.key.id ≡ Some r.key → bookmark_in d.plan.bookmarks id ≡ Some x.key) row.is
+    subst (λ (r : TextRow). bookmark_in d.plan.bookmarks r.key.id ≡ Some r.key
+    → bookmark_in d.plan.bookmarks id ≡ Some x.key) row.is
     (λ here. ap (bookmark_in d.plan.bookmarks) (sym row.named) ∙ here)
     (in_at d places k x held row.low)
 
-its_text : (d : BookState) (places : List ℕ) (id k : ℕ) (x : TextRow) → IsHeld d places → IsTextRow d id k x → text_row d id ≡ x.state
+its_text : (d : BookState) (places : List ℕ) (id k : ℕ) (x : TextRow) → IsHeld d places → IsTextRow d id k x
+    → text_row d id ≡ x.state
 its_text d places id k x held row =
     subst (λ (r : TextRow). text_row d r.key.id ≡ r.state → text_row d id ≡ x.state) row.is
     (λ here. ap (text_row d) (sym row.named) ∙ here)
     (text_stands d places k x held row.low)
 
-its_scratch : (d : BookState) (id : ℕ) (b : Bookmark) (s : RowState (List ℕ)) (bytes : List ℕ) → StandsRight d (View id) (state_map text s) → bookmark_in d.plan.bookmarks id ≡ Some b → known s ≡ Some bytes → bytes ≡ scratch d.plan b
+its_scratch : (d : BookState) (id : ℕ) (b : Bookmark) (s : RowState (List ℕ)) (bytes : List ℕ)
+    → StandsRight d (View id) (state_map text s) → bookmark_in d.plan.bookmarks id ≡ Some b → known s ≡ Some bytes
+    → bytes ≡ scratch d.plan b
 its_scratch d id b Empty bytes right there is = absurd cc
 its_scratch d id b (Expected job) bytes right there is = absurd cc
 its_scratch d id b (Known found) bytes right there is =
@@ -46,7 +51,8 @@ its_scratch d id b (Known found) bytes right there is =
     let made : scratch d.plan b ≡ found = cc in
     sym same ∙ sym made
 
-pub is_current : (d : BookState) (places : List ℕ) (id k : ℕ) (x : TextRow) (bytes : List ℕ) → IsHeld d places → IsTextRow d id k x → known x.state ≡ Some bytes → IsCurrent d id bytes
+pub is_current : (d : BookState) (places : List ℕ) (id k : ℕ) (x : TextRow) (bytes : List ℕ) → IsHeld d places
+    → IsTextRow d id k x → known x.state ≡ Some bytes → IsCurrent d id bytes
 is_current d places id k x bytes held row is =
     let there = its_bookmark d places id k x held row in
     let state = its_text d places id k x held row in
@@ -54,10 +60,14 @@ is_current d places id k x bytes held row is =
       bookmark = x.key;
       there = there;
       known = ap known state ∙ is;
-      scratch_text = its_scratch d id x.key x.state bytes (subst (λ (s : RowState (List ℕ)). StandsRight d (View id) (state_map text s)) state (held.right.stands (View id))) there is;
+      scratch_text =
+          its_scratch d id x.key x.state bytes
+          (subst (λ (s : RowState (List ℕ)). StandsRight d (View id) (state_map text s)) state
+          (held.right.stands (View id))) there is;
     }
 
-pub is_pending : (d : BookState) (places : List ℕ) (id k : ℕ) (x : TextRow) → IsHeld d places → IsTextRow d id k x → known x.state ≡ None → IsPending d id
+pub is_pending : (d : BookState) (places : List ℕ) (id k : ℕ) (x : TextRow) → IsHeld d places → IsTextRow d id k x
+    → known x.state ≡ None → IsPending d id
 is_pending d places id k x held row is = record {
   there = subst IsSome (sym (its_bookmark d places id k x held row)) refl;
   unknown = ap known (its_text d places id k x held row) ∙ is;
@@ -69,10 +79,13 @@ its_id : (bs : List Bookmark) (id : ℕ) (b : Bookmark) → bookmark_in bs id �
 its_id [] id b is = absurd cc
 its_id (c ∷ bs) id b is =
     either_way (c.id == id)
-    (λ hit. let one : Some c ≡ Some b = rw hit at is in let same : c ≡ b = cc in ap (λ (x : Bookmark). x.id) (sym same) ∙ true_eq c.id id hit)
+    (λ hit. let one : Some c ≡ Some b = rw hit at is in let same : c ≡ b = cc in ap (λ (x : Bookmark). x.id) (sym same)
+    ∙ true_eq c.id id hit)
     (λ miss. its_id bs id b (rw miss at is))
 
-absent_at : (d : BookState) (places : List ℕ) (id : ℕ) → IsHeld d places → ((x : TextRow) → place_in bookmark_rank id d.texts < length d.texts → (get_or d.texts (place_in bookmark_rank id d.texts) x).key.id ≡ id → ⊥) → bookmark_in d.plan.bookmarks id ≡ None
+absent_at : (d : BookState) (places : List ℕ) (id : ℕ) → IsHeld d places
+    → ((x : TextRow) → place_in bookmark_rank id d.texts < length d.texts
+    → (get_or d.texts (place_in bookmark_rank id d.texts) x).key.id ≡ id → ⊥) → bookmark_in d.plan.bookmarks id ≡ None
 absent_at d places id held none = by_bookmark (bookmark_in d.plan.bookmarks id) refl
   where
     row_for : Bookmark → TextRow
@@ -83,17 +96,23 @@ absent_at d places id held none = by_bookmark (bookmark_in d.plan.bookmarks id) 
     by_bookmark (Some b) is =
         let x = row_for b in
         let f = stands_in d.texts id b (ap (λ bs. bookmark_in bs id) held.right.bookmarks ∙ is) in
-        let named : (get_or d.texts f.place x).key.id ≡ id = ap (λ (c : Bookmark). c.id) (f.is x) ∙ its_id d.plan.bookmarks id b is in
-        let at : place_in bookmark_rank id d.texts ≡ f.place = ap (λ n. place_in bookmark_rank n d.texts) (sym named) ∙ place_of-row bookmark_rank d.texts f.place x (ids_rise d places held) f.low in
-        absurd (none x (subst (λ k. k < length d.texts) (sym at) f.low) (subst (λ k. (get_or d.texts k x).key.id ≡ id) (sym at) named))
+        let named : (get_or d.texts f.place x).key.id ≡ id = ap (λ (c : Bookmark). c.id) (f.is x)
+        ∙ its_id d.plan.bookmarks id b is in
+        let at : place_in bookmark_rank id d.texts ≡ f.place = ap (λ n. place_in bookmark_rank n d.texts) (sym named)
+        ∙ place_of-row bookmark_rank d.texts f.place x (ids_rise d places held) f.low in
+        absurd (none x (subst (λ k. k < length d.texts) (sym at) f.low)
+        (subst (λ k. (get_or d.texts k x).key.id ≡ id) (sym at) named))
 
-pub is_absent : (d : BookState) (places : List ℕ) (id k : ℕ) (rows : List TextRow) → IsHeld d places → rows ≡ d.texts → k ≡ place_in bookmark_rank id d.texts → ((x : TextRow) → k < length rows → (get_or rows k x).key.id ≡ id → ⊥) → bookmark_in d.plan.bookmarks id ≡ None
+pub is_absent : (d : BookState) (places : List ℕ) (id k : ℕ) (rows : List TextRow) → IsHeld d places → rows ≡ d.texts
+    → k ≡ place_in bookmark_rank id d.texts → ((x : TextRow) → k < length rows → (get_or rows k x).key.id ≡ id → ⊥)
+    → bookmark_in d.plan.bookmarks id ≡ None
 is_absent d places id k rows held is at none =
     absent_at d places id held
     (subst (λ j. (x : TextRow) → j < length d.texts → (get_or d.texts j x).key.id ≡ id → ⊥) at
     (subst (λ (rs : List TextRow). (x : TextRow) → k < length rs → (get_or rs k x).key.id ≡ id → ⊥) is none))
 
-pub text_row_at : (d : BookState) (id k : ℕ) (x : TextRow) (rows : List TextRow) → rows ≡ d.texts → k < length rows → x ≡ get_or rows k x → x.key.id ≡ id → IsTextRow d id k x
+pub text_row_at : (d : BookState) (id k : ℕ) (x : TextRow) (rows : List TextRow) → rows ≡ d.texts → k < length rows
+    → x ≡ get_or rows k x → x.key.id ≡ id → IsTextRow d id k x
 text_row_at d id k x rows is low here named = record {
   low = subst (λ (rs : List TextRow). k < length rs) is low;
   is = here ∙ ap (λ (rs : List TextRow). get_or rs k x) is;

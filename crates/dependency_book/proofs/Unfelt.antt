@@ -1,5 +1,5 @@
 -- An edit of interventions that is felt nowhere.
-use Rattle.std.proofs.Common.{◌≡◌, ℕ, ◌+◌, ◌∙◌, ◌++◌, Bool, List, [], ◌∷◌, refl, sym, ap, subst, Option, None, Some, append-nil}
+use Rattle.std.proofs.Common.{◌≡◌, ℕ, ◌∙◌, ◌++◌, Bool, false, List, [], ◌∷◌, refl, sym, ap, subst, Option, None, Some, append-nil}
 use Rattle.std.specs.Prelude.{◌==◌, ◌↔◌, IsTrue, if◌then◌else◌, flat_map}
 use Rattle.std.proofs.lemmas.Grind.{flat_map-append}
 use Rattle.worlds.specs.declared.cell.CellSet.{CellSet}
@@ -8,110 +8,158 @@ use Rattle.worlds.specs.Lay.{lay}
 use Rattle.schedule.specs.declared.document.Intervention.{Intervention}
 use Rattle.schedule.specs.Plan.{Plan}
 use Rattle.schedule.specs.Alike.{LayAlike}
-use Rattle.schedule.specs.Asked.{Asked, InsertIntervention, ChangeIntervention, RemoveIntervention, SetCells, ReplaceStart, ReplaceRule, AddBookmark, MoveBookmark, RemoveBookmark}
-use Rattle.schedule.specs.Change.{changed, acting}
+use Rattle.schedule.specs.Asked.{Asked, InsertIntervention, ChangeIntervention, RemoveIntervention, SetCells, ReplaceStart, ReplaceRule, AddBookmark, MoveBookmark, RemoveBookmark, AddBranch, RemoveBranch}
+use Rattle.schedule.specs.Change.{acting, changed, next_intervention}
 use Rattle.schedule.specs.Ids.{intervention_id, changed_at, without}
-use Rattle.schedule.specs.Scratch.{own_cells, cells_at, arrival, after}
+use Rattle.schedule.specs.Scratch.{arrival, after}
 use Rattle.schedule.specs.Sound.{IsSound}
+use Rattle.dependency_book.specs.declared.mark.Mark.{Mark}
 use Rattle.dependency_book.specs.BookState.{BookState, arrival_known}
-use Rattle.dependency_book.specs.Felt.{generation_of, LayAlikeOn, BookIsUnfeltAt, IsUnfelt, own_cells_after, cells_after}
+use Rattle.dependency_book.specs.Felt.{BookIsUnfeltAt, IsUnfelt, LayAlikeOn, cells_after, cells_of, mark_of, moved_mark, own_cells_after, own_cells_of}
+use Rattle.dependency_book.specs.Marks.{is_same, mark_at}
 use Rattle.dependency_book.proofs.Leaves.{same_inserted, same_changed, same_removed}
 use Rattle.dependency_book.proofs.Shared.Gives.{Arrives}
-use Rattle.dependency_book.proofs.Tests.{either_way, true_eq, false_eq}
+use Rattle.dependency_book.proofs.Ranks.{same_mark}
+use Rattle.dependency_book.proofs.Tests.{either_way}
 
 -- the cells that are set after an edit
 
-changed_cells : (is : List Intervention) (id g : ℕ) (cells : List CellSet) (k : ℕ)
-    → flat_map (λ i. own_cells_after (ChangeIntervention id g cells) i k) is ≡ cells_at (changed_at intervention_id (acting g cells) is id) k
-changed_cells [] id g cells k = refl
-changed_cells (i ∷ is) id g cells k = ap (λ more. own_cells (if i.id == id then acting g cells i else i) k ++ more) (changed_cells is id g cells k)
+changed_cells : (is : List Intervention) (id g : ℕ) (cells : List CellSet) (m : Mark)
+    → flat_map (λ i. own_cells_after (ChangeIntervention id g cells) i m) is ≡ cells_of
+    (changed_at intervention_id (acting g cells) is id) m
+changed_cells [] id g cells m = refl
+changed_cells (i ∷ is) id g cells m = ap (λ more. own_cells_of (if i.id == id then acting g cells i else i) m ++ more)
+    (changed_cells is id g cells m)
 
-left_cells : (is : List Intervention) (id k : ℕ) → flat_map (λ i. own_cells_after (RemoveIntervention id) i k) is ≡ cells_at (without intervention_id is id) k
-left_cells [] id k = refl
-left_cells (i ∷ is) id k =
+left_cells : (is : List Intervention) (id : ℕ) (m : Mark)
+    → flat_map (λ i. own_cells_after (RemoveIntervention id) i m) is ≡ cells_of (without intervention_id is id) m
+left_cells [] id m = refl
+left_cells (i ∷ is) id m =
     either_way (i.id == id)
-    (λ hit. rw hit (left_cells is id k))
-    (λ miss. rw miss (ap (λ more. own_cells i k ++ more) (left_cells is id k)))
+    (λ hit. rw hit (left_cells is id m))
+    (λ miss. rw miss (ap (λ more. own_cells_of i m ++ more) (left_cells is id m)))
 
-pub cells_after-is : (p : Plan) (asked : Asked) (k : ℕ) → cells_after asked p.interventions k ≡ cells_at (changed p asked).plan.interventions k
-cells_after-is p (InsertIntervention g cells) k =
-    let i : Intervention = record { id = p.last_intervention + 1; generation = g; cells = cells } in
-    sym (flat_map-append (λ j. own_cells j k) p.interventions (i ∷ []) ∙ ap (λ cs. cells_at p.interventions k ++ cs) (append-nil (own_cells i k)))
-cells_after-is p (ChangeIntervention id g cells) k = append-nil _ ∙ changed_cells p.interventions id g cells k
-cells_after-is p (RemoveIntervention id) k = append-nil _ ∙ left_cells p.interventions id k
-cells_after-is p (SetCells cells) k = append-nil _
-cells_after-is p (ReplaceStart start) k = append-nil _
-cells_after-is p (ReplaceRule rule) k = append-nil _
-cells_after-is p (AddBookmark g view) k = append-nil _
-cells_after-is p (MoveBookmark id g) k = append-nil _
-cells_after-is p (RemoveBookmark id) k = append-nil _
+pub cells_after-is : (p : Plan) (asked : Asked) (m : Mark) → cells_after asked p.interventions m ≡ cells_of
+    (changed p asked).plan.interventions m
+cells_after-is p (InsertIntervention branch g cells) m =
+    let i : Intervention = next_intervention p branch g cells in
+    sym (flat_map-append (λ j. own_cells_of j m) p.interventions (i ∷ []) ∙ ap (λ cs. cells_of p.interventions m ++ cs)
+    (append-nil (own_cells_of i m)))
+cells_after-is p (ChangeIntervention id g cells) m = append-nil _ ∙ changed_cells p.interventions id g cells m
+cells_after-is p (RemoveIntervention id) m = append-nil _ ∙ left_cells p.interventions id m
+cells_after-is p (SetCells cells) m = append-nil _
+cells_after-is p (ReplaceStart start) m = append-nil _
+cells_after-is p (ReplaceRule rule) m = append-nil _
+cells_after-is p (AddBookmark branch g view) m = append-nil _
+cells_after-is p (MoveBookmark id g) m = append-nil _
+cells_after-is p (RemoveBookmark id) m = append-nil _
+cells_after-is p (AddBranch parent g) m = append-nil _
+cells_after-is p (RemoveBranch n) m = append-nil _
 
 -- whether two planes on which the lists were laid are equal
-pub unfelt_at : (d : BookState) (asked : Asked) (g : ℕ) (w before later : World) (old new : List CellSet) (b : Bool) → arrival_known d g ≡ Some w → old ≡ cells_at d.plan.interventions g → new ≡ cells_at (changed d.plan asked).plan.interventions g
-    → before ≡ lay old w → later ≡ lay new w → (IsTrue b ↔ (before ≡ later)) → (IsTrue b ↔ BookIsUnfeltAt d asked g)
-unfelt_at d asked g w before later old new b known was now laid relaid same =
+pub unfelt_at : (d : BookState) (asked : Asked) (m : Mark) (w before later : World) (old new : List CellSet) (b : Bool)
+    → arrival_known d m ≡ Some w → old ≡ cells_of d.plan.interventions m
+    → new ≡ cells_of (changed d.plan asked).plan.interventions m
+    → before ≡ lay old w → later ≡ lay new w → (IsTrue b ↔ (before ≡ later)) → (IsTrue b ↔ BookIsUnfeltAt d asked m)
+unfelt_at d asked m w before later old new b known was now laid relaid same =
     let here = laid ∙ ap (λ cs. lay cs w) was in
     let there = relaid ∙ ap (λ cs. lay cs w) now in
-    let alike : Option World → Type 0 = λ o. LayAlikeOn o (cells_at d.plan.interventions g) (cells_at (changed d.plan asked).plan.interventions g) in (
+    let alike : Option World → Type 0 = λ o.
+    LayAlikeOn o (cells_of d.plan.interventions m) (cells_of (changed d.plan asked).plan.interventions m) in (
       λ yes. subst alike (sym known) (sym here ∙ same.0 yes ∙ there),
       λ h. same.1 (here ∙ subst alike known h ∙ sym there),
     )
 
 -- or none is known
-pub felt_at : (d : BookState) (asked : Asked) (g : ℕ) → arrival_known d g ≡ None → BookIsUnfeltAt d asked g → ⊥
-felt_at d asked g none h = subst (λ o. LayAlikeOn o (cells_at d.plan.interventions g) (cells_at (changed d.plan asked).plan.interventions g)) none h
+pub felt_at : (d : BookState) (asked : Asked) (m : Mark) → arrival_known d m ≡ None → BookIsUnfeltAt d asked m → ⊥
+felt_at d asked m none h =
+    subst (λ o. LayAlikeOn o (cells_of d.plan.interventions m) (cells_of (changed d.plan asked).plan.interventions m))
+    none h
 
--- the lists of two documents lay alike on what arrives in the first at generation g
-abbrev LaysAlike : Plan → Plan → ℕ → Type 0
-LaysAlike p q g = after p g ≡ lay (cells_at q.interventions g) (arrival p g)
+-- the lists of two documents lay alike on what arrives in the first at a mark
+abbrev LaysAlike : Plan → Plan → Mark → Type 0
+LaysAlike p q m = after p m.branch m.generation ≡ lay (cells_of q.interventions m) (arrival p m.branch m.generation)
 
-where_known : (p q : Plan) (g : ℕ) (o : Option World) → ((w : World) → o ≡ Some w → w ≡ arrival p g) → LayAlikeOn o (cells_at p.interventions g) (cells_at q.interventions g) → LaysAlike p q g
-where_known p q g None arrives h = absurd h
-where_known p q g (Some w) arrives h = subst (λ v. lay (cells_at p.interventions g) v ≡ lay (cells_at q.interventions g) v) (arrives w refl) h
+where_known : (p q : Plan) (m : Mark) (o : Option World)
+    → ((w : World) → o ≡ Some w → w ≡ arrival p m.branch m.generation) → LayAlikeOn o (cells_of p.interventions m)
+    (cells_of q.interventions m) → LaysAlike p q m
+where_known p q m None arrives h = absurd h
+where_known p q m (Some w) arrives h =
+    subst (λ v. lay (cells_of p.interventions m) v ≡ lay (cells_of q.interventions m) v) (arrives w refl) h
 
-elsewhere : (p q : Plan) (g : ℕ) → cells_at p.interventions g ≡ cells_at q.interventions g → LaysAlike p q g
-elsewhere p q g same = ap (λ cs. lay cs (arrival p g)) same
+elsewhere : (p q : Plan) (m : Mark) → cells_of p.interventions m ≡ cells_of q.interventions m → LaysAlike p q m
+elsewhere p q m same = ap (λ cs. lay cs (arrival p m.branch m.generation)) same
 
-at_or_not : {A : Type 0} (m n : ℕ) → (m ≡ n → A) → ((m ≡ n → ⊥) → A) → A
-at_or_not m n hit miss = either_way (m == n) (λ e. hit (true_eq m n e)) (λ e. miss (false_eq m n e))
+-- two marks are one or not
+at_or_not : {A : Type 0} (m n : Mark) → (m ≡ n → A) → (is_same m n ≡ false → A) → A
+at_or_not m n hit miss = either_way (is_same m n) (λ e. hit (same_mark m n e)) miss
 
-alike_each : (p : Plan) (known : ℕ → Option World) (asked : Asked) (k : ℕ) → IsSound p → Arrives known p → IsUnfelt known p asked (changed p asked).plan → LaysAlike p (changed p asked).plan k
-alike_each p known (InsertIntervention g cells) k sound arrives h =
-    let i : Intervention = record { id = p.last_intervention + 1; generation = g; cells = cells } in
-    let q = (changed p (InsertIntervention g cells)).plan in
-    at_or_not g k
-    (λ same. subst (LaysAlike p q) same (where_known p q g (known g) (arrives g) h))
-    (λ apart. elsewhere p q k (same_inserted p.interventions i k apart))
-alike_each p known (ChangeIntervention id g cells) k sound arrives h =
+alike_each : (p : Plan) (known : Mark → Option World) (asked : Asked) (m : Mark) → IsSound p → Arrives known p
+    → IsUnfelt known p asked (changed p asked).plan → LaysAlike p (changed p asked).plan m
+alike_each p known (InsertIntervention branch g cells) m sound arrives h =
+    let i : Intervention = next_intervention p branch g cells in
+    let q = (changed p (InsertIntervention branch g cells)).plan in
+    let to = mark_at branch g in
+    at_or_not to m
+    (λ same. subst (LaysAlike p q) same (where_known p q to (known to) (arrives to) h))
+    (λ apart. elsewhere p q m (same_inserted p.interventions i m.branch m.generation apart))
+alike_each p known (ChangeIntervention id g cells) m sound arrives h =
     let q = (changed p (ChangeIntervention id g cells)).plan in
-    let was = generation_of p.interventions id in
-    at_or_not g k
-    (λ same. subst (LaysAlike p q) same (where_known p q g (known g) (arrives g) h.0))
+    let was = mark_of p.interventions id in
+    let to = moved_mark p.interventions id g in
+    at_or_not to m
+    (λ same. subst (LaysAlike p q) same (where_known p q to (known to) (arrives to) h.0))
     (λ apart.
-    at_or_not was k
+    at_or_not was m
     (λ same. subst (LaysAlike p q) same (where_known p q was (known was) (arrives was) h.1))
-    (λ off. elsewhere p q k (same_changed p.interventions id g cells k sound.interventions_rise apart off)))
-alike_each p known (RemoveIntervention id) k sound arrives h =
+    (λ off. elsewhere p q m (same_changed p.interventions id g cells m sound.interventions_rise apart off)))
+alike_each p known (RemoveIntervention id) m sound arrives h =
     let q = (changed p (RemoveIntervention id)).plan in
-    let was = generation_of p.interventions id in
-    at_or_not was k
+    let was = mark_of p.interventions id in
+    at_or_not was m
     (λ same. subst (LaysAlike p q) same (where_known p q was (known was) (arrives was) h))
-    (λ off. elsewhere p q k (same_removed p.interventions id k sound.interventions_rise off))
-alike_each p known (SetCells cells) k sound arrives h = absurd h
-alike_each p known (ReplaceStart start) k sound arrives h = absurd h
-alike_each p known (ReplaceRule rule) k sound arrives h = absurd h
-alike_each p known (AddBookmark g view) k sound arrives h = absurd h
-alike_each p known (MoveBookmark id g) k sound arrives h = absurd h
-alike_each p known (RemoveBookmark id) k sound arrives h = absurd h
+    (λ off. elsewhere p q m (same_removed p.interventions id m sound.interventions_rise off))
+alike_each p known (SetCells cells) m sound arrives h = absurd h
+alike_each p known (ReplaceStart start) m sound arrives h = absurd h
+alike_each p known (ReplaceRule rule) m sound arrives h = absurd h
+alike_each p known (AddBookmark branch g view) m sound arrives h = absurd h
+alike_each p known (MoveBookmark id g) m sound arrives h = absurd h
+alike_each p known (RemoveBookmark id) m sound arrives h = absurd h
+alike_each p known (AddBranch parent g) m sound arrives h = absurd h
+alike_each p known (RemoveBranch n) m sound arrives h = absurd h
 
 -- so the document before the edit and the one after it lay alike
-pub unfelt_alike : (p : Plan) (known : ℕ → Option World) (asked : Asked) → IsSound p → Arrives known p → IsUnfelt known p asked (changed p asked).plan → LayAlike p (changed p asked).plan
-unfelt_alike p known (InsertIntervention g cells) sound arrives h = record { rule = refl; start = refl; lists = λ k. alike_each p known (InsertIntervention g cells) k sound arrives h }
-unfelt_alike p known (ChangeIntervention id g cells) sound arrives h = record { rule = refl; start = refl; lists = λ k. alike_each p known (ChangeIntervention id g cells) k sound arrives h }
-unfelt_alike p known (RemoveIntervention id) sound arrives h = record { rule = refl; start = refl; lists = λ k. alike_each p known (RemoveIntervention id) k sound arrives h }
+pub unfelt_alike : (p : Plan) (known : Mark → Option World) (asked : Asked) → IsSound p → Arrives known p
+    → IsUnfelt known p asked (changed p asked).plan → LayAlike p (changed p asked).plan
+unfelt_alike p known (InsertIntervention branch g cells) sound arrives h =
+    record {
+      rule = refl;
+      start = refl;
+      branches = refl;
+      lists = λ b k late.
+          alike_each p known (InsertIntervention branch g cells) (mark_at b k) sound arrives h;
+    }
+unfelt_alike p known (ChangeIntervention id g cells) sound arrives h =
+    record {
+      rule = refl;
+      start = refl;
+      branches = refl;
+      lists = λ b k late.
+          alike_each p known (ChangeIntervention id g cells) (mark_at b k) sound arrives h;
+    }
+unfelt_alike p known (RemoveIntervention id) sound arrives h =
+    record {
+      rule = refl;
+      start = refl;
+      branches = refl;
+      lists = λ b k late.
+          alike_each p known (RemoveIntervention id) (mark_at b k) sound arrives h;
+    }
 unfelt_alike p known (SetCells cells) sound arrives h = absurd h
 unfelt_alike p known (ReplaceStart start) sound arrives h = absurd h
 unfelt_alike p known (ReplaceRule rule) sound arrives h = absurd h
-unfelt_alike p known (AddBookmark g view) sound arrives h = absurd h
+unfelt_alike p known (AddBookmark branch g view) sound arrives h = absurd h
 unfelt_alike p known (MoveBookmark id g) sound arrives h = absurd h
 unfelt_alike p known (RemoveBookmark id) sound arrives h = absurd h
+unfelt_alike p known (AddBranch parent g) sound arrives h = absurd h
+unfelt_alike p known (RemoveBranch n) sound arrives h = absurd h

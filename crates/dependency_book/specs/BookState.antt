@@ -9,13 +9,15 @@ use Rattle.revision_jobs.specs.declared.entries.Entries.{Entries}
 use Rattle.revision_jobs.specs.Value.{Value, pattern, text}
 use Rattle.dependency_book.specs.declared.row.RowState.{RowState}
 use Rattle.dependency_book.specs.declared.row.RowState.TheVariants.{Known}
+use Rattle.dependency_book.specs.declared.mark.Mark.{Mark}
 use Rattle.dependency_book.specs.declared.need.Need.{Need}
 use Rattle.dependency_book.specs.declared.need.Need.TheVariants.{Step, View}
+use Rattle.dependency_book.specs.Marks.{is_start, mark_at}
 use Rattle.dependency_book.specs.RowState.{known, is_known, is_empty, job_of, state_map}
 use Rattle.dependency_book.specs.Rows.{ArrivalRow, TextRow, state_at, mark_rank, bookmark_rank}
 
 -- the table of entries that its jobs are of, the document, how many numbers of jobs were given,
--- a row for each of the document's marks above 0, and a row for each of its bookmarks
+-- a row for each of the document's marks but the start, and a row for each of its bookmarks
 pub record BookState : Type 0 where
   pub table : Entries
   pub plan : Plan
@@ -33,17 +35,18 @@ opened table revision = record {
   texts = [];
 }
 
--- what stands at generation g; what arrives at 0 is the start
-abbrev pub arrival_row : BookState → ℕ → RowState World
-arrival_row d g = if g == 0 then Known d.plan.start else state_at mark_rank g d.arrivals
+-- what stands at a mark; at generation 0 of branch 0 the start arrives
+abbrev pub arrival_row : BookState → Mark → RowState World
+arrival_row d m =
+    if is_start m then Known d.plan.start else state_at mark_rank (mark_rank m) d.arrivals
 
 -- what stands for the bookmark of this id
 abbrev pub text_row : BookState → ℕ → RowState (List ℕ)
 text_row d id = state_at bookmark_rank id d.texts
 
--- the world that arrives at generation g, if it is known
-abbrev pub arrival_known : BookState → ℕ → Option World
-arrival_known d g = known (arrival_row d g)
+-- the world that arrives at a mark, if it is known
+abbrev pub arrival_known : BookState → Mark → Option World
+arrival_known d m = known (arrival_row d m)
 
 -- the text of the bookmark of this id, if it is known
 abbrev pub text_known : BookState → ℕ → Option (List ℕ)
@@ -51,7 +54,7 @@ text_known d id = known (text_row d id)
 
 -- what stands in the row that a need names
 abbrev pub row_of : BookState → Need → RowState Value
-row_of d (Step mark) = state_map pattern (arrival_row d mark)
+row_of d (Step branch mark) = state_map pattern (arrival_row d (mark_at branch mark))
 row_of d (View id) = state_map text (text_row d id)
 
 -- the job that is out for it, if one is

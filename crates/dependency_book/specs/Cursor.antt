@@ -13,7 +13,7 @@ start = record { views = 0; steps = 0 }
 -- place a step can be made
 pub record HasPassed (d : BookState) (places : List ℕ) (cursor : Cursor) : Type 0 where
   pub views : NoneBefore (viewable d.arrivals d.texts places) cursor.views
-  pub steps : NoneBefore (steppable d.arrivals) cursor.steps
+  pub steps : NoneBefore (steppable d.plan.branches d.arrivals) cursor.steps
 
 -- a book holds its rows with these places, and has passed the rows before a cursor
 pub record IsHeldWith (d : BookState) (places : List ℕ) (cursor : Cursor) : Type 0 where

@@ -2,13 +2,14 @@
 use Rattle.std.specs.Prelude.{◌≡◌, ℕ, List, map}
 use Rattle.schedule.specs.declared.document.Bookmark.{Bookmark}
 use Rattle.dependency_book.specs.BookState.{BookState}
+use Rattle.dependency_book.specs.Marks.{bookmark_mark}
 use Rattle.dependency_book.specs.Right.{IsRight}
 use Rattle.dependency_book.specs.Rows.{ArrivalRow, mark_rank, place_in}
 
 -- the places of bookmarks' marks among the rows
 abbrev pub places_of : List ArrivalRow → List Bookmark → List ℕ
 places_of arrivals bookmarks =
-    map (λ (b : Bookmark). place_in mark_rank b.generation arrivals) bookmarks
+    map (λ (b : Bookmark). place_in mark_rank (mark_rank (bookmark_mark b)) arrivals) bookmarks
 
 -- the book is right, and the places are those of the bookmarks' marks
 pub record IsHeld (d : BookState) (found : List ℕ) : Type 0 where

@@ -12,12 +12,13 @@ use Rattle.dependency_book.specs.declared.filled.Filled.{Filled}
 use Rattle.dependency_book.specs.declared.filled.Filled.TheVariants.{Row, Released, NotExpected}
 use Rattle.dependency_book.specs.declared.row.RowState.{RowState}
 use Rattle.dependency_book.specs.declared.row.RowState.TheVariants.{Empty, Expected, Known}
+use Rattle.dependency_book.specs.declared.mark.Mark.{Mark}
 use Rattle.dependency_book.specs.declared.need.Need.{Need}
 use Rattle.dependency_book.specs.declared.need.Need.TheVariants.{Step, View}
 use Rattle.dependency_book.specs.Entered.{IsEntryOf}
 use Rattle.dependency_book.specs.RowState.{job_of, has_number}
 use Rattle.dependency_book.specs.BookState.{BookState, NothingOut, expected, wanting_of}
-use Rattle.dependency_book.specs.Marks.{is_mark}
+use Rattle.dependency_book.specs.Marks.{is_mark, is_start}
 use Rattle.dependency_book.specs.Needs.{IsNext}
 use Rattle.dependency_book.specs.Rows.{keys}
 
@@ -25,11 +26,15 @@ use Rattle.dependency_book.specs.Rows.{keys}
 abbrev pub result_of : Job → Result Value EvolveFault → JobResult
 result_of job outcome = record { job = job; outcome = outcome }
 
+-- the step to a mark
+abbrev pub step_to : Mark → Need
+step_to m = Step m.branch m.generation
+
 -- whether two needs are one
 abbrev pub is_need : Need → Need → Bool
-is_need (Step m) (Step n) = m == n
-is_need (Step m) (View id) = false
-is_need (View id) (Step m) = false
+is_need (Step b m) (Step c n) = b == c && m == n
+is_need (Step b m) (View id) = false
+is_need (View id) (Step b m) = false
 is_need (View id) (View other) = id == other
 
 -- whether a job that is out is this one: its number, at its place
@@ -67,17 +72,18 @@ pub record IsNextJob (d : BookState) (need : Need) (job : Job) : Type 0 where
 abbrev pub IsExpected : BookState → Job → Type 0
 IsExpected d job = (need : Need) × (is_job job (expected d need) ≡ true)
 
--- the row of a step expects the job, that of a mark of the document above 0, and the step has no room
--- at some limit
+-- the row of a step expects the job, that of a mark of the document but the start, and the step has
+-- no room at some limit
 pub record StepExpects (d : BookState) (job : Job) : Type 0 where
-  pub mark : ℕ
-  pub above : 0 < mark
+  pub mark : Mark
+  pub above : is_start mark ≡ false
   pub noted : is_mark d.plan mark ≡ true
-  pub row : is_job job (expected d (Step mark)) ≡ true
+  pub row : is_job job (expected d (step_to mark)) ≡ true
   pub spent : (limit : ℕ) × HasNoRoom limit (entry_of job.place)
 
--- what came of an answer: a row was filled, and no more rows are empty; or it expects nothing any more because the job gave up,
--- for want of room if it is a step's; or no row expects the job, and nothing changes
+-- what came of an answer: a row was filled, and no more rows are empty; or it expects nothing any
+-- more because the job gave up, for want of room if it is a step's; or no row expects the job, and
+-- nothing changes
 abbrev pub IsFilled : BookState → BookState → JobResult → Filled → Type 0
 IsFilled old new answer Row =
     IsExpected old answer.job × IsOk answer.outcome × (wanting_of new ≤ wanting_of old)

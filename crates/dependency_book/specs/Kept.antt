@@ -1,78 +1,97 @@
 -- What an edit keeps of what is known.
-use Rattle.std.specs.Prelude.{◌≡◌, ℕ, Bool, true, false, not, ◌&&◌, nat_lt, nat_le, Option, None, Some, if◌then◌else◌, ◌==◌}
+use Rattle.std.specs.Prelude.{◌≡◌, ℕ, Bool, true, false, not, ◌&&◌, nat_lt, List, Option, None, Some, if◌then◌else◌, ◌==◌}
 use Rattle.worlds.specs.World.{World}
 use Rattle.schedule.specs.declared.document.Bookmark.{Bookmark}
+use Rattle.schedule.specs.declared.branch.Branch.{Branch}
+use Rattle.schedule.specs.History.{is_felt}
 use Rattle.schedule.specs.Plan.{Plan}
-use Rattle.schedule.specs.Asked.{Asked, InsertIntervention, ChangeIntervention, RemoveIntervention, SetCells, ReplaceStart, ReplaceRule, AddBookmark, MoveBookmark, RemoveBookmark}
+use Rattle.schedule.specs.Asked.{Asked, InsertIntervention, ChangeIntervention, RemoveIntervention, SetCells, ReplaceStart, ReplaceRule, AddBookmark, MoveBookmark, RemoveBookmark, AddBranch, RemoveBranch}
 use Rattle.dependency_book.specs.declared.row.RowState.{RowState}
 use Rattle.dependency_book.specs.declared.row.RowState.TheVariants.{Empty, Known}
 use Rattle.dependency_book.specs.declared.mark.Mark.{Mark}
-use Rattle.dependency_book.specs.Marks.{is_mark}
+use Rattle.dependency_book.specs.Marks.{bookmark_mark, is_mark, is_start}
 use Rattle.dependency_book.specs.BookState.{BookState, arrival_row, arrival_known, text_row, bookmark_in}
 use Rattle.dependency_book.specs.Felt.{IsFelt}
 
--- whether an edit that is felt from there keeps what arrives at generation g
-abbrev pub keeps_arrival : Option ℕ → ℕ → Bool
-keeps_arrival None g = true
-keeps_arrival (Some from) g = nat_le g from
+-- whether an edit that is felt from a mark on keeps what arrives at another, where these are the
+-- branches
+abbrev pub keeps_arrival : List Branch → Option Mark → Mark → Bool
+keeps_arrival branches None m = true
+keeps_arrival branches (Some from) m =
+    not (is_felt branches m.branch m.branch m.generation from.branch from.generation)
 
--- whether it leaves what leaves generation g
-abbrev pub leaves_after : Option ℕ → ℕ → Bool
-leaves_after None g = true
-leaves_after (Some from) g = nat_lt g from
+-- whether it leaves what leaves a mark
+abbrev pub leaves_after : List Branch → Option Mark → Mark → Bool
+leaves_after branches None m = true
+leaves_after branches (Some from) m =
+    if from.branch == m.branch then nat_lt m.generation from.generation
+    else keeps_arrival branches (Some from) m
 
 -- whether what stands at a mark stays
-abbrev pub mark_stays : Option ℕ → Mark → Mark → Bool
-mark_stays felt m was = keeps_arrival felt m.generation
+abbrev pub mark_stays : List Branch → Option Mark → Mark → Mark → Bool
+mark_stays branches felt m was = keeps_arrival branches felt m
 
 -- whether what stands for a bookmark stays, which was at another generation if it was moved
-abbrev pub bookmark_stays : Option ℕ → Bookmark → Bookmark → Bool
-bookmark_stays felt b was = leaves_after felt b.generation && (was.generation == b.generation)
+abbrev pub bookmark_stays : List Branch → Option Mark → Bookmark → Bookmark → Bool
+bookmark_stays branches felt b was =
+    leaves_after branches felt (bookmark_mark b) && (was.generation == b.generation)
 
 -- whether an edit removes a bookmark or moves it to another generation
 abbrev pub takes : Asked → Bookmark → Bool
-takes (InsertIntervention generation cells) b = false
+takes (InsertIntervention branch generation cells) b = false
 takes (ChangeIntervention id generation cells) b = false
 takes (RemoveIntervention id) b = false
 takes (SetCells cells) b = false
 takes (ReplaceStart start) b = false
 takes (ReplaceRule rule) b = false
-takes (AddBookmark generation view) b = false
+takes (AddBookmark branch generation view) b = false
 takes (MoveBookmark id generation) b = b.id == id && not (b.generation == generation)
 takes (RemoveBookmark id) b = b.id == id
+takes (AddBranch parent generation) b = false
+takes (RemoveBranch branch) b = false
 
--- whether the text of a bookmark is kept after an edit that is felt from there
-abbrev pub keeps_text : Option ℕ → Asked → Bookmark → Bool
-keeps_text felt asked b = leaves_after felt b.generation && not (takes asked b)
+-- whether the text of a bookmark is kept after an edit that is felt from a mark on
+abbrev pub keeps_text : List Branch → Option Mark → Asked → Bookmark → Bool
+keeps_text branches felt asked b =
+    leaves_after branches felt (bookmark_mark b) && not (takes asked b)
 
 -- what stays of what stands for a bookmark of the document before an edit
-abbrev pub text_kept : {V : Type 0} → Option ℕ → Asked → Option Bookmark → RowState V → RowState V
-text_kept felt asked None state = Empty
-text_kept felt asked (Some b) state = if keeps_text felt asked b then state else Empty
+abbrev pub text_kept : {V : Type 0} →
+    List Branch → Option Mark → Asked → Option Bookmark → RowState V → RowState V
+text_kept branches felt asked None state = Empty
+text_kept branches felt asked (Some b) state =
+    if keeps_text branches felt asked b then state else Empty
 
--- what stays of what stands at generation g above 0, where q is the document after the edit
-abbrev pub arrival_kept : {V : Type 0} → Option ℕ → Plan → ℕ → RowState V → RowState V
-arrival_kept felt q g state = if is_mark q g && keeps_arrival felt g then state else Empty
+-- whether a mark of a document is one of q after an edit too, which keeps what arrives there
+abbrev pub stays_mark : Option Mark → Plan → Plan → Mark → Bool
+stays_mark felt p q m = is_mark p m && (is_mark q m && keeps_arrival q.branches felt m)
 
--- what stands at generation g after an edit that gives the document q: the start at 0, and what the
--- edit keeps above
-abbrev pub arrival_after : Option ℕ → Plan → ℕ → RowState World → RowState World
-arrival_after felt q g state = if g == 0 then Known q.start else arrival_kept felt q g state
+-- what stays of what stands at a mark but the start
+abbrev pub arrival_kept : {V : Type 0} →
+    Option Mark → Plan → Plan → Mark → RowState V → RowState V
+arrival_kept felt p q m state = if stays_mark felt p q m then state else Empty
 
--- what stands after an edit that is felt from there, known or out: at the marks above 0 that it
--- leaves what it keeps of the arrivals, for the bookmarks that it leaves what it keeps of the
--- texts, and nothing else
-pub record KeepsRows (asked : Asked) (felt : Option ℕ) (old new : BookState) : Type 0 where
+-- what stands at a mark after an edit that gives the document q: the start at its own, and what the
+-- edit keeps at others
+abbrev pub arrival_after : Option Mark → Plan → Plan → Mark → RowState World → RowState World
+arrival_after felt p q m state =
+    if is_start m then Known q.start else arrival_kept felt p q m state
+
+-- what stands after an edit that is felt from a mark on, known or out: at the marks that it leaves
+-- what it keeps of the arrivals, for the bookmarks that it leaves what it keeps of the texts, and
+-- nothing else
+pub record KeepsRows (asked : Asked) (felt : Option Mark) (old new : BookState) : Type 0 where
   pub table : new.table ≡ old.table
   pub given : new.given ≡ old.given
-  pub arrivals : (g : ℕ) →
-      arrival_row new g ≡ arrival_after felt new.plan g (arrival_row old g)
+  pub arrivals : (m : Mark) →
+      arrival_row new m ≡ arrival_after felt old.plan new.plan m (arrival_row old m)
   pub texts : (id : ℕ) →
       text_row new id
-      ≡ text_kept felt asked (bookmark_in old.plan.bookmarks id) (text_row old id)
+      ≡ text_kept new.plan.branches felt asked (bookmark_in old.plan.bookmarks id)
+      (text_row old id)
 
 -- so it is from where the edit is felt, by what was known to arrive before it
 pub record KeepsUnfelt (asked : Asked) (old new : BookState) : Type 0 where
-  pub felt : Option ℕ
+  pub felt : Option Mark
   pub is : IsFelt (arrival_known old) old.plan asked new.plan felt
   pub keeps : KeepsRows asked felt old new

@@ -1,5 +1,5 @@
 -- What is put in the row of a need.
-use Rattle.std.specs.Prelude.{◌≡◌, ℕ, ◌+◌, ◌&&◌, nat_lt, Bool, true, false, Result, Ok, Err, if◌then◌else◌, cond, ⊤}
+use Rattle.std.specs.Prelude.{◌≡◌, ℕ, ◌+◌, ◌&&◌, not, Bool, true, false, Result, Ok, Err, if◌then◌else◌, cond, ⊤}
 use Rattle.step_engine.specs.declared.evolved.EvolveFault.{EvolveFault}
 use Rattle.schedule.specs.Ids.{has_id, bookmark_id}
 use Rattle.schedule.specs.Plan.{Plan}
@@ -13,7 +13,7 @@ use Rattle.dependency_book.specs.RowState.{has_number, is_empty}
 use Rattle.dependency_book.specs.BookState.{BookState, row_of, expected, wanting_of}
 use Rattle.dependency_book.specs.declared.need.Need.TheVariants.{Step, View}
 use Rattle.dependency_book.specs.Jobs.{is_need, SameBook}
-use Rattle.dependency_book.specs.Marks.{is_mark}
+use Rattle.dependency_book.specs.Marks.{is_mark, is_start, mark_at}
 use Rattle.dependency_book.specs.Right.{StandsRight}
 
 -- no row expects a job of the number of the one that stands here, if one does
@@ -22,9 +22,11 @@ IsFree d Empty = ⊤
 IsFree d (Expected job) = (other : Need) → has_number job.number (expected d other) ≡ false
 IsFree d (Known found) = ⊤
 
--- whether the row of a need may change: that of a mark above 0 or of a bookmark of the document
+-- whether the row of a need may change: that of a mark but the start or of a bookmark of the
+-- document
 abbrev pub can_change : Plan → Need → Bool
-can_change p (Step mark) = nat_lt 0 mark && is_mark p mark
+can_change p (Step branch mark) =
+    not (is_start (mark_at branch mark)) && is_mark p (mark_at branch mark)
 can_change p (View id) = has_id bookmark_id p.bookmarks id
 
 -- this may stand in the row of a need from now on

@@ -1,32 +1,55 @@
 -- What can be computed next, among rows.
-use Rattle.std.specs.Prelude.{◌≡◌, ℕ, zero, suc, ◌<◌, Bool, true, false, ◌&&◌, ◌||◌, List, Option, None, Some, slice_get, slice_index, slice_index_or, ◌==◌}
+use Rattle.std.specs.Prelude.{◌≡◌, ℕ, zero, suc, ◌<◌, Bool, true, false, ◌&&◌, ◌||◌, List, Option, None, Some, slice_get, slice_index, slice_index_or, ◌==◌, if◌then◌else◌}
 use Rattle.std.specs.Option.{option_map_or}
+use Rattle.schedule.specs.declared.branch.Branch.{Branch}
+use Rattle.schedule.specs.Branches.{element_at}
+use Rattle.schedule.specs.Ids.{branch_id}
+use Rattle.dependency_book.specs.declared.mark.Mark.{Mark}
+use Rattle.dependency_book.specs.Marks.{bookmark_mark, is_start, mark_at}
 use Rattle.dependency_book.specs.RowState.{is_empty, is_known}
-use Rattle.dependency_book.specs.Rows.{ArrivalRow, TextRow}
+use Rattle.dependency_book.specs.Rows.{ArrivalRow, TextRow, mark_rank, state_at}
 
--- whether what arrives at a generation is known, whose mark has its row at this place; the start
--- always is
-abbrev pub place_ready : List ArrivalRow → ℕ → ℕ → Bool
-place_ready arrivals g place =
-    g == 0 || option_map_or (λ (r : ArrivalRow). is_known r.state) (slice_get arrivals place) false
+-- whether what arrives at a mark is known, which has its row at this place; the start always is
+abbrev pub place_ready : List ArrivalRow → Mark → ℕ → Bool
+place_ready arrivals m place =
+    is_start m
+    || option_map_or (λ (r : ArrivalRow). is_known r.state) (slice_get arrivals place) false
 
--- whether nothing stands for a text where what arrives at its generation is known
+-- whether nothing stands for a text where what arrives at its mark is known
 abbrev pub can_view : List ArrivalRow → TextRow → ℕ → Bool
-can_view arrivals r place = is_empty r.state && place_ready arrivals r.key.generation place
+can_view arrivals r place =
+    is_empty r.state && place_ready arrivals (bookmark_mark r.key) place
 
 -- whether the text at a place can be viewed, whose mark's place is among these
 abbrev pub viewable : List ArrivalRow → List TextRow → List ℕ → ℕ → TextRow → Bool
 viewable arrivals texts places k x =
     can_view arrivals (slice_index_or texts k x) (slice_index places k)
 
--- whether what arrives before the row at a place is known; before the first one that is the start
-abbrev pub known_before : List ArrivalRow → ℕ → ArrivalRow → Bool
-known_before rows zero x = true
-known_before rows (suc k) x = is_known (slice_index_or rows k x).state
+-- the mark of the row before a place; before the first one that is the start
+abbrev pub row_before : List ArrivalRow → ℕ → ArrivalRow → Mark
+row_before rows zero x = mark_at 0 0
+row_before rows (suc k) x = (slice_index_or rows k x).key
 
--- whether nothing stands in the row at a place where what arrives before it is known
-abbrev pub steppable : List ArrivalRow → ℕ → ArrivalRow → Bool
-steppable rows k x = known_before rows k x && is_empty (slice_index_or rows k x).state
+-- the mark before a mark of a branch, which is listed or not: where the branch begins, that of its
+-- parent there, and else another
+abbrev pub before_in : Option Branch → Mark → Mark → Mark
+before_in None m other = other
+before_in (Some x) m other = if x.fork == m.generation then mark_at x.parent x.fork else other
+
+-- the mark before that of the row at a place
+abbrev pub before_row : List Branch → List ArrivalRow → ℕ → ArrivalRow → Mark
+before_row branches rows k x =
+    let m = (slice_index_or rows k x).key in
+    before_in (element_at branch_id branches m.branch) m (row_before rows k x)
+
+-- whether what arrives at a mark is known by its row; the start always is
+abbrev pub is_ready : List ArrivalRow → Mark → Bool
+is_ready rows m = is_start m || is_known (state_at mark_rank (mark_rank m) rows)
+
+-- whether nothing stands in the row at a place where what arrives at the mark before is known
+abbrev pub steppable : List Branch → List ArrivalRow → ℕ → ArrivalRow → Bool
+steppable branches rows k x =
+    is_empty (slice_index_or rows k x).state && is_ready rows (before_row branches rows k x)
 
 -- no place before this one passes a test, which is told what to take for a row that isn't there
 abbrev pub NoneBefore : {X : Type 0} → (ℕ → X → Bool) → ℕ → Type 0

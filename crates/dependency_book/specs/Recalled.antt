@@ -1,37 +1,40 @@
 -- What is entered without a job, because it was computed before.
-use Rattle.std.specs.Prelude.{◌≡◌, ℕ, List, [], ◌∷◌, true}
+use Rattle.std.specs.Prelude.{◌≡◌, List, [], ◌∷◌, true}
 use Rattle.revision_jobs.specs.declared.entry.Step.{Step as Stepping}
 use Rattle.revision_jobs.specs.Answer.{JobResult}
-use Rattle.revision_jobs.specs.Value.{Value, pattern, world_after}
+use Rattle.revision_jobs.specs.Value.{pattern, world_after}
 use Rattle.schedule.specs.Asked.{Asked}
+use Rattle.dependency_book.specs.declared.mark.Mark.{Mark}
 use Rattle.dependency_book.specs.declared.need.Need.{Need}
-use Rattle.dependency_book.specs.declared.need.Need.TheVariants.{Step}
 use Rattle.dependency_book.specs.declared.row.RowState.TheVariants.{Empty, Known}
 use Rattle.dependency_book.specs.BookState.{BookState, row_of}
 use Rattle.dependency_book.specs.Entered.{StepsTo}
-use Rattle.dependency_book.specs.Jobs.{SameBook, answered}
+use Rattle.dependency_book.specs.Jobs.{SameBook, answered, step_to}
 use Rattle.dependency_book.specs.Kept.{KeepsUnfelt}
 use Rattle.dependency_book.specs.Puts.{Puts, can_change}
 
--- what comes of a step is entered for a mark of the document above 0: nothing stood in its row, and
--- the step is what is to be computed for that row
-pub record Enters (mark : ℕ) (s : Stepping) (d e : BookState) : Type 0 where
-  pub there : can_change d.plan (Step mark) ≡ true
-  pub empty : row_of d (Step mark) ≡ Empty
+-- what comes of a step is entered for a mark of the document but the start: nothing stood in its
+-- row, and the step is what is to be computed for that row
+pub record Enters (mark : Mark) (s : Stepping) (d e : BookState) : Type 0 where
+  pub there : can_change d.plan (step_to mark) ≡ true
+  pub empty : row_of d (step_to mark) ≡ Empty
   pub own : StepsTo d mark s
-  pub puts : Puts (Step mark) (Known (pattern (world_after s))) d e
+  pub puts : Puts (step_to mark) (Known (pattern (world_after s))) d e
 
 -- what comes of these steps is entered for their marks, one after the other
-abbrev pub Entered : List (ℕ × Stepping) → BookState → BookState → Type 0
+abbrev pub Entered : List (Mark × Stepping) → BookState → BookState → Type 0
 Entered [] d e = e ≡ d
 Entered (r ∷ rs) d f = (e : BookState) × Enters r.0 r.1 d e × Entered rs e f
 
 -- what comes of some steps is entered
 abbrev pub Recalls : BookState → BookState → Type 0
-Recalls d e = (entered : List (ℕ × Stepping)) × Entered entered d e
+Recalls d e = (entered : List (Mark × Stepping)) × Entered entered d e
 
--- what an edit keeps stands, and what is known by steps that were computed before was entered
+-- what an edit keeps stands, and what is known by steps that were computed before was entered; the
+-- table is the same, and no number of a job was given
 pub record Revises (asked : Asked) (old new : BookState) : Type 0 where
+  pub table : new.table ≡ old.table
+  pub given : new.given ≡ old.given
   pub kept : BookState
   pub keeps : KeepsUnfelt asked old kept
   pub recalls : Recalls kept new

@@ -20,20 +20,23 @@ kept_at rank stays n (r ∷ rs) =
 
 -- the row of a key: what stood in the old row of its rank, if that stays
 abbrev pub remade_row : {K V : Type 0} →
-    (K → ℕ) → (Option ℕ → K → K → Bool) → Option ℕ → List (Row K V) → K → Row K V
-remade_row rank stays felt old key = record {
+    (K → ℕ) → (K → K → Bool) → List (Row K V) → K → Row K V
+remade_row rank stays old key = record {
   key = key;
-  state = kept_at rank (stays felt key) (rank key) old;
+  state = kept_at rank (stays key) (rank key) old;
 }
 
--- the rows of a document's marks and bookmarks, made of old ones after an edit that is felt from
--- here, with the places of the bookmarks' marks
+-- the rows of a document's marks and bookmarks, made of old ones after an edit that is felt from a
+-- mark on, with the places of the bookmarks' marks
 pub record AreRemade (p : Plan) (arrivals : List ArrivalRow) (texts : List TextRow)
-    (felt : Option ℕ) (rows : Rows) : Type 0 where
+    (felt : Option Mark) (rows : Rows) : Type 0 where
   pub sound : IsSound p
   pub marks : List Mark
   pub are : AreMarksOf p marks
-  pub arrivals_are : rows.arrivals.items ≡ map (remade_row mark_rank mark_stays felt arrivals) marks
+  pub arrivals_are :
+      rows.arrivals.items
+      ≡ map (remade_row mark_rank (mark_stays p.branches felt) arrivals) marks
   pub texts_are :
-      rows.texts.items ≡ map (remade_row bookmark_rank bookmark_stays felt texts) p.bookmarks
+      rows.texts.items
+      ≡ map (remade_row bookmark_rank (bookmark_stays p.branches felt) texts) p.bookmarks
   pub places_are : rows.places.items ≡ places_of rows.arrivals.items p.bookmarks

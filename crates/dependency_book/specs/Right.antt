@@ -23,7 +23,7 @@ text_wanted p (Some b) = Some (text (scratch p b))
 
 -- what starting over gives for the row of a need: the pattern that arrives, or the text
 abbrev pub wanted : Plan → Need → Option Value
-wanted p (Step mark) = Some (pattern (arrival p mark))
+wanted p (Step branch mark) = Some (pattern (arrival p branch mark))
 wanted p (View id) = text_wanted p (bookmark_in p.bookmarks id)
 
 -- a job of the table, of whose numbers so many were given, gives what a document wants in the row
@@ -48,9 +48,9 @@ GivesWanted d need job = Gives d.table d.given d.plan need job
 abbrev pub StandsRight : BookState → Need → RowState Value → Type 0
 StandsRight d need state = Stands d.table d.given d.plan need state
 
--- the document keeps its limits, and the rows are those of its marks above 0 and of its bookmarks,
--- in order; each known arrival is what arrives, each known text is what starting over gives, and
--- each job that is out gives that; no two rows expect jobs of one number
+-- the document keeps its limits, and the rows are those of its marks but the start and of its
+-- bookmarks, in order; each known arrival is what arrives, each known text is what starting over
+-- gives, and each job that is out gives that; no two rows expect jobs of one number
 pub record IsRight (d : BookState) : Type 0 where
   pub sound : IsSound d.plan
   pub marks : AreMarksOf d.plan (keys d.arrivals)

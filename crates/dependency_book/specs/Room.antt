@@ -1,14 +1,14 @@
 -- Room for the rows of a document.
-use Rattle.std.specs.Prelude.{◌≡◌, ℕ, ◌≤◌, ◌+◌, [], vec_capacity}
+use Rattle.std.specs.Prelude.{◌≡◌, ℕ, ◌≤◌, ◌+◌, ◌*◌, [], vec_capacity}
 use Rattle.dependency_book.specs.declared.room.Room.{Room}
 
--- it is empty, and has places for so many interventions and bookmarks
-pub record HasRoom (room : Room) (interventions bookmarks : ℕ) : Type 0 where
+-- it is empty, and has places for so many interventions, bookmarks and branches
+pub record HasRoom (room : Room) (interventions bookmarks branches : ℕ) : Type 0 where
   pub no_marks : room.marks.items ≡ []
   pub no_arrivals : room.rows.arrivals.items ≡ []
   pub no_texts : room.rows.texts.items ≡ []
   pub no_places : room.rows.places.items ≡ []
-  pub marks : interventions + bookmarks ≤ vec_capacity room.marks
-  pub arrivals : interventions + bookmarks ≤ vec_capacity room.rows.arrivals
+  pub marks : interventions + bookmarks + 2 * branches ≤ vec_capacity room.marks
+  pub arrivals : interventions + bookmarks + 2 * branches ≤ vec_capacity room.rows.arrivals
   pub texts : bookmarks ≤ vec_capacity room.rows.texts
   pub places : bookmarks ≤ vec_capacity room.rows.places

@@ -12,8 +12,9 @@ ghost use Rattle.dependency_book.specs.Shown.{Shows};
 ghost use Rattle.dependency_book.specs.declared.row.RowState.TheVariants.{Empty};
 
 use crate::cursor::Cursor;
+use crate::mark::Mark;
 use crate::marks::ArrivalRow;
-use crate::need::{Need, first_step, first_view, is_awaited};
+use crate::need::{Need, first_step, first_view};
 use crate::row::place_in;
 use crate::shown::Shown;
 use crate::texts::{TextRow, pending_count};
@@ -94,7 +95,7 @@ impl<'e> Book<'e> {
     pub fn shown(&self, id: u64) -> Shown<'_>
         ensures { Shows self.now id result }
     {
-        match self.texts.get(place_in(&self.texts, id)) {
+        match self.texts.get(place_in(&self.texts, u128::from(id))) {
             Some(row) if row.key.id == id => match row.state.known() {
                 Some(text) => Shown::Current(text.as_slice()),
                 None => Shown::Pending,
@@ -112,10 +113,10 @@ impl<'e> Book<'e> {
     }
 
     /// What has to be computed next, and no job is out for: the view of the bookmark with the least
-    /// id whose text isn't known where what arrives at its generation is; or else the step to the
-    /// least mark at or below a bookmark at which the arrival isn't known where that at the mark
-    /// before it is. None where every text is known, where only arrivals above every bookmark
-    /// aren't, and where all that is needed waits for jobs that are out.
+    /// id whose text isn't known where what arrives at its mark is; or else the step to the first
+    /// mark, by branch and then by generation, at which the arrival isn't known where that at
+    /// the mark before it is. None where every text is known, and where all that is needed waits
+    /// for jobs that are out.
     pub fn next_need(&mut self) -> Option<Need>
         ensures same { self.new ≡ self.old }
         ensures next { IsNext self.new result }
@@ -125,11 +126,11 @@ impl<'e> Book<'e> {
         if let Some(id) = self.next_view() {
             return Some(Need::View { id });
         }
-        let mark = self.next_step()?;
-        Some(Need::Step { mark })
+        Some(self.next_step()?.step())
     }
 
-    // The least id of the bookmarks that can be viewed. The search goes on where the last one ended.
+    // The least id of the bookmarks that can be viewed. The search goes on where the last one
+    // ended.
     fn next_view(&mut self) -> Option<u64>
         ensures same { self.new ≡ self.old }
         ensures next { IsNextView self.new result }
@@ -146,22 +147,21 @@ impl<'e> Book<'e> {
         }
     }
 
-    // The least mark to which a step can be made. The search goes on where the last one ended.
-    fn next_step(&mut self) -> Option<u64>
+    // The first mark to which a step can be made. The search goes on where the last one ended.
+    fn next_step(&mut self) -> Option<Mark>
         ensures same { self.new ≡ self.old }
         ensures next { IsNextStep self.new result }
         ensures right { IsRight self.new }
     {
-        let Some(place) = first_step(&self.arrivals, self.cursor.steps) else {
-            self.cursor.steps = self.arrivals.len();
-            return None;
-        };
-        self.cursor.steps = place;
-        let mark = self.arrivals[place].key.generation;
-        if is_awaited(self.document.bookmarks(), mark) {
-            Some(mark)
-        } else {
-            None
+        match first_step(&self.document, &self.arrivals, self.cursor.steps) {
+            Some(place) => {
+                self.cursor.steps = place;
+                Some(self.arrivals[place].key)
+            }
+            None => {
+                self.cursor.steps = self.arrivals.len();
+                None
+            }
         }
     }
 }

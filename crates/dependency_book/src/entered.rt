@@ -10,8 +10,9 @@ ghost use Rattle.dependency_book.specs.Needs.{IsLedTo, IsNext};
 ghost use Rattle.dependency_book.specs.Right.{IsRight};
 
 use crate::book::Book;
-use crate::need::Need;
-use crate::row::place_in;
+use crate::mark::Mark;
+use crate::need::{Need, before_row};
+use crate::row::{Ranked, place_in};
 use revision_jobs::{Entry, Rendering, Step};
 use schedule::{CellSet, Intervention, Listing, Next, Plane};
 use std::alloc::{AllocError, Global};
@@ -27,42 +28,37 @@ impl Book<'_> {
         ensures workable { IfOk result CanBeWorked }
     {
         match need {
-            Need::Step { mark } => Ok(Entry::Step(self.step_to(*mark)?)),
+            Need::Step { branch, mark } => {
+                Ok(Entry::Step(self.step_to(Mark::at(*branch, *mark))?))
+            }
             Need::View { id } => self.view_of(*id),
         }
     }
 
     /// The step to a mark, from what is known to arrive at the mark before it.
-    pub(crate) fn step_to(&self, mark: u64) -> Result<Step, AllocError>
+    pub(crate) fn step_to(&self, mark: Mark) -> Result<Step, AllocError>
         requires { IsLedTo self.now mark }
         ensures step { IfOk result (StepsTo self.now mark) }
         ensures right { IsRight self.now }
     {
-        let (before, from) = self.before(mark);
+        let before = self.before(mark);
         let interventions = self.document.interventions();
         Ok(Step {
             rule: Arc::try_clone(self.document.rule())?,
-            from: Arc::try_clone(from)?,
+            from: Arc::try_clone(self.arrived(before))?,
             cells: cells_at(self.alloc, interventions, before)?,
-            gens: mark - before,
+            gens: mark.generation - before.generation,
         })
     }
 
-    // The mark before a mark, and what arrives there.
-    fn before(&self, mark: u64) -> (u64, &Arc<Plane>)
+    // The mark before a mark.
+    fn before(&self, mark: Mark) -> Mark
         requires { IsLedTo self.now mark }
-        ensures mark { ComesBefore self.now.plan result.0 mark }
-        ensures known { arrival_known self.now result.0 ≡ Some (arc_value result.1.now) }
+        ensures mark { ComesBefore self.now.plan result mark }
+        ensures known { IsSome (arrival_known self.now result) }
     {
-        let place = place_in(&self.arrivals, mark);
-        if place == 0 {
-            return (0, self.document.start());
-        }
-        let row = &self.arrivals[place - 1];
-        match row.state.known() {
-            Some(arrival) => (row.key.generation, arrival.plane()),
-            None => unreachable!("what arrives at the mark before is known"),
-        }
+        let place = place_in(&self.arrivals, mark.rank());
+        before_row(&self.document, &self.arrivals, place)
     }
 
     // The view of a bookmark.
@@ -71,46 +67,48 @@ impl Book<'_> {
         ensures entry { IfOk result (λ entry. IsEntryOf self.now (Need.View id) entry) }
         ensures right { IsRight self.now }
     {
-        let bookmark = self.texts[place_in(&self.texts, id)].key;
+        let bookmark = self.texts[place_in(&self.texts, u128::from(id))].key;
+        let mark = Mark::of(&bookmark);
         let rule = self.document.rule();
         let interventions = self.document.interventions();
         Ok(Entry::View(Rendering {
             view: bookmark.view,
-            from: Arc::try_clone(self.arrived(bookmark.generation))?,
-            cells: cells_at(self.alloc, interventions, bookmark.generation)?,
+            from: Arc::try_clone(self.arrived(mark))?,
+            cells: cells_at(self.alloc, interventions, mark)?,
             name: copied(self.alloc, rule.name())?,
             states: rule.states(),
             generation: bookmark.generation,
         }))
     }
 
-    // What arrives at a generation, where that is known.
-    fn arrived(&self, generation: u64) -> &Arc<Plane>
-        requires { IsSome (arrival_known self.now generation) }
-        ensures { arrival_known self.now generation ≡ Some (arc_value result.now) }
+    // What arrives at a mark, where that is known.
+    fn arrived(&self, mark: Mark) -> &Arc<Plane>
+        requires { IsSome (arrival_known self.now mark) }
+        ensures { arrival_known self.now mark ≡ Some (arc_value result.now) }
     {
-        if generation == 0 {
+        if mark.is_start() {
             return self.document.start();
         }
-        let row = &self.arrivals[place_in(&self.arrivals, generation)];
+        let row = &self.arrivals[place_in(&self.arrivals, mark.rank())];
         match row.state.known() {
             Some(arrival) => arrival.plane(),
-            None => unreachable!("what arrives at the generation is known"),
+            None => unreachable!("what arrives at the mark is known"),
         }
     }
 }
 
-/// The cells that the interventions of a generation set, by rising id.
+/// The cells that the interventions of a mark set, by rising id.
 pub(crate) fn cells_at(
     alloc: Global,
     interventions: &[Intervention],
-    generation: u64,
+    mark: Mark,
 ) -> Result<Listing<CellSet>, AllocError>
-    ensures { IfOk result (λ cells. cells ≡ cells_at interventions.now generation) }
+    ensures { IfOk result (λ cells.
+        cells ≡ cells_at interventions.now mark.branch mark.generation) }
 {
     let mut cells = Vec::new(alloc);
     for intervention in interventions {
-        if intervention.acts_at(generation) {
+        if intervention.acts_at(mark.branch, mark.generation) {
             cells.extend_from_slice(intervention.cells.as_slice())?;
         }
     }

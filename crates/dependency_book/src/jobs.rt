@@ -7,8 +7,9 @@ ghost use Rattle.revision_jobs.specs.Value.{pattern, text};
 ghost use Rattle.dependency_book.specs.declared.row.RowState.TheVariants.{Empty, Known};
 ghost use Rattle.dependency_book.specs.RowState.{state_map};
 ghost use Rattle.dependency_book.specs.Jobs.{issued, answered, cancelled, given_by, result_of};
-ghost use Rattle.dependency_book.specs.Jobs.{IsAnyOut, IsFilled, IsFirstOut, IsForgotten, IsNextJob};
-ghost use Rattle.dependency_book.specs.Jobs.{Expects, NoneExpects, SameBook, SameDocument};
+ghost use Rattle.dependency_book.specs.Jobs.{IsAnyOut, IsFilled, IsFirstOut, IsForgotten};
+ghost use Rattle.dependency_book.specs.Jobs.{Expects, IsNextJob, NoneExpects, SameBook};
+ghost use Rattle.dependency_book.specs.Jobs.{SameDocument, step_to};
 ghost use Rattle.dependency_book.specs.BookState.{row_of, wanting_of};
 ghost use Rattle.dependency_book.specs.Recalled.{Fills};
 ghost use Rattle.dependency_book.specs.Right.{IsRight};
@@ -17,8 +18,9 @@ ghost use Rattle.dependency_book.specs.Puts.{CanBePut, Puts, can_change, filled_
 use crate::arrival::Arrival;
 use crate::book::Book;
 use crate::filled::Filled;
+use crate::mark::Mark;
 use crate::need::Need;
-use crate::row::{RowState, any_out, least_out, lesser, put, raise_all, row_for};
+use crate::row::{Ranked, RowState, any_out, least_out, lesser, put, raise_all, row_for};
 use crate::text::Text;
 use revision_jobs::{Answer, Job, Outcome, Place};
 use schedule::{Listing, Plane};
@@ -45,7 +47,9 @@ impl Book<'_> {
     {
         self.given += 1;
         match need {
-            Need::Step { mark } => self.put_arrival(*mark, RowState::Expected(job)),
+            Need::Step { branch, mark } => {
+                self.put_arrival(Mark::at(*branch, *mark), RowState::Expected(job));
+            }
             Need::View { id } => self.put_text(*id, RowState::Expected(job)),
         }
     }
@@ -136,8 +140,7 @@ impl Book<'_> {
         ensures right { IsRight self.now }
     {
         if let Some((mark, place)) = row_for(&self.arrivals, number) {
-            let mark = mark.generation;
-            return Some((Need::Step { mark }, place));
+            return Some((mark.step(), place));
         }
         let (bookmark, place) = row_for(&self.texts, number)?;
         Some((Need::View { id: bookmark.id }, place))
@@ -165,10 +168,10 @@ impl Book<'_> {
         requires { CanBePut self.old need (Known (pattern (arc_value plane))) }
         ensures { Puts need (Known (pattern (arc_value plane))) self.old self.new }
     {
-        let Need::Step { mark } = need else {
+        let Need::Step { branch, mark } = need else {
             unreachable!("a view has a text")
         };
-        self.put_arrival(mark, RowState::Known(Arrival::of(plane)));
+        self.put_arrival(Mark::at(branch, mark), RowState::Known(Arrival::of(plane)));
     }
 
     // Puts a text in the row of a need, which is a view.
@@ -188,18 +191,21 @@ impl Book<'_> {
         ensures { Puts need Empty self.old self.new }
     {
         match need {
-            Need::Step { mark } => self.put_arrival(mark, RowState::Empty),
+            Need::Step { branch, mark } => {
+                self.put_arrival(Mark::at(branch, mark), RowState::Empty);
+            }
             Need::View { id } => self.put_text(id, RowState::Empty),
         }
     }
 
-    /// Puts what is known, or out, in the row of a mark. Only a job that is out makes nothing ready.
-    pub(crate) fn put_arrival(&mut self, mark: u64, state: RowState<Arrival>)
-        requires { CanBePut self.old (Need.Step mark) (state_map pattern state) }
-        ensures { Puts (Need.Step mark) (state_map pattern state) self.old self.new }
+    /// Puts what is known, or out, in the row of a mark. Only a job that is out makes nothing
+    /// ready.
+    pub(crate) fn put_arrival(&mut self, mark: Mark, state: RowState<Arrival>)
+        requires { CanBePut self.old (step_to mark) (state_map pattern state) }
+        ensures { Puts (step_to mark) (state_map pattern state) self.old self.new }
     {
         self.cursor = self.cursor.if_stays(state.is_expected());
-        put(&mut self.arrivals, mark, state);
+        put(&mut self.arrivals, mark.rank(), state);
     }
 
     // Puts what is known, or out, in the row of a bookmark. Neither makes another row ready.
@@ -208,6 +214,6 @@ impl Book<'_> {
         ensures { Puts (Need.View id) (state_map text state) self.old self.new }
     {
         self.cursor = self.cursor.if_stays(!state.is_empty());
-        put(&mut self.texts, id, state);
+        put(&mut self.texts, u128::from(id), state);
     }
 }

@@ -1,29 +1,30 @@
 //! What a book needs.
 ghost use Rattle.std.specs.Prelude.{◌≡◌, ◌<◌, length};
-ghost use Rattle.dependency_book.specs.Needs.{is_awaited};
-ghost use Rattle.dependency_book.specs.Ready.{IsFirst, NoneBefore};
-ghost use Rattle.dependency_book.specs.Ready.{can_view, place_ready, steppable, viewable};
-ghost use Rattle.dependency_book.specs.Rows.{ArrivalRow};
+ghost use Rattle.dependency_book.specs.Ready.{IsFirst, NoneBefore, before_row, can_view};
+ghost use Rattle.dependency_book.specs.Ready.{is_ready, place_ready, steppable, viewable};
+ghost use Rattle.dependency_book.specs.Rows.{ArrivalRow, IsRanked, mark_rank};
 
+use crate::mark::Mark;
 use crate::marks::ArrivalRow;
+use crate::row::{Ranked, place_in};
 use crate::texts::TextRow;
-use schedule::Bookmark;
+use schedule::Document;
 
 /// What a book wants computed.
 #[derive(Clone, Copy, Debug, PartialEq, Eq)]
 pub enum Need {
-    /// The pattern that arrives at this mark, from what is known to arrive at the mark before it.
-    Step { mark: u64 },
-    /// The text of the bookmark of this id, from what is known to arrive at its generation.
+    /// The pattern that arrives at the mark at this generation of a branch, from what is known to
+    /// arrive at the mark before it.
+    Step { branch: u64, mark: u64 },
+    /// The text of the bookmark of this id, from what is known to arrive at its mark.
     View { id: u64 },
 }
 
-// Whether what arrives at a generation is known, whose mark has its row at this place; the start
-// always is.
-fn is_ready(arrivals: &[ArrivalRow], generation: u64, place: usize) -> bool
-    ensures { result ≡ place_ready arrivals.now generation place }
+// Whether what arrives at a mark is known, whose row is at this place; the start always is.
+fn is_ready_in(arrivals: &[ArrivalRow], mark: Mark, place: usize) -> bool
+    ensures { result ≡ place_ready arrivals.now mark place }
 {
-    if generation == 0 {
+    if mark.is_start() {
         return true;
     }
     match arrivals.get(place) {
@@ -32,15 +33,15 @@ fn is_ready(arrivals: &[ArrivalRow], generation: u64, place: usize) -> bool
     }
 }
 
-// Whether nothing stands for a text where what arrives at its generation is known.
+// Whether nothing stands for a text where what arrives at its mark is known.
 fn can_view(arrivals: &[ArrivalRow], row: &TextRow, place: usize) -> bool
     ensures { result ≡ can_view arrivals.now row.now place }
 {
-    row.state.is_empty() && is_ready(arrivals, row.key.generation, place)
+    row.state.is_empty() && is_ready_in(arrivals, Mark::of(&row.key), place)
 }
 
-/// The place of the first text for which nothing stands where what arrives at its generation is
-/// known. The places are those of the texts' marks among the arrivals. No text before `from` is one.
+/// The place of the first text for which nothing stands where what arrives at its mark is known.
+/// The places are those of the texts' marks among the arrivals. No text before `from` is one.
 pub(crate) fn first_view(
     arrivals: &[ArrivalRow],
     texts: &[TextRow],
@@ -59,36 +60,63 @@ pub(crate) fn first_view(
     None
 }
 
-/// Whether nothing stands in the row at a place where what arrives before it is known.
-pub(crate) fn can_step(arrivals: &[ArrivalRow], place: usize) -> bool
+/// The mark before that of the row at a place: where a branch begins, that of its parent there, and
+/// else that of the row before, or the start before the first.
+pub(crate) fn before_row(document: &Document, arrivals: &[ArrivalRow], place: usize) -> Mark
     requires { place < length arrivals.now }
-    ensures { (x : ArrivalRow) → result ≡ steppable arrivals.now place x }
+    ensures { (x : ArrivalRow) →
+        result ≡ before_row document.now.branches arrivals.now place x }
 {
-    if !arrivals[place].state.is_empty() {
-        return false;
+    let mark = arrivals[place].key;
+    if let Some(branch) = document.branch(mark.branch) {
+        if branch.fork == mark.generation {
+            return Mark::at(branch.parent, branch.fork);
+        }
     }
-    place == 0 || arrivals[place - 1].state.is_known()
+    if place == 0 {
+        Mark::at(0, 0)
+    } else {
+        arrivals[place - 1].key
+    }
+}
+
+// Whether what arrives at a mark is known; the start always is.
+fn is_ready(arrivals: &[ArrivalRow], mark: Mark) -> bool
+    requires { IsRanked mark_rank arrivals.now }
+    ensures { result ≡ is_ready arrivals.now mark }
+{
+    if mark.is_start() {
+        return true;
+    }
+    let rank = mark.rank();
+    match arrivals.get(place_in(arrivals, rank)) {
+        Some(row) => row.key.rank() == rank && row.state.is_known(),
+        None => false,
+    }
+}
+
+/// Whether nothing stands in the row at a place where what arrives at the mark before is known.
+pub(crate) fn can_step(document: &Document, arrivals: &[ArrivalRow], place: usize) -> bool
+    requires low { place < length arrivals.now }
+    requires ranked { IsRanked mark_rank arrivals.now }
+    ensures { (x : ArrivalRow) →
+        result ≡ steppable document.now.branches arrivals.now place x }
+{
+    arrivals[place].state.is_empty() && is_ready(arrivals, before_row(document, arrivals, place))
 }
 
 /// The place of the first mark at which nothing stands where what arrives at the mark before it is
 /// known. No mark before `from` is one.
-pub(crate) fn first_step(arrivals: &[ArrivalRow], from: usize) -> Option<usize>
-    requires { NoneBefore (steppable arrivals.now) from }
-    ensures { IsFirst (steppable arrivals.now) (length arrivals.now) result }
+pub(crate) fn first_step(document: &Document, arrivals: &[ArrivalRow], from: usize) -> Option<usize>
+    requires ranked { IsRanked mark_rank arrivals.now }
+    requires passed { NoneBefore (steppable document.now.branches arrivals.now) from }
+    ensures { IsFirst (steppable document.now.branches arrivals.now)
+        (length arrivals.now) result }
 {
     for place in from..arrivals.len() {
-        if can_step(arrivals, place) {
+        if can_step(document, arrivals, place) {
             return Some(place);
         }
     }
     None
-}
-
-/// Whether a bookmark is at or above a generation.
-pub(crate) fn is_awaited(bookmarks: &[Bookmark], generation: u64) -> bool
-    ensures { result ≡ is_awaited bookmarks.now generation }
-{
-    bookmarks
-        .iter()
-        .any(|bookmark| generation <= bookmark.generation)
 }

@@ -3,13 +3,14 @@ ghost use Rattle.std.specs.Prelude.{◌≡◌, ◌<◌, length, Ok, IfOk};
 ghost use Rattle.revision_jobs.specs.Answer.{IsRight as IsRightAnswer, outcome_of};
 ghost use Rattle.revision_jobs.specs.Entries.{IsOf};
 ghost use Rattle.dependency_book.specs.BookState.{row_of};
+ghost use Rattle.dependency_book.specs.Jobs.{step_to};
 ghost use Rattle.dependency_book.specs.Needs.{IsLedTo};
 ghost use Rattle.dependency_book.specs.Recalled.{Recalls};
-ghost use Rattle.dependency_book.specs.declared.need.Need.TheVariants.{Step};
 ghost use Rattle.dependency_book.specs.declared.row.RowState.TheVariants.{Empty};
 
 use crate::arrival::Arrival;
 use crate::book::Book;
+use crate::mark::Mark;
 use crate::need::can_step;
 use crate::row::RowState;
 use revision_jobs::{Entry, Job, Outcome};
@@ -31,7 +32,7 @@ impl Book<'_> {
         let _ = self.facts.keep(step, plane);
     }
 
-    /// Enters, from the lowest mark up, what comes of steps that were computed before, where nothing
+    /// Enters, from the first mark on, what comes of steps that were computed before, where nothing
     /// is known and no job is out. Where there is no memory for a look a row stays empty.
     pub(crate) fn recall_all(&mut self)
         ensures { Recalls self.old self.new }
@@ -46,17 +47,17 @@ impl Book<'_> {
         requires { place < length self.old.arrivals }
         ensures { Recalls self.old self.new }
     {
-        if !can_step(&self.arrivals, place) {
+        if !can_step(&self.document, &self.arrivals, place) {
             return;
         }
-        let mark = self.arrivals[place].key.generation;
+        let mark = self.arrivals[place].key;
         self.recall(mark);
     }
 
     // Enters what comes of the step to a mark, if that was computed before.
-    fn recall(&mut self, mark: u64)
+    fn recall(&mut self, mark: Mark)
         requires led { IsLedTo self.old mark }
-        requires empty { row_of self.old (Step mark) ≡ Empty }
+        requires empty { row_of self.old (step_to mark) ≡ Empty }
         ensures { Recalls self.old self.new }
     {
         let Ok(step) = self.step_to(mark) else {

@@ -20,10 +20,11 @@ impl Book<'_> {
     /// touches knows nothing afterwards and expects nothing, and whoever works a job that was out
     /// for it is asked to stop.
     ///
-    /// An edit of interventions keeps what arrives at marks up to the lesser of the generations
-    /// that it names and changes, and the texts of bookmarks below that. An edit of bookmarks keeps
-    /// all but the text of a bookmark that it moves to another generation. One of the start or of
-    /// the rule keeps nothing.
+    /// An edit of interventions of a branch keeps what arrives there at marks up to the lesser of
+    /// the generations that it names and changes, the texts of bookmarks below that, and all of
+    /// every branch whose line back to branch 0 doesn't leave the branch at that generation or
+    /// later. An edit of bookmarks keeps all but the text of a bookmark that it moves to another
+    /// generation, and one of branches keeps all. One of the start or of the rule keeps nothing.
     ///
     /// An edit of interventions that is seen to change no pattern keeps all: at each generation at
     /// which it changes what acts, which are two where an intervention is moved, what arrives is

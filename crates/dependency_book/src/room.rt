@@ -1,5 +1,5 @@
 //! The rows of a document, made anew.
-ghost use Rattle.std.specs.Prelude.{◌≡◌, ◌≤◌, ◌+◌, IfOk, [], length, vec_capacity};
+ghost use Rattle.std.specs.Prelude.{◌≡◌, ◌≤◌, ◌+◌, ◌*◌, IfOk, [], length, vec_capacity};
 ghost use Rattle.dependency_book.specs.Held.{places_of};
 ghost use Rattle.dependency_book.specs.Remade.{AreRemade};
 ghost use Rattle.dependency_book.specs.Room.{HasRoom};
@@ -9,7 +9,7 @@ ghost use Rattle.dependency_book.specs.Rows.{IsRanked, bookmark_rank, mark_rank}
 use crate::mark::Mark;
 use crate::marks::{ArrivalRow, marks_of};
 use crate::remade::remade;
-use crate::row::place_in;
+use crate::row::{Ranked, place_near};
 use crate::texts::TextRow;
 use revision_jobs::Entries;
 use schedule::{Bookmark, Document};
@@ -31,13 +31,15 @@ pub(crate) struct Room {
 }
 
 impl Room {
-    /// Room for a document with at most one more intervention and one more bookmark.
+    /// Room for a document with at most one more intervention, one more bookmark and one more
+    /// branch.
     pub(crate) fn beside(alloc: Global, document: &Document) -> Result<Room, AllocError>
-        ensures { IfOk result (λ room. HasRoom room
-            (length document.now.interventions + 1) (length document.now.bookmarks + 1)) }
+        ensures { IfOk result (λ room. HasRoom room (length document.now.interventions + 1)
+            (length document.now.bookmarks + 1) (length document.now.branches + 1)) }
     {
         let bookmarks = document.bookmarks().len() + 1;
-        let marks = document.interventions().len() + bookmarks + 1;
+        let branches = document.branches().len() + 1;
+        let marks = document.interventions().len() + 1 + bookmarks + 2 * branches;
         Ok(Room {
             marks: Vec::with_capacity(alloc, marks)?,
             rows: Rows {
@@ -48,28 +50,30 @@ impl Room {
         })
     }
 
-    /// The rows of a document: what stood in the old row of the same mark or bookmark where it stays
-    /// after an edit that is first felt at a generation, if it changes any pattern, else nothing.
-    /// Whoever works a job of the table that doesn't stay is asked to stop.
+    /// The rows of a document: what stood in the old row of the same mark or bookmark where it
+    /// stays after an edit that gives the document and is felt from a mark on, if it changes any
+    /// pattern, else nothing. Whoever works a job of the table that doesn't stay is asked to stop.
     pub(crate) fn rows_of(
         self,
         entries: &Entries,
         document: &Document,
         arrivals: Vec<ArrivalRow>,
         texts: Vec<TextRow>,
-        felt: Option<u64>,
+        felt: Option<Mark>,
     ) -> Rows
         requires room { HasRoom self
-            (length document.now.interventions) (length document.now.bookmarks) }
+            (length document.now.interventions)
+            (length document.now.bookmarks) (length document.now.branches) }
         requires ranked { IsRanked mark_rank arrivals.items × IsRanked bookmark_rank texts.items }
         requires own { OutsAreOf entries.now arrivals.items × OutsAreOf entries.now texts.items }
         ensures { AreRemade document.now arrivals.items texts.items felt result }
     {
         let Room { marks, rows } = self;
         let marks = marks_of(marks, document);
-        let arrivals = remade(entries, rows.arrivals, &marks, arrivals, felt);
-        let texts = remade(entries, rows.texts, document.bookmarks(), texts, felt);
-        let places = places_of(rows.places, &arrivals, document.bookmarks());
+        let arrivals = remade(entries, rows.arrivals, &marks, arrivals, document, felt);
+        let bookmarks = document.bookmarks();
+        let texts = remade(entries, rows.texts, bookmarks, texts, document, felt);
+        let places = places_of(rows.places, &arrivals, bookmarks);
         Rows {
             arrivals,
             texts,
@@ -79,15 +83,19 @@ impl Room {
 }
 
 // Where the marks of bookmarks stand among rows. The places stand in the room, which is empty and
-// has a place for each bookmark.
+// has a place for each bookmark. A bookmark's mark mostly stands behind the one of the bookmark
+// before it.
 fn places_of(room: Vec<usize>, arrivals: &[ArrivalRow], bookmarks: &[Bookmark]) -> Vec<usize>
     requires room { room.items ≡ [] × length bookmarks.now ≤ vec_capacity room }
     requires ranked { IsRanked mark_rank arrivals.now }
     ensures { result.items ≡ places_of arrivals.now bookmarks.now }
 {
     let mut places = room;
+    let mut behind = 0;
     for bookmark in bookmarks {
-        places.push_reserved(place_in(arrivals, bookmark.generation));
+        let place = place_near(arrivals, Mark::of(bookmark).rank(), behind);
+        places.push_reserved(place);
+        behind = place.saturating_add(1);
     }
     places
 }

@@ -1,11 +1,15 @@
 //! Rows: what is known, or under way, of what stands at keys.
-ghost use Rattle.std.specs.Prelude.{◌≡◌, ℕ, Bool, Option, MatchOption, None, Some, is_some};
+ghost use Rattle.std.specs.Prelude.{◌≡◌, ℕ, Bool, List, Option, MatchOption, None, Some, is_some};
+ghost use Rattle.schedule.specs.declared.branch.Branch.{Branch};
+ghost use Rattle.dependency_book.specs.declared.mark.Mark.{Mark};
 ghost use Rattle.dependency_book.specs.RowState.{OutsAreOf, any_out, is_empty, is_known};
 ghost use Rattle.dependency_book.specs.RowState.{job_of, known};
 ghost use Rattle.dependency_book.specs.RowState.{least_out, lesser, number_of, row_for};
 ghost use Rattle.dependency_book.specs.Rows.{IsRanked, place_in, put};
 
+use crate::mark::Mark;
 use revision_jobs::{Entries, Job, Place};
+use schedule::Document;
 
 /// What stands in a row.
 #[derive(Drop)]
@@ -29,15 +33,15 @@ pub(crate) struct Row<K, V> {
 pub(crate) trait Ranked {
     ghost rank: { Self → ℕ };
 
-    ghost stays: { Option ℕ → Self → Self → Bool };
+    ghost stays: { List Branch → Option Mark → Self → Self → Bool };
 
-    fn rank(&self) -> u64
+    fn rank(&self) -> u128
         ensures { result ≡ rank self.now };
 
-    /// Whether what stood at the key as it was stays, after an edit that is first felt at a
-    /// generation, if it changes any pattern.
-    fn stays(&self, felt: Option<u64>, was: &Self) -> bool
-        ensures { result ≡ stays felt self.now was.now };
+    /// Whether what stood at the key as it was stays, after an edit that gives the document and is
+    /// felt from a mark on, if it changes any pattern.
+    fn stays(&self, document: &Document, felt: Option<Mark>, was: &Self) -> bool
+        ensures { result ≡ stays document.now.branches felt self.now was.now };
 }
 
 impl<V> RowState<V> {
@@ -84,15 +88,27 @@ impl<V> RowState<V> {
 }
 
 /// How many rows stand before the place of a rank.
-pub(crate) fn place_in<K: Ranked, V>(rows: &[Row<K, V>], rank: u64) -> usize
+pub(crate) fn place_in<K: Ranked, V>(rows: &[Row<K, V>], rank: u128) -> usize
     requires { IsRanked K.rank rows.now }
     ensures { result ≡ place_in K.rank rank rows.now }
 {
     rows.partition_point(|row| row.key.rank() < rank)
 }
 
+/// The same, where it may well be `guess`, which is looked at first.
+pub(crate) fn place_near<K: Ranked, V>(rows: &[Row<K, V>], rank: u128, guess: usize) -> usize
+    requires { IsRanked K.rank rows.now }
+    ensures { result ≡ place_in K.rank rank rows.now }
+{
+    if guess < rows.len() && rows[guess].key.rank() == rank {
+        guess
+    } else {
+        place_in(rows, rank)
+    }
+}
+
 /// Puts what stands in the row of a rank, if there is one.
-pub(crate) fn put<K: Ranked, V: Drop>(rows: &mut [Row<K, V>], rank: u64, state: RowState<V>)
+pub(crate) fn put<K: Ranked, V: Drop>(rows: &mut [Row<K, V>], rank: u128, state: RowState<V>)
     requires { IsRanked K.rank rows.old }
     ensures { rows.new ≡ put K.rank rank state rows.old }
 {

@@ -2,9 +2,11 @@
 ghost use Rattle.std.specs.Prelude.{◌≡◌, count_by};
 ghost use Rattle.dependency_book.specs.BookState.{is_pending};
 
+use crate::felt::leaves_after;
+use crate::mark::Mark;
 use crate::row::{Ranked, Row};
 use crate::text::Text;
-use schedule::Bookmark;
+use schedule::{Bookmark, Document};
 
 /// A bookmark with its text, or the job that is out for it.
 pub(crate) type TextRow = Row<Bookmark, Text>;
@@ -17,16 +19,12 @@ impl Ranked for Bookmark {
 
     ghost stays = { bookmark_stays };
 
-    fn rank(&self) -> u64 {
-        self.id
+    fn rank(&self) -> u128 {
+        u128::from(self.id)
     }
 
-    fn stays(&self, felt: Option<u64>, was: &Bookmark) -> bool {
-        let leaves = match felt {
-            None => true,
-            Some(from) => self.generation < from,
-        };
-        leaves && was.generation == self.generation
+    fn stays(&self, document: &Document, felt: Option<Mark>, was: &Bookmark) -> bool {
+        leaves_after(document, felt, Mark::of(self)) && was.generation == self.generation
     }
 }
 

@@ -80,9 +80,9 @@ const VIEWS_BEFORE_STEPS: &[Act] = &[
         generation: 3,
         x: 0,
     },
-    Act::Compute(Need::Step { mark: 1 }),
+    Act::Compute(Need::Step { branch: 0, mark: 1 }),
     Act::Compute(Need::View { id: 2 }),
-    Act::Compute(Need::Step { mark: 2 }),
+    Act::Compute(Need::Step { branch: 0, mark: 2 }),
     Act::Compute(Need::View { id: 1 }),
     // No bookmark waits for what arrives at the intervention.
     Act::Next(None),
@@ -101,7 +101,10 @@ const INSERTED: &[Act] = &[
     Act::Pending(2),
     // What arrives at 8 is still known.
     Act::Compute(Need::View { id: 2 }),
-    Act::Compute(Need::Step { mark: 20 }),
+    Act::Compute(Need::Step {
+        branch: 0,
+        mark: 20,
+    }),
     Act::Compute(Need::View { id: 3 }),
     // The cells -8, 1 and 8 at 8 are four each at 20, of which two pairs meet.
     Act::Shows(2, "1 3\n"),
@@ -145,7 +148,7 @@ const UNFELT: &[Act] = &[
     Act::Shows(1, "1 2\n"),
     Act::Waits(2),
     Act::Waits(3),
-    Act::Next(Some(Need::Step { mark: 4 })),
+    Act::Next(Some(Need::Step { branch: 0, mark: 4 })),
 ];
 
 const FELT: &[Act] = &[
@@ -192,7 +195,10 @@ const FELT_LATER: &[Act] = &[
 // A job that is out across an edit that isn't felt fills its row.
 const UNFELT_OUT: &[Act] = &[
     Act::Mark(30),
-    Act::Issue(Need::Step { mark: 30 }),
+    Act::Issue(Need::Step {
+        branch: 0,
+        mark: 30,
+    }),
     Act::Clear {
         generation: 8,
         x: 1,
@@ -218,7 +224,7 @@ const MOVED: &[Act] = &[
         id: 1,
         generation: 4,
     },
-    Act::Compute(Need::Step { mark: 4 }),
+    Act::Compute(Need::Step { branch: 0, mark: 4 }),
     Act::Compute(Need::View { id: 1 }),
     Act::Shows(1, "1 2\n"),
     Act::Move {
@@ -253,7 +259,10 @@ const FILLED_LATE: &[Act] = &[
         x: 1,
     },
     Act::Compute(Need::View { id: 2 }),
-    Act::Issue(Need::Step { mark: 20 }),
+    Act::Issue(Need::Step {
+        branch: 0,
+        mark: 20,
+    }),
     Act::Next(None),
     Act::FirstOut(Some(7)),
     // A bookmark between leaves what is out.
@@ -337,7 +346,7 @@ const NUMBERED: &[Act] = &[
     Act::Mark(2),
     Act::Mark(5),
     Act::Issue(Need::View { id: 4 }),
-    Act::Issue(Need::Step { mark: 5 }),
+    Act::Issue(Need::Step { branch: 0, mark: 5 }),
     Act::Given(8),
     Act::FirstOut(Some(6)),
     Act::Fill(Filled::Row),
@@ -350,11 +359,130 @@ const NUMBERED: &[Act] = &[
 
 const STOPPED: &[Act] = &[
     Act::Mark(5),
-    Act::Stop(Need::Step { mark: 5 }),
+    Act::Stop(Need::Step { branch: 0, mark: 5 }),
     Act::Next(None),
     Act::Fill(Filled::Released(EvolveFault::Stopped)),
     Act::FirstOut(None),
-    Act::Next(Some(Need::Step { mark: 5 })),
+    Act::Next(Some(Need::Step { branch: 0, mark: 5 })),
+];
+
+// Branch 1 leaves branch 0 at 2, where it takes one of the two cells away.
+const BRANCHED: &[Act] = &[
+    Act::Start,
+    Act::Branch {
+        parent: 0,
+        generation: 2,
+    },
+    Act::ClearIn {
+        branch: 1,
+        generation: 2,
+        x: 2,
+    },
+    Act::LookIn {
+        branch: 1,
+        generation: 4,
+    },
+    Act::LookIn {
+        branch: 0,
+        generation: 4,
+    },
+    Act::Settle(6),
+    Act::Shows(1, "1 0 0 0 1 0 0 0 0\n"),
+    Act::Shows(2, "1 0 0 0 0 0 0 0 1\n"),
+];
+
+const LINES_APART: &[Act] = &[
+    // The intervention of branch 1 is none of branch 0.
+    Act::Remove(1),
+    Act::Waits(1),
+    Act::Shows(2, "1 0 0 0 0 0 0 0 1\n"),
+    Act::Compute(Need::Step { branch: 1, mark: 4 }),
+    Act::Compute(Need::View { id: 1 }),
+    Act::Shows(1, "1 0 0 0 0 0 0 0 1\n"),
+    // Both lines pass generation 1 of branch 0.
+    Act::Clear {
+        generation: 1,
+        x: 1,
+    },
+    Act::Waits(1),
+    Act::Waits(2),
+    Act::Settle(8),
+    // The one cell at 1 is four at 4.
+    Act::Shows(1, "1 0 1 0 1 0 1 0 0\n"),
+    Act::Shows(2, "1 0 1 0 1 0 1 0 0\n"),
+];
+
+const FELT_AT_THE_FORK: &[Act] = &[
+    // Branch 1 leaves with what branch 0 sets at the fork.
+    Act::Clear {
+        generation: 2,
+        x: -2,
+    },
+    Act::Waits(1),
+    Act::Waits(2),
+    Act::Next(Some(Need::Step { branch: 0, mark: 4 })),
+    Act::Settle(6),
+    Act::Shows(1, "0 0 0 0 0 0 0 0 0\n"),
+    Act::Shows(2, "0 0 0 0 1 0 0 0 1\n"),
+];
+
+const UNFELT_ABOVE_THE_FORK: &[Act] = &[
+    Act::Clear {
+        generation: 3,
+        x: 1,
+    },
+    Act::Shows(1, "1 0 0 0 1 0 0 0 0\n"),
+    Act::Waits(2),
+    Act::Next(Some(Need::Step { branch: 0, mark: 3 })),
+];
+
+const TWO_LINES_OUT: &[Act] = &[
+    Act::Start,
+    Act::Branch {
+        parent: 0,
+        generation: 2,
+    },
+    Act::MarkIn {
+        branch: 1,
+        generation: 6,
+    },
+    Act::Compute(Need::Step { branch: 0, mark: 2 }),
+    // Where a branch begins its parent's pattern arrives.
+    Act::Compute(Need::Step { branch: 1, mark: 2 }),
+    Act::MarkIn {
+        branch: 0,
+        generation: 4,
+    },
+    Act::Issue(Need::Step { branch: 0, mark: 4 }),
+    Act::Issue(Need::Step { branch: 1, mark: 6 }),
+    Act::Next(None),
+    Act::FirstOut(Some(2)),
+    Act::Fill(Filled::Row),
+    Act::FirstOut(Some(2)),
+    Act::FillBefore(Filled::Row),
+    Act::FirstOut(None),
+    Act::Settle(2),
+    Act::Shows(1, "1 4\n"),
+    Act::Shows(2, "1 2\n"),
+];
+
+const UNBRANCHED: &[Act] = &[
+    Act::Branch {
+        parent: 0,
+        generation: 5,
+    },
+    // A new branch keeps all, and its parent has a mark more.
+    Act::Pending(0),
+    Act::Shows(2, "1 2\n"),
+    Act::Compute(Need::Step { branch: 0, mark: 5 }),
+    Act::Issue(Need::Step { branch: 1, mark: 5 }),
+    Act::Unbranch(1),
+    Act::IsAsked(true),
+    Act::Fill(Filled::NotExpected),
+    Act::Next(None),
+    Act::Shows(1, "1 2\n"),
+    Act::Shows(2, "1 2\n"),
+    Act::Shows(3, "1 4\n"),
 ];
 
 #[test]
@@ -450,4 +578,29 @@ fn numbers_rise_and_the_first_out_is_the_least(rt: HostRuntime) {
 #[test]
 fn stopped_job_is_released(rt: HostRuntime) {
     play(&rt, rt.alloc(), SETTLED, STOPPED);
+}
+
+#[test]
+fn line_back_to_branch_0_decides_what_an_edit_touches(rt: HostRuntime) {
+    play(&rt, rt.alloc(), BRANCHED, LINES_APART);
+}
+
+#[test]
+fn branch_begins_after_its_parents_interventions(rt: HostRuntime) {
+    play(&rt, rt.alloc(), BRANCHED, FELT_AT_THE_FORK);
+}
+
+#[test]
+fn intervention_above_the_fork_leaves_the_branch(rt: HostRuntime) {
+    play(&rt, rt.alloc(), BRANCHED, UNFELT_ABOVE_THE_FORK);
+}
+
+#[test]
+fn steps_of_two_branches_are_out_at_once(rt: HostRuntime) {
+    play(&rt, rt.alloc(), &[], TWO_LINES_OUT);
+}
+
+#[test]
+fn removed_branch_takes_its_marks_alone(rt: HostRuntime) {
+    play(&rt, rt.alloc(), SETTLED, UNBRANCHED);
 }

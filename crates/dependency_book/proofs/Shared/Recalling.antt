@@ -1,16 +1,16 @@
 -- What entering what was computed before leaves.
-use Rattle.std.proofs.Common.{◌≡◌, ◌⊎◌, ℕ, ◌+◌, ◌≤◌, ◌∙◌, List, [], ◌∷◌, ◌++◌, refl, sym, ap, subst, inl, inr, arith}
-use Rattle.std.specs.Prelude.{if◌then◌else◌}
+use Rattle.std.proofs.Common.{◌≡◌, ◌⊎◌, ℕ, ◌≤◌, ◌∙◌, List, [], ◌∷◌, ◌++◌, refl, sym, ap, subst, inl, inr, arith}
 use Rattle.revision_jobs.specs.declared.entry.Step.{Step as Stepping}
 use Rattle.revision_jobs.specs.Answer.{JobResult}
 use Rattle.revision_jobs.specs.Value.{Value, pattern, world_after}
 use Rattle.dependency_book.specs.declared.filled.Filled.TheVariants.{Row}
+use Rattle.dependency_book.specs.declared.mark.Mark.{Mark}
 use Rattle.dependency_book.specs.declared.need.Need.{Need}
-use Rattle.dependency_book.specs.declared.need.Need.TheVariants.{Step, View}
+use Rattle.dependency_book.specs.declared.need.Need.TheVariants.{View}
 use Rattle.dependency_book.specs.declared.row.RowState.{RowState}
 use Rattle.dependency_book.specs.declared.row.RowState.TheVariants.{Empty, Known}
 use Rattle.dependency_book.specs.BookState.{BookState, row_of, wanting_of}
-use Rattle.dependency_book.specs.Jobs.{IsFilled, SameBook, is_need}
+use Rattle.dependency_book.specs.Jobs.{IsFilled, SameBook, is_need, step_to}
 use Rattle.dependency_book.specs.Puts.{missing}
 use Rattle.dependency_book.specs.Recalled.{Entered, Enters, Recalls}
 use Rattle.dependency_book.proofs.Putting.{need_is}
@@ -19,10 +19,11 @@ use Rattle.dependency_book.proofs.Tests.{either_way}
 pub recalls_none : (d : BookState) → Recalls d d
 recalls_none d = ([], refl)
 
-pub recalls_one : (mark : ℕ) (s : Stepping) (d e : BookState) → Enters mark s d e → Recalls d e
+pub recalls_one : (mark : Mark) (s : Stepping) (d e : BookState) → Enters mark s d e → Recalls d e
 recalls_one mark s d e h = ((mark, s) ∷ [], (e, h, refl))
 
-entered_then : (xs ys : List (ℕ × Stepping)) (d e f : BookState) → Entered xs d e → Entered ys e f → Entered (xs ++ ys) d f
+entered_then : (xs ys : List (Mark × Stepping)) (d e f : BookState) → Entered xs d e → Entered ys e f
+    → Entered (xs ++ ys) d f
 entered_then [] ys d e f h k = subst (λ (b : BookState). Entered ys b f) h k
 entered_then (x ∷ xs) ys d e f h k = (h.0, h.1, entered_then xs ys h.0 e f h.2 k)
 
@@ -45,7 +46,7 @@ book_then d e f h k = record {
   given = k.given ∙ h.given;
 }
 
-entered_book : (xs : List (ℕ × Stepping)) (d e : BookState) → Entered xs d e → SameBook d e
+entered_book : (xs : List (Mark × Stepping)) (d e : BookState) → Entered xs d e → SameBook d e
 entered_book [] d e h = subst (λ (b : BookState). SameBook d b) (sym h) (same_book d)
 entered_book (x ∷ xs) d e h = book_then d h.0 e h.1.puts.book (entered_book xs h.0 e h.2)
 
@@ -66,22 +67,31 @@ stays_then a b c (inr h) (inr k) = let bad : Known h.1.0 ≡ Empty = sym h.1.1 �
     known_empty : (v : Value) → Known v ≡ Empty → ⊥
     known_empty v is = cc
 
-enters_row : (mark : ℕ) (s : Stepping) (d e : BookState) (need : Need) → Enters mark s d e → Stays (row_of d need) (row_of e need)
+enters_row : (mark : Mark) (s : Stepping) (d e : BookState) (need : Need) → Enters mark s d e
+    → Stays (row_of d need) (row_of e need)
 enters_row mark s d e need h =
-    either_way (is_need (Step mark) need)
-    (λ hit. inr (ap (λ n. row_of d n) (sym (need_is (Step mark) need hit)) ∙ h.empty, (pattern (world_after s), h.puts.rows need ∙ rw hit refl)))
+    either_way (is_need (step_to mark) need)
+    (λ hit. inr (
+      ap (λ n. row_of d n) (sym (need_is (step_to mark) need hit))
+          ∙ h.empty,
+      (pattern (world_after s), h.puts.rows need ∙ rw hit refl),
+    ))
     (λ miss. inl (h.puts.rows need ∙ rw miss refl))
 
-entered_row : (xs : List (ℕ × Stepping)) (d e : BookState) (need : Need) → Entered xs d e → Stays (row_of d need) (row_of e need)
+entered_row : (xs : List (Mark × Stepping)) (d e : BookState) (need : Need) → Entered xs d e
+    → Stays (row_of d need) (row_of e need)
 entered_row [] d e need h = inl (ap (λ (b : BookState). row_of b need) h)
-entered_row (x ∷ xs) d e need h = stays_then (row_of d need) (row_of h.0 need) (row_of e need) (enters_row x.0 x.1 d h.0 need h.1) (entered_row xs h.0 e need h.2)
+entered_row (x ∷ xs) d e need h =
+    stays_then (row_of d need) (row_of h.0 need) (row_of e need) (enters_row x.0 x.1 d h.0 need h.1)
+    (entered_row xs h.0 e need h.2)
 
 pub recalls_row : (d e : BookState) (need : Need) → Recalls d e → Stays (row_of d need) (row_of e need)
 recalls_row d e need h = entered_row h.0 d e need h.1
 
 -- texts are as they were
 
-entered_text : (xs : List (ℕ × Stepping)) (d e : BookState) (id : ℕ) → Entered xs d e → row_of e (View id) ≡ row_of d (View id)
+entered_text : (xs : List (Mark × Stepping)) (d e : BookState) (id : ℕ) → Entered xs d e
+    → row_of e (View id) ≡ row_of d (View id)
 entered_text [] d e id h = ap (λ (b : BookState). row_of b (View id)) h
 entered_text (x ∷ xs) d e id h = entered_text xs h.0 e id h.2 ∙ h.1.puts.rows (View id)
 
@@ -90,13 +100,13 @@ recalls_text d e id h = entered_text h.0 d e id h.1
 
 -- no more rows are empty
 
-enters_wanting : (mark : ℕ) (s : Stepping) (d e : BookState) → Enters mark s d e → wanting_of e ≤ wanting_of d
+enters_wanting : (mark : Mark) (s : Stepping) (d e : BookState) → Enters mark s d e → wanting_of e ≤ wanting_of d
 enters_wanting mark s d e h =
-    let was : missing (row_of d (Step mark)) ≡ 1 = ap missing h.empty in
+    let was : missing (row_of d (step_to mark)) ≡ 1 = ap missing h.empty in
     let count = h.puts.wanting in
     omega (arith, was, count)
 
-entered_wanting : (xs : List (ℕ × Stepping)) (d e : BookState) → Entered xs d e → wanting_of e ≤ wanting_of d
+entered_wanting : (xs : List (Mark × Stepping)) (d e : BookState) → Entered xs d e → wanting_of e ≤ wanting_of d
 entered_wanting [] d e h = let same = ap wanting_of h in omega (arith, same)
 entered_wanting (x ∷ xs) d e h =
     let first = enters_wanting x.0 x.1 d h.0 h.1 in
@@ -108,5 +118,7 @@ recalls_wanting d e h = entered_wanting h.0 d e h.1
 
 -- a row that was filled is filled still
 
-pub filled_still : (old put new : BookState) (answer : JobResult) → IsFilled old put answer Row → Recalls put new → IsFilled old new answer Row
-filled_still old put new answer h k = (h.0, h.1, (let first = h.2 in let rest = recalls_wanting put new k in omega (arith, first, rest)))
+pub filled_still : (old put new : BookState) (answer : JobResult) → IsFilled old put answer Row → Recalls put new
+    → IsFilled old new answer Row
+filled_still old put new answer h k =
+    (h.0, h.1, (let first = h.2 in let rest = recalls_wanting put new k in omega (arith, first, rest)))

@@ -1,5 +1,5 @@
 -- How many rows a book has, and when none of its bookmarks is pending.
-use Rattle.std.proofs.Common.{◌≡◌, ◌+◌, ◌≤◌, length, ap, subst, sym, ◌∙◌, refl, arith}
+use Rattle.std.proofs.Common.{◌≡◌, ◌+◌, ◌*◌, ◌≤◌, length, ap, subst, sym, ◌∙◌, refl, arith}
 use Rattle.std.proofs.lemmas.List.{length-map}
 use Rattle.dependency_book.specs.BookState.{BookState, NothingOut, pending_of, wanting_of}
 use Rattle.dependency_book.specs.Held.{places_of}
@@ -7,13 +7,17 @@ use Rattle.dependency_book.specs.Right.{IsRight}
 use Rattle.dependency_book.specs.Rows.{ArrivalRow, TextRow}
 use Rattle.dependency_book.proofs.Needed.{none_wanting}
 
-pub few_rows : (d : BookState) → IsRight d → length d.arrivals + length d.texts ≤ 12288
+pub few_rows : (d : BookState) → IsRight d → length d.arrivals + length d.texts ≤ 12416
 few_rows d right =
     let acts = right.sound.few_interventions in
     let stand = right.sound.few_bookmarks in
-    let marks : length d.arrivals ≤ length d.plan.interventions + length d.plan.bookmarks = subst (λ n. n ≤ length d.plan.interventions + length d.plan.bookmarks) (length-map d.arrivals (λ (r : ArrivalRow). r.key)) right.marks.few in
-    let texts : length d.texts ≡ length d.plan.bookmarks = sym (length-map d.texts (λ (r : TextRow). r.key)) ∙ ap length right.bookmarks in
-    omega (arith, acts, stand, marks, texts)
+    let fork = right.sound.branches_sound.few in
+    let most = length d.plan.interventions + length d.plan.bookmarks + 2 * length d.plan.branches in
+    let marks : length d.arrivals ≤ length d.plan.interventions + length d.plan.bookmarks + 2 * length d.plan.branches =
+    subst (λ n. n ≤ most) (length-map d.arrivals (λ (r : ArrivalRow). r.key)) right.marks.few in
+    let texts : length d.texts ≡ length d.plan.bookmarks = sym (length-map d.texts (λ (r : TextRow). r.key))
+    ∙ ap length right.bookmarks in
+    omega (arith, acts, stand, fork, marks, texts)
 
 -- where no job is out and something stands in every row
 pub none_pending : (d : BookState) → IsRight d → NothingOut d → wanting_of d ≡ 0 → pending_of d ≡ 0

@@ -1,56 +1,90 @@
 -- What an edit keeps of a document's rows is still wanted.
-use Rattle.std.proofs.Common.{◌≡◌, ℕ, ◌<◌, ◌∙◌, Bool, true, false, not, ◌&&◌, refl, sym, ap, subst, Option, Some, inl, inr}
+use Rattle.std.proofs.Common.{◌≡◌, ℕ, ◌∙◌, true, false, not, ◌&&◌, sym, ap, subst, None, Option, Some, inl, inr}
+use Rattle.std.specs.Prelude.{◌==◌, List, [], ◌∷◌}
+use Rattle.std.proofs.lemmas.Bool.{and_parts}
 use Rattle.worlds.specs.World.{World}
+use Rattle.schedule.specs.declared.branch.Branch.{Branch}
 use Rattle.schedule.specs.declared.document.Bookmark.{Bookmark}
-use Rattle.schedule.specs.Alike.{LayAlike, arrival-alike, scratch-alike}
+use Rattle.schedule.specs.Alike.{LayAlike}
 use Rattle.schedule.specs.Asked.{Asked}
-use Rattle.schedule.specs.Change.{changed}
+use Rattle.schedule.specs.Change.{changed, refusal}
 use Rattle.schedule.specs.Plan.{Plan}
 use Rattle.schedule.specs.Scratch.{scratch}
-use Rattle.schedule.specs.Sound.{IsSound}
+use Rattle.schedule.specs.Sound.{AreMarked, IsPlaced, IsSound}
+use Rattle.schedule.proofs.Shared.Alike.{arrival-alike, scratch-alike}
 use Rattle.revision_jobs.specs.Value.{pattern, text}
+use Rattle.dependency_book.specs.declared.mark.Mark.{Mark}
 use Rattle.dependency_book.specs.declared.need.Need.{Need}
 use Rattle.dependency_book.specs.declared.need.Need.TheVariants.{Step, View}
 use Rattle.dependency_book.specs.BookState.{bookmark_in}
 use Rattle.dependency_book.specs.Felt.{IsFelt, felt_from}
-use Rattle.dependency_book.specs.Kept.{keeps_arrival, keeps_text, leaves_after, takes}
+use Rattle.dependency_book.specs.Kept.{keeps_text, leaves_after, stays_mark, takes, keeps_arrival}
+use Rattle.dependency_book.specs.Marks.{bookmark_mark, is_mark, is_start, mark_at}
 use Rattle.dependency_book.specs.Right.{wanted, text_wanted}
 use Rattle.dependency_book.proofs.Followed.{kept_in}
 use Rattle.dependency_book.proofs.Leaves.{arrival_left, scratch_left}
 use Rattle.dependency_book.proofs.Shared.Gives.{Arrives}
+use Rattle.dependency_book.proofs.Tests.{either_way}
 use Rattle.dependency_book.proofs.Unfelt.{unfelt_alike}
 
 -- the row of a need is kept after an edit that is felt from there
-abbrev pub Keeps : Plan → Asked → Option ℕ → Need → Type 0
-Keeps p asked felt (Step g) = (0 < g) × (keeps_arrival felt g ≡ true)
-Keeps p asked felt (View id) = (b : Bookmark) × (bookmark_in p.bookmarks id ≡ Some b) × (keeps_text felt asked b ≡ true)
+abbrev pub Keeps : Plan → Asked → Option Mark → Need → Type 0
+Keeps p asked felt (Step branch mark) =
+    (is_start (mark_at branch mark) ≡ false) × (stays_mark felt p (changed p asked).plan (mark_at branch mark) ≡ true)
+Keeps p asked felt (View id) = (b : Bookmark) × (bookmark_in p.bookmarks id ≡ Some b)
+    × (keeps_text (changed p asked).plan.branches felt asked b ≡ true)
 
-and_left : (a b : Bool) → (a && b) ≡ true → a ≡ true
-and_left true b h = refl
-and_left false b h = absurd cc
+-- a bookmark of a document stands in a branch that is there
+placed_in : (branches : List Branch) (bs : List Bookmark) (id : ℕ) (b : Bookmark) → AreMarked branches bs
+    → bookmark_in bs id ≡ Some b → IsPlaced branches b.branch b.generation
+placed_in branches [] id b all is = absurd cc
+placed_in branches (c ∷ bs) id b all is =
+    either_way (c.id == id)
+    (λ hit. let one : Some c ≡ Some b = rw hit at is in let same : c ≡ b = cc in
+    subst (λ (x : Bookmark). IsPlaced branches x.branch x.generation) same all.0)
+    (λ miss. placed_in branches bs id b all.1 (rw miss at is))
 
 -- a bookmark whose text is the same in both documents
-text_same : (p : Plan) (asked : Asked) (felt : Option ℕ) (id : ℕ) (b : Bookmark) → keeps_text felt asked b ≡ true → bookmark_in p.bookmarks id ≡ Some b → scratch p b ≡ scratch (changed p asked).plan b → wanted (changed p asked).plan (View id) ≡ wanted p (View id)
+text_same : (p : Plan) (asked : Asked) (felt : Option Mark) (id : ℕ) (b : Bookmark)
+    → keeps_text (changed p asked).plan.branches felt asked b ≡ true → bookmark_in p.bookmarks id ≡ Some b
+    → scratch p b ≡ scratch (changed p asked).plan b → wanted (changed p asked).plan (View id) ≡ wanted p (View id)
 text_same p asked felt id b keep is same =
     ap (text_wanted (changed p asked).plan) (kept_in p asked felt id b keep is)
     ∙ ap (λ t. Some (text t)) (sym same)
     ∙ sym (ap (text_wanted p) is)
 
 -- up to where it is felt
-wants_left : (p : Plan) (asked : Asked) (need : Need) → IsSound p → Keeps p asked (felt_from p asked) need → wanted (changed p asked).plan need ≡ wanted p need
-wants_left p asked (Step g) sound k = ap (λ w. Some (pattern w)) (sym (arrival_left p asked g sound k.0 k.1))
-wants_left p asked (View id) sound k =
+wants_left : (p : Plan) (asked : Asked) (need : Need) → IsSound p → refusal p asked ≡ None
+    → Keeps p asked (felt_from p asked) need → wanted (changed p asked).plan need ≡ wanted p need
+wants_left p asked (Step branch mark) sound free k =
+    let q = (changed p asked).plan in
+    let m = mark_at branch mark in
+    let parts = and_parts (is_mark p m) (is_mark q m && keeps_arrival q.branches (felt_from p asked) m) k.1 in
+    let later = and_parts (is_mark q m) (keeps_arrival q.branches (felt_from p asked) m) parts.1 in
+    ap (λ w. Some (pattern w)) (sym (arrival_left p asked m sound free k.0 parts.0 later.0 later.1))
+wants_left p asked (View id) sound free k =
     let b : Bookmark = k.0 in
-    text_same p asked (felt_from p asked) id b k.2 k.1 (scratch_left p asked b sound (and_left (leaves_after (felt_from p asked) b.generation) (not (takes asked b)) k.2))
+    let leaves = and_parts (leaves_after (changed p asked).plan.branches (felt_from p asked) (bookmark_mark b))
+    (not (takes asked b)) k.2 in
+    text_same p asked (felt_from p asked) id b k.2 k.1
+    (scratch_left p asked id b sound free k.1
+    (placed_in p.branches p.bookmarks id b sound.branches_sound.bookmarks_placed k.1) leaves.0)
 
 -- everywhere, if it is felt nowhere
-wants_alike : (p : Plan) (asked : Asked) (felt : Option ℕ) (need : Need) → LayAlike p (changed p asked).plan → Keeps p asked felt need → wanted (changed p asked).plan need ≡ wanted p need
-wants_alike p asked felt (Step g) alike k = ap (λ w. Some (pattern w)) (sym (arrival-alike p (changed p asked).plan g alike))
-wants_alike p asked felt (View id) alike k =
+wants_alike : (p : Plan) (asked : Asked) (felt : Option Mark) (need : Need) → IsSound p
+    → LayAlike p (changed p asked).plan → Keeps p asked felt need → wanted (changed p asked).plan need ≡ wanted p need
+wants_alike p asked felt (Step branch mark) sound alike k =
+    ap (λ w. Some (pattern w)) (sym (arrival-alike p (changed p asked).plan branch mark sound alike))
+wants_alike p asked felt (View id) sound alike k =
     let b : Bookmark = k.0 in
-    text_same p asked felt id b k.2 k.1 (scratch-alike p (changed p asked).plan b alike)
+    let placed = placed_in p.branches p.bookmarks id b sound.branches_sound.bookmarks_placed k.1 in
+    text_same p asked felt id b k.2 k.1 (scratch-alike p (changed p asked).plan b placed.from_fork sound alike)
 
 -- what is kept of a row is what starting over gives for it after the edit
-pub wants_same : (p : Plan) (known : ℕ → Option World) (asked : Asked) (felt : Option ℕ) (need : Need) → IsSound p → Arrives known p → IsFelt known p asked (changed p asked).plan felt → Keeps p asked felt need → wanted (changed p asked).plan need ≡ wanted p need
-wants_same p known asked felt need sound arrives (inl h) k = wants_alike p asked felt need (unfelt_alike p known asked sound arrives h.0) k
-wants_same p known asked felt need sound arrives (inr h) k = wants_left p asked need sound (subst (λ f. Keeps p asked f need) h.1 k)
+pub wants_same : (p : Plan) (known : Mark → Option World) (asked : Asked) (felt : Option Mark) (need : Need) → IsSound p
+    → refusal p asked ≡ None → Arrives known p → IsFelt known p asked (changed p asked).plan felt
+    → Keeps p asked felt need → wanted (changed p asked).plan need ≡ wanted p need
+wants_same p known asked felt need sound free arrives (inl h) k =
+    wants_alike p asked felt need sound (unfelt_alike p known asked sound arrives h.0) k
+wants_same p known asked felt need sound free arrives (inr h) k =
+    wants_left p asked need sound free (subst (λ f. Keeps p asked f need) h.1 k)

@@ -11,6 +11,7 @@ use revision_jobs::{Answer, Entries, Job, NoGate, Place, work};
 use schedule::{CellSet, Edit, View};
 use std::alloc::Global;
 use std::marker::Model;
+use std::mem;
 use std::num::NonZeroUsize;
 use std::process::Abort;
 use std::sync::Wait;
@@ -19,16 +20,25 @@ use step_engine::EvolveFault;
 // How many squares a step may keep.
 const SQUARES: u32 = 4096;
 
+// The cells (-4, 0) to (4, 0).
+const LOOK: View = View::Window {
+    left: -4,
+    top: 0,
+    width: 9,
+    height: 1,
+};
+
 // More numbers than a test gives.
 const NUMBERS: u32 = 100;
 
-/// A book whose jobs are of the table, and the answer that came last.
+/// A book whose jobs are of the table, the answer that came last and the one before.
 #[derive(Drop)]
 pub(super) struct Bench<'e> {
     alloc: Global,
     entries: &'e Entries,
     book: Book<'e>,
     last: Option<Answer>,
+    before: Option<Answer>,
 }
 
 impl<'e> Model for Bench<'e> {
@@ -45,7 +55,8 @@ impl<'e> Model for Bench<'e> {
     ghost view = { λ b. b.book };
 
     ghost invariant = { λ b. (b.book.table ≡ b.entries.now)
-        × IfSome b.last (λ a. IsOf b.entries.now a.job.place) };
+        × IfSome b.last (λ a. IsOf b.entries.now a.job.place)
+        × IfSome b.before (λ a. IsOf b.entries.now a.job.place) };
 }
 
 /// What a test does, or finds.
@@ -53,22 +64,62 @@ impl<'e> Model for Bench<'e> {
 pub(super) enum Act {
     /// Takes the rule X, and sets the cell (0, 0).
     Start,
-    /// Adds a bookmark of counts at this generation.
+    /// Adds a bookmark of counts at this generation of branch 0.
     Mark(u64),
+    /// Adds a bookmark of counts at a generation of a branch.
+    MarkIn {
+        branch: u64,
+        generation: u64,
+    },
+    /// Adds a bookmark of the cells (-4, 0) to (4, 0) at a generation of a branch.
+    LookIn {
+        branch: u64,
+        generation: u64,
+    },
     /// Moves the bookmark of an id.
-    Move { id: u64, generation: u64 },
+    Move {
+        id: u64,
+        generation: u64,
+    },
     /// Removes the bookmark of this id.
     Unmark(u64),
-    /// Inserts an intervention that sets the cell (x, 0).
-    Insert { generation: u64, x: i64 },
+    /// Inserts an intervention of branch 0 that sets the cell (x, 0).
+    Insert {
+        generation: u64,
+        x: i64,
+    },
     /// Moves the intervention of an id, which sets the cell (x, 0) then.
-    Change { id: u64, generation: u64, x: i64 },
-    /// Inserts an intervention that takes the cell (x, 0) away.
-    Clear { generation: u64, x: i64 },
+    Change {
+        id: u64,
+        generation: u64,
+        x: i64,
+    },
+    /// Inserts an intervention of branch 0 that takes the cell (x, 0) away.
+    Clear {
+        generation: u64,
+        x: i64,
+    },
+    /// Inserts an intervention of a branch that takes the cell (x, 0) away.
+    ClearIn {
+        branch: u64,
+        generation: u64,
+        x: i64,
+    },
     /// Moves the intervention of an id, which takes the cell (x, 0) away then.
-    ChangeClear { id: u64, generation: u64, x: i64 },
+    ChangeClear {
+        id: u64,
+        generation: u64,
+        x: i64,
+    },
     /// Removes the intervention of this id.
     Remove(u64),
+    /// Adds a branch that leaves its parent at this generation.
+    Branch {
+        parent: u64,
+        generation: u64,
+    },
+    /// Removes this branch.
+    Unbranch(u64),
     /// The need is the next. Its job goes out, and is worked.
     Issue(Need),
     /// The same with a raised stop.
@@ -77,6 +128,8 @@ pub(super) enum Act {
     Stray(Need),
     /// The last answer is taken, as often as it comes, and this comes of it.
     Fill(Filled),
+    /// The answer before the last is taken, as often as it comes, and this comes of it.
+    FillBefore(Filled),
     /// The need is the next, and its row is filled.
     Compute(Need),
     /// At most so many rows are filled, and then nothing is needed or pending.
@@ -108,6 +161,7 @@ impl<'e> Bench<'e> {
             entries,
             book: Book::open(alloc, entries, 7, NonZeroUsize::MIN).expect(rt, "memory"),
             last: None,
+            before: None,
         }
     }
 
@@ -115,22 +169,37 @@ impl<'e> Bench<'e> {
     pub(super) fn act<R: Abort + Wait>(&mut self, rt: &R, act: &Act) {
         match *act {
             Act::Start => self.start(rt),
-            Act::Mark(generation) => self.mark(rt, generation),
+            Act::Mark(generation) => self.mark(rt, 0, generation, View::Counts),
+            Act::MarkIn { branch, generation } => self.mark(rt, branch, generation, View::Counts),
+            Act::LookIn { branch, generation } => self.mark(rt, branch, generation, LOOK),
             Act::Move { id, generation } => {
                 self.revise(rt, &Edit::MoveBookmark { id, generation });
             }
             Act::Unmark(id) => self.revise(rt, &Edit::RemoveBookmark { id }),
-            Act::Insert { generation, x } => self.insert(rt, generation, cell(x, 1)),
+            Act::Insert { generation, x } => self.insert(rt, 0, generation, cell(x, 1)),
             Act::Change { id, generation, x } => self.change(rt, id, generation, cell(x, 1)),
-            Act::Clear { generation, x } => self.insert(rt, generation, cell(x, 0)),
+            Act::Clear { generation, x } => self.insert(rt, 0, generation, cell(x, 0)),
+            Act::ClearIn {
+                branch,
+                generation,
+                x,
+            } => self.insert(rt, branch, generation, cell(x, 0)),
             Act::ChangeClear { id, generation, x } => {
                 self.change(rt, id, generation, cell(x, 0));
             }
             Act::Remove(id) => self.revise(rt, &Edit::RemoveIntervention { id }),
+            Act::Branch { parent, generation } => {
+                self.revise(rt, &Edit::AddBranch { parent, generation });
+            }
+            Act::Unbranch(branch) => self.revise(rt, &Edit::RemoveBranch { branch }),
             Act::Issue(need) => self.issue(rt, &need, false),
             Act::Stop(need) => self.issue(rt, &need, true),
             Act::Stray(need) => self.stray(rt, &need),
             Act::Fill(wanted) => self.fill(rt, &wanted),
+            Act::FillBefore(wanted) => {
+                mem::swap(&mut self.last, &mut self.before);
+                self.fill(rt, &wanted);
+            }
             Act::Compute(need) => self.compute(rt, &need),
             Act::Settle(rows) => self.settle(rt, rows),
             Act::Forget(wanted) => self.forget(rt, wanted),
@@ -157,14 +226,27 @@ impl<'e> Bench<'e> {
         self.revise(rt, &Edit::SetCells { cells });
     }
 
-    fn mark(&mut self, rt: &impl Abort, generation: u64) {
-        let view = View::Counts;
-        self.revise(rt, &Edit::AddBookmark { generation, view });
+    fn mark(&mut self, rt: &impl Abort, branch: u64, generation: u64, view: View) {
+        self.revise(
+            rt,
+            &Edit::AddBookmark {
+                branch,
+                generation,
+                view,
+            },
+        );
     }
 
-    fn insert(&mut self, rt: &impl Abort, generation: u64, set: CellSet) {
+    fn insert(&mut self, rt: &impl Abort, branch: u64, generation: u64, set: CellSet) {
         let cells = listed(rt, self.alloc, set);
-        self.revise(rt, &Edit::InsertIntervention { generation, cells });
+        self.revise(
+            rt,
+            &Edit::InsertIntervention {
+                branch,
+                generation,
+                cells,
+            },
+        );
     }
 
     fn change(&mut self, rt: &impl Abort, id: u64, generation: u64, set: CellSet) {
@@ -222,7 +304,8 @@ impl<'e> Bench<'e> {
             place: place.share(),
         };
         self.book.expect(&next, out);
-        self.last = Some(self.worked(Job { number, place }));
+        let answer = self.worked(Job { number, place });
+        self.before = mem::replace(&mut self.last, Some(answer));
     }
 
     fn worked(&self, job: Job) -> Answer

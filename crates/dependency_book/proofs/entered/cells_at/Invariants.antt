@@ -3,4 +3,5 @@ use Rattle.schedule.specs.Scratch.{cells_at}
 use Rattle.dependency_book.proofs.entered.cells_at.Given as goal
 
 abbrev pub invariant-loop-intervention : goal.invariant-loop-intervention
-invariant-loop-intervention l = l.cells.items ≡ cells_at (take l.intervention-index l.interventions) l.generation
+invariant-loop-intervention l =
+    l.cells.items ≡ cells_at (take l.intervention-index l.interventions) l.mark.branch l.mark.generation

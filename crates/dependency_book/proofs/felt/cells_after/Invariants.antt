@@ -5,4 +5,5 @@ use Rattle.dependency_book.specs.Felt.{own_cells_after}
 use Rattle.dependency_book.proofs.felt.cells_after.Given as goal
 
 abbrev pub invariant-loop-intervention : goal.invariant-loop-intervention
-invariant-loop-intervention l = l.cells.items ≡ flat_map (λ i. own_cells_after (asked_of l.edit) i l.generation) (take l.intervention-index l.interventions)
+invariant-loop-intervention l = l.cells.items ≡ flat_map (λ i. own_cells_after (asked_of l.edit) i l.mark)
+    (take l.intervention-index l.interventions)

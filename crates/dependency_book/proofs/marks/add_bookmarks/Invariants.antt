@@ -1,11 +1,12 @@
 use Rattle.std.proofs.Common.{◌≡◌, ◌≤◌, ◌+◌, ◌++◌, take, map, vec_len}
 use Rattle.std.specs.Prelude.{vec_capacity}
-use Rattle.dependency_book.specs.AllMarks.{marks_above, bookmark_generation}
+use Rattle.dependency_book.specs.AllMarks.{but_start}
+use Rattle.dependency_book.specs.Marks.{bookmark_mark}
 use Rattle.dependency_book.proofs.marks.add_bookmarks.Given as goal
 
 abbrev pub invariant-loop-bookmark : goal.invariant-loop-bookmark
 invariant-loop-bookmark l = record {
-  items : l.marks.items ≡ l.fn.marks.items ++ marks_above (map bookmark_generation (take l.bookmark-index l.bookmarks));
+  items : l.marks.items ≡ l.fn.marks.items ++ but_start (map bookmark_mark (take l.bookmark-index l.bookmarks));
   len : vec_len l.marks ≤ vec_len l.fn.marks + l.bookmark-index;
   capacity : vec_capacity l.marks ≡ vec_capacity l.fn.marks;
 }

@@ -16,8 +16,10 @@ returns-then-rank g c =
     let low : k < length rows = c.if-place-rows.true in
     let is : rank_at rank rows k x ≡ n =
     ap (λ r. rank r.key) (get_or-any rows k x c.index-rows-place.result low) ∙ sym c.rank.ensures ∙ c.if-rank.true in
-    subst (λ j. set rows j (record { key = (get_or rows j x).key; state = c.args.state }) ≡ put rank n c.args.state rows) (sym at)
-    (put-place rank n c.args.state rows x c.requires (subst (λ j. j < length rows) at low) (subst (λ j. rank_at rank rows j x ≡ n) at is))
+    subst (λ j. set rows j (record { key = (get_or rows j x).key; state = c.args.state })
+    ≡ put rank n c.args.state rows) (sym at)
+    (put-place rank n c.args.state rows x c.requires (subst (λ j. j < length rows) at low)
+    (subst (λ j. rank_at rank rows j x ≡ n) at is))
 
 pub returns-else-place-rows : goal.returns-else-place-rows
 returns-else-place-rows g c =
@@ -30,6 +32,7 @@ returns-else-place-rows g c =
     elim c.else-place-rows.branch [
       | else-place-rows-via-then-place-rows+else-rank w ↦
           (let x = w.index-rows-place.result in
-          w.if-rank.false (w.rank.ensures ∙ ap (λ j. rank_at rank rows j x) at ∙ rank-has rank n rows x c.requires there))
+          w.if-rank.false
+          (w.rank.ensures ∙ ap (λ j. rank_at rank rows j x) at ∙ rank-has rank n rows x c.requires there))
       | else-place-rows-via-else-place-rows w ↦ omega (arith, low, at, w.if-place-rows.false)
     ]))

@@ -1,79 +1,72 @@
-use Rattle.std.proofs.Common.{◌≡◌, ◌<◌, ◌-◌, ◌∙◌, ℕ, suc, List, length, get_or, sym, ap, subst, arith, true, Some}
-use Rattle.std.specs.Prelude.{is_some}
-use Rattle.std.specs.Arc.{arc_value}
-use Rattle.worlds.specs.World.{World}
+use Rattle.std.proofs.Common.{◌≡◌, ◌∙◌, ℕ, List, length, sym, ap, ap₂, subst, arith}
+use Rattle.std.specs.Prelude.{IsSome}
+use Rattle.dependency_book.specs.declared.mark.Mark.{Mark}
 use Rattle.dependency_book.specs.declared.row.RowState.TheVariants.{Empty}
 use Rattle.dependency_book.specs.BookState.{BookState, arrival_known}
 use Rattle.dependency_book.specs.Held.{IsHeld}
 use Rattle.dependency_book.specs.Inside.{state_of}
 use Rattle.dependency_book.specs.Marks.{ComesBefore}
 use Rattle.dependency_book.specs.Needs.{IsLedTo}
-use Rattle.dependency_book.specs.RowState.{known}
+use Rattle.dependency_book.specs.Ready.{before_row}
 use Rattle.dependency_book.specs.Rows.{ArrivalRow, place_in, mark_rank}
-use Rattle.dependency_book.proofs.Found.{StepRow, step_row, row_known}
-use Rattle.dependency_book.proofs.Placed.{before_row}
-use Rattle.dependency_book.proofs.Tests.{clash}
+use Rattle.dependency_book.proofs.Found.{StepRow, step_row}
 use Rattle.dependency_book.proofs.book.Book.before.Goals as goal
 
 -- the row of the step, at the place that was found
-row_at : (d e : BookState) (places : List ℕ) (m k : ℕ) (rows : List ArrivalRow) → d ≡ e → IsHeld d places → IsLedTo e m → rows ≡ d.arrivals → k ≡ place_in mark_rank m rows → StepRow d m k
-row_at d e places m k rows same held next is at = subst (StepRow d m) (sym (at ∙ ap (place_in mark_rank m) is)) (step_row d places m held (subst (λ s. IsLedTo s m) (sym same) next))
+row_at : (d e : BookState) (places : List ℕ) (m : Mark) (n k : ℕ) (rows : List ArrivalRow) → d ≡ e → IsHeld d places
+    → IsLedTo e m → rows ≡ d.arrivals → n ≡ mark_rank m → k ≡ place_in mark_rank n rows → StepRow d m k
+row_at d e places m n k rows same held led is rank at =
+    subst (StepRow d m) (sym (at ∙ ap₂ (place_in mark_rank) rank is))
+    (step_row d places m held (subst (λ s. IsLedTo s m) (sym same) led))
 
-pub returns-then-place-eq0-clause-mark : goal.returns-then-place-eq0-clause-mark
-returns-then-place-eq0-clause-mark c =
-    let d = state_of c.self.inside in
-    let row = row_at d c.args.self.now c.self.inside.places.items c.args.mark c.place_in-place.result c.deref.result.now c.self.view_is c.self.invariant.held c.requires c.deref.ensures.value c.place_in-place.ensures in
-    let x : ArrivalRow = record { key = record { generation = 0 }; state = Empty } in
-    let zero_row = subst (λ k. ComesBefore d.plan (before_row d.arrivals k x) c.args.mark) c.if-place-eq0.true (row.comes x) in
-    subst (λ (e : BookState). ComesBefore e.plan 0 c.args.mark) c.self.view_is zero_row
+-- the mark before that of the row
+record Found (d e : BookState) (m n : Mark) : Type 0 where
+  pub comes : ComesBefore e.plan n m
+  pub arrived : IsSome (arrival_known e n)
 
-pub index-row-requires : goal.index-row-requires
-index-row-requires c =
-    let d = state_of c.self.inside in
-    let row = row_at d c.args.self.now c.self.inside.places.items c.args.mark c.place_in-place.result c.deref.result.now c.self.view_is c.self.invariant.held c.requires c.deref.ensures.value c.place_in-place.ensures in
-    let low = row.low in
-    let apart = c.if-place-eq0.false in
-    let len = c.deref.ensures.len in
-    let same : length c.deref.result.now ≡ length d.arrivals = ap (λ (rows : List ArrivalRow). length rows) c.deref.ensures.value in
-    omega (arith, low, apart, len, same)
-
--- what the row before shows
-record Before (d : BookState) (m j : ℕ) (x : ArrivalRow) : Type 0 where
-  pub comes : ComesBefore d.plan x.key.generation m
-  pub shows : arrival_known d x.key.generation ≡ known x.state
-  pub arrived : is_some (known x.state) ≡ true
-
-before_at : (d : BookState) (places : List ℕ) (m k : ℕ) (x : ArrivalRow) → IsHeld d places → StepRow d m k → (k ≡ 0 → ⊥) → x ≡ get_or d.arrivals (k - 1) x → Before d m (k - 1) x
-before_at d places m k x held row apart is =
-    let j = k - 1 in
-    let next : k ≡ suc j = omega (arith, apart) in
-    let low = row.low in
-    let under : j < length d.arrivals = omega (arith, low, apart) in
-    let rank : mark_rank (get_or d.arrivals j x).key ≡ x.key.generation = ap (λ (r : ArrivalRow). r.key.generation) (sym is) in
-    let shows : arrival_known d x.key.generation ≡ known x.state = ap (arrival_known d) (sym rank) ∙ row_known d places j x held under ∙ ap (λ (r : ArrivalRow). known r.state) (sym is) in
+found : (d e : BookState) (m n : Mark) (k : ℕ) (x : ArrivalRow) (rows : List ArrivalRow) → d ≡ e → rows ≡ d.arrivals
+    → StepRow d m k → n ≡ before_row d.plan.branches rows k x → Found d e m n
+found d e m n k x rows same is row at =
+    let one : before_row d.plan.branches d.arrivals k x ≡ n =
+    ap (λ (rs : List ArrivalRow). before_row d.plan.branches rs k x) (sym is) ∙ sym at in
     record {
-      comes = subst (λ n. ComesBefore d.plan n m) rank (subst (λ i. ComesBefore d.plan (before_row d.arrivals i x) m) next (row.comes x));
-      shows = shows;
-      arrived = ap is_some (sym shows) ∙ ap (λ n. is_some (arrival_known d n)) (sym rank) ∙ ap (λ i. is_some (arrival_known d (before_row d.arrivals i x))) (sym next) ∙ row.arrived x;
+      comes = subst (λ (b : BookState). ComesBefore b.plan n m) same
+          (subst (λ (b : Mark). ComesBefore d.plan b m) one (row.comes x));
+      arrived =
+          subst (λ (b : BookState). IsSome (arrival_known b n)) same
+          (subst (λ (b : Mark). IsSome (arrival_known d b)) one (row.arrived x));
     }
 
-pub unreachable-requires : goal.unreachable-requires
-unreachable-requires c =
+pub before_row-requires : goal.before_row-requires
+before_row-requires c =
     let d = state_of c.self.inside in
-    let row = row_at d c.args.self.now c.self.inside.places.items c.args.mark c.place_in-place.result c.deref.result.now c.self.view_is c.self.invariant.held c.requires c.deref.ensures.value c.place_in-place.ensures in
-    let b = before_at d c.self.inside.places.items c.args.mark c.place_in-place.result c.index-row.result.now c.self.invariant.held row c.if-place-eq0.false c.index-row.ensures in
-    clash (is_some (known c.index-row.result.now.state)) b.arrived (ap is_some (c.in-None.ensures))
+    let row =
+    row_at d c.args.self.now c.self.inside.places.items c.args.mark c.rank.result c.place_in-place.result
+    c.deref.result.now c.self.view_is c.self.invariant.held c.requires c.deref.ensures.value c.rank.ensures
+    c.place_in-place.ensures in
+    let low = row.low in
+    let same : length c.deref-2.result.now ≡ length d.arrivals =
+    ap (λ (rows : List ArrivalRow). length rows) c.deref-2.ensures.value in
+    omega (arith, low, same)
 
 pub returns-clause-mark : goal.returns-clause-mark
 returns-clause-mark c =
     let d = state_of c.self.inside in
-    let row = row_at d c.args.self.now c.self.inside.places.items c.args.mark c.place_in-place.result c.deref.result.now c.self.view_is c.self.invariant.held c.requires c.deref.ensures.value c.place_in-place.ensures in
-    let b = before_at d c.self.inside.places.items c.args.mark c.place_in-place.result c.index-row.result.now c.self.invariant.held row c.if-place-eq0.false c.index-row.ensures in
-    subst (λ (e : BookState). ComesBefore e.plan c.index-row.result.now.key.generation c.args.mark) c.self.view_is b.comes
+    let m = c.args.mark in
+    let row =
+    row_at d c.args.self.now c.self.inside.places.items m c.rank.result c.place_in-place.result c.deref.result.now
+    c.self.view_is c.self.invariant.held c.requires c.deref.ensures.value c.rank.ensures c.place_in-place.ensures in
+    let x : ArrivalRow = record { key = m; state = Empty } in
+    (found d c.args.self.now m c.before_row.result c.place_in-place.result x c.deref-2.result.now c.self.view_is
+    c.deref-2.ensures.value row (c.before_row.ensures x)).comes
 
 pub returns-clause-known : goal.returns-clause-known
 returns-clause-known c =
     let d = state_of c.self.inside in
-    let row = row_at d c.args.self.now c.self.inside.places.items c.args.mark c.place_in-place.result c.deref.result.now c.self.view_is c.self.invariant.held c.requires c.deref.ensures.value c.place_in-place.ensures in
-    let b = before_at d c.self.inside.places.items c.args.mark c.place_in-place.result c.index-row.result.now c.self.invariant.held row c.if-place-eq0.false c.index-row.ensures in
-    subst (λ (e : BookState). arrival_known e c.index-row.result.now.key.generation ≡ Some (arc_value c.plane.result.now)) c.self.view_is (b.shows ∙ c.in-Some.ensures ∙ ap (λ (w : World). Some w) (sym c.plane.ensures))
+    let m = c.args.mark in
+    let row =
+    row_at d c.args.self.now c.self.inside.places.items m c.rank.result c.place_in-place.result c.deref.result.now
+    c.self.view_is c.self.invariant.held c.requires c.deref.ensures.value c.rank.ensures c.place_in-place.ensures in
+    let x : ArrivalRow = record { key = m; state = Empty } in
+    (found d c.args.self.now m c.before_row.result c.place_in-place.result x c.deref-2.result.now c.self.view_is
+    c.deref-2.ensures.value row (c.before_row.ensures x)).arrived

@@ -1,6 +1,5 @@
-use Rattle.std.proofs.Common.{◌≡◌, ◌∙◌, true, false, ap₂, subst, sym}
+use Rattle.std.proofs.Common.{◌≡◌, ap₂, subst, sym}
 use Rattle.revision_jobs.specs.Answer.{outcome_of}
-use Rattle.dependency_book.specs.declared.filled.Filled.{Filled}
 use Rattle.dependency_book.specs.declared.filled.Filled.TheVariants.{Row}
 use Rattle.dependency_book.specs.Jobs.{IsFilled, SameBook, result_of}
 use Rattle.dependency_book.proofs.Tests.{clash}
@@ -13,27 +12,37 @@ pub returns-then-matches-clause-filled : goal.returns-then-matches-clause-filled
 returns-then-matches-clause-filled c =
     let given = result_of c.into_parts-job.result.0 (outcome_of c.into_parts-job.result.1) in
     let answer_is = ap₂ result_of c.into_parts-job.ensures.job c.into_parts-job.ensures.outcome in
-    let taken = took_filled c.args.self.now c.keep_fact.new.self c.take-filled.new.self c.args.answer given c.take-filled.result c.keep_fact.ensures answer_is c.take-filled.ensures.filled in
-    let row : c.take-filled.result ≡ Row = elim c.match-matches.branch [ in-Row w ↦ w.in-Row.is | in_default w ↦ absurd (clash c.match-matches.matches c.if-matches.true w.matches-is) ] in
+    let taken =
+    took_filled c.args.self.now c.keep_fact.new.self c.take-filled.new.self c.args.answer given c.take-filled.result
+    c.keep_fact.ensures answer_is c.take-filled.ensures.filled in
+    let row : c.take-filled.result ≡ Row =
+    elim c.match-matches.branch
+    [ in-Row w ↦ w.in-Row.is | in_default w ↦ absurd (clash c.match-matches.matches c.if-matches.true w.matches-is) ] in
     subst (IsFilled c.args.self.now c.recall_all.new.self c.args.answer) (sym row)
-    (filled_still c.args.self.now c.take-filled.new.self c.recall_all.new.self c.args.answer (subst (IsFilled c.args.self.now c.take-filled.new.self c.args.answer) row taken) c.recall_all.ensures)
+    (filled_still c.args.self.now c.take-filled.new.self c.recall_all.new.self c.args.answer
+    (subst (IsFilled c.args.self.now c.take-filled.new.self c.args.answer) row taken) c.recall_all.ensures)
 
 pub returns-then-matches-clause-fills : goal.returns-then-matches-clause-fills
 returns-then-matches-clause-fills c =
     let given = result_of c.into_parts-job.result.0 (outcome_of c.into_parts-job.result.1) in
     let answer_is = ap₂ result_of c.into_parts-job.ensures.job c.into_parts-job.ensures.outcome in
-    took_fills c.args.self.now c.keep_fact.new.self c.take-filled.new.self c.recall_all.new.self c.args.answer given c.keep_fact.ensures answer_is c.take-filled.ensures.book c.take-filled.ensures.rows c.recall_all.ensures
+    took_fills c.args.self.now c.keep_fact.new.self c.take-filled.new.self c.recall_all.new.self c.args.answer given
+    c.keep_fact.ensures answer_is c.take-filled.ensures.book c.take-filled.ensures.rows c.recall_all.ensures
 
 pub returns-then-matches-clause-book : goal.returns-then-matches-clause-book
 returns-then-matches-clause-book c =
-    book_then c.args.self.now c.take-filled.new.self c.recall_all.new.self (subst (λ d. SameBook d c.take-filled.new.self) c.keep_fact.ensures c.take-filled.ensures.book)
+    book_then c.args.self.now c.take-filled.new.self c.recall_all.new.self
+    (subst (λ d. SameBook d c.take-filled.new.self) c.keep_fact.ensures c.take-filled.ensures.book)
     (recalls_book c.take-filled.new.self c.recall_all.new.self c.recall_all.ensures)
 
 pub returns-then-matches-clause-right : goal.returns-then-matches-clause-right
-returns-then-matches-clause-right c = recalls_right c.take-filled.new.self c.recall_all.new.self c.take-filled.ensures.right c.recall_all.ensures
+returns-then-matches-clause-right c =
+    recalls_right c.take-filled.new.self c.recall_all.new.self c.take-filled.ensures.right c.recall_all.ensures
 
 pub returns-else-matches-clause-fills : goal.returns-else-matches-clause-fills
 returns-else-matches-clause-fills c =
     let given = result_of c.into_parts-job.result.0 (outcome_of c.into_parts-job.result.1) in
     let answer_is = ap₂ result_of c.into_parts-job.ensures.job c.into_parts-job.ensures.outcome in
-    took_fills c.args.self.now c.keep_fact.new.self c.take-filled.new.self c.take-filled.new.self c.args.answer given c.keep_fact.ensures answer_is c.take-filled.ensures.book c.take-filled.ensures.rows (recalls_none c.take-filled.new.self)
+    took_fills c.args.self.now c.keep_fact.new.self c.take-filled.new.self c.take-filled.new.self c.args.answer given
+    c.keep_fact.ensures answer_is c.take-filled.ensures.book c.take-filled.ensures.rows
+    (recalls_none c.take-filled.new.self)

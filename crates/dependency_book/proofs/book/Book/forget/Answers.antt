@@ -8,13 +8,21 @@ pub returns-in_err-need-clause-right : goal.returns-in_err-need-clause-right
 returns-in_err-need-clause-right c = c.expecting.ensures.right
 
 pub release-requires : goal.release-requires
-release-requires c = expected_row c.args.self.now c.in_ok-need.need (record { number = c.args.number; place = c.in_ok-need.place.now }) c.expecting.ensures.right c.in_ok-need.ensures.row
+release-requires c =
+    expected_row c.args.self.now c.in_ok-need.need
+    (record { number = c.args.number; place = c.in_ok-need.place.now }) c.expecting.ensures.right
+    c.in_ok-need.ensures.row
 
 pub returns-clause-rows : goal.returns-clause-rows
-returns-clause-rows c = put_cancels c.args.self.now c.release.new.self c.in_ok-need.need c.args.number c.in_ok-need.place.now c.expecting.ensures.right c.in_ok-need.ensures.row c.release.ensures
+returns-clause-rows c =
+    put_cancels c.args.self.now c.release.new.self c.in_ok-need.need c.args.number c.in_ok-need.place.now
+    c.expecting.ensures.right c.in_ok-need.ensures.row c.release.ensures
 
 pub returns-clause-right : goal.returns-clause-right
-returns-clause-right c = cancelled_right c.args.self.now c.release.new.self c.in_ok-need.need c.args.number c.in_ok-need.place.now c.expecting.ensures.right c.in_ok-need.ensures.row c.release.ensures
+returns-clause-right c =
+    cancelled_right c.args.self.now c.release.new.self c.in_ok-need.need c.args.number c.in_ok-need.place.now
+    c.expecting.ensures.right c.in_ok-need.ensures.row c.release.ensures
 
 pub returns-clause-place : goal.returns-clause-place
-returns-clause-place c = subst (λ (p : Place). IsForgotten c.args.self.now c.args.number (Some p)) (sym c.share-place.ensures) (c.in_ok-need.ensures.own, (c.in_ok-need.need, c.in_ok-need.ensures.row))
+returns-clause-place c = subst (λ (p : Place). IsForgotten c.args.self.now c.args.number (Some p))
+    (sym c.share-place.ensures) (c.in_ok-need.ensures.own, (c.in_ok-need.need, c.in_ok-need.ensures.row))

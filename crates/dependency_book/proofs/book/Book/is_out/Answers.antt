@@ -10,14 +10,20 @@ use Rattle.dependency_book.proofs.book.Book.is_out.Goals as goal
 pub returns-then-any_out : goal.returns-then-any_out
 returns-then-any_out c =
     let d = state_of c.self.inside in
-    let marks : any_out d.arrivals ≡ c.any_out.result = ap (λ (rows : List ArrivalRow). any_out rows) (sym c.deref.ensures.value) ∙ sym c.any_out.ensures in
+    let marks : any_out d.arrivals ≡ c.any_out.result =
+    ap (λ (rows : List ArrivalRow). any_out rows) (sym c.deref.ensures.value) ∙ sym c.any_out.ensures in
     subst (λ (e : BookState). IsAnyOut e c.any_out.result) c.self.view_is
-    (subst (IsAnyOut d) (ap (λ b. b || any_out d.texts) (marks ∙ c.if-any_out.true) ∙ sym c.if-any_out.true) (any_out_is d c.self.inside.places.items c.self.invariant.held))
+    (subst (IsAnyOut d) (ap (λ b. b || any_out d.texts) (marks ∙ c.if-any_out.true) ∙ sym c.if-any_out.true)
+    (any_out_is d c.self.inside.places.items c.self.invariant.held))
 
 pub returns-else-any_out : goal.returns-else-any_out
 returns-else-any_out c =
     let d = state_of c.self.inside in
-    let marks : any_out d.arrivals ≡ c.any_out.result = ap (λ (rows : List ArrivalRow). any_out rows) (sym c.deref.ensures.value) ∙ sym c.any_out.ensures in
-    let texts : any_out d.texts ≡ c.any_out-else-any_out.result = ap (λ (rows : List TextRow). any_out rows) (sym c.deref-else-any_out.ensures.value) ∙ sym c.any_out-else-any_out.ensures in
+    let marks : any_out d.arrivals ≡ c.any_out.result =
+    ap (λ (rows : List ArrivalRow). any_out rows) (sym c.deref.ensures.value) ∙ sym c.any_out.ensures in
+    let texts : any_out d.texts ≡ c.any_out-else-any_out.result =
+    ap (λ (rows : List TextRow). any_out rows) (sym c.deref-else-any_out.ensures.value)
+    ∙ sym c.any_out-else-any_out.ensures in
     subst (λ (e : BookState). IsAnyOut e c.any_out-else-any_out.result) c.self.view_is
-    (subst (IsAnyOut d) (ap (λ b. b || any_out d.texts) (marks ∙ c.if-any_out.false) ∙ texts) (any_out_is d c.self.inside.places.items c.self.invariant.held))
+    (subst (IsAnyOut d) (ap (λ b. b || any_out d.texts) (marks ∙ c.if-any_out.false) ∙ texts)
+    (any_out_is d c.self.inside.places.items c.self.invariant.held))

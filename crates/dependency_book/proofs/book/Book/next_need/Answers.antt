@@ -7,9 +7,11 @@ use Rattle.dependency_book.specs.Needs.{IsNextView}
 use Rattle.dependency_book.proofs.Needed.{none_pending}
 use Rattle.dependency_book.proofs.book.Book.next_need.Goals as goal
 
-pub returns-in_err-mark-clause-settled : goal.returns-in_err-mark-clause-settled
-returns-in_err-mark-clause-settled c =
+pub returns-in_err-next_step-clause-settled : goal.returns-in_err-next_step-clause-settled
+returns-in_err-next_step-clause-settled c =
     let d : BookState = c.next_step.new.self in
     subst (λ (o : Option Need). IfNone o (NothingOut d → pending_of d ≡ 0)) (sym c.from_residual.ensures)
-    (none_pending d (places_of d.arrivals d.plan.bookmarks) (record { places = refl; right = c.next_step.ensures.right })
-    (subst (λ (e : BookState). IsNextView e None) (sym c.next_step.ensures.same) c.in_default.ensures.next) c.in_err-mark.ensures.next)
+    (none_pending d (places_of d.arrivals d.plan.bookmarks)
+    (record { places = refl; right = c.next_step.ensures.right })
+    (subst (λ (e : BookState). IsNextView e None) (sym c.next_step.ensures.same) c.in_default.ensures.next)
+    c.in_err-next_step.ensures.next)

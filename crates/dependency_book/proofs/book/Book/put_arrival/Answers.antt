@@ -1,12 +1,12 @@
 use Rattle.std.proofs.Common.{◌++◌, ◌∙◌, ap, take, drop, length, List, sym, subst}
 use Rattle.std.specs.Prelude.{if◌then◌else◌}
 use Rattle.revision_jobs.specs.Value.{pattern}
-use Rattle.dependency_book.specs.declared.need.Need.TheVariants.{Step}
 use Rattle.dependency_book.specs.BookState.{BookState}
 use Rattle.dependency_book.specs.Cursor.{IsHeldWith, start}
 use Rattle.dependency_book.specs.Inside.{state_of}
+use Rattle.dependency_book.specs.Jobs.{step_to}
 use Rattle.dependency_book.specs.Puts.{CanBePut, Puts}
-use Rattle.dependency_book.specs.Rows.{ArrivalRow, mark_rank}
+use Rattle.dependency_book.specs.Rows.{ArrivalRow, mark_rank, put}
 use Rattle.dependency_book.specs.RowState.{state_map}
 use Rattle.dependency_book.proofs.Passed.{passed_arrival}
 use Rattle.dependency_book.proofs.Putting.{arrival_held, arrival_puts, written}
@@ -16,19 +16,36 @@ pub invariant_of-self : goal.invariant_of-self
 invariant_of-self c =
     let d = state_of c.self.inside in
     let places = c.self.inside.places.items in
-    let can = subst (λ (e : BookState). CanBePut e (Step c.args.mark) (state_map pattern c.args.state)) (sym c.self.view_is) c.requires in
-    let whole = written mark_rank c.args.mark c.args.state c.self.inside.arrivals.len d.arrivals c.put.new.rows c.deref_mut.result.now c.deref_mut.ensures.value c.deref_mut.ensures.len c.put.ensures in
-    subst (λ (rows : List ArrivalRow). IsHeldWith (record d { arrivals = rows }) places c.if_stays-self-inside.result) (sym whole)
+    let can = subst (λ (e : BookState). CanBePut e (step_to c.args.mark) (state_map pattern c.args.state))
+    (sym c.self.view_is) c.requires in
+    let whole =
+    written mark_rank
+    (mark_rank c.args.mark) c.args.state c.self.inside.arrivals.len d.arrivals c.put.new.rows c.deref_mut.result.now
+    c.deref_mut.ensures.value c.deref_mut.ensures.len
+    (c.put.ensures ∙ ap (λ n. put mark_rank n c.args.state c.deref_mut.result.now) c.rank.ensures) in
+    subst (λ (rows : List ArrivalRow). IsHeldWith (record d { arrivals = rows }) places c.if_stays-self-inside.result)
+    (sym whole)
     (record {
       held = arrival_held d places c.args.mark c.args.state c.self.invariant.held can;
-      passed = passed_arrival d places c.self.inside.cursor c.if_stays-self-inside.result c.args.mark c.args.state c.self.invariant.passed
+      passed = passed_arrival d places c.self.inside.cursor c.if_stays-self-inside.result c.args.mark c.args.state
+          c.self.invariant.passed
           (c.if_stays-self-inside.ensures ∙ ap (λ b. if b then c.self.inside.cursor else start) c.is_expected.ensures);
     })
 
 pub returns : goal.returns
 returns c =
     let d = state_of c.self.inside in
-    let can = subst (λ (e : BookState). CanBePut e (Step c.args.mark) (state_map pattern c.args.state)) (sym c.self.view_is) c.requires in
-    let whole = written mark_rank c.args.mark c.args.state c.self.inside.arrivals.len d.arrivals c.put.new.rows c.deref_mut.result.now c.deref_mut.ensures.value c.deref_mut.ensures.len c.put.ensures in
-    subst (λ (was : BookState). Puts (Step c.args.mark) (state_map pattern c.args.state) was (record d { arrivals = take c.self.inside.arrivals.len (c.put.new.rows ++ drop (length c.put.new.rows) d.arrivals) })) c.self.view_is
-    (subst (λ (rows : List ArrivalRow). Puts (Step c.args.mark) (state_map pattern c.args.state) d (record d { arrivals = rows })) (sym whole) (arrival_puts d c.args.mark c.args.state c.self.invariant.held.right.marks can.there))
+    let can = subst (λ (e : BookState). CanBePut e (step_to c.args.mark) (state_map pattern c.args.state))
+    (sym c.self.view_is) c.requires in
+    let whole =
+    written mark_rank
+    (mark_rank c.args.mark) c.args.state c.self.inside.arrivals.len d.arrivals c.put.new.rows c.deref_mut.result.now
+    c.deref_mut.ensures.value c.deref_mut.ensures.len
+    (c.put.ensures ∙ ap (λ n. put mark_rank n c.args.state c.deref_mut.result.now) c.rank.ensures) in
+    subst (λ (was : BookState). Puts (step_to c.args.mark) (state_map pattern c.args.state) was
+    (record d
+    { arrivals = take c.self.inside.arrivals.len (c.put.new.rows ++ drop (length c.put.new.rows) d.arrivals) }))
+    c.self.view_is
+    (subst (λ (rows : List ArrivalRow). Puts (step_to c.args.mark) (state_map pattern c.args.state) d
+    (record d { arrivals = rows })) (sym whole)
+    (arrival_puts d c.args.mark c.args.state c.self.invariant.held.right.marks can.there))

@@ -6,7 +6,7 @@ use Rattle.dependency_book.specs.BookState.{BookState}
 use Rattle.dependency_book.specs.Cursor.{IsHeldWith, start}
 use Rattle.dependency_book.specs.Inside.{state_of}
 use Rattle.dependency_book.specs.Puts.{CanBePut, Puts}
-use Rattle.dependency_book.specs.Rows.{TextRow, bookmark_rank}
+use Rattle.dependency_book.specs.Rows.{TextRow, bookmark_rank, put}
 use Rattle.dependency_book.specs.RowState.{state_map}
 use Rattle.dependency_book.proofs.Passed.{passed_text}
 use Rattle.dependency_book.proofs.Putting.{text_held, text_puts, written}
@@ -15,21 +15,34 @@ use Rattle.dependency_book.proofs.book.Book.put_text.Goals as goal
 pub invariant_of-self : goal.invariant_of-self
 invariant_of-self c =
     let d = state_of c.self.inside in
-    let can = subst (λ (e : BookState). CanBePut e (View c.args.id) (state_map text c.args.state)) (sym c.self.view_is) c.requires in
-    let whole = written bookmark_rank c.args.id c.args.state c.self.inside.texts.len d.texts c.put.new.rows c.deref_mut.result.now c.deref_mut.ensures.value c.deref_mut.ensures.len c.put.ensures in
+    let can = subst (λ (e : BookState). CanBePut e (View c.args.id) (state_map text c.args.state))
+    (sym c.self.view_is) c.requires in
+    let whole =
+    written bookmark_rank c.args.id c.args.state c.self.inside.texts.len d.texts c.put.new.rows c.deref_mut.result.now
+    c.deref_mut.ensures.value c.deref_mut.ensures.len
+    (c.put.ensures ∙ ap (λ n. put bookmark_rank n c.args.state c.deref_mut.result.now) c.from.ensures) in
     let places = c.self.inside.places.items in
-    subst (λ (rows : List TextRow). IsHeldWith (record d { texts = rows }) places c.if_stays-self-inside.result) (sym whole)
+    subst (λ (rows : List TextRow). IsHeldWith (record d { texts = rows }) places c.if_stays-self-inside.result)
+    (sym whole)
     (record {
       held = text_held d places c.args.id c.args.state c.self.invariant.held can;
       passed =
-          passed_text d places c.self.inside.cursor c.if_stays-self-inside.result c.args.id c.args.state c.self.invariant.passed
+          passed_text d places c.self.inside.cursor c.if_stays-self-inside.result c.args.id c.args.state
+          c.self.invariant.passed
           (c.if_stays-self-inside.ensures ∙ ap (λ b. if not b then c.self.inside.cursor else start) c.is_empty.ensures);
     })
 
 pub returns : goal.returns
 returns c =
     let d = state_of c.self.inside in
-    let can = subst (λ (e : BookState). CanBePut e (View c.args.id) (state_map text c.args.state)) (sym c.self.view_is) c.requires in
-    let whole = written bookmark_rank c.args.id c.args.state c.self.inside.texts.len d.texts c.put.new.rows c.deref_mut.result.now c.deref_mut.ensures.value c.deref_mut.ensures.len c.put.ensures in
-    subst (λ (was : BookState). Puts (View c.args.id) (state_map text c.args.state) was (record d { texts = take c.self.inside.texts.len (c.put.new.rows ++ drop (length c.put.new.rows) d.texts) })) c.self.view_is
-    (subst (λ (rows : List TextRow). Puts (View c.args.id) (state_map text c.args.state) d (record d { texts = rows })) (sym whole) (text_puts d c.args.id c.args.state c.self.invariant.held.right.bookmarks can.there))
+    let can = subst (λ (e : BookState). CanBePut e (View c.args.id) (state_map text c.args.state))
+    (sym c.self.view_is) c.requires in
+    let whole =
+    written bookmark_rank c.args.id c.args.state c.self.inside.texts.len d.texts c.put.new.rows c.deref_mut.result.now
+    c.deref_mut.ensures.value c.deref_mut.ensures.len
+    (c.put.ensures ∙ ap (λ n. put bookmark_rank n c.args.state c.deref_mut.result.now) c.from.ensures) in
+    subst (λ (was : BookState). Puts (View c.args.id) (state_map text c.args.state) was
+    (record d { texts = take c.self.inside.texts.len (c.put.new.rows ++ drop (length c.put.new.rows) d.texts) }))
+    c.self.view_is
+    (subst (λ (rows : List TextRow). Puts (View c.args.id) (state_map text c.args.state) d (record d { texts = rows }))
+    (sym whole) (text_puts d c.args.id c.args.state c.self.invariant.held.right.bookmarks can.there))

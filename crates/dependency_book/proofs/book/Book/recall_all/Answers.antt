@@ -5,6 +5,10 @@ use Rattle.dependency_book.proofs.book.Book.recall_all.Goals as goal
 
 pub loop-place-preserved : goal.loop-place-preserved
 loop-place-preserved c = record {
-  recalls = recalls_then c.args.self.now c.loop-place.self c.recall_at.new.self c.loop-place.invariant.recalls c.recall_at.ensures;
-  end = c.loop-place.invariant.end ∙ sym (length-keys c.recall_at.new.self.arrivals c.loop-place.self.arrivals (recalls_book c.loop-place.self c.recall_at.new.self c.recall_at.ensures).document.marks);
+  recalls =
+      recalls_then c.args.self.now c.loop-place.self c.recall_at.new.self c.loop-place.invariant.recalls
+      c.recall_at.ensures;
+  end = c.loop-place.invariant.end
+      ∙ sym (length-keys c.recall_at.new.self.arrivals c.loop-place.self.arrivals
+      (recalls_book c.loop-place.self c.recall_at.new.self c.recall_at.ensures).document.marks);
 }

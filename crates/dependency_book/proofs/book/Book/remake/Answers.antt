@@ -16,7 +16,8 @@ use Rattle.dependency_book.proofs.book.Book.remake.Goals as goal
 
 pub rows_of-rows-requires-clause-room : goal.rows_of-rows-requires-clause-room
 rows_of-rows-requires-clause-room c =
-    made_room c.in_ok-room.room c.self.inside.document c.make.new.self (asked_of c.args.edit.now) c.in_ok-edited.edited c.in_ok-edited.ensures.ok c.in_ok-room.ensures
+    made_room c.in_ok-room.room c.self.inside.document c.make.new.self
+    (asked_of c.args.edit.now) c.in_ok-edited.edited c.in_ok-edited.ensures.ok c.in_ok-room.ensures
 
 pub rows_of-rows-requires-clause-own : goal.rows_of-rows-requires-clause-own
 rows_of-rows-requires-clause-own c =
@@ -24,19 +25,27 @@ rows_of-rows-requires-clause-own c =
     let places = c.self.inside.places.items in
     let arrivals : c.replace-arrivals.result.items ≡ d.arrivals = rw c.replace-arrivals.ensures.value refl in
     let texts : c.replace-texts.result.items ≡ d.texts = rw c.replace-texts.ensures.value refl in (
-      subst (λ (rows : List ArrivalRow). OutsAreOf d.table rows) (sym arrivals) (arrivals_own d places c.self.invariant.held),
+      subst (λ (rows : List ArrivalRow). OutsAreOf d.table rows) (sym arrivals)
+          (arrivals_own d places c.self.invariant.held),
       subst (λ (rows : List TextRow). OutsAreOf d.table rows) (sym texts) (texts_own d places c.self.invariant.held),
     )
 
 -- what was made of the book
-made : (c : After-self-1) → Revises (asked_of c.args.edit.now) (state_of c.self.inside) (with_rows (state_of c.self.inside) c.make.new.self c.rows_of-rows.result.arrivals.items c.rows_of-rows.result.texts.items)
+made : (c : After-self-1) → Revises (asked_of c.args.edit.now) (state_of c.self.inside)
+    (with_rows
+    (state_of c.self.inside) c.make.new.self c.rows_of-rows.result.arrivals.items c.rows_of-rows.result.texts.items)
 made c =
-    revises (state_of c.self.inside) c.make.new.self (asked_of c.args.edit.now) c.in_ok-edited.edited c.replace-arrivals.result.items c.replace-texts.result.items c.in_ok-felt.felt c.rows_of-rows.result c.self.invariant.held.right c.in_ok-edited.ensures.ok
-    (rw c.replace-arrivals.ensures.value refl) (rw c.replace-texts.ensures.value refl) (subst (λ (e : BookState). BookFeels e (asked_of c.args.edit.now) c.in_ok-felt.felt) (sym c.self.view_is) c.in_ok-felt.ensures) c.rows_of-rows.ensures
+    revises (state_of c.self.inside) c.make.new.self
+    (asked_of c.args.edit.now) c.in_ok-edited.edited c.replace-arrivals.result.items c.replace-texts.result.items
+    c.in_ok-felt.felt c.rows_of-rows.result c.self.invariant.held.right c.in_ok-edited.ensures.ok
+    (rw c.replace-arrivals.ensures.value refl) (rw c.replace-texts.ensures.value refl)
+    (subst (λ (e : BookState). BookFeels e (asked_of c.args.edit.now) c.in_ok-felt.felt)
+    (sym c.self.view_is) c.in_ok-felt.ensures) c.rows_of-rows.ensures
 
 pub invariant_of-self-2 : goal.invariant_of-self-2
 invariant_of-self-2 c =
-    let e = with_rows (state_of c.self.inside) c.make.new.self c.rows_of-rows.result.arrivals.items c.rows_of-rows.result.texts.items in
+    let e = with_rows
+    (state_of c.self.inside) c.make.new.self c.rows_of-rows.result.arrivals.items c.rows_of-rows.result.texts.items in
     let places = c.rows_of-rows.result.places.items in
     record {
       held = record { places = c.rows_of-rows.ensures.places_are; right = (made c).1 };
@@ -45,7 +54,10 @@ invariant_of-self-2 c =
 
 pub returns-clause-keeps : goal.returns-clause-keeps
 returns-clause-keeps c =
-    subst (λ (old : BookState). KeepsUnfelt (asked_of c.args.edit.now) old (with_rows (state_of c.self.inside) c.make.new.self c.rows_of-rows.result.arrivals.items c.rows_of-rows.result.texts.items)) c.self.view_is (made c).0
+    subst (λ (old : BookState). KeepsUnfelt (asked_of c.args.edit.now) old
+    (with_rows
+    (state_of c.self.inside) c.make.new.self c.rows_of-rows.result.arrivals.items c.rows_of-rows.result.texts.items))
+    c.self.view_is (made c).0
 
 pub returns-clause-right : goal.returns-clause-right
 returns-clause-right c = (made c).1

@@ -8,9 +8,11 @@ use Rattle.dependency_book.proofs.book.Book.stop_all.Goals as goal
 pub raise_all-requires : goal.raise_all-requires
 raise_all-requires c =
     let d = state_of c.self.inside in
-    subst (λ (rows : List ArrivalRow). OutsAreOf d.table rows) (sym c.deref.ensures.value) (arrivals_own d c.self.inside.places.items c.self.invariant.held)
+    subst (λ (rows : List ArrivalRow). OutsAreOf d.table rows) (sym c.deref.ensures.value)
+    (arrivals_own d c.self.inside.places.items c.self.invariant.held)
 
 pub raise_all-requires-2 : goal.raise_all-requires-2
 raise_all-requires-2 c =
     let d = state_of c.self.inside in
-    subst (λ (rows : List TextRow). OutsAreOf d.table rows) (sym c.deref-2.ensures.value) (texts_own d c.self.inside.places.items c.self.invariant.held)
+    subst (λ (rows : List TextRow). OutsAreOf d.table rows) (sym c.deref-2.ensures.value)
+    (texts_own d c.self.inside.places.items c.self.invariant.held)

@@ -1,11 +1,7 @@
-use Rattle.std.proofs.Common.{◌≡◌, ◌∙◌, true, false, Option, None, Some, Result, MatchOption, refl, sym, ap, ap₂, subst}
-use Rattle.step_engine.specs.declared.evolved.EvolveFault.{EvolveFault}
+use Rattle.std.proofs.Common.{◌≡◌, true, false, Option, None, Some, MatchOption, refl, sym, subst}
 use Rattle.revision_jobs.specs.declared.answer.Job.{Job}
-use Rattle.revision_jobs.specs.Answer.{JobResult, outcome_of}
-use Rattle.revision_jobs.specs.Value.{Value}
-use Rattle.dependency_book.specs.declared.need.Need.{Need}
-use Rattle.dependency_book.specs.Jobs.{is_job, answered, result_of, IsFilled}
-use Rattle.dependency_book.specs.BookState.{BookState, expected, row_of}
+use Rattle.revision_jobs.specs.Answer.{outcome_of}
+use Rattle.dependency_book.specs.Jobs.{result_of, IsFilled}
 use Rattle.dependency_book.proofs.Working.{may_stand, put_answers, filled_is, filled_right, none_answered, none_numbered, elsewhere}
 use Rattle.dependency_book.proofs.book.Book.take.Goals as goal
 use Rattle.dependency_book.proofs.book.Book.take.Goals.{in_default-2, in_default}
@@ -19,7 +15,9 @@ not_true h = cc
 
 pub fill_row-requires : goal.fill_row-requires
 fill_row-requires c =
-    may_stand c.args.self.now c.in-Some.need c.in-Some.place.now c.args.job (outcome_of c.args.outcome) c.expecting.ensures.right c.in-Some.ensures.row (c.if-same.ensures.entry refl) c.requires.right
+    may_stand c.args.self.now c.in-Some.need c.in-Some.place.now c.args.job
+    (outcome_of c.args.outcome) c.expecting.ensures.right c.in-Some.ensures.row
+    (c.if-same.ensures.entry refl) c.requires.right
 
 pub returns-in-Some-clause-filled : goal.returns-in-Some-clause-filled
 returns-in-Some-clause-filled c =
@@ -28,15 +26,20 @@ returns-in-Some-clause-filled c =
     let job : Job = c.args.job in
     let outcome = outcome_of c.args.outcome in
     subst (IsFilled d e (result_of job outcome)) (sym c.fill_row.ensures.filled)
-    (filled_is d e c.in-Some.need c.in-Some.place.now job outcome c.expecting.ensures.right c.in-Some.ensures.row (c.if-same.ensures.index.0 refl) (c.if-same.ensures.entry refl) c.requires.right c.fill_row.ensures.row)
+    (filled_is d e c.in-Some.need c.in-Some.place.now job outcome c.expecting.ensures.right c.in-Some.ensures.row
+    (c.if-same.ensures.index.0 refl) (c.if-same.ensures.entry refl) c.requires.right c.fill_row.ensures.row)
 
 pub returns-in-Some-clause-rows : goal.returns-in-Some-clause-rows
 returns-in-Some-clause-rows c = λ other.
-    put_answers c.args.self.now c.fill_row.new.self c.in-Some.need c.in-Some.place.now (result_of c.args.job (outcome_of c.args.outcome)) c.expecting.ensures.right c.in-Some.ensures.row (c.if-same.ensures.index.0 refl) c.fill_row.ensures.row other
+    put_answers c.args.self.now c.fill_row.new.self c.in-Some.need c.in-Some.place.now
+    (result_of c.args.job (outcome_of c.args.outcome)) c.expecting.ensures.right c.in-Some.ensures.row
+    (c.if-same.ensures.index.0 refl) c.fill_row.ensures.row other
 
 pub returns-in-Some-clause-right : goal.returns-in-Some-clause-right
 returns-in-Some-clause-right c =
-    filled_right c.args.self.now c.fill_row.new.self c.in-Some.need c.in-Some.place.now c.args.job (outcome_of c.args.outcome) c.expecting.ensures.right c.in-Some.ensures.row (c.if-same.ensures.entry refl) c.requires.right c.fill_row.ensures.row
+    filled_right c.args.self.now c.fill_row.new.self c.in-Some.need c.in-Some.place.now c.args.job
+    (outcome_of c.args.outcome) c.expecting.ensures.right c.in-Some.ensures.row
+    (c.if-same.ensures.entry refl) c.requires.right c.fill_row.ensures.row
 
 -- no row expects the job
 
@@ -48,7 +51,8 @@ returns-clause-filled c =
     let right = c.expecting.ensures.right in
     elim c.match-expecting.branch [
       | in_default-2 w ↦
-          let none = elsewhere d w.in-Some.need w.in-Some.place.now job right w.in-Some.ensures.row (λ is. not_true (w.if-same.ensures.index.1 is)) in
+          let none = elsewhere d w.in-Some.need w.in-Some.place.now job right w.in-Some.ensures.row
+          (λ is. not_true (w.if-same.ensures.index.1 is)) in
           subst (IsFilled d d answer) (sym w.result-is) (none, refl)
       | in_default w ↦
           let none = none_numbered d job (match_none _ _ c.expecting.result c.expecting.ensures.row w.in_default.is) in
@@ -63,7 +67,8 @@ returns-clause-rows c =
     let right = c.expecting.ensures.right in
     elim c.match-expecting.branch [
       | in_default-2 w ↦
-          let none = elsewhere d w.in-Some.need w.in-Some.place.now job right w.in-Some.ensures.row (λ is. not_true (w.if-same.ensures.index.1 is)) in
+          let none = elsewhere d w.in-Some.need w.in-Some.place.now job right w.in-Some.ensures.row
+          (λ is. not_true (w.if-same.ensures.index.1 is)) in
           none_answered d answer none
       | in_default w ↦
           let none = none_numbered d job (match_none _ _ c.expecting.result c.expecting.ensures.row w.in_default.is) in

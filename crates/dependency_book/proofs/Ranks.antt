@@ -1,0 +1,86 @@
+-- Marks by their ranks, and as tests tell them apart.
+use Rattle.std.proofs.Common.{◌≡◌, ◌^◌, ◌<◌, ◌≤◌, ◌∙◌, true, false, List, [], ◌∷◌, refl, sym, ap, ap₂, subst, arith}
+use Rattle.std.specs.Prelude.{◌==◌, ◌||◌}
+use Rattle.std.specs.List.{AllByRecursion, list_any}
+use Rattle.std.proofs.lemmas.Bool.{and_parts}
+use Rattle.dependency_book.specs.declared.mark.Mark.{Mark}
+use Rattle.dependency_book.specs.Marks.{is_same, is_start, mark_at}
+use Rattle.dependency_book.specs.Rows.{mark_rank}
+use Rattle.dependency_book.proofs.Standing.{has}
+use Rattle.dependency_book.proofs.Tests.{either_way, clash, eq_true, eq_false, true_eq}
+
+-- whether two marks are one
+
+pub same_mark : (m n : Mark) → is_same m n ≡ true → m ≡ n
+same_mark m n h =
+    let parts = and_parts (m.branch == n.branch) (m.generation == n.generation) h in
+    ap₂ mark_at (true_eq m.branch n.branch parts.0) (true_eq m.generation n.generation parts.1)
+
+pub same_true : (m n : Mark) → m ≡ n → is_same m n ≡ true
+same_true m n one =
+    subst (λ k. is_same m k ≡ true) one
+    (rw (eq_true m.branch m.branch refl, eq_true m.generation m.generation refl) refl)
+
+pub apart : (m n : Mark) → is_same m n ≡ false → m ≡ n → ⊥
+apart m n miss one = clash (is_same m n) (same_true m n one) miss
+
+-- the start is one mark
+pub start_is : (m : Mark) → is_start m ≡ true → m ≡ mark_at 0 0
+start_is m h = same_mark m (mark_at 0 0) h
+
+-- a mark above generation 0 isn't the start
+pub above_start : (m : Mark) → 0 < m.generation → is_start m ≡ false
+above_start m up =
+    either_way (is_start m)
+    (λ hit. absurd
+    (let low : m.generation ≡ 0 = ap (λ (n : Mark). n.generation) (start_is m hit) in omega (arith, low, up)))
+    (λ miss. miss)
+
+-- nor is one of another branch than 0
+pub beside_start : (m : Mark) → 0 < m.branch → is_start m ≡ false
+beside_start m up =
+    either_way (is_start m)
+    (λ hit. absurd (let low : m.branch ≡ 0 = ap (λ (n : Mark). n.branch) (start_is m hit) in omega (arith, low, up)))
+    (λ miss. miss)
+
+-- ranks go by branches, and in a branch by generations
+
+pub rank_branches : (m n : Mark) → m.branch < n.branch → mark_rank m < mark_rank n
+rank_branches m n less = omega (arith, less)
+
+pub rank_branch : (m n : Mark) → mark_rank m ≤ mark_rank n → m.branch ≤ n.branch
+rank_branch m n le = omega (arith, le)
+
+pub rank_generation : (m n : Mark) → m.branch ≡ n.branch → mark_rank m < mark_rank n → m.generation < n.generation
+rank_generation m n same less = omega (arith, same, less)
+
+pub rank_within : (m n : Mark) → m.branch ≡ n.branch → n.generation ≤ 2 ^ 60 → m.generation < n.generation
+    → mark_rank m < mark_rank n
+rank_within m n same near less = omega (arith, same, near, less)
+
+-- only the start has rank 0
+pub rank_zero : (m : Mark) → mark_rank m ≡ 0 → is_start m ≡ true
+rank_zero m zero =
+    let b : m.branch ≡ 0 = omega (arith, zero) in
+    let g : m.generation ≡ 0 = omega (arith, zero) in
+    rw (eq_true m.branch 0 b, eq_true m.generation 0 g) refl
+
+-- a mark that is near enough is the only one of its rank
+pub rank_is : (m n : Mark) → n.generation ≤ 2 ^ 60 → mark_rank m ≡ mark_rank n → m ≡ n
+rank_is m n near same =
+    let b : m.branch ≡ n.branch = omega (arith, near, same) in
+    let g : m.generation ≡ n.generation = omega (arith, near, same, b) in
+    ap₂ mark_at b g
+
+pub rank_test : (n m : Mark) → n.generation ≤ 2 ^ 60 → (mark_rank n == mark_rank m) ≡ is_same n m
+rank_test n m near =
+    either_way (is_same n m)
+    (λ hit. eq_true (mark_rank n) (mark_rank m) (ap mark_rank (same_mark n m hit)) ∙ sym hit)
+    (λ miss. eq_false (mark_rank n) (mark_rank m) (λ same. apart n m miss (sym (rank_is m n near (sym same))))
+    ∙ sym miss)
+
+-- so marks that are near enough have a rank where one of them is its mark
+pub has_mark : (m : Mark) (ms : List Mark) → AllByRecursion (λ (n : Mark). n.generation ≤ 2 ^ 60) ms
+    → has mark_rank (mark_rank m) ms ≡ list_any (λ n. is_same n m) ms
+has_mark m [] near = refl
+has_mark m (n ∷ ms) near = ap₂ (λ a b. a || b) (rank_test n m near.0) (has_mark m ms near.1)

@@ -1,0 +1,12 @@
+use Rattle.std.proofs.Common.{◌≡◌, ◌≤◌, ◌+◌, ◌*◌, ◌++◌, take, vec_len}
+use Rattle.std.specs.Prelude.{flat_map, vec_capacity}
+use Rattle.dependency_book.specs.AllMarks.{but_start}
+use Rattle.dependency_book.specs.Marks.{branch_marks}
+use Rattle.dependency_book.proofs.marks.add_branches.Given as goal
+
+abbrev pub invariant-loop-branch : goal.invariant-loop-branch
+invariant-loop-branch l = record {
+  items : l.marks.items ≡ l.fn.marks.items ++ but_start (flat_map branch_marks (take l.branch-index l.branches));
+  len : vec_len l.marks ≤ vec_len l.fn.marks + 2 * l.branch-index;
+  capacity : vec_capacity l.marks ≡ vec_capacity l.fn.marks;
+}
