@@ -54,6 +54,7 @@ fn edits(alloc: Global, rule: Arc<Rule>) -> Result<Vec<Edit>, AllocError> {
         cells: one_cell(alloc)?,
     })?;
     edits.push(Edit::AddBookmark {
+        branch: 0,
         generation: 0,
         view: View::Counts,
     })?;

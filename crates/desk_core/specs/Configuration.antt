@@ -1,5 +1,5 @@
 -- A desk among whoever works its jobs, and what may happen there, in any order.
-use Rattle.std.specs.Prelude.{◌≡◌, ◌⊎◌, ℕ, ◌<◌, ◌≤◌, List, [], ◌∷◌, ◌++◌, Some, IfOk}
+use Rattle.std.specs.Prelude.{◌≡◌, ◌⊎◌, ℕ, ◌≤◌, List, [], ◌∷◌, ◌++◌, Some, IfOk}
 use Rattle.schedule.specs.declared.document.Bookmark.{Bookmark}
 use Rattle.schedule.specs.Scratch.{scratch}
 use Rattle.schedule.specs.Sound.{IsSound}
@@ -17,16 +17,16 @@ use Rattle.dependency_book.specs.Right.{Stands}
 use Rattle.dependency_book.specs.RowState.{job_of}
 use Rattle.desk_core.specs.Events.{Core, Event, CanHappen, after_event, core_of, edits, issues, collects, cancels, recalls}
 
--- the core of the desk, the jobs that are queued, those that a worker took and hasn't answered, each
--- with the worker, and the answers that weren't collected
+-- the core of the desk, the jobs that are queued, those that a worker took and hasn't answered,
+-- each with the worker, and the answers that weren't collected
 pub record Configuration : Type 0 where
   pub core : Core
   pub queued : List Job
   pub taken : List (ℕ × Job)
   pub answers : List JobResult
 
--- what may happen: an event of the desk; a worker takes a queued job, finishes one with an answer, or
--- drops one; a queued job or an answer is lost; an answer comes once more
+-- what may happen: an event of the desk; a worker takes a queued job, finishes one with an answer,
+-- or drops one; a queued job or an answer is lost; an answer comes once more
 pub data Happening : Type 0 where
   desk : Event → Happening
   takes : ℕ → Job → Happening
@@ -147,9 +147,9 @@ abbrev pub IsOneTable : Entries → Type 0
 IsOneTable table =
     (a b : Place) → IsOf table a → IsOf table b → index_of a ≡ index_of b → entry_of a ≡ entry_of b
 
--- the document keeps its limits; each arrival that is known is what arrives, each text that is known
--- is what starting over gives, and each job that is out gives that; no two rows expect jobs of one
--- number
+-- the document keeps its limits; each arrival that is known is what arrives, each text that is
+-- known is what starting over gives, and each job that is out gives that; no two rows expect jobs of
+-- one number
 pub record IsRightCore (table : Entries) (c : Core) : Type 0 where
   pub sound : IsSound c.plan
   pub stands : (need : Need) → Stands table c.given c.plan need (c.rows need)

@@ -21,8 +21,8 @@ use Rattle.desk_core.specs.declared.settling.Settling.TheVariants.{Settled, Unse
 abbrev pub GaveUp : List JobResult → EvolveFault → Type 0
 GaveUp answers fault = Any (λ (answer : JobResult). answer.outcome ≡ Err fault) answers
 
--- one of the answers says that its job gave up for want of room, and its job's entry has none at some
--- limit
+-- one of the answers says that its job gave up for want of room, and its job's entry has none at
+-- some limit
 abbrev pub FoundNoRoom : List JobResult → Type 0
 FoundNoRoom answers = Any (λ (answer : JobResult).
     (answer.outcome ≡ Err EvolveFault.NoRoom)

@@ -30,9 +30,9 @@ impl Desk<'_> {
     /// Takes an answer of the desk's table, however late it is or how often it comes. Whether a row
     /// expects its job decides, and no comparison of revisions.
     ///
-    /// What came of a step is kept beside the rows, and where a row was filled, what is known by such
-    /// steps is entered too. Where there is no memory for that nothing is kept or found; an answer
-    /// is never refused.
+    /// What came of a step is kept beside the rows, and where a row was filled, what is known by
+    /// such steps is entered too. Where there is no memory for that nothing is kept or found; an
+    /// answer is never refused.
     pub fn collect(&mut self, answer: Answer) -> Collected
         requires own { IsOf self.old.table answer.job.place }
         ensures collected { IsCollected self.old self.new answer result }

@@ -38,8 +38,8 @@ impl<'e> Model for Desk<'e> {
 }
 
 impl<'e> Desk<'e> {
-    /// A desk with the opening document of revision 0, whose jobs are of this table. At most so many
-    /// steps are kept with what came of them, and at least one.
+    /// A desk with the opening document of revision 0, whose jobs are of this table. At most so
+    /// many steps are kept with what came of them, and at least one.
     pub fn open(alloc: Global, entries: &'e Entries, facts: u32) -> Result<Desk<'e>, AllocError>
         ensures opened { IfOk result (λ desk. desk ≡ opened entries.now 0) }
         ensures right { IfOk result IsRight }

@@ -36,10 +36,10 @@ impl From<AllocError> for IssueFault {
 
 impl Desk<'_> {
     /// A job for what is to be computed next, which nobody computes yet; None where nothing is, and
-    /// then nothing is pending unless a job is out. Its number is the next one, its entry stands in the
-    /// desk's table, and the row that needs it expects its answer. NumbersSpent where every number
-    /// was given, else NoMemory; then nothing changes. It may wait for another thread that pushes an
-    /// entry.
+    /// then nothing is pending unless a job is out. Its number is the next one, its entry stands in
+    /// the desk's table, and the row that needs it expects its answer. NumbersSpent where every
+    /// number was given, else NoMemory; then nothing changes. It may wait for another thread that
+    /// pushes an entry.
     pub fn issue(&mut self, rt: &impl Wait) -> Result<Option<Job>, IssueFault>
         ensures issued { IfOk result (IsIssued self.old self.new) }
         ensures refused { IfErr result (RefusesIssue self.old) }

@@ -16,8 +16,8 @@ use std::mem;
 use std::ops::ControlFlow;
 use std::sync::Wait;
 
-// How far a settling is: the job that it hasn't sent yet, and the first cause, after which it issues
-// nothing more.
+// How far a settling is: the job that it hasn't sent yet, and the first cause, after which it
+// issues nothing more.
 #[derive(Drop)]
 pub(crate) struct Progress {
     pub(crate) unsent: Unsent,
@@ -62,7 +62,8 @@ impl Progress {
         post: &mut P,
     ) -> ControlFlow<()>
         requires { Fits desk.old (P.table post.old) (P.floor post.old) (job_in self.old.unsent) }
-        ensures fits { Fits desk.new (P.table post.new) (P.floor post.new) (job_in self.new.unsent) }
+        ensures fits { Fits desk.new (P.table post.new) (P.floor post.new)
+            (job_in self.new.unsent) }
         ensures goes { GoesOnOver P.floor P.answers post.old post.new
             desk.old desk.new self.old self.new }
         ensures kind { P.is_prompt post.new ≡ P.is_prompt post.old }
@@ -109,7 +110,8 @@ impl Progress {
     fn send<P: Post>(&mut self, desk: &mut Desk<'_>, post: &mut P, job: Job) -> ControlFlow<()>
         requires fits { Fits desk.old (P.table post.old) (P.floor post.old) (Some job) }
         requires none { self.old.unsent ≡ Unsent.Nothing }
-        ensures fits { Fits desk.new (P.table post.new) (P.floor post.new) (job_in self.new.unsent) }
+        ensures fits { Fits desk.new (P.table post.new) (P.floor post.new)
+            (job_in self.new.unsent) }
         ensures goes { GoesOnOver P.floor P.answers post.old post.new
             desk.old desk.new (ready job self.old) self.new }
         ensures kind { P.is_prompt post.new ≡ P.is_prompt post.old }
@@ -132,7 +134,8 @@ impl Progress {
     // Takes an answer, if there is one. A post that has none any more ends the settling.
     fn receive<P: Post>(&mut self, desk: &mut Desk<'_>, post: &mut P) -> ControlFlow<()>
         requires { Fits desk.old (P.table post.old) (P.floor post.old) (job_in self.old.unsent) }
-        ensures fits { Fits desk.new (P.table post.new) (P.floor post.new) (job_in self.new.unsent) }
+        ensures fits { Fits desk.new (P.table post.new) (P.floor post.new)
+            (job_in self.new.unsent) }
         ensures goes { GoesOnOver P.floor P.answers post.old post.new
             desk.old desk.new self.old self.new }
         ensures kind { P.is_prompt post.new ≡ P.is_prompt post.old }

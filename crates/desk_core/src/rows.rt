@@ -7,8 +7,8 @@ use crate::desk::Desk;
 use dependency_book::ShownRows;
 
 impl Desk<'_> {
-    /// The bookmarks of the present document by rising id, each with what `shown` answers of it: its
-    /// text, or none while it is pending. The texts are lent, and it takes no memory.
+    /// The bookmarks of the present document by rising id, each with what `shown` answers of it:
+    /// its text, or none while it is pending. The texts are lent, and it takes no memory.
     pub fn rows(&self) -> ShownRows<'_>
         ensures rows { result ≡ shown_rows self.now }
         ensures right { AllByRecursion (IsScratch self.now.plan) result }

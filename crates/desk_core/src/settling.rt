@@ -1,6 +1,7 @@
 //! Settling: issuing, sending and collecting until every bookmark is current.
 ghost use Rattle.std.specs.Prelude.{◌≡◌, ◌≤◌, ◌*◌};
-ghost use Rattle.desk_core.specs.Settling.{EndsOver, HasCause, IfPrompt, IsHeld, Serves, Settles, rows_of};
+ghost use Rattle.desk_core.specs.Settling.{EndsOver, HasCause, IfPrompt, IsHeld, Serves};
+ghost use Rattle.desk_core.specs.Settling.{Settles, rows_of};
 
 use crate::cause::Cause;
 use crate::desk::Desk;

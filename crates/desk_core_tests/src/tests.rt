@@ -34,14 +34,18 @@ enum Change {
     Insert(u64),
     /// Removes the intervention of this id.
     Remove(u64),
-    /// Adds a bookmark of counts at this generation.
+    /// Adds a bookmark of counts at this generation of branch 0.
     Mark(u64),
+    /// Adds a bookmark of counts at a generation of a branch.
+    MarkIn { branch: u64, generation: u64 },
     /// Adds a bookmark of this view at generation 2.
     View(View),
     /// Moves the bookmark of an id.
     Move { id: u64, generation: u64 },
     /// Removes the bookmark of this id.
     Unmark(u64),
+    /// Adds a branch that leaves branch 0 at this generation.
+    Branch(u64),
 }
 
 /// Stops the test where what was found isn't what was wanted.
@@ -71,6 +75,14 @@ fn rule_x(rt: &impl Abort, alloc: Global) -> Arc<Rule> {
     Arc::new(alloc, rule).expect(rt, "memory")
 }
 
+fn counts_at(branch: u64, generation: u64) -> Edit {
+    Edit::AddBookmark {
+        branch,
+        generation,
+        view: View::Counts,
+    }
+}
+
 fn edit_of(rt: &impl Abort, alloc: Global, change: Change) -> Edit {
     match change {
         Change::Rule => Edit::ReplaceRule(rule_x(rt, alloc)),
@@ -78,20 +90,24 @@ fn edit_of(rt: &impl Abort, alloc: Global, change: Change) -> Edit {
             cells: cells_of(rt, alloc, rows),
         },
         Change::Insert(generation) => Edit::InsertIntervention {
+            branch: 0,
             generation,
             cells: cells_of(rt, alloc, &[(0, 0, 1)]),
         },
         Change::Remove(id) => Edit::RemoveIntervention { id },
-        Change::Mark(generation) => Edit::AddBookmark {
-            generation,
-            view: View::Counts,
-        },
+        Change::Mark(generation) => counts_at(0, generation),
+        Change::MarkIn { branch, generation } => counts_at(branch, generation),
         Change::View(view) => Edit::AddBookmark {
+            branch: 0,
             generation: 2,
             view,
         },
         Change::Move { id, generation } => Edit::MoveBookmark { id, generation },
         Change::Unmark(id) => Edit::RemoveBookmark { id },
+        Change::Branch(generation) => Edit::AddBranch {
+            parent: 0,
+            generation,
+        },
     }
 }
 

@@ -14,8 +14,8 @@ const SQUARES: u32 = 4096;
 /// More turns than these desks take.
 const TURNS: u32 = 100;
 
-/// A row as it is wanted: the bookmark's id and generation, and its text.
-type Row = (u64, u64, &'static [u8]);
+/// A row as it is wanted: the bookmark's id, branch and generation, and its text.
+type Row = (u64, u64, u64, &'static [u8]);
 
 /// What the text of a pending bookmark is compared with.
 const PENDING: &[u8] = b"pending";
@@ -26,11 +26,23 @@ fn edit(rt: &impl Abort, desk: &mut Desk<'_>, edit: &Edit)
     desk.edit(edit).expect(rt, "an accepted edit");
 }
 
-/// Adds a bookmark of counts at a generation.
-fn mark(rt: &impl Abort, desk: &mut Desk<'_>, generation: u64)
+/// Adds a branch that leaves branch 0 at a generation.
+fn fork(rt: &impl Abort, desk: &mut Desk<'_>, generation: u64)
+    ensures { desk.new.table ≡ desk.old.table }
+{
+    let branch = Edit::AddBranch {
+        parent: 0,
+        generation,
+    };
+    edit(rt, desk, &branch);
+}
+
+/// Adds a bookmark of counts at a generation of a branch.
+fn mark(rt: &impl Abort, desk: &mut Desk<'_>, branch: u64, generation: u64)
     ensures { desk.new.table ≡ desk.old.table }
 {
     let bookmark = Edit::AddBookmark {
+        branch,
         generation,
         view: View::Counts,
     };
@@ -75,8 +87,9 @@ fn text_of(row: &ShownRow) -> &[u8] {
 
 fn check_row(rt: &impl Abort, row: &ShownRow, wanted: &Row) {
     same(rt, &row.bookmark.id, &wanted.0, wanted);
-    same(rt, &row.bookmark.generation, &wanted.1, wanted);
-    same(rt, &text_of(row), &wanted.2, wanted);
+    same(rt, &row.bookmark.branch, &wanted.1, wanted);
+    same(rt, &row.bookmark.generation, &wanted.2, wanted);
+    same(rt, &text_of(row), &wanted.3, wanted);
 }
 
 /// Stops the test where the snapshot has another revision or other rows.
@@ -95,15 +108,17 @@ fn snapshots_keep_what_the_desk_showed(rt: HostRuntime) {
     let entries = Entries::new(alloc).expect(&rt, "memory");
     let mut desk = Desk::open(alloc, &entries, 1).expect(&rt, "memory");
     let opened = taken(&rt, alloc, &desk);
-    mark(&rt, &mut desk, 0);
+    mark(&rt, &mut desk, 0, 0);
     let pending = taken(&rt, alloc, &desk);
     settle_all(&rt, alloc, &entries, &mut desk);
-    mark(&rt, &mut desk, 3);
+    fork(&rt, &mut desk, 2);
+    mark(&rt, &mut desk, 1, 3);
     let one_settled = taken(&rt, alloc, &desk);
     set_one(&rt, alloc, &mut desk);
     let edited = taken(&rt, alloc, &desk);
     check_rows(&rt, &opened, 0, &[]);
-    check_rows(&rt, &pending, 1, &[(1, 0, PENDING)]);
-    check_rows(&rt, &one_settled, 2, &[(1, 0, b"empty\n"), (2, 3, PENDING)]);
-    check_rows(&rt, &edited, 3, &[(1, 0, PENDING), (2, 3, PENDING)]);
+    check_rows(&rt, &pending, 1, &[(1, 0, 0, PENDING)]);
+    let known = (1, 0, 0, b"empty\n".as_slice());
+    check_rows(&rt, &one_settled, 3, &[known, (2, 1, 3, PENDING)]);
+    check_rows(&rt, &edited, 4, &[(1, 0, 0, PENDING), (2, 1, 3, PENDING)]);
 }

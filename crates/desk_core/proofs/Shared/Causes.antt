@@ -1,5 +1,5 @@
 -- What explains a cause explains it still, while jobs come and go.
-use Rattle.std.proofs.Common.{◌≡◌, ℕ, ◌+◌, ◌<◌, ◌≤◌, ◌∙◌, List, [], ◌∷◌, ◌++◌, length, refl, sym, ap, subst, inl, inr, arith, append-nil, Option, None, Some, Err, true}
+use Rattle.std.proofs.Common.{◌≡◌, ℕ, ◌+◌, ◌<◌, ◌≤◌, ◌∙◌, List, [], ◌∷◌, ◌++◌, length, refl, sym, subst, inl, inr, arith, append-nil, Option, None, Some, Err}
 use Rattle.std.specs.Prelude.{IfSome, unwrap_or}
 use Rattle.std.specs.List.{Any}
 use Rattle.std.proofs.Math.ListN.{get_or-append}
@@ -29,8 +29,10 @@ any-before P answers more h = (h.0, h.1, longer, get_or-append answers more h.1 
     longer : h.0 < length (answers ++ more)
     longer = let low = h.2 in grind (arith, common_steps)
 
-any-last : (P : JobResult → Type 0) (answers : List JobResult) (answer : JobResult) → P answer → Any P (answers ++ answer ∷ [])
-any-last P answers answer says = (length answers + 0, answer, longer, get_or-append-add answers (answer ∷ []) 0 answer, says)
+any-last : (P : JobResult → Type 0) (answers : List JobResult) (answer : JobResult) → P answer
+    → Any P (answers ++ answer ∷ [])
+any-last P answers answer says =
+    (length answers + 0, answer, longer, get_or-append-add answers (answer ∷ []) 0 answer, says)
   where
     longer : length answers + 0 < length (answers ++ answer ∷ [])
     longer = grind (arith, common_steps)
@@ -41,42 +43,57 @@ abbrev Gave : EvolveFault → JobResult → Type 0
 Gave fault answer = answer.outcome ≡ Err fault
 
 abbrev FoundNone : JobResult → Type 0
-FoundNone answer = (answer.outcome ≡ Err EvolveFault.NoRoom) × ((limit : ℕ) × HasNoRoom limit (entry_of answer.job.place))
+FoundNone answer = (answer.outcome ≡ Err EvolveFault.NoRoom)
+    × ((limit : ℕ) × HasNoRoom limit (entry_of answer.job.place))
 
 -- causes
 
 -- a cause fits still where no more numbers are given
-pub explains-kept : (old new : BookState) (answers more : List JobResult) (cause : Option Cause) → SameBook old new → IfSome cause (Explains old answers) → IfSome cause (Explains new (answers ++ more))
+pub explains-kept : (old new : BookState) (answers more : List JobResult) (cause : Option Cause) → SameBook old new
+    → IfSome cause (Explains old answers) → IfSome cause (Explains new (answers ++ more))
 explains-kept old new answers more None same h = tt
-explains-kept old new answers more (Some NoMemory) same (inl gave) = inl (any-before (Gave EvolveFault.NoMemory) answers more gave)
+explains-kept old new answers more (Some NoMemory) same (inl gave) =
+    inl (any-before (Gave EvolveFault.NoMemory) answers more gave)
 explains-kept old new answers more (Some NoMemory) same (inr few) = inr (subst (λ n. n < 16777216) (sym same.given) few)
 explains-kept old new answers more (Some NoRoom) same h = any-before FoundNone answers more h
 explains-kept old new answers more (Some WasStopped) same h = any-before (Gave EvolveFault.Stopped) answers more h
 explains-kept old new answers more (Some NumbersSpent) same h = subst (λ n. 16777216 ≤ n) (sym same.given) h
 
 -- why a job gave up fits: for want of room only where its entry has none
-explains-released : (old new : BookState) (answers : List JobResult) (answer : JobResult) (fault : EvolveFault) → answer.outcome ≡ Err fault → (fault ≡ EvolveFault.NoRoom → StepExpects old answer.job) → Explains new (answers ++ answer ∷ []) (cause_of_answer fault)
-explains-released old new answers answer EvolveFault.NoMemory gave room = inl (any-last (Gave EvolveFault.NoMemory) answers answer gave)
-explains-released old new answers answer EvolveFault.Stopped gave room = any-last (Gave EvolveFault.Stopped) answers answer gave
-explains-released old new answers answer EvolveFault.NoRoom gave room = any-last FoundNone answers answer (gave, (room refl).spent)
+explains-released : (old new : BookState) (answers : List JobResult) (answer : JobResult) (fault : EvolveFault)
+    → answer.outcome ≡ Err fault → (fault ≡ EvolveFault.NoRoom → StepExpects old answer.job)
+    → Explains new (answers ++ answer ∷ []) (cause_of_answer fault)
+explains-released old new answers answer EvolveFault.NoMemory gave room =
+    inl (any-last (Gave EvolveFault.NoMemory) answers answer gave)
+explains-released old new answers answer EvolveFault.Stopped gave room =
+    any-last (Gave EvolveFault.Stopped) answers answer gave
+explains-released old new answers answer EvolveFault.NoRoom gave room =
+    any-last FoundNone answers answer (gave, (room refl).spent)
 
 -- the first cause is told
-explains-first : (d : BookState) (answers : List JobResult) (before : Option Cause) (cause : Cause) → Explains d answers cause → IfSome before (Explains d answers) → Explains d answers (unwrap_or before cause)
+explains-first : (d : BookState) (answers : List JobResult) (before : Option Cause) (cause : Cause)
+    → Explains d answers cause → IfSome before (Explains d answers) → Explains d answers (unwrap_or before cause)
 explains-first d answers None cause h first = h
 explains-first d answers (Some c) cause h first = first
 
-pub explains-collected : (old new : BookState) (answers : List JobResult) (answer : JobResult) (before : Option Cause) (fault : EvolveFault) (told cause : Cause) → IsCollected old new answer (Released fault) → told ≡ cause_of_answer fault → cause ≡ unwrap_or before told
+pub explains-collected : (old new : BookState) (answers : List JobResult) (answer : JobResult) (before : Option Cause)
+    (fault : EvolveFault) (told cause : Cause) → IsCollected old new answer (Released fault)
+    → told ≡ cause_of_answer fault → cause ≡ unwrap_or before told
     → IfSome before (Explains new (answers ++ answer ∷ [])) → Explains new (answers ++ answer ∷ []) cause
 explains-collected old new answers answer before fault told cause h is first so =
     subst (Explains new (answers ++ answer ∷ [])) (sym first)
     (explains-first new (answers ++ answer ∷ []) before told
-    (subst (Explains new (answers ++ answer ∷ [])) (sym is) (explains-released old new answers answer fault h.gave_up h.room))
+    (subst (Explains new (answers ++ answer ∷ [])) (sym is)
+    (explains-released old new answers answer fault h.gave_up h.room))
     so)
 
-pub explains-refused : (d : BookState) (answers : List JobResult) (fault : IssueFault) → RefusesIssue d fault → Explains d answers (cause_of_issue fault)
+pub explains-refused : (d : BookState) (answers : List JobResult) (fault : IssueFault) → RefusesIssue d fault
+    → Explains d answers (cause_of_issue fault)
 explains-refused d answers issue.NumbersSpent h = h.1
 explains-refused d answers issue.NoMemory h = inr h.1
 
 -- what explains a cause explains it while no more numbers are given
-pub explains-cancelled : (old new : BookState) → SameBook old new → (answers : List JobResult) (cause : Cause) → Explains old answers cause → Explains new answers cause
-explains-cancelled old new same answers cause h = subst (λ xs. Explains new xs cause) (append-nil answers) (explains-kept old new answers [] (Some cause) same h)
+pub explains-cancelled : (old new : BookState) → SameBook old new → (answers : List JobResult) (cause : Cause)
+    → Explains old answers cause → Explains new answers cause
+explains-cancelled old new same answers cause h =
+    subst (λ xs. Explains new xs cause) (append-nil answers) (explains-kept old new answers [] (Some cause) same h)

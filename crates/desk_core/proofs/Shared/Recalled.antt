@@ -10,7 +10,8 @@ use Rattle.dependency_book.specs.Recalled.{Recalls}
 use Rattle.dependency_book.proofs.Shared.Recalling.{Stays, recalls_row}
 
 -- a job that is out then was out before
-pub recalls_out : (d e : BookState) (need : Need) (out : Job) → Recalls d e → expected e need ≡ Some out → expected d need ≡ Some out
+pub recalls_out : (d e : BookState) (need : Need) (out : Job) → Recalls d e → expected e need ≡ Some out
+    → expected d need ≡ Some out
 recalls_out d e need out h is = by_row (recalls_row d e need h)
   where
     known_none : (v : Value) → job_of (Known v) ≡ Some out → ⊥

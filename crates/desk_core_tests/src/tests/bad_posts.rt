@@ -168,6 +168,30 @@ fn answers_come_twice_and_late_and_in_another_order(rt: HostRuntime) {
     }
 }
 
+// The first job is the step to 8 in branch 0. The others are answered before it, and are those of
+// branch 1: the step of no generation with which it begins, the one to 3, and the text there.
+#[test]
+fn steps_of_two_branches_are_out_at_once(rt: HostRuntime) {
+    let deeds = &[Deed::Second, Deed::Second, Deed::Second];
+    let entries = Entries::new(rt.alloc()).expect(&rt, "memory");
+    let mut scene = Scene::open(&rt, rt.alloc(), &entries, deeds);
+    scene.edit(&rt, Change::Branch(0));
+    let mark = Change::MarkIn {
+        branch: 1,
+        generation: 3,
+    };
+    scene.edit(&rt, mark);
+    let left = Settling::Unsettled {
+        pending: 1,
+        cause: None,
+    };
+    scene.settles(&rt, 7, left, 4);
+    same(&rt, &scene.desk.first_out(), &Some(0), &"out");
+    scene.shows(&rt, 2, "1 4\n");
+    scene.settles(&rt, TURNS, Settling::Settled, 5);
+    scene.shows(&rt, 1, "1 2\n");
+}
+
 /// What a post does, the job whose answer it loses, and how many bookmarks are pending and how many
 /// jobs were given where the settling ends.
 struct Loss {

@@ -229,8 +229,8 @@ impl<'e> Bench<'e> {
         settle(rt, &mut self.desk, &mut post, turns)
     }
 
-    // Settles with memory for all. Where a growth is refused the cause is told, and the next settling
-    // computes what is left.
+    // Settles with memory for all. Where a growth is refused the cause is told, and the next
+    // settling computes what is left.
     fn settle<R: Abort + Wait>(&mut self, rt: &R) {
         let settling = self.settled(rt, SQUARES, TURNS);
         if settling == Settling::Settled {

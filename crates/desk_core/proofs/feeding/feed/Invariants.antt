@@ -10,7 +10,8 @@ invariant-loop-job g l = record {
   serves : Serves l.desk (g.P.Post.table l.post) (g.P.Post.floor l.post);
   kind : g.P.Post.is_prompt l.post ≡ g.P.Post.is_prompt l.initial.post;
   silent : g.P.Post.answers l.post ≡ g.P.Post.answers l.initial.post;
-  held : g.P.Post.is_prompt l.initial.post ≡ true → IsHeld (g.P.Post.held l.initial.post) l.initial.desk → IsHeld (g.P.Post.held l.post) l.desk;
+  held : g.P.Post.is_prompt l.initial.post ≡ true → IsHeld (g.P.Post.held l.initial.post) l.initial.desk
+      → IsHeld (g.P.Post.held l.post) l.desk;
 }
 
 abbrev pub decreases-loop-job : goal.decreases-loop-job

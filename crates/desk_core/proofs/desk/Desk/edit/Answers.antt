@@ -14,14 +14,18 @@ pub returns-clause-ok : goal.returns-clause-ok
 returns-clause-ok c =
     let asked = asked_of c.args.edit.now in
     subst (λ (old : BookState). IfOk c.revise.result (Makes asked old c.revise.new.self)) c.self.view_is
-    (edits-answered c.revise.result c.self.inside.book c.revise.new.self asked c.revise.ensures.ok c.revise.ensures.revises)
+    (edits-answered c.revise.result c.self.inside.book c.revise.new.self asked c.revise.ensures.ok
+    c.revise.ensures.revises)
 
-table_stays : (r : Result Edited EditFault) (old new : BookState) (asked : Asked) → OnOk r (Revises asked old new) → OnErr r (new ≡ old) → new.table ≡ old.table
+table_stays : (r : Result Edited EditFault) (old new : BookState) (asked : Asked) → OnOk r (Revises asked old new)
+    → OnErr r (new ≡ old) → new.table ≡ old.table
 table_stays (Ok edited) old new asked h same = (recalls_book h.kept new h.recalls).document.table ∙ h.keeps.keeps.table
 table_stays (Err fault) old new asked h same = ap (λ (d : BookState). d.table) same
 
 pub invariant_of-self : goal.invariant_of-self
 invariant_of-self c = record {
-  table = c.self.invariant.table ∙ sym (table_stays c.revise.result c.self.inside.book c.revise.new.self (asked_of c.args.edit.now) c.revise.ensures.revises c.revise.ensures.unchanged);
+  table = c.self.invariant.table
+      ∙ sym (table_stays c.revise.result c.self.inside.book c.revise.new.self
+      (asked_of c.args.edit.now) c.revise.ensures.revises c.revise.ensures.unchanged);
   right = c.revise.ensures.right;
 }

@@ -23,7 +23,10 @@ returns-clause-issued g c =
       given = c.expect.ensures.given;
       fewer = c.expect.ensures.fewer;
       can = can_issue old need expected next c.in-Some.ensures.empty;
-      event = issues-core old new need expected c.given-number.ensures c.expect.ensures.document.plan c.expect.ensures.given c.expect.ensures.rows;
+      event = issues-core old new need expected c.given-number.ensures c.expect.ensures.document.plan
+          c.expect.ensures.given c.expect.ensures.rows;
     } in
-    subst (λ (d : BookState). IsIssued d new (Some (record { number = number; place = c.in_ok-place.place }))) (c.next_need.ensures.same ∙ c.self.view_is)
-    (subst (λ (p : Place). IsIssued old new (Some (record { number = number; place = p }))) c.share.ensures (need, issued))
+    subst (λ (d : BookState). IsIssued d new (Some (record { number = number; place = c.in_ok-place.place })))
+    (c.next_need.ensures.same ∙ c.self.view_is)
+    (subst (λ (p : Place). IsIssued old new (Some (record { number = number; place = p }))) c.share.ensures
+    (need, issued))
