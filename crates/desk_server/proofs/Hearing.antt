@@ -20,28 +20,38 @@ use Rattle.desk_server.specs.declared.request.Request.{Request}
 use Rattle.desk_server.specs.declared.request.Request.TheVariants as request
 
 -- lines up to one that is `end` are the text
-asks-text : (stop : End) (at : ℕ) (f : Format) (kept : List ℕ) (n : ℕ) (lines : List Line) (closing : Line) (rest : List Line) → NoneEnds lines → is_end closing.says ≡ true
-    → asks stop (InText at f kept) n (lines ++ closing ∷ rest) ≡ Take f (kept ++ raw_bytes lines) ∷ asks stop Between (n + length lines + 1) rest
-asks-text stop at f kept n [] closing rest inside ends = rw ends (ap (λ t. Take f t ∷ asks stop Between (n + 1) rest) (sym (append-nil kept)) ∙ ap (λ m. Take f (kept ++ []) ∷ asks stop Between m rest) (omega arith))
+asks-text : (stop : End) (at : ℕ) (f : Format) (kept : List ℕ) (n : ℕ) (lines : List Line) (closing : Line)
+    (rest : List Line) → NoneEnds lines → is_end closing.says ≡ true
+    → asks stop (InText at f kept) n (lines ++ closing ∷ rest) ≡ Take f (kept ++ raw_bytes lines) ∷ asks stop Between
+    (n + length lines + 1) rest
+asks-text stop at f kept n [] closing rest inside ends =
+    rw ends (ap (λ t. Take f t ∷ asks stop Between (n + 1) rest) (sym (append-nil kept))
+    ∙ ap (λ m. Take f (kept ++ []) ∷ asks stop Between m rest) (omega arith))
 asks-text stop at f kept n (line ∷ lines) closing rest inside ends =
     rw inside.0 (asks-text stop at f (kept ++ line.raw) (n + 1) lines closing rest inside.1 ends
-    ∙ ap (λ t. Take f t ∷ asks stop Between (n + 1 + length lines + 1) rest) (append_assoc kept line.raw (raw_bytes lines))
+    ∙ ap (λ t. Take f t ∷ asks stop Between (n + 1 + length lines + 1) rest)
+    (append_assoc kept line.raw (raw_bytes lines))
     ∙ ap (λ m. Take f (kept ++ (line.raw ++ raw_bytes lines)) ∷ asks stop Between m rest) (omega arith))
 
 -- where none is `end`, the text has no end
-asks-open_text : (stop : End) (at : ℕ) (f : Format) (kept : List ℕ) (n : ℕ) (lines : List Line) → NoneEnds lines → asks stop (InText at f kept) n lines ≡ without_end stop at
+asks-open_text : (stop : End) (at : ℕ) (f : Format) (kept : List ℕ) (n : ℕ) (lines : List Line) → NoneEnds lines
+    → asks stop (InText at f kept) n lines ≡ without_end stop at
 asks-open_text stop at f kept n [] inside = refl
-asks-open_text stop at f kept n (line ∷ lines) inside = rw inside.0 (asks-open_text stop at f (kept ++ line.raw) (n + 1) lines inside.1)
+asks-open_text stop at f kept n (line ∷ lines) inside =
+    rw inside.0 (asks-open_text stop at f (kept ++ line.raw) (n + 1) lines inside.1)
 
-asks-command : (stop : End) (n : ℕ) (line : Line) (rest : List Line) → is_passed_over line.says ≡ false → format_of line.says ≡ None
+asks-command : (stop : End) (n : ℕ) (line : Line) (rest : List Line) → is_passed_over line.says ≡ false
+    → format_of line.says ≡ None
     → asks stop Between n (line ∷ rest) ≡ asked_by n (command_of line.says) ∷ asks stop Between (n + 1) rest
 asks-command stop n line rest passed text = rw passed (rw text refl)
 
-asks-text_command : (stop : End) (n : ℕ) (f : Format) (line : Line) (rest : List Line) → is_passed_over line.says ≡ false → format_of line.says ≡ Some f
+asks-text_command : (stop : End) (n : ℕ) (f : Format) (line : Line) (rest : List Line)
+    → is_passed_over line.says ≡ false → format_of line.says ≡ Some f
     → asks stop Between n (line ∷ rest) ≡ asks stop (InText n f []) (n + 1) rest
 asks-text_command stop n f line rest passed text = rw passed (rw text refl)
 
-pub hears-command : (old new : Ahead) (kept : KeptLine) (last : Bool) (r : Request) (n k : ℕ) → k ≡ n → (t : LineTaken last old new kept) → is_passed_over t.line.says ≡ false → format_of t.line.says ≡ None
+pub hears-command : (old new : Ahead) (kept : KeptLine) (last : Bool) (r : Request) (n k : ℕ) → k ≡ n
+    → (t : LineTaken last old new kept) → is_passed_over t.line.says ≡ false → format_of t.line.says ≡ None
     → AsksFor r (asked_by k (command_of t.line.says)) → Hears old new Between (Some r) last n (n + 1)
 hears-command old new kept last r n k same t passed text is = record {
   bytes = t.line.raw;
@@ -61,7 +71,9 @@ follows-any false stop more e = tt
 follows-any true stop more e = absurd (cc)
 
 -- the command of a text
-pub hears-text : (old mid new : Ahead) (format : Format) (kept : KeptLine) (first : Bool) (heard : Option Request) (last : Bool) (n m : ℕ) → first ≡ false → (t : LineTaken first old mid kept) → is_passed_over t.line.says ≡ false → format_of t.line.says ≡ Some format
+pub hears-text : (old mid new : Ahead) (format : Format) (kept : KeptLine) (first : Bool) (heard : Option Request)
+    (last : Bool) (n m : ℕ) → first ≡ false → (t : LineTaken first old mid kept) → is_passed_over t.line.says ≡ false
+    → format_of t.line.says ≡ Some format
     → Hears mid new (InText n format []) heard last (n + 1) m → Hears old new Between heard last n m
 hears-text old mid new format kept first heard last n m e t passed text h = record {
   bytes = t.line.raw ++ h.bytes;
@@ -76,37 +88,46 @@ hears-text old mid new format kept first heard last n m e t passed text h = reco
   at_end = h.at_end;
 }
 
-pub breaks-text : (old mid new : Ahead) (format : Format) (kept : KeptLine) (first : Bool) (n : ℕ) → first ≡ false → (t : LineTaken first old mid kept) → is_passed_over t.line.says ≡ false → format_of t.line.says ≡ Some format
+pub breaks-text : (old mid new : Ahead) (format : Format) (kept : KeptLine) (first : Bool) (n : ℕ) → first ≡ false
+    → (t : LineTaken first old mid kept) → is_passed_over t.line.says ≡ false → format_of t.line.says ≡ Some format
     → BreaksOff mid new (InText n format []) (n + 1) → BreaksOff old new Between n
 breaks-text old mid new format kept first n e t passed text b = record {
   bytes = t.line.raw ++ b.bytes;
   taken = takes_then old mid new t.line.raw b.bytes t.taken b.taken;
-  law = ap (asks Broken Between n) (t.law Broken b.bytes (follows-any first Broken b.bytes e)) ∙ asks-text_command Broken n format t.line (lines_until Broken b.bytes) passed text ∙ b.law;
+  law = ap (asks Broken Between n) (t.law Broken b.bytes (follows-any first Broken b.bytes e))
+      ∙ asks-text_command Broken n format t.line (lines_until Broken b.bytes) passed text ∙ b.law;
 }
 
 -- nothing follows the command of a text
-nothing-follows : (stop : End) (n m : ℕ) (format : Format) (more : List ℕ) → Follows true stop more → asks stop (InText n format []) m (lines_until stop more) ≡ Refuse (NoEnd n) ∷ asks stop Between m (lines_until stop more)
+nothing-follows : (stop : End) (n m : ℕ) (format : Format) (more : List ℕ) → Follows true stop more
+    → asks stop (InText n format []) m (lines_until stop more) ≡ Refuse (NoEnd n) ∷ asks stop Between m
+    (lines_until stop more)
 nothing-follows stop n m format more f =
     ap (λ v. asks stop (InText n format []) m (lines_until stop v)) f.1
     ∙ ap (λ s. asks s (InText n format []) m (lines_until s [])) f.0
     ∙ sym (ap (λ s. Refuse (NoEnd n) ∷ asks s Between m (lines_until s [])) f.0)
     ∙ sym (ap (λ v. Refuse (NoEnd n) ∷ asks stop Between m (lines_until stop v)) f.1)
 
-pub hears-last_text : (old new : Ahead) (format : Format) (kept : KeptLine) (last : Bool) (n k : ℕ) → last ≡ true → k ≡ n → (t : LineTaken last old new kept) → is_passed_over t.line.says ≡ false → format_of t.line.says ≡ Some format
+pub hears-last_text : (old new : Ahead) (format : Format) (kept : KeptLine) (last : Bool) (n k : ℕ) → last ≡ true
+    → k ≡ n → (t : LineTaken last old new kept) → is_passed_over t.line.says ≡ false
+    → format_of t.line.says ≡ Some format
     → Hears old new Between (Some (request.Refuse (NoEnd k))) last n (n + 1)
 hears-last_text old new format kept last n k e same t passed text = record {
   bytes = t.line.raw;
   asked = Refuse (NoEnd n) ∷ [];
   taken = t.taken;
   law = λ stop more f.
-      ap (asks stop Between n) (t.law stop more f) ∙ asks-text_command stop n format t.line (lines_until stop more) passed text
+      ap (asks stop Between n) (t.law stop more f) ∙ asks-text_command stop n format t.line
+      (lines_until stop more) passed text
       ∙ nothing-follows stop n (n + 1) format more (subst (λ v. Follows v stop more) e f);
   is = (Refuse (NoEnd n), refl, ap (λ v. Refuse (NoEnd v)) (sym same));
   at_end = t.at_end;
 }
 
 -- a text with its end
-hears-whole_text : (format : Format) (text : Option (List ℕ)) (old new : Ahead) (last : Bool) (n m : ℕ) → TextTaken last text old new n m → Hears old new (InText n format []) (Some (request.Take format text)) last (n + 1) (m + 1)
+hears-whole_text : (format : Format) (text : Option (List ℕ)) (old new : Ahead) (last : Bool) (n m : ℕ)
+    → TextTaken last text old new n m → Hears old new (InText n format []) (Some (request.Take format text)) last
+    (n + 1) (m + 1)
 hears-whole_text format text old new last n m t = record {
   bytes = raw_bytes t.lines ++ t.closing.raw;
   asked = Take format (raw_bytes t.lines) ∷ [];
@@ -114,14 +135,17 @@ hears-whole_text format text old new last n m t = record {
   law = λ stop more f.
       ap (asks stop (InText n format []) (n + 1)) (t.law stop more f)
       ∙ asks-text stop n format [] (n + 1) t.lines t.closing (lines_until stop more) t.inside t.ends
-      ∙ ap (λ k. Take format (raw_bytes t.lines) ∷ asks stop Between k (lines_until stop more)) (omega (arith, t.number));
+      ∙ ap (λ k. Take format (raw_bytes t.lines) ∷ asks stop Between k (lines_until stop more))
+      (omega (arith, t.number));
   is = (Take format (raw_bytes t.lines), refl, (raw_bytes t.lines, refl, t.is));
   at_end = t.at_end;
 }
 
 -- a text without one
-open-law : (stop : End) (format : Format) (n k m : ℕ) (bytes more : List ℕ) → NoneEnds (lines_until Ended bytes) → Follows true stop more
-    → asks stop (InText n format []) k (lines_until stop (bytes ++ more)) ≡ Refuse (NoEnd n) ∷ asks stop Between m (lines_until stop more)
+open-law : (stop : End) (format : Format) (n k m : ℕ) (bytes more : List ℕ) → NoneEnds (lines_until Ended bytes)
+    → Follows true stop more
+    → asks stop (InText n format []) k (lines_until stop (bytes ++ more)) ≡ Refuse (NoEnd n) ∷ asks stop Between m
+    (lines_until stop more)
 open-law stop format n k m bytes more inside f =
     ap (λ v. asks stop (InText n format []) k (lines_until stop (bytes ++ v))) f.1
     ∙ ap (λ v. asks stop (InText n format []) k (lines_until stop v)) (append-nil bytes)
@@ -130,7 +154,8 @@ open-law stop format n k m bytes more inside f =
     ∙ sym (ap (λ s. Refuse (NoEnd n) ∷ asks s Between m (lines_until s [])) f.0)
     ∙ sym (ap (λ v. Refuse (NoEnd n) ∷ asks stop Between m (lines_until stop v)) f.1)
 
-hears-open_text : (format : Format) (old new : Ahead) (n m : ℕ) → NoEndAmong Ended old new → IsAtEnd new.bytes → Hears old new (InText n format []) (Some (request.Refuse (NoEnd n))) true (n + 1) m
+hears-open_text : (format : Format) (old new : Ahead) (n m : ℕ) → NoEndAmong Ended old new → IsAtEnd new.bytes
+    → Hears old new (InText n format []) (Some (request.Refuse (NoEnd n))) true (n + 1) m
 hears-open_text format old new n m t end = record {
   bytes = t.bytes;
   asked = Refuse (NoEnd n) ∷ [];
@@ -140,13 +165,20 @@ hears-open_text format old new n m t end = record {
   at_end = λ _. end;
 }
 
-pub reads-ended : (format : Format) (found : TextFound) (text : Option (List ℕ)) (last : Bool) (old new : Ahead) (n m : ℕ) → found ≡ found_text.Ended text last → ReadsText found old new n m → Hears old new (InText n format []) (Some (request.Take format text)) last (n + 1) (m + 1)
-reads-ended format found text last old new n m e h = hears-whole_text format text old new last n m (subst (λ f. ReadsText f old new n m) e h)
+pub reads-ended : (format : Format) (found : TextFound) (text : Option (List ℕ)) (last : Bool) (old new : Ahead)
+    (n m : ℕ) → found ≡ found_text.Ended text last → ReadsText found old new n m
+    → Hears old new (InText n format []) (Some (request.Take format text)) last (n + 1) (m + 1)
+reads-ended format found text last old new n m e h =
+    hears-whole_text format text old new last n m (subst (λ f. ReadsText f old new n m) e h)
 
-pub reads-open : (format : Format) (found : TextFound) (old new : Ahead) (n m : ℕ) → found ≡ found_text.NoEnd → ReadsText found old new n m → Hears old new (InText n format []) (Some (request.Refuse (NoEnd n))) true (n + 1) (m + 1)
-reads-open format found old new n m e h = let parts = subst (λ f. ReadsText f old new n m) e h in hears-open_text format old new n (m + 1) parts.0 parts.1
+pub reads-open : (format : Format) (found : TextFound) (old new : Ahead) (n m : ℕ) → found ≡ found_text.NoEnd
+    → ReadsText found old new n m → Hears old new (InText n format []) (Some (request.Refuse (NoEnd n))) true (n + 1)
+    (m + 1)
+reads-open format found old new n m e h = let parts = subst (λ f. ReadsText f old new n m) e h in
+    hears-open_text format old new n (m + 1) parts.0 parts.1
 
-pub breaks-open_text : (format : Format) (old new : Ahead) (n : ℕ) → NoEndAmong Broken old new → BreaksOff old new (InText n format []) (n + 1)
+pub breaks-open_text : (format : Format) (old new : Ahead) (n : ℕ) → NoEndAmong Broken old new
+    → BreaksOff old new (InText n format []) (n + 1)
 breaks-open_text format old new n t = record {
   bytes = t.bytes;
   taken = t.taken;
@@ -168,6 +200,9 @@ reads-most (found_text.Ended text last) old new n m h = omega (arith, h.taken.co
 reads-most found_text.NoEnd old new n m h = omega (arith, h.0.taken.counted)
 
 -- behind a line less can come
-pub falls-behind : {T E : Type 0} (r : Result T E) (P : T → Type 0) (last : Bool) (old mid new : Ahead) (kept : KeptLine) → LineTaken last old mid kept → OnOk r (new.room ≤ mid.room) → IfOk r (λ h. P h → new.room < old.room)
-falls-behind (Ok x) P last old mid new kept t most = λ _. let less = line_falls last old mid kept t in omega (arith, less, most)
+pub falls-behind : {T E : Type 0} (r : Result T E) (P : T → Type 0) (last : Bool) (old mid new : Ahead)
+    (kept : KeptLine) → LineTaken last old mid kept → OnOk r (new.room ≤ mid.room)
+    → IfOk r (λ h. P h → new.room < old.room)
+falls-behind (Ok x) P last old mid new kept t most = λ _. let less = line_falls last old mid kept t in
+    omega (arith, less, most)
 falls-behind (Err e) P last old mid new kept t most = tt

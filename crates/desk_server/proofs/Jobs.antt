@@ -1,8 +1,8 @@
 -- What is out after jobs were dropped.
-use Rattle.std.proofs.Common.{◌≡◌, ◌≢◌, inl, inr, ℕ, ◌-◌, ◌^◌, ◌<◌, ◌≤◌, Bool, true, false, cond, List, Option, None, Some, IfSome, IfNone, IsSome, ◌==◌, ◌&&◌, sym, ap, refl, subst, ◌∙◌, arith}
+use Rattle.std.proofs.Common.{◌≡◌, ◌≢◌, inl, inr, ℕ, ◌-◌, ◌^◌, ◌<◌, ◌≤◌, Bool, true, false, cond, List, Option, None, Some, IfSome, IfNone, IsSome, ◌==◌, sym, ap, refl, subst, ◌∙◌, arith}
 use Rattle.std.proofs.lemmas.Bool.Decides.{nat_tests}
 use Rattle.worlds.specs.World.{World}
-use Rattle.schedule.specs.Plan.{Plan, opening}
+use Rattle.schedule.specs.Plan.{opening}
 use Rattle.schedule.specs.Asked.{Asked}
 use Rattle.schedule.specs.declared.document.Bookmark.{Bookmark}
 use Rattle.revision_jobs.specs.declared.entries.Entries.{Entries}
@@ -15,11 +15,12 @@ use Rattle.dependency_book.specs.declared.need.Need.{Need}
 use Rattle.dependency_book.specs.declared.need.Need.TheVariants.{Step, View}
 use Rattle.dependency_book.specs.RowState.{job_of, has_number, state_map}
 use Rattle.dependency_book.specs.Jobs.{cancelled, IsFirstOut, SameBook}
-use Rattle.dependency_book.specs.Kept.{KeepsRows, text_kept, keeps_text, keeps_arrival}
+use Rattle.dependency_book.specs.Kept.{KeepsRows, text_kept, keeps_text, stays_mark}
+use Rattle.dependency_book.specs.declared.mark.Mark.{Mark}
+use Rattle.schedule.specs.declared.branch.Branch.{Branch}
 use Rattle.dependency_book.specs.Recalled.{Revises}
-use Rattle.dependency_book.proofs.Shared.Recalling.{recalls_book}
 use Rattle.desk_core.proofs.Shared.Recalled.{recalls_out}
-use Rattle.dependency_book.specs.Marks.{is_mark}
+use Rattle.dependency_book.specs.Marks.{is_start, mark_at}
 use Rattle.dependency_book.specs.BookState.{BookState, row_of, expected, opened, arrival_row, text_row, bookmark_in, pending_of, NothingOut}
 use Rattle.desk_core.specs.declared.cause.Cause.{Cause}
 use Rattle.desk_core.specs.Settling.{Explains, IsHeld, Serves}
@@ -41,16 +42,20 @@ drops_drops a b c f g = record {
 }
 
 -- what is out of a row that was emptied or not
-left_out : {V : Type 0} (b : Bool) (row : RowState V) (job : Job) → job_of (cond b Empty row) ≡ Some job → (job_of row ≡ Some job) × (b ≡ false)
+left_out : {V : Type 0} (b : Bool) (row : RowState V) (job : Job) → job_of (cond b Empty row) ≡ Some job
+    → (job_of row ≡ Some job) × (b ≡ false)
 left_out true row job e = absurd (cc)
 left_out false row job e = (e, refl)
 
 -- cancelling
-cancelled_out : (n : ℕ) (old new : BookState) → ((need : Need) → row_of new need ≡ cancelled n (row_of old need)) → (need : Need) (job : Job) → expected new need ≡ Some job
+cancelled_out : (n : ℕ) (old new : BookState) → ((need : Need) → row_of new need ≡ cancelled n (row_of old need))
+    → (need : Need) (job : Job) → expected new need ≡ Some job
     → (expected old need ≡ Some job) × (has_number n (expected old need) ≡ false)
-cancelled_out n old new rows need job e = left_out (has_number n (expected old need)) (row_of old need) job (sym (ap job_of (rows need)) ∙ e)
+cancelled_out n old new rows need job e = left_out (has_number n (expected old need)) (row_of old need) job
+    (sym (ap job_of (rows need)) ∙ e)
 
-pub cancel_drops : (n : ℕ) (old new : BookState) → ((need : Need) → row_of new need ≡ cancelled n (row_of old need)) → SameBook old new → DropsJobs old new
+pub cancel_drops : (n : ℕ) (old new : BookState) → ((need : Need) → row_of new need ≡ cancelled n (row_of old need))
+    → SameBook old new → DropsJobs old new
 cancel_drops n old new rows same = record {
   table = same.document.table;
   given = same.given;
@@ -61,7 +66,8 @@ cancel_drops n old new rows same = record {
 other_number : (n : ℕ) (o : Option Job) (job : Job) → o ≡ Some job → has_number n o ≡ false → (job.number == n) ≡ false
 other_number n o job e h = sym (ap (has_number n) e) ∙ h
 
-its_number : (n : ℕ) (o : Option Job) → has_number n o ≡ true → (job : Job) × (o ≡ Some job) × ((job.number == n) ≡ true)
+its_number : (n : ℕ) (o : Option Job) → has_number n o ≡ true → (job : Job) × (o ≡ Some job)
+    × ((job.number == n) ≡ true)
 its_number n None h = absurd (cc)
 its_number n (Some job) h = (job, refl, h)
 
@@ -71,12 +77,14 @@ at_least n o job e h = subst (λ v. IfSome v (λ other. n ≤ other.number)) e h
 above : (n m k : ℕ) → n ≤ k → (k == n) ≡ false → (k == m) ≡ true → n < m
 above n m k few other same = grind (arith, nat_tests)
 
-first_rises : (n m : ℕ) (old new : BookState) → ((need : Need) → row_of new need ≡ cancelled n (row_of old need)) → IsFirstOut old (Some n) → IsFirstOut new (Some m) → n < m
+first_rises : (n m : ℕ) (old new : BookState) → ((need : Need) → row_of new need ≡ cancelled n (row_of old need))
+    → IsFirstOut old (Some n) → IsFirstOut new (Some m) → n < m
 first_rises n m old new rows before after =
     let need = after.0.0 in
     let its = its_number m (expected new need) after.0.1 in
     let left = cancelled_out n old new rows need its.0 its.1 in
-    above n m its.0.number (at_least n (expected old need) its.0 left.0 (before.1 need)) (other_number n (expected old need) its.0 left.0 left.1) its.2
+    above n m its.0.number (at_least n (expected old need) its.0 left.0 (before.1 need))
+    (other_number n (expected old need) its.0 left.0 left.1) its.2
 
 -- how many numbers are from the first one on
 abbrev pub numbers_from : Option ℕ → ℕ
@@ -89,7 +97,8 @@ fewer n m few rises = omega arith
 some_left : (n : ℕ) → n < 2 ^ 32 → 0 < 2 ^ 32 - n
 some_left n few = omega arith
 
-pub first_falls : (n : ℕ) (next : Option ℕ) (old new : BookState) → n < 2 ^ 32 → ((need : Need) → row_of new need ≡ cancelled n (row_of old need)) → IsFirstOut old (Some n) → IsFirstOut new next
+pub first_falls : (n : ℕ) (next : Option ℕ) (old new : BookState) → n < 2 ^ 32
+    → ((need : Need) → row_of new need ≡ cancelled n (row_of old need)) → IsFirstOut old (Some n) → IsFirstOut new next
     → numbers_from next < numbers_from (Some n)
 first_falls n None old new few rows before after = some_left n few
 first_falls n (Some m) old new few rows before after = fewer n m few (first_rises n m old new rows before after)
@@ -100,35 +109,42 @@ out_of_map f Empty = refl
 out_of_map f (Expected job) = refl
 out_of_map f (Known value) = refl
 
-kept_arrival : (at_start keeps : Bool) (world : World) (row : RowState World) (job : Job) → job_of (cond at_start (Known world) (cond keeps row Empty)) ≡ Some job → job_of row ≡ Some job
+kept_arrival : (at_start keeps : Bool) (world : World) (row : RowState World) (job : Job)
+    → job_of (cond at_start (Known world) (cond keeps row Empty)) ≡ Some job → job_of row ≡ Some job
 kept_arrival true keeps world row job e = absurd (cc)
 kept_arrival false true world row job e = e
 kept_arrival false false world row job e = absurd (cc)
 
-kept_text : {V : Type 0} (keeps : Bool) (row : RowState V) (job : Job) → job_of (cond keeps row Empty) ≡ Some job → job_of row ≡ Some job
+kept_text : {V : Type 0} (keeps : Bool) (row : RowState V) (job : Job) → job_of (cond keeps row Empty) ≡ Some job
+    → job_of row ≡ Some job
 kept_text true row job e = e
 kept_text false row job e = absurd (cc)
 
-kept_of : {V : Type 0} (felt : Option ℕ) (asked : Asked) (bookmark : Option Bookmark) (row : RowState V) (job : Job) → job_of (text_kept felt asked bookmark row) ≡ Some job → job_of row ≡ Some job
-kept_of felt asked None row job e = absurd (cc)
-kept_of felt asked (Some b) row job e = kept_text (keeps_text felt asked b) row job e
+kept_of : {V : Type 0} (branches : List Branch) (felt : Option Mark) (asked : Asked) (bookmark : Option Bookmark)
+    (row : RowState V) (job : Job) → job_of (text_kept branches felt asked bookmark row) ≡ Some job
+    → job_of row ≡ Some job
+kept_of branches felt asked None row job e = absurd (cc)
+kept_of branches felt asked (Some b) row job e = kept_text (keeps_text branches felt asked b) row job e
 
-edit_keeps_out : (asked : Asked) (felt : Option ℕ) (old new : BookState) → KeepsRows asked felt old new → (need : Need) (job : Job) → expected new need ≡ Some job → expected old need ≡ Some job
-edit_keeps_out asked felt old new keeps (Step g) job e =
-    out_of_map pattern (arrival_row old g)
-    ∙ kept_arrival (g == 0) (is_mark new.plan g && keeps_arrival felt g) new.plan.start (arrival_row old g) job (sym (ap job_of (keeps.arrivals g)) ∙ (sym (out_of_map pattern (arrival_row new g)) ∙ e))
+edit_keeps_out : (asked : Asked) (felt : Option Mark) (old new : BookState) → KeepsRows asked felt old new
+    → (need : Need) (job : Job) → expected new need ≡ Some job → expected old need ≡ Some job
+edit_keeps_out asked felt old new keeps (Step branch g) job e =
+    let m = mark_at branch g in
+    out_of_map pattern (arrival_row old m)
+    ∙ kept_arrival (is_start m) (stays_mark felt old.plan new.plan m) new.plan.start (arrival_row old m) job
+    (sym (ap job_of (keeps.arrivals m)) ∙ (sym (out_of_map pattern (arrival_row new m)) ∙ e))
 edit_keeps_out asked felt old new keeps (View id) job e =
     out_of_map text (text_row old id)
-    ∙ kept_of felt asked (bookmark_in old.plan.bookmarks id) (text_row old id) job (sym (ap job_of (keeps.texts id)) ∙ (sym (out_of_map text (text_row new id)) ∙ e))
+    ∙ kept_of new.plan.branches felt asked (bookmark_in old.plan.bookmarks id) (text_row old id) job
+    (sym (ap job_of (keeps.texts id)) ∙ (sym (out_of_map text (text_row new id)) ∙ e))
 
 pub edit_drops : (asked : Asked) (old new : BookState) → Revises asked old new → DropsJobs old new
-edit_drops asked old new h =
-    let book = recalls_book h.kept new h.recalls in
-    record {
-      table = book.document.table ∙ h.keeps.keeps.table;
-      given = book.given ∙ h.keeps.keeps.given;
-      out = λ need job e. edit_keeps_out asked h.keeps.felt old h.kept h.keeps.keeps need job (recalls_out h.kept new need job h.recalls e);
-    }
+edit_drops asked old new h = record {
+  table = h.table;
+  given = h.given;
+  out = λ need job e.
+      edit_keeps_out asked h.keeps.felt old h.kept h.keeps.keeps need job (recalls_out h.kept new need job h.recalls e);
+}
 
 -- at the beginning
 none_at : (at_start : Bool) (world : World) (job : Job) → job_of (cond at_start (Known world) Empty) ≡ Some job → ⊥
@@ -136,10 +152,14 @@ none_at true world job e = cc
 none_at false world job e = cc
 
 none_opened : (table : Entries) (held : Option Job) → IsHeld held (opened table 0)
-none_opened table held (Step g) job e = absurd (none_at (g == 0) (opening 0).start job (sym (out_of_map pattern (arrival_row (opened table 0) g)) ∙ e))
+none_opened table held (Step branch g) job e =
+    let m = mark_at branch g in
+    absurd
+    (none_at (is_start m) (opening 0).start job (sym (out_of_map pattern (arrival_row (opened table 0) m)) ∙ e))
 none_opened table held (View id) job e = absurd (cc)
 
-pub carries_first : {P : Type 0} (table : P → Entries) (floor : P → ℕ) (is_prompt : P → Bool) (held : P → Option Job) (post : P) (entries : Entries) (d : BookState) → d ≡ opened entries 0
+pub carries_first : {P : Type 0} (table : P → Entries) (floor : P → ℕ) (is_prompt : P → Bool) (held : P → Option Job)
+    (post : P) (entries : Entries) (d : BookState) → d ≡ opened entries 0
     → IsFresh table floor post entries → Carries table floor is_prompt held post d
 carries_first table floor is_prompt held post entries d same fresh = rw same (record {
   serves = record { table = fresh.own; numbers = subst (λ n. n ≤ 0) (sym fresh.none) (omega arith) };
@@ -152,18 +172,24 @@ nothing_out d n (inl none) is some = absurd (some (is ∙ none))
 nothing_out d n (inr out) is some = out
 
 -- a post that wasn't touched carries the jobs of a desk that gave no new ones
-pub carries_same : {P : Type 0} (table : P → Entries) (floor : P → ℕ) (is_prompt : P → Bool) (held : P → Option Job) (post : P) (old new : BookState) → DropsJobs old new
+pub carries_same : {P : Type 0} (table : P → Entries) (floor : P → ℕ) (is_prompt : P → Bool) (held : P → Option Job)
+    (post : P) (old new : BookState) → DropsJobs old new
     → Carries table floor is_prompt held post old → CarriesOn table floor is_prompt held post post new
 carries_same table floor is_prompt held post old new drops c = record {
   kind = refl;
   carries = record {
-    serves = record { table = c.serves.table ∙ sym drops.table; numbers = subst (λ n. floor post ≤ n) (sym drops.given) c.serves.numbers };
+    serves = record {
+      table = c.serves.table ∙ sym drops.table;
+      numbers = subst (λ n. floor post ≤ n)
+          (sym drops.given) c.serves.numbers;
+    };
     out = λ e need job x. c.out e need job (drops.out need job x);
   };
 }
 
 -- what explained a cause before jobs were given up
-pub causes_kept : (old new : BookState) (answers : List JobResult) (cause : Option Cause) → KeepsCauses old new → IfSome cause (Explains old answers) → IfSome cause (Explains new answers)
+pub causes_kept : (old new : BookState) (answers : List JobResult) (cause : Option Cause) → KeepsCauses old new
+    → IfSome cause (Explains old answers) → IfSome cause (Explains new answers)
 causes_kept old new answers None keeps h = tt
 causes_kept old new answers (Some cause) keeps h = keeps answers cause h
 
@@ -173,8 +199,11 @@ none_untold None fact some = absurd (cc)
 none_untold (Some cause) fact some = tt
 
 -- a settling leaves a post that carries on
-pub carries_settled : {P : Type 0} (table : P → Entries) (floor : P → ℕ) (is_prompt : P → Bool) (held : P → Option Job) (first last : P) (old new : BookState) → Carries table floor is_prompt held first old
-    → Serves new (table last) (floor last) → is_prompt last ≡ is_prompt first → (is_prompt first ≡ true → IsHeld (held first) old → IsHeld (held last) new) → CarriesOn table floor is_prompt held first last new
+pub carries_settled : {P : Type 0} (table : P → Entries) (floor : P → ℕ) (is_prompt : P → Bool) (held : P → Option Job)
+    (first last : P) (old new : BookState) → Carries table floor is_prompt held first old
+    → Serves new (table last) (floor last) → is_prompt last ≡ is_prompt first
+    → (is_prompt first ≡ true → IsHeld (held first) old → IsHeld (held last) new)
+    → CarriesOn table floor is_prompt held first last new
 carries_settled table floor is_prompt held first last old new c serves kind prompt = record {
   kind = kind;
   carries = record {
@@ -184,7 +213,8 @@ carries_settled table floor is_prompt held first last old new c serves kind prom
 }
 
 -- what a desk is left with that gave jobs up after a post carried on
-pub carries_on : {P : Type 0} (table : P → Entries) (floor : P → ℕ) (is_prompt : P → Bool) (held : P → Option Job) (first last : P) (mid new : BookState) → DropsJobs mid new
+pub carries_on : {P : Type 0} (table : P → Entries) (floor : P → ℕ) (is_prompt : P → Bool) (held : P → Option Job)
+    (first last : P) (mid new : BookState) → DropsJobs mid new
     → CarriesOn table floor is_prompt held first last mid → CarriesOn table floor is_prompt held first last new
 carries_on table floor is_prompt held first last mid new drops c = record {
   kind = c.kind;
@@ -192,6 +222,8 @@ carries_on table floor is_prompt held first last mid new drops c = record {
 }
 
 -- after a round, and then another
-pub carries_further : {P : Type 0} (table : P → Entries) (floor : P → ℕ) (is_prompt : P → Bool) (held : P → Option Job) (first mid last : P) (d : BookState) → is_prompt mid ≡ is_prompt first
+pub carries_further : {P : Type 0} (table : P → Entries) (floor : P → ℕ) (is_prompt : P → Bool) (held : P → Option Job)
+    (first mid last : P) (d : BookState) → is_prompt mid ≡ is_prompt first
     → CarriesOn table floor is_prompt held mid last d → CarriesOn table floor is_prompt held first last d
-carries_further table floor is_prompt held first mid last d kind c = record { kind = c.kind ∙ kind; carries = c.carries }
+carries_further table floor is_prompt held first mid last d kind c =
+    record { kind = c.kind ∙ kind; carries = c.carries }

@@ -63,7 +63,8 @@ none-short : (rest : List (List ℕ)) → rest ≡ [] → length (join_with_byte
 none-short [] e = omega arith
 none-short (w ∷ rest) e = absurd (cc)
 
-alone-fixed : (c : Command) (rest : List (List ℕ)) → is_fixed (alone (Some c) rest) ≡ true → length (join_with_byte 32 rest) ≤ 3
+alone-fixed : (c : Command) (rest : List (List ℕ)) → is_fixed (alone (Some c) rest) ≡ true
+    → length (join_with_byte 32 rest) ≤ 3
 alone-fixed c [] h = omega arith
 alone-fixed c (w ∷ rest) h = absurd (cc)
 
@@ -77,10 +78,18 @@ IsShort word rest = (length word ≤ 6) × (length (join_with_byte 32 rest) ≤ 
 
 -- of a command of fixed words
 command-short : (word : List ℕ) (rest : List (List ℕ)) → is_fixed (command_by word rest) ≡ true → IsShort word rest
-command-short word rest h = chosen (bytes_eq word (codes "settle")) (bytes_eq word (codes "work")) (bytes_eq word (codes "show")) (bytes_eq word (codes "quit")) (short word (codes "settle") 6 (omega arith)) (short word (codes "work") 6 (omega arith)) (short word (codes "quit") 6 (omega arith)) h
+command-short word rest h = chosen (bytes_eq word (codes "settle")) (bytes_eq word (codes "work"))
+    (bytes_eq word (codes "show")) (bytes_eq word (codes "quit")) (short word (codes "settle") 6 (omega arith))
+    (short word (codes "work") 6 (omega arith)) (short word (codes "quit") 6 (omega arith)) h
   where
-    chosen : (a b c d : Bool) → (a ≡ true → length word ≤ 6) → (b ≡ true → length word ≤ 6) → (d ≡ true → length word ≤ 6)
-        → is_fixed (cond a (alone (Some command.Settle) rest) (cond b (alone (Some command.Work) rest) (cond c (option_map command.Show (one_count rest)) (cond d (alone (Some command.Quit) rest) (option_map command.Edit (edit_by word rest)))))) ≡ true → IsShort word rest
+    chosen : (a b c d : Bool) → (a ≡ true → length word ≤ 6) → (b ≡ true → length word ≤ 6)
+        → (d ≡ true → length word ≤ 6)
+        → is_fixed
+        (cond a (alone (Some command.Settle) rest)
+        (cond b (alone (Some command.Work) rest)
+        (cond c (option_map command.Show (one_count rest))
+        (cond d (alone (Some command.Quit) rest) (option_map command.Edit (edit_by word rest)))))) ≡ true
+        → IsShort word rest
     chosen true b c d s w q k = (s refl, alone-fixed command.Settle rest k)
     chosen false true c d s w q k = (w refl, alone-fixed command.Work rest k)
     chosen false false true d s w q k = absurd (cc (k, show-open (one_count rest)))
@@ -90,21 +99,26 @@ command-short word rest h = chosen (bytes_eq word (codes "settle")) (bytes_eq wo
 -- of the command of a text
 start-short : (ws : List (List ℕ)) → opens (start_of ws) ≡ true → length (join_with_byte 32 ws) ≤ 3
 start-short [] h = absurd (cc)
-start-short (name ∷ rest) h = named (bytes_eq name (codes "rle")) (bytes_eq name (codes "mc")) (short name (codes "rle") 3 (omega arith)) (short name (codes "mc") 3 (omega arith)) h
+start-short (name ∷ rest) h = named (bytes_eq name (codes "rle")) (bytes_eq name (codes "mc"))
+    (short name (codes "rle") 3 (omega arith)) (short name (codes "mc") 3 (omega arith)) h
   where
     only : (more : List (List ℕ)) → more ≡ [] → length name ≤ 3 → length (join_with_byte 32 (name ∷ more)) ≤ 3
     only [] e l = l
     only (w ∷ more) e l = absurd (cc)
 
-    named : (v u : Bool) → (v ≡ true → length name ≤ 3) → (u ≡ true → length name ≤ 3) → opens (cond v (alone (Some format.Rle) rest) (cond u (alone (Some format.Macrocell) rest) None)) ≡ true → length (join_with_byte 32 (name ∷ rest)) ≤ 3
+    named : (v u : Bool) → (v ≡ true → length name ≤ 3) → (u ≡ true → length name ≤ 3)
+        → opens (cond v (alone (Some format.Rle) rest) (cond u (alone (Some format.Macrocell) rest) None)) ≡ true
+        → length (join_with_byte 32 (name ∷ rest)) ≤ 3
     named true u l m k = only rest (alone-opens format.Rle rest k) (l refl)
     named false true l m k = only rest (alone-opens format.Macrocell rest k) (m refl)
     named false false l m k = absurd (cc)
 
 text-short : (word : List ℕ) (rest : List (List ℕ)) → opens (format_of_words (word ∷ rest)) ≡ true → IsShort word rest
-text-short word rest h = chosen (bytes_eq word (codes "rule")) (bytes_eq word (codes "start")) (short word (codes "rule") 6 (omega arith)) (short word (codes "start") 6 (omega arith)) h
+text-short word rest h = chosen (bytes_eq word (codes "rule")) (bytes_eq word (codes "start"))
+    (short word (codes "rule") 6 (omega arith)) (short word (codes "start") 6 (omega arith)) h
   where
-    chosen : (a b : Bool) → (a ≡ true → length word ≤ 6) → (b ≡ true → length word ≤ 6) → opens (cond a (alone (Some format.Rule) rest) (cond b (start_of rest) None)) ≡ true → IsShort word rest
+    chosen : (a b : Bool) → (a ≡ true → length word ≤ 6) → (b ≡ true → length word ≤ 6)
+        → opens (cond a (alone (Some format.Rule) rest) (cond b (start_of rest) None)) ≡ true → IsShort word rest
     chosen true b s q k = (s refl, none-short rest (alone-opens format.Rule rest k))
     chosen false true s q k = (q refl, start-short rest k)
     chosen false false s q k = absurd (cc)
@@ -130,8 +144,11 @@ long-false : (v : Bool) (n : ℕ) → 64 < n → (v ≡ true → n ≤ 64) → v
 long-false false n long f = refl
 long-false true n long f = absurd (omega (arith, long, f refl))
 
-pub long-lacks : (says : List ℕ) (n : ℕ) → 64 < length (squashed says) → (format_of says ≡ None) × CanLackMemory (asked_by n (command_of says))
+pub long-lacks : (says : List ℕ) (n : ℕ) → 64 < length (squashed says) → (format_of says ≡ None)
+    × CanLackMemory (asked_by n (command_of says))
 long-lacks says n long = (
-  none-opens (format_of says) (long-false (opens (format_of says)) (length (squashed says)) long (words-open (words says))),
-  other-lacks n (command_of says) (long-false (is_fixed (command_of says)) (length (squashed says)) long (words-fixed (words says))),
+  none-opens (format_of says)
+      (long-false (opens (format_of says)) (length (squashed says)) long (words-open (words says))),
+  other-lacks n (command_of says)
+      (long-false (is_fixed (command_of says)) (length (squashed says)) long (words-fixed (words says))),
 )

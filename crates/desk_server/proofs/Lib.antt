@@ -7,3 +7,5 @@ pub mod Parts
 pub mod Rounds
 pub mod Noted
 pub mod Plain
+pub mod RuleStates
+pub mod OneLine

@@ -19,67 +19,84 @@ use Rattle.desk_server.specs.declared.command.Command.TheVariants.{Edit, Settle,
 abbrev IsPlain : Bool → After → After → Type 0
 IsPlain prompt after plain = (after ≡ plain) ⊎ ShowsShortage prompt after.told
 
-unless-plain : (prompt : Bool) (short : Shortage) (p : Plan) (plain : After) → IsPlain prompt (unless_memory short p plain) plain
+unless-plain : (prompt : Bool) (short : Shortage) (p : Plan) (plain : After)
+    → IsPlain prompt (unless_memory short p plain) plain
 unless-plain prompt NoShortage p plain = inl refl
 unless-plain prompt Memory p plain = inr (inl refl)
 unless-plain prompt (Unsettled n cause) p plain = inl refl
 unless-plain prompt Pending p plain = inl refl
 
-left-plain : (prompt b : Bool) (p : Plan) (n : ℕ) (cause : Option Cause) → IsCausedOver prompt (Unsettled n cause) → IsPlain prompt (cond b (only p (unsettled_text n cause)) (only p settled_text)) (only p settled_text)
+left-plain : (prompt b : Bool) (p : Plan) (n : ℕ) (cause : Option Cause) → IsCausedOver prompt (Unsettled n cause)
+    → IsPlain prompt (cond b (only p (unsettled_text n cause)) (only p settled_text)) (only p settled_text)
 left-plain prompt true p n cause h = inr (inr (inl (n, cause, h, refl)))
 left-plain prompt false p n cause h = inl refl
 
-settled-plain : (prompt : Bool) (short : Shortage) (p : Plan) → IsCausedOver prompt short → IsPlain prompt (settled short p) (settled NoShortage p)
+settled-plain : (prompt : Bool) (short : Shortage) (p : Plan) → IsCausedOver prompt short
+    → IsPlain prompt (settled short p) (settled NoShortage p)
 settled-plain prompt NoShortage p h = inl refl
 settled-plain prompt Memory p h = inl refl
-settled-plain prompt (Unsettled n cause) p h = left-plain prompt (nat_le 1 n && nat_le n (length p.bookmarks)) p n cause h
+settled-plain prompt (Unsettled n cause) p h =
+    left-plain prompt (nat_le 1 n && nat_le n (length p.bookmarks)) p n cause h
 settled-plain prompt Pending p h = inl refl
 
-shown-plain : (prompt : Bool) (short : Shortage) (p : Plan) (id : ℕ) (b : Option Bookmark) → IsPlain prompt (shown short p id b) (shown NoShortage p id b)
+shown-plain : (prompt : Bool) (short : Shortage) (p : Plan) (id : ℕ) (b : Option Bookmark)
+    → IsPlain prompt (shown short p id b) (shown NoShortage p id b)
 shown-plain prompt short p id None = unless-plain prompt short p (shown NoShortage p id None)
 shown-plain prompt NoShortage p id (Some b) = inl refl
 shown-plain prompt Memory p id (Some b) = inr (inl refl)
 shown-plain prompt (Unsettled n cause) p id (Some b) = inl refl
 shown-plain prompt Pending p id (Some b) = inr (inr (inr (id, refl)))
 
-obeyed-plain : (prompt : Bool) (short : Shortage) (p : Plan) (command : Command) → IsCausedOver prompt short → IsPlain prompt (obeyed short p command) (obeyed NoShortage p command)
+obeyed-plain : (prompt : Bool) (short : Shortage) (p : Plan) (command : Command) → IsCausedOver prompt short
+    → IsPlain prompt (obeyed short p command) (obeyed NoShortage p command)
 obeyed-plain prompt short p (Edit edit) h = unless-plain prompt short p (edited p (asked_of edit))
 obeyed-plain prompt short p Settle h = settled-plain prompt short p h
 obeyed-plain prompt short p Work h = inl refl
 obeyed-plain prompt short p (Show id) h = shown-plain prompt short p id (bookmark_in p.bookmarks id)
 obeyed-plain prompt short p Quit h = inl refl
 
-answer-plain : (prompt : Bool) (short : Shortage) (p : Plan) (ask : Ask) → IsCausedOver prompt short → IsPlain prompt (answer short p ask) (answer NoShortage p ask)
+answer-plain : (prompt : Bool) (short : Shortage) (p : Plan) (ask : Ask) → IsCausedOver prompt short
+    → IsPlain prompt (answer short p ask) (answer NoShortage p ask)
 answer-plain prompt short p (Obey command) h = obeyed-plain prompt short p command h
 answer-plain prompt short p (Take format text) h = unless-plain prompt short p (answer NoShortage p (Take format text))
-answer-plain prompt short p (Refuse (BadCommand line)) h = unless-plain prompt short p (answer NoShortage p (Refuse (BadCommand line)))
+answer-plain prompt short p (Refuse (BadCommand line)) h =
+    unless-plain prompt short p (answer NoShortage p (Refuse (BadCommand line)))
 answer-plain prompt short p (Refuse (NoEnd line)) h = inl refl
 
 -- the plain answer was given, and what follows is plain where the script goes on
-goes_on : (prompt : Bool) (after plain : After) (rest : List Ask) (later : List Shortage) → IsPlain prompt after plain → (ShowsShortage prompt after.told → ⊥) → (after.ends ≡ false → afters after.plan rest later ≡ afters after.plan rest [])
+goes_on : (prompt : Bool) (after plain : After) (rest : List Ask) (later : List Shortage) → IsPlain prompt after plain
+    → (ShowsShortage prompt after.told → ⊥)
+    → (after.ends ≡ false → afters after.plan rest later ≡ afters after.plan rest [])
     → after ∷ cond after.ends [] (afters after.plan rest later) ≡ plain ∷ cond plain.ends [] (afters plain.plan rest [])
 goes_on prompt after plain rest later (inr shows) silent more = absurd (silent shows)
 goes_on prompt after plain rest later (inl same) silent more =
     ap (λ v. after ∷ v) (ends_or after.ends refl)
     ∙ ap (λ (a : After). a ∷ cond a.ends [] (afters a.plan rest [])) same
   where
-    ends_or : (b : Bool) → after.ends ≡ b → cond after.ends [] (afters after.plan rest later) ≡ cond after.ends [] (afters after.plan rest [])
+    ends_or : (b : Bool) → after.ends ≡ b → cond after.ends [] (afters after.plan rest later) ≡ cond after.ends []
+        (afters after.plan rest [])
     ends_or true e = rw e refl
     ends_or false e = ap (λ v. cond after.ends [] v) (more e)
 
 -- none of the replies behind one that doesn't end the script shows a shortage
-none_behind : (prompt ends : Bool) (later : List After) → NoneShows prompt (cond ends [] later) → ends ≡ false → NoneShows prompt later
+none_behind : (prompt ends : Bool) (later : List After) → NoneShows prompt (cond ends [] later) → ends ≡ false
+    → NoneShows prompt later
 none_behind prompt true later h e = absurd (cc)
 none_behind prompt false later h e = h
 
 -- the first of shortages that have causes has one, and so do those after it
-first_caused : (shortages : List Shortage) → AllByRecursion IsCaused shortages → IsCaused (first_shortage shortages) × AllByRecursion IsCaused (later_shortages shortages)
+first_caused : (shortages : List Shortage) → AllByRecursion IsCaused shortages → IsCaused (first_shortage shortages)
+    × AllByRecursion IsCaused (later_shortages shortages)
 first_caused [] h = (tt, tt)
 first_caused (x ∷ xs) h = h
 
-pub afters-plain : (prompt : Bool) (p : Plan) (asked : List Ask) (shortages : List Shortage) → AllCausedOver prompt shortages → NoneShows prompt (afters p asked shortages) → afters p asked shortages ≡ afters p asked []
+pub afters-plain : (prompt : Bool) (p : Plan) (asked : List Ask) (shortages : List Shortage)
+    → AllCausedOver prompt shortages → NoneShows prompt (afters p asked shortages)
+    → afters p asked shortages ≡ afters p asked []
 afters-plain prompt p [] shortages caused h = refl
 afters-plain prompt p (ask ∷ rest) shortages caused h =
     let after = answer (first_shortage shortages) p ask in
-    goes_on prompt after (answer NoShortage p ask) rest (later_shortages shortages) (answer-plain prompt (first_shortage shortages) p ask (λ e. (first_caused shortages (caused e)).0)) h.0
-    (λ e. afters-plain prompt after.plan rest (later_shortages shortages) (λ k. (first_caused shortages (caused k)).1) (none_behind prompt after.ends (afters after.plan rest (later_shortages shortages)) h.1 e))
+    goes_on prompt after (answer NoShortage p ask) rest (later_shortages shortages)
+    (answer-plain prompt (first_shortage shortages) p ask (λ e. (first_caused shortages (caused e)).0)) h.0
+    (λ e. afters-plain prompt after.plan rest (later_shortages shortages) (λ k. (first_caused shortages (caused k)).1)
+    (none_behind prompt after.ends (afters after.plan rest (later_shortages shortages)) h.1 e))

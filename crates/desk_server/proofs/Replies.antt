@@ -1,5 +1,5 @@
 -- What the desk's answers are by the definition of the replies.
-use Rattle.std.proofs.Common.{◌≡◌, ◌≢◌, ◌⊎◌, inl, inr, ℕ, List, Result, Err, ◌≤◌, ◌<◌, Option, Some, None, IfNone, length, Bool, true, false, cond, ◌&&◌, refl, sym, ap, ap₂, ◌∙◌, subst, arith, nat_le}
+use Rattle.std.proofs.Common.{◌≡◌, ◌≢◌, ◌⊎◌, inl, inr, ℕ, List, Result, Err, ◌≤◌, Option, Some, None, IfNone, length, Bool, true, false, cond, ◌&&◌, refl, sym, ap, ap₂, ◌∙◌, subst, arith, nat_le}
 use Rattle.std.specs.Prelude.{IsSome}
 use Rattle.std.proofs.lemmas.Bool.Decides.{nat_tests}
 use Rattle.schedule.specs.Plan.{Plan}
@@ -28,18 +28,31 @@ use Rattle.desk_server.specs.declared.reply.Reply.{Reply}
 use Rattle.desk_server.specs.declared.reply.Reply.TheVariants as reply
 
 -- a reply that changes nothing
-gives-only : (p : Plan) (new : BookState) (r : Reply) (told : List ℕ) → new.plan ≡ p → reply_text new r ≡ told → ends r ≡ false → Gives (only p told) r new
+gives-only : (p : Plan) (new : BookState) (r : Reply) (told : List ℕ) → new.plan ≡ p → reply_text new r ≡ told
+    → ends r ≡ false → Gives (only p told) r new
 gives-only p new r told same is goes = ap (λ q. only q told) (sym same) ∙ sym (ap₂ (λ t e. after t e) is goes)
   where
     after : List ℕ → Bool → After
     after t e = record { told = t; plan = new.plan; ends = e }
 
 -- what was refused, or is out of memory
-pub gives-refused : {A E : Type 0} (p : Plan) (new : BookState) (r : Reply) (told : E → Fault) (done : A → After) (fault none : E) (read : Result A E)
+pub gives-refused : {A E : Type 0} (p : Plan) (new : BookState) (r : Reply) (told : E → Fault) (done : A → After)
+    (fault none : E) (read : Result A E)
     → told none ≡ of_edit NoMemory → new.plan ≡ p → (fault ≡ none) ⊎ (read ≡ Err fault)
-    → ((k : BookState) → reply_text k r ≡ refused_text (told fault)) → ends r ≡ false → GivesOrLacks p (unless_fault p told done read) r new
-gives-refused p new r told done fault none read law same (inl memory) is goes = (Memory, λ _. tt, ap (λ f. only p (refused_text f)) (sym law ∙ sym (ap told memory)) ∙ gives-only p new r (refused_text (told fault)) same (is new) goes)
-gives-refused p new r told done fault none read law same (inr refused) is goes = (NoShortage, λ _. tt, ap (unless_fault p told done) refused ∙ gives-only p new r (refused_text (told fault)) same (is new) goes)
+    → ((k : BookState) → reply_text k r ≡ refused_text (told fault)) → ends r ≡ false
+    → GivesOrLacks p (unless_fault p told done read) r new
+gives-refused p new r told done fault none read law same (inl memory) is goes = (
+  Memory,
+  λ _. tt,
+  ap (λ f. only p (refused_text f)) (sym law ∙ sym (ap told memory))
+      ∙ gives-only p new r (refused_text (told fault)) same (is new) goes,
+)
+gives-refused p new r told done fault none read law same (inr refused) is goes = (
+  NoShortage,
+  λ _. tt,
+  ap (unless_fault p told done) refused ∙ gives-only p new r (refused_text (told fault)) same
+      (is new) goes,
+)
 
 -- settling that left bookmarks pending
 left : (a b : Bool) (x y : After) → a ≡ true → b ≡ true → cond (a && b) x y ≡ x
@@ -47,13 +60,15 @@ left true true x y h k = refl
 left true false x y h k = absurd (cc)
 left false b x y h k = absurd (cc)
 
-pub gives-unsettled : (prompt : Bool) (p : Plan) (new : BookState) (n : ℕ) (cause : Option Cause) → new.plan ≡ p → (prompt ≡ true → IfNone cause (pending_of new ≡ 0)) → n ≡ pending_of new → n ≢ 0 → n ≤ length new.plan.bookmarks
+pub gives-unsettled : (prompt : Bool) (p : Plan) (new : BookState) (n : ℕ) (cause : Option Cause) → new.plan ≡ p
+    → (prompt ≡ true → IfNone cause (pending_of new ≡ 0)) → n ≡ pending_of new → n ≢ 0 → n ≤ length new.plan.bookmarks
     → GivesBy prompt (λ short. settled short p) (reply.Unsettled n cause) new
 gives-unsettled prompt p new n cause same caused is some few = (
   Unsettled n cause,
   λ e. has_cause cause (caused e),
   subst (λ q. Gives (settled (Unsettled n cause) q) (reply.Unsettled n cause) new) same
-      (left (nat_le 1 n) (nat_le n (length new.plan.bookmarks)) (only new.plan (unsettled_text n cause)) (only new.plan settled_text) (grind (arith, nat_tests)) (grind (arith, nat_tests))),
+      (left (nat_le 1 n) (nat_le n (length new.plan.bookmarks)) (only new.plan (unsettled_text n cause))
+      (only new.plan settled_text) (grind (arith, nat_tests)) (grind (arith, nat_tests))),
 )
   where
     has_cause : (o : Option Cause) → IfNone o (pending_of new ≡ 0) → IsSome o
@@ -65,12 +80,16 @@ some_of None h = absurd (cc)
 some_of (Some b) h = (b, refl)
 
 -- what is written of a pending one
-pub pending-shown : (known : BookState) (id : ℕ) → IsPending known id → shown_text id (bookmark_in known.plan.bookmarks id) (text_known known id) ≡ pending_text id
-pending-shown known id h = let b = some_of (bookmark_in known.plan.bookmarks id) h.there in ap₂ (shown_text id) b.1 h.unknown
+pub pending-shown : (known : BookState) (id : ℕ) → IsPending known id
+    → shown_text id (bookmark_in known.plan.bookmarks id) (text_known known id) ≡ pending_text id
+pending-shown known id h = let b = some_of (bookmark_in known.plan.bookmarks id) h.there in
+    ap₂ (shown_text id) b.1 h.unknown
 
 -- what is shown of a bookmark, current or not
-pub gives-shown : (prompt : Bool) (p : Plan) (new : BookState) (id : ℕ) (s : Shown) → new.plan ≡ p → Shows new id s → GivesBy prompt (λ short. obeyed short p (Show id)) (reply.Shown id) new
-gives-shown prompt p new id s same shows = subst (λ q. GivesBy prompt (λ short. obeyed short q (Show id)) (reply.Shown id) new) same (now s shows)
+pub gives-shown : (prompt : Bool) (p : Plan) (new : BookState) (id : ℕ) (s : Shown) → new.plan ≡ p → Shows new id s
+    → GivesBy prompt (λ short. obeyed short p (Show id)) (reply.Shown id) new
+gives-shown prompt p new id s same shows =
+    subst (λ q. GivesBy prompt (λ short. obeyed short q (Show id)) (reply.Shown id) new) same (now s shows)
   where
     now : (s : Shown) → Shows new id s → GivesBy prompt (λ short. obeyed short new.plan (Show id)) (reply.Shown id) new
     now NoSuch none = (NoShortage, λ _. tt, rw none refl)
@@ -86,11 +105,16 @@ not_pending d id (Current text) shows other h = cc (shows.known, h.unknown)
 not_pending d id shown.Pending shows other h = other refl
 
 -- memory was short for what was asked
-pub serves-memory : (prompt : Bool) (asked : Request) (r : Reply) (d : BookState) → ((ask : Ask) → AsksFor asked ask → CanLackMemory ask) → reply_text d r ≡ refused_text (of_edit NoMemory) → ends r ≡ false → Serves prompt asked r d d
-serves-memory prompt asked r d can is goes = λ ask asks. (Memory, λ _. tt, can ask asks d.plan ∙ gives-only d.plan d r (refused_text (of_edit NoMemory)) refl is goes)
+pub serves-memory : (prompt : Bool) (asked : Request) (r : Reply) (d : BookState)
+    → ((ask : Ask) → AsksFor asked ask → CanLackMemory ask) → reply_text d r ≡ refused_text (of_edit NoMemory)
+    → ends r ≡ false → Serves prompt asked r d d
+serves-memory prompt asked r d can is goes =
+    λ ask asks.
+    (Memory, λ _. tt, can ask asks d.plan ∙ gives-only d.plan d r (refused_text (of_edit NoMemory)) refl is goes)
 
 -- a text can lack it
-pub take-lacks : (asked : Request) (format : Format) (text : Text) → asked ≡ request.Take format text → (ask : Ask) → AsksFor asked ask → CanLackMemory ask
+pub take-lacks : (asked : Request) (format : Format) (text : Text) → asked ≡ request.Take format text → (ask : Ask)
+    → AsksFor asked ask → CanLackMemory ask
 take-lacks asked format text e ask asks =
     let one = subst (λ q. AsksFor q ask) e asks in
     subst CanLackMemory (sym one.1) (λ p. refl)
@@ -104,7 +128,13 @@ plainly_refused p (BadCommand line) = refl
 plainly_refused p (NoEnd line) = refl
 
 -- what lines say was refused
-pub serves-refused : (prompt : Bool) (asked : Request) (fault : ScriptFault) (r : Reply) (d : BookState) → asked ≡ request.Refuse fault → reply_text d r ≡ refused_text (of_script fault) → ends r ≡ false → Serves prompt asked r d d
+pub serves-refused : (prompt : Bool) (asked : Request) (fault : ScriptFault) (r : Reply) (d : BookState)
+    → asked ≡ request.Refuse fault → reply_text d r ≡ refused_text (of_script fault) → ends r ≡ false
+    → Serves prompt asked r d d
 serves-refused prompt asked fault r d e is goes = λ ask asks.
-    let one : ask ≡ Refuse fault = subst (λ q. AsksFor q ask) e asks in
-    (NoShortage, λ _. tt, ap (answer NoShortage d.plan) one ∙ plainly_refused d.plan fault ∙ gives-only d.plan d r (refused_text (of_script fault)) refl is goes)
+    let one : ask ≡ Refuse fault = subst (λ q. AsksFor q ask) e asks in (
+      NoShortage,
+      λ _. tt,
+      ap (answer NoShortage d.plan) one ∙ plainly_refused d.plan fault
+          ∙ gives-only d.plan d r (refused_text (of_script fault)) refl is goes,
+    )

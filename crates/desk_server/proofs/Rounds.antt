@@ -12,11 +12,11 @@ use Rattle.script_lines.proofs.Shared.Told.{front_first, front_then}
 use Rattle.schedule.specs.Plan.{Plan, opening}
 use Rattle.dependency_book.specs.BookState.{BookState}
 use Rattle.std.specs.List.{AllByRecursion}
-use Rattle.desk_server.specs.Shortage.{Shortage, IsCaused, IsCausedOver, AllCausedOver}
+use Rattle.desk_server.specs.Shortage.{Shortage, IsCaused, AllCausedOver}
 use Rattle.desk_server.specs.Answer.{Ask, After, answer}
 use Rattle.desk_server.specs.Script.{asks, Between, afters, document_after, documents_of, texts_of, replies_to, replies_by, replies_with}
 use Rattle.desk_server.specs.Told.{reply_text, ends}
-use Rattle.desk_server.specs.Heard.{AsksFor, AsksIfAny, Hears, Gives, GivesBy, Serves, Served, BreaksOff}
+use Rattle.desk_server.specs.Heard.{AsksIfAny, Hears, Gives, Serves, Served, BreaksOff}
 use Rattle.desk_server.specs.Run.{Answers, Finishes, StopsTelling, AnswersWhole, AnswersAll, AnswersFront}
 use Rattle.desk_server.specs.Watch.{NotesAll, NotesUnlessMissed, NotesReplies}
 use Rattle.desk_server.specs.declared.request.Request.{Request}
@@ -25,7 +25,8 @@ use Rattle.desk_server.specs.declared.reply.Reply.TheVariants as reply
 use Rattle.desk_server.proofs.Hearing.{follows-any}
 
 -- where each of two lists has causes, both together do
-caused-append : (xs ys : List Shortage) → AllByRecursion IsCaused xs → AllByRecursion IsCaused ys → AllByRecursion IsCaused (xs ++ ys)
+caused-append : (xs ys : List Shortage) → AllByRecursion IsCaused xs → AllByRecursion IsCaused ys
+    → AllByRecursion IsCaused (xs ++ ys)
 caused-append [] ys h k = k
 caused-append (x ∷ xs) ys h k = (h.0, caused-append xs ys h.1 k)
 
@@ -43,7 +44,8 @@ at_end_nil : (new : Option (List ℕ)) (rest : List ℕ) → IsAtEnd new → new
 at_end_nil None rest h e = absurd (cc)
 at_end_nil (Some x) rest h e = let same : x ≡ rest = cc in sym same ∙ h
 
-follows_nothing : (last : Bool) (new : Option (List ℕ)) (rest : List ℕ) → (last ≡ true → IsAtEnd new) → new ≡ Some rest → Follows last Ended rest
+follows_nothing : (last : Bool) (new : Option (List ℕ)) (rest : List ℕ) → (last ≡ true → IsAtEnd new) → new ≡ Some rest
+    → Follows last Ended rest
 follows_nothing false new rest h e = tt
 follows_nothing true new rest h e = (refl, at_end_nil new rest (h refl) e)
 
@@ -52,7 +54,8 @@ abbrev after_of : BookState → Reply → After
 after_of k r = record { told = reply_text k r; plan = k.plan; ends = ends r }
 
 -- the answer to one command, and those to the rest
-after_is : (short : Shortage) (p : Plan) (ask : Ask) (r : Reply) (k : BookState) → Gives (answer short p ask) r k → (rest : List Ask) (later : List Shortage)
+after_is : (short : Shortage) (p : Plan) (ask : Ask) (r : Reply) (k : BookState) → Gives (answer short p ask) r k
+    → (rest : List Ask) (later : List Shortage)
     → afters p (ask ∷ rest) (short ∷ later) ≡ after_of k r ∷ cond (ends r) [] (afters k.plan rest later)
 after_is short p ask r k e rest later = ap (λ (a : After). a ∷ cond a.ends [] (afters a.plan rest later)) e
 
@@ -64,20 +67,24 @@ documents-append : (xs ys : List After) → documents_of (xs ++ ys) ≡ document
 documents-append = flat_map-append document_after
 
 -- one answer alone
-wrote_one : (before after : Option (List ℕ)) (k : BookState) (r : Reply) → Appends before after (reply_text k r) → Appends before after (texts_of (after_of k r ∷ []))
+wrote_one : (before after : Option (List ℕ)) (k : BookState) (r : Reply) → Appends before after (reply_text k r)
+    → Appends before after (texts_of (after_of k r ∷ []))
 wrote_one before after k r w = subst (Appends before after) (sym (append-nil (reply_text k r))) w
 
-noted_one : (noted : List Plan → Type 0) (k : BookState) (r : Reply) → r ≢ reply.Bye → noted (k.plan ∷ []) → noted (documents_of (after_of k r ∷ []))
+noted_one : (noted : List Plan → Type 0) (k : BookState) (r : Reply) → r ≢ reply.Bye → noted (k.plan ∷ [])
+    → noted (documents_of (after_of k r ∷ []))
 noted_one noted k r other h = subst (λ v. noted (cond v [] (k.plan ∷ []) ++ [])) (sym (ends-other r other)) h
 
-noted_bye : (noted : List Plan → Type 0) (k : BookState) (r : Reply) → r ≡ reply.Bye → noted [] → noted (documents_of (after_of k r ∷ []))
+noted_bye : (noted : List Plan → Type 0) (k : BookState) (r : Reply) → r ≡ reply.Bye → noted []
+    → noted (documents_of (after_of k r ∷ []))
 noted_bye noted k r bye h = subst (λ v. noted (cond (ends v) [] (k.plan ∷ []) ++ [])) (sym bye) h
 
 -- nothing was asked
 asked_nothing : (heard : Option Request) (asked : List Ask) → heard ≡ None → AsksIfAny heard asked → asked ≡ []
 asked_nothing heard asked e is = subst (λ o. AsksIfAny o asked) e is
 
-pub goes_on_silent : (noted : List Plan → Type 0) (prompt : Bool) (old new : Ahead) (told : Option (List ℕ)) (heard : Option Request) (last : Bool) (k : BookState) (n m : ℕ) → noted [] → heard ≡ None → last ≡ false
+pub goes_on_silent : (noted : List Plan → Type 0) (prompt : Bool) (old new : Ahead) (told : Option (List ℕ))
+    (heard : Option Request) (last : Bool) (k : BookState) (n m : ℕ) → noted [] → heard ≡ None → last ≡ false
     → (h : Hears old new Between heard last n m) → Answers noted prompt old new told told k.plan k.plan n m
 goes_on_silent noted prompt old new told heard last k n m notes none e h = record {
   bytes = h.bytes;
@@ -87,10 +94,14 @@ goes_on_silent noted prompt old new told heard last k n m notes none e h = recor
   taken = h.taken;
   wrote = Appends-nil told;
   notes = notes;
-  law = λ stop more later. ap (λ v. afters k.plan v later) (h.law stop more (follows-any last stop more e) ∙ ap (λ v. v ++ asks stop Between m (lines_until stop more)) (asked_nothing heard h.asked none h.is));
+  law = λ stop more later.
+      ap (λ v. afters k.plan v later)
+      (h.law stop more (follows-any last stop more e) ∙ ap (λ v. v ++ asks stop Between m (lines_until stop more))
+      (asked_nothing heard h.asked none h.is));
 }
 
-pub done_silent : (noted : List Plan → Type 0) (prompt : Bool) (old new : Ahead) (told : Option (List ℕ)) (heard : Option Request) (last : Bool) (k : BookState) (n m : ℕ) → noted [] → heard ≡ None → last ≡ true
+pub done_silent : (noted : List Plan → Type 0) (prompt : Bool) (old new : Ahead) (told : Option (List ℕ))
+    (heard : Option Request) (last : Bool) (k : BookState) (n m : ℕ) → noted [] → heard ≡ None → last ≡ true
     → (h : Hears old new Between heard last n m) → Finishes noted prompt old new told told k.plan n
 done_silent noted prompt old new told heard last k n m notes none e h = record {
   bytes = h.bytes;
@@ -100,24 +111,37 @@ done_silent noted prompt old new told heard last k n m notes none e h = record {
   given = [];
   wrote = Appends-nil told;
   notes = notes;
-  law = λ rest x. ap (λ v. afters k.plan v []) (h.law Ended rest (follows_nothing last new.bytes rest h.at_end x) ∙ ap (λ v. v ++ asks Ended Between m (lines_until Ended rest)) (asked_nothing heard h.asked none h.is)
+  law = λ rest x.
+      ap (λ v. afters k.plan v [])
+      (h.law Ended rest (follows_nothing last new.bytes rest h.at_end x)
+      ∙ ap (λ v. v ++ asks Ended Between m (lines_until Ended rest)) (asked_nothing heard h.asked none h.is)
       ∙ ap (λ v. asks Ended Between m (lines_until Ended v)) (at_end_nil new.bytes rest (h.at_end e) x));
 }
 
 -- one thing was asked, and the reply to it found
-pub served : (prompt : Bool) (heard : Option Request) (request : Request) (asked : List Ask) (j k : BookState) (r : Reply) → heard ≡ Some request → AsksIfAny heard asked
+pub served : (prompt : Bool) (heard : Option Request) (request : Request) (asked : List Ask) (j k : BookState)
+    (r : Reply) → heard ≡ Some request → AsksIfAny heard asked
     → Serves prompt request r j k → Served prompt r asked j k
-served prompt heard request asked j k r e is gives = let one = subst (λ o. AsksIfAny o asked) e is in (one.0, one.1, gives one.0 one.2)
+served prompt heard request asked j k r e is gives = let one =
+    subst (λ o. AsksIfAny o asked) e is in (one.0, one.1, gives one.0 one.2)
 
 -- the answers from here on
-afters_from : (prompt : Bool) (old new : Ahead) (heard : Option Request) (last : Bool) (j k : BookState) (n m : ℕ) (r : Reply)
-    → (h : Hears old new Between heard last n m) → (s : Served prompt r h.asked j k) → (stop : End) (more : List ℕ) (later : List Shortage) → Follows last stop more
-    → afters j.plan (asks stop Between n (lines_until stop (h.bytes ++ more))) (s.2.0 ∷ later) ≡ after_of k r ∷ cond (ends r) [] (afters k.plan (asks stop Between m (lines_until stop more)) later)
+afters_from : (prompt : Bool) (old new : Ahead) (heard : Option Request) (last : Bool) (j k : BookState) (n m : ℕ)
+    (r : Reply)
+    → (h : Hears old new Between heard last n m) → (s : Served prompt r h.asked j k)
+    → (stop : End) (more : List ℕ) (later : List Shortage) → Follows last stop more
+    → afters j.plan (asks stop Between n (lines_until stop (h.bytes ++ more))) (s.2.0 ∷ later) ≡ after_of k r ∷ cond
+    (ends r) [] (afters k.plan (asks stop Between m (lines_until stop more)) later)
 afters_from prompt old new heard last j k n m r h s stop more later f =
-    ap (λ v. afters j.plan v (s.2.0 ∷ later)) (h.law stop more f ∙ ap (λ v. v ++ asks stop Between m (lines_until stop more)) s.1) ∙ after_is s.2.0 j.plan s.0 r k s.2.2 (asks stop Between m (lines_until stop more)) later
+    ap (λ v. afters j.plan v (s.2.0 ∷ later))
+    (h.law stop more f ∙ ap (λ v. v ++ asks stop Between m (lines_until stop more)) s.1)
+    ∙ after_is s.2.0 j.plan s.0 r k s.2.2 (asks stop Between m (lines_until stop more)) later
 
-pub goes_on_told : (noted : List Plan → Type 0) (prompt : Bool) (old new : Ahead) (before after : Option (List ℕ)) (heard : Option Request) (last : Bool) (j k : BookState) (n m : ℕ) (r : Reply) → noted (k.plan ∷ []) → last ≡ false → r ≢ reply.Bye
-    → (h : Hears old new Between heard last n m) → Served prompt r h.asked j k → Appends before after (reply_text k r) → Answers noted prompt old new before after j.plan k.plan n m
+pub goes_on_told : (noted : List Plan → Type 0) (prompt : Bool) (old new : Ahead) (before after : Option (List ℕ))
+    (heard : Option Request) (last : Bool) (j k : BookState) (n m : ℕ) (r : Reply) → noted (k.plan ∷ []) → last ≡ false
+    → r ≢ reply.Bye
+    → (h : Hears old new Between heard last n m) → Served prompt r h.asked j k → Appends before after (reply_text k r)
+    → Answers noted prompt old new before after j.plan k.plan n m
 goes_on_told noted prompt old new before after heard last j k n m r notes e b h s w = record {
   bytes = h.bytes;
   shortages = s.2.0 ∷ [];
@@ -126,16 +150,21 @@ goes_on_told noted prompt old new before after heard last j k n m r notes e b h 
   taken = h.taken;
   wrote = wrote_one before after k r w;
   notes = noted_one noted k r b notes;
-  law = λ stop more later. afters_from prompt old new heard last j k n m r h s stop more later (follows-any last stop more e)
-      ∙ ap (λ v. after_of k r ∷ cond v [] (afters k.plan (asks stop Between m (lines_until stop more)) later)) (ends-other r b);
+  law = λ stop more later. afters_from prompt old new heard last j k n m r h s stop more later
+      (follows-any last stop more e)
+      ∙ ap (λ v. after_of k r ∷ cond v [] (afters k.plan (asks stop Between m (lines_until stop more)) later))
+      (ends-other r b);
 }
 
 nothing_more : (v : Bool) (a : After) → a ∷ cond v [] [] ≡ a ∷ []
 nothing_more true a = refl
 nothing_more false a = refl
 
-pub done_last : (noted : List Plan → Type 0) (prompt : Bool) (old new : Ahead) (before after : Option (List ℕ)) (heard : Option Request) (last : Bool) (j k : BookState) (n m : ℕ) (r : Reply) → noted (k.plan ∷ []) → r ≢ reply.Bye → last ≡ true
-    → (h : Hears old new Between heard last n m) → Served prompt r h.asked j k → Appends before after (reply_text k r) → Finishes noted prompt old new before after j.plan n
+pub done_last : (noted : List Plan → Type 0) (prompt : Bool) (old new : Ahead) (before after : Option (List ℕ))
+    (heard : Option Request) (last : Bool) (j k : BookState) (n m : ℕ) (r : Reply) → noted (k.plan ∷ []) → r ≢ reply.Bye
+    → last ≡ true
+    → (h : Hears old new Between heard last n m) → Served prompt r h.asked j k → Appends before after (reply_text k r)
+    → Finishes noted prompt old new before after j.plan n
 done_last noted prompt old new before after heard last j k n m r notes b e h s w = record {
   bytes = h.bytes;
   shortages = s.2.0 ∷ [];
@@ -144,12 +173,16 @@ done_last noted prompt old new before after heard last j k n m r notes b e h s w
   given = after_of k r ∷ [];
   wrote = wrote_one before after k r w;
   notes = noted_one noted k r b notes;
-  law = λ rest x. afters_from prompt old new heard last j k n m r h s Ended rest [] (follows_nothing last new.bytes rest h.at_end x)
-      ∙ ap (λ v. after_of k r ∷ cond (ends r) [] (afters k.plan (asks Ended Between m (lines_until Ended v)) [])) (at_end_nil new.bytes rest (h.at_end e) x) ∙ nothing_more (ends r) (after_of k r);
+  law = λ rest x. afters_from prompt old new heard last j k n m r h s Ended rest []
+      (follows_nothing last new.bytes rest h.at_end x)
+      ∙ ap (λ v. after_of k r ∷ cond (ends r) [] (afters k.plan (asks Ended Between m (lines_until Ended v)) []))
+      (at_end_nil new.bytes rest (h.at_end e) x) ∙ nothing_more (ends r) (after_of k r);
 }
 
-pub done_bye : (noted : List Plan → Type 0) (prompt : Bool) (old new : Ahead) (before after : Option (List ℕ)) (heard : Option Request) (last : Bool) (j k : BookState) (n m : ℕ) (r : Reply) → noted [] → r ≡ reply.Bye
-    → (h : Hears old new Between heard last n m) → Served prompt r h.asked j k → Appends before after (reply_text k r) → Finishes noted prompt old new before after j.plan n
+pub done_bye : (noted : List Plan → Type 0) (prompt : Bool) (old new : Ahead) (before after : Option (List ℕ))
+    (heard : Option Request) (last : Bool) (j k : BookState) (n m : ℕ) (r : Reply) → noted [] → r ≡ reply.Bye
+    → (h : Hears old new Between heard last n m) → Served prompt r h.asked j k → Appends before after (reply_text k r)
+    → Finishes noted prompt old new before after j.plan n
 done_bye noted prompt old new before after heard last j k n m r notes b h s w = record {
   bytes = h.bytes;
   shortages = s.2.0 ∷ [];
@@ -158,29 +191,42 @@ done_bye noted prompt old new before after heard last j k n m r notes b h s w = 
   given = after_of k r ∷ [];
   wrote = wrote_one before after k r w;
   notes = noted_bye noted k r b notes;
-  law = λ rest x. afters_from prompt old new heard last j k n m r h s Ended rest [] (follows_nothing last new.bytes rest h.at_end x)
+  law = λ rest x. afters_from prompt old new heard last j k n m r h s Ended rest []
+      (follows_nothing last new.bytes rest h.at_end x)
       ∙ ap (λ v. after_of k r ∷ cond (ends v) [] (afters k.plan (asks Ended Between m (lines_until Ended rest)) [])) b;
 }
 
-pub stops_telling : (prompt : Bool) (old new : Ahead) (before after : Option (List ℕ)) (heard : Option Request) (last : Bool) (j k : BookState) (n m : ℕ) (r : Reply)
-    → (h : Hears old new Between heard last n m) → Served prompt r h.asked j k → AppendsFront before after (reply_text k r) → StopsTelling prompt old new before after j.plan n
+pub stops_telling : (prompt : Bool) (old new : Ahead) (before after : Option (List ℕ)) (heard : Option Request)
+    (last : Bool) (j k : BookState) (n m : ℕ) (r : Reply)
+    → (h : Hears old new Between heard last n m) → Served prompt r h.asked j k
+    → AppendsFront before after (reply_text k r) → StopsTelling prompt old new before after j.plan n
 stops_telling prompt old new before after heard last j k n m r h s w = record {
   bytes = h.bytes;
   shortages = s.2.0 ∷ [];
   caused = λ e. (s.2.1 e, tt);
   taken = h.taken;
-  law = λ rest x. subst (λ v. AppendsFront before after (texts_of v)) (sym (afters_from prompt old new heard last j k n m r h s Ended rest [] (follows_nothing last new.bytes rest h.at_end x)))
-      (front_first before after (reply_text k r) (texts_of (cond (ends r) [] (afters k.plan (asks Ended Between m (lines_until Ended rest)) []))) w);
+  law = λ rest x.
+      subst (λ v. AppendsFront before after (texts_of v))
+      (sym (afters_from prompt old new heard last j k n m r h s Ended rest []
+      (follows_nothing last new.bytes rest h.at_end x)))
+      (front_first before after (reply_text k r)
+      (texts_of (cond (ends r) [] (afters k.plan (asks Ended Between m (lines_until Ended rest)) []))) w);
 }
 
-wrote_both : (x y z : Option (List ℕ)) (xs ys : List After) → Appends x y (texts_of xs) → Appends y z (texts_of ys) → Appends x z (texts_of (xs ++ ys))
-wrote_both x y z xs ys f g = subst (Appends x z) (sym (texts-append xs ys)) (Appends-trans x y z (texts_of xs) (texts_of ys) f g)
+wrote_both : (x y z : Option (List ℕ)) (xs ys : List After) → Appends x y (texts_of xs) → Appends y z (texts_of ys)
+    → Appends x z (texts_of (xs ++ ys))
+wrote_both x y z xs ys f g =
+    subst (Appends x z) (sym (texts-append xs ys)) (Appends-trans x y z (texts_of xs) (texts_of ys) f g)
 
-notes_both : (first next both : List Plan → Type 0) → ((ps qs : List Plan) → first ps → next qs → both (ps ++ qs)) → (xs ys : List After) → first (documents_of xs) → next (documents_of ys) → both (documents_of (xs ++ ys))
-notes_both first next both join xs ys f g = subst both (sym (documents-append xs ys)) (join (documents_of xs) (documents_of ys) f g)
+notes_both : (first next both : List Plan → Type 0) → ((ps qs : List Plan) → first ps → next qs → both (ps ++ qs))
+    → (xs ys : List After) → first (documents_of xs) → next (documents_of ys) → both (documents_of (xs ++ ys))
+notes_both first next both join xs ys f g =
+    subst both (sym (documents-append xs ys)) (join (documents_of xs) (documents_of ys) f g)
 
 -- what was answered, and then what was answered next
-pub answers_answers : (first next both : List Plan → Type 0) (prompt : Bool) (a b c : Ahead) (x y z : Option (List ℕ)) (p q s : Plan) (n m k : ℕ) → ((ps qs : List Plan) → first ps → next qs → both (ps ++ qs)) → Answers first prompt a b x y p q n m → Answers next prompt b c y z q s m k → Answers both prompt a c x z p s n k
+pub answers_answers : (first next both : List Plan → Type 0) (prompt : Bool) (a b c : Ahead) (x y z : Option (List ℕ))
+    (p q s : Plan) (n m k : ℕ) → ((ps qs : List Plan) → first ps → next qs → both (ps ++ qs))
+    → Answers first prompt a b x y p q n m → Answers next prompt b c y z q s m k → Answers both prompt a c x z p s n k
 answers_answers first next both prompt a b c x y z p q s n m k join f g = record {
   bytes = f.bytes ++ g.bytes;
   shortages = f.shortages ++ g.shortages;
@@ -190,12 +236,17 @@ answers_answers first next both prompt a b c x y z p q s n m k join f g = record
   wrote = wrote_both x y z f.given g.given f.wrote g.wrote;
   notes = notes_both first next both join f.given g.given f.notes g.notes;
   law = λ stop more later.
-      ap (λ v. afters p (asks stop Between n (lines_until stop v)) ((f.shortages ++ g.shortages) ++ later)) (append_assoc f.bytes g.bytes more)
-      ∙ ap (afters p (asks stop Between n (lines_until stop (f.bytes ++ (g.bytes ++ more))))) (append_assoc f.shortages g.shortages later)
-      ∙ f.law stop (g.bytes ++ more) (g.shortages ++ later) ∙ ap (λ v. f.given ++ v) (g.law stop more later) ∙ sym (append_assoc f.given g.given (afters s (asks stop Between k (lines_until stop more)) later));
+      ap (λ v. afters p (asks stop Between n (lines_until stop v)) ((f.shortages ++ g.shortages) ++ later))
+      (append_assoc f.bytes g.bytes more)
+      ∙ ap (afters p (asks stop Between n (lines_until stop (f.bytes ++ (g.bytes ++ more)))))
+      (append_assoc f.shortages g.shortages later)
+      ∙ f.law stop (g.bytes ++ more) (g.shortages ++ later) ∙ ap (λ v. f.given ++ v) (g.law stop more later)
+      ∙ sym (append_assoc f.given g.given (afters s (asks stop Between k (lines_until stop more)) later));
 }
 
-pub answers_finishes : (first next both : List Plan → Type 0) (prompt : Bool) (a b c : Ahead) (x y z : Option (List ℕ)) (p q : Plan) (n m : ℕ) → ((ps qs : List Plan) → first ps → next qs → both (ps ++ qs)) → Answers first prompt a b x y p q n m → Finishes next prompt b c y z q m → Finishes both prompt a c x z p n
+pub answers_finishes : (first next both : List Plan → Type 0) (prompt : Bool) (a b c : Ahead) (x y z : Option (List ℕ))
+    (p q : Plan) (n m : ℕ) → ((ps qs : List Plan) → first ps → next qs → both (ps ++ qs))
+    → Answers first prompt a b x y p q n m → Finishes next prompt b c y z q m → Finishes both prompt a c x z p n
 answers_finishes first next both prompt a b c x y z p q n m join f g = record {
   bytes = f.bytes ++ g.bytes;
   shortages = f.shortages ++ g.shortages;
@@ -205,22 +256,29 @@ answers_finishes first next both prompt a b c x y z p q n m join f g = record {
   wrote = wrote_both x y z f.given g.given f.wrote g.wrote;
   notes = notes_both first next both join f.given g.given f.notes g.notes;
   law = λ rest e.
-      ap (λ v. afters p (asks Ended Between n (lines_until Ended v)) (f.shortages ++ g.shortages)) (append_assoc f.bytes g.bytes rest)
+      ap (λ v. afters p (asks Ended Between n (lines_until Ended v)) (f.shortages ++ g.shortages))
+      (append_assoc f.bytes g.bytes rest)
       ∙ f.law Ended (g.bytes ++ rest) g.shortages ∙ ap (λ v. f.given ++ v) (g.law rest e);
 }
 
-pub answers_stops : (noted : List Plan → Type 0) (prompt : Bool) (a b c : Ahead) (x y z : Option (List ℕ)) (p q : Plan) (n m : ℕ) → Answers noted prompt a b x y p q n m → StopsTelling prompt b c y z q m → StopsTelling prompt a c x z p n
+pub answers_stops : (noted : List Plan → Type 0) (prompt : Bool) (a b c : Ahead) (x y z : Option (List ℕ)) (p q : Plan)
+    (n m : ℕ) → Answers noted prompt a b x y p q n m → StopsTelling prompt b c y z q m → StopsTelling prompt a c x z p n
 answers_stops noted prompt a b c x y z p q n m f g = record {
   bytes = f.bytes ++ g.bytes;
   shortages = f.shortages ++ g.shortages;
   caused = λ e. caused-append f.shortages g.shortages (f.caused e) (g.caused e);
   taken = takes_then a b c f.bytes g.bytes f.taken g.taken;
   law = λ rest e.
-      let same = ap (λ v. replies_to p (asks Ended Between n (lines_until Ended v)) (f.shortages ++ g.shortages)) (append_assoc f.bytes g.bytes rest) ∙ ap texts_of (f.law Ended (g.bytes ++ rest) g.shortages) ∙ texts-append f.given (afters q (asks Ended Between m (lines_until Ended (g.bytes ++ rest))) g.shortages) in
-      subst (AppendsFront x z) (sym same) (front_then x y z (texts_of f.given) (replies_to q (asks Ended Between m (lines_until Ended (g.bytes ++ rest))) g.shortages) f.wrote (g.law rest e));
+      let same = ap (λ v. replies_to p (asks Ended Between n (lines_until Ended v)) (f.shortages ++ g.shortages))
+      (append_assoc f.bytes g.bytes rest) ∙ ap texts_of (f.law Ended (g.bytes ++ rest) g.shortages)
+      ∙ texts-append f.given (afters q (asks Ended Between m (lines_until Ended (g.bytes ++ rest))) g.shortages) in
+      subst (AppendsFront x z) (sym same)
+      (front_then x y z (texts_of f.given)
+      (replies_to q (asks Ended Between m (lines_until Ended (g.bytes ++ rest))) g.shortages) f.wrote (g.law rest e));
 }
 
-pub answers_breaks : (noted : List Plan → Type 0) (prompt : Bool) (a b c : Ahead) (x y : Option (List ℕ)) (q : Plan) (m : ℕ) → Answers noted prompt a b x y (opening 0) q 1 m → BreaksOff b c Between m → AnswersWhole prompt a c x y
+pub answers_breaks : (noted : List Plan → Type 0) (prompt : Bool) (a b c : Ahead) (x y : Option (List ℕ)) (q : Plan)
+    (m : ℕ) → Answers noted prompt a b x y (opening 0) q 1 m → BreaksOff b c Between m → AnswersWhole prompt a c x y
 answers_breaks noted prompt a b c x y q m f g =
     let all : replies_by Broken (f.bytes ++ g.bytes) (f.shortages ++ []) ≡ texts_of f.given
     = ap texts_of (f.law Broken g.bytes [] ∙ ap (λ v. f.given ++ afters q v []) g.law ∙ append-nil f.given) in
@@ -233,7 +291,8 @@ answers_breaks noted prompt a b c x y q m f g =
     }
 
 -- at the beginning
-pub answers_none : (noted : List Plan → Type 0) (prompt : Bool) (a b : Ahead) (x : Option (List ℕ)) (p q : Plan) (n : ℕ) → noted [] → b ≡ a → q ≡ p → Answers noted prompt a b x x p q n n
+pub answers_none : (noted : List Plan → Type 0) (prompt : Bool) (a b : Ahead) (x : Option (List ℕ)) (p q : Plan) (n : ℕ)
+    → noted [] → b ≡ a → q ≡ p → Answers noted prompt a b x x p q n n
 answers_none noted prompt a b x p q n notes e same = record {
   bytes = [];
   shortages = [];
@@ -250,10 +309,14 @@ abbrev afters_with : List ℕ → List Shortage → List After
 afters_with script shortages = afters (opening 0) (asks Ended Between 1 (lines_until Ended script)) shortages
 
 -- at the end
-all_finished : {W : Type 0} (notes : W → Plan → W → Type 0) (old new : W) (prompt : Bool) (a c x z : Option (List ℕ)) (bytes : List ℕ) (given : List After) (shortages : List Shortage) → AllCausedOver prompt shortages → Consumes a c bytes → Appends x z (texts_of given) → NotesAll notes old (documents_of given) new
-    → ((rest : List ℕ) → c ≡ Some rest → afters_with (bytes ++ rest) shortages ≡ given) → IfSome a (NotesReplies notes prompt x z old new)
+all_finished : {W : Type 0} (notes : W → Plan → W → Type 0) (old new : W) (prompt : Bool) (a c x z : Option (List ℕ))
+    (bytes : List ℕ) (given : List After) (shortages : List Shortage) → AllCausedOver prompt shortages
+    → Consumes a c bytes → Appends x z (texts_of given) → NotesAll notes old (documents_of given) new
+    → ((rest : List ℕ) → c ≡ Some rest → afters_with (bytes ++ rest) shortages ≡ given)
+    → IfSome a (NotesReplies notes prompt x z old new)
 all_finished notes old new prompt None c x z bytes given shortages caused taken wrote noted law = tt
-all_finished notes old new prompt (Some script) None x z bytes given shortages caused taken wrote noted law = absurd taken
+all_finished notes old new prompt (Some script) None x z bytes given shortages caused taken wrote noted law =
+    absurd taken
 all_finished notes old new prompt (Some script) (Some rest) x z bytes given shortages caused taken wrote noted law =
     let is : given ≡ afters_with script shortages = sym (ap (λ v. afters_with v shortages) taken ∙ law rest refl) in
     record {
@@ -263,12 +326,18 @@ all_finished notes old new prompt (Some script) (Some rest) x z bytes given shor
       noted = subst (λ v. NotesAll notes old (documents_of v) new) is noted;
     }
 
-pub finishes_all : {W : Type 0} (notes : W → Plan → W → Type 0) (missed : ℕ) (old new : W) (prompt : Bool) (a c : Ahead) (x z : Option (List ℕ)) → missed ≡ 0 → Finishes (NotesUnlessMissed notes 0 missed old new) prompt a c x z (opening 0) 1 → IfSome a.bytes (NotesReplies notes prompt x z old new)
-finishes_all notes missed old new prompt a c x z none f = all_finished notes old new prompt a.bytes c.bytes x z f.bytes f.given f.shortages f.caused f.taken.consumed f.wrote (f.notes none).1 f.law
+pub finishes_all : {W : Type 0} (notes : W → Plan → W → Type 0) (missed : ℕ) (old new : W) (prompt : Bool) (a c : Ahead)
+    (x z : Option (List ℕ)) → missed ≡ 0 → Finishes (NotesUnlessMissed notes 0 missed old new) prompt a c x z
+    (opening 0) 1 → IfSome a.bytes (NotesReplies notes prompt x z old new)
+finishes_all notes missed old new prompt a c x z none f =
+    all_finished notes old new prompt a.bytes c.bytes x z f.bytes f.given f.shortages f.caused f.taken.consumed f.wrote
+    (f.notes none).1 f.law
 
 -- whatever was noted
-all_told : (prompt : Bool) (a c x z : Option (List ℕ)) (bytes : List ℕ) (given : List After) (shortages : List Shortage) → AllCausedOver prompt shortages → Consumes a c bytes → Appends x z (texts_of given)
-    → ((rest : List ℕ) → c ≡ Some rest → afters_with (bytes ++ rest) shortages ≡ given) → IfSome a (AnswersAll prompt x z)
+all_told : (prompt : Bool) (a c x z : Option (List ℕ)) (bytes : List ℕ) (given : List After) (shortages : List Shortage)
+    → AllCausedOver prompt shortages → Consumes a c bytes → Appends x z (texts_of given)
+    → ((rest : List ℕ) → c ≡ Some rest → afters_with (bytes ++ rest) shortages ≡ given)
+    → IfSome a (AnswersAll prompt x z)
 all_told prompt None c x z bytes given shortages caused taken wrote law = tt
 all_told prompt (Some script) None x z bytes given shortages caused taken wrote law = absurd taken
 all_told prompt (Some script) (Some rest) x z bytes given shortages caused taken wrote law =
@@ -279,10 +348,15 @@ all_told prompt (Some script) (Some rest) x z bytes given shortages caused taken
       wrote = subst (λ v. Appends x z (texts_of v)) is wrote;
     }
 
-pub finishes_told : (noted : List Plan → Type 0) (prompt : Bool) (a c : Ahead) (x z : Option (List ℕ)) → Finishes noted prompt a c x z (opening 0) 1 → IfSome a.bytes (AnswersAll prompt x z)
-finishes_told noted prompt a c x z f = all_told prompt a.bytes c.bytes x z f.bytes f.given f.shortages f.caused f.taken.consumed f.wrote f.law
+pub finishes_told : (noted : List Plan → Type 0) (prompt : Bool) (a c : Ahead) (x z : Option (List ℕ))
+    → Finishes noted prompt a c x z (opening 0) 1 → IfSome a.bytes (AnswersAll prompt x z)
+finishes_told noted prompt a c x z f =
+    all_told prompt a.bytes c.bytes x z f.bytes f.given f.shortages f.caused f.taken.consumed f.wrote f.law
 
-front_stopped : (prompt : Bool) (a c x z : Option (List ℕ)) (bytes : List ℕ) (shortages : List Shortage) → AllCausedOver prompt shortages → Consumes a c bytes → ((rest : List ℕ) → c ≡ Some rest → AppendsFront x z (replies_with (bytes ++ rest) shortages)) → IfSome a (AnswersFront prompt x z)
+front_stopped : (prompt : Bool) (a c x z : Option (List ℕ)) (bytes : List ℕ) (shortages : List Shortage)
+    → AllCausedOver prompt shortages → Consumes a c bytes
+    → ((rest : List ℕ) → c ≡ Some rest → AppendsFront x z (replies_with (bytes ++ rest) shortages))
+    → IfSome a (AnswersFront prompt x z)
 front_stopped prompt None c x z bytes shortages caused taken law = tt
 front_stopped prompt (Some script) None x z bytes shortages caused taken law = absurd taken
 front_stopped prompt (Some script) (Some rest) x z bytes shortages caused taken law = record {
@@ -291,5 +365,7 @@ front_stopped prompt (Some script) (Some rest) x z bytes shortages caused taken 
   wrote = subst (λ v. AppendsFront x z (replies_with v shortages)) (sym taken) (law rest refl);
 }
 
-pub stops_front : (prompt : Bool) (a c : Ahead) (x z : Option (List ℕ)) → StopsTelling prompt a c x z (opening 0) 1 → IfSome a.bytes (AnswersFront prompt x z)
-stops_front prompt a c x z f = front_stopped prompt a.bytes c.bytes x z f.bytes f.shortages f.caused f.taken.consumed f.law
+pub stops_front : (prompt : Bool) (a c : Ahead) (x z : Option (List ℕ)) → StopsTelling prompt a c x z (opening 0) 1
+    → IfSome a.bytes (AnswersFront prompt x z)
+stops_front prompt a c x z f =
+    front_stopped prompt a.bytes c.bytes x z f.bytes f.shortages f.caused f.taken.consumed f.law

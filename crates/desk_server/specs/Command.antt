@@ -5,7 +5,7 @@ use Rattle.std.specs.Str.{bytes_eq}
 use Rattle.script_lines.specs.Words.{words}
 use Rattle.worlds.specs.declared.cell.CellSet.{CellSet}
 use Rattle.schedule.specs.declared.edit.Edit.{Edit}
-use Rattle.schedule.specs.declared.edit.Edit.TheVariants.{InsertIntervention, ChangeIntervention, RemoveIntervention, SetCells, AddBookmark, MoveBookmark, RemoveBookmark}
+use Rattle.schedule.specs.declared.edit.Edit.TheVariants.{InsertIntervention, ChangeIntervention, RemoveIntervention, SetCells, AddBookmark, MoveBookmark, RemoveBookmark, AddBranch, RemoveBranch}
 use Rattle.desk_server.specs.Numbers.{up_to, coordinate}
 use Rattle.desk_server.specs.View.{alone, view_of}
 use Rattle.desk_server.specs.declared.format.Format.{Format}
@@ -66,8 +66,8 @@ counted named (word ∷ rest) = option_zip (count_of word) (named rest)
 abbrev pub set_of : List (List ℕ) → Option Edit
 set_of rest = option_map SetCells (some_cells (cells_of rest))
 
-abbrev pub at_of : List (List ℕ) → Option Edit
-at_of rest = option_map (λ r. InsertIntervention r.0 r.1) (counted cells_set rest)
+abbrev pub at_of : ℕ → List (List ℕ) → Option Edit
+at_of b rest = option_map (λ r. InsertIntervention b r.0 r.1) (counted cells_set rest)
 
 abbrev pub change_of : List (List ℕ) → Option Edit
 change_of rest =
@@ -76,8 +76,8 @@ change_of rest =
 abbrev pub drop_of : List (List ℕ) → Option Edit
 drop_of rest = option_map RemoveIntervention (one_count rest)
 
-abbrev pub mark_of : List (List ℕ) → Option Edit
-mark_of rest = option_map (λ r. AddBookmark r.0 r.1) (counted view_of rest)
+abbrev pub mark_of : ℕ → List (List ℕ) → Option Edit
+mark_of b rest = option_map (λ r. AddBookmark b r.0 r.1) (counted view_of rest)
 
 abbrev pub move_of : List (List ℕ) → Option Edit
 move_of rest = option_map (λ r. MoveBookmark r.0 r.1) (counted one_count rest)
@@ -85,22 +85,47 @@ move_of rest = option_map (λ r. MoveBookmark r.0 r.1) (counted one_count rest)
 abbrev pub unmark_of : List (List ℕ) → Option Edit
 unmark_of rest = option_map RemoveBookmark (one_count rest)
 
--- the edit of bookmarks of a first word and those behind it
-abbrev pub bookmark_edit_by : List ℕ → List (List ℕ) → Option Edit
-bookmark_edit_by word rest =
-    if bytes_eq word (codes "mark") then mark_of rest
-    else (if bytes_eq word (codes "move") then move_of rest
+abbrev pub branch_of : List (List ℕ) → Option Edit
+branch_of rest = option_map (λ r. AddBranch r.0 r.1) (counted one_count rest)
+
+abbrev pub unbranch_of : List (List ℕ) → Option Edit
+unbranch_of rest = option_map RemoveBranch (one_count rest)
+
+-- the edit in a branch of a word and those behind it
+abbrev pub edit_in_branch : ℕ → List ℕ → List (List ℕ) → Option Edit
+edit_in_branch b word rest =
+    if bytes_eq word (codes "at") then at_of b rest
+    else (if bytes_eq word (codes "mark") then mark_of b rest
+    else None)
+
+-- the edit in a branch that is named, if it is
+abbrev pub edit_in_named : Option ℕ → List (List ℕ) → Option Edit
+edit_in_named None rest = None
+edit_in_named (Some b) [] = None
+edit_in_named (Some b) (word ∷ rest) = edit_in_branch b word rest
+
+-- the edit behind the word `on`: in the branch that the first word names
+abbrev pub on_of : List (List ℕ) → Option Edit
+on_of [] = None
+on_of (b ∷ rest) = edit_in_named (count_of b) rest
+
+-- the edit of any other first word and those behind it, in branch 0 where none is named
+abbrev pub further_edit_by : List ℕ → List (List ℕ) → Option Edit
+further_edit_by word rest =
+    if bytes_eq word (codes "move") then move_of rest
     else (if bytes_eq word (codes "unmark") then unmark_of rest
-    else None))
+    else (if bytes_eq word (codes "branch") then branch_of rest
+    else (if bytes_eq word (codes "unbranch") then unbranch_of rest
+    else edit_in_branch 0 word rest)))
 
 -- the edit of a first word and those behind it
 abbrev pub edit_by : List ℕ → List (List ℕ) → Option Edit
 edit_by word rest =
     if bytes_eq word (codes "set") then set_of rest
-    else (if bytes_eq word (codes "at") then at_of rest
+    else (if bytes_eq word (codes "on") then on_of rest
     else (if bytes_eq word (codes "change") then change_of rest
     else (if bytes_eq word (codes "drop") then drop_of rest
-    else bookmark_edit_by word rest)))
+    else further_edit_by word rest)))
 
 -- the command of a first word and those behind it
 abbrev pub command_by : List ℕ → List (List ℕ) → Option Command

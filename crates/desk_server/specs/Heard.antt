@@ -1,15 +1,13 @@
 -- What was heard of a script: the next thing that is asked, if there is one, and the reply to it.
-use Rattle.std.specs.Prelude.{◌≡◌, ℕ, List, [], ◌∷◌, ◌++◌, Bool, true, false, Option, None, Some}
+use Rattle.std.specs.Prelude.{◌≡◌, ℕ, List, [], ◌∷◌, ◌++◌, Bool, true, Option, None, Some}
 use Rattle.std.specs.Io.KnownBytes.{IsAtEnd}
 use Rattle.script_lines.specs.Ahead.{Ahead, Takes, LineReading, IsDrawn}
 use Rattle.script_lines.specs.Input.{FailsOrFull}
 use Rattle.text_lines.specs.Lines.{End, Broken, lines_until}
-use Rattle.script_lines.specs.ScriptLine.{is_passed_over}
 use Rattle.script_lines.specs.Script.{Follows}
 use Rattle.script_lines.specs.Text.{IsText}
 use Rattle.schedule.specs.Plan.{Plan}
 use Rattle.dependency_book.specs.BookState.{BookState}
-use Rattle.desk_server.specs.Command.{command_of, format_of}
 use Rattle.desk_server.specs.Shortage.{Shortage, IsCausedOver}
 use Rattle.desk_server.specs.Answer.{Ask, Obey, Take, Refuse, After, answer, unless_memory, CanLackMemory}
 use Rattle.desk_server.specs.Script.{asks, asked_by, Place, Between}

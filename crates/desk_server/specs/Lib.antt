@@ -8,6 +8,7 @@ pub mod Shortage
 pub mod Answer
 pub mod Script
 pub mod Plain
+pub mod OneLine
 pub mod Jobs
 pub mod Told
 pub mod Heard

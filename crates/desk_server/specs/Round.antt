@@ -51,12 +51,14 @@ pub record Completes {R W : Type 0} (prompt : Bool) (r s : LineReading R) (w x :
   pub answered : IfSome r.ahead.bytes (AnswersAll prompt w.contents x.contents)
   pub works : Works r s w x
 
--- the reading stopped: the commands that were read whole were answered, and what was written was
--- handed on
-pub record ReadStops {R W : Type 0} (prompt : Bool) (r s : LineReading R) (w x : CountedWriting W)
+-- the reading failed or never ends: the commands that were read whole were answered, and what was
+-- written was handed on
+pub record ReadStops {R W : Type 0} (remaining : R → Option (List ℕ)) (prompt : Bool)
+    (r s : LineReading R) (w x : CountedWriting W)
     : Type 0 where
   pub answered : AnswersWhole prompt r.ahead s.ahead w.contents x.contents
   pub flushed : w.flushed ≡ true → x.flushed ≡ true
+  pub fails : ReadFails remaining r s
 
 -- the writing stopped within the replies to the script
 pub record WriteStops {R W : Type 0} (prompt : Bool) (r : LineReading R) (w x : CountedWriting W)

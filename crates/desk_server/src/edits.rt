@@ -1,8 +1,9 @@
 //! Commands that are edits.
 ghost use Rattle.std.specs.Prelude.{◌≡◌, IfOk};
 ghost use Rattle.script_lines.specs.Words.{words};
-ghost use Rattle.desk_server.specs.Command.{edit_by, bookmark_edit_by};
-ghost use Rattle.desk_server.specs.Command.{set_of, at_of, change_of, drop_of, mark_of, move_of, unmark_of};
+ghost use Rattle.desk_server.specs.Command.{edit_by, further_edit_by, edit_in_branch};
+ghost use Rattle.desk_server.specs.Command.{set_of, at_of, on_of, change_of, drop_of, mark_of, move_of};
+ghost use Rattle.desk_server.specs.Command.{unmark_of, branch_of, unbranch_of};
 
 use crate::cells::{read_cells_set, some_cells};
 use crate::view::read_view;
@@ -11,20 +12,38 @@ use desk_core::Edit;
 use script_lines::next_word;
 use std::alloc::{AllocError, Global};
 
-/// The edit of a first word and those behind it, if they name one.
+/// The edit of a first word and those behind it, if they name one. It is in branch 0 where no branch
+/// is named.
 pub(crate) fn read_edit(alloc: Global, word: &[u8], rest: &[u8]) -> Result<Option<Edit>, AllocError>
     ensures { IfOk result (λ edit. edit ≡ edit_by word.now (words rest.now)) }
 {
     if word == b"set".as_slice() {
         read_set(alloc, rest)
-    } else if word == b"at".as_slice() {
-        read_at(alloc, rest)
+    } else if word == b"on".as_slice() {
+        read_on(alloc, rest)
     } else if word == b"change".as_slice() {
         read_change(alloc, rest)
     } else if word == b"drop".as_slice() {
         Ok(read_drop(rest))
     } else {
-        Ok(read_bookmark_edit(word, rest))
+        read_further_edit(alloc, word, rest)
+    }
+}
+
+// The edit of any other first word and those behind it, if they name one.
+fn read_further_edit(alloc: Global, word: &[u8], rest: &[u8]) -> Result<Option<Edit>, AllocError>
+    ensures { IfOk result (λ edit. edit ≡ further_edit_by word.now (words rest.now)) }
+{
+    if word == b"move".as_slice() {
+        Ok(read_move(rest))
+    } else if word == b"unmark".as_slice() {
+        Ok(read_unmark(rest))
+    } else if word == b"branch".as_slice() {
+        Ok(read_branch(rest))
+    } else if word == b"unbranch".as_slice() {
+        Ok(read_unbranch(rest))
+    } else {
+        read_in_branch(alloc, 0, word, rest)
     }
 }
 
@@ -38,9 +57,43 @@ fn read_set(alloc: Global, rest: &[u8]) -> Result<Option<Edit>, AllocError>
     }
 }
 
-// An intervention is inserted.
-fn read_at(alloc: Global, rest: &[u8]) -> Result<Option<Edit>, AllocError>
-    ensures { IfOk result (λ edit. edit ≡ at_of (words rest.now)) }
+// An edit in the branch that the first word names.
+fn read_on(alloc: Global, rest: &[u8]) -> Result<Option<Edit>, AllocError>
+    ensures { IfOk result (λ edit. edit ≡ on_of (words rest.now)) }
+{
+    let Some((branch, rest)) = next_word(rest) else {
+        return Ok(None);
+    };
+    let Some(branch) = count(branch) else {
+        return Ok(None);
+    };
+    let Some((word, rest)) = next_word(rest) else {
+        return Ok(None);
+    };
+    read_in_branch(alloc, branch, word, rest)
+}
+
+// The edit in a branch of a word and those behind it, if they name one.
+fn read_in_branch(
+    alloc: Global,
+    branch: u64,
+    word: &[u8],
+    rest: &[u8],
+) -> Result<Option<Edit>, AllocError>
+    ensures { IfOk result (λ edit. edit ≡ edit_in_branch branch word.now (words rest.now)) }
+{
+    if word == b"at".as_slice() {
+        read_at(alloc, branch, rest)
+    } else if word == b"mark".as_slice() {
+        Ok(read_mark(branch, rest))
+    } else {
+        Ok(None)
+    }
+}
+
+// An intervention is inserted into a branch.
+fn read_at(alloc: Global, branch: u64, rest: &[u8]) -> Result<Option<Edit>, AllocError>
+    ensures { IfOk result (λ edit. edit ≡ at_of branch (words rest.now)) }
 {
     let Some((generation, rest)) = next_word(rest) else {
         return Ok(None);
@@ -49,7 +102,11 @@ fn read_at(alloc: Global, rest: &[u8]) -> Result<Option<Edit>, AllocError>
         return Ok(None);
     };
     match read_cells_set(alloc, rest)? {
-        Some(cells) => Ok(Some(Edit::InsertIntervention { generation, cells })),
+        Some(cells) => Ok(Some(Edit::InsertIntervention {
+            branch,
+            generation,
+            cells,
+        })),
         None => Ok(None),
     }
 }
@@ -77,37 +134,26 @@ fn read_change(alloc: Global, rest: &[u8]) -> Result<Option<Edit>, AllocError>
     }
 }
 
+// A bookmark is added to a branch.
+fn read_mark(branch: u64, rest: &[u8]) -> Option<Edit>
+    ensures { result ≡ mark_of branch (words rest.now) }
+{
+    let (generation, rest) = next_word(rest)?;
+    let generation = count(generation)?;
+    let view = read_view(rest)?;
+    Some(Edit::AddBookmark {
+        branch,
+        generation,
+        view,
+    })
+}
+
 // An intervention is removed.
 fn read_drop(rest: &[u8]) -> Option<Edit>
     ensures { result ≡ drop_of (words rest.now) }
 {
     let id = one_count(rest)?;
     Some(Edit::RemoveIntervention { id })
-}
-
-// The edit of bookmarks of a first word and those behind it, if they name one.
-fn read_bookmark_edit(word: &[u8], rest: &[u8]) -> Option<Edit>
-    ensures { result ≡ bookmark_edit_by word.now (words rest.now) }
-{
-    if word == b"mark".as_slice() {
-        read_mark(rest)
-    } else if word == b"move".as_slice() {
-        read_move(rest)
-    } else if word == b"unmark".as_slice() {
-        read_unmark(rest)
-    } else {
-        None
-    }
-}
-
-// A bookmark is added.
-fn read_mark(rest: &[u8]) -> Option<Edit>
-    ensures { result ≡ mark_of (words rest.now) }
-{
-    let (generation, rest) = next_word(rest)?;
-    let generation = count(generation)?;
-    let view = read_view(rest)?;
-    Some(Edit::AddBookmark { generation, view })
 }
 
 // A bookmark is moved.
@@ -126,4 +172,22 @@ fn read_unmark(rest: &[u8]) -> Option<Edit>
 {
     let id = one_count(rest)?;
     Some(Edit::RemoveBookmark { id })
+}
+
+// A branch is added.
+fn read_branch(rest: &[u8]) -> Option<Edit>
+    ensures { result ≡ branch_of (words rest.now) }
+{
+    let (parent, rest) = next_word(rest)?;
+    let parent = count(parent)?;
+    let generation = one_count(rest)?;
+    Some(Edit::AddBranch { parent, generation })
+}
+
+// A branch is removed.
+fn read_unbranch(rest: &[u8]) -> Option<Edit>
+    ensures { result ≡ unbranch_of (words rest.now) }
+{
+    let branch = one_count(rest)?;
+    Some(Edit::RemoveBranch { branch })
 }

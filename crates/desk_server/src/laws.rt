@@ -1,7 +1,19 @@
-//! A law of the definitions, the contract of a function that does nothing.
+//! Laws of the definitions, each the contract of a function that does nothing.
+ghost use Rattle.desk_server.specs.OneLine.{DocumentsAreSound, OneLineWithoutBranch};
 ghost use Rattle.desk_server.specs.Plain.{PlainWithoutShortages};
 
 /// Where no reply shows a want, the replies are those where none is met.
 pub fn plain_without_shortages()
     ensures { PlainWithoutShortages }
+{}
+
+/// The document after each reply to a script keeps the limits of documents.
+pub fn documents_are_sound()
+    ensures { DocumentsAreSound }
+{}
+
+/// Where a script adds no branch, the document after each reply has one line of history, and its
+/// bookmarks show what that line gives.
+pub fn one_line_without_branch()
+    ensures { OneLineWithoutBranch }
 {}

@@ -31,6 +31,7 @@ fn id_word(edit: &Edit) -> &'static str
     match edit {
         Edit::InsertIntervention { .. } => " intervention ",
         Edit::AddBookmark { .. } => " bookmark ",
+        Edit::AddBranch { .. } => " branch ",
         _ => "",
     }
 }

@@ -1,6 +1,6 @@
 //! A script, answered while it is read.
 ghost use Rattle.std.specs.Prelude.{◌≡◌, IfSome, Err, Ok, OnOk};
-ghost use Rattle.desk_server.specs.Heard.{ReadFails};
+ghost use Rattle.schedule.specs.Plan.{opening};
 ghost use Rattle.desk_server.specs.Jobs.{Carries, CarriesOn, IsFresh};
 ghost use Rattle.desk_server.specs.Round.{Completes, Ends, GoesOn, ReadBreaks, ReadStops};
 ghost use Rattle.desk_server.specs.Round.{WriteBreaks, WriteStops};
@@ -89,6 +89,49 @@ fn round<R: Read, W: Write, L: Ledger, M: Ledger, P: Post, V: Watch>(
     })
 }
 
+// Answers one command after another at a desk with the opening document. Ok says how many documents
+// weren't noted.
+fn answer_commands<R: Read, W: Write, L: Ledger, M: Ledger, P: Post, V: Watch>(
+    rt: &impl Wait,
+    alloc: Global,
+    reader: &mut CountedReader<R, L>,
+    writer: &mut CountedWriter<W, M>,
+    line: &mut KeptLine,
+    desk: &mut Desk<'_>,
+    post: &mut P,
+    watch: &mut V,
+) -> Result<u64, Device>
+    requires opening { desk.old.plan ≡ opening 0 }
+    requires carries { Carries P.table P.floor P.is_prompt P.held post.old desk.old }
+    ensures done { OnOk result
+        (Completes (P.is_prompt post.old) reader.old reader.new writer.old writer.new) }
+    ensures noted { result ≡ Ok 0 → IfSome reader.old.ahead.bytes (NotesReplies V.notes
+        (P.is_prompt post.old) writer.old.contents writer.new.contents watch.old watch.new) }
+    ensures read { result ≡ Err Device.Reader → ReadStops R.remaining (P.is_prompt post.old)
+        reader.old reader.new writer.old writer.new }
+    ensures write { result ≡ Err Device.Writer
+        → WriteStops (P.is_prompt post.old) reader.old writer.old writer.new }
+{
+    let mut missed = 0;
+    reader.begin();
+    'script: loop {
+        match round(
+            rt,
+            alloc,
+            reader,
+            writer,
+            line,
+            desk,
+            post,
+            watch,
+            &mut missed,
+        )? {
+            ControlFlow::Continue(()) => {}
+            ControlFlow::Break(()) => return Ok(missed),
+        }
+    }
+}
+
 // `run`, while somebody looks on. Ok says how many documents weren't noted.
 fn answer_all<R: Read, W: Write, L: Ledger, M: Ledger, P: Post, V: Watch>(
     rt: &impl Wait,
@@ -105,9 +148,8 @@ fn answer_all<R: Read, W: Write, L: Ledger, M: Ledger, P: Post, V: Watch>(
         (Completes (P.is_prompt post.old) reader.old reader.new writer.old writer.new) }
     ensures noted { result ≡ Ok 0 → IfSome reader.old.ahead.bytes (NotesReplies V.notes
         (P.is_prompt post.old) writer.old.contents writer.new.contents watch.old watch.new) }
-    ensures read { result ≡ Err RunFault.Read → ReadStops (P.is_prompt post.old)
+    ensures read { result ≡ Err RunFault.Read → ReadStops R.remaining (P.is_prompt post.old)
         reader.old reader.new writer.old writer.new }
-    ensures fails { result ≡ Err RunFault.Read → ReadFails R.remaining reader.old reader.new }
     ensures write { result ≡ Err RunFault.Write
         → WriteStops (P.is_prompt post.old) reader.old writer.old writer.new }
     ensures no_memory { result ≡ Err RunFault.NoMemory
@@ -119,34 +161,13 @@ fn answer_all<R: Read, W: Write, L: Ledger, M: Ledger, P: Post, V: Watch>(
     let Ok(mut line) = KeptLine::new(alloc) else {
         return Err(RunFault::NoMemory);
     };
-    let mut missed = 0;
-    reader.begin();
-    'script: loop {
-        match round(
-            rt,
-            alloc,
-            reader,
-            writer,
-            &mut line,
-            &mut desk,
-            post,
-            watch,
-            &mut missed,
-        ) {
-            Ok(ControlFlow::Continue(())) => {}
-            Ok(ControlFlow::Break(())) => {
-                desk.stop_all();
-                return Ok(missed);
-            }
-            Err(Device::Reader) => {
-                desk.stop_all();
-                return Err(RunFault::Read);
-            }
-            Err(Device::Writer) => {
-                desk.stop_all();
-                return Err(RunFault::Write);
-            }
-        }
+    let answered = answer_commands(rt, alloc, reader, writer, &mut line, &mut desk, post, watch);
+    // Nobody takes the answers of the jobs that are out.
+    desk.stop_all();
+    match answered {
+        Ok(missed) => Ok(missed),
+        Err(Device::Reader) => Err(RunFault::Read),
+        Err(Device::Writer) => Err(RunFault::Write),
     }
 }
 
@@ -175,9 +196,8 @@ pub fn run<R: Read, W: Write, L: Ledger, M: Ledger, P: Post>(
 
     // Where a read failed, or 2^64 - 1 bytes came, all that was read was taken, and the commands
     // that were read whole were answered.
-    ensures read { result ≡ Err RunFault.Read → ReadStops (P.is_prompt post.old)
+    ensures read { result ≡ Err RunFault.Read → ReadStops R.remaining (P.is_prompt post.old)
         reader.old reader.new writer.old writer.new }
-    ensures fails { result ≡ Err RunFault.Read → ReadFails R.remaining reader.old reader.new }
 
     // Where a write failed, a beginning of the replies was written.
     ensures write { result ≡ Err RunFault.Write
@@ -230,9 +250,8 @@ pub fn run_with_board<R: Read, W: Write, L: Ledger, M: Ledger, P: Post, B: Wait>
 
     // Where a read failed, or 2^64 - 1 bytes came, all that was read was taken, and the commands
     // that were read whole were answered.
-    ensures read { result ≡ Err RunFault.Read → ReadStops (P.is_prompt post.old)
+    ensures read { result ≡ Err RunFault.Read → ReadStops R.remaining (P.is_prompt post.old)
         reader.old reader.new writer.old writer.new }
-    ensures fails { result ≡ Err RunFault.Read → ReadFails R.remaining reader.old reader.new }
 
     // Where a write failed, a beginning of the replies was written.
     ensures write { result ≡ Err RunFault.Write

@@ -3,6 +3,7 @@ ghost use Rattle.std.specs.Prelude.{◌≡◌, ◌<◌, ◌≤◌};
 ghost use Rattle.desk_server.specs.Jobs.{IsFresh};
 
 mod board;
+mod branches;
 mod devices;
 mod edits;
 mod faults;

@@ -16,6 +16,9 @@ Commands of a script, one a line; blank lines and lines that begin with # are pa
   mark G window X Y W H     one of the states of W by H cells, from (X, Y) to the right and down
   move ID G                 moves a bookmark to generation G
   unmark ID                 removes a bookmark
+  branch B G                adds a branch of history, which leaves branch B after generation G
+  unbranch B                removes a branch that nothing stands in
+  on B at .., on B mark ..  does so in branch B; without `on` it is branch 0
   work                      lets the workers begin and doesn't wait for them
   settle                    computes the texts of all bookmarks
   show ID                   does so, and then shows the text of a bookmark

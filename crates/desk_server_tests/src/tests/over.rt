@@ -171,3 +171,26 @@ fn a_current_bookmark_is_shown_at_once(rt: HostRuntime) {
         1,
     );
 }
+
+// The steps of two branches are out at once: to generation 2 of the one, and to where the other
+// leaves it.
+#[test]
+fn work_sends_the_steps_of_two_branches(rt: HostRuntime) {
+    let alloc = rt.alloc();
+    let script = b"branch 0 0\nmark 2 counts\non 1 mark 2 counts\nwork\n";
+    let replies = b"ok 1 branch 1\nok 2 bookmark 1\nok 3 bookmark 2\nworking\n";
+    swallows(&rt, alloc, true, script, replies, 2);
+}
+
+// What is dropped from a branch leaves the text of the line that it came from. What comes in below
+// its fork leaves neither. The step to generation 4 is the one to generation 2 once more, so that
+// five jobs are enough for the first settling.
+#[test]
+fn an_edit_is_felt_in_its_own_line(rt: HostRuntime) {
+    let alloc = rt.alloc();
+    let script =
+        b"set 0 0 1\nbranch 0 2\non 1 at 2 set 2 0 1\non 1 mark 4 counts\nmark 4 counts\nsettle\ndrop 1\nshow 1\nshow 2\nat 1 set 1 0 1\nshow 1\nshow 2\n";
+    let replies =
+        b"ok 1\nok 2 branch 1\nok 3 intervention 1\nok 4 bookmark 1\nok 5 bookmark 2\nsettled\nok 6\nbookmark 1 pending\nbookmark 2 current 4\n1 1\nok 7 intervention 2\nbookmark 1 pending\nbookmark 2 pending\n";
+    closes(&rt, alloc, 5, script, replies, 5);
+}

@@ -10,4 +10,5 @@ loop-cells-preserved c =
     c.loop-cells.invariant
     ∙ ap (option_map (λ more. c.loop-cells.cells.items ++ more)) c.in-Cell.ensures.0
     ∙ prepends_one c.loop-cells.cells.items c.in-Cell.cell (cells_of (words c.in-Cell.behind.now))
-    ∙ ap (λ v. option_map (λ more. v ++ more) (cells_of (words c.in-Cell.behind.now))) (sym c.in_ok-push-in-Cell.ensures.items)
+    ∙ ap (λ v. option_map (λ more. v ++ more) (cells_of (words c.in-Cell.behind.now)))
+    (sym c.in_ok-push-in-Cell.ensures.items)

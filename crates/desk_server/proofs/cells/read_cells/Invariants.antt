@@ -5,7 +5,8 @@ use Rattle.desk_server.specs.Command.{cells_of}
 use Rattle.desk_server.proofs.cells.read_cells.Given as goal
 
 abbrev pub invariant-loop-cells : goal.invariant-loop-cells
-invariant-loop-cells l = cells_of (words l.fn.bytes) ≡ option_map (λ more. l.cells.items ++ more) (cells_of (words l.rest))
+invariant-loop-cells l = cells_of (words l.fn.bytes) ≡ option_map (λ more. l.cells.items ++ more)
+    (cells_of (words l.rest))
 
 abbrev pub decreases-loop-cells : goal.decreases-loop-cells
 decreases-loop-cells l = length l.rest

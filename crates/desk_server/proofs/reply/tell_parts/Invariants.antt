@@ -5,6 +5,7 @@ use Rattle.desk_server.proofs.reply.tell_parts.Given as goal
 
 abbrev pub invariant-loop-part : goal.invariant-loop-part
 invariant-loop-part g l = record {
-  told : IsUnderWay l.fn.writer.contents l.writer.contents (parts_text l.parts) (parts_text (drop l.part-index l.parts));
+  told : IsUnderWay l.fn.writer.contents l.writer.contents (parts_text l.parts)
+      (parts_text (drop l.part-index l.parts));
   worked : l.writer.failures ≡ l.fn.writer.failures;
 }

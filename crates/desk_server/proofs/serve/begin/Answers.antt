@@ -14,8 +14,11 @@ use Rattle.desk_server.proofs.serve.begin.Goals as goal
 pub returns-in-Err-clause-answer : goal.returns-in-Err-clause-answer
 returns-in-Err-clause-answer c =
     let p = c.args.desk.now.plan in
-    gives-refused p c.edit.new.self c.refused.result of_edit (λ (d : Changed). accepted d (codes " gen ") (Some c.args.generation)) c.in-Err.fault NoMemory (change p (ReplaceStart (arc_value c.args.start)))
-    refl (ap (λ (k : BookState). k.plan) c.in-Err.ensures.unchanged) c.in-Err.ensures.refused c.refused.ensures.text c.refused.ensures.goes_on
+    gives-refused p c.edit.new.self c.refused.result of_edit
+    (λ (d : Changed). accepted d (codes " gen ") (Some c.args.generation)) c.in-Err.fault NoMemory
+    (change p (ReplaceStart (arc_value c.args.start)))
+    refl (ap (λ (k : BookState). k.plan) c.in-Err.ensures.unchanged) c.in-Err.ensures.refused c.refused.ensures.text
+    c.refused.ensures.goes_on
 
 pub returns-clause-answer : goal.returns-clause-answer
 returns-clause-answer c = (NoShortage, λ _. tt, search rules)

@@ -14,8 +14,10 @@ pub returns-in-Err-clause-answer : goal.returns-in-Err-clause-answer
 returns-in-Err-clause-answer c =
     let p = c.args.desk.now.plan in
     let asked = asked_of c.args.edit.now in
-    gives-refused p c.edit.new.self c.refused.result of_edit (λ (d : Changed). accepted d (id_word asked) d.edited.id) c.in-Err.fault NoMemory (change p asked)
-    refl (ap (λ (k : BookState). k.plan) c.in-Err.ensures.unchanged) c.in-Err.ensures.refused c.refused.ensures.text c.refused.ensures.goes_on
+    gives-refused p c.edit.new.self c.refused.result of_edit
+    (λ (d : Changed). accepted d (id_word asked) d.edited.id) c.in-Err.fault NoMemory (change p asked)
+    refl (ap (λ (k : BookState). k.plan) c.in-Err.ensures.unchanged) c.in-Err.ensures.refused c.refused.ensures.text
+    c.refused.ensures.goes_on
 
 pub returns-in-Ok-clause-answer : goal.returns-in-Ok-clause-answer
 returns-in-Ok-clause-answer c = (NoShortage, λ _. tt, search rules)

@@ -5,18 +5,29 @@ use Rattle.desk_server.proofs.Jobs.{drops_none, drops_drops, cancel_drops, first
 use Rattle.desk_server.proofs.serve.give_up.Goals as goal
 
 pub loop-first-init : goal.loop-first-init
-loop-first-init c = record { plan = refl; drops = drops_none _ _ refl; causes = λ answers cause h. h; first = c.first_out-first.ensures }
+loop-first-init c =
+    record {
+      plan = refl;
+      drops = drops_none _ _ refl;
+      causes = λ answers cause h.
+          h;
+      first = c.first_out-first.ensures;
+    }
 
 pub loop-first-smaller : goal.loop-first-smaller
 loop-first-smaller c =
     let few : c.in-Some.number < 2 ^ 32 = search rules in
     let first = subst (IsFirstOut c.loop-first.desk) c.in-Some.is c.loop-first.invariant.first in
-    subst (λ o. numbers_from c.first_out-first-in-Some.result < numbers_from o) (sym c.in-Some.is) (first_falls c.in-Some.number c.first_out-first-in-Some.result c.loop-first.desk c.cancel.new.self few c.cancel.ensures.rows first c.first_out-first-in-Some.ensures)
+    subst (λ o. numbers_from c.first_out-first-in-Some.result < numbers_from o) (sym c.in-Some.is)
+    (first_falls c.in-Some.number c.first_out-first-in-Some.result c.loop-first.desk c.cancel.new.self few
+    c.cancel.ensures.rows first c.first_out-first-in-Some.ensures)
 
 pub loop-first-preserved : goal.loop-first-preserved
 loop-first-preserved c = record {
   plan = c.cancel.ensures.book.document.plan ∙ c.loop-first.invariant.plan;
-  drops = drops_drops _ _ _ c.loop-first.invariant.drops (cancel_drops _ _ _ c.cancel.ensures.rows c.cancel.ensures.book);
-  causes = λ answers cause h. explains-cancelled c.loop-first.desk c.cancel.new.self c.cancel.ensures.book answers cause (c.loop-first.invariant.causes answers cause h);
+  drops = drops_drops _ _ _ c.loop-first.invariant.drops
+      (cancel_drops _ _ _ c.cancel.ensures.rows c.cancel.ensures.book);
+  causes = λ answers cause h. explains-cancelled c.loop-first.desk c.cancel.new.self c.cancel.ensures.book answers cause
+      (c.loop-first.invariant.causes answers cause h);
   first = c.first_out-first-in-Some.ensures;
 }

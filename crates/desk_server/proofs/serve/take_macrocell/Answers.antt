@@ -10,5 +10,6 @@ use Rattle.desk_server.proofs.serve.take_macrocell.Goals as goal
 pub returns-in-Err-clause-answer : goal.returns-in-Err-clause-answer
 returns-in-Err-clause-answer c =
     let p = c.args.desk.now.plan in
-    gives-refused p c.args.desk.now c.refused.result of_macrocell (λ (l : Loaded). started p l.generation l.plane) c.in-Err.fault NoMemory (pattern_of c.args.text.now)
+    gives-refused p c.args.desk.now c.refused.result of_macrocell
+    (λ (l : Loaded). started p l.generation l.plane) c.in-Err.fault NoMemory (pattern_of c.args.text.now)
     refl refl c.in-Err.ensures.pattern c.refused.ensures.text c.refused.ensures.goes_on

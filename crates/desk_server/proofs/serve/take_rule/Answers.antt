@@ -12,7 +12,8 @@ use Rattle.desk_server.proofs.serve.take_rule.Goals as goal
 pub returns-in-Err-clause-answer : goal.returns-in-Err-clause-answer
 returns-in-Err-clause-answer c =
     let p = c.args.desk.now.plan in
-    gives-refused p c.args.desk.now c.refused.result of_rule (λ (rule : Rule). edited p (ReplaceRule rule)) c.in-Err.fault NoMemory (rule_of c.args.text.now)
+    gives-refused p c.args.desk.now c.refused.result of_rule
+    (λ (rule : Rule). edited p (ReplaceRule rule)) c.in-Err.fault NoMemory (rule_of c.args.text.now)
     refl refl c.in-Err.ensures.rule c.refused.ensures.text c.refused.ensures.goes_on
 
 pub returns-clause-answer : goal.returns-clause-answer
