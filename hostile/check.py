@@ -201,6 +201,34 @@ def text_of_50_mb_without_end():
     expect(run(b"rule\n@RULE X\n" + b"#" * (50 * MB)), 0, b"refused 81 NoEnd 1\n")
 
 
+# Branches
+
+MOST_BRANCHES = 64
+
+
+def chain_of_branches():
+    """Each branch leaves the one before a generation later, and sets a cell there that none of the others feels
+    before generation 255: then the cell that was set at generation g has become as many as from one cell after
+    255 - g generations."""
+    edits, replies = [RULE_X, b"set 0 0 1\n"], [b"ok 1\n", b"ok 2\n"]
+    for k in range(1, MOST_BRANCHES + 1):
+        edits.append(b"branch %d %d\non %d at %d set %d 0 1\non %d mark 255 counts\n" % (
+            k - 1, k, k, k, 10000 * k, k))
+        replies.append(b"ok %d branch %d\nok %d intervention %d\nok %d bookmark %d\n" % (
+            3 * k, k, 3 * k + 1, k, 3 * k + 2, k))
+    edits += [b"branch 64 1000\n" * 100000, b"unbranch 64\n", b"on 64 at 63 set 0 0 1\n", b"settle\n"]
+    replies += [b"refused 53 TooManyBranches\n" * 100000, b"refused 52 BranchInUse\n", b"refused 51 BeforeFork\n",
+                b"settled\n"]
+    cells = 1 << bin(255).count("1")
+    for k in range(1, MOST_BRANCHES + 1):
+        cells += 1 << bin(255 - k).count("1")
+        text = b"1 %d\n" % cells
+        edits.append(b"show %d\n" % k)
+        replies.append(b"bookmark %d current %d\n" % (k, len(text)) + text)
+    for workers in ("1", "8"):
+        expect(run(b"".join(edits) + b"quit\n", "--workers", workers), 0, b"".join(replies) + b"bye\n")
+
+
 # Little room
 
 def too_few_squares():
@@ -361,6 +389,7 @@ CASES = {
     "a line of 50 MB": line_of_50_mb,
     "a word of 50 MB": word_of_50_mb,
     "a text of 50 MB without its end": text_of_50_mb_without_end,
+    "a chain of 64 branches": chain_of_branches,
     "64 squares": too_few_squares,
     **{f"a far generation in {size} MB": limited(FAR, far_replies, size)
        for size in (2, 3, 4, 8, 16, 18, 19, 20, 21, 22, 24, 26, 28, 32, 40, 48, 64, 96, 256)},

@@ -92,8 +92,12 @@ def _words_of(cells: Iterable[Cell]) -> str:
     return " ".join(f"{x} {y} {state}" for x, y, state in cells)
 
 
+def _branch_words(on: int) -> str:
+    return f"on {on} " if on else ""
+
+
 class Desk:
-    """A running program with its document: a rule, a start, interventions and bookmarks.
+    """A running program with its document: a rule, a start, interventions, bookmarks and branches.
 
     It ends with the `with` block, or by `close`. A call waits for its reply. Where one raises Refused
     nothing is changed, and the desk can be used on. `revision` is the document's.
@@ -149,35 +153,47 @@ class Desk:
         """Sets cells of the start. The last mention of a cell wins."""
         self._edit(f"set {_words_of(cells)}")
 
-    def at(self, generation: int, cells: Iterable[Cell]) -> int:
-        """Adds an intervention, which sets cells at a generation, and gives its id."""
-        return int(self._edit(f"at {generation} set {_words_of(cells)}")[3])
+    def at(self, generation: int, cells: Iterable[Cell], on: int = 0) -> int:
+        """Adds an intervention, which sets cells at a generation of the branch `on`, and gives its id."""
+        return int(self._edit(f"{_branch_words(on)}at {generation} set {_words_of(cells)}")[3])
 
     def change(self, intervention: int, generation: int, cells: Iterable[Cell]) -> None:
-        """Gives an intervention another generation and other cells."""
+        """Gives an intervention another generation of its branch and other cells."""
         self._edit(f"change {intervention} {generation} set {_words_of(cells)}")
 
     def drop(self, intervention: int) -> None:
         """Removes an intervention."""
         self._edit(f"drop {intervention}")
 
-    def mark(self, generation: int, view: View) -> int:
-        """Adds a bookmark, which shows the view after the interventions of its own generation.
+    def mark(self, generation: int, view: View, on: int = 0) -> int:
+        """Adds a bookmark of the branch `on`, which shows the view after its own generation's interventions.
 
         Gives its id. The view is "counts", "rle", "mc" or a Window.
         """
         said = view if isinstance(view, str) else "window " + " ".join(map(str, view))
-        bookmark = int(self._edit(f"mark {generation} {said}")[3])
+        bookmark = int(self._edit(f"{_branch_words(on)}mark {generation} {said}")[3])
         self._views[bookmark] = view
         return bookmark
 
     def move(self, bookmark: int, generation: int) -> None:
-        """Moves a bookmark to another generation."""
+        """Moves a bookmark to another generation of its branch."""
         self._edit(f"move {bookmark} {generation}")
 
     def unmark(self, bookmark: int) -> None:
         """Removes a bookmark."""
         self._edit(f"unmark {bookmark}")
+
+    def branch(self, parent: int, generation: int) -> int:
+        """Adds a branch, which leaves its parent at a generation, and gives its number.
+
+        It begins with the parent's pattern after the interventions of that generation. Branch 0 is there
+        from the beginning.
+        """
+        return int(self._edit(f"branch {parent} {generation}")[3])
+
+    def unbranch(self, branch: int) -> None:
+        """Removes a branch without interventions and bookmarks, which no other one leaves."""
+        self._edit(f"unbranch {branch}")
 
     def work(self) -> None:
         """Lets the workers begin with what is pending, and doesn't wait for them."""
