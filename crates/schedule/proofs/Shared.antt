@@ -1,4 +1,5 @@
 -- Lemmas that other crates may cite.
+pub mod Acts
 pub mod Alike
 pub mod Arrivals
 pub mod Branches
@@ -9,3 +10,4 @@ pub mod History
 pub mod Ids
 pub mod Lines
 pub mod Reach
+pub mod Repeats

@@ -1,5 +1,5 @@
 -- Every edit that isn't refused keeps the limits of documents.
-use Rattle.std.proofs.Common.{◌≡◌, ℕ, ◌+◌, ◌-◌, ◌<◌, ◌≤◌, ◌^◌, Bool, true, false, ◌&&◌, not, nat_lt, nat_le, List, [], ◌∷◌, ◌++◌, length, refl, sym, ap, ◌∙◌, subst, arith, Option, None, Some, length-append}
+use Rattle.std.proofs.Common.{◌≡◌, ℕ, ◌+◌, ◌-◌, ◌<◌, ◌≤◌, ◌^◌, Bool, true, false, ◌&&◌, not, nat_lt, nat_le, List, [], ◌∷◌, ◌++◌, length, refl, sym, ap, ap₂, ◌∙◌, subst, arith, Option, None, Some, length-append}
 use Rattle.std.specs.Prelude.{if◌then◌else◌, ◌==◌, ◌||◌, is_none}
 use Rattle.std.specs.Option.{unwrap_or}
 use Rattle.std.specs.List.{AllByRecursion}
@@ -21,35 +21,48 @@ use Rattle.schedule.specs.declared.branch.Branch.{Branch}
 use Rattle.schedule.specs.declared.fault.EditFault.{EditFault}
 use Rattle.schedule.specs.Plan.{Plan, opening}
 use Rattle.schedule.specs.Sound.{AreNamed, SetBelow, IsAllowed, IsPlaced, IsForked, ArePlaced, AreMarked, AreSound, IsSound}
+use Rattle.schedule.specs.declared.acts.Acts.{Acts}
+use Rattle.schedule.specs.declared.acts.Acts.TheVariants.{Once, Every}
+use Rattle.schedule.specs.Acts.{repeats, first_of, marks_to, IsTimely}
+use Rattle.schedule.specs.Repeats.{marks_within, repeat_marks, has_too_many_marks}
 use Rattle.schedule.specs.Ids.{IdsRise, intervention_id, bookmark_id, branch_id, changed_at, without}
-use Rattle.schedule.specs.Branches.{has_branch, fork_of, intervention_branch, bookmark_branch, has_interventions, has_bookmarks, has_children}
-use Rattle.schedule.specs.Change.{first_refusal, for_cells, for_intervention, for_changed_intervention, for_start, for_rule, for_bookmark, for_moved_bookmark, for_branch, for_removed_branch, acting, marking, revised, next_bookmark, next_branch, with_branch, without_branch, is_in_use, stay_in_range, set_below, lies_near, lies_below, all_set_below, is_too_far, is_before_fork}
+use Rattle.schedule.specs.Branches.{has_branch, fork_of, reach, intervention_branch, bookmark_branch, has_interventions, has_bookmarks, has_children}
+use Rattle.schedule.specs.Change.{first_refusal, for_cells, for_cells_before, for_inserted, for_changed, spent, acts_too_far, is_bad_repeat, with_intervention, with_changed_intervention, with_moved_bookmark, changed_bookmarks, next_intervention, for_intervention, for_changed_intervention, for_start, for_rule, for_bookmark, for_moved_bookmark, for_branch, for_removed_branch, acting, marking, revised, next_bookmark, next_branch, with_branch, without_branch, is_in_use, stay_in_range, set_below, lies_near, lies_below, all_set_below, is_too_far, is_before_fork}
 use Rattle.schedule.proofs.Shared.History.{CanBeLaid-named}
 use Rattle.basics.proofs.Shared.Lists.{all_append, all_so}
 use Rattle.schedule.proofs.Each.{each_passes}
 use Rattle.schedule.proofs.Shared.Ids.{rise_push, each_map, rise_map, each_filter, rise_filter, length-filter_le, placed_at, all_unnamed}
 use Rattle.schedule.proofs.Shared.Branches.{has_branch-given, IsPlaced-more, IsPlaced-without}
 use Rattle.std.proofs.lemmas.List.{length-map}
+use Rattle.schedule.proofs.Shared.Repeats.{sum-less, sum-filter, sum-changed, marks_to-more, reach-unmarked, reach-unforked}
+use Rattle.std.proofs.lemmas.List.Sums.{sum_by_push}
 use Rattle.schedule.proofs.Below.{AreNamed-stay, SetBelow-test, AllBelow-lies, HasMargin-lies}
 
-passed : (b : Bool) (fault : EditFault) (rest : Option EditFault) → (if b then Some fault else rest) ≡ None
+all_are : {X : Type 0} (P : X → Type 0) (xs : List X) → ((x : X) → P x) → AllByRecursion P xs
+all_are P [] h = tt
+all_are P (x ∷ xs) h = (h x, all_are P xs h)
+
+pub passed : (b : Bool) (fault : EditFault) (rest : Option EditFault) → (if b then Some fault else rest) ≡ None
     → (b ≡ false) × (rest ≡ None)
 passed true fault rest h = absurd cc
 passed false fault rest h = (refl, h)
 
--- cells that aren't refused
-pub record FitCells (p : Plan) (cells : List CellSet) : Type 0 where
+-- cells that aren't refused, and what else isn't
+pub record FitCells (p : Plan) (cells : List CellSet) (others : List (Bool × EditFault)) : Type 0 where
   pub named : AreNamed cells
   pub below : SetBelow (states_of p.rule) cells
+  pub rest : first_refusal others ≡ None
 
-pub fit_cells : (p : Plan) (cells : List CellSet) → first_refusal (for_cells p cells) ≡ None → FitCells p cells
-fit_cells p cells h =
+pub fit_cells : (p : Plan) (cells : List CellSet) (others : List (Bool × EditFault))
+    → first_refusal (for_cells_before p cells others) ≡ None → FitCells p cells others
+fit_cells p cells others h =
     let many = passed (nat_lt 10000 (length cells)) _ _ h in
     let outside = passed (not (stay_in_range cells)) _ _ many.1 in
     let high = passed (not (set_below (states_of p.rule) cells)) _ _ outside.1 in
     record {
       named = AreNamed-stay cells (not-false (stay_in_range cells) outside.0);
       below = SetBelow-test (states_of p.rule) cells (not-false (set_below (states_of p.rule) cells) high.0);
+      rest = high.1;
     }
 
 more : (last revision : ℕ) → last ≤ revision → last ≤ revision + 1
@@ -93,7 +106,7 @@ pub IsSound-cells : (p : Plan) (cells : List CellSet) (start : World) → IsSoun
     → first_refusal (for_cells p cells) ≡ None → start ≡ lay cells p.start
     → IsSound (record (revised p) { start = start })
 IsSound-cells p cells start sound free is =
-    let fit = fit_cells p cells free in
+    let fit = fit_cells p cells (spent p) free in
     record {
       few_states = sound.few_states;
       start_below = subst (AllBelow (states_of p.rule)) (sym is)
@@ -105,6 +118,7 @@ IsSound-cells p cells start sound free is =
       interventions_given = sound.interventions_given;
       few_interventions = sound.few_interventions;
       interventions_within = more p.last_intervention p.revision sound.interventions_within;
+      few_marks = sound.few_marks;
       bookmarks_near = sound.bookmarks_near;
       views_within = sound.views_within;
       bookmarks_rise = sound.bookmarks_rise;
@@ -130,6 +144,7 @@ IsSound-start p start sound free some =
       interventions_given = sound.interventions_given;
       few_interventions = sound.few_interventions;
       interventions_within = more p.last_intervention p.revision sound.interventions_within;
+      few_marks = sound.few_marks;
       bookmarks_near = sound.bookmarks_near;
       views_within = sound.views_within;
       bookmarks_rise = sound.bookmarks_rise;
@@ -144,7 +159,7 @@ still_allowed : (m n : ℕ) (is : List Intervention) → AllByRecursion (IsAllow
 still_allowed m n [] h below = tt
 still_allowed m n (i ∷ is) h below = (
   record {
-    near = h.0.near;
+    timely = h.0.timely;
     named = h.0.named;
     below = SetBelow-test n i.cells below.0;
   },
@@ -168,6 +183,7 @@ IsSound-rule p rule sound free some few =
       interventions_given = sound.interventions_given;
       few_interventions = sound.few_interventions;
       interventions_within = more p.last_intervention p.revision sound.interventions_within;
+      few_marks = sound.few_marks;
       bookmarks_near = sound.bookmarks_near;
       views_within = sound.views_within;
       bookmarks_rise = sound.bookmarks_rise;
@@ -181,8 +197,9 @@ IsSound-rule p rule sound free some few =
 IsSound-interventions : (p : Plan) (is : List Intervention) (last : ℕ) → IsSound p
     → AllByRecursion (IsAllowed (states_of p.rule)) is → IdsRise intervention_id is
     → AllByRecursion (λ (i : Intervention). i.id ≤ last) is → length is ≤ 4096 → last ≤ p.revision + 1
-    → ArePlaced p.branches is → IsSound (record (revised p) { interventions = is; last_intervention = last })
-IsSound-interventions p is last sound allowed rise given few within placed = record {
+    → marks_within (reach p) is ≤ 8192 → ArePlaced p.branches is
+    → IsSound (record (revised p) { interventions = is; last_intervention = last })
+IsSound-interventions p is last sound allowed rise given few within marks placed = record {
   few_states = sound.few_states;
   start_below = sound.start_below;
   start_inside = sound.start_inside;
@@ -191,6 +208,7 @@ IsSound-interventions p is last sound allowed rise given few within placed = rec
   interventions_given = given;
   few_interventions = few;
   interventions_within = within;
+  few_marks = marks;
   bookmarks_near = sound.bookmarks_near;
   views_within = sound.views_within;
   bookmarks_rise = sound.bookmarks_rise;
@@ -201,13 +219,27 @@ IsSound-interventions p is last sound allowed rise given few within placed = rec
       sound.branches_sound.bookmarks_placed;
 }
 
+near : (generation : ℕ) → is_too_far generation ≡ false → generation ≤ 2 ^ 60
+near generation far = let k : nat_lt (2 ^ 60) generation ≡ false = far in grind (arith, nat_tests)
+
+-- when an intervention that isn't refused acts
+timely : (acts : Acts) → acts_too_far acts ≡ false → is_bad_repeat acts ≡ false → IsTimely acts
+timely (Once generation) far bad = near generation far
+timely (Every first every last) far bad =
+    let ends = or_parts (is_too_far first) (is_too_far last) far in
+    let parts = or_parts (every == 0) (nat_lt last first) bad in
+    let some : (every == 0) ≡ false = parts.0 in
+    let rising : nat_lt last first ≡ false = parts.1 in
+    (grind (arith, nat_tests), grind (arith, nat_tests), near last ends.1)
+
 -- an intervention that isn't refused
-allowed : (p : Plan) (i : Intervention) (cells : List CellSet) → is_too_far i.generation ≡ false → i.cells ≡ cells
-    → first_refusal (for_cells p cells) ≡ None → IsAllowed (states_of p.rule) i
-allowed p i cells far is free =
-    let fit = fit_cells p cells free in
+allowed : (p : Plan) (i : Intervention) (acts : Acts) (cells : List CellSet) (others : List (Bool × EditFault))
+    → acts_too_far acts ≡ false → is_bad_repeat acts ≡ false → i.acts ≡ acts → i.cells ≡ cells
+    → first_refusal (for_cells_before p cells others) ≡ None → IsAllowed (states_of p.rule) i
+allowed p i acts cells others far bad at is free =
+    let fit = fit_cells p cells others free in
     record {
-      near = (let k : nat_lt (2 ^ 60) i.generation ≡ false = far in grind (arith, nat_tests));
+      timely = subst IsTimely (sym at) (timely acts far bad);
       named = subst AreNamed (sym is) fit.named;
       below = subst (SetBelow (states_of p.rule)) (sym is) fit.below;
     }
@@ -216,24 +248,51 @@ given_more : {X : Type 0} (id : X → ℕ) (xs : List X) (last : ℕ) → AllByR
     → AllByRecursion (λ x. id x ≤ last + 1) xs
 given_more id xs last h = all_so (λ x. id x ≤ last) (λ x. id x ≤ last + 1) xs (λ x k. omega (arith, k)) h
 
-pub IsSound-intervention : (p : Plan) (b generation : ℕ) (cells : List CellSet) (i : Intervention)
-    (is : List Intervention) → IsSound p → first_refusal (for_intervention p b generation cells) ≡ None
-    → is ≡ p.interventions ++ i ∷ [] → i.id ≡ p.last_intervention + 1 → i.branch ≡ b → i.generation ≡ generation
+few_enough : (q : Plan) → has_too_many_marks q ≡ false → repeat_marks q ≤ 8192
+unfolding has_too_many_marks
+few_enough q free = let k : nat_lt 8192 (repeat_marks q) ≡ false = free in grind (arith, nat_tests)
+
+-- one more intervention, whose marks aren't too many
+few_inserted : (p : Plan) (b : ℕ) (acts : Acts) (cells : List CellSet) (i : Intervention) → repeat_marks p ≤ 8192
+    → (repeats acts && has_too_many_marks (with_intervention p b acts cells).plan) ≡ false → i.branch ≡ b
+    → i.acts ≡ acts → marks_within (reach p) (p.interventions ++ i ∷ []) ≤ 8192
+few_inserted p b (Once generation) cells i few free on at =
+    let none : marks_to (reach p i.branch) i.acts ≡ 0 = ap (marks_to (reach p i.branch)) at in
+    let sum = sum_by_push (λ (j : Intervention). marks_to (reach p j.branch) j.acts) p.interventions i in
+    omega (arith, sum, none, few)
+few_inserted p b (Every first every last) cells i few free on at =
+    let f : Intervention → ℕ = λ j. marks_to (reach p j.branch) j.acts in
+    let acts : Acts = Every first every last in
+    let q : Plan = (with_intervention p b acts cells).plan in
+    let most : repeat_marks q ≤ 8192 = few_enough q free in
+    let own : f i ≡ marks_to (reach p b) acts = ap₂ (λ n a. marks_to (reach p n) a) on at in
+    let sum = sum_by_push f p.interventions i in
+    let whole : repeat_marks q ≡ repeat_marks p + marks_to (reach p b) acts =
+    sum_by_push f p.interventions (next_intervention p b acts cells) in
+    omega (arith, sum, whole, own, most)
+
+pub IsSound-intervention : (p : Plan) (b : ℕ) (acts : Acts) (cells : List CellSet) (i : Intervention)
+    (is : List Intervention) → IsSound p → first_refusal (for_intervention p b acts cells) ≡ None
+    → is ≡ p.interventions ++ i ∷ [] → i.id ≡ p.last_intervention + 1 → i.branch ≡ b → i.acts ≡ acts
     → i.cells ≡ cells
     → IsSound (record (revised p) { interventions = is; last_intervention = p.last_intervention + 1 })
-IsSound-intervention p b generation cells i is sound free same id on at with_cells =
+IsSound-intervention p b acts cells i is sound free same id on at with_cells =
+    let others = for_inserted p b acts cells in
     let there = passed (not (has_branch p.branches b)) _ _ free in
-    let far = passed (is_too_far generation) _ _ there.1 in
-    let late = passed (is_before_fork p b generation) _ _ far.1 in
+    let far = passed (acts_too_far acts) _ _ there.1 in
+    let bad = passed (is_bad_repeat acts) _ _ far.1 in
+    let late = passed (is_before_fork p b (first_of acts)) _ _ bad.1 in
     let many = passed (nat_le 4096 (length p.interventions)) _ _ late.1 in
-    let stands : IsPlaced p.branches i.branch i.generation =
-    subst (λ n. IsPlaced p.branches n i.generation) (sym on)
-    (subst (λ n. IsPlaced p.branches b n) (sym at)
-    (placed p b generation (not-false (has_branch p.branches b) there.0) late.0)) in
+    let fit = fit_cells p cells others many.1 in
+    let marks = passed (repeats acts && has_too_many_marks (with_intervention p b acts cells).plan) _ _ fit.rest in
+    let stands : IsPlaced p.branches i.branch (first_of i.acts) =
+    subst (λ n. IsPlaced p.branches n (first_of i.acts)) (sym on)
+    (subst (λ a. IsPlaced p.branches b (first_of a)) (sym at)
+    (placed p b (first_of acts) (not-false (has_branch p.branches b) there.0) late.0)) in
     let few : length p.interventions < 4096 =
     (let k : nat_le 4096 (length p.interventions) ≡ false = many.0 in grind (arith, nat_tests)) in
     let long : length is ≡ length p.interventions + 1 = ap length same ∙ length-append p.interventions (i ∷ []) in
-    let fits = allowed p i cells (ap is_too_far at ∙ far.0) with_cells many.1 in
+    let fits = allowed p i acts cells others far.0 bad.0 at with_cells many.1 in
     IsSound-interventions p is (p.last_intervention + 1) sound
     (subst (AllByRecursion (IsAllowed (states_of p.rule))) (sym same)
     (all_append (IsAllowed (states_of p.rule)) p.interventions (i ∷ []) sound.interventions_allowed (fits, tt)))
@@ -245,27 +304,57 @@ IsSound-intervention p b generation cells i is sound free same id on at with_cel
     (given_more intervention_id p.interventions p.last_intervention sound.interventions_given)
     ((omega (arith, id)), tt)))
     (omega (arith, long, few)) (let k = sound.interventions_within in omega (arith, k))
+    (subst (λ (js : List Intervention). marks_within (reach p) js ≤ 8192) (sym same)
+    (few_inserted p b acts cells i sound.few_marks marks.0 on at))
     (subst (ArePlaced p.branches) (sym same)
-    (all_append (λ (j : Intervention). IsPlaced p.branches j.branch j.generation) p.interventions
+    (all_append (λ (j : Intervention). IsPlaced p.branches j.branch (first_of j.acts)) p.interventions
     (i ∷ []) sound.branches_sound.interventions_placed (stands, tt)))
 
-pub IsSound-changed_intervention : (p : Plan) (id generation : ℕ) (cells : List CellSet) (is : List Intervention)
-    → IsSound p → first_refusal (for_changed_intervention p id generation cells) ≡ None
-    → is ≡ changed_at intervention_id (acting generation cells) p.interventions id
+-- an intervention that acts once has no marks of its own
+no_more : (p : Plan) (generation : ℕ) (cells : List CellSet) (i : Intervention) (b : Bool)
+    → marks_to (reach p (if b then acting (Once generation) cells i else i).branch)
+    (if b then acting (Once generation) cells i else i).acts ≤ marks_to (reach p i.branch) i.acts
+no_more p generation cells i true = omega arith
+no_more p generation cells i false = omega arith
+
+-- another intervention in the place of one, whose marks aren't too many
+few_changed : (p : Plan) (id : ℕ) (acts : Acts) (cells : List CellSet) → repeat_marks p ≤ 8192
+    → (repeats acts && has_too_many_marks (with_changed_intervention p id acts cells).plan) ≡ false
+    → marks_within (reach p) (changed_at intervention_id (acting acts cells) p.interventions id) ≤ 8192
+few_changed p id (Once generation) cells few free =
+    let f : Intervention → ℕ = λ j. marks_to (reach p j.branch) j.acts in
+    let c : Intervention → Bool = λ j. j.id == id in
+    let h = acting (Once generation) cells in
+    let sum = sum-changed f c h p.interventions in
+    let less = sum-less (λ j. f (if c j then h j else j)) f p.interventions
+    (all_are (λ (j : Intervention). f (if c j then h j else j) ≤ f j) p.interventions
+    (λ j. no_more p generation cells j (c j))) in
+    omega (arith, sum, less, few)
+few_changed p id (Every first every last) cells few free =
+    few_enough (with_changed_intervention p id (Every first every last) cells).plan free
+
+pub IsSound-changed_intervention : (p : Plan) (id : ℕ) (acts : Acts) (cells : List CellSet) (is : List Intervention)
+    → IsSound p → first_refusal (for_changed_intervention p id acts cells) ≡ None
+    → is ≡ changed_at intervention_id (acting acts cells) p.interventions id
     → IsSound (record (revised p) { interventions = is; last_intervention = p.last_intervention })
-IsSound-changed_intervention p id generation cells is sound free same =
+IsSound-changed_intervention p id acts cells is sound free same =
     let b = intervention_branch p.interventions id in
+    let others = for_changed p id acts cells in
     let there = passed (is_none b) _ _ free in
-    let far = passed (is_too_far generation) _ _ there.1 in
-    let late = passed (is_before_fork p (unwrap_or b 0) generation) _ _ far.1 in
-    let f = acting generation cells in
+    let far = passed (acts_too_far acts) _ _ there.1 in
+    let bad = passed (is_bad_repeat acts) _ _ far.1 in
+    let late = passed (is_before_fork p (unwrap_or b 0) (first_of acts)) _ _ bad.1 in
+    let fit = fit_cells p cells others late.1 in
+    let marks = passed (repeats acts && has_too_many_marks (with_changed_intervention p id acts cells).plan) _ _
+    fit.rest in
+    let f = acting acts cells in
     let c : Intervention → Bool = λ i. i.id == id in
     let long : length is ≡ length p.interventions = ap length same
     ∙ length-map p.interventions (λ i. if c i then f i else i) in
     IsSound-interventions p is p.last_intervention sound
     (subst (AllByRecursion (IsAllowed (states_of p.rule))) (sym same)
     (each_map (IsAllowed (states_of p.rule)) c f p.interventions
-    (λ i _. allowed p (f i) cells far.0 refl late.1) sound.interventions_allowed))
+    (λ i _. allowed p (f i) acts cells others far.0 bad.0 refl refl late.1) sound.interventions_allowed))
     (subst (IdsRise intervention_id) (sym same)
     (rise_map intervention_id c f p.interventions (λ i. refl) sound.interventions_rise))
     (subst (AllByRecursion (λ (i : Intervention). i.id ≤ p.last_intervention)) (sym same)
@@ -273,12 +362,14 @@ IsSound-changed_intervention p id generation cells is sound free same =
     (λ i k. k) sound.interventions_given))
     (let few = sound.few_interventions in omega (arith, long, few))
     (more p.last_intervention p.revision sound.interventions_within)
+    (subst (λ (js : List Intervention). marks_within (reach p) js ≤ 8192) (sym same)
+    (few_changed p id acts cells sound.few_marks marks.0))
     (subst (ArePlaced p.branches) (sym same)
-    (placed_at intervention_id (λ (i : Intervention). i.branch) (λ (i : Intervention). i.generation)
-    (IsPlaced p.branches) f p.interventions id generation (λ i. refl)
+    (placed_at intervention_id (λ (i : Intervention). i.branch) (λ (i : Intervention). first_of i.acts)
+    (IsPlaced p.branches) f p.interventions id (first_of acts) (λ i. refl)
     (λ i. refl) sound.interventions_rise sound.branches_sound.interventions_placed
-    (λ n on _ stands. placed p n generation stands.there
-    (ap (λ o. is_before_fork p (unwrap_or o 0) generation) (sym on) ∙ late.0))))
+    (λ n on _ stands. placed p n (first_of acts) stands.there
+    (ap (λ o. is_before_fork p (unwrap_or o 0) (first_of acts)) (sym on) ∙ late.0))))
 
 pub IsSound-removed_intervention : (p : Plan) (id : ℕ) (is : List Intervention) → IsSound p
     → is ≡ without intervention_id p.interventions id
@@ -297,17 +388,34 @@ IsSound-removed_intervention p id is sound same =
     (each_filter (λ (i : Intervention). i.id ≤ p.last_intervention) c p.interventions sound.interventions_given))
     (let few = sound.few_interventions in omega (arith, long, few))
     (more p.last_intervention p.revision sound.interventions_within)
+    (subst (λ (js : List Intervention). marks_within (reach p) js ≤ 8192) (sym same)
+    (let few = sound.few_marks in
+    let less = sum-filter (λ (i : Intervention). marks_to (reach p i.branch) i.acts) c p.interventions in
+    omega (arith, few, less)))
     (subst (ArePlaced p.branches) (sym same)
-    (each_filter (λ (i : Intervention). IsPlaced p.branches i.branch i.generation) c p.interventions
+    (each_filter (λ (i : Intervention). IsPlaced p.branches i.branch (first_of i.acts)) c p.interventions
     sound.branches_sound.interventions_placed))
+
+-- without a bookmark there are no more marks
+few_unmarked : (p : Plan) (id : ℕ) → repeat_marks p ≤ 8192
+    → repeat_marks (record (revised p) { bookmarks = without bookmark_id p.bookmarks id }) ≤ 8192
+few_unmarked p id few =
+    let q : Plan = record (revised p) { bookmarks = without bookmark_id p.bookmarks id } in
+    let less = sum-less (λ (i : Intervention). marks_to (reach q i.branch) i.acts)
+    (λ i. marks_to (reach p i.branch) i.acts) p.interventions
+    (all_are (λ (i : Intervention). marks_to (reach q i.branch) i.acts ≤ marks_to (reach p i.branch) i.acts)
+    p.interventions (λ i. marks_to-more i.acts (reach q i.branch) (reach p i.branch)
+    (reach-unmarked p id i.branch))) in
+    omega (arith, less, few)
 
 -- other bookmarks that keep the limits
 IsSound-bookmarks : (p : Plan) (bs : List Bookmark) (last : ℕ) → IsSound p
     → AllByRecursion (λ (b : Bookmark). b.generation ≤ 2 ^ 60) bs
     → AllByRecursion (λ (b : Bookmark). IsWithin b.view) bs → IdsRise bookmark_id bs
     → AllByRecursion (λ (b : Bookmark). b.id ≤ last) bs → length bs ≤ 4096 → last ≤ p.revision + 1
+    → repeat_marks (record (revised p) { bookmarks = bs; last_bookmark = last }) ≤ 8192
     → AreMarked p.branches bs → IsSound (record (revised p) { bookmarks = bs; last_bookmark = last })
-IsSound-bookmarks p bs last sound near views rise given few within marked = record {
+IsSound-bookmarks p bs last sound near views rise given few within marks marked = record {
   few_states = sound.few_states;
   start_below = sound.start_below;
   start_inside = sound.start_inside;
@@ -316,6 +424,7 @@ IsSound-bookmarks p bs last sound near views rise given few within marked = reco
   interventions_given = sound.interventions_given;
   few_interventions = sound.few_interventions;
   interventions_within = more p.last_intervention p.revision sound.interventions_within;
+  few_marks = marks;
   bookmarks_near = near;
   views_within = views;
   bookmarks_rise = rise;
@@ -338,6 +447,7 @@ IsSound-bookmark p n generation view bs sound free is =
     let many = passed (nat_le 4096 (length p.bookmarks)) _ _ late.1 in
     let small = passed (not (has_window_size view)) _ _ many.1 in
     let outside = passed (not (lies_in_range view)) _ _ small.1 in
+    let crowd = passed (has_too_many_marks (changed_bookmarks p n generation view).plan) _ _ outside.1 in
     let within : IsWithin view = (
       not-false (has_window_size view) small.0,
       not-false (lies_in_range view) outside.0,
@@ -358,6 +468,9 @@ IsSound-bookmark p n generation view bs sound free is =
     (all_append (λ (c : Bookmark). c.id ≤ p.last_bookmark + 1) p.bookmarks (b ∷ [])
     (given_more bookmark_id p.bookmarks p.last_bookmark sound.bookmarks_given) ((omega arith), tt)))
     (omega (arith, long, few)) (let k = sound.bookmarks_within in omega (arith, k))
+    (subst (λ (cs : List Bookmark). repeat_marks (record (revised p)
+    { bookmarks = cs; last_bookmark = p.last_bookmark + 1 }) ≤ 8192) (sym is)
+    (few_enough (changed_bookmarks p n generation view).plan crowd.0))
     (subst (AreMarked p.branches) (sym is)
     (all_append (λ (c : Bookmark). IsPlaced p.branches c.branch c.generation) p.bookmarks
     (b ∷ []) sound.branches_sound.bookmarks_placed
@@ -365,6 +478,35 @@ IsSound-bookmark p n generation view bs sound free is =
 
 room_left : (revision : ℕ) → nat_le (2 ^ 64 - 1) revision ≡ false → revision + 1 < 2 ^ 64
 room_left revision h = let k : revision < 2 ^ 64 - 1 = leb-false (2 ^ 64 - 1) revision h in omega (arith, k)
+
+-- a revision is left where an intervention isn't refused
+pub unspent-inserted : (p : Plan) (b : ℕ) (acts : Acts) (cells : List CellSet)
+    → first_refusal (for_intervention p b acts cells) ≡ None → p.revision + 1 < 2 ^ 64
+unspent-inserted p b acts cells free =
+    let there = passed (not (has_branch p.branches b)) _ _ free in
+    let far = passed (acts_too_far acts) _ _ there.1 in
+    let bad = passed (is_bad_repeat acts) _ _ far.1 in
+    let late = passed (is_before_fork p b (first_of acts)) _ _ bad.1 in
+    let many = passed (nat_le 4096 (length p.interventions)) _ _ late.1 in
+    let fit = fit_cells p cells (for_inserted p b acts cells) many.1 in
+    let marks = passed (repeats acts && has_too_many_marks (with_intervention p b acts cells).plan) _ _ fit.rest in
+    let last = passed (nat_le (2 ^ 64 - 1) p.revision) _ _ marks.1 in
+    room_left p.revision last.0
+
+-- nor a changed one
+pub unspent-changed : (p : Plan) (id : ℕ) (acts : Acts) (cells : List CellSet)
+    → first_refusal (for_changed_intervention p id acts cells) ≡ None → p.revision + 1 < 2 ^ 64
+unspent-changed p id acts cells free =
+    let b = intervention_branch p.interventions id in
+    let there = passed (is_none b) _ _ free in
+    let far = passed (acts_too_far acts) _ _ there.1 in
+    let bad = passed (is_bad_repeat acts) _ _ far.1 in
+    let late = passed (is_before_fork p (unwrap_or b 0) (first_of acts)) _ _ bad.1 in
+    let fit = fit_cells p cells (for_changed p id acts cells) late.1 in
+    let marks = passed (repeats acts && has_too_many_marks (with_changed_intervention p id acts cells).plan) _ _
+    fit.rest in
+    let last = passed (nat_le (2 ^ 64 - 1) p.revision) _ _ marks.1 in
+    room_left p.revision last.0
 
 -- a revision is left where a bookmark isn't refused
 pub unspent : (p : Plan) (n generation : ℕ) (view : View) → first_refusal (for_bookmark p n generation view) ≡ None
@@ -376,7 +518,8 @@ unspent p n generation view free =
     let many = passed (nat_le 4096 (length p.bookmarks)) _ _ late.1 in
     let small = passed (not (has_window_size view)) _ _ many.1 in
     let outside = passed (not (lies_in_range view)) _ _ small.1 in
-    let last = passed (nat_le (2 ^ 64 - 1) p.revision) _ _ outside.1 in
+    let crowd = passed (has_too_many_marks (changed_bookmarks p n generation view).plan) _ _ outside.1 in
+    let last = passed (nat_le (2 ^ 64 - 1) p.revision) _ _ crowd.1 in
     room_left p.revision last.0
 
 pub IsSound-moved_bookmark : (p : Plan) (id generation : ℕ) (bs : List Bookmark) → IsSound p
@@ -388,6 +531,7 @@ IsSound-moved_bookmark p id generation bs sound free same =
     let there = passed (is_none n) _ _ free in
     let far = passed (is_too_far generation) _ _ there.1 in
     let late = passed (is_before_fork p (unwrap_or n 0) generation) _ _ far.1 in
+    let crowd = passed (has_too_many_marks (with_moved_bookmark p id generation).plan) _ _ late.1 in
     let near : generation ≤ 2 ^ 60 = (let k : nat_lt (2 ^ 60) generation ≡ false = far.0 in
     grind (arith, nat_tests)) in
     let f = marking generation in
@@ -404,6 +548,9 @@ IsSound-moved_bookmark p id generation bs sound free same =
     (each_map (λ (b : Bookmark). b.id ≤ p.last_bookmark) c f p.bookmarks (λ b k. k) sound.bookmarks_given))
     (let few = sound.few_bookmarks in omega (arith, long, few))
     (more p.last_bookmark p.revision sound.bookmarks_within)
+    (subst (λ (cs : List Bookmark). repeat_marks (record (revised p)
+    { bookmarks = cs; last_bookmark = p.last_bookmark }) ≤ 8192) (sym same)
+    (few_enough (with_moved_bookmark p id generation).plan crowd.0))
     (subst (AreMarked p.branches) (sym same)
     (placed_at bookmark_id (λ (b : Bookmark). b.branch) (λ (b : Bookmark). b.generation)
     (IsPlaced p.branches) f p.bookmarks id generation (λ b. refl)
@@ -428,15 +575,18 @@ IsSound-removed_bookmark p id bs sound same =
     (each_filter (λ (b : Bookmark). b.id ≤ p.last_bookmark) c p.bookmarks sound.bookmarks_given))
     (let few = sound.few_bookmarks in omega (arith, long, few))
     (more p.last_bookmark p.revision sound.bookmarks_within)
+    (subst (λ (cs : List Bookmark). repeat_marks (record (revised p)
+    { bookmarks = cs; last_bookmark = p.last_bookmark }) ≤ 8192) (sym same) (few_unmarked p id sound.few_marks))
     (subst (AreMarked p.branches) (sym same)
     (each_filter (λ (b : Bookmark). IsPlaced p.branches b.branch b.generation) c p.bookmarks
     sound.branches_sound.bookmarks_placed))
 
 -- other branches that keep the limits
 IsSound-branches : (p : Plan) (bs : List Branch) (last : ℕ) → IsSound p
+    → repeat_marks (record (revised p) { branches = bs; last_branch = last }) ≤ 8192
     → AreSound (record (revised p) { branches = bs; last_branch = last })
     → IsSound (record (revised p) { branches = bs; last_branch = last })
-IsSound-branches p bs last sound branches = record {
+IsSound-branches p bs last sound marks branches = record {
   few_states = sound.few_states;
   start_below = sound.start_below;
   start_inside = sound.start_inside;
@@ -445,6 +595,7 @@ IsSound-branches p bs last sound branches = record {
   interventions_given = sound.interventions_given;
   few_interventions = sound.few_interventions;
   interventions_within = more p.last_intervention p.revision sound.interventions_within;
+  few_marks = marks;
   bookmarks_near = sound.bookmarks_near;
   views_within = sound.views_within;
   bookmarks_rise = sound.bookmarks_rise;
@@ -491,9 +642,9 @@ added p parent generation sound free =
       few = omega (arith, long, few);
       within = (let k = sound.within in omega (arith, k));
       interventions_placed =
-          all_so (λ (i : Intervention). IsPlaced p.branches i.branch i.generation)
-          (λ (i : Intervention). IsPlaced bs i.branch i.generation) p.interventions
-          (λ i k. stays i.branch i.generation k) sound.interventions_placed;
+          all_so (λ (i : Intervention). IsPlaced p.branches i.branch (first_of i.acts))
+          (λ (i : Intervention). IsPlaced bs i.branch (first_of i.acts)) p.interventions
+          (λ i k. stays i.branch (first_of i.acts) k) sound.interventions_placed;
       bookmarks_placed = all_so (λ (b : Bookmark). IsPlaced p.branches b.branch b.generation)
           (λ (b : Bookmark). IsPlaced bs b.branch b.generation) p.bookmarks
           (λ b k. stays b.branch b.generation k) sound.bookmarks_placed;
@@ -503,9 +654,15 @@ pub IsSound-branch : (p : Plan) (parent generation : ℕ) (bs : List Branch) →
     → first_refusal (for_branch p parent generation) ≡ None → bs ≡ p.branches ++ next_branch p parent generation ∷ []
     → IsSound (record (revised p) { branches = bs; last_branch = p.last_branch + 1 })
 IsSound-branch p parent generation bs sound free is =
+    let there = passed (not (has_branch p.branches parent)) _ _ free in
+    let far = passed (is_too_far generation) _ _ there.1 in
+    let late = passed (is_before_fork p parent generation) _ _ far.1 in
+    let many = passed (nat_le 64 (length p.branches)) _ _ late.1 in
+    let crowd = passed (has_too_many_marks (with_branch p parent generation).plan) _ _ many.1 in
     subst (λ (cs : List Branch). IsSound (record
     (revised p) { branches = cs; last_branch = p.last_branch + 1 })) (sym is)
     (IsSound-branches p (p.branches ++ next_branch p parent generation ∷ []) (p.last_branch + 1) sound
+    (few_enough (with_branch p parent generation).plan crowd.0)
     (added p parent generation sound.branches_sound free))
 
 -- a branch that isn't in use, removed
@@ -532,9 +689,9 @@ removed p n sound unused =
       within = more p.last_branch p.revision sound.within;
       interventions_placed =
           all_unnamed (λ (i : Intervention). i.branch)
-          (λ (i : Intervention). IsPlaced p.branches i.branch i.generation)
-          (λ (i : Intervention). IsPlaced bs i.branch i.generation) p.interventions n
-          (λ i other k. stays i.branch i.generation other k)
+          (λ (i : Intervention). IsPlaced p.branches i.branch (first_of i.acts))
+          (λ (i : Intervention). IsPlaced bs i.branch (first_of i.acts)) p.interventions n
+          (λ i other k. stays i.branch (first_of i.acts) other k)
           no_interventions sound.interventions_placed;
       bookmarks_placed =
           all_unnamed (λ (b : Bookmark). b.branch) (λ (b : Bookmark). IsPlaced p.branches b.branch b.generation)
@@ -542,6 +699,23 @@ removed p n sound unused =
           (λ b other k. stays b.branch b.generation other k) others.0
           sound.bookmarks_placed;
     }
+
+-- without it there are no more marks
+few_unforked : (p : Plan) (n : ℕ) → AreSound p → is_in_use p n ≡ false → repeat_marks p ≤ 8192
+    → repeat_marks (without_branch p n).plan ≤ 8192
+few_unforked p n sound unused few =
+    let q : Plan = (without_branch p n).plan in
+    let halves = or_parts (n == 0 || has_interventions p.interventions n)
+    (has_bookmarks p.bookmarks n || has_children p.branches n) unused in
+    let none = (or_parts (n == 0) (has_interventions p.interventions n) halves.0).1 in
+    let less = sum-less (λ (i : Intervention). marks_to (reach q i.branch) i.acts)
+    (λ i. marks_to (reach p i.branch) i.acts) p.interventions
+    (all_unnamed (λ (i : Intervention). i.branch)
+    (λ (i : Intervention). IsPlaced p.branches i.branch (first_of i.acts))
+    (λ (i : Intervention). marks_to (reach q i.branch) i.acts ≤ marks_to (reach p i.branch) i.acts) p.interventions n
+    (λ i other _. marks_to-more i.acts (reach q i.branch) (reach p i.branch) (reach-unforked p n i.branch other))
+    none sound.interventions_placed) in
+    omega (arith, less, few)
 
 pub IsSound-removed_branch : (p : Plan) (n : ℕ) (bs : List Branch) → IsSound p
     → first_refusal (for_removed_branch p n) ≡ None → bs ≡ without branch_id p.branches n
@@ -551,6 +725,7 @@ IsSound-removed_branch p n bs sound free is =
     let used = passed (is_in_use p n) _ _ there.1 in
     subst (λ (cs : List Branch). IsSound (record (revised p) { branches = cs; last_branch = p.last_branch })) (sym is)
     (IsSound-branches p (without branch_id p.branches n) p.last_branch sound
+    (few_unforked p n sound.branches_sound used.0 sound.few_marks)
     (removed p n sound.branches_sound used.0))
 
 sound_opening : (revision : ℕ) → IsSound (opening revision)
@@ -563,6 +738,7 @@ sound_opening revision = record {
   interventions_given = tt;
   few_interventions = omega arith;
   interventions_within = omega arith;
+  few_marks = omega arith;
   bookmarks_near = tt;
   views_within = tt;
   bookmarks_rise = tt;
@@ -621,5 +797,5 @@ IsSound-opening rule start is bs xs revision e f g h k =
 -- a plane takes cells that aren't refused
 pub CanBeLaid-fit : (p : Plan) (cells : List CellSet) → states_of p.rule ≤ 256
     → first_refusal (for_cells p cells) ≡ None → All CanBeLaid cells
-CanBeLaid-fit p cells few free = let fit = fit_cells p cells free in
+CanBeLaid-fit p cells few free = let fit = fit_cells p cells (spent p) free in
     CanBeLaid-named (states_of p.rule) cells few fit.named fit.below

@@ -8,12 +8,15 @@ use Rattle.bookmarks.specs.declared.view.View.{View}
 use Rattle.schedule.specs.declared.edit.Edit.{Edit}
 use Rattle.schedule.specs.declared.edit.Edit.TheVariants as edit
 
--- an intervention is inserted into a branch, or changed or removed by its id; cells of the start
--- are set; another start or rule is taken; a bookmark is added to a branch, or moved or removed by
--- its id; a branch is added to a parent at a generation, or removed
+-- an intervention that acts once, or one that repeats, is inserted into a branch, or put in the
+-- place of the one of an id; one is removed by its id; cells of the start are set; another start or
+-- rule is taken; a bookmark is added to a branch, or moved or removed by its id; a branch is added
+-- to a parent at a generation, or removed
 pub data Asked : Type 0 where
   InsertIntervention : ℕ → ℕ → List CellSet → Asked
   ChangeIntervention : ℕ → ℕ → List CellSet → Asked
+  InsertRepeat : ℕ → ℕ → ℕ → ℕ → List CellSet → Asked
+  ChangeRepeat : ℕ → ℕ → ℕ → ℕ → List CellSet → Asked
   RemoveIntervention : ℕ → Asked
   SetCells : List CellSet → Asked
   ReplaceStart : World → Asked
@@ -29,6 +32,9 @@ abbrev pub asked_of : Edit → Asked
 asked_of (edit.InsertIntervention branch generation cells) =
     InsertIntervention branch generation cells
 asked_of (edit.ChangeIntervention id generation cells) = ChangeIntervention id generation cells
+asked_of (edit.InsertRepeat branch first every last cells) =
+    InsertRepeat branch first every last cells
+asked_of (edit.ChangeRepeat id first every last cells) = ChangeRepeat id first every last cells
 asked_of (edit.RemoveIntervention id) = RemoveIntervention id
 asked_of (edit.SetCells cells) = SetCells cells
 asked_of (edit.ReplaceStart start) = ReplaceStart (arc_value start)

@@ -1,7 +1,7 @@
 -- The number and the name of each fault of an edit.
 use Rattle.std.specs.Prelude.{ℕ, List, codes}
 use Rattle.schedule.specs.declared.fault.EditFault.{EditFault}
-use Rattle.schedule.specs.declared.fault.EditFault.TheVariants.{GenerationTooFar, CellOutOfRange, CellStateTooHigh, NoSuchIntervention, NoSuchBookmark, TooManyInterventions, TooManyBookmarks, TooManyCells, BadWindow, RevisionSpent, NoSuchBranch, BeforeFork, BranchInUse, TooManyBranches, NoMemory}
+use Rattle.schedule.specs.declared.fault.EditFault.TheVariants.{GenerationTooFar, CellOutOfRange, CellStateTooHigh, NoSuchIntervention, NoSuchBookmark, TooManyInterventions, TooManyBookmarks, TooManyCells, BadWindow, RevisionSpent, NoSuchBranch, BeforeFork, BranchInUse, TooManyBranches, TooManyMarks, BadRepeat, NoMemory}
 
 abbrev pub fault_number : EditFault → ℕ
 fault_number GenerationTooFar = 40
@@ -18,6 +18,8 @@ fault_number NoSuchBranch = 50
 fault_number BeforeFork = 51
 fault_number BranchInUse = 52
 fault_number TooManyBranches = 53
+fault_number TooManyMarks = 54
+fault_number BadRepeat = 55
 fault_number NoMemory = 70
 
 abbrev pub fault_name : EditFault → List ℕ
@@ -35,4 +37,6 @@ fault_name NoSuchBranch = codes "NoSuchBranch"
 fault_name BeforeFork = codes "BeforeFork"
 fault_name BranchInUse = codes "BranchInUse"
 fault_name TooManyBranches = codes "TooManyBranches"
+fault_name TooManyMarks = codes "TooManyMarks"
+fault_name BadRepeat = codes "BadRepeat"
 fault_name NoMemory = codes "NoMemory"

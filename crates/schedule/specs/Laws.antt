@@ -1,6 +1,6 @@
--- What the definitions are meant to say of branches: each statement is proved by a function of the
--- same name.
-use Rattle.std.specs.Prelude.{◌≡◌, ◌⊎◌, ℕ, suc, ◌+◌, ◌<◌, ◌≤◌, nat_le, true, false, ◌&&◌, ◌==◌, List, [], map}
+-- What the definitions are meant to say of branches and of what repeats: each statement is proved
+-- by a function of the same name.
+use Rattle.std.specs.Prelude.{◌≡◌, ◌⊎◌, ℕ, suc, ◌+◌, ◌<◌, ◌≤◌, nat_le, false, ◌&&◌, ◌==◌, List, [], ◌∷◌, ◌++◌, map, flat_map, length, filter, true, ◌*◌}
 use Rattle.std.specs.List.{AllByRecursion, list_any}
 use Rattle.worlds.specs.declared.cell.CellSet.{CellSet}
 use Rattle.worlds.specs.World.{World}
@@ -12,28 +12,31 @@ use Rattle.bookmarks.specs.Text.{text_of}
 use Rattle.schedule.specs.declared.document.Intervention.{Intervention}
 use Rattle.schedule.specs.declared.document.Bookmark.{Bookmark}
 use Rattle.schedule.specs.declared.branch.Branch.{Branch}
+use Rattle.schedule.specs.declared.acts.Acts.{Acts}
+use Rattle.schedule.specs.declared.acts.Acts.TheVariants.{Once, Every}
+use Rattle.schedule.specs.Acts.{acts_on, generations_of, marks_to, IsTimely}
 use Rattle.schedule.specs.Plan.{Plan}
-use Rattle.schedule.specs.Alike.{LayAlike}
+use Rattle.schedule.specs.Alike.{LayAlike, LayAlikeWithin}
 use Rattle.schedule.specs.Branches.{has_branch, fork_of, parent_of, reach}
 use Rattle.schedule.specs.History.{is_felt}
 use Rattle.schedule.specs.Scratch.{cells_at, arrival, after, scratch}
 use Rattle.schedule.specs.Sound.{IsSound}
 use Rattle.schedule.specs.Change.{is_in_use, with_branch, without_branch}
 
--- the generation of an intervention and its cells
-abbrev pub told : Intervention → ℕ × List CellSet
-told i = (i.generation, i.cells)
+-- an intervention's cells at each generation at which it acts
+abbrev pub told : Intervention → List (ℕ × List CellSet)
+told i = map (λ g. (g, i.cells)) (generations_of i.acts)
 
 -- the pattern that arrives at a generation, where there is one line of history alone, with each
--- intervention at its generation
+-- intervention at its generations
 abbrev pub arrival_alone : Plan → ℕ → World
 arrival_alone p g =
-    line.arrive (next_of p.rule) (line.cells_at (map told p.interventions)) p.start g
+    line.arrive (next_of p.rule) (line.cells_at (flat_map told p.interventions)) p.start g
 
 -- and the one after the generation's interventions
 abbrev pub after_alone : Plan → ℕ → World
 after_alone p g =
-    line.after (next_of p.rule) (line.cells_at (map told p.interventions)) p.start g
+    line.after (next_of p.rule) (line.cells_at (flat_map told p.interventions)) p.start g
 
 -- a bookmark's text, where there is one line of history alone
 abbrev pub scratch_alone : Plan → Bookmark → List ℕ
@@ -110,6 +113,12 @@ abbrev pub ArrivalDependsOnWorlds : Type 0
 ArrivalDependsOnWorlds =
     (p q : Plan) → IsSound p → LayAlike p q → (b g : ℕ) → arrival p b g ≡ arrival q b g
 
+-- those that do so as far as the branches reach change none as far
+abbrev pub ArrivalWithinReach : Type 0
+ArrivalWithinReach =
+    (p q : Plan) → IsSound p → LayAlikeWithin p q → (b g : ℕ) → g ≤ reach p b
+    → arrival p b g ≡ arrival q b g
+
 -- one branch more leaves what arrives in the others
 abbrev pub NewBranchKeepsArrivals : Type 0
 NewBranchKeepsArrivals =
@@ -121,3 +130,39 @@ abbrev pub RemovedBranchKeepsArrivals : Type 0
 RemovedBranchKeepsArrivals =
     (p : Plan) → IsSound p → (n : ℕ) → is_in_use p n ≡ false
     → (b g : ℕ) → (b == n) ≡ false → arrival p b g ≡ arrival (without_branch p n).plan b g
+
+-- one that repeats acts at `first + i * every` up to the last, and nowhere else
+pub record IsProgression (first every last : ℕ) : Type 0 where
+  pub acts : (i : ℕ) → first + i * every ≤ last
+      → acts_on (Every first every last) (first + i * every) ≡ true
+  pub alone : (g : ℕ) → acts_on (Every first every last) g ≡ true
+      → (g ≤ last) × ((i : ℕ) × (g ≡ first + i * every))
+
+abbrev pub RepeatsAreProgressions : Type 0
+RepeatsAreProgressions = (first every last : ℕ) → 0 < every → IsProgression first every last
+
+-- its marks are counted: there are as many as generations at which it acts and which its branch
+-- reaches
+abbrev pub MarksAreCounted : Type 0
+MarksAreCounted =
+    (first every last far : ℕ) → 0 < every
+    → marks_to far (Every first every last)
+    ≡ length (filter (λ g. nat_le g far) (generations_of (Every first every last)))
+
+-- when an intervention acts, where, and its cells
+abbrev pub setting : Intervention → Acts × ℕ × List CellSet
+setting i = (i.acts, i.branch, i.cells)
+
+-- interventions that each act once, at the generations of another one, in its branch with its cells
+abbrev pub AreSinglesOf : Intervention → List Intervention → Type 0
+AreSinglesOf i singles =
+    map setting singles ≡ map (λ g. (Once g, i.branch, i.cells)) (generations_of i.acts)
+
+-- they may stand in its place among the others: the same cells are laid, and the same arrives
+abbrev pub RepeatIsItsSingles : Type 0
+RepeatIsItsSingles =
+    (p : Plan) (lesser : List Intervention) (i : Intervention) (greater singles : List Intervention)
+    → p.interventions ≡ lesser ++ i ∷ greater → IsTimely i.acts → AreSinglesOf i singles
+    → (b g : ℕ)
+    → (cells_at p.interventions b g ≡ cells_at (lesser ++ (singles ++ greater)) b g)
+    × (arrival p b g ≡ arrival (record p { interventions = lesser ++ (singles ++ greater) }) b g)

@@ -1,4 +1,7 @@
 pub mod Faults
+pub mod Generations
+pub mod Acts
+pub mod Repeats
 pub mod Plan
 pub mod Branches
 pub mod History
@@ -11,3 +14,4 @@ pub mod Asked
 pub mod Change
 pub mod Laws
 pub mod Near
+pub mod Tally

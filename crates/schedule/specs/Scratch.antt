@@ -8,12 +8,13 @@ use Rattle.rule_tree.specs.Rule.{name_of, states_of, next_of}
 use Rattle.bookmarks.specs.Text.{text_of}
 use Rattle.schedule.specs.declared.document.Intervention.{Intervention}
 use Rattle.schedule.specs.declared.document.Bookmark.{Bookmark}
+use Rattle.schedule.specs.Acts.{acts_on}
 use Rattle.schedule.specs.Plan.{Plan}
 use Rattle.schedule.specs.History.{History, arrive}
 
 -- whether an intervention acts at generation g of branch b
 abbrev pub acts_at : Intervention → ℕ → ℕ → Bool
-acts_at i b g = i.branch == b && i.generation == g
+acts_at i b g = i.branch == b && acts_on i.acts g
 
 -- the cells that it sets there
 abbrev pub own_cells : Intervention → ℕ → ℕ → List CellSet

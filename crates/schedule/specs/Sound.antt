@@ -8,6 +8,8 @@ use Rattle.bookmarks.specs.Within.{IsWithin}
 use Rattle.schedule.specs.declared.document.Intervention.{Intervention}
 use Rattle.schedule.specs.declared.document.Bookmark.{Bookmark}
 use Rattle.schedule.specs.declared.branch.Branch.{Branch}
+use Rattle.schedule.specs.Acts.{first_of, IsTimely}
+use Rattle.schedule.specs.Repeats.{repeat_marks}
 use Rattle.schedule.specs.Plan.{Plan}
 use Rattle.schedule.specs.Ids.{IdsRise, intervention_id, bookmark_id, branch_id}
 use Rattle.schedule.specs.Branches.{has_branch, fork_of}
@@ -23,7 +25,7 @@ SetBelow n = AllByRecursion (λ c. c.state < n)
 
 -- an intervention that an edit may make under a rule of n states
 pub record IsAllowed (n : ℕ) (i : Intervention) : Type 0 where
-  pub near : i.generation ≤ 2 ^ 60
+  pub timely : IsTimely i.acts
   pub named : AreNamed i.cells
   pub below : SetBelow n i.cells
 
@@ -38,10 +40,10 @@ pub record IsForked (branches : List Branch) (x : Branch) : Type 0 where
   pub placed : IsPlaced branches x.parent x.fork
   pub near : x.fork ≤ 2 ^ 60
 
--- each intervention stands in a branch that is there, at or above its fork
+-- each intervention acts in a branch that is there, first at or above its fork
 abbrev pub ArePlaced : List Branch → List Intervention → Type 0
 ArePlaced branches =
-    AllByRecursion (λ (i : Intervention). IsPlaced branches i.branch i.generation)
+    AllByRecursion (λ (i : Intervention). IsPlaced branches i.branch (first_of i.acts))
 
 -- each bookmark does
 abbrev pub AreMarked : List Branch → List Bookmark → Type 0
@@ -68,6 +70,7 @@ pub record IsSound (p : Plan) : Type 0 where
       p.interventions
   pub few_interventions : length p.interventions ≤ 4096
   pub interventions_within : p.last_intervention ≤ p.revision
+  pub few_marks : repeat_marks p ≤ 8192
   pub bookmarks_near : AllByRecursion (λ (b : Bookmark). b.generation ≤ 2 ^ 60) p.bookmarks
   pub views_within : AllByRecursion (λ (b : Bookmark). IsWithin b.view) p.bookmarks
   pub bookmarks_rise : IdsRise bookmark_id p.bookmarks

@@ -16,6 +16,7 @@ ghost use Rattle.schedule.specs.Change.{for_moved_bookmark, for_removed_bookmark
 ghost use Rattle.schedule.specs.Change.{for_branch, for_removed_branch};
 ghost use Rattle.schedule.specs.Change.{with_branch, without_branch};
 
+use crate::acts::Acts;
 use crate::branch::Branch;
 use crate::document::{Bookmark, Document, Intervention};
 use crate::edit::{Edit, Edited};
@@ -56,12 +57,32 @@ impl Document {
                 branch,
                 generation,
                 cells,
-            } => self.insert_intervention(*branch, *generation, cells.as_slice()),
+            } => self.insert_intervention(*branch, Acts::once(*generation), cells.as_slice()),
             Edit::ChangeIntervention {
                 id,
                 generation,
                 cells,
-            } => self.change_intervention(*id, *generation, cells.as_slice()),
+            } => self.change_intervention(*id, Acts::once(*generation), cells.as_slice()),
+            Edit::InsertRepeat {
+                branch,
+                first,
+                every,
+                last,
+                cells,
+            } => {
+                let acts = Acts::every(*first, *every, *last);
+                self.insert_intervention(*branch, acts, cells.as_slice())
+            }
+            Edit::ChangeRepeat {
+                id,
+                first,
+                every,
+                last,
+                cells,
+            } => {
+                let acts = Acts::every(*first, *every, *last);
+                self.change_intervention(*id, acts, cells.as_slice())
+            }
             Edit::RemoveIntervention { id } => Ok(self.remove_intervention(*id)),
             Edit::SetCells { cells } => self.set_cells(cells.as_slice()),
             Edit::ReplaceStart(start) => self.replace_start(start),
@@ -82,12 +103,12 @@ impl Document {
     fn insert_intervention(
         &mut self,
         branch: u64,
-        generation: u64,
+        acts: Acts,
         cells: &[CellSet],
     ) -> Result<Edited, AllocError>
-        requires { first_refusal (for_intervention self.old branch generation cells.now) ≡ None }
+        requires { first_refusal (for_intervention self.old branch acts cells.now) ≡ None }
         ensures ok { IfOk result (λ edited.
-            with_intervention self.old branch generation cells.now ≡ made self.new edited) }
+            with_intervention self.old branch acts cells.now ≡ made self.new edited) }
         ensures unchanged { OnErr result (self.new ≡ self.old) }
     {
         let id = self.last_intervention + 1;
@@ -95,7 +116,7 @@ impl Document {
         self.interventions.push(Intervention {
             id,
             branch,
-            generation,
+            acts,
             cells,
         })?;
         self.last_intervention = id;
@@ -106,21 +127,20 @@ impl Document {
         })
     }
 
-    // Gives the intervention of an id another generation and other cells.
+    // Makes the intervention of an id act then, with these cells.
     fn change_intervention(
         &mut self,
         id: u64,
-        generation: u64,
+        acts: Acts,
         cells: &[CellSet],
     ) -> Result<Edited, AllocError>
-        requires { first_refusal (for_changed_intervention self.old id generation cells.now)
-            ≡ None }
+        requires { first_refusal (for_changed_intervention self.old id acts cells.now) ≡ None }
         ensures ok { IfOk result (λ edited.
-            with_changed_intervention self.old id generation cells.now ≡ made self.new edited) }
+            with_changed_intervention self.old id acts cells.now ≡ made self.new edited) }
         ensures unchanged { OnErr result (self.new ≡ self.old) }
     {
         let cells = Listing::from_vec(Vec::from_slice(self.alloc, cells)?);
-        change_in(&mut self.interventions, id, generation, cells);
+        change_in(&mut self.interventions, id, acts, cells);
         self.revision += 1;
         Ok(Edited {
             revision: self.revision,
@@ -297,15 +317,15 @@ fn bookmark_place(bookmarks: &[Bookmark], id: u64) -> Option<usize>
     bookmarks.iter().position(|bookmark| bookmark.id == id)
 }
 
-// Gives the intervention of an id, if there is one, another generation and other cells.
-fn change_in(interventions: &mut [Intervention], id: u64, generation: u64, cells: Listing<CellSet>)
+// Makes the intervention of an id, if there is one, act then, with these cells.
+fn change_in(interventions: &mut [Intervention], id: u64, acts: Acts, cells: Listing<CellSet>)
     requires { IdsRise intervention_id interventions.old }
     ensures { interventions.new
-        ≡ changed_at intervention_id (acting generation cells) interventions.old id }
+        ≡ changed_at intervention_id (acting acts cells) interventions.old id }
 {
     if let Some(place) = intervention_place(interventions, id) {
         let intervention = &mut interventions[place];
-        intervention.generation = generation;
+        intervention.acts = acts;
         intervention.cells = cells;
     }
 }

@@ -12,7 +12,12 @@ ghost use Rattle.schedule.specs.Branches.{has_interventions, has_bookmarks, elem
 ghost use Rattle.std.specs.Option.{option_map};
 ghost use Rattle.schedule.specs.Ids.{has_id, intervention_id, bookmark_id};
 ghost use Rattle.schedule.specs.Near.{box_near};
+ghost use Rattle.std.specs.Prelude.{[], true};
+ghost use Rattle.schedule.specs.Change.{acts_too_far, is_bad_repeat, for_cells_before};
+ghost use Rattle.schedule.specs.Change.{for_marks, for_inserted, for_changed, for_view};
+ghost use Rattle.schedule.specs.Change.{with_moved_bookmark, with_branch};
 
+use crate::acts::Acts;
 use crate::branch::{fork_of, has_branch, has_children};
 use crate::document::{Bookmark, Document, Intervention};
 use crate::edit::Edit;
@@ -101,6 +106,28 @@ fn all_set_below(states: u16, interventions: &[Intervention]) -> bool
     interventions.iter().all(|intervention| set_below(states, intervention.cells.as_slice()))
 }
 
+// Whether an intervention would act beyond the farthest generation.
+fn acts_too_far(acts: Acts) -> bool
+    ensures { result ≡ acts_too_far acts }
+{
+    match acts {
+        Acts::Once { generation } => generation > FARTHEST_GENERATION,
+        Acts::Every { first, last, .. } => {
+            first > FARTHEST_GENERATION || last > FARTHEST_GENERATION
+        }
+    }
+}
+
+// Whether it would repeat at a distance of 0, or end before it begins.
+fn is_bad_repeat(acts: Acts) -> bool
+    ensures { result ≡ is_bad_repeat acts }
+{
+    match acts {
+        Acts::Once { .. } => false,
+        Acts::Every { first, every, last } => every == 0 || last < first,
+    }
+}
+
 impl Document {
     /// Whether the edit fits the document: Ok, or the first refusal of its kind. It takes no
     /// memory, and NoMemory isn't among its answers.
@@ -112,12 +139,32 @@ impl Document {
                 branch,
                 generation,
                 cells,
-            } => self.check_intervention(*branch, *generation, cells.as_slice()),
+            } => self.check_intervention(*branch, Acts::once(*generation), cells.as_slice()),
             Edit::ChangeIntervention {
                 id,
                 generation,
                 cells,
-            } => self.check_changed_intervention(*id, *generation, cells.as_slice()),
+            } => self.check_changed_intervention(*id, Acts::once(*generation), cells.as_slice()),
+            Edit::InsertRepeat {
+                branch,
+                first,
+                every,
+                last,
+                cells,
+            } => {
+                let acts = Acts::every(*first, *every, *last);
+                self.check_intervention(*branch, acts, cells.as_slice())
+            }
+            Edit::ChangeRepeat {
+                id,
+                first,
+                every,
+                last,
+                cells,
+            } => {
+                let acts = Acts::every(*first, *every, *last);
+                self.check_changed_intervention(*id, acts, cells.as_slice())
+            }
             Edit::RemoveIntervention { id } => self.check_removed_intervention(*id),
             Edit::SetCells { cells } => self.check_cells(cells.as_slice()),
             Edit::ReplaceStart(start) => self.check_start(start),
@@ -188,49 +235,84 @@ impl Document {
             .find(|bookmark| bookmark.id == id)
     }
 
-    // Whether the document may get an intervention with these cells at this generation of a branch.
+    // Whether the document may get an intervention in a branch that acts then, with these cells.
     fn check_intervention(
         &self,
         branch: u64,
-        generation: u64,
+        acts: Acts,
         cells: &[CellSet],
     ) -> Result<(), EditFault>
-        ensures { Checks result (for_intervention self.now branch generation cells.now) }
+        ensures { Checks result (for_intervention self.now branch acts cells.now) }
     {
         if !has_branch(&self.branches, branch) {
             return Err(EditFault::NoSuchBranch);
         }
-        if generation > FARTHEST_GENERATION {
+        if acts_too_far(acts) {
             return Err(EditFault::GenerationTooFar);
         }
-        if generation < fork_of(&self.branches, branch) {
+        if is_bad_repeat(acts) {
+            return Err(EditFault::BadRepeat);
+        }
+        if acts.first() < fork_of(&self.branches, branch) {
             return Err(EditFault::BeforeFork);
         }
         if self.interventions.len() >= MOST_INTERVENTIONS {
             return Err(EditFault::TooManyInterventions);
         }
-        self.check_cells(cells)
+        self.check_inserted(branch, acts, cells)
     }
 
-    // Whether the intervention of this id may get this generation and these cells.
+    // Whether an edit may name these cells, and the marks leave room for one more intervention that
+    // acts then.
+    fn check_inserted(&self, branch: u64, acts: Acts, cells: &[CellSet]) -> Result<(), EditFault>
+        ensures { Checks result (for_cells_before self.now cells.now
+            (for_inserted self.now branch acts cells.now)) }
+    {
+        self.check_named(cells)?;
+        if acts.repeats() && self.crowds(branch, acts) {
+            return Err(EditFault::TooManyMarks);
+        }
+        self.check_revision()
+    }
+
+    // Whether the intervention of this id may act then, with these cells.
     fn check_changed_intervention(
         &self,
         id: u64,
-        generation: u64,
+        acts: Acts,
         cells: &[CellSet],
     ) -> Result<(), EditFault>
-        ensures { Checks result (for_changed_intervention self.now id generation cells.now) }
+        ensures { Checks result (for_changed_intervention self.now id acts cells.now) }
     {
         let Some(intervention) = self.intervention_at(id) else {
             return Err(EditFault::NoSuchIntervention);
         };
-        if generation > FARTHEST_GENERATION {
+        if acts_too_far(acts) {
             return Err(EditFault::GenerationTooFar);
         }
-        if generation < fork_of(&self.branches, intervention.branch) {
+        if is_bad_repeat(acts) {
+            return Err(EditFault::BadRepeat);
+        }
+        if acts.first() < fork_of(&self.branches, intervention.branch) {
             return Err(EditFault::BeforeFork);
         }
-        self.check_cells(cells)
+        self.check_changed(id, acts, cells)
+    }
+
+    // Whether an edit may name these cells, and the marks leave room for the intervention of an id
+    // to act then.
+    fn check_changed(&self, id: u64, acts: Acts, cells: &[CellSet]) -> Result<(), EditFault>
+        ensures { Checks result (for_cells_before self.now cells.now
+            (for_changed self.now id acts cells.now)) }
+    {
+        self.check_named(cells)?;
+        if !acts.repeats() {
+            return self.check_revision();
+        }
+        if self.crowds_changed(id, acts) {
+            return Err(EditFault::TooManyMarks);
+        }
+        self.check_revision()
     }
 
     // Whether the intervention of this id may be removed.
@@ -255,6 +337,17 @@ impl Document {
         }
         if generation < fork_of(&self.branches, bookmark.branch) {
             return Err(EditFault::BeforeFork);
+        }
+        self.check_moved(id, generation)
+    }
+
+    // Whether the marks leave room for the bookmark of an id at this generation.
+    fn check_moved(&self, id: u64, generation: u64) -> Result<(), EditFault>
+        ensures { Checks result
+            (for_marks true self.now (with_moved_bookmark self.now id generation).plan) }
+    {
+        if self.crowds_moved(id, generation) {
+            return Err(EditFault::TooManyMarks);
         }
         self.check_revision()
     }
@@ -283,6 +376,14 @@ impl Document {
     fn check_cells(&self, cells: &[CellSet]) -> Result<(), EditFault>
         ensures { Checks result (for_cells self.now cells.now) }
     {
+        self.check_named(cells)?;
+        self.check_revision()
+    }
+
+    // Whether an edit may name these cells.
+    fn check_named(&self, cells: &[CellSet]) -> Result<(), EditFault>
+        ensures { Checks result (for_cells_before self.now cells.now []) }
+    {
         if cells.len() > MOST_CELLS {
             return Err(EditFault::TooManyCells);
         }
@@ -292,7 +393,7 @@ impl Document {
         if !set_below(self.rule.states(), cells) {
             return Err(EditFault::CellStateTooHigh);
         }
-        self.check_revision()
+        Ok(())
     }
 
     // Whether the document may get this start.
@@ -335,11 +436,22 @@ impl Document {
         if self.bookmarks.len() >= MOST_BOOKMARKS {
             return Err(EditFault::TooManyBookmarks);
         }
+        self.check_marked(branch, generation, view)
+    }
+
+    // Whether a bookmark may have this view, and the marks leave room for it at this generation of
+    // a branch.
+    fn check_marked(&self, branch: u64, generation: u64, view: &View) -> Result<(), EditFault>
+        ensures { Checks result (for_view self.now branch generation view.now) }
+    {
         if !view.has_window_size() {
             return Err(EditFault::BadWindow);
         }
         if !view.lies_in_range() {
             return Err(EditFault::CellOutOfRange);
+        }
+        if self.crowds_marked(branch, generation) {
+            return Err(EditFault::TooManyMarks);
         }
         self.check_revision()
     }
@@ -359,6 +471,17 @@ impl Document {
         }
         if self.branches.len() >= MOST_BRANCHES {
             return Err(EditFault::TooManyBranches);
+        }
+        self.check_forked(parent, generation)
+    }
+
+    // Whether the marks leave room for a branch that leaves this parent at this generation.
+    fn check_forked(&self, parent: u64, generation: u64) -> Result<(), EditFault>
+        ensures { Checks result
+            (for_marks true self.now (with_branch self.now parent generation).plan) }
+    {
+        if self.crowds_forked(parent, generation) {
+            return Err(EditFault::TooManyMarks);
         }
         self.check_revision()
     }

@@ -7,6 +7,7 @@ ghost use Rattle.schedule.specs.Ids.{branch_id};
 ghost use Rattle.schedule.specs.Plan.{opening};
 ghost use Rattle.schedule.specs.Sound.{IsSound};
 
+use crate::acts::Acts;
 use crate::branch::{Branch, branch_at, farthest_fork, fork_of, is_felt};
 use basics::Listing;
 use bookmarks::View;
@@ -16,13 +17,13 @@ use std::alloc::{AllocError, Global};
 use std::marker::Model;
 use std::sync::Arc;
 
-/// At its generation an intervention sets cells of the pattern that has arrived there in its
-/// branch.
+/// An intervention sets cells of the pattern that has arrived in its branch, at each generation at
+/// which it acts.
 #[derive(Drop)]
 pub struct Intervention {
     pub id: u64,
     pub branch: u64,
-    pub generation: u64,
+    pub acts: Acts,
     pub cells: Listing<CellSet>,
 }
 
@@ -62,7 +63,7 @@ impl Intervention {
     pub fn acts_at(&self, branch: u64, generation: u64) -> bool
         ensures { result ≡ acts_at self.now branch generation }
     {
-        self.branch == branch && self.generation == generation
+        self.branch == branch && self.acts.acts_at(generation)
     }
 
     /// An equal intervention.
@@ -72,7 +73,7 @@ impl Intervention {
         Ok(Intervention {
             id: self.id,
             branch: self.branch,
-            generation: self.generation,
+            acts: self.acts,
             cells: self.cells.copy(alloc)?,
         })
     }

@@ -16,11 +16,29 @@ pub enum Edit {
         generation: u64,
         cells: Listing<CellSet>,
     },
-    /// Gives the intervention of this id another generation of its branch and other cells, with the
-    /// same limits.
+    /// Makes the intervention of this id act once, at this generation of its branch, with these
+    /// cells and the same limits.
     ChangeIntervention {
         id: u64,
         generation: u64,
+        cells: Listing<CellSet>,
+    },
+    /// Adds an intervention to a branch that acts at `first + i * every` for each i from 0, up to
+    /// `last`. `every` is at least 1, `first` at least the branch's fork, and `last` at least `first`
+    /// and at most 2^60; its cells have the limits of one that acts once.
+    InsertRepeat {
+        branch: u64,
+        first: u64,
+        every: u64,
+        last: u64,
+        cells: Listing<CellSet>,
+    },
+    /// Makes the intervention of this id a repeating one with these cells, with the same limits.
+    ChangeRepeat {
+        id: u64,
+        first: u64,
+        every: u64,
+        last: u64,
         cells: Listing<CellSet>,
     },
     /// Removes the intervention of this id, which isn't given again.

@@ -51,6 +51,12 @@ pub enum EditFault {
     /// There are 64 branches besides 0.
     #[error("there are 64 branches already")]
     TooManyBranches,
+    /// The repeating interventions would make more than 8,192 marks as far as their branches reach.
+    #[error("repeating interventions act at more than 8,192 generations that are wanted")]
+    TooManyMarks,
+    /// A repeating intervention has a distance of 0, or ends before it begins.
+    #[error("the distance is 0, or the last generation is below the first")]
+    BadRepeat,
     /// Out of memory.
     #[error("there is not enough memory")]
     NoMemory,
@@ -98,6 +104,8 @@ impl Refusal for EditFault {
             EditFault::BeforeFork => 51,
             EditFault::BranchInUse => 52,
             EditFault::TooManyBranches => 53,
+            EditFault::TooManyMarks => 54,
+            EditFault::BadRepeat => 55,
             EditFault::NoMemory => 70,
         }
     }
@@ -118,6 +126,8 @@ impl Refusal for EditFault {
             EditFault::BeforeFork => "BeforeFork",
             EditFault::BranchInUse => "BranchInUse",
             EditFault::TooManyBranches => "TooManyBranches",
+            EditFault::TooManyMarks => "TooManyMarks",
+            EditFault::BadRepeat => "BadRepeat",
             EditFault::NoMemory => "NoMemory",
         }
     }

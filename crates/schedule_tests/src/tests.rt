@@ -3,6 +3,7 @@ mod branches;
 mod generations_and_cells;
 mod interventions;
 mod marks;
+mod repeats;
 mod rules;
 mod starts;
 

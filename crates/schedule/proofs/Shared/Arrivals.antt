@@ -219,47 +219,58 @@ arrive-unfelt h others c k parents same (suc n) b g unfelt =
           (felt-earlier h.branches n q f (f + 1) c k (omega arith) parent)))
     ] refl unfelt
 
--- a line whose cells give each generation the same world
-line-alike : (next : List ℕ → ℕ) (cells others : ℕ → List CellSet) (w : World)
-    → ((k : ℕ) → lay (cells k) (line.arrive next cells w k) ≡ lay (others k) (line.arrive next cells w k)) → (g : ℕ)
+-- a line whose cells give each generation before another the same world
+line-alike : (next : List ℕ → ℕ) (cells others : ℕ → List CellSet) (w : World) (g : ℕ)
+    → ((k : ℕ) → k < g → lay (cells k) (line.arrive next cells w k) ≡ lay (others k) (line.arrive next cells w k))
     → line.arrive next cells w g ≡ line.arrive next others w g
 unfolding line.arrive
-line-alike next cells others w same zero = refl
-line-alike next cells others w same (suc g) =
-    ap (step next) (same g ∙ ap (lay (others g)) (line-alike next cells others w same g))
+line-alike next cells others w zero same = refl
+line-alike next cells others w (suc g) same =
+    ap (step next) (same g (omega arith) ∙ ap (lay (others g))
+    (line-alike next cells others w g (λ k low. same k (omega (arith, low)))))
 
--- cells that give each generation of each branch the same world don't matter
-pub arrive-alike : (h : History) (others : ℕ → ℕ → List CellSet) → ParentsComeBefore h.branches
-    → fork_of h.branches 0 ≡ 0 → ((b : ℕ) → fork_of h.branches (parent_of h.branches b) ≤ fork_of h.branches b)
-    → ((b g : ℕ) → fork_of h.branches b ≤ g → lay (h.cells b g) (arrive h b b g) ≡ lay (others b g) (arrive h b b g))
-    → (n b g : ℕ) → b ≤ n → arrive h n b g ≡ arrive (record h { cells = others }) n b g
-arrive-alike h others parents root rise same n zero g le =
+-- some generations of branches count: with one all before it, and with one of a branch the fork in its parent
+pub record AreEarlier (branches : List Branch) (Counts : ℕ → ℕ → Type 0) : Type 0 where
+  pub earlier : (b g k : ℕ) → k ≤ g → Counts b g → Counts b k
+  pub fork : (b g : ℕ) → 0 < b → Counts b g → Counts (parent_of branches b) (fork_of branches b)
+
+-- cells that give each generation that counts the same world don't matter for those
+pub arrive-alike : (h : History) (others : ℕ → ℕ → List CellSet) (Counts : ℕ → ℕ → Type 0)
+    → ParentsComeBefore h.branches → AreEarlier h.branches Counts → fork_of h.branches 0 ≡ 0
+    → ((b : ℕ) → fork_of h.branches (parent_of h.branches b) ≤ fork_of h.branches b)
+    → ((b g : ℕ) → fork_of h.branches b ≤ g → Counts b g
+    → lay (h.cells b g) (arrive h b b g) ≡ lay (others b g) (arrive h b b g))
+    → (n b g : ℕ) → b ≤ n → Counts b g → arrive h n b g ≡ arrive (record h { cells = others }) n b g
+arrive-alike h others Counts parents before root rise same n zero g le counts =
     let o : History = record h { cells = others } in
     arrive-root h n g
-    ∙ line-alike h.next (h.cells 0) (others 0) h.start
-    (λ k. subst (λ w. lay (h.cells 0 k) w ≡ lay (others 0 k) w) (arrive-root h 0 k)
-    (same 0 k (omega (arith, root)))) g
+    ∙ line-alike h.next (h.cells 0) (others 0) h.start g
+    (λ k low. subst (λ w. lay (h.cells 0 k) w ≡ lay (others 0 k) w) (arrive-root h 0 k)
+    (same 0 k (omega (arith, root)) (before.earlier 0 g k (omega (arith, low)) counts)))
     ∙ sym (arrive-root o n g)
-arrive-alike h others parents root rise same zero (suc b) g le = absurd (omega (arith, le))
-arrive-alike h others parents root rise same (suc n) (suc m) g le =
+arrive-alike h others Counts parents before root rise same zero (suc b) g le counts = absurd (omega (arith, le))
+arrive-alike h others Counts parents before root rise same (suc n) (suc m) g le counts =
     let o : History = record h { cells = others } in
     let b = suc m in
     let q = parent_of h.branches b in
     let f = fork_of h.branches b in
     let other : (b == 0) ≡ false = above_zero m in
-    let before : q < b = parents b (omega arith) in
-    let few : q ≤ n = omega (arith, before, le) in
+    let lesser : q < b = parents b (omega arith) in
+    let few : q ≤ n = omega (arith, lesser, le) in
+    let at : Counts q f = before.fork b g (omega arith) counts in
     let own : ℕ → List CellSet = λ k. h.cells b (f + k) in
     let theirs : ℕ → List CellSet = λ k. others b (f + k) in
     let begins : left h n b ≡ left o n b =
     subst (λ w. lay (h.cells q f) w ≡ lay (others q f) w) (arrive-enough h parents q n q f (omega arith) few)
-    (same q f (rise b)) ∙ ap (lay (others q f)) (arrive-alike h others parents root rise same n q f few) in
+    (same q f (rise b) at)
+    ∙ ap (lay (others q f)) (arrive-alike h others Counts parents before root rise same n q f few at) in
     let reached : (k : ℕ) → arrive h b b (f + k) ≡ line.arrive h.next own (left h n b) k = λ k.
     arrive-enough h parents b (suc n) b (f + k) (omega arith) le ∙ arrive-branch h n b (f + k) other
     ∙ (let back : (f + k) - f ≡ k = omega arith in ap (line.arrive h.next own (left h n b)) back) in
     arrive-branch h n b g other
-    ∙ line-alike h.next own theirs (left h n b)
-    (λ k. subst (λ w. lay (own k) w ≡ lay (theirs k) w) (reached k) (same b (f + k) (omega arith))) (g - f)
+    ∙ line-alike h.next own theirs (left h n b) (g - f)
+    (λ k low. subst (λ w. lay (own k) w ≡ lay (theirs k) w) (reached k)
+    (same b (f + k) (omega arith) (before.earlier b g (f + k) (omega (arith, low)) counts)))
     ∙ ap (λ w. line.arrive h.next theirs w (g - f)) begins
     ∙ sym (arrive-branch o n b g other)
 

@@ -2,7 +2,8 @@
 use Rattle.std.specs.Prelude.{◌≡◌, ◌<◌, ◌≤◌, None, ⊤}
 use Rattle.std.proofs.Common.{refl}
 use Rattle.rule_tree.specs.Rule.{states_of}
-use Rattle.schedule.specs.Asked.{Asked, InsertIntervention, ChangeIntervention, RemoveIntervention, SetCells, ReplaceStart, ReplaceRule, AddBookmark, MoveBookmark, RemoveBookmark, AddBranch, RemoveBranch}
+use Rattle.schedule.specs.Asked.{Asked, InsertIntervention, ChangeIntervention, InsertRepeat, ChangeRepeat, RemoveIntervention, SetCells, ReplaceStart, ReplaceRule, AddBookmark, MoveBookmark, RemoveBookmark, AddBranch, RemoveBranch}
+use Rattle.schedule.specs.declared.acts.Acts.TheVariants.{Once, Every}
 use Rattle.schedule.specs.Change.{changed, refusal}
 use Rattle.schedule.specs.Plan.{Plan}
 use Rattle.schedule.specs.Sound.{IsSound}
@@ -12,6 +13,8 @@ use Rattle.schedule.proofs.Sounds.{IsSound-cells, IsSound-start, IsSound-rule, I
 abbrev pub HasStates : Asked → Type 0
 HasStates (InsertIntervention b generation cells) = ⊤
 HasStates (ChangeIntervention id generation cells) = ⊤
+HasStates (InsertRepeat b first every last cells) = ⊤
+HasStates (ChangeRepeat id first every last cells) = ⊤
 HasStates (RemoveIntervention id) = ⊤
 HasStates (SetCells cells) = ⊤
 HasStates (ReplaceStart start) = ⊤
@@ -25,9 +28,13 @@ HasStates (RemoveBranch b) = ⊤
 pub sound_changed : (p : Plan) (asked : Asked) → IsSound p → 0 < states_of p.rule → HasStates asked
     → refusal p asked ≡ None → IsSound (changed p asked).plan
 sound_changed p (InsertIntervention b generation cells) sound some has free =
-    IsSound-intervention p b generation cells _ _ sound free refl refl refl refl refl
+    IsSound-intervention p b (Once generation) cells _ _ sound free refl refl refl refl refl
 sound_changed p (ChangeIntervention id generation cells) sound some has free =
-    IsSound-changed_intervention p id generation cells _ sound free refl
+    IsSound-changed_intervention p id (Once generation) cells _ sound free refl
+sound_changed p (InsertRepeat b first every last cells) sound some has free =
+    IsSound-intervention p b (Every first every last) cells _ _ sound free refl refl refl refl refl
+sound_changed p (ChangeRepeat id first every last cells) sound some has free =
+    IsSound-changed_intervention p id (Every first every last) cells _ sound free refl
 sound_changed p (RemoveIntervention id) sound some has free = IsSound-removed_intervention p id _ sound refl
 sound_changed p (SetCells cells) sound some has free = IsSound-cells p cells _ sound free refl
 sound_changed p (ReplaceStart start) sound some has free = IsSound-start p start sound free some
@@ -46,6 +53,8 @@ pub some_changed : (p : Plan) (asked : Asked) → 0 < states_of p.rule → HasSt
     → 0 < states_of (changed p asked).plan.rule
 some_changed p (InsertIntervention b generation cells) some has = some
 some_changed p (ChangeIntervention id generation cells) some has = some
+some_changed p (InsertRepeat b first every last cells) some has = some
+some_changed p (ChangeRepeat id first every last cells) some has = some
 some_changed p (RemoveIntervention id) some has = some
 some_changed p (SetCells cells) some has = some
 some_changed p (ReplaceStart start) some has = some

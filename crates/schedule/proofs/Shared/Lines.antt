@@ -1,6 +1,6 @@
 -- The arrivals of documents along the lines of their branches.
-use Rattle.std.proofs.Common.{◌≡◌, ℕ, suc, ◌+◌, ◌<◌, ◌≤◌, ◌==◌, true, false, ◌&&◌, List, [], ◌∷◌, ◌++◌, map, refl, ap, ◌∙◌, subst, arith, None, Some}
-use Rattle.std.specs.Prelude.{if◌then◌else◌, ◌||◌, IfSome}
+use Rattle.std.proofs.Common.{◌≡◌, ℕ, suc, ◌+◌, ◌<◌, ◌≤◌, ◌==◌, Bool, true, false, ◌&&◌, List, [], ◌∷◌, ◌++◌, map, refl, sym, ap, ap₂, ◌∙◌, subst, arith, None, Some}
+use Rattle.std.specs.Prelude.{if◌then◌else◌, ◌||◌, IfSome, flat_map}
 use Rattle.std.specs.List.{AllByRecursion}
 use Rattle.std.specs.Option.{option_map_or}
 use Rattle.std.proofs.lemmas.Bool.{or_parts}
@@ -14,14 +14,22 @@ use Rattle.rule_tree.specs.Rule.{name_of, states_of, next_of}
 use Rattle.bookmarks.specs.Text.{text_of}
 use Rattle.schedule.specs.declared.branch.Branch.{Branch}
 use Rattle.schedule.specs.declared.document.Intervention.{Intervention}
+use Rattle.schedule.specs.declared.acts.Acts.{Acts}
+use Rattle.schedule.specs.declared.acts.Acts.TheVariants.{Once}
+use Rattle.schedule.specs.Acts.{acts_on, first_of, generations_of, IsTimely}
+use Rattle.schedule.proofs.Shared.Acts.{generations-at}
+use Rattle.std.proofs.lemmas.List.{append_assoc}
+use Rattle.std.proofs.lemmas.List.Concat.{flat_map-cons}
+use Rattle.std.proofs.lemmas.Grind.{flat_map-append}
+use Rattle.worlds.specs.declared.cell.CellSet.{CellSet}
 use Rattle.schedule.specs.Ids.{branch_id}
 use Rattle.schedule.specs.Plan.{Plan}
 use Rattle.schedule.specs.Branches.{element_at, has_branch, fork_of, parent_of, has_interventions, has_bookmarks, has_children}
-use Rattle.schedule.specs.History.{is_felt}
-use Rattle.schedule.specs.Scratch.{cells_at, history_of, arrival, after}
-use Rattle.schedule.specs.Sound.{ArePlaced, IsSound}
+use Rattle.schedule.specs.History.{is_felt, arrive}
+use Rattle.schedule.specs.Scratch.{own_cells, cells_at, history_of, arrival, after}
+use Rattle.schedule.specs.Sound.{ArePlaced, IsPlaced, IsAllowed, IsSound}
 use Rattle.schedule.specs.Change.{is_in_use, next_branch, with_branch, without_branch}
-use Rattle.schedule.specs.Laws.{told, arrival_alone, after_alone, IsOneLine, SameElsewhere}
+use Rattle.schedule.specs.Laws.{setting, AreSinglesOf, told, arrival_alone, after_alone, IsOneLine, SameElsewhere}
 use Rattle.schedule.proofs.Shared.Branches.{parents_before, parents_there, element_at-is, element_at-added, element_at-without}
 use Rattle.schedule.proofs.Shared.Arrivals.{ParentsComeBefore, arrive-root, arrive-fork, arrive-next, arrive-undisturbed, arrive-unfelt, arrive-elsewhere, felt-earlier, unfelt_cells}
 
@@ -100,32 +108,48 @@ arrival-removed p sound n unused b g other =
     arrive-elsewhere (history_of p) (without_branch p n).plan.branches (λ m. (m == n) ≡ false) (λ m _. back m)
     (λ m k. element_at-without p.branches n m k) b b g other
 
+line-append : (es fs : List (ℕ × List CellSet)) (g : ℕ)
+    → line.cells_at (es ++ fs) g ≡ line.cells_at es g ++ line.cells_at fs g
+line-append [] fs g = refl
+line-append (e ∷ es) fs g =
+    elim (e.0 == g) as (λ t. (if t then e.1 ++ line.cells_at (es ++ fs) g else line.cells_at (es ++ fs) g)
+    ≡ (if t then e.1 ++ line.cells_at es g else line.cells_at es g) ++ line.cells_at fs g) [
+      | true ↦ ap (λ cs. e.1 ++ cs) (line-append es fs g)
+          ∙ sym (append_assoc e.1 (line.cells_at es g) (line.cells_at fs g))
+      | false ↦ line-append es fs g
+    ]
+
 -- where there are no branches each intervention is one of branch 0
-cells_alone : (is : List Intervention) (g : ℕ) → ArePlaced [] is → cells_at is 0 g ≡ line.cells_at (map told is) g
-cells_alone [] g placed = refl
-cells_alone (i ∷ is) g placed =
-    let there : (i.branch == 0 || false) ≡ true = placed.0.there in
-    elim (i.branch == 0)
-    as (λ t. (t || false) ≡ true → (if t && i.generation == g then i.cells else []) ++ cells_at is 0 g
-    ≡ (if i.generation == g then i.cells ++ line.cells_at (map told is) g else line.cells_at (map told is) g)) [
-      | true ↦ λ _.
-          elim (i.generation == g) as (λ t. (if t then i.cells else []) ++ cells_at is 0 g
-          ≡ (if t then i.cells ++ line.cells_at (map told is) g else line.cells_at (map told is) g)) [
-            | true ↦ ap (λ cs. i.cells ++ cs) (cells_alone is g placed.1)
-            | false ↦ cells_alone is g placed.1
-          ]
+own-alone : (i : Intervention) (g : ℕ) → IsTimely i.acts → IsPlaced [] i.branch (first_of i.acts)
+    → own_cells i 0 g ≡ line.cells_at (told i) g
+own-alone i g timely placed =
+    let there : (i.branch == 0 || false) ≡ true = placed.there in
+    elim (i.branch == 0) as (λ t. (t || false) ≡ true
+    → (if t && acts_on i.acts g then i.cells else []) ≡ line.cells_at (told i) g) [
+      | true ↦ λ _. sym (generations-at i.acts i.cells g timely)
       | false ↦ λ k. absurd cc
     ] there
 
-arrival-alone : (p : Plan) → ArePlaced [] p.interventions → (g : ℕ) → arrival p 0 g ≡ arrival_alone p g
-arrival-alone p placed g =
-    arrive-root (history_of p) 0 g ∙ arrive-past (next_of p.rule) (cells_at p.interventions 0)
-    (line.cells_at (map told p.interventions)) p.start g (λ k _. cells_alone p.interventions k placed)
+cells_alone : (n : ℕ) (is : List Intervention) (g : ℕ) → AllByRecursion (IsAllowed n) is → ArePlaced [] is
+    → cells_at is 0 g ≡ line.cells_at (flat_map told is) g
+cells_alone n [] g allowed placed = refl
+cells_alone n (i ∷ is) g allowed placed =
+    flat_map-cons (λ j. own_cells j 0 g) i is
+    ∙ ap₂ (λ cs ds. cs ++ ds) (own-alone i g allowed.0.timely placed.0) (cells_alone n is g allowed.1 placed.1)
+    ∙ sym (line-append (told i) (flat_map told is) g)
+    ∙ ap (λ es. line.cells_at es g) (sym (flat_map-cons told i is))
 
-after-alone : (p : Plan) → ArePlaced [] p.interventions → (g : ℕ) → after p 0 g ≡ after_alone p g
-after-alone p placed g =
-    ap (λ w. lay (cells_at p.interventions 0 g) w) (arrival-alone p placed g)
-    ∙ ap (λ cs. lay cs (arrival_alone p g)) (cells_alone p.interventions g placed)
+arrival-alone : (p : Plan) → IsSound p → ArePlaced [] p.interventions → (g : ℕ) → arrival p 0 g ≡ arrival_alone p g
+arrival-alone p sound placed g =
+    arrive-root (history_of p) 0 g ∙ arrive-past (next_of p.rule) (cells_at p.interventions 0)
+    (line.cells_at (flat_map told p.interventions)) p.start g
+    (λ k _. cells_alone (states_of p.rule) p.interventions k sound.interventions_allowed placed)
+
+after-alone : (p : Plan) → IsSound p → ArePlaced [] p.interventions → (g : ℕ) → after p 0 g ≡ after_alone p g
+after-alone p sound placed g =
+    ap (λ w. lay (cells_at p.interventions 0 g) w) (arrival-alone p sound placed g)
+    ∙ ap (λ cs. lay cs (arrival_alone p g))
+    (cells_alone (states_of p.rule) p.interventions g sound.interventions_allowed placed)
 
 -- without branches there is one line of history alone
 pub one_line : (p : Plan) → IsSound p → p.branches ≡ [] → IsOneLine p
@@ -133,9 +157,74 @@ one_line p sound none =
     let placed : ArePlaced [] p.interventions =
     subst (λ (bs : List Branch). ArePlaced bs p.interventions) none sound.branches_sound.interventions_placed in
     record {
-      arrivals = arrival-alone p placed;
-      patterns = after-alone p placed;
+      arrivals = arrival-alone p sound placed;
+      patterns = after-alone p sound placed;
       texts = λ b zero.
           ap (λ w. text_of b.view w (name_of p.rule) (states_of p.rule) b.generation)
-          (ap (λ n. after p n b.generation) zero ∙ after-alone p placed b.generation);
+          (ap (λ n. after p n b.generation) zero ∙ after-alone p sound placed b.generation);
     }
+
+-- an intervention's cells at a generation of a branch, by what it is said to set
+abbrev laid : Acts × ℕ × List CellSet → ℕ → ℕ → List CellSet
+laid s b g = if s.1 == b && acts_on s.0 g then s.2 else []
+
+cells-laid : (is : List Intervention) (b g : ℕ) → cells_at is b g ≡ flat_map (λ s. laid s b g) (map setting is)
+cells-laid [] b g = refl
+cells-laid (i ∷ is) b g =
+    flat_map-cons (λ j. own_cells j b g) i is ∙ ap (λ cs. own_cells i b g ++ cs) (cells-laid is b g)
+    ∙ sym (flat_map-cons (λ s. laid s b g) (setting i) (map setting is))
+
+neither : (t : Bool) → ◌≡◌ {A = List CellSet} [] (if t then [] else [])
+neither true = refl
+neither false = refl
+
+-- of the generations of a list in turn
+singles-laid : (n : ℕ) (cells : List CellSet) (gs : List ℕ) (b g : ℕ)
+    → flat_map (λ s. laid s b g) (map (λ k. (Once k, n, cells)) gs)
+    ≡ (if n == b then line.cells_at (map (λ k. (k, cells)) gs) g else [])
+singles-laid n cells [] b g = neither (n == b)
+singles-laid n cells (k ∷ gs) b g =
+    flat_map-cons (λ s. laid s b g) (Once k, n, cells) (map (λ k. (Once k, n, cells)) gs)
+    ∙ ap (λ cs. laid (Once k, n, cells) b g ++ cs) (singles-laid n cells gs b g)
+    ∙ elim (n == b) as (λ t. (if t && k == g then cells else []) ++
+    (if t then line.cells_at (map (λ k. (k, cells)) gs) g else [])
+    ≡ (if t then (if k == g then cells ++ line.cells_at (map (λ k. (k, cells)) gs) g
+    else line.cells_at (map (λ k. (k, cells)) gs) g) else [])) [
+      | true ↦ elim (k == g) as (λ t. (if t then cells else []) ++ line.cells_at (map (λ k. (k, cells)) gs) g
+          ≡ (if t then cells ++ line.cells_at (map (λ k. (k, cells)) gs) g
+          else line.cells_at (map (λ k. (k, cells)) gs) g)) [ true ↦ refl | false ↦ refl ]
+      | false ↦ refl
+    ]
+
+own-singles : (i : Intervention) (singles : List Intervention) (b g : ℕ) → IsTimely i.acts → AreSinglesOf i singles
+    → own_cells i b g ≡ cells_at singles b g
+own-singles i singles b g timely are =
+    let all : cells_at singles b g
+    ≡ (if i.branch == b then line.cells_at (map (λ k. (k, i.cells)) (generations_of i.acts)) g else []) =
+    cells-laid singles b g ∙ ap (λ ss. flat_map (λ s. laid s b g) ss) are
+    ∙ singles-laid i.branch i.cells (generations_of i.acts) b g in
+    elim (i.branch == b) as (λ t. (if t && acts_on i.acts g then i.cells else [])
+    ≡ (if t then line.cells_at (map (λ k. (k, i.cells)) (generations_of i.acts)) g else [])) [
+      | true ↦ sym (generations-at i.acts i.cells g timely)
+      | false ↦ refl
+    ] ∙ sym all
+
+-- one that repeats lays what single ones in its place lay
+pub cells-singles : (lesser : List Intervention) (i : Intervention) (greater singles : List Intervention)
+    → IsTimely i.acts → AreSinglesOf i singles → (b g : ℕ)
+    → cells_at (lesser ++ i ∷ greater) b g ≡ cells_at (lesser ++ (singles ++ greater)) b g
+cells-singles lesser i greater singles timely are b g =
+    let own = λ (j : Intervention). own_cells j b g in
+    flat_map-append own lesser (i ∷ greater)
+    ∙ ap (λ cs. cells_at lesser b g ++ cs) (flat_map-cons own i greater
+    ∙ ap (λ cs. cs ++ cells_at greater b g) (own-singles i singles b g timely are)
+    ∙ sym (flat_map-append own singles greater))
+    ∙ sym (flat_map-append own lesser (singles ++ greater))
+
+-- and the same arrives
+pub arrival-singles : (p : Plan) (others : List Intervention)
+    → ((b g : ℕ) → cells_at p.interventions b g ≡ cells_at others b g) → (b g : ℕ)
+    → arrival p b g ≡ arrival (record p { interventions = others }) b g
+arrival-singles p others same b g =
+    ap (λ (cells : ℕ → ℕ → List CellSet). arrive (record (history_of p) { cells = cells }) b b g)
+    (λ i m n. same m n i)

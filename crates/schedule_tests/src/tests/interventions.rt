@@ -51,7 +51,7 @@ fn check_intervention(
     assert!(rt; place < interventions.len(), "no intervention {place}");
     let found = &interventions[place];
     let cells = found.cells.as_slice().len();
-    same(rt, &(found.id, found.generation, cells), &wanted, &place);
+    same(rt, &(found.id, found.acts.first(), cells), &wanted, &place);
 }
 
 /// Stops the test where the bookmark at this place has another id or generation.

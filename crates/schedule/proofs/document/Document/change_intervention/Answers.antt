@@ -1,4 +1,4 @@
-use Rattle.std.proofs.Common.{◌≡◌, ◌∙◌, List, length, ap, ap₂, sym, subst, None}
+use Rattle.std.proofs.Common.{◌≡◌, ◌+◌, ◌<◌, ◌^◌, ◌∙◌, List, length, ap, ap₂, sym, subst, None, arith}
 use Rattle.std.specs.Prelude.{if◌then◌else◌, ◌==◌}
 use Rattle.std.proofs.lemmas.List.{length-map, with_items_is}
 use Rattle.worlds.specs.declared.cell.CellSet.{CellSet}
@@ -6,25 +6,34 @@ use Rattle.schedule.specs.declared.document.Intervention.{Intervention}
 use Rattle.schedule.specs.Kept.{plan_of}
 use Rattle.schedule.specs.Ids.{intervention_id, changed_at}
 use Rattle.schedule.specs.Change.{first_refusal, for_changed_intervention, acting}
-use Rattle.schedule.proofs.Sounds.{IsSound-changed_intervention}
+use Rattle.schedule.proofs.Sounds.{IsSound-changed_intervention, unspent-changed}
 use Rattle.schedule.proofs.document.Document.change_intervention.Goals as goal
 
 pub invariant_of-self : goal.invariant_of-self
 invariant_of-self c =
     let p = plan_of c.self.inside in
     let id = c.args.id in
-    let generation = c.args.generation in
-    let free : first_refusal (for_changed_intervention p id generation c.args.cells.now) ≡ None =
-    subst (λ q. first_refusal (for_changed_intervention q id generation c.args.cells.now) ≡ None)
+    let acts = c.args.acts in
+    let free : first_refusal (for_changed_intervention p id acts c.args.cells.now) ≡ None =
+    subst (λ q. first_refusal (for_changed_intervention q id acts c.args.cells.now) ≡ None)
     (sym c.self.view_is) c.requires in
     let list = c.self.inside.interventions in
-    let f = acting generation c.args.cells.now in
+    let f = acting acts c.args.cells.now in
     let same : c.change_in.new.interventions ≡ changed_at intervention_id f list.items id =
     c.change_in.ensures
     ∙ ap₂ (λ (cells : List CellSet) (is : List Intervention). changed_at intervention_id
-    (acting generation cells) is id) (c.from_vec-cells.ensures ∙ c.in_ok-from_slice.ensures.items)
+    (acting acts cells) is id) (c.from_vec-cells.ensures ∙ c.in_ok-from_slice.ensures.items)
     c.deref_mut.ensures.value in
     let long : length c.change_in.new.interventions ≡ list.len = ap length same
     ∙ length-map list.items (λ (i : Intervention). if i.id == id then f i else i) ∙ sym list.ok.0 in
-    IsSound-changed_intervention p id generation c.args.cells.now _ c.self.invariant free
+    IsSound-changed_intervention p id acts c.args.cells.now _ c.self.invariant free
     (with_items_is list c.change_in.new.interventions long ∙ same)
+
+pub overflow_add-self : goal.overflow_add-self
+overflow_add-self c =
+    let free : first_refusal (for_changed_intervention (plan_of c.self.inside) c.args.id c.args.acts c.args.cells.now)
+    ≡ None = subst (λ p. first_refusal (for_changed_intervention p c.args.id c.args.acts c.args.cells.now) ≡ None)
+    (sym c.self.view_is) c.requires in
+    let room : c.self.inside.revision + 1 < 2 ^ 64 =
+    unspent-changed (plan_of c.self.inside) c.args.id c.args.acts c.args.cells.now free in
+    omega (arith, room)
