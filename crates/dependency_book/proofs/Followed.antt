@@ -6,7 +6,7 @@ use Rattle.bookmarks.specs.declared.view.View.{View}
 use Rattle.schedule.specs.declared.branch.Branch.{Branch}
 use Rattle.schedule.specs.declared.document.Bookmark.{Bookmark}
 use Rattle.schedule.specs.Plan.{Plan}
-use Rattle.schedule.specs.Asked.{Asked, InsertIntervention, ChangeIntervention, RemoveIntervention, SetCells, ReplaceStart, ReplaceRule, AddBookmark, MoveBookmark, RemoveBookmark, AddBranch, RemoveBranch}
+use Rattle.schedule.specs.Asked.{Asked, InsertIntervention, ChangeIntervention, InsertRepeat, ChangeRepeat, RemoveIntervention, SetCells, ReplaceStart, ReplaceRule, AddBookmark, MoveBookmark, RemoveBookmark, AddBranch, RemoveBranch}
 use Rattle.schedule.specs.Change.{changed, marking, next_bookmark}
 use Rattle.schedule.specs.Ids.{bookmark_id, changed_at, without}
 use Rattle.dependency_book.specs.declared.mark.Mark.{Mark}
@@ -127,6 +127,10 @@ texts_stay p (InsertIntervention branch g cells) felt id s so =
     same_kept p.branches felt (InsertIntervention branch g cells) (bookmark_in p.bookmarks id) s (λ b. refl)
 texts_stay p (ChangeIntervention i g cells) felt id s so =
     same_kept p.branches felt (ChangeIntervention i g cells) (bookmark_in p.bookmarks id) s (λ b. refl)
+texts_stay p (InsertRepeat branch first every last cells) felt id s so =
+    same_kept p.branches felt (InsertRepeat branch first every last cells) (bookmark_in p.bookmarks id) s (λ b. refl)
+texts_stay p (ChangeRepeat i first every last cells) felt id s so =
+    same_kept p.branches felt (ChangeRepeat i first every last cells) (bookmark_in p.bookmarks id) s (λ b. refl)
 texts_stay p (RemoveIntervention i) felt id s so =
     same_kept p.branches felt (RemoveIntervention i) (bookmark_in p.bookmarks id) s (λ b. refl)
 texts_stay p (SetCells cells) felt id s so = same_kept p.branches felt (SetCells cells) (bookmark_in p.bookmarks id) s
@@ -176,6 +180,8 @@ pub kept_in : (p : Plan) (asked : Asked) (felt : Option Mark) (id : ℕ) (b : Bo
     → bookmark_in (changed p asked).plan.bookmarks id ≡ Some b
 kept_in p (InsertIntervention branch g cells) felt id b keep is = is
 kept_in p (ChangeIntervention i g cells) felt id b keep is = is
+kept_in p (InsertRepeat branch first every last cells) felt id b keep is = is
+kept_in p (ChangeRepeat i first every last cells) felt id b keep is = is
 kept_in p (RemoveIntervention i) felt id b keep is = is
 kept_in p (SetCells cells) felt id b keep is = is
 kept_in p (ReplaceStart start) felt id b keep is = is

@@ -1,10 +1,7 @@
 -- What an edit leaves of a document's history.
-use Rattle.std.proofs.Common.{◌≡◌, ℕ, zero, suc, ◌+◌, ◌<◌, ◌≤◌, ◌∙◌, ◌++◌, Bool, true, false, not, ◌&&◌, ◌||◌, nat_le, nat_lt, List, [], ◌∷◌, refl, sym, ap, ap₂, subst, arith, append-nil, None, Some}
-use Rattle.std.specs.Prelude.{◌==◌, min}
-use Rattle.std.specs.List.{AllByRecursion}
-use Rattle.std.proofs.lemmas.Bool.{and_from, and_parts, and_right, cond-true, cond-false, or_from, or_parts}
-use Rattle.std.proofs.lemmas.Grind.{flat_map-append}
-use Rattle.worlds.specs.declared.cell.CellSet.{CellSet}
+use Rattle.std.proofs.Common.{◌≡◌, ℕ, zero, suc, ◌+◌, ◌<◌, ◌≤◌, ◌∙◌, Bool, true, false, not, ◌&&◌, ◌||◌, nat_lt, List, [], ◌∷◌, refl, sym, ap, ap₂, arith, Option, None, Some}
+use Rattle.std.specs.Prelude.{◌==◌}
+use Rattle.std.proofs.lemmas.Bool.{and_from, and_right, or_from, or_parts}
 use Rattle.worlds.specs.Lay.{lay}
 use Rattle.rule_tree.specs.Rule.{name_of, states_of}
 use Rattle.bookmarks.specs.Text.{text_of}
@@ -14,13 +11,12 @@ use Rattle.schedule.specs.declared.document.Intervention.{Intervention}
 use Rattle.schedule.specs.declared.fault.EditFault.{EditFault}
 use Rattle.schedule.specs.declared.fault.EditFault.TheVariants.{BranchInUse, NoSuchBranch}
 use Rattle.schedule.specs.Plan.{Plan}
-use Rattle.schedule.specs.Asked.{Asked, InsertIntervention, ChangeIntervention, RemoveIntervention, SetCells, ReplaceStart, ReplaceRule, AddBookmark, MoveBookmark, RemoveBookmark, AddBranch, RemoveBranch}
+use Rattle.schedule.specs.Asked.{Asked, InsertIntervention, ChangeIntervention, InsertRepeat, ChangeRepeat, RemoveIntervention, SetCells, ReplaceStart, ReplaceRule, AddBookmark, MoveBookmark, RemoveBookmark, AddBranch, RemoveBranch}
 use Rattle.schedule.specs.Branches.{fork_of, has_bookmarks, has_branch, has_children, has_interventions, parent_of}
-use Rattle.schedule.specs.Change.{acting, changed, first_refusal, is_in_use, next_intervention, refusal, spent}
+use Rattle.schedule.specs.Change.{changed, first_refusal, is_in_use, refusal, spent}
 use Rattle.schedule.specs.History.{is_felt}
-use Rattle.schedule.specs.Ids.{IdsRise, branch_id, changed_at, has_id, intervention_id, without}
-use Rattle.schedule.specs.Laws.{SameElsewhere}
-use Rattle.schedule.specs.Scratch.{acts_at, own_cells, cells_at, arrival, after, scratch}
+use Rattle.schedule.specs.Ids.{branch_id, has_id, without}
+use Rattle.schedule.specs.Scratch.{cells_at, arrival, after, scratch}
 use Rattle.schedule.specs.Sound.{IsPlaced, IsSound}
 use Rattle.schedule.proofs.Sounds.{IsSound-removed_branch}
 use Rattle.schedule.proofs.Shared.Arrivals.{ParentsComeBefore}
@@ -28,132 +24,14 @@ use Rattle.schedule.proofs.Shared.Branches.{parents_before}
 use Rattle.schedule.proofs.Shared.Felt.{felt-apart, felt-back, felt-here}
 use Rattle.schedule.proofs.Shared.Lines.{after-unfelt, arrival-added, arrival-removed, arrival-unfelt}
 use Rattle.dependency_book.specs.declared.mark.Mark.{Mark}
+use Rattle.dependency_book.specs.declared.touched.Touched.{Touched}
 use Rattle.dependency_book.specs.BookState.{bookmark_in}
-use Rattle.dependency_book.specs.Felt.{felt_from, mark_of, moved_mark}
+use Rattle.dependency_book.specs.Felt.{felt_from, first_touched, from_touched, touched_by}
 use Rattle.dependency_book.specs.Kept.{keeps_arrival, leaves_after}
-use Rattle.dependency_book.specs.Marks.{bookmark_mark, intervention_mark, is_mark, is_same, is_start, mark_at}
+use Rattle.dependency_book.specs.Marks.{bookmark_mark, is_mark, is_start, mark_at}
 use Rattle.dependency_book.proofs.Placed.{mark_placed}
-use Rattle.dependency_book.proofs.Tests.{clash, either_way, eq_false, eq_true, false_eq, le_true, lt_false, lt_true, true_eq, true_lt}
-use Rattle.dependency_book.proofs.Walk.{own_cells-other}
-
--- the cells that are set at other marks than those of an edit
-
-pub same_inserted : (is : List Intervention) (i : Intervention) (b g : ℕ) → acts_at i b g ≡ false
-    → cells_at is b g ≡ cells_at (is ++ i ∷ []) b g
-same_inserted is i b g apart =
-    sym (flat_map-append (λ j. own_cells j b g) is (i ∷ [])
-    ∙ ap (λ cs. cells_at is b g ++ cs) (append-nil (own_cells i b g) ∙ own_cells-other i b g apart)
-    ∙ append-nil (cells_at is b g))
-
--- an id that is below all
-same_above : (f : Intervention → Intervention) (is : List Intervention) (id : ℕ)
-    → AllByRecursion (λ j. id < intervention_id j) is → changed_at intervention_id f is id ≡ is
-same_above f [] id h = refl
-same_above f (i ∷ is) id h =
-    ap₂ (λ j js. j ∷ js)
-    (cond-false (i.id == id) (f i) i (eq_false i.id id (let k : id < i.id = h.0 in λ same. omega (arith, same, k))))
-    (same_above f is id h.1)
-
-pub same_changed : (is : List Intervention) (id generation : ℕ) (cells : List CellSet) (m : Mark)
-    → IdsRise intervention_id is → is_same (moved_mark is id generation) m ≡ false → is_same (mark_of is id) m ≡ false
-    → cells_at is m.branch m.generation ≡ cells_at
-    (changed_at intervention_id (acting generation cells) is id) m.branch m.generation
-same_changed [] id generation cells m rise apart before = refl
-same_changed (i ∷ is) id generation cells m rise apart before =
-    let b = m.branch in
-    let g = m.generation in
-    let test = i.id == id in
-    let rest = changed_at intervention_id (acting generation cells) is id in
-    either_way test
-    (λ hit.
-    let here : mark_of (i ∷ is) id ≡ intervention_mark i = cond-true test (intervention_mark i) (mark_of is id) hit in
-    let off : own_cells i b g ≡ [] = own_cells-other i b g (ap (λ (n : Mark). is_same n m) (sym here) ∙ before) in
-    let on : own_cells (acting generation cells i) b g ≡ [] =
-    own_cells-other (acting generation cells i) b g
-    (ap (λ (n : Mark). is_same (mark_at n.branch generation) m) (sym here) ∙ apart) in
-    let id_is = true_eq i.id id hit in
-    let still : rest ≡ is =
-    same_above (acting generation cells) is id
-    (subst (λ n. AllByRecursion (λ j. n < intervention_id j) is) id_is rise.0) in
-    ap₂ (λ own more. own ++ more) (off ∙ sym on) (ap (λ js. cells_at js b g) (sym still))
-    ∙ ap (λ (j : Intervention). own_cells j b g ++ cells_at rest b g)
-    (sym (cond-true test (acting generation cells i) i hit)))
-    (λ miss.
-    let on : mark_of (i ∷ is) id ≡ mark_of is id = cond-false test (intervention_mark i) (mark_of is id) miss in
-    ap (λ cs. own_cells i b g ++ cs)
-    (same_changed is id generation cells m rise.1
-    (ap (λ (n : Mark). is_same (mark_at n.branch generation) m) (sym on) ∙ apart)
-    (ap (λ (n : Mark). is_same n m) (sym on) ∙ before))
-    ∙ ap (λ (j : Intervention). own_cells j b g ++ cells_at rest b g)
-    (sym (cond-false test (acting generation cells i) i miss)))
-
-without_above : (is : List Intervention) (id : ℕ) → AllByRecursion (λ j. id < intervention_id j) is
-    → without intervention_id is id ≡ is
-without_above [] id h = refl
-without_above (i ∷ is) id h =
-    let rest = without intervention_id is id in
-    cond-true (not (i.id == id)) (i ∷ rest) rest
-    (ap not (eq_false i.id id (let k : id < i.id = h.0 in λ same. omega (arith, same, k))))
-    ∙ ap (λ js. i ∷ js) (without_above is id h.1)
-
-pub same_removed : (is : List Intervention) (id : ℕ) (m : Mark) → IdsRise intervention_id is
-    → is_same (mark_of is id) m ≡ false → cells_at is m.branch m.generation ≡ cells_at
-    (without intervention_id is id) m.branch m.generation
-same_removed [] id m rise before = refl
-same_removed (i ∷ is) id m rise before =
-    let b = m.branch in
-    let g = m.generation in
-    let test = i.id == id in
-    let rest = without intervention_id is id in
-    either_way test
-    (λ hit.
-    let here : mark_of (i ∷ is) id ≡ intervention_mark i = cond-true test (intervention_mark i) (mark_of is id) hit in
-    let id_is = true_eq i.id id hit in
-    let still : rest ≡ is =
-    without_above is id (subst (λ n. AllByRecursion (λ j. n < intervention_id j) is) id_is rise.0) in
-    ap (λ own. own ++ cells_at is b g) (own_cells-other i b g (ap (λ (n : Mark). is_same n m) (sym here) ∙ before))
-    ∙ ap (λ js. cells_at js b g) (sym still ∙ sym (cond-false (not test) (i ∷ rest) rest (ap not hit))))
-    (λ miss.
-    let on : mark_of (i ∷ is) id ≡ mark_of is id = cond-false test (intervention_mark i) (mark_of is id) miss in
-    ap (λ cs. own_cells i b g ++ cs) (same_removed is id m rise.1 (ap (λ (n : Mark). is_same n m) (sym on) ∙ before))
-    ∙ ap (λ js. cells_at js b g) (sym (cond-true (not test) (i ∷ rest) rest (ap not miss))))
-
--- so they are the same but from a generation of a branch on
-
-apart_from : (c k b g later : ℕ) → k ≤ later → (b == c && nat_le k g) ≡ false → (c == b && later == g) ≡ false
-apart_from c k b g later le off =
-    either_way (c == b && later == g)
-    (λ hit.
-    let parts = and_parts (c == b) (later == g) hit in
-    let branch : c ≡ b = true_eq c b parts.0 in
-    let generation : later ≡ g = true_eq later g parts.1 in
-    clash (b == c && nat_le k g)
-    (and_from (b == c) (nat_le k g) (eq_true b c (sym branch)) (le_true k g (omega (arith, le, generation)))) off)
-    (λ miss. miss)
-
-inserted_elsewhere : (p : Plan) (branch generation : ℕ) (cells : List CellSet)
-    → SameElsewhere p.interventions
-    (p.interventions ++ next_intervention p branch generation cells ∷ []) branch generation
-inserted_elsewhere p branch generation cells b g off =
-    same_inserted p.interventions (next_intervention p branch generation cells) b g
-    (apart_from branch generation b g generation (omega arith) off)
-
-changed_elsewhere : (p : Plan) (id generation : ℕ) (cells : List CellSet) → IsSound p
-    → SameElsewhere p.interventions (changed_at intervention_id (acting generation cells) p.interventions id)
-    (mark_of p.interventions id).branch (min generation (mark_of p.interventions id).generation)
-changed_elsewhere p id generation cells sound b g off =
-    let was = mark_of p.interventions id in
-    same_changed p.interventions id generation cells (mark_at b g) sound.interventions_rise
-    (apart_from was.branch (min generation was.generation) b g generation (omega arith) off)
-    (apart_from was.branch (min generation was.generation) b g was.generation (omega arith) off)
-
-removed_elsewhere : (p : Plan) (id : ℕ) → IsSound p
-    → SameElsewhere p.interventions (without intervention_id p.interventions id) (mark_of p.interventions id).branch
-    (mark_of p.interventions id).generation
-removed_elsewhere p id sound b g off =
-    let was = mark_of p.interventions id in
-    same_removed p.interventions id (mark_at b g) sound.interventions_rise
-    (apart_from was.branch was.generation b g was.generation (omega arith) off)
+use Rattle.dependency_book.proofs.Tests.{clash, either_way, eq_false, eq_true, false_eq, lt_false, lt_true, true_eq, true_lt}
+use Rattle.dependency_book.proofs.Touching.{SameUntouched, untouched, untouched_elsewhere}
 
 -- what isn't felt
 
@@ -277,26 +155,52 @@ shows_none p n id b unused is =
     (has_bookmarks p.bookmarks n || has_children p.branches n) unused in
     none_shown p.bookmarks n id b (or_parts (has_bookmarks p.bookmarks n) (has_children p.branches n) halves.1).0 is
 
--- an edit leaves what arrives at a mark of both documents where it keeps that
+-- what an edit touches isn't felt before
+
+touched_left : (p : Plan) (others : List Intervention) (o : Option Touched) (m : Mark) → IsSound p
+    → SameUntouched p.interventions others o → keeps_arrival p.branches (from_touched o false) m ≡ true
+    → arrival p m.branch m.generation ≡ arrival (record p { interventions = others }) m.branch m.generation
+touched_left p others None m sound same stays =
+    ap (λ is. arrival (record p { interventions = is }) m.branch m.generation) same
+touched_left p others (Some t) m sound same stays =
+    let from = first_touched t in
+    arrival-unfelt p sound others from.branch from.generation (untouched_elsewhere p.interventions others t same)
+    m.branch m.generation
+    (not_true (is_felt p.branches m.branch m.branch m.generation from.branch from.generation) stays)
+
+touched_after : (p : Plan) (others : List Intervention) (o : Option Touched) (b : Bookmark) → IsSound p
+    → SameUntouched p.interventions others o → leaves_after p.branches (from_touched o false) (bookmark_mark b) ≡ true
+    → after p b.branch b.generation ≡ after (record p { interventions = others }) b.branch b.generation
+touched_after p others None b sound same leaves =
+    ap (λ is. after (record p { interventions = is }) b.branch b.generation) same
+touched_after p others (Some t) b sound same leaves =
+    let from = first_touched t in
+    after-unfelt p sound others from.branch from.generation (untouched_elsewhere p.interventions others t same)
+    b.branch b.generation (unfelt_next p.branches from (bookmark_mark b) leaves)
+
+-- an edit of interventions leaves what arrives at a mark where it keeps that
+edited_left : (p : Plan) (asked : Asked) (m : Mark) → IsSound p
+    → keeps_arrival p.branches (from_touched (touched_by p asked) false) m ≡ true
+    → arrival p m.branch m.generation ≡ arrival (record p { interventions = (changed p asked).plan.interventions })
+    m.branch m.generation
+edited_left p asked m sound stays =
+    touched_left p (changed p asked).plan.interventions (touched_by p asked) m sound (untouched p asked sound) stays
+
+-- so does every edit, at a mark of both documents
 pub arrival_left : (p : Plan) (asked : Asked) (m : Mark) → IsSound p → refusal p asked ≡ None → is_start m ≡ false
     → is_mark p m ≡ true → is_mark (changed p asked).plan m ≡ true → keeps_arrival (changed p asked).plan.branches
     (felt_from p asked) m ≡ true
     → arrival p m.branch m.generation ≡ arrival (changed p asked).plan m.branch m.generation
 arrival_left p (InsertIntervention branch generation cells) m sound free other was is stays =
-    arrival-unfelt p sound (p.interventions ++ next_intervention p branch generation cells ∷ []) branch generation
-    (inserted_elsewhere p branch generation cells) m.branch m.generation
-    (not_true (is_felt p.branches m.branch m.branch m.generation branch generation) stays)
+    edited_left p (InsertIntervention branch generation cells) m sound stays
 arrival_left p (ChangeIntervention id generation cells) m sound free other was is stays =
-    let acted = mark_of p.interventions id in
-    let k = min generation acted.generation in
-    arrival-unfelt p sound (changed_at intervention_id (acting generation cells) p.interventions id) acted.branch k
-    (changed_elsewhere p id generation cells sound) m.branch m.generation
-    (not_true (is_felt p.branches m.branch m.branch m.generation acted.branch k) stays)
+    edited_left p (ChangeIntervention id generation cells) m sound stays
+arrival_left p (InsertRepeat branch first every last cells) m sound free other was is stays =
+    edited_left p (InsertRepeat branch first every last cells) m sound stays
+arrival_left p (ChangeRepeat id first every last cells) m sound free other was is stays =
+    edited_left p (ChangeRepeat id first every last cells) m sound stays
 arrival_left p (RemoveIntervention id) m sound free other was is stays =
-    let acted = mark_of p.interventions id in
-    arrival-unfelt p sound (without intervention_id p.interventions id) acted.branch acted.generation
-    (removed_elsewhere p id sound) m.branch m.generation
-    (not_true (is_felt p.branches m.branch m.branch m.generation acted.branch acted.generation) stays)
+    edited_left p (RemoveIntervention id) m sound stays
 arrival_left p (SetCells cells) m sound free other was is stays = none_kept p m sound other stays
 arrival_left p (ReplaceStart start) m sound free other was is stays = none_kept p m sound other stays
 arrival_left p (ReplaceRule rule) m sound free other was is stays = none_kept p m sound other stays
@@ -312,35 +216,33 @@ arrival_left p (RemoveBranch n) m sound free other was is stays =
     (gone p n m.branch unused (mark_placed (changed p (RemoveBranch n)).plan m later is).there)
 
 -- and what a bookmark shows that it leaves
-shown_left : (p q : Plan) (b : Bookmark) → p.rule ≡ q.rule
+
+pub shown_left : (p q : Plan) (b : Bookmark) → p.rule ≡ q.rule
     → after p b.branch b.generation ≡ after q b.branch b.generation → scratch p b ≡ scratch q b
 shown_left p q b rule world = ap₂ (λ r w. text_of b.view w (name_of r) (states_of r) b.generation) rule world
 
-edited_left : (p : Plan) (others : List Intervention) (from : Mark) (b : Bookmark) → IsSound p
-    → SameElsewhere p.interventions others from.branch from.generation → leaves_after p.branches (Some from)
-    (bookmark_mark b) ≡ true
-    → after p b.branch b.generation ≡ after (record p { interventions = others }) b.branch b.generation
-edited_left p others from b sound same leaves =
-    after-unfelt p sound others from.branch from.generation same b.branch b.generation
-    (unfelt_next p.branches from (bookmark_mark b) leaves)
+edited_shown : (p : Plan) (asked : Asked) (b : Bookmark) → IsSound p
+    → leaves_after p.branches (from_touched (touched_by p asked) false) (bookmark_mark b) ≡ true
+    → scratch p b ≡ scratch (record p { interventions = (changed p asked).plan.interventions }) b
+edited_shown p asked b sound leaves =
+    let others = (changed p asked).plan.interventions in
+    shown_left p (record p { interventions = others }) b refl
+    (touched_after p others (touched_by p asked) b sound (untouched p asked sound) leaves)
 
 pub scratch_left : (p : Plan) (asked : Asked) (id : ℕ) (b : Bookmark) → IsSound p → refusal p asked ≡ None
     → bookmark_in p.bookmarks id ≡ Some b → IsPlaced p.branches b.branch b.generation
     → leaves_after (changed p asked).plan.branches (felt_from p asked) (bookmark_mark b) ≡ true
     → scratch p b ≡ scratch (changed p asked).plan b
 scratch_left p (InsertIntervention branch generation cells) id b sound free is placed leaves =
-    shown_left p (changed p (InsertIntervention branch generation cells)).plan b refl
-    (edited_left p (p.interventions ++ next_intervention p branch generation cells ∷ [])
-    (mark_at branch generation) b sound (inserted_elsewhere p branch generation cells) leaves)
+    edited_shown p (InsertIntervention branch generation cells) b sound leaves
 scratch_left p (ChangeIntervention n generation cells) id b sound free is placed leaves =
-    shown_left p (changed p (ChangeIntervention n generation cells)).plan b refl
-    (edited_left p (changed_at intervention_id (acting generation cells) p.interventions n)
-    (moved_mark p.interventions n (min generation (mark_of p.interventions n).generation)) b sound
-    (changed_elsewhere p n generation cells sound) leaves)
+    edited_shown p (ChangeIntervention n generation cells) b sound leaves
+scratch_left p (InsertRepeat branch first every last cells) id b sound free is placed leaves =
+    edited_shown p (InsertRepeat branch first every last cells) b sound leaves
+scratch_left p (ChangeRepeat n first every last cells) id b sound free is placed leaves =
+    edited_shown p (ChangeRepeat n first every last cells) b sound leaves
 scratch_left p (RemoveIntervention n) id b sound free is placed leaves =
-    shown_left p (changed p (RemoveIntervention n)).plan b refl
-    (edited_left p (without intervention_id p.interventions n) (mark_of p.interventions n) b sound
-    (removed_elsewhere p n sound) leaves)
+    edited_shown p (RemoveIntervention n) b sound leaves
 scratch_left p (SetCells cells) id b sound free is placed leaves = none_left p (bookmark_mark b) sound leaves
 scratch_left p (ReplaceStart start) id b sound free is placed leaves = none_left p (bookmark_mark b) sound leaves
 scratch_left p (ReplaceRule rule) id b sound free is placed leaves = none_left p (bookmark_mark b) sound leaves

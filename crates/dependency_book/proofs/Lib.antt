@@ -5,7 +5,6 @@ pub mod Grown
 pub mod Handed
 pub mod Leaves
 pub mod Listed
-pub mod Loops
 pub mod Marked
 pub mod Merged
 pub mod Needed
@@ -25,6 +24,7 @@ pub mod Shared
 pub mod Showing
 pub mod Standing
 pub mod Tests
+pub mod Touching
 pub mod Unfelt
 pub mod Walk
 pub mod Wanted

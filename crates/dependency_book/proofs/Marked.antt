@@ -5,89 +5,75 @@ use Rattle.std.specs.List.{AllByRecursion, list_any, dedup, dedup_from}
 use Rattle.std.specs.List.Sorted.{IsNonDecreasingBy, IsPermutation}
 use Rattle.std.proofs.lemmas.Bool.{and_parts}
 use Rattle.std.proofs.lemmas.Grind.{flat_map-append}
-use Rattle.std.proofs.lemmas.List.{length-append, length-map, map-append, take_more}
+use Rattle.std.proofs.lemmas.List.{append-nil, length-append, length-map, take_more}
 use Rattle.std.proofs.lemmas.List.Elements.{filter-append, recursion_from_All, All-from_recursion}
 use Rattle.std.proofs.lemmas.List.Folds.{list_any-append}
 use Rattle.std.proofs.lemmas.List.Sorted.{All-permutation, list_any-IsPermutation}
+use Rattle.std.proofs.lemmas.List.Sums.{sum_by-cons, sum_by_more, sum_by_more_le}
 use Rattle.std.proofs.lemmas.Map.Views.{any-filter_same}
-use Rattle.basics.proofs.Shared.Lists.{all_append}
+use Rattle.basics.proofs.Shared.Lists.{all_append, all_so}
 use Rattle.schedule.specs.declared.branch.Branch.{Branch}
 use Rattle.schedule.specs.declared.document.Bookmark.{Bookmark}
 use Rattle.schedule.specs.declared.document.Intervention.{Intervention}
-use Rattle.rule_tree.specs.Rule.{states_of}
+use Rattle.schedule.specs.Acts.{acts_on, first_of, generations_of, generations_to, marks_to}
 use Rattle.schedule.specs.Branches.{has_branch, reach}
 use Rattle.schedule.specs.Ids.{IdsRise}
 use Rattle.schedule.specs.Plan.{Plan}
+use Rattle.schedule.specs.Repeats.{marks_within, repeat_marks}
 use Rattle.schedule.specs.Scratch.{acts_at}
-use Rattle.schedule.specs.Sound.{IsAllowed, IsForked, IsPlaced, IsSound}
-use Rattle.schedule.proofs.Shared.Ids.{each_filter, length-filter_le}
-use Rattle.dependency_book.specs.AllMarks.{AreMarksOf, but_start, is_reached}
+use Rattle.schedule.specs.Sound.{IsForked, IsPlaced, IsSound}
+use Rattle.schedule.proofs.Shared.Acts.{any-generations, few-generations}
+use Rattle.schedule.proofs.Shared.Ids.{length-filter_le}
+use Rattle.dependency_book.specs.AllMarks.{AreMarksOf, but_start, far_of}
 use Rattle.dependency_book.specs.declared.mark.Mark.{Mark}
-use Rattle.dependency_book.specs.Marks.{bookmark_mark, branch_marks, forks_at, intervention_mark, is_mark, is_same, is_start, mark_at, stands_at}
+use Rattle.dependency_book.specs.Marks.{acting_marks, acts_within, bookmark_mark, branch_marks, forks_at, is_mark, is_same, is_start, mark_at, stands_at}
 use Rattle.dependency_book.specs.Rows.{mark_rank}
-use Rattle.dependency_book.proofs.Listed.{any_so}
-use Rattle.dependency_book.proofs.Ranks.{rank_test, same_mark, start_is}
-use Rattle.dependency_book.proofs.Reaching.{any_branches, any_map, reaches, reach_is}
-use Rattle.dependency_book.proofs.Tests.{either_way, clash, false_eq, true_eq, eq_true, true_le}
+use Rattle.dependency_book.proofs.Ranks.{above_start, rank_test, same_mark}
+use Rattle.dependency_book.proofs.Reaching.{any_and, any_branches, any_map, far_near, far_reach, reaches}
+use Rattle.dependency_book.proofs.Tests.{either_way, false_eq, true_eq, true_le}
 
--- marks are added one after another
+-- marks are added one intervention after another
 
--- what one more element adds
-pub one_more : {X : Type 0} (F : List X → List Mark) → ((ys zs : List X) → F (ys ++ zs) ≡ F ys ++ F zs)
-    → (xs : List X) (i : ℕ) (x : X) (items olds was : List Mark) → i < length xs → x ≡ get_or xs i x
-    → items ≡ olds ++ F (x ∷ []) → olds ≡ was ++ F (take i xs) → items ≡ was ++ F (take (i + 1) xs)
-one_more F splits xs i x items olds was low is added left =
-    added ∙ ap (λ ms. ms ++ F (x ∷ [])) left ∙ append_assoc was (F (take i xs)) (F (x ∷ []))
-    ∙ ap (λ ms. was ++ ms)
-    (sym (splits (take i xs) (x ∷ [])) ∙ ap (λ y. F (take i xs ++ y ∷ [])) is ∙ ap F (sym (take_more xs i x low)))
+module _ (far : ℕ → ℕ) (is : List Intervention) (k f : ℕ) (x : Intervention) (low : k < length is)
+    (at : x ≡ get_or is k x) (asked : f ≡ far x.branch) where
+  abbrev makes : Intervention → ℕ
+  makes i = marks_to (far i.branch) i.acts
 
-pub but_start-append : (ms ns : List Mark) → but_start (ms ++ ns) ≡ but_start ms ++ but_start ns
-but_start-append ms ns = filter-append (λ m. not (is_start m)) ms ns
+  -- it acts as often as its repeating makes marks, or once
+  few_added : length (generations_to f x.acts) ≤ 1 + makes x
+  few_added = subst (λ n. length (generations_to f x.acts) ≤ 1 + marks_to n x.acts) asked (few-generations f x.acts)
 
--- of bookmarks, of branches and of interventions
-pub bookmarks-append : (ys zs : List Bookmark) → but_start (map bookmark_mark (ys ++ zs)) ≡ but_start
-    (map bookmark_mark ys) ++ but_start (map bookmark_mark zs)
-bookmarks-append ys zs = ap but_start (map-append bookmark_mark ys zs) ∙ but_start-append (map bookmark_mark ys)
-    (map bookmark_mark zs)
+  pub room_left : (long was room : ℕ) → long ≤ was + k + marks_within far (take k is)
+      → was + length is + marks_within far is ≤ room → long + length (generations_to f x.acts) ≤ room
+  room_left long was room most fits =
+      let one = few_added in
+      let same = ap makes at in
+      let sum = sum_by_more_le makes is k x low in
+      omega (arith, low, most, fits, one, same, sum)
 
-pub branches-append : (ys zs : List Branch) → but_start (flat_map branch_marks (ys ++ zs)) ≡ but_start
-    (flat_map branch_marks ys) ++ but_start (flat_map branch_marks zs)
-branches-append ys zs = ap but_start (flat_map-append branch_marks ys zs) ∙ but_start-append (flat_map branch_marks ys)
-    (flat_map branch_marks zs)
+  pub long_added : (long was now : ℕ) → long ≤ was + k + marks_within far (take k is)
+      → now ≤ long + length (generations_to f x.acts) → now ≤ was + (k + 1) + marks_within far (take (k + 1) is)
+  long_added long was now most added =
+      let one = few_added in
+      let same = ap makes at in
+      let sum = sum_by_more makes is k x low in
+      omega (arith, most, added, one, same, sum)
 
-pub interventions-append : (t : Mark → Bool) (ys zs : List Intervention)
-    → but_start (filter t (map intervention_mark (ys ++ zs))) ≡ but_start
-    (filter t (map intervention_mark ys)) ++ but_start (filter t (map intervention_mark zs))
-interventions-append t ys zs =
-    ap (λ ms. but_start (filter t ms)) (map-append intervention_mark ys zs)
-    ∙ ap but_start (filter-append t (map intervention_mark ys) (map intervention_mark zs))
-    ∙ but_start-append (filter t (map intervention_mark ys)) (filter t (map intervention_mark zs))
-
--- two were added
-pub two_added : (items mids olds : List Mark) (m n : Mark) → items ≡ mids ++ but_start (n ∷ [])
-    → mids ≡ olds ++ but_start (m ∷ []) → items ≡ olds ++ but_start (m ∷ n ∷ [])
-two_added items mids olds m n second first =
-    second ∙ ap (λ ms. ms ++ but_start (n ∷ [])) first ∙ append_assoc olds (but_start (m ∷ [])) (but_start (n ∷ []))
-    ∙ ap (λ ms. olds ++ ms) (sym (but_start-append (m ∷ []) (n ∷ [])))
-
--- one was added, if it is reached
-pub added_reached : (t : Mark → Bool) (items olds : List Mark) (m : Mark) → t m ≡ true
-    → items ≡ olds ++ but_start (m ∷ []) → items ≡ olds ++ but_start (filter t (m ∷ []))
-added_reached t items olds m hit added = added ∙ ap (λ ms. olds ++ but_start ms) (sym (kept t m hit))
-  where
-    kept : (t : Mark → Bool) (m : Mark) → t m ≡ true → filter t (m ∷ []) ≡ m ∷ []
-    kept t m hit = rw hit refl
-
-pub added_none : (t : Mark → Bool) (items olds : List Mark) (m : Mark) → t m ≡ false → items ≡ olds
-    → items ≡ olds ++ but_start (filter t (m ∷ []))
-added_none t items olds m miss same = same ∙ sym (ap (λ ms. olds ++ but_start ms) (left t m miss) ∙ append-none olds)
-  where
-    left : (t : Mark → Bool) (m : Mark) → t m ≡ false → filter t (m ∷ []) ≡ []
-    left t m miss = rw miss refl
-
-    append-none : (ms : List Mark) → ms ++ [] ≡ ms
-    append-none [] = refl
-    append-none (m ∷ ms) = ap (λ ns. m ∷ ns) (append-none ms)
+  pub marks_added : (items olds was : List Mark)
+      → olds ≡ was ++ but_start (flat_map (acting_marks far) (take k is))
+      → items ≡ olds ++ but_start (map (mark_at x.branch) (generations_to f x.acts))
+      → items ≡ was ++ but_start (flat_map (acting_marks far) (take (k + 1) is))
+  marks_added items olds was before added =
+      added
+      ∙ ap₂ (λ ms n. ms ++ but_start (map (mark_at x.branch) (generations_to n x.acts))) before asked
+      ∙ append_assoc was (but_start (flat_map (acting_marks far) (take k is))) (but_start (acting_marks far x))
+      ∙ ap (λ ms. was ++ ms)
+      (sym (filter-append (λ m. not (is_start m)) (flat_map (acting_marks far) (take k is)) (acting_marks far x))
+      ∙ ap but_start
+      (ap (λ ms. flat_map (acting_marks far) (take k is) ++ ms) (sym (append-nil (acting_marks far x)))
+      ∙ sym (flat_map-append (acting_marks far) (take k is) (x ∷ []))
+      ∙ ap (λ i. flat_map (acting_marks far) (take k is ++ i ∷ [])) at
+      ∙ ap (flat_map (acting_marks far)) (sym (take_more is k x low))))
 
 -- what holds of each mark that is added: it is near enough, and isn't the start
 
@@ -114,10 +100,27 @@ near_bookmarks : (bs : List Bookmark) → AllByRecursion (λ (b : Bookmark). b.g
 near_bookmarks [] near = tt
 near_bookmarks (b ∷ bs) near = (near.0, near_bookmarks bs near.1)
 
-near_interventions : (n : ℕ) (is : List Intervention) → AllByRecursion (IsAllowed n) is
-    → AllByRecursion IsNear (map intervention_mark is)
-near_interventions n [] allowed = tt
-near_interventions n (i ∷ is) allowed = (allowed.0.near, near_interventions n is allowed.1)
+-- each generation at which something acts is as near as how far it is asked for
+near_acting : (b far : ℕ) (gs : List ℕ) → far ≤ 2 ^ 60
+    → AllByRecursion IsNear (map (mark_at b) (filter (λ g. nat_le g far) gs))
+near_acting b far [] low = tt
+near_acting b far (g ∷ gs) low =
+    either_way (nat_le g far)
+    (λ hit. rw hit ((let le = true_le g far hit in omega (arith, le, low)), near_acting b far gs low))
+    (λ miss. rw miss (near_acting b far gs low))
+
+near_interventions : (reaches : ℕ → ℕ) (is : List Intervention) → ((b : ℕ) → reaches b ≤ 2 ^ 60)
+    → AllByRecursion IsNear (flat_map (acting_marks reaches) is)
+near_interventions reaches [] low = tt
+near_interventions reaches (i ∷ is) low =
+    all_append IsNear (acting_marks reaches i) (flat_map (acting_marks reaches) is)
+    (near_acting i.branch (reaches i.branch) (generations_of i.acts) (low i.branch)) (near_interventions reaches is low)
+
+all_near : (ms : List Mark) → AllByRecursion IsFit ms → AllByRecursion IsNear ms
+all_near ms fit = all_so IsFit IsNear ms (λ m k. k.near) fit
+
+all_beside : (ms : List Mark) → AllByRecursion IsFit ms → AllByRecursion (λ (m : Mark). is_start m ≡ false) ms
+all_beside ms fit = all_so IsFit (λ (m : Mark). is_start m ≡ false) ms (λ m k. k.beside) fit
 
 moved : (P : Mark → Type 0) (xs ys : List Mark) → IsPermutation xs ys → AllByRecursion P xs → AllByRecursion P ys
 moved P xs ys same all = recursion_from_All P ys (All-permutation P xs ys same (All-from_recursion P xs all))
@@ -193,12 +196,74 @@ any_once : (q : Mark → Bool) (ms : List Mark) → list_any q (dedup is_same ms
 any_once q [] = refl
 any_once q (m ∷ ms) = any_from q m ms
 
--- which marks these are
-
 -- a test that the start doesn't pass
 any_but : (q : Mark → Bool) (ms : List Mark) → ((k : Mark) → q k ≡ true → is_start k ≡ false)
     → list_any q (but_start ms) ≡ list_any q ms
 any_but q ms beside = any-filter_same q (λ k. not (is_start k)) true (λ k hit. rw (beside k hit) refl) ms
+
+-- how far the marks of branches and bookmarks go
+
+module _ (p : Plan) (found sorted : List Mark) (sound : IsSound p)
+    (first : found ≡ but_start (flat_map branch_marks p.branches) ++ but_start (map bookmark_mark p.bookmarks))
+    (same : IsPermutation found sorted) where
+  reached_beside : (b g : ℕ) → 0 < g → (k : Mark) → reaches (mark_at b g) k ≡ true → is_start k ≡ false
+  reached_beside b g up k hit =
+      let parts = and_parts (k.branch == b) (nat_le g k.generation) hit in
+      let le = true_le g k.generation parts.1 in
+      above_start k (omega (arith, up, le))
+
+  -- each branch that is there reaches as far
+  far_is : (b : ℕ) → has_branch p.branches b ≡ true → far_of sorted b ≡ reach p b
+  far_is b there =
+      far_reach p b sorted sound there
+      (λ g up.
+      let q : Mark → Bool = reaches (mark_at b g) in
+      sym (list_any-IsPermutation q found sorted same)
+      ∙ ap (list_any q) first
+      ∙ list_any-append q (but_start (flat_map branch_marks p.branches)) (but_start (map bookmark_mark p.bookmarks))
+      ∙ ap₂ (λ a b. a || b) (any_but q (flat_map branch_marks p.branches) (reached_beside b g up))
+      (any_but q (map bookmark_mark p.bookmarks) (reached_beside b g up)))
+
+  -- and so does that of each intervention
+  pub far_each : AllByRecursion (λ (i : Intervention). far_of sorted i.branch ≡ reach p i.branch) p.interventions
+  far_each =
+      all_so (λ (i : Intervention). IsPlaced p.branches i.branch (first_of i.acts))
+      (λ (i : Intervention). far_of sorted i.branch ≡ reach p i.branch) p.interventions
+      (λ i placed. far_is i.branch placed.there) sound.branches_sound.interventions_placed
+
+  -- so what repeats makes as many marks
+  pub few_acting : marks_within (far_of sorted) p.interventions ≡ repeat_marks p
+  few_acting = as_many (far_of sorted) (reach p) p.interventions far_each
+    where
+      as_many : (far reaches : ℕ → ℕ) (is : List Intervention)
+          → AllByRecursion (λ (i : Intervention). far i.branch ≡ reaches i.branch) is
+          → marks_within far is ≡ marks_within reaches is
+      as_many far reaches [] same = refl
+      as_many far reaches (i ∷ is) same =
+          sum_by-cons (λ (j : Intervention). marks_to (far j.branch) j.acts) i is
+          ∙ ap₂ (λ m n. m + n) (ap (λ n. marks_to n i.acts) same.0) (as_many far reaches is same.1)
+          ∙ sym (sum_by-cons (λ (j : Intervention). marks_to (reaches j.branch) j.acts) i is)
+
+  -- all are near enough
+  fit_sorted : AllByRecursion IsFit sorted
+  fit_sorted =
+      moved IsFit found sorted same
+      (subst (AllByRecursion IsFit) (sym first)
+      (all_append IsFit (but_start (flat_map branch_marks p.branches)) (but_start (map bookmark_mark p.bookmarks))
+      (fit_but (flat_map branch_marks p.branches) (near_branches p.branches p.branches sound.branches_sound.forked))
+      (fit_but (map bookmark_mark p.bookmarks) (near_bookmarks p.bookmarks sound.bookmarks_near))))
+
+  pub near_sorted : AllByRecursion (λ (m : Mark). m.generation ≤ 2 ^ 60) sorted
+  near_sorted = all_near sorted fit_sorted
+
+  -- those of interventions too
+  pub fits : AllByRecursion IsFit (sorted ++ but_start (flat_map (acting_marks (far_of sorted)) p.interventions))
+  fits =
+      all_append IsFit sorted (but_start (flat_map (acting_marks (far_of sorted)) p.interventions)) fit_sorted
+      (fit_but (flat_map (acting_marks (far_of sorted)) p.interventions)
+      (near_interventions (far_of sorted) p.interventions (λ b. far_near sorted b (2 ^ 60) near_sorted)))
+
+-- which marks these are
 
 module _ (p : Plan) (m : Mark) (sound : IsSound p) (beside : is_start m ≡ false) where
   other_start : (k : Mark) → is_same k m ≡ true → is_start k ≡ false
@@ -221,64 +286,58 @@ module _ (p : Plan) (m : Mark) (sound : IsSound p) (beside : is_start m ≡ fals
       each (x ∷ xs) = ap₂ (λ a b. a || b) (joined (x.id == m.branch) (x.parent == m.branch) (x.fork == m.generation))
           (each xs)
 
-  -- a branch in which an intervention acts is there
-  acting_there : list_any (λ (i : Intervention). acts_at i m.branch m.generation) p.interventions ≡ true
-      → has_branch p.branches m.branch ≡ true
-  acting_there acts =
-      any_so (λ (i : Intervention). acts_at i m.branch m.generation)
-      (λ (i : Intervention). IsPlaced p.branches i.branch i.generation) p.interventions
-      (λ i placed hit. let same = and_parts (i.branch == m.branch) (i.generation == m.generation) hit in
-      subst (λ n. has_branch p.branches n ≡ true) (true_eq i.branch m.branch same.0) placed.there)
-      sound.branches_sound.interventions_placed acts
+  -- of one intervention
+  own_acts : (far : ℕ) (i : Intervention) → list_any (λ n. is_same n m)
+      (map (mark_at i.branch) (generations_to far i.acts))
+      ≡ (i.branch == m.branch && (acts_on i.acts m.generation && nat_le m.generation far))
+  own_acts far i =
+      any_map (mark_at i.branch) (λ n. is_same n m) (generations_to far i.acts)
+      ∙ any_and (i.branch == m.branch) (λ k. k == m.generation) (generations_to far i.acts)
+      ∙ ap (λ t. i.branch == m.branch && t) (any-generations far i.acts m.generation)
 
-  reached_beside : (k : Mark) → reaches m k ≡ true → is_start k ≡ false
-  reached_beside k hit =
-      let parts = and_parts (k.branch == m.branch) (nat_le m.generation k.generation) hit in
-      let b = true_eq k.branch m.branch parts.0 in
-      let g = true_le m.generation k.generation parts.1 in
-      either_way (is_start k)
-      (λ start.
-      let zero : k.branch ≡ 0 = ap (λ (n : Mark). n.branch) (start_is k start) in
-      let low : k.generation ≡ 0 = ap (λ (n : Mark). n.generation) (start_is k start) in
-      clash (is_start m)
-      (rw (eq_true m.branch 0 (omega (arith, b, zero)), eq_true m.generation 0 (omega (arith, g, low))) refl) beside)
-      (λ off. off)
-
-  reached_is : (found sorted : List Mark) → found ≡ but_start (flat_map branch_marks p.branches) ++ but_start
-      (map bookmark_mark p.bookmarks) → IsPermutation found sorted → has_branch p.branches m.branch ≡ true
-      → is_reached sorted m ≡ nat_le m.generation (reach p m.branch)
-  reached_is found sorted all same there =
-      sym (list_any-IsPermutation (reaches m) found sorted same)
-      ∙ ap (list_any (reaches m)) all
-      ∙ list_any-append (reaches m) (but_start (flat_map branch_marks p.branches))
-      (but_start (map bookmark_mark p.bookmarks))
-      ∙ ap₂ (λ a b. a || b) (any_but (reaches m) (flat_map branch_marks p.branches) reached_beside)
-      (any_but (reaches m) (map bookmark_mark p.bookmarks) reached_beside)
-      ∙ reach_is p m sound there beside
-
-  acts : (found sorted : List Mark) → found ≡ but_start (flat_map branch_marks p.branches) ++ but_start
-      (map bookmark_mark p.bookmarks) → IsPermutation found sorted
-      → list_any (λ n. is_same n m) (but_start (filter (is_reached sorted) (map intervention_mark p.interventions))) ≡
-      (nat_le m.generation (reach p m.branch) && list_any
-      (λ (i : Intervention). acts_at i m.branch m.generation) p.interventions)
-  acts found sorted all same =
-      any_but (λ n. is_same n m) (filter (is_reached sorted) (map intervention_mark p.interventions)) other_start
-      ∙ any-filter_same (λ n. is_same n m) (is_reached sorted) (is_reached sorted m)
-      (λ k hit. ap (is_reached sorted) (same_mark k m hit)) (map intervention_mark p.interventions)
-      ∙ ap (λ b. is_reached sorted m && b) (any_map intervention_mark (λ n. is_same n m) p.interventions)
-      ∙ either_way (list_any (λ (i : Intervention). acts_at i m.branch m.generation) p.interventions)
-      (λ hit. ap (λ b. b && list_any (λ (i : Intervention). acts_at i m.branch m.generation) p.interventions)
-      (reached_is found sorted all same (acting_there hit)))
-      (λ miss. rw miss (never (is_reached sorted m) ∙ sym (never (nat_le m.generation (reach p m.branch)))))
+  -- and of all, where it is said how far each of their branches reaches
+  acts : (far : ℕ → ℕ) (is : List Intervention)
+      → AllByRecursion (λ (i : Intervention). far i.branch ≡ reach p i.branch) is
+      → list_any (λ n. is_same n m) (flat_map (acting_marks far) is)
+      ≡ (nat_le m.generation (reach p m.branch) && list_any
+      (λ (i : Intervention). acts_at i m.branch m.generation) is)
+  acts far [] same = sym (never (nat_le m.generation (reach p m.branch)))
     where
       never : (b : Bool) → (b && false) ≡ false
       never true = refl
       never false = refl
+  acts far (i ∷ is) same =
+      list_any-append (λ n. is_same n m) (acting_marks far i) (flat_map (acting_marks far) is)
+      ∙ ap₂ (λ a b. a || b)
+      (own_acts (far i.branch) i
+      ∙ either_way (i.branch == m.branch)
+      (λ hit.
+      let as_far : far i.branch ≡ reach p m.branch = same.0 ∙ ap (reach p) (true_eq i.branch m.branch hit) in
+      rw hit (ap (λ n. acts_on i.acts m.generation && nat_le m.generation n) as_far
+      ∙ turned (acts_on i.acts m.generation) (nat_le m.generation (reach p m.branch))))
+      (λ miss. rw miss (sym (nothing (nat_le m.generation (reach p m.branch))))))
+      (acts far is same.1)
+      ∙ both (nat_le m.generation (reach p m.branch)) (acts_at i m.branch m.generation)
+      (list_any (λ (j : Intervention). acts_at j m.branch m.generation) is)
+    where
+      turned : (a b : Bool) → (a && b) ≡ (b && a)
+      turned true true = refl
+      turned true false = refl
+      turned false true = refl
+      turned false false = refl
+
+      nothing : (b : Bool) → (b && false) ≡ false
+      nothing true = refl
+      nothing false = refl
+
+      both : (a b c : Bool) → ((a && b) || (a && c)) ≡ (a && (b || c))
+      both true b c = refl
+      both false b c = refl
 
   pub marks_are : (found sorted all again : List Mark)
       → found ≡ but_start (flat_map branch_marks p.branches) ++ but_start (map bookmark_mark p.bookmarks)
       → IsPermutation found sorted
-      → all ≡ sorted ++ but_start (filter (is_reached sorted) (map intervention_mark p.interventions))
+      → all ≡ sorted ++ but_start (flat_map (acting_marks (far_of sorted)) p.interventions)
       → IsPermutation all again
       → list_any (λ n. is_same n m) (dedup is_same again) ≡ is_mark p m
   marks_are found sorted all again first same second then_same =
@@ -286,16 +345,16 @@ module _ (p : Plan) (m : Mark) (sound : IsSound p) (beside : is_start m ≡ fals
       any_once q again
       ∙ sym (list_any-IsPermutation q all again then_same)
       ∙ ap (list_any q) second
-      ∙ list_any-append q sorted (but_start (filter (is_reached sorted) (map intervention_mark p.interventions)))
+      ∙ list_any-append q sorted (but_start (flat_map (acting_marks (far_of sorted)) p.interventions))
       ∙ ap₂ (λ a b. a || b)
       (sym (list_any-IsPermutation q found sorted same) ∙ ap (list_any q) first
       ∙ list_any-append q (but_start (flat_map branch_marks p.branches)) (but_start (map bookmark_mark p.bookmarks))
       ∙ ap₂ (λ a b. a || b) (any_but q (flat_map branch_marks p.branches) other_start ∙ forks)
       (any_but q (map bookmark_mark p.bookmarks) other_start ∙ any_map bookmark_mark q p.bookmarks))
-      (acts found sorted first same)
+      (any_but q (flat_map (acting_marks (far_of sorted)) p.interventions) other_start
+      ∙ acts (far_of sorted) p.interventions (far_each p found sorted sound first same))
       ∙ parted (is_start m) (list_any (λ x. forks_at x m) p.branches) (list_any (λ b. stands_at b m) p.bookmarks)
-      (nat_le m.generation (reach p m.branch) && list_any
-      (λ (i : Intervention). acts_at i m.branch m.generation) p.interventions) beside
+      (acts_within p m) beside
     where
       parted : (s a b c : Bool) → s ≡ false → ((a || b) || c) ≡ ((s || a) || (b || c))
       parted s true b c off = rw off refl
@@ -305,11 +364,13 @@ module _ (p : Plan) (m : Mark) (sound : IsSound p) (beside : is_start m ≡ fals
 pub AreMarksOf-once : (p : Plan) (found sorted all again once : List Mark) → IsSound p
     → found ≡ but_start (flat_map branch_marks p.branches) ++ but_start (map bookmark_mark p.bookmarks)
     → IsPermutation found sorted → length sorted ≡ length found
-    → all ≡ sorted ++ but_start (filter (is_reached sorted) (map intervention_mark p.interventions))
+    → all ≡ sorted ++ but_start (flat_map (acting_marks (far_of sorted)) p.interventions)
     → IsPermutation all again → IsNonDecreasingBy mark_rank again → once ≡ dedup is_same again
     → length once ≤ length all → AreMarksOf p once
 AreMarksOf-once p found sorted all again once sound first same long second then_same up left short =
-    let fit = fits p found sorted all again sound first same second then_same in
+    let fit =
+    moved IsFit all again then_same
+    (subst (AllByRecursion IsFit) (sym second) (fits p found sorted sound first same)) in
     record {
       rise = subst (IdsRise mark_rank) (sym left) (rise_once again (never_fall again up) fit);
       near = subst (AllByRecursion IsNear) (sym left) (all_near (dedup is_same again) (all_once IsFit again fit));
@@ -321,25 +382,17 @@ AreMarksOf-once p found sorted all again once sound first same long second then_
           let a = ap length first ∙ length-append (but_start (flat_map branch_marks p.branches))
           (but_start (map bookmark_mark p.bookmarks)) in
           let b = ap length second
-          ∙ length-append sorted (but_start (filter (is_reached sorted) (map intervention_mark p.interventions))) in
+          ∙ length-append sorted (but_start (flat_map (acting_marks (far_of sorted)) p.interventions)) in
           let forks = few_but (flat_map branch_marks p.branches) in
           let twice = two_each p.branches in
           let stand = few_but (map bookmark_mark p.bookmarks) in
           let stands = length-map p.bookmarks bookmark_mark in
-          let act = few_but (filter (is_reached sorted) (map intervention_mark p.interventions)) in
-          let acting = length-filter_le (is_reached sorted) (map intervention_mark p.interventions) in
-          let acts = length-map p.interventions intervention_mark in
-          omega (arith, a, b, forks, twice, stand, stands, act, acting, acts, long, short);
+          let act = few_but (flat_map (acting_marks (far_of sorted)) p.interventions) in
+          let acts = few_each (far_of sorted) p.interventions in
+          let most = few_acting p found sorted sound first same in
+          omega (arith, a, b, forks, twice, stand, stands, act, acts, most, long, short);
     }
   where
-    all_near : (ms : List Mark) → AllByRecursion IsFit ms → AllByRecursion IsNear ms
-    all_near [] fit = tt
-    all_near (m ∷ ms) fit = (fit.0.near, all_near ms fit.1)
-
-    all_beside : (ms : List Mark) → AllByRecursion IsFit ms → AllByRecursion (λ (m : Mark). is_start m ≡ false) ms
-    all_beside [] fit = tt
-    all_beside (m ∷ ms) fit = (fit.0.beside, all_beside ms fit.1)
-
     few_but : (ms : List Mark) → length (but_start ms) ≤ length ms
     few_but ms = length-filter_le (λ m. not (is_start m)) ms
 
@@ -347,25 +400,13 @@ AreMarksOf-once p found sorted all again once sound first same long second then_
     two_each [] = omega arith
     two_each (x ∷ xs) = let rest = two_each xs in omega (arith, rest)
 
-    fits : (p : Plan) (found sorted all again : List Mark) → IsSound p
-        → found ≡ but_start (flat_map branch_marks p.branches) ++ but_start (map bookmark_mark p.bookmarks)
-        → IsPermutation found sorted
-        → all ≡ sorted ++ but_start (filter (is_reached sorted) (map intervention_mark p.interventions))
-        → IsPermutation all again
-        → AllByRecursion IsFit again
-    fits p found sorted all again sound first same second then_same =
-        let a = fit_but (flat_map branch_marks p.branches)
-        (near_branches p.branches p.branches sound.branches_sound.forked) in
-        let b = fit_but (map bookmark_mark p.bookmarks) (near_bookmarks p.bookmarks sound.bookmarks_near) in
-        let i = fit_but (filter (is_reached sorted) (map intervention_mark p.interventions))
-        (each_filter IsNear (is_reached sorted) (map intervention_mark p.interventions)
-        (near_interventions (states_of p.rule) p.interventions sound.interventions_allowed)) in
-        let low =
-        moved IsFit found sorted same
-        (subst (AllByRecursion IsFit) (sym first)
-        (all_append IsFit (but_start (flat_map branch_marks p.branches))
-        (but_start (map bookmark_mark p.bookmarks)) a b)) in
-        moved IsFit all again then_same
-        (subst (AllByRecursion IsFit) (sym second)
-        (all_append IsFit sorted
-        (but_start (filter (is_reached sorted) (map intervention_mark p.interventions))) low i))
+    few_each : (far : ℕ → ℕ) (is : List Intervention)
+        → length (flat_map (acting_marks far) is) ≤ length is + marks_within far is
+    few_each far [] = omega arith
+    few_each far (i ∷ is) =
+        let rest = few_each far is in
+        let whole = length-append (acting_marks far i) (flat_map (acting_marks far) is) in
+        let long = length-map (generations_to (far i.branch) i.acts) (mark_at i.branch) in
+        let few = few-generations (far i.branch) i.acts in
+        let sum = sum_by-cons (λ (j : Intervention). marks_to (far j.branch) j.acts) i is in
+        omega (arith, rest, whole, long, few, sum)

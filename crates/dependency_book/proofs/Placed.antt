@@ -1,18 +1,22 @@
 -- Marks and bookmarks by the places of their rows.
-use Rattle.std.proofs.Common.{◌≡◌, ℕ, zero, suc, ◌<◌, ◌≤◌, ◌^◌, ◌∙◌, true, false, nat_le, nat_lt, List, [], ◌∷◌, length, get_or, refl, sym, ap, ap₂, subst, arith, inl, inr, Option, None, Some}
+use Rattle.std.proofs.Common.{◌≡◌, ℕ, zero, suc, ◌-◌, ◌%◌, ◌<◌, ◌≤◌, ◌^◌, ◌∙◌, true, false, nat_le, nat_lt, List, [], ◌∷◌, length, get_or, refl, sym, ap, ap₂, subst, arith, inl, inr, Option, None, Some}
 use Rattle.std.specs.Prelude.{◌==◌, ◌&&◌, ◌||◌, IfSome}
 use Rattle.std.specs.Option.{option_map_or}
 use Rattle.std.specs.List.{list_any, AllByRecursion}
 use Rattle.std.proofs.lemmas.Bool.{and_parts}
 use Rattle.rule_tree.specs.Rule.{states_of}
+use Rattle.schedule.specs.declared.acts.Acts.{Acts}
+use Rattle.schedule.specs.declared.acts.Acts.TheVariants.{Once, Every}
 use Rattle.schedule.specs.declared.branch.Branch.{Branch}
 use Rattle.schedule.specs.declared.document.Bookmark.{Bookmark}
 use Rattle.schedule.specs.declared.document.Intervention.{Intervention}
+use Rattle.schedule.specs.Acts.{IsTimely, acts_on, first_of}
 use Rattle.schedule.specs.Branches.{element_at, fork_of, parent_of, reach}
 use Rattle.schedule.specs.Ids.{branch_id, has_id}
 use Rattle.schedule.specs.Plan.{Plan}
 use Rattle.schedule.specs.Scratch.{acts_at}
 use Rattle.schedule.specs.Sound.{IsSound, IsAllowed, IsForked, IsPlaced}
+use Rattle.schedule.proofs.Shared.Acts.{acts-from}
 use Rattle.schedule.proofs.Shared.Branches.{element_at-is, fork_of-zero}
 use Rattle.dependency_book.specs.declared.mark.Mark.{Mark}
 use Rattle.dependency_book.specs.declared.row.Row.{Row}
@@ -25,7 +29,7 @@ use Rattle.dependency_book.proofs.Listed.{any_so, each_found, found_any, found_l
 use Rattle.dependency_book.proofs.Outs.{ids_rise}
 use Rattle.dependency_book.proofs.Ranks.{above_start, has_mark, rank_branch, rank_generation, rank_is, rank_within, start_is}
 use Rattle.dependency_book.proofs.Standing.{IsNonDecreasingBy-ranked, has, rank_at, rank_rises, above_at, has-row, state_at-row, below_place, from_place, place-has, rank-has}
-use Rattle.dependency_book.proofs.Tests.{either_way, clash, true_eq, false_eq, eq_true, eq_false, true_lt, false_lt}
+use Rattle.dependency_book.proofs.Tests.{either_way, clash, true_eq, false_eq, eq_true, eq_false, true_lt, false_lt, true_le}
 
 -- a row's own rank has its place
 pub place_of-row : {K V : Type 0} (rank : K → ℕ) (rows : List (Row K V)) (k : ℕ) (d : Row K V) → IsRanked rank rows
@@ -103,9 +107,9 @@ mark_placed p m sound there =
     and_parts (nat_le m.generation (reach p m.branch))
     (list_any (λ (i : Intervention). acts_at i m.branch m.generation) p.interventions) acts in
     any_so (λ (i : Intervention). acts_at i m.branch m.generation)
-    (λ (i : Intervention). IsPlaced p.branches i.branch i.generation) p.interventions
-    (λ i placed hit. let same = and_parts (i.branch == m.branch) (i.generation == m.generation) hit in
-    placed_at p i.branch m.branch i.generation m.generation same.0 same.1 placed)
+    (λ (i : Intervention). IsPlaced p.branches i.branch (first_of i.acts)) p.interventions
+    (λ i placed hit. let same = and_parts (i.branch == m.branch) (acts_on i.acts m.generation) hit in
+    placed_later p i.branch m.branch (first_of i.acts) m.generation same.0 (acts-from i.acts m.generation same.1) placed)
     all.interventions_placed parts.1)))
   where
     placed_at : (p : Plan) (b c g h : ℕ) → (b == c) ≡ true → (g == h) ≡ true → IsPlaced p.branches b g
@@ -113,6 +117,11 @@ mark_placed p m sound there =
     placed_at p b c g h branch generation placed =
         subst (λ n. IsPlaced p.branches n h) (true_eq b c branch)
         (subst (IsPlaced p.branches b) (true_eq g h generation) placed)
+
+    placed_later : (p : Plan) (b c g h : ℕ) → (b == c) ≡ true → g ≤ h → IsPlaced p.branches b g → IsPlaced p.branches c h
+    placed_later p b c g h branch later placed =
+        subst (λ n. IsPlaced p.branches n h) (true_eq b c branch)
+        (record { there = placed.there; from_fork = (let from = placed.from_fork in omega (arith, from, later)) })
 
     begins : (p : Plan) (x : Branch) → element_at branch_id p.branches x.id ≡ Some x → IsPlaced p.branches x.id x.fork
     begins p x found = record {
@@ -169,6 +178,15 @@ mark_placed p m sound there =
         (λ hit. begins_at p m sound hit)
         (λ miss. leaves_at p m sound (parted p.branches m forks miss))
 
+-- an intervention acts near enough
+timely_near : (acts : Acts) (g : ℕ) → IsTimely acts → acts_on acts g ≡ true → g ≤ 2 ^ 60
+timely_near (Once k) g timely at = subst (λ n. n ≤ 2 ^ 60) (true_eq k g at) timely
+timely_near (Every first every last) g timely at =
+    let ends = (and_parts (nat_le first g) (nat_le g last && (g - first) % every == 0) at).1 in
+    let up = true_le g last (and_parts (nat_le g last) ((g - first) % every == 0) ends).0 in
+    let near : last ≤ 2 ^ 60 = timely.2 in
+    omega (arith, up, near)
+
 -- each is near enough
 pub mark_near : (p : Plan) (m : Mark) → IsSound p → is_mark p m ≡ true → m.generation ≤ 2 ^ 60
 mark_near p m sound there =
@@ -194,8 +212,8 @@ mark_near p m sound there =
     and_parts (nat_le m.generation (reach p m.branch))
     (list_any (λ (i : Intervention). acts_at i m.branch m.generation) p.interventions) acts in
     any_so (λ (i : Intervention). acts_at i m.branch m.generation) (IsAllowed (states_of p.rule)) p.interventions
-    (λ i allowed hit. let same = and_parts (i.branch == m.branch) (i.generation == m.generation) hit in
-    subst (λ n. n ≤ 2 ^ 60) (true_eq i.generation m.generation same.1) allowed.near)
+    (λ i allowed hit. let same = and_parts (i.branch == m.branch) (acts_on i.acts m.generation) hit in
+    timely_near i.acts m.generation allowed.timely same.1)
     sound.interventions_allowed parts.1)))
 
 -- one mark alone comes before another

@@ -58,6 +58,10 @@ pub rank_within : (m n : Mark) → m.branch ≡ n.branch → n.generation ≤ 2 
     → mark_rank m < mark_rank n
 rank_within m n same near less = omega (arith, same, near, less)
 
+pub rank_reaches : (m n : Mark) → m.branch ≡ n.branch → m.generation ≤ 2 ^ 60 → mark_rank m ≤ mark_rank n
+    → m.generation ≤ n.generation
+rank_reaches m n same near le = omega (arith, same, near, le)
+
 -- only the start has rank 0
 pub rank_zero : (m : Mark) → mark_rank m ≡ 0 → is_start m ≡ true
 rank_zero m zero =

@@ -1,8 +1,8 @@
--- Marks that branches and bookmarks reach, and the reach of a branch.
-use Rattle.std.proofs.Common.{◌≡◌, ℕ, ◌<◌, ◌≤◌, ◌^◌, ◌∙◌, Bool, true, false, nat_le, List, [], ◌∷◌, length, map, get_or, refl, sym, ap, ap₂, subst, inl, inr, arith, Option, None, Some}
-use Rattle.std.specs.Prelude.{◌==◌, ◌&&◌, ◌||◌, flat_map}
+-- Marks that branches and bookmarks reach, how far they go, and the reach of a branch.
+use Rattle.std.proofs.Common.{◌≡◌, ℕ, ◌<◌, ◌≤◌, ◌∙◌, Bool, true, false, nat_le, nat_lt, List, [], ◌∷◌, length, map, get_or, refl, sym, ap, ap₂, subst, inl, inr, arith, Option, None, Some}
+use Rattle.std.specs.Prelude.{◌==◌, ◌&&◌, ◌||◌, flat_map, fold, max, if◌then◌else◌}
 use Rattle.std.specs.Option.{option_map_or}
-use Rattle.std.specs.List.{list_any}
+use Rattle.std.specs.List.{AllByRecursion, list_any}
 use Rattle.std.proofs.lemmas.Bool.{and_parts, or_left, or_right}
 use Rattle.std.proofs.lemmas.List.Folds.{list_any_at, list_any_none}
 use Rattle.schedule.specs.declared.branch.Branch.{Branch}
@@ -13,21 +13,16 @@ use Rattle.schedule.specs.Laws.{IsReach}
 use Rattle.schedule.specs.Plan.{Plan}
 use Rattle.schedule.specs.Sound.{IsSound}
 use Rattle.schedule.proofs.Shared.Reach.{reach-greatest}
-use Rattle.dependency_book.specs.AllMarks.{is_reached}
+use Rattle.dependency_book.specs.AllMarks.{far_of}
 use Rattle.dependency_book.specs.declared.mark.Mark.{Mark}
 use Rattle.dependency_book.specs.Marks.{bookmark_mark, branch_marks, is_start, mark_at}
-use Rattle.dependency_book.specs.Rows.{mark_rank}
 use Rattle.dependency_book.proofs.Listed.{all_both, any_so, each_found, found_any, none_listed}
-use Rattle.dependency_book.proofs.Ranks.{rank_branch, rank_generation}
-use Rattle.dependency_book.proofs.Tests.{either_way, clash, eq_true, eq_false, true_eq, false_eq, true_le, le_true}
+use Rattle.dependency_book.proofs.Ranks.{above_start}
+use Rattle.dependency_book.proofs.Tests.{either_way, clash, eq_true, eq_false, true_eq, true_le, false_le, le_true, le_false, true_lt, false_lt}
 
 -- whether a mark reaches another: it is in the same branch, at the other or above
 abbrev pub reaches : Mark → Mark → Bool
 reaches m n = n.branch == m.branch && nat_le m.generation n.generation
-
-le_false : (m n : ℕ) → n < m → nat_le m n ≡ false
-le_false m n less = either_way (nat_le m n) (λ hit. absurd (let le = true_le m n hit in omega (arith, le, less)))
-    (λ miss. miss)
 
 -- two tests that say the same
 pub as_one : (a b : Bool) → (a ≡ true → b ≡ true) → (b ≡ true → a ≡ true) → a ≡ b
@@ -47,6 +42,11 @@ pub any_map : {X Y : Type 0} (f : X → Y) (q : Y → Bool) (xs : List X)
     → list_any q (map f xs) ≡ list_any (λ x. q (f x)) xs
 any_map f q [] = refl
 any_map f q (x ∷ xs) = ap (λ b. q (f x) || b) (any_map f q xs)
+
+pub any_and : {X : Type 0} (b : Bool) (q : X → Bool) (xs : List X) → list_any (λ x. b && q x) xs ≡ (b && list_any q xs)
+any_and true q xs = refl
+any_and false q [] = refl
+any_and false q (x ∷ xs) = any_and false q xs
 
 -- a branch's marks
 pub any_branches : (q : Mark → Bool) (xs : List Branch) → list_any q (flat_map branch_marks xs) ≡ list_any
@@ -199,33 +199,119 @@ module _ (p : Plan) (m : Mark) (sound : IsSound p) (there : has_branch p.branche
       (λ miss. le_true m.generation (reach p m.branch) (bookmark_low (rw miss at any))))
       (λ le. reached_by (true_le m.generation (reach p m.branch) le))
 
--- a mark is reached by marks that don't fall if the first that isn't below it is in its branch
+-- how far marks go in a branch
 
-pub reached_at : (marks : List Mark) (m : Mark) (k : ℕ) (d : Mark) → m.generation < 2 ^ 64 → k < length marks
-    → mark_rank m ≤ mark_rank (get_or marks k d) → (get_or marks k d).branch ≡ m.branch → is_reached marks m ≡ true
-reached_at marks m k d small low up same =
+-- the greatest so far, from a number on
+abbrev far_from : ℕ → ℕ → List Mark → ℕ
+far_from n b marks = fold (λ far (m : Mark). if m.branch == b then max far m.generation else far) n marks
+
+-- they reach each generation of the branch up to there
+far_reaches : (n b g : ℕ) (marks : List Mark)
+    → (nat_le g n || list_any (reaches (mark_at b g)) marks) ≡ nat_le g (far_from n b marks)
+far_reaches n b g [] = or_none (nat_le g n)
+  where
+    or_none : (t : Bool) → (t || false) ≡ t
+    or_none true = refl
+    or_none false = refl
+far_reaches n b g (m ∷ ms) =
+    either_way (m.branch == b)
+    (λ hit. rw hit
+    (regroup (nat_le g n) (nat_le g m.generation) (list_any (reaches (mark_at b g)) ms)
+    ∙ ap (λ t. t || list_any (reaches (mark_at b g)) ms) (up_to g n m.generation)
+    ∙ far_reaches (max n m.generation) b g ms))
+    (λ miss. rw miss (far_reaches n b g ms))
+  where
+    regroup : (s t u : Bool) → (s || (t || u)) ≡ ((s || t) || u)
+    regroup true t u = refl
+    regroup false t u = refl
+
+    up_to : (g n k : ℕ) → (nat_le g n || nat_le g k) ≡ nat_le g (max n k)
+    up_to g n k =
+        as_one (nat_le g n || nat_le g k) (nat_le g (max n k))
+        (λ any. le_true g (max n k) (either_way (nat_le g n)
+        (λ hit. let le = true_le g n hit in omega (arith, le))
+        (λ miss. let le = true_le g k (rw miss at any) in omega (arith, le))))
+        (λ le. let high = true_le g (max n k) le in
+        either_way (nat_le g n)
+        (λ hit. rw hit refl)
+        (λ miss. rw miss (le_true g k (let low = false_le g n miss in omega (arith, high, low)))))
+
+pub far-any : (marks : List Mark) (b g : ℕ) → 0 < g
+    → list_any (reaches (mark_at b g)) marks ≡ nat_le g (far_of marks b)
+far-any marks b g up = ap (λ t. t || list_any (reaches (mark_at b g)) marks) (sym (le_false g 0 up))
+    ∙ far_reaches 0 b g marks
+
+-- two numbers above which there are the same ones are one
+same_far : (m n : ℕ) → ((g : ℕ) → 0 < g → nat_le g m ≡ nat_le g n) → m ≡ n
+same_far m n same =
+    either_way (nat_lt m n)
+    (λ hit. let less = true_lt m n hit in
+    absurd (let le = true_le n m (same n (omega (arith, less)) ∙ le_true n n (omega arith)) in omega (arith, le, less)))
+    (λ miss.
+    let low = false_lt m n miss in
+    either_way (nat_lt n m)
+    (λ hit. let less = true_lt n m hit in
+    absurd (let le = true_le m n (sym (same m (omega (arith, less))) ∙ le_true m m (omega arith)) in
+    omega (arith, le, less)))
+    (λ none. let high = false_lt n m none in omega (arith, low, high)))
+
+-- marks go as far as one that no other of the branch is beyond
+pub far_at : (marks : List Mark) (b k : ℕ) (d : Mark) → k < length marks → (get_or marks k d).branch ≡ b
+    → ((j : ℕ) (e : Mark) → j < length marks → (get_or marks j e).branch ≡ b
+    → (get_or marks j e).generation ≤ (get_or marks k d).generation)
+    → far_of marks b ≡ (get_or marks k d).generation
+far_at marks b k d low own greatest =
     let n = get_or marks k d in
-    let le : m.generation ≤ n.generation = omega (arith, small, up, same) in
-    list_any_at (reaches m) marks k d low
-    (rw (eq_true n.branch m.branch same, le_true m.generation n.generation le) refl)
+    same_far (far_of marks b) n.generation
+    (λ g up.
+    sym (far-any marks b g up)
+    ∙ either_way (nat_le g n.generation)
+    (λ hit. list_any_at (reaches (mark_at b g)) marks k d low (rw (eq_true n.branch b own, hit) refl) ∙ sym hit)
+    (λ miss.
+    list_any_none (reaches (mark_at b g)) marks
+    (λ j e fits. beyond g b n.generation (get_or marks j e) miss (greatest j e fits)) ∙ sym miss))
+  where
+    beyond : (g b far : ℕ) (m : Mark) → nat_le g far ≡ false → (m.branch ≡ b → m.generation ≤ far)
+        → reaches (mark_at b g) m ≡ false
+    beyond g b far m miss greatest =
+        either_way (m.branch == b)
+        (λ hit. rw hit
+        (le_false g m.generation
+        (let le = greatest (true_eq m.branch b hit) in let over = false_le g far miss in omega (arith, le, over))))
+        (λ off. rw off refl)
 
--- no mark of a lesser rank reaches it
-pub below_misses : (m n : Mark) → mark_rank n < mark_rank m → reaches m n ≡ false
-below_misses m n less =
-    either_way (n.branch == m.branch)
-    (λ hit. let lt = rank_generation n m (true_eq n.branch m.branch hit) less in
-    rw (hit, le_false m.generation n.generation lt) refl)
-    (λ miss. rw miss refl)
+-- and to 0 where none is of the branch
+pub far_none : (marks : List Mark) (b : ℕ)
+    → ((j : ℕ) (e : Mark) → j < length marks → (get_or marks j e).branch ≡ b → ⊥) → far_of marks b ≡ 0
+far_none marks b none =
+    same_far (far_of marks b) 0
+    (λ g up.
+    sym (far-any marks b g up)
+    ∙ list_any_none (reaches (mark_at b g)) marks
+    (λ j e fits. rw (eq_false (get_or marks j e).branch b (none j e fits)) refl)
+    ∙ sym (le_false g 0 up))
 
--- nor does one after a mark of a later branch
-pub above_misses : (m n o : Mark) → mark_rank m ≤ mark_rank n → (n.branch == m.branch) ≡ false
-    → mark_rank n ≤ mark_rank o → reaches m o ≡ false
-above_misses m n o up other more =
-    let a = rank_branch m n up in
-    let b = rank_branch n o more in
-    let c = false_eq n.branch m.branch other in
-    rw (eq_false o.branch m.branch (λ same. omega (arith, a, b, c, same))) refl
+-- they go no further than each of them
+pub far_near : (marks : List Mark) (b most : ℕ) → AllByRecursion (λ (m : Mark). m.generation ≤ most) marks
+    → far_of marks b ≤ most
+far_near marks b most near = from 0 marks (omega arith) near
+  where
+    from : (n : ℕ) (marks : List Mark) → n ≤ most → AllByRecursion (λ (m : Mark). m.generation ≤ most) marks
+        → far_from n b marks ≤ most
+    from n [] low near = low
+    from n (m ∷ ms) low near =
+        either_way (m.branch == b)
+        (λ hit. rw hit
+        (from (max n m.generation) ms (let le : m.generation ≤ most = near.0 in omega (arith, low, le)) near.1))
+        (λ miss. rw miss (from n ms low near.1))
 
-pub unreached : (marks : List Mark) (m : Mark)
-    → ((j : ℕ) (d : Mark) → j < length marks → reaches m (get_or marks j d) ≡ false) → is_reached marks m ≡ false
-unreached marks m none = list_any_none (reaches m) marks none
+-- the ends of branches and the bookmarks go as far as a branch that is there reaches
+pub far_reach : (p : Plan) (b : ℕ) (marks : List Mark) → IsSound p → has_branch p.branches b ≡ true
+    → ((g : ℕ) → 0 < g → list_any (reaches (mark_at b g)) marks
+    ≡ (list_any (reaches (mark_at b g)) (flat_map branch_marks p.branches)
+    || list_any (reaches (mark_at b g)) (map bookmark_mark p.bookmarks)))
+    → far_of marks b ≡ reach p b
+far_reach p b marks sound there are =
+    same_far (far_of marks b) (reach p b)
+    (λ g up. sym (far-any marks b g up) ∙ are g up
+    ∙ reach_is p (mark_at b g) sound there (above_start (mark_at b g) up))

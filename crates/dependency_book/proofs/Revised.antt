@@ -242,7 +242,7 @@ pub accepted : (o : Option EditFault) (c e : Changed) → unless_refused o c ≡
 accepted None c e h = cc
 accepted (Some fault) c e h = absurd cc
 
-unrefused : (o : Option EditFault) (c e : Changed) → unless_refused o c ≡ Ok e → o ≡ None
+pub unrefused : (o : Option EditFault) (c e : Changed) → unless_refused o c ≡ Ok e → o ≡ None
 unrefused None c e h = refl
 unrefused (Some fault) c e h = absurd cc
 

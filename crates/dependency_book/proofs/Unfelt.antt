@@ -1,35 +1,51 @@
 -- An edit of interventions that is felt nowhere.
-use Rattle.std.proofs.Common.{◌≡◌, ℕ, ◌∙◌, ◌++◌, Bool, false, List, [], ◌∷◌, refl, sym, ap, subst, Option, None, Some, append-nil}
+use Rattle.std.proofs.Common.{◌≡◌, ℕ, ◌≤◌, ◌∙◌, ◌++◌, Bool, true, ◌&&◌, nat_le, List, [], ◌∷◌, refl, sym, ap, subst, Option, None, Some, append-nil}
 use Rattle.std.specs.Prelude.{◌==◌, ◌↔◌, IsTrue, if◌then◌else◌, flat_map}
+use Rattle.std.specs.List.{AllByRecursion, list_any}
+use Rattle.std.proofs.lemmas.Bool.{and_from, and_parts, or_right}
 use Rattle.std.proofs.lemmas.Grind.{flat_map-append}
 use Rattle.worlds.specs.declared.cell.CellSet.{CellSet}
 use Rattle.worlds.specs.World.{World}
 use Rattle.worlds.specs.Lay.{lay}
+use Rattle.schedule.specs.declared.acts.Acts.{Acts}
+use Rattle.schedule.specs.declared.acts.Acts.TheVariants.{Once, Every}
 use Rattle.schedule.specs.declared.document.Intervention.{Intervention}
-use Rattle.schedule.specs.Plan.{Plan}
-use Rattle.schedule.specs.Alike.{LayAlike}
-use Rattle.schedule.specs.Asked.{Asked, InsertIntervention, ChangeIntervention, RemoveIntervention, SetCells, ReplaceStart, ReplaceRule, AddBookmark, MoveBookmark, RemoveBookmark, AddBranch, RemoveBranch}
+use Rattle.schedule.specs.Acts.{acts_on, generations_to}
+use Rattle.schedule.specs.Alike.{LayAlikeWithin}
+use Rattle.schedule.specs.Asked.{Asked, InsertIntervention, ChangeIntervention, InsertRepeat, ChangeRepeat, RemoveIntervention, SetCells, ReplaceStart, ReplaceRule, AddBookmark, MoveBookmark, RemoveBookmark, AddBranch, RemoveBranch}
+use Rattle.schedule.specs.Branches.{reach}
 use Rattle.schedule.specs.Change.{acting, changed, next_intervention}
 use Rattle.schedule.specs.Ids.{intervention_id, changed_at, without}
+use Rattle.schedule.specs.Plan.{Plan}
 use Rattle.schedule.specs.Scratch.{arrival, after}
 use Rattle.schedule.specs.Sound.{IsSound}
+use Rattle.schedule.proofs.Shared.Acts.{any-generations}
 use Rattle.dependency_book.specs.declared.mark.Mark.{Mark}
+use Rattle.dependency_book.specs.declared.touched.Touched.{Touched}
 use Rattle.dependency_book.specs.BookState.{BookState, arrival_known}
-use Rattle.dependency_book.specs.Felt.{BookIsUnfeltAt, IsUnfelt, LayAlikeOn, cells_after, cells_of, mark_of, moved_mark, own_cells_after, own_cells_of}
-use Rattle.dependency_book.specs.Marks.{is_same, mark_at}
-use Rattle.dependency_book.proofs.Leaves.{same_inserted, same_changed, same_removed}
+use Rattle.dependency_book.specs.Felt.{BookIsUnfelt, BookIsUnfeltAt, BookIsUnfeltWhere, IsUnfelt, IsUnfeltAt, IsUnfeltWhere, LayAlikeOn, UnfeltTouch, cells_after, cells_if_at, cells_of, own_cells_after, own_cells_of, touched_by}
+use Rattle.dependency_book.specs.Marks.{mark_at}
+use Rattle.dependency_book.proofs.Listed.{any_so}
 use Rattle.dependency_book.proofs.Shared.Gives.{Arrives}
-use Rattle.dependency_book.proofs.Ranks.{same_mark}
-use Rattle.dependency_book.proofs.Tests.{either_way}
+use Rattle.dependency_book.proofs.Tests.{either_way, eq_true, le_true, true_eq, true_le}
+use Rattle.dependency_book.proofs.Touching.{SameUntouched, untouched}
 
 -- the cells that are set after an edit
 
-changed_cells : (is : List Intervention) (id g : ℕ) (cells : List CellSet) (m : Mark)
-    → flat_map (λ i. own_cells_after (ChangeIntervention id g cells) i m) is ≡ cells_of
-    (changed_at intervention_id (acting g cells) is id) m
-changed_cells [] id g cells m = refl
-changed_cells (i ∷ is) id g cells m = ap (λ more. own_cells_of (if i.id == id then acting g cells i else i) m ++ more)
-    (changed_cells is id g cells m)
+inserted_cells : (p : Plan) (branch : ℕ) (acts : Acts) (cells : List CellSet) (m : Mark)
+    → cells_of p.interventions m ++ cells_if_at branch acts cells m ≡ cells_of
+    (p.interventions ++ next_intervention p branch acts cells ∷ []) m
+inserted_cells p branch acts cells m =
+    let i : Intervention = next_intervention p branch acts cells in
+    sym (flat_map-append (λ j. own_cells_of j m) p.interventions (i ∷ [])
+    ∙ ap (λ cs. cells_of p.interventions m ++ cs) (append-nil (own_cells_of i m)))
+
+changed_cells : (is : List Intervention) (id : ℕ) (acts : Acts) (cells : List CellSet) (m : Mark)
+    → flat_map (λ i. own_cells_of (if i.id == id then acting acts cells i else i) m) is ≡ cells_of
+    (changed_at intervention_id (acting acts cells) is id) m
+changed_cells [] id acts cells m = refl
+changed_cells (i ∷ is) id acts cells m = ap
+    (λ more. own_cells_of (if i.id == id then acting acts cells i else i) m ++ more) (changed_cells is id acts cells m)
 
 left_cells : (is : List Intervention) (id : ℕ) (m : Mark)
     → flat_map (λ i. own_cells_after (RemoveIntervention id) i m) is ≡ cells_of (without intervention_id is id) m
@@ -41,11 +57,12 @@ left_cells (i ∷ is) id m =
 
 pub cells_after-is : (p : Plan) (asked : Asked) (m : Mark) → cells_after asked p.interventions m ≡ cells_of
     (changed p asked).plan.interventions m
-cells_after-is p (InsertIntervention branch g cells) m =
-    let i : Intervention = next_intervention p branch g cells in
-    sym (flat_map-append (λ j. own_cells_of j m) p.interventions (i ∷ []) ∙ ap (λ cs. cells_of p.interventions m ++ cs)
-    (append-nil (own_cells_of i m)))
-cells_after-is p (ChangeIntervention id g cells) m = append-nil _ ∙ changed_cells p.interventions id g cells m
+cells_after-is p (InsertIntervention branch g cells) m = inserted_cells p branch (Once g) cells m
+cells_after-is p (ChangeIntervention id g cells) m = append-nil _ ∙ changed_cells p.interventions id (Once g) cells m
+cells_after-is p (InsertRepeat branch first every last cells) m =
+    inserted_cells p branch (Every first every last) cells m
+cells_after-is p (ChangeRepeat id first every last cells) m =
+    append-nil _ ∙ changed_cells p.interventions id (Every first every last) cells m
 cells_after-is p (RemoveIntervention id) m = append-nil _ ∙ left_cells p.interventions id m
 cells_after-is p (SetCells cells) m = append-nil _
 cells_after-is p (ReplaceStart start) m = append-nil _
@@ -70,11 +87,68 @@ unfelt_at d asked m w before later old new b known was now laid relaid same =
       λ h. same.1 (here ∙ subst alike known h ∙ sym there),
     )
 
--- or none is known
-pub felt_at : (d : BookState) (asked : Asked) (m : Mark) → arrival_known d m ≡ None → BookIsUnfeltAt d asked m → ⊥
-felt_at d asked m none h =
-    subst (λ o. LayAlikeOn o (cells_of d.plan.interventions m) (cells_of (changed d.plan asked).plan.interventions m))
-    none h
+-- at one generation after another
+
+-- an edit changes no pattern at these generations of a branch
+abbrev pub IsUnfeltEach : BookState → Asked → ℕ → List ℕ → Type 0
+IsUnfeltEach d asked branch gs = AllByRecursion (λ g. BookIsUnfeltAt d asked (mark_at branch g)) gs
+
+each_listed : (P : ℕ → Type 0) (gs : List ℕ) → ((g : ℕ) → list_any (λ k. k == g) gs ≡ true → P g)
+    → AllByRecursion P gs
+each_listed P [] h = tt
+each_listed P (g ∷ gs) h = (
+  h g (rw (eq_true g g refl) refl),
+  each_listed P gs (λ k there. h k (or_right (g == k) (list_any (λ j. j == k) gs) there)),
+)
+
+-- which are those where something acts, as far as the branch reaches
+pub where_each : (d : BookState) (asked : Asked) (branch : ℕ) (acts : Acts) (gs : List ℕ)
+    → gs ≡ generations_to (reach d.plan branch) acts
+    → (IsUnfeltEach d asked branch gs ↔ BookIsUnfeltWhere d asked branch acts)
+where_each d asked branch acts gs are =
+    let far = reach d.plan branch in
+    let P : ℕ → Type 0 = λ g. BookIsUnfeltAt d asked (mark_at branch g) in
+    let among : (g : ℕ) → list_any (λ k. k == g) gs ≡ (acts_on acts g && nat_le g far) =
+    λ g. ap (list_any (λ k. k == g)) are ∙ any-generations far acts g in (
+      λ all g on low.
+          any_so (λ k. k == g) P gs (λ k here hit. subst P (true_eq k g hit) here) all
+          (among g ∙ and_from (acts_on acts g) (nat_le g far) on (le_true g far low)),
+      λ h. each_listed P gs (λ g there. let parts = and_parts (acts_on acts g) (nat_le g far) (sym (among g) ∙ there) in
+          h g parts.0 (true_le g far parts.1)),
+    )
+
+-- the first of them is passed over, or decides, or there is none
+
+pub each_next : {W : Type 0} (d : BookState) (asked : Asked) (branch g : ℕ) (gs rest : List ℕ) → gs ≡ g ∷ rest
+    → BookIsUnfeltAt d asked (mark_at branch g) → (IsUnfeltEach d asked branch gs ↔ W)
+    → (IsUnfeltEach d asked branch rest ↔ W)
+each_next d asked branch g gs rest are here so = (
+  λ all. so.0 (subst (IsUnfeltEach d asked branch) (sym are) (here, all)),
+  λ w. (subst (IsUnfeltEach d asked branch) are (so.1 w)).1,
+)
+
+pub each_felt : {W : Type 0} (d : BookState) (asked : Asked) (branch g : ℕ) (gs rest : List ℕ) → gs ≡ g ∷ rest
+    → (BookIsUnfeltAt d asked (mark_at branch g) → ⊥) → (IsUnfeltEach d asked branch gs ↔ W) → W → ⊥
+each_felt d asked branch g gs rest are felt so w = felt (subst (IsUnfeltEach d asked branch) are (so.1 w)).0
+
+pub each_done : {W : Type 0} (d : BookState) (asked : Asked) (branch : ℕ) (gs : List ℕ) → gs ≡ []
+    → (IsUnfeltEach d asked branch gs ↔ W) → W
+each_done d asked branch gs none so = so.0 (subst (IsUnfeltEach d asked branch) (sym none) tt)
+
+-- an edit is unfelt by what it touches
+pub unfelt_by : (d : BookState) (asked : Asked) (o : Option Touched) → o ≡ touched_by d.plan asked
+    → (UnfeltTouch (arrival_known d) d.plan (changed d.plan asked).plan o ↔ BookIsUnfelt d asked)
+unfelt_by d asked o is =
+    let by : Option Touched → Type 0 = UnfeltTouch (arrival_known d) d.plan (changed d.plan asked).plan in
+    (subst by is, subst by (sym is))
+
+-- where something acts after it, if it is unfelt where that acted before
+pub unfelt_later : (d : BookState) (asked : Asked) (t : Touched) (b : Bool) → Some t ≡ touched_by d.plan asked
+    → BookIsUnfeltWhere d asked t.branch t.was → (IsTrue b ↔ BookIsUnfeltWhere d asked t.branch t.is)
+    → (IsTrue b ↔ BookIsUnfelt d asked)
+unfelt_later d asked t b is was same =
+    let by = unfelt_by d asked (Some t) is in
+    (λ yes. by.0 (was, same.0 yes), λ h. same.1 (by.1 h).1)
 
 -- the lists of two documents lay alike on what arrives in the first at a mark
 abbrev LaysAlike : Plan → Plan → Mark → Type 0
@@ -90,71 +164,56 @@ where_known p q m (Some w) arrives h =
 elsewhere : (p q : Plan) (m : Mark) → cells_of p.interventions m ≡ cells_of q.interventions m → LaysAlike p q m
 elsewhere p q m same = ap (λ cs. lay cs (arrival p m.branch m.generation)) same
 
--- two marks are one or not
-at_or_not : {A : Type 0} (m n : Mark) → (m ≡ n → A) → (is_same m n ≡ false → A) → A
-at_or_not m n hit miss = either_way (is_same m n) (λ e. hit (same_mark m n e)) miss
+-- so they do where something acts, as far as its branch reaches, if it is unfelt there
+where_acting : (p q : Plan) (known : Mark → Option World) (branch : ℕ) (acts : Acts) (m : Mark) → Arrives known p
+    → IsUnfeltWhere known p q branch acts → (branch == m.branch && acts_on acts m.generation) ≡ true
+    → m.generation ≤ reach p m.branch → LaysAlike p q m
+where_acting p q known branch acts m arrives h acting far =
+    let parts = and_parts (branch == m.branch) (acts_on acts m.generation) acting in
+    let here : branch ≡ m.branch = true_eq branch m.branch parts.0 in
+    where_known p q m (known m) (arrives m)
+    (subst (λ b. IsUnfeltAt known p q (mark_at b m.generation)) here
+    (h m.generation parts.1 (subst (λ b. m.generation ≤ reach p b) (sym here) far)))
 
-alike_each : (p : Plan) (known : Mark → Option World) (asked : Asked) (m : Mark) → IsSound p → Arrives known p
-    → IsUnfelt known p asked (changed p asked).plan → LaysAlike p (changed p asked).plan m
-alike_each p known (InsertIntervention branch g cells) m sound arrives h =
-    let i : Intervention = next_intervention p branch g cells in
-    let q = (changed p (InsertIntervention branch g cells)).plan in
-    let to = mark_at branch g in
-    at_or_not to m
-    (λ same. subst (LaysAlike p q) same (where_known p q to (known to) (arrives to) h))
-    (λ apart. elsewhere p q m (same_inserted p.interventions i m.branch m.generation apart))
-alike_each p known (ChangeIntervention id g cells) m sound arrives h =
-    let q = (changed p (ChangeIntervention id g cells)).plan in
-    let was = mark_of p.interventions id in
-    let to = moved_mark p.interventions id g in
-    at_or_not to m
-    (λ same. subst (LaysAlike p q) same (where_known p q to (known to) (arrives to) h.0))
-    (λ apart.
-    at_or_not was m
-    (λ same. subst (LaysAlike p q) same (where_known p q was (known was) (arrives was) h.1))
-    (λ off. elsewhere p q m (same_changed p.interventions id g cells m sound.interventions_rise apart off)))
-alike_each p known (RemoveIntervention id) m sound arrives h =
-    let q = (changed p (RemoveIntervention id)).plan in
-    let was = mark_of p.interventions id in
-    at_or_not was m
-    (λ same. subst (LaysAlike p q) same (where_known p q was (known was) (arrives was) h))
-    (λ off. elsewhere p q m (same_removed p.interventions id m sound.interventions_rise off))
-alike_each p known (SetCells cells) m sound arrives h = absurd h
-alike_each p known (ReplaceStart start) m sound arrives h = absurd h
-alike_each p known (ReplaceRule rule) m sound arrives h = absurd h
-alike_each p known (AddBookmark branch g view) m sound arrives h = absurd h
-alike_each p known (MoveBookmark id g) m sound arrives h = absurd h
-alike_each p known (RemoveBookmark id) m sound arrives h = absurd h
-alike_each p known (AddBranch parent g) m sound arrives h = absurd h
-alike_each p known (RemoveBranch n) m sound arrives h = absurd h
+-- and at each generation that a branch reaches, if what is touched is
+alike_each : (p q : Plan) (known : Mark → Option World) (o : Option Touched) (m : Mark) → Arrives known p
+    → SameUntouched p.interventions q.interventions o → UnfeltTouch known p q o → m.generation ≤ reach p m.branch
+    → LaysAlike p q m
+alike_each p q known None m arrives same h far = absurd h
+alike_each p q known (Some t) m arrives same h far =
+    either_way (t.branch == m.branch && acts_on t.was m.generation)
+    (λ before. where_acting p q known t.branch t.was m arrives h.0 before far)
+    (λ off.
+    either_way (t.branch == m.branch && acts_on t.is m.generation)
+    (λ later. where_acting p q known t.branch t.is m arrives h.1 later far)
+    (λ none. elsewhere p q m (same m.branch m.generation off none)))
 
--- so the document before the edit and the one after it lay alike
+alike : (p : Plan) (known : Mark → Option World) (asked : Asked) → IsSound p → Arrives known p
+    → IsUnfelt known p asked (changed p asked).plan → p.rule ≡ (changed p asked).plan.rule
+    → p.start ≡ (changed p asked).plan.start → p.branches ≡ (changed p asked).plan.branches
+    → LayAlikeWithin p (changed p asked).plan
+alike p known asked sound arrives h rule start branches = record {
+  rule = rule;
+  start = start;
+  branches = branches;
+  lists = λ b g late far.
+      alike_each p (changed p asked).plan known (touched_by p asked) (mark_at b g) arrives (untouched p asked sound) h
+      far;
+}
+
+-- so the document before the edit and the one after it lay alike as far as branches reach
 pub unfelt_alike : (p : Plan) (known : Mark → Option World) (asked : Asked) → IsSound p → Arrives known p
-    → IsUnfelt known p asked (changed p asked).plan → LayAlike p (changed p asked).plan
+    → IsUnfelt known p asked (changed p asked).plan → LayAlikeWithin p (changed p asked).plan
 unfelt_alike p known (InsertIntervention branch g cells) sound arrives h =
-    record {
-      rule = refl;
-      start = refl;
-      branches = refl;
-      lists = λ b k late.
-          alike_each p known (InsertIntervention branch g cells) (mark_at b k) sound arrives h;
-    }
+    alike p known (InsertIntervention branch g cells) sound arrives h refl refl refl
 unfelt_alike p known (ChangeIntervention id g cells) sound arrives h =
-    record {
-      rule = refl;
-      start = refl;
-      branches = refl;
-      lists = λ b k late.
-          alike_each p known (ChangeIntervention id g cells) (mark_at b k) sound arrives h;
-    }
+    alike p known (ChangeIntervention id g cells) sound arrives h refl refl refl
+unfelt_alike p known (InsertRepeat branch first every last cells) sound arrives h =
+    alike p known (InsertRepeat branch first every last cells) sound arrives h refl refl refl
+unfelt_alike p known (ChangeRepeat id first every last cells) sound arrives h =
+    alike p known (ChangeRepeat id first every last cells) sound arrives h refl refl refl
 unfelt_alike p known (RemoveIntervention id) sound arrives h =
-    record {
-      rule = refl;
-      start = refl;
-      branches = refl;
-      lists = λ b k late.
-          alike_each p known (RemoveIntervention id) (mark_at b k) sound arrives h;
-    }
+    alike p known (RemoveIntervention id) sound arrives h refl refl refl
 unfelt_alike p known (SetCells cells) sound arrives h = absurd h
 unfelt_alike p known (ReplaceStart start) sound arrives h = absurd h
 unfelt_alike p known (ReplaceRule rule) sound arrives h = absurd h

@@ -1,41 +1,87 @@
 -- From where an edit is felt.
-use Rattle.std.specs.Prelude.{◌≡◌, ◌⊎◌, ℕ, min, List, [], ◌∷◌, ◌++◌, Option, None, Some, if◌then◌else◌, ◌==◌, flat_map}
+use Rattle.std.specs.Prelude.{◌≡◌, ◌⊎◌, ℕ, ◌≤◌, min, Bool, true, false, ◌&&◌, List, [], ◌++◌, Option, None, Some, if◌then◌else◌, ◌==◌, flat_map}
+use Rattle.std.specs.Option.{option_map}
 use Rattle.worlds.specs.declared.cell.CellSet.{CellSet}
 use Rattle.worlds.specs.World.{World}
 use Rattle.worlds.specs.Lay.{lay}
+use Rattle.schedule.specs.declared.acts.Acts.{Acts}
+use Rattle.schedule.specs.declared.acts.Acts.TheVariants.{Once, Every}
 use Rattle.schedule.specs.declared.document.Intervention.{Intervention}
+use Rattle.schedule.specs.Acts.{acts_on, first_of}
+use Rattle.schedule.specs.Branches.{element_at, reach}
+use Rattle.schedule.specs.Ids.{intervention_id}
 use Rattle.schedule.specs.Plan.{Plan}
-use Rattle.schedule.specs.Asked.{Asked, InsertIntervention, ChangeIntervention, RemoveIntervention, SetCells, ReplaceStart, ReplaceRule, AddBookmark, MoveBookmark, RemoveBookmark, AddBranch, RemoveBranch}
+use Rattle.schedule.specs.Asked.{Asked, InsertIntervention, ChangeIntervention, InsertRepeat, ChangeRepeat, RemoveIntervention, SetCells, ReplaceStart, ReplaceRule, AddBookmark, MoveBookmark, RemoveBookmark, AddBranch, RemoveBranch}
 use Rattle.schedule.specs.Change.{acting, changed}
 use Rattle.schedule.specs.Scratch.{own_cells, cells_at}
 use Rattle.dependency_book.specs.declared.mark.Mark.{Mark}
+use Rattle.dependency_book.specs.declared.touched.Touched.{Touched}
 use Rattle.dependency_book.specs.BookState.{BookState, arrival_known}
-use Rattle.dependency_book.specs.Marks.{intervention_mark, is_same, mark_at}
+use Rattle.dependency_book.specs.Marks.{mark_at}
 
--- where the intervention of this id acts, or the start where there is none
-abbrev pub mark_of : List Intervention → ℕ → Mark
-mark_of [] id = mark_at 0 0
-mark_of (i ∷ is) id = if i.id == id then intervention_mark i else mark_of is id
+-- an intervention that an edit adds to a branch, changes or removes
+abbrev pub added : ℕ → Acts → Touched
+added branch acts = record { branch = branch; was = acts; is = acts }
 
--- where the intervention of this id acts if it acts at this generation of its branch
-abbrev pub moved_mark : List Intervention → ℕ → ℕ → Mark
-moved_mark is id generation = mark_at (mark_of is id).branch generation
+abbrev pub moved : Acts → Intervention → Touched
+moved acts i = record { branch = i.branch; was = i.acts; is = acts }
+
+abbrev pub removed : Intervention → Touched
+removed i = record { branch = i.branch; was = i.acts; is = i.acts }
+
+-- the intervention of an id
+abbrev pub intervention_at : Plan → ℕ → Option Intervention
+intervention_at p id = element_at intervention_id p.interventions id
+
+-- the branch in which an edit changes what acts, and when that acts before the edit and after it,
+-- which is the same where the edit adds or removes it
+abbrev pub touched_by : Plan → Asked → Option Touched
+touched_by p (InsertIntervention branch generation cells) = Some (added branch (Once generation))
+touched_by p (ChangeIntervention id generation cells) =
+    option_map (moved (Once generation)) (intervention_at p id)
+touched_by p (InsertRepeat branch first every last cells) =
+    Some (added branch (Every first every last))
+touched_by p (ChangeRepeat id first every last cells) =
+    option_map (moved (Every first every last)) (intervention_at p id)
+touched_by p (RemoveIntervention id) = option_map removed (intervention_at p id)
+touched_by p (SetCells cells) = None
+touched_by p (ReplaceStart start) = None
+touched_by p (ReplaceRule rule) = None
+touched_by p (AddBookmark branch generation view) = None
+touched_by p (MoveBookmark id generation) = None
+touched_by p (RemoveBookmark id) = None
+touched_by p (AddBranch parent generation) = None
+touched_by p (RemoveBranch branch) = None
+
+-- whether an edit takes another start or another rule
+abbrev pub begins_anew : Asked → Bool
+begins_anew (InsertIntervention branch generation cells) = false
+begins_anew (ChangeIntervention id generation cells) = false
+begins_anew (InsertRepeat branch first every last cells) = false
+begins_anew (ChangeRepeat id first every last cells) = false
+begins_anew (RemoveIntervention id) = false
+begins_anew (SetCells cells) = true
+begins_anew (ReplaceStart start) = true
+begins_anew (ReplaceRule rule) = true
+begins_anew (AddBookmark branch generation view) = false
+begins_anew (MoveBookmark id generation) = false
+begins_anew (RemoveBookmark id) = false
+begins_anew (AddBranch parent generation) = false
+begins_anew (RemoveBranch branch) = false
+
+-- the first mark at which what is touched acts, before an edit or after it
+abbrev pub first_touched : Touched → Mark
+first_touched t = mark_at t.branch (min (first_of t.was) (first_of t.is))
+
+-- the first such mark, or the start where all begins anew
+abbrev pub from_touched : Option Touched → Bool → Option Mark
+from_touched (Some t) anew = Some (first_touched t)
+from_touched None anew = if anew then Some (mark_at 0 0) else None
 
 -- the mark from which an edit may be felt, if it may change any pattern: what arrives there stays,
 -- and what leaves it may be another
 abbrev pub felt_from : Plan → Asked → Option Mark
-felt_from p (InsertIntervention branch generation cells) = Some (mark_at branch generation)
-felt_from p (ChangeIntervention id generation cells) =
-    Some (moved_mark p.interventions id (min generation (mark_of p.interventions id).generation))
-felt_from p (RemoveIntervention id) = Some (mark_of p.interventions id)
-felt_from p (SetCells cells) = Some (mark_at 0 0)
-felt_from p (ReplaceStart start) = Some (mark_at 0 0)
-felt_from p (ReplaceRule rule) = Some (mark_at 0 0)
-felt_from p (AddBookmark branch generation view) = None
-felt_from p (MoveBookmark id generation) = None
-felt_from p (RemoveBookmark id) = None
-felt_from p (AddBranch parent generation) = None
-felt_from p (RemoveBranch branch) = None
+felt_from p asked = from_touched (touched_by p asked) (begins_anew asked)
 
 -- a world is known, and two lists lay on it to equal worlds
 abbrev pub LayAlikeOn : Option World → List CellSet → List CellSet → Type 0
@@ -51,23 +97,21 @@ abbrev pub IsUnfeltAt : (Mark → Option World) → Plan → Plan → Mark → T
 IsUnfeltAt known p q m =
     LayAlikeOn (known m) (cells_of p.interventions m) (cells_of q.interventions m)
 
--- an edit of interventions is seen to change no pattern: so it is at each mark at which it changes
--- what acts, where q is the document after it
+-- so it is at each mark at which something acts in a branch, as far as the branch reaches
+abbrev pub IsUnfeltWhere : (Mark → Option World) → Plan → Plan → ℕ → Acts → Type 0
+IsUnfeltWhere known p q branch acts =
+    (g : ℕ) → acts_on acts g ≡ true → g ≤ reach p branch
+    → IsUnfeltAt known p q (mark_at branch g)
+
+-- so it is where what an edit touches acts before it, and where it acts after it
+abbrev pub UnfeltTouch : (Mark → Option World) → Plan → Plan → Option Touched → Type 0
+UnfeltTouch known p q None = ⊥
+UnfeltTouch known p q (Some t) =
+    IsUnfeltWhere known p q t.branch t.was × IsUnfeltWhere known p q t.branch t.is
+
+-- an edit of interventions is seen to change no pattern, where q is the document after it
 abbrev pub IsUnfelt : (Mark → Option World) → Plan → Asked → Plan → Type 0
-IsUnfelt known p (InsertIntervention branch generation cells) q =
-    IsUnfeltAt known p q (mark_at branch generation)
-IsUnfelt known p (ChangeIntervention id generation cells) q =
-    IsUnfeltAt known p q (moved_mark p.interventions id generation)
-    × IsUnfeltAt known p q (mark_of p.interventions id)
-IsUnfelt known p (RemoveIntervention id) q = IsUnfeltAt known p q (mark_of p.interventions id)
-IsUnfelt known p (SetCells cells) q = ⊥
-IsUnfelt known p (ReplaceStart start) q = ⊥
-IsUnfelt known p (ReplaceRule rule) q = ⊥
-IsUnfelt known p (AddBookmark branch generation view) q = ⊥
-IsUnfelt known p (MoveBookmark id generation) q = ⊥
-IsUnfelt known p (RemoveBookmark id) q = ⊥
-IsUnfelt known p (AddBranch parent generation) q = ⊥
-IsUnfelt known p (RemoveBranch branch) q = ⊥
+IsUnfelt known p asked q = UnfeltTouch known p q (touched_by p asked)
 
 -- an edit that changes no pattern is felt nowhere, and any other from where it may be felt first
 abbrev pub IsFelt : (Mark → Option World) → Plan → Asked → Plan → Option Mark → Type 0
@@ -83,7 +127,10 @@ own_cells_of i m = own_cells i m.branch m.generation
 abbrev pub own_cells_after : Asked → Intervention → Mark → List CellSet
 own_cells_after (InsertIntervention branch generation cells) i m = own_cells_of i m
 own_cells_after (ChangeIntervention id generation cells) i m =
-    own_cells_of (if i.id == id then acting generation cells i else i) m
+    own_cells_of (if i.id == id then acting (Once generation) cells i else i) m
+own_cells_after (InsertRepeat branch first every last cells) i m = own_cells_of i m
+own_cells_after (ChangeRepeat id first every last cells) i m =
+    own_cells_of (if i.id == id then acting (Every first every last) cells i else i) m
 own_cells_after (RemoveIntervention id) i m = if i.id == id then [] else own_cells_of i m
 own_cells_after (SetCells cells) i m = own_cells_of i m
 own_cells_after (ReplaceStart start) i m = own_cells_of i m
@@ -94,11 +141,19 @@ own_cells_after (RemoveBookmark id) i m = own_cells_of i m
 own_cells_after (AddBranch parent generation) i m = own_cells_of i m
 own_cells_after (RemoveBranch branch) i m = own_cells_of i m
 
+-- these cells at a mark of a branch at which something acts, else none
+abbrev pub cells_if_at : ℕ → Acts → List CellSet → Mark → List CellSet
+cells_if_at branch acts cells m =
+    if branch == m.branch && acts_on acts m.generation then cells else []
+
 -- the cells that an intervention that an edit inserts sets there
 abbrev pub inserted_cells : Asked → Mark → List CellSet
 inserted_cells (InsertIntervention branch generation cells) m =
-    if is_same (mark_at branch generation) m then cells else []
+    cells_if_at branch (Once generation) cells m
 inserted_cells (ChangeIntervention id generation cells) m = []
+inserted_cells (InsertRepeat branch first every last cells) m =
+    cells_if_at branch (Every first every last) cells m
+inserted_cells (ChangeRepeat id first every last cells) m = []
 inserted_cells (RemoveIntervention id) m = []
 inserted_cells (SetCells cells) m = []
 inserted_cells (ReplaceStart start) m = []
@@ -119,9 +174,10 @@ cells_after asked interventions m =
 abbrev pub BookIsUnfeltAt : BookState → Asked → Mark → Type 0
 BookIsUnfeltAt d asked m = IsUnfeltAt (arrival_known d) d.plan (changed d.plan asked).plan m
 
--- nor at either of two marks
-abbrev pub BookIsUnfeltAtBoth : BookState → Asked → Mark → Mark → Type 0
-BookIsUnfeltAtBoth d asked m n = BookIsUnfeltAt d asked m × BookIsUnfeltAt d asked n
+-- nor at any at which something acts in a branch
+abbrev pub BookIsUnfeltWhere : BookState → Asked → ℕ → Acts → Type 0
+BookIsUnfeltWhere d asked branch acts =
+    IsUnfeltWhere (arrival_known d) d.plan (changed d.plan asked).plan branch acts
 
 -- it changes none at all
 abbrev pub BookIsUnfelt : BookState → Asked → Type 0

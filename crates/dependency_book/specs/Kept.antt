@@ -5,7 +5,7 @@ use Rattle.schedule.specs.declared.document.Bookmark.{Bookmark}
 use Rattle.schedule.specs.declared.branch.Branch.{Branch}
 use Rattle.schedule.specs.History.{is_felt}
 use Rattle.schedule.specs.Plan.{Plan}
-use Rattle.schedule.specs.Asked.{Asked, InsertIntervention, ChangeIntervention, RemoveIntervention, SetCells, ReplaceStart, ReplaceRule, AddBookmark, MoveBookmark, RemoveBookmark, AddBranch, RemoveBranch}
+use Rattle.schedule.specs.Asked.{Asked, InsertIntervention, ChangeIntervention, InsertRepeat, ChangeRepeat, RemoveIntervention, SetCells, ReplaceStart, ReplaceRule, AddBookmark, MoveBookmark, RemoveBookmark, AddBranch, RemoveBranch}
 use Rattle.dependency_book.specs.declared.row.RowState.{RowState}
 use Rattle.dependency_book.specs.declared.row.RowState.TheVariants.{Empty, Known}
 use Rattle.dependency_book.specs.declared.mark.Mark.{Mark}
@@ -40,6 +40,8 @@ bookmark_stays branches felt b was =
 abbrev pub takes : Asked → Bookmark → Bool
 takes (InsertIntervention branch generation cells) b = false
 takes (ChangeIntervention id generation cells) b = false
+takes (InsertRepeat branch first every last cells) b = false
+takes (ChangeRepeat id first every last cells) b = false
 takes (RemoveIntervention id) b = false
 takes (SetCells cells) b = false
 takes (ReplaceStart start) b = false

@@ -1,11 +1,12 @@
 -- The marks of a document, between which its pattern evolves undisturbed: generation 0 of branch 0,
 -- the generations at which branches begin and leave others and bookmarks stand, and those at which
 -- interventions act, as far as their branch reaches.
-use Rattle.std.specs.Prelude.{◌≡◌, ◌⊎◌, ℕ, ◌<◌, nat_le, Bool, true, false, ◌&&◌, ◌||◌, ◌==◌, List, [], ◌∷◌}
+use Rattle.std.specs.Prelude.{◌≡◌, ◌⊎◌, ℕ, ◌<◌, nat_le, Bool, true, false, ◌&&◌, ◌||◌, ◌==◌, List, [], ◌∷◌, map}
 use Rattle.std.specs.List.{list_any}
 use Rattle.schedule.specs.declared.branch.Branch.{Branch}
 use Rattle.schedule.specs.declared.document.Bookmark.{Bookmark}
 use Rattle.schedule.specs.declared.document.Intervention.{Intervention}
+use Rattle.schedule.specs.Acts.{generations_to}
 use Rattle.schedule.specs.Branches.{fork_of, parent_of, reach}
 use Rattle.schedule.specs.Plan.{Plan}
 use Rattle.schedule.specs.Scratch.{acts_at}
@@ -15,9 +16,9 @@ use Rattle.dependency_book.specs.declared.mark.Mark.{Mark}
 abbrev pub mark_at : ℕ → ℕ → Mark
 mark_at b g = record { branch = b; generation = g }
 
--- where an intervention acts
-abbrev pub intervention_mark : Intervention → Mark
-intervention_mark i = mark_at i.branch i.generation
+-- the marks at which an intervention acts, where it is said how far each branch reaches
+abbrev pub acting_marks : (ℕ → ℕ) → Intervention → List Mark
+acting_marks reaches i = map (mark_at i.branch) (generations_to (reaches i.branch) i.acts)
 
 -- where a bookmark stands
 abbrev pub bookmark_mark : Bookmark → Mark

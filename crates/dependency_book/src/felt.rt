@@ -1,22 +1,21 @@
 //! From where an edit is felt.
-ghost use Rattle.std.specs.Prelude.{◌≡◌, ◌==◌, ◌↔◌, IfOk, IsTrue, MatchOption};
-ghost use Rattle.std.specs.Prelude.{None, Some, [], if◌then◌else◌};
+ghost use Rattle.std.specs.Prelude.{◌≡◌, ◌↔◌, IfOk, IsTrue, MatchOption, None, Some};
 ghost use Rattle.std.specs.Arc.{arc_value};
 ghost use Rattle.schedule.specs.Asked.{asked_of};
 ghost use Rattle.schedule.specs.Change.{first_refusal, refusals};
 ghost use Rattle.dependency_book.specs.BookState.{arrival_known};
 ghost use Rattle.dependency_book.specs.Kept.{keeps_arrival, leaves_after};
-ghost use Rattle.dependency_book.specs.Marks.{is_same};
-ghost use Rattle.dependency_book.specs.Felt.{felt_from, mark_of};
 ghost use Rattle.dependency_book.specs.Felt.{BookFeels, BookIsUnfelt};
-ghost use Rattle.dependency_book.specs.Felt.{BookIsUnfeltAt, BookIsUnfeltAtBoth};
+ghost use Rattle.dependency_book.specs.Felt.{BookIsUnfeltAt, BookIsUnfeltWhere};
 ghost use Rattle.dependency_book.specs.Felt.{cells_after, inserted_cells, own_cells_after};
+ghost use Rattle.dependency_book.specs.Felt.{cells_if_at};
 
 use crate::book::Book;
 use crate::entered::cells_at;
 use crate::mark::Mark;
 use crate::row::{Ranked, place_in};
-use schedule::{CellSet, Document, Edit, Intervention, Listing, Plane};
+use crate::touched::{felt_from, touched_by};
+use schedule::{Acts, CellSet, Document, Edit, Intervention, Listing, Plane};
 use std::alloc::{AllocError, Global};
 use std::sync::Arc;
 
@@ -63,36 +62,31 @@ impl Book<'_> {
         ensures { IfOk result (λ unfelt.
             IsTrue unfelt ↔ BookIsUnfelt self.now (asked_of edit.now)) }
     {
-        match edit {
-            Edit::InsertIntervention {
-                branch,
-                generation,
-                ..
-            } => self.is_unfelt_at(edit, Mark::at(*branch, *generation)),
-            Edit::ChangeIntervention { id, generation, .. } => {
-                let was = mark_of(self.document.interventions(), *id);
-                self.is_unfelt_at_both(edit, Mark::at(was.branch, *generation), was)
-            }
-            Edit::RemoveIntervention { id } => {
-                self.is_unfelt_at(edit, mark_of(self.document.interventions(), *id))
-            }
-            _ => Ok(false),
-        }
-    }
-
-    // Whether it is seen to change no pattern at either of two marks, which may be one.
-    fn is_unfelt_at_both(&self, edit: &Edit, to: Mark, was: Mark) -> Result<bool, AllocError>
-        requires { first_refusal (refusals self.now.plan (asked_of edit.now)) ≡ None }
-        ensures { IfOk result (λ unfelt.
-            IsTrue unfelt ↔ BookIsUnfeltAtBoth self.now (asked_of edit.now) to was) }
-    {
-        if !self.is_unfelt_at(edit, was)? {
+        let Some(touched) = touched_by(&self.document, edit) else {
+            return Ok(false);
+        };
+        if !self.is_unfelt_where(edit, touched.branch, touched.was)? {
             return Ok(false);
         }
-        if to == was {
+        if touched.is == touched.was {
             return Ok(true);
         }
-        self.is_unfelt_at(edit, to)
+        self.is_unfelt_where(edit, touched.branch, touched.is)
+    }
+
+    // Whether it is seen to change no pattern where something acts in a branch, as far as the
+    // branch reaches.
+    fn is_unfelt_where(&self, edit: &Edit, branch: u64, acts: Acts) -> Result<bool, AllocError>
+        requires { first_refusal (refusals self.now.plan (asked_of edit.now)) ≡ None }
+        ensures { IfOk result (λ unfelt.
+            IsTrue unfelt ↔ BookIsUnfeltWhere self.now (asked_of edit.now) branch acts) }
+    {
+        for generation in acts.generations_to(self.document.reach(branch)) {
+            if !self.is_unfelt_at(edit, Mark::at(branch, generation))? {
+                return Ok(false);
+            }
+        }
+        Ok(true)
     }
 
     // Whether what arrives at a mark is known, and becomes the same pattern by what acts there
@@ -132,41 +126,6 @@ impl Book<'_> {
     }
 }
 
-// The mark from which an edit may be felt, if it may change any pattern.
-fn felt_from(document: &Document, edit: &Edit) -> Option<Mark>
-    ensures { result ≡ felt_from document.now (asked_of edit.now) }
-{
-    match edit {
-        Edit::InsertIntervention {
-            branch,
-            generation,
-            ..
-        } => Some(Mark::at(*branch, *generation)),
-        Edit::ChangeIntervention { id, generation, .. } => {
-            let was = mark_of(document.interventions(), *id);
-            Some(Mark::at(was.branch, (*generation).min(was.generation)))
-        }
-        Edit::RemoveIntervention { id } => Some(mark_of(document.interventions(), *id)),
-        Edit::SetCells { .. } | Edit::ReplaceStart(_) | Edit::ReplaceRule(_) => Some(Mark::at(
-            0, 0,
-        )),
-        Edit::AddBookmark { .. } | Edit::MoveBookmark { .. } | Edit::RemoveBookmark { .. } => None,
-        Edit::AddBranch { .. } | Edit::RemoveBranch { .. } => None,
-    }
-}
-
-// Where the intervention of an id acts, or the start where there is none.
-fn mark_of(interventions: &[Intervention], id: u64) -> Mark
-    ensures { result ≡ mark_of interventions.now id }
-{
-    for intervention in interventions {
-        if intervention.id == id {
-            return Mark::at(intervention.branch, intervention.generation);
-        }
-    }
-    Mark::at(0, 0)
-}
-
 // The cells that interventions set at a mark after an edit, by rising id.
 fn cells_after(
     alloc: Global,
@@ -195,13 +154,32 @@ fn own_cells_after<'a>(edit: &'a Edit, intervention: &'a Intervention, mark: Mar
             generation,
             cells,
         } if *id == intervention.id => {
-            cells_if_at(Mark::at(intervention.branch, *generation), cells, mark)
+            let acts = Acts::Once {
+                generation: *generation,
+            };
+            cells_if_at(intervention.branch, acts, cells, mark)
+        }
+        Edit::ChangeRepeat {
+            id,
+            first,
+            every,
+            last,
+            cells,
+        } if *id == intervention.id => {
+            let acts = Acts::Every {
+                first: *first,
+                every: *every,
+                last: *last,
+            };
+            cells_if_at(intervention.branch, acts, cells, mark)
         }
         Edit::RemoveIntervention { id } if *id == intervention.id => &[],
-        _ => {
-            let acts = Mark::at(intervention.branch, intervention.generation);
-            cells_if_at(acts, &intervention.cells, mark)
-        }
+        _ => cells_if_at(
+            intervention.branch,
+            intervention.acts,
+            &intervention.cells,
+            mark,
+        ),
     }
 }
 
@@ -214,14 +192,39 @@ fn inserted_cells(edit: &Edit, mark: Mark) -> &[CellSet]
             branch,
             generation,
             cells,
-        } => cells_if_at(Mark::at(*branch, *generation), cells, mark),
+        } => cells_if_at(
+            *branch,
+            Acts::Once {
+                generation: *generation,
+            },
+            cells,
+            mark,
+        ),
+        Edit::InsertRepeat {
+            branch,
+            first,
+            every,
+            last,
+            cells,
+        } => {
+            let acts = Acts::Every {
+                first: *first,
+                every: *every,
+                last: *last,
+            };
+            cells_if_at(*branch, acts, cells, mark)
+        }
         _ => &[],
     }
 }
 
-// The cells where they are those of the mark, else none.
-fn cells_if_at(acts: Mark, cells: &Listing<CellSet>, mark: Mark) -> &[CellSet]
-    ensures { result.now ≡ (if is_same acts mark then cells.now else []) }
+// The cells where something acts in a branch at the mark, else none.
+fn cells_if_at(branch: u64, acts: Acts, cells: &Listing<CellSet>, mark: Mark) -> &[CellSet]
+    ensures { result.now ≡ cells_if_at branch acts cells.now mark }
 {
-    if acts == mark { cells.as_slice() } else { &[] }
+    if branch == mark.branch && acts.acts_at(mark.generation) {
+        cells.as_slice()
+    } else {
+        &[]
+    }
 }

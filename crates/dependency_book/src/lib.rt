@@ -38,6 +38,7 @@ mod rows;
 mod shown;
 mod text;
 mod texts;
+mod touched;
 
 pub use book::Book;
 pub use filled::Filled;

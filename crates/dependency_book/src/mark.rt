@@ -10,7 +10,7 @@ use schedule::{Bookmark, Document};
 
 /// A generation of a branch. Between the marks of a document its pattern evolves undisturbed: they
 /// are the generations at which bookmarks stand, those at which branches begin and leave others,
-/// and those at which interventions act, as far as their branch reaches.
+/// and those at which interventions act, once or again and again, as far as their branch reaches.
 #[derive(Clone, Copy, Debug, PartialEq, Eq)]
 pub struct Mark {
     pub branch: u64,

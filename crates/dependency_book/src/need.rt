@@ -6,7 +6,7 @@ ghost use Rattle.dependency_book.specs.Rows.{ArrivalRow, IsRanked, mark_rank};
 
 use crate::mark::Mark;
 use crate::marks::ArrivalRow;
-use crate::row::{Ranked, place_in};
+use crate::row::{Ranked, place_near};
 use crate::texts::TextRow;
 use schedule::Document;
 
@@ -80,8 +80,9 @@ pub(crate) fn before_row(document: &Document, arrivals: &[ArrivalRow], place: us
     }
 }
 
-// Whether what arrives at a mark is known; the start always is.
-fn is_ready(arrivals: &[ArrivalRow], mark: Mark) -> bool
+// Whether what arrives at a mark is known, whose row may well be at the place `guess`; the start
+// always is.
+fn is_ready(arrivals: &[ArrivalRow], mark: Mark, guess: usize) -> bool
     requires { IsRanked mark_rank arrivals.now }
     ensures { result ≡ is_ready arrivals.now mark }
 {
@@ -89,7 +90,7 @@ fn is_ready(arrivals: &[ArrivalRow], mark: Mark) -> bool
         return true;
     }
     let rank = mark.rank();
-    match arrivals.get(place_in(arrivals, rank)) {
+    match arrivals.get(place_near(arrivals, rank, guess)) {
         Some(row) => row.key.rank() == rank && row.state.is_known(),
         None => false,
     }
@@ -102,7 +103,11 @@ pub(crate) fn can_step(document: &Document, arrivals: &[ArrivalRow], place: usiz
     ensures { (x : ArrivalRow) →
         result ≡ steppable document.now.branches arrivals.now place x }
 {
-    arrivals[place].state.is_empty() && is_ready(arrivals, before_row(document, arrivals, place))
+    if !arrivals[place].state.is_empty() {
+        return false;
+    }
+    let before = before_row(document, arrivals, place);
+    is_ready(arrivals, before, place.saturating_sub(1))
 }
 
 /// The place of the first mark at which nothing stands where what arrives at the mark before it is

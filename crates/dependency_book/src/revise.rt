@@ -20,16 +20,17 @@ impl Book<'_> {
     /// touches knows nothing afterwards and expects nothing, and whoever works a job that was out
     /// for it is asked to stop.
     ///
-    /// An edit of interventions of a branch keeps what arrives there at marks up to the lesser of
-    /// the generations that it names and changes, the texts of bookmarks below that, and all of
-    /// every branch whose line back to branch 0 doesn't leave the branch at that generation or
-    /// later. An edit of bookmarks keeps all but the text of a bookmark that it moves to another
-    /// generation, and one of branches keeps all. One of the start or of the rule keeps nothing.
+    /// An edit of interventions of a branch keeps what arrives there at marks up to the first
+    /// generation at which what it changes acts, before it or after it, the texts of bookmarks
+    /// below that, and all of every branch whose line back to branch 0 doesn't leave the branch at
+    /// that generation or later. An edit of bookmarks keeps all but the text of a bookmark that it
+    /// moves to another generation, and one of branches keeps all. One of the start or of the rule
+    /// keeps nothing.
     ///
     /// An edit of interventions that is seen to change no pattern keeps all: at each generation at
-    /// which it changes what acts, which are two where an intervention is moved, what arrives is
-    /// known, and becomes the same pattern by what acted there and by what acts there now. That is
-    /// looked at first, and where there is no memory for it the edit is refused.
+    /// which what it changes acts, before it or after it, as far as the branch reaches, what
+    /// arrives is known, and becomes the same pattern by what acted there and by what acts there
+    /// now. That is looked at first, and where there is no memory for it the edit is refused.
     ///
     /// Then what is known by steps that were computed before is entered, where nothing is known and
     /// no job is out. Where memory is wanting for a look nothing is found.
@@ -62,7 +63,7 @@ impl Book<'_> {
         ensures right { IsRight self.new }
     {
         self.document.check(edit)?;
-        let room = Room::beside(self.alloc, &self.document)?;
+        let room = Room::beside(self.alloc, &self.document, edit)?;
         let felt = self.felt(edit)?;
         let edited = self.document.make(edit)?;
         let arrivals = mem::replace(&mut self.arrivals, Vec::new(self.alloc));

@@ -2,7 +2,11 @@
 ghost use Rattle.std.specs.Prelude.{◌≡◌, ◌≤◌, ◌+◌, ◌*◌, IfOk, [], length, vec_capacity};
 ghost use Rattle.dependency_book.specs.Held.{places_of};
 ghost use Rattle.dependency_book.specs.Remade.{AreRemade};
-ghost use Rattle.dependency_book.specs.Room.{HasRoom};
+ghost use Rattle.std.specs.List.{list_any};
+ghost use Rattle.schedule.specs.Acts.{repeats};
+ghost use Rattle.schedule.specs.Asked.{asked_of};
+ghost use Rattle.schedule.specs.Repeats.{repeat_marks};
+ghost use Rattle.dependency_book.specs.Room.{HasRoom, asks_to_repeat, most_repeats};
 ghost use Rattle.dependency_book.specs.RowState.{OutsAreOf};
 ghost use Rattle.dependency_book.specs.Rows.{IsRanked, bookmark_rank, mark_rank};
 
@@ -12,7 +16,7 @@ use crate::remade::remade;
 use crate::row::{Ranked, place_near};
 use crate::texts::TextRow;
 use revision_jobs::Entries;
-use schedule::{Bookmark, Document};
+use schedule::{Bookmark, Document, Edit, Intervention};
 use std::alloc::{AllocError, Global};
 
 /// The rows of a document, and where the marks of its bookmarks stand among them.
@@ -23,6 +27,9 @@ pub(crate) struct Rows {
     pub(crate) places: Vec<usize>,
 }
 
+// Repeating interventions make at most this many marks.
+const MOST_MARKS: usize = 8192;
+
 /// Room for the rows of a document.
 #[derive(Drop)]
 pub(crate) struct Room {
@@ -31,15 +38,22 @@ pub(crate) struct Room {
 }
 
 impl Room {
-    /// Room for a document with at most one more intervention, one more bookmark and one more
-    /// branch.
-    pub(crate) fn beside(alloc: Global, document: &Document) -> Result<Room, AllocError>
+    /// Room for the document after an edit: it has at most one more intervention, one more
+    /// bookmark and one more branch.
+    pub(crate) fn beside(
+        alloc: Global,
+        document: &Document,
+        edit: &Edit,
+    ) -> Result<Room, AllocError>
         ensures { IfOk result (λ room. HasRoom room (length document.now.interventions + 1)
-            (length document.now.bookmarks + 1) (length document.now.branches + 1)) }
+            (length document.now.bookmarks + 1) (length document.now.branches + 1)
+            (most_repeats document.now (asked_of edit.now))) }
     {
+        let interventions = document.interventions().len() + 1;
         let bookmarks = document.bookmarks().len() + 1;
         let branches = document.branches().len() + 1;
-        let marks = document.interventions().len() + 1 + bookmarks + 2 * branches;
+        let repeated = most_repeats(document, edit);
+        let marks = interventions + bookmarks + 2 * branches + repeated;
         Ok(Room {
             marks: Vec::with_capacity(alloc, marks)?,
             rows: Rows {
@@ -63,7 +77,8 @@ impl Room {
     ) -> Rows
         requires room { HasRoom self
             (length document.now.interventions)
-            (length document.now.bookmarks) (length document.now.branches) }
+            (length document.now.bookmarks) (length document.now.branches)
+            (repeat_marks document.now) }
         requires ranked { IsRanked mark_rank arrivals.items × IsRanked bookmark_rank texts.items }
         requires own { OutsAreOf entries.now arrivals.items × OutsAreOf entries.now texts.items }
         ensures { AreRemade document.now arrivals.items texts.items felt result }
@@ -80,6 +95,33 @@ impl Room {
             places,
         }
     }
+}
+
+// At most how many marks repeating interventions make after an edit.
+fn most_repeats(document: &Document, edit: &Edit) -> usize
+    ensures { result ≡ most_repeats document.now (asked_of edit.now) }
+{
+    if has_repeats(document.interventions()) || asks_to_repeat(edit) {
+        MOST_MARKS
+    } else {
+        0
+    }
+}
+
+// Whether one of the interventions repeats.
+fn has_repeats(interventions: &[Intervention]) -> bool
+    ensures { result ≡ list_any (λ i. repeats i.acts) interventions.now }
+{
+    interventions
+        .iter()
+        .any(|intervention| intervention.acts.repeats())
+}
+
+// Whether an edit makes an intervention that repeats.
+fn asks_to_repeat(edit: &Edit) -> bool
+    ensures { result ≡ asks_to_repeat (asked_of edit.now) }
+{
+    matches!(edit, Edit::InsertRepeat { .. } | Edit::ChangeRepeat { .. })
 }
 
 // Where the marks of bookmarks stand among rows. The places stand in the room, which is empty and

@@ -1,23 +1,27 @@
 -- How many rows a book has, and when none of its bookmarks is pending.
 use Rattle.std.proofs.Common.{◌≡◌, ◌+◌, ◌*◌, ◌≤◌, length, ap, subst, sym, ◌∙◌, refl, arith}
 use Rattle.std.proofs.lemmas.List.{length-map}
+use Rattle.schedule.specs.Repeats.{repeat_marks}
 use Rattle.dependency_book.specs.BookState.{BookState, NothingOut, pending_of, wanting_of}
 use Rattle.dependency_book.specs.Held.{places_of}
 use Rattle.dependency_book.specs.Right.{IsRight}
 use Rattle.dependency_book.specs.Rows.{ArrivalRow, TextRow}
 use Rattle.dependency_book.proofs.Needed.{none_wanting}
 
-pub few_rows : (d : BookState) → IsRight d → length d.arrivals + length d.texts ≤ 12416
+pub few_rows : (d : BookState) → IsRight d → length d.arrivals + length d.texts ≤ 20608
 few_rows d right =
     let acts = right.sound.few_interventions in
     let stand = right.sound.few_bookmarks in
     let fork = right.sound.branches_sound.few in
-    let most = length d.plan.interventions + length d.plan.bookmarks + 2 * length d.plan.branches in
-    let marks : length d.arrivals ≤ length d.plan.interventions + length d.plan.bookmarks + 2 * length d.plan.branches =
+    let repeated = right.sound.few_marks in
+    let most =
+    length d.plan.interventions + length d.plan.bookmarks + 2 * length d.plan.branches + repeat_marks d.plan in
+    let marks : length d.arrivals
+    ≤ length d.plan.interventions + length d.plan.bookmarks + 2 * length d.plan.branches + repeat_marks d.plan =
     subst (λ n. n ≤ most) (length-map d.arrivals (λ (r : ArrivalRow). r.key)) right.marks.few in
     let texts : length d.texts ≡ length d.plan.bookmarks = sym (length-map d.texts (λ (r : TextRow). r.key))
     ∙ ap length right.bookmarks in
-    omega (arith, acts, stand, fork, marks, texts)
+    omega (arith, acts, stand, fork, repeated, marks, texts)
 
 -- where no job is out and something stands in every row
 pub none_pending : (d : BookState) → IsRight d → NothingOut d → wanting_of d ≡ 0 → pending_of d ≡ 0

@@ -2,16 +2,17 @@
 use Rattle.std.proofs.Common.{◌≡◌, ℕ, ◌∙◌, true, false, not, ◌&&◌, sym, ap, subst, None, Option, Some, inl, inr}
 use Rattle.std.specs.Prelude.{◌==◌, List, [], ◌∷◌}
 use Rattle.std.proofs.lemmas.Bool.{and_parts}
+use Rattle.worlds.specs.Lay.{lay}
 use Rattle.worlds.specs.World.{World}
 use Rattle.schedule.specs.declared.branch.Branch.{Branch}
 use Rattle.schedule.specs.declared.document.Bookmark.{Bookmark}
-use Rattle.schedule.specs.Alike.{LayAlike}
+use Rattle.schedule.specs.Alike.{LayAlikeWithin}
 use Rattle.schedule.specs.Asked.{Asked}
 use Rattle.schedule.specs.Change.{changed, refusal}
 use Rattle.schedule.specs.Plan.{Plan}
-use Rattle.schedule.specs.Scratch.{scratch}
+use Rattle.schedule.specs.Scratch.{cells_at, scratch}
 use Rattle.schedule.specs.Sound.{AreMarked, IsPlaced, IsSound}
-use Rattle.schedule.proofs.Shared.Alike.{arrival-alike, scratch-alike}
+use Rattle.schedule.proofs.Shared.Alike.{arrival-within}
 use Rattle.revision_jobs.specs.Value.{pattern, text}
 use Rattle.dependency_book.specs.declared.mark.Mark.{Mark}
 use Rattle.dependency_book.specs.declared.need.Need.{Need}
@@ -22,10 +23,12 @@ use Rattle.dependency_book.specs.Kept.{keeps_text, leaves_after, stays_mark, tak
 use Rattle.dependency_book.specs.Marks.{bookmark_mark, is_mark, is_start, mark_at}
 use Rattle.dependency_book.specs.Right.{wanted, text_wanted}
 use Rattle.dependency_book.proofs.Followed.{kept_in}
-use Rattle.dependency_book.proofs.Leaves.{arrival_left, scratch_left}
+use Rattle.dependency_book.proofs.Leaves.{arrival_left, scratch_left, shown_left}
+use Rattle.dependency_book.proofs.Placed.{bookmark_is_mark}
 use Rattle.dependency_book.proofs.Shared.Gives.{Arrives}
 use Rattle.dependency_book.proofs.Tests.{either_way}
 use Rattle.dependency_book.proofs.Unfelt.{unfelt_alike}
+use Rattle.dependency_book.proofs.Walk.{mark_within}
 
 -- the row of a need is kept after an edit that is felt from there
 abbrev pub Keeps : Plan → Asked → Option Mark → Need → Type 0
@@ -70,15 +73,25 @@ wants_left p asked (View id) sound free k =
     (scratch_left p asked id b sound free k.1
     (placed_in p.branches p.bookmarks id b sound.branches_sound.bookmarks_placed k.1) leaves.0)
 
--- everywhere, if it is felt nowhere
+-- at each mark and for each bookmark, if it is felt nowhere
 wants_alike : (p : Plan) (asked : Asked) (felt : Option Mark) (need : Need) → IsSound p
-    → LayAlike p (changed p asked).plan → Keeps p asked felt need → wanted (changed p asked).plan need ≡ wanted p need
+    → LayAlikeWithin p (changed p asked).plan → Keeps p asked felt need
+    → wanted (changed p asked).plan need ≡ wanted p need
 wants_alike p asked felt (Step branch mark) sound alike k =
-    ap (λ w. Some (pattern w)) (sym (arrival-alike p (changed p asked).plan branch mark sound alike))
+    let q = (changed p asked).plan in
+    let m = mark_at branch mark in
+    let there = (and_parts (is_mark p m) (is_mark q m && keeps_arrival q.branches felt m) k.1).0 in
+    ap (λ w. Some (pattern w)) (sym (arrival-within p q branch mark sound alike (mark_within p m sound there)))
 wants_alike p asked felt (View id) sound alike k =
+    let q = (changed p asked).plan in
     let b : Bookmark = k.0 in
     let placed = placed_in p.branches p.bookmarks id b sound.branches_sound.bookmarks_placed k.1 in
-    text_same p asked felt id b k.2 k.1 (scratch-alike p (changed p asked).plan b placed.from_fork sound alike)
+    let far = mark_within p (bookmark_mark b) sound (bookmark_is_mark p id b k.1) in
+    text_same p asked felt id b k.2 k.1
+    (shown_left p q b alike.rule
+    (alike.lists b.branch b.generation placed.from_fork far
+    ∙ ap (lay (cells_at q.interventions b.branch b.generation))
+    (arrival-within p q b.branch b.generation sound alike far)))
 
 -- what is kept of a row is what starting over gives for it after the edit
 pub wants_same : (p : Plan) (known : Mark → Option World) (asked : Asked) (felt : Option Mark) (need : Need) → IsSound p

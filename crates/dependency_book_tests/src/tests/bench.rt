@@ -59,6 +59,9 @@ impl<'e> Model for Bench<'e> {
         × IfSome b.before (λ a. IsOf b.entries.now a.job.place) };
 }
 
+/// The first generation at which an intervention repeats, the distance, and a last one.
+pub(super) type Times = (u64, u64, u64);
+
 /// What a test does, or finds.
 #[derive(Clone, Copy, Debug)]
 pub(super) enum Act {
@@ -110,6 +113,20 @@ pub(super) enum Act {
         id: u64,
         generation: u64,
         x: i64,
+    },
+    /// Inserts an intervention of a branch that repeats, and sets the cell (x, 0) to a state.
+    Repeat {
+        branch: u64,
+        times: Times,
+        x: i64,
+        state: u16,
+    },
+    /// Lets the intervention of an id repeat, which sets the cell (x, 0) to a state then.
+    ChangeRepeat {
+        id: u64,
+        times: Times,
+        x: i64,
+        state: u16,
     },
     /// Removes the intervention of this id.
     Remove(u64),
@@ -187,6 +204,20 @@ impl<'e> Bench<'e> {
             Act::ChangeClear { id, generation, x } => {
                 self.change(rt, id, generation, cell(x, 0));
             }
+            Act::Repeat {
+                branch,
+                times,
+                x,
+                state,
+            } => self.repeat(rt, branch, times, cell(x, state)),
+            Act::ChangeRepeat {
+                id,
+                times,
+                x,
+                state,
+            } => {
+                self.change_repeat(rt, id, times, cell(x, state));
+            }
             Act::Remove(id) => self.revise(rt, &Edit::RemoveIntervention { id }),
             Act::Branch { parent, generation } => {
                 self.revise(rt, &Edit::AddBranch { parent, generation });
@@ -254,6 +285,30 @@ impl<'e> Bench<'e> {
         let edit = Edit::ChangeIntervention {
             id,
             generation,
+            cells,
+        };
+        self.revise(rt, &edit);
+    }
+
+    fn repeat(&mut self, rt: &impl Abort, branch: u64, times: Times, set: CellSet) {
+        let cells = listed(rt, self.alloc, set);
+        let edit = Edit::InsertRepeat {
+            branch,
+            first: times.0,
+            every: times.1,
+            last: times.2,
+            cells,
+        };
+        self.revise(rt, &edit);
+    }
+
+    fn change_repeat(&mut self, rt: &impl Abort, id: u64, times: Times, set: CellSet) {
+        let cells = listed(rt, self.alloc, set);
+        let edit = Edit::ChangeRepeat {
+            id,
+            first: times.0,
+            every: times.1,
+            last: times.2,
             cells,
         };
         self.revise(rt, &edit);

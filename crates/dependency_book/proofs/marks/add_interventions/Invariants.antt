@@ -1,13 +1,16 @@
-use Rattle.std.proofs.Common.{◌≡◌, ◌≤◌, ◌+◌, ◌++◌, filter, take, map, vec_len}
-use Rattle.std.specs.Prelude.{vec_capacity}
-use Rattle.dependency_book.specs.AllMarks.{but_start, is_reached}
-use Rattle.dependency_book.specs.Marks.{intervention_mark}
+use Rattle.std.proofs.Common.{◌≡◌, ◌≤◌, ◌+◌, ◌++◌, take, vec_len}
+use Rattle.std.specs.Prelude.{flat_map, vec_capacity}
+use Rattle.schedule.specs.Repeats.{marks_within}
+use Rattle.dependency_book.specs.AllMarks.{but_start, far_of}
+use Rattle.dependency_book.specs.Marks.{acting_marks}
 use Rattle.dependency_book.proofs.marks.add_interventions.Given as goal
 
 abbrev pub invariant-loop-intervention : goal.invariant-loop-intervention
 invariant-loop-intervention l = record {
   items : l.marks.items ≡ l.fn.marks.items ++ but_start
-      (filter (is_reached l.fn.marks.items) (map intervention_mark (take l.intervention-index l.interventions)));
-  len : vec_len l.marks ≤ vec_len l.fn.marks + l.intervention-index;
+      (flat_map (acting_marks (far_of l.fn.marks.items)) (take l.intervention-index l.interventions));
+  len : vec_len l.marks ≤ vec_len l.fn.marks + l.intervention-index
+      + marks_within (far_of l.fn.marks.items) (take l.intervention-index l.interventions);
   capacity : vec_capacity l.marks ≡ vec_capacity l.fn.marks;
+  reached : l.reached.far ≡ far_of l.fn.marks.items l.reached.branch;
 }

@@ -1,38 +1,69 @@
-use Rattle.std.proofs.Common.{◌≡◌, ◌∙◌, ◌++◌, map, filter, ap, ap₂, rules, arith}
+use Rattle.std.proofs.Common.{◌≡◌, ◌∙◌, ◌++◌, length, map, ap, ap₂, arith}
 use Rattle.std.specs.Prelude.{flat_map}
 use Rattle.std.proofs.lemmas.List.Filters.{dedup_is}
-use Rattle.std.proofs.lemmas.List.Sorted.{IsNonDecreasingBy-from_sort_by_key}
-use Rattle.dependency_book.specs.AllMarks.{but_start, is_reached}
-use Rattle.dependency_book.specs.Marks.{bookmark_mark, branch_marks, intervention_mark, is_same}
+use Rattle.schedule.specs.Repeats.{marks_within, repeat_marks}
+use Rattle.dependency_book.specs.AllMarks.{but_start, far_of}
+use Rattle.dependency_book.specs.Marks.{acting_marks, bookmark_mark, branch_marks, is_same}
 use Rattle.dependency_book.specs.Rows.{mark_rank}
-use Rattle.dependency_book.proofs.Marked.{AreMarksOf-once}
+use Rattle.dependency_book.proofs.Marked.{AreMarksOf-once, few_acting, near_sorted}
 use Rattle.dependency_book.proofs.marks.marks_of.Goals as goal
+use Rattle.dependency_book.proofs.marks.marks_of.Goals.{After-interventions}
 
-pub add_interventions-requires-clause-sorted : goal.add_interventions-requires-clause-sorted
-add_interventions-requires-clause-sorted c =
-    IsNonDecreasingBy-from_sort_by_key mark_rank c.sort_unstable_by_key.new.self.items
-    c.sort_unstable_by_key.ensures.sorted (λ a r q k. search rules)
-
-pub returns : goal.returns
-returns c =
-    let p = c.args.document.now in
-    let found = c.add_bookmarks.new.marks.items in
-    let sorted = c.sort_unstable_by_key.new.self.items in
-    let all = c.add_interventions.new.marks.items in
-    let again = c.sort_unstable_by_key-2.new.self.items in
-    let first : found ≡ but_start (flat_map branch_marks p.branches) ++ but_start (map bookmark_mark p.bookmarks) =
+-- the marks of branches and bookmarks
+found : (c : After-interventions) → c.add_bookmarks.new.marks.items
+    ≡ but_start (flat_map branch_marks c.args.document.now.branches) ++ but_start
+    (map bookmark_mark c.args.document.now.bookmarks)
+found c =
     c.add_bookmarks.ensures.marks
     ∙ ap₂ (λ ms bs. ms ++ but_start (map bookmark_mark bs))
     (c.add_branches.ensures.marks
     ∙ ap₂ (λ ms bs. ms ++ but_start (flat_map branch_marks bs)) c.requires.empty c.branches.ensures.branches)
-    c.bookmarks.ensures.bookmarks in
-    let second : all ≡ sorted ++ but_start (filter (is_reached sorted) (map intervention_mark p.interventions)) =
+    c.bookmarks.ensures.bookmarks
+
+pub add_interventions-requires-clause-room : goal.add_interventions-requires-clause-room
+add_interventions-requires-clause-room c =
+    let p = c.args.document.now in
+    let sorted = c.sort.new.marks.items in
+    let first = found (goal.at.add_interventions-requires-clause-room c).After-interventions in
+    let repeats : marks_within (far_of sorted) p.interventions ≡ repeat_marks p =
+    few_acting p c.add_bookmarks.new.marks.items sorted c.branches.ensures.sound first
+    c.sort.ensures.same in
+    let acting = ap (marks_within (far_of sorted)) c.interventions.ensures in
+    let interventions = ap length c.interventions.ensures in
+    let bookmarks = ap length c.bookmarks.ensures.bookmarks in
+    let branches = ap length c.branches.ensures.branches in
+    let none = ap length c.requires.empty in
+    let room = c.requires.room in
+    let a = c.add_branches.ensures.len in
+    let b = c.add_bookmarks.ensures.len in
+    let s = c.sort.ensures.len in
+    let ca = c.add_branches.ensures.capacity in
+    let cb = c.add_bookmarks.ensures.capacity in
+    let cs = c.sort.ensures.capacity in
+    omega (arith, repeats, acting, interventions, bookmarks, branches, none, room, a, b, s, ca, cb, cs)
+
+pub add_interventions-requires-clause-sorted : goal.add_interventions-requires-clause-sorted
+add_interventions-requires-clause-sorted c = c.sort.ensures.sorted
+
+pub add_interventions-requires-clause-near : goal.add_interventions-requires-clause-near
+add_interventions-requires-clause-near c =
+    near_sorted c.args.document.now c.add_bookmarks.new.marks.items c.sort.new.marks.items
+    c.branches.ensures.sound (found (goal.at.add_interventions-requires-clause-near c).After-interventions)
+    c.sort.ensures.same
+
+pub returns : goal.returns
+returns c =
+    let p = c.args.document.now in
+    let sorted = c.sort.new.marks.items in
+    let all = c.add_interventions.new.marks.items in
+    let again = c.sort-2.new.marks.items in
+    let second : all ≡ sorted ++ but_start (flat_map (acting_marks (far_of sorted)) p.interventions) =
     c.add_interventions.ensures
-    ∙ ap (λ is. sorted ++ but_start (filter (is_reached sorted) (map intervention_mark is))) c.interventions.ensures in
-    AreMarksOf-once p found sorted all again c.dedup.new.self.items c.branches.ensures.sound first
-    c.sort_unstable_by_key.ensures.permutation
-    (omega (arith, c.sort_unstable_by_key.ensures.len)) second c.sort_unstable_by_key-2.ensures.permutation
-    (IsNonDecreasingBy-from_sort_by_key mark_rank again c.sort_unstable_by_key-2.ensures.sorted
-    (λ a r q k. search rules))
+    ∙ ap (λ is. sorted ++ but_start (flat_map (acting_marks (far_of sorted)) is)) c.interventions.ensures in
+    AreMarksOf-once p c.add_bookmarks.new.marks.items sorted all again c.dedup.new.self.items c.branches.ensures.sound
+    (found (goal.at.returns c).After-interventions)
+    c.sort.ensures.same
+    (omega (arith, c.sort.ensures.len)) second c.sort-2.ensures.same
+    c.sort-2.ensures.sorted
     (dedup_is is_same again c.dedup.new.self.items c.dedup.ensures.filtered)
-    (omega (arith, c.dedup.ensures.bound, c.sort_unstable_by_key-2.ensures.len))
+    (omega (arith, c.dedup.ensures.bound, c.sort-2.ensures.len))

@@ -17,7 +17,8 @@ use Rattle.dependency_book.proofs.book.Book.remake.Goals as goal
 pub rows_of-rows-requires-clause-room : goal.rows_of-rows-requires-clause-room
 rows_of-rows-requires-clause-room c =
     made_room c.in_ok-room.room c.self.inside.document c.make.new.self
-    (asked_of c.args.edit.now) c.in_ok-edited.edited c.in_ok-edited.ensures.ok c.in_ok-room.ensures
+    (asked_of c.args.edit.now) c.in_ok-edited.edited c.self.invariant.held.right.sound c.in_ok-edited.ensures.ok
+    c.in_ok-room.ensures
 
 pub rows_of-rows-requires-clause-own : goal.rows_of-rows-requires-clause-own
 rows_of-rows-requires-clause-own c =

@@ -1,0 +1,14 @@
+use Rattle.std.proofs.Common.{◌∙◌, ap, inr}
+use Rattle.schedule.specs.Asked.{asked_of}
+use Rattle.dependency_book.specs.BookState.{BookState}
+use Rattle.dependency_book.specs.Felt.{felt_from}
+use Rattle.dependency_book.proofs.Tests.{clash}
+use Rattle.dependency_book.proofs.book.Book.felt.Goals as goal
+
+pub returns : goal.returns
+returns c =
+    let asked = asked_of c.args.edit.now in
+    inr (
+      λ unfelt. clash c.in_ok-is_unfelt.field-0 (c.in_ok-is_unfelt.ensures.1 unfelt) c.if-branch.false,
+      c.felt_from.ensures ∙ ap (λ (d : BookState). felt_from d.plan asked) c.self.view_is,
+    )

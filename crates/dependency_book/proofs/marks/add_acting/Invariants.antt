@@ -1,0 +1,12 @@
+use Rattle.std.proofs.Common.{◌≡◌, ◌≤◌, ◌+◌, ◌++◌, length, map, vec_len}
+use Rattle.std.specs.Prelude.{vec_capacity}
+use Rattle.dependency_book.specs.AllMarks.{but_start}
+use Rattle.dependency_book.specs.Marks.{mark_at}
+use Rattle.dependency_book.proofs.marks.add_acting.Given as goal
+
+abbrev pub invariant-loop-generation : goal.invariant-loop-generation
+invariant-loop-generation l = record {
+  items : l.marks.items ≡ l.fn.marks.items ++ but_start (map (mark_at l.intervention.branch) l.yielded);
+  len : vec_len l.marks ≤ vec_len l.fn.marks + length l.yielded;
+  capacity : vec_capacity l.marks ≡ vec_capacity l.fn.marks;
+}

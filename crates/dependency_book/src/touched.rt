@@ -1,0 +1,160 @@
+//! What an edit of interventions touches.
+ghost use Rattle.std.specs.Prelude.{◌≡◌, min};
+ghost use Rattle.std.specs.Option.{option_map};
+ghost use Rattle.schedule.specs.Asked.{asked_of};
+ghost use Rattle.dependency_book.specs.Felt.{added, begins_anew, felt_from, first_touched};
+ghost use Rattle.dependency_book.specs.Felt.{intervention_at, moved, removed, touched_by};
+
+use crate::mark::Mark;
+use schedule::{Acts, Document, Edit, Intervention};
+
+/// The branch in which an edit changes what acts, and when that acts before the edit and after it,
+/// which is the same where the edit adds or removes it.
+#[derive(Clone, Copy, Debug, PartialEq, Eq)]
+pub(crate) struct Touched {
+    pub(crate) branch: u64,
+    pub(crate) was: Acts,
+    pub(crate) is: Acts,
+}
+
+impl Touched {
+    // By an edit that adds an intervention.
+    fn added(branch: u64, acts: Acts) -> Touched
+        ensures { result ≡ added branch acts }
+    {
+        Touched {
+            branch,
+            was: acts,
+            is: acts,
+        }
+    }
+
+    // By one that changes an intervention.
+    fn moved(acts: Acts, intervention: &Intervention) -> Touched
+        ensures { result ≡ moved acts intervention.now }
+    {
+        Touched {
+            branch: intervention.branch,
+            was: intervention.acts,
+            is: acts,
+        }
+    }
+
+    // By one that removes it.
+    fn removed(intervention: &Intervention) -> Touched
+        ensures { result ≡ removed intervention.now }
+    {
+        Touched::added(intervention.branch, intervention.acts)
+    }
+
+    // The first mark at which it acts, before the edit or after it.
+    fn first(self) -> Mark
+        ensures { result ≡ first_touched self }
+    {
+        Mark::at(self.branch, self.was.first().min(self.is.first()))
+    }
+}
+
+/// What an edit touches, if it is one of interventions.
+pub(crate) fn touched_by(document: &Document, edit: &Edit) -> Option<Touched>
+    ensures { result ≡ touched_by document.now (asked_of edit.now) }
+{
+    match edit {
+        Edit::InsertIntervention {
+            branch,
+            generation,
+            ..
+        } => Some(Touched::added(
+            *branch,
+            Acts::Once {
+                generation: *generation,
+            },
+        )),
+        Edit::InsertRepeat {
+            branch,
+            first,
+            every,
+            last,
+            ..
+        } => Some(Touched::added(
+            *branch,
+            Acts::Every {
+                first: *first,
+                every: *every,
+                last: *last,
+            },
+        )),
+        Edit::ChangeIntervention { id, generation, .. } => {
+            moved(
+                document,
+                *id,
+                Acts::Once {
+                    generation: *generation,
+                },
+            )
+        }
+        Edit::ChangeRepeat {
+            id,
+            first,
+            every,
+            last,
+            ..
+        } => moved(
+            document,
+            *id,
+            Acts::Every {
+                first: *first,
+                every: *every,
+                last: *last,
+            },
+        ),
+        Edit::RemoveIntervention { id } => removed(document, *id),
+        _ => None,
+    }
+}
+
+// What is touched where the intervention of an id acts then.
+fn moved(document: &Document, id: u64, acts: Acts) -> Option<Touched>
+    ensures { result ≡ option_map (moved acts) (intervention_at document.now id) }
+{
+    Some(Touched::moved(acts, intervention_at(document, id)?))
+}
+
+// What is touched where it is removed.
+fn removed(document: &Document, id: u64) -> Option<Touched>
+    ensures { result ≡ option_map removed (intervention_at document.now id) }
+{
+    Some(Touched::removed(intervention_at(document, id)?))
+}
+
+// The intervention of an id.
+fn intervention_at(document: &Document, id: u64) -> Option<&Intervention>
+    ensures { option_map (λ intervention. intervention.now) result
+        ≡ intervention_at document.now id }
+{
+    document
+        .interventions()
+        .iter()
+        .find(|intervention| intervention.id == id)
+}
+
+// Whether an edit takes another start or another rule.
+fn begins_anew(edit: &Edit) -> bool
+    ensures { result ≡ begins_anew (asked_of edit.now) }
+{
+    match edit {
+        Edit::SetCells { .. } | Edit::ReplaceStart(_) | Edit::ReplaceRule(_) => true,
+        _ => false,
+    }
+}
+
+/// The mark from which an edit may be felt, if it may change any pattern.
+pub(crate) fn felt_from(document: &Document, edit: &Edit) -> Option<Mark>
+    ensures { result ≡ felt_from document.now (asked_of edit.now) }
+{
+    match touched_by(document, edit) {
+        Some(touched) => Some(touched.first()),
+        None if begins_anew(edit) => Some(Mark::at(0, 0)),
+        None => None,
+    }
+}
