@@ -8,7 +8,7 @@ use Rattle.worlds.specs.World.{World, blank}
 use Rattle.rule_tree.specs.Rule.{still, states_of, states_of-still}
 use Rattle.schedule.specs.declared.document.Bookmark.{Bookmark}
 use Rattle.schedule.specs.declared.fault.EditFault.{EditFault}
-use Rattle.schedule.specs.Asked.{Asked, InsertIntervention, ChangeIntervention, RemoveIntervention, SetCells, ReplaceStart, ReplaceRule, AddBookmark, MoveBookmark, RemoveBookmark, AddBranch, RemoveBranch}
+use Rattle.schedule.specs.Asked.{Asked, InsertIntervention, ChangeIntervention, InsertRepeat, ChangeRepeat, RemoveIntervention, SetCells, ReplaceStart, ReplaceRule, AddBookmark, MoveBookmark, RemoveBookmark, AddBranch, RemoveBranch}
 use Rattle.schedule.specs.Change.{changed, refusal, unless_refused}
 use Rattle.schedule.specs.Plan.{Plan, opening}
 use Rattle.schedule.specs.Scratch.{arrival, scratch}
@@ -329,6 +329,8 @@ edits_some c asked felt some has = by_refusal (refusal c.plan asked)
 has_states : (asked : Asked) → MayBeAsked asked → HasStates asked
 has_states (InsertIntervention branch generation cells) h = tt
 has_states (ChangeIntervention id generation cells) h = tt
+has_states (InsertRepeat branch first every last cells) h = tt
+has_states (ChangeRepeat id first every last cells) h = tt
 has_states (RemoveIntervention id) h = tt
 has_states (SetCells cells) h = tt
 has_states (ReplaceStart start) h = tt

@@ -3,7 +3,7 @@ use Rattle.std.specs.Prelude.{◌≡◌, ℕ, ◌+◌, ◌<◌, ◌≤◌, List,
 use Rattle.worlds.specs.World.{World}
 use Rattle.rule_tree.specs.Rule.{states_of}
 use Rattle.schedule.specs.declared.fault.EditFault.{EditFault}
-use Rattle.schedule.specs.Asked.{Asked, InsertIntervention, ChangeIntervention, RemoveIntervention, SetCells, ReplaceStart, ReplaceRule, AddBookmark, MoveBookmark, RemoveBookmark, AddBranch, RemoveBranch}
+use Rattle.schedule.specs.Asked.{Asked, InsertIntervention, ChangeIntervention, InsertRepeat, ChangeRepeat, RemoveIntervention, SetCells, ReplaceStart, ReplaceRule, AddBookmark, MoveBookmark, RemoveBookmark, AddBranch, RemoveBranch}
 use Rattle.schedule.specs.Change.{Changed, change, changed}
 use Rattle.schedule.specs.Plan.{Plan}
 use Rattle.revision_jobs.specs.declared.entries.Entries.{Entries}
@@ -100,6 +100,8 @@ arrival_in c m = world_in (c.rows (step_to m))
 abbrev pub MayBeAsked : Asked → Type 0
 MayBeAsked (InsertIntervention branch generation cells) = ⊤
 MayBeAsked (ChangeIntervention id generation cells) = ⊤
+MayBeAsked (InsertRepeat branch first every last cells) = ⊤
+MayBeAsked (ChangeRepeat id first every last cells) = ⊤
 MayBeAsked (RemoveIntervention id) = ⊤
 MayBeAsked (SetCells cells) = ⊤
 MayBeAsked (ReplaceStart start) = ⊤

@@ -1,114 +1,23 @@
 //! Worked desks, with what they show and what is out.
 mod bad_posts;
 mod bench;
+mod changes;
 mod posts;
+mod repeats;
 mod takers;
 mod unruly;
 
 use bench::{Act, Bench, Wanted};
-use desk_core::{
-    Cause, CellSet, Collected, Edit, EditFault, Edited, Entries, EvolveFault, Listing, Rule,
-    Settling, View,
-};
+use changes::Change;
+use desk_core::{Cause, Collected, EditFault, Edited, Entries, EvolveFault, Settling, View};
 use std::alloc::Global;
 use std::fmt::Debug;
 use std::process::Abort;
-use std::sync::{Arc, Wait};
-
-/// A cell as a row of a table gives it: x, y and its state.
-type Row = (i64, i64, u16);
-
-// A cell is 1 next where exactly one of its neighbours is. Two of the eight cases are left to the
-// cell's own state.
-const X: &[u8] =
-    b"@RULE X\n@TABLE\nn_states:2\nneighborhood:oneDimensional\nsymmetries:none\n0,1,0,1\n0,0,1,1\n1,0,0,0\n1,1,1,0\n";
-
-/// An edit.
-#[derive(Clone, Copy, Debug)]
-enum Change {
-    /// Takes the rule X.
-    Rule,
-    /// Sets the cells of the start.
-    Set(&'static [Row]),
-    /// Inserts an intervention that sets (0, 0) to 1 in what arrives at this generation.
-    Insert(u64),
-    /// Removes the intervention of this id.
-    Remove(u64),
-    /// Adds a bookmark of counts at this generation of branch 0.
-    Mark(u64),
-    /// Adds a bookmark of counts at a generation of a branch.
-    MarkIn { branch: u64, generation: u64 },
-    /// Adds a bookmark of this view at generation 2.
-    View(View),
-    /// Moves the bookmark of an id.
-    Move { id: u64, generation: u64 },
-    /// Removes the bookmark of this id.
-    Unmark(u64),
-    /// Adds a branch that leaves branch 0 at this generation.
-    Branch(u64),
-}
+use std::sync::Wait;
 
 /// Stops the test where what was found isn't what was wanted.
 fn same<T: PartialEq + Debug, A: Debug>(rt: &impl Abort, found: &T, wanted: &T, at: &A) {
     assert!(rt; found == wanted, "{at:?}: {found:?}, not {wanted:?}");
-}
-
-fn push_cell(rt: &impl Abort, cells: &mut Vec<CellSet>, row: &Row) {
-    let cell = CellSet {
-        x: row.0,
-        y: row.1,
-        state: row.2,
-    };
-    cells.push(cell).expect(rt, "memory");
-}
-
-fn cells_of(rt: &impl Abort, alloc: Global, rows: &[Row]) -> Listing<CellSet> {
-    let mut cells = Vec::new(alloc);
-    for row in rows {
-        push_cell(rt, &mut cells, row);
-    }
-    Listing::from_vec(cells)
-}
-
-fn rule_x(rt: &impl Abort, alloc: Global) -> Arc<Rule> {
-    let rule = Rule::read(alloc, X).expect(rt, "a rule");
-    Arc::new(alloc, rule).expect(rt, "memory")
-}
-
-fn counts_at(branch: u64, generation: u64) -> Edit {
-    Edit::AddBookmark {
-        branch,
-        generation,
-        view: View::Counts,
-    }
-}
-
-fn edit_of(rt: &impl Abort, alloc: Global, change: Change) -> Edit {
-    match change {
-        Change::Rule => Edit::ReplaceRule(rule_x(rt, alloc)),
-        Change::Set(rows) => Edit::SetCells {
-            cells: cells_of(rt, alloc, rows),
-        },
-        Change::Insert(generation) => Edit::InsertIntervention {
-            branch: 0,
-            generation,
-            cells: cells_of(rt, alloc, &[(0, 0, 1)]),
-        },
-        Change::Remove(id) => Edit::RemoveIntervention { id },
-        Change::Mark(generation) => counts_at(0, generation),
-        Change::MarkIn { branch, generation } => counts_at(branch, generation),
-        Change::View(view) => Edit::AddBookmark {
-            branch: 0,
-            generation: 2,
-            view,
-        },
-        Change::Move { id, generation } => Edit::MoveBookmark { id, generation },
-        Change::Unmark(id) => Edit::RemoveBookmark { id },
-        Change::Branch(generation) => Edit::AddBranch {
-            parent: 0,
-            generation,
-        },
-    }
 }
 
 /// Does these acts, and then those, in a desk of the opening document that keeps so many steps.

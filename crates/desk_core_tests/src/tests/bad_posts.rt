@@ -1,8 +1,9 @@
 //! Desks over posts that lose, repeat, delay and reorder answers, and jobs that are stopped.
 ghost use Rattle.std.specs.Prelude.{◌≡◌, ◌≤◌};
 
+use super::changes::{Change, edit_of};
+use super::same;
 use super::unruly::{Deed, Unruly};
-use super::{Change, edit_of, same};
 use desk_core::{
     Collected, Desk, Entries, EvolveFault, InlinePost, NoGate, Post, Received, Settling, Shown,
     settle, work,

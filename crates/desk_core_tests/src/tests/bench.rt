@@ -2,8 +2,9 @@
 ghost use Rattle.std.specs.Prelude.{◌≡◌, ◌≤◌};
 ghost use Rattle.revision_jobs.specs.Entries.{IsOf};
 
+use super::changes::{Change, edit_of};
 use super::posts::{LosingPost, RefusingPost};
-use super::{Change, edit_of, same};
+use super::same;
 use desk_core::{
     Answer, Cause, Collected, Desk, EditFault, Edited, Entries, Entry, EvolveFault, InlinePost,
     Job, NoGate, Outcome, Place, Settling, Shown, feed, settle, work,

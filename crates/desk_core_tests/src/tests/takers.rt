@@ -1,7 +1,8 @@
 //! A taker that is dropped with the job that it took.
 ghost use Rattle.std.specs.Prelude.{◌≡◌};
 
-use super::{Change, edit_of, same};
+use super::changes::{Change, edit_of};
+use super::same;
 use desk_core::{Collected, Desk, Entries, NoGate, Sent, Shown, work};
 use job_queue::{JobSender, JobTaker, job_queue};
 use std::alloc::Global;
