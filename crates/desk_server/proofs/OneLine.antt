@@ -21,7 +21,8 @@ use Rattle.schedule.specs.declared.fault.EditFault.{EditFault}
 use Rattle.schedule.specs.declared.edit.Edit.{Edit}
 use Rattle.schedule.specs.declared.edit.Edit.TheVariants as edit
 use Rattle.schedule.specs.declared.fault.EditFault.TheVariants.{NoSuchBookmark}
-use Rattle.schedule.specs.Asked.{Asked, asked_of, InsertIntervention, ChangeIntervention, RemoveIntervention, SetCells, ReplaceStart, ReplaceRule, AddBookmark, MoveBookmark, RemoveBookmark, AddBranch, RemoveBranch}
+use Rattle.schedule.specs.Acts.{first_of}
+use Rattle.schedule.specs.Asked.{Asked, asked_of, InsertIntervention, ChangeIntervention, InsertRepeat, ChangeRepeat, RemoveIntervention, SetCells, ReplaceStart, ReplaceRule, AddBookmark, MoveBookmark, RemoveBookmark, AddBranch, RemoveBranch}
 use Rattle.schedule.specs.Change.{Changed, changed, refusal, unless_refused}
 use Rattle.schedule.specs.Ids.{branch_id, without}
 use Rattle.schedule.specs.Plan.{Plan, opening}
@@ -31,6 +32,7 @@ use Rattle.schedule.proofs.Shared.Changed.{HasStates, sound_changed, some_change
 use Rattle.schedule.proofs.Shared.Lines.{one_line}
 use Rattle.dependency_book.specs.BookState.{bookmark_in}
 use Rattle.desk_server.specs.declared.fault.ScriptFault.TheVariants.{BadCommand, NoEnd}
+use Rattle.desk_server.specs.declared.interventions.Repeated.{Repeated}
 use Rattle.desk_server.specs.declared.format.Format.{Format}
 use Rattle.desk_server.specs.declared.format.Format.TheVariants as format
 use Rattle.desk_server.specs.declared.command.Command.{Command}
@@ -38,7 +40,7 @@ use Rattle.desk_server.specs.declared.command.Command.TheVariants as command
 use Rattle.desk_server.specs.Faults.{Fault, of_edit, of_rule, of_pattern, of_macrocell, of_script}
 use Rattle.desk_server.specs.Reply.{settled_text, unsettled_text}
 use Rattle.desk_server.specs.View.{alone, view_of}
-use Rattle.desk_server.specs.Command.{cells_of, some_cells, cells_set, counted, set_of, at_of, on_of, change_of, drop_of, mark_of, move_of, unmark_of, branch_of, unbranch_of, edit_in_branch, edit_in_named, further_edit_by, edit_by, command_of, command_of_words, format_of, count_of, one_count}
+use Rattle.desk_server.specs.Command.{cells_of, some_cells, cells_set, counted, set_of, at_of, every_of, on_of, change_of, change_named, change_once_of, change_repeat_of, changed_by, repeated_of, drop_of, mark_of, move_of, unmark_of, branch_of, unbranch_of, edit_in_branch, edit_in_named, further_edit_by, edit_by, command_of, command_of_words, format_of, count_of, one_count}
 use Rattle.desk_server.specs.Shortage.{Shortage, NoShortage, Memory, Unsettled, Pending}
 use Rattle.desk_server.specs.Answer.{Ask, Obey, Take, Refuse, After, accepted, answer, edited, id_word, only, refused, settled, shown, started, taken, there, unless_fault, unless_memory}
 use Rattle.desk_server.specs.Script.{asked_at, asked_by, asks, afters, Between, InText, Place, place_behind, documents_of, documents_with, first_shortage, later_shortages}
@@ -66,14 +68,18 @@ mapped adds make (Some a) h = h a
 
 in_branch-says : (adds : Bool) (b : ℕ) (word : List ℕ) (rest : List (List ℕ))
     → SaysSuch adds (edit_in_branch b word rest)
-in_branch-says adds b word rest = chosen (bytes_eq word (codes "at")) (bytes_eq word (codes "mark"))
+in_branch-says adds b word rest = chosen (bytes_eq word (codes "at")) (bytes_eq word (codes "every"))
+    (bytes_eq word (codes "mark"))
   where
-    chosen : (v u : Bool) → SaysSuch adds (cond v (at_of b rest) (cond u (mark_of b rest) None))
-    chosen true u = mapped adds (λ r. edit.InsertIntervention b r.0 r.1) (counted cells_set rest)
+    chosen : (v w u : Bool)
+        → SaysSuch adds (cond v (at_of b rest) (cond w (every_of b rest) (cond u (mark_of b rest) None)))
+    chosen true w u = mapped adds (λ r. edit.InsertIntervention b r.0 r.1) (counted cells_set rest)
         (λ r. record { states = tt; none = λ _. tt })
-    chosen false true = mapped adds (λ r. edit.AddBookmark b r.0 r.1) (counted view_of rest)
+    chosen false true u = mapped adds (λ (r : Repeated). edit.InsertRepeat b r.first r.every r.last r.cells)
+        (repeated_of rest) (λ r. record { states = tt; none = λ _. tt })
+    chosen false false true = mapped adds (λ r. edit.AddBookmark b r.0 r.1) (counted view_of rest)
         (λ r. record { states = tt; none = λ _. tt })
-    chosen false false = tt
+    chosen false false false = tt
 
 named-says : (adds : Bool) (b : Option ℕ) (rest : List (List ℕ)) → SaysSuch adds (edit_in_named b rest)
 named-says adds None rest = tt
@@ -102,6 +108,27 @@ further-says word rest = chosen (bytes_eq word (codes "move")) (bytes_eq word (c
         mapped false edit.RemoveBranch (one_count rest) (λ r. record { states = tt; none = λ _. tt })
     chosen false false false false = in_branch-says false 0 word rest
 
+once-says : (adds : Bool) (id : ℕ) (rest : List (List ℕ)) → SaysSuch adds (change_once_of id rest)
+once-says adds id rest = mapped adds (λ r. edit.ChangeIntervention id r.0 r.1) (counted cells_set rest)
+    (λ r. record { states = tt; none = λ _. tt })
+
+changed-says : (adds : Bool) (id : ℕ) (rest : List (List ℕ)) → SaysSuch adds (changed_by id rest)
+changed-says adds id [] = tt
+changed-says adds id (word ∷ rest) = chosen (bytes_eq word (codes "every"))
+  where
+    chosen : (a : Bool) → SaysSuch adds (cond a (change_repeat_of id rest) (change_once_of id (word ∷ rest)))
+    chosen true = mapped adds (λ (r : Repeated). edit.ChangeRepeat id r.first r.every r.last r.cells)
+        (repeated_of rest) (λ r. record { states = tt; none = λ _. tt })
+    chosen false = once-says adds id (word ∷ rest)
+
+change_named-says : (adds : Bool) (id : Option ℕ) (rest : List (List ℕ)) → SaysSuch adds (change_named id rest)
+change_named-says adds None rest = tt
+change_named-says adds (Some id) rest = changed-says adds id rest
+
+change-says : (adds : Bool) (rest : List (List ℕ)) → SaysSuch adds (change_of rest)
+change-says adds [] = tt
+change-says adds (id ∷ rest) = change_named-says adds (count_of id) rest
+
 edit-says : (word : List ℕ) (rest : List (List ℕ)) → SaysSuch (bytes_eq word (codes "branch")) (edit_by word rest)
 edit-says word rest = chosen (bytes_eq word (codes "set")) (bytes_eq word (codes "on")) (bytes_eq word (codes "change"))
     (bytes_eq word (codes "drop"))
@@ -112,8 +139,7 @@ edit-says word rest = chosen (bytes_eq word (codes "set")) (bytes_eq word (codes
     chosen true b c d = mapped (bytes_eq word (codes "branch")) edit.SetCells (some_cells (cells_of rest))
         (λ r. record { states = tt; none = λ _. tt })
     chosen false true c d = on-says (bytes_eq word (codes "branch")) rest
-    chosen false false true d = mapped (bytes_eq word (codes "branch")) (λ r. edit.ChangeIntervention r.0 r.1.0 r.1.1)
-        (counted (counted cells_set) rest) (λ r. record { states = tt; none = λ _. tt })
+    chosen false false true d = change-says (bytes_eq word (codes "branch")) rest
     chosen false false false true = mapped (bytes_eq word (codes "branch")) edit.RemoveIntervention (one_count rest)
         (λ r. record { states = tt; none = λ _. tt })
     chosen false false false false = further-says word rest
@@ -348,6 +374,8 @@ AsksAlone asked = HasStates asked × AddsNone asked
 branches-none : (p : Plan) (asked : Asked) → AddsNone asked → p.branches ≡ [] → (changed p asked).plan.branches ≡ []
 branches-none p (InsertIntervention b generation cells) none e = e
 branches-none p (ChangeIntervention id generation cells) none e = e
+branches-none p (InsertRepeat b first every last cells) none e = e
+branches-none p (ChangeRepeat id first every last cells) none e = e
 branches-none p (RemoveIntervention id) none e = e
 branches-none p (SetCells cells) none e = e
 branches-none p (ReplaceStart start) none e = e
@@ -373,15 +401,15 @@ alone-one_line : (p : Plan) → IsAlone p → HasOneLine p
 alone-one_line p k =
     let sound =
     subst (λ (bs : List Branch). AllByRecursion
-    (λ (i : Intervention). IsPlaced bs i.branch i.generation) p.interventions) k.1
+    (λ (i : Intervention). IsPlaced bs i.branch (first_of i.acts)) p.interventions) k.1
     k.0.0.branches_sound.interventions_placed in
     let marked =
     subst (λ (bs : List Branch). AllByRecursion (λ (b : Bookmark). IsPlaced bs b.branch b.generation) p.bookmarks) k.1
     k.0.0.branches_sound.bookmarks_placed in
     record {
       branches = k.1;
-      interventions = all-map (λ (i : Intervention). IsPlaced [] i.branch i.generation)
-          (λ (i : Intervention). i.branch ≡ 0) p.interventions (λ i. placed-alone i.branch i.generation) sound;
+      interventions = all-map (λ (i : Intervention). IsPlaced [] i.branch (first_of i.acts))
+          (λ (i : Intervention). i.branch ≡ 0) p.interventions (λ i. placed-alone i.branch (first_of i.acts)) sound;
       bookmarks =
           all-map (λ (b : Bookmark). IsPlaced [] b.branch b.generation) (λ (b : Bookmark). b.branch ≡ 0) p.bookmarks
           (λ b. placed-alone b.branch b.generation) marked;

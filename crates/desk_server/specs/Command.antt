@@ -5,9 +5,10 @@ use Rattle.std.specs.Str.{bytes_eq}
 use Rattle.script_lines.specs.Words.{words}
 use Rattle.worlds.specs.declared.cell.CellSet.{CellSet}
 use Rattle.schedule.specs.declared.edit.Edit.{Edit}
-use Rattle.schedule.specs.declared.edit.Edit.TheVariants.{InsertIntervention, ChangeIntervention, RemoveIntervention, SetCells, AddBookmark, MoveBookmark, RemoveBookmark, AddBranch, RemoveBranch}
+use Rattle.schedule.specs.declared.edit.Edit.TheVariants.{InsertIntervention, ChangeIntervention, InsertRepeat, ChangeRepeat, RemoveIntervention, SetCells, AddBookmark, MoveBookmark, RemoveBookmark, AddBranch, RemoveBranch}
 use Rattle.desk_server.specs.Numbers.{up_to, coordinate}
 use Rattle.desk_server.specs.View.{alone, view_of}
+use Rattle.desk_server.specs.declared.interventions.Repeated.{Repeated}
 use Rattle.desk_server.specs.declared.format.Format.{Format}
 use Rattle.desk_server.specs.declared.format.Format.TheVariants as format
 use Rattle.desk_server.specs.declared.command.Command.{Command}
@@ -69,9 +70,39 @@ set_of rest = option_map SetCells (some_cells (cells_of rest))
 abbrev pub at_of : ℕ → List (List ℕ) → Option Edit
 at_of b rest = option_map (λ r. InsertIntervention b r.0 r.1) (counted cells_set rest)
 
+-- an intervention that repeats: a distance, a first and a last generation, and cells
+abbrev pub repeated_by : ℕ × (ℕ × (ℕ × List CellSet)) → Repeated
+repeated_by r = record { every = r.0; first = r.1.0; last = r.1.1.0; cells = r.1.1.1 }
+
+abbrev pub repeated_of : List (List ℕ) → Option Repeated
+repeated_of rest = option_map repeated_by (counted (counted (counted cells_set)) rest)
+
+abbrev pub every_of : ℕ → List (List ℕ) → Option Edit
+every_of b rest =
+    option_map (λ r. InsertRepeat b r.first r.every r.last r.cells) (repeated_of rest)
+
+-- the intervention of an id acts once, or repeats, by the words behind the id
+abbrev pub change_once_of : ℕ → List (List ℕ) → Option Edit
+change_once_of id rest =
+    option_map (λ r. ChangeIntervention id r.0 r.1) (counted cells_set rest)
+
+abbrev pub change_repeat_of : ℕ → List (List ℕ) → Option Edit
+change_repeat_of id rest =
+    option_map (λ r. ChangeRepeat id r.first r.every r.last r.cells) (repeated_of rest)
+
+abbrev pub changed_by : ℕ → List (List ℕ) → Option Edit
+changed_by id [] = None
+changed_by id (word ∷ rest) =
+    if bytes_eq word (codes "every") then change_repeat_of id rest
+    else change_once_of id (word ∷ rest)
+
+abbrev pub change_named : Option ℕ → List (List ℕ) → Option Edit
+change_named None rest = None
+change_named (Some id) rest = changed_by id rest
+
 abbrev pub change_of : List (List ℕ) → Option Edit
-change_of rest =
-    option_map (λ r. ChangeIntervention r.0 r.1.0 r.1.1) (counted (counted cells_set) rest)
+change_of [] = None
+change_of (id ∷ rest) = change_named (count_of id) rest
 
 abbrev pub drop_of : List (List ℕ) → Option Edit
 drop_of rest = option_map RemoveIntervention (one_count rest)
@@ -95,8 +126,9 @@ unbranch_of rest = option_map RemoveBranch (one_count rest)
 abbrev pub edit_in_branch : ℕ → List ℕ → List (List ℕ) → Option Edit
 edit_in_branch b word rest =
     if bytes_eq word (codes "at") then at_of b rest
+    else (if bytes_eq word (codes "every") then every_of b rest
     else (if bytes_eq word (codes "mark") then mark_of b rest
-    else None)
+    else None))
 
 -- the edit in a branch that is named, if it is
 abbrev pub edit_in_named : Option ℕ → List (List ℕ) → Option Edit

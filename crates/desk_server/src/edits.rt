@@ -2,10 +2,11 @@
 ghost use Rattle.std.specs.Prelude.{◌≡◌, IfOk};
 ghost use Rattle.script_lines.specs.Words.{words};
 ghost use Rattle.desk_server.specs.Command.{edit_by, further_edit_by, edit_in_branch};
-ghost use Rattle.desk_server.specs.Command.{set_of, at_of, on_of, change_of, drop_of, mark_of, move_of};
-ghost use Rattle.desk_server.specs.Command.{unmark_of, branch_of, unbranch_of};
+ghost use Rattle.desk_server.specs.Command.{set_of, on_of, mark_of, move_of, unmark_of};
+ghost use Rattle.desk_server.specs.Command.{branch_of, unbranch_of};
 
-use crate::cells::{read_cells_set, some_cells};
+use crate::cells::some_cells;
+use crate::interventions::{read_at, read_change, read_drop, read_every};
 use crate::view::read_view;
 use crate::words::{count, one_count};
 use desk_core::Edit;
@@ -84,53 +85,12 @@ fn read_in_branch(
 {
     if word == b"at".as_slice() {
         read_at(alloc, branch, rest)
+    } else if word == b"every".as_slice() {
+        read_every(alloc, branch, rest)
     } else if word == b"mark".as_slice() {
         Ok(read_mark(branch, rest))
     } else {
         Ok(None)
-    }
-}
-
-// An intervention is inserted into a branch.
-fn read_at(alloc: Global, branch: u64, rest: &[u8]) -> Result<Option<Edit>, AllocError>
-    ensures { IfOk result (λ edit. edit ≡ at_of branch (words rest.now)) }
-{
-    let Some((generation, rest)) = next_word(rest) else {
-        return Ok(None);
-    };
-    let Some(generation) = count(generation) else {
-        return Ok(None);
-    };
-    match read_cells_set(alloc, rest)? {
-        Some(cells) => Ok(Some(Edit::InsertIntervention {
-            branch,
-            generation,
-            cells,
-        })),
-        None => Ok(None),
-    }
-}
-
-// An intervention is changed.
-fn read_change(alloc: Global, rest: &[u8]) -> Result<Option<Edit>, AllocError>
-    ensures { IfOk result (λ edit. edit ≡ change_of (words rest.now)) }
-{
-    let Some((id, rest)) = next_word(rest) else {
-        return Ok(None);
-    };
-    let Some((generation, rest)) = next_word(rest) else {
-        return Ok(None);
-    };
-    let (Some(id), Some(generation)) = (count(id), count(generation)) else {
-        return Ok(None);
-    };
-    match read_cells_set(alloc, rest)? {
-        Some(cells) => Ok(Some(Edit::ChangeIntervention {
-            id,
-            generation,
-            cells,
-        })),
-        None => Ok(None),
     }
 }
 
@@ -146,14 +106,6 @@ fn read_mark(branch: u64, rest: &[u8]) -> Option<Edit>
         generation,
         view,
     })
-}
-
-// An intervention is removed.
-fn read_drop(rest: &[u8]) -> Option<Edit>
-    ensures { result ≡ drop_of (words rest.now) }
-{
-    let id = one_count(rest)?;
-    Some(Edit::RemoveIntervention { id })
 }
 
 // A bookmark is moved.

@@ -21,6 +21,7 @@ mod edits;
 mod fault;
 mod format;
 mod heard;
+mod interventions;
 mod laws;
 mod reply;
 mod request;

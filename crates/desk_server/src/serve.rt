@@ -29,7 +29,7 @@ fn id_word(edit: &Edit) -> &'static str
     ensures { result.now ≡ id_word (asked_of edit.now) }
 {
     match edit {
-        Edit::InsertIntervention { .. } => " intervention ",
+        Edit::InsertIntervention { .. } | Edit::InsertRepeat { .. } => " intervention ",
         Edit::AddBookmark { .. } => " bookmark ",
         Edit::AddBranch { .. } => " branch ",
         _ => "",

@@ -10,6 +10,7 @@ mod faults;
 mod first;
 mod over;
 mod posts;
+mod repeats;
 mod room;
 mod scripts;
 mod starts;

@@ -8,7 +8,10 @@ Commands of a script, one a line; blank lines and lines that begin with # are pa
   start mc                  takes that of a macrocell text
   set X Y S ..              sets cells of the start to states, each by three numbers
   at G set X Y S ..         adds an intervention: these cells are set at generation G
-  change ID G set X Y S ..  gives an intervention another generation and other cells
+  every K G H set X Y S ..  adds one that acts at generation G and every K later, up to H
+  change ID G set X Y S ..  lets an intervention act once, at generation G, with these cells
+  change ID every K G H set X Y S ..
+                            lets it act at generation G and every K later, up to H
   drop ID                   removes an intervention
   mark G counts             adds a bookmark at generation G, of the number of cells of each state
   mark G rle                one of the pattern as RLE
@@ -18,7 +21,8 @@ Commands of a script, one a line; blank lines and lines that begin with # are pa
   unmark ID                 removes a bookmark
   branch B G                adds a branch of history, which leaves branch B after generation G
   unbranch B                removes a branch that nothing stands in
-  on B at .., on B mark ..  does so in branch B; without `on` it is branch 0
+  on B at ..                does so in branch B, as do `on B every ..` and `on B mark ..`; without `on`
+                            it is branch 0
   work                      lets the workers begin and doesn't wait for them
   settle                    computes the texts of all bookmarks
   show ID                   does so, and then shows the text of a bookmark
