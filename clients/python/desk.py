@@ -157,9 +157,21 @@ class Desk:
         """Adds an intervention, which sets cells at a generation of the branch `on`, and gives its id."""
         return int(self._edit(f"{_branch_words(on)}at {generation} set {_words_of(cells)}")[3])
 
+    def every(self, distance: int, first: int, last: int, cells: Iterable[Cell], on: int = 0) -> int:
+        """Adds an intervention that sets cells again and again, and gives its id.
+
+        It acts at the generation `first` of the branch `on`, and at each that is `distance` after one
+        at which it acts, up to `last`.
+        """
+        return int(self._edit(f"{_branch_words(on)}every {distance} {first} {last} set {_words_of(cells)}")[3])
+
     def change(self, intervention: int, generation: int, cells: Iterable[Cell]) -> None:
-        """Gives an intervention another generation of its branch and other cells."""
+        """Lets an intervention act once, at a generation of its branch, with these cells."""
         self._edit(f"change {intervention} {generation} set {_words_of(cells)}")
+
+    def repeat(self, intervention: int, distance: int, first: int, last: int, cells: Iterable[Cell]) -> None:
+        """Lets an intervention act again and again, as one of `every` does, with these cells."""
+        self._edit(f"change {intervention} every {distance} {first} {last} set {_words_of(cells)}")
 
     def drop(self, intervention: int) -> None:
         """Removes an intervention."""
