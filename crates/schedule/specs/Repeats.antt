@@ -16,9 +16,13 @@ marks_within reaches interventions =
 abbrev pub repeat_marks : Plan → ℕ
 repeat_marks p = marks_within (reach p) p.interventions
 
--- there are more than 8,192
+-- the most that those of a document may be
+abbrev pub most_marks : ℕ
+most_marks = 8192
+
+-- there are more than these
 unfoldable pub has_too_many_marks : Plan → Bool
-has_too_many_marks p = nat_lt 8192 (repeat_marks p)
+has_too_many_marks p = nat_lt most_marks (repeat_marks p)
 
 -- how far a branch reaches, if one of them reaches to `least` at least
 abbrev pub reach_with : Plan → ℕ → ℕ → ℕ → ℕ

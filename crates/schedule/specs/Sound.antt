@@ -9,7 +9,7 @@ use Rattle.schedule.specs.declared.document.Intervention.{Intervention}
 use Rattle.schedule.specs.declared.document.Bookmark.{Bookmark}
 use Rattle.schedule.specs.declared.branch.Branch.{Branch}
 use Rattle.schedule.specs.Acts.{first_of, IsTimely}
-use Rattle.schedule.specs.Repeats.{repeat_marks}
+use Rattle.schedule.specs.Repeats.{most_marks, repeat_marks}
 use Rattle.schedule.specs.Plan.{Plan}
 use Rattle.schedule.specs.Ids.{IdsRise, intervention_id, bookmark_id, branch_id}
 use Rattle.schedule.specs.Branches.{has_branch, fork_of}
@@ -70,7 +70,7 @@ pub record IsSound (p : Plan) : Type 0 where
       p.interventions
   pub few_interventions : length p.interventions ≤ 4096
   pub interventions_within : p.last_intervention ≤ p.revision
-  pub few_marks : repeat_marks p ≤ 8192
+  pub few_marks : repeat_marks p ≤ most_marks
   pub bookmarks_near : AllByRecursion (λ (b : Bookmark). b.generation ≤ 2 ^ 60) p.bookmarks
   pub views_within : AllByRecursion (λ (b : Bookmark). IsWithin b.view) p.bookmarks
   pub bookmarks_rise : IdsRise bookmark_id p.bookmarks

@@ -57,32 +57,26 @@ impl Document {
                 branch,
                 generation,
                 cells,
-            } => self.insert_intervention(*branch, Acts::once(*generation), cells.as_slice()),
+            } => self.insert_intervention(*branch, Acts::once(*generation), cells),
             Edit::ChangeIntervention {
                 id,
                 generation,
                 cells,
-            } => self.change_intervention(*id, Acts::once(*generation), cells.as_slice()),
+            } => self.change_intervention(*id, Acts::once(*generation), cells),
             Edit::InsertRepeat {
                 branch,
                 first,
                 every,
                 last,
                 cells,
-            } => {
-                let acts = Acts::every(*first, *every, *last);
-                self.insert_intervention(*branch, acts, cells.as_slice())
-            }
+            } => self.insert_intervention(*branch, Acts::every(*first, *every, *last), cells),
             Edit::ChangeRepeat {
                 id,
                 first,
                 every,
                 last,
                 cells,
-            } => {
-                let acts = Acts::every(*first, *every, *last);
-                self.change_intervention(*id, acts, cells.as_slice())
-            }
+            } => self.change_intervention(*id, Acts::every(*first, *every, *last), cells),
             Edit::RemoveIntervention { id } => Ok(self.remove_intervention(*id)),
             Edit::SetCells { cells } => self.set_cells(cells.as_slice()),
             Edit::ReplaceStart(start) => self.replace_start(start),
@@ -104,7 +98,7 @@ impl Document {
         &mut self,
         branch: u64,
         acts: Acts,
-        cells: &[CellSet],
+        cells: &Listing<CellSet>,
     ) -> Result<Edited, AllocError>
         requires { first_refusal (for_intervention self.old branch acts cells.now) ≡ None }
         ensures ok { IfOk result (λ edited.
@@ -112,7 +106,7 @@ impl Document {
         ensures unchanged { OnErr result (self.new ≡ self.old) }
     {
         let id = self.last_intervention + 1;
-        let cells = Listing::from_vec(Vec::from_slice(self.alloc, cells)?);
+        let cells = cells.copy(self.alloc)?;
         self.interventions.push(Intervention {
             id,
             branch,
@@ -132,14 +126,14 @@ impl Document {
         &mut self,
         id: u64,
         acts: Acts,
-        cells: &[CellSet],
+        cells: &Listing<CellSet>,
     ) -> Result<Edited, AllocError>
         requires { first_refusal (for_changed_intervention self.old id acts cells.now) ≡ None }
         ensures ok { IfOk result (λ edited.
             with_changed_intervention self.old id acts cells.now ≡ made self.new edited) }
         ensures unchanged { OnErr result (self.new ≡ self.old) }
     {
-        let cells = Listing::from_vec(Vec::from_slice(self.alloc, cells)?);
+        let cells = cells.copy(self.alloc)?;
         change_in(&mut self.interventions, id, acts, cells);
         self.revision += 1;
         Ok(Edited {

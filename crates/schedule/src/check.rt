@@ -22,6 +22,7 @@ use crate::branch::{fork_of, has_branch, has_children};
 use crate::document::{Bookmark, Document, Intervention};
 use crate::edit::Edit;
 use crate::fault::EditFault;
+use basics::Listing;
 use bookmarks::View;
 use plane_core::{Bounds, CellSet, Next, Plane};
 use rule_tree::Rule;
@@ -139,32 +140,26 @@ impl Document {
                 branch,
                 generation,
                 cells,
-            } => self.check_intervention(*branch, Acts::once(*generation), cells.as_slice()),
+            } => self.check_intervention(*branch, Acts::once(*generation), cells),
             Edit::ChangeIntervention {
                 id,
                 generation,
                 cells,
-            } => self.check_changed_intervention(*id, Acts::once(*generation), cells.as_slice()),
+            } => self.check_changed_intervention(*id, Acts::once(*generation), cells),
             Edit::InsertRepeat {
                 branch,
                 first,
                 every,
                 last,
                 cells,
-            } => {
-                let acts = Acts::every(*first, *every, *last);
-                self.check_intervention(*branch, acts, cells.as_slice())
-            }
+            } => self.check_intervention(*branch, Acts::every(*first, *every, *last), cells),
             Edit::ChangeRepeat {
                 id,
                 first,
                 every,
                 last,
                 cells,
-            } => {
-                let acts = Acts::every(*first, *every, *last);
-                self.check_changed_intervention(*id, acts, cells.as_slice())
-            }
+            } => self.check_changed_intervention(*id, Acts::every(*first, *every, *last), cells),
             Edit::RemoveIntervention { id } => self.check_removed_intervention(*id),
             Edit::SetCells { cells } => self.check_cells(cells.as_slice()),
             Edit::ReplaceStart(start) => self.check_start(start),
@@ -240,7 +235,7 @@ impl Document {
         &self,
         branch: u64,
         acts: Acts,
-        cells: &[CellSet],
+        cells: &Listing<CellSet>,
     ) -> Result<(), EditFault>
         ensures { Checks result (for_intervention self.now branch acts cells.now) }
     {
@@ -259,7 +254,7 @@ impl Document {
         if self.interventions.len() >= MOST_INTERVENTIONS {
             return Err(EditFault::TooManyInterventions);
         }
-        self.check_inserted(branch, acts, cells)
+        self.check_inserted(branch, acts, cells.as_slice())
     }
 
     // Whether an edit may name these cells, and the marks leave room for one more intervention that
@@ -280,7 +275,7 @@ impl Document {
         &self,
         id: u64,
         acts: Acts,
-        cells: &[CellSet],
+        cells: &Listing<CellSet>,
     ) -> Result<(), EditFault>
         ensures { Checks result (for_changed_intervention self.now id acts cells.now) }
     {
@@ -296,7 +291,7 @@ impl Document {
         if acts.first() < fork_of(&self.branches, intervention.branch) {
             return Err(EditFault::BeforeFork);
         }
-        self.check_changed(id, acts, cells)
+        self.check_changed(id, acts, cells.as_slice())
     }
 
     // Whether an edit may name these cells, and the marks leave room for the intervention of an id

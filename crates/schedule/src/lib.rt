@@ -37,4 +37,5 @@ pub use laws::{
     repeats_are_progressions, start_arrives, without_branches,
 };
 pub use plane_core::{CellSet, Next, Plane};
+pub use repeats::MOST_MARKS;
 pub use rule_tree::Rule;

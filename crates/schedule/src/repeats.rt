@@ -20,7 +20,8 @@ use crate::acts::Acts;
 use crate::branch::{farthest_fork, fork_of};
 use crate::document::{Document, Intervention};
 
-/// Repeating interventions make at most this many marks.
+/// The repeating interventions of a document make at most this many marks together; an edit after
+/// which they would make more is refused. `specs/Repeats.antt` has the number as `most_marks`.
 pub const MOST_MARKS: u64 = 8192;
 
 // The sum with the marks that what acts then makes in a branch of this reach.

@@ -5,17 +5,13 @@ use Rattle.std.specs.List.{AllByRecursion}
 use Rattle.std.specs.Option.{option_map_or}
 use Rattle.std.proofs.lemmas.Bool.Decides.{nat_tests}
 use Rattle.worlds.specs.World.{World}
-use Rattle.worlds.specs.Lay.{lay}
 use Rattle.rule_tree.specs.declared.rule.Rule.{Rule}
-use Rattle.rule_tree.specs.Rule.{name_of, states_of}
-use Rattle.bookmarks.specs.Text.{text_of}
 use Rattle.schedule.specs.declared.branch.Branch.{Branch}
-use Rattle.schedule.specs.declared.document.Bookmark.{Bookmark}
 use Rattle.schedule.specs.Alike.{LayAlike, LayAlikeWithin}
 use Rattle.schedule.specs.Plan.{Plan}
 use Rattle.schedule.specs.Branches.{element_at, fork_of, parent_of, reach}
 use Rattle.schedule.specs.Ids.{branch_id}
-use Rattle.schedule.specs.Scratch.{cells_at, history_of, arrival, after, scratch}
+use Rattle.schedule.specs.Scratch.{cells_at, history_of, arrival}
 use Rattle.schedule.specs.Sound.{IsSound}
 use Rattle.schedule.proofs.Shared.Reach.{reach-greatest}
 use Rattle.schedule.proofs.Shared.Branches.{element_at-is, fork_of-zero, parents_before, forks_rise}
@@ -66,18 +62,3 @@ arrival-alike p q b g sound alike =
     (fork_of-zero p.branches forked) (forks_rise p.branches forked) (λ m k late _. alike.lists m k late) b b g
     (omega arith) tt
     ∙ same-lines p q b g alike.rule alike.start alike.branches
-
--- the same worlds leave each generation from the fork on
-pub after-alike : (p q : Plan) (b g : ℕ) → fork_of p.branches b ≤ g → IsSound p → LayAlike p q
-    → after p b g ≡ after q b g
-after-alike p q b g late sound alike =
-    alike.lists b g late ∙ ap (lay (cells_at q.interventions b g)) (arrival-alike p q b g sound alike)
-
--- and a bookmark that stands there shows the same text
-pub scratch-alike : (p q : Plan) (b : Bookmark) → fork_of p.branches b.branch ≤ b.generation → IsSound p
-    → LayAlike p q → scratch p b ≡ scratch q b
-scratch-alike p q b late sound alike =
-    ap (λ w. text_of b.view w (name_of p.rule) (states_of p.rule) b.generation)
-    (after-alike p q b.branch b.generation late sound alike)
-    ∙ ap (λ (r : Rule). text_of b.view (after q b.branch b.generation) (name_of r) (states_of r) b.generation)
-    alike.rule

@@ -7,7 +7,8 @@ use Rattle.schedule.specs.declared.acts.Acts.TheVariants.{Once, Every}
 use Rattle.schedule.specs.Change.{changed, refusal}
 use Rattle.schedule.specs.Plan.{Plan}
 use Rattle.schedule.specs.Sound.{IsSound}
-use Rattle.schedule.proofs.Sounds.{IsSound-cells, IsSound-start, IsSound-rule, IsSound-intervention, IsSound-changed_intervention, IsSound-removed_intervention, IsSound-bookmark, IsSound-moved_bookmark, IsSound-removed_bookmark, IsSound-branch, IsSound-removed_branch}
+use Rattle.schedule.proofs.Sounds.{IsSound-cells, IsSound-start, IsSound-rule, IsSound-branch, IsSound-removed_branch}
+use Rattle.schedule.proofs.SoundLists.{IsSound-intervention, IsSound-changed_intervention, IsSound-removed_intervention, IsSound-bookmark, IsSound-moved_bookmark, IsSound-removed_bookmark}
 
 -- a rule that is asked for has states, and not too many
 abbrev pub HasStates : Asked → Type 0

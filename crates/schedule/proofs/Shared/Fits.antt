@@ -12,7 +12,8 @@ use Rattle.schedule.specs.Plan.{Plan}
 use Rattle.schedule.specs.Scratch.{cells_at}
 use Rattle.schedule.specs.Sound.{IsSound}
 use Rattle.schedule.proofs.Shared.History.{AreNamed-at, SetBelow-at, CanBeLaid-named}
-use Rattle.schedule.proofs.Sounds.{IsSound-intervention, IsSound-changed_intervention, IsSound-removed_intervention, IsSound-bookmark, IsSound-moved_bookmark, IsSound-removed_bookmark, IsSound-branch, IsSound-removed_branch}
+use Rattle.schedule.proofs.Sounds.{IsSound-branch, IsSound-removed_branch}
+use Rattle.schedule.proofs.SoundLists.{IsSound-intervention, IsSound-changed_intervention, IsSound-removed_intervention, IsSound-bookmark, IsSound-moved_bookmark, IsSound-removed_bookmark}
 
 -- those of a document
 pub CanBeLaid-at : (p : Plan) (b g : ℕ) → IsSound p → All CanBeLaid (cells_at p.interventions b g)

@@ -6,7 +6,7 @@ use Rattle.schedule.specs.declared.document.Intervention.{Intervention}
 use Rattle.schedule.specs.Kept.{plan_of}
 use Rattle.schedule.specs.Ids.{intervention_id, changed_at}
 use Rattle.schedule.specs.Change.{first_refusal, for_changed_intervention, acting}
-use Rattle.schedule.proofs.Sounds.{IsSound-changed_intervention, unspent-changed}
+use Rattle.schedule.proofs.SoundLists.{IsSound-changed_intervention, unspent-changed}
 use Rattle.schedule.proofs.document.Document.change_intervention.Goals as goal
 
 pub invariant_of-self : goal.invariant_of-self
@@ -22,7 +22,7 @@ invariant_of-self c =
     let same : c.change_in.new.interventions ≡ changed_at intervention_id f list.items id =
     c.change_in.ensures
     ∙ ap₂ (λ (cells : List CellSet) (is : List Intervention). changed_at intervention_id
-    (acting acts cells) is id) (c.from_vec-cells.ensures ∙ c.in_ok-from_slice.ensures.items)
+    (acting acts cells) is id) c.in_ok-cells.ensures
     c.deref_mut.ensures.value in
     let long : length c.change_in.new.interventions ≡ list.len = ap length same
     ∙ length-map list.items (λ (i : Intervention). if i.id == id then f i else i) ∙ sym list.ok.0 in
@@ -31,9 +31,6 @@ invariant_of-self c =
 
 pub overflow_add-self : goal.overflow_add-self
 overflow_add-self c =
-    let free : first_refusal (for_changed_intervention (plan_of c.self.inside) c.args.id c.args.acts c.args.cells.now)
-    ≡ None = subst (λ p. first_refusal (for_changed_intervention p c.args.id c.args.acts c.args.cells.now) ≡ None)
-    (sym c.self.view_is) c.requires in
     let room : c.self.inside.revision + 1 < 2 ^ 64 =
-    unspent-changed (plan_of c.self.inside) c.args.id c.args.acts c.args.cells.now free in
+    unspent-changed (plan_of c.self.inside) _ c.args.id c.args.acts c.args.cells.now c.self.view_is c.requires in
     omega (arith, room)

@@ -1,19 +1,14 @@
 use Rattle.std.proofs.Common.{sym, subst}
 use Rattle.schedule.specs.Asked.{asked_of}
 use Rattle.schedule.specs.Change.{Checks, refusals, for_changed_intervention}
-use Rattle.schedule.specs.declared.acts.Acts.TheVariants.{Every}
 use Rattle.schedule.proofs.document.Document.check.Goals as goal
 
 pub returns-in-ChangeRepeat : goal.returns-in-ChangeRepeat
 returns-in-ChangeRepeat c = subst (λ e. Checks c.check_changed_intervention-in-ChangeRepeat.result
     (refusals c.args.self.now (asked_of e))) (sym c.in-ChangeRepeat.is)
-    (subst (λ cs. Checks c.check_changed_intervention-in-ChangeRepeat.result
-    (for_changed_intervention c.args.self.now c.in-ChangeRepeat.id
-    (Every c.in-ChangeRepeat.first c.in-ChangeRepeat.every c.in-ChangeRepeat.last) cs))
-    c.as_slice-in-ChangeRepeat.ensures
     (subst (λ acts. Checks c.check_changed_intervention-in-ChangeRepeat.result
-    (for_changed_intervention c.args.self.now c.in-ChangeRepeat.id acts c.as_slice-in-ChangeRepeat.result.now))
-    c.every-acts-in-ChangeRepeat.ensures c.check_changed_intervention-in-ChangeRepeat.ensures))
+    (for_changed_intervention c.args.self.now c.in-ChangeRepeat.id acts c.in-ChangeRepeat.cells))
+    c.every-in-ChangeRepeat.ensures c.check_changed_intervention-in-ChangeRepeat.ensures)
 
 pub returns-in-AddBookmark : goal.returns-in-AddBookmark
 returns-in-AddBookmark c = subst (λ e. Checks c.check_bookmark.result (refusals c.args.self.now (asked_of e)))

@@ -5,7 +5,7 @@ use Rattle.schedule.specs.declared.document.Bookmark.{Bookmark}
 use Rattle.schedule.specs.Kept.{plan_of}
 use Rattle.schedule.specs.Ids.{bookmark_id, changed_at}
 use Rattle.schedule.specs.Change.{first_refusal, for_moved_bookmark, marking}
-use Rattle.schedule.proofs.Sounds.{IsSound-moved_bookmark}
+use Rattle.schedule.proofs.SoundLists.{IsSound-moved_bookmark}
 use Rattle.schedule.proofs.document.Document.move_bookmark.Goals as goal
 
 pub invariant_of-self : goal.invariant_of-self

@@ -1,5 +1,5 @@
 use Rattle.schedule.specs.Kept.{plan_of}
-use Rattle.schedule.proofs.Sounds.{IsSound-removed_intervention}
+use Rattle.schedule.proofs.SoundLists.{IsSound-removed_intervention}
 use Rattle.schedule.proofs.document.Document.remove_intervention.Goals as goal
 
 pub invariant_of-self : goal.invariant_of-self
