@@ -1,7 +1,8 @@
 -- The rows from which what is needed is computed.
-use Rattle.std.proofs.Common.{◌≡◌, ℕ, ◌-◌, ◌<◌, ◌∙◌, true, false, List, length, get_or, refl, sym, ap, subst, arith, None, Some}
-use Rattle.std.specs.Prelude.{is_some, IsSome}
+use Rattle.std.proofs.Common.{◌≡◌, ℕ, zero, suc, ◌-◌, ◌<◌, ◌∙◌, true, false, not, List, length, get_or, refl, sym, ap, subst, arith, None, Some}
+use Rattle.std.specs.Prelude.{◌==◌, is_some, IsSome}
 use Rattle.std.specs.Arc.{arc_value}
+use Rattle.std.proofs.lemmas.Bool.{and_parts}
 use Rattle.rule_tree.specs.Rule.{name_of, states_of}
 use Rattle.schedule.specs.declared.document.Bookmark.{Bookmark}
 use Rattle.schedule.specs.Scratch.{cells_at}
@@ -14,13 +15,13 @@ use Rattle.dependency_book.specs.Entered.{StepsTo, ViewsOf}
 use Rattle.dependency_book.specs.Held.{IsHeld}
 use Rattle.dependency_book.specs.Marks.{ComesBefore, bookmark_mark, is_mark, is_start}
 use Rattle.dependency_book.specs.Needs.{IsLedTo, ViewIsNext}
-use Rattle.dependency_book.specs.Ready.{before_row, is_ready}
-use Rattle.dependency_book.specs.RowState.{known}
+use Rattle.dependency_book.specs.Ready.{AreHeldBack, before_row, is_ready}
+use Rattle.dependency_book.specs.RowState.{is_known, known}
 use Rattle.dependency_book.specs.Rows.{ArrivalRow, TextRow, keys, place_in, state_at, mark_rank, bookmark_rank}
 use Rattle.dependency_book.proofs.Outs.{ids_rise}
-use Rattle.dependency_book.proofs.Placed.{before_one, comes_le, has_row, in_at, mark_at_place, mark_of, place_of-row, row_comes, row_stands, stands_in}
+use Rattle.dependency_book.proofs.Placed.{before_one, comes_le, has_row, in_at, mark_at_place, mark_of, place_of-row, row_comes, row_follows, row_stands, stands_in}
 use Rattle.dependency_book.proofs.Standing.{has, place-has, rank-has, state_at-above, state_at-place}
-use Rattle.dependency_book.proofs.Tests.{either_way, clash}
+use Rattle.dependency_book.proofs.Tests.{either_way, clash, true_eq}
 
 -- the row of a step, by its place
 pub record StepRow (d : BookState) (m : Mark) (k : ℕ) : Type 0 where
@@ -60,6 +61,19 @@ row_known d places k x held low = ap known (row_stands d places k x held low)
 -- whether it is known shows in its row
 pub ready_is : (d : BookState) (m : Mark) → is_ready d.arrivals m ≡ is_some (arrival_known d m)
 ready_is d m = either_way (is_start m) (λ hit. rw hit refl) (λ miss. rw miss refl)
+
+-- no step leads to a row that waits for the row before it
+pub held_back : (d : BookState) (places : List ℕ) → IsHeld d places → AreHeldBack d.plan.branches d.arrivals
+held_back d places held zero x low waiting = absurd cc
+held_back d places held (suc j) x low waiting =
+    let before : ArrivalRow = get_or d.arrivals j x in
+    let own = (mark_of d.arrivals (suc j) x).branch in
+    let parts = and_parts (before.key.branch == own) (not (is_known before.state)) waiting in
+    let same = true_eq before.key.branch own parts.0 in
+    ap (is_ready d.arrivals) (row_follows d places j x held low same)
+    ∙ ready_is d before.key
+    ∙ ap is_some (row_known d places j x held (omega (arith, low)))
+    ∙ either_way (is_known before.state) (λ hit. absurd (clash true refl (sym (rw hit at parts.1)))) (λ miss. miss)
 
 -- the row of a mark besides the start at which the arrival is known
 pub record ArrivedRow (d : BookState) (m : Mark) (k : ℕ) : Type 0 where

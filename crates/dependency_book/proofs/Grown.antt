@@ -22,7 +22,8 @@ use Rattle.schedule.specs.Sound.{IsSound}
 use Rattle.schedule.proofs.Shared.Fits.{few_marks-changed}
 use Rattle.schedule.proofs.Shared.Ids.{length-filter_le}
 use Rattle.dependency_book.specs.declared.room.Room.{Room}
-use Rattle.dependency_book.specs.Room.{HasRoom, asks_to_repeat, most_repeats}
+use Rattle.dependency_book.specs.Room.{HasRoom}
+use Rattle.dependency_book.specs.Size.{asks_to_repeat, most_after, most_repeats, plan_size}
 use Rattle.dependency_book.proofs.Revised.{accepted, unrefused}
 use Rattle.dependency_book.proofs.Tests.{either_way}
 
@@ -185,8 +186,7 @@ few_repeats p asked sound free =
 -- room for one more of each is room for the document that an edit made
 pub made_room : (room : Room) (p q : Plan) (asked : Asked) (edited : Edited) → IsSound p
     → change p asked ≡ Ok (made q edited)
-    → HasRoom room (length p.interventions + 1) (length p.bookmarks + 1) (length p.branches + 1) (most_repeats p asked)
-    → HasRoom room (length q.interventions) (length q.bookmarks) (length q.branches) (repeat_marks q)
+    → HasRoom room (most_after p asked) → HasRoom room (plan_size q)
 made_room room p q asked edited sound is h =
     let same = accepted (refusal p asked) (changed p asked) (made q edited) is in
     let more = subst (λ (c : Changed). HasOneMore p c.plan) same (has_one_more p asked) in

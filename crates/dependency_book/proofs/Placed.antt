@@ -427,6 +427,20 @@ row_comes d places k x held low =
         either_way (is_start (mark_at m.branch branch.fork)) (λ start. rw start refl) (λ off. rw (off, any) refl) in
         rw miss (inr (precedes_row d places k x (mark_at m.branch branch.fork) held low refl below mark)))
 
+-- the mark before that of a row whose row before is of the same branch is that row's
+pub row_follows : (d : BookState) (places : List ℕ) (j : ℕ) (x : ArrivalRow) → IsHeld d places
+    → suc j < length d.arrivals → (mark_of d.arrivals j x).branch ≡ (mark_of d.arrivals (suc j) x).branch
+    → before_row d.plan.branches d.arrivals (suc j) x ≡ mark_of d.arrivals j x
+row_follows d places j x held low same =
+    let before = mark_of d.arrivals j x in
+    let m = mark_of d.arrivals (suc j) x in
+    let rises : mark_rank before < mark_rank m = rank_rises mark_rank d.arrivals j (suc j) x held.right.marks.rise
+    (omega arith) low in
+    before_one d.plan (before_row d.plan.branches d.arrivals (suc j) x) before m held.right.sound
+    (row_comes d places (suc j) x held low)
+    (inr (precedes_row d places (suc j) x before held low same (rank_generation before m same rises)
+    (row_is d places j x held (omega (arith, low)))))
+
 -- bookmarks by their rows
 
 -- the bookmark at a place is that of its id

@@ -7,12 +7,13 @@ use Rattle.revision_jobs.specs.declared.entry.Step.{Step as Stepping}
 use Rattle.revision_jobs.specs.Answer.{JobResult}
 use Rattle.revision_jobs.specs.Value.{pattern, world_after}
 use Rattle.dependency_book.specs.declared.filled.Filled.{Filled}
+use Rattle.dependency_book.specs.declared.filled.Filled.TheVariants.{Row, Released, NotExpected}
 use Rattle.dependency_book.specs.declared.mark.Mark.{Mark}
 use Rattle.dependency_book.specs.declared.need.Need.{Need}
 use Rattle.dependency_book.specs.declared.row.RowState.TheVariants.{Empty, Known}
 use Rattle.dependency_book.specs.BookState.{BookState, row_of}
 use Rattle.dependency_book.specs.Entered.{StepsTo}
-use Rattle.dependency_book.specs.Jobs.{IsFilled, SameBook, answered, step_to}
+use Rattle.dependency_book.specs.Jobs.{FreesOne, IsFilled, SameBook, answered, step_to}
 use Rattle.dependency_book.specs.Marks.{is_mark, is_start}
 use Rattle.dependency_book.specs.Needs.{IsLedTo}
 use Rattle.dependency_book.specs.Puts.{CanBePut, Puts}
@@ -68,3 +69,14 @@ pub took_fills : (old kept put new : BookState) (answer given : JobResult) → k
 took_fills old kept put new answer given same is book rows recalls =
     subst (λ a. Fills a old new) is
     (subst (λ d. Fills given d new) same (record { put = put; book = book; rows = rows; recalls = recalls }))
+
+frees : (old put : BookState) (answer : JobResult) (f : Filled)
+    → ((need : Need) → row_of put need ≡ answered answer (row_of old need)) → FreesOne old put answer f
+frees old put answer Row rows = tt
+frees old put answer (Released fault) rows = rows
+frees old put answer NotExpected rows = tt
+
+pub took_frees : (old kept put : BookState) (answer given : JobResult) (f : Filled) → kept ≡ old → given ≡ answer
+    → ((need : Need) → row_of put need ≡ answered given (row_of kept need)) → FreesOne old put answer f
+took_frees old kept put answer given f same is rows =
+    subst (λ a. FreesOne old put a f) is (subst (λ d. FreesOne d put given f) same (frees kept put given f rows))

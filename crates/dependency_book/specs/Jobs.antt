@@ -1,5 +1,5 @@
 -- What jobs and their answers change in the rows of a book.
-use Rattle.std.specs.Prelude.{◌≡◌, ℕ, ◌≤◌, ◌<◌, Bool, false, ◌&&◌, Option, None, Some, IfSome, IsSome, Result, Ok, Err, if◌then◌else◌, ◌==◌, true}
+use Rattle.std.specs.Prelude.{◌≡◌, ℕ, ◌≤◌, ◌<◌, Bool, false, ◌&&◌, Option, None, Some, IfSome, IsSome, Result, Ok, Err, if◌then◌else◌, ◌==◌, true, ⊤}
 use Rattle.std.specs.Result.{IsOk}
 use Rattle.step_engine.specs.declared.evolved.EvolveFault.{EvolveFault}
 use Rattle.revision_jobs.specs.declared.answer.Job.{Job}
@@ -17,7 +17,7 @@ use Rattle.dependency_book.specs.declared.need.Need.{Need}
 use Rattle.dependency_book.specs.declared.need.Need.TheVariants.{Step, View}
 use Rattle.dependency_book.specs.Entered.{IsEntryOf}
 use Rattle.dependency_book.specs.RowState.{job_of, has_number}
-use Rattle.dependency_book.specs.BookState.{BookState, NothingOut, expected, wanting_of}
+use Rattle.dependency_book.specs.BookState.{BookState, NothingOut, expected, row_of, wanting_of}
 use Rattle.dependency_book.specs.Marks.{is_mark, is_start}
 use Rattle.dependency_book.specs.Needs.{IsNext}
 use Rattle.dependency_book.specs.Rows.{keys}
@@ -93,6 +93,13 @@ IsFilled old new answer (Released fault) =
     × (fault ≡ EvolveFault.NoRoom → StepExpects old answer.job)
 IsFilled old new answer NotExpected =
     ((need : Need) → is_job answer.job (expected old need) ≡ false) × (new ≡ old)
+
+-- where the job of an answer gave up, the answer changes the row that expects it and no other
+abbrev pub FreesOne : BookState → BookState → JobResult → Filled → Type 0
+FreesOne old new answer Row = ⊤
+FreesOne old new answer (Released fault) =
+    (need : Need) → row_of new need ≡ answered answer (row_of old need)
+FreesOne old new answer NotExpected = ⊤
 
 -- no row expects a job of this number
 abbrev pub NoneExpects : BookState → ℕ → Type 0

@@ -19,3 +19,4 @@ pub mod RowState
 pub mod Rows
 pub mod Shown
 pub mod ShownRows
+pub mod Size

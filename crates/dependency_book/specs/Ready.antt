@@ -1,5 +1,5 @@
 -- What can be computed next, among rows.
-use Rattle.std.specs.Prelude.{◌≡◌, ℕ, zero, suc, ◌<◌, Bool, true, false, ◌&&◌, ◌||◌, List, Option, None, Some, slice_get, slice_index, slice_index_or, ◌==◌, if◌then◌else◌}
+use Rattle.std.specs.Prelude.{◌≡◌, ℕ, zero, suc, ◌<◌, Bool, true, false, not, ◌&&◌, ◌||◌, List, length, Option, None, Some, slice_get, slice_index, slice_index_or, ◌==◌, if◌then◌else◌}
 use Rattle.std.specs.Option.{option_map_or}
 use Rattle.schedule.specs.declared.branch.Branch.{Branch}
 use Rattle.schedule.specs.Branches.{element_at}
@@ -50,6 +50,20 @@ is_ready rows m = is_start m || is_known (state_at mark_rank (mark_rank m) rows)
 abbrev pub steppable : List Branch → List ArrivalRow → ℕ → ArrivalRow → Bool
 steppable branches rows k x =
     is_empty (slice_index_or rows k x).state && is_ready rows (before_row branches rows k x)
+
+-- whether the row at a place waits for the row before it, which is of the same branch: what arrives
+-- there isn't known
+abbrev pub waits : List ArrivalRow → ℕ → ArrivalRow → Bool
+waits rows zero x = false
+waits rows (suc k) x =
+    let before = slice_index_or rows k x in
+    before.key.branch == (slice_index_or rows (suc k) x).key.branch && not (is_known before.state)
+
+-- no step leads to a row that waits for the row before it
+abbrev pub AreHeldBack : List Branch → List ArrivalRow → Type 0
+AreHeldBack branches rows =
+    (k : ℕ) (x : ArrivalRow) → k < length rows → waits rows k x ≡ true →
+    is_ready rows (before_row branches rows k x) ≡ false
 
 -- no place before this one passes a test, which is told what to take for a row that isn't there
 abbrev pub NoneBefore : {X : Type 0} → (ℕ → X → Bool) → ℕ → Type 0

@@ -8,7 +8,7 @@ ghost use Rattle.dependency_book.specs.declared.row.RowState.TheVariants.{Empty,
 ghost use Rattle.dependency_book.specs.RowState.{state_map};
 ghost use Rattle.dependency_book.specs.Jobs.{issued, answered, cancelled, given_by, result_of};
 ghost use Rattle.dependency_book.specs.Jobs.{IsAnyOut, IsFilled, IsFirstOut, IsForgotten};
-ghost use Rattle.dependency_book.specs.Jobs.{Expects, IsNextJob, NoneExpects, SameBook};
+ghost use Rattle.dependency_book.specs.Jobs.{Expects, FreesOne, IsNextJob, NoneExpects, SameBook};
 ghost use Rattle.dependency_book.specs.Jobs.{SameDocument, step_to};
 ghost use Rattle.dependency_book.specs.BookState.{row_of, wanting_of};
 ghost use Rattle.dependency_book.specs.Recalled.{Fills};
@@ -65,6 +65,7 @@ impl Book<'_> {
         requires own { IsOf self.old.table answer.job.place }
         ensures filled { IsFilled self.old self.new answer result }
         ensures fills { Fills answer self.old self.new }
+        ensures freed { FreesOne self.old self.new answer result }
         ensures book { SameBook self.old self.new }
         ensures right { IsRight self.new }
     {

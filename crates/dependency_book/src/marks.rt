@@ -4,10 +4,11 @@ ghost use Rattle.std.specs.Prelude.{vec_len, vec_capacity};
 ghost use Rattle.std.specs.List.{AllByRecursion};
 ghost use Rattle.std.specs.List.Sorted.{IsNonDecreasingBy, IsPermutation};
 ghost use Rattle.schedule.specs.Acts.{generations_to};
-ghost use Rattle.schedule.specs.Repeats.{marks_within, repeat_marks};
+ghost use Rattle.schedule.specs.Repeats.{marks_within};
 ghost use Rattle.dependency_book.specs.AllMarks.{AreMarksOf, but_start, far_of};
 ghost use Rattle.dependency_book.specs.Marks.{acting_marks, bookmark_mark, branch_marks, mark_at};
 ghost use Rattle.dependency_book.specs.Rows.{mark_rank};
+ghost use Rattle.dependency_book.specs.Size.{marks_at_most, plan_size};
 
 use crate::arrival::Arrival;
 use crate::mark::Mark;
@@ -22,8 +23,7 @@ pub(crate) type ArrivalRow = Row<Mark, Arrival>;
 /// generation at which something repeats, and two for each branch.
 pub(crate) fn marks_of(room: Vec<Mark>, document: &Document) -> Vec<Mark>
     requires empty { room.items ≡ [] }
-    requires room { length document.now.interventions + length document.now.bookmarks
-        + 2 * length document.now.branches + repeat_marks document.now ≤ vec_capacity room }
+    requires room { marks_at_most (plan_size document.now) ≤ vec_capacity room }
     ensures { AreMarksOf document.now result.items }
 {
     let mut marks = room;

@@ -1,7 +1,8 @@
 //! What a book needs.
 ghost use Rattle.std.specs.Prelude.{◌≡◌, ◌<◌, length};
-ghost use Rattle.dependency_book.specs.Ready.{IsFirst, NoneBefore, before_row, can_view};
-ghost use Rattle.dependency_book.specs.Ready.{is_ready, place_ready, steppable, viewable};
+ghost use Rattle.dependency_book.specs.Ready.{AreHeldBack, IsFirst, NoneBefore, before_row};
+ghost use Rattle.dependency_book.specs.Ready.{can_view, is_ready, place_ready, steppable};
+ghost use Rattle.dependency_book.specs.Ready.{viewable, waits};
 ghost use Rattle.dependency_book.specs.Rows.{ArrivalRow, IsRanked, mark_rank};
 
 use crate::mark::Mark;
@@ -96,14 +97,29 @@ fn is_ready(arrivals: &[ArrivalRow], mark: Mark, guess: usize) -> bool
     }
 }
 
-/// Whether nothing stands in the row at a place where what arrives at the mark before is known.
+// Whether the row at a place waits for the row before it, which is of the same branch: what arrives
+// there isn't known.
+fn waits(arrivals: &[ArrivalRow], place: usize) -> bool
+    requires { place < length arrivals.now }
+    ensures { (x : ArrivalRow) → result ≡ waits arrivals.now place x }
+{
+    if place == 0 {
+        return false;
+    }
+    let before = &arrivals[place - 1];
+    before.key.branch == arrivals[place].key.branch && !before.state.is_known()
+}
+
+/// Whether nothing stands in the row at a place where what arrives at the mark before is known. Most
+/// rows wait for the row before, and are passed over with one look at it.
 pub(crate) fn can_step(document: &Document, arrivals: &[ArrivalRow], place: usize) -> bool
     requires low { place < length arrivals.now }
     requires ranked { IsRanked mark_rank arrivals.now }
+    requires held_back { AreHeldBack document.now.branches arrivals.now }
     ensures { (x : ArrivalRow) →
         result ≡ steppable document.now.branches arrivals.now place x }
 {
-    if !arrivals[place].state.is_empty() {
+    if !arrivals[place].state.is_empty() || waits(arrivals, place) {
         return false;
     }
     let before = before_row(document, arrivals, place);
@@ -114,6 +130,7 @@ pub(crate) fn can_step(document: &Document, arrivals: &[ArrivalRow], place: usiz
 /// known. No mark before `from` is one.
 pub(crate) fn first_step(document: &Document, arrivals: &[ArrivalRow], from: usize) -> Option<usize>
     requires ranked { IsRanked mark_rank arrivals.now }
+    requires held_back { AreHeldBack document.now.branches arrivals.now }
     requires passed { NoneBefore (steppable document.now.branches arrivals.now) from }
     ensures { IsFirst (steppable document.now.branches arrivals.now)
         (length arrivals.now) result }

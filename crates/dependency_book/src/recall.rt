@@ -33,11 +33,12 @@ impl Book<'_> {
     }
 
     /// Enters, from the first mark on, what comes of steps that were computed before, where nothing
-    /// is known and no job is out. Where there is no memory for a look a row stays empty.
+    /// is known and no job is out. No step leads to a row before the cursor. Where there is no memory
+    /// for a look a row stays empty.
     pub(crate) fn recall_all(&mut self)
         ensures { Recalls self.old self.new }
     {
-        for place in 0..self.arrivals.len() {
+        for place in self.cursor.steps..self.arrivals.len() {
             self.recall_at(place);
         }
     }

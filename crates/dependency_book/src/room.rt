@@ -1,14 +1,14 @@
 //! The rows of a document, made anew.
-ghost use Rattle.std.specs.Prelude.{◌≡◌, ◌≤◌, ◌+◌, ◌*◌, IfOk, [], length, vec_capacity};
+ghost use Rattle.std.specs.Prelude.{◌≡◌, ◌≤◌, IfOk, [], length, vec_capacity};
 ghost use Rattle.dependency_book.specs.Held.{places_of};
 ghost use Rattle.dependency_book.specs.Remade.{AreRemade};
 ghost use Rattle.std.specs.List.{list_any};
 ghost use Rattle.schedule.specs.Acts.{repeats};
 ghost use Rattle.schedule.specs.Asked.{asked_of};
-ghost use Rattle.schedule.specs.Repeats.{repeat_marks};
-ghost use Rattle.dependency_book.specs.Room.{HasRoom, asks_to_repeat, most_repeats};
+ghost use Rattle.dependency_book.specs.Room.{HasRoom};
 ghost use Rattle.dependency_book.specs.RowState.{OutsAreOf};
 ghost use Rattle.dependency_book.specs.Rows.{IsRanked, bookmark_rank, mark_rank};
+ghost use Rattle.dependency_book.specs.Size.{asks_to_repeat, most_after, most_repeats, plan_size};
 
 use crate::mark::Mark;
 use crate::marks::{ArrivalRow, marks_of};
@@ -16,7 +16,7 @@ use crate::remade::remade;
 use crate::row::{Ranked, place_near};
 use crate::texts::TextRow;
 use revision_jobs::Entries;
-use schedule::{Bookmark, Document, Edit, Intervention};
+use schedule::{Bookmark, Document, Edit, Intervention, MOST_MARKS};
 use std::alloc::{AllocError, Global};
 
 /// The rows of a document, and where the marks of its bookmarks stand among them.
@@ -26,9 +26,6 @@ pub(crate) struct Rows {
     pub(crate) texts: Vec<TextRow>,
     pub(crate) places: Vec<usize>,
 }
-
-// Repeating interventions make at most this many marks.
-const MOST_MARKS: usize = 8192;
 
 /// Room for the rows of a document.
 #[derive(Drop)]
@@ -45,9 +42,8 @@ impl Room {
         document: &Document,
         edit: &Edit,
     ) -> Result<Room, AllocError>
-        ensures { IfOk result (λ room. HasRoom room (length document.now.interventions + 1)
-            (length document.now.bookmarks + 1) (length document.now.branches + 1)
-            (most_repeats document.now (asked_of edit.now))) }
+        ensures { IfOk result (λ room.
+            HasRoom room (most_after document.now (asked_of edit.now))) }
     {
         let interventions = document.interventions().len() + 1;
         let bookmarks = document.bookmarks().len() + 1;
@@ -75,10 +71,7 @@ impl Room {
         texts: Vec<TextRow>,
         felt: Option<Mark>,
     ) -> Rows
-        requires room { HasRoom self
-            (length document.now.interventions)
-            (length document.now.bookmarks) (length document.now.branches)
-            (repeat_marks document.now) }
+        requires room { HasRoom self (plan_size document.now) }
         requires ranked { IsRanked mark_rank arrivals.items × IsRanked bookmark_rank texts.items }
         requires own { OutsAreOf entries.now arrivals.items × OutsAreOf entries.now texts.items }
         ensures { AreRemade document.now arrivals.items texts.items felt result }
@@ -102,7 +95,7 @@ fn most_repeats(document: &Document, edit: &Edit) -> usize
     ensures { result ≡ most_repeats document.now (asked_of edit.now) }
 {
     if has_repeats(document.interventions()) || asks_to_repeat(edit) {
-        MOST_MARKS
+        MOST_MARKS as usize
     } else {
         0
     }

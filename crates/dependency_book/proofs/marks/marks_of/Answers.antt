@@ -4,7 +4,6 @@ use Rattle.std.proofs.lemmas.List.Filters.{dedup_is}
 use Rattle.schedule.specs.Repeats.{marks_within, repeat_marks}
 use Rattle.dependency_book.specs.AllMarks.{but_start, far_of}
 use Rattle.dependency_book.specs.Marks.{acting_marks, bookmark_mark, branch_marks, is_same}
-use Rattle.dependency_book.specs.Rows.{mark_rank}
 use Rattle.dependency_book.proofs.Marked.{AreMarksOf-once, few_acting, near_sorted}
 use Rattle.dependency_book.proofs.marks.marks_of.Goals as goal
 use Rattle.dependency_book.proofs.marks.marks_of.Goals.{After-interventions}

@@ -1,9 +1,9 @@
 use Rattle.std.proofs.Common.{◌≡◌, ap₂, subst, sym}
 use Rattle.revision_jobs.specs.Answer.{outcome_of}
 use Rattle.dependency_book.specs.declared.filled.Filled.TheVariants.{Row}
-use Rattle.dependency_book.specs.Jobs.{IsFilled, SameBook, result_of}
+use Rattle.dependency_book.specs.Jobs.{FreesOne, IsFilled, SameBook, result_of}
 use Rattle.dependency_book.proofs.Tests.{clash}
-use Rattle.dependency_book.proofs.Recalled.{recalls_right, took_fills, took_filled}
+use Rattle.dependency_book.proofs.Recalled.{recalls_right, took_fills, took_filled, took_frees}
 use Rattle.dependency_book.proofs.Shared.Recalling.{book_then, filled_still, recalls_book, recalls_none}
 use Rattle.dependency_book.proofs.book.Book.fill.Goals.{in-Row, in_default}
 use Rattle.dependency_book.proofs.book.Book.fill.Goals as goal
@@ -29,6 +29,13 @@ returns-then-matches-clause-fills c =
     took_fills c.args.self.now c.keep_fact.new.self c.take-filled.new.self c.recall_all.new.self c.args.answer given
     c.keep_fact.ensures answer_is c.take-filled.ensures.book c.take-filled.ensures.rows c.recall_all.ensures
 
+pub returns-then-matches-clause-freed : goal.returns-then-matches-clause-freed
+returns-then-matches-clause-freed c =
+    let row : c.take-filled.result ≡ Row =
+    elim c.match-matches.branch
+    [ in-Row w ↦ w.in-Row.is | in_default w ↦ absurd (clash c.match-matches.matches c.if-matches.true w.matches-is) ] in
+    subst (FreesOne c.args.self.now c.recall_all.new.self c.args.answer) (sym row) tt
+
 pub returns-then-matches-clause-book : goal.returns-then-matches-clause-book
 returns-then-matches-clause-book c =
     book_then c.args.self.now c.take-filled.new.self c.recall_all.new.self
@@ -46,3 +53,10 @@ returns-else-matches-clause-fills c =
     took_fills c.args.self.now c.keep_fact.new.self c.take-filled.new.self c.take-filled.new.self c.args.answer given
     c.keep_fact.ensures answer_is c.take-filled.ensures.book c.take-filled.ensures.rows
     (recalls_none c.take-filled.new.self)
+
+pub returns-else-matches-clause-freed : goal.returns-else-matches-clause-freed
+returns-else-matches-clause-freed c =
+    let given = result_of c.into_parts-job.result.0 (outcome_of c.into_parts-job.result.1) in
+    let answer_is = ap₂ result_of c.into_parts-job.ensures.job c.into_parts-job.ensures.outcome in
+    took_frees c.args.self.now c.keep_fact.new.self c.take-filled.new.self c.args.answer given c.take-filled.result
+    c.keep_fact.ensures answer_is c.take-filled.ensures.rows

@@ -4,10 +4,17 @@ use Rattle.dependency_book.specs.declared.row.RowState.TheVariants.{Empty}
 use Rattle.dependency_book.specs.BookState.{BookState, arrival_row}
 use Rattle.dependency_book.specs.Inside.{state_of}
 use Rattle.dependency_book.specs.Needs.{IsLedTo}
-use Rattle.dependency_book.specs.Ready.{steppable}
+use Rattle.dependency_book.specs.Ready.{AreHeldBack, steppable}
 use Rattle.dependency_book.specs.RowState.{state_map}
+use Rattle.dependency_book.proofs.Found.{held_back}
 use Rattle.dependency_book.proofs.Needed.{steps_there}
 use Rattle.dependency_book.proofs.book.Book.recall_at.Goals as goal
+
+pub can_step-requires-clause-held_back : goal.can_step-requires-clause-held_back
+can_step-requires-clause-held_back c =
+    let d = state_of c.self.inside in
+    subst (AreHeldBack d.plan.branches) (sym c.deref.ensures.value)
+    (held_back d c.self.inside.places.items c.self.invariant.held)
 
 pub recall-requires-clause-led : goal.recall-requires-clause-led
 recall-requires-clause-led c =
