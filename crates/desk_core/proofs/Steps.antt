@@ -26,7 +26,7 @@ use Rattle.desk_core.specs.Collected.{IsCollected}
 use Rattle.desk_core.specs.Progress.{CanBeSent, CancelsAny, Fits, GoesOn, HasCome, IsAccounted, IsAtHand, Stage, job_in, ready, stage}
 use Rattle.desk_core.specs.Cause.{cause_of_answer, cause_of_issue}
 use Rattle.desk_core.specs.Issued.{IssuesFor, RefusesIssue}
-use Rattle.desk_core.specs.Settling.{Explains, IsHeld, OutOrSent, Serves, Settles, rows_of}
+use Rattle.desk_core.specs.Settling.{Explains, GivesAtMost, IsHeld, OutOrSent, Serves, Settles, rows_of}
 use Rattle.desk_core.proofs.Shared.Causes.{explains-kept, explains-collected, explains-refused}
 use Rattle.desk_core.proofs.Known.{KeepsKnown-same, KeepsKnown-on, KeepsKnown-issued, KeepsKnown-filled, KeepsKnown-cancelled}
 use Rattle.desk_core.proofs.Out.{IsAtHand-cancelled, IsHeld-at_hand, issued_out, filled_out, cancelled_out, not_numbered}
@@ -163,98 +163,125 @@ pub HasCome-cancelled : (first old new : BookState) (before : List JobResult) (f
 HasCome-cancelled first old new before floor answers p q =
     cancels-any first old new before floor answers p q (job_in p.unsent) refl
 
+-- how many numbers are given
+
+gives_none : (old new : BookState) → new.given ≡ old.given → GivesAtMost 0 old new
+gives_none old new same = (omega (arith, same), omega (arith, same))
+
+pub gives_at_first : (d : BookState) → GivesAtMost 0 d d
+gives_at_first d = gives_none d d refl
+
+pub gives_on : (count : ℕ) (old mid new : BookState) → GivesAtMost count old mid → GivesAtMost 1 mid new
+    → GivesAtMost (count + 1) old new
+gives_on count old mid new h k = (omega (arith, h.0, k.0), omega (arith, h.1, k.1))
+
+CancelsAny-book : (unsent : Option Job) (old new : BookState) → CancelsAny unsent old new → SameBook old new
+CancelsAny-book None old new same =
+    subst (SameBook old) (sym same) (record { document = SameDocument-same old; given = refl })
+CancelsAny-book (Some job) old new cancels = cancels.book
+
 -- how settlings go on
 
-pub GoesOn-same : (s : Stage) → GoesOn s s
-GoesOn-same s = record { cause = λ none. none; comes = λ first before h. h }
+pub GoesOn-same : (s : Stage) → GoesOn 0 s s
+GoesOn-same s = record { cause = λ none. none; comes = λ first before h. h; given = gives_none s.desk s.desk refl }
 
-pub GoesOn-on : (s t u : Stage) → GoesOn s t → GoesOn t u → GoesOn s u
+pub GoesOn-on : {most : ℕ} (s t u : Stage) → GoesOn most s t → GoesOn 0 t u → GoesOn most s u
 GoesOn-on s t u h k = record {
   cause = λ none. h.cause (k.cause none);
   comes = λ first before come. k.comes first before (h.comes first before come);
+  given = (omega (arith, h.given.0, k.given.0), omega (arith, h.given.1, k.given.1));
 }
 
 -- nothing changes but how the progress is told
 pub GoesOn-told : (d : BookState) (floor : ℕ) (answers : List JobResult) (p q : Progress)
-    → job_in q.unsent ≡ job_in p.unsent → q.cause ≡ p.cause → GoesOn (stage d floor answers p) (stage d floor answers q)
+    → job_in q.unsent ≡ job_in p.unsent → q.cause ≡ p.cause → GoesOn 0 (stage d floor answers p) (stage d floor answers q)
 GoesOn-told d floor answers p q unsent cause = record {
   cause = λ none. sym cause ∙ none;
   comes = λ first before.
       HasCome-told first d before floor answers p q unsent
       (λ later h. subst (λ c. IfSome c (Explains d later)) (sym cause) h);
+  given = gives_none d d refl;
 }
 
 pub GoesOn-issued : (old new : BookState) (floor : ℕ) (answers : List JobResult) (p : Progress) (need : Need)
     (job : Job) → p.unsent ≡ Nothing → p.cause ≡ None → IssuesFor old new job need
-    → GoesOn (stage old floor answers p) (stage new floor answers (ready job p))
+    → GoesOn 1 (stage old floor answers p) (stage new floor answers (ready job p))
 GoesOn-issued old new floor answers p need job was none issued = record {
   cause = λ h. h;
   comes = λ first before.
       HasCome-issued first old new before floor answers p (ready job p) need job was refl none issued;
+  given = (omega (arith, issued.given), omega (arith, issued.given));
 }
 
 pub GoesOn-refused : (old new : BookState) (floor : ℕ) (answers : List JobResult) (p q : Progress) (fault : IssueFault)
     → new ≡ old → q.unsent ≡ p.unsent → q.cause ≡ Some (cause_of_issue fault) → RefusesIssue old fault
-    → GoesOn (stage old floor answers p) (stage new floor answers q)
+    → GoesOn 1 (stage old floor answers p) (stage new floor answers q)
 GoesOn-refused old new floor answers p q fault same unsent cause refuses =
-    subst (λ d. GoesOn (stage old floor answers p) (stage d floor answers q)) (sym same) (record {
+    subst (λ d. GoesOn 1 (stage old floor answers p) (stage d floor answers q)) (sym same) (record {
       cause = λ none. absurd (cc);
       comes = λ first before. HasCome-told first old before floor answers p q (ap job_in unsent)
           (λ later h.
           subst (λ c. IfSome c (Explains old later)) (sym cause) (explains-refused old later fault refuses));
+      given = (omega arith, omega arith);
     })
 
 pub GoesOn-answered : (old new : BookState) (floor : ℕ) (answers : List JobResult) (p : Progress) (answer : JobResult)
     → Fills answer old new → SameBook old new
-    → GoesOn (stage old floor answers p) (stage new floor (answers ++ answer ∷ []) p)
+    → GoesOn 0 (stage old floor answers p) (stage new floor (answers ++ answer ∷ []) p)
 GoesOn-answered old new floor answers p answer fills same = record {
   cause = λ none. none;
   comes = λ first before. HasCome-answered first old new before floor answers p p answer fills same refl (λ later h. h);
+  given = gives_none old new same.given;
 }
 
 pub GoesOn-released : (old new : BookState) (floor : ℕ) (answers : List JobResult) (p q : Progress) (answer : JobResult)
     (fault : EvolveFault) (told cause : Cause) → Fills answer old new → SameBook old new
     → IsCollected old new answer (Released fault) → told ≡ cause_of_answer fault → cause ≡ unwrap_or p.cause told
     → q.unsent ≡ p.unsent → q.cause ≡ Some cause
-    → GoesOn (stage old floor answers p) (stage new floor (answers ++ answer ∷ []) q)
+    → GoesOn 0 (stage old floor answers p) (stage new floor (answers ++ answer ∷ []) q)
 GoesOn-released old new floor answers p q answer fault told cause fills same collected is first unsent caused = record {
   cause = λ none. absurd (cc);
   comes = λ begun before. HasCome-answered begun old new before floor answers p q answer fills same (ap job_in unsent)
       (λ later h. subst (λ c. IfSome c (Explains new (later ++ answer ∷ []))) (sym caused)
       (explains-collected old new later answer p.cause fault told cause collected is first h));
+  given = gives_none old new same.given;
 }
 
 pub GoesOn-cancelled : (old new : BookState) (floor : ℕ) (answers : List JobResult) (p q : Progress)
     → CancelsAny (job_in p.unsent) old new → job_in q.unsent ≡ None → q.cause ≡ p.cause
-    → GoesOn (stage old floor answers p) (stage new floor answers q)
+    → GoesOn 0 (stage old floor answers p) (stage new floor answers q)
 GoesOn-cancelled old new floor answers p q cancels unsent cause = record {
   cause = λ none. sym cause ∙ none;
   comes = λ first before. HasCome-cancelled first old new before floor answers p q cancels unsent cause;
+  given = gives_none old new (CancelsAny-book (job_in p.unsent) old new cancels).given;
 }
 
 pub GoesOn-sent : (d : BookState) (floor higher : ℕ) (answers : List JobResult) (p : Progress) (job : Job)
-    → floor ≤ job.number → higher ≡ job.number + 1 → p.unsent ≡ Nothing → GoesOn (stage d floor answers (ready job p))
+    → floor ≤ job.number → higher ≡ job.number + 1 → p.unsent ≡ Nothing → GoesOn 0 (stage d floor answers (ready job p))
     (stage d higher answers p)
 GoesOn-sent d floor higher answers p job rises is none = record {
   cause = λ h. h;
   comes = λ first before. HasCome-sent first d before floor higher answers p job rises is none;
+  given = gives_none d d refl;
 }
 
 -- a turn begins with what is issued, and goes on with what isn't sent taken out or not
 pub GoesOn-turn : (old mid : BookState) (floor : ℕ) (answers : List JobResult) (before issued shown : Progress)
-    (t : Stage) → GoesOn (stage old floor answers before) (stage mid floor answers issued)
+    (t : Stage) → GoesOn 1 (stage old floor answers before) (stage mid floor answers issued)
     → job_in shown.unsent ≡ job_in issued.unsent → shown.cause ≡ issued.cause
-    → GoesOn (stage mid floor answers shown) t → GoesOn (stage old floor answers before) t
+    → GoesOn 0 (stage mid floor answers shown) t → GoesOn 1 (stage old floor answers before) t
 GoesOn-turn old mid floor answers before issued shown t h unsent cause k =
     GoesOn-on (stage old floor answers before) (stage mid floor answers issued) t h
     (GoesOn-on (stage mid floor answers issued) (stage mid floor answers shown) t
     (GoesOn-told mid floor answers issued shown unsent cause) k)
 
 -- the post's view of it
-pub GoesOn-post : (s : Stage) (d : BookState) (floor higher : ℕ) (answers more : List JobResult) (p : Progress)
-    → higher ≡ floor → more ≡ answers → GoesOn s (stage d floor answers p) → GoesOn s (stage d higher more p)
-GoesOn-post s d floor higher answers more p same still h =
-    subst (λ n. GoesOn s (stage d n more p)) (sym same) (subst (λ xs. GoesOn s (stage d floor xs p)) (sym still) h)
+pub GoesOn-post : {most : ℕ} (s : Stage) (d : BookState) (floor higher : ℕ) (answers more : List JobResult) (p : Progress)
+    → higher ≡ floor → more ≡ answers → GoesOn most s (stage d floor answers p)
+    → GoesOn most s (stage d higher more p)
+GoesOn-post {most} s d floor higher answers more p same still h =
+    subst (λ n. GoesOn most s (stage d n more p)) (sym same)
+    (subst (λ xs. GoesOn most s (stage d floor xs p)) (sym still) h)
 
 pub no_cause : (cause : Option Cause) → false ≡ is_some cause → cause ≡ None
 no_cause None h = refl
@@ -312,11 +339,6 @@ wanting-collected old new answer (Stale number revision) kept h = let same = ap 
 
 -- a settling as a whole, whose last job that isn't sent is cancelled
 
-CancelsAny-book : (unsent : Option Job) (old new : BookState) → CancelsAny unsent old new → SameBook old new
-CancelsAny-book None old new same =
-    subst (SameBook old) (sym same) (record { document = SameDocument-same old; given = refl })
-CancelsAny-book (Some job) old new cancels = cancels.book
-
 module _ (first mid last : BookState) (before answers : List JobResult) (floor : ℕ) (p : Progress)
     (come : HasCome first before (stage mid floor answers p)) (cancels : CancelsAny (job_in p.unsent) mid last) where
   abbrev end : Progress
@@ -337,6 +359,11 @@ module _ (first mid last : BookState) (before answers : List JobResult) (floor :
   same_length : {K V : Type 0} (xs ys : List (Row K V)) → keys xs ≡ keys ys → length xs ≡ length ys
   same_length xs ys same = sym (length-map xs (λ r. r.key)) ∙ ap length same ∙ length-map ys (λ r. r.key)
 
+  given-whole : (turns : ℕ) → GivesAtMost turns first mid → GivesAtMost turns first last
+  given-whole turns given =
+      let same = (CancelsAny-book (job_in p.unsent) mid last cancels).given in
+      (omega (arith, given.0, same), omega (arith, given.1, same))
+
   enough-whole : IsRight last → 4 * rows_of first ≤ 1000000
   enough-whole right =
       let few = few_rows last right in
@@ -344,10 +371,11 @@ module _ (first mid last : BookState) (before answers : List JobResult) (floor :
       let bookmarks = same_length last.texts first.texts whole.document.bookmarks in
       omega (arith, few, marks, bookmarks)
 
-  pub settles-whole : IsRight last → Settles first last floor
-  settles-whole right = record {
+  pub settles-whole : (turns : ℕ) → GivesAtMost turns first mid → IsRight last → Settles first last turns floor
+  settles-whole turns given right = record {
     known = whole.known;
     out = sent_or_out;
+    given = given-whole turns given;
     right = right;
     plan = whole.document.plan;
     table = whole.document.table;

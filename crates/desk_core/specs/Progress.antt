@@ -14,7 +14,7 @@ use Rattle.desk_core.specs.declared.cause.Cause.{Cause}
 use Rattle.desk_core.specs.declared.progress.Progress.{Progress}
 use Rattle.desk_core.specs.declared.unsent.Unsent.{Unsent}
 use Rattle.desk_core.specs.declared.unsent.Unsent.TheVariants.{Nothing, Ready, Waiting}
-use Rattle.desk_core.specs.Settling.{Explains, KeepsKnown, Serves, rows_of}
+use Rattle.desk_core.specs.Settling.{Explains, GivesAtMost, KeepsKnown, Serves, rows_of}
 
 -- the job that isn't sent yet, if there is one
 abbrev pub job_in : Unsent → Option Job
@@ -82,30 +82,32 @@ pub record HasCome (first : BookState) (before : List JobResult) (s : Stage) : T
   pub out : (need : Need) (job : Job) → expected s.desk need ≡ Some job
       → IsAccounted first s need job
 
--- whatever settling came to the first stage comes to the second, and a cause stays
-pub record GoesOn (s t : Stage) : Type 0 where
+-- whatever settling came to the first stage comes to the second, a cause stays, and at most so many
+-- numbers were given
+pub record GoesOn (most : ℕ) (s t : Stage) : Type 0 where
   pub cause : t.progress.cause ≡ None → s.progress.cause ≡ None
   pub comes : (first : BookState) (before : List JobResult) → HasCome first before s
       → HasCome first before t
+  pub given : GivesAtMost most s.desk t.desk
 
 -- so it goes on over a post, seen by its floor and the answers that it gave
-abbrev pub GoesOnOver : {P : Type 0} → (P → ℕ) → (P → List JobResult) → P → P
+abbrev pub GoesOnOver : {P : Type 0} → ℕ → (P → ℕ) → (P → List JobResult) → P → P
     → BookState → BookState → Progress → Progress → Type 0
-GoesOnOver floor answers p q d e before after =
-    GoesOn (over floor answers p d before) (over floor answers q e after)
+GoesOnOver most floor answers p q d e before after =
+    GoesOn most (over floor answers p d before) (over floor answers q e after)
 
--- so it goes on over any post that fits, which does nothing meanwhile
+-- so it goes on by at most one number over any post that fits, which does nothing meanwhile
 abbrev pub GoesOnBy : BookState → BookState → Progress → Progress → Type 0
 GoesOnBy d e before after =
     (table : Entries) (floor : ℕ) (answers : List JobResult)
     → Fits d table floor (job_in before.unsent)
-    → GoesOn (stage d floor answers before) (stage e floor answers after)
+    → GoesOn 1 (stage d floor answers before) (stage e floor answers after)
 
--- so it goes on over any post that gives an answer meanwhile
+-- so it goes on by no number over any post that gives an answer meanwhile
 abbrev pub GoesOnWith : JobResult → BookState → BookState → Progress → Progress → Type 0
 GoesOnWith answer d e before after =
     (floor : ℕ) (answers : List JobResult)
-    → GoesOn (stage d floor answers before) (stage e floor (answers ++ answer ∷ []) after)
+    → GoesOn 0 (stage d floor answers before) (stage e floor (answers ++ answer ∷ []) after)
 
 -- what isn't sent yet fits every post still that it fitted
 abbrev pub StaysFit : BookState → BookState → Progress → Progress → Type 0

@@ -82,12 +82,17 @@ OutOrSent old new floor =
     (need : Need) (job : Job) → expected new need ≡ Some job
     → (expected old need ≡ Some job) ⊎ (job.number < floor)
 
--- after settling over a post of this floor what was known is so still, what is out was so before or
--- was sent, all is right, and the document and the table are the same; no document has more rows
--- than 1,000,000 turns are enough for
-pub record Settles (old new : BookState) (floor : ℕ) : Type 0 where
+-- numbers of jobs were given, at most so many
+abbrev pub GivesAtMost : ℕ → BookState → BookState → Type 0
+GivesAtMost most old new = (old.given ≤ new.given) × (new.given ≤ old.given + most)
+
+-- after settling for so many turns over a post of this floor what was known is so still, what is
+-- out was so before or was sent, at most a number a turn was given, all is right, and the document
+-- and the table are the same; no document has more rows than 1,000,000 turns are enough for
+pub record Settles (old new : BookState) (turns floor : ℕ) : Type 0 where
   pub known : KeepsKnown old new
   pub out : OutOrSent old new floor
+  pub given : GivesAtMost turns old new
   pub right : IsRight new
   pub plan : new.plan ≡ old.plan
   pub table : new.table ≡ old.table

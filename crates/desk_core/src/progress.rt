@@ -5,7 +5,7 @@ ghost use Rattle.dependency_book.specs.BookState.{wanting_of};
 ghost use Rattle.desk_core.specs.Progress.{Fits, GivesBack, GoesOnBy, GoesOnOver, GoesOnWith};
 ghost use Rattle.desk_core.specs.Progress.{HasCome, NearsOver, ReceivesOver, Runs, SeesAll};
 ghost use Rattle.desk_core.specs.Progress.{StaysAtHand, StaysFit, TakesNoMore, job_in, over, ready};
-ghost use Rattle.desk_core.specs.Settling.{IfPrompt};
+ghost use Rattle.desk_core.specs.Settling.{GivesAtMost, IfPrompt};
 
 use crate::cause::Cause;
 use crate::collect::Collected;
@@ -36,6 +36,7 @@ impl Progress {
         ensures fits { Fits desk.new (P.table post.new) (P.floor post.new) (job_in result.unsent) }
         ensures comes { HasCome desk.old (P.answers post.old)
             (over P.floor P.answers post.new desk.new result) }
+        ensures given { GivesAtMost turns desk.old desk.new }
         ensures kind { P.is_prompt post.new ≡ P.is_prompt post.old }
         ensures prompt { IfPrompt P.is_prompt P.held post.old desk.old
             (Runs (P.held post.new) desk.old desk.new turns result) }
@@ -64,7 +65,7 @@ impl Progress {
         requires { Fits desk.old (P.table post.old) (P.floor post.old) (job_in self.old.unsent) }
         ensures fits { Fits desk.new (P.table post.new) (P.floor post.new)
             (job_in self.new.unsent) }
-        ensures goes { GoesOnOver P.floor P.answers post.old post.new
+        ensures goes { GoesOnOver 1 P.floor P.answers post.old post.new
             desk.old desk.new self.old self.new }
         ensures kind { P.is_prompt post.new ≡ P.is_prompt post.old }
         ensures prompt { NearsOver P.is_prompt P.held post.old post.new
@@ -112,7 +113,7 @@ impl Progress {
         requires none { self.old.unsent ≡ Unsent.Nothing }
         ensures fits { Fits desk.new (P.table post.new) (P.floor post.new)
             (job_in self.new.unsent) }
-        ensures goes { GoesOnOver P.floor P.answers post.old post.new
+        ensures goes { GoesOnOver 0 P.floor P.answers post.old post.new
             desk.old desk.new (ready job self.old) self.new }
         ensures kind { P.is_prompt post.new ≡ P.is_prompt post.old }
         ensures prompt { NearsOver P.is_prompt P.held post.old post.new
@@ -136,7 +137,7 @@ impl Progress {
         requires { Fits desk.old (P.table post.old) (P.floor post.old) (job_in self.old.unsent) }
         ensures fits { Fits desk.new (P.table post.new) (P.floor post.new)
             (job_in self.new.unsent) }
-        ensures goes { GoesOnOver P.floor P.answers post.old post.new
+        ensures goes { GoesOnOver 0 P.floor P.answers post.old post.new
             desk.old desk.new self.old self.new }
         ensures kind { P.is_prompt post.new ≡ P.is_prompt post.old }
         ensures prompt { ReceivesOver P.is_prompt P.held post.old post.new

@@ -22,14 +22,15 @@ pub enum Settling {
 /// Issues jobs for what isn't known, sends them and collects their answers, until every bookmark is
 /// current, the turns are spent, the post is closed or ended, or there is a cause to stop: a job
 /// gave up, or none can be issued. Then it only collects what is out. A turn is one send or one
-/// receive. What was known stays so, and a job that was issued and not sent is cancelled.
+/// receive, and gives at most one number. What was known stays so, and a job that was issued and not
+/// sent is cancelled.
 ///
 /// Over a prompt post that holds whatever is out, four turns for each mark and bookmark are always
 /// enough: it settles, or tells a cause. So are 1,000,000. It may wait where the post does.
 pub fn settle<P: Post>(rt: &impl Wait, desk: &mut Desk<'_>, post: &mut P, turns: u32) -> Settling
     requires { Serves desk.old (P.table post.old) (P.floor post.old) }
     ensures ends { EndsOver P.answers post.old post.new desk.new result }
-    ensures settles { Settles desk.old desk.new (P.floor post.new) }
+    ensures settles { Settles desk.old desk.new turns (P.floor post.new) }
     ensures post { Serves desk.new (P.table post.new) (P.floor post.new)
         × (P.is_prompt post.new ≡ P.is_prompt post.old) }
     ensures held { IfPrompt P.is_prompt P.held post.old desk.old

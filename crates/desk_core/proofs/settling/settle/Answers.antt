@@ -17,7 +17,8 @@ returns-in-0-clause-settles g c =
     let run = c.run-unsent in
     settles-whole c.args.desk.now run.new.desk c.cancel.new.desk (g.P.Post.answers c.args.post.now)
     (g.P.Post.answers run.new.post)
-    (g.P.Post.floor run.new.post) run.result run.ensures.comes c.cancel.ensures c.pending.ensures.right
+    (g.P.Post.floor run.new.post) run.result run.ensures.comes c.cancel.ensures c.args.turns run.ensures.given
+    c.pending.ensures.right
 
 pub returns-in-0-clause-post : goal.returns-in-0-clause-post
 returns-in-0-clause-post g c =
@@ -47,7 +48,8 @@ returns-in_default-clause-settles g c =
     let run = c.run-unsent in
     settles-whole c.args.desk.now run.new.desk c.cancel.new.desk (g.P.Post.answers c.args.post.now)
     (g.P.Post.answers run.new.post)
-    (g.P.Post.floor run.new.post) run.result run.ensures.comes c.cancel.ensures c.pending.ensures.right
+    (g.P.Post.floor run.new.post) run.result run.ensures.comes c.cancel.ensures c.args.turns run.ensures.given
+    c.pending.ensures.right
 
 pub returns-in_default-clause-post : goal.returns-in_default-clause-post
 returns-in_default-clause-post g c =

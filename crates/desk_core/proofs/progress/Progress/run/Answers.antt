@@ -1,7 +1,7 @@
 use Rattle.std.proofs.Common.{◌∙◌, refl}
 use Rattle.desk_core.specs.Progress.{moment}
 use Rattle.desk_core.proofs.Out.{IsAtHand-held}
-use Rattle.desk_core.proofs.Steps.{HasCome-first}
+use Rattle.desk_core.proofs.Steps.{HasCome-first, gives_at_first, gives_on}
 use Rattle.desk_core.proofs.Turns.{turns-at_first, turns-spent, turns-on, done-at_end}
 use Rattle.desk_core.proofs.progress.Progress.run.Goals as goal
 
@@ -9,6 +9,7 @@ pub loop-init : goal.loop-init
 loop-init g c = record {
   fits = c.requires;
   comes = HasCome-first c.args.desk.now (g.P.Post.floor c.args.post.now) (g.P.Post.answers c.args.post.now) _ refl;
+  given = gives_at_first c.args.desk.now;
   kind = refl;
   out = λ prompt held. IsAtHand-held (g.P.Post.held c.args.post.now) c.args.desk.now held;
   turns = λ prompt held enough none. turns-at_first c.args.desk.now (g.P.Post.held c.args.post.now) c.args.turns enough;
@@ -37,6 +38,8 @@ pub loop-preserved : goal.loop-preserved
 loop-preserved g c = record {
   fits = c.turn.ensures.fits;
   comes = c.turn.ensures.goes.comes _ _ c.loop.invariant.comes;
+  given = gives_on c.loop.counter c.args.desk.now c.loop.desk c.turn.new.desk c.loop.invariant.given
+      c.turn.ensures.goes.given;
   kind = c.turn.ensures.kind ∙ c.loop.invariant.kind;
   out = λ prompt held. (c.turn.ensures.prompt (c.loop.invariant.kind ∙ prompt)).out (c.loop.invariant.out prompt held);
   turns = λ prompt held enough none. turns-on
