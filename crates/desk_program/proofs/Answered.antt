@@ -3,7 +3,7 @@ use Rattle.std.proofs.Common.{◌≡◌, ◌≢◌, ◌∙◌, ℕ, ◌-◌, ◌
 use Rattle.script_lines.specs.Ahead.{Ahead, LineReading, fresh_reader}
 use Rattle.script_lines.specs.Counted.{CountedWriting, fresh_writer}
 use Rattle.desk_server.specs.Run.{AnswersAll, AnswersFront, AnswersWhole}
-use Rattle.desk_server.specs.Round.{Completes, ReadStops, WriteStops}
+use Rattle.desk_server.specs.Ending.{Completes, ReadStops, WriteStops}
 use Rattle.desk_server.specs.declared.server.RunFault.{RunFault}
 use Rattle.desk_server.specs.declared.server.RunFault.TheVariants.{Read, Write, NoMemory}
 use Rattle.desk_program.specs.declared.ending.Ending.{Ending}

@@ -172,7 +172,7 @@ nothing_out d n (inl none) is some = absurd (some (is ∙ none))
 nothing_out d n (inr out) is some = out
 
 -- a post that wasn't touched carries the jobs of a desk that gave no new ones
-pub carries_same : {P : Type 0} (table : P → Entries) (floor : P → ℕ) (is_prompt : P → Bool) (held : P → Option Job)
+carries_same : {P : Type 0} (table : P → Entries) (floor : P → ℕ) (is_prompt : P → Bool) (held : P → Option Job)
     (post : P) (old new : BookState) → DropsJobs old new
     → Carries table floor is_prompt held post old → CarriesOn table floor is_prompt held post post new
 carries_same table floor is_prompt held post old new drops c = record {
@@ -221,7 +221,7 @@ carries_on table floor is_prompt held first last mid new drops c = record {
   carries = (carries_same table floor is_prompt held last mid new drops c.carries).carries;
 }
 
--- after a round, and then another
+-- after one command, and then another
 pub carries_further : {P : Type 0} (table : P → Entries) (floor : P → ℕ) (is_prompt : P → Bool) (held : P → Option Job)
     (first mid last : P) (d : BookState) → is_prompt mid ≡ is_prompt first
     → CarriesOn table floor is_prompt held mid last d → CarriesOn table floor is_prompt held first last d

@@ -2,7 +2,8 @@
 use Rattle.std.proofs.Common.{◌≡◌, ◌≢◌, ℕ, List, [], ◌∷◌, ◌++◌, Bool, true, false, cond, sym, ◌∙◌, ap, refl, append_assoc, append-nil, subst, Option, Some, None, IfSome}
 use Rattle.std.proofs.lemmas.List.Concat.{flat_map-append}
 use Rattle.std.proofs.KnownBytes.{Appends-nil, Appends-trans}
-use Rattle.script_lines.specs.Ahead.{Ahead, Takes}
+use Rattle.script_lines.specs.Ahead.{Ahead, Takes, LineReading}
+use Rattle.script_lines.specs.Counted.{CountedWriting}
 use Rattle.script_lines.proofs.Shared.Ahead.{takes_none, takes_then}
 use Rattle.std.specs.Io.KnownBytes.{Consumes, Appends, IsAtEnd}
 use Rattle.text_lines.specs.Lines.{End, Ended, Broken, lines_until}
@@ -18,11 +19,21 @@ use Rattle.desk_server.specs.Script.{asks, Between, afters, document_after, docu
 use Rattle.desk_server.specs.Told.{reply_text, ends}
 use Rattle.desk_server.specs.Heard.{AsksIfAny, Hears, Gives, Serves, Served, BreaksOff}
 use Rattle.desk_server.specs.Run.{Answers, Finishes, StopsTelling, AnswersWhole, AnswersAll, AnswersFront}
-use Rattle.desk_server.specs.Watch.{NotesAll, NotesUnlessMissed, NotesReplies}
+use Rattle.desk_server.specs.Ending.{Works}
+use Rattle.desk_server.specs.Watch.{NotesOrCounts, NotesScript}
 use Rattle.desk_server.specs.declared.request.Request.{Request}
 use Rattle.desk_server.specs.declared.reply.Reply.{Reply}
 use Rattle.desk_server.specs.declared.reply.Reply.TheVariants as reply
 use Rattle.desk_server.proofs.Hearing.{follows-any}
+
+-- no failure was counted, and then none
+pub works_then : {R W : Type 0} (r s t : LineReading R) (w x y : CountedWriting W) → Works r s w x → Works s t x y
+    → Works r t w y
+works_then r s t w x y f g = record {
+  reads = g.reads ∙ f.reads;
+  writes = g.writes ∙ f.writes;
+  flushed = λ h. g.flushed (f.flushed h);
+}
 
 -- where each of two lists has causes, both together do
 caused-append : (xs ys : List Shortage) → AllByRecursion IsCaused xs → AllByRecursion IsCaused ys
@@ -309,29 +320,30 @@ abbrev afters_with : List ℕ → List Shortage → List After
 afters_with script shortages = afters (opening 0) (asks Ended Between 1 (lines_until Ended script)) shortages
 
 -- at the end
-all_finished : {W : Type 0} (notes : W → Plan → W → Type 0) (old new : W) (prompt : Bool) (a c x z : Option (List ℕ))
-    (bytes : List ℕ) (given : List After) (shortages : List Shortage) → AllCausedOver prompt shortages
-    → Consumes a c bytes → Appends x z (texts_of given) → NotesAll notes old (documents_of given) new
+all_finished : {V : Type 0} (notes : V → Plan → V → Type 0) (missed : ℕ) (old new : V) (prompt : Bool)
+    (a c x z : Option (List ℕ)) (bytes : List ℕ) (given : List After) (shortages : List Shortage)
+    → AllCausedOver prompt shortages → Consumes a c bytes → Appends x z (texts_of given)
+    → NotesOrCounts notes 0 missed old new (documents_of given)
     → ((rest : List ℕ) → c ≡ Some rest → afters_with (bytes ++ rest) shortages ≡ given)
-    → IfSome a (NotesReplies notes prompt x z old new)
-all_finished notes old new prompt None c x z bytes given shortages caused taken wrote noted law = tt
-all_finished notes old new prompt (Some script) None x z bytes given shortages caused taken wrote noted law =
+    → IfSome a (NotesScript notes missed prompt x z old new)
+all_finished notes missed old new prompt None c x z bytes given shortages caused taken wrote noted law = tt
+all_finished notes missed old new prompt (Some script) None x z bytes given shortages caused taken wrote noted law =
     absurd taken
-all_finished notes old new prompt (Some script) (Some rest) x z bytes given shortages caused taken wrote noted law =
+all_finished notes missed old new prompt (Some script) (Some rest) x z bytes given shortages caused taken wrote noted law =
     let is : given ≡ afters_with script shortages = sym (ap (λ v. afters_with v shortages) taken ∙ law rest refl) in
     record {
       shortages = shortages;
       caused = caused;
       wrote = subst (λ v. Appends x z (texts_of v)) is wrote;
-      noted = subst (λ v. NotesAll notes old (documents_of v) new) is noted;
+      noted = subst (λ v. NotesOrCounts notes 0 missed old new (documents_of v)) is noted;
     }
 
-pub finishes_all : {W : Type 0} (notes : W → Plan → W → Type 0) (missed : ℕ) (old new : W) (prompt : Bool) (a c : Ahead)
-    (x z : Option (List ℕ)) → missed ≡ 0 → Finishes (NotesUnlessMissed notes 0 missed old new) prompt a c x z
-    (opening 0) 1 → IfSome a.bytes (NotesReplies notes prompt x z old new)
-finishes_all notes missed old new prompt a c x z none f =
-    all_finished notes old new prompt a.bytes c.bytes x z f.bytes f.given f.shortages f.caused f.taken.consumed f.wrote
-    (f.notes none).1 f.law
+pub finishes_all : {V : Type 0} (notes : V → Plan → V → Type 0) (missed : ℕ) (old new : V) (prompt : Bool) (a c : Ahead)
+    (x z : Option (List ℕ)) → Finishes (NotesOrCounts notes 0 missed old new) prompt a c x z (opening 0) 1
+    → IfSome a.bytes (NotesScript notes missed prompt x z old new)
+finishes_all notes missed old new prompt a c x z f =
+    all_finished notes missed old new prompt a.bytes c.bytes x z f.bytes f.given f.shortages f.caused f.taken.consumed
+    f.wrote f.notes f.law
 
 -- whatever was noted
 all_told : (prompt : Bool) (a c x z : Option (List ℕ)) (bytes : List ℕ) (given : List After) (shortages : List Shortage)

@@ -14,4 +14,4 @@ pub mod Told
 pub mod Heard
 pub mod Run
 pub mod Watch
-pub mod Round
+pub mod Ending

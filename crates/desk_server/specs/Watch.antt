@@ -1,47 +1,47 @@
 -- What is noted of a run: the document after each reply but `bye`.
-use Rattle.std.specs.Prelude.{◌≡◌, ℕ, Bool, List, [], ◌∷◌, ◌++◌, Option, map}
+use Rattle.std.specs.Prelude.{◌≡◌, ◌⊎◌, ℕ, ◌+◌, Bool, List, [], ◌∷◌, ◌++◌, Option, IfSome, map}
 use Rattle.std.specs.Io.KnownBytes.{Appends}
+use Rattle.std.specs.Io.Iter.{u64_saturate}
+use Rattle.script_lines.specs.Ahead.{LineReading}
+use Rattle.script_lines.specs.Counted.{CountedWriting}
 use Rattle.schedule.specs.Plan.{Plan}
 use Rattle.desk_board.specs.Picture.{Picture}
 use Rattle.desk_server.specs.Shortage.{Shortage, AllCausedOver}
 use Rattle.desk_server.specs.Script.{documents_with, replies_with}
 
--- one document after the other was noted
-abbrev pub NotesAll : {W : Type 0} → (W → Plan → W → Type 0) → W → List Plan → W → Type 0
-NotesAll {W} notes old [] new = old ≡ new
-NotesAll {W} notes old (p ∷ ps) new = (next : W) × notes old p next × NotesAll notes next ps new
-
--- where none is missed up to now, none was before, and each document was noted
-abbrev pub NotesUnlessMissed
-    : {W : Type 0} → (W → Plan → W → Type 0) → ℕ → ℕ → W → W → List Plan → Type 0
-NotesUnlessMissed notes missed now old new documents =
-    now ≡ 0 → (missed ≡ 0) × NotesAll notes old documents new
+-- each of these documents in turn was noted, or passed over and counted, from `count` up to
+-- `total`; the count stays at 2 ^ 64 - 1
+abbrev pub NotesOrCounts
+    : {V : Type 0} → (V → Plan → V → Type 0) → ℕ → ℕ → V → V → List Plan → Type 0
+NotesOrCounts {V} notes count total old new [] = (total ≡ count) × (new ≡ old)
+NotesOrCounts {V} notes count total old new (p ∷ ps) =
+    ((next : V) × notes old p next × NotesOrCounts notes count total next new ps)
+    ⊎ NotesOrCounts notes (u64_saturate (count + 1)) total old new ps
 
 -- the replies to the script were written, for some shortages, and the document after each of them
--- but `bye` was noted
-pub record NotesReplies {W : Type 0} (notes : W → Plan → W → Type 0) (prompt : Bool)
-    (before after : Option (List ℕ)) (old new : W) (script : List ℕ)
+-- but `bye` in turn was noted, or passed over and counted
+pub record NotesScript {V : Type 0} (notes : V → Plan → V → Type 0) (missed : ℕ) (prompt : Bool)
+    (before after : Option (List ℕ)) (old new : V) (script : List ℕ)
     : Type 0 where
   pub shortages : List Shortage
   pub caused : AllCausedOver prompt shortages
   pub wrote : Appends before after (replies_with script shortages)
-  pub noted : NotesAll notes old (documents_with script shortages) new
+  pub noted : NotesOrCounts notes 0 missed old new (documents_with script shortages)
+
+-- so it was for the script that this reader had, where that is known
+abbrev pub NotesReplies
+    : {R W V : Type 0} → (V → Plan → V → Type 0) → ℕ → Bool → LineReading R → CountedWriting W
+    → CountedWriting W → V → V → Type 0
+NotesReplies notes missed prompt r w x old new =
+    IfSome r.ahead.bytes (NotesScript notes missed prompt w.contents x.contents old new)
 
 -- a snapshot of the document was put behind a history
 abbrev pub ShowsNext : List Picture → Plan → List Picture → Type 0
 ShowsNext old plan new = (s : Picture) × (s.plan ≡ plan) × (new ≡ old ++ s ∷ [])
 
--- a history has one more member for each document, in order, with that document
-abbrev pub ShowsAll : List Picture → List Picture → List Plan → Type 0
-ShowsAll old new documents =
-    (more : List Picture) × (new ≡ old ++ more) × (map (λ s. s.plan) more ≡ documents)
-
--- the replies to the script were written, for some shortages, and a history has one more member for
--- each of them but `bye`, in order, with the document after that reply
-pub record ShowsReplies (prompt : Bool) (before after : Option (List ℕ)) (old new : List Picture)
-    (script : List ℕ)
-    : Type 0 where
-  pub shortages : List Shortage
-  pub caused : AllCausedOver prompt shortages
-  pub wrote : Appends before after (replies_with script shortages)
-  pub shown : ShowsAll old new (documents_with script shortages)
+-- where none was passed over, the history has one more member for each document, in order, with
+-- that document
+abbrev pub ShowsAllUnlessCounted : Type 0
+ShowsAllUnlessCounted =
+    (old new : List Picture) (documents : List Plan) → NotesOrCounts ShowsNext 0 0 old new documents
+    → (more : List Picture) × (new ≡ old ++ more) × (map (λ s. s.plan) more ≡ documents)

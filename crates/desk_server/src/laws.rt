@@ -1,6 +1,7 @@
 //! Laws of the definitions, each the contract of a function that does nothing.
 ghost use Rattle.desk_server.specs.OneLine.{DocumentsAreSound, OneLineWithoutBranch};
 ghost use Rattle.desk_server.specs.Plain.{PlainWithoutShortages};
+ghost use Rattle.desk_server.specs.Watch.{ShowsAllUnlessCounted};
 
 /// Where no reply shows a want, the replies are those where none is met.
 pub fn plain_without_shortages()
@@ -16,4 +17,9 @@ pub fn documents_are_sound()
 /// bookmarks show what that line gives.
 pub fn one_line_without_branch()
     ensures { OneLineWithoutBranch }
+{}
+
+/// Where no snapshot was refused, the history has one more for each document, in order.
+pub fn shows_all_unless_counted()
+    ensures { ShowsAllUnlessCounted }
 {}

@@ -32,6 +32,8 @@ mod watch;
 mod words;
 
 pub use desk_core::{Entries, InlinePost, Post};
-pub use laws::{documents_are_sound, one_line_without_branch, plain_without_shortages};
+pub use laws::{
+    documents_are_sound, one_line_without_branch, plain_without_shortages, shows_all_unless_counted,
+};
 pub use script_lines::{CountedReader, CountedWriter};
 pub use server::{RunFault, run, run_with_board};

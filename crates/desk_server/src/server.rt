@@ -1,10 +1,9 @@
 //! A script, answered while it is read.
-ghost use Rattle.std.specs.Prelude.{◌≡◌, IfSome, Err, Ok, OnOk};
+ghost use Rattle.std.specs.Prelude.{◌≡◌, Err, IfOk, OnOk};
 ghost use Rattle.schedule.specs.Plan.{opening};
-ghost use Rattle.desk_server.specs.Jobs.{Carries, CarriesOn, IsFresh};
-ghost use Rattle.desk_server.specs.Round.{Completes, Ends, GoesOn, ReadBreaks, ReadStops};
-ghost use Rattle.desk_server.specs.Round.{WriteBreaks, WriteStops};
-ghost use Rattle.desk_server.specs.Watch.{NotesReplies, NotesUnlessMissed, ShowsReplies};
+ghost use Rattle.desk_server.specs.Jobs.{Carries, IsFresh};
+ghost use Rattle.desk_server.specs.Ending.{Completes, ReadStops, WriteStops};
+ghost use Rattle.desk_server.specs.Watch.{NotesReplies, ShowsNext};
 
 use crate::heard::{Heard, listen};
 use crate::reply::{Reply, send};
@@ -15,7 +14,6 @@ use desk_core::{Desk, Entries, Post};
 use script_lines::{CountedReader, CountedWriter, KeptLine};
 use std::alloc::Global;
 use std::io::{Read, Write};
-use std::ops::ControlFlow;
 use std::sync::Wait;
 use std::sync::ledger::Ledger;
 
@@ -30,67 +28,15 @@ pub enum RunFault {
     NoMemory,
 }
 
-// The device that a round failed at.
+// The device that a run failed at.
 #[derive(Clone, Copy, Debug, PartialEq, Eq)]
 enum Device {
     Reader,
     Writer,
 }
 
-// Hears one command, answers it, and lets the document after the reply be noted.
-fn round<R: Read, W: Write, L: Ledger, M: Ledger, P: Post, V: Watch>(
-    rt: &impl Wait,
-    alloc: Global,
-    reader: &mut CountedReader<R, L>,
-    writer: &mut CountedWriter<W, M>,
-    line: &mut KeptLine,
-    desk: &mut Desk<'_>,
-    post: &mut P,
-    watch: &mut V,
-    missed: &mut u64,
-) -> Result<ControlFlow<()>, Device>
-    requires { Carries P.table P.floor P.is_prompt P.held post.old desk.old }
-    ensures goes_on { result ≡ Ok (ControlFlow.Continue tt) → GoesOn
-        (NotesUnlessMissed V.notes missed.old missed.new watch.old watch.new)
-        (P.is_prompt post.old) reader.old reader.new writer.old writer.new desk.old desk.new }
-    ensures post { result ≡ Ok (ControlFlow.Continue tt)
-        → CarriesOn P.table P.floor P.is_prompt P.held post.old post.new desk.new }
-    ensures done { result ≡ Ok (ControlFlow.Break tt) → Ends
-        (NotesUnlessMissed V.notes missed.old missed.new watch.old watch.new)
-        (P.is_prompt post.old) reader.old reader.new writer.old writer.new desk.old }
-    ensures read { result ≡ Err Device.Reader
-        → ReadBreaks R.remaining reader.old reader.new writer.old writer.new }
-    ensures write { result ≡ Err Device.Writer → WriteBreaks (P.is_prompt post.old)
-        reader.old reader.new writer.old writer.new desk.old }
-{
-    let Ok(heard) = listen(alloc, reader, line) else {
-        return Err(Device::Reader);
-    };
-    let Heard { request, last } = heard;
-    let Some(request) = request else {
-        return Ok(if last {
-            ControlFlow::Break(())
-        } else {
-            ControlFlow::Continue(())
-        });
-    };
-    let reply = serve(rt, alloc, desk, post, request);
-    if send(writer, desk, reply).is_err() {
-        return Err(Device::Writer);
-    }
-    if reply == Reply::Bye {
-        return Ok(ControlFlow::Break(()));
-    }
-    note(watch, alloc, desk, missed);
-    Ok(if last {
-        ControlFlow::Break(())
-    } else {
-        ControlFlow::Continue(())
-    })
-}
-
-// Answers one command after another at a desk with the opening document. Ok says how many documents
-// weren't noted.
+// Answers one command after another at a desk with the opening document, and lets the document
+// after each reply but `bye` be noted. Ok says how many were passed over.
 fn answer_commands<R: Read, W: Write, L: Ledger, M: Ledger, P: Post, V: Watch>(
     rt: &impl Wait,
     alloc: Global,
@@ -105,8 +51,8 @@ fn answer_commands<R: Read, W: Write, L: Ledger, M: Ledger, P: Post, V: Watch>(
     requires carries { Carries P.table P.floor P.is_prompt P.held post.old desk.old }
     ensures done { OnOk result
         (Completes (P.is_prompt post.old) reader.old reader.new writer.old writer.new) }
-    ensures noted { result ≡ Ok 0 → IfSome reader.old.ahead.bytes (NotesReplies V.notes
-        (P.is_prompt post.old) writer.old.contents writer.new.contents watch.old watch.new) }
+    ensures noted { IfOk result (λ missed. NotesReplies V.notes missed (P.is_prompt post.old)
+        reader.old writer.old writer.new watch.old watch.new) }
     ensures read { result ≡ Err Device.Reader → ReadStops R.remaining (P.is_prompt post.old)
         reader.old reader.new writer.old writer.new }
     ensures write { result ≡ Err Device.Writer
@@ -115,24 +61,31 @@ fn answer_commands<R: Read, W: Write, L: Ledger, M: Ledger, P: Post, V: Watch>(
     let mut missed = 0;
     reader.begin();
     'script: loop {
-        match round(
-            rt,
-            alloc,
-            reader,
-            writer,
-            line,
-            desk,
-            post,
-            watch,
-            &mut missed,
-        )? {
-            ControlFlow::Continue(()) => {}
-            ControlFlow::Break(()) => return Ok(missed),
+        let Ok(heard) = listen(alloc, reader, line) else {
+            return Err(Device::Reader);
+        };
+        let Heard { request, last } = heard;
+        let Some(request) = request else {
+            if last {
+                return Ok(missed);
+            }
+            continue;
+        };
+        let reply = serve(rt, alloc, desk, post, request);
+        if send(writer, desk, reply).is_err() {
+            return Err(Device::Writer);
+        }
+        if reply == Reply::Bye {
+            return Ok(missed);
+        }
+        note(watch, alloc, desk, &mut missed);
+        if last {
+            return Ok(missed);
         }
     }
 }
 
-// `run`, while somebody looks on. Ok says how many documents weren't noted.
+// `run`, while somebody looks on. Ok says how many documents were passed over.
 fn answer_all<R: Read, W: Write, L: Ledger, M: Ledger, P: Post, V: Watch>(
     rt: &impl Wait,
     alloc: Global,
@@ -146,8 +99,8 @@ fn answer_all<R: Read, W: Write, L: Ledger, M: Ledger, P: Post, V: Watch>(
     requires { IsFresh P.table P.floor post.old entries.now }
     ensures done { OnOk result
         (Completes (P.is_prompt post.old) reader.old reader.new writer.old writer.new) }
-    ensures noted { result ≡ Ok 0 → IfSome reader.old.ahead.bytes (NotesReplies V.notes
-        (P.is_prompt post.old) writer.old.contents writer.new.contents watch.old watch.new) }
+    ensures noted { IfOk result (λ missed. NotesReplies V.notes missed (P.is_prompt post.old)
+        reader.old writer.old writer.new watch.old watch.new) }
     ensures read { result ≡ Err RunFault.Read → ReadStops R.remaining (P.is_prompt post.old)
         reader.old reader.new writer.old writer.new }
     ensures write { result ≡ Err RunFault.Write
@@ -222,8 +175,8 @@ pub fn run<R: Read, W: Write, L: Ledger, M: Ledger, P: Post>(
     }
 }
 
-/// Does as `run` does, and publishes a snapshot of the desk after each reply but `bye`. Ok says how
-/// many snapshots were refused, which are passed over. It may wait for viewers too.
+/// Does as `run` does, and publishes a snapshot of the desk after each reply but `bye`. A snapshot
+/// that is refused is passed over, and Ok says how many were. It may wait for viewers too.
 pub fn run_with_board<R: Read, W: Write, L: Ledger, M: Ledger, P: Post, B: Wait>(
     rt: &impl Wait,
     alloc: Global,
@@ -242,11 +195,10 @@ pub fn run_with_board<R: Read, W: Write, L: Ledger, M: Ledger, P: Post, B: Wait>
     ensures done { OnOk result
         (Completes (P.is_prompt post.old) reader.old reader.new writer.old writer.new) }
 
-    // Where no snapshot was refused, the history has one more for each of these replies but `bye`,
-    // in order, with the document after that reply.
-    ensures shown { result ≡ Ok 0 → IfSome reader.old.ahead.bytes (ShowsReplies
-        (P.is_prompt post.old) writer.old.contents writer.new.contents
-        publisher.old publisher.new) }
+    // For each of these replies but `bye`, in order, a snapshot with the document after it was put
+    // behind the history, or was refused, and so many were; 2^64 - 1 may stand for more.
+    ensures shown { IfOk result (λ refused. NotesReplies ShowsNext refused (P.is_prompt post.old)
+        reader.old writer.old writer.new publisher.old publisher.new) }
 
     // Where a read failed, or 2^64 - 1 bytes came, all that was read was taken, and the commands
     // that were read whole were answered.

@@ -1,6 +1,6 @@
 //! Who looks on while a script is answered.
-ghost use Rattle.std.specs.Prelude.{◌≡◌, ◌∷◌, [], true};
-ghost use Rattle.desk_server.specs.Watch.{NotesUnlessMissed};
+ghost use Rattle.std.specs.Prelude.{◌≡◌, ◌∷◌, [], false, true};
+ghost use Rattle.desk_server.specs.Watch.{NotesOrCounts};
 
 use desk_board::{Publisher, snapshot};
 use desk_core::Desk;
@@ -13,9 +13,10 @@ pub(crate) trait Watch {
 
     ghost notes: { Self → Plan → Self → Type 0 };
 
-    /// Whether the desk's document was noted. Nothing is promised where it wasn't.
+    /// Whether the desk's document was noted. Where it wasn't, nothing is changed.
     fn note(&mut self, alloc: Global, desk: &Desk<'_>) -> bool
-        ensures { result ≡ true → notes self.old desk.now.plan self.new };
+        ensures noted { result ≡ true → notes self.old desk.now.plan self.new }
+        ensures unchanged { result ≡ false → self.new ≡ self.old };
 }
 
 /// Nobody looks on.
@@ -49,10 +50,9 @@ impl<B: Wait> Watch for Publisher<B> {
     }
 }
 
-/// Notes the desk's document, or counts that it wasn't noted.
+/// Notes the desk's document, or passes it over and counts that.
 pub(crate) fn note<V: Watch>(watch: &mut V, alloc: Global, desk: &Desk<'_>, missed: &mut u64)
-    ensures { NotesUnlessMissed V.notes missed.old missed.new watch.old watch.new
-        (desk.now.plan ∷ []) }
+    ensures { NotesOrCounts V.notes missed.old missed.new watch.old watch.new (desk.now.plan ∷ []) }
 {
     if !watch.note(alloc, desk) {
         *missed = missed.saturating_add(1);

@@ -1,12 +1,12 @@
-use Rattle.std.proofs.Common.{◌≡◌, ◌+◌, ◌∙◌, ap, subst, refl, Ok, Err}
-use Rattle.std.specs.Prelude.{⊤}
+use Rattle.std.proofs.Common.{◌≡◌, ◌≢◌, ◌∙◌, ◌+◌, ap, refl, rules, subst, sym}
 use Rattle.schedule.specs.Plan.{opening}
 use Rattle.script_lines.specs.Input.{FailsOrFull}
+use Rattle.script_lines.proofs.Shared.Told.{wrote_is_err, wrote_is_ok}
+use Rattle.desk_server.specs.Ending.{Works}
+use Rattle.desk_server.specs.declared.reply.Reply.TheVariants as reply
 use Rattle.desk_server.proofs.Jobs.{carries_further}
-use Rattle.desk_server.proofs.Rounds.{answers_none, answers_answers, answers_finishes, answers_stops, answers_breaks, finishes_all, finishes_told, stops_front}
 use Rattle.desk_server.proofs.Noted.{notes_join, notes_none}
-use Rattle.std.proofs.lemmas.Result.{err_from_is_err_and}
-use Rattle.desk_server.specs.declared.server.Device.TheVariants.{Reader, Writer}
+use Rattle.desk_server.proofs.Rounds.{answers_none, answers_answers, answers_finishes, answers_stops, answers_breaks, finishes_all, finishes_told, stops_front, served, goes_on_silent, done_silent, goes_on_told, done_last, done_bye, stops_telling, works_then}
 use Rattle.desk_server.proofs.server.answer_commands.Goals as goal
 
 pub script-init : goal.script-init
@@ -14,76 +14,136 @@ script-init g c = rw c.begin.ensures (record {
   answered = answers_none _ (g.P.Post.is_prompt c.args.post.now) _ _ _ (opening 0) c.args.desk.now.plan 1
       (notes_none g.V.Watch.notes 0 c.args.watch.now) refl c.requires.opening;
   post = record { kind = refl; carries = c.requires.carries };
-  flushed = λ h. h;
-  reads = refl;
-  writes = refl;
+  works = record { reads = refl; writes = refl; flushed = λ h. h };
 })
 
-pub script-preserved : goal.script-preserved
-script-preserved g c =
-    let kind = c.script.invariant.post.kind in
-    let next = c.in_ok-round.ensures in
-    let goes = rw kind at (next.goes_on (ap Ok c.in-Continue.is)) in
+pub returns-in_default-clause-read : goal.returns-in_default-clause-read
+returns-in_default-clause-read g c = λ _.
+    let h = c.script.invariant in
+    record {
+      answered = answers_breaks _ _ _ _ _ _ _ _ _ h.answered c.in_default.ensures.err;
+      flushed = h.works.flushed;
+      fails = (
+        subst
+            (λ n. FailsOrFull n c.listen.new.reader.failures c.listen.new.reader.given) h.works.reads
+            c.in_default.ensures.failed.0,
+        c.in_default.ensures.failed.1,
+      );
+    }
+
+pub returns-then-last : goal.returns-then-last
+returns-then-last g c =
+    let h = c.script.invariant in
+    let heard = c.in-Ok.ensures.heard in
+    let works : Works c.script.reader c.listen.new.reader c.script.writer c.script.writer = search rules in
+    let ends = answers_finishes _ _ _ _ _ _ _ _ _ _ _ _ _ _
+    (notes_join g.V.Watch.notes 0 _ _ _ _ _) h.answered
+    (done_silent _ (g.P.Post.is_prompt c.args.post.now) _ _ _ _ _ c.script.desk _ _
+    (notes_none g.V.Watch.notes _ c.script.watch) c.in_default-request.is c.if-last.true heard) in
+    record {
+      done = record {
+        answered = finishes_told _ _ _ _ _ _ ends;
+        works = works_then _ _ _ _ _ _ h.works works;
+      };
+      noted = finishes_all g.V.Watch.notes _ _ _ _ _ _ _ _ ends;
+      read = search rules;
+      write = search rules;
+    }
+
+pub script-preserved-in_default-request : goal.script-preserved-in_default-request
+script-preserved-in_default-request g c =
+    let h = c.script.invariant in
+    let works : Works c.script.reader c.listen.new.reader c.script.writer c.script.writer = search rules in
     record {
       answered =
           answers_answers _ _ _ _ _ _ _ _ _ _ _ _ _ _ _ _
-          (notes_join g.V.Watch.notes 0 _ _ _ _ _) c.script.invariant.answered goes.answered;
-      post = carries_further g.P.Post.table g.P.Post.floor g.P.Post.is_prompt g.P.Post.held _ _ _ _ kind
-          (next.post (ap Ok c.in-Continue.is));
-      flushed = λ h. goes.works.flushed (c.script.invariant.flushed h);
-      reads = goes.works.reads ∙ c.script.invariant.reads;
-      writes = goes.works.writes ∙ c.script.invariant.writes;
+          (notes_join g.V.Watch.notes 0 _ _ _ _ _) h.answered
+          (goes_on_silent _ (g.P.Post.is_prompt c.args.post.now) _ _ _ _ _ c.script.desk _ _
+          (notes_none g.V.Watch.notes _ c.script.watch) c.in_default-request.is c.if-last.false c.in-Ok.ensures.heard);
+      post = h.post;
+      works = works_then _ _ _ _ _ _ h.works works;
     }
 
-pub script-smaller : goal.script-smaller
-script-smaller g c = (c.in_ok-round.ensures.goes_on (ap Ok c.in-Continue.is)).fewer
-
-pub returns-in-Break-clause-done : goal.returns-in-Break-clause-done
-returns-in-Break-clause-done g c =
-    let ends = rw c.script.invariant.post.kind at (c.in_ok-round.ensures.done (ap Ok c.in-Break.is)) in
+pub returns-then-is_err-clause-write : goal.returns-then-is_err-clause-write
+returns-then-is_err-clause-write g c = λ _.
+    let h = c.script.invariant in
+    let prompt = g.P.Post.is_prompt c.args.post.now in
+    let heard = c.in-Ok.ensures.heard in
+    let fails : c.send.new.writer.failures ≡ c.script.writer.failures + 1 = search rules in
     record {
-      answered =
-          finishes_told (λ _. ⊤) _ _ _ _ _
-          (answers_finishes _ _ (λ _. ⊤) _ _ _ _ _ _ _ _ _ _ _
-          (λ _ _ _ _. tt) c.script.invariant.answered ends.answered);
-      works = record {
-        reads = ends.works.reads ∙ c.script.invariant.reads;
-        writes = ends.works.writes ∙ c.script.invariant.writes;
-        flushed = λ h. ends.works.flushed (c.script.invariant.flushed h);
+      answered = stops_front _ _ _ _ _ (answers_stops _ _ _ _ _ _ _ _ _ _ _ _ h.answered
+          (stops_telling prompt _ _ _ _ _ _ c.script.desk c.serve-reply.new.desk _ _ c.serve-reply.result heard
+          (served prompt c.in-Ok.heard.request c.in-Some.request heard.asked c.script.desk c.serve-reply.new.desk
+          c.serve-reply.result c.in-Some.is heard.is (rw h.post.kind at c.serve-reply.ensures.answer))
+          (wrote_is_err _ _ c.send.result _ (sym c.is_err.ensures.value ∙ c.if-is_err.true) c.send.ensures.bytes)));
+      fails = fails ∙ ap (λ n. n + 1) h.works.writes;
+    }
+
+pub returns-then-eq : goal.returns-then-eq
+returns-then-eq g c =
+    let h = c.script.invariant in
+    let prompt = g.P.Post.is_prompt c.args.post.now in
+    let heard = c.in-Ok.ensures.heard in
+    let bye : c.serve-reply.result ≡ reply.Bye = search rules in
+    let works : Works c.script.reader c.listen.new.reader c.script.writer c.send.new.writer = search rules in
+    let ends = answers_finishes _ _ _ _ _ _ _ _ _ _ _ _ _ _
+    (notes_join g.V.Watch.notes 0 _ _ _ _ _) h.answered
+    (done_bye _ prompt _ _ _ _ _ _ c.script.desk c.serve-reply.new.desk _ _ c.serve-reply.result
+    (notes_none g.V.Watch.notes _ c.script.watch) bye heard
+    (served prompt c.in-Ok.heard.request c.in-Some.request heard.asked c.script.desk c.serve-reply.new.desk
+    c.serve-reply.result c.in-Some.is heard.is (rw h.post.kind at c.serve-reply.ensures.answer))
+    (wrote_is_ok _ _ c.send.result _ (sym c.is_err.ensures.value ∙ c.if-is_err.false) c.send.ensures.bytes)) in
+    record {
+      done = record {
+        answered = finishes_told _ _ _ _ _ _ ends;
+        works = works_then _ _ _ _ _ _ h.works works;
       };
+      noted = finishes_all g.V.Watch.notes _ _ _ _ _ _ _ _ ends;
+      read = search rules;
+      write = search rules;
     }
 
-pub returns-in-Break-clause-noted : goal.returns-in-Break-clause-noted
-returns-in-Break-clause-noted g c = λ none.
-    let ends = rw c.script.invariant.post.kind at (c.in_ok-round.ensures.done (ap Ok c.in-Break.is)) in
-    let is : c.round.new.missed ≡ 0 = cc none in
-    finishes_all g.V.Watch.notes _ _ _ _ _ _ _ _ is
-    (answers_finishes _ _ _ _ _ _ _ _ _ _ _ _ _ _
-    (notes_join g.V.Watch.notes 0 _ _ _ _ _) c.script.invariant.answered ends.answered)
+pub returns-then-last-2 : goal.returns-then-last-2
+returns-then-last-2 g c =
+    let h = c.script.invariant in
+    let prompt = g.P.Post.is_prompt c.args.post.now in
+    let heard = c.in-Ok.ensures.heard in
+    let other : c.serve-reply.result ≢ reply.Bye = search rules in
+    let works : Works c.script.reader c.listen.new.reader c.script.writer c.send.new.writer = search rules in
+    let ends = answers_finishes _ _ _ _ _ _ _ _ _ _ _ _ _ _
+    (notes_join g.V.Watch.notes 0 _ _ _ _ _) h.answered
+    (done_last _ prompt _ _ _ _ _ _ c.script.desk c.serve-reply.new.desk _ _ c.serve-reply.result
+    c.note.ensures other c.if-last-2.true heard
+    (served prompt c.in-Ok.heard.request c.in-Some.request heard.asked c.script.desk c.serve-reply.new.desk
+    c.serve-reply.result c.in-Some.is heard.is (rw h.post.kind at c.serve-reply.ensures.answer))
+    (wrote_is_ok _ _ c.send.result _ (sym c.is_err.ensures.value ∙ c.if-is_err.false) c.send.ensures.bytes)) in
+    record {
+      done = record {
+        answered = finishes_told _ _ _ _ _ _ ends;
+        works = works_then _ _ _ _ _ _ h.works works;
+      };
+      noted = finishes_all g.V.Watch.notes _ _ _ _ _ _ _ _ ends;
+      read = search rules;
+      write = search rules;
+    }
 
-pub returns-in_err-round-clause-read : goal.returns-in_err-round-clause-read
-returns-in_err-round-clause-read g c = λ is.
-    let gave = err_from_is_err_and c.from_residual.result c.from_residual.ensures.1 in
-    let device : c.in_err-round.field-0.0 ≡ Reader = cc (is, gave.1, gave.2) in
-    let breaks = c.in_err-round.ensures.read (ap Err device) in
-    rw breaks.silent (record {
-      answered = answers_breaks _ _ _ _ _ _ _ _ _ c.script.invariant.answered breaks.broken;
-      flushed = c.script.invariant.flushed;
-      fails = (
-        subst
-            (λ n. FailsOrFull n c.round.new.reader.failures c.round.new.reader.given) c.script.invariant.reads
-            breaks.fails.0,
-        breaks.fails.1,
-      );
-    })
-
-pub returns-in_err-round-clause-write : goal.returns-in_err-round-clause-write
-returns-in_err-round-clause-write g c = λ is.
-    let gave = err_from_is_err_and c.from_residual.result c.from_residual.ensures.1 in
-    let device : c.in_err-round.field-0.0 ≡ Writer = cc (is, gave.1, gave.2) in
-    let breaks = rw c.script.invariant.post.kind at (c.in_err-round.ensures.write (ap Err device)) in
+pub script-preserved : goal.script-preserved
+script-preserved g c =
+    let h = c.script.invariant in
+    let prompt = g.P.Post.is_prompt c.args.post.now in
+    let heard = c.in-Ok.ensures.heard in
+    let other : c.serve-reply.result ≢ reply.Bye = search rules in
+    let works : Works c.script.reader c.listen.new.reader c.script.writer c.send.new.writer = search rules in
     record {
       answered =
-          stops_front _ _ _ _ _ (answers_stops _ _ _ _ _ _ _ _ _ _ _ _ c.script.invariant.answered breaks.stopped);
-      fails = breaks.fails ∙ ap (λ n. n + 1) c.script.invariant.writes;
+          answers_answers _ _ _ _ _ _ _ _ _ _ _ _ _ _ _ _
+          (notes_join g.V.Watch.notes 0 _ _ _ _ _) h.answered
+          (goes_on_told _ prompt _ _ _ _ _ _ c.script.desk c.serve-reply.new.desk _ _ c.serve-reply.result
+          c.note.ensures c.if-last-2.false other heard
+          (served prompt c.in-Ok.heard.request c.in-Some.request heard.asked c.script.desk c.serve-reply.new.desk
+          c.serve-reply.result c.in-Some.is heard.is (rw h.post.kind at c.serve-reply.ensures.answer))
+          (wrote_is_ok _ _ c.send.result _ (sym c.is_err.ensures.value ∙ c.if-is_err.false) c.send.ensures.bytes));
+      post = carries_further g.P.Post.table g.P.Post.floor g.P.Post.is_prompt g.P.Post.held _ _ _ _ h.post.kind
+          c.serve-reply.ensures.post;
+      works = works_then _ _ _ _ _ _ h.works works;
     }

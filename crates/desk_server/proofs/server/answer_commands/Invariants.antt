@@ -1,20 +1,19 @@
-use Rattle.std.proofs.Common.{◌≡◌, ◌+◌, true}
+use Rattle.std.proofs.Common.{◌+◌}
 use Rattle.schedule.specs.Plan.{opening}
+use Rattle.desk_server.specs.Ending.{Works}
 use Rattle.desk_server.specs.Jobs.{CarriesOn}
 use Rattle.desk_server.specs.Run.{Answers}
-use Rattle.desk_server.specs.Watch.{NotesUnlessMissed}
+use Rattle.desk_server.specs.Watch.{NotesOrCounts}
 use Rattle.desk_server.proofs.server.answer_commands.Given as goal
 
 abbrev pub invariant-script : goal.invariant-script
 invariant-script g l = record {
-  answered : Answers (NotesUnlessMissed {W = g.row.V.Denot} g.V.Watch.notes 0 l.missed l.fn.watch l.watch)
+  answered : Answers (NotesOrCounts {V = g.row.V.Denot} g.V.Watch.notes 0 l.missed l.fn.watch l.watch)
       (g.P.Post.is_prompt l.fn.post) l.fn.reader.ahead l.reader.ahead l.fn.writer.contents l.writer.contents
       (opening 0) l.desk.plan 1 (l.reader.lines + 1);
   post : CarriesOn {P = g.row.P.Denot} g.P.Post.table g.P.Post.floor g.P.Post.is_prompt g.P.Post.held l.fn.post l.post
       l.desk;
-  flushed : l.fn.writer.flushed ≡ true → l.writer.flushed ≡ true;
-  reads : l.reader.failures ≡ l.fn.reader.failures;
-  writes : l.writer.failures ≡ l.fn.writer.failures;
+  works : Works {R = g.row.R.Denot} {W = g.row.W.Denot} l.fn.reader l.reader l.fn.writer l.writer;
 }
 
 abbrev pub decreases-script : goal.decreases-script
