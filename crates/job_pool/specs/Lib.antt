@@ -1,3 +1,5 @@
 pub mod Faults
 pub mod Home
+pub mod Lanes
+pub mod Past
 pub mod Pool

@@ -5,7 +5,7 @@ use Rattle.std.specs.Borrow.{MutBor}
 use Rattle.revision_jobs.specs.declared.entries.Entries.{Entries}
 use Rattle.revision_jobs.specs.Answer.{JobResult}
 use Rattle.job_queue.specs.declared.rule.Slip.{Slip}
-use Rattle.job_queue.specs.Ends.{Sending, Taking, new_taker}
+use Rattle.job_queue.specs.Ends.{Sending}
 
 -- its table, the slips of the jobs that it took, and the answers that it gave, the latest last
 pub record Pool : Type 0 where
@@ -23,10 +23,9 @@ new_pool entries = record { table = entries; sent = []; answers = [] }
 
 -- the ends for so many workers: each takes jobs and sends answers of the table, and nothing was
 -- sent
-pub record AreEnds (table : Entries) (workers : ℕ) (takers : List Taking) (senders : List Entries)
-    : Type 0 where
-  pub takers_many : length takers ≡ workers
-  pub takers_new : All (λ taker. taker ≡ new_taker table) takers
+pub record AreEnds (table : Entries) (workers : ℕ) (inboxes senders : List Entries) : Type 0 where
+  pub inboxes_many : length inboxes ≡ workers
+  pub inboxes_own : All (λ inbox. inbox ≡ table) inboxes
   pub senders_many : length senders ≡ workers
   pub senders_own : All (λ sender. sender ≡ table) senders
 

@@ -5,9 +5,10 @@ ghost use Rattle.job_pool.specs.Pool.{AreEnds, CallGives, CallTakes, new_pool, p
 
 use crate::answers::{AnswerReceiver, answer_queue};
 use crate::fault::{NoPool, PoolFault};
+use crate::lanes::lanes;
+use crate::outbox::Outbox;
 use crate::post::PoolPost;
 use crate::worker::work_all;
-use job_queue::{JobSender, job_queue};
 use revision_jobs::{Entries, Gate};
 use std::alloc::Global;
 use std::sync::Wait;
@@ -40,7 +41,7 @@ where
     ensures refused { IfErr result (λ none. none.input ≡ input) }
 {
     let count = gates.len() as u8;
-    let Ok((sender, takers)) = job_queue(alloc, entries, count) else {
+    let Ok((outbox, inboxes)) = lanes(alloc, entries, count) else {
         return Err(NoPool::of(PoolFault::NoMemory, input));
     };
     let Ok((senders, receiver)) = answer_queue(alloc, entries, count) else {
@@ -50,8 +51,8 @@ where
         thread::scope_env(),
         rt,
         move |scope| -> Result<T, NoPool<I>>
-            requires ends { (sender ≡ new_sender entries.now) × (receiver ≡ entries.now) }
-            requires workers { AreEnds entries.now (vec_len gates) takers.items senders.items }
+            requires ends { (outbox ≡ new_sender entries.now) × (receiver ≡ entries.now) }
+            requires workers { AreEnds entries.now (vec_len gates) inboxes.items senders.items }
             requires body { CallTakes F.FnOnce body (new_pool entries.now) input }
             ensures called { IfOk result
                 (CallGives F.FnOnce body (new_pool entries.entry.now) input) }
@@ -59,35 +60,41 @@ where
         {
             let count = gates.len();
             let mut gates = gates;
-            let mut takers = takers;
+            let mut inboxes = inboxes;
             let mut senders = senders;
             'crew: for made in 0..count {
                 let (Some(gate), Some(jobs), Some(back)) = (
                     gates.pop(),
-                    takers.pop(),
+                    inboxes.pop(),
                     senders.pop(),
                 ) else {
                     unreachable!()
                 };
                 let worker = move ||
-                    requires { (jobs.table ≡ entries.now) × (back ≡ entries.now) }
+                    requires { (jobs ≡ entries.now) × (back ≡ entries.now) }
                 { work_all(rt, alloc, entries, jobs, back, gate, squares) };
                 if scope.spawn(worker).is_err() {
                     return Err(NoPool::of(PoolFault::NoWorker, input));
                 }
             }
-            Ok(attend(rt, sender, receiver, input, body))
+            Ok(attend(rt, outbox, receiver, input, body))
         },
     )
 }
 
 // Calls the body on a post, whose ends are closed when it returns, and on the input.
-fn attend<R: Wait, I, F, T>(rt: &R, jobs: JobSender, back: AnswerReceiver, input: I, body: F) -> T
+fn attend<'a, R: Wait, I, F, T>(
+    rt: &'a R,
+    jobs: Outbox<'a>,
+    back: AnswerReceiver,
+    input: I,
+    body: F,
+) -> T
 where
     F: FnOnce(&mut PoolPost<'_, R>, I) -> T,
     requires table { back ≡ jobs.table }
     requires body { CallTakes F.FnOnce body (pool_over jobs) input }
-    ensures { CallGives F.FnOnce body (pool_over jobs) input result }
+    ensures { CallGives F.FnOnce body (pool_over jobs.entry) input result }
 {
     let mut post = PoolPost::new(rt, jobs, back);
     body(&mut post, input)

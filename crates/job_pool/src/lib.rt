@@ -1,11 +1,16 @@
 //! A post whose jobs are worked in threads of their own.
 //!
-//! `pool` starts a worker for each gate, 1 to 8, and calls a body once on a post and an input. What the post takes
-//! goes through the queue of jobs to whichever worker takes it first; the worker works it with the
-//! entry's own stop, so that who raises the entry's flag stops it, and sends the answer back through
-//! a bounded channel of 32, in which every answer is of the table. When the body returns, the ends
-//! of the post are closed and the workers are joined: each goes on until the queue is empty, and
-//! drops what nobody waits for.
+//! `pool` starts a worker for each gate, 1 to 8, and calls a body once on a post and an input. What
+//! the post takes goes to whichever worker takes it first; the worker works it with the entry's own
+//! stop, so that who raises the entry's flag stops it, and sends the answer back through a bounded
+//! channel of 32, in which every answer is of the table. When the body returns, the ends of the post
+//! are closed and the workers are joined: each goes on until there are no jobs, and drops what
+//! nobody waits for.
+//!
+//! Steps and views go through a queue each, of 16 jobs, and a bell is rung for each job. Who hears
+//! it looks for a view first. A worker that has just worked a step of many cells looks for the next
+//! step a while before it listens for the bell: its engine has the squares of that line, and another
+//! worker would have to make them anew.
 //!
 //! A worker keeps an engine, with its squares and their results, from one job to the next as long
 //! as the rule stays the same, so so many workers may keep so many times as many squares.
@@ -16,7 +21,11 @@ mod answer_rule;
 mod answers;
 mod crew;
 mod fault;
+mod inbox;
+mod lanes;
+mod outbox;
 mod post;
+mod sent;
 mod worker;
 
 pub use crew::pool;

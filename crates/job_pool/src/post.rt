@@ -2,19 +2,19 @@
 ghost use Rattle.std.specs.Prelude.{◌≡◌};
 
 use crate::answers::AnswerReceiver;
-use job_queue::JobSender;
+use crate::outbox::Outbox;
 use revision_jobs::{Answers, Job, Post, Received, Sent};
 use std::marker::Model;
 use std::sync::Wait;
 
-/// The post of a pool. A send is an offer to the queue of jobs, and a receive waits for an answer: it
-/// is Ended where every worker is gone.
+/// The post of a pool. A send is an offer to the queue of its job's kind, and a receive waits for
+/// an answer: it is Ended where every worker is gone.
 ///
 /// Contracts see its table, the slips of the jobs that it took, and the answers that it gave.
 #[derive(Drop)]
 pub struct PoolPost<'a, R: Wait> {
     rt: &'a R,
-    jobs: JobSender,
+    jobs: Outbox<'a>,
     back: AnswerReceiver,
     answers: Answers,
 }
@@ -41,9 +41,9 @@ impl<'a, R: Wait> Model for PoolPost<'a, R> {
 impl<'a, R: Wait> PoolPost<'a, R> {
     ghost use Rattle.job_pool.specs.Pool.{pool_over};
 
-    pub(crate) fn new(rt: &'a R, jobs: JobSender, back: AnswerReceiver) -> PoolPost<'a, R>
+    pub(crate) fn new(rt: &'a R, jobs: Outbox<'a>, back: AnswerReceiver) -> PoolPost<'a, R>
         requires { back ≡ jobs.table }
-        ensures { result ≡ pool_over jobs }
+        ensures { result ≡ pool_over jobs.entry }
     {
         PoolPost {
             rt,

@@ -46,4 +46,16 @@ impl JobTaker {
     {
         self.end.recv_as::<Takes, R>(rt, &mut self.pass).ok()
     }
+
+    /// Takes a job, or answers None where the queue was empty at a moment of the call. It doesn't
+    /// wait for one.
+    pub fn try_take<R: Wait>(&mut self, rt: &R) -> Option<Job>
+        ensures table { self.new.table ≡ self.old.table }
+        ensures taken { IfSome result (λ job. self.new.taken ≡ self.old.taken ++ slip_of job ∷ []) }
+        ensures own { IfSome result (λ job. IsOf self.old.table job.place) }
+        ensures once { IfSome result (λ _. NoneTwice self.new.taken) }
+        ensures none { IfNone result (self.new.taken ≡ self.old.taken) }
+    {
+        self.end.try_recv_as::<Takes, R>(rt, &mut self.pass).ok()
+    }
 }

@@ -5,7 +5,7 @@ use Rattle.job_pool.proofs.worker.work_alike.Given as goal
 
 abbrev pub invariant-loop : goal.invariant-loop
 invariant-loop g l = record {
-  jobs : l.jobs.table ≡ l.entries;
+  jobs : l.jobs ≡ l.entries;
   back : l.back ≡ l.entries;
   own : IfSome l.next (λ job. IsOf l.entries job.place);
 }

@@ -1,14 +1,13 @@
 use Rattle.std.proofs.Common.{◌≡◌, ◌+◌, vec_len}
 use Rattle.std.specs.Prelude.{All}
 use Rattle.revision_jobs.specs.declared.entries.Entries.{Entries}
-use Rattle.job_queue.specs.Ends.{Taking, new_taker}
 use Rattle.job_pool.proofs.crew.fn.pool.scope.Given as goal
 
 abbrev pub invariant-crew : goal.invariant-crew
 invariant-crew g l = record {
-  takers : All (λ (t : Taking). t ≡ new_taker l.entries) l.takers.items;
+  inboxes : All (λ (i : Entries). i ≡ l.entries) l.inboxes.items;
   senders : All (λ (s : Entries). s ≡ l.entries) l.senders.items;
   gates_left : l.made + vec_len l.gates ≡ l.count;
-  takers_left : l.made + vec_len l.takers ≡ l.count;
+  inboxes_left : l.made + vec_len l.inboxes ≡ l.count;
   senders_left : l.made + vec_len l.senders ≡ l.count;
 }

@@ -1,0 +1,15 @@
+use Rattle.std.proofs.Common.{◌≡◌, ◌+◌, vec_len}
+use Rattle.std.specs.Prelude.{All}
+use Rattle.revision_jobs.specs.declared.entries.Entries.{Entries}
+use Rattle.job_queue.specs.Ends.{Taking, new_taker}
+use Rattle.job_pool.proofs.lanes.lanes.Given as goal
+
+abbrev pub invariant-workers : goal.invariant-workers
+invariant-workers l = record {
+  steps : All (λ (t : Taking). t ≡ new_taker l.entries) l.step_takers.items;
+  views : All (λ (t : Taking). t ≡ new_taker l.entries) l.view_takers.items;
+  inboxes : All (λ (i : Entries). i ≡ l.entries) l.inboxes.items;
+  steps_left : l.made + vec_len l.step_takers ≡ l.workers;
+  views_left : l.made + vec_len l.view_takers ≡ l.workers;
+  inboxes_made : vec_len l.inboxes ≡ l.made;
+}

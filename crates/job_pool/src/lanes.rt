@@ -1,0 +1,38 @@
+//! Making the way of the jobs from a post to its workers.
+ghost use Rattle.std.specs.Prelude.{◌≡◌, ◌≤◌, All, IfOk, vec_len};
+ghost use Rattle.job_queue.specs.Ends.{new_sender};
+
+use crate::inbox::Inbox;
+use crate::outbox::Outbox;
+use crossbeam_channel::bounded;
+use job_queue::job_queue;
+use revision_jobs::Entries;
+use std::alloc::{AllocError, Global};
+
+/// How many calls of the bell wait at most: twice as many as jobs may wait in both queues.
+const CALLS: usize = 64;
+
+/// The ends of a post for jobs of the table and of so many workers, 1 to 8. Nothing was sent yet.
+pub(crate) fn lanes<'a>(
+    alloc: Global,
+    entries: &'a Entries,
+    workers: u8,
+) -> Result<(Outbox<'a>, Vec<Inbox>), AllocError>
+    requires { (1 ≤ workers) × (workers ≤ 8) }
+    ensures outbox { IfOk result (λ ends. ends.0 ≡ new_sender entries.now) }
+    ensures count { IfOk result (λ ends. vec_len ends.1 ≡ workers) }
+    ensures inboxes { IfOk result (λ ends. All (λ inbox. inbox ≡ entries.now) ends.1.items) }
+{
+    let (steps, mut step_takers) = job_queue(alloc, entries, workers)?;
+    let (views, mut view_takers) = job_queue(alloc, entries, workers)?;
+    let (bell, called) = bounded(alloc, CALLS)?;
+    let mut inboxes = Vec::new(alloc);
+    'workers: for made in 0..workers {
+        let (Some(steps), Some(views)) = (step_takers.pop(), view_takers.pop()) else {
+            unreachable!()
+        };
+        let bell = called.clone()?;
+        inboxes.push(Inbox::new(steps, views, bell, workers))?;
+    }
+    Ok((Outbox::new(entries, steps, views, bell), inboxes))
+}

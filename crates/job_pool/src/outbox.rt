@@ -1,0 +1,124 @@
+//! The end of a post to which its jobs go: steps and views in queues of their own, and a bell.
+ghost use Rattle.std.specs.Prelude.{◌≡◌, ◌≤◌};
+ghost use Rattle.revision_jobs.specs.Entries.{IsOf};
+ghost use Rattle.job_queue.specs.Ends.{IsOffered, new_sender};
+ghost use Rattle.job_queue.specs.Slips.{floor_of};
+
+use crate::sent::SentJobs;
+use crossbeam_channel::Sender;
+use job_queue::JobSender;
+use revision_jobs::{Entries, Entry, Job, Sent};
+use std::marker::Model;
+use std::snapshot::Snapshot;
+use std::sync::Wait;
+
+/// Where the jobs of a post go. The bell is rung once for each. Contracts see the table of its
+/// jobs, and the slips of those that it sent.
+#[derive(Drop)]
+pub(crate) struct Outbox<'a> {
+    entries: &'a Entries,
+    steps: JobSender,
+    views: JobSender,
+    bell: Sender<()>,
+    sent: SentJobs,
+    floor: u64,
+}
+
+impl<'a> Model for Outbox<'a> {
+    ghost use Rattle.std.specs.Prelude.{◌≡◌};
+    ghost use Rattle.job_queue.specs.Ends.{Sending};
+
+    ghost Value = { Sending };
+
+    ghost view = { λ o. record { table = o.steps.table; sent = o.sent } };
+
+    ghost use Rattle.job_queue.specs.Slips.{floor_of};
+    ghost use Rattle.job_pool.specs.Lanes.{IsSplit};
+
+    ghost invariant = { λ o. (o.entries.now ≡ o.steps.table) × (o.views.table ≡ o.steps.table)
+        × IsSplit o.steps.sent o.views.sent o.sent × (o.floor ≡ floor_of o.sent) };
+}
+
+impl<'a> Outbox<'a> {
+    /// The end of a post of the table, over two queues to which nothing was sent.
+    pub(crate) fn new(
+        entries: &'a Entries,
+        steps: JobSender,
+        views: JobSender,
+        bell: Sender<()>,
+    ) -> Outbox<'a>
+        requires steps { steps ≡ new_sender entries.now }
+        requires views { views ≡ new_sender entries.now }
+        ensures { result ≡ new_sender entries.now }
+    {
+        Outbox {
+            entries,
+            steps,
+            views,
+            bell,
+            sent: SentJobs::none(),
+            floor: 0,
+        }
+    }
+
+    // Offers a step.
+    fn offer_step<R: Wait>(&mut self, rt: &R, job: Job) -> Sent
+        requires own { IsOf self.old.table job.place }
+        requires rises { floor_of self.old.sent ≤ job.number }
+        ensures table { self.new.table ≡ self.old.table }
+        ensures sent { IsOffered job self.old.sent self.new.sent result }
+    {
+        let noted = Snapshot::of(&job);
+        let floor = u64::from(job.number) + 1;
+        let sent = self.steps.offer(rt, job);
+        if let Sent::Taken = sent {
+            self.sent.push(noted);
+            self.floor = floor;
+        }
+        sent
+    }
+
+    // Offers a view.
+    fn offer_view<R: Wait>(&mut self, rt: &R, job: Job) -> Sent
+        requires own { IsOf self.old.table job.place }
+        requires rises { floor_of self.old.sent ≤ job.number }
+        ensures table { self.new.table ≡ self.old.table }
+        ensures sent { IsOffered job self.old.sent self.new.sent result }
+    {
+        let noted = Snapshot::of(&job);
+        let floor = u64::from(job.number) + 1;
+        let sent = self.views.offer(rt, job);
+        if let Sent::Taken = sent {
+            self.sent.push(noted);
+            self.floor = floor;
+        }
+        sent
+    }
+
+    /// Offers a job to the queue of its kind, and rings the bell where it is taken. It is Full only
+    /// where that queue held 16 jobs at a moment of the call, and Closed where no worker is left;
+    /// then the job comes back.
+    pub(crate) fn offer<R: Wait>(&mut self, rt: &R, job: Job) -> Sent
+        requires own { IsOf self.old.table job.place }
+        requires rises { floor_of self.old.sent ≤ job.number }
+        ensures table { self.new.table ≡ self.old.table }
+        ensures sent { IsOffered job self.old.sent self.new.sent result }
+    {
+        let sent = match self.entries.at(&job.place) {
+            Entry::Step(_) => self.offer_step(rt, job),
+            Entry::View(_) => self.offer_view(rt, job),
+        };
+        if let Sent::Taken = &sent {
+            // Where the bell takes no more calls, workers look often enough for every job.
+            let _ = self.bell.try_send(rt, ());
+        }
+        sent
+    }
+
+    /// One more than the number that was sent last, 0 before any.
+    pub(crate) fn floor(&self) -> u64
+        ensures { result ≡ floor_of self.now.sent }
+    {
+        self.floor
+    }
+}
