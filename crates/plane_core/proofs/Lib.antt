@@ -4,8 +4,6 @@ pub mod Overlays
 pub mod Counting
 pub mod Descents
 pub mod Walking
-pub mod Tidy
-pub mod Centring
 pub mod Validity
 pub mod Laying
 pub mod Blocks

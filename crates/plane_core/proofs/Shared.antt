@@ -2,8 +2,10 @@
 pub mod Adding
 pub mod Cells
 pub mod Centres
+pub mod Centring
 pub mod Measuring
 pub mod Numbering
 pub mod Roots
 pub mod Sound
+pub mod Tidy
 pub mod WorldRows

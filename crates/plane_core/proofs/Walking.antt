@@ -5,11 +5,11 @@ use Rattle.std.proofs.Math.ListN.{set}
 use Rattle.std.proofs.lemmas.List.{length-set}
 use Rattle.std.proofs.lemmas.Option.{same_Some}
 use Rattle.plane_core.specs.declared.row.SquareRow.{SquareRow}
-use Rattle.worlds.specs.Square.{Square, four}
-use Rattle.plane_core.specs.Rows.{Numbered, number_row, number_square, square_in, IsNumber, kid, no_row, row_at}
+use Rattle.worlds.specs.Square.{Square}
+use Rattle.plane_core.specs.Rows.{Numbered, number_row, square_in, IsNumber, kid, no_row, row_at}
 use Rattle.plane_core.specs.Walks.{Has, Walks, Remembers}
 use Rattle.plane_core.proofs.Shared.Numbering.{Grows, Has-grown, Has-again, number_row-grows}
-use Rattle.plane_core.proofs.Shared.Sound.{IsNumber-level, square_in-row, row_of}
+use Rattle.plane_core.proofs.Shared.Sound.{IsNumber-level, square_in-row, row_of, walks-quadrants}
 
 -- a row whose number is remembered isn't walked
 pub walks-known : (rows done : List SquareRow) (numbers : List (Option ℕ)) (k n m : ℕ) → 0 < k → 0 < n → IsNumber rows k n → Remembers rows done numbers → get_or numbers (n - 1) None ≡ Some m
@@ -21,16 +21,6 @@ walks-known rows done numbers (suc k) n m hk hn h r e =
     let next : suc (n - 1) ≡ n = omega arith in
     subst (λ i. Has (suc k) (square_in rows (suc k) i) done m) next
     (subst (λ j. Has j (square_in rows j (suc (n - 1))) done m) at.1 (r.each (n - 1) m (omega arith) e))
-
-walks-quadrants : (k : ℕ) (nw ne sw se : Square) (d0 d1 d2 d3 d4 d5 : List SquareRow) (a b c d m : ℕ) → Walks k nw d0 d1 a → Walks k ne d1 d2 b → Walks k sw d2 d3 c → Walks k se d3 d4 d
-    → (number_row (row_of (suc k) a b c d) d4).rows ≡ d5 → (number_row (row_of (suc k) a b c d) d4).number ≡ m → Walks (suc k) (four nw ne sw se) d0 d5 m
-unfolding number_square
-walks-quadrants k nw ne sw se d0 d1 d2 d3 d4 d5 a b c d m ha hb hc hd hr hm =
-    let eb = ap (λ (z : Numbered). number_square k ne z.rows) ha ∙ hb in
-    let ec = ap (λ (z : Numbered). number_square k sw z.rows) eb ∙ hc in
-    let ed = ap (λ (z : Numbered). number_square k se z.rows) ec ∙ hd in
-    (λ i. number_row (record { level = suc k; kids = (ha i).number ∷ (eb i).number ∷ (ec i).number ∷ (ed i).number ∷ [] }) (ed i).rows)
-    ∙ (λ i. record { rows = hr i; number = hm i })
 
 -- the walk of a square, by those of its quadrants
 pub walks-four : (rows d0 d1 d2 d3 d4 d5 : List SquareRow) (k n a b c d m : ℕ) → 0 < k → 0 < n

@@ -1,8 +1,8 @@
 -- Squares whose live cells all lie in the square of half the side in the middle.
-use Rattle.std.specs.Prelude.{◌≡◌, ℕ, suc, cond, ◌==◌, Bool, ◌||◌, ◌&&◌, List, [], ◌∷◌, ◌++◌, get_or}
+use Rattle.std.specs.Prelude.{◌≡◌, ◌<◌, ◌^◌, ℕ, suc, cond, ◌==◌, Bool, ◌||◌, ◌&&◌, List, [], ◌∷◌, ◌++◌, length, get_or}
 use Rattle.worlds.specs.Square.{Square, four, empty_square}
 use Rattle.plane_core.specs.declared.row.SquareRow.{SquareRow}
-use Rattle.plane_core.specs.Rows.{IsNumber, AreRows, square_in, root_level, world_of_rows}
+use Rattle.plane_core.specs.Rows.{IsNumber, AreRows, IsLeastLevel, square_in, root_level, world_of_rows}
 
 -- the square of level k + 1 with one quadrant, of these four, and else empty
 abbrev pub cornered : ℕ → ℕ → Square → Square
@@ -46,3 +46,10 @@ pub record IsCentre (rows : List SquareRow) (row : SquareRow) : Type 0 where
   pub level : suc row.level ≡ root_level rows
   pub root : root_level (rows ++ row ∷ []) ≡ row.level
   pub world : world_of_rows (rows ++ row ∷ []) ≡ world_of_rows rows
+
+-- the new rows have the least root that holds the live cells, of the same world
+pub record AreCentred (old new : List SquareRow) : Type 0 where
+  pub valid : AreRows new
+  pub few : length new < 2 ^ 32
+  pub world : world_of_rows new ≡ world_of_rows old
+  pub least : IsLeastLevel (root_level new) (world_of_rows new)

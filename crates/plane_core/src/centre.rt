@@ -1,8 +1,8 @@
 //! A root that is larger than its pattern needs, and the smaller one in its middle.
-ghost use Rattle.std.specs.Prelude.{◌≡◌, ◌-◌, ◌<◌, ◌≤◌, ◌^◌, suc, length, IfSome, IfNone, OnOk};
+ghost use Rattle.std.specs.Prelude.{◌≡◌, ◌-◌, ◌<◌, ◌≤◌, ◌^◌, suc, false, length, IfSome, IfNone, IfOk, OnOk};
 ghost use Rattle.worlds.specs.Square.{Square};
 ghost use Rattle.plane_core.specs.Rows.{IsNumber, IsLeastLevel, square_in, root_level, world_of_rows};
-ghost use Rattle.plane_core.specs.Centre.{is_passed, is_alone, IsCorner, IsCentre, AreFilled, cornered};
+ghost use Rattle.plane_core.specs.Centre.{is_passed, is_alone, IsCorner, IsCentre, AreCentred, AreFilled, cornered};
 
 use crate::descent::root_level;
 use crate::row::SquareRow;
@@ -67,21 +67,21 @@ fn centre(rows: &[SquareRow]) -> Option<SquareRow>
     })
 }
 
-/// Adds smaller roots behind the root until one is the least that holds the live cells.
-pub fn add_centres(rows: &mut Vec<SquareRow>) -> Result<(), AllocError>
+/// Adds smaller roots behind the root until one is the least that holds the live cells. Whether any
+/// was added.
+pub fn add_centres(rows: &mut Vec<SquareRow>) -> Result<bool, AllocError>
     requires rows { AreFilled rows.old.items }
     requires few { length rows.old.items < 2 ^ 32 }
-    ensures rows { OnOk result (AreFilled rows.new.items) }
-    ensures world { OnOk result (world_of_rows rows.new.items ≡ world_of_rows rows.old.items) }
-    ensures least { OnOk result
-        (IsLeastLevel (root_level rows.new.items) (world_of_rows rows.new.items)) }
-    ensures few { OnOk result (length rows.new.items < 2 ^ 32) }
+    ensures centred { OnOk result (AreCentred rows.old.items rows.new.items) }
+    ensures none { IfOk result (λ added. added ≡ false → rows.new.items ≡ rows.old.items) }
 {
+    let mut added = false;
     while let Some(row) = centre(rows) {
         if rows.len() >= u32::MAX as usize {
             return Err(AllocError);
         }
         rows.push(row)?;
+        added = true;
     }
-    Ok(())
+    Ok(added)
 }

@@ -5,6 +5,7 @@ ghost use Rattle.worlds.specs.Lay.{lay};
 ghost use Rattle.worlds.specs.Live.{count_of, live, of_cell, population};
 ghost use Rattle.worlds.specs.Range.{CanBeLaid, HasMargin, IsBoundingBox, IsGreatest, IsInside};
 ghost use Rattle.plane_core.specs.Rows.{AreRows, AreSquaresOf, world_of_rows};
+ghost use Rattle.plane_core.specs.Walks.{AreWalked};
 ghost use Rattle.plane_core.specs.Within.{AreLiveWithin};
 
 use crate::canonical::{canonical, written};
@@ -14,6 +15,7 @@ use crate::lay::lay_rows;
 use crate::live::live_cells;
 use crate::measures::{Measures, measured, no_measures};
 use crate::row::SquareRow;
+use crate::walk::walked;
 use crate::within::live_within;
 use std::alloc::{AllocError, Global};
 use std::marker::Model;
@@ -60,6 +62,18 @@ impl Plane {
     pub fn from_squares(alloc: Global, rows: &[SquareRow]) -> Result<Plane, AllocError>
         requires { AreRows rows.now }
         ensures { IfOk result (λ plane. plane ≡ world_of_rows rows.now) }
+    {
+        if rows.len() > u32::MAX as usize {
+            return Err(AllocError);
+        }
+        Plane::from_walked(alloc, walked(alloc, rows)?)
+    }
+
+    /// The same, of rows in the order in which a walk from their root completes them. They are kept
+    /// as they are where that root is the least, which saves a walk and a copy.
+    pub fn from_walked(alloc: Global, rows: Vec<SquareRow>) -> Result<Plane, AllocError>
+        requires { AreWalked rows.items }
+        ensures { IfOk result (λ plane. plane ≡ world_of_rows rows.items) }
     {
         if rows.len() > u32::MAX as usize {
             return Err(AllocError);

@@ -22,7 +22,7 @@ row_number rows i valid h =
     let less : suc i - 1 ≡ i = omega arith in
     subst (λ j. IsNumber rows j (suc i)) level (IsNumber-from rows (k - 1) (suc i) (λ live. (omega (arith, h), ap (λ m. (get_or rows m no_row).level) less ∙ sym level)))
 
-row_square-kept : (old new : List SquareRow) (i : ℕ) → Grows old new → AreRows old → i < length old → row_square new i ≡ row_square old i
+pub row_square-kept : (old new : List SquareRow) (i : ℕ) → Grows old new → AreRows old → i < length old → row_square new i ≡ row_square old i
 row_square-kept old new i grows valid h =
     ap (λ (row : SquareRow). square_in new row.level (suc i)) (row_kept old new i grows h)
     ∙ square_in-grown old new (get_or old i no_row).level (suc i) grows valid (row_number old i valid h)

@@ -1,62 +1,32 @@
 -- The squares of a table that are packed as the rows of a plane.
-use Rattle.std.proofs.Common.{◌≡◌, ℕ, zero, suc, ◌+◌, ◌-◌, ◌<◌, ◌≤◌, ◌^◌, List, [], ◌∷◌, ◌++◌, length, get_or, Option, Some, None, Result, Ok, Err, sym, ap, ◌∙◌, subst, arith, inl, inr, lit<}
-use Rattle.std.specs.Prelude.{nat_eq, IfSome, IfOk, OnOk}
+use Rattle.std.proofs.Common.{◌≡◌, ℕ, zero, suc, ◌+◌, ◌-◌, ◌<◌, ◌≤◌, ◌^◌, ◌⊎◌, Bool, true, false, List, [], ◌∷◌, ◌++◌, length, get_or, Option, Some, None, refl, sym, ap, ◌∙◌, subst, arith, inl, inr}
+use Rattle.std.specs.Prelude.{nat_eq, IfSome}
+use Rattle.std.specs.List.{list_any, position_or_len}
 use Rattle.std.specs.HashMap.{get, Updates}
-use Rattle.std.proofs.lemmas.Bool.{cases_eq, ne_eqb}
-use Rattle.worlds.specs.Square.{Square, four}
+use Rattle.std.specs.Map.{lookup}
+use Rattle.std.proofs.lemmas.Bool.{cases_eq, cases_lt, ne_eqb}
+use Rattle.std.proofs.lemmas.List.{length_push, get_or_push}
+use Rattle.worlds.specs.Square.{Square, one, four, empty_square, IsSquare}
 use Rattle.plane_core.specs.declared.row.SquareRow.{SquareRow}
 use Rattle.plane_core.specs.Rows as listed
-use Rattle.plane_core.specs.Rows.{AreRows}
-use Rattle.plane_core.specs.Laid as laid
-use Rattle.plane_core.specs.Laid.{Keeps, IsAdded}
-use Rattle.plane_core.proofs.Shared.Adding.{Keeps-then, quadrants-none, added, root_added}
+use Rattle.plane_core.specs.Rows.{AreRows, Numbered, no_row, kid, numbered, number_row, number_square, same_row, same_kids, completed}
+use Rattle.plane_core.specs.Walks.{Has, Walks}
+use Rattle.plane_core.specs.Centre.{centred}
+use Rattle.plane_core.proofs.Shared.Cells.{IsSquare-parts}
+use Rattle.plane_core.proofs.Shared.Numbering.{Grows, Grows-then, Has-again, Has-grown, number_row-grows, number_row-is, number_square-grows, not_found}
 use Rattle.plane_core.proofs.Shared.Sound as sound
-use Rattle.square_table.specs.Squares.{IsNumber, AreNumbers, square_of, first_number, kids_at}
+use Rattle.plane_core.proofs.Shared.Sound.{IsSound, EachHas-none, AreRows-none, number_square-sound, found_within, found_at, row_kept, walks-quadrants}
+use Rattle.plane_core.proofs.Shared.Tidy as tidy
+use Rattle.plane_core.proofs.Shared.Tidy.{IsListed, LevelsUpTo, number_square-levels}
+use Rattle.square_table.specs.Squares.{IsNumber, AreNumbers, AreDistinct, square_in, square_of, kids_at}
 use Rattle.square_table.specs.declared.pack.Packed.{Packed}
-use Rattle.square_table.specs.Packing.{IsPacked, IsPacking, AreRowsOf}
-use Rattle.square_table.proofs.Shared.Numbers.{one_level}
+use Rattle.square_table.specs.declared.pack.Quarters.{Quarters}
+use Rattle.square_table.specs.Packing.{IsSeen, IsPacking, IsPadded, Packs, WalksFour}
+use Rattle.square_table.proofs.Shared.Numbers.{one_level, one_number}
 use Rattle.square_table.proofs.Shared.Growth.{AreNumbers-quadrants, square_in-quadrants}
-use Rattle.square_table.proofs.Loading.{square_in-cell}
-
-state-below : (rows : List (List ℕ)) (n : ℕ) → IsNumber rows 0 n → n < first_number
-unfolding IsNumber
-state-below rows n h = h
-
--- a cell is packed as its state
-pub packed_state : (rows : List (List ℕ)) (squares : List SquareRow) (k n : ℕ) → k ≡ 0 → IsNumber rows k n → IsPacked rows squares k n n
-packed_state rows squares zero n e is = record {
-  number = sound.IsNumber-state squares n (state-below rows n is);
-  square = sound.square_in-state squares n ∙ sym (square_in-cell rows n);
-}
-packed_state rows squares (suc k) n e is = absurd (omega (arith, e))
-
--- what is packed stays
-pub IsPacked-kept : (rows : List (List ℕ)) (old new : List SquareRow) (k n m : ℕ) → Keeps old new → IsPacked rows old k n m → IsPacked rows new k n m
-IsPacked-kept rows old new k n m keeps is = record { number = keeps.number k m is.number; square = keeps.square k m is.number ∙ is.square }
-
-known-kept : (rows : List (List ℕ)) (old new : List SquareRow) (k n : ℕ) (o : Option ℕ) → Keeps old new → IfSome o (IsPacked rows old k n) → IfSome o (IsPacked rows new k n)
-known-kept rows old new k n None keeps h = tt
-known-kept rows old new k n (Some m) keeps h = IsPacked-kept rows old new k n m keeps h
-
--- a square that is remembered is packed
-pub recalled : (rows : List (List ℕ)) (packed : Packed) (k n m : ℕ) → 0 < k → IsPacking rows packed → IsNumber rows k n → get nat_eq packed.numbers n ≡ Some m → IsPacked rows packed.squares.items k n m
-recalled rows packed k n m low packing is e = subst (λ (o : Option ℕ). IfSome o (IsPacked rows packed.squares.items k n)) e (packing.known k n low is)
-
--- one more square is remembered
-pub remembered : (rows : List (List ℕ)) (old new : Packed) (k n m : ℕ) → IsPacking rows old → Keeps old.squares.items new.squares.items → IsNumber rows k n → IsPacked rows new.squares.items k n m
-    → Updates nat_eq old.numbers new.numbers n (Some m) → IsPacking rows new
-remembered rows old new k n m packing keeps is packed updates = record {
-  valid = keeps.valid;
-  few = keeps.few;
-  known = λ j q low is_q. elim (cases_eq n q) [
-    | inl same ↦
-        let level : k ≡ j = one_level rows k j n is (subst (IsNumber rows j) (sym same) is_q) in
-        subst (λ p. IfSome (get nat_eq new.numbers p) (IsPacked rows new.squares.items j p)) same
-        (subst (λ (o : Option ℕ). IfSome o (IsPacked rows new.squares.items j n)) (sym updates.1) (subst (λ l. IsPacked rows new.squares.items l n m) level packed))
-    | inr other ↦
-        subst (λ (o : Option ℕ). IfSome o (IsPacked rows new.squares.items j q)) (sym (updates.2 q (ne_eqb n q other))) (known-kept rows old.squares.items new.squares.items j q _ keeps (packing.known j q low is_q))
-  ];
-}
+use Rattle.square_table.proofs.Laying.{square_in-IsSquare}
+use Rattle.square_table.proofs.Listing.{row_square-kept}
+use Rattle.square_table.proofs.Loading.{square_in-cell, empty_square-zero, empty_square-suc}
 
 -- four numbers of a level
 pub number_at : (rows : List (List ℕ)) (k : ℕ) (kids : List ℕ) (q : ℕ) → q < 4 → AreNumbers rows k kids → IsNumber rows k (get_or kids q 0)
@@ -66,40 +36,6 @@ number_at rows k kids (suc (suc zero)) h are = are.sw
 number_at rows k kids (suc (suc (suc zero))) h are = are.se
 number_at rows k kids (suc (suc (suc (suc q)))) h are = absurd (omega (arith, h))
 
--- each of the four is packed
-abbrev pub ArePacked : List (List ℕ) → List SquareRow → ℕ → List ℕ → List ℕ → Type 0
-ArePacked rows squares k kids all = (q : ℕ) → q < 4 → IsPacked rows squares k (get_or kids q 0) (get_or all q 0)
-
-pub four_packed : (rows : List (List ℕ)) (s1 s2 s3 s4 : List SquareRow) (k : ℕ) (kids : List ℕ) (a b c d : ℕ) → Keeps s1 s2 → Keeps s2 s3 → Keeps s3 s4
-    → IsPacked rows s1 k (get_or kids 0 0) a → IsPacked rows s2 k (get_or kids 1 0) b → IsPacked rows s3 k (get_or kids 2 0) c → IsPacked rows s4 k (get_or kids 3 0) d → ArePacked rows s4 k kids (a ∷ b ∷ c ∷ d ∷ [])
-four_packed rows s1 s2 s3 s4 k kids a b c d f g h nw ne sw se zero hq = IsPacked-kept rows s1 s4 k _ a (Keeps-then s1 s2 s4 f (Keeps-then s2 s3 s4 g h)) nw
-four_packed rows s1 s2 s3 s4 k kids a b c d f g h nw ne sw se (suc zero) hq = IsPacked-kept rows s2 s4 k _ b (Keeps-then s2 s3 s4 g h) ne
-four_packed rows s1 s2 s3 s4 k kids a b c d f g h nw ne sw se (suc (suc zero)) hq = IsPacked-kept rows s3 s4 k _ c h sw
-four_packed rows s1 s2 s3 s4 k kids a b c d f g h nw ne sw se (suc (suc (suc zero))) hq = se
-four_packed rows s1 s2 s3 s4 k kids a b c d f g h nw ne sw se (suc (suc (suc (suc q)))) hq = absurd (omega (arith, hq))
-
--- packed quadrants make the same square
-pub same_quadrants : (rows : List (List ℕ)) (squares : List SquareRow) (k : ℕ) (kids all : List ℕ) → ArePacked rows squares k kids all → laid.square_of squares k all ≡ square_of rows k kids
-same_quadrants rows squares k kids all are =
-    let nw = (are 0 (lit< tt)).square in let ne = (are 1 (lit< tt)).square in let sw = (are 2 (lit< tt)).square in let se = (are 3 (lit< tt)).square in
-    λ i. four (nw i) (ne i) (sw i) (se i)
-
--- a square whose quadrants are packed
-square_packed : (rows : List (List ℕ)) (old new : List SquareRow) (k j n m : ℕ) (kids all : List ℕ) → k ≡ suc j → IsNumber rows k n → kids ≡ kids_at rows n → ArePacked rows old j kids all → listed.IsNumber new k m → listed.square_in new k m ≡ laid.square_of old j all → IsPacked rows new k n m
-square_packed rows old new zero j n m kids all e is read are number square = absurd (omega (arith, e))
-square_packed rows old new (suc k) j n m kids all e is read are number square =
-    let same : j ≡ k = omega (arith, e) in
-    record {
-      number = number;
-      square = square ∙ same_quadrants rows old j kids all are ∙ ap (λ i. square_of rows i kids) same ∙ ap (square_of rows k) read ∙ sym (square_in-quadrants rows k n);
-    }
-
-level_suc : (k : ℕ) → 0 < k → k ≡ suc (k - 1)
-level_suc k h = omega (arith, h)
-
-pub pushed : (rows : List (List ℕ)) (old new : List SquareRow) (k n m : ℕ) (kids all : List ℕ) → 0 < k → IsNumber rows k n → kids ≡ kids_at rows n → ArePacked rows old (k - 1) kids all → listed.IsNumber new k m → listed.square_in new k m ≡ laid.square_of old (k - 1) all → IsPacked rows new k n m
-pushed rows old new k n m kids all low = square_packed rows old new k (k - 1) n m kids all (level_suc k low)
-
 -- the numbers of the quadrants of a square
 pub quadrant_numbers : (rows : List (List ℕ)) (k n : ℕ) (kids : List ℕ) → 0 < k → IsNumber rows k n → kids ≡ kids_at rows n → AreNumbers rows (k - 1) kids
 quadrant_numbers rows zero n kids low is read = absurd (omega (arith, low))
@@ -107,30 +43,346 @@ quadrant_numbers rows (suc k) n kids low is read =
     let less : k ≡ suc k - 1 = omega arith in
     subst (λ j. AreNumbers rows j kids) less (subst (AreNumbers rows k) (sym read) (AreNumbers-quadrants rows k n is))
 
--- an empty row has the number 0
-pub none_added : (squares : List SquareRow) (k : ℕ) (kids : List ℕ) → 1 ≤ k → kids ≡ (0 ∷ 0 ∷ 0 ∷ 0 ∷ []) → listed.square_in squares k 0 ≡ laid.square_of squares (k - 1) kids
-none_added squares k kids low e =
-    let level : k ≡ suc (k - 1) = level_suc k low in
-    ap (λ j. listed.square_in squares j 0) level ∙ (quadrants-none squares (k - 1)).square ∙ ap (laid.square_of squares (k - 1)) (sym e)
+pub level_suc : (k : ℕ) → 0 < k → k ≡ suc (k - 1)
+level_suc k h = omega (arith, h)
 
--- a row behind the others
-pub row_added : (old new : List SquareRow) (k n : ℕ) (kids : List ℕ) → AreRows old → 1 ≤ k → k ≤ 62 → ((q : ℕ) → q < 4 → listed.IsNumber old (k - 1) (get_or kids q 0)) → length old + 1 < 2 ^ 32
-    → new ≡ old ++ record { level = k; kids = kids } ∷ [] → n ≡ length new → IsAdded old new k n (laid.square_of old (k - 1) kids)
-row_added old new k n kids valid low high numbers room is count =
-    added old new (record { level = k; kids = kids }) n valid (record { low = low; high = high; kids = numbers }) room is count
+state-walk : (rows : List SquareRow) (s : ℕ) → Walks 0 (one s) rows rows s
+unfolding number_square
+state-walk rows s = refl
 
--- what a row behind the others leaves
-pub added_keeps : {E : Type 0} (r : Result ℕ E) (old new : List SquareRow) (k : ℕ) (s : Square) → IfOk r (λ n. IsAdded old new k n s) → OnOk r (Keeps old new)
-added_keeps (Ok n) old new k s h = h.keeps
-added_keeps (Err e) old new k s h = tt
+-- a cell is packed as its state
+pub packed_state : (rows : List (List ℕ)) (done : List SquareRow) (k n : ℕ) → k ≡ 0 → Walks k (square_in rows k n) done done n
+packed_state rows done zero n e = subst (λ (t : Square). Walks 0 t done done n) (sym (square_in-cell rows n)) (state-walk done n)
+packed_state rows done (suc k) n e = absurd (omega (arith, e))
 
--- the root
-pub root_rows : (rows : List (List ℕ)) (old new : List SquareRow) (k n : ℕ) (kids all : List ℕ) → 1 ≤ k → ArePacked rows old (k - 1) kids all → IsAdded old new k n (laid.square_of old (k - 1) all) → AreRowsOf k (square_of rows (k - 1) kids) new
-root_rows rows old new k n kids all low are added =
-    let level : k ≡ suc (k - 1) = level_suc k low in
-    let root = root_added old new (k - 1) n (laid.square_of old (k - 1) all) (subst (λ j. IsAdded old new j n (laid.square_of old (k - 1) all)) level added) in
+-- a square that is remembered adds nothing
+pub recalled : (rows : List (List ℕ)) (packed : Packed) (k n m : ℕ) → 0 < k → IsPacking rows packed → IsNumber rows k n → get nat_eq packed.numbers n ≡ Some m → Walks k (square_in rows k n) packed.squares.items packed.squares.items m
+recalled rows packed k n m low packing is e = subst (λ (o : Option ℕ). IfSome o (Has k (square_in rows k n) packed.squares.items)) e (packing.known k n low is)
+
+pub packs_none : (rows : List (List ℕ)) (k : ℕ) (packed : Packed) → IsPacking rows packed → Packs rows k packed packed
+packs_none rows k packed packing = record { packing = packing; above = λ j n h is. refl }
+
+pub packs_then : (rows : List (List ℕ)) (k : ℕ) (a b c : Packed) → Packs rows k a b → Packs rows k b c → Packs rows k a c
+packs_then rows k a b c f g = record { packing = g.packing; above = λ j n h is. g.above j n h is ∙ f.above j n h is }
+
+-- what was walked has its number
+walked_has : (k : ℕ) (t : Square) (old new : List SquareRow) (m : ℕ) → Walks k t old new m → Has k t new m
+walked_has k t old new m walk = subst (λ (z : Numbered). Has k t z.rows z.number) walk (Has-again k t old)
+
+walked_grows : (k : ℕ) (t : Square) (old new : List SquareRow) (m : ℕ) → Walks k t old new m → Grows old new
+walked_grows k t old new m walk = subst (λ (z : Numbered). Grows old z.rows) walk (number_square-grows k t old)
+
+-- a square that has a number is the one that the number names
+has_sound : (rows : List (List ℕ)) (packed : Packed) (k n m : ℕ) → IsPacking rows packed → k ≤ 62 → IsNumber rows k n → Has k (square_in rows k n) packed.squares.items m
+    → listed.square_in packed.squares.items k m ≡ square_in rows k n
+has_sound rows packed k n m packing high is has =
+    let sounds : IsSound k (square_in rows k n) (record { rows = packed.squares.items; number = m }) =
+    subst (IsSound k (square_in rows k n)) has (number_square-sound k (square_in rows k n) packed.squares.items packing.valid (record { has = packing.each }) (square_in-IsSquare rows k n is) high) in
+    sounds.square
+
+-- four squares that are walked are those that their numbers name
+four_named : (rows : List (List ℕ)) (packed : Packed) (old : List SquareRow) (k : ℕ) (kids all : List ℕ) → IsPacking rows packed → k ≤ 62 → AreNumbers rows k kids → WalksFour rows k kids old packed.squares.items all
+    → four (listed.square_in packed.squares.items k (get_or all 0 0)) (listed.square_in packed.squares.items k (get_or all 1 0)) (listed.square_in packed.squares.items k (get_or all 2 0)) (listed.square_in packed.squares.items k (get_or all 3 0)) ≡ square_of rows k kids
+four_named rows packed old k kids all packing high are w =
+    let new = packed.squares.items in
+    let g3 : Grows w.third new = walked_grows k _ w.third new _ w.se in
+    let g2 : Grows w.second new = Grows-then w.second w.third new (walked_grows k _ w.second w.third _ w.sw) g3 in
+    let g1 : Grows w.first new = Grows-then w.first w.second new (walked_grows k _ w.first w.second _ w.ne) g2 in
+    let nw = has_sound rows packed k _ _ packing high are.nw (Has-grown k _ w.first new _ g1 (walked_has k _ old w.first _ w.nw)) in
+    let ne = has_sound rows packed k _ _ packing high are.ne (Has-grown k _ w.second new _ g2 (walked_has k _ w.first w.second _ w.ne)) in
+    let sw = has_sound rows packed k _ _ packing high are.sw (Has-grown k _ w.third new _ g3 (walked_has k _ w.second w.third _ w.sw)) in
+    let se = has_sound rows packed k _ _ packing high are.se (walked_has k _ w.third new _ w.se) in
+    λ i. four (nw i) (ne i) (sw i) (se i)
+
+-- the row of four numbers
+abbrev pub row_by : ℕ → List ℕ → SquareRow
+row_by k all = record { level = k; kids = all }
+
+none_some : (m : ℕ) (o : Option ℕ) → o ≡ None → o ≡ Some m → ⊥
+none_some m None e f = cc
+none_some m (Some n) e f = cc
+
+-- a square that isn't remembered has no row yet
+unknown_suc : (rows : List (List ℕ)) (packed : Packed) (old : List SquareRow) (k n : ℕ) (kids all : List ℕ) (there : Bool) → IsPacking rows packed → k ≤ 62 → IsNumber rows (suc k) n → kids ≡ kids_at rows n
+    → WalksFour rows k kids old packed.squares.items all → get nat_eq packed.numbers n ≡ None → list_any (same_row (row_by (suc k) all)) packed.squares.items ≡ there → there ≡ false
+unknown_suc rows packed old k n kids all false packing high is read w unknown e = refl
+unknown_suc rows packed old k n kids all true packing high is read w unknown e =
+    let done = packed.squares.items in
+    let row = row_by (suc k) all in
+    let i = position_or_len (same_row row) done in
+    let at : get_or done i no_row ≡ row = found_at row done e in
+    let seen = packing.seen i (found_within (same_row row) done e) in
+    let level : (get_or done i no_row).level ≡ suc k = ap (λ (r : SquareRow). r.level) at in
+    let numbered_is : IsNumber rows (suc k) seen.number = subst (λ j. IsNumber rows j seen.number) level seen.numbered in
+    let named : listed.square_in done (suc k) (suc i) ≡ square_in rows (suc k) seen.number = subst (λ j. listed.square_in done j (suc i) ≡ square_in rows j seen.number) level seen.square in
+    let are : AreNumbers rows k kids = subst (AreNumbers rows k) (sym read) (AreNumbers-quadrants rows k n is) in
+    let here : listed.square_in done (suc k) (suc i) ≡ square_in rows (suc k) n =
+    sound.square_in-row done k i
+    ∙ ap (λ (r : SquareRow). four (listed.square_in done k (kid r 0)) (listed.square_in done k (kid r 1)) (listed.square_in done k (kid r 2)) (listed.square_in done k (kid r 3))) at
+    ∙ four_named rows packed old k kids all packing high are w ∙ ap (square_of rows k) read ∙ sym (square_in-quadrants rows k n) in
+    let same : seen.number ≡ n = one_number rows packing.distinct (suc k) seen.number n numbered_is is (sym named ∙ here) in
+    absurd (none_some (suc i) (get nat_eq packed.numbers n) unknown (ap (get nat_eq packed.numbers) (sym same) ∙ seen.known))
+
+pub unknown_new : (rows : List (List ℕ)) (packed : Packed) (old : List SquareRow) (level k n : ℕ) (kids all : List ℕ) → level ≡ suc k → IsPacking rows packed → level ≤ 62 → IsNumber rows level n → kids ≡ kids_at rows n
+    → WalksFour rows k kids old packed.squares.items all → get nat_eq packed.numbers n ≡ None → list_any (same_row (row_by level all)) packed.squares.items ≡ false
+unknown_new rows packed old zero k n kids all e packing high is read w unknown = absurd (omega (arith, e))
+unknown_new rows packed old (suc l) k n kids all e packing high is read w unknown =
+    let same : k ≡ l = omega (arith, e) in
+    unknown_suc rows packed old l n kids all _ packing (omega (arith, high)) is read (subst (λ j. WalksFour rows j kids old packed.squares.items all) same w) unknown refl
+
+four_of : (xs : List ℕ) → length xs ≡ 4 → xs ≡ get_or xs 0 0 ∷ get_or xs 1 0 ∷ get_or xs 2 0 ∷ get_or xs 3 0 ∷ []
+four_of (a ∷ b ∷ c ∷ d ∷ []) e = refl
+four_of [] e = absurd (omega (arith, e))
+four_of (a ∷ []) e = absurd (omega (arith, e))
+four_of (a ∷ b ∷ []) e = absurd (omega (arith, e))
+four_of (a ∷ b ∷ c ∷ []) e = absurd (omega (arith, e))
+four_of (a ∷ b ∷ c ∷ d ∷ x ∷ xs) e = absurd (omega (arith, e))
+
+-- the walk of a square, by that of its quadrants
+walk_of : (rows : List (List ℕ)) (k : ℕ) (kids all : List ℕ) (old mid new : List SquareRow) (m : ℕ) → WalksFour rows k kids old mid all → (number_row (row_by (suc k) all) mid).rows ≡ new → (number_row (row_by (suc k) all) mid).number ≡ m
+    → Walks (suc k) (square_of rows k kids) old new m
+walk_of rows k kids all old mid new m w er en =
+    let is = four_of all w.count in
+    walks-quadrants k _ _ _ _ old w.first w.second w.third mid new (get_or all 0 0) (get_or all 1 0) (get_or all 2 0) (get_or all 3 0) m w.nw w.ne w.sw w.se
+    (ap (λ (xs : List ℕ). (number_row (row_by (suc k) xs) mid).rows) (sym is) ∙ er)
+    (ap (λ (xs : List ℕ). (number_row (row_by (suc k) xs) mid).number) (sym is) ∙ en)
+
+pub walk_whole : (rows : List (List ℕ)) (level k n : ℕ) (kids all : List ℕ) (old mid new : List SquareRow) (m : ℕ) → level ≡ suc k → kids ≡ kids_at rows n → WalksFour rows k kids old mid all
+    → (number_row (row_by level all) mid).rows ≡ new → (number_row (row_by level all) mid).number ≡ m → Walks level (square_in rows level n) old new m
+walk_whole rows zero k n kids all old mid new m e read w er en = absurd (omega (arith, e))
+walk_whole rows (suc l) k n kids all old mid new m e read w er en =
+    let same : k ≡ l = omega (arith, e) in
+    subst (λ (t : Square). Walks (suc l) t old new m) (sym (square_in-quadrants rows l n ∙ ap (square_of rows l) (sym read)))
+    (walk_of rows l kids all old mid new m (subst (λ j. WalksFour rows j kids old mid all) same w) er en)
+
+-- a row that isn't there is the last, or empty
+row_by_tests : (b there : Bool) (row : SquareRow) (rows : List SquareRow) (n : ℕ) → there ≡ false → n ≡ length rows + 1
+    → ((numbered b there row rows n).rows ≡ rows) ⊎ (((numbered b there row rows n).rows ≡ rows ++ row ∷ []) × ((numbered b there row rows n).number ≡ length rows + 1))
+row_by_tests true there row rows n none is = inl refl
+row_by_tests false true row rows n none is = cc
+row_by_tests false false row rows n none is = inr (refl, is)
+
+row_more : (row : SquareRow) (rows : List SquareRow) → list_any (same_row row) rows ≡ false → ((number_row row rows).rows ≡ rows) ⊎ (((number_row row rows).rows ≡ rows ++ row ∷ []) × ((number_row row rows).number ≡ length rows + 1))
+row_more row rows none =
+    subst (λ (r : Numbered). (r.rows ≡ rows) ⊎ ((r.rows ≡ rows ++ row ∷ []) × (r.number ≡ length rows + 1))) (sym (number_row-is row rows))
+    (row_by_tests _ _ row rows _ none (ap (λ n. n + 1) (not_found (same_row row) rows none)))
+
+-- a new row that isn't empty
+pub number_row-new : (row : SquareRow) (rows : List SquareRow) → list_any (same_row row) rows ≡ false → same_kids row.kids (0 ∷ 0 ∷ 0 ∷ 0 ∷ []) ≡ false
+    → number_row row rows ≡ record { rows = rows ++ row ∷ []; number = length rows + 1 }
+number_row-new row rows none some =
+    number_row-is row rows
+    ∙ (λ i. numbered (some i) (none i) row rows (not_found (same_row row) rows none i + 1))
+
+known_kept : (rows : List (List ℕ)) (old new : List SquareRow) (k n : ℕ) (o : Option ℕ) → Grows old new → IfSome o (Has k (square_in rows k n) old) → IfSome o (Has k (square_in rows k n) new)
+known_kept rows old new k n None grows h = tt
+known_kept rows old new k n (Some m) grows h = Has-grown k (square_in rows k n) old new m grows h
+
+-- one more square of the table is packed, after its quadrants
+module _ (rows : List (List ℕ)) (mid new : Packed) (level n m : ℕ) (all : List ℕ)
+    (packing : IsPacking rows mid) (is : IsNumber rows level n) (unknown : get nat_eq mid.numbers n ≡ None)
+    (er : (number_row (row_by level all) mid.squares.items).rows ≡ new.squares.items) (en : (number_row (row_by level all) mid.squares.items).number ≡ m)
+    (updates : Updates nat_eq mid.numbers new.numbers n (Some m)) where
+  grown : Grows mid.squares.items new.squares.items
+  grown = subst (Grows mid.squares.items) er (number_row-grows (row_by level all) mid.squares.items)
+
+  known_more : Has level (square_in rows level n) new.squares.items m → (j q : ℕ) → 0 < j → IsNumber rows j q → IfSome (get nat_eq new.numbers q) (Has j (square_in rows j q) new.squares.items)
+  known_more has j q low is_q =
+      elim (cases_eq n q) [
+        | inl same ↦
+            let alike : level ≡ j = one_level rows level j n is (subst (IsNumber rows j) (sym same) is_q) in
+            subst (λ p. IfSome (get nat_eq new.numbers p) (Has j (square_in rows j p) new.squares.items)) same
+            (subst (λ (o : Option ℕ). IfSome o (Has j (square_in rows j n) new.squares.items)) (sym updates.1) (subst (λ l. Has l (square_in rows l n) new.squares.items m) alike has))
+        | inr other ↦
+            subst (λ (o : Option ℕ). IfSome o (Has j (square_in rows j q) new.squares.items)) (sym (updates.2 q (ne_eqb n q other))) (known_kept rows mid.squares.items new.squares.items j q _ grown (packing.known j q low is_q))
+      ]
+
+  seen_before : (i : ℕ) → i < length mid.squares.items → IsSeen rows new i
+  seen_before i before =
+      let old = mid.squares.items in
+      let last = new.squares.items in
+      let s = packing.seen i before in
+      let kept : get_or last i no_row ≡ get_or old i no_row = row_kept old last i grown before in
+      let other : n ≡ s.number → ⊥ = λ same. none_some (suc i) (get nat_eq mid.numbers n) unknown (ap (get nat_eq mid.numbers) same ∙ s.known) in
+      record {
+        number = s.number;
+        numbered = subst (λ (r : SquareRow). IsNumber rows r.level s.number) (sym kept) s.numbered;
+        square = row_square-kept old last i grown packing.valid before ∙ s.square ∙ ap (λ (r : SquareRow). square_in rows r.level s.number) (sym kept);
+        known = updates.2 s.number (ne_eqb n s.number other) ∙ s.known;
+      }
+
+  seen_last : listed.square_in new.squares.items level m ≡ square_in rows level n → (i : ℕ) → i ≡ length mid.squares.items → new.squares.items ≡ mid.squares.items ++ row_by level all ∷ [] → m ≡ length mid.squares.items + 1 → IsSeen rows new i
+  seen_last named i place more count =
+      let old = mid.squares.items in
+      let last = new.squares.items in
+      let row = row_by level all in
+      let at : get_or last i no_row ≡ row = ap (λ (rs : List SquareRow). get_or rs i no_row) more ∙ get_or_push old row no_row i (sym place) in
+      let top : (get_or last i no_row).level ≡ level = ap (λ (r : SquareRow). r.level) at in
+      let next : m ≡ suc i = omega (arith, count, place) in
+      record {
+        number = n;
+        numbered = subst (λ j. IsNumber rows j n) (sym top) is;
+        square = subst (λ j. listed.square_in last j (suc i) ≡ square_in rows j n) (sym top) (ap (listed.square_in last level) (sym next) ∙ named);
+        known = updates.1 ∙ ap Some next;
+      }
+
+  seen_more : list_any (same_row (row_by level all)) mid.squares.items ≡ false → listed.square_in new.squares.items level m ≡ square_in rows level n → (i : ℕ) → i < length new.squares.items → IsSeen rows new i
+  seen_more none named i within =
+      let old = mid.squares.items in
+      let row = row_by level all in
+      elim (cases_lt i (length old)) [
+        | inl before ↦ seen_before i before
+        | inr after ↦ elim (row_more row old none) [
+          | inl same ↦ let size = ap length (sym er ∙ same) in absurd (omega (arith, within, after, size))
+          | inr more ↦
+              let is_more : new.squares.items ≡ old ++ row ∷ [] = sym er ∙ more.0 in
+              let size = ap length is_more in
+              seen_last named i (omega (arith, within, after, size, length_push old row)) is_more (sym en ∙ more.1)
+        ]
+      ]
+
+pub packed_more : (rows : List (List ℕ)) (old mid new : Packed) (level k n m : ℕ) (kids all : List ℕ) → level ≡ suc k → level ≤ 62 → IsPacking rows old → Packs rows k old mid → IsNumber rows level n → kids ≡ kids_at rows n
+    → get nat_eq old.numbers n ≡ None → WalksFour rows k kids old.squares.items mid.squares.items all
+    → (number_row (row_by level all) mid.squares.items).rows ≡ new.squares.items → (number_row (row_by level all) mid.squares.items).number ≡ m → length new.squares.items < 2 ^ 32
+    → Updates nat_eq mid.numbers new.numbers n (Some m) → Packs rows level old new
+packed_more rows old mid new level k n m kids all e high packing packs is read none w er en few updates =
+    let last = new.squares.items in
+    let unknown : get nat_eq mid.numbers n ≡ None = packs.above level n (omega (arith, e)) is ∙ none in
+    let walk = walk_whole rows level k n kids all old.squares.items mid.squares.items last m e read w er en in
+    let sounds : IsSound level (square_in rows level n) (record { rows = last; number = m }) =
+    subst (IsSound level (square_in rows level n)) walk (number_square-sound level (square_in rows level n) old.squares.items packing.valid (record { has = packing.each }) (square_in-IsSquare rows level n is) high) in
+    let new_row = unknown_new rows mid old.squares.items level k n kids all e packs.packing high is read w unknown in
     record {
-      valid = added.keeps.valid;
-      level = root.0 ∙ sym level;
-      root = ap (λ j. listed.square_in new j (length new)) level ∙ root.1 ∙ same_quadrants rows old (k - 1) kids all are;
+      packing = record {
+        distinct = packing.distinct;
+        valid = sounds.valid;
+        each = sounds.each.has;
+        few = few;
+        known = known_more rows mid new level n m all packs.packing is unknown er en updates (walked_has level (square_in rows level n) old.squares.items last m walk);
+        seen = seen_more rows mid new level n m all packs.packing is unknown er en updates new_row sounds.square;
+      };
+      above = λ j q h is_q.
+          let other : n ≡ q → ⊥ = λ same. let alike : level ≡ j = one_level rows level j n is (subst (IsNumber rows j) (sym same) is_q) in absurd (omega (arith, h, alike)) in
+          updates.2 q (ne_eqb n q other) ∙ packs.above j q (omega (arith, e, h)) is_q;
+    }
+
+-- with nothing packed
+pub packing_none : (rows : List (List ℕ)) (packed : Packed) → AreDistinct rows → packed.squares.items ≡ [] → packed.numbers.entries ≡ [] → IsPacking rows packed
+packing_none rows packed distinct none empty = record {
+  distinct = distinct;
+  valid = subst AreRows (sym none) AreRows-none;
+  each = subst (λ (rs : List SquareRow). (k n : ℕ) → listed.IsNumber rs k n → Has k (listed.square_in rs k n) rs n) (sym none) EachHas-none.has;
+  few = let size = ap length none in omega (arith, size);
+  known = λ k n low is. subst (λ (es : List (ℕ × ℕ)). IfSome (lookup (nat_eq n) es) (Has k (square_in rows k n) packed.squares.items)) (sym empty) tt;
+  seen = λ i h. let size = ap length none in absurd (omega (arith, h, size));
+}
+
+-- the rows of quadrants are of lower levels
+four_levels : (rows : List (List ℕ)) (k : ℕ) (kids all : List ℕ) (old new : List SquareRow) → old ≡ [] → WalksFour rows k kids old new all → LevelsUpTo k new
+four_levels rows k kids all old new none w =
+    let low : k ≤ k = omega arith in
+    let up0 : LevelsUpTo k old = λ i h. let size = ap length none in absurd (omega (arith, h, size)) in
+    let step : (t : Square) (a b : List SquareRow) (m : ℕ) → Walks k t a b m → LevelsUpTo k a → LevelsUpTo k b = λ t a b m walk up. subst (λ (z : Numbered). LevelsUpTo k z.rows) walk (number_square-levels k t a k low up) in
+    let up1 = step _ old w.first _ w.nw up0 in
+    let up2 = step _ w.first w.second _ w.ne up1 in
+    let up3 = step _ w.second w.third _ w.sw up2 in
+    step _ w.third new _ w.se up3
+
+root_missing : (level k : ℕ) (all : List ℕ) (done : List SquareRow) (there : Bool) → level ≡ suc k → LevelsUpTo k done → list_any (same_row (row_by level all)) done ≡ there → there ≡ false
+root_missing level k all done false e up is = refl
+root_missing level k all done true e up is =
+    let row = row_by level all in
+    let i = position_or_len (same_row row) done in
+    let low : (get_or done i no_row).level ≤ k = up i (found_within (same_row row) done is) in
+    let at : (get_or done i no_row).level ≡ level = ap (λ (r : SquareRow). r.level) (found_at row done is) in
+    absurd (omega (arith, e, low, at))
+
+-- the row of the root is a new one
+pub root_new : (rows : List (List ℕ)) (level k : ℕ) (kids all : List ℕ) (old done : List SquareRow) → level ≡ suc k → old ≡ [] → WalksFour rows k kids old done all → list_any (same_row (row_by level all)) done ≡ false
+root_new rows level k kids all old done e none w = root_missing level k all done _ e (four_levels rows k kids all old done none w) refl
+
+-- and the last of those that the walk completes
+pub rows_packed : (rows : List (List ℕ)) (level k : ℕ) (kids all : List ℕ) (old mid new : List SquareRow) → level ≡ suc k → old ≡ [] → WalksFour rows k kids old mid all → (number_row (row_by level all) mid).rows ≡ new → completed level (square_of rows k kids) ≡ new
+rows_packed rows zero k kids all old mid new e none w er = absurd (omega (arith, e))
+rows_packed rows (suc l) k kids all old mid new e none w er =
+    let same : k ≡ l = omega (arith, e) in
+    let walk = walk_of rows l kids all old mid new _ (subst (λ j. WalksFour rows j kids old mid all) same w) er refl in
+    ap (λ j. completed (suc l) (square_of rows j kids)) same
+    ∙ ap (λ (rs : List SquareRow). (number_square (suc l) (square_of rows l kids) rs).rows) (sym none)
+    ∙ ap (λ (z : Numbered). z.rows) walk
+
+four_IsSquare : (rows : List (List ℕ)) (k : ℕ) (kids : List ℕ) → AreNumbers rows k kids → IsSquare (suc k) (square_of rows k kids)
+four_IsSquare rows k kids are = IsSquare-parts k _ _ _ _ (square_in-IsSquare rows k _ are.nw) (square_in-IsSquare rows k _ are.ne) (square_in-IsSquare rows k _ are.sw) (square_in-IsSquare rows k _ are.se)
+
+pub root_IsSquare : (rows : List (List ℕ)) (level : ℕ) (kids : List ℕ) → 1 ≤ level → AreNumbers rows (level - 1) kids → IsSquare level (square_of rows (level - 1) kids)
+root_IsSquare rows zero kids low are = absurd (omega (arith, low))
+root_IsSquare rows (suc k) kids low are =
+    let less : k ≡ suc k - 1 = omega arith in
+    subst (λ j. IsSquare (suc k) (square_of rows j kids)) less (four_IsSquare rows k kids (subst (λ j. AreNumbers rows j kids) (sym less) are))
+
+-- what a walk of the root completes
+pub root_listed : (level : ℕ) (s : Square) (all : List SquareRow) → 1 ≤ level → level ≤ 62 → IsSquare level s → completed level s ≡ all → IsListed level s all
+root_listed zero s all low high is e = absurd (omega (arith, low))
+root_listed (suc k) s all low high is e = subst (IsListed (suc k) s) e (tidy.listed k s is high)
+
+-- a square whose quadrants are one empty square
+pub blank_state : (rows : List (List ℕ)) (level n : ℕ) → level ≡ 0 → n ≡ 0 → square_in rows level n ≡ empty_square level
+blank_state rows zero n e is = square_in-cell rows n ∙ ap one is ∙ sym empty_square-zero
+blank_state rows (suc k) n e is = absurd (omega (arith, e))
+
+pub blank_row : (rows : List (List ℕ)) (level n o : ℕ) (kids : List ℕ) → 0 < level → kids ≡ kids_at rows n → kids ≡ o ∷ o ∷ o ∷ o ∷ [] → square_in rows (level - 1) o ≡ empty_square (level - 1) → square_in rows level n ≡ empty_square level
+blank_row rows zero n o kids low read same is = absurd (omega (arith, low))
+blank_row rows (suc k) n o kids low read same is =
+    let less : suc k - 1 ≡ k = omega arith in
+    let part : square_in rows k o ≡ empty_square k = subst (λ j. square_in rows j o ≡ empty_square j) less is in
+    square_in-quadrants rows k n ∙ ap (square_of rows k) (sym read ∙ same) ∙ (λ i. four (part i) (part i) (part i) (part i)) ∙ sym (empty_square-suc k)
+
+-- a square round whose middle one empty square stands
+padded_at : (rows : List (List ℕ)) (k : ℕ) (kids a b c d : List ℕ) → a ≡ kids_at rows (get_or kids 0 0) → b ≡ kids_at rows (get_or kids 1 0) → c ≡ kids_at rows (get_or kids 2 0) → d ≡ kids_at rows (get_or kids 3 0)
+    → (o : ℕ) → o ≡ get_or a 0 0
+    → get_or a 1 0 ∷ get_or a 2 0 ∷ get_or b 0 0 ∷ get_or b 1 0 ∷ get_or b 3 0 ∷ get_or c 0 0 ∷ get_or c 2 0 ∷ get_or c 3 0 ∷ get_or d 1 0 ∷ get_or d 2 0 ∷ get_or d 3 0 ∷ [] ≡ o ∷ o ∷ o ∷ o ∷ o ∷ o ∷ o ∷ o ∷ o ∷ o ∷ o ∷ []
+    → square_in rows k o ≡ empty_square k
+    → square_of rows (suc k) kids ≡ centred k (square_in rows k (get_or a 3 0)) (square_in rows k (get_or b 2 0)) (square_in rows k (get_or c 1 0)) (square_in rows k (get_or d 0 0))
+padded_at rows k kids a b c d ea eb ec ed o first ring is =
+    let at = λ (j : ℕ). ap (λ (xs : List ℕ). square_in rows k (get_or xs j 0)) ring in
+    let quarter = λ (n : ℕ) (xs : List ℕ) (e : xs ≡ kids_at rows n). square_in-quadrants rows k n ∙ ap (square_of rows k) (sym e) in
+    let a0 : square_in rows k (get_or a 0 0) ≡ empty_square k = ap (square_in rows k) (sym first) ∙ is in
+    let a1 : square_in rows k (get_or a 1 0) ≡ empty_square k = at 0 ∙ is in
+    let a2 : square_in rows k (get_or a 2 0) ≡ empty_square k = at 1 ∙ is in
+    let b0 : square_in rows k (get_or b 0 0) ≡ empty_square k = at 2 ∙ is in
+    let b1 : square_in rows k (get_or b 1 0) ≡ empty_square k = at 3 ∙ is in
+    let b3 : square_in rows k (get_or b 3 0) ≡ empty_square k = at 4 ∙ is in
+    let c0 : square_in rows k (get_or c 0 0) ≡ empty_square k = at 5 ∙ is in
+    let c2 : square_in rows k (get_or c 2 0) ≡ empty_square k = at 6 ∙ is in
+    let c3 : square_in rows k (get_or c 3 0) ≡ empty_square k = at 7 ∙ is in
+    let d1 : square_in rows k (get_or d 1 0) ≡ empty_square k = at 8 ∙ is in
+    let d2 : square_in rows k (get_or d 2 0) ≡ empty_square k = at 9 ∙ is in
+    let d3 : square_in rows k (get_or d 3 0) ≡ empty_square k = at 10 ∙ is in
+    let nw = quarter (get_or kids 0 0) a ea ∙ (λ i. four (a0 i) (a1 i) (a2 i) (square_in rows k (get_or a 3 0))) in
+    let ne = quarter (get_or kids 1 0) b eb ∙ (λ i. four (b0 i) (b1 i) (square_in rows k (get_or b 2 0)) (b3 i)) in
+    let sw = quarter (get_or kids 2 0) c ec ∙ (λ i. four (c0 i) (square_in rows k (get_or c 1 0)) (c2 i) (c3 i)) in
+    let se = quarter (get_or kids 3 0) d ed ∙ (λ i. four (square_in rows k (get_or d 0 0)) (d1 i) (d2 i) (d3 i)) in
+    λ i. four (nw i) (ne i) (sw i) (se i)
+
+pub padded_by : (rows : List (List ℕ)) (whole : Quarters) (a b c d : List ℕ) → 2 ≤ whole.level
+    → a ≡ kids_at rows (get_or whole.kids 0 0) → b ≡ kids_at rows (get_or whole.kids 1 0) → c ≡ kids_at rows (get_or whole.kids 2 0) → d ≡ kids_at rows (get_or whole.kids 3 0)
+    → get_or a 1 0 ∷ get_or a 2 0 ∷ get_or b 0 0 ∷ get_or b 1 0 ∷ get_or b 3 0 ∷ get_or c 0 0 ∷ get_or c 2 0 ∷ get_or c 3 0 ∷ get_or d 1 0 ∷ get_or d 2 0 ∷ get_or d 3 0 ∷ []
+    ≡ get_or a 0 0 ∷ get_or a 0 0 ∷ get_or a 0 0 ∷ get_or a 0 0 ∷ get_or a 0 0 ∷ get_or a 0 0 ∷ get_or a 0 0 ∷ get_or a 0 0 ∷ get_or a 0 0 ∷ get_or a 0 0 ∷ get_or a 0 0 ∷ []
+    → square_in rows (whole.level - 2) (get_or a 0 0) ≡ empty_square (whole.level - 2) → IsPadded rows whole
+padded_by rows whole a b c d low ea eb ec ed ring is =
+    let k = whole.level - 2 in
+    let one_less : suc k ≡ whole.level - 1 = omega (arith, low) in
+    let two_less : k ≡ whole.level - 1 - 1 = omega (arith, low) in
+    let kids = whole.kids in
+    let nw = square_in rows k (get_or a 3 0) in
+    let ne = square_in rows k (get_or b 2 0) in
+    let sw = square_in rows k (get_or c 1 0) in
+    let se = square_in rows k (get_or d 0 0) in
+    record {
+      nw = nw;
+      ne = ne;
+      sw = sw;
+      se = se;
+      is = subst (λ j. square_of rows j kids ≡ centred (whole.level - 1 - 1) nw ne sw se) one_less
+          (subst (λ j. square_of rows (suc k) kids ≡ centred j nw ne sw se) two_less (padded_at rows k kids a b c d ea eb ec ed (get_or a 0 0) refl ring is));
     }

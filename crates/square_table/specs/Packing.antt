@@ -1,51 +1,68 @@
 -- Squares of a table that become the rows of a plane.
-use Rattle.std.specs.Prelude.{◌≡◌, ℕ, ◌-◌, ◌<◌, ◌^◌, List, length, get_or, nat_eq, IfSome}
+use Rattle.std.specs.Prelude.{◌≡◌, ℕ, suc, ◌-◌, ◌<◌, ◌^◌, List, length, get_or, nat_eq, Some, IfSome}
 use Rattle.std.specs.HashMap.{get}
 use Rattle.worlds.specs.Square.{Square}
 use Rattle.plane_core.specs.declared.row.SquareRow.{SquareRow}
 use Rattle.plane_core.specs.Rows as listed
-use Rattle.plane_core.specs.Laid as laid
-use Rattle.plane_core.specs.Laid.{IsAdded}
+use Rattle.plane_core.specs.Rows.{no_row}
+use Rattle.plane_core.specs.Walks.{Has, Walks}
+use Rattle.plane_core.specs.Centre.{centred}
 use Rattle.square_table.specs.declared.pack.Packed.{Packed}
 use Rattle.square_table.specs.declared.pack.Quarters.{Quarters}
 use Rattle.square_table.specs.declared.square.Square as squares
-use Rattle.square_table.specs.Squares.{Table, IsNumber, square_in, square_of, level_of, cells_of}
+use Rattle.square_table.specs.Squares.{Table, IsNumber, square_in, square_of, AreDistinct, level_of, cells_of}
 use Rattle.square_table.specs.Centred.{CentredAlike}
 
--- m is the number among a plane's rows of the square of level k that n stands for in the table
-pub record IsPacked (rows : List (List ℕ)) (squares : List SquareRow) (k n m : ℕ) : Type 0 where
-  pub number : listed.IsNumber squares k m
-  pub square : listed.square_in squares k m ≡ square_in rows k n
+-- the square of the i-th row is one of the table, and its number is remembered
+pub record IsSeen (rows : List (List ℕ)) (packed : Packed) (i : ℕ) : Type 0 where
+  pub number : ℕ
+  pub numbered : IsNumber rows (get_or packed.squares.items i no_row).level number
+  pub square : listed.square_in packed.squares.items
+      (get_or packed.squares.items i no_row).level (suc i)
+      ≡ square_in rows (get_or packed.squares.items i no_row).level number
+  pub known : get nat_eq packed.numbers number ≡ Some (suc i)
 
--- the rows are a plane's, and what is remembered of squares of the table that aren't cells is right
+-- the rows are a plane's, each of one square of the table, and of such squares their numbers are
+-- remembered
 pub record IsPacking (rows : List (List ℕ)) (packed : Packed) : Type 0 where
+  pub distinct : AreDistinct rows
   pub valid : listed.AreRows packed.squares.items
+  pub each : (k n : ℕ) → listed.IsNumber packed.squares.items k n →
+      Has k (listed.square_in packed.squares.items k n) packed.squares.items n
   pub few : length packed.squares.items < 2 ^ 32
   pub known : (k n : ℕ) → 0 < k → IsNumber rows k n →
-      IfSome (get nat_eq packed.numbers n) (IsPacked rows packed.squares.items k n)
+      IfSome (get nat_eq packed.numbers n) (Has k (square_in rows k n) packed.squares.items)
+  pub seen : (i : ℕ) → i < length packed.squares.items → IsSeen rows packed i
 
--- rows of a plane whose root is the square, of level k
-pub record AreRowsOf (k : ℕ) (s : Square) (squares : List SquareRow) : Type 0 where
-  pub valid : listed.AreRows squares
-  pub level : listed.root_level squares ≡ k
-  pub root : listed.square_in squares k (length squares) ≡ s
+-- squares of levels up to k are packed, and what is remembered of others is as it was
+pub record Packs (rows : List (List ℕ)) (k : ℕ) (old new : Packed) : Type 0 where
+  pub packing : IsPacking rows new
+  pub above : (j n : ℕ) → k < j → IsNumber rows j n →
+      get nat_eq new.numbers n ≡ get nat_eq old.numbers n
 
--- the same of each of four
-abbrev pub ArePacked : List (List ℕ) → List SquareRow → ℕ → List ℕ → List ℕ → Type 0
-ArePacked rows squares k kids = λ all. (q : ℕ) → q < 4 →
-    IsPacked rows squares k (get_or kids q 0) (get_or all q 0)
-
--- a plane's rows came of others by one of these quadrants, with the number n
-abbrev pub IsRowOf : List SquareRow → ℕ → List ℕ → List SquareRow → ℕ → Type 0
-IsRowOf old k kids new = λ n. IsAdded old new k n (laid.square_of old (k - 1) kids)
-
--- n is there the number of the square of these quadrants
-abbrev pub IsSquareOf : List SquareRow → ℕ → List ℕ → List SquareRow → ℕ → Type 0
-IsSquareOf old k kids new = λ n. listed.square_in new k n ≡ laid.square_of old (k - 1) kids
+-- the walk of the four squares of level k that the kids stand for gives them these numbers
+pub record WalksFour (rows : List (List ℕ)) (k : ℕ) (kids : List ℕ) (old new : List SquareRow)
+    (all : List ℕ) : Type 0 where
+  pub count : length all ≡ 4
+  pub first : List SquareRow
+  pub second : List SquareRow
+  pub third : List SquareRow
+  pub nw : Walks k (square_in rows k (get_or kids 0 0)) old first (get_or all 0 0)
+  pub ne : Walks k (square_in rows k (get_or kids 1 0)) first second (get_or all 1 0)
+  pub sw : Walks k (square_in rows k (get_or kids 2 0)) second third (get_or all 2 0)
+  pub se : Walks k (square_in rows k (get_or kids 3 0)) third new (get_or all 3 0)
 
 -- the square with the quadrants
 abbrev pub square_by : List (List ℕ) → Quarters → Square
 square_by rows q = square_of rows (q.level - 1) q.kids
+
+-- round the square in its middle it is empty
+pub record IsPadded (rows : List (List ℕ)) (q : Quarters) : Type 0 where
+  pub nw : Square
+  pub ne : Square
+  pub sw : Square
+  pub se : Square
+  pub is : square_by rows q ≡ centred (q.level - 1 - 1) nw ne sw se
 
 -- a world that has the one square round the origin has the other there
 abbrev pub AreAlike : List (List ℕ) → Quarters → Quarters → Type 0

@@ -1,13 +1,14 @@
 //! Squares of a table as planes.
-ghost use Rattle.std.specs.Prelude.{◌≡◌, ℕ, ◌-◌, ◌<◌, ◌≤◌, ◌^◌, length, get_or, IfOk, OnOk};
+ghost use Rattle.std.specs.Prelude.{◌≡◌, ◌⊎◌, ◌-◌, ◌<◌, ◌≤◌, ◌^◌, [], true, false, length, IfOk, OnOk};
+ghost use Rattle.std.specs.List.{list_any};
 ghost use Rattle.worlds.specs.World.{World};
+ghost use Rattle.worlds.specs.Square.{empty_square};
 ghost use Rattle.worlds.specs.Range.{HasMargin};
-ghost use Rattle.plane_core.specs.Rows as listed;
-ghost use Rattle.plane_core.specs.Rows.{AreRows};
-ghost use Rattle.plane_core.specs.Laid.{Keeps};
-ghost use Rattle.square_table.specs.Squares.{IsHeld, IsNumber, AreNumbers, square_of, level_of, cells_of};
+ghost use Rattle.plane_core.specs.Rows.{number_row, same_row, completed};
+ghost use Rattle.plane_core.specs.Walks.{Walks};
+ghost use Rattle.square_table.specs.Squares.{IsHeld, IsNumber, AreNumbers, square_in, level_of, cells_of};
 ghost use Rattle.square_table.specs.Centred.{IsCentred};
-ghost use Rattle.square_table.specs.Packing.{IsPacked, IsPacking, ArePacked, AreRowsOf, IsRowOf, IsSquareOf, AreAlike, IsAlike};
+ghost use Rattle.square_table.specs.Packing.{IsPacking, Packs, WalksFour, IsPadded, AreAlike, IsAlike, square_by};
 
 use crate::chains::is_same;
 use crate::square::Square;
@@ -34,35 +35,22 @@ struct Packed {
     numbers: HashMap<u32, u32>,
 }
 
-// Adds a row of quadrants, and gives its number.
-fn push_row(squares: &mut Vec<SquareRow>, level: u8, kids: [u32; 4]) -> Result<u32, AllocError>
-    requires level { (1 ≤ level) × (level ≤ 62) }
-    requires squares { AreRows squares.old.items × (length squares.old.items < 2 ^ 32) }
-    requires kids { (q : ℕ) → q < 4 →
-        listed.IsNumber squares.old.items (level - 1) (get_or kids q 0) }
-    ensures { IfOk result (IsRowOf squares.old.items level kids squares.new.items) }
+// The number of a row that isn't among the others, of which it becomes the last; 0 where it is empty.
+fn complete(squares: &mut Vec<SquareRow>, row: SquareRow) -> Result<u32, AllocError>
+    requires new { list_any (same_row row) squares.old.items ≡ false }
+    requires few { length squares.old.items < 2 ^ 32 }
+    ensures rows { OnOk result ((number_row row squares.old.items).rows ≡ squares.new.items) }
+    ensures number { IfOk result (λ n. (number_row row squares.old.items).number ≡ n) }
+    ensures few { OnOk result (length squares.new.items < 2 ^ 32) }
 {
+    if row.kids == [0; 4] {
+        return Ok(0);
+    }
     if squares.len() >= u32::MAX as usize {
         return Err(AllocError);
     }
-    squares.push(SquareRow { level, kids })?;
+    squares.push(row)?;
     Ok(squares.len() as u32)
-}
-
-// The number of quadrants as a row, which is added; 0 where they are empty.
-fn add_row(squares: &mut Vec<SquareRow>, level: u8, kids: [u32; 4]) -> Result<u32, AllocError>
-    requires level { (1 ≤ level) × (level ≤ 62) }
-    requires squares { AreRows squares.old.items × (length squares.old.items < 2 ^ 32) }
-    requires kids { (q : ℕ) → q < 4 →
-        listed.IsNumber squares.old.items (level - 1) (get_or kids q 0) }
-    ensures keeps { OnOk result (Keeps squares.old.items squares.new.items) }
-    ensures number { IfOk result (listed.IsNumber squares.new.items level) }
-    ensures square { IfOk result (IsSquareOf squares.old.items level kids squares.new.items) }
-{
-    if is_same(kids, [0; 4]) {
-        return Ok(0);
-    }
-    push_row(squares, level, kids)
 }
 
 impl<'a> SquareTable<'a> {
@@ -72,7 +60,8 @@ impl<'a> SquareTable<'a> {
         requires numbers { AreNumbers self.now.rows (whole.level - 1) whole.kids }
         ensures level { result.level ≡ whole.level - 1 }
         ensures numbers { AreNumbers self.now.rows (result.level - 1) result.kids }
-        ensures centred { 62 < whole.level → AreAlike self.now.rows whole result }
+        ensures centred { (62 < whole.level) ⊎ IsPadded self.now.rows whole →
+            AreAlike self.now.rows whole result }
     {
         let kids = whole.kids;
         let nw = self.quadrants(kids[0])[3];
@@ -85,7 +74,61 @@ impl<'a> SquareTable<'a> {
         }
     }
 
-    // The square in its middle that may be a plane's root.
+    // Whether a square is empty. Its quadrants are one square then, and so are theirs: it takes a
+    // step for each level.
+    fn is_blank(&self, level: u8, number: u32) -> bool
+        requires { IsNumber self.now.rows level number }
+        ensures { result ≡ true → square_in self.now.rows level number ≡ empty_square level }
+    {
+        if level == 0 {
+            return number == 0;
+        }
+        let kids = self.quadrants(number);
+        if kids == [kids[0]; 4] {
+            return self.is_blank(level - 1, kids[0]);
+        }
+        false
+    }
+
+    // Whether a square is empty round the one in its middle.
+    fn is_padded(&self, whole: Quarters) -> bool
+        requires level { 2 ≤ whole.level }
+        requires numbers { AreNumbers self.now.rows (whole.level - 1) whole.kids }
+        ensures { result ≡ true → IsPadded self.now.rows whole }
+    {
+        let kids = whole.kids;
+        let nw = self.quadrants(kids[0]);
+        let ne = self.quadrants(kids[1]);
+        let sw = self.quadrants(kids[2]);
+        let se = self.quadrants(kids[3]);
+        let far = [
+            nw[1], nw[2], ne[0], ne[1], ne[3], sw[0], sw[2], sw[3], se[1], se[2], se[3],
+        ];
+        if far == [nw[0]; 11] {
+            return self.is_blank(whole.level - 2, nw[0]);
+        }
+        false
+    }
+
+    // Whether the square in the middle of one has all of a plane's live cells.
+    fn is_wide(&self, whole: Quarters) -> bool
+        requires level { 1 ≤ whole.level }
+        requires numbers { AreNumbers self.now.rows (whole.level - 1) whole.kids }
+        ensures level { result ≡ true → 2 ≤ whole.level }
+        ensures wide { result ≡ true → (62 < whole.level) ⊎ IsPadded self.now.rows whole }
+        ensures high { result ≡ false → whole.level ≤ 62 }
+    {
+        if whole.level > MOST_LEVEL {
+            return true;
+        }
+        if whole.level == 1 {
+            return false;
+        }
+        self.is_padded(whole)
+    }
+
+    // The least square in its middle that has all of a plane's live cells. What a plane keeps has
+    // the least root, so no other root has to be found for what is packed.
     fn root(&self, square: Square<'a>) -> Quarters
         requires held { IsHeld self.now square }
         requires level { 1 ≤ level_of square }
@@ -97,7 +140,7 @@ impl<'a> SquareTable<'a> {
             kids: *square.kids,
             level: square.level,
         };
-        while root.level > MOST_LEVEL {
+        while self.is_wide(root) {
             root = self.middle(root);
         }
         root
@@ -114,9 +157,9 @@ impl<'a> SquareTable<'a> {
         requires level { level ≤ 61 }
         requires kids { AreNumbers self.now.rows level kids }
         requires packed { IsPacking self.now.rows packed.old }
-        ensures keeps { OnOk result (Keeps packed.old.squares.items packed.new.squares.items) }
-        ensures kids { IfOk result (ArePacked self.now.rows packed.new.squares.items level kids) }
-        ensures packed { OnOk result (IsPacking self.now.rows packed.new) }
+        ensures walks { IfOk result (WalksFour self.now.rows level kids
+            packed.old.squares.items packed.new.squares.items) }
+        ensures packs { OnOk result (Packs self.now.rows level packed.old packed.new) }
     {
         let nw = self.pack_square(packed, level, kids[0])?;
         let ne = self.pack_square(packed, level, kids[1])?;
@@ -125,16 +168,16 @@ impl<'a> SquareTable<'a> {
         Ok([nw, ne, sw, se])
     }
 
-    // Packs a square, and gives its number among the rows. One that was seen is not packed again.
+    // Packs a square, and gives its number among the rows. One that was seen is not packed again; of
+    // one that wasn't the row is a new one, since the table's squares are distinct.
     #[cycle(pack)]
     fn pack_square(&self, packed: &mut Packed, level: u8, number: u32) -> Result<u32, AllocError>
         requires level { level ≤ 61 }
         requires number { IsNumber self.now.rows level number }
         requires packed { IsPacking self.now.rows packed.old }
-        ensures keeps { OnOk result (Keeps packed.old.squares.items packed.new.squares.items) }
-        ensures square { IfOk result
-            (IsPacked self.now.rows packed.new.squares.items level number) }
-        ensures packed { OnOk result (IsPacking self.now.rows packed.new) }
+        ensures walks { IfOk result (Walks level (square_in self.now.rows level number)
+            packed.old.squares.items packed.new.squares.items) }
+        ensures packs { OnOk result (Packs self.now.rows level packed.old packed.new) }
     {
         if level == 0 {
             return Ok(number);
@@ -143,24 +186,36 @@ impl<'a> SquareTable<'a> {
             return Ok(*known);
         }
         let kids = self.pack_kids(packed, level - 1, self.quadrants(number))?;
-        let known = add_row(&mut packed.squares, level, kids)?;
+        let known = complete(&mut packed.squares, SquareRow { level, kids })?;
         packed.numbers.insert(number, known)?;
         Ok(known)
     }
 
-    // The rows of a square, of which the last is its own.
+    // Nothing is packed yet.
+    fn nothing(&self) -> Packed
+        ensures packing { IsPacking self.now.rows result }
+        ensures none { result.squares.items ≡ [] }
+    {
+        Packed {
+            squares: Vec::new(self.alloc()),
+            numbers: HashMap::new(self.alloc()),
+        }
+    }
+
+    // The rows that a walk of a square completes.
     fn pack_rows(&self, root: Quarters) -> Result<Vec<SquareRow>, AllocError>
         requires level { (1 ≤ root.level) × (root.level ≤ 62) }
         requires numbers { AreNumbers self.now.rows (root.level - 1) root.kids }
-        ensures { IfOk result (λ rows. AreRowsOf root.level
-            (square_of self.now.rows (root.level - 1) root.kids) rows.items) }
+        ensures { IfOk result (λ rows.
+            completed root.level (square_by self.now.rows root) ≡ rows.items) }
     {
-        let mut packed = Packed {
-            squares: Vec::new(self.alloc()),
-            numbers: HashMap::new(self.alloc()),
-        };
+        let mut packed = self.nothing();
         let kids = self.pack_kids(&mut packed, root.level - 1, root.kids)?;
-        push_row(&mut packed.squares, root.level, kids)?;
+        let row = SquareRow {
+            level: root.level,
+            kids,
+        };
+        complete(&mut packed.squares, row)?;
         Ok(packed.squares)
     }
 
@@ -177,6 +232,6 @@ impl<'a> SquareTable<'a> {
             IsCentred plane (level_of square.entry) (cells_of self.now square.entry)) }
     {
         let rows = self.pack_rows(self.root(square))?;
-        Plane::from_squares(self.alloc(), &rows)
+        Plane::from_walked(self.alloc(), rows)
     }
 }

@@ -85,8 +85,10 @@ impl<'a> SquareTable<'a> {
         })
     }
 
-    // Where its memory comes from.
-    pub(crate) fn alloc(&self) -> Global {
+    // Where its memory comes from. Who asks makes rows of its squares, which are distinct.
+    pub(crate) fn alloc(&self) -> Global
+        ensures { AreDistinct self.now.rows }
+    {
         self.alloc
     }
 

@@ -10,8 +10,8 @@ use Rattle.plane_core.specs.Laid.{square_of, AreQuadrants, Keeps, IsAdded, IsRai
 use Rattle.plane_core.proofs.Shared.Numbering.{Grows, Grows-more}
 use Rattle.plane_core.proofs.Shared.Sound.{IsNumber-level, IsNumber-from, IsNumber-grown, Grows-length, square_in-none, square_in-row, square_in-grown, AreRows-push}
 use Rattle.plane_core.proofs.Shared.Roots.{root_level-some, square_in-IsSquare}
-use Rattle.plane_core.proofs.Tidy.{world-put}
-use Rattle.plane_core.proofs.Centring.{centred-world}
+use Rattle.plane_core.proofs.Shared.Tidy.{world-put}
+use Rattle.plane_core.proofs.Shared.Centring.{centred-world}
 use Rattle.plane_core.proofs.Shared.Centres.{zero-IsNumber}
 use Rattle.plane_core.proofs.Descents.{number-kid}
 

@@ -13,9 +13,9 @@ use Rattle.plane_core.specs.Centre.{cornered, centred, is_passed, is_alone, None
 use Rattle.plane_core.proofs.Shared.Numbering.{Grows, Grows-more, Has-empty, Has-one}
 use Rattle.plane_core.proofs.Shared.Sound.{row_of, IsNumber-level, IsNumber-from, IsNumber-state, square_in-none, square_in-state, square_in-row, square_in-grown, AreRows-push, row_kept}
 use Rattle.plane_core.proofs.Shared.Roots.{rooted, root-IsSquare, root-Fits, root_level-none, root_level-some, root-side, square_in-IsSquare}
-use Rattle.plane_core.proofs.Tidy.{world-put}
+use Rattle.plane_core.proofs.Shared.Tidy.{world-put}
 use Rattle.plane_core.proofs.Descents.{number-kid}
-use Rattle.plane_core.proofs.Centring.{root_world, centred-world, fits-corners, HasCorners}
+use Rattle.plane_core.proofs.Shared.Centring.{root_world, centred-world, fits-corners, HasCorners}
 
 -- what holds holds where there is nothing
 pub IfNone_from : {A : Type 0} (o : Option A) (P : Type 0) → P → IfNone o P

@@ -8,7 +8,7 @@ use Rattle.std.specs.List.{list_any, position_or_len}
 use Rattle.plane_core.specs.declared.row.SquareRow.{SquareRow}
 use Rattle.worlds.specs.Square.{Square, one, four, empty_square, IsSquare}
 use Rattle.plane_core.specs.Rows.{Numbered, numbered, number_row, number_square, same_row, same_kids, no_row, row_at, kid, IsNumber, IsRow, AreRows, square_in}
-use Rattle.plane_core.specs.Walks.{Has}
+use Rattle.plane_core.specs.Walks.{Has, Walks}
 use Rattle.plane_core.proofs.Shared.Numbering.{Grows, Grows-more, Grows-then, RowHas, Has-grown, Has-four, Has-empty, RowHas-again, number_row-is, number_square-grows, same_row-is, not_found}
 
 -- the row of a number of a level above 0
@@ -114,6 +114,17 @@ AreRows-push rows row valid next i h =
 -- the row of four numbers
 abbrev pub row_of : ℕ → ℕ → ℕ → ℕ → ℕ → SquareRow
 row_of k a b c d = record { level = k; kids = a ∷ b ∷ c ∷ d ∷ [] }
+
+-- the walk of four quadrants, and of their row
+pub walks-quadrants : (k : ℕ) (nw ne sw se : Square) (d0 d1 d2 d3 d4 d5 : List SquareRow) (a b c d m : ℕ) → Walks k nw d0 d1 a → Walks k ne d1 d2 b → Walks k sw d2 d3 c → Walks k se d3 d4 d
+    → (number_row (row_of (suc k) a b c d) d4).rows ≡ d5 → (number_row (row_of (suc k) a b c d) d4).number ≡ m → Walks (suc k) (four nw ne sw se) d0 d5 m
+unfolding number_square
+walks-quadrants k nw ne sw se d0 d1 d2 d3 d4 d5 a b c d m ha hb hc hd hr hm =
+    let eb = ap (λ (z : Numbered). number_square k ne z.rows) ha ∙ hb in
+    let ec = ap (λ (z : Numbered). number_square k sw z.rows) eb ∙ hc in
+    let ed = ap (λ (z : Numbered). number_square k se z.rows) ec ∙ hd in
+    (λ i. number_row (record { level = suc k; kids = (ha i).number ∷ (eb i).number ∷ (ec i).number ∷ (ed i).number ∷ [] }) (ed i).rows)
+    ∙ (λ i. record { rows = hr i; number = hm i })
 
 pub Has-state : (rows done : List SquareRow) (s : ℕ) → Has 0 (square_in rows 0 s) done s
 unfolding number_square square_in

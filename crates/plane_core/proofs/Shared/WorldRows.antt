@@ -16,7 +16,7 @@ use Rattle.plane_core.proofs.Shared.Cells.{IsSquare-one, IsSquare-parts, cell_in
 use Rattle.plane_core.proofs.Shared.Roots.{kept-none, root-IsSquare, rooted, world-inside, world-none, world-outside}
 use Rattle.plane_core.specs.Laws.{EmptyWorldHasOneRow, WorldsHaveRows}
 use Rattle.plane_core.specs.WorldRows.{holds_all, is_within, least_level, rows_of}
-use Rattle.plane_core.proofs.Tidy.{IsListed, listed}
+use Rattle.plane_core.proofs.Shared.Tidy.{IsListed, listed}
 use Rattle.plane_core.proofs.Written.{squares-written}
 
 -- the square of a world at a place has the world's cells

@@ -65,6 +65,39 @@ fn the_root_is_the_least(rt: HostRuntime) {
 }
 
 #[test]
+fn the_least_root_has_an_order_of_its_own(rt: HostRuntime) {
+    let alloc = rt.alloc();
+    let wide = [
+        row(1, [5, 0, 0, 0]),
+        row(2, [0, 0, 0, 1]),
+        row(1, [0, 0, 0, 6]),
+        row(2, [3, 0, 0, 0]),
+        row(3, [2, 0, 0, 4]),
+    ];
+    let least = [
+        row(1, [5, 0, 0, 0]),
+        row(1, [0, 0, 0, 6]),
+        row(2, [1, 0, 0, 2]),
+    ];
+    becomes(&rt, alloc, &wide, &least);
+    becomes(&rt, alloc, &least, &least);
+}
+
+#[test]
+fn the_least_root_may_be_among_the_rows(rt: HostRuntime) {
+    let alloc = rt.alloc();
+    let given = [
+        row(1, [1, 2, 3, 4]),
+        row(1, [0, 0, 0, 1]),
+        row(1, [0, 0, 2, 0]),
+        row(1, [0, 3, 0, 0]),
+        row(1, [4, 0, 0, 0]),
+        row(2, [2, 3, 4, 5]),
+    ];
+    becomes(&rt, alloc, &given, &[row(1, [1, 2, 3, 4])]);
+}
+
+#[test]
 fn each_square_stands_once_in_the_order_of_the_walk(rt: HostRuntime) {
     let alloc = rt.alloc();
     let twice = [

@@ -2,16 +2,16 @@
 use Rattle.std.proofs.Common.{◌≡◌, ℕ, zero, suc, ◌+◌, ◌-◌, ◌<◌, ◌≤◌, ◌^◌, List, [], ◌∷◌, length, get_or, refl, sym, ap, ap₂, ◌∙◌, subst, arith, inl, inr, pow_mono, ℤ, pos, neg_ℤ, ◌+ℤ◌}
 use Rattle.std.proofs.lemmas.Bool.{cases_lt}
 use Rattle.std.proofs.lemmas.Int.{ints}
-use Rattle.worlds.specs.World.{World, cell, same_world}
+use Rattle.worlds.specs.World.{World, blank, cell, cell-blank, same_world}
 use Rattle.worlds.specs.Range.{HasMargin}
-use Rattle.worlds.specs.Square.{Square, one, four, IsSquare, IsIn, cell_in, square_at}
+use Rattle.worlds.specs.Square.{Square, one, four, IsSquare, IsIn, cell_in, put_square, square_at}
 use Rattle.plane_core.specs.declared.row.SquareRow.{SquareRow}
 use Rattle.plane_core.specs.Rows.{AreRows, root_level, root_of, world_of_rows}
-use Rattle.plane_core.proofs.Shared.Cells.{cell_in-ne, cell_in-nw, cell_in-one, cell_in-se, cell_in-sw, double, in_or_out, offset}
+use Rattle.plane_core.proofs.Shared.Cells.{cell_in-ne, cell_in-nw, cell_in-one, cell_in-se, cell_in-sw, double, in_or_out, offset, put_square-inside, put_square-outside}
+use Rattle.plane_core.proofs.Shared.Centring.{around_centre}
 use Rattle.plane_core.proofs.Shared.Roots.{root-IsSquare, root-Fits, root-cells}
-use Rattle.plane_core.specs.Rows as listed
+use Rattle.plane_core.specs.Centre.{centred}
 use Rattle.square_table.specs.Centred.{edge, IsCentred, CentredAlike}
-use Rattle.square_table.specs.Packing.{AreRowsOf}
 use Rattle.square_table.specs.Squares.{square_in, square_of, kids_at}
 use Rattle.square_table.proofs.Shared.Growth.{square_in-quadrants}
 
@@ -182,6 +182,26 @@ middle_centred w k s high margin is = record {
       (record { left = omega (arith, ints); right = omega (arith, ints); top = omega (arith, ints); bottom = omega (arith, ints) });
 }
 
+in_middle : (e f x y : ℤ) (n m i j : ℕ) → e +ℤ pos n ≡ f → x ≡ e +ℤ pos i → y ≡ e +ℤ pos j → n ≤ i → i < m + n → n ≤ j → j < m + n → IsIn m f f x y
+in_middle e f x y n m i j half ex ey left right top bottom = record { left = omega (arith, ints); right = omega (arith, ints); top = omega (arith, ints); bottom = omega (arith, ints) }
+
+-- where a square is empty round its middle, the middle is centred too
+pub middle_padded : (w : World) (k : ℕ) (s a b c d : Square) → s ≡ centred k a b c d → IsCentred w (suc (suc k)) s → IsCentred w (suc k) (middle_of s)
+middle_padded w k s a b c d padded is = record {
+  square = ap middle_of is.square ∙ middle_at w k;
+  inside = λ x y live. elim (in_or_out (2 ^ suc k) (edge (suc k)) (edge (suc k)) x y) [
+    | inl h ↦ h
+    | inr out ↦
+        let e = edge (suc (suc k)) in
+        let at = counted (suc (suc k)) e e x y (is.inside x y live) in
+        let none : cell_in (suc (suc k)) s at.0 at.1 ≡ 0 =
+        ap (λ (t : Square). cell_in (suc (suc k)) t at.0 at.1) padded
+        ∙ around_centre k a b c d at.0 at.1 at.4 at.5 (λ left right top bottom. out (in_middle e (edge (suc k)) x y (2 ^ k) (2 ^ suc k) at.0 at.1 (half_edge k) at.2 at.3 left right top bottom)) in
+        let dead_is : cell w x y ≡ 0 = ap₂ (cell w) at.2 at.3 ∙ sym (centred_cells w (suc (suc k)) s at.0 at.1 is at.4 at.5) ∙ none in
+        absurd (omega (arith, live, dead_is))
+  ];
+}
+
 -- the middle of a square of a table, by the numbers of its quadrants
 middle_in : (rows : List (List ℕ)) (k : ℕ) (kids a b c d : List ℕ) → a ≡ kids_at rows (get_or kids 0 0) → b ≡ kids_at rows (get_or kids 1 0) → c ≡ kids_at rows (get_or kids 2 0) → d ≡ kids_at rows (get_or kids 3 0)
     → middle_of (square_of rows (suc k) kids) ≡ square_of rows k (get_or a 3 0 ∷ get_or b 2 0 ∷ get_or c 1 0 ∷ get_or d 0 0 ∷ [])
@@ -206,6 +226,21 @@ middle_alike rows (suc (suc k)) kids a b c d high ea eb ec ed = λ w margin is.
     let part : IsCentred w (suc k) (square_of rows k new) = subst (IsCentred w (suc k)) (middle_in rows k kids a b c d ea eb ec ed) (middle_centred w k _ far margin whole) in
     subst (λ j. IsCentred w j (square_of rows (suc (suc k) - 1 - 1) new)) (sym less) (subst (λ j. IsCentred w (suc k) (square_of rows j new)) (sym two_less) part)
 
+pub padded_alike : (rows : List (List ℕ)) (level : ℕ) (kids a b c d : List ℕ) (nw ne sw se : Square) → 2 ≤ level → square_of rows (level - 1) kids ≡ centred (level - 1 - 1) nw ne sw se
+    → a ≡ kids_at rows (get_or kids 0 0) → b ≡ kids_at rows (get_or kids 1 0) → c ≡ kids_at rows (get_or kids 2 0) → d ≡ kids_at rows (get_or kids 3 0)
+    → CentredAlike level (square_of rows (level - 1) kids) (level - 1) (square_of rows (level - 1 - 1) (get_or a 3 0 ∷ get_or b 2 0 ∷ get_or c 1 0 ∷ get_or d 0 0 ∷ []))
+padded_alike rows zero kids a b c d nw ne sw se high padded ea eb ec ed = absurd (omega (arith, high))
+padded_alike rows (suc zero) kids a b c d nw ne sw se high padded ea eb ec ed = absurd (omega (arith, high))
+padded_alike rows (suc (suc k)) kids a b c d nw ne sw se high padded ea eb ec ed = λ w margin is.
+    let less : suc (suc k) - 1 ≡ suc k = omega arith in
+    let two_less : suc (suc k) - 1 - 1 ≡ k = omega arith in
+    let new = get_or a 3 0 ∷ get_or b 2 0 ∷ get_or c 1 0 ∷ get_or d 0 0 ∷ [] in
+    let round : square_of rows (suc k) kids ≡ centred k nw ne sw se =
+    subst (λ j. square_of rows (suc k) kids ≡ centred j nw ne sw se) two_less (subst (λ j. square_of rows j kids ≡ centred (suc (suc k) - 1 - 1) nw ne sw se) less padded) in
+    let whole : IsCentred w (suc (suc k)) (square_of rows (suc k) kids) = subst (λ j. IsCentred w (suc (suc k)) (square_of rows j kids)) less is in
+    let part : IsCentred w (suc k) (square_of rows k new) = subst (IsCentred w (suc k)) (middle_in rows k kids a b c d ea eb ec ed) (middle_padded w k _ nw ne sw se round whole) in
+    subst (λ j. IsCentred w j (square_of rows (suc (suc k) - 1 - 1) new)) (sym less) (subst (λ j. IsCentred w (suc k) (square_of rows j new)) (sym two_less) part)
+
 -- a square by the numbers of its quadrants
 pub quarters_alike : (rows : List (List ℕ)) (k n : ℕ) (kids : List ℕ) → 0 < k → kids ≡ kids_at rows n → CentredAlike k (square_in rows k n) k (square_of rows (k - 1) kids)
 quarters_alike rows zero n kids low e = absurd (omega (arith, low))
@@ -213,8 +248,17 @@ quarters_alike rows (suc k) n kids low e = λ w margin is.
     let less : k ≡ suc k - 1 = omega arith in
     subst (λ j. IsCentred w (suc k) (square_of rows j kids)) less (subst (IsCentred w (suc k)) (square_in-quadrants rows k n ∙ ap (square_of rows k) (sym e)) is)
 
--- the plane of rows whose root is centred on a world is that world
-pub rows_centred : (w : World) (rows : List SquareRow) (k : ℕ) (s : Square) → AreRowsOf k s rows → IsCentred w k s → world_of_rows rows ≡ w
-rows_centred w rows k s are is =
-    let root : IsCentred (world_of_rows rows) k s = subst (IsCentred (world_of_rows rows) k) are.root (subst (λ j. IsCentred (world_of_rows rows) j (listed.square_in rows j (length rows))) are.level (root_centred rows are.valid)) in
-    one_world (world_of_rows rows) w k s root is
+-- the world that a square makes round the origin
+pub put_centred : (k : ℕ) (s : Square) → IsSquare k s → IsCentred (put_square k s (edge k) (edge k) blank) k s
+unfolding HasCells
+put_centred k s is = record {
+  square = is_square_at _ k s (edge k) (edge k) is (λ i j hi hj. sym (put_square-inside k s (edge k) (edge k) blank (edge k +ℤ pos i) (edge k +ℤ pos j) i j is refl refl hi hj));
+  inside = λ x y live. elim (in_or_out (2 ^ k) (edge k) (edge k) x y) [
+    | inl h ↦ h
+    | inr out ↦ let none = put_square-outside k s (edge k) (edge k) blank x y is out ∙ cell-blank x y in absurd (omega (arith, live, none))
+  ];
+}
+
+-- is the one on which it is centred
+pub put_world : (w : World) (k : ℕ) (s : Square) → IsSquare k s → IsCentred w k s → put_square k s (edge k) (edge k) blank ≡ w
+put_world w k s is centred_is = one_world _ w k s (put_centred k s is) centred_is

@@ -1,4 +1,4 @@
-use Rattle.std.proofs.Common.{◌≡◌, ◌<◌, ◌^◌, length}
+use Rattle.std.proofs.Common.{◌≡◌, ◌<◌, ◌^◌, false, length}
 use Rattle.plane_core.specs.Rows.{root_level, world_of_rows}
 use Rattle.plane_core.specs.Centre.{AreFilled}
 use Rattle.plane_core.proofs.centre.add_centres.Given as goal
@@ -8,6 +8,7 @@ invariant-loop-row l = record {
   filled : AreFilled l.rows.items;
   few : length l.rows.items < 2 ^ 32;
   world : world_of_rows l.rows.items ≡ world_of_rows l.initial.rows.items;
+  none : l.added ≡ false → l.rows.items ≡ l.initial.rows.items;
 }
 
 abbrev pub decreases-loop-row : goal.decreases-loop-row

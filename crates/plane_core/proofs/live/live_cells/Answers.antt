@@ -5,7 +5,7 @@ use Rattle.plane_core.specs.Entries.{world_of, world_of-none}
 use Rattle.worlds.specs.Square.{put_square}
 use Rattle.plane_core.specs.Rows.{IsNumber, square_in, root_level, edge_of, world_of_rows}
 use Rattle.plane_core.proofs.Shared.Roots.{rooted}
-use Rattle.plane_core.proofs.Tidy.{world-put}
+use Rattle.plane_core.proofs.Shared.Tidy.{world-put}
 use Rattle.plane_core.proofs.Shared.Adding.{IfOk_then}
 use Rattle.plane_core.proofs.Laying.{root-on_plane}
 use Rattle.plane_core.proofs.Gathering.{clear-blank, put-at}

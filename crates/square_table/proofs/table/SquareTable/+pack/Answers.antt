@@ -1,22 +1,53 @@
-use Rattle.std.proofs.Common.{sym, ap, ◌∙◌, arith}
+use Rattle.std.proofs.Common.{◌≡◌, ◌-◌, ◌<◌, ◌≤◌, None, refl, sym, ap, ◌∙◌, arith}
+use Rattle.std.specs.Prelude.{nat_eq}
+use Rattle.std.specs.HashMap.{get}
 use Rattle.std.specs.Option.{option_copied}
 use Rattle.square_table.proofs.Shared.Tables.{above_zero}
-use Rattle.square_table.proofs.Packing.{four_packed, packed_state, recalled, quadrant_numbers, pushed, remembered}
+use Rattle.square_table.proofs.Packing.{level_suc, packed_more, packed_state, packs_none, packs_then, quadrant_numbers, recalled, unknown_new, walk_whole}
 use Rattle.square_table.proofs.table.SquareTable.+pack.Goals as goal
 
-pub pack_kids-returns-clause-kids : goal.pack_kids-returns-clause-kids
-pack_kids-returns-clause-kids t c =
-    four_packed c.args.self.now.rows c.pack_square.new.packed.squares.items c.pack_square-2.new.packed.squares.items c.pack_square-3.new.packed.squares.items c.pack_square-4.new.packed.squares.items
-    c.args.level c.args.kids c.in_ok-nw.nw c.in_ok-ne.ne c.in_ok-sw.sw c.in_ok-se.se c.in_ok-ne.ensures.keeps c.in_ok-sw.ensures.keeps c.in_ok-se.ensures.keeps
-    c.in_ok-nw.ensures.square c.in_ok-ne.ensures.square c.in_ok-sw.ensures.square c.in_ok-se.ensures.square
+pub pack_kids-pack_square-requires-2 : goal.pack_kids-pack_square-requires-2
+pack_kids-pack_square-requires-2 t c = (omega (arith, c.decreases), (c.requires.level, (c.requires.kids.ne, c.in_ok-nw.ensures.packs.packing)))
 
-pub pack_square-returns-then-level-eq0-clause-square : goal.pack_square-returns-then-level-eq0-clause-square
-pack_square-returns-then-level-eq0-clause-square t c = packed_state c.args.self.now.rows c.args.packed.now.squares.items c.args.level c.args.number c.if-level-eq0.true c.requires.number
+pub pack_kids-pack_square-requires-3 : goal.pack_kids-pack_square-requires-3
+pack_kids-pack_square-requires-3 t c = (omega (arith, c.decreases), (c.requires.level, (c.requires.kids.sw, c.in_ok-ne.ensures.packs.packing)))
 
-pub pack_square-returns-in-Some-clause-square : goal.pack_square-returns-in-Some-clause-square
-pack_square-returns-in-Some-clause-square t c =
+pub pack_kids-pack_square-requires-4 : goal.pack_kids-pack_square-requires-4
+pack_kids-pack_square-requires-4 t c = (omega (arith, c.decreases), (c.requires.level, (c.requires.kids.se, c.in_ok-sw.ensures.packs.packing)))
+
+pub pack_kids-returns-clause-walks : goal.pack_kids-returns-clause-walks
+pack_kids-returns-clause-walks t c = record {
+  count = refl;
+  first = c.pack_square.new.packed.squares.items;
+  second = c.pack_square-2.new.packed.squares.items;
+  third = c.pack_square-3.new.packed.squares.items;
+  nw = c.in_ok-nw.ensures.walks;
+  ne = c.in_ok-ne.ensures.walks;
+  sw = c.in_ok-sw.ensures.walks;
+  se = c.in_ok-se.ensures.walks;
+}
+
+pub pack_kids-returns-clause-packs : goal.pack_kids-returns-clause-packs
+pack_kids-returns-clause-packs t c =
+    let rows = c.args.self.now.rows in
+    let k = c.args.level in
+    packs_then rows k c.args.packed.now c.pack_square.new.packed c.pack_square-4.new.packed c.in_ok-nw.ensures.packs
+    (packs_then rows k c.pack_square.new.packed c.pack_square-2.new.packed c.pack_square-4.new.packed c.in_ok-ne.ensures.packs
+    (packs_then rows k c.pack_square-2.new.packed c.pack_square-3.new.packed c.pack_square-4.new.packed c.in_ok-sw.ensures.packs c.in_ok-se.ensures.packs))
+
+pub pack_square-returns-then-level-eq0-clause-walks : goal.pack_square-returns-then-level-eq0-clause-walks
+pack_square-returns-then-level-eq0-clause-walks t c = packed_state c.args.self.now.rows c.args.packed.now.squares.items c.args.level c.args.number c.if-level-eq0.true
+
+pub pack_square-returns-then-level-eq0-clause-packs : goal.pack_square-returns-then-level-eq0-clause-packs
+pack_square-returns-then-level-eq0-clause-packs t c = packs_none c.args.self.now.rows c.args.level c.args.packed.now c.requires.packed
+
+pub pack_square-returns-in-Some-clause-walks : goal.pack_square-returns-in-Some-clause-walks
+pack_square-returns-in-Some-clause-walks t c =
     recalled c.args.self.now.rows c.args.packed.now c.args.level c.args.number c.in-Some.known.now (omega (arith, c.if-level-eq0.false)) c.requires.packed c.requires.number
     (sym c.get.ensures.value ∙ ap option_copied c.in-Some.is)
+
+pub pack_square-returns-in-Some-clause-packs : goal.pack_square-returns-in-Some-clause-packs
+pack_square-returns-in-Some-clause-packs t c = packs_none c.args.self.now.rows c.args.level c.args.packed.now c.requires.packed
 
 pub pack_square-quadrants-requires-clause-above : goal.pack_square-quadrants-requires-clause-above
 pack_square-quadrants-requires-clause-above t c = (above_zero c.args.self.now.rows c.args.level c.args.number (omega (arith, c.if-level-eq0.false)) c.requires.number).0
@@ -33,15 +64,30 @@ pack_square-pack_kids-requires t c = (
   ),
 )
 
-pub pack_square-returns-clause-square : goal.pack_square-returns-clause-square
-pack_square-returns-clause-square t c =
-    pushed c.args.self.now.rows c.pack_kids.new.packed.squares.items c.add_row.new.squares.items c.args.level c.args.number c.in_ok-known.known c.quadrants.result c.in_ok-kids.kids (omega (arith, c.if-level-eq0.false)) c.requires.number
-    c.quadrants.ensures c.in_ok-kids.ensures.kids c.in_ok-known.ensures.number c.in_ok-known.ensures.square
+-- a square that wasn't seen before is not seen among its quadrants either
+pub pack_square-complete-requires-clause-new : goal.pack_square-complete-requires-clause-new
+pack_square-complete-requires-clause-new t c =
+    let rows = c.args.self.now.rows in
+    let k = c.args.level in
+    let some : 0 < k = omega (arith, c.if-level-eq0.false) in
+    let packs = c.in_ok-kids.ensures.packs in
+    let none : get nat_eq c.args.packed.now.numbers c.args.number ≡ None = sym c.get.ensures.value ∙ ap option_copied c.in_default.is in
+    unknown_new rows c.pack_kids.new.packed c.args.packed.now.squares.items k (k - 1) c.args.number c.quadrants.result c.in_ok-kids.kids (level_suc k some) packs.packing (omega (arith, c.requires.level)) c.requires.number
+    c.quadrants.ensures c.in_ok-kids.ensures.walks (packs.above k c.args.number (omega (arith, some)) c.requires.number ∙ none)
 
-pub pack_square-returns-clause-packed : goal.pack_square-returns-clause-packed
-pack_square-returns-clause-packed t c =
-    remembered c.args.self.now.rows c.pack_kids.new.packed (record { squares = c.add_row.new.squares; numbers = c.insert.new.self }) c.args.level c.args.number c.in_ok-known.known
-    c.in_ok-kids.ensures.packed c.in_ok-known.ensures.keeps c.requires.number
-    (pushed c.args.self.now.rows c.pack_kids.new.packed.squares.items c.add_row.new.squares.items c.args.level c.args.number c.in_ok-known.known c.quadrants.result c.in_ok-kids.kids (omega (arith, c.if-level-eq0.false)) c.requires.number
-    c.quadrants.ensures c.in_ok-kids.ensures.kids c.in_ok-known.ensures.number c.in_ok-known.ensures.square)
-    c.in_ok-insert.ensures.updates
+pub pack_square-complete-requires-clause-few : goal.pack_square-complete-requires-clause-few
+pack_square-complete-requires-clause-few t c = c.in_ok-kids.ensures.packs.packing.few
+
+pub pack_square-returns-clause-walks : goal.pack_square-returns-clause-walks
+pack_square-returns-clause-walks t c =
+    let k = c.args.level in
+    walk_whole c.args.self.now.rows k (k - 1) c.args.number c.quadrants.result c.in_ok-kids.kids c.args.packed.now.squares.items c.pack_kids.new.packed.squares.items c.complete.new.squares.items c.in_ok-known.known
+    (level_suc k (omega (arith, c.if-level-eq0.false))) c.quadrants.ensures c.in_ok-kids.ensures.walks c.in_ok-known.ensures.rows c.in_ok-known.ensures.number
+
+pub pack_square-returns-clause-packs : goal.pack_square-returns-clause-packs
+pack_square-returns-clause-packs t c =
+    let k = c.args.level in
+    let none : get nat_eq c.args.packed.now.numbers c.args.number ≡ None = sym c.get.ensures.value ∙ ap option_copied c.in_default.is in
+    packed_more c.args.self.now.rows c.args.packed.now c.pack_kids.new.packed (record { squares = c.complete.new.squares; numbers = c.insert.new.self }) k (k - 1) c.args.number c.in_ok-known.known c.quadrants.result c.in_ok-kids.kids
+    (level_suc k (omega (arith, c.if-level-eq0.false))) (omega (arith, c.requires.level)) c.requires.packed c.in_ok-kids.ensures.packs c.requires.number c.quadrants.ensures none
+    c.in_ok-kids.ensures.walks c.in_ok-known.ensures.rows c.in_ok-known.ensures.number c.in_ok-known.ensures.few c.in_ok-insert.ensures.updates

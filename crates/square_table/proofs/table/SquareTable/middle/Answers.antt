@@ -1,8 +1,8 @@
-use Rattle.std.proofs.Common.{◌≡◌, ◌-◌, ◌<◌, ◌≤◌, ℕ, List, [], ◌∷◌, get_or, arith}
+use Rattle.std.proofs.Common.{◌≡◌, ◌-◌, ◌<◌, ◌≤◌, ℕ, List, [], ◌∷◌, get_or, inl, inr, arith}
 use Rattle.square_table.specs.Squares.{AreNumbers, kids_at}
 use Rattle.square_table.proofs.Shared.Tables.{above_zero}
 use Rattle.square_table.proofs.Packing.{quadrant_numbers}
-use Rattle.square_table.proofs.Shared.Centring.{middle_alike}
+use Rattle.square_table.proofs.Shared.Centring.{middle_alike, padded_alike}
 use Rattle.square_table.proofs.table.SquareTable.middle.Goals as goal
 
 below : (level : ℕ) → 2 ≤ level → 0 < level - 1
@@ -49,4 +49,8 @@ pub returns-clause-numbers : goal.returns-clause-numbers
 returns-clause-numbers c = numbers c.args.self.now.rows c.args.whole.level c.args.whole.kids _ _ _ _ c.requires.level c.requires.numbers c.quadrants.ensures c.quadrants-2.ensures c.quadrants-3.ensures c.quadrants-4.ensures
 
 pub returns-clause-centred : goal.returns-clause-centred
-returns-clause-centred c = λ high. middle_alike c.args.self.now.rows c.args.whole.level c.args.whole.kids _ _ _ _ high c.quadrants.ensures c.quadrants-2.ensures c.quadrants-3.ensures c.quadrants-4.ensures
+returns-clause-centred c = λ either. elim either [
+  | inl high ↦ middle_alike c.args.self.now.rows c.args.whole.level c.args.whole.kids _ _ _ _ high c.quadrants.ensures c.quadrants-2.ensures c.quadrants-3.ensures c.quadrants-4.ensures
+  | inr padded ↦
+      padded_alike c.args.self.now.rows c.args.whole.level c.args.whole.kids _ _ _ _ padded.nw padded.ne padded.sw padded.se c.requires.level padded.is c.quadrants.ensures c.quadrants-2.ensures c.quadrants-3.ensures c.quadrants-4.ensures
+]

@@ -1,11 +1,20 @@
-use Rattle.std.proofs.Common.{◌≡◌, ap, sym, ◌∙◌, subst}
+use Rattle.std.proofs.Common.{◌≡◌, ◌-◌, sym, ◌∙◌, subst}
 use Rattle.worlds.specs.World.{World}
+use Rattle.worlds.specs.Square.{Square, IsSquare}
 use Rattle.plane_core.specs.Rows.{world_of_rows}
 use Rattle.plane_core.proofs.Shared.Adding.{IfOk_then}
-use Rattle.square_table.specs.Squares.{level_of, cells_of}
+use Rattle.plane_core.proofs.Shared.Tidy.{IsListed}
+use Rattle.square_table.specs.Squares.{level_of, cells_of, square_of}
 use Rattle.square_table.specs.Centred.{IsCentred}
-use Rattle.square_table.proofs.Shared.Centring.{rows_centred}
+use Rattle.square_table.proofs.Packing.{root_IsSquare, root_listed}
+use Rattle.square_table.proofs.Shared.Centring.{put_world}
 use Rattle.square_table.proofs.table.SquareTable.pack.Goals as goal
+
+pub from_walked-requires : goal.from_walked-requires
+from_walked-requires c =
+    let root = c.root.result in
+    let is = root_IsSquare c.args.self.now.rows root.level root.kids c.root.ensures.level.0 c.root.ensures.numbers in
+    (root_listed root.level _ c.in_ok-rows.rows.items c.root.ensures.level.0 c.root.ensures.level.1 is c.in_ok-rows.ensures).walked
 
 pub returns : goal.returns
 returns c =
@@ -13,7 +22,11 @@ returns c =
     let s = cells_of c.args.self.now c.args.square in
     let w = c.requires.world.0 in
     let is : IsCentred w k s = c.requires.world.2 in
+    let root = c.root.result in
+    let part : Square = square_of c.args.self.now.rows (root.level - 1) root.kids in
+    let shape : IsSquare root.level part = root_IsSquare c.args.self.now.rows root.level root.kids c.root.ensures.level.0 c.root.ensures.numbers in
     let rows = c.in_ok-rows.rows.items in
-    let same : world_of_rows rows ≡ w = rows_centred w rows c.root.result.level _ c.in_ok-rows.ensures (c.root.ensures.centred w c.requires.world.1 is) in
-    IfOk_then c.from_squares.result (λ plane. plane ≡ world_of_rows c.deref.result.now) (λ plane. IsCentred plane k s)
-    (λ plane h. subst (λ (v : World). IsCentred v k s) (sym (h ∙ ap world_of_rows c.deref.ensures.value ∙ same)) is) c.from_squares.ensures
+    let own : IsListed root.level part rows = root_listed root.level part rows c.root.ensures.level.0 c.root.ensures.level.1 shape c.in_ok-rows.ensures in
+    let same : world_of_rows rows ≡ w = own.world ∙ put_world w root.level part shape (c.root.ensures.centred w c.requires.world.1 is) in
+    IfOk_then c.from_walked.result (λ plane. plane ≡ world_of_rows rows) (λ plane. IsCentred plane k s)
+    (λ plane h. subst (λ (v : World). IsCentred v k s) (sym (h ∙ same)) is) c.from_walked.ensures

@@ -16,7 +16,7 @@ use Rattle.plane_core.proofs.Shared.Cells.{IsSquare-empty, cell_in-empty, put_sq
 use Rattle.plane_core.proofs.Shared.Roots.{rooted, root-IsSquare, root_level-some, world-root, world-none, kept-none}
 
 -- no level is above m
-abbrev LevelsUpTo : ℕ → List SquareRow → Type 0
+abbrev pub LevelsUpTo : ℕ → List SquareRow → Type 0
 LevelsUpTo m rows = (i : ℕ) → i < length rows → (get_or rows i no_row).level ≤ m
 
 levels_push : (m : ℕ) (rows : List SquareRow) (row : SquareRow) → row.level ≤ m → LevelsUpTo m rows → LevelsUpTo m (rows ++ row ∷ [])
@@ -31,7 +31,7 @@ numbered-levels true c row rows n m low up = up
 numbered-levels false true row rows n m low up = up
 numbered-levels false false row rows n m low up = levels_push m rows row low up
 
-number_square-levels : (k : ℕ) (t : Square) (rows : List SquareRow) (m : ℕ) → k ≤ m → LevelsUpTo m rows → LevelsUpTo m (number_square k t rows).rows
+pub number_square-levels : (k : ℕ) (t : Square) (rows : List SquareRow) (m : ℕ) → k ≤ m → LevelsUpTo m rows → LevelsUpTo m (number_square k t rows).rows
 unfolding number_square number_row
 number_square-levels k (one s) rows m low up = up
 number_square-levels zero (four nw ne sw se) rows m low up = up

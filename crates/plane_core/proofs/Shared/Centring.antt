@@ -117,7 +117,7 @@ module _ (k : ℕ) (a b c d : Square) where
       ]
 
   -- and those around it
-  around_centre : (i j : ℕ) → i < 2 ^ suc (suc k) → j < 2 ^ suc (suc k) → ((2 ^ k ≤ i) → (i < 2 ^ suc k + 2 ^ k) → (2 ^ k ≤ j) → (j < 2 ^ suc k + 2 ^ k) → ⊥) → cell_in (suc (suc k)) (centred k a b c d) i j ≡ 0
+  pub around_centre : (i j : ℕ) → i < 2 ^ suc (suc k) → j < 2 ^ suc (suc k) → ((2 ^ k ≤ i) → (i < 2 ^ suc k + 2 ^ k) → (2 ^ k ≤ j) → (j < 2 ^ suc k + 2 ^ k) → ⊥) → cell_in (suc (suc k)) (centred k a b c d) i j ≡ 0
   around_centre i j hi hj out =
       let n = 2 ^ k in
       let m = 2 ^ suc k in
