@@ -1,7 +1,8 @@
 //! Cells laid on a pattern: only the squares that hold one of them are made anew.
 //!
 //! Each square passes the cells that lie in it on to its quadrants, so cells that lie together
-//! share the rows of the squares around them. Scattered cells take at most 62 rows each.
+//! share the rows of the squares around them. Scattered cells take at most 62 rows each: where there
+//! are more rows than a plane may have, those that stand there twice go.
 ghost use Rattle.std.specs.Prelude.{◌≡◌, ◌↔◌, ℕ, ◌+◌, ◌/◌, ◌%◌, ◌<◌, ◌≤◌, ◌^◌, length, get_or, All, IfOk, OnOk, IsTrue, pos, ◌+ℤ◌};
 ghost use Rattle.worlds.specs.Lay.{lay};
 ghost use Rattle.worlds.specs.Range.{CanBeLaid};
@@ -12,6 +13,7 @@ ghost use Rattle.plane_core.specs.Laid.{IsCellOf, AreLaidStates, AreParted, AreP
 use crate::descent::{Spot, corner_of, root_level, shifted, side};
 use crate::raise::{push_row, quadrants, raise};
 use crate::row::SquareRow;
+use crate::walk::{MOST_ROWS, walked};
 use std::alloc::{AllocError, Global};
 use worlds::CellSet;
 
@@ -231,6 +233,21 @@ fn lay_batch(alloc: Global, rows: &mut Vec<SquareRow>, cells: &[CellSet]) -> Res
     Ok(())
 }
 
+// Drops rows that stand there twice or that the root doesn't reach, where there are more than `most`.
+// How many there may be the next time: at least twice as many as are left, so that all walks together
+// take little more than the last.
+fn thinned(alloc: Global, rows: &mut Vec<SquareRow>, most: usize) -> Result<usize, AllocError>
+    requires rows { AreRows rows.old.items × (length rows.old.items < 2 ^ 32) }
+    ensures rows { OnOk result (AreRows rows.new.items × (length rows.new.items < 2 ^ 32)) }
+    ensures world { OnOk result (world_of_rows rows.new.items ≡ world_of_rows rows.old.items) }
+{
+    if rows.len() <= most {
+        return Ok(most);
+    }
+    *rows = walked(alloc, rows)?;
+    Ok(most.max(2 * rows.len()))
+}
+
 /// Makes the rows stand for the world after the cells are set in turn.
 pub fn lay_rows(
     alloc: Global,
@@ -244,9 +261,11 @@ pub fn lay_rows(
         (world_of_rows rows.new.items ≡ lay cells.now (world_of_rows rows.old.items)) }
 {
     let mut rest = cells;
+    let mut most = MOST_ROWS;
     while rest.len() > BATCH {
         let (batch, more) = rest.split_at(BATCH);
         lay_batch(alloc, rows, batch)?;
+        most = thinned(alloc, rows, most)?;
         rest = more;
     }
     lay_batch(alloc, rows, rest)

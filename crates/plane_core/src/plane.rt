@@ -1,5 +1,5 @@
 //! The pattern as the list of its distinct squares.
-ghost use Rattle.std.specs.Prelude.{◌≡◌, ◌↔◌, ◌<◌, ◌≤◌, ℕ, All, map, slice_index, IfNone, IfOk, IfSome, IsNone, IsTrue};
+ghost use Rattle.std.specs.Prelude.{◌≡◌, ◌↔◌, ◌<◌, ◌≤◌, ℕ, All, length, map, slice_index, IfNone, IfOk, IfSome, IsNone, IsTrue};
 ghost use Rattle.worlds.specs.World.{cell, blank};
 ghost use Rattle.worlds.specs.Lay.{lay};
 ghost use Rattle.worlds.specs.Live.{count_of, live, of_cell, population};
@@ -15,7 +15,7 @@ use crate::lay::lay_rows;
 use crate::live::live_cells;
 use crate::measures::{Measures, measured, no_measures};
 use crate::row::SquareRow;
-use crate::walk::walked;
+use crate::walk::{MOST_ROWS, walked};
 use crate::within::live_within;
 use std::alloc::{AllocError, Global};
 use std::marker::Model;
@@ -23,7 +23,8 @@ use worlds::{Bounds, Cell, CellSet};
 
 /// The states of all cells, of which all but finitely many are 0. Contracts see it as a world.
 ///
-/// Its live cells lie in `-2^61 <= x, y < 2^61`. It is kept as the rows of its distinct squares.
+/// Its live cells lie in `-2^61 <= x, y < 2^61`. It is kept as the rows of its distinct squares, at
+/// most 16,777,216: a call that would give a plane of more is refused as one without memory.
 #[derive(Drop)]
 pub struct Plane {
     rows: Vec<SquareRow>,
@@ -32,7 +33,7 @@ pub struct Plane {
 }
 
 impl Model for Plane {
-    ghost use Rattle.std.specs.Prelude.{◌<◌, ◌^◌, length};
+    ghost use Rattle.std.specs.Prelude.{◌≤◌, length};
     ghost use Rattle.worlds.specs.World.{World, coded_world};
     ghost use Rattle.plane_core.specs.Rows.{world_of_rows, AreKept};
     ghost use Rattle.plane_core.specs.Measures.{AreMeasuresOf};
@@ -43,7 +44,7 @@ impl Model for Plane {
 
     ghost view = { λ p. world_of_rows p.rows.items };
 
-    ghost invariant = { λ p. AreKept p.rows.items × (length p.rows.items < 2 ^ 32) × AreMeasuresOf (world_of_rows p.rows.items) p.measures };
+    ghost invariant = { λ p. AreKept p.rows.items × (length p.rows.items ≤ 16777216) × AreMeasuresOf (world_of_rows p.rows.items) p.measures };
 }
 
 impl Plane {
@@ -70,15 +71,16 @@ impl Plane {
     }
 
     /// The same, of rows in the order in which a walk from their root completes them. They are kept
-    /// as they are where that root is the least, which saves a walk and a copy.
+    /// as they are where that root is the least, which saves a walk.
     pub fn from_walked(alloc: Global, rows: Vec<SquareRow>) -> Result<Plane, AllocError>
         requires { AreWalked rows.items }
         ensures { IfOk result (λ plane. plane ≡ world_of_rows rows.items) }
     {
-        if rows.len() > u32::MAX as usize {
+        if rows.len() > MOST_ROWS {
             return Err(AllocError);
         }
-        let rows = canonical(alloc, rows)?;
+        let mut rows = canonical(alloc, rows)?;
+        rows.shrink_to_fit();
         let measures = measured(alloc, &rows)?;
         Ok(Plane {
             rows,
@@ -129,10 +131,11 @@ impl Plane {
     }
 
     /// The rows of the distinct squares that aren't empty, in the order in which the walk nw, ne,
-    /// sw, se from the least root completes them. Those of the empty plane are one row, of the
-    /// empty square of level 1.
+    /// sw, se from the least root completes them, at most 16,777,216. Those of the empty plane are
+    /// one row, of the empty square of level 1.
     pub fn squares(&self) -> Result<Vec<SquareRow>, AllocError>
-        ensures { IfOk result (λ rows. AreSquaresOf self.now rows.items) }
+        ensures squares { IfOk result (λ rows. AreSquaresOf self.now rows.items) }
+        ensures few { IfOk result (λ rows. length rows.items ≤ 16777216) }
     {
         written(self.alloc, &self.rows)
     }

@@ -1,5 +1,4 @@
-use Rattle.std.proofs.Common.{List, sym, subst, ◌∙◌}
-use Rattle.plane_core.specs.declared.row.SquareRow.{SquareRow}
+use Rattle.std.proofs.Common.{sym, subst, ◌∙◌}
 use Rattle.plane_core.specs.Centre.{AreCentred}
 use Rattle.plane_core.proofs.Shared.Tidy.{IfOk_then, tidied, kept-walked}
 use Rattle.plane_core.proofs.Shared.Centres.{walked-filled}

@@ -16,4 +16,5 @@ loop-rest-preserved c =
     let before = c.loop-rest.invariant in
     let can : All CanBeLaid more = subst (All CanBeLaid) (sym c.split_at.ensures.back) (All-drop CanBeLaid 65536 rest before.2) in
     let laid = c.in_ok-lay_batch.ensures in
-    (laid.rows.0, laid.rows.1, can, ap (lay more) laid.world ∙ sym (lay-append batch more w) ∙ ap (λ (cs : List CellSet). lay cs w) (sym c.split_at.ensures.by_index.0) ∙ before.3)
+    let thin = c.in_ok-most.ensures in
+    (thin.rows.0, thin.rows.1, can, ap (lay more) (thin.world ∙ laid.world) ∙ sym (lay-append batch more w) ∙ ap (λ (cs : List CellSet). lay cs w) (sym c.split_at.ensures.by_index.0) ∙ before.3)

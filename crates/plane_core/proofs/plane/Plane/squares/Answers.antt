@@ -1,9 +1,19 @@
-use Rattle.std.proofs.Common.{sym, subst, ◌∙◌, ap}
+use Rattle.std.proofs.Common.{◌≤◌, List, [], ◌∷◌, length, sym, subst, ◌∙◌, ap, arith}
 use Rattle.std.proofs.lemmas.Result.{IfOk-weaker}
+use Rattle.plane_core.specs.declared.row.SquareRow.{SquareRow}
 use Rattle.plane_core.specs.Rows.{AreSquaresOf, written}
 use Rattle.plane_core.proofs.Written.{squares-written}
 use Rattle.plane_core.proofs.plane.Plane.squares.Goals as goal
 
-pub returns : goal.returns
-returns c =
+-- the row of the empty square is written only where there is no other
+few-written : (rows : List SquareRow) → length rows ≤ 16777216 → length (written rows) ≤ 16777216
+few-written [] few = omega arith
+few-written (row ∷ rows) few = few
+
+pub returns-clause-squares : goal.returns-clause-squares
+returns-clause-squares c =
     IfOk-weaker c.written.result _ _ (λ found is. subst (AreSquaresOf c.args.self.now) (sym (is ∙ ap written c.deref.ensures.value)) (squares-written c.self.inside.rows.items c.args.self.now c.self.invariant.0 c.self.view_is)) c.written.ensures
+
+pub returns-clause-few : goal.returns-clause-few
+returns-clause-few c =
+    IfOk-weaker c.written.result _ _ (λ found is. subst (λ (rows : List SquareRow). length rows ≤ 16777216) (sym (is ∙ ap written c.deref.ensures.value)) (few-written c.self.inside.rows.items c.self.invariant.1)) c.written.ensures

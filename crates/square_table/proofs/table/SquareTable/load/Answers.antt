@@ -23,7 +23,7 @@ use Rattle.square_table.proofs.table.SquareTable.load.Goals as goal
 pub load_root-requires : goal.load_root-requires
 load_root-requires c =
     subst (λ (rows : List SquareRow). AreRows rows × LevelsUpTo (root_level rows) rows) (sym c.deref.ensures.value)
-    (c.in_ok-squares.ensures.canonical.valid, levels_up_to c.args.plane.now c.in_ok-squares.squares.items c.in_ok-squares.ensures)
+    (c.in_ok-squares.ensures.squares.canonical.valid, levels_up_to c.args.plane.now c.in_ok-squares.squares.items c.in_ok-squares.ensures.squares)
 
 first_empty : (all : List squares.Square) → HoldsWithin (Contains all) (empty_square 1) → Contains all (empty_square 1)
 unfolding HoldsWithin empty_square
@@ -55,7 +55,7 @@ pub returns-in_err-squares-clause-grows : goal.returns-in_err-squares-clause-gro
 returns-in_err-squares-clause-grows c = record { grows = Grows-same c.args.self.now; among = λ k all some fits start are. are }
 
 pub returns-clause-grows : goal.returns-clause-grows
-returns-clause-grows c = loaded_seen c.args.plane.now c.in_ok-squares.squares.items c.deref.result.now c.args.self.now c.load_root.new.self c.in_ok-squares.ensures c.deref.ensures.value c.load_root.ensures.grows
+returns-clause-grows c = loaded_seen c.args.plane.now c.in_ok-squares.squares.items c.deref.result.now c.args.self.now c.load_root.new.self c.in_ok-squares.ensures.squares c.deref.ensures.value c.load_root.ensures.grows
 
 root_low : (w : World) (rows seen : List SquareRow) (k : ℕ) → AreSquaresOf w rows → seen ≡ rows → k ≡ root_level seen → IsRootLevel k w
 root_low w rows seen k are same level =
@@ -78,8 +78,8 @@ returns-clause-square c =
     IfOk_then c.load_root.result (Tells t (root_level seen) (root_of seen)) (TellsWorld t w)
     (λ s is. record {
       held = is.held;
-      level = root_low w rows seen (level_of s) c.in_ok-squares.ensures c.deref.ensures.value is.level;
-      centred = centred s w rows seen t c.in_ok-squares.ensures c.deref.ensures.value is;
+      level = root_low w rows seen (level_of s) c.in_ok-squares.ensures.squares c.deref.ensures.value is.level;
+      centred = centred s w rows seen t c.in_ok-squares.ensures.squares c.deref.ensures.value is;
     })
     c.load_root.ensures.square
 
@@ -87,4 +87,4 @@ pub returns-clause-states : goal.returns-clause-states
 returns-clause-states c = λ n low below old.
     let rows = c.in_ok-squares.squares.items in
     c.load_root.ensures.grows.states n low
-    (λ i q h hq level. cells_below c.args.plane.now c.deref.result.now n (subst (AreSquaresOf c.args.plane.now) (sym c.deref.ensures.value) c.in_ok-squares.ensures) below i q h hq level) old
+    (λ i q h hq level. cells_below c.args.plane.now c.deref.result.now n (subst (AreSquaresOf c.args.plane.now) (sym c.deref.ensures.value) c.in_ok-squares.ensures.squares) below i q h hq level) old
