@@ -1,9 +1,10 @@
 -- What the lines of a tree mean: the tree, or the first fault that they have.
-use Rattle.std.specs.Prelude.{ℕ, ◌+◌, ◌==◌, ◌&&◌, ◌||◌, Bool, nat_lt, if◌then◌else◌, List, [], ◌∷◌, ◌++◌, length, map, take, drop, filter, codes, position, slice_index, Option, Some, None, is_none, Result, Ok, Err, option_and_then}
+use Rattle.std.specs.Prelude.{ℕ, ◌+◌, ◌==◌, ◌&&◌, ◌||◌, Bool, nat_lt, if◌then◌else◌, List, [], ◌∷◌, ◌++◌, length, map, filter, codes, slice_index, Option, Some, None, is_none, Result, Ok, Err, option_and_then}
 use Rattle.std.specs.List.{list_all, slice_split}
 use Rattle.std.specs.Option.{option_map, option_map_or, ok_or}
 use Rattle.std.specs.Str.{bytes_eq}
-use Rattle.text_lines.specs.Blanks.{is_blank, trim_start, trim_end}
+use Rattle.text_lines.specs.Blanks.{is_blank}
+use Rattle.text_lines.specs.NamedValues.{named_value}
 use Rattle.text_lines.specs.Numbers.{is_word, number_of}
 use Rattle.rule_file.specs.declared.fault.RuleFault.{RuleFault}
 use Rattle.rule_file.specs.declared.fault.RuleFault.TheVariants.{BadTree, NotQuiescent}
@@ -28,10 +29,8 @@ descriptor_named word =
 -- a descriptor and its value, which an equals sign parts, if the line is one
 abbrev pub descriptor_of : List ℕ → Option (Descriptor × List ℕ)
 descriptor_of line =
-    option_and_then
-    (λ sign. option_map (λ d. (d, trim_start (drop (sign + 1) line)))
-    (descriptor_named (trim_end (take sign line))))
-    (position (λ b. b == 61) line)
+    option_and_then (λ named. option_map (λ d. (d, named.1)) (descriptor_named named.0))
+    (named_value 61 line)
 
 -- four neighbours or eight
 abbrev pub neighbors_in : List ℕ → Option Neighbors

@@ -8,7 +8,7 @@ ghost use Rattle.decision_tree.specs.TreeLines.{describe, descriptor_named, desc
 use crate::tree::Neighbors;
 use rule_file::{RuleFault, RuleLine, states_in};
 use std::marker::Model;
-use text_lines::{find_byte, number, trim_end, trim_start};
+use text_lines::{named_value, number};
 
 /// The most nodes that a tree may have.
 const MOST_NODES: u64 = 4_194_304;
@@ -33,9 +33,8 @@ pub struct TreeHead {
 pub fn descriptor_of(line: &[u8]) -> Option<(Descriptor, &[u8])>
     ensures { option_map (λ found. (found.0, found.1.now)) result ≡ descriptor_of line.now }
 {
-    let sign = find_byte(line, b'=')?;
-    let descriptor = descriptor_named(trim_end(&line[..sign]))?;
-    Some((descriptor, trim_start(&line[sign + 1..])))
+    let (name, value) = named_value(line, b'=')?;
+    Some((descriptor_named(name)?, value))
 }
 
 fn descriptor_named(word: &[u8]) -> Option<Descriptor>

@@ -1,9 +1,9 @@
 -- What the descriptors of a table say: its head, or the first fault.
-use Rattle.std.specs.Prelude.{ℕ, ◌==◌, Bool, false, if◌then◌else◌, List, [], ◌∷◌, take, drop, Option, ◌+◌, codes, position, Some, None, Result, Ok, Err, is_none, option_and_then}
+use Rattle.std.specs.Prelude.{ℕ, Bool, false, if◌then◌else◌, List, [], ◌∷◌, Option, codes, Some, None, Result, Ok, Err, is_none, option_and_then}
 use Rattle.std.specs.Option.{option_map, option_map_or, ok_or}
 use Rattle.table_lines.specs.declared.neighborhood.Neighborhood.{Neighborhood}
 use Rattle.std.specs.Str.{bytes_eq}
-use Rattle.text_lines.specs.Blanks.{trim_start, trim_end}
+use Rattle.text_lines.specs.NamedValues.{named_value}
 use Rattle.rule_file.specs.declared.fault.RuleFault.{RuleFault}
 use Rattle.rule_file.specs.declared.fault.RuleFault.TheVariants.{MissingDescriptor, BadStates, BadNeighborhood, BadSymmetry, BadTransition}
 use Rattle.basics.specs.Results.{◌>>=◌}
@@ -28,11 +28,8 @@ descriptor_named word =
 -- a descriptor and its value, which a colon parts, if the line is one
 abbrev pub descriptor_of : List ℕ → Option (Descriptor × List ℕ)
 descriptor_of line =
-    option_and_then
-    (λ colon.
-    option_map (λ d. (d, trim_start (drop (colon + 1) line)))
-    (descriptor_named (trim_end (take colon line))))
-    (position (λ b. b == 58) line)
+    option_and_then (λ named. option_map (λ d. (d, named.1)) (descriptor_named named.0))
+    (named_value 58 line)
 
 -- what the descriptors said so far; the symmetry is a name until the neighbourhood is known
 pub record Described : Type 0 where

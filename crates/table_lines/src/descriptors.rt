@@ -9,7 +9,7 @@ use crate::neighborhood::Neighborhood;
 use crate::symmetry::Symmetry;
 use rule_file::{RuleFault, RuleLine, states_in};
 use std::marker::Model;
-use text_lines::{find_byte, number, trim_end, trim_start};
+use text_lines::named_value;
 
 /// What a descriptor describes.
 #[derive(Clone, Copy, Debug, PartialEq, Eq)]
@@ -31,9 +31,8 @@ pub struct Head {
 pub fn descriptor_of(line: &[u8]) -> Option<(Descriptor, &[u8])>
     ensures { option_map (λ found. (found.0, found.1.now)) result ≡ descriptor_of line.now }
 {
-    let colon = find_byte(line, b':')?;
-    let descriptor = descriptor_named(trim_end(&line[..colon]))?;
-    Some((descriptor, trim_start(&line[colon + 1..])))
+    let (name, value) = named_value(line, b':')?;
+    Some((descriptor_named(name)?, value))
 }
 
 fn descriptor_named(word: &[u8]) -> Option<Descriptor>

@@ -3,6 +3,7 @@ pub mod ByteRanges
 pub mod Decimals
 pub mod FirstLine
 pub mod LineEnds
+pub mod NamedValues
 pub mod NumberLines
 pub mod Pieces
 pub mod PrintedLines

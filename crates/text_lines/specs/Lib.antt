@@ -1,5 +1,6 @@
 pub mod Blanks
 pub mod LineEnds
 pub mod Lines
+pub mod NamedValues
 pub mod Numbers
 pub use Rattle.basics.specs.Results

@@ -2,7 +2,7 @@
 use std::alloc::Global;
 use std::fmt::Debug;
 use std::process::Abort;
-use text_lines::{Lines, find_byte, is_blank, number, trim, trim_end, trim_start};
+use text_lines::{Lines, find_byte, is_blank, named_value, number, trim, trim_end, trim_start};
 
 /// Stops the test where what was found isn't what is wanted.
 fn same<T: PartialEq + Debug, A: Debug>(rt: &impl Abort, found: &T, wanted: &T, at: &A) {
@@ -105,4 +105,22 @@ fn bytes(rt: HostRuntime) {
     same(&rt, &find_byte(b"a,b,c", b','), &Some(1), &"a comma");
     same(&rt, &find_byte(b"a,b,c", b':'), &None, &"a colon");
     same(&rt, &find_byte(b"", b':'), &None, &"nothing");
+}
+
+fn expect_named(rt: &impl Abort, line: &[u8], wanted: Option<(&[u8], &[u8])>) {
+    same(rt, &named_value(line, b'='), &wanted, &line);
+}
+
+#[test]
+fn named_values(rt: HostRuntime) {
+    expect_named(&rt, b"states=3", Some((b"states", b"3")));
+    expect_named(&rt, b"states", None);
+    expect_named(&rt, b"states:3", None);
+    expect_named(&rt, b"", None);
+    expect_named(&rt, b" a b \t=\t c d ", Some((b" a b", b"c d ")));
+    expect_named(&rt, b"=3", Some((b"", b"3")));
+    expect_named(&rt, b"states=", Some((b"states", b"")));
+    expect_named(&rt, b"a=b=c", Some((b"a", b"b=c")));
+    expect_named(&rt, b"a== b", Some((b"a", b"= b")));
+    expect_named(&rt, b" = ", Some((b"", b"")));
 }

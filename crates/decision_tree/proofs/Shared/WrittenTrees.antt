@@ -1,17 +1,17 @@
 -- Trees that are written read back.
-use Rattle.std.proofs.Common.{◌≡◌, ◌∙◌, ap, refl, ℕ, ◌+◌, ◌<◌, ◌≤◌, ◌==◌, ◌&&◌, Bool, true, false, cond, List, [], ◌∷◌, ◌++◌, length, map, take, drop, Option, Some, None, Ok, Err, nat_lt, decimal, append-nil, append_assoc, length-append, arith}
+use Rattle.std.proofs.Common.{◌≡◌, ◌∙◌, ap, refl, ℕ, ◌+◌, ◌<◌, ◌≤◌, ◌==◌, ◌&&◌, Bool, true, false, cond, List, [], ◌∷◌, ◌++◌, length, map, Option, Some, None, Ok, Err, nat_lt, decimal, append-nil, append_assoc, length-append, arith}
 use Rattle.std.specs.Prelude.{codes, option_and_then, slice_index}
 use Rattle.std.specs.List.{AllByRecursion, list_all}
 use Rattle.std.specs.Option.{option_map, ok_or}
 use Rattle.std.proofs.lemmas.Bool.Decides.{nat_tests}
 use Rattle.basics.specs.Results.{◌>>=◌}
-use Rattle.text_lines.specs.Blanks.{is_blank, trim_end, trim_start}
+use Rattle.text_lines.specs.Blanks.{is_blank}
 use Rattle.text_lines.specs.Numbers.{numbers_line}
 use Rattle.text_lines.proofs.Shared.ByteRanges.{differs, digit-visible, visible-solid}
-use Rattle.text_lines.proofs.Shared.Decimals.{IsWide, decimal-numeral, number_of-decimal}
+use Rattle.text_lines.proofs.Shared.Decimals.{IsWide, number_of-decimal}
+use Rattle.text_lines.proofs.Shared.NamedValues.{named_value-decimal, named_value-none}
 use Rattle.text_lines.proofs.Shared.NumberLines.{Parts, numbers-bytes, words-numbers}
-use Rattle.text_lines.proofs.Shared.Pieces.{position-at, position-none}
-use Rattle.rule_file.proofs.Shared.WrittenFiles.{trim_start-digits, within-read}
+use Rattle.rule_file.proofs.Shared.WrittenFiles.{within-read}
 use Rattle.rule_file.specs.declared.fault.RuleFault.TheVariants.{BadTree, NotQuiescent}
 use Rattle.rule_file.specs.States.{least_states, most_states}
 use Rattle.rule_file.specs.RuleFile.{NumberedLine, numbered_from}
@@ -26,21 +26,19 @@ use Rattle.decision_tree.specs.TreeLines.{Described, Node, describe, descriptor_
 use Rattle.decision_tree.proofs.Shared.Growing.{is_next-node}
 use Rattle.decision_tree.specs.WrittenTree.{EachIsNext, neighbors_text, node_line, written_lines, written_section}
 
--- what a descriptor's line says, by its word
-abbrev described_by : List ℕ → ℕ → Option (Descriptor × List ℕ)
-described_by line sign = option_map (λ d. (d, trim_start (drop (sign + 1) line))) (descriptor_named (trim_end (take sign line)))
+-- what a name and its value describe
+abbrev described_by : List ℕ × List ℕ → Option (Descriptor × List ℕ)
+described_by named = option_map (λ d. (d, named.1)) (descriptor_named named.0)
 
 states-line : (n : ℕ) → IsWide n → descriptor_of (codes "num_states=" ++ decimal n) ≡ Some (descriptor.States, decimal n)
 states-line n h =
-    ap (λ at. option_and_then (described_by (codes "num_states=" ++ decimal n)) at)
-    (position-at (λ b. b == 61) (codes "num_states") 61 (decimal n) (refl, (refl, (refl, (refl, (refl, (refl, (refl, (refl, (refl, (refl, tt)))))))))) refl)
-    ∙ ap (λ value. Some (descriptor.States, value)) (trim_start-digits (decimal n) (decimal-numeral n h))
+    ap (option_and_then described_by)
+    (named_value-decimal 61 (codes "num_states") n (refl, (refl, (refl, (refl, (refl, (refl, (refl, (refl, (refl, (refl, tt)))))))))) h)
 
 nodes-line : (n : ℕ) → IsWide n → descriptor_of (codes "num_nodes=" ++ decimal n) ≡ Some (descriptor.Nodes, decimal n)
 nodes-line n h =
-    ap (λ at. option_and_then (described_by (codes "num_nodes=" ++ decimal n)) at)
-    (position-at (λ b. b == 61) (codes "num_nodes") 61 (decimal n) (refl, (refl, (refl, (refl, (refl, (refl, (refl, (refl, (refl, tt))))))))) refl)
-    ∙ ap (λ value. Some (descriptor.Nodes, value)) (trim_start-digits (decimal n) (decimal-numeral n h))
+    ap (option_and_then described_by)
+    (named_value-decimal 61 (codes "num_nodes") n (refl, (refl, (refl, (refl, (refl, (refl, (refl, (refl, (refl, tt))))))))) h)
 
 -- one descriptor after another
 head-step : (last : ℕ) (d e : Described) (line : NumberedLine) (lines : List NumberedLine) (x : Descriptor) (value : List ℕ) → descriptor_of line.text ≡ Some (x, value) → describe d x value ≡ Some e → head_from last d (line ∷ lines) ≡ head_from last e lines
@@ -57,8 +55,8 @@ neighbors-step last states Eight number lines = refl
 -- a line of numbers is no descriptor
 numbers-undescribed : (n : ℕ) (ns : List ℕ) → AllByRecursion IsWide (n ∷ ns) → descriptor_of (numbers_line (n ∷ ns)) ≡ None
 numbers-undescribed n ns h =
-    ap (λ at. option_and_then (described_by (numbers_line (n ∷ ns))) at)
-    (position-none (λ b. b == 61) (numbers_line (n ∷ ns)) (numbers-bytes (λ b. (b == 61) ≡ false) refl (λ b k. let high : b ≤ 57 = k.1 in differs b 61 (λ e. omega arith)) n ns h))
+    ap (option_and_then described_by)
+    (named_value-none 61 (numbers_line (n ∷ ns)) (numbers-bytes (λ b. (b == 61) ≡ false) refl (λ b k. let high : b ≤ 57 = k.1 in differs b 61 (λ e. omega arith)) n ns h))
 
 parts-blank : Parts is_blank
 parts-blank = record { space = refl; digit = λ b h. visible-solid b (digit-visible b h) }

@@ -5,10 +5,9 @@ use Rattle.std.proofs.Math.Seq.{take-length}
 use Rattle.std.proofs.lemmas.Bool.{and_parts}
 use Rattle.std.proofs.lemmas.Bool.Decides.{nat_tests}
 use Rattle.basics.proofs.Shared.Lists.{all_append, all_so}
-use Rattle.text_lines.specs.Blanks.{trim_start}
 use Rattle.text_lines.specs.LineEnds.{text_of_lines}
-use Rattle.text_lines.proofs.Shared.ByteRanges.{IsDigit, IsPrinted, IsVisible, all_tested, differs, digit-visible, is_visible, printed-tested, visible-printed, visible-solid}
-use Rattle.text_lines.proofs.Shared.Decimals.{IsNumeral, IsWide, number_of-decimal}
+use Rattle.text_lines.proofs.Shared.ByteRanges.{IsDigit, IsPrinted, IsVisible, all_tested, differs, digit-visible, is_visible, printed-tested, visible-printed}
+use Rattle.text_lines.proofs.Shared.Decimals.{IsWide, number_of-decimal}
 use Rattle.text_lines.proofs.Shared.Pieces.{all-past}
 use Rattle.text_lines.proofs.Shared.PrintedLines.{IsLine, ends-append, ends-visible, line-between, line-visible, says-lines}
 use Rattle.rule_file.specs.declared.text.SectionKind.{SectionKind}
@@ -89,11 +88,6 @@ file-written name kind opening lines h opens is plain =
     let visible = name-visible name (and_parts (not (length name == 0)) (list_all is_name_byte name) h).1 in
     let said = says-lines ((codes "@RULE " ++ name) ∷ opening ∷ lines) (rule-line name (some-name name h) visible, (opens, all_so IsPlainLine IsLine lines (λ l k. k.is_line) plain)) in
     rw (said, h) (grind (arith, is, section_lines-plain 3 lines plain))
-
--- digits stand as they are behind a sign
-pub trim_start-digits : (ds : List ℕ) → IsNumeral ds → trim_start ds ≡ ds
-trim_start-digits [] h = refl
-trim_start-digits (d ∷ ds) h = let digits = h.digits in rw (visible-solid d (digit-visible d digits.0)) refl
 
 -- a number within its limits reads back
 pub within-read : (least most n : ℕ) → IsWide n → least ≤ n → n ≤ most → number_within least most (decimal n) ≡ Some n

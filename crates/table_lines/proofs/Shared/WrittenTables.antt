@@ -1,5 +1,5 @@
 -- Tables that are written read back.
-use Rattle.std.proofs.Common.{◌≡◌, ◌∙◌, sym, ap, ap₂, refl, subst, ℕ, suc, ◌+◌, ◌-◌, ◌<◌, ◌≤◌, ◌^◌, ◌==◌, ◌&&◌, ◌||◌, true, false, not, List, [], ◌∷◌, ◌++◌, length, map, take, drop, Some, None, Ok, inl, inr, nat_lt, decimal, position, arith, append-nil, append_assoc, length-append}
+use Rattle.std.proofs.Common.{◌≡◌, ◌∙◌, sym, ap, ap₂, refl, subst, ℕ, suc, ◌+◌, ◌-◌, ◌<◌, ◌≤◌, ◌^◌, ◌==◌, ◌&&◌, ◌||◌, true, false, not, List, [], ◌∷◌, ◌++◌, length, map, take, drop, Option, Some, None, Ok, inl, inr, nat_lt, decimal, position, arith, append-nil, append_assoc, length-append}
 use Rattle.std.specs.Prelude.{codes, nat_eq, option_and_then}
 use Rattle.std.specs.List.{AllByRecursion, join_with_byte, list_any}
 use Rattle.std.specs.Option.{option_map}
@@ -12,15 +12,17 @@ use Rattle.std.proofs.lemmas.Bool.Decides.{nat_tests}
 use Rattle.std.proofs.lemmas.List.{length-map}
 use Rattle.std.proofs.Math.Bool.{and-true, or-false}
 use Rattle.basics.proofs.Shared.Lists.{all_append}
-use Rattle.text_lines.specs.Blanks.{trim, trim_end, trim_start}
+use Rattle.text_lines.specs.Blanks.{trim}
 use Rattle.text_lines.specs.Numbers.{number_of}
 use Rattle.text_lines.proofs.Shared.ByteRanges.{IsDigit, IsVisible, all_tested, differs, digit-visible, visible-tested}
-use Rattle.text_lines.proofs.Shared.Decimals.{IsWide, decimal-bytes, decimal-numeral, number_of-decimal}
-use Rattle.text_lines.proofs.Shared.Pieces.{position-at, position-none}
+use Rattle.text_lines.proofs.Shared.Decimals.{IsWide, decimal-bytes, number_of-decimal}
+use Rattle.text_lines.proofs.Shared.NamedValues.{HasNoSign, named_value-decimal, named_value-none}
+use Rattle.text_lines.proofs.Shared.Pieces.{position-at}
 use Rattle.text_lines.proofs.Shared.PrintedLines.{line-visible, trim-blank}
-use Rattle.rule_file.proofs.Shared.WrittenFiles.{trim_start-digits, within-read}
+use Rattle.rule_file.proofs.Shared.WrittenFiles.{within-read}
 use Rattle.rule_file.specs.States.{least_states, most_states, states_in}
 use Rattle.rule_file.specs.RuleFile.{NumberedLine, numbered_from}
+use Rattle.table_lines.specs.declared.descriptors.Descriptor.{Descriptor}
 use Rattle.table_lines.specs.declared.descriptors.Descriptor.TheVariants as descriptor
 use Rattle.table_lines.specs.declared.descriptors.Head.{Head}
 use Rattle.table_lines.specs.declared.neighborhood.Neighborhood.{Neighborhood}
@@ -147,9 +149,13 @@ defined-read head variables line number set few wide is =
     let low = set-wide head.states set few is.below in
     rw (definition-read number set wide is.some low, members-read variables line set low, below-singles head.states set, is.below, union-singles set is.rising)
 
+-- what a name and its value describe
+abbrev described_by : List ℕ × List ℕ → Option (Descriptor × List ℕ)
+described_by named = option_map (λ d. (d, named.1)) (descriptor_named named.0)
+
 -- a line without a colon is no descriptor
-line-undescribed : (line : List ℕ) → AllByRecursion (λ b. (b == 58) ≡ false) line → descriptor_of line ≡ None
-line-undescribed line h = ap (option_and_then (λ colon. option_map (λ d. (d, trim_start (drop (colon + 1) line))) (descriptor_named (trim_end (take colon line))))) (position-none (λ b. b == 58) line h)
+line-undescribed : (line : List ℕ) → HasNoSign 58 line → descriptor_of line ≡ None
+line-undescribed line h = ap (option_and_then described_by) (named_value-none 58 line h)
 
 definition-undescribed : (n number : ℕ) (set : List ℕ) → n ≤ 256 → IsWide number → IsSet n set → descriptor_of (definition_line number set) ≡ None
 definition-undescribed n number set few wide is =
@@ -226,10 +232,8 @@ module _ (head : Head) (sets : List (List ℕ)) (low : head.states ≤ 256) (few
 
 states-line : (n : ℕ) → IsWide n → descriptor_of (codes "n_states:" ++ decimal n) ≡ Some (descriptor.States, decimal n)
 states-line n wide =
-    let line = codes "n_states:" ++ decimal n in
-    ap (option_and_then (λ colon. option_map (λ d. (d, trim_start (drop (colon + 1) line))) (descriptor_named (trim_end (take colon line)))))
-    (position-at (λ b. b == 58) (codes "n_states") 58 (decimal n) (refl, (refl, (refl, (refl, (refl, (refl, (refl, (refl, tt)))))))) refl)
-    ∙ ap (λ (value : List ℕ). Some (descriptor.States, value)) (trim_start-digits (decimal n) (decimal-numeral n wide))
+    ap (option_and_then described_by)
+    (named_value-decimal 58 (codes "n_states") n (refl, (refl, (refl, (refl, (refl, (refl, (refl, (refl, tt)))))))) wide)
 
 neighborhood-line : (m : Neighborhood) → descriptor_of (codes "neighborhood:" ++ name_of_neighborhood m) ≡ Some (descriptor.Neighborhood, name_of_neighborhood m)
 neighborhood-line m = grind arith
