@@ -1,35 +1,15 @@
--- Words of bits: those of a set tell which states it has, and those of a column which rows.
-use Rattle.std.proofs.Common.{◌≡◌, ◌≢◌, ℕ, zero, suc, ◌+◌, ◌*◌, ◌/◌, ◌%◌, ◌^◌, ◌<◌, ◌≤◌, Bool, cond, List, [], ◌∷◌, ◌++◌, length, get_or, map, ap, ◌∙◌, inl, inr, arith}
-use Rattle.std.specs.Prelude.{◌==◌}
+-- Words of bits: those of a column tell which rows have a state.
+use Rattle.std.proofs.Common.{◌≡◌, ◌≢◌, ℕ, zero, suc, ◌+◌, ◌*◌, ◌/◌, ◌%◌, ◌^◌, ◌<◌, ◌≤◌, List, [], ◌∷◌, ◌++◌, length, get_or, ap, ◌∙◌, inl, inr, arith}
 use Rattle.std.specs.Int.{bit_at}
 use Rattle.std.specs.Int.RustNames.{bit_or}
-use Rattle.std.specs.List.{range_with_len}
 use Rattle.std.proofs.lemmas.Bool.{cases_lt}
-use Rattle.std.proofs.lemmas.Bool.Decides.{nat_tests}
 use Rattle.std.proofs.lemmas.List.{get_or_append_left, get_or_push, length_push, length-map, get_or-map}
-use Rattle.std.proofs.lemmas.Nat.Bits.{bit_at-suc, bit_at_lowest, bit_at_or, bit_at_set_same, bit_at_set_other, bit_at-zero, bit_at-lt}
+use Rattle.std.proofs.lemmas.Nat.Bits.{bit_at_or, bit_at_set_same, bit_at_set_other, bit_at-zero, bit_at-lt}
 use Rattle.table_symmetry.specs.declared.expansion.Expanded.{Expanded}
 use Rattle.table_symmetry.specs.Lookup.{HasBits, TellsRows, set_at, word_of_each}
-use Rattle.table_lines.specs.States.{has, number_of_bits, word_of}
+use Rattle.table_lines.specs.States.{word_of}
+use Rattle.table_lines.proofs.Shared.WordBits.{bit-word}
 use mir.Syntax.{w64}
-
--- the bits of a number are the digits that it was made of
-bit-number : (f : ℕ → Bool) (a n i : ℕ) → i < n → (bit_at (number_of_bits (map f (range_with_len a n))) i == 1) ≡ f (a + i)
-unfolding number_of_bits
-bit-number f a zero i h = absurd (omega arith)
-bit-number f a (suc n) zero h =
-    let here : a + 0 ≡ a = omega arith in
-    rw (bit_at_lowest, here) (grind (arith, nat_tests))
-bit-number f a (suc n) (suc i) h =
-    let there : a + 1 + i ≡ a + suc i = omega arith in
-    let others = number_of_bits (map f (range_with_len (a + 1) n)) in
-    let half : (cond (f a) 1 0 + 2 * others) / 2 ≡ others = grind arith in
-    rw (bit_at-suc, half, ← there) (bit-number f (a + 1) n i (omega arith))
-
--- a word tells which of 64 states a set has
-bit-word : (states : List ℕ) (q i : ℕ) → i < 64 → (bit_at (word_of states q) i == 1) ≡ has states (64 * q + i)
-unfolding word_of
-bit-word states q i h = bit-number (has states) (64 * q) 64 i h
 
 -- a bit put at a place of a word where there is none
 put_bit : (n b p : ℕ) → b < 2 → p < 64 → bit_at n p ≡ 0

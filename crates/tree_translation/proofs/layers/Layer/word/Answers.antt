@@ -2,7 +2,8 @@ use Rattle.std.proofs.Common.{◌≡◌, ℕ, ◌+◌, ◌*◌, ◌∙◌, sym, 
 use Rattle.std.proofs.lemmas.Bool.{eq-eqb}
 use Rattle.std.proofs.lemmas.Nat.Bits.{bit_at_ones}
 use Rattle.tree_translation.specs.Layers.{allows, lets}
-use Rattle.tree_translation.proofs.TailsNear.{bit-word, lets-read}
+use Rattle.table_lines.proofs.Shared.WordBits.{bit-word}
+use Rattle.tree_translation.proofs.TailsNear.{lets-read}
 use Rattle.tree_translation.proofs.layers.Layer.word.Goals as goal
 use Rattle.tree_translation.proofs.layers.Layer.word.Goals.{After-index}
 
