@@ -1,32 +1,16 @@
 -- Squares put on a world where no cell is live.
-use Rattle.std.proofs.Common.{◌≡◌, ℕ, zero, suc, ◌<◌, ◌^◌, List, get_or, sym, ap, ◌∙◌, subst, arith, inl, inr, lit<, ℤ, pos, ◌+ℤ◌, SFits, w64}
+use Rattle.std.proofs.Common.{◌≡◌, ℕ, zero, suc, ◌<◌, ◌^◌, List, get_or, sym, ap, ◌∙◌, subst, arith, lit<, ℤ, pos, ◌+ℤ◌, SFits, w64}
 use Rattle.std.specs.Prelude.{unsigned_abs}
 use Rattle.std.proofs.lemmas.Int.{ints, fits_signed_from_abs}
 use Rattle.worlds.specs.Range.{IsInside}
-use Rattle.worlds.specs.World.{World, cell, put, blank, cell-blank, same_world}
+use Rattle.worlds.specs.World.{World, cell, put, blank, cell-blank}
 use Rattle.plane_core.specs.declared.row.SquareRow.{SquareRow}
-use Rattle.worlds.specs.Square.{Square, empty_square, IsSquare, put_square, IsIn}
+use Rattle.worlds.specs.Square.{Square, IsSquare, put_square, IsIn}
 use Rattle.plane_core.specs.Rows.{AreRows, square_in}
 use Rattle.plane_core.specs.Laid.{AreQuadrants, IsClear, IsFrom, IsOnPlane}
 use Rattle.plane_core.proofs.Shared.Sound.{square_in-none, square_in-state}
-use Rattle.plane_core.proofs.Shared.Cells.{double, cell_in-empty, IsSquare-empty, in_or_out, in_part, offset, put_square-one, put_square-four, put_square-inside, put_square-outside}
+use Rattle.plane_core.proofs.Shared.Cells.{double, in_part, put_square-clear, put_square-one, put_square-four, put_square-outside}
 use Rattle.plane_core.proofs.Shared.Roots.{square_in-IsSquare}
-
--- an empty square is put there
-pub put_square-clear : (k : ℕ) (l t : ℤ) (w : World) → IsClear (2 ^ k) l t w → put_square k (empty_square k) l t w ≡ w
-put_square-clear k l t w clear =
-    same_world _ w (λ x y.
-    elim (in_or_out (2 ^ k) l t x y) [
-      | inl h ↦
-          let at_x = offset l x h.left in
-          let at_y = offset t y h.top in
-          let right = h.right in let bottom = h.bottom in
-          let ex = at_x.1 in let ey = at_y.1 in
-          put_square-inside k (empty_square k) l t w x y at_x.0 at_y.0 (IsSquare-empty k) ex ey (omega (arith, ints)) (omega (arith, ints))
-          ∙ cell_in-empty k at_x.0 at_y.0
-          ∙ sym (clear x y h)
-      | inr out ↦ put_square-outside k (empty_square k) l t w x y (IsSquare-empty k) out
-    ])
 
 -- the number 0 names an empty square
 pub gathered-none : (rows : List SquareRow) (k n : ℕ) (l t : ℤ) (w : World) → n ≡ 0 → IsClear (2 ^ k) l t w → w ≡ put_square k (square_in rows k n) l t w

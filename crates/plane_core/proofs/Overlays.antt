@@ -8,7 +8,7 @@ use Rattle.worlds.specs.Range.{AllBelow, IsGreatest, IsInBox, IsBoundingBox}
 use Rattle.worlds.specs.declared.cell.Bounds.{Bounds}
 use Rattle.worlds.specs.Square.{Square, IsSquare, put_square, IsIn}
 use Rattle.plane_core.specs.Measures.{AreBoundsOf, joined_box, joined_bounds, moved_box, moved_bounds, alone, LiesIn}
-use Rattle.plane_core.proofs.Shared.Cells.{put_square-inside, put_square-outside, in_or_out, offset}
+use Rattle.plane_core.proofs.Shared.Cells.{put_square-inside, put_square-outside, in_or_out, offsets}
 use Rattle.plane_core.proofs.Totals.{IsFree}
 
 -- at each place u is as v where w is dead, or as w where v is dead
@@ -166,13 +166,8 @@ pub put_square-overlays : (k : ℕ) (s : Square) (l t : ℤ) (w : World) → IsS
 put_square-overlays k s l t w is free x y =
     elim (in_or_out (2 ^ k) l t x y) [
       | inl h ↦
-          let at_x = offset l x h.left in
-          let at_y = offset t y h.top in
-          let right = h.right in let bottom = h.bottom in
-          let ex = at_x.1 in let ey = at_y.1 in
-          let hi : at_x.0 < 2 ^ k = omega (arith, ints) in
-          let hj : at_y.0 < 2 ^ k = omega (arith, ints) in
-          inr (put_square-inside k s l t w x y at_x.0 at_y.0 is ex ey hi hj ∙ sym (put_square-inside k s l t blank x y at_x.0 at_y.0 is ex ey hi hj), free x y h)
+          let at = offsets (2 ^ k) l t x y h in
+          inr (put_square-inside k s l t w x y at.i at.j is at.ex at.ey at.hi at.hj ∙ sym (put_square-inside k s l t blank x y at.i at.j is at.ex at.ey at.hi at.hj), free x y h)
       | inr out ↦ inl (put_square-outside k s l t w x y is out, put_square-outside k s l t blank x y is out ∙ cell-blank x y)
     ]
 
@@ -182,14 +177,10 @@ put_square-moved k s l t is = record {
   same = λ a b x y ex ey.
       elim (in_or_out (2 ^ k) (pos 0) (pos 0) a b) [
         | inl h ↦
-            let at_a = offset (pos 0) a h.left in
-            let at_b = offset (pos 0) b h.top in
-            let right = h.right in let bottom = h.bottom in
-            let ea = at_a.1 in let eb = at_b.1 in
-            let hi : at_a.0 < 2 ^ k = omega (arith, ints) in
-            let hj : at_b.0 < 2 ^ k = omega (arith, ints) in
-            put_square-inside k s l t blank x y at_a.0 at_b.0 is (omega (arith, ints)) (omega (arith, ints)) hi hj
-            ∙ sym (put_square-inside k s (pos 0) (pos 0) blank a b at_a.0 at_b.0 is ea eb hi hj)
+            let at = offsets (2 ^ k) (pos 0) (pos 0) a b h in
+            let ea = at.ex in let eb = at.ey in
+            put_square-inside k s l t blank x y at.i at.j is (omega (arith, ints)) (omega (arith, ints)) at.hi at.hj
+            ∙ sym (put_square-inside k s (pos 0) (pos 0) blank a b at.i at.j is ea eb at.hi at.hj)
         | inr out ↦
             put_square-outside k s l t blank x y is (λ h.
             let left = h.left in let right = h.right in let top = h.top in let bottom = h.bottom in

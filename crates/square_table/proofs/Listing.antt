@@ -8,7 +8,7 @@ use Rattle.worlds.specs.Square.{Square, one, four, IsSquare}
 use Rattle.plane_core.specs.declared.row.SquareRow.{SquareRow}
 use Rattle.plane_core.specs.Rows.{no_row, AreRows, IsNumber, square_in, number_row, number_square, numbered, same_row, root_level, root_of, AreCanonical, completed, empty_row, written}
 use Rattle.plane_core.proofs.Shared.Numbering.{Grows, Grows-more, not_found}
-use Rattle.plane_core.proofs.Shared.Sound.{row_kept, IsNumber-from, square_in-grown, EachHas, IsSound, number_square-sound, AreRows-none, EachHas-none, row_of}
+use Rattle.plane_core.proofs.Shared.Sound.{row_kept, IsNumber-from, square_in-grown, EachHas, IsSound, number_square-sound, quadrants-sound, AreRows-none, EachHas-none, row_of}
 use Rattle.plane_core.proofs.Shared.Roots.{rooted, root-IsSquare}
 use Rattle.square_table.specs.Made.{HoldsWithin}
 use Rattle.square_table.specs.Loading.{row_square, HasRows}
@@ -57,20 +57,17 @@ listed_walk all (suc k) (one s) rows valid each is high within old = absurd is
 listed_walk all zero (four nw ne sw se) rows valid each is high within old = absurd is
 listed_walk all (suc k) (four nw ne sw se) rows valid each is high within old =
     let less : k ≤ 62 = omega (arith, high) in
+    let walks = quadrants-sound k nw ne sw se rows (λ t rows valid each is. number_square-sound k t rows valid each is less) valid each is in
     let a = number_square k nw rows in
-    let sa : IsSound k nw a = number_square-sound k nw rows valid each is.0 less in
     let b = number_square k ne a.rows in
-    let sb : IsSound k ne b = number_square-sound k ne a.rows sa.valid sa.each is.1 less in
     let c = number_square k sw b.rows in
-    let sc : IsSound k sw c = number_square-sound k sw b.rows sb.valid sb.each is.2 less in
     let d = number_square k se c.rows in
-    let sd : IsSound k se d = number_square-sound k se c.rows sc.valid sc.each is.3 less in
     let la : HasRows all a.rows = listed_walk all k nw rows valid each is.0 less within.1 old in
-    let lb : HasRows all b.rows = listed_walk all k ne a.rows sa.valid sa.each is.1 less within.2 la in
-    let lc : HasRows all c.rows = listed_walk all k sw b.rows sb.valid sb.each is.2 less within.3 lb in
-    let ld : HasRows all d.rows = listed_walk all k se c.rows sc.valid sc.each is.3 less within.4 lc in
+    let lb : HasRows all b.rows = listed_walk all k ne a.rows walks.nw_is.valid walks.nw_is.each is.1 less within.2 la in
+    let lc : HasRows all c.rows = listed_walk all k sw b.rows walks.ne_is.valid walks.ne_is.each is.2 less within.3 lb in
+    let ld : HasRows all d.rows = listed_walk all k se c.rows walks.sw_is.valid walks.sw_is.each is.3 less within.4 lc in
     let whole = number_square-sound (suc k) (four nw ne sw se) rows valid each is high in
-    listed_row all (row_of (suc k) a.number b.number c.number d.number) d.rows (four nw ne sw se) k sd.valid refl ld within.0 whole.square
+    listed_row all (row_of (suc k) a.number b.number c.number d.number) d.rows (four nw ne sw se) k walks.se_is.valid refl ld within.0 whole.square
 
 -- the row of the empty square, where it is the root
 only_empty : (all : List Square) → HoldsWithin (Contains all) (root_of (empty_row ∷ [])) → HasRows all (empty_row ∷ [])

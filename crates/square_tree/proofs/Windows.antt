@@ -1,7 +1,8 @@
 -- Steps of the states of a window.
-use Rattle.std.proofs.Common.{◌≡◌, ◌∙◌, sym, ap, ℕ, ◌+◌, ◌^◌, ◌<◌, ◌≤◌, List, [], ◌∷◌, ◌++◌, ℤ, pos, ◌+ℤ◌, map, unwrap_or, append_assoc, append-nil, arith, SFits, w64}
+use Rattle.std.proofs.Common.{◌≡◌, ◌∙◌, sym, ap, ℕ, ◌+◌, ◌^◌, ◌<◌, ◌≤◌, List, [], ◌∷◌, ◌++◌, ℤ, pos, ◌+ℤ◌, map, unwrap_or, append-nil, arith, SFits, w64}
 use Rattle.std.proofs.lemmas.Int.{ints}
 use Rattle.std.specs.List.{range_with_len, concat}
+use Rattle.std.proofs.lemmas.List.Folds.{concat-append}
 use Rattle.std.proofs.lemmas.List.FromFn.{map-range_with_len_more}
 use Rattle.std.proofs.Math.Pow.{pow_mono}
 use Rattle.square_tree.specs.Cells.{Cells, SpansSquare, state_at, row_states, window_states}
@@ -12,15 +13,12 @@ row-more c x y k s is =
     ap (λ n. row_states c x y k ++ n ∷ []) is
     ∙ sym (map-range_with_len_more (λ k. unwrap_or (state_at c (x +ℤ pos k) y) 0) 0 k k (omega arith))
 
-concat-push : (ps : List (List ℕ)) (p : List ℕ) → concat (ps ++ p ∷ []) ≡ concat ps ++ p
-concat-push [] p = append-nil p
-concat-push (q ∷ ps) p = ap (λ t. q ++ t) (concat-push ps p) ∙ sym (append_assoc q (concat ps) p)
-
 -- one more row
 pub window-more : (c : Cells) (left top : ℤ) (width k : ℕ) → window_states c left top width k ++ row_states c left (top +ℤ pos k) width ≡ window_states c left top width (k + 1)
 window-more c left top width k =
-    sym (concat-push (map (λ k. row_states c left (top +ℤ pos k) width) (range_with_len 0 k)) (row_states c left (top +ℤ pos k) width))
-    ∙ ap concat (sym (map-range_with_len_more (λ k. row_states c left (top +ℤ pos k) width) 0 k k (omega arith)))
+    let row : ℕ → List ℕ = λ k. row_states c left (top +ℤ pos k) width in
+    let rows = map row (range_with_len 0 k) in
+    ap (λ t. concat rows ++ t) (sym (append-nil (row k))) ∙ sym (concat-append rows (row k ∷ [])) ∙ ap concat (sym (map-range_with_len_more row 0 k k (omega arith)))
 
 -- a coordinate of a span lies in the square
 pub spanned : {l n : ℕ} {z : ℤ} (k : ℕ) → SpansSquare l z n → k < n → SpansSquare l (z +ℤ pos k) 1

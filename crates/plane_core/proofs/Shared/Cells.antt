@@ -3,13 +3,31 @@ use Rattle.std.proofs.Common.{◌≡◌, ℕ, zero, suc, ◌+◌, ◌-◌, ◌<�
 use Rattle.std.specs.Prelude.{unsigned_abs}
 use Rattle.std.proofs.lemmas.Bool.{cases_lt, cond-true, cond-false, lt-leb, le-leb, false_from_ne_true}
 use Rattle.std.proofs.lemmas.Int.{ints, by_lt_z}
-use Rattle.worlds.specs.World.{World, Place, cell, put, cell-put, same_place}
+use Rattle.worlds.specs.World.{World, Place, cell, put, cell-put, same_place, same_world}
 use Rattle.worlds.specs.Fill.{same_is, is_same}
-use Rattle.worlds.specs.Square.{Square, one, four, empty_square, IsSquare, cell_in, put_square, IsIn}
+use Rattle.worlds.specs.Square.{Square, one, four, empty_square, IsSquare, cell_in, put_square, square_at, IsIn}
+use Rattle.plane_core.specs.Laid.{IsClear}
 
 -- a side is twice that of the quadrants
 pub double : (k : ℕ) → 2 ^ suc k ≡ 2 ^ k + 2 ^ k
 double k = omega (arith, pow-suc 2 k)
+
+-- the quadrants of a square
+unfoldable pub nw_of : Square → Square
+nw_of (one s) = one s
+nw_of (four nw ne sw se) = nw
+
+unfoldable pub ne_of : Square → Square
+ne_of (one s) = one s
+ne_of (four nw ne sw se) = ne
+
+unfoldable pub sw_of : Square → Square
+sw_of (one s) = one s
+sw_of (four nw ne sw se) = sw
+
+unfoldable pub se_of : Square → Square
+se_of (one s) = one s
+se_of (four nw ne sw se) = se
 
 -- the cells of each quadrant
 module _ (k : ℕ) (nw ne sw se : Square) (i j : ℕ) where
@@ -188,3 +206,72 @@ put_square-inside (suc k) (four nw ne sw se) l t w x y i j is ex ey hi hj =
 -- how far a coordinate lies from an edge
 pub offset : (l x : ℤ) → l ≤ℤ x → (i : ℕ) × (x ≡ l +ℤ pos i)
 offset l x h = (unsigned_abs (x -ℤ l), omega (arith, ints))
+
+-- how far a place of a square lies from the upper left cell
+pub record IsAway (n : ℕ) (l t x y : ℤ) : Type 0 where
+  pub i : ℕ
+  pub j : ℕ
+  pub ex : x ≡ l +ℤ pos i
+  pub ey : y ≡ t +ℤ pos j
+  pub hi : i < n
+  pub hj : j < n
+
+pub offsets : (n : ℕ) (l t x y : ℤ) → IsIn n l t x y → IsAway n l t x y
+offsets n l t x y h =
+    let at_x = offset l x h.left in
+    let at_y = offset t y h.top in
+    let right = h.right in let bottom = h.bottom in
+    let ex = at_x.1 in let ey = at_y.1 in
+    record { i = at_x.0; j = at_y.0; ex = ex; ey = ey; hi = omega (arith, ints); hj = omega (arith, ints) }
+
+-- an empty square is put where no cell is live
+pub put_square-clear : (k : ℕ) (l t : ℤ) (w : World) → IsClear (2 ^ k) l t w → put_square k (empty_square k) l t w ≡ w
+put_square-clear k l t w clear =
+    same_world _ w (λ x y.
+    elim (in_or_out (2 ^ k) l t x y) [
+      | inl h ↦
+          let at = offsets (2 ^ k) l t x y h in
+          put_square-inside k (empty_square k) l t w x y at.i at.j (IsSquare-empty k) at.ex at.ey at.hi at.hj
+          ∙ cell_in-empty k at.i at.j
+          ∙ sym (clear x y h)
+      | inr out ↦ put_square-outside k (empty_square k) l t w x y (IsSquare-empty k) out
+    ])
+
+-- the square of a world at a place, by its quadrants
+pub square_at-zero : (w : World) (x y : ℤ) → square_at w 0 x y ≡ one (cell w x y)
+unfolding square_at
+square_at-zero w x y = refl
+
+pub square_at-suc : (w : World) (k : ℕ) (x y : ℤ) → square_at w (suc k) x y ≡ four (square_at w k x y) (square_at w k (x +ℤ pos (2 ^ k)) y) (square_at w k x (y +ℤ pos (2 ^ k))) (square_at w k (x +ℤ pos (2 ^ k)) (y +ℤ pos (2 ^ k)))
+unfolding square_at
+square_at-suc w k x y = refl
+
+-- a coordinate behind the half of a side
+behind : (x : ℤ) (h i : ℕ) → h ≤ i → (x +ℤ pos h) +ℤ pos (i - h) ≡ x +ℤ pos i
+behind x h i le = omega (arith, ints)
+
+pub at_origin : (x : ℤ) (i : ℕ) → i < 1 → x ≡ x +ℤ pos i
+at_origin x i h = let z : i ≡ 0 = omega arith in omega (arith, ints)
+
+-- it has the world's cells
+pub square_at-cells : (w : World) (k : ℕ) (x y : ℤ) (i j : ℕ) → i < 2 ^ k → j < 2 ^ k → cell_in k (square_at w k x y) i j ≡ cell w (x +ℤ pos i) (y +ℤ pos j)
+square_at-cells w zero x y i j hi hj =
+    ap (λ (t : Square). cell_in 0 t i j) (square_at-zero w x y) ∙ cell_in-one 0 (cell w x y) i j ∙ ap₂ (cell w) (at_origin x i hi) (at_origin y j hj)
+square_at-cells w (suc k) x y i j hi hj =
+    let h = 2 ^ k in
+    let twice = double k in
+    let nw = square_at w k x y in
+    let ne = square_at w k (x +ℤ pos h) y in
+    let sw = square_at w k x (y +ℤ pos h) in
+    let se = square_at w k (x +ℤ pos h) (y +ℤ pos h) in
+    ap (λ (t : Square). cell_in (suc k) t i j) (square_at-suc w k x y)
+    ∙ elim (cases_lt i (2 ^ k)) [
+      | inl near ↦ elim (cases_lt j (2 ^ k)) [
+        | inl above ↦ cell_in-nw k nw ne sw se i j near above ∙ square_at-cells w k x y i j near above
+        | inr below ↦ cell_in-sw k nw ne sw se i j near below ∙ square_at-cells w k x (y +ℤ pos h) i (j - 2 ^ k) near (omega arith) ∙ ap (cell w (x +ℤ pos i)) (behind y h j below)
+      ]
+      | inr far ↦ elim (cases_lt j (2 ^ k)) [
+        | inl above ↦ cell_in-ne k nw ne sw se i j far above ∙ square_at-cells w k (x +ℤ pos h) y (i - 2 ^ k) j (omega arith) above ∙ ap (λ z. cell w z (y +ℤ pos j)) (behind x h i far)
+        | inr below ↦ cell_in-se k nw ne sw se i j far below ∙ square_at-cells w k (x +ℤ pos h) (y +ℤ pos h) (i - 2 ^ k) (j - 2 ^ k) (omega arith) (omega arith) ∙ ap₂ (cell w) (behind x h i far) (behind y h j below)
+      ]
+    ]

@@ -11,8 +11,9 @@ use Rattle.plane_core.specs.Rows.{no_row, row_at, kid, IsNumber, AreRows, square
 use Rattle.plane_core.specs.Walks.{Has, AreWalked}
 use Rattle.plane_core.specs.Centre.{cornered, centred, is_passed, is_alone, NoneEmpty, AreFilled, IsCorner, IsCentre}
 use Rattle.plane_core.proofs.Shared.Numbering.{Grows, Grows-more, Has-empty, Has-one}
-use Rattle.plane_core.proofs.Shared.Sound.{row_of, IsNumber-level, IsNumber-from, IsNumber-state, square_in-none, square_in-state, square_in-row, square_in-grown, AreRows-push, row_kept}
+use Rattle.plane_core.proofs.Shared.Sound.{row_of, IsNumber-level, IsNumber-from, IsNumber-state, IsNumber-before, IsNumber-last, square_in-none, square_in-state, square_in-row, square_in-grown, AreRows-push}
 use Rattle.plane_core.proofs.Shared.Roots.{rooted, root-IsSquare, root-Fits, root_level-none, root_level-some, root-side, square_in-IsSquare}
+use Rattle.plane_core.proofs.Shared.Cells.{nw_of, ne_of, sw_of, se_of}
 use Rattle.plane_core.proofs.Shared.Tidy.{world-put}
 use Rattle.plane_core.proofs.Descents.{number-kid}
 use Rattle.plane_core.proofs.Shared.Centring.{root_world, centred-world, fits-corners, HasCorners}
@@ -28,14 +29,6 @@ walked-filled rows w = record {
   valid = w.valid;
   none_empty = λ k n h e. Has-one k (square_in rows k n) rows n 0 (w.each k n h) (subst (λ (t : Square). Has k t rows 0) (sym e) (Has-empty k rows));
 }
-
--- the q-th quadrant
-part : ℕ → Square → Square
-part q (one s) = one s
-part zero (four a b c d) = a
-part (suc zero) (four a b c d) = b
-part (suc (suc zero)) (four a b c d) = c
-part (suc (suc (suc q))) (four a b c d) = d
 
 state_in_one : Square → ℕ
 state_in_one (one s) = s
@@ -114,7 +107,7 @@ passed_from rows k corner q n s none h e =
 -- and only then
 pub corner-only : (rows : List SquareRow) (k n corner : ℕ) → AreRows rows → NoneEmpty rows → 0 < k → 0 < n → IsNumber rows k n → is_alone corner (row_at rows n).kids ≡ false
     → (s : Square) → square_in rows (suc (k - 1)) n ≡ cornered (k - 1) corner s → ⊥
-unfolding part
+unfolding nw_of ne_of sw_of se_of
 corner-only rows zero n corner valid none hk hn h other s e = absurd (omega (arith, hk))
 corner-only rows (suc k) n corner valid none hk hn h other s e =
     let row = row_at rows n in
@@ -122,10 +115,10 @@ corner-only rows (suc k) n corner valid none hk hn h other s e =
     let number = λ (q : ℕ) (hq : q < 4). subst (λ j. IsNumber rows j (kid row q)) less (number-kid rows (suc k) n q valid hk hn h hq) in
     let is : four (square_in rows k (kid row 0)) (square_in rows k (kid row 1)) (square_in rows k (kid row 2)) (square_in rows k (kid row 3)) ≡ cornered k corner s =
     sym (square_in-number rows k n hn) ∙ subst (λ j. square_in rows (suc j) n ≡ cornered j corner s) less e in
-    let p0 = passed_from rows k corner 0 (kid row 0) s none (number 0 (lit< tt)) (ap (part 0) is) in
-    let p1 = passed_from rows k corner 1 (kid row 1) s none (number 1 (lit< tt)) (ap (part 1) is) in
-    let p2 = passed_from rows k corner 2 (kid row 2) s none (number 2 (lit< tt)) (ap (part 2) is) in
-    let p3 = passed_from rows k corner 3 (kid row 3) s none (number 3 (lit< tt)) (ap (part 3) is) in
+    let p0 = passed_from rows k corner 0 (kid row 0) s none (number 0 (lit< tt)) (ap nw_of is) in
+    let p1 = passed_from rows k corner 1 (kid row 1) s none (number 1 (lit< tt)) (ap ne_of is) in
+    let p2 = passed_from rows k corner 2 (kid row 2) s none (number 2 (lit< tt)) (ap sw_of is) in
+    let p3 = passed_from rows k corner 3 (kid row 3) s none (number 3 (lit< tt)) (ap se_of is) in
     let alone : is_alone corner row.kids ≡ true = and_from _ _ p0 (and_from _ _ p1 (and_from _ _ p2 p3)) in
     cc
 
@@ -258,9 +251,9 @@ module _ (rows : List SquareRow) (k a b c d : ℕ) (valid : AreRows rows) (none 
   root_number = subst (λ m. IsNumber rows m (length rows)) ek (rooted rows valid).number
 
   not_empty : four (square_in rows k a) (square_in rows k b) (square_in rows k c) (square_in rows k d) ≡ empty_square (suc k) → ⊥
-  unfolding part empty_square
+  unfolding nw_of ne_of sw_of se_of empty_square
   not_empty e =
-      let nw = ap (part 0) e in let ne = ap (part 1) e in let sw = ap (part 2) e in let se = ap (part 3) e in
+      let nw = ap nw_of e in let ne = ap ne_of e in let sw = ap sw_of e in let se = ap se_of e in
       let root_empty : square_in rows (suc (suc k)) (length rows) ≡ empty_square (suc (suc k)) = root-centred ∙ (λ i. centred k (nw i) (ne i) (sw i) (se i)) ∙ centred-empty k in
       let zero_is = none (suc (suc k)) (length rows) root_number root_empty in
       absurd (omega (arith, zero_is, some))
@@ -270,19 +263,14 @@ module _ (rows : List SquareRow) (k a b c d : ℕ) (valid : AreRows rows) (none 
       let row = row_of (suc k) a b c d in
       let all = rows ++ row ∷ [] in
       let g : Grows rows all = Grows-more rows (row ∷ []) in
-      let at = IsNumber-level all j (suc i) h (omega arith) in
-      let one_less : suc i - 1 ≡ i = omega arith in
-      let level : (get_or rows (suc i - 1) no_row).level ≡ suc j = ap (λ m. (get_or rows m no_row).level) one_less ∙ ap (λ (r : SquareRow). r.level) (sym (row_kept rows all i g lt)) ∙ ap (λ m. (get_or all m no_row).level) (sym one_less) ∙ at.1 in
-      let old : IsNumber rows (suc j) (suc i) = IsNumber-from rows j (suc i) (λ live. (omega arith, level)) in
+      let old = IsNumber-before rows row j i lt h in
       none (suc j) (suc i) old (sym (square_in-grown rows all (suc j) (suc i) g valid old) ∙ e)
 
   none_last : (j i : ℕ) → i ≡ length rows → IsNumber (rows ++ row_of (suc k) a b c d ∷ []) (suc j) (suc i) → square_in (rows ++ row_of (suc k) a b c d ∷ []) (suc j) (suc i) ≡ empty_square (suc j) → suc i ≡ 0
   none_last j i last h e =
       let row = row_of (suc k) a b c d in
       let all = rows ++ row ∷ [] in
-      let at = IsNumber-level all j (suc i) h (omega arith) in
-      let one_less : suc i - 1 ≡ i = omega arith in
-      let level : suc k ≡ suc j = ap (λ (r : SquareRow). r.level) (sym (get_or_push rows row no_row i (sym last))) ∙ ap (λ m. (get_or all m no_row).level) (sym one_less) ∙ at.1 in
+      let level : suc k ≡ suc j = IsNumber-last rows row j i last h in
       let here : square_in all (suc k) (suc (length rows)) ≡ empty_square (suc k) = subst (λ m. square_in all (suc m) (suc (length rows)) ≡ empty_square (suc m)) (let same : j ≡ k = omega (arith, level) in same) (subst (λ m. square_in all (suc j) (suc m) ≡ empty_square (suc j)) last e) in
       absurd (not_empty (sym middle_square ∙ here))
 

@@ -6,7 +6,7 @@ use Rattle.worlds.specs.World.{World, cell, blank, cell-blank, same_world}
 use Rattle.worlds.specs.Square.{Square, one, four, empty_square, IsSquare, cell_in, put_square, IsIn}
 use Rattle.plane_core.specs.Rows.{Fits, edge_of}
 use Rattle.plane_core.specs.Centre.{cornered, centred}
-use Rattle.plane_core.proofs.Shared.Cells.{double, cell_in-nw, cell_in-ne, cell_in-sw, cell_in-se, cell_in-empty, IsSquare-empty, IsSquare-four, IsSquare-parts, same_square, in_or_out, offset, put_square-inside, put_square-outside}
+use Rattle.plane_core.proofs.Shared.Cells.{double, cell_in-nw, cell_in-ne, cell_in-sw, cell_in-se, cell_in-empty, IsSquare-empty, IsSquare-four, IsSquare-parts, same_square, in_or_out, offsets, nw_of, ne_of, sw_of, se_of, put_square-inside, put_square-outside}
 
 -- the cells of each quadrant, by how far they lie from its edges
 module _ (k : ℕ) (a b c d : Square) (i j : ℕ) (hi : i < 2 ^ k) (hj : j < 2 ^ k) where
@@ -159,26 +159,20 @@ centred_cells k a b c d ia ib ic id x y =
     let small : IsSquare (suc k) (four a b c d) = IsSquare-parts k a b c d ia ib ic id in
     elim (in_or_out m (neg_ℤ (pos n)) (neg_ℤ (pos n)) x y) [
       | inl h ↦
-          let at_x = offset (neg_ℤ (pos n)) x h.left in
-          let at_y = offset (neg_ℤ (pos n)) y h.top in
-          let right = h.right in let bottom = h.bottom in
-          let ex = at_x.1 in let ey = at_y.1 in
-          let i = at_x.0 in let j = at_y.0 in
-          let hi : i < m = omega (arith, ints) in
-          let hj : j < m = omega (arith, ints) in
+          let at = offsets m (neg_ℤ (pos n)) (neg_ℤ (pos n)) x y h in
+          let i = at.i in let j = at.j in
+          let ex = at.ex in let ey = at.ey in
+          let hi = at.hi in let hj = at.hj in
           put_square-inside (suc (suc k)) (centred k a b c d) (neg_ℤ (pos m)) (neg_ℤ (pos m)) blank x y (n + i) (n + j) big (omega (arith, ints)) (omega (arith, ints)) (omega arith) (omega arith)
           ∙ centre_cells k a b c d i j hi hj
           ∙ sym (put_square-inside (suc k) (four a b c d) (neg_ℤ (pos n)) (neg_ℤ (pos n)) blank x y i j small ex ey hi hj)
       | inr out ↦
           elim (in_or_out (2 ^ suc (suc k)) (neg_ℤ (pos m)) (neg_ℤ (pos m)) x y) [
             | inl h ↦
-                let at_x = offset (neg_ℤ (pos m)) x h.left in
-                let at_y = offset (neg_ℤ (pos m)) y h.top in
-                let right = h.right in let bottom = h.bottom in
-                let ex = at_x.1 in let ey = at_y.1 in
-                let i = at_x.0 in let j = at_y.0 in
-                let hi : i < 2 ^ suc (suc k) = omega (arith, ints) in
-                let hj : j < 2 ^ suc (suc k) = omega (arith, ints) in
+                let at = offsets (2 ^ suc (suc k)) (neg_ℤ (pos m)) (neg_ℤ (pos m)) x y h in
+                let i = at.i in let j = at.j in
+                let ex = at.ex in let ey = at.ey in
+                let hi = at.hi in let hj = at.hj in
                 put_square-inside (suc (suc k)) (centred k a b c d) (neg_ℤ (pos m)) (neg_ℤ (pos m)) blank x y i j big ex ey hi hj
                 ∙ around_centre k a b c d i j hi hj (λ p q r s. out (record { left = omega (arith, ints); right = omega (arith, ints); top = omega (arith, ints); bottom = omega (arith, ints) }))
                 ∙ sym (cell-blank x y)
@@ -280,29 +274,13 @@ pub record HasCorners (k : ℕ) (nw ne sw se : Square) : Type 0 where
   pub sw_is : sw ≡ cornered k 1 c
   pub se_is : se ≡ cornered k 0 d
 
-part_nw : Square → Square
-part_nw (one s) = one s
-part_nw (four a b c d) = a
-
-part_ne : Square → Square
-part_ne (one s) = one s
-part_ne (four a b c d) = b
-
-part_sw : Square → Square
-part_sw (one s) = one s
-part_sw (four a b c d) = c
-
-part_se : Square → Square
-part_se (one s) = one s
-part_se (four a b c d) = d
-
 -- where the live cells fit the middle, each quadrant has them at its corner
 pub fits-corners : (k : ℕ) (nw ne sw se : Square) → IsSquare (suc (suc k)) (four nw ne sw se) → Fits (suc k) (root_world (suc (suc k)) (four nw ne sw se)) → HasCorners k nw ne sw se
-unfolding IsSquare whole part_nw part_ne part_sw part_se
+unfolding IsSquare whole nw_of ne_of sw_of se_of
 fits-corners k (one s) ne sw se is fits = absurd is.0
 fits-corners k (four a0 a1 a2 a3) (one s) sw se is fits = absurd is.1
 fits-corners k (four a0 a1 a2 a3) (four b0 b1 b2 b3) (one s) se is fits = absurd is.2
 fits-corners k (four a0 a1 a2 a3) (four b0 b1 b2 b3) (four c0 c1 c2 c3) (one s) is fits = absurd is.3
 fits-corners k (four a0 a1 a2 a3) (four b0 b1 b2 b3) (four c0 c1 c2 c3) (four d0 d1 d2 d3) is fits =
     let e = whole-centred k a0 a1 a2 a3 b0 b1 b2 b3 c0 c1 c2 c3 d0 d1 d2 d3 is fits in
-    record { a = a3; b = b2; c = c1; d = d0; nw_is = ap part_nw e; ne_is = ap part_ne e; sw_is = ap part_sw e; se_is = ap part_se e }
+    record { a = a3; b = b2; c = c1; d = d0; nw_is = ap nw_of e; ne_is = ap ne_of e; sw_is = ap sw_of e; se_is = ap se_of e }

@@ -12,7 +12,7 @@ use Rattle.plane_core.specs.declared.row.SquareRow.{SquareRow}
 use Rattle.worlds.specs.Square.{Square, one, four, empty_square, IsSquare, put_square, IsIn}
 use Rattle.plane_core.specs.Rows.{no_row, kid, IsNumber, AreRows, square_in, root_level, root_of, edge_of, world_of_rows}
 use Rattle.plane_core.specs.Measures.{AreBoundsOf, AreMeasuresOf, no_measures, measures_of_state, placed, joined, alone, measures_in, AreMeasuresAt, AreMeasured, LiesIn}
-use Rattle.plane_core.proofs.Shared.Cells.{put_square-four, IsSquare-one, IsSquare-empty, IsSquare-four, IsSquare-parts, cell_in-one, cell_in-empty, in_or_out, offset, put_square-inside, put_square-outside}
+use Rattle.plane_core.proofs.Shared.Cells.{put_square-four, IsSquare-one, IsSquare-four, IsSquare-parts, cell_in-one, in_or_out, put_square-clear, put_square-inside, put_square-outside}
 use Rattle.plane_core.proofs.Shared.Sound.{kid_number, square_in-none, square_in-state, square_in-row, state-IsNumber, IsNumber-level}
 use Rattle.plane_core.proofs.Descents.{number_within}
 use Rattle.plane_core.proofs.Shared.Roots.{square_in-IsSquare, world-root, root_level-some, root-IsSquare, rooted, world-none}
@@ -130,18 +130,7 @@ measures-state (suc s) h = record {
 }
 
 empty-blank : (k : ℕ) → alone k (empty_square k) ≡ blank
-empty-blank k =
-    same_world (alone k (empty_square k)) blank (λ x y. elim (in_or_out (2 ^ k) (pos 0) (pos 0) x y) [
-      | inl h ↦
-          let at_x = offset (pos 0) x h.left in
-          let at_y = offset (pos 0) y h.top in
-          let right = h.right in let bottom = h.bottom in
-          let ex = at_x.1 in let ey = at_y.1 in
-          put_square-inside k (empty_square k) (pos 0) (pos 0) blank x y at_x.0 at_y.0 (IsSquare-empty k) ex ey (omega (arith, ints)) (omega (arith, ints))
-          ∙ cell_in-empty k at_x.0 at_y.0
-          ∙ sym (cell-blank x y)
-      | inr out ↦ put_square-outside k (empty_square k) (pos 0) (pos 0) blank x y (IsSquare-empty k) out
-    ])
+empty-blank k = put_square-clear k (pos 0) (pos 0) blank (λ x y h. cell-blank x y)
 
 -- the measures of an empty square
 pub measures-empty : (k : ℕ) → AreMeasuresOf (alone k (empty_square k)) no_measures

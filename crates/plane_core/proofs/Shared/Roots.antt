@@ -8,7 +8,7 @@ use Rattle.worlds.specs.Square.{Square, IsSquare, cell_in, put_square, IsIn}
 use Rattle.plane_core.specs.Rows.{Numbered, number_square, no_row, row_at, kid, IsNumber, AreRows, square_in, root_level, root_of, edge_of, world_of_rows, Fits, AreKept}
 use Rattle.plane_core.proofs.Shared.Numbering.{Has-empty}
 use Rattle.plane_core.proofs.Shared.Sound.{kid_number, square_in-none, square_in-state, square_in-row, state-IsNumber, IsNumber-level, IsNumber-from, AreRows-none}
-use Rattle.plane_core.proofs.Shared.Cells.{IsSquare-one, IsSquare-empty, IsSquare-parts, cell_in-empty, same_square, put_square-inside, put_square-outside, in_or_out, offset, double}
+use Rattle.plane_core.proofs.Shared.Cells.{IsSquare-one, IsSquare-empty, IsSquare-parts, cell_in-empty, same_square, put_square-inside, put_square-outside, in_or_out, offsets, double}
 
 -- the square of a number is one
 pub square_in-IsSquare : (rows : List SquareRow) (k n : ℕ) → AreRows rows → IsNumber rows k n → IsSquare k (square_in rows k n)
@@ -120,13 +120,10 @@ world-none =
     same_world (world_of_rows []) blank (λ x y.
     elim (in_or_out (2 ^ root_level []) (edge_of (root_level [])) (edge_of (root_level [])) x y) [
       | inl h ↦
-          let at_x = offset (edge_of (root_level [])) x h.left in
-          let at_y = offset (edge_of (root_level [])) y h.top in
-          let right = h.right in let bottom = h.bottom in
-          let ex = at_x.1 in let ey = at_y.1 in
-          world-inside [] x y at_x.0 at_y.0 AreRows-none at_x.1 at_y.1 (omega (arith, ints)) (omega (arith, ints))
-          ∙ ap (λ (t : Square). cell_in (root_level []) t at_x.0 at_y.0) (square_in-none [] (root_level []))
-          ∙ cell_in-empty (root_level []) at_x.0 at_y.0
+          let at = offsets (2 ^ root_level []) (edge_of (root_level [])) (edge_of (root_level [])) x y h in
+          world-inside [] x y at.i at.j AreRows-none at.ex at.ey at.hi at.hj
+          ∙ ap (λ (t : Square). cell_in (root_level []) t at.i at.j) (square_in-none [] (root_level []))
+          ∙ cell_in-empty (root_level []) at.i at.j
           ∙ sym (cell-blank x y)
       | inr out ↦ world-outside [] x y AreRows-none out ∙ sym (cell-blank x y)
     ])

@@ -47,6 +47,24 @@ IsNumber-grown old new (suc k) n g h = IsNumber-from new k n (λ live.
     let longer : length old ≤ length new = Grows-length old new g in
     (omega arith, ap (λ (row : SquareRow). row.level) (row_kept old new (n - 1) g (omega arith)) ∙ at.1))
 
+-- with one more row a number of the rows before was one
+pub IsNumber-before : (rows : List SquareRow) (row : SquareRow) (j i : ℕ) → i < length rows → IsNumber (rows ++ row ∷ []) (suc j) (suc i) → IsNumber rows (suc j) (suc i)
+IsNumber-before rows row j i lt h =
+    let all = rows ++ row ∷ [] in
+    let at = IsNumber-level all j (suc i) h (omega arith) in
+    let one_less : suc i - 1 ≡ i = omega arith in
+    let kept : get_or all i no_row ≡ get_or rows i no_row = row_kept rows all i (Grows-more rows (row ∷ [])) lt in
+    IsNumber-from rows j (suc i) (λ live.
+    (omega arith, ap (λ m. (get_or rows m no_row).level) one_less ∙ ap (λ (r : SquareRow). r.level) (sym kept) ∙ ap (λ m. (get_or all m no_row).level) (sym one_less) ∙ at.1))
+
+-- and the number of that row is of its level
+pub IsNumber-last : (rows : List SquareRow) (row : SquareRow) (j i : ℕ) → i ≡ length rows → IsNumber (rows ++ row ∷ []) (suc j) (suc i) → row.level ≡ suc j
+IsNumber-last rows row j i last h =
+    let all = rows ++ row ∷ [] in
+    let at = IsNumber-level all j (suc i) h (omega arith) in
+    let one_less : suc i - 1 ≡ i = omega arith in
+    ap (λ (r : SquareRow). r.level) (sym (get_or_push rows row no_row i (sym last))) ∙ ap (λ m. (get_or all m no_row).level) (sym one_less) ∙ at.1
+
 -- a kid is a number
 pub kid_number : (rows : List SquareRow) (k i : ℕ) → AreRows rows → i < length rows → (get_or rows i no_row).level ≡ suc k → (q : ℕ) → q < 4 → IsNumber rows k (kid (get_or rows i no_row) q)
 kid_number rows k i valid h level q hq =
@@ -187,10 +205,7 @@ module _ (rows : List SquareRow) (k a b c d : ℕ) (kids : AreKids rows k a b c 
       let row = row_of (suc k) a b c d in
       let all = rows ++ row ∷ [] in
       let g : Grows rows all = Grows-more rows (row ∷ []) in
-      let at = IsNumber-level all j (suc i) h (omega arith) in
-      let one_less : suc i - 1 ≡ i = omega arith in
-      let level : (get_or rows (suc i - 1) no_row).level ≡ suc j = ap (λ m. (get_or rows m no_row).level) one_less ∙ ap (λ (r : SquareRow). r.level) (sym (row_kept rows all i g lt)) ∙ ap (λ m. (get_or all m no_row).level) (sym one_less) ∙ at.1 in
-      let old : IsNumber rows (suc j) (suc i) = IsNumber-from rows j (suc i) (λ live. (omega arith, level)) in
+      let old = IsNumber-before rows row j i lt h in
       subst (λ (t : Square). Has (suc j) t all (suc i)) (sym (square_in-grown rows all (suc j) (suc i) g kids.valid old)) (Has-grown (suc j) (square_in rows (suc j) (suc i)) rows all (suc i) g (kids.each.has (suc j) (suc i) old))
 
   has_last : (j i : ℕ) → i ≡ length rows → IsNumber (rows ++ row_of (suc k) a b c d ∷ []) (suc j) (suc i) → Has (suc j) (square_in (rows ++ row_of (suc k) a b c d ∷ []) (suc j) (suc i)) (rows ++ row_of (suc k) a b c d ∷ []) (suc i)
@@ -198,10 +213,8 @@ module _ (rows : List SquareRow) (k a b c d : ℕ) (kids : AreKids rows k a b c 
       let row = row_of (suc k) a b c d in
       let all = rows ++ row ∷ [] in
       let g : Grows rows all = Grows-more rows (row ∷ []) in
-      let at = IsNumber-level all j (suc i) h (omega arith) in
-      let one_less : suc i - 1 ≡ i = omega arith in
       let here : get_or all i no_row ≡ row = get_or_push rows row no_row i (sym last) in
-      let level : suc k ≡ suc j = ap (λ (r : SquareRow). r.level) (sym here) ∙ ap (λ m. (get_or all m no_row).level) (sym one_less) ∙ at.1 in
+      let level : suc k ≡ suc j = IsNumber-last rows row j i last h in
       let same : k ≡ j = omega (arith, level) in
       let count : length rows + 1 ≡ suc i = omega (arith, last) in
       let is : square_in all (suc k) (suc i) ≡ four (square_in rows k a) (square_in rows k b) (square_in rows k c) (square_in rows k d) = square_in-at all k i a b c d here ∙ quadrants rows all k a b c d g kids in
@@ -283,6 +296,22 @@ number_row-sound rows k a b c d kids high =
     subst (IsSound (suc k) (four (square_in rows k a) (square_in rows k b) (square_in rows k c) (square_in rows k d))) (sym (number_row-is (row_of (suc k) a b c d) rows))
     (numbered-sound _ _ rows k a b c d kids high refl refl (number_row-is (row_of (suc k) a b c d) rows))
 
+-- the walks of four quadrants, each over the rows of the one before
+pub record AreSound (k : ℕ) (nw ne sw se : Square) (rows : List SquareRow) : Type 0 where
+  pub nw_is : IsSound k nw (number_square k nw rows)
+  pub ne_is : IsSound k ne (number_square k ne (number_square k nw rows).rows)
+  pub sw_is : IsSound k sw (number_square k sw (number_square k ne (number_square k nw rows).rows).rows)
+  pub se_is : IsSound k se (number_square k se (number_square k sw (number_square k ne (number_square k nw rows).rows).rows).rows)
+
+pub quadrants-sound : (k : ℕ) (nw ne sw se : Square) (rows : List SquareRow)
+    → ((t : Square) (rows : List SquareRow) → AreRows rows → EachHas rows → IsSquare k t → IsSound k t (number_square k t rows))
+    → AreRows rows → EachHas rows → IsSquare k nw × IsSquare k ne × IsSquare k sw × IsSquare k se → AreSound k nw ne sw se rows
+quadrants-sound k nw ne sw se rows sound valid each is =
+    let a = sound nw rows valid each is.0 in
+    let b = sound ne _ a.valid a.each is.1 in
+    let c = sound sw _ b.valid b.each is.2 in
+    record { nw_is = a; ne_is = b; sw_is = c; se_is = sound se _ c.valid c.each is.3 }
+
 -- what a walk gives stands for what was walked
 pub number_square-sound : (k : ℕ) (t : Square) (rows : List SquareRow) → AreRows rows → EachHas rows → IsSquare k t → k ≤ 62 → IsSound k t (number_square k t rows)
 unfolding number_square IsSquare
@@ -291,29 +320,26 @@ number_square-sound (suc k) (one s) rows valid each is high = absurd is
 number_square-sound zero (four nw ne sw se) rows valid each is high = absurd is
 number_square-sound (suc k) (four nw ne sw se) rows valid each is high =
     let less : k ≤ 62 = omega arith in
+    let walks = quadrants-sound k nw ne sw se rows (λ t rows valid each is. number_square-sound k t rows valid each is less) valid each is in
     let a = number_square k nw rows in
-    let sa : IsSound k nw a = number_square-sound k nw rows valid each is.0 less in
     let b = number_square k ne a.rows in
-    let sb : IsSound k ne b = number_square-sound k ne a.rows sa.valid sa.each is.1 less in
     let c = number_square k sw b.rows in
-    let sc : IsSound k sw c = number_square-sound k sw b.rows sb.valid sb.each is.2 less in
     let d = number_square k se c.rows in
-    let sd : IsSound k se d = number_square-sound k se c.rows sc.valid sc.each is.3 less in
     let gc : Grows c.rows d.rows = number_square-grows k se c.rows in
     let gb : Grows b.rows d.rows = Grows-then b.rows c.rows d.rows (number_square-grows k sw b.rows) gc in
     let ga : Grows a.rows d.rows = Grows-then a.rows b.rows d.rows (number_square-grows k ne a.rows) gb in
     let kids : AreKids d.rows k a.number b.number c.number d.number = record {
-      valid = sd.valid;
-      each = sd.each;
-      nw = IsNumber-grown a.rows d.rows k a.number ga sa.number;
-      ne = IsNumber-grown b.rows d.rows k b.number gb sb.number;
-      sw = IsNumber-grown c.rows d.rows k c.number gc sc.number;
-      se = sd.number;
+      valid = walks.se_is.valid;
+      each = walks.se_is.each;
+      nw = IsNumber-grown a.rows d.rows k a.number ga walks.nw_is.number;
+      ne = IsNumber-grown b.rows d.rows k b.number gb walks.ne_is.number;
+      sw = IsNumber-grown c.rows d.rows k c.number gc walks.sw_is.number;
+      se = walks.se_is.number;
     } in
-    let ea : square_in d.rows k a.number ≡ nw = square_in-grown a.rows d.rows k a.number ga sa.valid sa.number ∙ sa.square in
-    let eb : square_in d.rows k b.number ≡ ne = square_in-grown b.rows d.rows k b.number gb sb.valid sb.number ∙ sb.square in
-    let ec : square_in d.rows k c.number ≡ sw = square_in-grown c.rows d.rows k c.number gc sc.valid sc.number ∙ sc.square in
-    let squares : four (square_in d.rows k a.number) (square_in d.rows k b.number) (square_in d.rows k c.number) (square_in d.rows k d.number) ≡ four nw ne sw se = λ j. four (ea j) (eb j) (ec j) (sd.square j) in
+    let ea : square_in d.rows k a.number ≡ nw = square_in-grown a.rows d.rows k a.number ga walks.nw_is.valid walks.nw_is.number ∙ walks.nw_is.square in
+    let eb : square_in d.rows k b.number ≡ ne = square_in-grown b.rows d.rows k b.number gb walks.ne_is.valid walks.ne_is.number ∙ walks.ne_is.square in
+    let ec : square_in d.rows k c.number ≡ sw = square_in-grown c.rows d.rows k c.number gc walks.sw_is.valid walks.sw_is.number ∙ walks.sw_is.square in
+    let squares : four (square_in d.rows k a.number) (square_in d.rows k b.number) (square_in d.rows k c.number) (square_in d.rows k d.number) ≡ four nw ne sw se = λ j. four (ea j) (eb j) (ec j) (walks.se_is.square j) in
     subst (λ (t : Square). IsSound (suc k) t (number_row (row_of (suc k) a.number b.number c.number d.number) d.rows)) squares (number_row-sound d.rows k a.number b.number c.number d.number kids (omega arith))
 
 -- with no rows each number is that of its square

@@ -1,18 +1,17 @@
 -- The rows that a walk gives have the walked square as their root.
-use Rattle.std.proofs.Common.{◌≡◌, ℕ, zero, suc, ◌+◌, ◌-◌, ◌<◌, ◌≤◌, ◌^◌, ◌⊎◌, Bool, true, false, List, [], ◌∷◌, ◌++◌, length, get_or, refl, sym, ap, ◌∙◌, subst, arith, inl, inr}
+use Rattle.std.proofs.Common.{◌≡◌, ℕ, zero, suc, ◌+◌, ◌-◌, ◌<◌, ◌≤◌, ◌⊎◌, Bool, true, false, List, [], ◌∷◌, ◌++◌, length, get_or, refl, sym, ap, ◌∙◌, subst, arith, inl, inr}
 use Rattle.std.proofs.lemmas.Bool.{cases_lt}
-use Rattle.std.proofs.lemmas.Int.{ints}
 use Rattle.std.proofs.lemmas.List.{length_push, get_or_append_left, get_or_push}
 use Rattle.std.specs.List.{list_any, position_or_len}
 use Rattle.std.specs.Prelude.{Result, Ok, Err, IfOk}
-use Rattle.worlds.specs.World.{blank, cell-blank, same_world}
+use Rattle.worlds.specs.World.{blank, cell-blank}
 use Rattle.plane_core.specs.declared.row.SquareRow.{SquareRow}
 use Rattle.worlds.specs.Square.{Square, one, four, empty_square, IsSquare, put_square}
 use Rattle.plane_core.specs.Rows.{Numbered, numbered, number_row, number_square, same_row, no_row, row_at, AreRows, square_in, root_level, root_of, edge_of, world_of_rows, IsLeastLevel, AreKept}
 use Rattle.plane_core.specs.Walks.{AreWalked}
 use Rattle.plane_core.proofs.Shared.Numbering.{Has-empty, not_found}
 use Rattle.plane_core.proofs.Shared.Sound.{IsSound, EachHas-none, AreRows-none, number_square-sound, IsNumber-level, square_in-none, found_within, found_at, row_of}
-use Rattle.plane_core.proofs.Shared.Cells.{IsSquare-empty, cell_in-empty, put_square-inside, put_square-outside, in_or_out, offset}
+use Rattle.plane_core.proofs.Shared.Cells.{put_square-clear}
 use Rattle.plane_core.proofs.Shared.Roots.{rooted, root-IsSquare, root_level-some, world-root, world-none, kept-none}
 
 -- no level is above m
@@ -98,19 +97,7 @@ pub record IsListed (k : ℕ) (t : Square) (done : List SquareRow) : Type 0 wher
 
 -- an empty square adds nothing to the blank world
 blank-put : (k : ℕ) → put_square k (empty_square k) (edge_of k) (edge_of k) blank ≡ blank
-blank-put k =
-    same_world _ blank (λ x y.
-    elim (in_or_out (2 ^ k) (edge_of k) (edge_of k) x y) [
-      | inl h ↦
-          let at_x = offset (edge_of k) x h.left in
-          let at_y = offset (edge_of k) y h.top in
-          let right = h.right in let bottom = h.bottom in
-          let ex = at_x.1 in let ey = at_y.1 in
-          put_square-inside k (empty_square k) (edge_of k) (edge_of k) blank x y at_x.0 at_y.0 (IsSquare-empty k) at_x.1 at_y.1 (omega (arith, ints)) (omega (arith, ints))
-          ∙ cell_in-empty k at_x.0 at_y.0
-          ∙ sym (cell-blank x y)
-      | inr out ↦ put_square-outside k (empty_square k) (edge_of k) (edge_of k) blank x y (IsSquare-empty k) out
-    ])
+blank-put k = put_square-clear k (edge_of k) (edge_of k) blank (λ x y h. cell-blank x y)
 
 pub listed : (k : ℕ) (t : Square) → IsSquare (suc k) t → suc k ≤ 62 → IsListed (suc k) t (number_square (suc k) t []).rows
 listed k t is high =

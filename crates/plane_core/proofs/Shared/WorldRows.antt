@@ -12,51 +12,14 @@ use Rattle.worlds.specs.Live.{by_place, cell-state_at, live, live-states}
 use Rattle.plane_core.specs.declared.row.SquareRow.{SquareRow}
 use Rattle.worlds.specs.Square.{Square, IsIn, IsSquare, cell_in, four, one, put_square, square_at}
 use Rattle.plane_core.specs.Rows.{AreKept, AreRows, AreSquaresOf, Fits, IsLeastLevel, completed, edge_of, root_level, root_of, world_of_rows, written}
-use Rattle.plane_core.proofs.Shared.Cells.{IsSquare-one, IsSquare-parts, cell_in-ne, cell_in-nw, cell_in-one, cell_in-se, cell_in-sw, double, in_or_out, offset, put_square-inside, put_square-outside, same_square}
+use Rattle.plane_core.proofs.Shared.Cells.{IsSquare-one, IsSquare-parts, cell_in-ne, cell_in-nw, cell_in-one, cell_in-se, cell_in-sw, double, in_or_out, offsets, put_square-inside, put_square-outside, same_square, square_at-cells, square_at-suc, square_at-zero}
 use Rattle.plane_core.proofs.Shared.Roots.{kept-none, root-IsSquare, rooted, world-inside, world-none, world-outside}
 use Rattle.plane_core.specs.Laws.{EmptyWorldHasOneRow, WorldsHaveRows}
 use Rattle.plane_core.specs.WorldRows.{holds_all, is_within, least_level, rows_of}
 use Rattle.plane_core.proofs.Shared.Tidy.{IsListed, listed}
 use Rattle.plane_core.proofs.Written.{squares-written}
 
--- the square of a world at a place has the world's cells
-square_at-zero : (w : World) (x y : ℤ) → square_at w 0 x y ≡ one (cell w x y)
-unfolding square_at
-square_at-zero w x y = refl
-
-square_at-suc : (w : World) (k : ℕ) (x y : ℤ) → square_at w (suc k) x y ≡ four (square_at w k x y) (square_at w k (x +ℤ pos (2 ^ k)) y) (square_at w k x (y +ℤ pos (2 ^ k))) (square_at w k (x +ℤ pos (2 ^ k)) (y +ℤ pos (2 ^ k)))
-unfolding square_at
-square_at-suc w k x y = refl
-
--- a coordinate behind the half of a side
-behind : (x : ℤ) (h i : ℕ) → h ≤ i → (x +ℤ pos h) +ℤ pos (i - h) ≡ x +ℤ pos i
-behind x h i le = omega (arith, ints)
-
-at_origin : (x : ℤ) (i : ℕ) → i < 1 → x ≡ x +ℤ pos i
-at_origin x i h = let z : i ≡ 0 = omega arith in omega (arith, ints)
-
-pub square_at-cells : (w : World) (k : ℕ) (x y : ℤ) (i j : ℕ) → i < 2 ^ k → j < 2 ^ k → cell_in k (square_at w k x y) i j ≡ cell w (x +ℤ pos i) (y +ℤ pos j)
-square_at-cells w zero x y i j hi hj =
-    ap (λ (t : Square). cell_in 0 t i j) (square_at-zero w x y) ∙ cell_in-one 0 (cell w x y) i j ∙ ap₂ (cell w) (at_origin x i hi) (at_origin y j hj)
-square_at-cells w (suc k) x y i j hi hj =
-    let h = 2 ^ k in
-    let twice = double k in
-    let nw = square_at w k x y in
-    let ne = square_at w k (x +ℤ pos h) y in
-    let sw = square_at w k x (y +ℤ pos h) in
-    let se = square_at w k (x +ℤ pos h) (y +ℤ pos h) in
-    ap (λ (t : Square). cell_in (suc k) t i j) (square_at-suc w k x y)
-    ∙ elim (cases_lt i (2 ^ k)) [
-      | inl near ↦ elim (cases_lt j (2 ^ k)) [
-        | inl above ↦ cell_in-nw k nw ne sw se i j near above ∙ square_at-cells w k x y i j near above
-        | inr below ↦ cell_in-sw k nw ne sw se i j near below ∙ square_at-cells w k x (y +ℤ pos h) i (j - 2 ^ k) near (omega arith) ∙ ap (cell w (x +ℤ pos i)) (behind y h j below)
-      ]
-      | inr far ↦ elim (cases_lt j (2 ^ k)) [
-        | inl above ↦ cell_in-ne k nw ne sw se i j far above ∙ square_at-cells w k (x +ℤ pos h) y (i - 2 ^ k) j (omega arith) above ∙ ap (λ z. cell w z (y +ℤ pos j)) (behind x h i far)
-        | inr below ↦ cell_in-se k nw ne sw se i j far below ∙ square_at-cells w k (x +ℤ pos h) (y +ℤ pos h) (i - 2 ^ k) (j - 2 ^ k) (omega arith) (omega arith) ∙ ap₂ (cell w) (behind x h i far) (behind y h j below)
-      ]
-    ]
-
+-- the square of a world of states is a square
 pub square_at-IsSquare : (w : World) (k : ℕ) (x y : ℤ) → ((a b : ℤ) → cell w a b < 256) → IsSquare k (square_at w k x y)
 square_at-IsSquare w zero x y small = subst (IsSquare 0) (sym (square_at-zero w x y)) (IsSquare-one (cell w x y) (small x y))
 square_at-IsSquare w (suc k) x y small =
@@ -89,15 +52,8 @@ world-below rows valid x y =
     let edge = edge_of k in
     elim (in_or_out (2 ^ k) edge edge x y) [
       | inl h ↦
-          let at_x = offset edge x h.left in
-          let at_y = offset edge y h.top in
-          let right = h.right in
-          let bottom = h.bottom in
-          let ex = at_x.1 in
-          let ey = at_y.1 in
-          let hi : at_x.0 < 2 ^ k = omega (arith, ints) in
-          let hj : at_y.0 < 2 ^ k = omega (arith, ints) in
-          subst (λ n. n < 256) (sym (world-inside rows x y at_x.0 at_y.0 valid ex ey hi hj)) (cell_in-below k (root_of rows) at_x.0 at_y.0 (root-IsSquare rows valid) hi hj)
+          let at = offsets (2 ^ k) edge edge x y h in
+          subst (λ n. n < 256) (sym (world-inside rows x y at.i at.j valid at.ex at.ey at.hi at.hj)) (cell_in-below k (root_of rows) at.i at.j (root-IsSquare rows valid) at.hi at.hj)
       | inr out ↦ omega (arith, world-outside rows x y valid out)
     ]
 
@@ -257,15 +213,10 @@ root-world w k fits small =
     same_world _ w (λ x y.
     elim (in_or_out (2 ^ k) edge edge x y) [
       | inl h ↦
-          let at_x = offset edge x h.left in
-          let at_y = offset edge y h.top in
-          let right = h.right in let bottom = h.bottom in
-          let ex = at_x.1 in let ey = at_y.1 in
-          let hi : at_x.0 < 2 ^ k = omega (arith, ints) in
-          let hj : at_y.0 < 2 ^ k = omega (arith, ints) in
-          put_square-inside k t edge edge blank x y at_x.0 at_y.0 is ex ey hi hj
-          ∙ square_at-cells w k edge edge at_x.0 at_y.0 hi hj
-          ∙ ap₂ (cell w) (sym ex) (sym ey)
+          let at = offsets (2 ^ k) edge edge x y h in
+          put_square-inside k t edge edge blank x y at.i at.j is at.ex at.ey at.hi at.hj
+          ∙ square_at-cells w k edge edge at.i at.j at.hi at.hj
+          ∙ ap₂ (cell w) (sym at.ex) (sym at.ey)
       | inr out ↦
           let dead : 0 < cell w x y → ⊥ = λ alive. out (fits x y alive) in
           let none : cell w x y ≡ 0 = omega (arith, dead) in

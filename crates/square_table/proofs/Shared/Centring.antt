@@ -7,51 +7,13 @@ use Rattle.worlds.specs.Range.{HasMargin}
 use Rattle.worlds.specs.Square.{Square, one, four, IsSquare, IsIn, cell_in, put_square, square_at}
 use Rattle.plane_core.specs.declared.row.SquareRow.{SquareRow}
 use Rattle.plane_core.specs.Rows.{AreRows, root_level, root_of, world_of_rows}
-use Rattle.plane_core.proofs.Shared.Cells.{cell_in-ne, cell_in-nw, cell_in-one, cell_in-se, cell_in-sw, double, in_or_out, offset, put_square-inside, put_square-outside}
+use Rattle.plane_core.proofs.Shared.Cells.{cell_in-ne, cell_in-nw, cell_in-one, cell_in-se, cell_in-sw, double, in_or_out, offsets, put_square-inside, put_square-outside, at_origin, square_at-zero, square_at-suc, square_at-cells, nw_of, ne_of, sw_of, se_of}
 use Rattle.plane_core.proofs.Shared.Centring.{around_centre}
 use Rattle.plane_core.proofs.Shared.Roots.{root-IsSquare, root-Fits, root-cells}
 use Rattle.plane_core.specs.Centre.{centred}
 use Rattle.square_table.specs.Centred.{edge, IsCentred, CentredAlike}
 use Rattle.square_table.specs.Squares.{square_in, square_of, kids_at}
 use Rattle.square_table.proofs.Shared.Growth.{square_in-quadrants}
-
-square_at-zero : (w : World) (x y : ℤ) → square_at w 0 x y ≡ one (cell w x y)
-unfolding square_at
-square_at-zero w x y = refl
-
-pub square_at-suc : (w : World) (k : ℕ) (x y : ℤ) → square_at w (suc k) x y ≡ four (square_at w k x y) (square_at w k (x +ℤ pos (2 ^ k)) y) (square_at w k x (y +ℤ pos (2 ^ k))) (square_at w k (x +ℤ pos (2 ^ k)) (y +ℤ pos (2 ^ k)))
-unfolding square_at
-square_at-suc w k x y = refl
-
--- a coordinate behind the half of a side
-behind : (x : ℤ) (h i : ℕ) → h ≤ i → (x +ℤ pos h) +ℤ pos (i - h) ≡ x +ℤ pos i
-behind x h i le = omega (arith, ints)
-
-at_origin : (x : ℤ) (i : ℕ) → i < 1 → x ≡ x +ℤ pos i
-at_origin x i h = let z : i ≡ 0 = omega arith in omega (arith, ints)
-
--- the square of a world at a place has the world's cells
-pub square_at-cells : (w : World) (k : ℕ) (x y : ℤ) (i j : ℕ) → i < 2 ^ k → j < 2 ^ k → cell_in k (square_at w k x y) i j ≡ cell w (x +ℤ pos i) (y +ℤ pos j)
-square_at-cells w zero x y i j hi hj =
-    ap (λ (t : Square). cell_in 0 t i j) (square_at-zero w x y) ∙ cell_in-one 0 (cell w x y) i j ∙ ap₂ (cell w) (at_origin x i hi) (at_origin y j hj)
-square_at-cells w (suc k) x y i j hi hj =
-    let h = 2 ^ k in
-    let twice = double k in
-    let nw = square_at w k x y in
-    let ne = square_at w k (x +ℤ pos h) y in
-    let sw = square_at w k x (y +ℤ pos h) in
-    let se = square_at w k (x +ℤ pos h) (y +ℤ pos h) in
-    ap (λ (t : Square). cell_in (suc k) t i j) (square_at-suc w k x y)
-    ∙ elim (cases_lt i (2 ^ k)) [
-      | inl near ↦ elim (cases_lt j (2 ^ k)) [
-        | inl above ↦ cell_in-nw k nw ne sw se i j near above ∙ square_at-cells w k x y i j near above
-        | inr below ↦ cell_in-sw k nw ne sw se i j near below ∙ square_at-cells w k x (y +ℤ pos h) i (j - 2 ^ k) near (omega arith) ∙ ap (cell w (x +ℤ pos i)) (behind y h j below)
-      ]
-      | inr far ↦ elim (cases_lt j (2 ^ k)) [
-        | inl above ↦ cell_in-ne k nw ne sw se i j far above ∙ square_at-cells w k (x +ℤ pos h) y (i - 2 ^ k) j (omega arith) above ∙ ap (λ z. cell w z (y +ℤ pos j)) (behind x h i far)
-        | inr below ↦ cell_in-se k nw ne sw se i j far below ∙ square_at-cells w k (x +ℤ pos h) (y +ℤ pos h) (i - 2 ^ k) (j - 2 ^ k) (omega arith) (omega arith) ∙ ap₂ (cell w) (behind x h i far) (behind y h j below)
-      ]
-    ]
 
 -- the cells of the square are those of the world from (x, y) on
 pub HasCells : World → ℕ → Square → ℤ → ℤ → Type 0
@@ -87,15 +49,6 @@ root_centred rows valid = record {
   inside = root-Fits rows valid;
 }
 
--- a place that lies in a square is so far from its edges
-counted : (k : ℕ) (l t x y : ℤ) → IsIn (2 ^ k) l t x y → (i : ℕ) × (j : ℕ) × (x ≡ l +ℤ pos i) × (y ≡ t +ℤ pos j) × (i < 2 ^ k) × (j < 2 ^ k)
-counted k l t x y h =
-    let at_x = offset l x h.left in
-    let at_y = offset t y h.top in
-    let right = h.right in let bottom = h.bottom in
-    let ex = at_x.1 in let ey = at_y.1 in
-    (at_x.0, at_y.0, ex, ey, omega (arith, ints), omega (arith, ints))
-
 dead : (w : World) (k : ℕ) (s : Square) (x y : ℤ) → IsCentred w k s → (IsIn (2 ^ k) (edge k) (edge k) x y → ⊥) → cell w x y ≡ 0
 dead w k s x y is out = let no : 0 < cell w x y → ⊥ = λ live. out (is.inside x y live) in omega (arith, no)
 
@@ -108,30 +61,13 @@ pub one_world : (v w : World) (k : ℕ) (s : Square) → IsCentred v k s → IsC
 one_world v w k s a b =
     same_world v w (λ x y. elim (in_or_out (2 ^ k) (edge k) (edge k) x y) [
       | inl h ↦
-          let at = counted k (edge k) (edge k) x y h in
-          ap₂ (cell v) at.2 at.3
-          ∙ sym (centred_cells v k s at.0 at.1 a at.4 at.5)
-          ∙ centred_cells w k s at.0 at.1 b at.4 at.5
-          ∙ sym (ap₂ (cell w) at.2 at.3)
+          let at = offsets (2 ^ k) (edge k) (edge k) x y h in
+          ap₂ (cell v) at.ex at.ey
+          ∙ sym (centred_cells v k s at.i at.j a at.hi at.hj)
+          ∙ centred_cells w k s at.i at.j b at.hi at.hj
+          ∙ sym (ap₂ (cell w) at.ex at.ey)
       | inr out ↦ dead v k s x y a out ∙ sym (dead w k s x y b out)
     ])
-
--- the quadrants of a square
-nw_of : Square → Square
-nw_of (one s) = one s
-nw_of (four nw ne sw se) = nw
-
-ne_of : Square → Square
-ne_of (one s) = one s
-ne_of (four nw ne sw se) = ne
-
-sw_of : Square → Square
-sw_of (one s) = one s
-sw_of (four nw ne sw se) = sw
-
-se_of : Square → Square
-se_of (one s) = one s
-se_of (four nw ne sw se) = se
 
 -- the four that meet in the middle
 pub middle_of : Square → Square
@@ -193,11 +129,11 @@ middle_padded w k s a b c d padded is = record {
     | inl h ↦ h
     | inr out ↦
         let e = edge (suc (suc k)) in
-        let at = counted (suc (suc k)) e e x y (is.inside x y live) in
-        let none : cell_in (suc (suc k)) s at.0 at.1 ≡ 0 =
-        ap (λ (t : Square). cell_in (suc (suc k)) t at.0 at.1) padded
-        ∙ around_centre k a b c d at.0 at.1 at.4 at.5 (λ left right top bottom. out (in_middle e (edge (suc k)) x y (2 ^ k) (2 ^ suc k) at.0 at.1 (half_edge k) at.2 at.3 left right top bottom)) in
-        let dead_is : cell w x y ≡ 0 = ap₂ (cell w) at.2 at.3 ∙ sym (centred_cells w (suc (suc k)) s at.0 at.1 is at.4 at.5) ∙ none in
+        let at = offsets (2 ^ suc (suc k)) e e x y (is.inside x y live) in
+        let none : cell_in (suc (suc k)) s at.i at.j ≡ 0 =
+        ap (λ (t : Square). cell_in (suc (suc k)) t at.i at.j) padded
+        ∙ around_centre k a b c d at.i at.j at.hi at.hj (λ left right top bottom. out (in_middle e (edge (suc k)) x y (2 ^ k) (2 ^ suc k) at.i at.j (half_edge k) at.ex at.ey left right top bottom)) in
+        let dead_is : cell w x y ≡ 0 = ap₂ (cell w) at.ex at.ey ∙ sym (centred_cells w (suc (suc k)) s at.i at.j is at.hi at.hj) ∙ none in
         absurd (omega (arith, live, dead_is))
   ];
 }

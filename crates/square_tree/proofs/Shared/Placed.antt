@@ -1,5 +1,5 @@
 -- Where a quadtree says nothing, and what it says of the cells of a larger square.
-use Rattle.std.proofs.Common.{◌≡◌, ◌⊎◌, ℕ, zero, suc, ◌+◌, ◌-◌, ◌*◌, ◌^◌, ◌<◌, ◌≤◌, nat_lt, ◌||◌, Bool, true, false, cond, Option, None, Some, refl, sym, ap, ap₂, subst, ◌∙◌, arith}
+use Rattle.std.proofs.Common.{◌≡◌, ◌⊎◌, ℕ, zero, suc, ◌+◌, ◌-◌, ◌*◌, ◌^◌, ◌<◌, ◌≤◌, nat_lt, ◌||◌, Bool, true, false, cond, Option, None, Some, refl, sym, ap, ap₂, subst, ◌∙◌, inl, inr, arith}
 use Rattle.std.specs.Option.{option_or}
 use Rattle.std.proofs.lemmas.Bool.Decides.{nat_tests}
 use Rattle.std.proofs.lemmas.Nat.{pow-add, pow_pos}
@@ -18,30 +18,38 @@ both : {A : Type 0} (b : Bool) {x y z : A} → x ≡ z → y ≡ z → cond b x 
 both true p q = p
 both false p q = q
 
--- nothing is said of cells to the east of the square
-pub at_east : (t : Quadtree) (l x y : ℕ) → HasLevel l t → 2 ^ l ≤ x → at t l x y ≡ None
-at_east keep l x y h p = refl
-at_east (cell s) l x y h p = let q : 1 ≤ x = subst (λ n. 2 ^ n ≤ x) h p in grind (arith, nat_tests, q)
-at_east (quad nw ne sw se) l x y h p =
-    let m = 2 ^ (l - 1) in
-    let d = double l h.0 in
-    let far : nat_lt x m ≡ false = grind (arith, nat_tests, d, p) in
-    let more : m ≤ x - m = omega (arith, d, p) in
-    let north = ap (λ b. cond b (at nw (l - 1) x y) (at ne (l - 1) (x - m) y)) far ∙ at_east ne (l - 1) (x - m) y h.2 more in
-    let south = ap (λ b. cond b (at sw (l - 1) x (y - m)) (at se (l - 1) (x - m) (y - m))) far ∙ at_east se (l - 1) (x - m) (y - m) h.4 more in
-    both (nat_lt y m) north south
+-- by whether a number is below another
+pub split : (a b : ℕ) (P : Bool → Type 0) → (a < b → P true) → (b ≤ a → P false) → P (nat_lt a b)
+split a b P f g = elim (nat_lt a b) as (λ t. nat_lt a b ≡ t → P t) [ true ↦ λ e. f (grind (arith, nat_tests, e)) | false ↦ λ e. g (grind (arith, nat_tests, e)) ] refl
 
--- nor of cells to the south
-pub at_south : (t : Quadtree) (l x y : ℕ) → HasLevel l t → 2 ^ l ≤ y → at t l x y ≡ None
-at_south keep l x y h p = refl
-at_south (cell s) l x y h p = let q : 1 ≤ y = subst (λ n. 2 ^ n ≤ y) h p in grind (arith, nat_tests, q)
-at_south (quad nw ne sw se) l x y h p =
+-- nothing is said of cells beyond the square
+at_beyond : (t : Quadtree) (l x y : ℕ) → HasLevel l t → (2 ^ l ≤ x) ⊎ (2 ^ l ≤ y) → at t l x y ≡ None
+at_beyond keep l x y h p = refl
+at_beyond (cell s) l x y h p =
+    elim (subst (λ n. (2 ^ n ≤ x) ⊎ (2 ^ n ≤ y)) h p) [
+      | inl q ↦ grind (arith, nat_tests, q)
+      | inr q ↦ grind (arith, nat_tests, q)
+    ]
+at_beyond (quad nw ne sw se) l x y h p =
     let m = 2 ^ (l - 1) in
     let d = double l h.0 in
-    let far : nat_lt y m ≡ false = grind (arith, nat_tests, d, p) in
-    let more : m ≤ y - m = omega (arith, d, p) in
-    ap (λ b. cond b (cond (nat_lt x m) (at nw (l - 1) x y) (at ne (l - 1) (x - m) y)) (cond (nat_lt x m) (at sw (l - 1) x (y - m)) (at se (l - 1) (x - m) (y - m)))) far
-    ∙ both (nat_lt x m) (at_south sw (l - 1) x (y - m) h.3 more) (at_south se (l - 1) (x - m) (y - m) h.4 more)
+    let east : x < m → 2 ^ l ≤ y = λ near. elim p [ inl q ↦ absurd (omega (arith, d, near, q)) | inr q ↦ q ] in
+    let south : y < m → 2 ^ l ≤ x = λ near. elim p [ inl q ↦ q | inr q ↦ absurd (omega (arith, d, near, q)) ] in
+    let beyond : (2 ^ (l - 1) ≤ x - m) ⊎ (2 ^ (l - 1) ≤ y - m) = elim p [ inl q ↦ inl (omega (arith, d, q)) | inr q ↦ inr (omega (arith, d, q)) ] in
+    split y m (λ s. cond s (cond (nat_lt x m) (at nw (l - 1) x y) (at ne (l - 1) (x - m) y)) (cond (nat_lt x m) (at sw (l - 1) x (y - m)) (at se (l - 1) (x - m) (y - m))) ≡ None)
+    (λ above. split x m (λ e. cond e (at nw (l - 1) x y) (at ne (l - 1) (x - m) y) ≡ None)
+    (λ left. at_beyond nw (l - 1) x y h.1 (inl (omega (arith, d, left, south above))))
+    (λ right. at_beyond ne (l - 1) (x - m) y h.2 (inl (omega (arith, d, south above)))))
+    (λ below. split x m (λ e. cond e (at sw (l - 1) x (y - m)) (at se (l - 1) (x - m) (y - m)) ≡ None)
+    (λ left. at_beyond sw (l - 1) x (y - m) h.3 (inr (omega (arith, d, east left))))
+    (λ right. at_beyond se (l - 1) (x - m) (y - m) h.4 beyond))
+
+-- to the east or to the south
+pub at_east : (t : Quadtree) (l x y : ℕ) → HasLevel l t → 2 ^ l ≤ x → at t l x y ≡ None
+at_east t l x y h p = at_beyond t l x y h (inl p)
+
+pub at_south : (t : Quadtree) (l x y : ℕ) → HasLevel l t → 2 ^ l ≤ y → at t l x y ≡ None
+at_south t l x y h p = at_beyond t l x y h (inr p)
 
 pub or_none : (o : Option ℕ) → option_or o None ≡ o
 or_none None = refl
@@ -141,9 +149,6 @@ aligned_east {l} {k} {x} a less east =
     let inside : x + 2 ^ k ≤ 2 ^ l = a.inside in
     let d : 2 ^ l ≡ 2 * 2 ^ (l - 1) = double l (omega (arith, less)) in
     record { smaller = omega (arith, less); before = a.before - n; is = omega (arith, spread, p); inside = omega (arith, inside, d, east) }
-
-pub split : (a b : ℕ) (P : Bool → Type 0) → (a < b → P true) → (b ≤ a → P false) → P (nat_lt a b)
-split a b P f g = elim (nat_lt a b) as (λ t. nat_lt a b ≡ t → P t) [ true ↦ λ e. f (grind (arith, nat_tests, e)) | false ↦ λ e. g (grind (arith, nat_tests, e)) ] refl
 
 pub none_or : {w z : Option ℕ} → w ≡ None → z ≡ option_or w z
 none_or {w} {z} e = sym (ap (λ o. option_or o z) e)

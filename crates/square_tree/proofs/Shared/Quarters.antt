@@ -85,30 +85,18 @@ more {w} {a = a} (inr e) (inr p) (inr q) = inr (some _ e q ∙ ap (option_or w) 
     twice None a = refl
     twice (Some s) a = refl
 
--- a quadrant says nothing or what the square says
-nw_or : {w nw ne sw se : Option ℕ} → Quarter w nw ne sw se → (nw ≡ None) ⊎ (nw ≡ w)
-nw_or (in_nw f g h i) = inr f
-nw_or (in_ne f g h i) = inl f
-nw_or (in_sw f g h i) = inl f
-nw_or (in_se f g h i) = inl f
+-- each quadrant says nothing or what the square says
+record EachSays (w nw ne sw se : Option ℕ) : Type 0 where
+  of_nw : (nw ≡ None) ⊎ (nw ≡ w)
+  of_ne : (ne ≡ None) ⊎ (ne ≡ w)
+  of_sw : (sw ≡ None) ⊎ (sw ≡ w)
+  of_se : (se ≡ None) ⊎ (se ≡ w)
 
-ne_or : {w nw ne sw se : Option ℕ} → Quarter w nw ne sw se → (ne ≡ None) ⊎ (ne ≡ w)
-ne_or (in_nw f g h i) = inl g
-ne_or (in_ne f g h i) = inr g
-ne_or (in_sw f g h i) = inl g
-ne_or (in_se f g h i) = inl g
-
-sw_or : {w nw ne sw se : Option ℕ} → Quarter w nw ne sw se → (sw ≡ None) ⊎ (sw ≡ w)
-sw_or (in_nw f g h i) = inl h
-sw_or (in_ne f g h i) = inl h
-sw_or (in_sw f g h i) = inr h
-sw_or (in_se f g h i) = inl h
-
-se_or : {w nw ne sw se : Option ℕ} → Quarter w nw ne sw se → (se ≡ None) ⊎ (se ≡ w)
-se_or (in_nw f g h i) = inl i
-se_or (in_ne f g h i) = inl i
-se_or (in_sw f g h i) = inl i
-se_or (in_se f g h i) = inr i
+each_says : {w nw ne sw se : Option ℕ} → Quarter w nw ne sw se → EachSays w nw ne sw se
+each_says (in_nw f g h i) = record { of_nw = inr f; of_ne = inl g; of_sw = inl h; of_se = inl i }
+each_says (in_ne f g h i) = record { of_nw = inl f; of_ne = inr g; of_sw = inl h; of_se = inl i }
+each_says (in_sw f g h i) = record { of_nw = inl f; of_ne = inl g; of_sw = inr h; of_se = inl i }
+each_says (in_se f g h i) = record { of_nw = inl f; of_ne = inl g; of_sw = inl h; of_se = inr i }
 
 -- what is laid is partly laid
 pub partly_of_laid : {l x y k : ℕ} {other old new : Quadtree} → IsLaid l x y k other old new → IsPartlyLaid l x y k other old new
@@ -116,19 +104,19 @@ partly_of_laid laid = record { level = laid.level; says = λ x y. inr (laid.says
 
 -- a part of the first quadrant is laid
 pub partly_nw : {l k d : ℕ} {nw ne sw se t u : Quadtree} → HasLevel k (quad nw ne sw se) → IsPartlyLaid l d d (k - 1) nw t u → IsPartlyLaid l d d k (quad nw ne sw se) t u
-partly_nw {k = k} {d = d} {nw = nw} {ne = ne} {sw = sw} {se = se} h p = record { level = p.level; says = λ x y. more (nw_or (quarter_of k nw ne sw se d x y h)) (inl refl) (p.says x y) }
+partly_nw {k = k} {d = d} {nw = nw} {ne = ne} {sw = sw} {se = se} h p = record { level = p.level; says = λ x y. more (each_says (quarter_of k nw ne sw se d x y h)).of_nw (inl refl) (p.says x y) }
 
 -- of the second one too
 pub partly_ne : {l k d : ℕ} {nw ne sw se t u v : Quadtree} → HasLevel k (quad nw ne sw se) → IsPartlyLaid l d d k (quad nw ne sw se) t u → IsPartlyLaid l (d + 2 ^ (k - 1)) d (k - 1) ne u v → IsPartlyLaid l d d k (quad nw ne sw se) t v
-partly_ne {k = k} {d = d} {nw = nw} {ne = ne} {sw = sw} {se = se} h before p = record { level = p.level; says = λ x y. more (ne_or (quarter_of k nw ne sw se d x y h)) (before.says x y) (p.says x y) }
+partly_ne {k = k} {d = d} {nw = nw} {ne = ne} {sw = sw} {se = se} h before p = record { level = p.level; says = λ x y. more (each_says (quarter_of k nw ne sw se d x y h)).of_ne (before.says x y) (p.says x y) }
 
 -- of the third one
 pub partly_sw : {l k d : ℕ} {nw ne sw se t u v : Quadtree} → HasLevel k (quad nw ne sw se) → IsPartlyLaid l d d k (quad nw ne sw se) t u → IsPartlyLaid l d (d + 2 ^ (k - 1)) (k - 1) sw u v → IsPartlyLaid l d d k (quad nw ne sw se) t v
-partly_sw {k = k} {d = d} {nw = nw} {ne = ne} {sw = sw} {se = se} h before p = record { level = p.level; says = λ x y. more (sw_or (quarter_of k nw ne sw se d x y h)) (before.says x y) (p.says x y) }
+partly_sw {k = k} {d = d} {nw = nw} {ne = ne} {sw = sw} {se = se} h before p = record { level = p.level; says = λ x y. more (each_says (quarter_of k nw ne sw se d x y h)).of_sw (before.says x y) (p.says x y) }
 
 -- of the last one
 pub partly_se : {l k d : ℕ} {nw ne sw se t u v : Quadtree} → HasLevel k (quad nw ne sw se) → IsPartlyLaid l d d k (quad nw ne sw se) t u → IsPartlyLaid l (d + 2 ^ (k - 1)) (d + 2 ^ (k - 1)) (k - 1) se u v → IsPartlyLaid l d d k (quad nw ne sw se) t v
-partly_se {k = k} {d = d} {nw = nw} {ne = ne} {sw = sw} {se = se} h before p = record { level = p.level; says = λ x y. more (se_or (quarter_of k nw ne sw se d x y h)) (before.says x y) (p.says x y) }
+partly_se {k = k} {d = d} {nw = nw} {ne = ne} {sw = sw} {se = se} h before p = record { level = p.level; says = λ x y. more (each_says (quarter_of k nw ne sw se d x y h)).of_se (before.says x y) (p.says x y) }
 
 -- a square reaches as far as its quadrants are wide
 pub reach_half : (l : ℕ) → 0 < l → reach l ≡ 2 ^ (l - 1)
