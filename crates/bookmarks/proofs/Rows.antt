@@ -3,6 +3,7 @@ use Rattle.std.proofs.Common.{◌≡◌, ◌∙◌, sym, ap, refl, ℕ, zero, su
 use Rattle.std.specs.Prelude.{decimal, codes}
 use Rattle.std.specs.List.{join_with_byte, range_with_len, concat}
 use Rattle.std.proofs.lemmas.List.{take_more}
+use Rattle.std.proofs.lemmas.List.Folds.{concat-append}
 use Rattle.std.proofs.lemmas.List.FromFn.{map-range_with_len_more, fill_by_all}
 use Rattle.std.proofs.Math.Nat.{mul-le-mul_left}
 use Rattle.worlds.specs.World.{World, cell}
@@ -38,15 +39,12 @@ line-more states k d below =
     ∙ ap (join_with_byte 32) (sym (map-push (take k states) s))
     ∙ ap (λ ss. join_with_byte 32 (map decimal ss)) (sym (take_more states k d below))
 
-concat-push : (ps : List (List ℕ)) (p : List ℕ) → concat (ps ++ p ∷ []) ≡ concat ps ++ p
-concat-push [] p = append-nil p
-concat-push (q ∷ ps) p = ap (λ t. q ++ t) (concat-push ps p) ∙ sym (append_assoc q (concat ps) p)
-
 -- one more row
 pub window-more : (w : World) (left top : ℤ) (width k : ℕ) → window_text w left top width k ++ row_line w left (top +ℤ pos k) width ≡ window_text w left top width (k + 1)
 window-more w left top width k =
-    sym (concat-push (map (λ k. row_line w left (top +ℤ pos k) width) (range_with_len 0 k)) (row_line w left (top +ℤ pos k) width))
-    ∙ ap concat (sym (map-range_with_len_more (λ k. row_line w left (top +ℤ pos k) width) 0 k k (omega arith)))
+    let row : ℕ → List ℕ = λ k. row_line w left (top +ℤ pos k) width in
+    let rows = map row (range_with_len 0 k) in
+    ap (λ t. concat rows ++ t) (sym (append-nil (row k))) ∙ sym (concat-append rows (row k ∷ [])) ∙ ap concat (sym (map-range_with_len_more row 0 k k (omega arith)))
 
 decimals-of : (f : ℕ → ℕ) (ks : List ℕ) → map decimal (map f ks) ≡ map (λ k. decimal (f k)) ks
 decimals-of f [] = refl

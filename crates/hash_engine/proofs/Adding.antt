@@ -10,8 +10,8 @@ use Rattle.square_table.proofs.Shared.Making.{Adds-joined}
 use Rattle.hash_life.specs.Result.{between, amid, middle, later, result}
 use Rattle.hash_life.specs.Puts.{nine_of, fours_of}
 use Rattle.hash_life.specs.Makes.{Makes}
-use Rattle.hash_life.proofs.Shared.InTwo.{result-none, result-later}
-use Rattle.hash_life.proofs.Shared.Made.{Makes-itself, Makes-result, Makes-nine, Makes-fours}
+use Rattle.hash_life.proofs.Shared.InTwo.{OfParts, result-none, result-later}
+use Rattle.hash_life.proofs.Shared.Made.{Makes-itself, Makes-result, Makes-parts}
 use Rattle.hash_engine.specs.Standing.{StandsFor, StandForAll}
 use Rattle.hash_engine.specs.Adding.{AddsOfTwo, AddsOf, AddsFours, AddsFor}
 use Rattle.hash_engine.proofs.Standing.{StandsFor-itself, StandsFor-grows, StandForAll-grows, StandsFor-of_nine, quadrants, listed, fours_at}
@@ -132,37 +132,33 @@ module _ (next : List ℕ → ℕ) (k j generations first number : ℕ) (t : Tab
   unfolding square
   lower P makes = subst (λ l. Makes next l generations (square_in t.rows (suc (suc l)) number) P) (sym is_k) (way next k generations number t.rows P makes)
 
-  nine_make : (P : Square → Type 0) → All (λ i. Makes next k generations (square_in t.rows (suc (suc k)) i) P) (number ∷ []) → All (λ q. Makes next j first q P) (nine_of square)
-  nine_make P makes = subst (λ m. All (λ q. Makes next j m q P) (nine_of square)) (sym is_first) (Makes-nine next j generations square P some (lower P makes))
-
-  fours_make : (P : Square → Type 0) → All (λ i. Makes next k generations (square_in t.rows (suc (suc k)) i) P) (number ∷ []) → All (λ q. Makes next j (generations - first) q P) (fours_of (map (result next j first) (nine_of square)))
-  fours_make P makes =
-      subst (λ m. All (λ q. Makes next j (generations - m) q P) (fours_of (map (result next j m) (nine_of square)))) (sym is_first) (Makes-fours next j generations square P some (lower P makes))
+  parts_make : (P : Square → Type 0) → All (λ i. Makes next k generations (square_in t.rows (suc (suc k)) i) P) (number ∷ []) → OfParts next j first (generations - first) square (λ m q. Makes next j m q P)
+  parts_make P makes = Makes-parts next j generations first square P some is_first (lower P makes)
 
   pub AddsFor-nine : (a : Table) → IsNumber t.rows (suc (suc (suc j))) number → AddsOf nine_of t number a → AddsFor next k generations (number ∷ []) t a
   unfolding square
   AddsFor-nine a numbered adds = record {
     among = λ all makes are.
         (adds (suc j) square (StandsFor-itself t.rows (suc (suc (suc j))) number numbered)).among all
-        (All-weaker _ _ (λ q. Makes-itself next j first q (Contains all)) (nine_of square) (nine_make (Contains all) makes)) are;
+        (All-weaker _ _ (λ q. Makes-itself next j first q (Contains all)) (nine_of square) (parts_make (Contains all) makes).0) are;
   }
 
   pub AddsFor-of_nine : (a b : Table) (nine : List ℕ) → StandForAll a.rows (suc (suc j)) nine (nine_of (square_in t.rows (suc (suc (suc j))) number)) → AddsFor next k generations (number ∷ []) t a → AddsFor next j first nine a b → AddsFor next k generations (number ∷ []) t b
   unfolding square
   AddsFor-of_nine a b nine stand before then = record {
-    among = λ all makes are. then.among all (by_numbers next a.rows j first (Contains all) nine _ stand (nine_make (Contains all) makes)) (before.among all makes are);
+    among = λ all makes are. then.among all (by_numbers next a.rows j first (Contains all) nine _ stand (parts_make (Contains all) makes).0) (before.among all makes are);
   }
 
   pub AddsFor-fours : (b c : Table) (results : List ℕ) → StandForAll b.rows (suc j) results (map (result next j first) (nine_of (square_in t.rows (suc (suc (suc j))) number))) → AddsFor next k generations (number ∷ []) t b → AddsFours b results c → AddsFor next k generations (number ∷ []) t c
   unfolding square
   AddsFor-fours b c results stand before adds = record {
     among = λ all makes are.
-        (adds (suc j) _ stand).among all (All-weaker _ _ (λ q. Makes-itself next j (generations - first) q (Contains all)) _ (fours_make (Contains all) makes)) (before.among all makes are);
+        (adds (suc j) _ stand).among all (All-weaker _ _ (λ q. Makes-itself next j (generations - first) q (Contains all)) _ (parts_make (Contains all) makes).1) (before.among all makes are);
   }
 
   pub AddsFor-of_fours : (c d : Table) (fours : List ℕ) → StandForAll c.rows (suc (suc j)) fours (fours_of (map (result next j first) (nine_of (square_in t.rows (suc (suc (suc j))) number)))) → AddsFor next k generations (number ∷ []) t c →
       AddsFor next j (generations - first) fours c d → AddsFor next k generations (number ∷ []) t d
   unfolding square
   AddsFor-of_fours c d fours stand before then = record {
-    among = λ all makes are. then.among all (by_numbers next c.rows j (generations - first) (Contains all) fours _ stand (fours_make (Contains all) makes)) (before.among all makes are);
+    among = λ all makes are. then.among all (by_numbers next c.rows j (generations - first) (Contains all) fours _ stand (parts_make (Contains all) makes).1) (before.among all makes are);
   }

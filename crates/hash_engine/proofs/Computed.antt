@@ -6,7 +6,7 @@ use Rattle.square_table.specs.Squares.{Table, IsNumber, square_in, IsSquareOf, G
 use Rattle.hash_life.specs.Result.{middle, later, in_two, result}
 use Rattle.hash_life.specs.Puts.{nine_of, fours_of, Puts, IsBelow}
 use Rattle.hash_life.proofs.Shared.Below.{Keeps, Puts-below}
-use Rattle.hash_life.proofs.Shared.InTwo.{result-none, result-later, result-in_two, Puts-nine, Puts-fours, Puts-itself}
+use Rattle.hash_life.proofs.Shared.InTwo.{result-none, result-later, result-in_two, Puts-parts, Puts-itself}
 use Rattle.hash_engine.specs.Standing.{StandsFor, StandForAll, IsReady}
 use Rattle.hash_engine.specs.Memo.{IsRight}
 use Rattle.hash_engine.specs.Found.{IsSameRule}
@@ -23,15 +23,7 @@ IsReady-all next u rows k generations ns ss are puts = λ i d below.
       below = subst (λ q. Puts next k generations q (IsBelow u)) (sym is.square) (puts i (one 0) (omega (arith, below, are.count)));
     }
 
--- what holds of each that is put to the rule, for the nine and for the four
-pub Puts-first : (next : List ℕ → ℕ) (j generations first : ℕ) (s : Square) (P : Square → Type 0) → 0 < generations → first ≡ min generations (2 ^ j) → Puts next (suc j) generations s P → All (λ q. Puts next j first q P) (nine_of s)
-Puts-first next j generations first s P some is puts = subst (λ m. All (λ q. Puts next j m q P) (nine_of s)) (sym is) (Puts-nine next j generations s P some puts)
-
-pub Puts-then : (next : List ℕ → ℕ) (j generations first : ℕ) (s : Square) (P : Square → Type 0) → 0 < generations → first ≡ min generations (2 ^ j) → Puts next (suc j) generations s P →
-    All (λ q. Puts next j (generations - first) q P) (fours_of (map (result next j first) (nine_of s)))
-Puts-then next j generations first s P some is puts =
-    subst (λ m. All (λ q. Puts next j (generations - m) q P) (fours_of (map (result next j m) (nine_of s)))) (sym is) (Puts-fours next j generations s P some puts)
-
+-- the square of the results by nine and by four
 pub StandsFor-computed : (next : List ℕ → ℕ) (j generations first : ℕ) (t v w : Table) (number n : ℕ) (kids : List ℕ) → 0 < generations → first ≡ min generations (2 ^ j) → IsNumber t.rows (suc (suc (suc j))) number →
     Grows v w → IsSquareOf w.rows kids n →
     StandForAll v.rows (suc j) kids (map (result next j (generations - first)) (fours_of (map (result next j first) (nine_of (square_in t.rows (suc (suc (suc j))) number))))) →
@@ -56,11 +48,11 @@ nine_stand t u j number nine numbered stand = stand (suc j) _ (StandsFor-itself 
 
 pub nine_ready : (next : List ℕ → ℕ) (c : ℕ) (t u : Table) (j generations first number : ℕ) (nine : List ℕ) → 0 < generations → first ≡ min generations (2 ^ j) → IsReady next c t.rows (suc j) generations number →
     StandForAll u.rows (suc (suc j)) nine (nine_of (square_in t.rows (suc (suc (suc j))) number)) → All (IsReady next c u.rows j first) nine
-nine_ready next c t u j generations first number nine some is ready stand = IsReady-all next c u.rows j first nine _ stand (Puts-first next j generations first _ (IsBelow c) some is ready.below)
+nine_ready next c t u j generations first number nine some is ready stand = IsReady-all next c u.rows j first nine _ stand (Puts-parts next j generations first _ (IsBelow c) some is ready.below).0
 
 pub fours_ready : (next : List ℕ → ℕ) (c : ℕ) (t u : Table) (j generations first number : ℕ) (fours : List ℕ) → 0 < generations → first ≡ min generations (2 ^ j) → IsReady next c t.rows (suc j) generations number →
     StandForAll u.rows (suc (suc j)) fours (fours_of (map (result next j first) (nine_of (square_in t.rows (suc (suc (suc j))) number)))) → All (IsReady next c u.rows j (generations - first)) fours
-fours_ready next c t u j generations first number fours some is ready stand = IsReady-all next c u.rows j (generations - first) fours _ stand (Puts-then next j generations first _ (IsBelow c) some is ready.below)
+fours_ready next c t u j generations first number fours some is ready stand = IsReady-all next c u.rows j (generations - first) fours _ stand (Puts-parts next j generations first _ (IsBelow c) some is ready.below).1
 
 -- the same rule
 pub IsReady-same : (m n : List ℕ → ℕ) (c d : ℕ) (rows : List (List ℕ)) (k generations : ℕ) (ns : List ℕ) → IsSameRule m n c d → All (IsReady m c rows k generations) ns → All (IsReady n d rows k generations) ns

@@ -4,5 +4,6 @@ pub mod Picked
 pub mod Shared
 pub mod Computed
 pub mod Turns
+pub mod Way
 pub mod Once
 pub mod Adding

@@ -17,7 +17,7 @@ use Rattle.hash_engine.specs.Asked.{is_put, picked, places_put, AllStand, AsksFo
 use Rattle.hash_engine.specs.declared.memo.Memo.{Memo}
 use Rattle.hash_engine.proofs.Picked.{picked-none, All-picked, different-picked}
 use Rattle.hash_engine.proofs.Shared.Puts.{is_put-none, IsNumber-put, count-grows, AllStand-grows}
-use Rattle.hash_engine.proofs.Computed.{Puts-first, Puts-then}
+use Rattle.hash_life.proofs.Shared.InTwo.{Puts-parts}
 
 -- what is put to the rule for squares is put to it for their numbers
 by_numbers : (next : List ℕ → ℕ) (rows : List (List ℕ)) (k generations : ℕ) (P : Square → Type 0) (ns : List ℕ) (ss : List Square) → StandForAll rows (suc (suc k)) ns ss → All (λ q. Puts next k generations q P) ss →
@@ -40,8 +40,9 @@ asked_in_two next k j generations first number nine fours t a b c d e m0 m1 m2 a
           omega (arith, one, two, count-grows next t a m0 ta r0, count-grows next b c m1 bc r1, count-grows next d e m2 de r2);
       stand = λ w n puts stand.
           let at : Puts next (suc j) generations (square_in t.rows (suc (suc (suc j))) number) (Stands next w n) = subst (λ l. Puts next l generations (square_in t.rows (suc (suc l)) number) (Stands next w n)) (sym is_k) (puts 0 0 (omega arith)) in
-          let first_puts = by_numbers next a.rows j first (Stands next w n) nine _ are_nine (Puts-first next j generations first _ (Stands next w n) some is_first at) in
-          let then_puts = by_numbers next c.rows j (generations - first) (Stands next w n) fours _ are_fours (Puts-then next j generations first _ (Stands next w n) some is_first at) in
+          let parts = Puts-parts next j generations first _ (Stands next w n) some is_first at in
+          let first_puts = by_numbers next a.rows j first (Stands next w n) nine _ are_nine parts.0 in
+          let then_puts = by_numbers next c.rows j (generations - first) (Stands next w n) fours _ are_fours parts.1 in
           let one = ask.stand w n first_puts (AllStand-grows next w n t a m0 ta r0 stand) in
           let two = then.stand w n then_puts (AllStand-grows next w n b c m1 bc r1 one) in
           AllStand-grows next w n d e m2 de r2 two;

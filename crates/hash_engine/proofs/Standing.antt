@@ -16,6 +16,13 @@ pub within : (rows : List (List ℕ)) (k n : ℕ) → IsNumber rows (suc k) n �
 unfolding IsNumber
 within rows k n is = is.1
 
+-- it can be asked for its quadrants
+abbrev pub IsThere : List (List ℕ) → ℕ → Type 0
+IsThere rows n = record { above : first_number ≤ n; there : n < first_number + length rows }
+
+pub is_there : (rows : List (List ℕ)) (k n : ℕ) → IsNumber rows (suc k) n → IsThere rows n
+is_there rows k n is = record { above = above rows k n is; there = within rows k n is }
+
 pub StandsFor-itself : (rows : List (List ℕ)) (k n : ℕ) → IsNumber rows k n → StandsFor rows k n (square_in rows k n)
 StandsFor-itself rows k n is = record { numbered = is; square = refl }
 
@@ -115,6 +122,19 @@ StandsFor-middle t u k m n ks ws xs ys zs s is_k is_w is_x is_y is_z grows is wh
 -- the numbers of a square's quadrants
 pub quadrant_numbers : (rows : List (List ℕ)) (k n : ℕ) (kids : List ℕ) → kids ≡ kids_at rows n → IsNumber rows (suc k) n → AreNumbers rows k kids
 quadrant_numbers rows k n kids is number = subst (AreNumbers rows k) (sym is) (AreNumbers-quadrants rows k n number)
+
+-- from level 2 on these can be asked for theirs
+pub record AreThere (rows : List (List ℕ)) (kids : List ℕ) : Type 0 where
+  pub nw : IsThere rows (get_or kids 0 0)
+  pub ne : IsThere rows (get_or kids 1 0)
+  pub sw : IsThere rows (get_or kids 2 0)
+  pub se : IsThere rows (get_or kids 3 0)
+
+pub are_there : (rows : List (List ℕ)) (n : ℕ) (kids : List ℕ) → kids ≡ kids_at rows n → (k : ℕ) × IsNumber rows (suc (suc k)) n → AreThere rows kids
+are_there rows n kids is number =
+    let k = number.0 in
+    let parts = quadrant_numbers rows (suc k) n kids is number.1 in
+    record { nw = is_there rows k _ parts.nw; ne = is_there rows k _ parts.ne; sw = is_there rows k _ parts.sw; se = is_there rows k _ parts.se }
 
 nil_each : (rows : List (List ℕ)) (k j d : ℕ) (e : Square) → j < 0 → StandsFor rows k (get_or [] j d) (get_or [] j e)
 nil_each rows k j d e below = absurd (omega (arith, below))

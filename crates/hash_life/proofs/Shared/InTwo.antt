@@ -1,5 +1,5 @@
 -- The cases of a result.
-use Rattle.std.proofs.Common.{◌≡◌, ℕ, zero, suc, ◌-◌, ◌<◌, ◌^◌, min, List, map, refl, arith}
+use Rattle.std.proofs.Common.{◌≡◌, ℕ, zero, suc, ◌-◌, ◌<◌, ◌^◌, min, List, map, refl, sym, subst, arith}
 use Rattle.std.specs.Prelude.{All}
 use Rattle.worlds.specs.Square.{Square}
 use Rattle.hash_life.specs.Result.{middle, later, in_two, result}
@@ -19,17 +19,15 @@ unfolding result
 result-later next zero s some = absurd (omega (arith, some))
 result-later next (suc n) s some = refl
 
--- the squares that are put to the rule by the nine, and by the four
-pub Puts-nine : (next : List ℕ → ℕ) (k n : ℕ) (s : Square) (P : Square → Type 0) → 0 < n → Puts next (suc k) n s P → All (λ q. Puts next k (min n (2 ^ k)) q P) (nine_of s)
-unfolding Puts
-Puts-nine next k zero s P some puts = absurd (omega (arith, some))
-Puts-nine next k (suc n) s P some puts = puts.0
+-- Q of the nine for the first generations, and of the four that these make for the others
+abbrev pub OfParts : (List ℕ → ℕ) → ℕ → ℕ → ℕ → Square → (ℕ → Square → Type 0) → Type 0
+OfParts next k first others s Q = All (Q first) (nine_of s) × All (Q others) (fours_of (map (result next k first) (nine_of s)))
 
-pub Puts-fours : (next : List ℕ → ℕ) (k n : ℕ) (s : Square) (P : Square → Type 0) → 0 < n → Puts next (suc k) n s P →
-    All (λ q. Puts next k (n - min n (2 ^ k)) q P) (fours_of (map (result next k (min n (2 ^ k))) (nine_of s)))
+-- the squares that are put to the rule by the nine, and by the four
+pub Puts-parts : (next : List ℕ → ℕ) (k n first : ℕ) (s : Square) (P : Square → Type 0) → 0 < n → first ≡ min n (2 ^ k) → Puts next (suc k) n s P → OfParts next k first (n - first) s (λ m q. Puts next k m q P)
 unfolding Puts
-Puts-fours next k zero s P some puts = absurd (omega (arith, some))
-Puts-fours next k (suc n) s P some puts = puts.1
+Puts-parts next k zero first s P some is puts = absurd (omega (arith, some))
+Puts-parts next k (suc n) first s P some is puts = subst (λ m. OfParts next k m (suc n - m) s (λ m q. Puts next k m q P)) (sym is) puts
 
 pub Puts-itself : (next : List ℕ → ℕ) (n : ℕ) (s : Square) (P : Square → Type 0) → 0 < n → Puts next 0 n s P → P s
 unfolding Puts

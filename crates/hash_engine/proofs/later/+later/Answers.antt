@@ -17,7 +17,8 @@ use Rattle.hash_engine.proofs.Computed.{IsReady-lower, IsReady-same, IsRight-sam
 use Rattle.hash_engine.proofs.Shared.Puts.{none_put, higher_remembered}
 use Rattle.hash_engine.proofs.Once.{asked_in_two, asked_turn}
 use Rattle.hash_engine.proofs.Turns.{IsReady-turn, square_in-turn, result-turn, done_more, rest_more, StandForAll-done}
-use Rattle.hash_engine.proofs.Adding.{AddsFor-turn, AddsFor-middle, AddsFor-nine, AddsFor-of_nine, AddsFor-fours, AddsFor-of_fours, AddsFor-result, Adds-made}
+use Rattle.hash_engine.proofs.Adding.{AddsFor-turn, AddsFor-middle, AddsFor-result, Adds-made}
+use Rattle.hash_engine.proofs.Way.{adds_nine, adds_of_nine, adds_fours, adds_of_fours}
 use Rattle.hash_engine.proofs.later.+later.Goals as goal
 
 pub all_later-later-requires : goal.all_later-later-requires
@@ -97,12 +98,8 @@ compute-returns-in_err-nine-clause-stays g t c = record {
   right =
       IsRight-grows (g.Q.Ask.meaning c.args.rule.now) c.args.table.now c.nine.new.table c.args.memo.now c.nine.ensures.grows c.requires.seek.right;
   adds =
-      let j = c.args.k - 1 in
-      let level : suc j ≡ c.args.k = omega (arith, c.requires.above) in
-      let first : c.min-first.result ≡ min c.args.ahead (2 ^ j) = c.min-first.ensures ∙ ap (min c.args.ahead) c.full.ensures in
-      let lower : IsReady (g.Q.Ask.meaning c.args.rule.now) (g.Q.Ask.state_count c.args.rule.now) c.args.table.now.rows (suc j) c.args.ahead c.args.number = IsReady-lower (g.Q.Ask.meaning c.args.rule.now) (g.Q.Ask.state_count c.args.rule.now) c.args.table.now.rows c.args.k j c.args.ahead c.args.number level c.requires.seek.ready in
-      let a0 = AddsFor-nine (g.Q.Ask.meaning c.args.rule.now) c.args.k j c.args.ahead c.min-first.result c.args.number c.args.table.now level c.requires.some first c.nine.new.table lower.numbered c.nine.ensures.adds in
-      a0;
+      let is_first = c.min-first.ensures ∙ ap (min c.args.ahead) c.full.ensures in
+      adds_nine (g.Q.Ask.meaning c.args.rule.now) (g.Q.Ask.state_count c.args.rule.now) c.args.k c.args.ahead c.min-first.result c.args.number c.args.table.now c.args.memo.now c.requires is_first c.nine.new.table c.nine.ensures.adds;
 }
 
 pub compute-all_later-requires : goal.compute-all_later-requires
@@ -125,14 +122,8 @@ compute-returns-in_err-all_later-clause-stays g t c = record {
   rule = c.all_later.ensures.stays.rule;
   right = c.all_later.ensures.stays.right;
   adds =
-      let j = c.args.k - 1 in
-      let level : suc j ≡ c.args.k = omega (arith, c.requires.above) in
-      let first : c.min-first.result ≡ min c.args.ahead (2 ^ j) = c.min-first.ensures ∙ ap (min c.args.ahead) c.full.ensures in
-      let lower : IsReady (g.Q.Ask.meaning c.args.rule.now) (g.Q.Ask.state_count c.args.rule.now) c.args.table.now.rows (suc j) c.args.ahead c.args.number = IsReady-lower (g.Q.Ask.meaning c.args.rule.now) (g.Q.Ask.state_count c.args.rule.now) c.args.table.now.rows c.args.k j c.args.ahead c.args.number level c.requires.seek.ready in
-      let a0 = AddsFor-nine (g.Q.Ask.meaning c.args.rule.now) c.args.k j c.args.ahead c.min-first.result c.args.number c.args.table.now level c.requires.some first c.nine.new.table lower.numbered c.nine.ensures.adds in
-      let nine = nine_stand c.args.table.now c.nine.new.table j c.args.number _ lower.numbered c.in_ok-nine.ensures.squares in
-      let a1 = AddsFor-of_nine (g.Q.Ask.meaning c.args.rule.now) c.args.k j c.args.ahead c.min-first.result c.args.number c.args.table.now level c.requires.some first c.nine.new.table c.all_later.new.table c.in_ok-nine.nine nine a0 c.all_later.ensures.stays.adds in
-      a1;
+      let is_first = c.min-first.ensures ∙ ap (min c.args.ahead) c.full.ensures in
+      adds_of_nine (g.Q.Ask.meaning c.args.rule.now) (g.Q.Ask.state_count c.args.rule.now) c.args.k c.args.ahead c.min-first.result c.args.number c.args.table.now c.args.memo.now c.requires is_first c.nine.new.table c.nine.ensures.adds c.in_ok-nine.nine c.in_ok-nine.ensures.squares c.all_later.new.table c.all_later.ensures.stays.adds;
 }
 
 pub compute-returns-in_err-fours-clause-stays : goal.compute-returns-in_err-fours-clause-stays
@@ -142,16 +133,9 @@ compute-returns-in_err-fours-clause-stays g t c = record {
   right =
       IsRight-grows (g.Q.Ask.meaning c.args.rule.now) c.all_later.new.table c.fours.new.table c.all_later.new.memo c.fours.ensures.grows c.in_ok-all_later.ensures.stays.right;
   adds =
-      let j = c.args.k - 1 in
-      let level : suc j ≡ c.args.k = omega (arith, c.requires.above) in
-      let first : c.min-first.result ≡ min c.args.ahead (2 ^ j) = c.min-first.ensures ∙ ap (min c.args.ahead) c.full.ensures in
-      let lower : IsReady (g.Q.Ask.meaning c.args.rule.now) (g.Q.Ask.state_count c.args.rule.now) c.args.table.now.rows (suc j) c.args.ahead c.args.number = IsReady-lower (g.Q.Ask.meaning c.args.rule.now) (g.Q.Ask.state_count c.args.rule.now) c.args.table.now.rows c.args.k j c.args.ahead c.args.number level c.requires.seek.ready in
-      let a0 = AddsFor-nine (g.Q.Ask.meaning c.args.rule.now) c.args.k j c.args.ahead c.min-first.result c.args.number c.args.table.now level c.requires.some first c.nine.new.table lower.numbered c.nine.ensures.adds in
-      let nine = nine_stand c.args.table.now c.nine.new.table j c.args.number _ lower.numbered c.in_ok-nine.ensures.squares in
-      let a1 = AddsFor-of_nine (g.Q.Ask.meaning c.args.rule.now) c.args.k j c.args.ahead c.min-first.result c.args.number c.args.table.now level c.requires.some first c.nine.new.table c.all_later.new.table c.in_ok-nine.nine nine a0 c.all_later.ensures.stays.adds in
-      let results = c.in_ok-all_later.ensures.found _ nine in
-      let a2 = AddsFor-fours (g.Q.Ask.meaning c.args.rule.now) c.args.k j c.args.ahead c.min-first.result c.args.number c.args.table.now level c.requires.some first c.all_later.new.table c.fours.new.table c.all_later.new.numbers results a1 c.fours.ensures.adds in
-      a2;
+      let is_first = c.min-first.ensures ∙ ap (min c.args.ahead) c.full.ensures in
+      adds_fours (g.Q.Ask.meaning c.args.rule.now) (g.Q.Ask.state_count c.args.rule.now) c.args.k c.args.ahead c.min-first.result c.args.number c.args.table.now c.args.memo.now c.requires is_first c.nine.new.table c.nine.ensures.adds c.in_ok-nine.nine c.in_ok-nine.ensures.squares c.all_later.new.table c.all_later.ensures.stays.adds
+      c.all_later.new.numbers c.in_ok-all_later.ensures.found c.fours.new.table c.fours.ensures.adds;
 }
 
 pub compute-all_later-requires-2 : goal.compute-all_later-requires-2
@@ -179,19 +163,10 @@ compute-returns-in_err-all_later-2-clause-stays g t c = record {
   right =
       IsRight-back (g.Q.Ask.meaning c.args.rule.now) (g.Q.Ask.meaning c.all_later.new.rule) (g.Q.Ask.state_count c.args.rule.now) (g.Q.Ask.state_count c.all_later.new.rule) c.all_later-2.new.table.rows c.all_later-2.new.memo c.in_ok-all_later.ensures.stays.rule c.all_later-2.ensures.stays.right;
   adds =
-      let j = c.args.k - 1 in
-      let level : suc j ≡ c.args.k = omega (arith, c.requires.above) in
-      let first : c.min-first.result ≡ min c.args.ahead (2 ^ j) = c.min-first.ensures ∙ ap (min c.args.ahead) c.full.ensures in
-      let lower : IsReady (g.Q.Ask.meaning c.args.rule.now) (g.Q.Ask.state_count c.args.rule.now) c.args.table.now.rows (suc j) c.args.ahead c.args.number = IsReady-lower (g.Q.Ask.meaning c.args.rule.now) (g.Q.Ask.state_count c.args.rule.now) c.args.table.now.rows c.args.k j c.args.ahead c.args.number level c.requires.seek.ready in
-      let a0 = AddsFor-nine (g.Q.Ask.meaning c.args.rule.now) c.args.k j c.args.ahead c.min-first.result c.args.number c.args.table.now level c.requires.some first c.nine.new.table lower.numbered c.nine.ensures.adds in
-      let nine = nine_stand c.args.table.now c.nine.new.table j c.args.number _ lower.numbered c.in_ok-nine.ensures.squares in
-      let a1 = AddsFor-of_nine (g.Q.Ask.meaning c.args.rule.now) c.args.k j c.args.ahead c.min-first.result c.args.number c.args.table.now level c.requires.some first c.nine.new.table c.all_later.new.table c.in_ok-nine.nine nine a0 c.all_later.ensures.stays.adds in
-      let results = c.in_ok-all_later.ensures.found _ nine in
-      let a2 = AddsFor-fours (g.Q.Ask.meaning c.args.rule.now) c.args.k j c.args.ahead c.min-first.result c.args.number c.args.table.now level c.requires.some first c.all_later.new.table c.fours.new.table c.all_later.new.numbers results a1 c.fours.ensures.adds in
-      let fours = c.in_ok-fours.ensures.squares (suc j) _ results in
-      let then = subst (λ f. AddsFor f j (c.args.ahead - c.min-first.result) c.in_ok-fours.fours c.fours.new.table c.all_later-2.new.table) c.in_ok-all_later.ensures.stays.rule.meaning c.all_later-2.ensures.stays.adds in
-      let a3 = AddsFor-of_fours (g.Q.Ask.meaning c.args.rule.now) c.args.k j c.args.ahead c.min-first.result c.args.number c.args.table.now level c.requires.some first c.fours.new.table c.all_later-2.new.table c.in_ok-fours.fours fours a2 then in
-      a3;
+      let is_first = c.min-first.ensures ∙ ap (min c.args.ahead) c.full.ensures in
+      let then = subst (λ f. AddsFor f (c.args.k - 1) (c.args.ahead - c.min-first.result) c.in_ok-fours.fours c.fours.new.table c.all_later-2.new.table) c.in_ok-all_later.ensures.stays.rule.meaning c.all_later-2.ensures.stays.adds in
+      adds_of_fours (g.Q.Ask.meaning c.args.rule.now) (g.Q.Ask.state_count c.args.rule.now) c.args.k c.args.ahead c.min-first.result c.args.number c.args.table.now c.args.memo.now c.requires is_first c.nine.new.table c.nine.ensures.adds c.in_ok-nine.nine c.in_ok-nine.ensures.squares c.all_later.new.table c.all_later.ensures.stays.adds
+      c.all_later.new.numbers c.in_ok-all_later.ensures.found c.fours.new.table c.fours.ensures.adds c.in_ok-fours.fours c.in_ok-fours.ensures.squares c.all_later-2.new.table then;
 }
 
 pub compute-returns-in_err-join_numbers-clause-stays : goal.compute-returns-in_err-join_numbers-clause-stays
@@ -206,14 +181,13 @@ compute-returns-in_err-join_numbers-clause-stays g t c = record {
       let level : suc j ≡ c.args.k = omega (arith, c.requires.above) in
       let first : c.min-first.result ≡ min c.args.ahead (2 ^ j) = c.min-first.ensures ∙ ap (min c.args.ahead) c.full.ensures in
       let lower : IsReady (g.Q.Ask.meaning c.args.rule.now) (g.Q.Ask.state_count c.args.rule.now) c.args.table.now.rows (suc j) c.args.ahead c.args.number = IsReady-lower (g.Q.Ask.meaning c.args.rule.now) (g.Q.Ask.state_count c.args.rule.now) c.args.table.now.rows c.args.k j c.args.ahead c.args.number level c.requires.seek.ready in
-      let a0 = AddsFor-nine (g.Q.Ask.meaning c.args.rule.now) c.args.k j c.args.ahead c.min-first.result c.args.number c.args.table.now level c.requires.some first c.nine.new.table lower.numbered c.nine.ensures.adds in
       let nine = nine_stand c.args.table.now c.nine.new.table j c.args.number _ lower.numbered c.in_ok-nine.ensures.squares in
-      let a1 = AddsFor-of_nine (g.Q.Ask.meaning c.args.rule.now) c.args.k j c.args.ahead c.min-first.result c.args.number c.args.table.now level c.requires.some first c.nine.new.table c.all_later.new.table c.in_ok-nine.nine nine a0 c.all_later.ensures.stays.adds in
       let results = c.in_ok-all_later.ensures.found _ nine in
-      let a2 = AddsFor-fours (g.Q.Ask.meaning c.args.rule.now) c.args.k j c.args.ahead c.min-first.result c.args.number c.args.table.now level c.requires.some first c.all_later.new.table c.fours.new.table c.all_later.new.numbers results a1 c.fours.ensures.adds in
       let fours = c.in_ok-fours.ensures.squares (suc j) _ results in
-      let then = subst (λ f. AddsFor f j (c.args.ahead - c.min-first.result) c.in_ok-fours.fours c.fours.new.table c.all_later-2.new.table) c.in_ok-all_later.ensures.stays.rule.meaning c.all_later-2.ensures.stays.adds in
-      let a3 = AddsFor-of_fours (g.Q.Ask.meaning c.args.rule.now) c.args.k j c.args.ahead c.min-first.result c.args.number c.args.table.now level c.requires.some first c.fours.new.table c.all_later-2.new.table c.in_ok-fours.fours fours a2 then in
+      let is_first = c.min-first.ensures ∙ ap (min c.args.ahead) c.full.ensures in
+      let then = subst (λ f. AddsFor f (c.args.k - 1) (c.args.ahead - c.min-first.result) c.in_ok-fours.fours c.fours.new.table c.all_later-2.new.table) c.in_ok-all_later.ensures.stays.rule.meaning c.all_later-2.ensures.stays.adds in
+      let a3 = adds_of_fours (g.Q.Ask.meaning c.args.rule.now) (g.Q.Ask.state_count c.args.rule.now) c.args.k c.args.ahead c.min-first.result c.args.number c.args.table.now c.args.memo.now c.requires is_first c.nine.new.table c.nine.ensures.adds c.in_ok-nine.nine c.in_ok-nine.ensures.squares c.all_later.new.table c.all_later.ensures.stays.adds
+      c.all_later.new.numbers c.in_ok-all_later.ensures.found c.fours.new.table c.fours.ensures.adds c.in_ok-fours.fours c.in_ok-fours.ensures.squares c.all_later-2.new.table then in
       let later = c.in_ok-all_later-2.ensures.found _ fours in
       let same : (g.Q.Ask.meaning c.all_later.new.rule) ≡ (g.Q.Ask.meaning c.args.rule.now) = c.in_ok-all_later.ensures.stays.rule.meaning in
       let s = square_in c.args.table.now.rows (suc (suc (suc j))) c.args.number in
@@ -236,14 +210,13 @@ compute-returns-clause-stays g t c = record {
       let level : suc j ≡ c.args.k = omega (arith, c.requires.above) in
       let first : c.min-first.result ≡ min c.args.ahead (2 ^ j) = c.min-first.ensures ∙ ap (min c.args.ahead) c.full.ensures in
       let lower : IsReady (g.Q.Ask.meaning c.args.rule.now) (g.Q.Ask.state_count c.args.rule.now) c.args.table.now.rows (suc j) c.args.ahead c.args.number = IsReady-lower (g.Q.Ask.meaning c.args.rule.now) (g.Q.Ask.state_count c.args.rule.now) c.args.table.now.rows c.args.k j c.args.ahead c.args.number level c.requires.seek.ready in
-      let a0 = AddsFor-nine (g.Q.Ask.meaning c.args.rule.now) c.args.k j c.args.ahead c.min-first.result c.args.number c.args.table.now level c.requires.some first c.nine.new.table lower.numbered c.nine.ensures.adds in
       let nine = nine_stand c.args.table.now c.nine.new.table j c.args.number _ lower.numbered c.in_ok-nine.ensures.squares in
-      let a1 = AddsFor-of_nine (g.Q.Ask.meaning c.args.rule.now) c.args.k j c.args.ahead c.min-first.result c.args.number c.args.table.now level c.requires.some first c.nine.new.table c.all_later.new.table c.in_ok-nine.nine nine a0 c.all_later.ensures.stays.adds in
       let results = c.in_ok-all_later.ensures.found _ nine in
-      let a2 = AddsFor-fours (g.Q.Ask.meaning c.args.rule.now) c.args.k j c.args.ahead c.min-first.result c.args.number c.args.table.now level c.requires.some first c.all_later.new.table c.fours.new.table c.all_later.new.numbers results a1 c.fours.ensures.adds in
       let fours = c.in_ok-fours.ensures.squares (suc j) _ results in
-      let then = subst (λ f. AddsFor f j (c.args.ahead - c.min-first.result) c.in_ok-fours.fours c.fours.new.table c.all_later-2.new.table) c.in_ok-all_later.ensures.stays.rule.meaning c.all_later-2.ensures.stays.adds in
-      let a3 = AddsFor-of_fours (g.Q.Ask.meaning c.args.rule.now) c.args.k j c.args.ahead c.min-first.result c.args.number c.args.table.now level c.requires.some first c.fours.new.table c.all_later-2.new.table c.in_ok-fours.fours fours a2 then in
+      let is_first = c.min-first.ensures ∙ ap (min c.args.ahead) c.full.ensures in
+      let then = subst (λ f. AddsFor f (c.args.k - 1) (c.args.ahead - c.min-first.result) c.in_ok-fours.fours c.fours.new.table c.all_later-2.new.table) c.in_ok-all_later.ensures.stays.rule.meaning c.all_later-2.ensures.stays.adds in
+      let a3 = adds_of_fours (g.Q.Ask.meaning c.args.rule.now) (g.Q.Ask.state_count c.args.rule.now) c.args.k c.args.ahead c.min-first.result c.args.number c.args.table.now c.args.memo.now c.requires is_first c.nine.new.table c.nine.ensures.adds c.in_ok-nine.nine c.in_ok-nine.ensures.squares c.all_later.new.table c.all_later.ensures.stays.adds
+      c.all_later.new.numbers c.in_ok-all_later.ensures.found c.fours.new.table c.fours.ensures.adds c.in_ok-fours.fours c.in_ok-fours.ensures.squares c.all_later-2.new.table then in
       let later = c.in_ok-all_later-2.ensures.found _ fours in
       let same : (g.Q.Ask.meaning c.all_later.new.rule) ≡ (g.Q.Ask.meaning c.args.rule.now) = c.in_ok-all_later.ensures.stays.rule.meaning in
       let s = square_in c.args.table.now.rows (suc (suc (suc j))) c.args.number in

@@ -1,4 +1,4 @@
-use Rattle.std.proofs.Common.{◌<◌, arith}
+use Rattle.std.proofs.Common.{◌<◌, arith, rules}
 use Rattle.hash_engine.proofs.Standing.{above}
 use Rattle.hash_engine.proofs.Shared.Memos.{IsRight-grows, IsResult-made}
 use Rattle.hash_engine.proofs.Computed.{base_below, base_stands}
@@ -34,29 +34,25 @@ returns-in_err-remember-clause-stays g c = record {
   adds = AddsFor-later (g.Q.Ask.meaning c.args.rule.now) c.args.ahead c.args.number c.args.table.now c.later.new.table c.requires.some c.in_ok-made.ensures.adds;
 }
 
-pub returns-clause-stays : goal.returns-clause-stays
-returns-clause-stays g c = record {
-  grows = c.in_ok-made.ensures.adds.grows;
-  rule = c.in_ok-made.ensures.rule;
-  right =
-      c.remember.ensures.right (g.Q.Ask.meaning c.args.rule.now) c.later.new.table.rows (IsRight-grows (g.Q.Ask.meaning c.args.rule.now) c.args.table.now c.later.new.table c.args.memo.now c.in_ok-made.ensures.adds.grows c.requires.anew.right)
-      (IsResult-made (g.Q.Ask.meaning c.args.rule.now) c.args.table.now c.later.new.table 0 c.args.ahead c.args.number c.in_ok-made.made c.in_ok-made.ensures.adds.grows c.requires.ready.numbered
-      (base_stands (g.Q.Ask.meaning c.args.rule.now) c.args.table.now.rows c.later.new.table.rows c.args.ahead c.args.number c.in_ok-made.made c.requires.some c.in_ok-made.ensures.square));
-  adds = AddsFor-later (g.Q.Ask.meaning c.args.rule.now) c.args.ahead c.args.number c.args.table.now c.later.new.table c.requires.some c.in_ok-made.ensures.adds;
-}
-
-pub returns-clause-found : goal.returns-clause-found
-returns-clause-found g c =
-    base_stands (g.Q.Ask.meaning c.args.rule.now) c.args.table.now.rows c.later.new.table.rows c.args.ahead c.args.number c.in_ok-made.made c.requires.some c.in_ok-made.ensures.square
-
-pub returns-clause-four : goal.returns-clause-four
-returns-clause-four g c =
-    let found : 0 < c.in_ok-made.made = omega (arith, above c.later.new.table.rows 0 c.in_ok-made.made c.in_ok-made.ensures.square.numbered) in
-    (put_once (g.Q.Ask.meaning c.args.rule.now) c.args.ahead c.args.number c.in_ok-made.made c.args.table.now c.later.new.table c.args.memo.now c.remember.new.self (g.Q.Ask.asks c.args.rule.now) (g.Q.Ask.asks c.later.new.rule)
-    c.requires.some c.in_ok-made.ensures.adds.grows c.requires.ready.numbered c.requires.anew.right c.requires.anew.anew found c.in_ok-remember.ensures.noted c.in_ok-made.ensures.asks).four
-
-pub returns-clause-stand : goal.returns-clause-stand
-returns-clause-stand g c =
-    let found : 0 < c.in_ok-made.made = omega (arith, above c.later.new.table.rows 0 c.in_ok-made.made c.in_ok-made.ensures.square.numbered) in
-    (put_once (g.Q.Ask.meaning c.args.rule.now) c.args.ahead c.args.number c.in_ok-made.made c.args.table.now c.later.new.table c.args.memo.now c.remember.new.self (g.Q.Ask.asks c.args.rule.now) (g.Q.Ask.asks c.later.new.rule)
-    c.requires.some c.in_ok-made.ensures.adds.grows c.requires.ready.numbered c.requires.anew.right c.requires.anew.anew found c.in_ok-remember.ensures.noted c.in_ok-made.ensures.asks).stand
+pub returns : goal.returns
+returns g c =
+    let f = g.Q.Ask.meaning c.args.rule.now in
+    let grows = c.in_ok-made.ensures.adds.grows in
+    let right = IsRight-grows f c.args.table.now c.later.new.table c.args.memo.now grows c.requires.anew.right in
+    let found = base_stands f c.args.table.now.rows c.later.new.table.rows c.args.ahead c.args.number c.in_ok-made.made c.requires.some c.in_ok-made.ensures.square in
+    let some : 0 < c.in_ok-made.made = omega (arith, above c.later.new.table.rows 0 c.in_ok-made.made c.in_ok-made.ensures.square.numbered) in
+    let once =
+    put_once f c.args.ahead c.args.number c.in_ok-made.made c.args.table.now c.later.new.table c.args.memo.now c.remember.new.self (g.Q.Ask.asks c.args.rule.now) (g.Q.Ask.asks c.later.new.rule)
+    c.requires.some grows c.requires.ready.numbered c.requires.anew.right c.requires.anew.anew some c.in_ok-remember.ensures.noted c.in_ok-made.ensures.asks in
+    record {
+      stays = record {
+        grows = grows;
+        rule = c.in_ok-made.ensures.rule;
+        right = c.remember.ensures.right f c.later.new.table.rows right (IsResult-made f c.args.table.now c.later.new.table 0 c.args.ahead c.args.number c.in_ok-made.made grows c.requires.ready.numbered found);
+        adds = AddsFor-later f c.args.ahead c.args.number c.args.table.now c.later.new.table c.requires.some c.in_ok-made.ensures.adds;
+      };
+      found = found;
+      four = once.four;
+      stand = once.stand;
+      full = search rules;
+    }

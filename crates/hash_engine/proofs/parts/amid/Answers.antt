@@ -1,19 +1,13 @@
 use Rattle.std.proofs.lemmas.Result.{IfOk-weaker}
-use Rattle.hash_engine.proofs.Standing.{above, within, StandsFor-amid}
+use Rattle.hash_engine.proofs.Standing.{is_there, StandsFor-amid}
 use Rattle.hash_engine.proofs.Adding.{Adds-made}
 use Rattle.hash_engine.proofs.parts.amid.Goals as goal
 
-pub quadrants-requires-clause-above : goal.quadrants-requires-clause-above
-quadrants-requires-clause-above c = above _ c.requires.north.0 _ c.requires.north.1
+pub quadrants-requires : goal.quadrants-requires
+quadrants-requires c = is_there _ c.requires.north.0 _ c.requires.north.1
 
-pub quadrants-requires-clause-there : goal.quadrants-requires-clause-there
-quadrants-requires-clause-there c = within _ c.requires.north.0 _ c.requires.north.1
-
-pub quadrants-requires-2-clause-above : goal.quadrants-requires-2-clause-above
-quadrants-requires-2-clause-above c = above _ c.requires.south.0 _ c.requires.south.1
-
-pub quadrants-requires-2-clause-there : goal.quadrants-requires-2-clause-there
-quadrants-requires-2-clause-there c = within _ c.requires.south.0 _ c.requires.south.1
+pub quadrants-requires-2 : goal.quadrants-requires-2
+quadrants-requires-2 c = is_there _ c.requires.south.0 _ c.requires.south.1
 
 pub returns-clause-square : goal.returns-clause-square
 returns-clause-square c =

@@ -1,38 +1,23 @@
 use Rattle.std.proofs.Common.{suc}
 use Rattle.std.proofs.lemmas.Result.{IfOk-weaker}
-use Rattle.hash_engine.proofs.Standing.{above, within, quadrant_numbers, StandsFor-middle}
+use Rattle.hash_engine.proofs.Standing.{is_there, are_there, StandsFor-middle}
 use Rattle.hash_engine.proofs.Adding.{Adds-made}
 use Rattle.hash_engine.proofs.parts.centre.Goals as goal
 
-pub quadrants-requires-clause-above : goal.quadrants-requires-clause-above
-quadrants-requires-clause-above c = above _ (suc c.requires.0) _ c.requires.1
+pub quadrants-requires : goal.quadrants-requires
+quadrants-requires c = is_there _ (suc c.requires.0) _ c.requires.1
 
-pub quadrants-requires-clause-there : goal.quadrants-requires-clause-there
-quadrants-requires-clause-there c = within _ (suc c.requires.0) _ c.requires.1
+pub quadrants-requires-2 : goal.quadrants-requires-2
+quadrants-requires-2 c = (are_there _ _ _ c.quadrants.ensures c.requires).nw
 
-pub quadrants-requires-2-clause-above : goal.quadrants-requires-2-clause-above
-quadrants-requires-2-clause-above c = above _ c.requires.0 _ (quadrant_numbers _ (suc c.requires.0) _ _ c.quadrants.ensures c.requires.1).nw
+pub quadrants-requires-3 : goal.quadrants-requires-3
+quadrants-requires-3 c = (are_there _ _ _ c.quadrants.ensures c.requires).ne
 
-pub quadrants-requires-2-clause-there : goal.quadrants-requires-2-clause-there
-quadrants-requires-2-clause-there c = within _ c.requires.0 _ (quadrant_numbers _ (suc c.requires.0) _ _ c.quadrants.ensures c.requires.1).nw
+pub quadrants-requires-4 : goal.quadrants-requires-4
+quadrants-requires-4 c = (are_there _ _ _ c.quadrants.ensures c.requires).sw
 
-pub quadrants-requires-3-clause-above : goal.quadrants-requires-3-clause-above
-quadrants-requires-3-clause-above c = above _ c.requires.0 _ (quadrant_numbers _ (suc c.requires.0) _ _ c.quadrants.ensures c.requires.1).ne
-
-pub quadrants-requires-3-clause-there : goal.quadrants-requires-3-clause-there
-quadrants-requires-3-clause-there c = within _ c.requires.0 _ (quadrant_numbers _ (suc c.requires.0) _ _ c.quadrants.ensures c.requires.1).ne
-
-pub quadrants-requires-4-clause-above : goal.quadrants-requires-4-clause-above
-quadrants-requires-4-clause-above c = above _ c.requires.0 _ (quadrant_numbers _ (suc c.requires.0) _ _ c.quadrants.ensures c.requires.1).sw
-
-pub quadrants-requires-4-clause-there : goal.quadrants-requires-4-clause-there
-quadrants-requires-4-clause-there c = within _ c.requires.0 _ (quadrant_numbers _ (suc c.requires.0) _ _ c.quadrants.ensures c.requires.1).sw
-
-pub quadrants-requires-5-clause-above : goal.quadrants-requires-5-clause-above
-quadrants-requires-5-clause-above c = above _ c.requires.0 _ (quadrant_numbers _ (suc c.requires.0) _ _ c.quadrants.ensures c.requires.1).se
-
-pub quadrants-requires-5-clause-there : goal.quadrants-requires-5-clause-there
-quadrants-requires-5-clause-there c = within _ c.requires.0 _ (quadrant_numbers _ (suc c.requires.0) _ _ c.quadrants.ensures c.requires.1).se
+pub quadrants-requires-5 : goal.quadrants-requires-5
+quadrants-requires-5 c = (are_there _ _ _ c.quadrants.ensures c.requires).se
 
 pub returns-clause-square : goal.returns-clause-square
 returns-clause-square c =

@@ -5,15 +5,12 @@ use Rattle.hash_life.specs.Result.{later}
 use Rattle.hash_life.specs.Puts.{IsBelow}
 use Rattle.hash_engine.specs.Standing.{of_four}
 use Rattle.hash_engine.proofs.Asked.{square_of_sixteen, StandsFor-cells}
-use Rattle.hash_engine.proofs.Standing.{above, within, quadrant_numbers}
+use Rattle.hash_engine.proofs.Standing.{is_there, quadrant_numbers}
 use Rattle.hash_engine.proofs.Adding.{Adds-made}
 use Rattle.hash_engine.proofs.parts.later.Goals as goal
 
-pub quadrants-requires-clause-above : goal.quadrants-requires-clause-above
-quadrants-requires-clause-above g c = above _ 1 _ c.requires.numbered
-
-pub quadrants-requires-clause-there : goal.quadrants-requires-clause-there
-quadrants-requires-clause-there g c = within _ 1 _ c.requires.numbered
+pub quadrants-requires : goal.quadrants-requires
+quadrants-requires g c = is_there _ 1 _ c.requires.numbered
 
 pub states-requires : goal.states-requires
 states-requires g c = (quadrant_numbers _ 1 _ _ c.quadrants.ensures c.requires.numbered).nw

@@ -1,15 +1,12 @@
 use Rattle.std.proofs.Common.{[], ◌∷◌, suc}
 use Rattle.square_table.proofs.Shared.Growth.{IsNumber-grows, Grows-same, Grows-then}
 use Rattle.hash_life.specs.Result.{between, amid, middle}
-use Rattle.hash_engine.proofs.Standing.{above, within, quadrant_numbers, StandsFor-grows, StandForAll-nine_of}
+use Rattle.hash_engine.proofs.Standing.{is_there, quadrant_numbers, StandsFor-grows, StandForAll-nine_of}
 use Rattle.hash_engine.proofs.Adding.{Adds-nine, AddsOf-none, AddsOfTwo-none}
 use Rattle.hash_engine.proofs.parts.nine.Goals as goal
 
-pub quadrants-requires-clause-above : goal.quadrants-requires-clause-above
-quadrants-requires-clause-above c = above _ (suc c.requires.0) _ c.requires.1
-
-pub quadrants-requires-clause-there : goal.quadrants-requires-clause-there
-quadrants-requires-clause-there c = within _ (suc c.requires.0) _ c.requires.1
+pub quadrants-requires : goal.quadrants-requires
+quadrants-requires c = is_there _ (suc c.requires.0) _ c.requires.1
 
 pub between-requires-clause-west : goal.between-requires-clause-west
 between-requires-clause-west c = (c.requires.0, (quadrant_numbers _ (suc c.requires.0) _ _ c.quadrants.ensures c.requires.1).nw)

@@ -1,13 +1,10 @@
 use Rattle.std.proofs.Common.{arith}
 use Rattle.square_table.specs.Squares.{IsNumber}
-use Rattle.hash_engine.proofs.Standing.{above, within, quadrant_numbers}
+use Rattle.hash_engine.proofs.Standing.{is_there, quadrant_numbers}
 use Rattle.hash_engine.proofs.parts.states.Goals as goal
 
-pub quadrants-requires-clause-above : goal.quadrants-requires-clause-above
-quadrants-requires-clause-above c = above _ 0 _ c.requires
-
-pub quadrants-requires-clause-there : goal.quadrants-requires-clause-there
-quadrants-requires-clause-there c = within _ 0 _ c.requires
+pub quadrants-requires : goal.quadrants-requires
+quadrants-requires c = is_there _ 0 _ c.requires
 
 pub overflow_cast-result : goal.overflow_cast-result
 unfolding IsNumber
