@@ -1,6 +1,7 @@
 pub mod Each
 pub mod Shared
 pub mod Below
+pub mod Unrefused
 pub mod Sounds
 pub mod SoundLists
 pub mod Passing

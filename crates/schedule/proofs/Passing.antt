@@ -8,7 +8,7 @@ use Rattle.schedule.specs.declared.fault.EditFault.TheVariants.{TooManyCells, Ce
 use Rattle.schedule.specs.Plan.{Plan}
 use Rattle.schedule.specs.Repeats.{has_too_many_marks}
 use Rattle.schedule.specs.Change.{Checks, first_refusal, for_cells_before, for_marks, spent, stay_in_range, set_below}
-use Rattle.schedule.proofs.Sounds.{passed}
+use Rattle.schedule.proofs.Unrefused.{passed}
 
 pass : {A : Type 0} (r : Result A EditFault) (b : Bool) (fault : EditFault) (rest : List (Bool × EditFault))
     → b ≡ false → Checks r rest → Checks r ((b, fault) ∷ rest)

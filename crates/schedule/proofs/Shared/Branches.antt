@@ -3,11 +3,13 @@ use Rattle.std.proofs.Common.{◌≡◌, ℕ, ◌<◌, ◌≤◌, ◌^◌, ◌==
 use Rattle.std.specs.Prelude.{find, ◌||◌, IfSome}
 use Rattle.std.specs.List.{AllByRecursion}
 use Rattle.std.specs.Option.{option_map_or}
-use Rattle.std.proofs.lemmas.Bool.{cond-false}
+use Rattle.std.proofs.lemmas.Bool.{cond-false, or_parts}
 use Rattle.std.proofs.lemmas.Bool.Decides.{nat_tests}
 use Rattle.schedule.specs.declared.branch.Branch.{Branch}
 use Rattle.schedule.specs.Ids.{branch_id, has_id}
-use Rattle.schedule.specs.Branches.{element_at, has_branch, fork_of, parent_of}
+use Rattle.schedule.specs.Branches.{element_at, has_branch, fork_of, parent_of, has_interventions, has_bookmarks, has_children}
+use Rattle.schedule.specs.Change.{is_in_use}
+use Rattle.schedule.specs.Plan.{Plan}
 use Rattle.schedule.specs.Sound.{IsPlaced, IsForked}
 
 -- the element that is found has the id, and what holds of each
@@ -196,3 +198,18 @@ IsPlaced-without branches n b g other h = record {
   from_fork = subst (λ (o : Option Branch). option_map_or (λ (x : Branch). x.fork) o 0 ≤ g)
       (sym (element_at-without branches n b other)) h.from_fork;
 }
+
+-- nothing is in a branch that isn't in use, and none leaves it
+pub record IsUnused (p : Plan) (n : ℕ) : Type 0 where
+  pub beside : (n == 0) ≡ false
+  pub interventions : has_interventions p.interventions n ≡ false
+  pub bookmarks : has_bookmarks p.bookmarks n ≡ false
+  pub children : has_children p.branches n ≡ false
+
+pub unused : (p : Plan) (n : ℕ) → is_in_use p n ≡ false → IsUnused p n
+unused p n free =
+    let halves = or_parts (n == 0 || has_interventions p.interventions n)
+    (has_bookmarks p.bookmarks n || has_children p.branches n) free in
+    let own = or_parts (n == 0) (has_interventions p.interventions n) halves.0 in
+    let others = or_parts (has_bookmarks p.bookmarks n) (has_children p.branches n) halves.1 in
+    record { beside = own.0; interventions = own.1; bookmarks = others.0; children = others.1 }

@@ -1,6 +1,5 @@
 -- A document that an edit changes keeps its limits.
 use Rattle.std.specs.Prelude.{◌≡◌, ◌<◌, ◌≤◌, None, ⊤}
-use Rattle.std.proofs.Common.{refl}
 use Rattle.rule_tree.specs.Rule.{states_of}
 use Rattle.schedule.specs.Asked.{Asked, InsertIntervention, ChangeIntervention, InsertRepeat, ChangeRepeat, RemoveIntervention, SetCells, ReplaceStart, ReplaceRule, AddBookmark, MoveBookmark, RemoveBookmark, AddBranch, RemoveBranch}
 use Rattle.schedule.specs.declared.acts.Acts.TheVariants.{Once, Every}
@@ -29,25 +28,25 @@ HasStates (RemoveBranch b) = ⊤
 pub sound_changed : (p : Plan) (asked : Asked) → IsSound p → 0 < states_of p.rule → HasStates asked
     → refusal p asked ≡ None → IsSound (changed p asked).plan
 sound_changed p (InsertIntervention b generation cells) sound some has free =
-    IsSound-intervention p b (Once generation) cells _ _ sound free refl refl refl refl refl
+    IsSound-intervention p b (Once generation) cells sound free
 sound_changed p (ChangeIntervention id generation cells) sound some has free =
-    IsSound-changed_intervention p id (Once generation) cells _ sound free refl
+    IsSound-changed_intervention p id (Once generation) cells sound free
 sound_changed p (InsertRepeat b first every last cells) sound some has free =
-    IsSound-intervention p b (Every first every last) cells _ _ sound free refl refl refl refl refl
+    IsSound-intervention p b (Every first every last) cells sound free
 sound_changed p (ChangeRepeat id first every last cells) sound some has free =
-    IsSound-changed_intervention p id (Every first every last) cells _ sound free refl
-sound_changed p (RemoveIntervention id) sound some has free = IsSound-removed_intervention p id _ sound refl
-sound_changed p (SetCells cells) sound some has free = IsSound-cells p cells _ sound free refl
+    IsSound-changed_intervention p id (Every first every last) cells sound free
+sound_changed p (RemoveIntervention id) sound some has free = IsSound-removed_intervention p id sound
+sound_changed p (SetCells cells) sound some has free = IsSound-cells p cells sound free
 sound_changed p (ReplaceStart start) sound some has free = IsSound-start p start sound free some
 sound_changed p (ReplaceRule rule) sound some has free = IsSound-rule p rule sound free has.0 has.1
 sound_changed p (AddBookmark b generation view) sound some has free =
-    IsSound-bookmark p b generation view _ sound free refl
+    IsSound-bookmark p b generation view sound free
 sound_changed p (MoveBookmark id generation) sound some has free =
-    IsSound-moved_bookmark p id generation _ sound free refl
-sound_changed p (RemoveBookmark id) sound some has free = IsSound-removed_bookmark p id _ sound refl
+    IsSound-moved_bookmark p id generation sound free
+sound_changed p (RemoveBookmark id) sound some has free = IsSound-removed_bookmark p id sound
 sound_changed p (AddBranch parent generation) sound some has free =
-    IsSound-branch p parent generation _ sound free refl
-sound_changed p (RemoveBranch b) sound some has free = IsSound-removed_branch p b _ sound free refl
+    IsSound-branch p parent generation sound free
+sound_changed p (RemoveBranch b) sound some has free = IsSound-removed_branch p b sound free
 
 -- and its rule still has states
 pub some_changed : (p : Plan) (asked : Asked) → 0 < states_of p.rule → HasStates asked

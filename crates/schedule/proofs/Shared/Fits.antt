@@ -1,12 +1,12 @@
 -- After an edit that isn't refused the cells that interventions set can be laid, and the marks
 -- aren't too many.
-use Rattle.std.proofs.Common.{◌≡◌, ℕ, ◌≤◌, refl, None}
+use Rattle.std.proofs.Common.{◌≡◌, ℕ, ◌≤◌, None}
 use Rattle.std.specs.Prelude.{All}
 use Rattle.worlds.specs.Range.{CanBeLaid}
 use Rattle.rule_tree.specs.Rule.{states_of}
 use Rattle.schedule.specs.Asked.{Asked, InsertIntervention, ChangeIntervention, InsertRepeat, ChangeRepeat, RemoveIntervention, SetCells, ReplaceStart, ReplaceRule, AddBookmark, MoveBookmark, RemoveBookmark, AddBranch, RemoveBranch}
 use Rattle.schedule.specs.declared.acts.Acts.TheVariants.{Once, Every}
-use Rattle.schedule.specs.Change.{changed, first_refusal, refusals, next_intervention}
+use Rattle.schedule.specs.Change.{changed, first_refusal, refusals}
 use Rattle.schedule.specs.Repeats.{repeat_marks}
 use Rattle.schedule.specs.Plan.{Plan}
 use Rattle.schedule.specs.Scratch.{cells_at}
@@ -25,20 +25,18 @@ pub CanBeLaid-changed : (p : Plan) (asked : Asked) (b g : ℕ) → IsSound p →
     → All CanBeLaid (cells_at (changed p asked).plan.interventions b g)
 CanBeLaid-changed p (InsertIntervention n generation cells) b g sound free =
     CanBeLaid-at (changed p (InsertIntervention n generation cells)).plan b g
-    (IsSound-intervention p n (Once generation) cells
-    (next_intervention p n (Once generation) cells) _ sound free refl refl refl refl refl)
+    (IsSound-intervention p n (Once generation) cells sound free)
 CanBeLaid-changed p (ChangeIntervention id generation cells) b g sound free =
     CanBeLaid-at (changed p (ChangeIntervention id generation cells)).plan b g
-    (IsSound-changed_intervention p id (Once generation) cells _ sound free refl)
+    (IsSound-changed_intervention p id (Once generation) cells sound free)
 CanBeLaid-changed p (InsertRepeat n first every last cells) b g sound free =
     CanBeLaid-at (changed p (InsertRepeat n first every last cells)).plan b g
-    (IsSound-intervention p n (Every first every last) cells
-    (next_intervention p n (Every first every last) cells) _ sound free refl refl refl refl refl)
+    (IsSound-intervention p n (Every first every last) cells sound free)
 CanBeLaid-changed p (ChangeRepeat id first every last cells) b g sound free =
     CanBeLaid-at (changed p (ChangeRepeat id first every last cells)).plan b g
-    (IsSound-changed_intervention p id (Every first every last) cells _ sound free refl)
+    (IsSound-changed_intervention p id (Every first every last) cells sound free)
 CanBeLaid-changed p (RemoveIntervention id) b g sound free =
-    CanBeLaid-at (changed p (RemoveIntervention id)).plan b g (IsSound-removed_intervention p id _ sound refl)
+    CanBeLaid-at (changed p (RemoveIntervention id)).plan b g (IsSound-removed_intervention p id sound)
 CanBeLaid-changed p (SetCells cells) b g sound free = CanBeLaid-at p b g sound
 CanBeLaid-changed p (ReplaceStart start) b g sound free = CanBeLaid-at p b g sound
 CanBeLaid-changed p (ReplaceRule rule) b g sound free = CanBeLaid-at p b g sound
@@ -52,24 +50,22 @@ CanBeLaid-changed p (RemoveBranch n) b g sound free = CanBeLaid-at p b g sound
 pub few_marks-changed : (p : Plan) (asked : Asked) → IsSound p → first_refusal (refusals p asked) ≡ None
     → repeat_marks (changed p asked).plan ≤ 8192
 few_marks-changed p (InsertIntervention n generation cells) sound free =
-    (IsSound-intervention p n (Once generation) cells
-    (next_intervention p n (Once generation) cells) _ sound free refl refl refl refl refl).few_marks
+    (IsSound-intervention p n (Once generation) cells sound free).few_marks
 few_marks-changed p (ChangeIntervention id generation cells) sound free =
-    (IsSound-changed_intervention p id (Once generation) cells _ sound free refl).few_marks
+    (IsSound-changed_intervention p id (Once generation) cells sound free).few_marks
 few_marks-changed p (InsertRepeat n first every last cells) sound free =
-    (IsSound-intervention p n (Every first every last) cells
-    (next_intervention p n (Every first every last) cells) _ sound free refl refl refl refl refl).few_marks
+    (IsSound-intervention p n (Every first every last) cells sound free).few_marks
 few_marks-changed p (ChangeRepeat id first every last cells) sound free =
-    (IsSound-changed_intervention p id (Every first every last) cells _ sound free refl).few_marks
-few_marks-changed p (RemoveIntervention id) sound free = (IsSound-removed_intervention p id _ sound refl).few_marks
+    (IsSound-changed_intervention p id (Every first every last) cells sound free).few_marks
+few_marks-changed p (RemoveIntervention id) sound free = (IsSound-removed_intervention p id sound).few_marks
 few_marks-changed p (SetCells cells) sound free = sound.few_marks
 few_marks-changed p (ReplaceStart start) sound free = sound.few_marks
 few_marks-changed p (ReplaceRule rule) sound free = sound.few_marks
 few_marks-changed p (AddBookmark n generation view) sound free =
-    (IsSound-bookmark p n generation view _ sound free refl).few_marks
+    (IsSound-bookmark p n generation view sound free).few_marks
 few_marks-changed p (MoveBookmark id generation) sound free =
-    (IsSound-moved_bookmark p id generation _ sound free refl).few_marks
-few_marks-changed p (RemoveBookmark id) sound free = (IsSound-removed_bookmark p id _ sound refl).few_marks
+    (IsSound-moved_bookmark p id generation sound free).few_marks
+few_marks-changed p (RemoveBookmark id) sound free = (IsSound-removed_bookmark p id sound).few_marks
 few_marks-changed p (AddBranch parent generation) sound free =
-    (IsSound-branch p parent generation _ sound free refl).few_marks
-few_marks-changed p (RemoveBranch n) sound free = (IsSound-removed_branch p n _ sound free refl).few_marks
+    (IsSound-branch p parent generation sound free).few_marks
+few_marks-changed p (RemoveBranch n) sound free = (IsSound-removed_branch p n sound free).few_marks

@@ -1,5 +1,5 @@
 -- What changes of lists keep of their elements and ids.
-use Rattle.std.proofs.Common.{◌≡◌, ℕ, zero, suc, ◌<◌, ◌≤◌, ◌==◌, Bool, true, false, cond, nat_lt, List, [], ◌∷◌, ◌++◌, length, map, filter, get_or, None, Some, refl, sym, ap₂, subst, arith}
+use Rattle.std.proofs.Common.{◌≡◌, ℕ, zero, suc, ◌+◌, ◌<◌, ◌≤◌, ◌==◌, Bool, true, false, cond, nat_lt, List, [], ◌∷◌, ◌++◌, length, map, filter, get_or, None, Some, refl, sym, ap₂, subst, arith}
 use Rattle.std.specs.Prelude.{if◌then◌else◌, position, find}
 use Rattle.std.specs.Option.{option_map}
 use Rattle.std.specs.List.{AllByRecursion, list_any, position_or_len}
@@ -10,7 +10,7 @@ use Rattle.std.proofs.lemmas.List.Elements.{All-get_or, All-from_recursion}
 use Rattle.std.proofs.lemmas.List.Quantifiers.{position-Some}
 use Rattle.std.proofs.lemmas.List.Sums.{length-filter, count_by-le-length, fails_before_first}
 use Rattle.schedule.specs.Ids.{IdsRise, changed_at}
-use Rattle.basics.proofs.Shared.Lists.{all_append}
+use Rattle.basics.proofs.Shared.Lists.{all_append, all_so}
 
 -- an element with a greater id at the end
 pub rise_push : {X : Type 0} (id : X → ℕ) (xs : List X) (x : X) (last : ℕ) → IdsRise id xs
@@ -21,6 +21,11 @@ rise_push id (y ∷ xs) x last rise given above = (
       ((let k : id y ≤ last = given.0 in omega (arith, k, above)), tt),
   rise_push id xs x last rise.1 given.1 above,
 )
+
+pub given_push : {X : Type 0} (id : X → ℕ) (xs : List X) (x : X) (last : ℕ) → AllByRecursion (λ y. id y ≤ last) xs
+    → id x ≡ last + 1 → AllByRecursion (λ y. id y ≤ last + 1) (xs ++ x ∷ [])
+given_push id xs x last given next = all_append (λ y. id y ≤ last + 1) xs (x ∷ [])
+    (all_so (λ y. id y ≤ last) (λ y. id y ≤ last + 1) xs (λ y k. omega (arith, k)) given) (omega (arith, next), tt)
 
 either : {X : Type 0} (P : X → Type 0) (b : Bool) (x y : X) → P x → P y → P (if b then y else x)
 either P true x y h k = k

@@ -4,9 +4,12 @@ use Rattle.std.proofs.lemmas.List.{length-map, with_items_is}
 use Rattle.worlds.specs.declared.cell.CellSet.{CellSet}
 use Rattle.schedule.specs.declared.document.Intervention.{Intervention}
 use Rattle.schedule.specs.Kept.{plan_of}
+use Rattle.schedule.specs.Plan.{Plan}
+use Rattle.schedule.specs.Sound.{IsSound}
 use Rattle.schedule.specs.Ids.{intervention_id, changed_at}
-use Rattle.schedule.specs.Change.{first_refusal, for_changed_intervention, acting}
-use Rattle.schedule.proofs.SoundLists.{IsSound-changed_intervention, unspent-changed}
+use Rattle.schedule.specs.Change.{first_refusal, for_changed_intervention, acting, revised}
+use Rattle.schedule.proofs.Unrefused.{fit_change}
+use Rattle.schedule.proofs.SoundLists.{IsSound-changed_intervention}
 use Rattle.schedule.proofs.document.Document.change_intervention.Goals as goal
 
 pub invariant_of-self : goal.invariant_of-self
@@ -26,11 +29,13 @@ invariant_of-self c =
     c.deref_mut.ensures.value in
     let long : length c.change_in.new.interventions ≡ list.len = ap length same
     ∙ length-map list.items (λ (i : Intervention). if i.id == id then f i else i) ∙ sym list.ok.0 in
-    IsSound-changed_intervention p id acts c.args.cells.now _ c.self.invariant free
-    (with_items_is list c.change_in.new.interventions long ∙ same)
+    subst (λ (is : List Intervention). IsSound (record (revised p) { interventions = is }))
+    (sym (with_items_is list c.change_in.new.interventions long ∙ same))
+    (IsSound-changed_intervention p id acts c.args.cells.now c.self.invariant free)
 
 pub overflow_add-self : goal.overflow_add-self
 overflow_add-self c =
     let room : c.self.inside.revision + 1 < 2 ^ 64 =
-    unspent-changed (plan_of c.self.inside) _ c.args.id c.args.acts c.args.cells.now c.self.view_is c.requires in
+    subst (λ (p : Plan). p.revision + 1 < 2 ^ 64) (sym c.self.view_is)
+    (fit_change c.args.self.now c.args.id c.args.acts c.args.cells.now c.requires).marks.left in
     omega (arith, room)

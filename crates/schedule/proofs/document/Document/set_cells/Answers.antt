@@ -1,7 +1,9 @@
 use Rattle.std.proofs.Common.{◌≡◌, ◌∙◌, sym, ap, subst, None}
+use Rattle.worlds.specs.World.{World}
 use Rattle.worlds.specs.Lay.{lay}
 use Rattle.schedule.specs.Kept.{plan_of}
-use Rattle.schedule.specs.Change.{first_refusal, for_cells}
+use Rattle.schedule.specs.Sound.{IsSound}
+use Rattle.schedule.specs.Change.{first_refusal, for_cells, revised}
 use Rattle.schedule.proofs.Sounds.{IsSound-cells, CanBeLaid-fit}
 use Rattle.schedule.proofs.document.Document.set_cells.Goals as goal
 
@@ -13,7 +15,9 @@ lay-requires c =
 
 pub invariant_of-self : goal.invariant_of-self
 invariant_of-self c =
-    let free : first_refusal (for_cells (plan_of c.self.inside) c.args.cells.now) ≡ None =
+    let p = plan_of c.self.inside in
+    let free : first_refusal (for_cells p c.args.cells.now) ≡ None =
     subst (λ p. first_refusal (for_cells p c.args.cells.now) ≡ None) (sym c.self.view_is) c.requires in
-    IsSound-cells (plan_of c.self.inside) c.args.cells.now _ c.self.invariant free
-    (c.in_ok-start.ensures.ok ∙ c.in_ok-lay.ensures ∙ ap (lay c.args.cells.now) c.deref.ensures)
+    subst (λ (w : World). IsSound (record (revised p) { start = w }))
+    (sym (c.in_ok-start.ensures.ok ∙ c.in_ok-lay.ensures ∙ ap (lay c.args.cells.now) c.deref.ensures))
+    (IsSound-cells p c.args.cells.now c.self.invariant free)
