@@ -1,5 +1,5 @@
 -- What an edit leaves of a document's history.
-use Rattle.std.proofs.Common.{◌≡◌, ℕ, zero, suc, ◌+◌, ◌<◌, ◌≤◌, ◌∙◌, Bool, true, false, not, ◌&&◌, ◌||◌, nat_lt, List, [], ◌∷◌, refl, sym, ap, ap₂, arith, Option, None, Some}
+use Rattle.std.proofs.Common.{◌≡◌, ℕ, zero, suc, ◌+◌, ◌<◌, ◌≤◌, ◌∙◌, Bool, true, false, not, ◌&&◌, nat_lt, List, [], ◌∷◌, refl, sym, ap, ap₂, arith, Option, None, Some}
 use Rattle.std.specs.Prelude.{◌==◌}
 use Rattle.std.proofs.lemmas.Bool.{and_from, and_right, or_from, or_parts}
 use Rattle.worlds.specs.Lay.{lay}
@@ -12,7 +12,7 @@ use Rattle.schedule.specs.declared.fault.EditFault.{EditFault}
 use Rattle.schedule.specs.declared.fault.EditFault.TheVariants.{BranchInUse, NoSuchBranch}
 use Rattle.schedule.specs.Plan.{Plan}
 use Rattle.schedule.specs.Asked.{Asked, InsertIntervention, ChangeIntervention, InsertRepeat, ChangeRepeat, RemoveIntervention, SetCells, ReplaceStart, ReplaceRule, AddBookmark, MoveBookmark, RemoveBookmark, AddBranch, RemoveBranch}
-use Rattle.schedule.specs.Branches.{fork_of, has_bookmarks, has_branch, has_children, has_interventions, parent_of}
+use Rattle.schedule.specs.Branches.{fork_of, has_bookmarks, has_branch, parent_of}
 use Rattle.schedule.specs.Change.{changed, first_refusal, is_in_use, refusal, spent}
 use Rattle.schedule.specs.History.{is_felt}
 use Rattle.schedule.specs.Ids.{branch_id, has_id, without}
@@ -20,7 +20,7 @@ use Rattle.schedule.specs.Scratch.{cells_at, arrival, after, scratch}
 use Rattle.schedule.specs.Sound.{IsPlaced, IsSound}
 use Rattle.schedule.proofs.Sounds.{IsSound-removed_branch}
 use Rattle.schedule.proofs.Shared.Arrivals.{ParentsComeBefore}
-use Rattle.schedule.proofs.Shared.Branches.{parents_before}
+use Rattle.schedule.proofs.Shared.Branches.{parents_before, unused}
 use Rattle.schedule.proofs.Shared.Felt.{felt-apart, felt-back, felt-here}
 use Rattle.schedule.proofs.Shared.Lines.{after-unfelt, arrival-added, arrival-removed, arrival-unfelt}
 use Rattle.dependency_book.specs.declared.mark.Mark.{Mark}
@@ -124,15 +124,12 @@ none_without (x ∷ xs) n =
 
 gone : (p : Plan) (n b : ℕ) → is_in_use p n ≡ false → has_branch (without branch_id p.branches n) b ≡ true
     → (b == n) ≡ false
-gone p n b unused there =
-    let halves =
-    or_parts (n == 0 || has_interventions p.interventions n)
-    (has_bookmarks p.bookmarks n || has_children p.branches n) unused in
-    let other = (or_parts (n == 0) (has_interventions p.interventions n) halves.0).0 in
+gone p n b free there =
     either_way (b == n)
     (λ hit.
     let none : has_branch (without branch_id p.branches n) n ≡ false =
-    or_from (n == 0) (has_id branch_id (without branch_id p.branches n) n) other (none_without p.branches n) in
+    or_from (n == 0) (has_id branch_id (without branch_id p.branches n) n) (unused p n free).beside
+    (none_without p.branches n) in
     clash (has_branch (without branch_id p.branches n) b) there
     (ap (has_branch (without branch_id p.branches n)) (true_eq b n hit) ∙ none))
     (λ miss. miss)
@@ -149,11 +146,7 @@ none_shown (c ∷ bs) n id b none is =
 
 shows_none : (p : Plan) (n id : ℕ) (b : Bookmark) → is_in_use p n ≡ false → bookmark_in p.bookmarks id ≡ Some b
     → (b.branch == n) ≡ false
-shows_none p n id b unused is =
-    let halves =
-    or_parts (n == 0 || has_interventions p.interventions n)
-    (has_bookmarks p.bookmarks n || has_children p.branches n) unused in
-    none_shown p.bookmarks n id b (or_parts (has_bookmarks p.bookmarks n) (has_children p.branches n) halves.1).0 is
+shows_none p n id b free is = none_shown p.bookmarks n id b (unused p n free).bookmarks is
 
 -- what an edit touches isn't felt before
 
@@ -210,10 +203,10 @@ arrival_left p (RemoveBookmark id) m sound free other was is stays = refl
 arrival_left p (AddBranch parent generation) m sound free other was is stays =
     arrival-added p sound parent generation m.branch m.generation (mark_placed p m sound was).there
 arrival_left p (RemoveBranch n) m sound free other was is stays =
-    let unused = not_used p n free in
-    let later = IsSound-removed_branch p n _ sound free refl in
-    arrival-removed p sound n unused m.branch m.generation
-    (gone p n m.branch unused (mark_placed (changed p (RemoveBranch n)).plan m later is).there)
+    let none = not_used p n free in
+    let later = IsSound-removed_branch p n sound free in
+    arrival-removed p sound n none m.branch m.generation
+    (gone p n m.branch none (mark_placed (changed p (RemoveBranch n)).plan m later is).there)
 
 -- and what a bookmark shows that it leaves
 
@@ -254,7 +247,7 @@ scratch_left p (AddBranch parent generation) id b sound free is placed leaves =
     (ap (lay (cells_at p.interventions b.branch b.generation))
     (arrival-added p sound parent generation b.branch b.generation placed.there))
 scratch_left p (RemoveBranch n) id b sound free is placed leaves =
-    let unused = not_used p n free in
+    let none = not_used p n free in
     shown_left p (changed p (RemoveBranch n)).plan b refl
     (ap (lay (cells_at p.interventions b.branch b.generation))
-    (arrival-removed p sound n unused b.branch b.generation (shows_none p n id b unused is)))
+    (arrival-removed p sound n none b.branch b.generation (shows_none p n id b none is)))

@@ -230,10 +230,10 @@ text_held d places id s held can = record {
 }
 
 -- a vector whose rows are all written is the rows that were written
-pub written : {K V : Type 0} (rank : K → ℕ) (n : ℕ) (s : RowState V) (len : ℕ) (rows new now : List (Row K V))
+pub written : {K V : Type 0} {len : ℕ} {rows new now : List (Row K V)} (rank : K → ℕ) (n : ℕ) (s : RowState V)
     → now ≡ rows → length now ≡ len → new ≡ put rank n s now
     → take len (new ++ drop (length new) rows) ≡ put rank n s rows
-written {K} {V} rank n s len rows new now same long is =
+written {K} {V} {len} {rows} {new} {now} rank n s same long is =
     let count : length new ≡ length now = ap (λ (ys : List (Row K V)). length ys) is
     ∙ length-keys (put rank n s now) now (keys-put rank n s now) in
     let rest : drop (length new) rows ≡ [] =

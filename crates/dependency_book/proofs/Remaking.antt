@@ -8,7 +8,7 @@ use Rattle.dependency_book.specs.declared.row.Row.{Row}
 use Rattle.dependency_book.specs.Remade.{kept_at, remade_row}
 use Rattle.dependency_book.specs.Rows.{keys, IsRanked, state_at, place_in, put}
 use Rattle.dependency_book.proofs.Standing.{has, rank_at, keys-put}
-use Rattle.dependency_book.proofs.Tests.{either_way, true_eq, eq_true, eq_false, true_lt}
+use Rattle.dependency_book.proofs.Tests.{either_way, true_eq, eq_true, lt_apart}
 
 -- the first key of a rank
 abbrev pub first_of : {K : Type 0} → (K → ℕ) → ℕ → List K → Option K
@@ -73,10 +73,7 @@ pub kept_at-place : {K V : Type 0} (rank : K → ℕ) (stays : K → Bool) (n : 
 kept_at-place rank stays n [] d ranked low is = absurd (omega (arith, low))
 kept_at-place rank stays n (r ∷ rs) d ranked low is =
     either_way (nat_lt (rank r.key) n)
-    (λ hit.
-    let other =
-    eq_false (rank r.key) n (let under = true_lt (rank r.key) n hit in λ same. omega (arith, same, under)) in
-    rw (hit, other)
+    (λ hit. let other = lt_apart (rank r.key) n hit in rw (hit, other)
     (kept_at-place rank stays n rs d ranked.1
     (let more : suc (place_in rank n rs) < suc (length rs) = rw hit at low in omega (arith, more)) (rw hit at is)))
     (λ miss. let same = eq_true (rank r.key) n (rw miss at is) in rw (miss, same) refl)

@@ -12,7 +12,7 @@ use Rattle.dependency_book.specs.declared.row.Row.{Row}
 use Rattle.dependency_book.specs.Puts.{missing}
 use Rattle.dependency_book.specs.RowState.{is_empty}
 use Rattle.dependency_book.specs.Rows.{keys, IsRanked, state_at, place_in, put}
-use Rattle.dependency_book.proofs.Tests.{either_way, clash, lt_true, true_lt, false_lt, eq_true, eq_false, true_eq, false_eq}
+use Rattle.dependency_book.proofs.Tests.{either_way, lt_apart, clash, lt_true, true_lt, false_lt, eq_true, eq_false, true_eq, false_eq}
 
 -- whether a key has a rank
 abbrev pub has : {K : Type 0} → (K → ℕ) → ℕ → List K → Bool
@@ -159,10 +159,8 @@ place-has rank n (r ∷ rs) ranked there =
     either_way (nat_lt (rank r.key) n)
     (λ hit.
     rw hit
-    (let low =
-    place-has rank n rs ranked.1
-    (let under = true_lt (rank r.key) n hit in let other =
-    eq_false (rank r.key) n (λ same. omega (arith, same, under)) in rw other at there) in omega (arith, low)))
+    (let other = lt_apart (rank r.key) n hit in let low = place-has rank n rs ranked.1 (rw other at there) in
+    omega (arith, low)))
     (λ miss. rw miss (omega arith))
 
 pub rank-has : {K V : Type 0} (rank : K → ℕ) (n : ℕ) (rows : List (Row K V)) (d : Row K V) → IsRanked rank rows
@@ -171,9 +169,7 @@ rank-has rank n [] d ranked there = absurd (clash false there refl)
 rank-has rank n (r ∷ rs) d ranked there =
     either_way (nat_lt (rank r.key) n)
     (λ hit. rw hit
-    (rank-has rank n rs d ranked.1
-    (let under = true_lt (rank r.key) n hit in let other =
-    eq_false (rank r.key) n (λ same. omega (arith, same, under)) in rw other at there)))
+    (rank-has rank n rs d ranked.1 (let other = lt_apart (rank r.key) n hit in rw other at there)))
     (λ miss.
     rw miss
     (either_way (rank r.key == n)
@@ -230,10 +226,7 @@ pub put-place : {K V : Type 0} (rank : K → ℕ) (n : ℕ) (s : RowState V) (ro
 put-place rank n s [] d ranked low is = absurd (omega (arith, low))
 put-place rank n s (r ∷ rs) d ranked low is =
     either_way (nat_lt (rank r.key) n)
-    (λ hit.
-    let other =
-    eq_false (rank r.key) n (let under = true_lt (rank r.key) n hit in λ same. omega (arith, same, under)) in
-    rw (hit, other)
+    (λ hit. let other = lt_apart (rank r.key) n hit in rw (hit, other)
     (ap (λ ys. r ∷ ys)
     (put-place rank n s rs d ranked.1
     (let more : suc (place_in rank n rs) < suc (length rs) = rw hit at low in omega (arith, more)) (rw hit at is))))

@@ -40,6 +40,9 @@ eq_true m n h = grind (arith, nat_tests)
 pub eq_false : (m n : ℕ) → m ≢ n → (m == n) ≡ false
 eq_false m n h = grind (arith, nat_tests)
 
+pub lt_apart : (m n : ℕ) → nat_lt m n ≡ true → (m == n) ≡ false
+lt_apart m n h = grind (arith, nat_tests)
+
 pub true_eq : (m n : ℕ) → (m == n) ≡ true → m ≡ n
 true_eq m n h = grind (arith, nat_tests)
 

@@ -21,8 +21,7 @@ use Rattle.dependency_book.specs.declared.row.RowState.{RowState}
 use Rattle.dependency_book.specs.declared.row.RowState.TheVariants.{Empty, Expected, Known}
 use Rattle.dependency_book.specs.BookState.{BookState, row_of, expected, bookmark_in, wanting_of}
 use Rattle.dependency_book.specs.declared.cursor.Cursor.{Cursor}
-use Rattle.dependency_book.specs.Cursor.{HasPassed, IsHeldWith}
-use Rattle.dependency_book.specs.Held.{IsHeld}
+use Rattle.dependency_book.specs.Cursor.{IsHeldWith}
 use Rattle.dependency_book.specs.Jobs.{is_need, is_job, given_by, answered, cancelled, IsFilled, IsNextJob, StepExpects, step_to}
 use Rattle.dependency_book.specs.Marks.{is_mark, is_start, mark_at}
 use Rattle.dependency_book.specs.Needs.{IsNext}
@@ -304,16 +303,16 @@ pub next_few : (d s : BookState) (need : Need) (job : Job) → d ≡ s → IsNex
 next_few d s need job same next = let number = next.number in let few = next.few in let one : d.given ≡ s.given =
     ap (λ (x : BookState). x.given) same in omega (arith, number, few, one)
 
-pub raised_held : (d s : BookState) (places : List ℕ) (need : Need) (job : Job) → d ≡ s → IsNextJob s need job
-    → IsHeld d places → IsHeld (raised d) places
-raised_held d s places need job same next held =
-    record { places = held.places; right = raised_right d held.right (next_few d s need job same next) }
-
--- and has passed the same rows
-pub kept_with : (d : BookState) (places : List ℕ) (cursor : Cursor) → HasPassed d places cursor
-    → IsHeld (raised d) places → IsHeldWith (raised d) places cursor
-kept_with d places cursor passed held =
-    record { held = held; passed = record { views = passed.views; steps = passed.steps } }
+-- it has passed the same rows
+pub raised_held : {d s : BookState} {places : List ℕ} {cursor : Cursor} {need : Need} {job : Job} → d ≡ s
+    → IsNextJob s need job → IsHeldWith d places cursor → IsHeldWith (raised d) places cursor
+raised_held {d} {s} {places} {cursor} {need} {job} same next with_it =
+    let held = with_it.held in
+    let passed = with_it.passed in
+    record {
+      held = record { places = held.places; right = raised_right d held.right (next_few d s need job same next) };
+      passed = record { views = passed.views; steps = passed.steps };
+    }
 
 pub may_expect_there : (d s : BookState) (need kind : Need) (job : Job) → d ≡ s → need ≡ kind → IsNextJob s need job
     → IsRight d → CanBePut (raised d) kind (Expected job)

@@ -79,8 +79,8 @@ returns-then-not-stays-clause-state g c =
     kept_there rank (g.K.Ranked.stays c.args.document.now.branches c.args.felt c.args.key.now)
     (rank c.args.key.now) c.args.place rows x false c.requires.1 c.requires.0 c.if-place-rows.false is off
 
-pub returns-clause-state : goal.returns-clause-state
-returns-clause-state g c =
+pub returns : goal.returns
+returns g c =
     let rank = g.K.Ranked.rank in
     let rows = c.args.rows.now in
     let x = c.index-rows-place-3.result in
@@ -92,18 +92,11 @@ returns-clause-state g c =
     (get_or rows c.args.place x).key ≡ true =
     ap (λ (r : Row g.row.K.Denot g.row.V.Denot). g.K.Ranked.stays c.args.document.now.branches c.args.felt
     c.args.key.now r.key) (get_or-any rows c.args.place x c.index-rows-place-2.result low) ∙ sym c.stays.ensures
-    ∙ c.if-not-stays.false in
-    c.replace.ensures.value ∙ kept_there rank (g.K.Ranked.stays c.args.document.now.branches c.args.felt c.args.key.now)
-    (rank c.args.key.now) c.args.place rows x true c.requires.1 c.requires.0 low is on
-
-pub returns-clause-rows : goal.returns-clause-rows
-returns-clause-rows g c =
-    let rank = g.K.Ranked.rank in
-    let rows = c.args.rows.now in
-    let x = c.index-rows-place-3.result in
-    let is : rank_at rank rows c.args.place x ≡ rank c.args.key.now =
-    ap (λ r. rank r.key) (get_or-any rows c.args.place x c.index-rows-place.result c.if-place-rows.false)
-    ∙ sym c.rank.ensures ∙ c.if-rank.false ∙ c.rank-else-place-rows.ensures in
-    inl (ap (λ s. set rows c.args.place (record { key = (get_or rows c.args.place x).key; state = s }))
-    c.replace.ensures.after
-    ∙ put_row rank (rank c.args.key.now) c.args.place rows x Empty c.requires.1 c.requires.0 c.if-place-rows.false is)
+    ∙ c.if-not-stays.false in record {
+      state = c.replace.ensures.value
+          ∙ kept_there rank (g.K.Ranked.stays c.args.document.now.branches c.args.felt c.args.key.now)
+          (rank c.args.key.now) c.args.place rows x true c.requires.1 c.requires.0 low is on;
+      rows = inl (ap (λ s. set rows c.args.place (record { key = (get_or rows c.args.place x).key; state = s }))
+          c.replace.ensures.after
+          ∙ put_row rank (rank c.args.key.now) c.args.place rows x Empty c.requires.1 c.requires.0 low is);
+    }

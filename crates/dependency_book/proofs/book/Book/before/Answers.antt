@@ -13,9 +13,9 @@ use Rattle.dependency_book.proofs.Found.{StepRow, step_row}
 use Rattle.dependency_book.proofs.book.Book.before.Goals as goal
 
 -- the row of the step, at the place that was found
-row_at : (d e : BookState) (places : List ℕ) (m : Mark) (n k : ℕ) (rows : List ArrivalRow) → d ≡ e → IsHeld d places
+row_at : {d e : BookState} {places : List ℕ} {n k : ℕ} {rows : List ArrivalRow} (m : Mark) → d ≡ e → IsHeld d places
     → IsLedTo e m → rows ≡ d.arrivals → n ≡ mark_rank m → k ≡ place_in mark_rank n rows → StepRow d m k
-row_at d e places m n k rows same held led is rank at =
+row_at {d} {e} {places} {n} {k} {rows} m same held led is rank at =
     subst (StepRow d m) (sym (at ∙ ap₂ (place_in mark_rank) rank is))
     (step_row d places m held (subst (λ s. IsLedTo s m) (sym same) led))
 
@@ -40,33 +40,20 @@ found d e m n k x rows same is row at =
 pub before_row-requires : goal.before_row-requires
 before_row-requires c =
     let d = state_of c.self.inside in
-    let row =
-    row_at d c.args.self.now c.self.inside.places.items c.args.mark c.rank.result c.place_in-place.result
-    c.deref.result.now c.self.view_is c.self.invariant.held c.requires c.deref.ensures.value c.rank.ensures
-    c.place_in-place.ensures in
+    let row = row_at c.args.mark c.self.view_is c.self.invariant.held c.requires c.deref.ensures.value
+    c.rank.ensures c.place_in-place.ensures in
     let low = row.low in
     let same : length c.deref-2.result.now ≡ length d.arrivals =
     ap (λ (rows : List ArrivalRow). length rows) c.deref-2.ensures.value in
     omega (arith, low, same)
 
-pub returns-clause-mark : goal.returns-clause-mark
-returns-clause-mark c =
+pub returns : goal.returns
+returns c =
     let d = state_of c.self.inside in
     let m = c.args.mark in
-    let row =
-    row_at d c.args.self.now c.self.inside.places.items m c.rank.result c.place_in-place.result c.deref.result.now
-    c.self.view_is c.self.invariant.held c.requires c.deref.ensures.value c.rank.ensures c.place_in-place.ensures in
+    let row = row_at m c.self.view_is c.self.invariant.held c.requires c.deref.ensures.value c.rank.ensures
+    c.place_in-place.ensures in
     let x : ArrivalRow = record { key = m; state = Empty } in
-    (found d c.args.self.now m c.before_row.result c.place_in-place.result x c.deref-2.result.now c.self.view_is
-    c.deref-2.ensures.value row (c.before_row.ensures x)).comes
-
-pub returns-clause-known : goal.returns-clause-known
-returns-clause-known c =
-    let d = state_of c.self.inside in
-    let m = c.args.mark in
-    let row =
-    row_at d c.args.self.now c.self.inside.places.items m c.rank.result c.place_in-place.result c.deref.result.now
-    c.self.view_is c.self.invariant.held c.requires c.deref.ensures.value c.rank.ensures c.place_in-place.ensures in
-    let x : ArrivalRow = record { key = m; state = Empty } in
-    (found d c.args.self.now m c.before_row.result c.place_in-place.result x c.deref-2.result.now c.self.view_is
-    c.deref-2.ensures.value row (c.before_row.ensures x)).arrived
+    let before = found d c.args.self.now m c.before_row.result c.place_in-place.result x c.deref-2.result.now
+    c.self.view_is c.deref-2.ensures.value row (c.before_row.ensures x) in
+    record { mark = before.comes; known = before.arrived }

@@ -2,15 +2,11 @@ use Rattle.std.proofs.Common.{◌∙◌, ap, sym}
 use Rattle.dependency_book.specs.Inside.{state_of}
 use Rattle.dependency_book.specs.declared.need.Need.TheVariants.{View}
 use Rattle.dependency_book.specs.Jobs.{step_to}
-use Rattle.dependency_book.proofs.Working.{kept_with, raised_held, may_expect_there, expected_right}
+use Rattle.dependency_book.proofs.Working.{raised_held, may_expect_there, expected_right}
 use Rattle.dependency_book.proofs.book.Book.expect.Goals as goal
 
 pub invariant_of-self : goal.invariant_of-self
-invariant_of-self c =
-    kept_with (state_of c.self.inside) c.self.inside.places.items c.self.inside.cursor c.self.invariant.passed
-    (raised_held
-    (state_of c.self.inside) c.args.self.now c.self.inside.places.items c.args.need.now c.args.job c.self.view_is
-    c.requires c.self.invariant.held)
+invariant_of-self c = raised_held c.self.view_is c.requires c.self.invariant
 
 pub put_arrival-requires : goal.put_arrival-requires
 put_arrival-requires c = may_expect_there (state_of c.self.inside) c.args.self.now c.args.need.now
@@ -24,11 +20,7 @@ returns-in-Step-clause-right c =
     (c.in-Step.is ∙ ap step_to (sym c.at.ensures)) c.requires c.self.invariant.held.right c.put_arrival.ensures
 
 pub invariant_of-self-in-View : goal.invariant_of-self-in-View
-invariant_of-self-in-View c =
-    kept_with (state_of c.self.inside) c.self.inside.places.items c.self.inside.cursor c.self.invariant.passed
-    (raised_held
-    (state_of c.self.inside) c.args.self.now c.self.inside.places.items c.args.need.now c.args.job c.self.view_is
-    c.requires c.self.invariant.held)
+invariant_of-self-in-View c = raised_held c.self.view_is c.requires c.self.invariant
 
 pub put_text-requires : goal.put_text-requires
 put_text-requires c = may_expect_there (state_of c.self.inside) c.args.self.now c.args.need.now

@@ -18,10 +18,7 @@ invariant_of-self c =
     let places = c.self.inside.places.items in
     let can = subst (λ (e : BookState). CanBePut e (step_to c.args.mark) (state_map pattern c.args.state))
     (sym c.self.view_is) c.requires in
-    let whole =
-    written mark_rank
-    (mark_rank c.args.mark) c.args.state c.self.inside.arrivals.len d.arrivals c.put.new.rows c.deref_mut.result.now
-    c.deref_mut.ensures.value c.deref_mut.ensures.len
+    let whole = written mark_rank (mark_rank c.args.mark) c.args.state c.deref_mut.ensures.value c.deref_mut.ensures.len
     (c.put.ensures ∙ ap (λ n. put mark_rank n c.args.state c.deref_mut.result.now) c.rank.ensures) in
     subst (λ (rows : List ArrivalRow). IsHeldWith (record d { arrivals = rows }) places c.if_stays-self-inside.result)
     (sym whole)
@@ -37,10 +34,7 @@ returns c =
     let d = state_of c.self.inside in
     let can = subst (λ (e : BookState). CanBePut e (step_to c.args.mark) (state_map pattern c.args.state))
     (sym c.self.view_is) c.requires in
-    let whole =
-    written mark_rank
-    (mark_rank c.args.mark) c.args.state c.self.inside.arrivals.len d.arrivals c.put.new.rows c.deref_mut.result.now
-    c.deref_mut.ensures.value c.deref_mut.ensures.len
+    let whole = written mark_rank (mark_rank c.args.mark) c.args.state c.deref_mut.ensures.value c.deref_mut.ensures.len
     (c.put.ensures ∙ ap (λ n. put mark_rank n c.args.state c.deref_mut.result.now) c.rank.ensures) in
     subst (λ (was : BookState). Puts (step_to c.args.mark) (state_map pattern c.args.state) was
     (record d

@@ -17,9 +17,7 @@ invariant_of-self c =
     let d = state_of c.self.inside in
     let can = subst (λ (e : BookState). CanBePut e (View c.args.id) (state_map text c.args.state))
     (sym c.self.view_is) c.requires in
-    let whole =
-    written bookmark_rank c.args.id c.args.state c.self.inside.texts.len d.texts c.put.new.rows c.deref_mut.result.now
-    c.deref_mut.ensures.value c.deref_mut.ensures.len
+    let whole = written bookmark_rank c.args.id c.args.state c.deref_mut.ensures.value c.deref_mut.ensures.len
     (c.put.ensures ∙ ap (λ n. put bookmark_rank n c.args.state c.deref_mut.result.now) c.from.ensures) in
     let places = c.self.inside.places.items in
     subst (λ (rows : List TextRow). IsHeldWith (record d { texts = rows }) places c.if_stays-self-inside.result)
@@ -37,9 +35,7 @@ returns c =
     let d = state_of c.self.inside in
     let can = subst (λ (e : BookState). CanBePut e (View c.args.id) (state_map text c.args.state))
     (sym c.self.view_is) c.requires in
-    let whole =
-    written bookmark_rank c.args.id c.args.state c.self.inside.texts.len d.texts c.put.new.rows c.deref_mut.result.now
-    c.deref_mut.ensures.value c.deref_mut.ensures.len
+    let whole = written bookmark_rank c.args.id c.args.state c.deref_mut.ensures.value c.deref_mut.ensures.len
     (c.put.ensures ∙ ap (λ n. put bookmark_rank n c.args.state c.deref_mut.result.now) c.from.ensures) in
     subst (λ (was : BookState). Puts (View c.args.id) (state_map text c.args.state) was
     (record d { texts = take c.self.inside.texts.len (c.put.new.rows ++ drop (length c.put.new.rows) d.texts) }))

@@ -16,23 +16,15 @@ can_step-requires-clause-held_back c =
     subst (AreHeldBack d.plan.branches) (sym c.deref.ensures.value)
     (held_back d c.self.inside.places.items c.self.invariant.held)
 
-pub recall-requires-clause-led : goal.recall-requires-clause-led
-recall-requires-clause-led c =
+pub recall-requires : goal.recall-requires
+recall-requires c =
     let d = state_of c.self.inside in
     let x = c.index.result.now in
     let low = subst (λ (e : BookState). c.args.place < length e.arrivals) (sym c.self.view_is) c.requires in
     let can = subst (λ rows. steppable d.plan.branches rows c.args.place x ≡ true) c.deref.ensures.value
     (sym (c.can_step.ensures x) ∙ c.if-not-can_step.false) in
-    subst (λ (e : BookState). IsLedTo e x.key) c.self.view_is
-    (steps_there d c.self.inside.places.items c.args.place x c.self.invariant.held c.index.ensures low can).led
-
-pub recall-requires-clause-empty : goal.recall-requires-clause-empty
-recall-requires-clause-empty c =
-    let d = state_of c.self.inside in
-    let x = c.index.result.now in
-    let low = subst (λ (e : BookState). c.args.place < length e.arrivals) (sym c.self.view_is) c.requires in
-    let can = subst (λ rows. steppable d.plan.branches rows c.args.place x ≡ true) c.deref.ensures.value
-    (sym (c.can_step.ensures x) ∙ c.if-not-can_step.false) in
-    ap (state_map pattern)
-    (subst (λ (e : BookState). arrival_row e x.key ≡ Empty) c.self.view_is
-    (steps_there d c.self.inside.places.items c.args.place x c.self.invariant.held c.index.ensures low can).empty)
+    let there = steps_there d c.self.inside.places.items c.args.place x c.self.invariant.held c.index.ensures low can in
+    record {
+      led = subst (λ (e : BookState). IsLedTo e x.key) c.self.view_is there.led;
+      empty = ap (state_map pattern) (subst (λ (e : BookState). arrival_row e x.key ≡ Empty) c.self.view_is there.empty);
+    }

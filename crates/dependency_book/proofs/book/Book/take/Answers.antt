@@ -1,4 +1,4 @@
-use Rattle.std.proofs.Common.{◌≡◌, true, false, Option, None, Some, MatchOption, refl, sym, subst}
+use Rattle.std.proofs.Common.{◌≡◌, true, false, Option, None, Some, MatchOption, refl, sym, subst, rules}
 use Rattle.revision_jobs.specs.declared.answer.Job.{Job}
 use Rattle.revision_jobs.specs.Answer.{outcome_of}
 use Rattle.dependency_book.specs.Jobs.{result_of, IsFilled}
@@ -43,8 +43,8 @@ returns-in-Some-clause-right c =
 
 -- no row expects the job
 
-pub returns-clause-filled : goal.returns-clause-filled
-returns-clause-filled c =
+pub returns : goal.returns
+returns c =
     let d = c.args.self.now in
     let job : Job = c.args.job in
     let answer = result_of job (outcome_of c.args.outcome) in
@@ -53,24 +53,18 @@ returns-clause-filled c =
       | in_default-2 w ↦
           let none = elsewhere d w.in-Some.need w.in-Some.place.now job right w.in-Some.ensures.row
           (λ is. not_true (w.if-same.ensures.index.1 is)) in
-          subst (IsFilled d d answer) (sym w.result-is) (none, refl)
+          record {
+            filled = subst (IsFilled d d answer) (sym w.result-is) (none, refl);
+            rows = none_answered d answer none;
+            book = search rules;
+            right = right;
+          }
       | in_default w ↦
           let none = none_numbered d job (match_none _ _ c.expecting.result c.expecting.ensures.row w.in_default.is) in
-          subst (IsFilled d d answer) (sym w.result-is) (none, refl)
-    ]
-
-pub returns-clause-rows : goal.returns-clause-rows
-returns-clause-rows c =
-    let d = c.args.self.now in
-    let job : Job = c.args.job in
-    let answer = result_of job (outcome_of c.args.outcome) in
-    let right = c.expecting.ensures.right in
-    elim c.match-expecting.branch [
-      | in_default-2 w ↦
-          let none = elsewhere d w.in-Some.need w.in-Some.place.now job right w.in-Some.ensures.row
-          (λ is. not_true (w.if-same.ensures.index.1 is)) in
-          none_answered d answer none
-      | in_default w ↦
-          let none = none_numbered d job (match_none _ _ c.expecting.result c.expecting.ensures.row w.in_default.is) in
-          none_answered d answer none
+          record {
+            filled = subst (IsFilled d d answer) (sym w.result-is) (none, refl);
+            rows = none_answered d answer none;
+            book = search rules;
+            right = right;
+          }
     ]

@@ -16,18 +16,17 @@ use Rattle.dependency_book.proofs.Found.{ViewRow, view_row, view_is}
 use Rattle.dependency_book.proofs.book.Book.view_of.Goals as goal
 
 -- the row of the view, at the place that was found
-row_at : (d e : BookState) (places : List ℕ) (id n k : ℕ) (rows : List TextRow) → d ≡ e → IsHeld d places
+row_at : {d e : BookState} {places : List ℕ} {n k : ℕ} {rows : List TextRow} (id : ℕ) → d ≡ e → IsHeld d places
     → ViewIsNext e id → rows ≡ d.texts → n ≡ id → k ≡ place_in bookmark_rank n rows → ViewRow d id k
-row_at d e places id n k rows same held next is rank at =
+row_at {d} {e} {places} {n} {k} {rows} id same held next is rank at =
     subst (ViewRow d id) (sym (at ∙ ap₂ (place_in bookmark_rank) rank is))
     (view_row d places id held (subst (λ s. ViewIsNext s id) (sym same) next))
 
 pub index-requires : goal.index-requires
 index-requires c =
     let d = state_of c.self.inside in
-    let row =
-    row_at d c.args.self.now c.self.inside.places.items c.args.id c.from.result c.place_in.result c.deref.result.now
-    c.self.view_is c.self.invariant.held c.requires c.deref.ensures.value c.from.ensures c.place_in.ensures in
+    let row = row_at c.args.id c.self.view_is c.self.invariant.held c.requires c.deref.ensures.value c.from.ensures
+    c.place_in.ensures in
     let low = row.low in
     let len = c.deref.ensures.len in
     let same : length c.deref.result.now ≡ length d.texts =
@@ -37,9 +36,8 @@ index-requires c =
 pub arrived-requires : goal.arrived-requires
 arrived-requires c =
     let d = state_of c.self.inside in
-    let row =
-    row_at d c.args.self.now c.self.inside.places.items c.args.id c.from.result c.place_in.result c.deref.result.now
-    c.self.view_is c.self.invariant.held c.requires c.deref.ensures.value c.from.ensures c.place_in.ensures in
+    let row = row_at c.args.id c.self.view_is c.self.invariant.held c.requires c.deref.ensures.value c.from.ensures
+    c.place_in.ensures in
     let x : TextRow = c.index.result.now in
     subst (λ (e : BookState). IsSome (arrival_known e c.of-mark.result)) c.self.view_is
     (subst (λ (m : Mark). IsSome (arrival_known d m))
@@ -48,9 +46,8 @@ arrived-requires c =
 pub returns-clause-entry : goal.returns-clause-entry
 returns-clause-entry c =
     let d = state_of c.self.inside in
-    let row =
-    row_at d c.args.self.now c.self.inside.places.items c.args.id c.from.result c.place_in.result c.deref.result.now
-    c.self.view_is c.self.invariant.held c.requires c.deref.ensures.value c.from.ensures c.place_in.ensures in
+    let row = row_at c.args.id c.self.view_is c.self.invariant.held c.requires c.deref.ensures.value c.from.ensures
+    c.place_in.ensures in
     let x : TextRow = c.index.result.now in
     let g = x.key.generation in
     let r : Rendering =
