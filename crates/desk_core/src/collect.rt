@@ -6,7 +6,7 @@ ghost use Rattle.dependency_book.specs.Jobs.{cancelled, IsAnyOut, IsFirstOut, Sa
 ghost use Rattle.dependency_book.specs.Recalled.{Fills};
 ghost use Rattle.dependency_book.specs.Right.{IsRight};
 ghost use Rattle.dependency_book.specs.declared.need.Need.{Need};
-ghost use Rattle.desk_core.specs.Events.{core_of, after_event, collects, cancels, Follows};
+ghost use Rattle.desk_core.specs.Events.{CanHappen, core_of, after_event, collects, cancels, Follows};
 ghost use Rattle.desk_core.specs.Collected.{IsCollected, IsOut};
 
 use crate::desk::Desk;
@@ -38,6 +38,7 @@ impl Desk<'_> {
         ensures collected { IsCollected self.old self.new answer result }
         ensures fills { Fills answer self.old self.new }
         ensures book { SameBook self.old self.new }
+        ensures can { CanHappen self.old.table (core_of self.old) (collects answer) }
         ensures event { Follows (collects answer) (core_of self.old) (core_of self.new) }
         ensures right { IsRight self.new }
     {
@@ -59,6 +60,7 @@ impl Desk<'_> {
         ensures rows { (need : Need) →
             row_of self.new need ≡ cancelled number (row_of self.old need) }
         ensures book { SameBook self.old self.new }
+        ensures can { CanHappen self.old.table (core_of self.old) (cancels number) }
         ensures event { core_of self.new ≡ after_event (core_of self.old) (cancels number) }
         ensures right { IsRight self.new }
     {
