@@ -19,8 +19,8 @@ use Rattle.desk_server.specs.Script.{asks, Between, afters, document_after, docu
 use Rattle.desk_server.specs.Told.{reply_text, ends}
 use Rattle.desk_server.specs.Heard.{AsksIfAny, Hears, Gives, Serves, Served, BreaksOff}
 use Rattle.desk_server.specs.Run.{Answers, Finishes, StopsTelling, AnswersWhole, AnswersAll, AnswersFront}
-use Rattle.desk_server.specs.Ending.{Works}
-use Rattle.desk_server.specs.Watch.{NotesOrCounts, NotesScript}
+use Rattle.desk_server.specs.Ending.{Works, Completes}
+use Rattle.desk_server.specs.Watch.{NotesOrCounts, NotesScript, NotesReplies}
 use Rattle.desk_server.specs.declared.request.Request.{Request}
 use Rattle.desk_server.specs.declared.reply.Reply.{Reply}
 use Rattle.desk_server.specs.declared.reply.Reply.TheVariants as reply
@@ -171,41 +171,44 @@ nothing_more : (v : Bool) (a : After) → a ∷ cond v [] [] ≡ a ∷ []
 nothing_more true a = refl
 nothing_more false a = refl
 
+-- the last answer, behind which no command is answered
+done_told : (noted : List Plan → Type 0) (prompt : Bool) (old new : Ahead) (before after : Option (List ℕ))
+    (heard : Option Request) (last : Bool) (j k : BookState) (n m : ℕ) (r : Reply)
+    → noted (documents_of (after_of k r ∷ []))
+    → (h : Hears old new Between heard last n m) → Served prompt r h.asked j k → Appends before after (reply_text k r)
+    → ((rest : List ℕ) → new.bytes ≡ Some rest
+    → after_of k r ∷ cond (ends r) [] (afters k.plan (asks Ended Between m (lines_until Ended rest)) [])
+    ≡ after_of k r ∷ []) → Finishes noted prompt old new before after j.plan n
+done_told noted prompt old new before after heard last j k n m r notes h s w ended = record {
+  bytes = h.bytes;
+  shortages = s.2.0 ∷ [];
+  caused = λ e. (s.2.1 e, tt);
+  taken = h.taken;
+  given = after_of k r ∷ [];
+  wrote = wrote_one before after k r w;
+  notes = notes;
+  law = λ rest x. afters_from prompt old new heard last j k n m r h s Ended rest []
+      (follows_nothing last new.bytes rest h.at_end x) ∙ ended rest x;
+}
+
 pub done_last : (noted : List Plan → Type 0) (prompt : Bool) (old new : Ahead) (before after : Option (List ℕ))
     (heard : Option Request) (last : Bool) (j k : BookState) (n m : ℕ) (r : Reply) → noted (k.plan ∷ []) → r ≢ reply.Bye
     → last ≡ true
     → (h : Hears old new Between heard last n m) → Served prompt r h.asked j k → Appends before after (reply_text k r)
     → Finishes noted prompt old new before after j.plan n
-done_last noted prompt old new before after heard last j k n m r notes b e h s w = record {
-  bytes = h.bytes;
-  shortages = s.2.0 ∷ [];
-  caused = λ e. (s.2.1 e, tt);
-  taken = h.taken;
-  given = after_of k r ∷ [];
-  wrote = wrote_one before after k r w;
-  notes = noted_one noted k r b notes;
-  law = λ rest x. afters_from prompt old new heard last j k n m r h s Ended rest []
-      (follows_nothing last new.bytes rest h.at_end x)
-      ∙ ap (λ v. after_of k r ∷ cond (ends r) [] (afters k.plan (asks Ended Between m (lines_until Ended v)) []))
-      (at_end_nil new.bytes rest (h.at_end e) x) ∙ nothing_more (ends r) (after_of k r);
-}
+done_last noted prompt old new before after heard last j k n m r notes b e h s w =
+    done_told noted prompt old new before after heard last j k n m r (noted_one noted k r b notes) h s w
+    (λ rest x. ap (λ v. after_of k r ∷ cond (ends r) [] (afters k.plan (asks Ended Between m (lines_until Ended v)) []))
+    (at_end_nil new.bytes rest (h.at_end e) x) ∙ nothing_more (ends r) (after_of k r))
 
 pub done_bye : (noted : List Plan → Type 0) (prompt : Bool) (old new : Ahead) (before after : Option (List ℕ))
     (heard : Option Request) (last : Bool) (j k : BookState) (n m : ℕ) (r : Reply) → noted [] → r ≡ reply.Bye
     → (h : Hears old new Between heard last n m) → Served prompt r h.asked j k → Appends before after (reply_text k r)
     → Finishes noted prompt old new before after j.plan n
-done_bye noted prompt old new before after heard last j k n m r notes b h s w = record {
-  bytes = h.bytes;
-  shortages = s.2.0 ∷ [];
-  caused = λ e. (s.2.1 e, tt);
-  taken = h.taken;
-  given = after_of k r ∷ [];
-  wrote = wrote_one before after k r w;
-  notes = noted_bye noted k r b notes;
-  law = λ rest x. afters_from prompt old new heard last j k n m r h s Ended rest []
-      (follows_nothing last new.bytes rest h.at_end x)
-      ∙ ap (λ v. after_of k r ∷ cond (ends v) [] (afters k.plan (asks Ended Between m (lines_until Ended rest)) [])) b;
-}
+done_bye noted prompt old new before after heard last j k n m r notes b h s w =
+    done_told noted prompt old new before after heard last j k n m r (noted_bye noted k r b notes) h s w
+    (λ rest _. ap (λ v. after_of k r ∷ cond (ends v) []
+    (afters k.plan (asks Ended Between m (lines_until Ended rest)) [])) b)
 
 pub stops_telling : (prompt : Bool) (old new : Ahead) (before after : Option (List ℕ)) (heard : Option Request)
     (last : Bool) (j k : BookState) (n m : ℕ) (r : Reply)
@@ -364,6 +367,16 @@ pub finishes_told : (noted : List Plan → Type 0) (prompt : Bool) (a c : Ahead)
     → Finishes noted prompt a c x z (opening 0) 1 → IfSome a.bytes (AnswersAll prompt x z)
 finishes_told noted prompt a c x z f =
     all_told prompt a.bytes c.bytes x z f.bytes f.given f.shortages f.caused f.taken.consumed f.wrote f.law
+
+-- so its run completes, and what was noted of it is known
+pub completed : {R W V : Type 0} (notes : V → Plan → V → Type 0) (missed : ℕ) (old new : V) (prompt : Bool)
+    (r s : LineReading R) (w x : CountedWriting W)
+    → Finishes (NotesOrCounts notes 0 missed old new) prompt r.ahead s.ahead w.contents x.contents (opening 0) 1
+    → Works r s w x → Completes prompt r s w x × NotesReplies notes missed prompt r w x old new
+completed notes missed old new prompt r s w x f works = (
+  record { answered = finishes_told _ prompt r.ahead s.ahead w.contents x.contents f; works = works },
+  finishes_all notes missed old new prompt r.ahead s.ahead w.contents x.contents f,
+)
 
 front_stopped : (prompt : Bool) (a c x z : Option (List ℕ)) (bytes : List ℕ) (shortages : List Shortage)
     → AllCausedOver prompt shortages → Consumes a c bytes

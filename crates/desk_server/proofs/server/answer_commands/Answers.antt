@@ -6,7 +6,7 @@ use Rattle.desk_server.specs.Ending.{Works}
 use Rattle.desk_server.specs.declared.reply.Reply.TheVariants as reply
 use Rattle.desk_server.proofs.Jobs.{carries_further}
 use Rattle.desk_server.proofs.Noted.{notes_join, notes_none}
-use Rattle.desk_server.proofs.Rounds.{answers_none, answers_answers, answers_finishes, answers_stops, answers_breaks, finishes_all, finishes_told, stops_front, served, goes_on_silent, done_silent, goes_on_told, done_last, done_bye, stops_telling, works_then}
+use Rattle.desk_server.proofs.Rounds.{answers_none, answers_answers, answers_finishes, answers_stops, answers_breaks, completed, stops_front, served, goes_on_silent, done_silent, goes_on_told, done_last, done_bye, stops_telling, works_then}
 use Rattle.desk_server.proofs.server.answer_commands.Goals as goal
 
 pub script-init : goal.script-init
@@ -40,15 +40,8 @@ returns-then-last g c =
     (notes_join g.V.Watch.notes 0 _ _ _ _ _) h.answered
     (done_silent _ (g.P.Post.is_prompt c.args.post.now) _ _ _ _ _ c.script.desk _ _
     (notes_none g.V.Watch.notes _ c.script.watch) c.in_default-request.is c.if-last.true heard) in
-    record {
-      done = record {
-        answered = finishes_told _ _ _ _ _ _ ends;
-        works = works_then _ _ _ _ _ _ h.works works;
-      };
-      noted = finishes_all g.V.Watch.notes _ _ _ _ _ _ _ _ ends;
-      read = search rules;
-      write = search rules;
-    }
+    let all = completed g.V.Watch.notes _ _ _ _ _ _ _ _ ends (works_then _ _ _ _ _ _ h.works works) in
+    record { done = all.0; noted = all.1; read = search rules; write = search rules }
 
 pub script-preserved-in_default-request : goal.script-preserved-in_default-request
 script-preserved-in_default-request g c =
@@ -93,15 +86,8 @@ returns-then-eq g c =
     (served prompt c.in-Ok.heard.request c.in-Some.request heard.asked c.script.desk c.serve-reply.new.desk
     c.serve-reply.result c.in-Some.is heard.is (rw h.post.kind at c.serve-reply.ensures.answer))
     (wrote_is_ok _ _ c.send.result _ (sym c.is_err.ensures.value ∙ c.if-is_err.false) c.send.ensures.bytes)) in
-    record {
-      done = record {
-        answered = finishes_told _ _ _ _ _ _ ends;
-        works = works_then _ _ _ _ _ _ h.works works;
-      };
-      noted = finishes_all g.V.Watch.notes _ _ _ _ _ _ _ _ ends;
-      read = search rules;
-      write = search rules;
-    }
+    let all = completed g.V.Watch.notes _ _ _ _ _ _ _ _ ends (works_then _ _ _ _ _ _ h.works works) in
+    record { done = all.0; noted = all.1; read = search rules; write = search rules }
 
 pub returns-then-last-2 : goal.returns-then-last-2
 returns-then-last-2 g c =
@@ -117,15 +103,8 @@ returns-then-last-2 g c =
     (served prompt c.in-Ok.heard.request c.in-Some.request heard.asked c.script.desk c.serve-reply.new.desk
     c.serve-reply.result c.in-Some.is heard.is (rw h.post.kind at c.serve-reply.ensures.answer))
     (wrote_is_ok _ _ c.send.result _ (sym c.is_err.ensures.value ∙ c.if-is_err.false) c.send.ensures.bytes)) in
-    record {
-      done = record {
-        answered = finishes_told _ _ _ _ _ _ ends;
-        works = works_then _ _ _ _ _ _ h.works works;
-      };
-      noted = finishes_all g.V.Watch.notes _ _ _ _ _ _ _ _ ends;
-      read = search rules;
-      write = search rules;
-    }
+    let all = completed g.V.Watch.notes _ _ _ _ _ _ _ _ ends (works_then _ _ _ _ _ _ h.works works) in
+    record { done = all.0; noted = all.1; read = search rules; write = search rules }
 
 pub script-preserved : goal.script-preserved
 script-preserved g c =
