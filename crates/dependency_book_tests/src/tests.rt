@@ -340,6 +340,14 @@ const ALL_STOPPED: &[Act] = &[
     // The answer is expected still.
     Act::FirstOut(Some(6)),
     Act::Fill(Filled::Row),
+    // A step is stopped as a view is.
+    Act::Mark(5),
+    Act::Issue(Need::Step { branch: 0, mark: 5 }),
+    Act::IsAsked(false),
+    Act::StopAll,
+    Act::IsAsked(true),
+    Act::FirstOut(Some(7)),
+    Act::Fill(Filled::Row),
 ];
 
 const NUMBERED: &[Act] = &[
