@@ -1,6 +1,6 @@
 -- What the definitions are meant to say: each statement is proved by a function of the same name.
-use Rattle.std.specs.Prelude.{◌≡◌, ◌≢◌, ℕ, ◌<◌, ◌≤◌, ◌^◌, ◌==◌, List, [], length, slice_index, slice_index_or, Some, Ok}
-use Rattle.std.specs.List.{AllByRecursion}
+use Rattle.std.specs.Prelude.{◌≡◌, ℕ, ◌<◌, ◌^◌, ◌==◌, List, [], slice_index, slice_index_or, Some, Ok}
+use Rattle.text_lines.specs.RuleNames.{IsName}
 use Rattle.macrocell_lines.specs.declared.bitmap.Bitmap.{Bitmap}
 use Rattle.macrocell_lines.specs.declared.node.Node.{Node}
 use Rattle.macrocell_lines.specs.Bitmaps.{bitmap_of, is_live}
@@ -8,17 +8,6 @@ use Rattle.macrocell_lines.specs.MacrocellText.{macrocell_of}
 use Rattle.macrocell_lines.specs.Nodes.{AreNodes}
 use Rattle.macrocell_lines.specs.Pieces.{pieces}
 use Rattle.macrocell_lines.specs.WrittenText.{written_text}
-
--- a byte that a rule's name may have: printable, and neither a blank nor a colon
-pub record IsNameByte (b : ℕ) : Type 0 where
-  pub low : 33 ≤ b
-  pub high : b ≤ 126
-  pub other : b ≢ 58
-
--- one such byte or more
-pub record IsName (name : List ℕ) : Type 0 where
-  pub some : 0 < length name
-  pub bytes : AllByRecursion IsNameByte name
 
 -- what is written says the name, the generation and the nodes that were written
 abbrev pub WrittenSaysTheSame : Type 0

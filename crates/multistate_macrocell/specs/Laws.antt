@@ -1,6 +1,6 @@
 -- What the definitions are meant to say: each statement is proved by a function of the same name.
 use Rattle.std.specs.Prelude.{◌≡◌, ℕ, ◌-◌, ◌<◌, ◌≤◌, ◌^◌, List, length, slice_get, Ok, Some, ℤ, pos, ◌+ℤ◌}
-use Rattle.macrocell_lines.specs.Laws.{IsName}
+use Rattle.text_lines.specs.RuleNames.{IsName}
 use Rattle.macrocell_lines.specs.declared.node.Node.{Node}
 use Rattle.macrocell_lines.specs.Nodes.{AreNodes, level_of}
 use Rattle.worlds.specs.World.{World, cell}

@@ -10,13 +10,13 @@ use Rattle.std.proofs.lemmas.List.Splits.{slice_split_at, slice_split_none}
 use Rattle.basics.proofs.Shared.Lists.{all_append, all_so}
 use Rattle.text_lines.specs.Blanks.{is_blank, trim}
 use Rattle.text_lines.specs.Numbers.{number_of}
+use Rattle.text_lines.specs.RuleNames.{IsName, IsNameByte}
 use Rattle.text_lines.proofs.Shared.ByteRanges.{IsDigit, IsPrinted, IsVisible, is_printed, is_visible, differs, printed-tested, visible-printed, visible-solid, visible-tested}
 use Rattle.text_lines.proofs.Shared.Decimals.{decimal-bytes, decimal-some, number_of-decimal}
-use Rattle.text_lines.proofs.Shared.PrintedLines.{IsLine, ends-append, ends-behind, ends-visible, trim-blank}
+use Rattle.text_lines.proofs.Shared.PrintedLines.{IsLine, ends-append, ends-behind, ends-visible, name-visible, trim-blank}
 use Rattle.multistate_rle.specs.Comments.{is_sign, starts_loose, tight, parts, signed_of, coordinate_of, place_in, generation_in, plain_origin, after_part, after_comment}
 use Rattle.multistate_rle.specs.Cut.{cut_at}
 use Rattle.multistate_rle.specs.Header.{value_in, size_in, name_after_width, rule_name}
-use Rattle.multistate_rle.specs.Laws.{IsName, IsNameByte}
 use Rattle.multistate_rle.proofs.Cuts.{IsOther, others, cut-first, cut-none}
 
 -- a digit or a minus
@@ -138,9 +138,6 @@ size-reads key front n h is small =
 -- the second line
 abbrev pub header_line : ℕ → ℕ → List ℕ → List ℕ
 header_line width height name = codes "x = " ++ decimal width ++ 44 ∷ (codes " y = " ++ decimal height ++ 44 ∷ (codes " rule = " ++ name))
-
-name-visible : (name : List ℕ) → AllByRecursion IsNameByte name → AllByRecursion IsVisible name
-name-visible name h = all_so IsNameByte IsVisible name (λ b k. (k.low, k.high)) h
 
 -- the first field of some, which ends with a number
 field-cut : (front rest : List ℕ) (n : ℕ) → list_all (λ b. not (b == 44)) front ≡ true → n < 2 ^ 64 → cut_at 44 (front ++ decimal n ++ 44 ∷ rest) ≡ Some (front ++ decimal n, rest)

@@ -13,6 +13,7 @@ use Rattle.worlds.specs.Lay.{lay}
 use Rattle.text_lines.specs.Blanks.{trim}
 use Rattle.text_lines.specs.Lines.{Line, lines, lines_from, full_line, strip_carriage_return}
 use Rattle.text_lines.specs.Lines.End.{Ended}
+use Rattle.text_lines.specs.RuleNames.{IsName}
 use Rattle.basics.specs.Results.{◌>>=◌}
 use Rattle.multistate_rle.specs.declared.comment.Origin.{Origin}
 use Rattle.multistate_rle.specs.declared.fault.RleFault.TheVariants.{TooManyLive, CellOutOfRange}
@@ -23,7 +24,7 @@ use Rattle.multistate_rle.specs.Cut.{begins_with}
 use Rattle.multistate_rle.specs.Frame.{box_of, frame_of}
 use Rattle.multistate_rle.specs.Head.{head_from}
 use Rattle.multistate_rle.specs.Header.{rule_name}
-use Rattle.multistate_rle.specs.Laws.{IsName, CanBeWritten, WrittenMeansTheSame}
+use Rattle.multistate_rle.specs.Laws.{CanBeWritten, WrittenMeansTheSame}
 use Rattle.multistate_rle.specs.Pattern.{Strip, strips_from, live_count, lies_inside, world_of, drawn_by, pattern_of}
 use Rattle.multistate_rle.specs.PatternText.{packed, framed_text}
 use Rattle.multistate_rle.specs.Symbols.{solid_from, symbols}

@@ -1,22 +1,11 @@
 -- What the definitions are meant to say: each statement is proved by a function of the same name.
-use Rattle.std.specs.Prelude.{◌≡◌, ◌≢◌, ℕ, ◌<◌, ◌≤◌, ◌^◌, List, length, Ok}
-use Rattle.std.specs.List.{AllByRecursion}
+use Rattle.std.specs.Prelude.{◌≡◌, ℕ, ◌<◌, ◌≤◌, ◌^◌, List, Ok}
+use Rattle.text_lines.specs.RuleNames.{IsName}
 use Rattle.worlds.specs.World.{World}
 use Rattle.worlds.specs.Live.{population}
 use Rattle.worlds.specs.Range.{HasMargin, AllBelow}
 use Rattle.multistate_rle.specs.Pattern.{pattern_of}
 use Rattle.multistate_rle.specs.PatternText.{rle_text}
-
--- a byte that a rule's name may have: printable, and neither a blank nor a colon
-pub record IsNameByte (b : ℕ) : Type 0 where
-  pub low : 33 ≤ b
-  pub high : b ≤ 126
-  pub other : b ≢ 58
-
--- one such byte or more
-pub record IsName (name : List ℕ) : Type 0 where
-  pub some : 0 < length name
-  pub bytes : AllByRecursion IsNameByte name
 
 -- a world that can be written under a rule of so many states: in the range of planes, of states
 -- below that number, and with at most 1,000,000 live cells

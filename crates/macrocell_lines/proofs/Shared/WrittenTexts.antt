@@ -5,19 +5,17 @@ use Rattle.std.specs.List.{AllByRecursion, position_or_len}
 use Rattle.std.proofs.lemmas.Bool.Decides.{nat_tests}
 use Rattle.basics.specs.Results.{◌>>=◌}
 use Rattle.macrocell_lines.specs.declared.node.Node.{Node}
-use Rattle.macrocell_lines.specs.Laws.{IsName, IsNameByte, WrittenSaysTheSame}
+use Rattle.macrocell_lines.specs.Laws.{WrittenSaysTheSame}
 use Rattle.macrocell_lines.specs.MacrocellText.{after_line, after_lines, nothing_said, said_by}
 use Rattle.macrocell_lines.specs.Nodes.{AreNodes}
 use Rattle.macrocell_lines.specs.WrittenText.{node_line, written_lines}
 use Rattle.basics.proofs.Shared.Lists.{all_so}
+use Rattle.text_lines.specs.RuleNames.{IsName, IsNameByte}
 use Rattle.text_lines.proofs.Shared.ByteRanges.{IsDigit, IsPrinted, IsVisible, differs, digit-visible, printed-tested, visible-printed}
 use Rattle.text_lines.proofs.Shared.Decimals.{decimal-numeral}
 use Rattle.macrocell_lines.proofs.NumberLines.{number_in-decimal}
-use Rattle.text_lines.proofs.Shared.PrintedLines.{IsLine, ends-append, ends-visible, line-between, says-lines, trim-blank}
+use Rattle.text_lines.proofs.Shared.PrintedLines.{IsLine, ends-append, ends-visible, line-between, name-visible, says-lines, trim-blank}
 use Rattle.macrocell_lines.proofs.WrittenNodes.{node-lines, nodes-taken}
-
-name-visible : (name : List ℕ) → AllByRecursion IsNameByte name → AllByRecursion IsVisible name
-name-visible name h = all_so IsNameByte IsVisible name (λ b k. (k.low, k.high)) h
 
 colon_none : (name : List ℕ) → AllByRecursion IsNameByte name → position_or_len (λ b. b == 58) name ≡ length name
 colon_none [] h = refl

@@ -5,6 +5,7 @@ use Rattle.basics.proofs.Shared.Lists.{all_so}
 use Rattle.text_lines.specs.Blanks.{before_end, trim, trim_end}
 use Rattle.text_lines.specs.LineEnds.{text_of_lines}
 use Rattle.text_lines.specs.Lines.{NoLineFeed, says, strip_carriage_return}
+use Rattle.text_lines.specs.RuleNames.{IsNameByte}
 use Rattle.text_lines.proofs.Shared.ByteRanges.{IsPrinted, IsVisible, differs, visible-printed, visible-solid}
 use Rattle.text_lines.proofs.Shared.LineEnds.{one-line, says-line, strip-none}
 
@@ -12,6 +13,10 @@ use Rattle.text_lines.proofs.Shared.LineEnds.{one-line, says-line, strip-none}
 pub record IsLine (line : List ℕ) : Type 0 where
   pub printed : AllByRecursion IsPrinted line
   pub trimmed : trim line ≡ line
+
+-- the name of a rule is visible
+pub name-visible : (name : List ℕ) → AllByRecursion IsNameByte name → AllByRecursion IsVisible name
+name-visible name h = all_so IsNameByte IsVisible name (λ b k. (k.low, k.high)) h
 
 -- printed bytes are on one line, and have no carriage return at their end
 pub strip-printed : (xs : List ℕ) → AllByRecursion IsPrinted xs → strip_carriage_return xs ≡ xs
