@@ -5,12 +5,13 @@
 //! `Plane` as a world: every call on it says which world it gives or what it tells of one. Its rows
 //! are canonical: a world has one list of them, so planes with equal cells have equal rows.
 //!
-//! `from_squares` makes any rows canonical in two walks that see each row once, and measures them in
-//! a third pass, so that `population`, `greatest` and `bounds` are there. `get` is one descent of at
-//! most 62 levels, and `equals` compares rows. `lay` adds a row for each square that holds a laid
-//! cell, at most 62 a cell, and makes the rows canonical again; `from_cells` lets the list of cells
-//! go before that. `live` descends to each live cell once, `cells_within` only to those in its box,
-//! and `counts` takes one pass over the rows from the root down.
+//! `from_squares` makes any rows canonical in a walk that sees each row once, and in a second where
+//! a smaller root does, and measures them in one more pass, so that `population`, `greatest` and
+//! `bounds` are there. `get` is one descent of at most 62 levels, and `equals` compares rows. `lay`
+//! adds a row for each square that holds a laid cell, at most 62 a cell, and makes the rows canonical
+//! again; `from_cells` lets the list of cells go before that. `live` descends to each live cell once,
+//! `cells_within` only to those in its box, and `counts` takes one pass over the rows from the root
+//! down.
 //!
 //! The crate hands on what `worlds` declares of cells, rules and stops. `Loaded` is a pattern as a
 //! file holds it.
