@@ -230,6 +230,7 @@ impl<'a> SquareTable<'a> {
         requires four { (d : Square) → AreFour self.old (level_of (slice_index_or four 0 d)) four }
         requires level { (d : Square) → level_of (slice_index_or four 0 d) ≤ 63 }
         ensures keeps { Keeps self.old self.new }
+        ensures one { GrowsBy (map number_of four.entry) self.old self.new }
         ensures joined { IfOk result (IsJoined self.old four.entry self.new) }
         ensures unchanged { OnErr result (self.new ≡ self.old) }
         ensures full { result ≡ Err TableFault.NoRoom → IsFull self.new }
