@@ -5,5 +5,6 @@ pub mod Shared
 pub mod Computed
 pub mod Turns
 pub mod Way
+pub mod Ways
 pub mod Once
 pub mod Adding

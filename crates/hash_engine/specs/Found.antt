@@ -6,10 +6,11 @@ use Rattle.worlds.specs.Square as squares
 use Rattle.worlds.specs.Square.{square_at}
 use Rattle.square_table.specs.declared.square.Square.{Square}
 use Rattle.square_table.specs.Squares.{Table, IsHeld, Grows, square_in, level_of, cells_of}
-use Rattle.square_table.specs.Made.{IsFull}
+use Rattle.square_table.specs.Made.{IsFull, IsMade}
 use Rattle.square_table.specs.declared.fault.TableFault.TheVariants.{NoRoom}
 use Rattle.hash_life.specs.Result.{result}
 use Rattle.hash_life.specs.Puts.{IsBelow, AsksOnce}
+use Rattle.hash_life.specs.Makes.{Makes}
 use Rattle.hash_engine.specs.Standing.{StandsFor, StandForAll, IsReady}
 use Rattle.hash_engine.specs.Memo.{IsRight, IsAnew}
 use Rattle.hash_engine.specs.Asked.{places_of_four}
@@ -103,11 +104,12 @@ pub record IsEnd {A : Type 0} (table : Table) (yes new_yes : ℕ) (r : Result A 
   pub stop : CountsStop r (Err ResultFault.Stopped) yes new_yes
   pub full : r ≡ Err (ResultFault.Table NoRoom) → IsFull table
 
--- what was found on the way from the root's table t to u: the square, how many of the squares have
--- 4 by 4 cells, and no more of these that were put to the rule
+-- what was found on the way from the root's table t to u, which has all that is made on it: the
+-- square, how many of the squares have 4 by 4 cells, and no more of these that were put to the rule
 pub record Finds (next : List ℕ → ℕ) (generations : ℕ) (t : Table) (root : Square) (u : Table)
     (found : Found) : Type 0 where
   pub square : IsLater next generations t root u found.square
+  pub made : Makes next (level_of root - 2) generations (cells_of t root) (IsMade u.rows)
   pub fours : found.fours ≡ length (places_of_four u.rows)
   pub few : found.fours ≤ length u.rows
   pub base : found.base ≤ found.fours

@@ -1,16 +1,19 @@
 -- What is remembered.
 use Rattle.std.specs.Prelude.{◌≡◌, ◌≢◌, ℕ, suc, ◌+◌, ◌-◌, ◌^◌, ◌<◌, List, [], get_or}
 use Rattle.square_table.specs.Squares.{IsNumber, square_in, first_number}
+use Rattle.square_table.specs.Made.{IsMade}
 use Rattle.hash_life.specs.Result.{result}
+use Rattle.hash_life.specs.Makes.{Makes}
 use Rattle.hash_engine.specs.Standing.{StandsFor}
 use Rattle.hash_engine.specs.declared.memo.Memo.{Memo}
 
 -- r is the number of the result, so many generations later, of the square of level k + 2 with the
--- number n
+-- number n, and all that is made on the way to it is there
 pub record IsResult (next : List ℕ → ℕ) (rows : List (List ℕ)) (k generations n r : ℕ)
     : Type 0 where
   pub numbered : IsNumber rows (suc (suc k)) n
   pub result : StandsFor rows (suc k) r (result next k generations (square_in rows (suc (suc k)) n))
+  pub made : Makes next k generations (square_in rows (suc (suc k)) n) (IsMade rows)
 
 -- results by the places of their squares, 0 where none is known; the level decides how many
 -- generations later each is

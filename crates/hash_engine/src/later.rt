@@ -2,7 +2,7 @@
 
 ghost use Rattle.std.specs.Prelude.{◌≡◌, [], ◌∷◌, IfOk, OnOk, Err};
 ghost use Rattle.square_table.specs.Made.{IsFull};
-ghost use Rattle.hash_engine.specs.Adding.{GrowsOnWay};
+ghost use Rattle.hash_engine.specs.Adding.{GrowsOnWay, HasWays};
 ghost use Rattle.hash_engine.specs.Asked.{AsksFour, StandOn};
 ghost use Rattle.hash_engine.specs.Found.{KeepsRule, Stays, CanBeAsked, CanSearch, CanSeek, CanSeekAll, CanCompute, CanPut, IsFound, AreFound, IsEnd, IsLater, Finds, AsksOnceFor};
 ghost use Rattle.hash_engine.specs.Memo.{IsRight};
@@ -41,6 +41,8 @@ fn put<Q: Ask>(
         table.old table.new memo.new }
     ensures found { IfOk result
         (IsFound (Q.meaning rule.old) 0 ahead number table.old table.new) }
+    ensures ways { OnOk result
+        (HasWays (Q.meaning rule.old) 0 ahead (number ∷ []) table.old table.new) }
     ensures four { OnOk result
         (AsksFour 0 ahead Q.asks rule.old rule.new table.old memo.old table.new memo.new) }
     ensures stand { OnOk result (StandOn (Q.meaning rule.old) 0 ahead (number ∷ [])
@@ -72,6 +74,8 @@ fn later<Q: Ask, S: Stop>(
     ensures end { IsEnd table.new (S.yes_count stop.old) (S.yes_count stop.new) result }
     ensures found { IfOk result
         (IsFound (Q.meaning rule.old) k ahead number table.old table.new) }
+    ensures ways { OnOk result
+        (HasWays (Q.meaning rule.old) k ahead (number ∷ []) table.old table.new) }
     ensures four { OnOk result
         (AsksFour k ahead Q.asks rule.old rule.new table.old memo.old table.new memo.new) }
     ensures stand { OnOk result (StandOn (Q.meaning rule.old) k ahead (number ∷ [])
@@ -113,6 +117,8 @@ fn compute<Q: Ask, S: Stop>(
     ensures end { IsEnd table.new (S.yes_count stop.old) (S.yes_count stop.new) result }
     ensures found { IfOk result
         (IsFound (Q.meaning rule.old) k ahead number table.old table.new) }
+    ensures ways { OnOk result
+        (HasWays (Q.meaning rule.old) k ahead (number ∷ []) table.old table.new) }
     ensures four { OnOk result
         (AsksFour k ahead Q.asks rule.old rule.new table.old memo.old table.new memo.new) }
     ensures stand { OnOk result (StandOn (Q.meaning rule.old) k ahead (number ∷ [])
@@ -145,6 +151,8 @@ fn all_later<Q: Ask, S: Stop>(
     ensures end { IsEnd table.new (S.yes_count stop.old) (S.yes_count stop.new) result }
     ensures found { OnOk result
         (AreFound (Q.meaning rule.old) k ahead numbers.old table.old table.new numbers.new) }
+    ensures ways { OnOk result
+        (HasWays (Q.meaning rule.old) k ahead numbers.old table.old table.new) }
     ensures four { OnOk result
         (AsksFour k ahead Q.asks rule.old rule.new table.old memo.old table.new memo.new) }
     ensures stand { OnOk result (StandOn (Q.meaning rule.old) k ahead numbers.old

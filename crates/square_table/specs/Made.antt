@@ -11,6 +11,13 @@ pub record IsAmong (squares : List Square) (rows : List (List ℕ)) (n : ℕ) : 
   pub numbered : IsNumber rows (suc level) n
   pub listed : Contains squares (square_in rows (suc level) n)
 
+-- the square, which isn't a cell, is one of the table's
+pub record IsMade (rows : List (List ℕ)) (s : Square) : Type 0 where
+  pub level : ℕ
+  pub number : ℕ
+  pub numbered : IsNumber rows (suc level) number
+  pub square : square_in rows (suc level) number ≡ s
+
 -- each row is that of one of these squares
 pub record AreAmong (squares : List Square) (rows : List (List ℕ)) : Type 0 where
   pub each : (i : ℕ) → i < length rows → IsAmong squares rows (first_number + i)

@@ -1,5 +1,5 @@
 -- What an engine made on its way, from what its table grew by.
-use Rattle.std.proofs.Common.{◌≡◌, ℕ, suc, ◌+◌, ◌-◌, ◌≤◌, ◌^◌, min, List, [], refl, sym, ap, ◌∙◌, subst, arith}
+use Rattle.std.proofs.Common.{◌≡◌, ℕ, suc, ◌+◌, ◌-◌, ◌≤◌, ◌^◌, min, List, [], length, refl, sym, ap, ◌∙◌, subst, arith}
 use Rattle.std.specs.Prelude.{Contains}
 use Rattle.std.proofs.lemmas.Int.{ints}
 use Rattle.worlds.specs.World.{World}
@@ -12,22 +12,24 @@ use Rattle.hash_life.specs.Makes.{Makes}
 use Rattle.square_table.specs.declared.square.Square.{Square}
 use Rattle.square_table.specs.declared.fault.TableFault.{TableFault}
 use Rattle.square_table.specs.declared.fault.TableFault.TheVariants as table
-use Rattle.square_table.specs.Squares.{Table, level_of, cells_of}
+use Rattle.square_table.specs.Squares.{Table, IsNumber, square_in, Grows, AreDistinct, level_of, number_of, cells_of}
 use Rattle.square_table.specs.Centred.{edge, IsCentred}
-use Rattle.square_table.specs.Made.{AreAmong, IsFull, HasStart}
+use Rattle.square_table.specs.Made.{IsMade, AreAmong, IsFull, HasStart}
 use Rattle.square_table.specs.Loading.{GrowsFor, IsRootLevel}
-use Rattle.square_table.proofs.Shared.Growth.{Grows-then}
+use Rattle.square_table.proofs.Shared.Growth.{Grows-then, IsNumber-grows, square_in-grows}
 use Rattle.hash_engine.specs.Adding.{GrowsOnWay}
+use Rattle.hash_engine.specs.Asked.{places_of_four}
 use Rattle.hash_engine.specs.Found.{IsLater}
 use Rattle.hash_engine.specs.declared.fault.ResultFault.{ResultFault}
 use Rattle.hash_engine.specs.declared.fault.ResultFault.TheVariants as results
+use Rattle.step_engine.specs.declared.evolved.Report.{Report}
 use Rattle.step_engine.specs.declared.evolved.EvolveFault.TheVariants.{NoRoom}
 use Rattle.step_engine.specs.Reach.{HasRoomFor, IsRoomLevel}
 use Rattle.step_engine.specs.Padded.{AddsRound, AddsStart, IsRooted, IsWidened}
-use Rattle.step_engine.specs.Evolved.{HasWay, IsRoomSpent, of_table, of_result}
+use Rattle.step_engine.specs.Evolved.{HasWay, AreReported, IsRoomSpent, of_table, of_result}
 use Rattle.step_engine.proofs.Centring.{edge-suc}
 use Rattle.step_engine.proofs.Evolving.{IsCentred-later}
-use Rattle.step_engine.proofs.Held.{held_many}
+use Rattle.step_engine.proofs.Held.{reported, held_many}
 
 -- the square with room holds the live cells
 pub room-fits : (n k : ℕ) (w : World) → HasRoomFor n k w → Fits (suc (suc k)) w
@@ -111,6 +113,23 @@ searching all next w n t u v root adds rooted way grows are =
     let less : adds.k ≡ level_of root - 2 = omega (arith, at) in
     let square : square_at w (suc (suc adds.k)) (edge (suc (suc adds.k))) (edge (suc (suc adds.k))) ≡ cells_of u root = ap (λ l. square_at w l (edge l) (edge l)) (sym at) ∙ sym rooted.centred.square in
     grows.among all (subst (λ j. Makes next j n (cells_of u root) (Contains all)) less (subst (λ s. Makes next adds.k n s (Contains all)) square way.way)) (adds.among all way.start are)
+
+-- all that it goes through is reported
+pub searched : (all : List squares.Square) (next : List ℕ → ℕ) (w : World) (n : ℕ) (t u v : Table) (root : Square) (report : Report) (adds : AddsStart w n t u) → IsRooted w n u root → Grows u v → Makes next (level_of root - 2) n (cells_of u root) (IsMade v.rows) →
+    AreDistinct v.rows → AreAmong all v.rows → report.squares ≡ length v.rows → report.fours ≡ length (places_of_four v.rows) → AreReported all next w adds.k n report
+searched all next w n t u v root report adds rooted grows makes distinct among is_many is_fours =
+    let at = rooted.level adds.k adds.root in
+    let less : level_of root - 2 ≡ adds.k = omega (arith, at) in
+    let high : level_of root ≡ suc (suc adds.k) = omega (arith, at) in
+    let number = number_of root in
+    let there : IsNumber u.rows (suc (suc adds.k)) number = subst (λ l. IsNumber u.rows l number) high rooted.held.numbered in
+    let kept : square_in v.rows (suc (suc adds.k)) number ≡ square_in u.rows (suc (suc adds.k)) number = square_in-grows u v (suc (suc adds.k)) number grows there in
+    let cells : cells_of u root ≡ square_in u.rows (suc (suc adds.k)) number = ap (λ l. square_in u.rows l number) high in
+    let square : square_in u.rows (suc (suc adds.k)) number ≡ square_at w (suc (suc adds.k)) (edge (suc (suc adds.k))) (edge (suc (suc adds.k))) =
+    sym cells ∙ rooted.centred.square ∙ ap (λ l. square_at w l (edge l) (edge l)) high in
+    let way : Makes next adds.k n (square_in v.rows (suc (suc adds.k)) number) (IsMade v.rows) =
+    subst (λ s. Makes next adds.k n s (IsMade v.rows)) (cells ∙ sym kept) (subst (λ j. Makes next j n (cells_of u root) (IsMade v.rows)) less makes) in
+    reported all next w adds.k n v.rows number report distinct among is_many is_fours (IsNumber-grows u v (suc (suc adds.k)) number grows there) (kept ∙ square) way
 
 -- a new table has no rows
 pub none-among : (all : List squares.Square) (t : Table) (limit : ℕ) → t ≡ record { rows = []; limit = limit } → AreAmong all t.rows

@@ -8,7 +8,7 @@ use Rattle.worlds.specs.Square.{Square, one, four, square_at}
 use Rattle.hash_life.specs.Makes.{Makes}
 use Rattle.hash_life.specs.Puts.{AsksOnce}
 use Rattle.square_table.specs.Centred.{edge}
-use Rattle.square_table.specs.Made.{HasStart}
+use Rattle.square_table.specs.Made.{HoldsWithin, HasStart}
 use Rattle.step_engine.specs.Reach.{IsRoomLevel}
 use Rattle.step_engine.specs.declared.evolved.Evolved.{Evolved}
 use Rattle.square_table.specs.declared.fault.TableFault.{TableFault}
@@ -53,6 +53,15 @@ pub record HasWay (all : List Square) (next : List ℕ → ℕ) (w : World) (k n
   pub way : Makes next k n (square_at w (suc (suc k)) (edge (suc (suc k))) (edge (suc (suc k))))
       (Contains all)
 
+-- these have the world's square of level k + 2, all that it is made of, and all that is made where it
+-- goes n generations ahead
+pub record HasSearch (squares : List Square) (next : List ℕ → ℕ) (w : World) (k n : ℕ)
+    : Type 0 where
+  pub root : HoldsWithin (Contains squares)
+      (square_at w (suc (suc k)) (edge (suc (suc k))) (edge (suc (suc k))))
+  pub way : Makes next k n (square_at w (suc (suc k)) (edge (suc (suc k))) (edge (suc (suc k))))
+      (Contains squares)
+
 -- the rule was asked once for each block of 4 by 4 cells that was put to it, and all of those stand
 -- in generations before the last
 abbrev pub AsksOnceOf : {R : Type 0} → (R → List ℕ → ℕ) → (R → ℕ) → R → R →
@@ -67,15 +76,22 @@ pub record IsRoomSpent (limit : ℕ) (next : List ℕ → ℕ) (w : World) (n : 
   pub made : (all : List Square) → HasWay all next w k n →
       (squares : List Square) × AreDifferent squares (min limit 16777216) all
 
--- a report of different squares, each made on the way; so many are blocks of 4 by 4 cells
+-- the squares that are reported, where these are all that are made on the way: different ones of
+-- these, which have all that the search goes through, and so many of them have 4 by 4 cells
+pub record AreReported (all : List Square) (next : List ℕ → ℕ) (w : World) (k n : ℕ)
+    (report : Report) : Type 0 where
+  pub squares : List Square
+  pub different : AreDifferent squares report.squares all
+  pub blocks : length (filter is_block squares) ≡ report.fours
+  pub search : HasSearch squares next w k n
+
+-- a report of all squares that the search goes through, and of none that isn't made on the way
 pub record IsReport (limit : ℕ) (next : List ℕ → ℕ) (w : World) (n : ℕ) (report : Report)
     : Type 0 where
   pub within : IsWithin limit report
   pub k : ℕ
   pub root : IsRoomLevel n w k
-  pub held : (all : List Square) → HasWay all next w k n →
-      (squares : List Square) × AreDifferent squares report.squares all
-      × (length (filter is_block squares) ≡ report.fours)
+  pub held : (all : List Square) → HasWay all next w k n → AreReported all next w k n report
 
 -- the world n generations later, and the report of the way
 pub record IsEvolved (limit : ℕ) (next : List ℕ → ℕ) (w : World) (n : ℕ) (evolved : Evolved)

@@ -1,11 +1,11 @@
 -- Rows that are of given squares, where a table grows, and the different squares that they are.
-use Rattle.std.proofs.Common.{◌≡◌, ℕ, suc, ◌+◌, ◌-◌, List, [], ◌∷◌, ◌++◌, length, get_or, sym, ap, ◌∙◌, subst, arith, inl, inr}
+use Rattle.std.proofs.Common.{◌≡◌, ℕ, zero, suc, ◌+◌, ◌-◌, List, [], ◌∷◌, ◌++◌, length, get_or, refl, sym, ap, ◌∙◌, subst, arith, inl, inr}
 use Rattle.std.specs.Prelude.{Contains}
 use Rattle.std.proofs.lemmas.Bool.{cases_lt}
 use Rattle.std.proofs.lemmas.List.Elements.{All-head}
 use Rattle.worlds.specs.Square.{Square}
-use Rattle.square_table.specs.Squares.{Table, IsNumber, square_in, first_number, IsSquareOf, Grows, GrowsBy, with_row}
-use Rattle.square_table.specs.Made.{IsAmong, AreAmong, Adds}
+use Rattle.square_table.specs.Squares.{Table, IsNumber, square_in, kid_at, first_number, IsSquareOf, Grows, GrowsBy, with_row}
+use Rattle.square_table.specs.Made.{IsMade, IsAmong, AreAmong, Adds, HoldsWithin}
 use Rattle.square_table.proofs.Shared.Tables.{last_row, one_longer}
 use Rattle.square_table.proofs.Shared.Growth.{IsNumber-grows, square_in-grows}
 
@@ -15,6 +15,27 @@ IsAmong-grows all t u n grows is = record {
   numbered = IsNumber-grows t u (suc is.level) n grows is.numbered;
   listed = subst (Contains all) (sym (square_in-grows t u (suc is.level) n grows is.numbered)) is.listed;
 }
+
+-- a square that is made stays
+pub IsMade-grows : (t u : Table) (s : Square) → Grows t u → IsMade t.rows s → IsMade u.rows s
+IsMade-grows t u s grows is = record {
+  level = is.level;
+  number = is.number;
+  numbered = IsNumber-grows t u (suc is.level) is.number grows is.numbered;
+  square = square_in-grows t u (suc is.level) is.number grows is.numbered ∙ is.square;
+}
+
+-- with a square all is made that it is made of
+pub within-made : (P : Square → Type 0) (rows : List (List ℕ)) → ((s : Square) → IsMade rows s → P s) → (k n : ℕ) → IsNumber rows k n → HoldsWithin P (square_in rows k n)
+unfolding IsNumber square_in HoldsWithin
+within-made P rows so zero n is = tt
+within-made P rows so (suc k) n is = (
+  so _ (record { level = k; number = n; numbered = is; square = refl }),
+  within-made P rows so k (kid_at rows n 0) is.2,
+  within-made P rows so k (kid_at rows n 1) is.3,
+  within-made P rows so k (kid_at rows n 2) is.4,
+  within-made P rows so k (kid_at rows n 3) is.5,
+)
 
 -- the row that is added
 added : (t : Table) (kids : List ℕ) (i : ℕ) → i ≡ length t.rows → IsSquareOf (with_row t kids).rows kids (first_number + i)

@@ -9,7 +9,7 @@ use Rattle.hash_engine.specs.Standing.{StandForAll, IsReady}
 use Rattle.hash_engine.specs.Memo.{IsRight}
 use Rattle.hash_engine.specs.Asked.{AsksForMore}
 use Rattle.square_table.specs.Made.{Adds}
-use Rattle.hash_engine.specs.Adding.{AddsFor}
+use Rattle.hash_engine.specs.Adding.{AddsFor, HasWays}
 use Rattle.hash_engine.specs.Found.{CanSeek, CanSeekAll}
 use Rattle.hash_engine.proofs.Standing.{above}
 use Rattle.hash_engine.proofs.Shared.Memos.{IsRight-grows, IsResult-made}
@@ -18,6 +18,7 @@ use Rattle.hash_engine.proofs.Shared.Puts.{none_put, higher_remembered}
 use Rattle.hash_engine.proofs.Once.{asked_in_two, asked_turn}
 use Rattle.hash_engine.proofs.Turns.{IsReady-turn, square_in-turn, result-turn, done_more, rest_more, StandForAll-done}
 use Rattle.hash_engine.proofs.Adding.{AddsFor-turn, AddsFor-middle, AddsFor-result, Adds-made}
+use Rattle.hash_engine.proofs.Ways.{HasWays-none, HasWays-computed, ways_more}
 use Rattle.hash_engine.proofs.Way.{adds_nine, adds_of_nine, adds_fours, adds_of_fours}
 use Rattle.hash_engine.proofs.later.+later.Goals as goal
 
@@ -43,6 +44,9 @@ all_later-loop-number-preserved g t c =
       count = length-set c.loop-number.numbers i c.in_ok-number.field-0 ∙ c.loop-number.invariant.count;
       done = done_more (g.Q.Ask.meaning c.args.rule.now) c.args.table.now c.loop-number.table c.later.new.table c.args.k c.args.ahead c.args.numbers.now c.loop-number.numbers i c.in_ok-number.field-0 (omega (arith, below, c.loop-number.invariant.count)) c.in_ok-number.ensures.stays.grows c.loop-number.invariant.done
           (result-turn (g.Q.Ask.meaning c.args.rule.now) (g.Q.Ask.meaning c.loop-number.rule) (g.Q.Ask.state_count c.args.rule.now) (g.Q.Ask.state_count c.loop-number.rule) c.args.table.now c.loop-number.table c.later.new.table.rows c.args.k c.args.ahead c.args.numbers.now c.loop-number.numbers i c.in_ok-number.field-0 _ c.loop-number.invariant.rule c.loop-number.invariant.grows c.requires.ready below c.loop-number.invariant.rest c.in_ok-number.ensures.found);
+      ways = ways_more (g.Q.Ask.meaning c.args.rule.now) c.args.k c.args.ahead c.args.numbers.now i _ c.args.table.now c.loop-number.table c.later.new.table c.in_ok-number.ensures.stays.grows c.loop-number.invariant.ways
+          (square_in-turn (g.Q.Ask.meaning c.args.rule.now) (g.Q.Ask.state_count c.args.rule.now) c.args.table.now c.loop-number.table c.args.k c.args.ahead c.args.numbers.now c.loop-number.numbers i 0 c.loop-number.invariant.grows c.requires.ready below c.loop-number.invariant.rest)
+          (subst (λ f. HasWays f c.args.k c.args.ahead (get_or c.loop-number.numbers i 0 ∷ []) c.loop-number.table c.later.new.table) c.loop-number.invariant.rule.meaning c.in_ok-number.ensures.ways);
       asks =
           let found : AsksForMore (g.Q.Ask.meaning c.loop-number.rule) c.args.k c.args.ahead (get_or c.loop-number.numbers i 0 ∷ []) c.loop-number.table c.later.new.table c.loop-number.memo c.later.new.memo (g.Q.Ask.asks c.loop-number.rule) (g.Q.Ask.asks c.later.new.rule) =
           record { four = c.in_ok-number.ensures.four; stand = c.in_ok-number.ensures.stand } in
@@ -84,6 +88,11 @@ all_later-returns-clause-stays g t c = record {
 pub all_later-returns-clause-found : goal.all_later-returns-clause-found
 all_later-returns-clause-found g t c = λ ss are.
     StandForAll-done (g.Q.Ask.meaning c.args.rule.now) c.args.table.now c.loop-number.table c.args.k c.args.ahead c.args.numbers.now c.loop-number.numbers c.loop-number.number-index ss c.loop-number-test.false c.loop-number.invariant.count c.loop-number.invariant.done are
+
+pub all_later-returns-clause-ways : goal.all_later-returns-clause-ways
+all_later-returns-clause-ways g t c = λ j e below.
+    let all = c.loop-number-test.false in
+    c.loop-number.invariant.ways j e (omega (arith, below, all))
 
 pub all_later-returns-clause-four : goal.all_later-returns-clause-four
 all_later-returns-clause-four g t c = c.loop-number.invariant.asks.four
@@ -242,6 +251,22 @@ compute-returns-clause-found g t c =
     c.in_ok-join_numbers.ensures.grows c.in_ok-join_numbers.ensures.square
     (subst (λ f. StandForAll c.all_later-2.new.table.rows (suc j) c.all_later-2.new.numbers (map (hash_life.result f j (c.args.ahead - c.min-first.result)) (fours_of (map (hash_life.result (g.Q.Ask.meaning c.args.rule.now) j c.min-first.result) (nine_of (square_in c.args.table.now.rows (suc (suc (suc j))) c.args.number)))))) same later))
 
+pub compute-returns-clause-ways : goal.compute-returns-clause-ways
+compute-returns-clause-ways g t c =
+    let j = c.args.k - 1 in
+    let next = g.Q.Ask.meaning c.args.rule.now in
+    let level : suc j ≡ c.args.k = omega (arith, c.requires.above) in
+    let first : c.min-first.result ≡ min c.args.ahead (2 ^ j) = c.min-first.ensures ∙ ap (min c.args.ahead) c.full.ensures in
+    let lower = IsReady-lower next (g.Q.Ask.state_count c.args.rule.now) c.args.table.now.rows c.args.k j c.args.ahead c.args.number level c.requires.seek.ready in
+    let nine = nine_stand c.args.table.now c.nine.new.table j c.args.number _ lower.numbered c.in_ok-nine.ensures.squares in
+    let fours = c.in_ok-fours.ensures.squares (suc j) _ (c.in_ok-all_later.ensures.found _ nine) in
+    let after = subst (λ f. HasWays f j (c.args.ahead - c.min-first.result) c.in_ok-fours.fours c.fours.new.table c.all_later-2.new.table) c.in_ok-all_later.ensures.stays.rule.meaning c.in_ok-all_later-2.ensures.ways in
+    let last = c.in_ok-join_numbers.ensures.grows in
+    let since_nine = Grows-then c.all_later.new.table c.fours.new.table c.join_numbers.new.self c.in_ok-fours.ensures.grows (Grows-then c.fours.new.table c.all_later-2.new.table c.join_numbers.new.self c.in_ok-all_later-2.ensures.stays.grows last) in
+    let since = Grows-then c.args.table.now c.all_later.new.table c.join_numbers.new.self (Grows-then c.args.table.now c.nine.new.table c.all_later.new.table c.in_ok-nine.ensures.grows c.in_ok-all_later.ensures.stays.grows) since_nine in
+    HasWays-computed next c.args.k j c.args.ahead c.min-first.result c.args.number c.in_ok-join_numbers.field-0 _ _ c.args.table.now c.nine.new.table c.all_later.new.table c.fours.new.table c.all_later-2.new.table c.join_numbers.new.self
+    level c.requires.some first lower.numbered since since_nine last nine c.in_ok-all_later.ensures.ways fours after (compute-returns-clause-found g t c)
+
 pub compute-returns-clause-four : goal.compute-returns-clause-four
 compute-returns-clause-four g t c =
     let j = c.args.k - 1 in
@@ -302,6 +327,11 @@ pub later-returns-then-ahead-eq0-clause-found : goal.later-returns-then-ahead-eq
 later-returns-then-ahead-eq0-clause-found g t c =
     none_stands (g.Q.Ask.meaning c.args.rule.now) c.args.table.now c.middle.new.table c.args.k c.args.ahead c.args.number c.in_ok-middle.field-0 c.if-ahead-eq0.true c.requires.ready.numbered c.in_ok-middle.ensures.square
 
+pub later-returns-then-ahead-eq0-clause-ways : goal.later-returns-then-ahead-eq0-clause-ways
+later-returns-then-ahead-eq0-clause-ways g t c =
+    HasWays-none (g.Q.Ask.meaning c.args.rule.now) c.args.k c.args.ahead c.args.number c.in_ok-middle.field-0 c.args.table.now c.middle.new.table c.if-ahead-eq0.true c.in_ok-middle.ensures.grows c.requires.ready.numbered
+    (none_stands (g.Q.Ask.meaning c.args.rule.now) c.args.table.now c.middle.new.table c.args.k c.args.ahead c.args.number c.in_ok-middle.field-0 c.if-ahead-eq0.true c.requires.ready.numbered c.in_ok-middle.ensures.square)
+
 pub later-returns-then-ahead-eq0-clause-four : goal.later-returns-then-ahead-eq0-clause-four
 later-returns-then-ahead-eq0-clause-four g t c =
     (none_put (g.Q.Ask.meaning c.args.rule.now) c.args.k c.args.ahead (c.args.number ∷ []) c.args.table.now c.middle.new.table c.args.memo.now (g.Q.Ask.asks c.args.rule.now) c.in_ok-middle.ensures.grows c.requires.right).four
@@ -323,7 +353,7 @@ later-returns-in_err-remember-clause-stays g t c = record {
   right =
       let grown = c.in_ok-made.ensures.stays.grows in
       c.remember.ensures.right (g.Q.Ask.meaning c.args.rule.now) c.compute.new.table.rows c.in_ok-made.ensures.stays.right
-      (IsResult-made (g.Q.Ask.meaning c.args.rule.now) c.args.table.now c.compute.new.table c.args.k c.args.ahead c.args.number c.in_ok-made.made grown c.requires.ready.numbered c.in_ok-made.ensures.found);
+      (IsResult-made (g.Q.Ask.meaning c.args.rule.now) c.args.table.now c.compute.new.table c.args.k c.args.ahead c.args.number c.in_ok-made.made grown c.requires.ready.numbered c.in_ok-made.ensures.found c.in_ok-made.ensures.ways);
   adds = c.in_ok-made.ensures.stays.adds;
 }
 
@@ -334,9 +364,12 @@ later-returns-clause-stays g t c = record {
   right =
       let grown = c.in_ok-made.ensures.stays.grows in
       c.remember.ensures.right (g.Q.Ask.meaning c.args.rule.now) c.compute.new.table.rows c.in_ok-made.ensures.stays.right
-      (IsResult-made (g.Q.Ask.meaning c.args.rule.now) c.args.table.now c.compute.new.table c.args.k c.args.ahead c.args.number c.in_ok-made.made grown c.requires.ready.numbered c.in_ok-made.ensures.found);
+      (IsResult-made (g.Q.Ask.meaning c.args.rule.now) c.args.table.now c.compute.new.table c.args.k c.args.ahead c.args.number c.in_ok-made.made grown c.requires.ready.numbered c.in_ok-made.ensures.found c.in_ok-made.ensures.ways);
   adds = c.in_ok-made.ensures.stays.adds;
 }
+
+pub later-returns-clause-ways : goal.later-returns-clause-ways
+later-returns-clause-ways g t c = c.in_ok-made.ensures.ways
 
 pub later-returns-clause-found : goal.later-returns-clause-found
 later-returns-clause-found g t c = c.in_ok-made.ensures.found

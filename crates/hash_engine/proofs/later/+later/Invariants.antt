@@ -1,6 +1,8 @@
 use Rattle.std.proofs.Common.{◌≡◌, ◌+◌, ◌*◌, ◌<◌, ◌≤◌, ℕ, suc, length, get_or}
 use Rattle.square_table.specs.Squares.{square_in, Grows}
+use Rattle.square_table.specs.Made.{IsMade}
 use Rattle.hash_life.specs.Result as hash_life
+use Rattle.hash_life.specs.Makes.{Makes}
 use Rattle.hash_engine.specs.Standing.{StandsFor}
 use Rattle.hash_engine.specs.Memo.{IsRight}
 use Rattle.hash_engine.specs.Asked.{AsksForMore}
@@ -26,6 +28,8 @@ invariant-all_later-loop-number g l = record {
   count : length l.numbers ≡ length l.fn.numbers;
   done : (j d e : ℕ) → j < l.number-index →
       StandsFor l.table.rows (suc l.k) (get_or l.numbers j d) (hash_life.result (g.Q.Ask.meaning l.fn.rule) l.k l.ahead (square_in l.fn.table.rows (suc (suc l.k)) (get_or l.fn.numbers j e)));
+  ways : (j e : ℕ) → j < l.number-index →
+      Makes (g.Q.Ask.meaning l.fn.rule) l.k l.ahead (square_in l.fn.table.rows (suc (suc l.k)) (get_or l.fn.numbers j e)) (IsMade l.table.rows);
   asks : AsksForMore (g.Q.Ask.meaning l.fn.rule) l.k l.ahead l.fn.numbers l.fn.table l.table l.fn.memo l.memo (g.Q.Ask.asks l.fn.rule) (g.Q.Ask.asks l.rule);
   adds : AddsFor (g.Q.Ask.meaning l.fn.rule) l.k l.ahead l.fn.numbers l.fn.table l.table;
   rest : (j d : ℕ) → l.number-index ≤ j → get_or l.numbers j d ≡ get_or l.fn.numbers j d;

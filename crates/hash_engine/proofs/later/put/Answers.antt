@@ -4,6 +4,7 @@ use Rattle.hash_engine.proofs.Shared.Memos.{IsRight-grows, IsResult-made}
 use Rattle.hash_engine.proofs.Computed.{base_below, base_stands}
 use Rattle.hash_engine.proofs.Shared.Puts.{put_once}
 use Rattle.hash_engine.proofs.Adding.{AddsFor-later}
+use Rattle.hash_engine.proofs.Ways.{HasWays-put}
 use Rattle.hash_engine.proofs.later.put.Goals as goal
 
 pub later-requires : goal.later-requires
@@ -30,7 +31,9 @@ returns-in_err-remember-clause-stays g c = record {
   right =
       c.remember.ensures.right (g.Q.Ask.meaning c.args.rule.now) c.later.new.table.rows (IsRight-grows (g.Q.Ask.meaning c.args.rule.now) c.args.table.now c.later.new.table c.args.memo.now c.in_ok-made.ensures.adds.grows c.requires.anew.right)
       (IsResult-made (g.Q.Ask.meaning c.args.rule.now) c.args.table.now c.later.new.table 0 c.args.ahead c.args.number c.in_ok-made.made c.in_ok-made.ensures.adds.grows c.requires.ready.numbered
-      (base_stands (g.Q.Ask.meaning c.args.rule.now) c.args.table.now.rows c.later.new.table.rows c.args.ahead c.args.number c.in_ok-made.made c.requires.some c.in_ok-made.ensures.square));
+      (base_stands (g.Q.Ask.meaning c.args.rule.now) c.args.table.now.rows c.later.new.table.rows c.args.ahead c.args.number c.in_ok-made.made c.requires.some c.in_ok-made.ensures.square)
+      (HasWays-put (g.Q.Ask.meaning c.args.rule.now) c.args.ahead c.args.number c.in_ok-made.made c.args.table.now c.later.new.table c.in_ok-made.ensures.adds.grows c.requires.ready.numbered
+      (base_stands (g.Q.Ask.meaning c.args.rule.now) c.args.table.now.rows c.later.new.table.rows c.args.ahead c.args.number c.in_ok-made.made c.requires.some c.in_ok-made.ensures.square)));
   adds = AddsFor-later (g.Q.Ask.meaning c.args.rule.now) c.args.ahead c.args.number c.args.table.now c.later.new.table c.requires.some c.in_ok-made.ensures.adds;
 }
 
@@ -40,6 +43,7 @@ returns g c =
     let grows = c.in_ok-made.ensures.adds.grows in
     let right = IsRight-grows f c.args.table.now c.later.new.table c.args.memo.now grows c.requires.anew.right in
     let found = base_stands f c.args.table.now.rows c.later.new.table.rows c.args.ahead c.args.number c.in_ok-made.made c.requires.some c.in_ok-made.ensures.square in
+    let ways = HasWays-put f c.args.ahead c.args.number c.in_ok-made.made c.args.table.now c.later.new.table grows c.requires.ready.numbered found in
     let some : 0 < c.in_ok-made.made = omega (arith, above c.later.new.table.rows 0 c.in_ok-made.made c.in_ok-made.ensures.square.numbered) in
     let once =
     put_once f c.args.ahead c.args.number c.in_ok-made.made c.args.table.now c.later.new.table c.args.memo.now c.remember.new.self (g.Q.Ask.asks c.args.rule.now) (g.Q.Ask.asks c.later.new.rule)
@@ -48,10 +52,11 @@ returns g c =
       stays = record {
         grows = grows;
         rule = c.in_ok-made.ensures.rule;
-        right = c.remember.ensures.right f c.later.new.table.rows right (IsResult-made f c.args.table.now c.later.new.table 0 c.args.ahead c.args.number c.in_ok-made.made grows c.requires.ready.numbered found);
+        right = c.remember.ensures.right f c.later.new.table.rows right (IsResult-made f c.args.table.now c.later.new.table 0 c.args.ahead c.args.number c.in_ok-made.made grows c.requires.ready.numbered found ways);
         adds = AddsFor-later f c.args.ahead c.args.number c.args.table.now c.later.new.table c.requires.some c.in_ok-made.ensures.adds;
       };
       found = found;
+      ways = ways;
       four = once.four;
       stand = once.stand;
       full = search rules;

@@ -1,6 +1,8 @@
-use Rattle.std.proofs.Common.{◌≡◌, suc, ◌-◌, ◌^◌, ◌≤◌, ◌∙◌, ap, subst, sym, arith, rules, [], ◌∷◌}
+use Rattle.std.proofs.Common.{◌≡◌, suc, ◌-◌, ◌^◌, ◌≤◌, ◌∙◌, ap, ap₂, subst, sym, arith, rules, [], ◌∷◌}
 use Rattle.worlds.specs.Square.{square_at}
-use Rattle.square_table.specs.Squares.{level_of, number_of, square_in}
+use Rattle.square_table.specs.Squares.{level_of, number_of, square_in, cells_of}
+use Rattle.square_table.specs.Made.{IsMade}
+use Rattle.hash_life.specs.Makes.{Makes}
 use Rattle.hash_engine.specs.Asked.{AsksForMore}
 use Rattle.hash_engine.proofs.Computed.{IsReady-root}
 use Rattle.hash_engine.proofs.Once.{asked_once}
@@ -17,12 +19,20 @@ later-requires g c =
     }
 
 pub returns-clause-found : goal.returns-clause-found
-returns-clause-found g c = record {
-  square = search rules;
-  fours = c.count_squares-counts.ensures.fours;
-  few = c.count_squares-counts.ensures.few;
-  base = c.count_squares-counts.ensures.base;
-}
+returns-clause-found g c =
+    let k = c.level-k.result - 2 in
+    let less : k ≡ level_of c.args.root - 2 = ap (λ l. l - 2) c.level-k.ensures in
+    let level : suc (suc k) ≡ level_of c.args.root = omega (arith, c.requires.level.0, c.level-k.ensures) in
+    let root : square_in c.args.table.now.rows (suc (suc k)) c.number.result ≡ cells_of c.args.table.now c.args.root = ap₂ (square_in c.args.table.now.rows) level c.number.ensures in
+    record {
+      square = search rules;
+      made =
+          subst (λ j. Makes (g.Q.Ask.meaning c.args.rule.now) j c.args.generations (cells_of c.args.table.now c.args.root) (IsMade c.later.new.table.rows)) less
+          (subst (λ s. Makes (g.Q.Ask.meaning c.args.rule.now) k c.args.generations s (IsMade c.later.new.table.rows)) root (c.in_ok-number.ensures.ways 0 0 (omega arith)));
+      fours = c.count_squares-counts.ensures.fours;
+      few = c.count_squares-counts.ensures.few;
+      base = c.count_squares-counts.ensures.base;
+    }
 
 pub returns-clause-once : goal.returns-clause-once
 returns-clause-once g c = λ w x y few at.
