@@ -4,8 +4,9 @@ standard error how far it is.
 
 A build locks the crates below its own. So each crate is proved in a working copy of the sources, and
 as many copies as the machine bears are at work: the toolchain gives each what another copy proved of
-the same text. The crate with the longest chain of others above it comes first. At the end the program
-is built here, over what the copies proved.
+the same text. The crate with the longest chain of others above it comes first, and has all processors;
+those beside it have one each, since each process of a proof reads all that the crate stands on. At the
+end the program is built here, over what the copies proved.
 """
 import concurrent.futures
 import contextlib
@@ -100,8 +101,12 @@ def tell(text):
 def copy_sources(crates, folder):
     """Copies what the proofs of the crates read."""
     os.makedirs(f"{folder}/crates")
-    for name in ("crates.txt", "HANDLES"):
-        shutil.copy2(f"{ROOT}/{name}", folder)
+    shutil.copy2(f"{ROOT}/HANDLES", folder)
+    with open(f"{ROOT}/crates.txt", encoding="utf-8") as file:
+        rows = [line for line in file if line.partition(":")[0].strip() in crates]
+    # The toolchain wants a folder for each crate that is listed, and the tests have none here.
+    with open(f"{folder}/crates.txt", "w", encoding="utf-8") as file:
+        file.writelines(rows)
     for name in crates:
         leave = shutil.ignore_patterns("out", "must-fail")
         shutil.copytree(f"{ROOT}/crates/{name}", f"{folder}/crates/{name}", ignore=leave)
@@ -165,7 +170,6 @@ def prove(crates, todo, roots, runs, progress):
     """Proves the crates in the working copies, and answers whether all are proved."""
     height = heights(crates, progress.lines)
     left, free, running = set(todo), list(roots), {}
-    jobs = ["--jobs", str(processors())]
     with concurrent.futures.ThreadPoolExecutor(len(roots)) as pool:
         while left or running:
             waiting = left | {name for name, _ in running.values()}
@@ -174,7 +178,9 @@ def prove(crates, todo, roots, runs, progress):
                 left.remove(name)
                 root = free.pop()
                 tell(f"{name} is being proved; about {progress.minutes()} min to go")
-                running[pool.submit(runs.call, name, root, "lib", *jobs)] = name, root
+                is_first = all(height[it] < height[name] for it, _ in running.values())
+                jobs = str(processors() if is_first else 1)
+                running[pool.submit(runs.call, name, root, "lib", "--jobs", jobs)] = name, root
             ended = concurrent.futures.wait(running, return_when="FIRST_COMPLETED").done
             for it in ended:
                 name, root = running.pop(it)
