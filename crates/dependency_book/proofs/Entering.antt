@@ -1,9 +1,8 @@
--- What is to be computed for what is needed next, and that it gives what is wanted.
-use Rattle.std.proofs.Common.{◌≡◌, ℕ, ◌+◌, ◌-◌, ◌≤◌, ◌^◌, ◌∙◌, List, [], ◌∷◌, sym, subst, arith, Some}
+-- What is to be computed for what is needed next can be worked.
+use Rattle.std.proofs.Common.{◌≡◌, ℕ, ◌+◌, ◌-◌, ◌≤◌, ◌^◌, List, [], ◌∷◌, sym, subst, arith, Some}
 use Rattle.std.specs.Prelude.{◌==◌, All}
 use Rattle.std.specs.List.{AllByRecursion}
 use Rattle.worlds.specs.declared.cell.CellSet.{CellSet}
-use Rattle.worlds.specs.World.{World}
 use Rattle.worlds.specs.Range.{AllBelow, CanBeLaid, HasMargin}
 use Rattle.worlds.proofs.Shared.Stepped.{HasMargin-less}
 use Rattle.rule_tree.specs.declared.rule.Rule.{Rule}
@@ -12,7 +11,7 @@ use Rattle.bookmarks.specs.Within.{IsWithin}
 use Rattle.schedule.specs.declared.document.Bookmark.{Bookmark}
 use Rattle.schedule.specs.Branches.{fork_of}
 use Rattle.schedule.specs.Plan.{Plan}
-use Rattle.schedule.specs.Scratch.{cells_at, arrival, after}
+use Rattle.schedule.specs.Scratch.{cells_at, after}
 use Rattle.schedule.specs.Sound.{IsSound}
 use Rattle.schedule.proofs.Shared.Fits.{CanBeLaid-at}
 use Rattle.schedule.proofs.Shared.History.{AllBelow-after, HasMargin-after}
@@ -20,47 +19,27 @@ use Rattle.revision_jobs.specs.declared.entry.Entry.{Entry}
 use Rattle.revision_jobs.specs.declared.entry.Entry.TheVariants as entry
 use Rattle.revision_jobs.specs.declared.entry.Rendering.{Rendering}
 use Rattle.revision_jobs.specs.declared.entry.Step.{Step as Stepping}
-use Rattle.revision_jobs.specs.Value.{pattern, value, start_of, world_in, CanBeStepped, CanBeRendered, CanBeWorked}
-use Rattle.dependency_book.specs.declared.mark.Mark.{Mark}
-use Rattle.dependency_book.specs.declared.need.Need.{Need}
-use Rattle.dependency_book.specs.declared.need.Need.TheVariants.{Step, View}
-use Rattle.dependency_book.specs.declared.row.RowState.{RowState}
-use Rattle.dependency_book.specs.declared.row.RowState.TheVariants.{Empty, Expected, Known}
-use Rattle.dependency_book.specs.BookState.{BookState, arrival_row, arrival_known, bookmark_in}
+use Rattle.revision_jobs.specs.Value.{start_of, world_in, CanBeStepped, CanBeRendered, CanBeWorked}
+use Rattle.desk_events.specs.declared.mark.Mark.{Mark}
+use Rattle.desk_events.specs.declared.need.Need.{Need}
+use Rattle.desk_events.specs.declared.need.Need.TheVariants.{Step, View}
+use Rattle.dependency_book.specs.BookState.{BookState, arrival_known}
+use Rattle.desk_events.specs.Wanted.{bookmark_in}
 use Rattle.dependency_book.specs.Entered.{IsEntryOf, StepsTo, ViewsOf}
-use Rattle.dependency_book.specs.Jobs.{step_to}
-use Rattle.dependency_book.specs.Marks.{mark_at}
-use Rattle.dependency_book.specs.Right.{IsRight, StandsRight, wanted}
-use Rattle.dependency_book.specs.RowState.{known, state_map}
-use Rattle.dependency_book.proofs.Placed.{mark_near}
-use Rattle.dependency_book.proofs.Shared.Gives as gives
-use Rattle.dependency_book.proofs.Tests.{either_way}
-use Rattle.dependency_book.proofs.Walk.{before_late}
-
--- what is known to arrive does
-pub known_arrives : (d : BookState) → IsRight d → gives.Arrives (arrival_known d) d.plan
-known_arrives d right m w h = of_state (arrival_row d m) h (right.stands (step_to m))
-  where
-    of_state : (s : RowState World) → known s ≡ Some w → StandsRight d (step_to m) (state_map pattern s)
-        → w ≡ arrival d.plan m.branch m.generation
-    of_state Empty is stands = absurd cc
-    of_state (Expected job) is stands = absurd cc
-    of_state (Known v) is stands =
-        let same : v ≡ w = cc in
-        let right_one : Some (pattern (arrival d.plan m.branch m.generation)) ≡ Some (pattern v) = stands in
-        let world : arrival d.plan m.branch m.generation ≡ v = cc in
-        sym same ∙ sym world
+use Rattle.desk_events.specs.Marks.{mark_at}
+use Rattle.dependency_book.specs.Right.{IsRight}
+use Rattle.desk_events.proofs.Shared.Marks.{mark_near}
+use Rattle.desk_events.proofs.Shared.Gives as gives
+use Rattle.desk_events.proofs.Shared.Tests.{either_way}
+use Rattle.desk_events.proofs.Shared.Walk.{before_late}
+use Rattle.dependency_book.specs.Said.{step_said, view_said}
+use Rattle.dependency_book.proofs.Shared.Cores.{known_arrives}
 
 view_after : (d : BookState) (id : ℕ) (r : Rendering) → IsRight d → (h : ViewsOf d id r)
     → world_in r ≡ after d.plan h.bookmark.branch h.bookmark.generation
-view_after d id r right h = gives.view_after d.plan (arrival_known d) id r (known_arrives d right) h
+view_after d id r right h = gives.view_after d.plan (arrival_known d) id (view_said r) (known_arrives d right) h
 
--- the entry that is to be computed gives what is wanted
-pub entry_gives : (d : BookState) (need : Need) (e : Entry) → IsRight d → IsEntryOf d need e
-    → wanted d.plan need ≡ Some (value e)
-entry_gives d need e right h = gives.entry_gives d.plan (arrival_known d) need e right.sound (known_arrives d right) h
-
--- and can be worked
+-- a step
 
 cells_laid : (p : Plan) (b g : ℕ) (cells : List CellSet) → IsSound p → cells ≡ cells_at p.interventions b g
     → All CanBeLaid cells
@@ -68,7 +47,7 @@ cells_laid p b g cells sound is = subst (All CanBeLaid) (sym is) (CanBeLaid-at p
 
 step_workable : (d : BookState) (m : Mark) (s : Stepping) → IsRight d → StepsTo d m s → CanBeStepped s
 step_workable d m s right h =
-    let sound = right.sound in
+    let sound = right.core.sound in
     let n : Mark = h.before in
     let b = n.branch in
     let g = n.generation in
@@ -76,7 +55,7 @@ step_workable d m s right h =
     let late : fork_of d.plan.branches b ≤ g = before_late d.plan n m sound h.comes in
     let gap : g + s.gens ≡ m.generation = h.gap in
     let left : start_of s ≡ after d.plan b g =
-    gives.step_begins d.plan (arrival_known d) m s (known_arrives d right) h in
+    gives.step_begins d.plan (arrival_known d) m (step_said s) (known_arrives d right) h in
     let few : s.gens ≤ 2 ^ 60 - g = omega (arith, near, gap) in (
       cells_laid d.plan b g s.cells sound h.cells,
       record {
@@ -100,7 +79,7 @@ each_within (c ∷ bs) id b all there =
 
 view_workable : (d : BookState) (id : ℕ) (r : Rendering) → IsRight d → ViewsOf d id r → CanBeRendered r
 view_workable d id r right h =
-    let sound = right.sound in
+    let sound = right.core.sound in
     let b = h.bookmark.branch in
     let g = h.bookmark.generation in
     let left = view_after d id r right h in (

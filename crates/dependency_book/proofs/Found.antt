@@ -8,20 +8,22 @@ use Rattle.schedule.specs.declared.document.Bookmark.{Bookmark}
 use Rattle.schedule.specs.Scratch.{cells_at}
 use Rattle.revision_jobs.specs.declared.entry.Rendering.{Rendering}
 use Rattle.revision_jobs.specs.declared.entry.Step.{Step as Stepping}
-use Rattle.dependency_book.specs.declared.mark.Mark.{Mark}
+use Rattle.desk_events.specs.declared.mark.Mark.{Mark}
 use Rattle.dependency_book.specs.declared.row.RowState.TheVariants.{Empty}
-use Rattle.dependency_book.specs.BookState.{BookState, arrival_known, bookmark_in}
+use Rattle.dependency_book.specs.BookState.{BookState, arrival_known}
+use Rattle.desk_events.specs.Wanted.{bookmark_in}
 use Rattle.dependency_book.specs.Entered.{StepsTo, ViewsOf}
 use Rattle.dependency_book.specs.Held.{IsHeld}
-use Rattle.dependency_book.specs.Marks.{ComesBefore, bookmark_mark, is_mark, is_start}
+use Rattle.desk_events.specs.Marks.{ComesBefore, bookmark_mark, is_mark, is_start}
 use Rattle.dependency_book.specs.Needs.{IsLedTo, ViewIsNext}
 use Rattle.dependency_book.specs.Ready.{AreHeldBack, before_row, is_ready}
 use Rattle.dependency_book.specs.RowState.{is_known, known}
 use Rattle.dependency_book.specs.Rows.{ArrivalRow, TextRow, keys, place_in, state_at, mark_rank, bookmark_rank}
 use Rattle.dependency_book.proofs.Outs.{ids_rise}
-use Rattle.dependency_book.proofs.Placed.{before_one, comes_le, has_row, in_at, mark_at_place, mark_of, place_of-row, row_comes, row_follows, row_stands, stands_in}
+use Rattle.dependency_book.proofs.Placed.{has_row, in_at, mark_at_place, mark_of, place_of-row, row_comes, row_follows, row_stands, stands_in}
+use Rattle.desk_events.proofs.Shared.Marks.{before_one, comes_le}
 use Rattle.dependency_book.proofs.Standing.{has, place-has, rank-has, state_at-above, state_at-place}
-use Rattle.dependency_book.proofs.Tests.{either_way, clash, true_eq}
+use Rattle.desk_events.proofs.Shared.Tests.{either_way, clash, true_eq}
 
 -- the row of a step, by its place
 pub record StepRow (d : BookState) (m : Mark) (k : ℕ) : Type 0 where
@@ -40,7 +42,7 @@ step_row d places m held led =
       comes = λ x. comes there low x;
       arrived = λ x.
           subst (λ n. IsSome (arrival_known d n))
-          (before_one d.plan led.before (before_row d.plan.branches d.arrivals k x) m held.right.sound led.comes
+          (before_one d.plan led.before (before_row d.plan.branches d.arrivals k x) m held.right.core.sound led.comes
           (comes there low x)) led.arrived;
     }
   where

@@ -25,7 +25,7 @@ use Rattle.dependency_book.specs.declared.room.Room.{Room}
 use Rattle.dependency_book.specs.Room.{HasRoom}
 use Rattle.dependency_book.specs.Size.{asks_to_repeat, most_after, most_repeats, plan_size}
 use Rattle.dependency_book.proofs.Revised.{accepted, unrefused}
-use Rattle.dependency_book.proofs.Tests.{either_way}
+use Rattle.desk_events.proofs.Shared.Tests.{either_way}
 
 -- a document has at most one more intervention, one more bookmark and one more branch than another
 pub record HasOneMore (p q : Plan) : Type 0 where

@@ -1,24 +1,22 @@
 -- Rows as they are handed out are those of the document's bookmarks, and their texts are right.
 use Rattle.std.proofs.Common.{◌≡◌, ℕ, ◌<◌, ◌∙◌, List, [], ◌∷◌, map, refl, sym, ap, ap₂, arith, Option, Some}
-use Rattle.std.specs.Prelude.{◌==◌, IfSome}
+use Rattle.std.specs.Prelude.{◌==◌}
 use Rattle.std.specs.List.{AllByRecursion}
 use Rattle.std.proofs.lemmas.Bool.{cond-true, cond-false}
 use Rattle.std.proofs.lemmas.Bool.Decides.{nat_tests}
 use Rattle.schedule.specs.declared.document.Bookmark.{Bookmark}
 use Rattle.schedule.specs.Ids.{IdsRise, bookmark_id}
-use Rattle.schedule.specs.Scratch.{scratch}
-use Rattle.revision_jobs.specs.Value.{text}
-use Rattle.dependency_book.specs.declared.need.Need.TheVariants.{View}
 use Rattle.dependency_book.specs.declared.row.Row.{Row}
 use Rattle.dependency_book.specs.declared.row.RowState.{RowState}
-use Rattle.dependency_book.specs.declared.row.RowState.TheVariants.{Empty, Expected, Known}
-use Rattle.dependency_book.specs.BookState.{BookState, bookmark_in, text_row}
+use Rattle.dependency_book.specs.BookState.{BookState}
+use Rattle.desk_events.specs.Wanted.{bookmark_in}
 use Rattle.dependency_book.specs.Held.{IsHeld}
-use Rattle.dependency_book.specs.Right.{IsRight, StandsRight, text_wanted}
-use Rattle.dependency_book.specs.RowState.{known, state_map}
+use Rattle.dependency_book.specs.Right.{IsRight}
+use Rattle.dependency_book.specs.RowState.{known}
 use Rattle.dependency_book.specs.Rows.{keys, IsRanked, state_at, bookmark_rank}
 use Rattle.dependency_book.specs.ShownRows.{IsScratch, handed, shown_row, shown_rows}
 use Rattle.dependency_book.proofs.Outs.{ids_rise}
+use Rattle.dependency_book.proofs.Shared.Cores.{text_scratch}
 
 -- what is made of each row is made of its key and of what stands at it
 
@@ -71,22 +69,13 @@ each_first (b ∷ bs) rise = (
 
 -- each text that is known is right
 
-its_scratch : (d : BookState) (b : Bookmark) (s : RowState (List ℕ)) → StandsRight d (View b.id) (state_map text s)
-    → bookmark_in d.plan.bookmarks b.id ≡ Some b → IfSome (known s) (λ bytes. bytes ≡ scratch d.plan b)
-its_scratch d b Empty right there = tt
-its_scratch d b (Expected job) right there = tt
-its_scratch d b (Known found) right there =
-    let wanted_one : Some (text (scratch d.plan b)) ≡ Some (text found) = sym (ap (text_wanted d.plan) there) ∙ right in
-    let made : scratch d.plan b ≡ found = cc in
-    sym made
-
 each_scratch : (d : BookState) (bs : List Bookmark) → IsRight d
     → AllByRecursion (λ (b : Bookmark). bookmark_in d.plan.bookmarks b.id ≡ Some b) bs
     → AllByRecursion (IsScratch d.plan) (map (shown_row d) bs)
 each_scratch d [] right there = tt
 each_scratch d (b ∷ bs) right there =
-    (its_scratch d b (text_row d b.id) (right.stands (View b.id)) there.0, each_scratch d bs right there.1)
+    (text_scratch d b.id b right there.0, each_scratch d bs right there.1)
 
 pub are_scratch : (d : BookState) (places : List ℕ) → IsHeld d places → AllByRecursion (IsScratch d.plan) (shown_rows d)
 are_scratch d places held =
-    each_scratch d d.plan.bookmarks held.right (each_first d.plan.bookmarks held.right.sound.bookmarks_rise)
+    each_scratch d d.plan.bookmarks held.right (each_first d.plan.bookmarks held.right.core.sound.bookmarks_rise)

@@ -3,12 +3,9 @@ pub mod Followed
 pub mod Found
 pub mod Grown
 pub mod Handed
-pub mod Leaves
-pub mod Listed
 pub mod Marked
 pub mod Merged
 pub mod Needed
-pub mod Opened
 pub mod Passed
 pub mod Ranks
 pub mod Outs
@@ -16,16 +13,12 @@ pub mod Owned
 pub mod Placed
 pub mod Putting
 pub mod Readied
-mod Recalled
+pub mod Recalled
 pub mod Reaching
 pub mod Remaking
 pub mod Revised
 pub mod Shared
 pub mod Showing
 pub mod Standing
-pub mod Tests
-pub mod Touching
 pub mod Unfelt
-pub mod Walk
-pub mod Wanted
 pub mod Working

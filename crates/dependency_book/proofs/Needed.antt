@@ -14,20 +14,22 @@ use Rattle.schedule.proofs.Shared.Branches.{parents_before}
 use Rattle.dependency_book.specs.declared.row.RowState.{RowState}
 use Rattle.dependency_book.specs.declared.row.RowState.TheVariants.{Empty, Expected, Known}
 use Rattle.dependency_book.specs.declared.row.Row.{Row}
-use Rattle.dependency_book.specs.declared.mark.Mark.{Mark}
-use Rattle.dependency_book.specs.BookState.{BookState, NothingOut, arrival_row, arrival_known, text_row, bookmark_in, is_pending, pending_of, wanting_of}
+use Rattle.desk_events.specs.declared.mark.Mark.{Mark}
+use Rattle.dependency_book.specs.BookState.{BookState, NothingOut, arrival_row, arrival_known, text_row, is_pending, pending_of, wanting_of}
+use Rattle.desk_events.specs.Wanted.{bookmark_in}
 use Rattle.dependency_book.specs.Held.{IsHeld, places_of}
-use Rattle.dependency_book.specs.Marks.{ComesBefore, bookmark_mark, forks_at, is_mark, is_start}
+use Rattle.desk_events.specs.Marks.{ComesBefore, bookmark_mark, forks_at, is_mark, is_start}
 use Rattle.dependency_book.specs.Needs.{CanBeViewed, CanBeReached, IsLedTo, IsNotAfter, IsNextStep, StepIsNext, IsNextView}
 use Rattle.dependency_book.specs.Ready.{IsFirst, before_row, is_ready, place_ready, viewable, steppable}
 use Rattle.dependency_book.specs.RowState.{is_known, is_empty, job_of}
 use Rattle.dependency_book.specs.Rows.{ArrivalRow, TextRow, keys, place_in, mark_rank, bookmark_rank}
 use Rattle.dependency_book.proofs.Found.{ready_is}
 use Rattle.dependency_book.proofs.Outs.{NoneOut, arrivals_none, texts_none, ids_rise}
-use Rattle.dependency_book.proofs.Placed.{StandsIn, before_one, bookmark_is_mark, has_row, in_at, mark_at_place, row_beside, row_comes, row_is, row_near, row_stands, stands_in, text_stands}
+use Rattle.dependency_book.proofs.Placed.{StandsIn, has_row, in_at, mark_at_place, row_beside, row_comes, row_is, row_near, row_stands, stands_in, text_stands}
+use Rattle.desk_events.proofs.Shared.Marks.{before_one, bookmark_is_mark}
 use Rattle.dependency_book.proofs.Ranks.{rank_branches, rank_within}
 use Rattle.dependency_book.proofs.Standing.{IsNonDecreasingBy-ranked, get_or-any, has, place-has, rank-has, state_at-place, count_cons}
-use Rattle.dependency_book.proofs.Tests.{either_way, clash, eq_true, false_lt, true_lt}
+use Rattle.desk_events.proofs.Shared.Tests.{either_way, clash, eq_true, false_lt, true_lt}
 
 empty_is : {V : Type 0} (s : RowState V) → is_empty s ≡ true → s ≡ Empty
 empty_is Empty h = refl
@@ -233,7 +235,7 @@ reached_at d places mark held can =
         let p = place_in mark_rank (mark_rank mark) d.arrivals in
         let comes = subst (ComesBefore d.plan (before_at d p x)) (is x) (row_comes d places p x held low) in
         let one : before_at d p x ≡ can.led.before =
-        before_one d.plan (before_at d p x) can.led.before mark held.right.sound comes can.led.comes in
+        before_one d.plan (before_at d p x) can.led.before mark held.right.core.sound comes can.led.comes in
         let ready : is_ready d.arrivals (before_at d p x) ≡ true = ready_is d (before_at d p x)
         ∙ ap (λ n. is_some (arrival_known d n)) one ∙ can.led.arrived in
         let empty : (get_or d.arrivals p x).state ≡ Empty = sym (row_stands d places p x held low)
@@ -401,7 +403,7 @@ known_below d places held out none (suc n) k x under low =
     let m = mark_of_row d k x in
     let comes = row_comes d places k x held low in
     let near = row_near d places k x held low in
-    let lower = before_lower d.plan b m held.right.sound near comes in
+    let lower = before_lower d.plan b m held.right.core.sound near comes in
     let earlier : (y : ArrivalRow) (j : ℕ) → j < length d.arrivals → mark_of_row d j y ≡ b → j < n =
     λ y j fits is.
     either_way (nat_lt j k)

@@ -10,18 +10,20 @@ use Rattle.revision_jobs.specs.Value.{pattern, text}
 use Rattle.dependency_book.specs.declared.row.RowState.{RowState}
 use Rattle.dependency_book.specs.declared.row.RowState.TheVariants.{Empty, Expected, Known}
 use Rattle.dependency_book.specs.declared.row.Row.{Row}
-use Rattle.dependency_book.specs.declared.mark.Mark.{Mark}
-use Rattle.dependency_book.specs.declared.need.Need.{Need}
-use Rattle.dependency_book.specs.declared.need.Need.TheVariants.{Step, View}
+use Rattle.desk_events.specs.declared.mark.Mark.{Mark}
+use Rattle.desk_events.specs.declared.need.Need.{Need}
+use Rattle.desk_events.specs.declared.need.Need.TheVariants.{Step, View}
 use Rattle.dependency_book.specs.BookState.{BookState, NothingOut, arrival_row, text_row, expected}
 use Rattle.dependency_book.specs.Held.{IsHeld}
-use Rattle.dependency_book.specs.Jobs.{IsAnyOut, IsFirstOut, step_to}
-use Rattle.dependency_book.specs.Marks.{is_start, mark_at}
+use Rattle.dependency_book.specs.Jobs.{IsAnyOut, IsFirstOut}
+use Rattle.desk_events.specs.Needs.{step_to}
+use Rattle.desk_events.specs.Marks.{is_start, mark_at}
 use Rattle.dependency_book.specs.RowState.{any_out, job_of, state_map, has_number, named_by, either, row_for, lesser, number_of, least_out}
 use Rattle.dependency_book.specs.Rows.{keys, IsRanked, state_at, mark_rank, bookmark_rank}
-use Rattle.dependency_book.proofs.Ranks.{rank_zero, start_is}
+use Rattle.dependency_book.proofs.Ranks.{rank_zero}
+use Rattle.desk_events.proofs.Shared.Marks.{start_is}
 use Rattle.dependency_book.proofs.Standing.{has, has-above, state_at-above}
-use Rattle.dependency_book.proofs.Tests.{either_way, clash, true_eq, eq_true, eq_false, false_eq}
+use Rattle.desk_events.proofs.Shared.Tests.{either_way, clash, true_eq, eq_true, eq_false, false_eq}
 
 pub job_of-map : {V W : Type 0} (f : V → W) (s : RowState V) → job_of (state_map f s) ≡ job_of s
 job_of-map f Empty = refl
@@ -79,7 +81,7 @@ arrivals_none d places held out =
     (λ miss. sym (out_at d m miss) ∙ out (step_to m)))
 
 pub ids_rise : (d : BookState) (places : List ℕ) → IsHeld d places → IsRanked bookmark_rank d.texts
-ids_rise d places held = subst (IdsRise bookmark_id) (sym held.right.bookmarks) held.right.sound.bookmarks_rise
+ids_rise d places held = subst (IdsRise bookmark_id) (sym held.right.bookmarks) held.right.core.sound.bookmarks_rise
 
 pub texts_none : (d : BookState) (places : List ℕ) → IsHeld d places → NothingOut d → NoneOut d.texts
 texts_none d places held out =

@@ -1,25 +1,22 @@
 -- Jobs that rows expect have their entries in the table.
-use Rattle.std.proofs.Common.{ℕ, zero, suc, ◌<◌, List, [], ◌∷◌, length, get_or, refl, sym, subst, arith, Option}
+use Rattle.std.proofs.Common.{◌≡◌, None, Some, ℕ, zero, suc, ◌<◌, List, [], ◌∷◌, length, get_or, refl, sym, subst, arith, Option}
 use Rattle.std.specs.Prelude.{◌==◌, IfSome}
 use Rattle.revision_jobs.specs.declared.answer.Job.{Job}
 use Rattle.revision_jobs.specs.declared.entries.Entries.{Entries}
 use Rattle.revision_jobs.specs.Entries.{IsOf}
-use Rattle.revision_jobs.specs.Value.{Value}
-use Rattle.dependency_book.specs.declared.need.Need.{Need}
-use Rattle.dependency_book.specs.declared.need.Need.TheVariants.{View}
-use Rattle.dependency_book.specs.declared.row.RowState.{RowState}
-use Rattle.dependency_book.specs.declared.row.RowState.TheVariants.{Empty, Expected, Known}
+use Rattle.desk_events.specs.declared.need.Need.{Need}
+use Rattle.desk_events.specs.declared.need.Need.TheVariants.{View}
+use Rattle.dependency_book.specs.declared.row.RowState.TheVariants.{Empty}
 use Rattle.dependency_book.specs.declared.row.Row.{Row}
-use Rattle.dependency_book.specs.BookState.{BookState, expected, row_of}
+use Rattle.dependency_book.specs.BookState.{BookState, expected}
 use Rattle.dependency_book.specs.Held.{IsHeld}
-use Rattle.dependency_book.specs.Jobs.{step_to}
-use Rattle.dependency_book.specs.Marks.{is_start}
-use Rattle.dependency_book.specs.Right.{StandsRight}
+use Rattle.desk_events.specs.Needs.{step_to}
+use Rattle.desk_events.specs.Marks.{is_start}
 use Rattle.dependency_book.specs.RowState.{OutsAreOf, job_of}
 use Rattle.dependency_book.specs.Rows.{keys, IsRanked, state_at, put, mark_rank, bookmark_rank}
 use Rattle.dependency_book.proofs.Outs.{ids_rise, out_at, out_for, start_absent}
 use Rattle.dependency_book.proofs.Standing.{has-above, state_at-above}
-use Rattle.dependency_book.proofs.Tests.{either_way, true_eq, eq_true}
+use Rattle.desk_events.proofs.Shared.Tests.{either_way, true_eq, eq_true}
 
 -- a job, if there is one, has its entry in a table
 abbrev pub IsOwn : Entries → Option Job → Type 0
@@ -53,13 +50,12 @@ each_own entries rank (r ∷ rs) ranked own = (
 
 -- so has each job that is out
 
-out_own : (d : BookState) (need : Need) (s : RowState Value) → StandsRight d need s → IsOwn d.table (job_of s)
-out_own d need Empty right = tt
-out_own d need (Expected job) right = right.own
-out_own d need (Known found) right = tt
-
 all_own : (d : BookState) (places : List ℕ) → IsHeld d places → (need : Need) → IsOwn d.table (expected d need)
-all_own d places held need = out_own d need (row_of d need) (held.right.stands need)
+all_own d places held need = by_job (expected d need) refl
+  where
+    by_job : (o : Option Job) → expected d need ≡ o → IsOwn d.table o
+    by_job None is = tt
+    by_job (Some job) is = (held.right.out need job is).own
 
 pub arrivals_own : (d : BookState) (places : List ℕ) → IsHeld d places → OutsAreOf d.table d.arrivals
 arrivals_own d places held =

@@ -8,18 +8,18 @@ use Rattle.schedule.specs.Branches.{element_at}
 use Rattle.schedule.specs.Ids.{branch_id}
 use Rattle.revision_jobs.specs.declared.answer.Job.{Job}
 use Rattle.dependency_book.specs.declared.cursor.Cursor.{Cursor}
-use Rattle.dependency_book.specs.declared.mark.Mark.{Mark}
+use Rattle.desk_events.specs.declared.mark.Mark.{Mark}
 use Rattle.dependency_book.specs.declared.row.RowState.{RowState}
 use Rattle.dependency_book.specs.declared.row.RowState.TheVariants.{Empty, Expected, Known}
 use Rattle.dependency_book.specs.declared.row.Row.{Row}
 use Rattle.dependency_book.specs.BookState.{BookState}
 use Rattle.dependency_book.specs.Cursor.{HasPassed, start}
-use Rattle.dependency_book.specs.Marks.{bookmark_mark, is_start}
+use Rattle.desk_events.specs.Marks.{bookmark_mark, is_start}
 use Rattle.dependency_book.specs.Ready.{NoneBefore, before_in, before_row, can_view, is_ready, place_ready, row_before, steppable, viewable}
 use Rattle.dependency_book.specs.RowState.{is_empty, is_known, job_of}
 use Rattle.dependency_book.specs.Rows.{ArrivalRow, TextRow, put, mark_rank, bookmark_rank, state_at}
 use Rattle.dependency_book.proofs.Putting.{with_arrival, with_text}
-use Rattle.dependency_book.proofs.Tests.{either_way}
+use Rattle.desk_events.proofs.Shared.Tests.{either_way}
 
 -- what is put stands in a row, or the row is as it was
 put_each : {K V : Type 0} (rank : K → ℕ) (n : ℕ) (s : RowState V) (rows : List (Row K V)) (k : ℕ) (x : Row K V)

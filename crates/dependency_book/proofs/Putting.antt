@@ -1,5 +1,5 @@
 -- Books in which something is put in a row.
-use Rattle.std.proofs.Common.{◌≡◌, ℕ, ◌≤◌, ◌^◌, ◌∙◌, true, false, not, List, [], ◌∷◌, ◌++◌, length, take, drop, append-nil, refl, sym, ap, ap₂, subst, arith, Some}
+use Rattle.std.proofs.Common.{◌≡◌, ℕ, ◌≤◌, ◌^◌, ◌∙◌, true, false, not, List, [], ◌∷◌, ◌++◌, length, take, drop, append-nil, refl, sym, ap, subst, arith, Some}
 use Rattle.std.specs.Prelude.{if◌then◌else◌, ◌==◌, map}
 use Rattle.std.specs.List.{AllByRecursion, list_any}
 use Rattle.std.proofs.lemmas.Bool.{and_parts}
@@ -8,86 +8,66 @@ use Rattle.dependency_book.specs.declared.row.Row.{Row}
 use Rattle.worlds.specs.World.{World}
 use Rattle.schedule.specs.declared.document.Bookmark.{Bookmark}
 use Rattle.schedule.specs.Plan.{Plan}
-use Rattle.schedule.specs.Sound.{IsSound}
 use Rattle.revision_jobs.specs.declared.answer.Job.{Job}
 use Rattle.revision_jobs.specs.Value.{Value, pattern, text}
-use Rattle.dependency_book.specs.declared.mark.Mark.{Mark}
-use Rattle.dependency_book.specs.declared.need.Need.{Need}
-use Rattle.dependency_book.specs.declared.need.Need.TheVariants.{Step, View}
+use Rattle.desk_events.specs.declared.mark.Mark.{Mark}
+use Rattle.desk_events.specs.declared.need.Need.{Need}
+use Rattle.desk_events.specs.declared.need.Need.TheVariants.{Step, View}
 use Rattle.dependency_book.specs.declared.row.RowState.{RowState}
 use Rattle.dependency_book.specs.declared.row.RowState.TheVariants.{Empty, Expected, Known}
 use Rattle.dependency_book.specs.AllMarks.{AreMarksOf}
-use Rattle.dependency_book.specs.BookState.{BookState, arrival_row, text_row, row_of, expected}
+use Rattle.dependency_book.specs.BookState.{BookState, arrival_row, text_row, row_of}
 use Rattle.dependency_book.specs.Held.{IsHeld, places_of}
-use Rattle.dependency_book.specs.Jobs.{is_need, step_to}
-use Rattle.dependency_book.specs.Marks.{bookmark_mark, is_mark, is_same, is_start, mark_at}
-use Rattle.dependency_book.specs.Puts.{CanBePut, IsFree, Puts, can_change, missing}
-use Rattle.dependency_book.specs.Right.{IsRight, StandsRight, wanted}
-use Rattle.dependency_book.specs.RowState.{state_map, job_of, has_number}
+use Rattle.desk_events.specs.Needs.{is_need, step_to}
+use Rattle.desk_events.specs.Marks.{bookmark_mark, is_mark, is_same, is_start, mark_at}
+use Rattle.dependency_book.specs.Puts.{CanBePut, Puts, can_change, missing}
+use Rattle.dependency_book.specs.Right.{IsRight}
+use Rattle.dependency_book.specs.RowState.{state_map, job_of}
 use Rattle.dependency_book.specs.Rows.{ArrivalRow, keys, state_at, put, mark_rank, bookmark_rank}
-use Rattle.dependency_book.proofs.Ranks.{apart, has_mark, rank_is, same_mark}
+use Rattle.dependency_book.proofs.Ranks.{apart, has_mark, rank_is}
+use Rattle.desk_events.proofs.Shared.Marks.{same_mark}
 use Rattle.dependency_book.proofs.Standing.{has, keys-put, length-keys, state_at-put_same, state_at-put_other, place_in-keys, count-put}
-use Rattle.dependency_book.proofs.Tests.{either_way, clash, true_eq, eq_true}
-use Rattle.dependency_book.proofs.Wanted.{same_right}
-
--- needs
-
-pub need_is : (a b : Need) → is_need a b ≡ true → a ≡ b
-need_is (Step b m) (Step c n) h = let parts = and_parts (b == c) (m == n) h in
-    ap₂ (λ x y. Step x y) (true_eq b c parts.0) (true_eq m n parts.1)
-need_is (Step b m) (View id) h = absurd cc
-need_is (View id) (Step b m) h = absurd cc
-need_is (View id) (View other) h = ap (λ k. View k) (true_eq id other h)
-
-pub need_same : (a : Need) → is_need a a ≡ true
-need_same (Step b m) = rw (eq_true b b refl, eq_true m m refl) refl
-need_same (View id) = eq_true id id refl
+use Rattle.desk_events.proofs.Shared.Tests.{either_way, clash, true_eq, eq_true}
+use Rattle.std.specs.Prelude.{IfSome, slice_get}
+use Rattle.revision_jobs.specs.Entries.{IsOf}
+use Rattle.desk_events.specs.Right.{IsRight as IsRightCore}
+use Rattle.dependency_book.specs.Right.{IsGiven}
+use Rattle.dependency_book.proofs.Shared.Cores.{put_core}
+use Rattle.std.specs.Prelude.{Option, None}
+use Rattle.schedule.specs.Scratch.{arrival}
+use Rattle.desk_events.specs.Core.{holds}
+use Rattle.desk_events.specs.Right.{Stands}
+use Rattle.desk_events.specs.Wanted.{bookmark_in, text_wanted}
+use Rattle.dependency_book.specs.Core.{core_of}
+use Rattle.dependency_book.proofs.Shared.Cores.{put_there}
 
 -- a book in which something is put is right
 
-number_of_state : (s : RowState Value) (i : Job) → job_of s ≡ Some i → s ≡ Expected i
-number_of_state Empty i h = absurd cc
-number_of_state (Expected job) i h = let same : job ≡ i = cc in ap (λ j. Expected j) same
-number_of_state (Known v) i h = absurd cc
+given_still : (d e : BookState) (need : Need) (s : RowState Value) (job : Job) → Puts need s d e → IsGiven d job
+    → IsGiven e job
+given_still d e need s job puts h = record {
+  own = subst (λ t. IsOf t job.place) (sym puts.book.document.table) h.own;
+  entry = ap (λ es. slice_get es job.number) puts.book.entries ∙ h.entry;
+}
 
--- no other row expects a job of the number
-free_apart : {A : Type 0} (d : BookState) (other : Need) (s : RowState Value) (i j : Job) → IsFree d s
-    → job_of s ≡ Some i → expected d other ≡ Some j → i.number ≡ j.number → A
-free_apart d other s i j free is out same =
-    let none : has_number i.number (expected d other) ≡ false = subst (IsFree d) (number_of_state s i is) free other in
-    clash (j.number == i.number) (eq_true j.number i.number (sym same)) (sym (ap (has_number i.number) out) ∙ none)
+state_given : (d : BookState) (s : RowState Value) (job : Job) → IfSome (job_of s) (IsGiven d) → job_of s ≡ Some job
+    → IsGiven d job
+state_given d s job h out = subst (λ o. IfSome o (IsGiven d)) out h
 
 pub put_right : (d e : BookState) (need : Need) (s : RowState Value) → IsRight d → CanBePut d need s → Puts need s d e
     → IsRight e
 put_right d e need s right can puts =
-    let table = puts.book.document.table in
     let plan = puts.book.document.plan in
-    let given = puts.book.given in
     record {
-      sound = subst IsSound (sym plan) right.sound;
+      core = subst IsRightCore (sym (put_core d e need s puts)) can.right;
       marks = subst (λ p. AreMarksOf p (keys e.arrivals)) (sym plan)
           (subst (AreMarksOf d.plan) (sym puts.book.document.marks) right.marks);
       bookmarks = puts.book.document.bookmarks ∙ right.bookmarks ∙ ap (λ (p : Plan). p.bookmarks) (sym plan);
-      stands = λ other.
-          same_right d e other (row_of e other) table given (ap (λ p. wanted p other) plan)
-          (subst (StandsRight d other) (sym (puts.rows other))
+      out = λ other job out.
+          given_still d e need s job puts
           (either_way (is_need need other)
-          (λ hit. rw hit (subst (λ n. StandsRight d n s) (need_is need other hit) can.right))
-          (λ miss. rw miss (right.stands other))));
-      once = λ a b i j out other same.
-          either_way (is_need need a)
-          (λ a_is.
-          let here : job_of s ≡ Some i = sym (ap job_of (puts.rows a ∙ rw a_is refl)) ∙ out in
-          either_way (is_need need b)
-          (λ b_is. sym (need_is need a a_is) ∙ need_is need b b_is)
-          (λ b_off. free_apart d b s i j can.free here (sym (ap job_of (puts.rows b ∙ rw b_off refl)) ∙ other) same))
-          (λ a_off.
-          let there : expected d a ≡ Some i = sym (ap job_of (puts.rows a ∙ rw a_off refl)) ∙ out in
-          either_way (is_need need b)
-          (λ b_is. free_apart d a s j i can.free (sym (ap job_of (puts.rows b ∙ rw b_is refl)) ∙ other) there
-          (sym same))
-          (λ b_off. right.once a b i j there (sym (ap job_of (puts.rows b ∙ rw b_off refl)) ∙ other) same));
-      few = subst (λ n. n ≤ 16777216) (sym given) right.few;
+          (λ hit. state_given d s job can.out (sym (ap job_of (puts.rows other ∙ rw hit refl)) ∙ out))
+          (λ miss. right.out other job (sym (ap job_of (puts.rows other ∙ rw miss refl)) ∙ out)));
     }
 
 -- what is put among the rows
@@ -145,7 +125,7 @@ arrival_puts d m s marks can =
               marks = keys-put mark_rank (mark_rank m) s d.arrivals;
               bookmarks = refl;
             };
-        given = refl;
+        entries = refl;
       };
       rows = λ other. arrival_rows h other;
       wanting =
@@ -182,7 +162,7 @@ text_puts d id s bookmarks can =
     record {
       book = record {
         document = record { table = refl; plan = refl; marks = refl; bookmarks = keys-put bookmark_rank id s d.texts };
-        given = refl;
+        entries = refl;
       };
       rows = text_rows d id s there;
       wanting =
@@ -242,3 +222,23 @@ written {K} {V} {len} {rows} {new} {now} rank n s same long is =
     ∙ ap (λ (ys : List (Row K V)). take len ys) (append-nil new)
     ∙ take_all len new (omega (arith, count, long))
     ∙ is ∙ ap (put rank n s) same
+
+-- what may be put for a view is no pattern, and for a step no text
+
+pub view_no_pattern : (d : BookState) (id : ℕ) (w : World) → CanBePut d (View id) (Known (pattern w)) → ⊥
+view_no_pattern d id w can =
+    let c = core_of d in
+    by_bookmark (bookmark_in d.plan.bookmarks id)
+    (subst (Stands d.entries d.plan (View id)) (put_there (View id) (holds (pattern w)) c) (can.right.stands (View id)))
+  where
+    by_bookmark : (o : Option Bookmark) → text_wanted d.plan o ≡ Some (pattern w) → ⊥
+    by_bookmark None h = cc
+    by_bookmark (Some b) h = cc
+
+pub step_no_text : (d : BookState) (branch mark : ℕ) (bytes : List ℕ)
+    → CanBePut d (Step branch mark) (Known (text bytes)) → ⊥
+step_no_text d branch mark bytes can =
+    let need = Step branch mark in
+    let bad : Some (pattern (arrival d.plan branch mark)) ≡ Some (text bytes) =
+    subst (Stands d.entries d.plan need) (put_there need (holds (text bytes)) (core_of d)) (can.right.stands need) in
+    cc

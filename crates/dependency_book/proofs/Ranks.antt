@@ -2,19 +2,14 @@
 use Rattle.std.proofs.Common.{◌≡◌, ◌^◌, ◌<◌, ◌≤◌, ◌∙◌, true, false, List, [], ◌∷◌, refl, sym, ap, ap₂, subst, arith}
 use Rattle.std.specs.Prelude.{◌==◌, ◌||◌}
 use Rattle.std.specs.List.{AllByRecursion, list_any}
-use Rattle.std.proofs.lemmas.Bool.{and_parts}
-use Rattle.dependency_book.specs.declared.mark.Mark.{Mark}
-use Rattle.dependency_book.specs.Marks.{is_same, is_start, mark_at}
+use Rattle.desk_events.specs.declared.mark.Mark.{Mark}
+use Rattle.desk_events.specs.Marks.{is_same, is_start, mark_at}
 use Rattle.dependency_book.specs.Rows.{mark_rank}
 use Rattle.dependency_book.proofs.Standing.{has}
-use Rattle.dependency_book.proofs.Tests.{either_way, clash, eq_true, eq_false, true_eq}
+use Rattle.desk_events.proofs.Shared.Tests.{either_way, clash, eq_true, eq_false}
+use Rattle.desk_events.proofs.Shared.Marks.{same_mark, start_is}
 
 -- whether two marks are one
-
-pub same_mark : (m n : Mark) → is_same m n ≡ true → m ≡ n
-same_mark m n h =
-    let parts = and_parts (m.branch == n.branch) (m.generation == n.generation) h in
-    ap₂ mark_at (true_eq m.branch n.branch parts.0) (true_eq m.generation n.generation parts.1)
 
 pub same_true : (m n : Mark) → m ≡ n → is_same m n ≡ true
 same_true m n one =
@@ -23,10 +18,6 @@ same_true m n one =
 
 pub apart : (m n : Mark) → is_same m n ≡ false → m ≡ n → ⊥
 apart m n miss one = clash (is_same m n) (same_true m n one) miss
-
--- the start is one mark
-pub start_is : (m : Mark) → is_start m ≡ true → m ≡ mark_at 0 0
-start_is m h = same_mark m (mark_at 0 0) h
 
 -- a mark above generation 0 isn't the start
 pub above_start : (m : Mark) → 0 < m.generation → is_start m ≡ false

@@ -1,14 +1,14 @@
 -- Whether what arrives at a mark is known, by the row at the place of its rank.
 use Rattle.std.proofs.Common.{◌≡◌, ℕ, ◌+◌, ◌<◌, ◌∙◌, Bool, true, false, List, length, get_or, refl, sym, ap, subst, arith}
 use Rattle.std.specs.Prelude.{◌==◌}
-use Rattle.dependency_book.specs.declared.mark.Mark.{Mark}
+use Rattle.desk_events.specs.declared.mark.Mark.{Mark}
 use Rattle.dependency_book.specs.declared.row.RowState.TheVariants.{Empty}
-use Rattle.dependency_book.specs.Marks.{is_start}
+use Rattle.desk_events.specs.Marks.{is_start}
 use Rattle.dependency_book.specs.Ready.{NoneBefore, is_ready}
 use Rattle.dependency_book.specs.RowState.{is_known}
 use Rattle.dependency_book.specs.Rows.{ArrivalRow, IsRanked, keys, mark_rank, place_in, state_at}
 use Rattle.dependency_book.proofs.Standing.{has, place-has, rank-has, state_at-above, state_at-place}
-use Rattle.dependency_book.proofs.Tests.{either_way, false_eq, true_eq}
+use Rattle.desk_events.proofs.Shared.Tests.{either_way, false_eq, true_eq}
 
 pub started : (rows : List ArrivalRow) (m : Mark) → is_start m ≡ true → true ≡ is_ready rows m
 started rows m hit = rw hit refl

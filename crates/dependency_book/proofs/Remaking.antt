@@ -8,7 +8,7 @@ use Rattle.dependency_book.specs.declared.row.Row.{Row}
 use Rattle.dependency_book.specs.Remade.{kept_at, remade_row}
 use Rattle.dependency_book.specs.Rows.{keys, IsRanked, state_at, place_in, put}
 use Rattle.dependency_book.proofs.Standing.{has, rank_at, keys-put}
-use Rattle.dependency_book.proofs.Tests.{either_way, true_eq, eq_true, lt_apart}
+use Rattle.desk_events.proofs.Shared.Tests.{either_way, true_eq, eq_true, lt_apart}
 
 -- the first key of a rank
 abbrev pub first_of : {K : Type 0} → (K → ℕ) → ℕ → List K → Option K

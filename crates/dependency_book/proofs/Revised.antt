@@ -2,7 +2,7 @@
 use Rattle.std.proofs.Common.{◌≡◌, ℕ, ◌∙◌, ◌^◌, ◌≤◌, Bool, true, false, ◌&&◌, List, [], ◌∷◌, map, refl, sym, ap, ap₂, subst, Option, None, Some, Ok, inl, inr}
 use Rattle.std.specs.Prelude.{if◌then◌else◌, ◌==◌}
 use Rattle.std.specs.List.{AllByRecursion}
-use Rattle.std.proofs.lemmas.Bool.{and_parts, cond-false, cond-true}
+use Rattle.std.proofs.lemmas.Bool.{cond-false, cond-true}
 use Rattle.worlds.specs.World.{World}
 use Rattle.schedule.specs.declared.branch.Branch.{Branch}
 use Rattle.schedule.specs.declared.document.Bookmark.{Bookmark}
@@ -17,34 +17,44 @@ use Rattle.revision_jobs.specs.Value.{pattern, text}
 use Rattle.dependency_book.specs.declared.row.Row.{Row}
 use Rattle.dependency_book.specs.declared.row.RowState.{RowState}
 use Rattle.dependency_book.specs.declared.row.RowState.TheVariants.{Empty, Known}
-use Rattle.dependency_book.specs.declared.mark.Mark.{Mark}
-use Rattle.dependency_book.specs.declared.need.Need.{Need}
-use Rattle.dependency_book.specs.declared.need.Need.TheVariants.{Step, View}
+use Rattle.desk_events.specs.declared.mark.Mark.{Mark}
+use Rattle.desk_events.specs.declared.need.Need.{Need}
+use Rattle.desk_events.specs.declared.need.Need.TheVariants.{Step, View}
 use Rattle.dependency_book.specs.AllMarks.{AreMarksOf}
-use Rattle.dependency_book.specs.BookState.{BookState, arrival_known, arrival_row, text_row, row_of, bookmark_in, expected}
-use Rattle.dependency_book.specs.Felt.{BookFeels, IsFelt}
-use Rattle.dependency_book.specs.Kept.{KeepsRows, KeepsUnfelt, arrival_after, arrival_kept, bookmark_stays, keeps_arrival, keeps_text, mark_stays, stays_mark, text_kept}
-use Rattle.dependency_book.specs.Marks.{is_mark, is_start, mark_at}
+use Rattle.dependency_book.specs.BookState.{BookState, arrival_known, arrival_row, text_row, row_of, expected}
+use Rattle.desk_events.specs.Wanted.{bookmark_in}
+use Rattle.dependency_book.specs.Felt.{BookFeels}
+use Rattle.desk_events.specs.Felt.{IsFelt}
+use Rattle.dependency_book.specs.Kept.{KeepsRows, KeepsUnfelt, arrival_after, arrival_kept, bookmark_stays, mark_stays, text_kept}
+use Rattle.desk_events.specs.Kept.{keeps_arrival, keeps_text, stays_mark}
+use Rattle.desk_events.specs.Marks.{is_mark, is_start, mark_at}
 use Rattle.dependency_book.specs.declared.room.Rows.{Rows}
 use Rattle.dependency_book.specs.Remade.{AreRemade, kept_at, remade_row}
-use Rattle.dependency_book.specs.Right.{IsRight, StandsRight, wanted}
+use Rattle.dependency_book.specs.Right.{IsRight}
 use Rattle.dependency_book.specs.RowState.{state_map, job_of}
 use Rattle.dependency_book.specs.Rows.{ArrivalRow, TextRow, keys, state_at, mark_rank, bookmark_rank}
 use Rattle.dependency_book.proofs.Followed.{MayBeFelt, stays_for, texts_stay}
-use Rattle.dependency_book.proofs.Entering.{known_arrives}
 use Rattle.dependency_book.proofs.Ranks.{has_mark, rank_is}
 use Rattle.dependency_book.proofs.Remaking.{first_of, kept_for, keys-remade, state_at-remade, kept_at-first, kept_at-any}
-use Rattle.dependency_book.proofs.Shared.StillWanted.{Keeps, wants_same}
 use Rattle.dependency_book.proofs.Standing.{has, state_at-above}
-use Rattle.dependency_book.proofs.Tests.{either_way, true_eq}
-use Rattle.dependency_book.proofs.Wanted.{start_wanted, same_right}
+use Rattle.desk_events.proofs.Shared.Tests.{either_way, true_eq}
+use Rattle.desk_events.specs.Core.{Core, Row as DeskRow, arrival_in, holds, nothing}
+use Rattle.desk_events.specs.Event.{MayBeAsked, after_edit as core_after_edit, after_event, edits, kept_row}
+use Rattle.desk_events.specs.Kept.{keeps_bookmark}
+use Rattle.desk_events.specs.Right.{IsRight as IsRightCore}
+use Rattle.desk_events.proofs.Shared.Right.{edits_right_on}
+use Rattle.dependency_book.specs.Called.{IsEdit}
+use Rattle.dependency_book.specs.Core.{core_of, plain_row}
+use Rattle.dependency_book.specs.Recalled.{Recalls}
+use Rattle.dependency_book.proofs.Shared.Cores.{arrives_same, plain_if, same_core}
+use Rattle.dependency_book.proofs.Recalled.{recalls_follow}
 
 -- what stands after an edit that is felt from here and gives this document, with these marks
 abbrev pub after_edit : BookState → Plan → Option Mark → List Mark → BookState
 after_edit d q felt marks = record {
   table = d.table;
   plan = q;
-  given = d.given;
+  entries = d.entries;
   arrivals = map (remade_row mark_rank (mark_stays q.branches felt) d.arrivals) marks;
   texts = map (remade_row bookmark_rank (bookmark_stays q.branches felt) d.texts) q.bookmarks;
 }
@@ -147,67 +157,107 @@ pub edit_keeps : (d : BookState) (asked : Asked) (felt : Option Mark) (marks : L
     → KeepsRows asked felt d (after_edit d (changed d.plan asked).plan felt marks)
 edit_keeps d asked felt marks right so are = record {
   table = refl;
-  given = refl;
+  entries = refl;
   arrivals = λ m. arrivals_stay d (changed d.plan asked).plan felt marks m right.marks are;
   texts = λ id. texts_after d asked felt marks id so right.bookmarks;
 }
 
--- what stands in each row: the start at its mark, nothing, or what stood there and is kept
+-- in the law it is what the edit keeps
 
-row_cases : {A : Type 0} (asked : Asked) (felt : Option Mark) (d e : BookState) (need : Need)
-    → e.plan ≡ (changed d.plan asked).plan → KeepsRows asked felt d e
-    → (need ≡ Step 0 0 → row_of e need ≡ Known (pattern e.plan.start) → A) → (row_of e need ≡ Empty → A)
-    → (row_of e need ≡ row_of d need → Keeps d.plan asked felt need → A) → A
-row_cases asked felt d e (Step branch mark) after keeps start none kept =
+-- what is made of the one of two that a test picks
+map_if : {V W : Type 0} (f : V → W) (b : Bool) (x y : RowState V)
+    → state_map f (if b then x else y) ≡ (if b then state_map f x else state_map f y)
+map_if f true x y = refl
+map_if f false x y = refl
+
+text_kept_row : (branches : List Branch) (felt : Option Mark) (asked : Asked) (o : Option Bookmark)
+    (row : RowState (List ℕ)) → plain_row (state_map text (text_kept branches felt asked o row))
+    ≡ (if keeps_bookmark branches felt asked o then plain_row (state_map text row) else nothing)
+text_kept_row branches felt asked None row = refl
+text_kept_row branches felt asked (Some b) row =
+    ap plain_row (map_if text (keeps_text branches felt asked b) row Empty)
+    ∙ plain_if (keeps_text branches felt asked b) (state_map text row) Empty
+
+pub kept_core : (asked : Asked) (felt : Option Mark) (old new : BookState) → KeepsRows asked felt old new
+    → (need : Need)
+    → plain_row (row_of new need) ≡ kept_row old.plan asked felt new.plan need (plain_row (row_of old need))
+kept_core asked felt old new keeps (Step branch mark) =
+    let m = mark_at branch mark in
+    let stays = stays_mark felt old.plan new.plan m in
+    let start : RowState World = Known new.plan.start in
+    let left = arrival_kept felt old.plan new.plan m (arrival_row old m) in
+    ap (λ s. plain_row (state_map pattern s)) (keeps.arrivals m)
+    ∙ ap plain_row (map_if pattern (is_start m) start left)
+    ∙ plain_if (is_start m) (Known (pattern new.plan.start)) (state_map pattern left)
+    ∙ ap (λ (o : DeskRow). if is_start m then holds (pattern new.plan.start) else o)
+    (ap plain_row (map_if pattern stays (arrival_row old m) Empty)
+    ∙ plain_if stays (state_map pattern (arrival_row old m)) Empty)
+kept_core asked felt old new keeps (View id) =
+    ap (λ s. plain_row (state_map text s)) (keeps.texts id)
+    ∙ text_kept_row new.plan.branches felt asked (bookmark_in old.plan.bookmarks id) (text_row old id)
+
+-- a job that is out afterwards was out for the same row before
+kept_out : (p : Plan) (asked : Asked) (felt : Option Mark) (d e : BookState) (need : Need) (job : Job)
+    → KeepsRows asked felt d e → expected e need ≡ Some job → expected d need ≡ Some job
+kept_out p asked felt d e (Step branch mark) job keeps out =
     let m = mark_at branch mark in
     let stays = stays_mark felt d.plan e.plan m in
     let left = arrival_kept felt d.plan e.plan m (arrival_row d m) in
     either_way (is_start m)
-    (λ hit.
-    let is : arrival_row e m ≡ Known e.plan.start =
-    keeps.arrivals m ∙ cond-true (is_start m) (Known e.plan.start) left hit in
-    let parts = and_parts (branch == 0) (mark == 0) hit in
-    start (ap₂ (λ b g. Step b g) (true_eq branch 0 parts.0) (true_eq mark 0 parts.1)) (ap (state_map pattern) is))
+    (λ hit. absurd
+    (let is : arrival_row e m ≡ Known e.plan.start = keeps.arrivals m
+    ∙ cond-true (is_start m) (Known e.plan.start) left hit in
+    let bad : None ≡ Some job = sym (ap (λ s. job_of (state_map pattern s)) is) ∙ out in cc))
     (λ miss.
+    let is : arrival_row e m ≡ left = keeps.arrivals m
+    ∙ cond-false (is_start m) (Known e.plan.start) left miss in
     either_way stays
     (λ on.
-    let is : arrival_row e m ≡ arrival_row d m =
-    keeps.arrivals m ∙ cond-false (is_start m) (Known e.plan.start) left miss
-    ∙ cond-true stays (arrival_row d m) Empty on in
-    kept (ap (state_map pattern) is) (miss, ap (λ q. stays_mark felt d.plan q m) (sym after) ∙ on))
-    (λ off. let is : arrival_row e m ≡ Empty = keeps.arrivals m ∙ cond-false (is_start m) (Known e.plan.start) left miss
-    ∙ cond-false stays (arrival_row d m) Empty off in none (ap (state_map pattern) is)))
-row_cases {A} asked felt d e (View id) after keeps start none kept = by_bookmark (bookmark_in d.plan.bookmarks id) refl
+    let same : arrival_row e m ≡ arrival_row d m = is ∙ cond-true stays (arrival_row d m) Empty on in
+    sym (ap (λ s. job_of (state_map pattern s)) same) ∙ out)
+    (λ off. absurd
+    (let none : arrival_row e m ≡ Empty = is ∙ cond-false stays (arrival_row d m) Empty off in
+    let bad : None ≡ Some job = sym (ap (λ s. job_of (state_map pattern s)) none) ∙ out in cc)))
+kept_out p asked felt d e (View id) job keeps out = by_bookmark (bookmark_in d.plan.bookmarks id) refl
   where
-    by_bookmark : (o : Option Bookmark) → bookmark_in d.plan.bookmarks id ≡ o → A
-    by_bookmark None is = let gone : text_row e id ≡ Empty = keeps.texts id ∙ rw is refl in
-        none (ap (state_map text) gone)
+    gone : text_row e id ≡ Empty → expected d (View id) ≡ Some job
+    gone none = absurd (let bad : None ≡ Some job = sym (ap (λ s. job_of (state_map text s)) none) ∙ out in cc)
+
+    by_bookmark : (o : Option Bookmark) → bookmark_in d.plan.bookmarks id ≡ o → expected d (View id) ≡ Some job
+    by_bookmark None is = gone (keeps.texts id ∙ rw is refl)
     by_bookmark (Some b) is =
         either_way (keeps_text e.plan.branches felt asked b)
         (λ on.
         let same : text_row e id ≡ text_row d id = keeps.texts id ∙ rw is (rw on refl) in
-        kept (ap (state_map text) same) (b, is, ap (λ (q : Plan). keeps_text q.branches felt asked b) (sym after) ∙ on))
-        (λ off. let gone : text_row e id ≡ Empty = keeps.texts id ∙ rw is (rw off refl) in
-        none (ap (state_map text) gone))
-
--- what is kept is right
-
--- a job that is out afterwards was out for the same row before
-was_out : (asked : Asked) (felt : Option Mark) (d e : BookState) (need : Need) (job : Job)
-    → e.plan ≡ (changed d.plan asked).plan → KeepsRows asked felt d e → expected e need ≡ Some job
-    → expected d need ≡ Some job
-was_out asked felt d e need job after keeps out =
-    row_cases asked felt d e need after keeps
-    (λ _ is. absurd (let found = sym (ap job_of is) ∙ out in none_out job found))
-    (λ is. absurd (let found = sym (ap job_of is) ∙ out in none_out job found))
-    (λ is _. sym (ap job_of is) ∙ out)
-  where
-    none_out : (job : Job) → None ≡ Some job → ⊥
-    none_out job h = cc
+        sym (ap (λ s. job_of (state_map text s)) same) ∙ out)
+        (λ off. gone (keeps.texts id ∙ rw is (rw off refl)))
 
 -- an edit keeps just this of a book, which is right afterwards
 abbrev pub Revises : Asked → BookState → BookState → Type 0
 Revises asked d e = KeepsUnfelt asked d e × IsRight e
+
+-- the desk after an edit that gives a document
+abbrev kept_desk : BookState → Asked → Option Mark → Plan → Core
+kept_desk d asked felt q = record {
+  plan = q;
+  entries = d.entries;
+  rows = λ need. kept_row d.plan asked felt q need (plain_row (row_of d need));
+}
+
+-- the desk after the edit
+edited_core : (d : BookState) (asked : Asked) (felt : Option Mark) (e : BookState) → refusal d.plan asked ≡ None
+    → e.plan ≡ (changed d.plan asked).plan → KeepsRows asked felt d e
+    → core_of e ≡ after_event (core_of d) (edits asked felt)
+edited_core d asked felt e free after keeps =
+    same_core e.plan e.plan e.entries d.entries (λ need. plain_row (row_of e need))
+    (λ need. kept_row d.plan asked felt e.plan need (plain_row (row_of d need))) refl keeps.entries
+    (kept_core asked felt d e keeps)
+    ∙ ap (kept_desk d asked felt) after
+    ∙ sym (ap (λ o. core_after_edit (core_of d) asked felt (unless_refused o (changed d.plan asked))) free)
+
+felt_core : (d : BookState) (asked : Asked) (felt : Option Mark) (q : Plan) → IsFelt (arrival_known d) d.plan asked q felt
+    → IsFelt (arrival_in (core_of d)) d.plan asked q felt
+felt_core d asked felt q h = subst (λ known. IsFelt known d.plan asked q felt) (arrives_same d) h
 
 edit_revises : (d : BookState) (asked : Asked) (felt : Option Mark) (marks : List Mark) → refusal d.plan asked ≡ None
     → IsRight d → BookFeels d asked felt → IsSound (changed d.plan asked).plan
@@ -219,21 +269,13 @@ edit_revises d asked felt marks free right is_felt sound are =
     let keeps = edit_keeps d asked felt marks right (may_be_felt (arrival_known d) d.plan q asked felt is_felt) are in (
       record { felt = felt; is = is_felt; keeps = keeps },
       record {
-        sound = sound;
+        core = subst IsRightCore (sym (edited_core d asked felt e free refl keeps))
+            (edits_right_on (core_of d) asked felt right.core (λ _. sound) (felt_core d asked felt q is_felt));
         marks = subst (AreMarksOf q) (sym (keys-remade mark_rank (mark_stays q.branches felt) d.arrivals marks)) are;
         bookmarks = keys-remade bookmark_rank (bookmark_stays q.branches felt) d.texts q.bookmarks;
-        stands = λ need.
-            row_cases asked felt d e need refl keeps
-            (λ start is. subst (StandsRight e need) (sym is) (ap (wanted q) start ∙ start_wanted q))
-            (λ is. subst (StandsRight e need) (sym is) tt)
-            (λ is k.
-            let same = wants_same d.plan (arrival_known d) asked felt need right.sound free
-            (known_arrives d right) is_felt k in
-            subst (StandsRight e need) (sym is)
-            (same_right d e need (row_of d need) refl refl same (right.stands need)));
-        once = λ a b i j out other same. right.once a b i j (was_out asked felt d e a i refl keeps out)
-            (was_out asked felt d e b j refl keeps other) same;
-        few = right.few;
+        out = λ need job out.
+            let h = right.out need job (kept_out d.plan asked felt d e need job keeps out) in
+            record { own = h.own; entry = h.entry };
       },
     )
 
@@ -248,7 +290,7 @@ unrefused (Some fault) c e h = absurd cc
 
 -- the book of a document with other rows
 abbrev pub with_rows : BookState → Plan → List ArrivalRow → List TextRow → BookState
-with_rows d q arrivals texts = record { table = d.table; plan = q; given = d.given; arrivals = arrivals; texts = texts }
+with_rows d q arrivals texts = record { table = d.table; plan = q; entries = d.entries; arrivals = arrivals; texts = texts }
 
 -- rows that were made of a book's rows after an edit
 pub revises : (d : BookState) (q : Plan) (asked : Asked) (edited : Edited) (arrivals : List ArrivalRow)
@@ -267,3 +309,26 @@ revises d q asked edited arrivals texts felt rows right is marks bookmarks is_fe
     (accepted (refusal d.plan asked) (changed d.plan asked) (made q edited) is)
     (edit_revises d asked felt h.marks
     (unrefused (refusal d.plan asked) (changed d.plan asked) (made q edited) is) right is_felt) h.sound h.are)
+
+-- the edit is an event of the law, and so is what was recalled behind it
+pub edits_call : (old kept new : BookState) (asked : Asked) (edited : Edited) → MayBeAsked asked
+    → change old.plan asked ≡ Ok (made kept.plan edited) → KeepsUnfelt asked old kept → Recalls kept new
+    → IsEdit asked old new
+edits_call old kept new asked edited may is h recalls =
+    let felt = h.felt in
+    let free = unrefused (refusal old.plan asked) (changed old.plan asked) (made kept.plan edited) is in
+    let after = ap (λ (c : Changed). c.plan)
+    (accepted (refusal old.plan asked) (changed old.plan asked) (made kept.plan edited) is) in
+    record {
+      felt = felt;
+      event = record {
+        can = record {
+          rule = may;
+          felt_there = felt_core old asked felt (changed old.plan asked).plan
+              (subst (λ q. IsFelt (arrival_known old) old.plan asked q felt) (sym after) h.is);
+        };
+        true_one = tt;
+        follows = recalls_follow (edits asked felt) (core_of old) kept new
+            (edited_core old asked felt kept free (sym after) h.keeps) recalls;
+      };
+    }

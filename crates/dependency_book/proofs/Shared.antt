@@ -1,5 +1,5 @@
 -- Lemmas that other crates may cite.
-pub mod Gives
+pub mod Cores
+pub mod Opened
 pub mod Recalling
 pub mod Settled
-pub mod StillWanted

@@ -1,21 +1,20 @@
 -- What is shown of a bookmark, by the row at the place of its id.
 use Rattle.std.proofs.Common.{◌≡◌, ℕ, ◌<◌, ◌∙◌, List, [], ◌∷◌, length, get_or, refl, sym, ap, subst, Option, None, Some}
-use Rattle.std.specs.Prelude.{◌==◌, IsSome}
+use Rattle.std.specs.Prelude.{◌==◌, IfSome, IsSome}
 use Rattle.schedule.specs.declared.document.Bookmark.{Bookmark}
 use Rattle.schedule.specs.Scratch.{scratch}
 use Rattle.revision_jobs.specs.Value.{text}
-use Rattle.dependency_book.specs.declared.need.Need.TheVariants.{View}
-use Rattle.dependency_book.specs.declared.row.RowState.{RowState}
-use Rattle.dependency_book.specs.declared.row.RowState.TheVariants.{Empty, Expected, Known}
-use Rattle.dependency_book.specs.BookState.{BookState, bookmark_in, text_row}
+use Rattle.dependency_book.specs.declared.row.RowState.TheVariants.{Empty}
+use Rattle.dependency_book.specs.BookState.{BookState, text_row}
+use Rattle.desk_events.specs.Wanted.{bookmark_in}
 use Rattle.dependency_book.specs.Held.{IsHeld}
-use Rattle.dependency_book.specs.Right.{StandsRight, text_wanted}
-use Rattle.dependency_book.specs.RowState.{known, state_map}
+use Rattle.dependency_book.specs.RowState.{known}
 use Rattle.dependency_book.specs.Rows.{TextRow, place_in, bookmark_rank}
 use Rattle.dependency_book.specs.Shown.{IsCurrent, IsPending}
 use Rattle.dependency_book.proofs.Outs.{ids_rise}
 use Rattle.dependency_book.proofs.Placed.{in_at, place_of-row, stands_in, text_stands}
-use Rattle.dependency_book.proofs.Tests.{either_way, true_eq}
+use Rattle.desk_events.proofs.Shared.Tests.{either_way, true_eq}
+use Rattle.dependency_book.proofs.Shared.Cores.{text_scratch}
 
 -- a row of a book's texts, by its place
 pub record IsTextRow (d : BookState) (id k : ℕ) (x : TextRow) : Type 0 where
@@ -40,17 +39,6 @@ its_text d places id k x held row =
     (λ here. ap (text_row d) (sym row.named) ∙ here)
     (text_stands d places k x held row.low)
 
-its_scratch : (d : BookState) (id : ℕ) (b : Bookmark) (s : RowState (List ℕ)) (bytes : List ℕ)
-    → StandsRight d (View id) (state_map text s) → bookmark_in d.plan.bookmarks id ≡ Some b → known s ≡ Some bytes
-    → bytes ≡ scratch d.plan b
-its_scratch d id b Empty bytes right there is = absurd cc
-its_scratch d id b (Expected job) bytes right there is = absurd cc
-its_scratch d id b (Known found) bytes right there is =
-    let same : found ≡ bytes = cc in
-    let wanted_one : Some (text (scratch d.plan b)) ≡ Some (text found) = sym (ap (text_wanted d.plan) there) ∙ right in
-    let made : scratch d.plan b ≡ found = cc in
-    sym same ∙ sym made
-
 pub is_current : (d : BookState) (places : List ℕ) (id k : ℕ) (x : TextRow) (bytes : List ℕ) → IsHeld d places
     → IsTextRow d id k x → known x.state ≡ Some bytes → IsCurrent d id bytes
 is_current d places id k x bytes held row is =
@@ -61,9 +49,8 @@ is_current d places id k x bytes held row is =
       there = there;
       known = ap known state ∙ is;
       scratch_text =
-          its_scratch d id x.key x.state bytes
-          (subst (λ (s : RowState (List ℕ)). StandsRight d (View id) (state_map text s)) state
-          (held.right.stands (View id))) there is;
+          subst (λ o. IfSome o (λ text. text ≡ scratch d.plan x.key)) (ap known state ∙ is)
+          (text_scratch d id x.key held.right there);
     }
 
 pub is_pending : (d : BookState) (places : List ℕ) (id k : ℕ) (x : TextRow) → IsHeld d places → IsTextRow d id k x

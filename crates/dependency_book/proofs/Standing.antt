@@ -12,7 +12,7 @@ use Rattle.dependency_book.specs.declared.row.Row.{Row}
 use Rattle.dependency_book.specs.Puts.{missing}
 use Rattle.dependency_book.specs.RowState.{is_empty}
 use Rattle.dependency_book.specs.Rows.{keys, IsRanked, state_at, place_in, put}
-use Rattle.dependency_book.proofs.Tests.{either_way, lt_apart, clash, lt_true, true_lt, false_lt, eq_true, eq_false, true_eq, false_eq}
+use Rattle.desk_events.proofs.Shared.Tests.{either_way, lt_apart, clash, lt_true, true_lt, false_lt, eq_true, eq_false, true_eq, false_eq}
 
 -- whether a key has a rank
 abbrev pub has : {K : Type 0} → (K → ℕ) → ℕ → List K → Bool

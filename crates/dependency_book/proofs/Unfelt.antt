@@ -1,5 +1,5 @@
 -- An edit of interventions that is felt nowhere.
-use Rattle.std.proofs.Common.{◌≡◌, ℕ, ◌≤◌, ◌∙◌, ◌++◌, Bool, true, ◌&&◌, nat_le, List, [], ◌∷◌, refl, sym, ap, subst, Option, None, Some, append-nil}
+use Rattle.std.proofs.Common.{◌≡◌, ℕ, ◌∙◌, ◌++◌, Bool, true, ◌&&◌, nat_le, List, [], ◌∷◌, refl, sym, ap, subst, Option, Some, append-nil}
 use Rattle.std.specs.Prelude.{◌==◌, ◌↔◌, IsTrue, if◌then◌else◌, flat_map}
 use Rattle.std.specs.List.{AllByRecursion, list_any}
 use Rattle.std.proofs.lemmas.Bool.{and_from, and_parts, or_right}
@@ -11,24 +11,20 @@ use Rattle.schedule.specs.declared.acts.Acts.{Acts}
 use Rattle.schedule.specs.declared.acts.Acts.TheVariants.{Once, Every}
 use Rattle.schedule.specs.declared.document.Intervention.{Intervention}
 use Rattle.schedule.specs.Acts.{acts_on, generations_to}
-use Rattle.schedule.specs.Alike.{LayAlikeWithin}
 use Rattle.schedule.specs.Asked.{Asked, InsertIntervention, ChangeIntervention, InsertRepeat, ChangeRepeat, RemoveIntervention, SetCells, ReplaceStart, ReplaceRule, AddBookmark, MoveBookmark, RemoveBookmark, AddBranch, RemoveBranch}
 use Rattle.schedule.specs.Branches.{reach}
 use Rattle.schedule.specs.Change.{acting, changed, next_intervention}
 use Rattle.schedule.specs.Ids.{intervention_id, changed_at, without}
 use Rattle.schedule.specs.Plan.{Plan}
-use Rattle.schedule.specs.Scratch.{arrival, after}
-use Rattle.schedule.specs.Sound.{IsSound}
 use Rattle.schedule.proofs.Shared.Acts.{any-generations}
-use Rattle.dependency_book.specs.declared.mark.Mark.{Mark}
-use Rattle.dependency_book.specs.declared.touched.Touched.{Touched}
+use Rattle.desk_events.specs.declared.mark.Mark.{Mark}
+use Rattle.desk_events.specs.declared.touched.Touched.{Touched}
 use Rattle.dependency_book.specs.BookState.{BookState, arrival_known}
-use Rattle.dependency_book.specs.Felt.{BookIsUnfelt, BookIsUnfeltAt, BookIsUnfeltWhere, IsUnfelt, IsUnfeltAt, IsUnfeltWhere, LayAlikeOn, UnfeltTouch, cells_after, cells_if_at, cells_of, own_cells_after, own_cells_of, touched_by}
-use Rattle.dependency_book.specs.Marks.{mark_at}
-use Rattle.dependency_book.proofs.Listed.{any_so}
-use Rattle.dependency_book.proofs.Shared.Gives.{Arrives}
-use Rattle.dependency_book.proofs.Tests.{either_way, eq_true, le_true, true_eq, true_le}
-use Rattle.dependency_book.proofs.Touching.{SameUntouched, untouched}
+use Rattle.dependency_book.specs.Felt.{BookIsUnfelt, BookIsUnfeltAt, BookIsUnfeltWhere, cells_after, cells_if_at, own_cells_after, own_cells_of}
+use Rattle.desk_events.specs.Felt.{LayAlikeOn, UnfeltTouch, cells_of, touched_by}
+use Rattle.desk_events.specs.Marks.{mark_at}
+use Rattle.desk_events.proofs.Shared.Listed.{any_so}
+use Rattle.desk_events.proofs.Shared.Tests.{either_way, eq_true, le_true, true_eq, true_le}
 
 -- the cells that are set after an edit
 
@@ -149,76 +145,3 @@ pub unfelt_later : (d : BookState) (asked : Asked) (t : Touched) (b : Bool) → 
 unfelt_later d asked t b is was same =
     let by = unfelt_by d asked (Some t) is in
     (λ yes. by.0 (was, same.0 yes), λ h. same.1 (by.1 h).1)
-
--- the lists of two documents lay alike on what arrives in the first at a mark
-abbrev LaysAlike : Plan → Plan → Mark → Type 0
-LaysAlike p q m = after p m.branch m.generation ≡ lay (cells_of q.interventions m) (arrival p m.branch m.generation)
-
-where_known : (p q : Plan) (m : Mark) (o : Option World)
-    → ((w : World) → o ≡ Some w → w ≡ arrival p m.branch m.generation) → LayAlikeOn o (cells_of p.interventions m)
-    (cells_of q.interventions m) → LaysAlike p q m
-where_known p q m None arrives h = absurd h
-where_known p q m (Some w) arrives h =
-    subst (λ v. lay (cells_of p.interventions m) v ≡ lay (cells_of q.interventions m) v) (arrives w refl) h
-
-elsewhere : (p q : Plan) (m : Mark) → cells_of p.interventions m ≡ cells_of q.interventions m → LaysAlike p q m
-elsewhere p q m same = ap (λ cs. lay cs (arrival p m.branch m.generation)) same
-
--- so they do where something acts, as far as its branch reaches, if it is unfelt there
-where_acting : (p q : Plan) (known : Mark → Option World) (branch : ℕ) (acts : Acts) (m : Mark) → Arrives known p
-    → IsUnfeltWhere known p q branch acts → (branch == m.branch && acts_on acts m.generation) ≡ true
-    → m.generation ≤ reach p m.branch → LaysAlike p q m
-where_acting p q known branch acts m arrives h acting far =
-    let parts = and_parts (branch == m.branch) (acts_on acts m.generation) acting in
-    let here : branch ≡ m.branch = true_eq branch m.branch parts.0 in
-    where_known p q m (known m) (arrives m)
-    (subst (λ b. IsUnfeltAt known p q (mark_at b m.generation)) here
-    (h m.generation parts.1 (subst (λ b. m.generation ≤ reach p b) (sym here) far)))
-
--- and at each generation that a branch reaches, if what is touched is
-alike_each : (p q : Plan) (known : Mark → Option World) (o : Option Touched) (m : Mark) → Arrives known p
-    → SameUntouched p.interventions q.interventions o → UnfeltTouch known p q o → m.generation ≤ reach p m.branch
-    → LaysAlike p q m
-alike_each p q known None m arrives same h far = absurd h
-alike_each p q known (Some t) m arrives same h far =
-    either_way (t.branch == m.branch && acts_on t.was m.generation)
-    (λ before. where_acting p q known t.branch t.was m arrives h.0 before far)
-    (λ off.
-    either_way (t.branch == m.branch && acts_on t.is m.generation)
-    (λ later. where_acting p q known t.branch t.is m arrives h.1 later far)
-    (λ none. elsewhere p q m (same m.branch m.generation off none)))
-
-alike : (p : Plan) (known : Mark → Option World) (asked : Asked) → IsSound p → Arrives known p
-    → IsUnfelt known p asked (changed p asked).plan → p.rule ≡ (changed p asked).plan.rule
-    → p.start ≡ (changed p asked).plan.start → p.branches ≡ (changed p asked).plan.branches
-    → LayAlikeWithin p (changed p asked).plan
-alike p known asked sound arrives h rule start branches = record {
-  rule = rule;
-  start = start;
-  branches = branches;
-  lists = λ b g late far.
-      alike_each p (changed p asked).plan known (touched_by p asked) (mark_at b g) arrives (untouched p asked sound) h
-      far;
-}
-
--- so the document before the edit and the one after it lay alike as far as branches reach
-pub unfelt_alike : (p : Plan) (known : Mark → Option World) (asked : Asked) → IsSound p → Arrives known p
-    → IsUnfelt known p asked (changed p asked).plan → LayAlikeWithin p (changed p asked).plan
-unfelt_alike p known (InsertIntervention branch g cells) sound arrives h =
-    alike p known (InsertIntervention branch g cells) sound arrives h refl refl refl
-unfelt_alike p known (ChangeIntervention id g cells) sound arrives h =
-    alike p known (ChangeIntervention id g cells) sound arrives h refl refl refl
-unfelt_alike p known (InsertRepeat branch first every last cells) sound arrives h =
-    alike p known (InsertRepeat branch first every last cells) sound arrives h refl refl refl
-unfelt_alike p known (ChangeRepeat id first every last cells) sound arrives h =
-    alike p known (ChangeRepeat id first every last cells) sound arrives h refl refl refl
-unfelt_alike p known (RemoveIntervention id) sound arrives h =
-    alike p known (RemoveIntervention id) sound arrives h refl refl refl
-unfelt_alike p known (SetCells cells) sound arrives h = absurd h
-unfelt_alike p known (ReplaceStart start) sound arrives h = absurd h
-unfelt_alike p known (ReplaceRule rule) sound arrives h = absurd h
-unfelt_alike p known (AddBookmark branch g view) sound arrives h = absurd h
-unfelt_alike p known (MoveBookmark id g) sound arrives h = absurd h
-unfelt_alike p known (RemoveBookmark id) sound arrives h = absurd h
-unfelt_alike p known (AddBranch parent g) sound arrives h = absurd h
-unfelt_alike p known (RemoveBranch n) sound arrives h = absurd h

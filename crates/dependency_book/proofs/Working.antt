@@ -14,43 +14,53 @@ use Rattle.revision_jobs.specs.Answer.{JobResult, IsRight as IsRightAnswer}
 use Rattle.revision_jobs.specs.Entries.{entry_of, index_of}
 use Rattle.revision_jobs.specs.Room.{HasNoRoom}
 use Rattle.revision_jobs.specs.Value.{Value, value}
-use Rattle.dependency_book.specs.declared.mark.Mark.{Mark}
-use Rattle.dependency_book.specs.declared.need.Need.{Need}
-use Rattle.dependency_book.specs.declared.need.Need.TheVariants.{Step, View}
+use Rattle.desk_events.specs.declared.mark.Mark.{Mark}
+use Rattle.desk_events.specs.declared.need.Need.{Need}
+use Rattle.desk_events.specs.declared.need.Need.TheVariants.{Step, View}
 use Rattle.dependency_book.specs.declared.row.RowState.{RowState}
 use Rattle.dependency_book.specs.declared.row.RowState.TheVariants.{Empty, Expected, Known}
-use Rattle.dependency_book.specs.BookState.{BookState, row_of, expected, bookmark_in, wanting_of}
-use Rattle.dependency_book.specs.declared.cursor.Cursor.{Cursor}
-use Rattle.dependency_book.specs.Cursor.{IsHeldWith}
-use Rattle.dependency_book.specs.Jobs.{is_need, is_job, given_by, answered, cancelled, IsFilled, IsNextJob, StepExpects, step_to}
-use Rattle.dependency_book.specs.Marks.{is_mark, is_start, mark_at}
+use Rattle.dependency_book.specs.BookState.{BookState, row_of, expected, wanting_of}
+use Rattle.desk_events.specs.Wanted.{bookmark_in, text_wanted}
+use Rattle.dependency_book.specs.Jobs.{is_job, given_by, answered, cancelled, IsFilled, IsNextJob, StepExpects}
+use Rattle.desk_events.specs.Needs.{is_need, step_to}
+use Rattle.desk_events.specs.Marks.{is_mark, is_start, mark_at}
 use Rattle.dependency_book.specs.Needs.{IsNext}
 use Rattle.dependency_book.specs.Puts.{CanBePut, Puts, can_change, filled_by, missing}
-use Rattle.dependency_book.specs.Right.{IsRight, GivesWanted, StandsRight, text_wanted}
+use Rattle.dependency_book.specs.Right.{IsRight}
 use Rattle.dependency_book.specs.RowState.{job_of, has_number}
 use Rattle.dependency_book.specs.Rows.{keys, mark_rank, bookmark_rank}
 use Rattle.dependency_book.proofs.Outs.{numbered, none_at, out_at, out_for}
 use Rattle.dependency_book.proofs.Standing.{has, state_at-above}
-use Rattle.dependency_book.proofs.Entering.{entry_gives}
-use Rattle.dependency_book.proofs.Putting.{need_is, need_same, put_right}
+use Rattle.desk_events.proofs.Shared.Needs.{need_is, need_same}
 use Rattle.dependency_book.proofs.Ranks.{has_mark}
-use Rattle.dependency_book.proofs.Tests.{either_way, clash, eq_true, eq_false}
+use Rattle.desk_events.proofs.Shared.Tests.{either_way, clash, eq_true, eq_false}
+use Rattle.std.proofs.Common.{◌++◌}
+use Rattle.std.specs.Prelude.{IfSome, if◌then◌else◌, slice_get}
+use Rattle.desk_events.specs.Core.{awaits, nothing, put}
+use Rattle.desk_events.specs.Entered.{IsEntryFrom}
+use Rattle.desk_events.specs.Entry.{value as core_value}
+use Rattle.desk_events.specs.Event.{CanIssue, IsTrueAnswer, after_event, answered as core_answered, cancelled as core_cancelled, cancels, collects, given_by as core_given, issues}
+use Rattle.desk_events.specs.Law.{Calls}
+use Rattle.desk_events.specs.Right.{IsRight as IsRightCore}
+use Rattle.desk_events.proofs.Shared.Right.{get_last, get_left, one_number, unawaited, uncancelled}
+use Rattle.desk_events.proofs.Shared.Right as core
+use Rattle.dependency_book.specs.BookState.{given_of}
+use Rattle.dependency_book.specs.Called.{IsCancel, IsCollect, IsIssue}
+use Rattle.dependency_book.specs.Core.{core_of, plain_row}
+use Rattle.dependency_book.specs.Jobs.{result_of}
+use Rattle.dependency_book.specs.Right.{IsGiven}
+use Rattle.dependency_book.specs.Said.{answer_said, said, said_at, value_in}
+use Rattle.dependency_book.proofs.Shared.Cores.{arrives_same, awaited, expected_state, expected_wants, once, put_core, same_core}
+use Rattle.std.proofs.Common.{map}
+use Rattle.std.proofs.lemmas.List.{map-append}
+use Rattle.std.specs.List.{AllByRecursion}
+use Rattle.revision_jobs.specs.Entries.{IsOf}
+use Rattle.step_facts.specs.Known.{Fact}
+use Rattle.desk_events.specs.Entry.{steps}
+use Rattle.dependency_book.specs.declared.cursor.Cursor.{Cursor}
+use Rattle.dependency_book.specs.Cursor.{IsKept}
 
 -- a row that expects a job
-
-pub expected_state : (d : BookState) (need : Need) (job : Job) → expected d need ≡ Some job
-    → row_of d need ≡ Expected job
-expected_state d need job out = of_state (row_of d need) out
-  where
-    of_state : (s : RowState Value) → job_of s ≡ Some job → s ≡ Expected job
-    of_state Empty h = absurd cc
-    of_state (Expected other) h = let same : other ≡ job = cc in ap (λ j. Expected j) same
-    of_state (Known v) h = absurd cc
-
--- the job gives what is wanted there
-pub expected_gives : (d : BookState) (need : Need) (job : Job) → IsRight d → expected d need ≡ Some job
-    → GivesWanted d need job
-expected_gives d need job right out = subst (StandsRight d need) (expected_state d need job out) (right.stands need)
 
 may_change : (p : Plan) (m : Mark) → is_start m ≡ false → is_mark p m ≡ true → can_change p (step_to m) ≡ true
 may_change p m off there = and_from (not (is_start m)) (is_mark p m) (ap not off) there
@@ -99,46 +109,110 @@ next_row d (View id) next =
 pub next_empty : (d : BookState) (need : Need) → IsNext d (Some need) → row_of d need ≡ Empty
 next_empty d need next = (next_row d need next).1
 
--- it may be expected, where its number is the next
-pub may_expect : (d : BookState) (given : ℕ) (need : Need) (job : Job) → IsRight d → IsNextJob d need job
-    → given ≡ d.given + 1 → CanBePut (record d { given = given }) need (Expected job)
-may_expect d given need job right next more =
-    let number = next.number in
-    record {
-      there = (next_row d need next.next).0;
-      right = record {
-        own = next.own;
-        gives = entry_gives d need (entry_of job.place) right next.entry;
-        given = omega
-            (arith, number, more);
-      };
-      free = λ other. fresh other (expected d other) refl;
-    }
-  where
-    fresh : (other : Need) (o : Option Job) → expected d other ≡ o → has_number job.number o ≡ false
-    fresh other None is = refl
-    fresh other (Some out) is =
-        let below = (expected_gives d other out right is).given in
-        let number = next.number in
-        eq_false out.number job.number (λ same. omega (arith, same, below, number))
+-- its number is given, and then it may be expected
 
--- the book with one more number given is right
-pub raised_right : (d : BookState) → IsRight d → d.given < 16777216 → IsRight (record d { given = d.given + 1 })
-raised_right d right few = record {
-  sound = right.sound;
+-- the book in which a number was given for the entry at a place
+abbrev pub more : BookState → Place → BookState
+more d place = record d { entries = d.entries ++ said_at place ∷ [] }
+
+next_few : (d : BookState) (need : Need) (job : Job) → IsNextJob d need job → given_of d < 16777216
+next_few d need job next = let number = next.number in let few = next.few in omega (arith, number, few)
+
+pub can_issue : (d : BookState) (need : Need) (job : Job) → IsNextJob d need job
+    → CanIssue (core_of d) need (said_at job.place)
+can_issue d need job next = record {
+  empty = ap plain_row (next_row d need next.next).1;
+  own = subst (λ arrives. IsEntryFrom d.plan arrives need (said_at job.place)) (arrives_same d) next.entry;
+  few = next_few d need job next;
+}
+
+given_more : (d : BookState) (place : Place) (job : Job) → IsGiven d job → IsGiven (more d place) job
+given_more d place job h =
+    record { own = h.own; entry = get_left d.entries (said_at place ∷ []) job.number (said_at job.place) h.entry }
+
+pub more_right : (d : BookState) (need : Need) (job : Job) → IsRight d → IsNextJob d need job
+    → IsRight (more d job.place)
+more_right d need job right next = record {
+  core = core.more_right (core_of d) (said_at job.place) right.core (next_few d need job next);
   marks = right.marks;
   bookmarks = right.bookmarks;
-  stands = λ need. raised need (row_of d need) (right.stands need);
-  once = right.once;
-  few = omega (arith, few);
+  out = λ other out is. given_more d job.place out (right.out other out is);
 }
-  where
-    raised : (need : Need) (s : RowState Value) → StandsRight d need s
-        → StandsRight (record d { given = d.given + 1 }) need s
-    raised need Empty h = tt
-    raised need (Expected job) h = let below = h.given in
-        record { own = h.own; gives = h.gives; given = omega (arith, below) }
-    raised need (Known v) h = h
+
+-- so it is where the list of places has one more
+pub pushed : (d : BookState) (issued after : List Place) (place shared : Place) → d.entries ≡ map said_at issued
+    → after ≡ issued ++ shared ∷ [] → shared ≡ place → record d { entries = map said_at after } ≡ more d place
+pushed d issued after place shared entries is same =
+    ap (λ es. record d { entries = es })
+    (ap (map said_at) (is ∙ ap (λ p. issued ++ p ∷ []) same) ∙ map-append said_at issued (place ∷ [])
+    ∙ ap (λ es. es ++ said_at place ∷ []) (sym entries))
+
+all_pushed : {A : Type 0} (P : A → Type 0) (xs : List A) (x : A) → AllByRecursion P xs → P x
+    → AllByRecursion P (xs ++ x ∷ [])
+all_pushed P [] x all h = (h, tt)
+all_pushed P (y ∷ xs) x all h = (all.0, all_pushed P xs x all.1 h)
+
+pub kept_more : {d : BookState} {places : List ℕ} {cursor : Cursor} {issued : List Place} {facts : List Fact} (need : Need)
+    (job : Job) (after : List Place) → IsNextJob d need job → IsKept d places cursor issued facts
+    → after ≡ issued ++ job.place ∷ [] → IsKept (more d job.place) places cursor after facts
+kept_more {d} {places} {cursor} {issued} {facts} need job after next kept is =
+    let held = kept.held in
+    let passed = kept.passed in
+    record {
+      held = record { places = held.places; right = more_right d need job held.right next };
+      passed = record { views = passed.views; steps = passed.steps };
+      own = subst (AllByRecursion (IsOf d.table)) (sym is)
+          (all_pushed (IsOf d.table) issued job.place kept.own next.own);
+      facts = λ s there.
+          let h = kept.facts s there in
+          record {
+            number = h.number;
+            step = h.step;
+            there = get_left d.entries (said_at job.place ∷ []) h.number (steps h.step) h.there;
+            same = h.same;
+          };
+    }
+
+pub may_await : (d : BookState) (need : Need) (job : Job) → IsRight d → IsNextJob d need job
+    → CanBePut (more d job.place) need (Expected job)
+may_await d need job right next = record {
+  there = (next_row d need next.next).0;
+  right = subst (λ n. IsRightCore (put need (awaits n) (core_of (more d job.place)))) (sym next.number)
+      (core.issues_right (core_of d) need (said_at job.place) right.core (can_issue d need job next));
+  out = record {
+    own = next.own;
+    entry = subst (λ n. slice_get (d.entries ++ said_at job.place ∷ []) n ≡ Some (said_at job.place)) (sym next.number)
+        (get_last d.entries (said_at job.place));
+  };
+}
+
+-- so the job is issued
+pub issues_call : (d e : BookState) (need : Need) (job : Job) → IsNextJob d need job
+    → Puts need (Expected job) (more d job.place) e → Calls (issues need (said_at job.place)) (core_of d) (core_of e)
+issues_call d e need job next puts = record {
+  can = can_issue d need job next;
+  true_one = tt;
+  follows = record {
+    entered = [];
+    recalls = put_core (more d job.place) e need (Expected job) puts
+        ∙ ap (λ n. put need (awaits n) (core_of (more d job.place))) next.number;
+  };
+}
+
+pub issue_is : (d e : BookState) (need : Need) (job : Job) → IsNextJob d need job
+    → Puts need (Expected job) (more d job.place) e → IsIssue need job d e
+issue_is d e need job next puts = record {
+  rows = puts.rows;
+  document = record {
+    table = puts.book.document.table;
+    plan = puts.book.document.plan;
+    marks = puts.book.document.marks;
+    bookmarks = puts.book.document.bookmarks;
+  };
+  entries = puts.book.entries;
+  fewer = (let none = ap missing (next_row d need next.next).1 in let count = puts.wanting in omega (arith, none, count));
+  event = issues_call d e need job next puts;
+}
 
 -- answers
 
@@ -152,7 +226,7 @@ other_number d need other i right out apart = no_number (expected d other) refl
     no_number (Some j) is =
         eq_false j.number i.number
         (λ same. clash (is_need need other)
-        (subst (λ n. is_need need n ≡ true) (right.once need other i j out is (sym same)) (need_same need)) apart)
+        (subst (λ n. is_need need n ≡ true) (once d need other i j right out is (sym same)) (need_same need)) apart)
 
 other_job : (job : Job) (o : Option Job) → has_number job.number o ≡ false → is_job job o ≡ false
 other_job job None h = refl
@@ -185,23 +259,138 @@ is_the_job d need place job out same =
     ∙ rw (eq_true job.number job.number refl, eq_true (index_of place) (index_of job.place) same) refl
 
 -- what the answer gives may stand in the row
+
+value_said : (e : Entry) → value e ≡ core_value (said e)
+value_said (entry.Step s) = refl
+value_said (entry.View r) = refl
+
+-- it is the value of the entry of its number
+answer_true : (d : BookState) (need : Need) (place : Place) (job : Job) (outcome : Result Value EvolveFault) → IsRight d
+    → expected d need ≡ numbered job.number place → entry_of place ≡ entry_of job.place → IsRightAnswer job outcome
+    → IsTrueAnswer d.entries (answer_said (result_of job outcome))
+answer_true d need place job (Err fault) right out same h = tt
+answer_true d need place job (Ok v) right out same h = record {
+  entry = said_at place;
+  there = (right.out need (record { number = job.number; place = place }) out).entry;
+  is = h.value_is ∙ value_said (entry_of job.place) ∙ ap (λ e. core_value (said e)) (sym same);
+}
+
+plain_given : (outcome : Result Value EvolveFault) → core_given (value_in outcome) ≡ plain_row (given_by outcome)
+plain_given (Ok v) = refl
+plain_given (Err fault) = refl
+
+none_given : (d : BookState) (outcome : Result Value EvolveFault) → IfSome (job_of (given_by outcome)) (IsGiven d)
+none_given d (Ok v) = tt
+none_given d (Err fault) = tt
+
+-- a row that doesn't expect a number
+
+apart_row : (n : ℕ) (s : RowState Value) → has_number n (job_of s) ≡ false → (k : ℕ) → plain_row s ≡ awaits k
+    → (k == n) ≡ false
+apart_row n Empty off k is = absurd cc
+apart_row n (Expected job) off k is = let same : job.number ≡ k = one_number job.number k is in
+    ap (λ m. m == n) (sym same) ∙ off
+apart_row n (Known v) off k is = absurd cc
+
+-- the desk after an answer, and after a cancelling
+
+collected_put : (d : BookState) (need : Need) (place : Place) (job : Job) (outcome : Result Value EvolveFault)
+    → IsRight d → expected d need ≡ numbered job.number place
+    → after_event (core_of d) (collects (answer_said (result_of job outcome)))
+    ≡ put need (plain_row (given_by outcome)) (core_of d)
+collected_put d need place job outcome right out =
+    let one : Job = record { number = job.number; place = place } in
+    let answer = answer_said (result_of job outcome) in
+    let given = plain_row (given_by outcome) in
+    same_core d.plan d.plan d.entries d.entries (λ other. core_answered answer (plain_row (row_of d other)))
+    (λ other. if is_need need other then given else plain_row (row_of d other)) refl refl
+    (λ other.
+    either_way (is_need need other)
+    (λ hit. ap (core_answered answer)
+    (ap (λ n. plain_row (row_of d n)) (sym (need_is need other hit)) ∙ awaited d need one out)
+    ∙ rw (eq_true job.number job.number refl, hit) (plain_given outcome))
+    (λ miss. unawaited answer (plain_row (row_of d other))
+    (apart_row job.number (row_of d other) (other_number d need other one right out miss)) ∙ rw miss refl))
+
+cancelled_put : (d : BookState) (need : Need) (n : ℕ) (place : Place) → IsRight d → expected d need ≡ numbered n place
+    → after_event (core_of d) (cancels n) ≡ put need nothing (core_of d)
+cancelled_put d need n place right out =
+    let one : Job = record { number = n; place = place } in
+    same_core d.plan d.plan d.entries d.entries (λ other. core_cancelled n (plain_row (row_of d other)))
+    (λ other. if is_need need other then nothing else plain_row (row_of d other)) refl refl
+    (λ other.
+    either_way (is_need need other)
+    (λ hit. ap (core_cancelled n)
+    (ap (λ k. plain_row (row_of d k)) (sym (need_is need other hit)) ∙ awaited d need one out)
+    ∙ rw (eq_true n n refl, hit) refl)
+    (λ miss. uncancelled n (plain_row (row_of d other))
+    (apart_row n (row_of d other) (other_number d need other one right out miss)) ∙ rw miss refl))
+
 pub may_stand : (d : BookState) (need : Need) (place : Place) (job : Job) (outcome : Result Value EvolveFault)
     → IsRight d → expected d need ≡ numbered job.number place → entry_of place ≡ entry_of job.place
     → IsRightAnswer job outcome → CanBePut d need (given_by outcome)
-may_stand d need place job (Err fault) right out same h =
-    record {
-      there = expected_row d need (record { number = job.number; place = place }) right out;
-      right = tt;
-      free = tt;
-    }
-may_stand d need place job (Ok v) right out same h =
-    let one : Job = record { number = job.number; place = place } in
-    record {
-      there = expected_row d need one right out;
-      right = (expected_gives d need one right out).gives ∙ ap (λ e. Some (value e)) same
-          ∙ ap (λ w. Some w) (sym h.value_is);
-      free = tt;
-    }
+may_stand d need place job outcome right out same h = record {
+  there = expected_row d need (record { number = job.number; place = place }) right out;
+  right = subst IsRightCore (collected_put d need place job outcome right out)
+      (core.collects_right (core_of d) (answer_said (result_of job outcome)) right.core
+      (answer_true d need place job outcome right out same h));
+  out = none_given d outcome;
+}
+
+pub may_free : (d : BookState) (need : Need) (n : ℕ) (place : Place) → IsRight d → expected d need ≡ numbered n place
+    → CanBePut d need Empty
+may_free d need n place right out = record {
+  there = expected_row d need (record { number = n; place = place }) right out;
+  right = subst IsRightCore (cancelled_put d need n place right out) (core.cancels_right (core_of d) n right.core);
+  out = tt;
+}
+
+-- so an answer is collected, and a job cancelled
+
+collects_call : (d e : BookState) (need : Need) (place : Place) (job : Job) (outcome : Result Value EvolveFault)
+    → IsRight d → expected d need ≡ numbered job.number place → entry_of place ≡ entry_of job.place
+    → IsRightAnswer job outcome → Puts need (given_by outcome) d e
+    → Calls (collects (answer_said (result_of job outcome))) (core_of d) (core_of e)
+collects_call d e need place job outcome right out same h puts = record {
+  can = tt;
+  true_one = answer_true d need place job outcome right out same h;
+  follows =
+      record {
+        entered = [];
+        recalls = put_core d e need (given_by outcome) puts ∙ sym (collected_put d need place job outcome right out);
+      };
+}
+
+pub collect_is : (d e : BookState) (need : Need) (place : Place) (job : Job) (outcome : Result Value EvolveFault)
+    → IsRight d → expected d need ≡ numbered job.number place → entry_of place ≡ entry_of job.place
+    → IsRightAnswer job outcome → Puts need (given_by outcome) d e
+    → IsCollect (result_of job outcome) d e (filled_by outcome)
+collect_is d e need place job (Ok v) right out same h puts = collects_call d e need place job (Ok v) right out same h puts
+collect_is d e need place job (Err fault) right out same h puts =
+    collects_call d e need place job (Err fault) right out same h puts
+
+pub cancel_is : (d e : BookState) (need : Need) (n : ℕ) (place : Place) → IsRight d
+    → expected d need ≡ numbered n place → Puts need Empty d e → IsCancel n d e
+cancel_is d e need n place right out puts = record {
+  can = tt;
+  true_one = tt;
+  follows =
+      record { entered = []; recalls = put_core d e need Empty puts ∙ sym (cancelled_put d need n place right out) };
+}
+
+-- where no row expects the number nothing is cancelled
+pub cancels_none : (d : BookState) (n : ℕ) → ((need : Need) → has_number n (expected d need) ≡ false) → IsCancel n d d
+cancels_none d n none = record {
+  can = tt;
+  true_one = tt;
+  follows = record {
+    entered = [];
+    recalls =
+        same_core d.plan d.plan d.entries d.entries (λ need. plain_row (row_of d need))
+        (λ need. core_cancelled n (plain_row (row_of d need))) refl refl
+        (λ need. sym (uncancelled n (plain_row (row_of d need)) (apart_row n (row_of d need) (none need))));
+  };
+}
 
 -- what stands in each row after an answer, or a cancelling
 pub put_answers : (d e : BookState) (need : Need) (place : Place) (answer : JobResult) → IsRight d
@@ -254,10 +443,10 @@ step_expects d (Step b g) place job right out index same spent =
     record { mark = m; above = off; noted = parts.1; row = is_the_job d (Step b g) place job out index; spent = spent }
 step_expects d (View id) place job right out index same spent =
     absurd (not_text (entry_of job.place) (bookmark_in d.plan.bookmarks id) spent.0 spent.1
-    ((expected_gives d (View id) (record { number = job.number; place = place }) right out).gives
-    ∙ ap (λ e. Some (value e)) same))
+    (expected_wants d (View id) (record { number = job.number; place = place }) right out
+    ∙ ap (λ e. Some (core_value (said e))) same))
   where
-    not_text : (e : Entry) (o : Option Bookmark) (limit : ℕ) → HasNoRoom limit e → text_wanted d.plan o ≡ Some (value e)
+    not_text : (e : Entry) (o : Option Bookmark) (limit : ℕ) → HasNoRoom limit e → text_wanted d.plan o ≡ Some (core_value (said e))
         → ⊥
     not_text (entry.Step s) None limit is h = cc
     not_text (entry.Step s) (Some b) limit is h = cc
@@ -279,49 +468,3 @@ filled_is d e need place job (Err fault) right out same entry h puts = (
   refl,
   λ room. step_expects d need place job right out same entry (h.room (ap (λ f. Err f) room)),
 )
-
--- the books after an answer or a cancelling, and after a job is expected, are right
-
-pub filled_right : (d e : BookState) (need : Need) (place : Place) (job : Job) (outcome : Result Value EvolveFault)
-    → IsRight d → expected d need ≡ numbered job.number place → entry_of place ≡ entry_of job.place
-    → IsRightAnswer job outcome → Puts need (given_by outcome) d e → IsRight e
-filled_right d e need place job outcome right out same h puts =
-    put_right d e need (given_by outcome) right (may_stand d need place job outcome right out same h) puts
-
-pub cancelled_right : (d e : BookState) (need : Need) (n : ℕ) (place : Place) → IsRight d
-    → expected d need ≡ numbered n place → Puts need Empty d e → IsRight e
-cancelled_right d e need n place right out puts =
-    put_right d e need Empty right
-    (record { there = expected_row d need (record { number = n; place = place }) right out; right = tt; free = tt })
-    puts
-
--- the book in which the next number was given
-abbrev pub raised : BookState → BookState
-raised d = record d { given = d.given + 1 }
-
-pub next_few : (d s : BookState) (need : Need) (job : Job) → d ≡ s → IsNextJob s need job → d.given < 16777216
-next_few d s need job same next = let number = next.number in let few = next.few in let one : d.given ≡ s.given =
-    ap (λ (x : BookState). x.given) same in omega (arith, number, few, one)
-
--- it has passed the same rows
-pub raised_held : {d s : BookState} {places : List ℕ} {cursor : Cursor} {need : Need} {job : Job} → d ≡ s
-    → IsNextJob s need job → IsHeldWith d places cursor → IsHeldWith (raised d) places cursor
-raised_held {d} {s} {places} {cursor} {need} {job} same next with_it =
-    let held = with_it.held in
-    let passed = with_it.passed in
-    record {
-      held = record { places = held.places; right = raised_right d held.right (next_few d s need job same next) };
-      passed = record { views = passed.views; steps = passed.steps };
-    }
-
-pub may_expect_there : (d s : BookState) (need kind : Need) (job : Job) → d ≡ s → need ≡ kind → IsNextJob s need job
-    → IsRight d → CanBePut (raised d) kind (Expected job)
-may_expect_there d s need kind job same is next right =
-    may_expect d (d.given + 1) kind job right
-    (subst (λ n. IsNextJob d n job) is (subst (λ x. IsNextJob x need job) (sym same) next)) refl
-
-pub expected_right : (d s e : BookState) (need kind : Need) (job : Job) → d ≡ s → need ≡ kind → IsNextJob s need job
-    → IsRight d → Puts kind (Expected job) (raised d) e → IsRight e
-expected_right d s e need kind job same is next right puts =
-    put_right (raised d) e kind (Expected job) (raised_right d right (next_few d s need job same next))
-    (may_expect_there d s need kind job same is next right) puts

@@ -1,27 +1,28 @@
 -- What a book knows: its document, the worlds that arrive at marks and the texts of bookmarks, and
 -- which jobs are out for others.
-use Rattle.std.specs.Prelude.{◌≡◌, ℕ, ◌+◌, Bool, not, List, [], ◌∷◌, Option, None, Some, IfSome, count_by, if◌then◌else◌, ◌==◌}
+use Rattle.std.specs.Prelude.{◌≡◌, ℕ, ◌+◌, Bool, not, List, [], ◌∷◌, length, Option, None, Some, IfSome, count_by, if◌then◌else◌, ◌==◌}
 use Rattle.worlds.specs.World.{World}
 use Rattle.schedule.specs.declared.document.Bookmark.{Bookmark}
 use Rattle.schedule.specs.Plan.{Plan, opening}
 use Rattle.revision_jobs.specs.declared.answer.Job.{Job}
 use Rattle.revision_jobs.specs.declared.entries.Entries.{Entries}
 use Rattle.revision_jobs.specs.Value.{Value, pattern, text}
+use Rattle.desk_events.specs.Entry.{Entry}
 use Rattle.dependency_book.specs.declared.row.RowState.{RowState}
 use Rattle.dependency_book.specs.declared.row.RowState.TheVariants.{Known}
-use Rattle.dependency_book.specs.declared.mark.Mark.{Mark}
-use Rattle.dependency_book.specs.declared.need.Need.{Need}
-use Rattle.dependency_book.specs.declared.need.Need.TheVariants.{Step, View}
-use Rattle.dependency_book.specs.Marks.{is_start, mark_at}
+use Rattle.desk_events.specs.declared.mark.Mark.{Mark}
+use Rattle.desk_events.specs.declared.need.Need.{Need}
+use Rattle.desk_events.specs.declared.need.Need.TheVariants.{Step, View}
+use Rattle.desk_events.specs.Marks.{is_start, mark_at}
 use Rattle.dependency_book.specs.RowState.{known, is_known, is_empty, job_of, state_map}
 use Rattle.dependency_book.specs.Rows.{ArrivalRow, TextRow, state_at, mark_rank, bookmark_rank}
 
--- the table of entries that its jobs are of, the document, how many numbers of jobs were given,
+-- the table of entries that its jobs are of, the document, the entry of each number that was given,
 -- a row for each of the document's marks but the start, and a row for each of its bookmarks
 pub record BookState : Type 0 where
   pub table : Entries
   pub plan : Plan
-  pub given : ℕ
+  pub entries : List Entry
   pub arrivals : List ArrivalRow
   pub texts : List TextRow
 
@@ -30,10 +31,14 @@ abbrev pub opened : Entries → ℕ → BookState
 opened table revision = record {
   table = table;
   plan = opening revision;
-  given = 0;
+  entries = [];
   arrivals = [];
   texts = [];
 }
+
+-- how many numbers of jobs were given
+abbrev pub given_of : BookState → ℕ
+given_of d = length d.entries
 
 -- what stands at a mark; at generation 0 of branch 0 the start arrives
 abbrev pub arrival_row : BookState → Mark → RowState World
@@ -81,8 +86,3 @@ wanting_of d =
 -- each text that was known still is
 abbrev pub KeepsTexts : BookState → BookState → Type 0
 KeepsTexts old new = (id : ℕ) → IfSome (text_known old id) (λ text. text_known new id ≡ Some text)
-
--- the first bookmark of this id
-abbrev pub bookmark_in : List Bookmark → ℕ → Option Bookmark
-bookmark_in [] id = None
-bookmark_in (b ∷ bs) id = if b.id == id then Some b else bookmark_in bs id

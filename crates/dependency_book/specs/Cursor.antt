@@ -1,9 +1,14 @@
 -- Where the search for what is needed next goes on.
 use Rattle.std.specs.Prelude.{ℕ, List}
+use Rattle.std.specs.List.{AllByRecursion}
 use Rattle.dependency_book.specs.declared.cursor.Cursor.{Cursor}
+use Rattle.revision_jobs.specs.declared.entries.Place.{Place}
+use Rattle.revision_jobs.specs.Entries.{IsOf}
+use Rattle.step_facts.specs.Known.{Fact}
 use Rattle.dependency_book.specs.BookState.{BookState}
 use Rattle.dependency_book.specs.Held.{IsHeld}
 use Rattle.dependency_book.specs.Ready.{NoneBefore, steppable, viewable}
+use Rattle.dependency_book.specs.Recalled.{AreGiven}
 
 -- before all rows
 abbrev pub start : Cursor
@@ -15,7 +20,11 @@ pub record HasPassed (d : BookState) (places : List ℕ) (cursor : Cursor) : Typ
   pub views : NoneBefore (viewable d.arrivals d.texts places) cursor.views
   pub steps : NoneBefore (steppable d.plan.branches d.arrivals) cursor.steps
 
--- a book holds its rows with these places, and has passed the rows before a cursor
-pub record IsHeldWith (d : BookState) (places : List ℕ) (cursor : Cursor) : Type 0 where
+-- a book holds its rows with these places, and has passed the rows before a cursor; the entries of
+-- its numbers are of its table, and it remembers steps of such entries alone
+pub record IsKept (d : BookState) (places : List ℕ) (cursor : Cursor) (issued : List Place)
+    (remembered : List Fact) : Type 0 where
   pub held : IsHeld d places
   pub passed : HasPassed d places cursor
+  pub own : AllByRecursion (IsOf d.table) issued
+  pub facts : AreGiven d.entries remembered

@@ -2,7 +2,7 @@
 use Rattle.std.specs.Prelude.{◌≡◌, ℕ, List, map}
 use Rattle.schedule.specs.declared.document.Bookmark.{Bookmark}
 use Rattle.dependency_book.specs.BookState.{BookState}
-use Rattle.dependency_book.specs.Marks.{bookmark_mark}
+use Rattle.desk_events.specs.Marks.{bookmark_mark}
 use Rattle.dependency_book.specs.Right.{IsRight}
 use Rattle.dependency_book.specs.Rows.{ArrivalRow, mark_rank, place_in}
 

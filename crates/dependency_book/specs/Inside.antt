@@ -1,12 +1,14 @@
 -- What the fields of a book say.
 use Rattle.dependency_book.specs.declared.book.Book.TheInside.{Inside}
+use Rattle.std.specs.Prelude.{map}
 use Rattle.dependency_book.specs.BookState.{BookState}
+use Rattle.dependency_book.specs.Said.{said_at}
 
 abbrev pub state_of : Inside → BookState
 state_of book = record {
   table = book.entries.now;
   plan = book.document;
-  given = book.given;
+  entries = map said_at book.issued.items;
   arrivals = book.arrivals.items;
   texts = book.texts.items;
 }

@@ -12,30 +12,20 @@ use Rattle.dependency_book.specs.declared.filled.Filled.{Filled}
 use Rattle.dependency_book.specs.declared.filled.Filled.TheVariants.{Row, Released, NotExpected}
 use Rattle.dependency_book.specs.declared.row.RowState.{RowState}
 use Rattle.dependency_book.specs.declared.row.RowState.TheVariants.{Empty, Expected, Known}
-use Rattle.dependency_book.specs.declared.mark.Mark.{Mark}
-use Rattle.dependency_book.specs.declared.need.Need.{Need}
-use Rattle.dependency_book.specs.declared.need.Need.TheVariants.{Step, View}
+use Rattle.desk_events.specs.declared.mark.Mark.{Mark}
+use Rattle.desk_events.specs.declared.need.Need.{Need}
+use Rattle.desk_events.specs.declared.need.Need.TheVariants.{Step, View}
 use Rattle.dependency_book.specs.Entered.{IsEntryOf}
 use Rattle.dependency_book.specs.RowState.{job_of, has_number}
-use Rattle.dependency_book.specs.BookState.{BookState, NothingOut, expected, row_of, wanting_of}
-use Rattle.dependency_book.specs.Marks.{is_mark, is_start}
+use Rattle.dependency_book.specs.BookState.{BookState, NothingOut, expected, given_of, row_of, wanting_of}
+use Rattle.desk_events.specs.Marks.{is_mark, is_start}
 use Rattle.dependency_book.specs.Needs.{IsNext}
 use Rattle.dependency_book.specs.Rows.{keys}
+use Rattle.desk_events.specs.Needs.{step_to, is_need}
 
 -- a job with what came of it
 abbrev pub result_of : Job → Result Value EvolveFault → JobResult
 result_of job outcome = record { job = job; outcome = outcome }
-
--- the step to a mark
-abbrev pub step_to : Mark → Need
-step_to m = Step m.branch m.generation
-
--- whether two needs are one
-abbrev pub is_need : Need → Need → Bool
-is_need (Step b m) (Step c n) = b == c && m == n
-is_need (Step b m) (View id) = false
-is_need (View id) (Step b m) = false
-is_need (View id) (View other) = id == other
 
 -- whether a job that is out is this one: its number, at its place
 abbrev pub is_job : Job → Option Job → Bool
@@ -65,7 +55,7 @@ pub record IsNextJob (d : BookState) (need : Need) (job : Job) : Type 0 where
   pub next : IsNext d (Some need)
   pub own : IsOf d.table job.place
   pub entry : IsEntryOf d need (entry_of job.place)
-  pub number : job.number ≡ d.given
+  pub number : job.number ≡ given_of d
   pub few : job.number < 16777216
 
 -- a row expects the job
@@ -135,7 +125,7 @@ pub record SameDocument (old new : BookState) : Type 0 where
   pub marks : keys new.arrivals ≡ keys old.arrivals
   pub bookmarks : keys new.texts ≡ keys old.texts
 
--- so are they, and how many numbers were given
+-- so are they, and the entries of the numbers that were given
 pub record SameBook (old new : BookState) : Type 0 where
   pub document : SameDocument old new
-  pub given : new.given ≡ old.given
+  pub entries : new.entries ≡ old.entries

@@ -8,24 +8,12 @@ use Rattle.schedule.specs.Plan.{Plan}
 use Rattle.schedule.specs.Asked.{Asked, InsertIntervention, ChangeIntervention, InsertRepeat, ChangeRepeat, RemoveIntervention, SetCells, ReplaceStart, ReplaceRule, AddBookmark, MoveBookmark, RemoveBookmark, AddBranch, RemoveBranch}
 use Rattle.dependency_book.specs.declared.row.RowState.{RowState}
 use Rattle.dependency_book.specs.declared.row.RowState.TheVariants.{Empty, Known}
-use Rattle.dependency_book.specs.declared.mark.Mark.{Mark}
-use Rattle.dependency_book.specs.Marks.{bookmark_mark, is_mark, is_start}
-use Rattle.dependency_book.specs.BookState.{BookState, arrival_row, arrival_known, text_row, bookmark_in}
-use Rattle.dependency_book.specs.Felt.{IsFelt}
-
--- whether an edit that is felt from a mark on keeps what arrives at another, where these are the
--- branches
-abbrev pub keeps_arrival : List Branch → Option Mark → Mark → Bool
-keeps_arrival branches None m = true
-keeps_arrival branches (Some from) m =
-    not (is_felt branches m.branch m.branch m.generation from.branch from.generation)
-
--- whether it leaves what leaves a mark
-abbrev pub leaves_after : List Branch → Option Mark → Mark → Bool
-leaves_after branches None m = true
-leaves_after branches (Some from) m =
-    if from.branch == m.branch then nat_lt m.generation from.generation
-    else keeps_arrival branches (Some from) m
+use Rattle.desk_events.specs.declared.mark.Mark.{Mark}
+use Rattle.desk_events.specs.Marks.{bookmark_mark, is_mark, is_start}
+use Rattle.dependency_book.specs.BookState.{BookState, arrival_row, arrival_known, text_row}
+use Rattle.desk_events.specs.Wanted.{bookmark_in}
+use Rattle.desk_events.specs.Felt.{IsFelt}
+use Rattle.desk_events.specs.Kept.{keeps_arrival, leaves_after, keeps_text, stays_mark}
 
 -- whether what stands at a mark stays
 abbrev pub mark_stays : List Branch → Option Mark → Mark → Mark → Bool
@@ -36,37 +24,12 @@ abbrev pub bookmark_stays : List Branch → Option Mark → Bookmark → Bookmar
 bookmark_stays branches felt b was =
     leaves_after branches felt (bookmark_mark b) && (was.generation == b.generation)
 
--- whether an edit removes a bookmark or moves it to another generation
-abbrev pub takes : Asked → Bookmark → Bool
-takes (InsertIntervention branch generation cells) b = false
-takes (ChangeIntervention id generation cells) b = false
-takes (InsertRepeat branch first every last cells) b = false
-takes (ChangeRepeat id first every last cells) b = false
-takes (RemoveIntervention id) b = false
-takes (SetCells cells) b = false
-takes (ReplaceStart start) b = false
-takes (ReplaceRule rule) b = false
-takes (AddBookmark branch generation view) b = false
-takes (MoveBookmark id generation) b = b.id == id && not (b.generation == generation)
-takes (RemoveBookmark id) b = b.id == id
-takes (AddBranch parent generation) b = false
-takes (RemoveBranch branch) b = false
-
--- whether the text of a bookmark is kept after an edit that is felt from a mark on
-abbrev pub keeps_text : List Branch → Option Mark → Asked → Bookmark → Bool
-keeps_text branches felt asked b =
-    leaves_after branches felt (bookmark_mark b) && not (takes asked b)
-
 -- what stays of what stands for a bookmark of the document before an edit
 abbrev pub text_kept : {V : Type 0} →
     List Branch → Option Mark → Asked → Option Bookmark → RowState V → RowState V
 text_kept branches felt asked None state = Empty
 text_kept branches felt asked (Some b) state =
     if keeps_text branches felt asked b then state else Empty
-
--- whether a mark of a document is one of q after an edit too, which keeps what arrives there
-abbrev pub stays_mark : Option Mark → Plan → Plan → Mark → Bool
-stays_mark felt p q m = is_mark p m && (is_mark q m && keeps_arrival q.branches felt m)
 
 -- what stays of what stands at a mark but the start
 abbrev pub arrival_kept : {V : Type 0} →
@@ -84,7 +47,7 @@ arrival_after felt p q m state =
 -- nothing else
 pub record KeepsRows (asked : Asked) (felt : Option Mark) (old new : BookState) : Type 0 where
   pub table : new.table ≡ old.table
-  pub given : new.given ≡ old.given
+  pub entries : new.entries ≡ old.entries
   pub arrivals : (m : Mark) →
       arrival_row new m ≡ arrival_after felt old.plan new.plan m (arrival_row old m)
   pub texts : (id : ℕ) →

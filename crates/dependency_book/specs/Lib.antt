@@ -1,5 +1,7 @@
 pub mod AllMarks
 pub mod BookState
+pub mod Called
+pub mod Core
 pub mod Cursor
 pub mod Entered
 pub mod Felt
@@ -7,7 +9,6 @@ pub mod Held
 pub mod Inside
 pub mod Jobs
 pub mod Kept
-pub mod Marks
 pub mod Needs
 pub mod Puts
 pub mod Ready
@@ -17,6 +18,7 @@ pub mod Right
 pub mod Room
 pub mod RowState
 pub mod Rows
+pub mod Said
 pub mod Shown
 pub mod ShownRows
 pub mod Size

@@ -1,12 +1,13 @@
 -- What a book has to compute next.
 use Rattle.std.specs.Prelude.{◌≡◌, ◌⊎◌, ℕ, ◌<◌, ◌≤◌, true, false, Option, None, Some, IsSome}
 use Rattle.schedule.specs.declared.document.Bookmark.{Bookmark}
-use Rattle.dependency_book.specs.declared.mark.Mark.{Mark}
-use Rattle.dependency_book.specs.declared.need.Need.{Need}
-use Rattle.dependency_book.specs.declared.need.Need.TheVariants.{Step, View}
+use Rattle.desk_events.specs.declared.mark.Mark.{Mark}
+use Rattle.desk_events.specs.declared.need.Need.{Need}
+use Rattle.desk_events.specs.declared.need.Need.TheVariants.{Step, View}
 use Rattle.dependency_book.specs.declared.row.RowState.TheVariants.{Empty}
-use Rattle.dependency_book.specs.BookState.{BookState, arrival_row, text_row, arrival_known, bookmark_in}
-use Rattle.dependency_book.specs.Marks.{is_mark, is_start, bookmark_mark, mark_at, ComesBefore}
+use Rattle.dependency_book.specs.BookState.{BookState, arrival_row, text_row, arrival_known}
+use Rattle.desk_events.specs.Wanted.{bookmark_in}
+use Rattle.desk_events.specs.Marks.{is_mark, is_start, bookmark_mark, mark_at, ComesBefore}
 
 -- a bookmark can be viewed: what arrives at its mark is known, its text isn't, and no job is out
 -- for it

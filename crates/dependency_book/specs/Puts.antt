@@ -1,5 +1,5 @@
 -- What is put in the row of a need.
-use Rattle.std.specs.Prelude.{◌≡◌, ℕ, ◌+◌, ◌&&◌, not, Bool, true, false, Result, Ok, Err, if◌then◌else◌, cond, ⊤}
+use Rattle.std.specs.Prelude.{◌≡◌, ℕ, ◌+◌, ◌&&◌, not, Bool, true, false, Result, Ok, Err, if◌then◌else◌, cond, IfSome}
 use Rattle.step_engine.specs.declared.evolved.EvolveFault.{EvolveFault}
 use Rattle.schedule.specs.Ids.{has_id, bookmark_id}
 use Rattle.schedule.specs.Plan.{Plan}
@@ -7,20 +7,17 @@ use Rattle.revision_jobs.specs.Value.{Value}
 use Rattle.dependency_book.specs.declared.filled.Filled.{Filled}
 use Rattle.dependency_book.specs.declared.filled.Filled.TheVariants.{Row, Released}
 use Rattle.dependency_book.specs.declared.row.RowState.{RowState}
-use Rattle.dependency_book.specs.declared.row.RowState.TheVariants.{Empty, Expected, Known}
-use Rattle.dependency_book.specs.declared.need.Need.{Need}
-use Rattle.dependency_book.specs.RowState.{has_number, is_empty}
-use Rattle.dependency_book.specs.BookState.{BookState, row_of, expected, wanting_of}
-use Rattle.dependency_book.specs.declared.need.Need.TheVariants.{Step, View}
-use Rattle.dependency_book.specs.Jobs.{is_need, SameBook}
-use Rattle.dependency_book.specs.Marks.{is_mark, is_start, mark_at}
-use Rattle.dependency_book.specs.Right.{StandsRight}
-
--- no row expects a job of the number of the one that stands here, if one does
-abbrev pub IsFree : BookState → RowState Value → Type 0
-IsFree d Empty = ⊤
-IsFree d (Expected job) = (other : Need) → has_number job.number (expected d other) ≡ false
-IsFree d (Known found) = ⊤
+use Rattle.desk_events.specs.declared.need.Need.{Need}
+use Rattle.dependency_book.specs.RowState.{is_empty, job_of}
+use Rattle.dependency_book.specs.BookState.{BookState, row_of, wanting_of}
+use Rattle.desk_events.specs.declared.need.Need.TheVariants.{Step, View}
+use Rattle.dependency_book.specs.Jobs.{SameBook}
+use Rattle.desk_events.specs.Needs.{is_need}
+use Rattle.desk_events.specs.Marks.{is_mark, is_start, mark_at}
+use Rattle.desk_events.specs.Core.{put}
+use Rattle.desk_events.specs.Right.{IsRight}
+use Rattle.dependency_book.specs.Core.{core_of, plain_row}
+use Rattle.dependency_book.specs.Right.{IsGiven}
 
 -- whether the row of a need may change: that of a mark but the start or of a bookmark of the
 -- document
@@ -29,11 +26,11 @@ can_change p (Step branch mark) =
     not (is_start (mark_at branch mark)) && is_mark p (mark_at branch mark)
 can_change p (View id) = has_id bookmark_id p.bookmarks id
 
--- this may stand in the row of a need from now on
+-- this may stand in the row of a need from now on: the desk with it is right, and a job was given
 pub record CanBePut (d : BookState) (need : Need) (state : RowState Value) : Type 0 where
   pub there : can_change d.plan need ≡ true
-  pub right : StandsRight d need state
-  pub free : IsFree d state
+  pub right : IsRight (put need (plain_row state) (core_of d))
+  pub out : IfSome (job_of state) (IsGiven d)
 
 -- 1 where nothing stands
 abbrev pub missing : {V : Type 0} → RowState V → ℕ

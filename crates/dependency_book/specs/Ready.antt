@@ -4,8 +4,8 @@ use Rattle.std.specs.Option.{option_map_or}
 use Rattle.schedule.specs.declared.branch.Branch.{Branch}
 use Rattle.schedule.specs.Branches.{element_at}
 use Rattle.schedule.specs.Ids.{branch_id}
-use Rattle.dependency_book.specs.declared.mark.Mark.{Mark}
-use Rattle.dependency_book.specs.Marks.{bookmark_mark, is_start, mark_at}
+use Rattle.desk_events.specs.declared.mark.Mark.{Mark}
+use Rattle.desk_events.specs.Marks.{bookmark_mark, is_start, mark_at}
 use Rattle.dependency_book.specs.RowState.{is_empty, is_known}
 use Rattle.dependency_book.specs.Rows.{ArrivalRow, TextRow, mark_rank, state_at}
 

@@ -1,24 +1,40 @@
 -- What is entered without a job, because it was computed before.
-use Rattle.std.specs.Prelude.{◌≡◌, List, [], ◌∷◌, true}
+use Rattle.std.specs.Prelude.{◌≡◌, ℕ, List, [], ◌∷◌, true, Some, IsSome, slice_get}
 use Rattle.revision_jobs.specs.declared.entry.Step.{Step as Stepping}
 use Rattle.revision_jobs.specs.Answer.{JobResult}
 use Rattle.revision_jobs.specs.Value.{pattern, world_after}
 use Rattle.schedule.specs.Asked.{Asked}
-use Rattle.dependency_book.specs.declared.mark.Mark.{Mark}
-use Rattle.dependency_book.specs.declared.need.Need.{Need}
+use Rattle.desk_events.specs.declared.mark.Mark.{Mark}
+use Rattle.desk_events.specs.declared.need.Need.{Need}
 use Rattle.dependency_book.specs.declared.row.RowState.TheVariants.{Empty, Known}
 use Rattle.dependency_book.specs.BookState.{BookState, row_of}
 use Rattle.dependency_book.specs.Entered.{StepsTo}
-use Rattle.dependency_book.specs.Jobs.{SameBook, answered, step_to}
+use Rattle.dependency_book.specs.Jobs.{SameBook, answered}
+use Rattle.desk_events.specs.Needs.{step_to}
 use Rattle.dependency_book.specs.Kept.{KeepsUnfelt}
+use Rattle.desk_events.specs.Entry.{AreSameSteps, Entry, Stepping as Given, steps}
+use Rattle.step_facts.specs.Known.{Fact, known}
 use Rattle.dependency_book.specs.Puts.{Puts, can_change}
+use Rattle.dependency_book.specs.Said.{step_said}
+
+-- an earlier number was given for the same step, whatever its rule is called
+pub record WasGiven (entries : List Entry) (s : Stepping) : Type 0 where
+  pub number : ℕ
+  pub step : Given
+  pub there : slice_get entries number ≡ Some (steps step)
+  pub same : AreSameSteps step (step_said s)
+
+-- so it is with each step that is remembered
+abbrev pub AreGiven : List Entry → List Fact → Type 0
+AreGiven entries facts = (s : Stepping) → IsSome (known facts s) → WasGiven entries s
 
 -- what comes of a step is entered for a mark of the document but the start: nothing stood in its
--- row, and the step is what is to be computed for that row
+-- row, and the step is what is to be computed for that row, and was given before
 pub record Enters (mark : Mark) (s : Stepping) (d e : BookState) : Type 0 where
   pub there : can_change d.plan (step_to mark) ≡ true
   pub empty : row_of d (step_to mark) ≡ Empty
   pub own : StepsTo d mark s
+  pub earlier : WasGiven d.entries s
   pub puts : Puts (step_to mark) (Known (pattern (world_after s))) d e
 
 -- what comes of these steps is entered for their marks, one after the other
@@ -34,7 +50,7 @@ Recalls d e = (entered : List (Mark × Stepping)) × Entered entered d e
 -- table is the same, and no number of a job was given
 pub record Revises (asked : Asked) (old new : BookState) : Type 0 where
   pub table : new.table ≡ old.table
-  pub given : new.given ≡ old.given
+  pub entries : new.entries ≡ old.entries
   pub kept : BookState
   pub keeps : KeepsUnfelt asked old kept
   pub recalls : Recalls kept new

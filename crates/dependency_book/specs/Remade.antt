@@ -5,7 +5,7 @@ use Rattle.schedule.specs.Sound.{IsSound}
 use Rattle.dependency_book.specs.declared.row.RowState.{RowState}
 use Rattle.dependency_book.specs.declared.row.RowState.TheVariants.{Empty}
 use Rattle.dependency_book.specs.declared.row.Row.{Row}
-use Rattle.dependency_book.specs.declared.mark.Mark.{Mark}
+use Rattle.desk_events.specs.declared.mark.Mark.{Mark}
 use Rattle.dependency_book.specs.declared.room.Rows.{Rows}
 use Rattle.dependency_book.specs.AllMarks.{AreMarksOf}
 use Rattle.dependency_book.specs.Held.{places_of}

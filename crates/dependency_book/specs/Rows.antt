@@ -6,7 +6,7 @@ use Rattle.schedule.specs.Ids.{IdsRise}
 use Rattle.dependency_book.specs.declared.row.RowState.{RowState}
 use Rattle.dependency_book.specs.declared.row.RowState.TheVariants.{Empty}
 use Rattle.dependency_book.specs.declared.row.Row.{Row}
-use Rattle.dependency_book.specs.declared.mark.Mark.{Mark}
+use Rattle.desk_events.specs.declared.mark.Mark.{Mark}
 
 -- marks stand by their branches, and in a branch by their generations, which are below 2^64
 abbrev pub mark_rank : Mark → ℕ

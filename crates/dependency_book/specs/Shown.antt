@@ -2,7 +2,8 @@
 use Rattle.std.specs.Prelude.{◌≡◌, ℕ, List, None, Some, IsSome}
 use Rattle.schedule.specs.declared.document.Bookmark.{Bookmark}
 use Rattle.schedule.specs.Scratch.{scratch}
-use Rattle.dependency_book.specs.BookState.{BookState, bookmark_in, text_known}
+use Rattle.dependency_book.specs.BookState.{BookState, text_known}
+use Rattle.desk_events.specs.Wanted.{bookmark_in}
 use Rattle.dependency_book.specs.declared.shown.Shown.{Shown}
 use Rattle.dependency_book.specs.declared.shown.Shown.TheVariants.{Current, Pending, NoSuch}
 

@@ -1,24 +1,19 @@
 //! The book.
 ghost use Rattle.std.specs.Prelude.{◌≡◌, ◌≤◌, ◌+◌, IfOk, IfNone, IfSome, length};
-ghost use Rattle.dependency_book.specs.BookState.{
-  NothingOut,
-  opened,
-  pending_of,
-  row_of,
-};
+ghost use Rattle.dependency_book.specs.BookState.{NothingOut, opened, pending_of, row_of};
 ghost use Rattle.dependency_book.specs.Needs.{IsNext, IsNextStep, IsNextView};
 ghost use Rattle.dependency_book.specs.Right.{IsRight};
 ghost use Rattle.dependency_book.specs.Shown.{Shows};
 ghost use Rattle.dependency_book.specs.declared.row.RowState.TheVariants.{Empty};
 
 use crate::cursor::Cursor;
-use crate::mark::Mark;
 use crate::marks::ArrivalRow;
-use crate::need::{Need, first_step, first_view};
+use crate::need::{first_step, first_view};
 use crate::row::place_in;
 use crate::shown::Shown;
 use crate::texts::{TextRow, pending_count};
-use revision_jobs::Entries;
+use desk_events::{Mark, Need};
+use revision_jobs::{Entries, Place};
 use schedule::Document;
 use std::alloc::{AllocError, Global};
 use std::marker::Model;
@@ -31,7 +26,8 @@ use step_facts::Facts;
 pub struct Book<'e> {
     pub(crate) entries: &'e Entries,
     pub(crate) document: Document,
-    pub(crate) given: u32,
+    // Where the entry of each number that was given stands.
+    pub(crate) issued: Vec<Place>,
     pub(crate) arrivals: Vec<ArrivalRow>,
     pub(crate) texts: Vec<TextRow>,
     // Where the mark of each bookmark stands among the arrivals.
@@ -51,11 +47,12 @@ impl<'e> Model for Book<'e> {
     ghost coded = { Prim.hlevel (codes, coded_world) };
 
     ghost use Rattle.dependency_book.specs.Inside.{state_of};
-    ghost use Rattle.dependency_book.specs.Cursor.{IsHeldWith};
+    ghost use Rattle.dependency_book.specs.Cursor.{IsKept};
 
     ghost view = { state_of };
 
-    ghost invariant = { λ book. IsHeldWith (state_of book) book.places.items book.cursor };
+    ghost invariant = { λ book. IsKept (state_of book) book.places.items book.cursor
+        book.issued.items book.facts };
 }
 
 impl<'e> Book<'e> {
@@ -73,7 +70,7 @@ impl<'e> Book<'e> {
         Ok(Book {
             entries,
             document: Document::opening(alloc, revision)?,
-            given: 0,
+            issued: Vec::new(alloc),
             arrivals: Vec::new(alloc),
             texts: Vec::new(alloc),
             places: Vec::new(alloc),

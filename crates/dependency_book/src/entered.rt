@@ -5,14 +5,14 @@ ghost use Rattle.schedule.specs.Scratch.{cells_at};
 ghost use Rattle.revision_jobs.specs.Value.{CanBeWorked};
 ghost use Rattle.dependency_book.specs.BookState.{arrival_known};
 ghost use Rattle.dependency_book.specs.Entered.{IsEntryOf, StepsTo};
-ghost use Rattle.dependency_book.specs.Marks.{ComesBefore};
+ghost use Rattle.desk_events.specs.Marks.{ComesBefore};
 ghost use Rattle.dependency_book.specs.Needs.{IsLedTo, IsNext};
 ghost use Rattle.dependency_book.specs.Right.{IsRight};
 
 use crate::book::Book;
-use crate::mark::Mark;
-use crate::need::{Need, before_row};
+use crate::need::before_row;
 use crate::row::{Ranked, place_in};
+use desk_events::{Mark, Need};
 use revision_jobs::{Entry, Rendering, Step};
 use schedule::{CellSet, Intervention, Listing, Next, Plane};
 use std::alloc::{AllocError, Global};

@@ -1,51 +1,61 @@
 //! Jobs for the rows of a book, and what their answers change.
-ghost use Rattle.std.specs.Prelude.{◌≡◌, ◌+◌, MatchOption, IfSome, true};
+ghost use Rattle.std.specs.Prelude.{◌≡◌, MatchOption, IfSome, OnErr, OnOk};
 ghost use Rattle.std.specs.Arc.{arc_value};
 ghost use Rattle.revision_jobs.specs.Answer.{IsRight as IsRightAnswer, outcome_of};
 ghost use Rattle.revision_jobs.specs.Entries.{IsOf};
 ghost use Rattle.revision_jobs.specs.Value.{pattern, text};
-ghost use Rattle.dependency_book.specs.declared.row.RowState.TheVariants.{Empty, Known};
+ghost use Rattle.dependency_book.specs.declared.row.RowState.TheVariants.{Empty, Expected, Known};
 ghost use Rattle.dependency_book.specs.RowState.{state_map};
-ghost use Rattle.dependency_book.specs.Jobs.{issued, answered, cancelled, given_by, result_of};
+ghost use Rattle.dependency_book.specs.Jobs.{answered, cancelled, given_by, result_of};
 ghost use Rattle.dependency_book.specs.Jobs.{IsAnyOut, IsFilled, IsFirstOut, IsForgotten};
 ghost use Rattle.dependency_book.specs.Jobs.{Expects, FreesOne, IsNextJob, NoneExpects, SameBook};
-ghost use Rattle.dependency_book.specs.Jobs.{SameDocument, step_to};
-ghost use Rattle.dependency_book.specs.BookState.{row_of, wanting_of};
+ghost use Rattle.dependency_book.specs.Jobs.{SameDocument};
+ghost use Rattle.desk_events.specs.Needs.{step_to};
+ghost use Rattle.dependency_book.specs.BookState.{given_of, row_of};
+ghost use Rattle.dependency_book.specs.Called.{IsCancel, IsCollect, IsIssue};
 ghost use Rattle.dependency_book.specs.Recalled.{Fills};
 ghost use Rattle.dependency_book.specs.Right.{IsRight};
-ghost use Rattle.dependency_book.specs.Puts.{CanBePut, Puts, can_change, filled_by};
+ghost use Rattle.dependency_book.specs.Puts.{CanBePut, Puts, filled_by};
 
 use crate::arrival::Arrival;
 use crate::book::Book;
 use crate::filled::Filled;
-use crate::mark::Mark;
-use crate::need::Need;
 use crate::row::{Ranked, RowState, any_out, least_out, lesser, put, raise_all, row_for};
 use crate::text::Text;
+use desk_events::{Mark, Need};
 use revision_jobs::{Answer, Job, Outcome, Place};
 use schedule::{Listing, Plane};
+use std::alloc::AllocError;
 use std::sync::Arc;
 
 impl Book<'_> {
     /// How many numbers of jobs were given.
     pub fn given(&self) -> u32
-        ensures { result ≡ self.now.given }
+        ensures { result ≡ given_of self.now }
     {
-        self.given
+        self.issued.len() as u32
     }
 
     /// Notes that a job is out for what is needed next. Its number is the next that is given, which
-    /// is below 16,777,216, and its entry is what is to be computed for the row.
-    pub fn expect(&mut self, need: &Need, job: Job)
+    /// is below 16,777,216, and its entry is what is to be computed for the row. Refused, nothing
+    /// changes.
+    pub fn expect(&mut self, need: &Need, job: Job) -> Result<(), AllocError>
         requires { IsNextJob self.old need.now job }
-        ensures rows { (other : Need) →
-            row_of self.new other ≡ issued need.now job other (row_of self.old other) }
-        ensures document { SameDocument self.old self.new }
-        ensures given { self.new.given ≡ self.old.given + 1 }
-        ensures fewer { wanting_of self.new + 1 ≡ wanting_of self.old }
+        ensures issued { OnOk result (IsIssue need.now job self.old self.new) }
+        ensures unchanged { OnErr result (self.new ≡ self.old) }
         ensures right { IsRight self.new }
     {
-        self.given += 1;
+        self.issued.push(job.place.share())?;
+        self.await_job(need, job);
+        Ok(())
+    }
+
+    // Notes in the row of a need that a job is out, whose number was given last.
+    fn await_job(&mut self, need: &Need, job: Job)
+        requires { CanBePut self.old need.now (Expected job) }
+        ensures row { Puts need.now (Expected job) self.old self.new }
+        ensures right { IsRight self.new }
+    {
         match need {
             Need::Step { branch, mark } => {
                 self.put_arrival(Mark::at(*branch, *mark), RowState::Expected(job));
@@ -67,6 +77,7 @@ impl Book<'_> {
         ensures fills { Fills answer self.old self.new }
         ensures freed { FreesOne self.old self.new answer result }
         ensures book { SameBook self.old self.new }
+        ensures event { IsCollect answer self.old self.new result }
         ensures right { IsRight self.new }
     {
         let (job, outcome) = answer.into_parts();
@@ -86,6 +97,7 @@ impl Book<'_> {
         ensures rows { (need : Need) → row_of self.new need
             ≡ answered (result_of job (outcome_of outcome)) (row_of self.old need) }
         ensures book { SameBook self.old self.new }
+        ensures event { IsCollect (result_of job (outcome_of outcome)) self.old self.new result }
         ensures right { IsRight self.new }
     {
         match self.expecting(job.number) {
@@ -103,6 +115,7 @@ impl Book<'_> {
         ensures rows { (need : Need) →
             row_of self.new need ≡ cancelled number (row_of self.old need) }
         ensures book { SameBook self.old self.new }
+        ensures event { IsCancel number self.old self.new }
         ensures right { IsRight self.new }
     {
         let (need, place) = self.expecting(number)?;
@@ -152,6 +165,7 @@ impl Book<'_> {
         requires { CanBePut self.old need (given_by (outcome_of outcome)) }
         ensures filled { result ≡ filled_by (outcome_of outcome) }
         ensures row { Puts need (given_by (outcome_of outcome)) self.old self.new }
+        ensures right { IsRight self.new }
     {
         match outcome {
             Outcome::Plane(plane) => self.put_plane(need, plane),
@@ -167,7 +181,8 @@ impl Book<'_> {
     // Puts a pattern in the row of a need, which is a step.
     fn put_plane(&mut self, need: Need, plane: Arc<Plane>)
         requires { CanBePut self.old need (Known (pattern (arc_value plane))) }
-        ensures { Puts need (Known (pattern (arc_value plane))) self.old self.new }
+        ensures row { Puts need (Known (pattern (arc_value plane))) self.old self.new }
+        ensures right { IsRight self.new }
     {
         let Need::Step { branch, mark } = need else {
             unreachable!("a view has a text")
@@ -178,7 +193,8 @@ impl Book<'_> {
     // Puts a text in the row of a need, which is a view.
     fn put_bytes(&mut self, need: Need, bytes: Arc<Listing<u8>>)
         requires { CanBePut self.old need (Known (text (arc_value bytes))) }
-        ensures { Puts need (Known (text (arc_value bytes))) self.old self.new }
+        ensures row { Puts need (Known (text (arc_value bytes))) self.old self.new }
+        ensures right { IsRight self.new }
     {
         let Need::View { id } = need else {
             unreachable!("a step has a pattern")
@@ -188,8 +204,9 @@ impl Book<'_> {
 
     // Expects nothing in the row of a need any more.
     fn release(&mut self, need: Need)
-        requires { can_change self.old.plan need ≡ true }
-        ensures { Puts need Empty self.old self.new }
+        requires { CanBePut self.old need Empty }
+        ensures row { Puts need Empty self.old self.new }
+        ensures right { IsRight self.new }
     {
         match need {
             Need::Step { branch, mark } => {
@@ -203,7 +220,8 @@ impl Book<'_> {
     /// ready.
     pub(crate) fn put_arrival(&mut self, mark: Mark, state: RowState<Arrival>)
         requires { CanBePut self.old (step_to mark) (state_map pattern state) }
-        ensures { Puts (step_to mark) (state_map pattern state) self.old self.new }
+        ensures row { Puts (step_to mark) (state_map pattern state) self.old self.new }
+        ensures right { IsRight self.new }
     {
         self.cursor = self.cursor.if_stays(state.is_expected());
         put(&mut self.arrivals, mark.rank(), state);
@@ -212,7 +230,8 @@ impl Book<'_> {
     // Puts what is known, or out, in the row of a bookmark. Neither makes another row ready.
     fn put_text(&mut self, id: u64, state: RowState<Text>)
         requires { CanBePut self.old (Need.View id) (state_map text state) }
-        ensures { Puts (Need.View id) (state_map text state) self.old self.new }
+        ensures row { Puts (Need.View id) (state_map text state) self.old self.new }
+        ensures right { IsRight self.new }
     {
         self.cursor = self.cursor.if_stays(!state.is_empty());
         put(&mut self.texts, u128::from(id), state);

@@ -41,9 +41,8 @@ mod texts;
 mod touched;
 
 pub use book::Book;
+pub use desk_events::{Mark, Need};
 pub use filled::Filled;
-pub use mark::Mark;
-pub use need::Need;
 pub use rows::ShownRows;
 pub use shown::Shown;
 pub use text::Text;

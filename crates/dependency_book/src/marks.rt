@@ -6,13 +6,13 @@ ghost use Rattle.std.specs.List.Sorted.{IsNonDecreasingBy, IsPermutation};
 ghost use Rattle.schedule.specs.Acts.{generations_to};
 ghost use Rattle.schedule.specs.Repeats.{marks_within};
 ghost use Rattle.dependency_book.specs.AllMarks.{AreMarksOf, but_start, far_of};
-ghost use Rattle.dependency_book.specs.Marks.{acting_marks, bookmark_mark, branch_marks, mark_at};
+ghost use Rattle.desk_events.specs.Marks.{acting_marks, bookmark_mark, branch_marks, mark_at};
 ghost use Rattle.dependency_book.specs.Rows.{mark_rank};
 ghost use Rattle.dependency_book.specs.Size.{marks_at_most, plan_size};
 
 use crate::arrival::Arrival;
-use crate::mark::Mark;
 use crate::row::{Ranked, Row};
+use desk_events::Mark;
 use schedule::{Bookmark, Branch, Document, Intervention};
 
 /// A mark with what arrives there, or the job that is out for it.

@@ -5,21 +5,11 @@ ghost use Rattle.dependency_book.specs.Ready.{can_view, is_ready, place_ready, s
 ghost use Rattle.dependency_book.specs.Ready.{viewable, waits};
 ghost use Rattle.dependency_book.specs.Rows.{ArrivalRow, IsRanked, mark_rank};
 
-use crate::mark::Mark;
 use crate::marks::ArrivalRow;
 use crate::row::{Ranked, place_near};
 use crate::texts::TextRow;
+use desk_events::Mark;
 use schedule::Document;
-
-/// What a book wants computed.
-#[derive(Clone, Copy, Debug, PartialEq, Eq)]
-pub enum Need {
-    /// The pattern that arrives at the mark at this generation of a branch, from what is known to
-    /// arrive at the mark before it.
-    Step { branch: u64, mark: u64 },
-    /// The text of the bookmark of this id, from what is known to arrive at its mark.
-    View { id: u64 },
-}
 
 // Whether what arrives at a mark is known, whose row is at this place; the start always is.
 fn is_ready_in(arrivals: &[ArrivalRow], mark: Mark, place: usize) -> bool

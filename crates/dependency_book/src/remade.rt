@@ -6,8 +6,8 @@ ghost use Rattle.dependency_book.specs.RowState.{OutsAreOf};
 ghost use Rattle.dependency_book.specs.Rows.{IsRanked, place_in, put};
 ghost use Rattle.dependency_book.specs.declared.row.RowState.TheVariants.{Empty};
 
-use crate::mark::Mark;
 use crate::row::{Ranked, Row, RowState, raise_all};
+use desk_events::Mark;
 use revision_jobs::Entries;
 use schedule::Document;
 use std::mem;

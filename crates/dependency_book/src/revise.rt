@@ -2,6 +2,8 @@
 ghost use Rattle.std.specs.Prelude.{◌≡◌, ◌⊎◌, IfOk, IfErr, IfSome, OnErr, OnOk};
 ghost use Rattle.schedule.specs.Asked.{asked_of};
 ghost use Rattle.schedule.specs.Change.{change, made, refusal};
+ghost use Rattle.desk_events.specs.Event.{MayBeAsked};
+ghost use Rattle.dependency_book.specs.Called.{IsEdit};
 ghost use Rattle.dependency_book.specs.Kept.{KeepsUnfelt};
 ghost use Rattle.dependency_book.specs.Recalled.{Revises};
 ghost use Rattle.dependency_book.specs.Right.{IsRight};
@@ -9,7 +11,7 @@ ghost use Rattle.dependency_book.specs.Right.{IsRight};
 use crate::book::Book;
 use crate::cursor::Cursor;
 use crate::room::Room;
-use schedule::{Edit, EditFault, Edited};
+use schedule::{Edit, EditFault, Edited, Next};
 use std::mem;
 
 impl Book<'_> {
@@ -38,6 +40,7 @@ impl Book<'_> {
         ensures ok { IfOk result (λ edited.
             change self.old.plan (asked_of edit.now) ≡ Ok (made self.new.plan edited)) }
         ensures revises { OnOk result (Revises (asked_of edit.now) self.old self.new) }
+        ensures event { OnOk result (IsEdit (asked_of edit.now) self.old self.new) }
         ensures refused { IfErr result (λ fault.
             (fault ≡ EditFault.NoMemory) ⊎ (change self.old.plan (asked_of edit.now) ≡ Err fault)) }
         ensures first { IfSome (refusal self.old.plan (asked_of edit.now))
@@ -45,6 +48,7 @@ impl Book<'_> {
         ensures unchanged { OnErr result (self.new ≡ self.old) }
         ensures right { IsRight self.new }
     {
+        note_rule(edit);
         let edited = self.remake(edit)?;
         self.recall_all();
         Ok(edited)
@@ -74,5 +78,14 @@ impl Book<'_> {
         self.places = rows.places;
         self.cursor = Cursor::start();
         Ok(edited)
+    }
+}
+
+// A rule that an edit asks for has 2 to 256 states, as each rule has.
+fn note_rule(edit: &Edit)
+    ensures { MayBeAsked (asked_of edit.now) }
+{
+    if let Edit::ReplaceRule(rule) = edit {
+        let _states = rule.states();
     }
 }

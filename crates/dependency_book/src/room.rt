@@ -10,11 +10,11 @@ ghost use Rattle.dependency_book.specs.RowState.{OutsAreOf};
 ghost use Rattle.dependency_book.specs.Rows.{IsRanked, bookmark_rank, mark_rank};
 ghost use Rattle.dependency_book.specs.Size.{asks_to_repeat, most_after, most_repeats, plan_size};
 
-use crate::mark::Mark;
 use crate::marks::{ArrivalRow, marks_of};
 use crate::remade::remade;
 use crate::row::{Ranked, place_near};
 use crate::texts::TextRow;
+use desk_events::Mark;
 use revision_jobs::Entries;
 use schedule::{Bookmark, Document, Edit, Intervention, MOST_MARKS};
 use std::alloc::{AllocError, Global};

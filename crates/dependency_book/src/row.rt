@@ -1,13 +1,13 @@
 //! Rows: what is known, or under way, of what stands at keys.
 ghost use Rattle.std.specs.Prelude.{◌≡◌, ℕ, Bool, List, Option, MatchOption, None, Some, is_some};
 ghost use Rattle.schedule.specs.declared.branch.Branch.{Branch};
-ghost use Rattle.dependency_book.specs.declared.mark.Mark.{Mark};
+ghost use Rattle.desk_events.specs.declared.mark.Mark.{Mark};
 ghost use Rattle.dependency_book.specs.RowState.{OutsAreOf, any_out, is_empty, is_known};
 ghost use Rattle.dependency_book.specs.RowState.{job_of, known};
 ghost use Rattle.dependency_book.specs.RowState.{least_out, lesser, number_of, row_for};
 ghost use Rattle.dependency_book.specs.Rows.{IsRanked, place_in, put};
 
-use crate::mark::Mark;
+use desk_events::Mark;
 use revision_jobs::{Entries, Job, Place};
 use schedule::Document;
 

@@ -2,56 +2,20 @@
 ghost use Rattle.std.specs.Prelude.{◌≡◌, min};
 ghost use Rattle.std.specs.Option.{option_map};
 ghost use Rattle.schedule.specs.Asked.{asked_of};
-ghost use Rattle.dependency_book.specs.Felt.{added, begins_anew, felt_from, first_touched};
-ghost use Rattle.dependency_book.specs.Felt.{intervention_at, moved, removed, touched_by};
+ghost use Rattle.desk_events.specs.Felt.{added, begins_anew, felt_from, first_touched};
+ghost use Rattle.desk_events.specs.Felt.{intervention_at, moved, removed, touched_by};
 
-use crate::mark::Mark;
+use desk_events::{Mark, Touched};
 use schedule::{Acts, Document, Edit, Intervention};
 
-/// The branch in which an edit changes what acts, and when that acts before the edit and after it,
-/// which is the same where the edit adds or removes it.
-#[derive(Clone, Copy, Debug, PartialEq, Eq)]
-pub(crate) struct Touched {
-    pub(crate) branch: u64,
-    pub(crate) was: Acts,
-    pub(crate) is: Acts,
-}
-
-impl Touched {
-    // By an edit that adds an intervention.
-    fn added(branch: u64, acts: Acts) -> Touched
-        ensures { result ≡ added branch acts }
-    {
-        Touched {
-            branch,
-            was: acts,
-            is: acts,
-        }
-    }
-
-    // By one that changes an intervention.
-    fn moved(acts: Acts, intervention: &Intervention) -> Touched
-        ensures { result ≡ moved acts intervention.now }
-    {
-        Touched {
-            branch: intervention.branch,
-            was: intervention.acts,
-            is: acts,
-        }
-    }
-
-    // By one that removes it.
-    fn removed(intervention: &Intervention) -> Touched
-        ensures { result ≡ removed intervention.now }
-    {
-        Touched::added(intervention.branch, intervention.acts)
-    }
-
-    // The first mark at which it acts, before the edit or after it.
-    fn first(self) -> Mark
-        ensures { result ≡ first_touched self }
-    {
-        Mark::at(self.branch, self.was.first().min(self.is.first()))
+// What an edit that adds an intervention touches.
+fn added(branch: u64, acts: Acts) -> Touched
+    ensures { result ≡ added branch acts }
+{
+    Touched {
+        branch,
+        was: acts,
+        is: acts,
     }
 }
 
@@ -64,7 +28,7 @@ pub(crate) fn touched_by(document: &Document, edit: &Edit) -> Option<Touched>
             branch,
             generation,
             ..
-        } => Some(Touched::added(
+        } => Some(added(
             *branch,
             Acts::Once {
                 generation: *generation,
@@ -76,7 +40,7 @@ pub(crate) fn touched_by(document: &Document, edit: &Edit) -> Option<Touched>
             every,
             last,
             ..
-        } => Some(Touched::added(
+        } => Some(added(
             *branch,
             Acts::Every {
                 first: *first,
@@ -117,14 +81,27 @@ pub(crate) fn touched_by(document: &Document, edit: &Edit) -> Option<Touched>
 fn moved(document: &Document, id: u64, acts: Acts) -> Option<Touched>
     ensures { result ≡ option_map (moved acts) (intervention_at document.now id) }
 {
-    Some(Touched::moved(acts, intervention_at(document, id)?))
+    let intervention = intervention_at(document, id)?;
+    Some(Touched {
+        branch: intervention.branch,
+        was: intervention.acts,
+        is: acts,
+    })
 }
 
 // What is touched where it is removed.
 fn removed(document: &Document, id: u64) -> Option<Touched>
     ensures { result ≡ option_map removed (intervention_at document.now id) }
 {
-    Some(Touched::removed(intervention_at(document, id)?))
+    let intervention = intervention_at(document, id)?;
+    Some(added(intervention.branch, intervention.acts))
+}
+
+// The first mark at which it acts, before the edit or after it.
+fn first(touched: Touched) -> Mark
+    ensures { result ≡ first_touched touched }
+{
+    Mark::at(touched.branch, touched.was.first().min(touched.is.first()))
 }
 
 // The intervention of an id.
@@ -153,7 +130,7 @@ pub(crate) fn felt_from(document: &Document, edit: &Edit) -> Option<Mark>
     ensures { result ≡ felt_from document.now (asked_of edit.now) }
 {
     match touched_by(document, edit) {
-        Some(touched) => Some(touched.first()),
+        Some(touched) => Some(first(touched)),
         None if begins_anew(edit) => Some(Mark::at(0, 0)),
         None => None,
     }

@@ -10,11 +10,12 @@ use Rattle.revision_jobs.specs.Posted.{IsSent, SendsPromptly}
 use Rattle.revision_jobs.specs.Value.{Value}
 use Rattle.dependency_book.specs.declared.row.RowState.{RowState}
 use Rattle.dependency_book.specs.declared.row.RowState.TheVariants.{Empty, Expected, Known}
-use Rattle.dependency_book.specs.declared.need.Need.{Need}
-use Rattle.dependency_book.specs.declared.need.Need.TheVariants.{Step, View}
+use Rattle.desk_events.specs.declared.need.Need.{Need}
+use Rattle.desk_events.specs.declared.need.Need.TheVariants.{Step, View}
 use Rattle.dependency_book.specs.RowState.{job_of, has_number}
-use Rattle.dependency_book.specs.Jobs.{SameDocument, cancelled, is_need, issued}
-use Rattle.dependency_book.specs.BookState.{BookState, expected, row_of}
+use Rattle.dependency_book.specs.Jobs.{SameDocument, cancelled, issued}
+use Rattle.desk_events.specs.Needs.{is_need}
+use Rattle.dependency_book.specs.BookState.{BookState, given_of, expected, row_of}
 use Rattle.dependency_book.specs.Right.{IsRight}
 use Rattle.desk_core.specs.Feed.{Feeds, floor_after}
 use Rattle.desk_core.specs.Issued.{IssuesFor}
@@ -23,14 +24,16 @@ use Rattle.desk_core.specs.Settling.{IsHeld, Serves}
 use Rattle.desk_core.proofs.Known.{same_need}
 use Rattle.desk_core.proofs.Out.{has_number-self, issued_out}
 use Rattle.desk_core.proofs.Steps.{SameDocument-on, SameDocument-same}
+use Rattle.desk_core.proofs.Shared.Given.{same_given, issued_given}
+use Rattle.dependency_book.proofs.Shared.Cores.{once}
 
 -- so many jobs were taken so far, and all that were given
 pub record HasFed (old new : BookState) (before after taken : ℕ) : Type 0 where
   pub stays : (need : Need) → (row_of old need ≡ Empty) ⊎ (row_of new need ≡ row_of old need)
   pub out : (need : Need) (job : Job) → expected new need ≡ Some job
-      → (expected old need ≡ Some job) ⊎ (job.number < old.given + taken)
-  pub floor : after ≡ floor_after before old.given taken
-  pub given : new.given ≡ old.given + taken
+      → (expected old need ≡ Some job) ⊎ (job.number < given_of old + taken)
+  pub floor : after ≡ floor_after before (given_of old) taken
+  pub given : given_of new ≡ given_of old + taken
   pub document : SameDocument old new
 
 pub HasFed-first : (d : BookState) (floor : ℕ) → HasFed d d floor floor 0
@@ -58,24 +61,24 @@ pub HasFed-taken : (first old new : BookState) (need : Need) (job : Job) (before
     → HasFed first new before higher more
 HasFed-taken first old new need job before floor higher taken more issued rises one h = record {
   stays = λ other.
-      subst (λ row. (row_of first other ≡ Empty) ⊎ (row ≡ row_of first other)) (sym (issued.rows other))
+      subst (λ row. (row_of first other ≡ Empty) ⊎ (row ≡ row_of first other)) (sym (issued.is.rows other))
       (stays_issued (is_need need other) (row_of first other) (row_of old other) job
       (λ same. ap (row_of old) (sym (same_need need other same)) ∙ issued.empty) (h.stays other));
-  out = λ other out k. counted other out (issued_out old new need job issued.rows other out k);
-  floor = rises ∙ number ∙ sym (ap (floor_after before first.given) one ∙ some_more before first.given taken);
-  given = let given = issued.given in let was = h.given in omega (arith, given, was, one);
-  document = SameDocument-on first old new h.document issued.document;
+  out = λ other out k. counted other out (issued_out old new need job issued.is.rows other out k);
+  floor = rises ∙ number ∙ sym (ap (floor_after before (given_of first)) one ∙ some_more before (given_of first) taken);
+  given = let given = issued_given issued in let was = h.given in omega (arith, given, was, one);
+  document = SameDocument-on first old new h.document issued.is.document;
 }
   where
-    number : job.number + 1 ≡ first.given + (taken + 1)
+    number : job.number + 1 ≡ given_of first + (taken + 1)
     number = let is = issued.next.number in let was = h.given in omega (arith, is, was)
 
-    this : (out : Job) → Some job ≡ Some out → out.number < first.given + more
+    this : (out : Job) → Some job ≡ Some out → out.number < given_of first + more
     this out same = let k : job ≡ out = cc in let n = ap (λ (j : Job). j.number) k in let is = number in
         omega (arith, n, is, one)
 
     counted : (other : Need) (out : Job) → (Some job ≡ Some out) ⊎ (expected old other ≡ Some out)
-        → (expected first other ≡ Some out) ⊎ (out.number < first.given + more)
+        → (expected first other ≡ Some out) ⊎ (out.number < given_of first + more)
     counted other out (inl same) = inr (this out same)
     counted other out (inr was_out) = elim (h.out other out was_out) [
       | inl first_out ↦ inl first_out
@@ -114,12 +117,12 @@ rows-undone old mid new need job issued right rows other =
     rows other
     ∙ undone_by (is_need need other) need other job (row_of old other) (row_of mid other)
     (λ same. ap (row_of old) (sym (same_need need other same)) ∙ issued.empty)
-    (issued.rows other)
+    (issued.is.rows other)
     (λ differs out is. other_number job.number out
-    (λ number. apart differs (right.once need other job out own is (sym number))))
+    (λ number. apart differs (once mid need other job out right own is (sym number))))
   where
     own : expected mid need ≡ Some job
-    own = ap job_of (issued.rows need) ∙ ap (λ b. job_of {V = Value} (if b then Expected job else row_of old need))
+    own = ap job_of (issued.is.rows need) ∙ ap (λ b. job_of {V = Value} (if b then Expected job else row_of old need))
         (its_need need)
 
     apart : is_need need other ≡ false → need ≡ other → ⊥
@@ -150,9 +153,9 @@ Feeds-refused first old mid new need job before floor after taken sent issued mi
   out = λ other out k. h.out other out (ap job_of (sym (undone other)) ∙ k);
   floor = refused_floor job floor after sent other is ∙ h.floor;
   given = inr
-      (let one = issued.given in let was = h.given in let still = cancels.book.given in omega (arith, one, was, still));
+      (let one = issued_given issued in let was = h.given in let still = same_given cancels.book in omega (arith, one, was, still));
   document =
-      SameDocument-on first mid new (SameDocument-on first old mid h.document issued.document) cancels.book.document;
+      SameDocument-on first mid new (SameDocument-on first old mid h.document issued.is.document) cancels.book.document;
   right = right;
 }
   where
@@ -178,8 +181,8 @@ pub Serves-taken : (old new : BookState) (need : Need) (job : Job) (before after
     → IssuesFor old new job need → after ≡ before → higher ≡ job.number + 1 → Serves old before floor
     → Serves new after higher
 Serves-taken old new need job before after floor higher issued same rises h = record {
-  table = same ∙ h.table ∙ sym issued.document.table;
-  numbers = let is = issued.next.number in let one = issued.given in omega (arith, is, one, rises);
+  table = same ∙ h.table ∙ sym issued.is.document.table;
+  numbers = let is = issued.next.number in let one = issued_given issued in omega (arith, is, one, rises);
 }
 
 -- what a prompt post holds
@@ -187,7 +190,7 @@ Serves-taken old new need job before after floor higher issued same rises h = re
 pub IsHeld-taken : (old new : BookState) (need : Need) (job : Job) (before after : Option Job)
     → IssuesFor old new job need → before ≡ None → after ≡ Some job → IsHeld before old → IsHeld after new
 IsHeld-taken old new need job before after issued was is held other out k =
-    elim (issued_out old new need job issued.rows other out k) [
+    elim (issued_out old new need job issued.is.rows other out k) [
       | inl this ↦ is ∙ this
       | inr was_out ↦ absurd (let there = held other out was_out in cc)
     ]

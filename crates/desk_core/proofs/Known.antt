@@ -8,9 +8,10 @@ use Rattle.revision_jobs.specs.Answer.{JobResult}
 use Rattle.revision_jobs.specs.Value.{Value}
 use Rattle.dependency_book.specs.declared.row.RowState.{RowState}
 use Rattle.dependency_book.specs.declared.row.RowState.TheVariants.{Empty, Expected, Known}
-use Rattle.dependency_book.specs.declared.need.Need.{Need}
-use Rattle.dependency_book.specs.declared.need.Need.TheVariants.{Step, View}
-use Rattle.dependency_book.specs.Jobs.{is_need, issued, answered, cancelled}
+use Rattle.desk_events.specs.declared.need.Need.{Need}
+use Rattle.desk_events.specs.declared.need.Need.TheVariants.{Step, View}
+use Rattle.dependency_book.specs.Jobs.{issued, answered, cancelled}
+use Rattle.desk_events.specs.Needs.{is_need}
 use Rattle.dependency_book.specs.BookState.{BookState, row_of}
 use Rattle.dependency_book.specs.Recalled.{Fills, Recalls}
 use Rattle.dependency_book.proofs.Shared.Recalling.{Stays, recalls_row}

@@ -1,8 +1,7 @@
 mod Fed
-mod Happening
 mod Known
 mod Out
+mod Run
 pub mod Shared
 mod Steps
 mod Turns
-mod Whatever

@@ -9,9 +9,10 @@ use Rattle.revision_jobs.specs.Entries.{index_of}
 use Rattle.revision_jobs.specs.Value.{Value}
 use Rattle.dependency_book.specs.declared.row.RowState.{RowState}
 use Rattle.dependency_book.specs.declared.row.RowState.TheVariants.{Empty, Expected, Known}
-use Rattle.dependency_book.specs.declared.need.Need.{Need}
+use Rattle.desk_events.specs.declared.need.Need.{Need}
 use Rattle.dependency_book.specs.RowState.{job_of, has_number}
-use Rattle.dependency_book.specs.Jobs.{given_by, is_job, is_need, issued, answered, cancelled, IsAnyOut}
+use Rattle.dependency_book.specs.Jobs.{given_by, is_job, issued, answered, cancelled, IsAnyOut}
+use Rattle.desk_events.specs.Needs.{is_need}
 use Rattle.dependency_book.specs.BookState.{BookState, row_of, expected}
 use Rattle.dependency_book.specs.Recalled.{Fills}
 use Rattle.desk_core.proofs.Shared.Recalled.{recalls_out}

@@ -1,3 +1,4 @@
 -- Lemmas that other crates may cite.
 pub mod Causes
+pub mod Given
 pub mod Recalled

@@ -7,10 +7,10 @@ use Rattle.revision_jobs.specs.declared.answer.Job.{Job}
 use Rattle.revision_jobs.specs.declared.entries.Entries.{Entries}
 use Rattle.revision_jobs.specs.Answer.{JobResult}
 use Rattle.revision_jobs.specs.Entries.{IsOf}
-use Rattle.dependency_book.specs.declared.need.Need.{Need}
+use Rattle.desk_events.specs.declared.need.Need.{Need}
 use Rattle.dependency_book.specs.RowState.{has_number}
 use Rattle.dependency_book.specs.Jobs.{SameBook, SameDocument}
-use Rattle.dependency_book.specs.BookState.{BookState, expected, wanting_of}
+use Rattle.dependency_book.specs.BookState.{BookState, given_of, expected, wanting_of}
 use Rattle.dependency_book.specs.Recalled.{Fills}
 use Rattle.dependency_book.specs.Right.{IsRight}
 use Rattle.dependency_book.specs.declared.row.Row.{Row}
@@ -30,6 +30,7 @@ use Rattle.desk_core.specs.Settling.{Explains, GivesAtMost, IsHeld, OutOrSent, S
 use Rattle.desk_core.proofs.Shared.Causes.{explains-kept, explains-collected, explains-refused}
 use Rattle.desk_core.proofs.Known.{KeepsKnown-same, KeepsKnown-on, KeepsKnown-issued, KeepsKnown-filled, KeepsKnown-cancelled}
 use Rattle.desk_core.proofs.Out.{IsAtHand-cancelled, IsHeld-at_hand, issued_out, filled_out, cancelled_out, not_numbered}
+use Rattle.desk_core.proofs.Shared.Given.{same_given, issued_given}
 
 pub SameDocument-on : (c d e : BookState) → SameDocument c d → SameDocument d e → SameDocument c e
 SameDocument-on c d e h k = record { table = cc; plan = cc; marks = cc; bookmarks = cc }
@@ -71,12 +72,12 @@ HasCome-issued : (first old new : BookState) (before : List JobResult) (floor : 
     → IssuesFor old new job need → HasCome first before (stage old floor answers p)
     → HasCome first before (stage new floor answers q)
 HasCome-issued first old new before floor answers p q need job was is none issued h = record {
-  known = KeepsKnown-on first old new h.known (KeepsKnown-issued old new need job issued.empty issued.rows);
-  document = SameDocument-on first old new h.document issued.document;
+  known = KeepsKnown-on first old new h.known (KeepsKnown-issued old new need job issued.empty issued.is.rows);
+  document = SameDocument-on first old new h.document issued.is.document;
   later = h.later;
   gave = h.gave;
   cause = subst (λ c. IfSome c (Explains new h.later)) (sym none) tt;
-  out = λ other out k. accounted other out (issued_out old new need job issued.rows other out k);
+  out = λ other out k. accounted other out (issued_out old new need job issued.is.rows other out k);
 }
   where
     still : (other : Need) (out : Job) → IsAccounted first (stage old floor answers p) other out
@@ -165,7 +166,7 @@ HasCome-cancelled first old new before floor answers p q =
 
 -- how many numbers are given
 
-gives_none : (old new : BookState) → new.given ≡ old.given → GivesAtMost 0 old new
+gives_none : (old new : BookState) → given_of new ≡ given_of old → GivesAtMost 0 old new
 gives_none old new same = (omega (arith, same), omega (arith, same))
 
 pub gives_at_first : (d : BookState) → GivesAtMost 0 d d
@@ -177,7 +178,7 @@ gives_on count old mid new h k = (omega (arith, h.0, k.0), omega (arith, h.1, k.
 
 CancelsAny-book : (unsent : Option Job) (old new : BookState) → CancelsAny unsent old new → SameBook old new
 CancelsAny-book None old new same =
-    subst (SameBook old) (sym same) (record { document = SameDocument-same old; given = refl })
+    subst (SameBook old) (sym same) (record { document = SameDocument-same old; entries = refl })
 CancelsAny-book (Some job) old new cancels = cancels.book
 
 -- how settlings go on
@@ -210,7 +211,7 @@ GoesOn-issued old new floor answers p need job was none issued = record {
   cause = λ h. h;
   comes = λ first before.
       HasCome-issued first old new before floor answers p (ready job p) need job was refl none issued;
-  given = (omega (arith, issued.given), omega (arith, issued.given));
+  given = (omega (arith, issued_given issued), omega (arith, issued_given issued));
 }
 
 pub GoesOn-refused : (old new : BookState) (floor : ℕ) (answers : List JobResult) (p q : Progress) (fault : IssueFault)
@@ -231,7 +232,7 @@ pub GoesOn-answered : (old new : BookState) (floor : ℕ) (answers : List JobRes
 GoesOn-answered old new floor answers p answer fills same = record {
   cause = λ none. none;
   comes = λ first before. HasCome-answered first old new before floor answers p p answer fills same refl (λ later h. h);
-  given = gives_none old new same.given;
+  given = gives_none old new (same_given same);
 }
 
 pub GoesOn-released : (old new : BookState) (floor : ℕ) (answers : List JobResult) (p q : Progress) (answer : JobResult)
@@ -244,7 +245,7 @@ GoesOn-released old new floor answers p q answer fault told cause fills same col
   comes = λ begun before. HasCome-answered begun old new before floor answers p q answer fills same (ap job_in unsent)
       (λ later h. subst (λ c. IfSome c (Explains new (later ++ answer ∷ []))) (sym caused)
       (explains-collected old new later answer p.cause fault told cause collected is first h));
-  given = gives_none old new same.given;
+  given = gives_none old new (same_given same);
 }
 
 pub GoesOn-cancelled : (old new : BookState) (floor : ℕ) (answers : List JobResult) (p q : Progress)
@@ -253,7 +254,7 @@ pub GoesOn-cancelled : (old new : BookState) (floor : ℕ) (answers : List JobRe
 GoesOn-cancelled old new floor answers p q cancels unsent cause = record {
   cause = λ none. sym cause ∙ none;
   comes = λ first before. HasCome-cancelled first old new before floor answers p q cancels unsent cause;
-  given = gives_none old new (CancelsAny-book (job_in p.unsent) old new cancels).given;
+  given = gives_none old new (same_given (CancelsAny-book (job_in p.unsent) old new cancels));
 }
 
 pub GoesOn-sent : (d : BookState) (floor higher : ℕ) (answers : List JobResult) (p : Progress) (job : Job)
@@ -307,14 +308,14 @@ sent_on old new floor None same h = tt
 sent_on old new floor (Some job) same h = record {
   own = subst (λ table. IsOf table job.place) (sym same.document.table) h.own;
   rises = h.rises;
-  given = omega (arith, h.given, same.given);
+  given = omega (arith, h.given, same_given same);
 }
 
 pub Serves-book : (old new : BookState) (entries : Entries) (floor : ℕ) → SameBook old new → Serves old entries floor
     → Serves new entries floor
 Serves-book old new entries floor same h = record {
   table = h.table ∙ sym same.document.table;
-  numbers = let least = h.numbers in omega (arith, least, same.given);
+  numbers = let least = h.numbers in omega (arith, least, same_given same);
 }
 
 pub Fits-book : (old new : BookState) (entries : Entries) (floor : ℕ) (unsent : Option Job) → SameBook old new
@@ -361,7 +362,7 @@ module _ (first mid last : BookState) (before answers : List JobResult) (floor :
 
   given-whole : (turns : ℕ) → GivesAtMost turns first mid → GivesAtMost turns first last
   given-whole turns given =
-      let same = (CancelsAny-book (job_in p.unsent) mid last cancels).given in
+      let same = same_given (CancelsAny-book (job_in p.unsent) mid last cancels) in
       (omega (arith, given.0, same), omega (arith, given.1, same))
 
   enough-whole : IsRight last → 4 * rows_of first ≤ 1000000

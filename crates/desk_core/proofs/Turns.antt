@@ -3,7 +3,7 @@ use Rattle.std.proofs.Common.{◌≡◌, ◌⊎◌, ℕ, true, ◌+◌, ◌*◌,
 use Rattle.std.specs.Prelude.{IsSome}
 use Rattle.std.proofs.lemmas.List.Sums.{count_by-le-length}
 use Rattle.revision_jobs.specs.declared.answer.Job.{Job}
-use Rattle.dependency_book.specs.declared.need.Need.{Need}
+use Rattle.desk_events.specs.declared.need.Need.{Need}
 use Rattle.dependency_book.specs.RowState.{is_empty}
 use Rattle.dependency_book.specs.Rows.{ArrivalRow, TextRow}
 use Rattle.dependency_book.specs.Jobs.{IsAnyOut}
@@ -29,7 +29,7 @@ pub turns-issued : (old new : BookState) (unsent : Unsent) (need : Need) (job : 
     → unsent ≡ Nothing → IssuesFor old new job need → turns_from (moment new (Ready job) held) ≤ turns_from
     (moment old unsent held)
 turns-issued old new unsent need job held was issued =
-    let fewer = issued.fewer in
+    let fewer = issued.is.fewer in
     let most : turns_for (Ready job) held ≤ turns_for unsent held + 3 =
     subst (λ u. turns_for (Ready job) held ≤ turns_for u held + 3) (sym was) (few held) in
     omega arith

@@ -3,8 +3,12 @@ use Rattle.std.specs.Prelude.{◌≡◌, ℕ, ◌≤◌, Err, true, false}
 use Rattle.std.specs.Result.{IsOk}
 use Rattle.step_engine.specs.declared.evolved.EvolveFault.{EvolveFault}
 use Rattle.revision_jobs.specs.Answer.{JobResult}
-use Rattle.dependency_book.specs.declared.need.Need.{Need}
+use Rattle.desk_events.specs.declared.need.Need.{Need}
+use Rattle.desk_events.specs.Event.{collects}
+use Rattle.desk_events.specs.Law.{Calls}
+use Rattle.dependency_book.specs.Core.{core_of}
 use Rattle.dependency_book.specs.RowState.{has_number}
+use Rattle.dependency_book.specs.Said.{answer_said}
 use Rattle.dependency_book.specs.Jobs.{IsExpected, StepExpects, is_job}
 use Rattle.dependency_book.specs.BookState.{BookState, expected, wanting_of}
 use Rattle.desk_core.specs.declared.collect.Collected.{Collected}
@@ -40,3 +44,11 @@ IsCollected old new answer (Stale number revision) = IsStale old new answer numb
 -- a row expects the job of this number
 abbrev pub IsOut : BookState → ℕ → Type 0
 IsOut d number = (need : Need) × (has_number number (expected d need) ≡ true)
+
+-- in the law an answer that a row expects is collected; any other changes nothing
+abbrev pub IsEvent : BookState → BookState → JobResult → Collected → Type 0
+IsEvent old new answer Accepted =
+    Calls (collects (answer_said answer)) (core_of old) (core_of new)
+IsEvent old new answer (Released fault) =
+    Calls (collects (answer_said answer)) (core_of old) (core_of new)
+IsEvent old new answer (Stale number revision) = new ≡ old

@@ -1,10 +1,9 @@
 pub mod Cause
 pub mod Collected
-pub mod Configuration
 pub mod Desk
 pub mod Edited
-pub mod Events
 pub mod Feed
 pub mod Issued
 pub mod Progress
+pub mod Run
 pub mod Settling

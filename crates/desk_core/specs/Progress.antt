@@ -7,9 +7,9 @@ use Rattle.revision_jobs.specs.declared.answer.Job.{Job}
 use Rattle.revision_jobs.specs.declared.entries.Entries.{Entries}
 use Rattle.revision_jobs.specs.Answer.{JobResult}
 use Rattle.revision_jobs.specs.Entries.{IsOf}
-use Rattle.dependency_book.specs.declared.need.Need.{Need}
+use Rattle.desk_events.specs.declared.need.Need.{Need}
 use Rattle.dependency_book.specs.Jobs.{SameBook, SameDocument, cancelled}
-use Rattle.dependency_book.specs.BookState.{BookState, row_of, expected, pending_of, wanting_of, NothingOut}
+use Rattle.dependency_book.specs.BookState.{BookState, given_of, row_of, expected, pending_of, wanting_of, NothingOut}
 use Rattle.desk_core.specs.declared.cause.Cause.{Cause}
 use Rattle.desk_core.specs.declared.progress.Progress.{Progress}
 use Rattle.desk_core.specs.declared.unsent.Unsent.{Unsent}
@@ -37,7 +37,7 @@ CancelsAny (Some job) old new = Cancels job.number old new
 pub record CanBeSent (d : BookState) (floor : ℕ) (job : Job) : Type 0 where
   pub own : IsOf d.table job.place
   pub rises : floor ≤ job.number
-  pub given : job.number < d.given
+  pub given : job.number < given_of d
 
 -- the post serves the desk, and the job that isn't sent yet can be sent to it
 pub record Fits (d : BookState) (entries : Entries) (floor : ℕ) (job : Option Job) : Type 0 where

@@ -8,9 +8,9 @@ use Rattle.revision_jobs.specs.Answer.{JobResult}
 use Rattle.revision_jobs.specs.Entries.{entry_of}
 use Rattle.revision_jobs.specs.Room.{HasNoRoom}
 use Rattle.revision_jobs.specs.Value.{Value}
-use Rattle.dependency_book.specs.declared.need.Need.{Need}
+use Rattle.desk_events.specs.declared.need.Need.{Need}
 use Rattle.dependency_book.specs.declared.row.RowState.TheVariants.{Known}
-use Rattle.dependency_book.specs.BookState.{BookState, row_of, expected, pending_of}
+use Rattle.dependency_book.specs.BookState.{BookState, given_of, row_of, expected, pending_of}
 use Rattle.dependency_book.specs.Right.{IsRight}
 use Rattle.desk_core.specs.declared.cause.Cause.{Cause}
 use Rattle.desk_core.specs.declared.cause.Cause.TheVariants.{NoMemory, NoRoom, Stopped, NumbersSpent}
@@ -31,10 +31,10 @@ FoundNoRoom answers = Any (λ (answer : JobResult).
 -- a cause is that of an answer that was given, for want of room to an entry that has none, or of an
 -- issue that was refused: every number was given, or else memory ran out
 abbrev pub Explains : BookState → List JobResult → Cause → Type 0
-Explains d answers NoMemory = GaveUp answers EvolveFault.NoMemory ⊎ (d.given < 16777216)
+Explains d answers NoMemory = GaveUp answers EvolveFault.NoMemory ⊎ (given_of d < 16777216)
 Explains d answers NoRoom = FoundNoRoom answers
 Explains d answers Stopped = GaveUp answers EvolveFault.Stopped
-Explains d answers NumbersSpent = 16777216 ≤ d.given
+Explains d answers NumbersSpent = 16777216 ≤ given_of d
 
 -- settling over these answers ends with every bookmark current, or with so many pending, for its
 -- cause if one is told
@@ -57,7 +57,7 @@ HasCause (Unsettled pending cause) = IsSome cause
 -- a post serves a desk: it is of the desk's table, and no number that it took is still to be given
 pub record Serves (d : BookState) (entries : Entries) (floor : ℕ) : Type 0 where
   pub table : entries ≡ d.table
-  pub numbers : floor ≤ d.given
+  pub numbers : floor ≤ given_of d
 
 -- each job that is out is the one that a post holds
 abbrev pub IsHeld : Option Job → BookState → Type 0
@@ -84,7 +84,7 @@ OutOrSent old new floor =
 
 -- numbers of jobs were given, at most so many
 abbrev pub GivesAtMost : ℕ → BookState → BookState → Type 0
-GivesAtMost most old new = (old.given ≤ new.given) × (new.given ≤ old.given + most)
+GivesAtMost most old new = (given_of old ≤ given_of new) × (given_of new ≤ given_of old + most)
 
 -- after settling for so many turns over a post of this floor what was known is so still, what is
 -- out was so before or was sent, at most a number a turn was given, all is right, and the document

@@ -2,12 +2,12 @@
 ghost use Rattle.std.specs.Prelude.{◌≡◌, ◌↔◌, IsTrue};
 ghost use Rattle.revision_jobs.specs.Entries.{IsOf};
 ghost use Rattle.dependency_book.specs.BookState.{row_of};
+ghost use Rattle.dependency_book.specs.Called.{IsCancel};
 ghost use Rattle.dependency_book.specs.Jobs.{cancelled, IsAnyOut, IsFirstOut, SameBook};
 ghost use Rattle.dependency_book.specs.Recalled.{Fills};
 ghost use Rattle.dependency_book.specs.Right.{IsRight};
-ghost use Rattle.dependency_book.specs.declared.need.Need.{Need};
-ghost use Rattle.desk_core.specs.Events.{CanHappen, core_of, after_event, collects, cancels, Follows};
-ghost use Rattle.desk_core.specs.Collected.{IsCollected, IsOut};
+ghost use Rattle.desk_events.specs.declared.need.Need.{Need};
+ghost use Rattle.desk_core.specs.Collected.{IsCollected, IsEvent, IsOut};
 
 use crate::desk::Desk;
 use dependency_book::Filled;
@@ -38,8 +38,7 @@ impl Desk<'_> {
         ensures collected { IsCollected self.old self.new answer result }
         ensures fills { Fills answer self.old self.new }
         ensures book { SameBook self.old self.new }
-        ensures can { CanHappen self.old.table (core_of self.old) (collects answer) }
-        ensures event { Follows (collects answer) (core_of self.old) (core_of self.new) }
+        ensures event { IsEvent self.old self.new answer result }
         ensures right { IsRight self.new }
     {
         let number = answer.number();
@@ -60,8 +59,7 @@ impl Desk<'_> {
         ensures rows { (need : Need) →
             row_of self.new need ≡ cancelled number (row_of self.old need) }
         ensures book { SameBook self.old self.new }
-        ensures can { CanHappen self.old.table (core_of self.old) (cancels number) }
-        ensures event { core_of self.new ≡ after_event (core_of self.old) (cancels number) }
+        ensures event { IsCancel number self.old self.new }
         ensures right { IsRight self.new }
     {
         let Some(place) = self.book.forget(number) else {

@@ -2,7 +2,7 @@
 ghost use Rattle.std.specs.Prelude.{◌≡◌, ◌≤◌, IfOk, IfErr, IfSome, OnErr, length};
 ghost use Rattle.schedule.specs.Asked.{asked_of};
 ghost use Rattle.schedule.specs.Change.{refusal};
-ghost use Rattle.dependency_book.specs.BookState.{opened, pending_of};
+ghost use Rattle.dependency_book.specs.BookState.{given_of, opened, pending_of};
 ghost use Rattle.dependency_book.specs.Right.{IsRight};
 ghost use Rattle.dependency_book.specs.Shown.{Shows};
 ghost use Rattle.desk_core.specs.Edited.{Makes, Refuses};
@@ -91,7 +91,7 @@ impl<'e> Desk<'e> {
 
     /// How many numbers of jobs were given.
     pub fn given(&self) -> u32
-        ensures { result ≡ self.now.given }
+        ensures { result ≡ given_of self.now }
     {
         self.book.given()
     }

@@ -59,7 +59,7 @@ impl Desk<'_> {
             number,
             place: place.share(),
         };
-        self.book.expect(&need, expected);
+        self.book.expect(&need, expected)?;
         Ok(Some(Job { number, place }))
     }
 }

@@ -29,7 +29,7 @@ pub use dependency_book::{Shown, ShownRows, Text};
 pub use desk::Desk;
 pub use feeding::feed;
 pub use issue::IssueFault;
-pub use laws::stays_right_whatever_happens;
+pub use laws::calls_show_only_scratch;
 pub use revision_jobs::{
     Answer, Entries, Entry, InlinePost, Job, NoGate, Outcome, Place, Post, Received, Sent, work,
 };

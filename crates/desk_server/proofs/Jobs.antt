@@ -11,26 +11,30 @@ use Rattle.revision_jobs.specs.Answer.{JobResult}
 use Rattle.revision_jobs.specs.Value.{pattern, text}
 use Rattle.dependency_book.specs.declared.row.RowState.{RowState}
 use Rattle.dependency_book.specs.declared.row.RowState.TheVariants.{Empty, Expected, Known}
-use Rattle.dependency_book.specs.declared.need.Need.{Need}
-use Rattle.dependency_book.specs.declared.need.Need.TheVariants.{Step, View}
+use Rattle.desk_events.specs.declared.need.Need.{Need}
+use Rattle.desk_events.specs.declared.need.Need.TheVariants.{Step, View}
 use Rattle.dependency_book.specs.RowState.{job_of, has_number, state_map}
 use Rattle.dependency_book.specs.Jobs.{cancelled, IsFirstOut, SameBook}
-use Rattle.dependency_book.specs.Kept.{KeepsRows, text_kept, keeps_text, stays_mark}
-use Rattle.dependency_book.specs.declared.mark.Mark.{Mark}
+use Rattle.dependency_book.specs.Kept.{KeepsRows, text_kept}
+use Rattle.desk_events.specs.Kept.{keeps_text, stays_mark}
+use Rattle.desk_events.specs.declared.mark.Mark.{Mark}
 use Rattle.schedule.specs.declared.branch.Branch.{Branch}
 use Rattle.dependency_book.specs.Recalled.{Revises}
 use Rattle.desk_core.proofs.Shared.Recalled.{recalls_out}
-use Rattle.dependency_book.specs.Marks.{is_start, mark_at}
-use Rattle.dependency_book.specs.BookState.{BookState, row_of, expected, opened, arrival_row, text_row, bookmark_in, pending_of, NothingOut}
+use Rattle.desk_events.specs.Marks.{is_start, mark_at}
+use Rattle.dependency_book.specs.BookState.{BookState, given_of, row_of, expected, opened, arrival_row, text_row, pending_of, NothingOut}
+use Rattle.desk_events.specs.Wanted.{bookmark_in}
 use Rattle.desk_core.specs.declared.cause.Cause.{Cause}
 use Rattle.desk_core.specs.Settling.{Explains, IsHeld, Serves}
 use Rattle.desk_server.specs.Jobs.{Carries, CarriesOn, IsFresh, DropsJobs, IsDoneWith, KeepsCauses}
+use Rattle.std.proofs.Common.{length}
+use Rattle.desk_core.proofs.Shared.Given.{same_given}
 
 -- where nothing is dropped
 pub drops_none : (old new : BookState) → new ≡ old → DropsJobs old new
 drops_none old new same = record {
   table = ap (λ (d : BookState). d.table) same;
-  given = ap (λ (d : BookState). d.given) same;
+  given = ap given_of same;
   out = λ need job e. subst (λ (d : BookState). expected d need ≡ Some job) same e;
 }
 
@@ -58,7 +62,7 @@ pub cancel_drops : (n : ℕ) (old new : BookState) → ((need : Need) → row_of
     → SameBook old new → DropsJobs old new
 cancel_drops n old new rows same = record {
   table = same.document.table;
-  given = same.given;
+  given = same_given same;
   out = λ need job e. (cancelled_out n old new rows need job e).0;
 }
 
@@ -141,7 +145,7 @@ edit_keeps_out asked felt old new keeps (View id) job e =
 pub edit_drops : (asked : Asked) (old new : BookState) → Revises asked old new → DropsJobs old new
 edit_drops asked old new h = record {
   table = h.table;
-  given = h.given;
+  given = ap (λ es. length es) h.entries;
   out = λ need job e.
       edit_keeps_out asked h.keeps.felt old h.kept h.keeps.keeps need job (recalls_out h.kept new need job h.recalls e);
 }

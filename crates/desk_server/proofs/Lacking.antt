@@ -8,7 +8,7 @@ use Rattle.script_lines.specs.Words.{words, squashed}
 use Rattle.schedule.specs.declared.edit.Edit.{Edit}
 use Rattle.schedule.specs.declared.document.Bookmark.{Bookmark}
 use Rattle.schedule.specs.Plan.{Plan}
-use Rattle.dependency_book.specs.BookState.{bookmark_in}
+use Rattle.desk_events.specs.Wanted.{bookmark_in}
 use Rattle.desk_server.specs.View.{alone}
 use Rattle.desk_server.specs.Command.{edit_by, one_count, command_of, command_of_words, command_by, format_of, format_of_words, start_of}
 use Rattle.desk_server.specs.Script.{asked_by}

@@ -30,7 +30,7 @@ use Rattle.schedule.specs.Sound.{IsSound, IsPlaced}
 use Rattle.schedule.proofs.Sounds.{IsSound-opening}
 use Rattle.schedule.proofs.Shared.Changed.{HasStates, sound_changed, some_changed}
 use Rattle.schedule.proofs.Shared.Lines.{one_line}
-use Rattle.dependency_book.specs.BookState.{bookmark_in}
+use Rattle.desk_events.specs.Wanted.{bookmark_in}
 use Rattle.desk_server.specs.declared.fault.ScriptFault.TheVariants.{BadCommand, NoEnd}
 use Rattle.desk_server.specs.declared.interventions.Repeated.{Repeated}
 use Rattle.desk_server.specs.declared.format.Format.{Format}

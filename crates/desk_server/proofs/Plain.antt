@@ -5,7 +5,7 @@ use Rattle.schedule.specs.Asked.{asked_of}
 use Rattle.schedule.specs.declared.document.Bookmark.{Bookmark}
 use Rattle.desk_core.specs.declared.cause.Cause.{Cause}
 use Rattle.std.specs.List.{AllByRecursion}
-use Rattle.dependency_book.specs.BookState.{bookmark_in}
+use Rattle.desk_events.specs.Wanted.{bookmark_in}
 use Rattle.desk_server.specs.Reply.{unsettled_text, settled_text}
 use Rattle.desk_server.specs.Shortage.{Shortage, NoShortage, Memory, Unsettled, Pending, IsCaused, IsCausedOver, AllCausedOver}
 use Rattle.desk_server.specs.Answer.{Ask, Obey, Take, Refuse, After, answer, only, unless_memory, edited, settled, shown, obeyed}

@@ -5,7 +5,8 @@ use Rattle.std.proofs.lemmas.Bool.Decides.{nat_tests}
 use Rattle.schedule.specs.Plan.{Plan}
 use Rattle.schedule.specs.declared.fault.EditFault.TheVariants.{NoMemory}
 use Rattle.schedule.specs.declared.document.Bookmark.{Bookmark}
-use Rattle.dependency_book.specs.BookState.{BookState, bookmark_in, text_known, pending_of}
+use Rattle.dependency_book.specs.BookState.{BookState, text_known, pending_of}
+use Rattle.desk_events.specs.Wanted.{bookmark_in}
 use Rattle.desk_core.specs.declared.cause.Cause.{Cause}
 use Rattle.dependency_book.specs.Shown.{IsPending, Shows}
 use Rattle.dependency_book.specs.declared.shown.Shown.{Shown}

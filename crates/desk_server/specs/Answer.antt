@@ -12,7 +12,7 @@ use Rattle.schedule.specs.Plan.{Plan}
 use Rattle.schedule.specs.Asked.{Asked, asked_of, InsertIntervention, InsertRepeat, ReplaceStart, ReplaceRule, AddBookmark, AddBranch}
 use Rattle.schedule.specs.Change.{Changed, change}
 use Rattle.schedule.specs.Scratch.{scratch}
-use Rattle.dependency_book.specs.BookState.{bookmark_in}
+use Rattle.desk_events.specs.Wanted.{bookmark_in}
 use Rattle.desk_server.specs.declared.fault.ScriptFault.{ScriptFault}
 use Rattle.desk_server.specs.declared.fault.ScriptFault.TheVariants.{BadCommand, NoEnd}
 use Rattle.desk_server.specs.declared.format.Format.{Format}

@@ -3,8 +3,8 @@ use Rattle.std.specs.Prelude.{◌≡◌, ◌⊎◌, ℕ, Bool, true, List, ◌++
 use Rattle.revision_jobs.specs.declared.entries.Entries.{Entries}
 use Rattle.revision_jobs.specs.declared.answer.Job.{Job}
 use Rattle.revision_jobs.specs.Answer.{JobResult}
-use Rattle.dependency_book.specs.declared.need.Need.{Need}
-use Rattle.dependency_book.specs.BookState.{BookState, expected, pending_of, NothingOut}
+use Rattle.desk_events.specs.declared.need.Need.{Need}
+use Rattle.dependency_book.specs.BookState.{given_of, BookState, expected, pending_of, NothingOut}
 use Rattle.desk_core.specs.declared.cause.Cause.{Cause}
 use Rattle.desk_core.specs.Settling.{Explains, IsHeld, Serves}
 
@@ -36,7 +36,7 @@ IsDoneWith d = (pending_of d ≡ 0) ⊎ NothingOut d
 -- the table and how many numbers were given are the same, and no job is out that wasn't
 pub record DropsJobs (old new : BookState) : Type 0 where
   pub table : new.table ≡ old.table
-  pub given : new.given ≡ old.given
+  pub given : given_of new ≡ given_of old
   pub out : (need : Need) (job : Job) → expected new need ≡ Some job → expected old need ≡ Some job
 
 -- what explains a cause explains it still

@@ -3,7 +3,8 @@ use Rattle.std.specs.Prelude.{◌≡◌, ℕ, List, [], ◌∷◌, ◌++◌, Boo
 use Rattle.schedule.specs.declared.document.Bookmark.{Bookmark}
 use Rattle.schedule.specs.declared.fault.EditFault.TheVariants.{NoSuchBookmark}
 use Rattle.revision_jobs.specs.Answer.{JobResult}
-use Rattle.dependency_book.specs.BookState.{BookState, bookmark_in, text_known, pending_of, NothingOut}
+use Rattle.dependency_book.specs.BookState.{BookState, text_known, pending_of, NothingOut}
+use Rattle.desk_events.specs.Wanted.{bookmark_in}
 use Rattle.dependency_book.specs.Shown.{IsPending}
 use Rattle.desk_core.specs.Settling.{Explains}
 use Rattle.desk_server.specs.declared.command.Command.{Command}

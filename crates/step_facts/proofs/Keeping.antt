@@ -19,7 +19,8 @@ use Rattle.revision_jobs.specs.declared.entry.Step.{Step}
 use Rattle.revision_jobs.specs.Value.{world_after}
 use Rattle.step_facts.specs.declared.key.Key.{Key}
 use Rattle.step_facts.specs.Kept.{fact_of, facts_of}
-use Rattle.step_facts.specs.Known.{Fact, IsTrueFact, known}
+use Rattle.step_facts.specs.Known.{AddsOnly, Fact, IsTrueFact, known}
+use Rattle.std.specs.Prelude.{IsSome}
 use Rattle.step_facts.specs.Laws.{alike, laws, same_step-is}
 use Rattle.step_facts.specs.Same.{Asked, asked_of, coded_asked, same_code, same_step}
 
@@ -184,3 +185,55 @@ known-used k s es =
     known-entries (promoted (same_key k) es) q
     ∙ ap (λ o. option_map (λ a. arc_value a) o) (lookup-used k q es)
     ∙ sym (known-entries es q)
+
+-- of what was put nothing else becomes known
+
+lookup_some : (test : Key → Bool) (es : List Kept) (e : Kept) → Contains es e → test e.0 ≡ true
+    → IsSome (lookup test es)
+lookup_some test [] e (k, below, at) hit = absurd (omega (arith, below))
+lookup_some test (f ∷ es) e there hit = elim (Contains-cons f es e there) [
+  | inl same ↦ (let here : test f.0 ≡ true = ap (λ (x : Kept). test x.0) same ∙ hit in rw here refl)
+  | inr later ↦
+      by_test (test f.0) (lookup_some test es e later hit)
+]
+  where
+    by_test : (b : Bool) → IsSome (lookup test es) → IsSome (cond b (Some f.1) (lookup test es))
+    by_test true h = refl
+    by_test false h = h
+
+some_mapped : (o : Option (Arc World Global)) → IsSome (option_map (λ a. arc_value a) o)
+    → (v : Arc World Global) × (o ≡ Some v)
+some_mapped None h = absurd cc
+some_mapped (Some v) h = (v, refl)
+
+mapped_some : (o : Option (Arc World Global)) → IsSome o → IsSome (option_map (λ a. arc_value a) o)
+mapped_some None h = absurd cc
+mapped_some (Some v) h = refl
+
+pub adds-put : (c : LruCache Key (Arc World Global)) (k : Key) (v : Arc World Global)
+    → AddsOnly k.step (facts_of c.entries) (facts_of (put_entries same_key c k v))
+adds-put c k v other there =
+    let o : Key = record { step = other } in
+    let found = some_mapped (lookup (same_key o) (put_entries same_key c k v))
+    (subst IsSome (known-entries (put_entries same_key c k v) o) there) in
+    let entry = Contains-lookup (same_key o) (put_entries same_key c k v) found.0 found.1 in
+    let is = sym (same_step-is other entry.0.step entry.2) in
+    elim (Contains-put_entries same_key c k v (entry.0, found.0) entry.1) [
+      | inl was ↦ inr (subst IsSome (sym (known-entries c.entries o))
+          (mapped_some (lookup (same_key o) c.entries) (lookup_some (same_key o) c.entries (entry.0, found.0) was entry.2)))
+      | inr put ↦ elim put.1 [
+        | inl key ↦ inl (ap (λ (j : Key). asked_of j.step) (sym key) ∙ is)
+        | inr found_there ↦ inl (same_step-is k.step entry.0.step found_there.2 ∙ is)
+      ]
+    ]
+
+-- so it is after the put of a step that is the same
+pub adds-after : (c new : LruCache Key (Arc World Global)) (k : Key) (v : Arc World Global) (s : Step)
+    → asked_of k.step ≡ asked_of s → new ≡ lru_cache (put_entries same_key c k v) c.cap
+    → AddsOnly s (facts_of c.entries) (facts_of new.entries)
+adds-after c new k v s same done other there =
+    elim (adds-put c k v other
+    (subst (λ (d : LruCache Key (Arc World Global)). IsSome (known (facts_of d.entries) other)) done there)) [
+      | inl is ↦ inl (sym same ∙ is)
+      | inr was ↦ inr was
+    ]

@@ -4,7 +4,7 @@ ghost use Rattle.std.specs.Arc.{arc_value};
 ghost use Rattle.std.specs.Option.{option_map};
 ghost use Rattle.revision_jobs.specs.Value.{world_after};
 ghost use Rattle.revision_jobs.specs.declared.entry.Step.{Step};
-ghost use Rattle.step_facts.specs.Known.{known};
+ghost use Rattle.step_facts.specs.Known.{AddsOnly, known};
 
 use crate::key::Key;
 use lru::LruCache;
@@ -57,6 +57,7 @@ impl Facts {
     pub fn keep(&mut self, step: &Step, value: &Arc<Plane>) -> Result<(), AllocError>
         requires { arc_value value.now ≡ world_after step.now }
         ensures kept { OnOk result (known self.new step.now ≡ Some (world_after step.now)) }
+        ensures adds { AddsOnly step.now self.old self.new }
         ensures unchanged { OnErr result (self.new ≡ self.old) }
     {
         let key = Key {

@@ -4,17 +4,18 @@ use Rattle.revision_jobs.specs.declared.entry.Step.{Step as Stepping}
 use Rattle.revision_jobs.specs.Answer.{JobResult}
 use Rattle.revision_jobs.specs.Value.{Value, pattern, world_after}
 use Rattle.dependency_book.specs.declared.filled.Filled.TheVariants.{Row}
-use Rattle.dependency_book.specs.declared.mark.Mark.{Mark}
-use Rattle.dependency_book.specs.declared.need.Need.{Need}
-use Rattle.dependency_book.specs.declared.need.Need.TheVariants.{View}
+use Rattle.desk_events.specs.declared.mark.Mark.{Mark}
+use Rattle.desk_events.specs.declared.need.Need.{Need}
+use Rattle.desk_events.specs.declared.need.Need.TheVariants.{View}
 use Rattle.dependency_book.specs.declared.row.RowState.{RowState}
 use Rattle.dependency_book.specs.declared.row.RowState.TheVariants.{Empty, Known}
 use Rattle.dependency_book.specs.BookState.{BookState, row_of, wanting_of}
-use Rattle.dependency_book.specs.Jobs.{IsFilled, SameBook, is_need, step_to}
+use Rattle.dependency_book.specs.Jobs.{IsFilled, SameBook}
+use Rattle.desk_events.specs.Needs.{is_need, step_to}
 use Rattle.dependency_book.specs.Puts.{missing}
 use Rattle.dependency_book.specs.Recalled.{Entered, Enters, Recalls}
-use Rattle.dependency_book.proofs.Putting.{need_is}
-use Rattle.dependency_book.proofs.Tests.{either_way}
+use Rattle.desk_events.proofs.Shared.Needs.{need_is}
+use Rattle.desk_events.proofs.Shared.Tests.{either_way}
 
 pub recalls_none : (d : BookState) → Recalls d d
 recalls_none d = ([], refl)
@@ -33,7 +34,7 @@ recalls_then d e f h k = (h.0 ++ k.0, entered_then h.0 k.0 d e f h.1 k.1)
 -- the book is the same
 
 same_book : (d : BookState) → SameBook d d
-same_book d = record { document = record { table = refl; plan = refl; marks = refl; bookmarks = refl }; given = refl }
+same_book d = record { document = record { table = refl; plan = refl; marks = refl; bookmarks = refl }; entries = refl }
 
 pub book_then : (d e f : BookState) → SameBook d e → SameBook e f → SameBook d f
 book_then d e f h k = record {
@@ -43,7 +44,7 @@ book_then d e f h k = record {
     marks = k.document.marks ∙ h.document.marks;
     bookmarks = k.document.bookmarks ∙ h.document.bookmarks;
   };
-  given = k.given ∙ h.given;
+  entries = k.entries ∙ h.entries;
 }
 
 entered_book : (xs : List (Mark × Stepping)) (d e : BookState) → Entered xs d e → SameBook d e

@@ -10,10 +10,10 @@ use Rattle.dependency_book.proofs.Needed.{none_wanting}
 
 pub few_rows : (d : BookState) → IsRight d → length d.arrivals + length d.texts ≤ 20608
 few_rows d right =
-    let acts = right.sound.few_interventions in
-    let stand = right.sound.few_bookmarks in
-    let fork = right.sound.branches_sound.few in
-    let repeated = right.sound.few_marks in
+    let acts = right.core.sound.few_interventions in
+    let stand = right.core.sound.few_bookmarks in
+    let fork = right.core.sound.branches_sound.few in
+    let repeated = right.core.sound.few_marks in
     let most =
     length d.plan.interventions + length d.plan.bookmarks + 2 * length d.plan.branches + repeat_marks d.plan in
     let marks : length d.arrivals

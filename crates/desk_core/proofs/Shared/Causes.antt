@@ -20,6 +20,7 @@ use Rattle.desk_core.specs.Cause.{cause_of_answer, cause_of_issue}
 use Rattle.desk_core.specs.Collected.{IsCollected}
 use Rattle.desk_core.specs.Issued.{RefusesIssue}
 use Rattle.desk_core.specs.Settling.{Explains}
+use Rattle.desk_core.proofs.Shared.Given.{same_given}
 
 -- one of more answers
 
@@ -54,10 +55,10 @@ pub explains-kept : (old new : BookState) (answers more : List JobResult) (cause
 explains-kept old new answers more None same h = tt
 explains-kept old new answers more (Some NoMemory) same (inl gave) =
     inl (any-before (Gave EvolveFault.NoMemory) answers more gave)
-explains-kept old new answers more (Some NoMemory) same (inr few) = inr (subst (λ n. n < 16777216) (sym same.given) few)
+explains-kept old new answers more (Some NoMemory) same (inr few) = inr (subst (λ n. n < 16777216) (sym (same_given same)) few)
 explains-kept old new answers more (Some NoRoom) same h = any-before FoundNone answers more h
 explains-kept old new answers more (Some WasStopped) same h = any-before (Gave EvolveFault.Stopped) answers more h
-explains-kept old new answers more (Some NumbersSpent) same h = subst (λ n. 16777216 ≤ n) (sym same.given) h
+explains-kept old new answers more (Some NumbersSpent) same h = subst (λ n. 16777216 ≤ n) (sym (same_given same)) h
 
 -- why a job gave up fits: for want of room only where its entry has none
 explains-released : (old new : BookState) (answers : List JobResult) (answer : JobResult) (fault : EvolveFault)

@@ -3,7 +3,7 @@ use Rattle.std.proofs.Common.{◌≡◌, ◌∙◌, sym, ap, inl, inr, Some}
 use Rattle.revision_jobs.specs.declared.answer.Job.{Job}
 use Rattle.revision_jobs.specs.Value.{Value}
 use Rattle.dependency_book.specs.declared.row.RowState.TheVariants.{Known}
-use Rattle.dependency_book.specs.declared.need.Need.{Need}
+use Rattle.desk_events.specs.declared.need.Need.{Need}
 use Rattle.dependency_book.specs.RowState.{job_of}
 use Rattle.dependency_book.specs.BookState.{BookState, row_of, expected}
 use Rattle.dependency_book.specs.Recalled.{Recalls}

@@ -1,7 +1,7 @@
 use Rattle.std.proofs.Common.{◌≡◌, ◌≤◌, ◌+◌, ◌++◌, length, map, vec_len}
 use Rattle.std.specs.Prelude.{vec_capacity}
 use Rattle.dependency_book.specs.AllMarks.{but_start}
-use Rattle.dependency_book.specs.Marks.{mark_at}
+use Rattle.desk_events.specs.Marks.{mark_at}
 use Rattle.dependency_book.proofs.marks.add_acting.Given as goal
 
 abbrev pub invariant-loop-generation : goal.invariant-loop-generation

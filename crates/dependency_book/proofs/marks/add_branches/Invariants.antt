@@ -1,7 +1,7 @@
 use Rattle.std.proofs.Common.{◌≡◌, ◌≤◌, ◌+◌, ◌*◌, ◌++◌, take, vec_len}
 use Rattle.std.specs.Prelude.{flat_map, vec_capacity}
 use Rattle.dependency_book.specs.AllMarks.{but_start}
-use Rattle.dependency_book.specs.Marks.{branch_marks}
+use Rattle.desk_events.specs.Marks.{branch_marks}
 use Rattle.dependency_book.proofs.marks.add_branches.Given as goal
 
 abbrev pub invariant-loop-branch : goal.invariant-loop-branch

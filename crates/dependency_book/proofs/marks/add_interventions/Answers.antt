@@ -3,7 +3,7 @@ use Rattle.std.specs.Prelude.{vec_capacity}
 use Rattle.std.specs.List.Sorted.{IsNonDecreasingBy}
 use Rattle.std.proofs.lemmas.Grind.{common_steps}
 use Rattle.dependency_book.specs.AllMarks.{far_of}
-use Rattle.dependency_book.specs.declared.mark.Mark.{Mark}
+use Rattle.desk_events.specs.declared.mark.Mark.{Mark}
 use Rattle.dependency_book.specs.Rows.{mark_rank}
 use Rattle.dependency_book.proofs.Marked.{long_added, marks_added, room_left}
 use Rattle.dependency_book.proofs.marks.add_interventions.Goals as goal

@@ -1,7 +1,7 @@
 use Rattle.std.proofs.Common.{nat_lt, rules, arith}
 use Rattle.std.proofs.lemmas.List.Sorted.{IsPartitionPoint-from_clause, IsPartitionedBy-ltb}
 use Rattle.dependency_book.proofs.Standing.{place_is, IsNonDecreasingBy-ranked}
-use Rattle.dependency_book.proofs.Tests.{true_lt, false_lt}
+use Rattle.desk_events.proofs.Shared.Tests.{true_lt, false_lt}
 use Rattle.dependency_book.proofs.row.place_in.Goals as goal
 
 pub returns : goal.returns

@@ -2,15 +2,15 @@ use Rattle.std.proofs.Common.{◌≡◌, ◌∙◌, ℕ, Bool, false, List, leng
 use Rattle.std.specs.Prelude.{is_some, IsSome}
 use Rattle.std.specs.Arc.{arc_value}
 use Rattle.worlds.specs.World.{World}
-use Rattle.dependency_book.specs.declared.mark.Mark.{Mark}
+use Rattle.desk_events.specs.declared.mark.Mark.{Mark}
 use Rattle.dependency_book.specs.BookState.{BookState, arrival_known}
 use Rattle.dependency_book.specs.Held.{IsHeld}
 use Rattle.dependency_book.specs.Inside.{state_of}
-use Rattle.dependency_book.specs.Marks.{is_start}
+use Rattle.desk_events.specs.Marks.{is_start}
 use Rattle.dependency_book.specs.RowState.{known}
 use Rattle.dependency_book.specs.Rows.{ArrivalRow, place_in, mark_rank}
 use Rattle.dependency_book.proofs.Found.{ArrivedRow, arrived_row}
-use Rattle.dependency_book.proofs.Tests.{clash}
+use Rattle.desk_events.proofs.Shared.Tests.{clash}
 use Rattle.dependency_book.proofs.book.Book.arrived.Goals as goal
 
 row_at : {d e : BookState} {places : List ℕ} {n k : ℕ} {rows : List ArrivalRow} {t : Bool} (m : Mark) → d ≡ e

@@ -1,11 +1,11 @@
 use Rattle.std.proofs.Common.{◌≡◌, ◌∙◌, ℕ, List, length, sym, ap, ap₂, subst, arith}
 use Rattle.std.specs.Prelude.{IsSome}
-use Rattle.dependency_book.specs.declared.mark.Mark.{Mark}
+use Rattle.desk_events.specs.declared.mark.Mark.{Mark}
 use Rattle.dependency_book.specs.declared.row.RowState.TheVariants.{Empty}
 use Rattle.dependency_book.specs.BookState.{BookState, arrival_known}
 use Rattle.dependency_book.specs.Held.{IsHeld}
 use Rattle.dependency_book.specs.Inside.{state_of}
-use Rattle.dependency_book.specs.Marks.{ComesBefore}
+use Rattle.desk_events.specs.Marks.{ComesBefore}
 use Rattle.dependency_book.specs.Needs.{IsLedTo}
 use Rattle.dependency_book.specs.Ready.{before_row}
 use Rattle.dependency_book.specs.Rows.{ArrivalRow, place_in, mark_rank}

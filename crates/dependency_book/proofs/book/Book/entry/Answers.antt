@@ -1,8 +1,8 @@
 use Rattle.std.proofs.Common.{subst}
 use Rattle.std.proofs.lemmas.Result.{IfOk-weaker}
 use Rattle.revision_jobs.specs.declared.entry.Entry.TheVariants as entry
-use Rattle.dependency_book.specs.declared.mark.Mark.{Mark}
-use Rattle.dependency_book.specs.declared.need.Need.TheVariants.{Step, View}
+use Rattle.desk_events.specs.declared.mark.Mark.{Mark}
+use Rattle.desk_events.specs.declared.need.Need.TheVariants.{Step, View}
 use Rattle.dependency_book.specs.Entered.{StepsTo}
 use Rattle.dependency_book.proofs.Entering.{entry_workable}
 use Rattle.dependency_book.proofs.book.Book.entry.Goals as goal

@@ -1,32 +1,42 @@
-use Rattle.std.proofs.Common.{◌∙◌, ap, sym}
+use Rattle.std.proofs.Common.{◌∙◌, ◌++◌, [], ◌∷◌, ap, refl, subst, sym}
+use Rattle.revision_jobs.specs.declared.entries.Place.{Place}
+use Rattle.dependency_book.specs.declared.row.RowState.TheVariants.{Expected}
+use Rattle.dependency_book.specs.BookState.{BookState}
+use Rattle.dependency_book.specs.Called.{IsIssue}
+use Rattle.dependency_book.specs.Cursor.{IsKept}
 use Rattle.dependency_book.specs.Inside.{state_of}
-use Rattle.dependency_book.specs.declared.need.Need.TheVariants.{View}
-use Rattle.dependency_book.specs.Jobs.{step_to}
-use Rattle.dependency_book.proofs.Working.{raised_held, may_expect_there, expected_right}
+use Rattle.dependency_book.specs.Jobs.{IsNextJob}
+use Rattle.dependency_book.specs.Puts.{CanBePut, Puts}
+use Rattle.dependency_book.proofs.Working.{issue_is, kept_more, may_await, pushed}
 use Rattle.dependency_book.proofs.book.Book.expect.Goals as goal
 
-pub invariant_of-self : goal.invariant_of-self
-invariant_of-self c = raised_held c.self.view_is c.requires c.self.invariant
+pub invariant_of-self-2 : goal.invariant_of-self-2
+invariant_of-self-2 c =
+    let d = state_of c.self.inside in
+    let next = subst (λ (e : BookState). IsNextJob e c.args.need.now c.args.job) (sym c.self.view_is) c.requires in
+    let after = c.push.new.self.items in
+    let is = c.in_ok-push.ensures.items
+    ∙ ap (λ (p : Place). c.self.inside.issued.items ++ p ∷ []) c.share.ensures in
+    subst (λ (e : BookState). IsKept e c.self.inside.places.items c.self.inside.cursor after c.self.inside.facts)
+    (sym (pushed d c.self.inside.issued.items after c.args.job.place c.share.result refl c.in_ok-push.ensures.items
+    c.share.ensures))
+    (kept_more c.args.need.now c.args.job after next c.self.invariant is)
 
-pub put_arrival-requires : goal.put_arrival-requires
-put_arrival-requires c = may_expect_there (state_of c.self.inside) c.args.self.now c.args.need.now
-    (step_to c.at.result) c.args.job c.self.view_is
-    (c.in-Step.is ∙ ap step_to (sym c.at.ensures)) c.requires c.self.invariant.held.right
+pub await_job-requires : goal.await_job-requires
+await_job-requires c =
+    let d = state_of c.self.inside in
+    let next = subst (λ (e : BookState). IsNextJob e c.args.need.now c.args.job) (sym c.self.view_is) c.requires in
+    subst (λ (e : BookState). CanBePut e c.args.need.now (Expected c.args.job))
+    (sym (pushed d c.self.inside.issued.items c.push.new.self.items c.args.job.place c.share.result refl
+    c.in_ok-push.ensures.items c.share.ensures))
+    (may_await d c.args.need.now c.args.job c.self.invariant.held.right next)
 
-pub returns-in-Step-clause-right : goal.returns-in-Step-clause-right
-returns-in-Step-clause-right c =
-    expected_right (state_of c.self.inside) c.args.self.now c.put_arrival.new.self c.args.need.now
-    (step_to c.at.result) c.args.job c.self.view_is
-    (c.in-Step.is ∙ ap step_to (sym c.at.ensures)) c.requires c.self.invariant.held.right c.put_arrival.ensures
-
-pub invariant_of-self-in-View : goal.invariant_of-self-in-View
-invariant_of-self-in-View c = raised_held c.self.view_is c.requires c.self.invariant
-
-pub put_text-requires : goal.put_text-requires
-put_text-requires c = may_expect_there (state_of c.self.inside) c.args.self.now c.args.need.now
-    (View c.in-View.id) c.args.job c.self.view_is c.in-View.is c.requires c.self.invariant.held.right
-
-pub returns-in-View-clause-right : goal.returns-in-View-clause-right
-returns-in-View-clause-right c =
-    expected_right (state_of c.self.inside) c.args.self.now c.put_text.new.self c.args.need.now
-    (View c.in-View.id) c.args.job c.self.view_is c.in-View.is c.requires c.self.invariant.held.right c.put_text.ensures
+pub returns-clause-issued : goal.returns-clause-issued
+returns-clause-issued c =
+    let d = state_of c.self.inside in
+    let next = subst (λ (e : BookState). IsNextJob e c.args.need.now c.args.job) (sym c.self.view_is) c.requires in
+    subst (λ (e : BookState). IsIssue c.args.need.now c.args.job e c.await_job.new.self) c.self.view_is
+    (issue_is d c.await_job.new.self c.args.need.now c.args.job next
+    (subst (λ (e : BookState). Puts c.args.need.now (Expected c.args.job) e c.await_job.new.self)
+    (pushed d c.self.inside.issued.items c.push.new.self.items c.args.job.place c.share.result refl
+    c.in_ok-push.ensures.items c.share.ensures) c.await_job.ensures.row))

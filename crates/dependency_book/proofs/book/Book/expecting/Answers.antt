@@ -1,13 +1,12 @@
 use Rattle.std.proofs.Common.{◌≡◌, ◌∙◌, List, false, MatchOption, sym, ap, subst, Option, Some, None}
-use Rattle.dependency_book.specs.declared.need.Need.{Need}
-use Rattle.dependency_book.specs.declared.need.Need.TheVariants.{View}
-use Rattle.dependency_book.specs.Jobs.{step_to}
+use Rattle.desk_events.specs.declared.need.Need.{Need}
+use Rattle.desk_events.specs.declared.need.Need.TheVariants.{View}
+use Rattle.desk_events.specs.Needs.{step_to}
 use Rattle.dependency_book.specs.Rows.{ArrivalRow, TextRow}
 use Rattle.dependency_book.specs.RowState.{row_for, has_number}
 use Rattle.dependency_book.specs.Inside.{state_of}
 use Rattle.dependency_book.specs.BookState.{BookState, expected}
 use Rattle.revision_jobs.specs.Entries.{IsOf}
-use Rattle.dependency_book.proofs.Working.{expected_gives}
 use Rattle.dependency_book.proofs.Outs.{numbered, expecting_none, expecting_mark, expecting_text}
 use Rattle.dependency_book.proofs.book.Book.expecting.Goals as goal
 
@@ -57,10 +56,10 @@ returns-in-Some-clause-own c =
     let out =
     expecting_mark d c.self.inside.places.items c.args.number c.in-Some.mark c.in-Some.place.now c.self.invariant.held
     is in
-    let gives =
-    expected_gives d (step_to c.in-Some.mark)
-    (record { number = c.args.number; place = c.in-Some.place.now }) c.self.invariant.held.right out in
-    subst (λ (e : BookState). IsOf e.table c.in-Some.place.now) c.self.view_is gives.own
+    let given =
+    c.self.invariant.held.right.out (step_to c.in-Some.mark)
+    (record { number = c.args.number; place = c.in-Some.place.now }) out in
+    subst (λ (e : BookState). IsOf e.table c.in-Some.place.now) c.self.view_is given.own
 
 pub returns-clause-own : goal.returns-clause-own
 returns-clause-own c =
@@ -70,7 +69,7 @@ returns-clause-own c =
     let out =
     expecting_text d c.self.inside.places.items c.args.number c.in_ok-bookmark.bookmark c.in_ok-bookmark.place.now
     c.self.invariant.held is in
-    let gives =
-    expected_gives d (View c.in_ok-bookmark.bookmark.id)
-    (record { number = c.args.number; place = c.in_ok-bookmark.place.now }) c.self.invariant.held.right out in
-    subst (λ (e : BookState). IsOf e.table c.in_ok-bookmark.place.now) c.self.view_is gives.own
+    let given =
+    c.self.invariant.held.right.out (View c.in_ok-bookmark.bookmark.id)
+    (record { number = c.args.number; place = c.in_ok-bookmark.place.now }) out in
+    subst (λ (e : BookState). IsOf e.table c.in_ok-bookmark.place.now) c.self.view_is given.own

@@ -1,8 +1,8 @@
 use Rattle.std.proofs.Common.{◌∙◌, ap, inr}
 use Rattle.schedule.specs.Asked.{asked_of}
 use Rattle.dependency_book.specs.BookState.{BookState}
-use Rattle.dependency_book.specs.Felt.{felt_from}
-use Rattle.dependency_book.proofs.Tests.{clash}
+use Rattle.desk_events.specs.Felt.{felt_from}
+use Rattle.desk_events.proofs.Shared.Tests.{clash}
 use Rattle.dependency_book.proofs.book.Book.felt.Goals as goal
 
 pub returns : goal.returns

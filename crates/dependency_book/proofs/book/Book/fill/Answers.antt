@@ -1,9 +1,10 @@
 use Rattle.std.proofs.Common.{◌≡◌, ap₂, subst, sym}
 use Rattle.revision_jobs.specs.Answer.{outcome_of}
 use Rattle.dependency_book.specs.declared.filled.Filled.TheVariants.{Row}
+use Rattle.dependency_book.specs.Called.{IsCollect}
 use Rattle.dependency_book.specs.Jobs.{FreesOne, IsFilled, SameBook, result_of}
-use Rattle.dependency_book.proofs.Tests.{clash}
-use Rattle.dependency_book.proofs.Recalled.{recalls_right, took_fills, took_filled, took_frees}
+use Rattle.desk_events.proofs.Shared.Tests.{clash}
+use Rattle.dependency_book.proofs.Recalled.{took_collect, took_fills, took_filled, took_frees, took_other}
 use Rattle.dependency_book.proofs.Shared.Recalling.{book_then, filled_still, recalls_book, recalls_none}
 use Rattle.dependency_book.proofs.book.Book.fill.Goals.{in-Row, in_default}
 use Rattle.dependency_book.proofs.book.Book.fill.Goals as goal
@@ -20,14 +21,14 @@ returns-then-matches-clause-filled c =
     [ in-Row w ↦ w.in-Row.is | in_default w ↦ absurd (clash c.match-matches.matches c.if-matches.true w.matches-is) ] in
     subst (IsFilled c.args.self.now c.recall_all.new.self c.args.answer) (sym row)
     (filled_still c.args.self.now c.take-filled.new.self c.recall_all.new.self c.args.answer
-    (subst (IsFilled c.args.self.now c.take-filled.new.self c.args.answer) row taken) c.recall_all.ensures)
+    (subst (IsFilled c.args.self.now c.take-filled.new.self c.args.answer) row taken) c.recall_all.ensures.recalls)
 
 pub returns-then-matches-clause-fills : goal.returns-then-matches-clause-fills
 returns-then-matches-clause-fills c =
     let given = result_of c.into_parts-job.result.0 (outcome_of c.into_parts-job.result.1) in
     let answer_is = ap₂ result_of c.into_parts-job.ensures.job c.into_parts-job.ensures.outcome in
     took_fills c.args.self.now c.keep_fact.new.self c.take-filled.new.self c.recall_all.new.self c.args.answer given
-    c.keep_fact.ensures answer_is c.take-filled.ensures.book c.take-filled.ensures.rows c.recall_all.ensures
+    c.keep_fact.ensures answer_is c.take-filled.ensures.book c.take-filled.ensures.rows c.recall_all.ensures.recalls
 
 pub returns-then-matches-clause-freed : goal.returns-then-matches-clause-freed
 returns-then-matches-clause-freed c =
@@ -40,11 +41,25 @@ pub returns-then-matches-clause-book : goal.returns-then-matches-clause-book
 returns-then-matches-clause-book c =
     book_then c.args.self.now c.take-filled.new.self c.recall_all.new.self
     (subst (λ d. SameBook d c.take-filled.new.self) c.keep_fact.ensures c.take-filled.ensures.book)
-    (recalls_book c.take-filled.new.self c.recall_all.new.self c.recall_all.ensures)
+    (recalls_book c.take-filled.new.self c.recall_all.new.self c.recall_all.ensures.recalls)
 
-pub returns-then-matches-clause-right : goal.returns-then-matches-clause-right
-returns-then-matches-clause-right c =
-    recalls_right c.take-filled.new.self c.recall_all.new.self c.take-filled.ensures.right c.recall_all.ensures
+pub returns-then-matches-clause-event : goal.returns-then-matches-clause-event
+returns-then-matches-clause-event c =
+    let given = result_of c.into_parts-job.result.0 (outcome_of c.into_parts-job.result.1) in
+    let answer_is = ap₂ result_of c.into_parts-job.ensures.job c.into_parts-job.ensures.outcome in
+    let row : c.take-filled.result ≡ Row =
+    elim c.match-matches.branch
+    [ in-Row w ↦ w.in-Row.is | in_default w ↦ absurd (clash c.match-matches.matches c.if-matches.true w.matches-is) ] in
+    subst (IsCollect c.args.answer c.args.self.now c.recall_all.new.self) (sym row)
+    (took_collect c.args.self.now c.keep_fact.new.self c.take-filled.new.self c.recall_all.new.self c.args.answer given
+    c.take-filled.result c.keep_fact.ensures answer_is c.take-filled.ensures.event row c.recall_all.ensures.recalls)
+
+pub returns-else-matches-clause-event : goal.returns-else-matches-clause-event
+returns-else-matches-clause-event c =
+    let given = result_of c.into_parts-job.result.0 (outcome_of c.into_parts-job.result.1) in
+    let answer_is = ap₂ result_of c.into_parts-job.ensures.job c.into_parts-job.ensures.outcome in
+    took_other c.args.self.now c.keep_fact.new.self c.take-filled.new.self c.args.answer given c.take-filled.result
+    c.keep_fact.ensures answer_is c.take-filled.ensures.event
 
 pub returns-else-matches-clause-fills : goal.returns-else-matches-clause-fills
 returns-else-matches-clause-fills c =

@@ -1,7 +1,7 @@
 use Rattle.std.proofs.Common.{sym, subst, Some}
 use Rattle.revision_jobs.specs.declared.entries.Place.{Place}
 use Rattle.dependency_book.specs.Jobs.{IsForgotten}
-use Rattle.dependency_book.proofs.Working.{expected_row, put_cancels, cancelled_right}
+use Rattle.dependency_book.proofs.Working.{cancel_is, cancels_none, may_free, put_cancels}
 use Rattle.dependency_book.proofs.book.Book.forget.Goals as goal
 
 pub returns-in_err-need-clause-right : goal.returns-in_err-need-clause-right
@@ -9,19 +9,18 @@ returns-in_err-need-clause-right c = c.expecting.ensures.right
 
 pub release-requires : goal.release-requires
 release-requires c =
-    expected_row c.args.self.now c.in_ok-need.need
-    (record { number = c.args.number; place = c.in_ok-need.place.now }) c.expecting.ensures.right
+    may_free c.args.self.now c.in_ok-need.need c.args.number c.in_ok-need.place.now c.expecting.ensures.right
     c.in_ok-need.ensures.row
+
+pub returns-clause-event : goal.returns-clause-event
+returns-clause-event c =
+    cancel_is c.args.self.now c.release.new.self c.in_ok-need.need c.args.number c.in_ok-need.place.now
+    c.expecting.ensures.right c.in_ok-need.ensures.row c.release.ensures.row
 
 pub returns-clause-rows : goal.returns-clause-rows
 returns-clause-rows c =
     put_cancels c.args.self.now c.release.new.self c.in_ok-need.need c.args.number c.in_ok-need.place.now
-    c.expecting.ensures.right c.in_ok-need.ensures.row c.release.ensures
-
-pub returns-clause-right : goal.returns-clause-right
-returns-clause-right c =
-    cancelled_right c.args.self.now c.release.new.self c.in_ok-need.need c.args.number c.in_ok-need.place.now
-    c.expecting.ensures.right c.in_ok-need.ensures.row c.release.ensures
+    c.expecting.ensures.right c.in_ok-need.ensures.row c.release.ensures.row
 
 pub returns-clause-place : goal.returns-clause-place
 returns-clause-place c = subst (λ (p : Place). IsForgotten c.args.self.now c.args.number (Some p))

@@ -7,7 +7,8 @@ use Rattle.schedule.specs.Asked.{asked_of}
 use Rattle.schedule.specs.Change.{first_refusal, refusals}
 use Rattle.schedule.proofs.Shared.Fits.{CanBeLaid-at, CanBeLaid-changed}
 use Rattle.dependency_book.specs.BookState.{BookState, arrival_known}
-use Rattle.dependency_book.specs.Felt.{BookIsUnfeltAt, cells_after, cells_of}
+use Rattle.dependency_book.specs.Felt.{BookIsUnfeltAt, cells_after}
+use Rattle.desk_events.specs.Felt.{cells_of}
 use Rattle.dependency_book.specs.Inside.{state_of}
 use Rattle.dependency_book.proofs.Unfelt.{cells_after-is, unfelt_at}
 use Rattle.dependency_book.proofs.book.Book.is_unfelt_at.Goals as goal
@@ -18,7 +19,7 @@ lay-requires c =
     let m = c.args.mark in
     subst (All CanBeLaid)
     (sym (c.as_slice.ensures ∙ c.in_ok-old.ensures ∙ ap (λ is. cells_of is m) c.interventions-interventions.ensures))
-    (CanBeLaid-at d.plan m.branch m.generation c.self.invariant.held.right.sound)
+    (CanBeLaid-at d.plan m.branch m.generation c.self.invariant.held.right.core.sound)
 
 pub lay-requires-2 : goal.lay-requires-2
 lay-requires-2 c =
@@ -28,7 +29,7 @@ lay-requires-2 c =
     subst (All CanBeLaid)
     (sym (c.as_slice-2.ensures ∙ c.in_ok-new.ensures
     ∙ ap (λ is. cells_after asked is m) c.interventions-interventions.ensures ∙ cells_after-is d.plan asked m))
-    (CanBeLaid-changed d.plan asked m.branch m.generation c.self.invariant.held.right.sound
+    (CanBeLaid-changed d.plan asked m.branch m.generation c.self.invariant.held.right.core.sound
     (subst (λ (e : BookState). first_refusal (refusals e.plan asked) ≡ None) (sym c.self.view_is) c.requires))
 
 pub returns : goal.returns

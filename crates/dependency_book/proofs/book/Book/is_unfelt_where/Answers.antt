@@ -4,7 +4,7 @@ use Rattle.schedule.specs.Asked.{asked_of}
 use Rattle.schedule.specs.Branches.{reach}
 use Rattle.dependency_book.specs.BookState.{BookState}
 use Rattle.dependency_book.specs.Felt.{BookIsUnfeltAt}
-use Rattle.dependency_book.proofs.Tests.{clash}
+use Rattle.desk_events.proofs.Shared.Tests.{clash}
 use Rattle.dependency_book.proofs.Unfelt.{each_done, each_felt, each_next, where_each}
 use Rattle.dependency_book.proofs.book.Book.is_unfelt_where.Goals as goal
 

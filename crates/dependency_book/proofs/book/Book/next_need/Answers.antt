@@ -1,6 +1,6 @@
 use Rattle.std.proofs.Common.{◌≡◌, None, Option, refl, sym, subst}
 use Rattle.std.specs.Prelude.{IfNone}
-use Rattle.dependency_book.specs.declared.need.Need.{Need}
+use Rattle.desk_events.specs.declared.need.Need.{Need}
 use Rattle.dependency_book.specs.BookState.{BookState, NothingOut, pending_of}
 use Rattle.dependency_book.specs.Held.{places_of}
 use Rattle.dependency_book.specs.Needs.{IsNextView}

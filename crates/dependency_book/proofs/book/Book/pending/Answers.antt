@@ -11,7 +11,7 @@ overflow_cast-result c =
     let texts = c.self.inside.texts.items in
     let same : length texts ≡ length c.self.inside.document.bookmarks = sym (length-map texts (λ (r : TextRow). r.key))
     ∙ ap length c.self.invariant.held.right.bookmarks in
-    let few = c.self.invariant.held.right.sound.few_bookmarks in
+    let few = c.self.invariant.held.right.core.sound.few_bookmarks in
     let most : count_by is_pending texts ≤ length texts = count_by-le-length is_pending texts in
     let is : c.pending_count.result ≡ count_by is_pending texts =
     c.pending_count.ensures ∙ ap (count_by is_pending) c.deref.ensures.value in

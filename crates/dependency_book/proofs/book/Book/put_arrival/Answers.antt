@@ -2,9 +2,9 @@ use Rattle.std.proofs.Common.{◌++◌, ◌∙◌, ap, take, drop, length, List,
 use Rattle.std.specs.Prelude.{if◌then◌else◌}
 use Rattle.revision_jobs.specs.Value.{pattern}
 use Rattle.dependency_book.specs.BookState.{BookState}
-use Rattle.dependency_book.specs.Cursor.{IsHeldWith, start}
+use Rattle.dependency_book.specs.Cursor.{IsKept, start}
 use Rattle.dependency_book.specs.Inside.{state_of}
-use Rattle.dependency_book.specs.Jobs.{step_to}
+use Rattle.desk_events.specs.Needs.{step_to}
 use Rattle.dependency_book.specs.Puts.{CanBePut, Puts}
 use Rattle.dependency_book.specs.Rows.{ArrivalRow, mark_rank, put}
 use Rattle.dependency_book.specs.RowState.{state_map}
@@ -20,17 +20,20 @@ invariant_of-self c =
     (sym c.self.view_is) c.requires in
     let whole = written mark_rank (mark_rank c.args.mark) c.args.state c.deref_mut.ensures.value c.deref_mut.ensures.len
     (c.put.ensures ∙ ap (λ n. put mark_rank n c.args.state c.deref_mut.result.now) c.rank.ensures) in
-    subst (λ (rows : List ArrivalRow). IsHeldWith (record d { arrivals = rows }) places c.if_stays-self-inside.result)
+    subst (λ (rows : List ArrivalRow). IsKept (record d { arrivals = rows }) places c.if_stays-self-inside.result
+    c.self.inside.issued.items c.self.inside.facts)
     (sym whole)
     (record {
       held = arrival_held d places c.args.mark c.args.state c.self.invariant.held can;
       passed = passed_arrival d places c.self.inside.cursor c.if_stays-self-inside.result c.args.mark c.args.state
           c.self.invariant.passed
           (c.if_stays-self-inside.ensures ∙ ap (λ b. if b then c.self.inside.cursor else start) c.is_expected.ensures);
+      own = c.self.invariant.own;
+      facts = c.self.invariant.facts;
     })
 
-pub returns : goal.returns
-returns c =
+pub returns-clause-row : goal.returns-clause-row
+returns-clause-row c =
     let d = state_of c.self.inside in
     let can = subst (λ (e : BookState). CanBePut e (step_to c.args.mark) (state_map pattern c.args.state))
     (sym c.self.view_is) c.requires in
@@ -43,3 +46,6 @@ returns c =
     (subst (λ (rows : List ArrivalRow). Puts (step_to c.args.mark) (state_map pattern c.args.state) d
     (record d { arrivals = rows })) (sym whole)
     (arrival_puts d c.args.mark c.args.state c.self.invariant.held.right.marks can.there))
+
+pub returns-clause-right : goal.returns-clause-right
+returns-clause-right c = (invariant_of-self c).held.right

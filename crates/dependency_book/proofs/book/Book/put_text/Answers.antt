@@ -1,9 +1,9 @@
 use Rattle.std.proofs.Common.{◌++◌, ◌∙◌, not, ap, take, drop, length, List, sym, subst}
 use Rattle.std.specs.Prelude.{if◌then◌else◌}
 use Rattle.revision_jobs.specs.Value.{text}
-use Rattle.dependency_book.specs.declared.need.Need.TheVariants.{View}
+use Rattle.desk_events.specs.declared.need.Need.TheVariants.{View}
 use Rattle.dependency_book.specs.BookState.{BookState}
-use Rattle.dependency_book.specs.Cursor.{IsHeldWith, start}
+use Rattle.dependency_book.specs.Cursor.{IsKept, start}
 use Rattle.dependency_book.specs.Inside.{state_of}
 use Rattle.dependency_book.specs.Puts.{CanBePut, Puts}
 use Rattle.dependency_book.specs.Rows.{TextRow, bookmark_rank, put}
@@ -20,7 +20,8 @@ invariant_of-self c =
     let whole = written bookmark_rank c.args.id c.args.state c.deref_mut.ensures.value c.deref_mut.ensures.len
     (c.put.ensures ∙ ap (λ n. put bookmark_rank n c.args.state c.deref_mut.result.now) c.from.ensures) in
     let places = c.self.inside.places.items in
-    subst (λ (rows : List TextRow). IsHeldWith (record d { texts = rows }) places c.if_stays-self-inside.result)
+    subst (λ (rows : List TextRow). IsKept (record d { texts = rows }) places c.if_stays-self-inside.result
+    c.self.inside.issued.items c.self.inside.facts)
     (sym whole)
     (record {
       held = text_held d places c.args.id c.args.state c.self.invariant.held can;
@@ -28,10 +29,12 @@ invariant_of-self c =
           passed_text d places c.self.inside.cursor c.if_stays-self-inside.result c.args.id c.args.state
           c.self.invariant.passed
           (c.if_stays-self-inside.ensures ∙ ap (λ b. if not b then c.self.inside.cursor else start) c.is_empty.ensures);
+      own = c.self.invariant.own;
+      facts = c.self.invariant.facts;
     })
 
-pub returns : goal.returns
-returns c =
+pub returns-clause-row : goal.returns-clause-row
+returns-clause-row c =
     let d = state_of c.self.inside in
     let can = subst (λ (e : BookState). CanBePut e (View c.args.id) (state_map text c.args.state))
     (sym c.self.view_is) c.requires in
@@ -42,3 +45,6 @@ returns c =
     c.self.view_is
     (subst (λ (rows : List TextRow). Puts (View c.args.id) (state_map text c.args.state) d (record d { texts = rows }))
     (sym whole) (text_puts d c.args.id c.args.state c.self.invariant.held.right.bookmarks can.there))
+
+pub returns-clause-right : goal.returns-clause-right
+returns-clause-right c = (invariant_of-self c).held.right

@@ -7,8 +7,9 @@ pub loop-place-preserved : goal.loop-place-preserved
 loop-place-preserved c = record {
   recalls =
       recalls_then c.args.self.now c.loop-place.self c.recall_at.new.self c.loop-place.invariant.recalls
-      c.recall_at.ensures;
+      c.recall_at.ensures.recalls;
+  right = c.recall_at.ensures.right;
   end = c.loop-place.invariant.end
       ∙ sym (length-keys c.recall_at.new.self.arrivals c.loop-place.self.arrivals
-      (recalls_book c.loop-place.self c.recall_at.new.self c.recall_at.ensures).document.marks);
+      (recalls_book c.loop-place.self c.recall_at.new.self c.recall_at.ensures.recalls).document.marks);
 }

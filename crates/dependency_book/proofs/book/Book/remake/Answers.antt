@@ -17,7 +17,7 @@ use Rattle.dependency_book.proofs.book.Book.remake.Goals as goal
 pub rows_of-rows-requires-clause-room : goal.rows_of-rows-requires-clause-room
 rows_of-rows-requires-clause-room c =
     made_room c.in_ok-room.room c.self.inside.document c.make.new.self
-    (asked_of c.args.edit.now) c.in_ok-edited.edited c.self.invariant.held.right.sound c.in_ok-edited.ensures.ok
+    (asked_of c.args.edit.now) c.in_ok-edited.edited c.self.invariant.held.right.core.sound c.in_ok-edited.ensures.ok
     c.in_ok-room.ensures
 
 pub rows_of-rows-requires-clause-own : goal.rows_of-rows-requires-clause-own
@@ -51,6 +51,8 @@ invariant_of-self-2 c =
     record {
       held = record { places = c.rows_of-rows.ensures.places_are; right = (made c).1 };
       passed = subst (HasPassed e places) (sym c.start-self-inside.ensures) (passed_none e places);
+      own = c.self.invariant.own;
+      facts = c.self.invariant.facts;
     }
 
 pub returns-clause-keeps : goal.returns-clause-keeps

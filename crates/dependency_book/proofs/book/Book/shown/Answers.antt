@@ -1,5 +1,6 @@
 use Rattle.std.proofs.Common.{◌≡◌, ◌∙◌, None, Some, sym, ap, ap₂, subst, arith}
-use Rattle.dependency_book.specs.BookState.{BookState, bookmark_in}
+use Rattle.dependency_book.specs.BookState.{BookState}
+use Rattle.desk_events.specs.Wanted.{bookmark_in}
 use Rattle.dependency_book.specs.Inside.{state_of}
 use Rattle.dependency_book.specs.Rows.{TextRow, place_in, bookmark_rank}
 use Rattle.dependency_book.specs.Shown.{IsCurrent, IsPending}

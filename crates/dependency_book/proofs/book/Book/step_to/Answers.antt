@@ -5,7 +5,7 @@ use Rattle.dependency_book.specs.BookState.{BookState}
 use Rattle.dependency_book.specs.Entered.{StepsTo}
 use Rattle.dependency_book.specs.Inside.{state_of}
 use Rattle.dependency_book.proofs.Found.{step_is}
-use Rattle.dependency_book.proofs.Placed.{comes_le}
+use Rattle.desk_events.proofs.Shared.Marks.{comes_le}
 use Rattle.dependency_book.proofs.book.Book.step_to.Goals as goal
 
 pub returns-clause-step : goal.returns-clause-step

@@ -1,8 +1,9 @@
 use Rattle.std.proofs.Common.{◌≡◌, true, false, Option, None, Some, MatchOption, refl, sym, subst, rules}
 use Rattle.revision_jobs.specs.declared.answer.Job.{Job}
 use Rattle.revision_jobs.specs.Answer.{outcome_of}
+use Rattle.dependency_book.specs.Called.{IsCollect}
 use Rattle.dependency_book.specs.Jobs.{result_of, IsFilled}
-use Rattle.dependency_book.proofs.Working.{may_stand, put_answers, filled_is, filled_right, none_answered, none_numbered, elsewhere}
+use Rattle.dependency_book.proofs.Working.{may_stand, put_answers, filled_is, collect_is, none_answered, none_numbered, elsewhere}
 use Rattle.dependency_book.proofs.book.Book.take.Goals as goal
 use Rattle.dependency_book.proofs.book.Book.take.Goals.{in_default-2, in_default}
 
@@ -35,11 +36,15 @@ returns-in-Some-clause-rows c = λ other.
     (result_of c.args.job (outcome_of c.args.outcome)) c.expecting.ensures.right c.in-Some.ensures.row
     (c.if-same.ensures.index.0 refl) c.fill_row.ensures.row other
 
-pub returns-in-Some-clause-right : goal.returns-in-Some-clause-right
-returns-in-Some-clause-right c =
-    filled_right c.args.self.now c.fill_row.new.self c.in-Some.need c.in-Some.place.now c.args.job
-    (outcome_of c.args.outcome) c.expecting.ensures.right c.in-Some.ensures.row
-    (c.if-same.ensures.entry refl) c.requires.right c.fill_row.ensures.row
+pub returns-in-Some-clause-event : goal.returns-in-Some-clause-event
+returns-in-Some-clause-event c =
+    let d = c.args.self.now in
+    let e = c.fill_row.new.self in
+    let job : Job = c.args.job in
+    let outcome = outcome_of c.args.outcome in
+    subst (IsCollect (result_of job outcome) d e) (sym c.fill_row.ensures.filled)
+    (collect_is d e c.in-Some.need c.in-Some.place.now job outcome c.expecting.ensures.right c.in-Some.ensures.row
+    (c.if-same.ensures.entry refl) c.requires.right c.fill_row.ensures.row)
 
 -- no row expects the job
 
@@ -57,6 +62,7 @@ returns c =
             filled = subst (IsFilled d d answer) (sym w.result-is) (none, refl);
             rows = none_answered d answer none;
             book = search rules;
+            event = subst (IsCollect answer d d) (sym w.result-is) refl;
             right = right;
           }
       | in_default w ↦
@@ -65,6 +71,7 @@ returns c =
             filled = subst (IsFilled d d answer) (sym w.result-is) (none, refl);
             rows = none_answered d answer none;
             book = search rules;
+            event = subst (IsCollect answer d d) (sym w.result-is) refl;
             right = right;
           }
     ]

@@ -4,12 +4,12 @@ use Rattle.worlds.specs.World.{World}
 use Rattle.rule_tree.specs.Rule.{name_of, states_of}
 use Rattle.schedule.specs.Scratch.{cells_at}
 use Rattle.revision_jobs.specs.declared.entry.Rendering.{Rendering}
-use Rattle.dependency_book.specs.declared.mark.Mark.{Mark}
+use Rattle.desk_events.specs.declared.mark.Mark.{Mark}
 use Rattle.dependency_book.specs.BookState.{BookState, arrival_known}
 use Rattle.dependency_book.specs.Entered.{ViewsOf}
 use Rattle.dependency_book.specs.Held.{IsHeld}
 use Rattle.dependency_book.specs.Inside.{state_of}
-use Rattle.dependency_book.specs.Marks.{bookmark_mark}
+use Rattle.desk_events.specs.Marks.{bookmark_mark}
 use Rattle.dependency_book.specs.Needs.{ViewIsNext}
 use Rattle.dependency_book.specs.Rows.{TextRow, place_in, bookmark_rank}
 use Rattle.dependency_book.proofs.Found.{ViewRow, view_row, view_is}

@@ -4,7 +4,6 @@ use Rattle.revision_jobs.specs.declared.entries.Place.{Place}
 use Rattle.dependency_book.specs.BookState.{BookState}
 use Rattle.dependency_book.specs.Jobs.{IsNextJob}
 use Rattle.desk_core.specs.Issued.{IsIssued, IssuesFor}
-use Rattle.desk_core.proofs.Happening.{can_issue, issues-core}
 use Rattle.desk_core.proofs.desk.Desk.issue.Goals as goal
 
 pub returns-clause-issued : goal.returns-clause-issued
@@ -18,13 +17,7 @@ returns-clause-issued g c =
     let issued : IssuesFor old new expected need = record {
       next = next;
       empty = c.in-Some.ensures.empty;
-      rows = c.expect.ensures.rows;
-      document = c.expect.ensures.document;
-      given = c.expect.ensures.given;
-      fewer = c.expect.ensures.fewer;
-      can = can_issue old need expected next c.in-Some.ensures.empty;
-      event = issues-core old new need expected c.given-number.ensures c.expect.ensures.document.plan
-          c.expect.ensures.given c.expect.ensures.rows;
+      is = c.in_ok-expect.ensures.issued;
     } in
     subst (λ (d : BookState). IsIssued d new (Some (record { number = number; place = c.in_ok-place.place })))
     (c.next_need.ensures.same ∙ c.self.view_is)

@@ -16,7 +16,7 @@ pub returns-in-Ok-Some-clause-out : goal.returns-in-Ok-Some-clause-out
 returns-in-Ok-Some-clause-out g c = λ held at_hand.
     let issued = rw c.in-Ok-Some.field-0-is at c.in-Ok-Some.ensures.issued in
     let none : c.args.self.now.unsent ≡ Nothing = search rules in
-    IsAtHand-issued c.args.desk.now c.issue.new.self issued.0 c.in-Ok-Some.job held issued.1.rows
+    IsAtHand-issued c.args.desk.now c.issue.new.self issued.0 c.in-Ok-Some.job held issued.1.is.rows
     (subst (λ unsent. IsAtHand (job_in unsent) held c.args.desk.now) none at_hand)
 
 pub returns-in-Err-clause-goes : goal.returns-in-Err-clause-goes

@@ -23,15 +23,15 @@ use Rattle.schedule.proofs.Shared.Arrivals.{ParentsComeBefore}
 use Rattle.schedule.proofs.Shared.Branches.{parents_before, unused}
 use Rattle.schedule.proofs.Shared.Felt.{felt-apart, felt-back, felt-here}
 use Rattle.schedule.proofs.Shared.Lines.{after-unfelt, arrival-added, arrival-removed, arrival-unfelt}
-use Rattle.dependency_book.specs.declared.mark.Mark.{Mark}
-use Rattle.dependency_book.specs.declared.touched.Touched.{Touched}
-use Rattle.dependency_book.specs.BookState.{bookmark_in}
-use Rattle.dependency_book.specs.Felt.{felt_from, first_touched, from_touched, touched_by}
-use Rattle.dependency_book.specs.Kept.{keeps_arrival, leaves_after}
-use Rattle.dependency_book.specs.Marks.{bookmark_mark, is_mark, is_start, mark_at}
-use Rattle.dependency_book.proofs.Placed.{mark_placed}
-use Rattle.dependency_book.proofs.Tests.{clash, either_way, eq_false, eq_true, false_eq, lt_false, lt_true, true_eq, true_lt}
-use Rattle.dependency_book.proofs.Touching.{SameUntouched, untouched, untouched_elsewhere}
+use Rattle.desk_events.specs.declared.mark.Mark.{Mark}
+use Rattle.desk_events.specs.declared.touched.Touched.{Touched}
+use Rattle.desk_events.specs.Wanted.{bookmark_in}
+use Rattle.desk_events.specs.Felt.{felt_from, first_touched, from_touched, touched_by}
+use Rattle.desk_events.specs.Kept.{keeps_arrival, leaves_after}
+use Rattle.desk_events.specs.Marks.{bookmark_mark, is_mark, is_start, mark_at}
+use Rattle.desk_events.proofs.Shared.Marks.{mark_placed}
+use Rattle.desk_events.proofs.Shared.Tests.{clash, either_way, eq_false, eq_true, false_eq, lt_false, lt_true, true_eq, true_lt}
+use Rattle.desk_events.proofs.Shared.Touching.{SameUntouched, untouched, untouched_elsewhere}
 
 -- what isn't felt
 

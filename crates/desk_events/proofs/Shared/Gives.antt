@@ -1,6 +1,5 @@
 -- What is to be computed for a row gives what is wanted there.
 use Rattle.std.proofs.Common.{◌≡◌, ℕ, ◌+◌, ◌-◌, ◌<◌, ◌≤◌, ◌∙◌, List, sym, ap, ap₂, arith, subst, Option, Some, inl, inr}
-use Rattle.std.specs.Arc.{arc_value}
 use Rattle.worlds.specs.World.{World}
 use Rattle.worlds.specs.Lay.{lay}
 use Rattle.worlds.specs.Step.{step}
@@ -14,19 +13,16 @@ use Rattle.schedule.specs.Plan.{Plan}
 use Rattle.schedule.specs.Scratch.{cells_at, arrival, after}
 use Rattle.schedule.specs.Sound.{IsSound}
 use Rattle.schedule.proofs.Shared.Lines.{arrival-fork}
-use Rattle.revision_jobs.specs.declared.entry.Entry.{Entry}
-use Rattle.revision_jobs.specs.declared.entry.Entry.TheVariants as entry
-use Rattle.revision_jobs.specs.declared.entry.Rendering.{Rendering}
-use Rattle.revision_jobs.specs.declared.entry.Step.{Step as Stepping}
-use Rattle.revision_jobs.specs.Value.{pattern, text, value, start_of, world_after, world_in}
-use Rattle.dependency_book.specs.declared.mark.Mark.{Mark}
-use Rattle.dependency_book.specs.declared.need.Need.{Need}
-use Rattle.dependency_book.specs.declared.need.Need.TheVariants.{Step, View}
-use Rattle.dependency_book.specs.Entered.{IsEntryFrom, StepsFrom, ViewsFrom}
-use Rattle.dependency_book.specs.Marks.{BeginsFrom, Precedes, mark_at}
-use Rattle.dependency_book.specs.Right.{wanted, text_wanted}
-use Rattle.dependency_book.proofs.Placed.{mark_placed}
-use Rattle.dependency_book.proofs.Walk.{arrival-gap, mark_within, quiet_at}
+use Rattle.revision_jobs.specs.Value.{pattern, text}
+use Rattle.desk_events.specs.Entry.{Entry, Stepping, Viewing, start_of, steps, value, views, world_after, world_seen}
+use Rattle.desk_events.specs.declared.mark.Mark.{Mark}
+use Rattle.desk_events.specs.declared.need.Need.{Need}
+use Rattle.desk_events.specs.declared.need.Need.TheVariants.{Step, View}
+use Rattle.desk_events.specs.Entered.{IsEntryFrom, StepsFrom, ViewsFrom}
+use Rattle.desk_events.specs.Marks.{BeginsFrom, Precedes, mark_at}
+use Rattle.desk_events.specs.Wanted.{wanted, text_wanted}
+use Rattle.desk_events.proofs.Shared.Marks.{mark_placed}
+use Rattle.desk_events.proofs.Shared.Walk.{arrival-gap, mark_within, quiet_at}
 
 -- what is known to arrive does
 abbrev pub Arrives : (Mark → Option World) → Plan → Type 0
@@ -37,13 +33,13 @@ Arrives known p = (m : Mark) (w : World) → known m ≡ Some w → w ≡ arriva
 -- it begins with what leaves the mark before
 pub step_begins : (p : Plan) (arrives : Mark → Option World) (m : Mark) (s : Stepping) → Arrives arrives p
     → (h : StepsFrom p arrives m s) → start_of s ≡ after p h.before.branch h.before.generation
-step_begins p arrives m s right h = ap₂ lay h.cells (right h.before (arc_value s.from) h.from)
+step_begins p arrives m s right h = ap₂ lay h.cells (right h.before s.from h.from)
 
 -- where a branch begins
 fork_gives : (p : Plan) (arrives : Mark → Option World) (m : Mark) (s : Stepping) → IsSound p → Arrives arrives p
     → (h : StepsFrom p arrives m s) → BeginsFrom p h.before m → world_after s ≡ arrival p m.branch m.generation
 fork_gives p arrives m s sound right h begins =
-    let f = step (next_of (arc_value s.rule)) in
+    let f = step (next_of s.rule) in
     let same : h.before.generation ≡ m.generation = begins.same in
     let gap : h.before.generation + s.gens ≡ m.generation = h.gap in
     let none : s.gens ≡ 0 = omega (arith, same, gap) in
@@ -66,10 +62,10 @@ line_gives p arrives m s sound right h precedes =
     let far = mark_within p m sound h.noted in
     let late : fork_of p.branches m.branch ≤ n.generation =
     subst (λ b. fork_of p.branches b ≤ n.generation) precedes.branch (mark_placed p n sound precedes.is).from_fork in
-    arrival-gap p m.branch n.generation m.generation (arc_value s.from) (world_after s) left under late
+    arrival-gap p m.branch n.generation m.generation s.from (world_after s) left under late
     (λ g over less. quiet_at p m.branch g (omega (arith, far, less)) (precedes.between g over less))
-    (right n (arc_value s.from) h.from ∙ ap (λ b. arrival p b n.generation) precedes.branch)
-    (ap (λ cs. lay cs (arc_value s.from)) (h.cells ∙ ap (λ b. cells_at p.interventions b n.generation) precedes.branch))
+    (right n s.from h.from ∙ ap (λ b. arrival p b n.generation) precedes.branch)
+    (ap (λ cs. lay cs s.from) (h.cells ∙ ap (λ b. cells_at p.interventions b n.generation) precedes.branch))
     (ap₂ (λ k (r : Rule). iterate k (step (next_of r)) left) span h.rule)
 
 pub step_gives : (p : Plan) (arrives : Mark → Option World) (m : Mark) (s : Stepping) → IsSound p → Arrives arrives p
@@ -86,23 +82,23 @@ same_text : (f : ViewOf → World → List ℕ → ℕ → ℕ → List ℕ) (v 
     (s s' g g' : ℕ) → v ≡ v' → w ≡ w' → n ≡ n' → s ≡ s' → g ≡ g' → f v w n s g ≡ f v' w' n' s' g'
 same_text f v v' w w' n n' s s' g g' a b c d e = cc
 
-pub view_after : (p : Plan) (arrives : Mark → Option World) (id : ℕ) (r : Rendering) → Arrives arrives p
-    → (h : ViewsFrom p arrives id r) → world_in r ≡ after p h.bookmark.branch h.bookmark.generation
+pub view_after : (p : Plan) (arrives : Mark → Option World) (id : ℕ) (r : Viewing) → Arrives arrives p
+    → (h : ViewsFrom p arrives id r) → world_seen r ≡ after p h.bookmark.branch h.bookmark.generation
 view_after p arrives id r right h =
-    ap₂ lay h.cells (right (mark_at h.bookmark.branch h.bookmark.generation) (arc_value r.from) h.from)
+    ap₂ lay h.cells (right (mark_at h.bookmark.branch h.bookmark.generation) r.from h.from)
 
 -- the entry that is to be computed gives what is wanted
 pub entry_gives : (p : Plan) (arrives : Mark → Option World) (need : Need) (e : Entry) → IsSound p → Arrives arrives p
     → IsEntryFrom p arrives need e → wanted p need ≡ Some (value e)
-entry_gives p arrives (Step branch mark) (entry.Step s) sound right h =
+entry_gives p arrives (Step branch mark) (steps s) sound right h =
     ap (λ w. Some (pattern w)) (sym (step_gives p arrives (mark_at branch mark) s sound right h))
-entry_gives p arrives (Step branch mark) (entry.View r) sound right h = absurd h
-entry_gives p arrives (View id) (entry.Step s) sound right h = absurd h
-entry_gives p arrives (View id) (entry.View r) sound right h =
+entry_gives p arrives (Step branch mark) (views r) sound right h = absurd h
+entry_gives p arrives (View id) (steps s) sound right h = absurd h
+entry_gives p arrives (View id) (views r) sound right h =
     let b = h.bookmark.branch in
     let g = h.bookmark.generation in
     ap (text_wanted p) h.there
     ∙ ap (λ bytes. Some (text bytes))
-    (sym (same_text text_of r.view h.bookmark.view (world_in r) (after p b g) r.name (name_of p.rule) r.states
+    (sym (same_text text_of r.view h.bookmark.view (world_seen r) (after p b g) r.name (name_of p.rule) r.states
     (states_of p.rule) r.generation g
     h.view (view_after p arrives id r right h) h.name h.states h.generation))

@@ -4,7 +4,7 @@ use Rattle.std.specs.Prelude.{◌==◌}
 use Rattle.std.specs.List.{AllByRecursion, list_any}
 use Rattle.schedule.specs.Branches.{element_at}
 use Rattle.schedule.specs.Ids.{IdsRise, has_id}
-use Rattle.dependency_book.proofs.Tests.{either_way, eq_true, eq_false}
+use Rattle.desk_events.proofs.Shared.Tests.{either_way, eq_true, eq_false}
 
 -- one element that passes a test says something
 pub any_so : {X Q : Type 0} (test : X → Bool) (P : X → Type 0) (xs : List X) → ((x : X) → P x → test x ≡ true → Q)

@@ -14,21 +14,20 @@ use Rattle.schedule.specs.Scratch.{cells_at, scratch}
 use Rattle.schedule.specs.Sound.{AreMarked, IsPlaced, IsSound}
 use Rattle.schedule.proofs.Shared.Alike.{arrival-within}
 use Rattle.revision_jobs.specs.Value.{pattern, text}
-use Rattle.dependency_book.specs.declared.mark.Mark.{Mark}
-use Rattle.dependency_book.specs.declared.need.Need.{Need}
-use Rattle.dependency_book.specs.declared.need.Need.TheVariants.{Step, View}
-use Rattle.dependency_book.specs.BookState.{bookmark_in}
-use Rattle.dependency_book.specs.Felt.{IsFelt, felt_from}
-use Rattle.dependency_book.specs.Kept.{keeps_text, leaves_after, stays_mark, takes, keeps_arrival}
-use Rattle.dependency_book.specs.Marks.{bookmark_mark, is_mark, is_start, mark_at}
-use Rattle.dependency_book.specs.Right.{wanted, text_wanted}
-use Rattle.dependency_book.proofs.Followed.{kept_in}
-use Rattle.dependency_book.proofs.Leaves.{arrival_left, scratch_left, shown_left}
-use Rattle.dependency_book.proofs.Placed.{bookmark_is_mark}
-use Rattle.dependency_book.proofs.Shared.Gives.{Arrives}
-use Rattle.dependency_book.proofs.Tests.{either_way}
-use Rattle.dependency_book.proofs.Unfelt.{unfelt_alike}
-use Rattle.dependency_book.proofs.Walk.{mark_within}
+use Rattle.desk_events.specs.declared.mark.Mark.{Mark}
+use Rattle.desk_events.specs.declared.need.Need.{Need}
+use Rattle.desk_events.specs.declared.need.Need.TheVariants.{Step, View}
+use Rattle.desk_events.specs.Wanted.{bookmark_in, wanted, text_wanted}
+use Rattle.desk_events.specs.Felt.{IsFelt, felt_from}
+use Rattle.desk_events.specs.Kept.{keeps_text, leaves_after, stays_mark, takes, keeps_arrival}
+use Rattle.desk_events.specs.Marks.{bookmark_mark, is_mark, is_start, mark_at}
+use Rattle.desk_events.proofs.Shared.Bookmarks.{kept_in}
+use Rattle.desk_events.proofs.Leaves.{arrival_left, scratch_left, shown_left}
+use Rattle.desk_events.proofs.Shared.Marks.{bookmark_is_mark}
+use Rattle.desk_events.proofs.Shared.Gives.{Arrives}
+use Rattle.desk_events.proofs.Shared.Tests.{either_way}
+use Rattle.desk_events.proofs.Alike.{unfelt_alike}
+use Rattle.desk_events.proofs.Shared.Walk.{mark_within}
 
 -- the row of a need is kept after an edit that is felt from there
 abbrev pub Keeps : Plan → Asked → Option Mark → Need → Type 0

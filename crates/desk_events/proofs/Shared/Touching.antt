@@ -19,10 +19,10 @@ use Rattle.schedule.specs.Plan.{Plan}
 use Rattle.schedule.specs.Scratch.{cells_at, own_cells}
 use Rattle.schedule.specs.Sound.{IsSound}
 use Rattle.schedule.proofs.Shared.Acts.{acts-from}
-use Rattle.dependency_book.specs.declared.touched.Touched.{Touched}
-use Rattle.dependency_book.specs.Felt.{added, first_touched, moved, removed, touched_by}
-use Rattle.dependency_book.proofs.Tests.{clash, either_way, eq_false, eq_true, le_true, true_eq}
-use Rattle.dependency_book.proofs.Walk.{own_cells-other}
+use Rattle.desk_events.specs.declared.touched.Touched.{Touched}
+use Rattle.desk_events.specs.Felt.{added, first_touched, moved, removed, touched_by}
+use Rattle.desk_events.proofs.Shared.Tests.{clash, either_way, eq_false, eq_true, le_true, true_eq}
+use Rattle.desk_events.proofs.Shared.Walk.{own_cells-other}
 
 -- two lists set the same cells but where what is touched acts, before or after; and where nothing
 -- is touched they are the same

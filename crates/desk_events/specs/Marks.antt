@@ -10,7 +10,7 @@ use Rattle.schedule.specs.Acts.{generations_to}
 use Rattle.schedule.specs.Branches.{fork_of, parent_of, reach}
 use Rattle.schedule.specs.Plan.{Plan}
 use Rattle.schedule.specs.Scratch.{acts_at}
-use Rattle.dependency_book.specs.declared.mark.Mark.{Mark}
+use Rattle.desk_events.specs.declared.mark.Mark.{Mark}
 
 -- generation g of branch b
 abbrev pub mark_at : ℕ → ℕ → Mark

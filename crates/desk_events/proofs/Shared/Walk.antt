@@ -20,11 +20,11 @@ use Rattle.schedule.specs.Sound.{IsSound}
 use Rattle.schedule.proofs.Shared.Reach.{reach-greatest}
 use Rattle.schedule.proofs.Shared.Branches.{forks_rise}
 use Rattle.schedule.proofs.Shared.Lines.{arrival-undisturbed}
-use Rattle.dependency_book.specs.declared.mark.Mark.{Mark}
-use Rattle.dependency_book.specs.Marks.{ComesBefore, acts_within, forks_at, is_mark, is_start, mark_at, stands_at}
-use Rattle.dependency_book.proofs.Listed.{all_both, any_so, each_found}
-use Rattle.dependency_book.proofs.Placed.{mark_placed}
-use Rattle.dependency_book.proofs.Tests.{le_true, true_eq, true_le}
+use Rattle.desk_events.specs.declared.mark.Mark.{Mark}
+use Rattle.desk_events.specs.Marks.{ComesBefore, acts_within, forks_at, is_mark, is_start, mark_at, stands_at}
+use Rattle.desk_events.proofs.Shared.Listed.{all_both, any_so, each_found}
+use Rattle.desk_events.proofs.Shared.Marks.{mark_placed}
+use Rattle.desk_events.proofs.Shared.Tests.{le_true, true_eq, true_le}
 
 pub own_cells-other : (i : Intervention) (b g : ℕ) → acts_at i b g ≡ false → own_cells i b g ≡ []
 own_cells-other i b g apart = cond-false (acts_at i b g) i.cells [] apart

@@ -1,0 +1,120 @@
+-- The desk of the law that a book shows.
+use Rattle.std.proofs.Common.{ℕ, ◌≡◌, ◌∙◌, Bool, true, false, List, refl, sym, ap, subst, Some}
+use Rattle.std.specs.Prelude.{IfSome, if◌then◌else◌}
+use Rattle.std.proofs.Math.Path.{fun_ext}
+use Rattle.worlds.specs.World.{World}
+use Rattle.schedule.specs.Plan.{Plan}
+use Rattle.revision_jobs.specs.declared.answer.Job.{Job}
+use Rattle.revision_jobs.specs.Value.{Value, pattern, text}
+use Rattle.desk_events.specs.declared.need.Need.{Need}
+use Rattle.desk_events.specs.Core.{Core, Row, arrival_in, awaits, put, world_in}
+use Rattle.desk_events.specs.Entry.{Entry, value}
+use Rattle.desk_events.specs.Needs.{is_need}
+use Rattle.desk_events.specs.Right.{Stands}
+use Rattle.desk_events.proofs.Shared.Gives.{Arrives}
+use Rattle.desk_events.proofs.Shared.Right as right_core
+use Rattle.dependency_book.specs.declared.row.RowState.{RowState}
+use Rattle.dependency_book.specs.declared.row.RowState.TheVariants.{Empty, Expected, Known}
+use Rattle.dependency_book.specs.BookState.{BookState, arrival_known, arrival_row, expected, row_of, text_row}
+use Rattle.dependency_book.specs.Core.{core_of, plain_row}
+use Rattle.dependency_book.specs.Puts.{Puts}
+use Rattle.dependency_book.specs.Right.{IsRight}
+use Rattle.dependency_book.specs.RowState.{job_of, known, state_map}
+use Rattle.dependency_book.specs.Said.{said_at}
+use Rattle.schedule.specs.declared.document.Bookmark.{Bookmark}
+use Rattle.desk_events.specs.Wanted.{bookmark_in, text_wanted, wanted}
+use Rattle.desk_events.proofs.Shared.Needs.{need_same}
+use Rattle.schedule.specs.Scratch.{scratch}
+use Rattle.desk_events.specs.declared.need.Need.TheVariants.{View}
+
+abbrev core : Plan → List Entry → (Need → Row) → Core
+core p es rows = record { plan = p; entries = es; rows = rows }
+
+-- desks of equal parts
+pub same_core : (p q : Plan) (es fs : List Entry) (r s : Need → Row) → p ≡ q → es ≡ fs
+    → ((need : Need) → r need ≡ s need) → core p es r ≡ core q fs s
+same_core p q es fs r s plan entries rows =
+    ap (λ x. core x es r) plan ∙ ap (λ x. core q x r) entries ∙ ap (core q fs) (fun_ext rows)
+
+pub plain_if : (b : Bool) (x y : RowState Value)
+    → plain_row (if b then x else y) ≡ (if b then plain_row x else plain_row y)
+plain_if true x y = refl
+plain_if false x y = refl
+
+-- after something was put in a row
+pub put_core : (d e : BookState) (need : Need) (s : RowState Value) → Puts need s d e
+    → core_of e ≡ put need (plain_row s) (core_of d)
+put_core d e need s puts =
+    same_core e.plan d.plan e.entries d.entries (λ other. plain_row (row_of e other))
+    (λ other. if is_need need other then plain_row s else plain_row (row_of d other)) puts.book.document.plan
+    puts.book.entries
+    (λ other. ap plain_row (puts.rows other) ∙ plain_if (is_need need other) s (row_of d other))
+
+-- what a book knows to arrive, its desk does
+pub arrives_same : (d : BookState) → arrival_known d ≡ arrival_in (core_of d)
+arrives_same d = fun_ext (λ m. of_state (arrival_row d m))
+  where
+    of_state : (s : RowState World) → known s ≡ world_in (plain_row (state_map pattern s))
+    of_state Empty = refl
+    of_state (Expected job) = refl
+    of_state (Known w) = refl
+
+pub known_arrives : (d : BookState) → IsRight d → Arrives (arrival_known d) d.plan
+known_arrives d right =
+    subst (λ f. Arrives f d.plan) (sym (arrives_same d)) (right_core.known_arrives (core_of d) right.core)
+
+-- what is known is what is wanted
+pub known_wanted : (d : BookState) (need : Need) (v : Value) → IsRight d → row_of d need ≡ Known v
+    → wanted d.plan need ≡ Some v
+known_wanted d need v right is =
+    subst (Stands d.entries d.plan need) (ap plain_row is) (right.core.stands need)
+
+-- a row that expects a job
+
+pub expected_state : (d : BookState) (need : Need) (job : Job) → expected d need ≡ Some job
+    → row_of d need ≡ Expected job
+expected_state d need job out = of_state (row_of d need) out
+  where
+    of_state : (s : RowState Value) → job_of s ≡ Some job → s ≡ Expected job
+    of_state Empty h = absurd cc
+    of_state (Expected other) h = let same : other ≡ job = cc in ap (λ j. Expected j) same
+    of_state (Known v) h = absurd cc
+
+pub awaited : (d : BookState) (need : Need) (job : Job) → expected d need ≡ Some job
+    → (core_of d).rows need ≡ awaits job.number
+awaited d need job out = ap plain_row (expected_state d need job out)
+
+-- of one number there is one
+pub once : (d : BookState) (a b : Need) (i j : Job) → IsRight d → expected d a ≡ Some i → expected d b ≡ Some j
+    → i.number ≡ j.number → a ≡ b
+once d a b i j right here there same =
+    right.core.once a b i.number (awaited d a i here) (awaited d b j there ∙ ap awaits (sym same))
+
+-- its entry gives what is wanted
+pub expected_wants : (d : BookState) (need : Need) (job : Job) → IsRight d → expected d need ≡ Some job
+    → wanted d.plan need ≡ Some (value (said_at job.place))
+expected_wants d need job right out =
+    let h = subst (Stands d.entries d.plan need) (awaited d need job out) (right.core.stands need) in
+    let one : Some h.entry ≡ Some (said_at job.place) = sym h.there ∙ (right.out need job out).entry in
+    let entry : h.entry ≡ said_at job.place = cc in
+    h.gives ∙ ap (λ e. Some (value e)) entry
+
+-- a text that is known is the one that starting over gives
+pub text_scratch : (d : BookState) (id : ℕ) (b : Bookmark) → IsRight d → bookmark_in d.plan.bookmarks id ≡ Some b
+    → IfSome (known (text_row d id)) (λ bytes. bytes ≡ scratch d.plan b)
+text_scratch d id b right there = of_state (text_row d id) (λ v is. known_wanted d (View id) v right is)
+  where
+    of_state : (s : RowState (List ℕ))
+        → ((v : Value) → state_map text s ≡ Known v → wanted d.plan (View id) ≡ Some v)
+        → IfSome (known s) (λ bytes. bytes ≡ scratch d.plan b)
+    of_state Empty wants = tt
+    of_state (Expected job) wants = tt
+    of_state (Known found) wants =
+        let one : Some (text (scratch d.plan b)) ≡ Some (text found) = sym (ap (text_wanted d.plan) there)
+        ∙ wants (text found) refl in
+        let same : scratch d.plan b ≡ found = cc in
+        sym same
+
+-- what was put stands there
+pub put_there : (need : Need) (row : Row) (c : Core) → (put need row c).rows need ≡ row
+put_there need row c = rw (need_same need) refl

@@ -1,0 +1,12 @@
+pub mod Configuration
+pub mod Core
+pub mod Entered
+pub mod Entry
+pub mod Event
+pub mod Felt
+pub mod Kept
+pub mod Law
+pub mod Marks
+pub mod Needs
+pub mod Right
+pub mod Wanted

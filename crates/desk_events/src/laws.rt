@@ -1,0 +1,16 @@
+//! Laws of the definitions, each the contract of a function that does nothing.
+ghost use Rattle.desk_events.specs.Law.{CallsAreEvents, ShowsOnlyScratch, StaysRight};
+
+/// Whatever happens to a desk and to whoever works its jobs, in whatever order, with jobs and
+/// answers that are lost, late or repeated: what the desk knows and expects is right, and a bookmark
+/// is current with the text that starting over gives for the present document, or pending.
+pub fn whatever_happens_the_desk_is_right()
+    ensures right { StaysRight }
+    ensures shown { ShowsOnlyScratch }
+{}
+
+/// Whatever calls are made on a desk that was opened, one after another, with answers that have the
+/// value of their number's entry or none: some list of events leads to the desk that they leave.
+pub fn calls_are_events()
+    ensures { CallsAreEvents }
+{}
