@@ -358,7 +358,7 @@ impl<'e> Bench<'e> {
             number,
             place: place.share(),
         };
-        self.book.expect(&next, out);
+        self.book.expect(&next, out).expect(rt, "memory");
         let answer = self.worked(Job { number, place });
         self.before = mem::replace(&mut self.last, Some(answer));
     }

@@ -28,7 +28,7 @@ struct Scene<'e> {
     post: Unruly<'e>,
     ghost own: { desk.table ≡ entries.now },
     ghost posted: { post.first.table ≡ entries.now },
-    ghost floor: { post.floor ≤ desk.given },
+    ghost floor: { post.floor ≤ given_of desk },
 }
 
 impl<'e> Scene<'e> {

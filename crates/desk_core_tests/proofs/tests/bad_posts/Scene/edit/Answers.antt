@@ -1,20 +1,19 @@
-use Rattle.std.proofs.Common.{◌≡◌, ◌≤◌, ◌∙◌, ap, subst, sym, Result, Ok, Err}
+use Rattle.std.proofs.Common.{◌≡◌, ◌≤◌, ◌∙◌, length, ap, subst, sym, Result, Ok, Err}
 use Rattle.std.specs.Prelude.{IfOk, OnErr}
 use Rattle.schedule.specs.declared.edit.Edited.{Edited}
 use Rattle.schedule.specs.declared.fault.EditFault.{EditFault}
 use Rattle.schedule.specs.Asked.{Asked}
-use Rattle.dependency_book.specs.BookState.{BookState}
-use Rattle.dependency_book.proofs.Shared.Recalling.{recalls_book}
+use Rattle.dependency_book.specs.BookState.{BookState, given_of}
 use Rattle.desk_core.specs.Edited.{Makes}
 use Rattle.desk_core_tests.proofs.tests.bad_posts.Scene.edit.Goals as goal
 
 -- an edit leaves a desk its table, and how many numbers were given
-stays : (r : Result Edited EditFault) (old new : BookState) (asked : Asked) → IfOk r (Makes asked old new) → OnErr r (new ≡ old) → (new.table ≡ old.table) × (new.given ≡ old.given)
+stays : (r : Result Edited EditFault) (old new : BookState) (asked : Asked) → IfOk r (Makes asked old new) → OnErr r (new ≡ old) → (new.table ≡ old.table) × (given_of new ≡ given_of old)
 stays (Ok edited) old new asked h same = (
   h.table,
-  (recalls_book h.revises.kept new h.revises.recalls).given ∙ h.revises.keeps.keeps.given,
+  ap (λ es. length es) h.entries,
 )
-stays (Err fault) old new asked h same = (ap (λ (d : BookState). d.table) same, ap (λ (d : BookState). d.given) same)
+stays (Err fault) old new asked h same = (ap (λ (d : BookState). d.table) same, ap given_of same)
 
 pub invariant_of-self : goal.invariant_of-self
 invariant_of-self g c =
