@@ -1,5 +1,5 @@
 -- Marks and bookmarks by the places of their rows.
-use Rattle.std.proofs.Common.{◌≡◌, ℕ, zero, suc, ◌-◌, ◌<◌, ◌≤◌, ◌^◌, ◌∙◌, true, false, nat_lt, List, [], ◌∷◌, length, get_or, refl, sym, ap, subst, arith, inl, inr, Option, None, Some}
+use Rattle.std.proofs.Common.{◌≡◌, ℕ, zero, suc, ◌<◌, ◌≤◌, ◌^◌, ◌∙◌, true, false, nat_lt, List, [], ◌∷◌, length, get_or, refl, sym, ap, subst, arith, inl, inr, Option, None, Some}
 use Rattle.std.specs.Prelude.{◌==◌, ◌||◌, IfSome}
 use Rattle.std.specs.Option.{option_map_or}
 use Rattle.std.specs.List.{AllByRecursion}

@@ -3,7 +3,6 @@ use Rattle.std.proofs.Common.{◌≡◌, ℕ, ◌<◌, ◌∙◌, List, [], ◌�
 use Rattle.std.specs.Prelude.{◌==◌, IfSome, IsSome}
 use Rattle.schedule.specs.declared.document.Bookmark.{Bookmark}
 use Rattle.schedule.specs.Scratch.{scratch}
-use Rattle.revision_jobs.specs.Value.{text}
 use Rattle.dependency_book.specs.declared.row.RowState.TheVariants.{Empty}
 use Rattle.dependency_book.specs.BookState.{BookState, text_row}
 use Rattle.desk_events.specs.Wanted.{bookmark_in}

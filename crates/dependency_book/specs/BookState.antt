@@ -1,8 +1,7 @@
 -- What a book knows: its document, the worlds that arrive at marks and the texts of bookmarks, and
 -- which jobs are out for others.
-use Rattle.std.specs.Prelude.{◌≡◌, ℕ, ◌+◌, Bool, not, List, [], ◌∷◌, length, Option, None, Some, IfSome, count_by, if◌then◌else◌, ◌==◌}
+use Rattle.std.specs.Prelude.{◌≡◌, ℕ, ◌+◌, Bool, not, List, [], length, Option, None, Some, IfSome, count_by, if◌then◌else◌}
 use Rattle.worlds.specs.World.{World}
-use Rattle.schedule.specs.declared.document.Bookmark.{Bookmark}
 use Rattle.schedule.specs.Plan.{Plan, opening}
 use Rattle.revision_jobs.specs.declared.answer.Job.{Job}
 use Rattle.revision_jobs.specs.declared.entries.Entries.{Entries}

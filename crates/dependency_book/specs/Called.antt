@@ -1,5 +1,5 @@
 -- Which events of the law the calls of a book are.
-use Rattle.std.specs.Prelude.{◌≡◌, ℕ, ◌+◌, ◌++◌, List, [], ◌∷◌, Option}
+use Rattle.std.specs.Prelude.{◌≡◌, ℕ, ◌+◌, ◌++◌, [], ◌∷◌, Option}
 use Rattle.schedule.specs.Asked.{Asked}
 use Rattle.revision_jobs.specs.declared.answer.Job.{Job}
 use Rattle.revision_jobs.specs.Answer.{JobResult}
@@ -19,8 +19,8 @@ pub record IsEdit (asked : Asked) (old new : BookState) : Type 0 where
   pub felt : Option Mark
   pub event : Calls (edits asked felt) (core_of old) (core_of new)
 
--- a job is issued for a need: the row expects it, and no other changes; its number was given for its
--- entry
+-- a job is issued for a need: the row expects it, and no other changes; its number was given for
+-- its entry
 pub record IsIssue (need : Need) (job : Job) (old new : BookState) : Type 0 where
   pub rows : (other : Need) → row_of new other ≡ issued need job other (row_of old other)
   pub document : SameDocument old new

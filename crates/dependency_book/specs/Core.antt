@@ -1,5 +1,4 @@
 -- The desk of the law that a book shows.
-use Rattle.std.specs.Prelude.{◌≡◌}
 use Rattle.revision_jobs.specs.Value.{Value}
 use Rattle.desk_events.specs.Core.{Core, Row, awaits, holds, nothing}
 use Rattle.dependency_book.specs.declared.row.RowState.{RowState}

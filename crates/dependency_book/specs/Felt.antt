@@ -1,23 +1,15 @@
 -- What acts at a mark after an edit, and whether the edit of a book's document is felt there.
-use Rattle.std.specs.Prelude.{◌≡◌, ◌⊎◌, ℕ, ◌≤◌, min, Bool, true, false, ◌&&◌, List, [], ◌++◌, Option, None, Some, if◌then◌else◌, ◌==◌, flat_map}
-use Rattle.std.specs.Option.{option_map}
+use Rattle.std.specs.Prelude.{ℕ, ◌&&◌, List, [], ◌++◌, Option, if◌then◌else◌, ◌==◌, flat_map}
 use Rattle.worlds.specs.declared.cell.CellSet.{CellSet}
-use Rattle.worlds.specs.World.{World}
-use Rattle.worlds.specs.Lay.{lay}
 use Rattle.schedule.specs.declared.acts.Acts.{Acts}
 use Rattle.schedule.specs.declared.acts.Acts.TheVariants.{Once, Every}
 use Rattle.schedule.specs.declared.document.Intervention.{Intervention}
-use Rattle.schedule.specs.Acts.{acts_on, first_of}
-use Rattle.schedule.specs.Branches.{element_at, reach}
-use Rattle.schedule.specs.Ids.{intervention_id}
-use Rattle.schedule.specs.Plan.{Plan}
+use Rattle.schedule.specs.Acts.{acts_on}
 use Rattle.schedule.specs.Asked.{Asked, InsertIntervention, ChangeIntervention, InsertRepeat, ChangeRepeat, RemoveIntervention, SetCells, ReplaceStart, ReplaceRule, AddBookmark, MoveBookmark, RemoveBookmark, AddBranch, RemoveBranch}
 use Rattle.schedule.specs.Change.{acting, changed}
-use Rattle.schedule.specs.Scratch.{own_cells, cells_at}
+use Rattle.schedule.specs.Scratch.{own_cells}
 use Rattle.desk_events.specs.declared.mark.Mark.{Mark}
-use Rattle.desk_events.specs.declared.touched.Touched.{Touched}
 use Rattle.dependency_book.specs.BookState.{BookState, arrival_known}
-use Rattle.desk_events.specs.Marks.{mark_at}
 use Rattle.desk_events.specs.Felt.{IsUnfeltAt, IsUnfeltWhere, IsUnfelt, IsFelt}
 
 -- the cells that an intervention sets at a mark

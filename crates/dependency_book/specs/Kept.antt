@@ -1,15 +1,14 @@
 -- What an edit keeps of what is known.
-use Rattle.std.specs.Prelude.{◌≡◌, ℕ, Bool, true, false, not, ◌&&◌, nat_lt, List, Option, None, Some, if◌then◌else◌, ◌==◌}
+use Rattle.std.specs.Prelude.{◌≡◌, ℕ, Bool, ◌&&◌, List, Option, None, Some, if◌then◌else◌, ◌==◌}
 use Rattle.worlds.specs.World.{World}
 use Rattle.schedule.specs.declared.document.Bookmark.{Bookmark}
 use Rattle.schedule.specs.declared.branch.Branch.{Branch}
-use Rattle.schedule.specs.History.{is_felt}
 use Rattle.schedule.specs.Plan.{Plan}
-use Rattle.schedule.specs.Asked.{Asked, InsertIntervention, ChangeIntervention, InsertRepeat, ChangeRepeat, RemoveIntervention, SetCells, ReplaceStart, ReplaceRule, AddBookmark, MoveBookmark, RemoveBookmark, AddBranch, RemoveBranch}
+use Rattle.schedule.specs.Asked.{Asked}
 use Rattle.dependency_book.specs.declared.row.RowState.{RowState}
 use Rattle.dependency_book.specs.declared.row.RowState.TheVariants.{Empty, Known}
 use Rattle.desk_events.specs.declared.mark.Mark.{Mark}
-use Rattle.desk_events.specs.Marks.{bookmark_mark, is_mark, is_start}
+use Rattle.desk_events.specs.Marks.{bookmark_mark, is_start}
 use Rattle.dependency_book.specs.BookState.{BookState, arrival_row, arrival_known, text_row}
 use Rattle.desk_events.specs.Wanted.{bookmark_in}
 use Rattle.desk_events.specs.Felt.{IsFelt}

@@ -1,5 +1,5 @@
 -- What is put in the row of a need.
-use Rattle.std.specs.Prelude.{◌≡◌, ℕ, ◌+◌, ◌&&◌, not, Bool, true, false, Result, Ok, Err, if◌then◌else◌, cond, IfSome}
+use Rattle.std.specs.Prelude.{◌≡◌, ℕ, ◌+◌, ◌&&◌, not, Bool, true, Result, Ok, Err, if◌then◌else◌, cond, IfSome}
 use Rattle.step_engine.specs.declared.evolved.EvolveFault.{EvolveFault}
 use Rattle.schedule.specs.Ids.{has_id, bookmark_id}
 use Rattle.schedule.specs.Plan.{Plan}

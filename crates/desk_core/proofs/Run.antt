@@ -1,5 +1,5 @@
 -- Calls on a desk are calls on the desk of the law that it shows.
-use Rattle.std.proofs.Common.{◌≡◌, ℕ, List, [], ◌∷◌, ap, subst, sym}
+use Rattle.std.proofs.Common.{List, [], ◌∷◌, ap, subst}
 use Rattle.desk_events.specs.Core.{Core}
 use Rattle.desk_events.specs.Law as core
 use Rattle.desk_events.specs.Right.{IsShown}

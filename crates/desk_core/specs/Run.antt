@@ -12,8 +12,8 @@ abbrev pub AreCalls : List BookState → BookState → BookState → Type 0
 AreCalls [] c e = e ≡ c
 AreCalls (d ∷ ds) c e = IsCall (core_of c) (core_of d) × AreCalls ds d e
 
--- since it was opened: each bookmark is shown with the text that starting over gives for the present
--- document, or as pending
+-- since it was opened: each bookmark is shown with the text that starting over gives for the
+-- present document, or as pending
 abbrev pub ShowsOnlyScratch : Type 0
 ShowsOnlyScratch =
     (table : Entries) (revision : ℕ) (desks : List BookState) (d : BookState)

@@ -1,3 +1,4 @@
 pub mod Alike
+pub mod Example
 pub mod Leaves
 pub mod Shared

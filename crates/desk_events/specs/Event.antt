@@ -17,9 +17,9 @@ use Rattle.desk_events.specs.Kept.{keeps}
 use Rattle.desk_events.specs.Marks.{is_start, mark_at}
 use Rattle.desk_events.specs.Needs.{step_to}
 
--- an edit is asked, which is felt from some mark on; a job with an entry is issued for a need, under
--- the next number; an answer is collected; the job of a number is cancelled; or what came of a step
--- under an earlier number is entered for a mark
+-- an edit is asked, which is felt from some mark on; a job with an entry is issued for a need,
+-- under the next number; an answer is collected; the job of a number is cancelled; or what came of a
+-- step under an earlier number is entered for a mark
 pub data Event : Type 0 where
   edits : Asked → Option Mark → Event
   issues : Need → Entry → Event
@@ -99,7 +99,8 @@ pub record CanIssue (c : Core) (need : Need) (entry : Entry) : Type 0 where
   pub few : length c.entries < 16777216
 
 -- what came of a step may be entered for a mark: nothing stands there, the step is the entry of an
--- earlier number, and it is the one that is to be computed for the mark, whatever its rule is called
+-- earlier number, and it is the one that is to be computed for the mark, whatever its rule is
+-- called
 pub record CanRecall (c : Core) (mark : Mark) (number : ℕ) (s : Stepping) : Type 0 where
   pub empty : c.rows (step_to mark) ≡ nothing
   pub earlier : slice_get c.entries number ≡ Some (steps s)

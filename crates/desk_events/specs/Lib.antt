@@ -3,6 +3,7 @@ pub mod Core
 pub mod Entered
 pub mod Entry
 pub mod Event
+pub mod Example
 pub mod Felt
 pub mod Kept
 pub mod Law

@@ -1,5 +1,5 @@
 -- How many numbers were given.
-use Rattle.std.proofs.Common.{◌≡◌, ℕ, ◌+◌, ◌∙◌, [], ◌∷◌, length, length-append, ap}
+use Rattle.std.proofs.Common.{◌≡◌, ◌+◌, ◌∙◌, [], ◌∷◌, length, length-append, ap}
 use Rattle.revision_jobs.specs.declared.answer.Job.{Job}
 use Rattle.desk_events.specs.declared.need.Need.{Need}
 use Rattle.dependency_book.specs.BookState.{BookState, given_of}

@@ -1,5 +1,6 @@
 //! Desks over posts that lose, repeat, delay and reorder answers, and jobs that are stopped.
 ghost use Rattle.std.specs.Prelude.{◌≡◌, ◌≤◌};
+ghost use Rattle.dependency_book.specs.BookState.{given_of};
 
 use super::changes::{Change, edit_of};
 use super::same;

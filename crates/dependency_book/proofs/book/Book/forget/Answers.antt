@@ -1,7 +1,7 @@
 use Rattle.std.proofs.Common.{sym, subst, Some}
 use Rattle.revision_jobs.specs.declared.entries.Place.{Place}
 use Rattle.dependency_book.specs.Jobs.{IsForgotten}
-use Rattle.dependency_book.proofs.Working.{cancel_is, cancels_none, may_free, put_cancels}
+use Rattle.dependency_book.proofs.Working.{cancel_is, may_free, put_cancels}
 use Rattle.dependency_book.proofs.book.Book.forget.Goals as goal
 
 pub returns-in_err-need-clause-right : goal.returns-in_err-need-clause-right

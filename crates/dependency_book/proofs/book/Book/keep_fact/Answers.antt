@@ -1,6 +1,6 @@
 use Rattle.std.proofs.Common.{◌≡◌, ◌∙◌, Some, ap, refl, subst, sym}
 use Rattle.std.specs.Prelude.{slice_get}
-use Rattle.desk_events.specs.Entry.{Entry, steps}
+use Rattle.desk_events.specs.Entry.{steps}
 use Rattle.dependency_book.specs.BookState.{BookState}
 use Rattle.dependency_book.specs.Inside.{state_of}
 use Rattle.dependency_book.specs.Right.{IsGiven}

@@ -7,7 +7,7 @@ use Rattle.revision_jobs.specs.declared.entries.Place.{Place}
 use Rattle.revision_jobs.specs.Entries.{IsOf}
 use Rattle.step_facts.specs.Known.{Fact, known}
 use Rattle.desk_events.specs.Entry.{Entry}
-use Rattle.dependency_book.specs.BookState.{BookState, opened}
+use Rattle.dependency_book.specs.BookState.{BookState}
 use Rattle.dependency_book.specs.Cursor.{HasPassed}
 use Rattle.dependency_book.specs.Held.{IsHeld}
 use Rattle.dependency_book.specs.Recalled.{AreGiven}
