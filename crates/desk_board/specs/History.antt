@@ -1,31 +1,35 @@
--- The history of a board: each snapshot that was published, in order.
-use Rattle.std.specs.Prelude.{◌≡◌, ℕ, List, [], ◌∷◌, ◌++◌, Result, MatchResult}
-use Rattle.std.specs.Arc.{arc_value}
-use mathlib.Core.Option.{some}
+-- The history of a board: the snapshots that were published, in order.
+use Rattle.std.specs.Prelude.{◌≡◌, ◌<◌, List, [], ◌∷◌, ◌++◌, length}
 use mathlib.Core.List.{IsPrefix}
-use lib.ListN.{get_elem?}
+use Rattle.logbook.specs.Pages.{Book}
 use Rattle.desk_board.specs.Picture.{Picture}
-use Rattle.desk_board.specs.Pasts.{list_of}
-use Rattle.desk_board.specs.declared.latest.Latest.{Latest}
 
--- the last member of the history is s
-abbrev pub EndsWith : List Picture → Picture → Type 0
-EndsWith h s = (before : List Picture) × (h ≡ before ++ s ∷ [])
+-- a board, and its history as far as it is known
+pub record History : Type 0 where
+  pub board : Book
+  pub pictures : List Picture
 
--- what was published before, and the latest
-abbrev pub history_of : Latest → List Picture
-history_of x = list_of x.past ++ arc_value x.snapshot ∷ []
+abbrev pub history : Book → List Picture → History
+history board pictures = record { board = board; pictures = pictures }
 
--- each thread knows a beginning of the history
-abbrev pub Keeps : Latest → List (List Picture) → Type 0
-Keeps x views =
-    (seat : ℕ) (v : List Picture) → get_elem? views seat ≡ some v → IsPrefix v (history_of x)
+-- nothing of it
+abbrev pub unseen : Book → History
+unseen board = history board []
 
--- afterwards the thread knows the history, which goes on from what it knew
-abbrev pub Sees : List Picture → Latest → Latest → List Picture → Type 0
-Sees v x y w = IsPrefix v w × (w ≡ history_of y)
+-- it, and one snapshot more
+abbrev pub and_then : History → Picture → History
+and_then h s = history h.board (h.pictures ++ s ∷ [])
 
--- afterwards the history is that of the next, or as it was where that was refused
-abbrev pub GoesOn : {T E : Type 0} → Latest → Latest → Latest → Result T E → Type 0
-GoesOn next old new result =
-    MatchResult result (λ _. history_of new ≡ history_of next) (λ _. history_of new ≡ history_of old)
+-- the last snapshot is s
+abbrev pub EndsWith : History → Picture → Type 0
+EndsWith h s = (before : List Picture) × (h.pictures ≡ before ++ s ∷ [])
+
+-- both are of one board, and the second goes on from the first
+pub record Begins (h k : History) : Type 0 where
+  pub board : k.board ≡ h.board
+  pub goes_on : IsPrefix h.pictures k.pictures
+
+-- the same, and the second has more
+pub record Precedes (h k : History) : Type 0 where
+  pub begins : Begins h k
+  pub more : length h.pictures < length k.pictures

@@ -1,5 +1,5 @@
 pub mod Picture
-pub mod Pasts
 pub mod History
-pub mod Sight
+pub mod Log
+pub mod Copies
 pub mod Faults

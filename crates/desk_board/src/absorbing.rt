@@ -1,69 +1,64 @@
 //! How a history goes on, and how a copy takes in what comes next.
-ghost use Rattle.std.specs.Prelude.{◌≡◌, ◌+◌, ◌++◌, ◌∷◌, [], length, IfOk, IfSome};
+ghost use Rattle.std.specs.Prelude.{◌≡◌, IfOk, IfSome};
 ghost use Rattle.std.specs.Arc.{arc_value};
-ghost use Rattle.desk_board.specs.Pasts.{list_of};
-ghost use Rattle.desk_board.specs.History.{history_of};
+ghost use Rattle.desk_board.specs.History.{EndsWith, and_then};
+ghost use Rattle.desk_board.specs.Log.{head_of};
 
+use crate::history::Counter;
 use crate::latest::Latest;
-use crate::past::Past;
+use crate::receipt::Receipt;
 use crate::snapshots::Snapshot;
 use left_right::Absorb;
 use std::alloc::{AllocError, Global};
 use std::sync::Arc;
 
 impl Latest {
-    /// The first of a history.
-    pub(crate) fn first(snapshot: Arc<Snapshot, Global>) -> Latest
-        ensures { history_of result ≡ arc_value snapshot ∷ [] }
-    {
-        Latest {
-            count: 1,
-            snapshot,
-            past: Past::new(),
-        }
-    }
-
     /// The same, by one more owner of the snapshot.
     pub(crate) fn again(&self) -> Result<Latest, AllocError>
-        ensures { IfOk result (λ latest. history_of latest ≡ history_of self.now) }
+        ensures { IfOk result (λ latest. latest ≡ self.now) }
     {
         Ok(Latest {
-            count: self.count,
             snapshot: Arc::try_clone(&self.snapshot)?,
-            past: self.past.again(),
+            receipt: self.receipt.again(),
         })
     }
 
-    /// The history with one more snapshot. None where it can't be counted any more.
-    pub(crate) fn next(&self, snapshot: Arc<Snapshot, Global>) -> Option<Latest>
-        ensures { IfSome result
-            (λ latest. history_of latest ≡ history_of self.now ++ arc_value snapshot ∷ []) }
+    /// One more snapshot behind the history that ends with these. None where that can't be counted
+    /// any more.
+    pub(crate) fn after(
+        receipt: &Receipt,
+        counter: &Counter,
+        snapshot: Arc<Snapshot, Global>,
+    ) -> Option<Latest>
+        requires { counter.now ≡ head_of receipt.now.board }
+        ensures { IfSome result (λ latest. latest ≡ and_then receipt.now (arc_value snapshot)) }
     {
-        let count = self.count.checked_add(1)?;
-        let past = self.past.and(&self.snapshot);
-        Some(Latest {
-            count,
-            snapshot,
-            past,
-        })
+        let receipt = receipt.and(counter, &snapshot)?;
+        Some(Latest { snapshot, receipt })
     }
 
-    /// How long the history is.
-    pub(crate) fn count(&self) -> u64
-        ensures { result ≡ length (history_of self.now) }
+    /// The snapshot.
+    pub(crate) fn snapshot(&self) -> &Snapshot
+        ensures { EndsWith self.now result.now }
     {
-        self.count
+        &self.snapshot
+    }
+
+    /// The receipt for it.
+    pub(crate) fn receipt(&self) -> &Receipt
+        ensures { result.now ≡ self.now }
+    {
+        &self.receipt
     }
 }
 
 /// What is published next takes the place of what was there.
 impl Absorb<Latest> for Latest {
-    // A clause reads it as a list: the history.
-    type State = [Snapshot; 0];
+    type State = Latest;
 
-    ghost state = { λ latest. history_of latest };
+    ghost state = { λ latest. latest };
 
-    ghost applied = { λ _ next. history_of next };
+    ghost applied = { λ _ next. next };
 
     fn absorb_first(&mut self, operation: &Latest, _other: &Latest) -> Result<(), AllocError> {
         *self = operation.again()?;

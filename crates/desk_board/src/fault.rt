@@ -24,24 +24,44 @@ pub enum PublishFault {
 }
 
 impl From<AllocError> for BoardFault {
+    ghost use Rattle.std.specs.Prelude.{◌≡◌};
+    ghost use Rattle.desk_board.specs.declared.fault.BoardFault.TheVariants.{NoMemory};
+
+    ghost from_gives = { λ _ fault. fault ≡ NoMemory };
+
     fn from(_error: AllocError) -> BoardFault {
         BoardFault::NoMemory
     }
 }
 
 impl<T: Drop> From<AllocFailed<T>> for BoardFault {
+    ghost use Rattle.std.specs.Prelude.{◌≡◌};
+    ghost use Rattle.desk_board.specs.declared.fault.BoardFault.TheVariants.{NoMemory};
+
+    ghost from_gives = { λ _ fault. fault ≡ NoMemory };
+
     fn from(_error: AllocFailed<T>) -> BoardFault {
         BoardFault::NoMemory
     }
 }
 
 impl From<AllocError> for PublishFault {
+    ghost use Rattle.std.specs.Prelude.{◌≡◌};
+    ghost use Rattle.desk_board.specs.declared.fault.PublishFault.TheVariants.{NoMemory};
+
+    ghost from_gives = { λ _ fault. fault ≡ NoMemory };
+
     fn from(_error: AllocError) -> PublishFault {
         PublishFault::NoMemory
     }
 }
 
 impl<T: Drop> From<AllocFailed<T>> for PublishFault {
+    ghost use Rattle.std.specs.Prelude.{◌≡◌};
+    ghost use Rattle.desk_board.specs.declared.fault.PublishFault.TheVariants.{NoMemory};
+
+    ghost from_gives = { λ _ fault. fault ≡ NoMemory };
+
     fn from(_error: AllocFailed<T>) -> PublishFault {
         PublishFault::NoMemory
     }

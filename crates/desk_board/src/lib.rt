@@ -4,19 +4,25 @@
 //! A snapshot has a document and a row for each of its bookmarks. Its type keeps that a text in it
 //! is the one that a fresh computation of its own document gives. The board's history is the list
 //! of the snapshots that were published. `publish` adds exactly one to it, or none; a look shows a
-//! snapshot of it, and never one before those that the viewer saw already, or was told of by the
-//! receipt of a publish.
+//! snapshot of it, and never one before those that the viewer saw already, or was told of by a
+//! receipt.
 //!
-//! The history stands in contracts alone: two copies of the latest snapshot are kept, which share
-//! its texts, so a publish costs the same whatever was published before. A look takes no memory and
-//! waits for nobody; a publish may wait for viewers that are looking.
+//! Contracts see the publisher, a viewer and a receipt alike: as a board, and its history as far as
+//! that is known to them. `board` makes them of one board, and each call keeps that. Of what two
+//! know of one board, one begins the other: `Receipt::begins` says which. So what is published,
+//! what viewers are shown and what they are told of is one list.
+//!
+//! The history stands in contracts alone: what runs is a word that counts it, and two copies of the
+//! latest snapshot, which share its texts. So a publish costs the same whatever was published
+//! before. A look takes no memory and waits for nobody; a publish may wait for viewers that are
+//! looking.
 #![tactic(auto)]
 
 mod absorbing;
 mod fault;
+mod history;
 mod latest;
 mod opening;
-mod past;
 mod publisher;
 mod receipt;
 mod row;

@@ -1,39 +1,101 @@
-//! What shows that a snapshot was published.
-ghost use Rattle.std.specs.Prelude.{◌≡◌, length};
+//! What shows that snapshots were published.
+ghost use Rattle.std.specs.Prelude.{◌≡◌, [], length, IfSome, MatchBool};
+ghost use Rattle.desk_board.specs.History.{Begins, Precedes, and_then};
+ghost use Rattle.desk_board.specs.Log.{head_of};
 
-use crate::past::Past;
+use crate::history::{Add, Counter, Fact, HistoryRule, Nothing};
+use crate::snapshots::Snapshot;
+use logbook::{Offer, Seen, Start, Word};
 use std::marker::Model;
 
-/// That a snapshot was published. Contracts see it as the history up to that snapshot.
+/// That snapshots of a board were published. Contracts see it as the board's history up to the
+/// last of them. It holds none of them.
 #[derive(Drop)]
 pub struct Receipt {
-    pub(crate) position: u64,
-    pub(crate) all: Past,
+    position: u64,
+    fact: Fact,
 }
 
 impl Model for Receipt {
-    ghost use Rattle.std.specs.Prelude.{List};
     ghost use Rattle.std.specs.Coded.{codes};
     ghost use Rattle.worlds.specs.World.{coded_world};
-    ghost use Rattle.desk_board.specs.Picture.{Picture};
+    ghost use Rattle.desk_board.specs.History.{History};
 
-    ghost Value = { List Picture };
+    ghost Value = { History };
 
     ghost coded = { Prim.hlevel (codes, coded_world) };
 
     ghost use Rattle.std.specs.Prelude.{◌≡◌, length};
-    ghost use Rattle.desk_board.specs.Pasts.{list_of};
+    ghost use Rattle.desk_board.specs.History.{history};
 
-    ghost view = { λ receipt. list_of receipt.all };
+    ghost view = { λ r. history r.fact.book r.fact.log };
 
-    ghost invariant = { λ receipt. receipt.position ≡ length (list_of receipt.all) };
+    ghost invariant = { λ r. r.position ≡ length r.fact.log };
 }
 
 impl Receipt {
-    /// Where the snapshot stands in the history, counted from 1.
+    /// A board of which nothing is published yet.
+    pub(crate) fn opening() -> (Receipt, Counter)
+        ensures { (result.0.pictures ≡ []) × (result.1 ≡ head_of result.0.board) }
+    {
+        let (fact, mut first, _second) = Seen::open(Start::alone(), 0, 0);
+        let counter = Word::tracked(0, &mut first);
+        (Receipt { position: 0, fact }, counter)
+    }
+
+    /// Of the same snapshots.
+    pub(crate) fn again(&self) -> Receipt
+        ensures { result ≡ self.now }
+    {
+        Receipt {
+            position: self.position,
+            fact: self.fact.again(),
+        }
+    }
+
+    /// Of one more snapshot, which is put behind the history. None where it can't be counted any
+    /// more, or the history has more than this receipt is of.
+    pub(crate) fn and(&self, counter: &Counter, next: &Snapshot) -> Option<Receipt>
+        requires { counter.now ≡ head_of self.now.board }
+        ensures { IfSome result (λ receipt. receipt ≡ and_then self.now next.now) }
+    {
+        let position = self.position.checked_add(1)?;
+        let mut fact = self.fact.again();
+        let mut offer: Offer<Snapshot, u64, HistoryRule, Nothing> = fact.plain::<
+            Nothing,
+            Snapshot,
+            Add,
+        >(next);
+        let mut pen = fact.no_pen();
+        let found = counter.compare_exchange::<Add, Nothing>(
+            self.position,
+            position,
+            &mut fact,
+            &mut offer,
+            &mut pen,
+        );
+        if found != self.position {
+            return None;
+        }
+        Some(Receipt { position, fact })
+    }
+
+    /// Where its last snapshot stands in the history, counted from 1.
     pub fn position(&self) -> u64
-        ensures { result ≡ length self.now }
+        ensures { result ≡ length self.now.pictures }
     {
         self.position
+    }
+
+    /// Whether another receipt of the board is of all that this one is of. If not, this one is of
+    /// more.
+    pub fn begins(&self, other: &Receipt) -> bool
+        requires { other.now.board ≡ self.now.board }
+        ensures { MatchBool result (Begins self.now other.now) (Precedes other.now self.now) }
+    {
+        // One history goes on from both.
+        let mut both = self.fact.again();
+        both.learn(&other.fact);
+        self.position <= other.position
     }
 }

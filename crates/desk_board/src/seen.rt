@@ -3,8 +3,8 @@ ghost use Rattle.std.specs.Prelude.{◌≡◌};
 ghost use Rattle.desk_board.specs.History.{EndsWith};
 
 use crate::latest::Latest;
-use crate::past::Past;
-use crate::rule::{Beginning, BoardRule};
+use crate::receipt::Receipt;
+use crate::rule::{BoardRule, Known};
 use crate::snapshots::Snapshot;
 use crate::viewer::Viewer;
 use left_right::reader::Reading;
@@ -12,50 +12,49 @@ use std::marker::Model;
 
 /// A viewer that is shown a snapshot. It ends by `done`.
 pub struct Seen {
-    pub(crate) reading: Reading<Latest, Beginning, BoardRule>,
-    pub(crate) seen: Past,
-    pub(crate) least: u64,
+    pub(crate) reading: Reading<Latest, Known, BoardRule>,
+    pub(crate) receipt: Receipt,
 }
 
 impl Model for Seen {
     ghost use Rattle.std.specs.Coded.{codes};
     ghost use Rattle.worlds.specs.World.{coded_world};
-    ghost use Rattle.desk_board.specs.Sight.{Sight};
+    ghost use Rattle.desk_board.specs.History.{History};
 
-    ghost Value = { Sight };
+    ghost Value = { History };
 
     ghost coded = { Prim.hlevel (codes, coded_world) };
 
-    ghost use Rattle.desk_board.specs.Pasts.{list_of};
-    ghost use Rattle.desk_board.specs.Sight.{Shows};
+    ghost use Rattle.desk_board.specs.Copies.{Shows};
 
-    ghost view = { λ s. record { seen = list_of s.seen; least = s.least } };
+    ghost view = { λ s. s.receipt };
 
-    ghost invariant = { λ s.
-        Shows (list_of s.seen) s.reading.place.me.0.client s.reading.part.value };
+    ghost invariant = { λ s. Shows s.reading.place.me.0.client s.reading.part.value s.receipt };
 }
 
 impl Seen {
     /// The last snapshot of the history as far as it was seen.
     pub fn snapshot(&self) -> &Snapshot
-        ensures { EndsWith self.now.seen result.now }
+        ensures { EndsWith self.now result.now }
     {
-        &self.reading.get().snapshot
+        self.reading.get().snapshot()
+    }
+
+    /// What shows other viewers of the board that the snapshot was published.
+    pub fn receipt(&self) -> Receipt
+        ensures { result ≡ self.now }
+    {
+        self.receipt.again()
     }
 
     /// Ends the look.
     pub fn done(self) -> Viewer
         ensures { result ≡ self }
     {
-        let Seen {
-            reading,
-            seen,
-            least,
-        } = self;
+        let Seen { reading, receipt } = self;
         Viewer {
             reader: reading.leave(),
-            seen,
-            least,
+            receipt,
         }
     }
 }

@@ -1,7 +1,7 @@
 //! The snapshot of a desk.
 ghost use Rattle.std.specs.Prelude.{◌≡◌, IfOk};
 ghost use Rattle.std.specs.Option.{option_map};
-ghost use Rattle.desk_board.specs.Picture.{picture_of};
+ghost use Rattle.desk_board.specs.Picture.{IsRight, picture_of};
 
 use crate::row::ShownRow;
 use crate::snapshots::Snapshot;
@@ -11,7 +11,8 @@ use std::alloc::{AllocError, Global};
 /// The desk's document as it is now, and a row for each bookmark with what the desk shows of it.
 /// The texts are shared and not copied, in one pass over the desk's rows.
 pub fn snapshot(alloc: Global, desk: &Desk<'_>) -> Result<Snapshot, AllocError>
-    ensures { IfOk result (λ snapshot. snapshot ≡ picture_of desk.now) }
+    ensures desk { IfOk result (λ snapshot. snapshot ≡ picture_of desk.now) }
+    ensures right { IfOk result IsRight }
 {
     let mut rows = Vec::with_capacity(alloc, desk.document().bookmarks().len())?;
     for (bookmark, text) in desk.rows() {

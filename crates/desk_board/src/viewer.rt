@@ -1,38 +1,36 @@
 //! A viewer.
-ghost use Rattle.std.specs.Prelude.{◌≡◌, IfOk, IfErr, max, length};
-ghost use Rattle.desk_board.specs.Sight.{SeesOn};
+ghost use Rattle.std.specs.Prelude.{◌≡◌, ◌⊎◌, IfOk, IfErr};
+ghost use Rattle.desk_board.specs.History.{Begins};
 
 use crate::latest::Latest;
-use crate::past::Past;
 use crate::receipt::Receipt;
-use crate::rule::{Beginning, BoardRule, See};
+use crate::rule::{BoardRule, Known, See};
 use crate::seen::Seen;
 use left_right::reader::Reader;
 use std::marker::Model;
 
-/// Looks at what was published. Contracts see it as what it saw, and how far it was told.
+/// Looks at what was published. Contracts see it as the board's history as far as the viewer saw
+/// it or was told of it.
 #[derive(Drop)]
 pub struct Viewer {
-    pub(crate) reader: Reader<Latest, Beginning, BoardRule>,
-    pub(crate) seen: Past,
-    pub(crate) least: u64,
+    pub(crate) reader: Reader<Latest, Known, BoardRule>,
+    pub(crate) receipt: Receipt,
 }
 
 impl Model for Viewer {
     ghost use Rattle.std.specs.Coded.{codes};
     ghost use Rattle.worlds.specs.World.{coded_world};
-    ghost use Rattle.desk_board.specs.Sight.{Sight};
+    ghost use Rattle.desk_board.specs.History.{History};
 
-    ghost Value = { Sight };
+    ghost Value = { History };
 
     ghost coded = { Prim.hlevel (codes, coded_world) };
 
-    ghost use mathlib.Core.List.{IsPrefix};
-    ghost use Rattle.desk_board.specs.Pasts.{list_of};
+    ghost use Rattle.desk_board.specs.Copies.{Knows};
 
-    ghost view = { λ v. record { seen = list_of v.seen; least = v.least } };
+    ghost view = { λ v. v.receipt };
 
-    ghost invariant = { λ v. IsPrefix (list_of v.seen) v.reader.place.me.0.client };
+    ghost invariant = { λ v. Knows v.reader.place.me.0.client v.receipt.board };
 }
 
 impl Viewer {
@@ -40,44 +38,36 @@ impl Viewer {
     /// told of, or the board has ended. Then the viewer comes back as it was. It takes no memory
     /// and waits for nobody.
     pub fn look(self) -> Result<Seen, Viewer>
-        ensures sees { IfOk result (λ seen. SeesOn self seen) }
+        ensures sees { IfOk result (λ seen. Begins self seen) }
         ensures back { IfErr result (λ viewer. viewer ≡ self) }
     {
-        let Viewer {
-            reader,
-            seen,
-            least,
-        } = self;
+        let Viewer { reader, receipt } = self;
         let reading = match reader.enter_as::<See>() {
             Ok(reading) => reading,
             Err(reader) => {
-                return Err(Viewer {
-                    reader,
-                    seen,
-                    least,
-                });
+                return Err(Viewer { reader, receipt });
             }
         };
-        if reading.get().count() < least {
+        let latest = reading.get().receipt();
+        if !receipt.begins(latest) {
             return Err(Viewer {
                 reader: reading.leave(),
-                seen,
-                least,
+                receipt,
             });
         }
-        let latest = reading.get();
-        let seen = latest.past.and(&latest.snapshot);
-        Ok(Seen {
-            reading,
-            seen,
-            least,
-        })
+        let receipt = latest.again();
+        Ok(Seen { reading, receipt })
     }
 
     /// Tells the viewer of a snapshot of its own board. From now on it is shown none before that.
     pub fn learn(&mut self, receipt: &Receipt)
-        ensures { self.new ≡ record self.old { least = max self.old.least (length receipt.now) } }
+        requires own { receipt.now.board ≡ self.old.board }
+        ensures told { Begins receipt.now self.new }
+        ensures kept { Begins self.old self.new }
+        ensures one { (self.new ≡ self.old) ⊎ (self.new ≡ receipt.now) }
     {
-        self.least = self.least.max(receipt.position());
+        if self.receipt.begins(receipt) {
+            self.receipt = receipt.again();
+        }
     }
 }

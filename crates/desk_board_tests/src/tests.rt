@@ -2,10 +2,11 @@
 mod desks;
 mod threads;
 
-ghost use Rattle.std.specs.Prelude.{◌<◌, ◌≤◌};
+ghost use Rattle.std.specs.Prelude.{◌≡◌, ◌<◌, ◌≤◌, All};
+ghost use Rattle.desk_board.specs.History.{unseen};
 
 use basics::Refusal;
-use desk_board::{BoardFault, PublishFault, Publisher, Snapshot, Viewer, board};
+use desk_board::{BoardFault, PublishFault, Publisher, Receipt, Snapshot, Viewer, board};
 use schedule::Document;
 use std::alloc::Global;
 use std::fmt::Debug;
@@ -26,13 +27,27 @@ fn snapshot_of(rt: &impl Abort, alloc: Global, revision: u64) -> Snapshot {
 /// A board of so many viewers that was opened with revision 0.
 fn opened<R: Abort + Wait>(rt: &R, alloc: Global, viewers: u8) -> (Publisher<&R>, Vec<Viewer>)
     requires { (0 < viewers) × (viewers ≤ 16) }
+    ensures { All (λ viewer. viewer ≡ unseen result.0.board) result.1.items }
 {
     let first = snapshot_of(rt, alloc, 0);
     board(rt, alloc, first, viewers).expect(rt, "a board")
 }
 
+/// The same with two viewers.
+fn opened_to_two<R: Abort + Wait>(rt: &R, alloc: Global) -> (Publisher<&R>, Viewer, Viewer)
+    ensures one { result.1.board ≡ result.0.board }
+    ensures other { result.2.board ≡ result.0.board }
+{
+    let (publisher, mut viewers) = opened(rt, alloc, 2);
+    let one = viewers.pop().expect(rt, "a viewer");
+    let other = viewers.pop().expect(rt, "a viewer");
+    (publisher, one, other)
+}
+
 /// Lets the viewer look, and gives it back with the revision that it was shown.
-fn revision_of(viewer: Viewer) -> (Viewer, Option<u64>) {
+fn revision_of(viewer: Viewer) -> (Viewer, Option<u64>)
+    ensures { result.0.board ≡ viewer.board }
+{
     match viewer.look() {
         Ok(seen) => {
             let revision = seen.snapshot().document().revision();
@@ -43,38 +58,87 @@ fn revision_of(viewer: Viewer) -> (Viewer, Option<u64>) {
 }
 
 /// Stops the test where the viewer isn't shown what is wanted.
-fn check_look(rt: &impl Abort, viewer: Viewer, wanted: Option<u64>) -> Viewer {
+fn check_look(rt: &impl Abort, viewer: Viewer, wanted: Option<u64>) -> Viewer
+    ensures { result.board ≡ viewer.board }
+{
     let (viewer, revision) = revision_of(viewer);
     same(rt, &revision, &wanted, &"look");
     viewer
 }
 
-/// Publishes a revision and tells the viewer of it.
-fn publish_and_tell<R: Abort + Wait>(
+/// What the viewer is shown, which is to be this revision.
+fn shown<R: Abort>(rt: &R, viewer: Viewer, wanted: u64) -> (Viewer, Receipt)
+    ensures viewer { result.0.board ≡ viewer.board }
+    ensures receipt { result.1.board ≡ viewer.board }
+{
+    let seen = viewer.look().ok().expect(rt, "a look");
+    same(rt, &seen.snapshot().document().revision(), &wanted, &"look");
+    let receipt = seen.receipt();
+    (seen.done(), receipt)
+}
+
+fn publish<R: Abort + Wait>(
     rt: &R,
     alloc: Global,
     publisher: &mut Publisher<&R>,
-    viewer: &mut Viewer,
     revision: u64,
-) {
-    let receipt = publisher
+) -> Receipt
+    ensures board { publisher.new.board ≡ publisher.old.board }
+    ensures receipt { result ≡ publisher.new }
+{
+    publisher
         .publish(snapshot_of(rt, alloc, revision))
-        .expect(rt, "memory");
-    viewer.learn(&receipt);
+        .expect(rt, "memory")
 }
 
-// A viewer that is told of a revision is shown it, and none after the end.
+// A viewer that is told of a revision is shown it, and is handed back only after the end.
 #[test]
 fn a_told_viewer_sees_revision_3(rt: HostRuntime) {
     let alloc = rt.alloc();
-    let (mut publisher, mut viewers) = opened(&rt, alloc, 1);
-    let viewer = viewers.pop().expect(&rt, "a viewer");
+    let (mut publisher, viewer, other) = opened_to_two(&rt, alloc);
     let mut viewer = check_look(&rt, viewer, Some(0));
-    publish_and_tell(&rt, alloc, &mut publisher, &mut viewer, 3);
+    let receipt = publish(&rt, alloc, &mut publisher, 3);
+    viewer.learn(&receipt);
     let viewer = check_look(&rt, viewer, Some(3));
     let viewer = check_look(&rt, viewer, Some(3));
     publisher.end();
     check_look(&rt, viewer, None);
+    check_look(&rt, other, None);
+}
+
+// A viewer that saw a revision tells another of it, and the other is shown that or a later one.
+#[test]
+fn a_viewer_tells_another(rt: HostRuntime) {
+    let alloc = rt.alloc();
+    let (mut publisher, one, mut other) = opened_to_two(&rt, alloc);
+    publish(&rt, alloc, &mut publisher, 1);
+    let (one, receipt) = shown(&rt, one, 1);
+    publish(&rt, alloc, &mut publisher, 2);
+    other.learn(&receipt);
+    check_look(&rt, other, Some(2));
+    check_look(&rt, one, Some(2));
+    publisher.end();
+}
+
+// Of what is known of a board, what is of fewer snapshots begins what is of more.
+#[test]
+fn receipts_of_1_to_3_snapshots(rt: HostRuntime) {
+    let alloc = rt.alloc();
+    let (mut publisher, one, other) = opened_to_two(&rt, alloc);
+    let (_one, first) = shown(&rt, one, 0);
+    let second = publish(&rt, alloc, &mut publisher, 1);
+    let (_other, seen) = shown(&rt, other, 1);
+    publish(&rt, alloc, &mut publisher, 2);
+    let all = publisher.receipt();
+    same(&rt, &first.position(), &1, &"first");
+    same(&rt, &second.position(), &2, &"second");
+    same(&rt, &all.position(), &3, &"all");
+    same(&rt, &first.begins(&second), &true, &"first begins second");
+    same(&rt, &second.begins(&first), &false, &"second begins first");
+    same(&rt, &second.begins(&seen), &true, &"second begins seen");
+    same(&rt, &seen.begins(&second), &true, &"seen begins second");
+    same(&rt, &all.begins(&seen), &false, &"all begins seen");
+    publisher.end();
 }
 
 /// How many viewers a board has that is opened for so many.

@@ -1,5 +1,5 @@
 //! Viewers in threads of their own.
-use super::{opened, revision_of, same, snapshot_of};
+use super::{opened_to_two, publish, revision_of, same};
 use desk_board::{Publisher, Viewer};
 use std::alloc::Global;
 use std::process::Abort;
@@ -52,9 +52,7 @@ fn watch(viewer: Viewer) -> Watched {
 
 fn publish_all<R: Abort + Wait>(rt: &R, alloc: Global, publisher: &mut Publisher<&R>) {
     for revision in 1..=LAST {
-        publisher
-            .publish(snapshot_of(rt, alloc, revision))
-            .expect(rt, "memory");
+        publish(rt, alloc, publisher, revision);
     }
 }
 
@@ -62,9 +60,7 @@ fn publish_all<R: Abort + Wait>(rt: &R, alloc: Global, publisher: &mut Publisher
 #[test]
 fn no_revision_falls_in_two_threads(rt: HostRuntime) {
     let alloc = rt.alloc();
-    let (mut publisher, mut viewers) = opened(&rt, alloc, 2);
-    let one = viewers.pop().expect(&rt, "a viewer");
-    let other = viewers.pop().expect(&rt, "a viewer");
+    let (mut publisher, one, other) = opened_to_two(&rt, alloc);
     let one = thread::spawn(&rt, move || watch(one)).expect(&rt, "a thread");
     let other = thread::spawn(&rt, move || watch(other)).expect(&rt, "a thread");
     publish_all(&rt, alloc, &mut publisher);

@@ -17,4 +17,5 @@ of-requires c =
 pub returns : goal.returns
 returns c =
     let is : picture c.in_ok-copy.field-0 c.loop-bookmark.rows.items ≡ picture_of c.args.desk.now = whole_picture c.args.desk.now _ _ c.loop-bookmark.bookmark-iterator (search rules) (search rules) c.loop-bookmark.invariant in
-    c.of.ensures ∙ is
+    let right : AllByRecursion (IsScratch c.args.desk.now.plan) (shown_rows c.args.desk.now) = subst (AllByRecursion (IsScratch c.args.desk.now.plan)) c.rows-bookmark-items.ensures.rows c.rows-bookmark-items.ensures.right in
+    record { desk = c.of.ensures ∙ is; right = subst IsRight (sym (c.of.ensures ∙ is)) (right_picture c.args.desk.now right) }
