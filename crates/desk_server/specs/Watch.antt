@@ -1,11 +1,13 @@
 -- What is noted of a run: the document after each reply but `bye`.
-use Rattle.std.specs.Prelude.{◌≡◌, ◌⊎◌, ℕ, ◌+◌, Bool, List, [], ◌∷◌, ◌++◌, Option, IfSome, map}
+use Rattle.std.specs.Prelude.{◌≡◌, ◌⊎◌, ℕ, ◌+◌, ◌-◌, ◌^◌, ◌<◌, Bool, List, [], ◌∷◌, ◌++◌, Option}
+use Rattle.std.specs.Prelude.{IfSome, length, map}
 use Rattle.std.specs.Io.KnownBytes.{Appends}
 use Rattle.std.specs.Io.Iter.{u64_saturate}
 use Rattle.script_lines.specs.Ahead.{LineReading}
 use Rattle.script_lines.specs.Counted.{CountedWriting}
 use Rattle.schedule.specs.Plan.{Plan}
-use Rattle.desk_board.specs.Picture.{Picture}
+use Rattle.desk_board.specs.Picture.{Picture, IsRight}
+use Rattle.desk_board.specs.History.{History, history, and_then}
 use Rattle.desk_server.specs.Shortage.{Shortage, AllCausedOver}
 use Rattle.desk_server.specs.Script.{documents_with, replies_with}
 
@@ -35,13 +37,31 @@ abbrev pub NotesReplies
 NotesReplies notes missed prompt r w x old new =
     IfSome r.ahead.bytes (NotesScript notes missed prompt w.contents x.contents old new)
 
--- a snapshot of the document was put behind a history
-abbrev pub ShowsNext : List Picture → Plan → List Picture → Type 0
-ShowsNext old plan new = (s : Picture) × (s.plan ≡ plan) × (new ≡ old ++ s ∷ [])
+-- a snapshot of the document, whose texts are right, was put behind a history
+abbrev pub ShowsNext : History → Plan → History → Type 0
+ShowsNext old plan new =
+    (s : Picture) × (s.plan ≡ plan) × IsRight s × (new ≡ and_then old s)
 
--- where none was passed over, the history has one more member for each document, in order, with
--- that document
+-- right pictures of these documents, in order, of which some may be left out
+abbrev pub AreOf : List Picture → List Plan → Type 0
+AreOf pictures [] = pictures ≡ []
+AreOf pictures (p ∷ ps) =
+    ((s : Picture) × (rest : List Picture)
+    × (pictures ≡ s ∷ rest) × (s.plan ≡ p) × IsRight s × AreOf rest ps)
+    ⊎ AreOf pictures ps
+
+-- the history went on by right pictures of the documents, in order; so many were left out, where
+-- 2 ^ 64 - 1 may stand for more
+pub record ShowsOrCounts (count : ℕ) (old new : History) (documents : List Plan) : Type 0 where
+  pub more : List Picture
+  pub goes_on : new ≡ history old.board (old.pictures ++ more)
+  pub pictures : AreOf more documents
+  pub left_out : count < 2 ^ 64 - 1 → length more + count ≡ length documents
+  pub all : count ≡ 0 → map (λ s. s.plan) more ≡ documents
+
+-- what was noted or passed over in turn, told of the whole history: where none was passed over, it
+-- has one more member for each document, in order
 abbrev pub ShowsAllUnlessCounted : Type 0
 ShowsAllUnlessCounted =
-    (old new : List Picture) (documents : List Plan) → NotesOrCounts ShowsNext 0 0 old new documents
-    → (more : List Picture) × (new ≡ old ++ more) × (map (λ s. s.plan) more ≡ documents)
+    (count : ℕ) (old new : History) (documents : List Plan)
+    → NotesOrCounts ShowsNext 0 count old new documents → ShowsOrCounts count old new documents
