@@ -20,6 +20,8 @@ import subprocess
 import sys
 import time
 
+from mutation import MOST, mutated
+
 ROOT = os.path.dirname(os.path.dirname(os.path.realpath(__file__)))
 KINDS = {
     "rule": set(range(1, 14)) | {42, 70},
@@ -27,11 +29,6 @@ KINDS = {
     "start mc": {23, 30, 31, 32, 33, 34, 41, 42, 70, 71},
 }
 WITH_PLACE = {7, 8, 9, 10, 12, 22, 31, 32}
-PIECES = [b"#", b"@TABLE\n", b"@TREE\n", b"@RULE x\n", b"var a={0,1}\n", b"n_states:256\n", b"0,0,0,0\n",
-          b"\n", b"\r\n", b"\0", b"\xff", b"!", b"$", b"9" * 20, b"1" * 5, b"-", b"{", b"}", b"=", b",", b":",
-          b"#CXRLE Pos=-1,2 Gen=3\n", b"x = 1, y = 1\n", b"yO", b"pA", b"[M2]\n", b"4 0 0 0 1\n", b"62 1 1 1 1\n",
-          b".*.*$", b"#G 9\n", b"#R a:b\n", b"#FRAME 1\n", b"permute", b"rotate8", b"hexagonal"]
-MOST = 4000
 
 
 def seeds():
@@ -50,29 +47,6 @@ def seeds():
                     text.append(inner)
                 texts[kind].append(b"\n".join(text)[:MOST])
     return texts
-
-
-def mutated(chance, text, others):
-    """The text with one to four changes."""
-    text = bytearray(text)
-    for _ in range(chance.randint(1, 4)):
-        at, size = chance.randint(0, len(text)), min(chance.choice((1, 1, 2, 8, 40)), MOST)
-        way = chance.randrange(6)
-        if way == 0:
-            text[at:at + size] = b""
-        elif way == 1:
-            text[at:at] = chance.choice(PIECES)
-        elif way == 2:
-            text[at:at] = text[at:at + size] * chance.randint(1, 3)
-        elif way == 3:
-            other = chance.choice(others)
-            start = chance.randint(0, len(other))
-            text[at:at + size] = other[start:start + size]
-        elif way == 4:
-            text[at:at + 1] = bytes([chance.randrange(256)])
-        else:
-            del text[at:]
-    return bytes(text[:MOST])
 
 
 def batch(chance, texts, count):

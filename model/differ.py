@@ -1,0 +1,117 @@
+#!/usr/bin/env python3
+"""Gives the program random scripts, and compares its replies with those that the model says.
+
+    model/differ.py [--count 300] [--seed WORD] [--jobs 1] [--desk PROGRAM]
+
+The script n of a seed is that of `model/scripts.py SEED/n`. Where a run has few squares, its replies may tell of that
+in place of the plain ones. A script whose replies differ is printed with as few lines as still differ, and the last
+line counts.
+"""
+from __future__ import annotations
+
+import argparse
+import concurrent.futures
+import os
+import subprocess
+import sys
+from dataclasses import dataclass
+from typing import Callable, Iterator, List, Optional
+
+from judge import NOTHING, SQUARES, Difference, judge
+from scripts import random_script, words_of
+from worlds import BeyondTheModel
+
+ROOT = os.path.dirname(os.path.dirname(os.path.realpath(__file__)))
+SECONDS = 60
+# Of squares that are said to be so few a script may run out.
+FEW_SQUARES = 100000
+
+
+@dataclass(frozen=True)
+class Verdict:
+    """What came of a script: why it differs, if it does, and how many replies told of too few squares."""
+
+    difference: Optional[str] = None
+    short_replies: int = 0
+    is_beyond: bool = False
+
+
+def verdict_on(script: bytes, program: str) -> Verdict:
+    """Runs a script with the words that it names, and judges the replies."""
+    words = words_of(script)
+    try:
+        done = subprocess.run([program, *words], input=script, capture_output=True, timeout=SECONDS, check=False)
+        if done.returncode or done.stderr:
+            return Verdict(f"status {done.returncode}, {done.stderr[:200]!r}")
+        return Verdict(short_replies=judge(script, done.stdout, SQUARES if _has_few_squares(words) else NOTHING))
+    except Difference as difference:
+        return Verdict(str(difference))
+    except BeyondTheModel:
+        return Verdict(is_beyond=True)
+    except subprocess.TimeoutExpired:
+        return Verdict(f"it had not ended after {SECONDS} seconds")
+
+
+def _has_few_squares(words: List[str]) -> bool:
+    return "--squares" in words and int(words[words.index("--squares") + 1]) < FEW_SQUARES
+
+
+def shrunk(script: bytes, differs: Callable[[bytes], bool]) -> bytes:
+    """A script that differs too, from which no line can go, but for the first one with the program's words."""
+    first, *lines = script.splitlines(keepends=True)
+    size = len(lines) // 2
+    while size:
+        at = 0
+        while at < len(lines):
+            fewer = lines[:at] + lines[at + size :]
+            if differs(first + b"".join(fewer)):
+                lines = fewer
+            else:
+                at += size
+        size //= 2
+    return first + b"".join(lines)
+
+
+def verdict_on_seed(seed: str, program: str) -> Verdict:
+    return verdict_on(random_script(seed), program)
+
+
+def verdicts(seeds: List[str], program: str, jobs: int) -> Iterator[Verdict]:
+    """The verdicts on the scripts of some seeds, in order."""
+    if jobs == 1:
+        yield from (verdict_on_seed(seed, program) for seed in seeds)
+        return
+    with concurrent.futures.ProcessPoolExecutor(jobs) as pool:
+        yield from pool.map(verdict_on_seed, seeds, [program] * len(seeds), chunksize=8)
+
+
+def tell(seed: str, verdict: Verdict, program: str) -> None:
+    """Prints a script that differs, with as few lines as may be."""
+    print(f"{seed}: FAILED, {verdict.difference}", flush=True)
+    script = shrunk(random_script(seed), lambda it: verdict_on(it, program).difference is not None)
+    print(f"{script.decode(errors='backslashreplace')}\n{verdict_on(script, program).difference}", flush=True)
+
+
+def main() -> int:
+    words = argparse.ArgumentParser(description=__doc__, formatter_class=argparse.RawDescriptionHelpFormatter)
+    words.add_argument("--count", type=int, default=300)
+    words.add_argument("--first", type=int, default=0, help="the number of the first script")
+    words.add_argument("--seed", default="1", help="any word, such as the name of a commit")
+    words.add_argument("--jobs", type=int, default=1)
+    words.add_argument("--desk", default=f"{ROOT}/crates/desk/out/desk")
+    given = words.parse_args()
+    seeds = [f"{given.seed}/{number}" for number in range(given.first, given.first + given.count)]
+    failed = short = beyond = 0
+    for seed, verdict in zip(seeds, verdicts(seeds, given.desk, given.jobs)):
+        if verdict.difference:
+            failed += 1
+            tell(seed, verdict, given.desk)
+        short += verdict.short_replies > 0
+        beyond += verdict.is_beyond
+    print(f"seed {given.seed}: {short} scripts ran out of squares, {beyond} were beyond the model")
+    print(f"random scripts: {len(seeds) - failed} passed, {failed} failed")
+    return 1 if failed else 0
+
+
+if __name__ == "__main__":
+    sys.exit(main())
