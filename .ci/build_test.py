@@ -1,5 +1,6 @@
 """Tests of build.py: a working copy that it makes has what the toolchain wants of a repository."""
 import os
+import shutil
 import sys
 import tempfile
 import unittest
@@ -21,6 +22,7 @@ class Copies(unittest.TestCase):
         self.assertEqual(list(crates)[-1], build.PROGRAM)
         self.assertFalse([it for it in crates if it.endswith("_tests")])
 
+    @unittest.skipUnless(shutil.which("rt"), "the toolchain is not on the PATH")
     def test_a_crate_is_proved_in_a_copy(self):
         crates = build.libraries()
         runs = build.Runs()

@@ -59,10 +59,9 @@ def random_macrocell(chance: random.Random, states: int) -> bytes:
     for _ in range(chance.choice((0, 1, 2, 4, 6, 9))):
         level = chance.choice((1, 1, 2, 2, 3, 4, 5))
         if states == 2 and chance.random() < 0.2:
-            lines.append("$".join("".join(chance.choices(".*", k=chance.randint(0, 8))) for _ in range(chance.randint(1, 8))) or "$")
+            rows = ["".join(chance.choices(".*", k=chance.randint(0, 8))) for _ in range(chance.randint(1, 8))]
+            lines.append("$".join(rows) or "$")
             levels.append(3)
-            if lines[-1][0] not in ".*$":
-                lines[-1] = "$" + lines[-1]
             continue
         among = [0, *(at for at, it in enumerate(levels, 1) if it == level - 1)]
         if level == 1:

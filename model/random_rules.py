@@ -183,7 +183,7 @@ def _written(chance: random.Random, lines: Sequence[str]) -> bytes:
     is_loose = chance.random() < 0.2
     for line in lines:
         if is_loose and not line.startswith("@"):
-            line = "".join(f"{chance.choice(['', ' '])}{it}{chance.choice(['', chr(9)])}" if it in ",:={}" else it for it in line)
+            line = "".join(chance.choice(("", " ")) + it + chance.choice(("", "\t")) if it in ",:={}" else it for it in line)
             line = f" {line}{chance.choice(['', '  ', ' # said'])}" if chance.random() < 0.5 else line
         if line in ("@TABLE", "@TREE") and chance.random() < 0.2:
             found += ["passed over", "@NAMES", "0 nothing", "@COLORS"]

@@ -13,7 +13,7 @@ import os
 import random
 import sys
 from dataclasses import dataclass, field
-from typing import Callable, List, Optional, Sequence, Tuple
+from typing import Callable, List, Sequence, Tuple
 
 import macrocells
 from commands import Format, Plain, Show
@@ -41,6 +41,9 @@ MOST_GROWING = 150
 # How many cells there may be that don't grow, and how many of them may be set again and again.
 MOST_STANDING = 20000
 MOST_SET_AGAIN = 40000
+
+# Ways in which a script ends: some don't end their last line, their text or all of their commands.
+ENDS = (b"", b"quit\n", b"quit", b"  quit \r\nset 0 0 1\n", b"rule\n@RULE X\n", b"start mc\n[M2]\nend")
 
 FAR = (FARTHEST, FARTHEST + 1, FARTHEST - 1, 2**63, 2**64 - 1, 2**64, 10**25)
 
@@ -91,8 +94,7 @@ class _Writing:
             self.crowd()
         for bookmark in chance.sample(list(self.document.bookmarks), min(4, len(self.document.bookmarks))):
             self.lines.append(b"show %d\n" % bookmark)
-        end = chance.choice((b"", b"quit\n", b"quit", b"  quit \r\nset 0 0 1\n", b"rule\n@RULE X\n", b"start mc\n[M2]\nend"))
-        return head + b"".join(self.lines) + end
+        return head + b"".join(self.lines) + chance.choice(ENDS)
 
     def offer(self, piece: bytes) -> None:
         """Takes a piece of a script, if the model can say what the script replies behind it."""
@@ -174,7 +176,8 @@ class _Writing:
         """The text, or what an accident makes of it."""
         if self.chance.random() < 0.75:
             return text
-        damaged = mutated(self.chance, text, [text, b"@RULE y\n@TABLE\n", b"x = 3, y = 3\n3o$o!\n", b"[M2]\n1 0 1 1 0\n"])
+        others = [text, b"@RULE y\n@TABLE\n", b"x = 3, y = 3\n3o$o!\n", b"[M2]\n1 0 1 1 0\n"]
+        damaged = mutated(self.chance, text, others)
         return damaged if damaged.endswith(b"\n") else damaged + b"\n"
 
     def cells(self) -> bytes:
@@ -190,7 +193,9 @@ class _Writing:
 
     def state(self) -> int:
         states = self.document.rule.states
-        return self.chance.choice((states, 255, 256, 65536)) if self.chance.random() < 0.02 else self.chance.randrange(states)
+        if self.chance.random() < 0.02:
+            return self.chance.choice((states, 255, 256, 65536))
+        return self.chance.randrange(states)
 
     def act(self) -> bytes:
         """When an intervention acts, once or again and again, and its cells."""
@@ -227,7 +232,8 @@ class _Writing:
             left, top = chance.choice(EDGES), chance.choice((0, *EDGES))
             size = chance.choice(((1, 1), (2, 1), (0, 3), (65537, 1), (65536, 1), (256, 256), (2**32, 2**32)))
             return b"window %d %d %d %d" % (left, top, *size)
-        return b"window %d %d %d %d" % (chance.randint(-9, 2), chance.randint(-9, 2), chance.randint(1, 12), chance.randint(1, 9))
+        left, top = chance.randint(-9, 2), chance.randint(-9, 2)
+        return b"window %d %d %d %d" % (left, top, chance.randint(1, 12), chance.randint(1, 9))
 
     def on(self) -> bytes:
         return b"on %d " % self.branch() if self.document.branches and self.chance.random() < 0.6 else b""

@@ -19,7 +19,8 @@ class Judging(unittest.TestCase):
         self.assertEqual(judge(SCRIPT, REPLIES), 0)
 
     def test_any_other_text_differs(self):
-        for wrong in (REPLIES.replace(b"1 1\n", b"1 2\n"), REPLIES[:-1], REPLIES + b"bye\n", b"", b"ok 2" + REPLIES[4:]):
+        other = REPLIES.replace(b"1 1\n", b"1 2\n")
+        for wrong in (other, REPLIES[:-1], REPLIES + b"bye\n", b"", b"ok 2" + REPLIES[4:]):
             for allowed in ((), (SQUARES,), (MEMORY,)):
                 with self.assertRaises(Difference):
                     judge(SCRIPT, wrong, *allowed)

@@ -9,9 +9,13 @@ from refusals import Fault, Refused  # noqa: E402
 from rule_files import rule_of, still  # noqa: E402
 from worlds import stepped  # noqa: E402
 
-RULE_X = "@RULE X\n@TABLE\nn_states:2\nneighborhood:oneDimensional\nsymmetries:none\n0,1,0,1\n0,0,1,1\n1,0,0,0\n1,1,1,0\n"
+RULE_X = (
+    "@RULE X\n@TABLE\nn_states:2\nneighborhood:oneDimensional\nsymmetries:none\n"
+    "0,1,0,1\n0,0,1,1\n1,0,0,0\n1,1,1,0\n"
+)
 COPIES_WEST = (
-    "@RULE W\n@TREE\nnum_states=2\nnum_neighbors=4\nnum_nodes=8\n1 0 0\n1 1 1\n2 0 0\n2 1 1\n3 2 2\n3 3 3\n4 4 5\n5 6 6\n"
+    "@RULE W\n@TREE\nnum_states=2\nnum_neighbors=4\nnum_nodes=8\n"
+    "1 0 0\n1 1 1\n2 0 0\n2 1 1\n3 2 2\n3 3 3\n4 4 5\n5 6 6\n"
 )
 
 

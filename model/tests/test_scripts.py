@@ -10,7 +10,10 @@ sys.path.insert(0, str(FOLDER))
 from replies import replies_to  # noqa: E402
 from worlds import BeyondTheModel  # noqa: E402
 
-RULE_X = "rule\n@RULE X\n@TABLE\nn_states:2\nneighborhood:oneDimensional\nsymmetries:none\n0,1,0,1\n0,0,1,1\n1,0,0,0\n1,1,1,0\nend\n"
+RULE_X = (
+    "rule\n@RULE X\n@TABLE\nn_states:2\nneighborhood:oneDimensional\nsymmetries:none\n"
+    "0,1,0,1\n0,0,1,1\n1,0,0,0\n1,1,1,0\nend\n"
+)
 
 # Their patterns have more cells, or are wanted later, than can be said cell by cell.
 BEYOND = {"doubling.script", "far_ahead.script"}
