@@ -1,111 +1,199 @@
 #!/usr/bin/env python3
-"""Gives the program files that were changed at random, and looks at how it replies.
+"""Gives the program files that were changed at random, and compares how it replies with what the model says.
 
     hostile/fuzz.py [--desk PROGRAM] [--seconds 60] [--seed 1]
 
-The files are those of examples/ with bytes changed, removed, doubled or taken from one another. Each gets
-one reply: it is accepted at the next revision, or refused by a number that its kind of file has. Printed is
-each batch of files after which the program ended otherwise than well or replied otherwise, with its seed,
-and at the end how many files were tried, how they were replied to, and the most memory of a batch. It is
-run by hand and is no part of the gate.
+It begins with the files of examples/. One that gets a reply that none got before, by its number and the place that it
+names, is changed further, so that the files come to stand for ever more replies. Printed is each batch of files that is
+replied to otherwise than the definitions say, or after which the program ended otherwise than well. A file may take
+64 MB and 100 bytes for each of its own, and a tenth of a second and one for each 100 KB; those that take more are
+printed too, the dearest of each reply. It is run by hand and is no part of the gate.
 """
+from __future__ import annotations
+
 import argparse
 import collections
-import glob
 import os
 import random
-import re
-import resource
 import subprocess
 import sys
+import tempfile
+import threading
 import time
+from dataclasses import dataclass, field
+from pathlib import Path
+from typing import Counter, Dict, List, NamedTuple, Optional, Sequence, Set, Tuple
 
-from mutation import MOST, mutated
+ROOT = Path(__file__).resolve().parents[1]
+sys.path.insert(0, str(ROOT / "model"))
 
-ROOT = os.path.dirname(os.path.dirname(os.path.realpath(__file__)))
-KINDS = {
-    "rule": set(range(1, 14)) | {42, 70},
-    "start rle": {20, 21, 22, 23, 24, 41, 42, 70},
-    "start mc": {23, 30, 31, 32, 33, 34, 41, 42, 70, 71},
-}
-WITH_PLACE = {7, 8, 9, 10, 12, 22, 31, 32}
+from commands import Format  # noqa: E402
+from judge import Difference, judge  # noqa: E402
+from mutation import MOST, mutated  # noqa: E402
+from replies import Text, asked_by  # noqa: E402
+from scripts import is_small  # noqa: E402
 
-
-def seeds():
-    """The texts of the commands in the example scripts, by their commands."""
-    texts = {kind: [] for kind in KINDS}
-    for path in glob.glob(f"{ROOT}/examples/*.script"):
-        with open(path, "rb") as script:
-            lines = iter(script.read(200000).split(b"\n"))
-        for line in lines:
-            kind = line.strip().decode(errors="replace")
-            if kind in KINDS:
-                text = []
-                for inner in lines:
-                    if inner.strip() == b"end":
-                        break
-                    text.append(inner)
-                texts[kind].append(b"\n".join(text)[:MOST])
-    return texts
+BATCH = 50
+SECONDS = 60
+# Places beyond this one aren't told apart.
+FARTHEST_PLACE = 200
 
 
-def batch(chance, texts, count):
-    """A script of so many changed files, and their commands."""
-    script, kinds = [], []
-    for _ in range(count):
-        kind = chance.choice(list(KINDS))
-        text = mutated(chance, chance.choice(texts[kind]), sum(texts.values(), []))
-        if any(line.strip() == b"end" for line in text.split(b"\n")):
+class Cost(NamedTuple):
+    """What a run took: seconds of the processor, and bytes of memory at its peak."""
+
+    seconds: float
+    memory: int
+
+    def is_too_dear(self, size: int) -> bool:
+        """Whether a file of so many bytes took more than it may."""
+        return self.memory > (64 << 20) + 100 * size or self.seconds > 0.1 + size / 100000
+
+
+@dataclass(frozen=True)
+class File:
+    """A file, and the command that gives it to the program."""
+
+    text: bytes
+    format: Format
+
+    def command(self) -> bytes:
+        return b" ".join(self.format.value) + b"\n" + self.text + b"\nend\n"
+
+
+# What tells replies apart: the kind of file, the number of a refusal or 0, and the place that it names.
+Feature = Tuple[Format, int, Optional[int]]
+
+
+@dataclass
+class Corpus:
+    """The files that are changed further, and the replies that were seen."""
+
+    files: Dict[Format, List[bytes]]
+    counted: Counter[Tuple[str, int]] = field(default_factory=collections.Counter)
+    seen: Set[Feature] = field(default_factory=set)
+
+    def changed(self, chance: random.Random) -> File:
+        form = chance.choice(list(Format))
+        others = self.files[chance.choice(list(Format))]
+        return File(mutated(chance, chance.choice(self.files[form]), others), form)
+
+    def take(self, file: File, reply: bytes) -> None:
+        """Takes a file whose reply is a new one."""
+        words = reply.split()
+        is_refused = words[0] == b"refused"
+        number = int(words[1]) if is_refused else 0
+        place = min(int(words[3]), FARTHEST_PLACE) if is_refused and len(words) > 3 else None
+        self.counted[" ".join(it.decode() for it in file.format.value), number] += 1
+        feature = (file.format, number, place)
+        if feature not in self.seen:
+            self.seen.add(feature)
+            self.files[file.format].append(file.text)
+
+
+def corpus_of_examples() -> Corpus:
+    """The texts in the scripts of examples/, but for those that are near a limit and take long."""
+    files: Dict[Format, List[bytes]] = {form: [] for form in Format}
+    for path in sorted((ROOT / "examples").glob("*.script")):
+        if path.name.startswith("most_"):
             continue
-        script.append(kind.encode() + b"\n" + text + b"\nend\n")
-        kinds.append(kind)
-    return b"".join(script) + b"quit\n", kinds
+        for ask in asked_by(path.read_bytes()[:200000]):
+            if isinstance(ask, Text):
+                files[ask.format].append(ask.text[:MOST])
+    return Corpus(files)
 
 
-def fault_of(kinds, out, counted):
-    """What is wrong with the replies, if anything is."""
-    lines = out.split(b"\n")
-    if len(lines) != len(kinds) + 2 or lines[-2:] != [b"bye", b""]:
-        return f"{len(lines)} lines for {len(kinds)} files"
-    revision = 0
-    for kind, line in zip(kinds, lines):
-        gen = rb" gen [0-9]+" if kind != "rule" else rb""
-        accepted = re.fullmatch(rb"ok ([0-9]+)" + gen, line)
-        refused = re.fullmatch(rb"refused ([0-9]+) [A-Za-z0-9]+( [0-9]+)?", line)
-        number = int(refused.group(1)) if refused else 0
-        if accepted and int(accepted.group(1)) == revision + 1:
-            revision += 1
-        elif number not in KINDS[kind] or bool(refused.group(2)) != (number in WITH_PLACE):
-            return f"{line!r} to {kind}"
-        counted[kind, number] += 1
-    return None
+def run(program: str, script: bytes) -> Tuple[Optional[int], bytes, bytes, Cost]:
+    """The program's status, or None where it doesn't end, what it writes and what it costs."""
+    with tempfile.TemporaryFile() as given, tempfile.TemporaryFile() as out, tempfile.TemporaryFile() as err:
+        given.write(script)
+        given.seek(0)
+        process = subprocess.Popen([program], stdin=given, stdout=out, stderr=err)
+        killer = threading.Timer(SECONDS, process.kill)
+        killer.start()
+        _, status, used = os.wait4(process.pid, 0)
+        is_late = not killer.is_alive()
+        killer.cancel()
+        process.returncode = os.waitstatus_to_exitcode(status)
+        out.seek(0)
+        err.seek(0)
+        cost = Cost(used.ru_utime + used.ru_stime, used.ru_maxrss << 10)
+        return None if is_late else process.returncode, out.read(), err.read(), cost
 
 
-def main():
+@dataclass
+class Fuzzing:
+    """What was found in the files so far."""
+
+    program: str
+    corpus: Corpus
+    bad: int = 0
+    dear: Dict[Tuple[Format, bytes], Tuple[Cost, bytes]] = field(default_factory=dict)
+
+    def batch(self, seed: int) -> None:
+        """Gives the program the files of a seed: those that the model can read together, each other one alone."""
+        chance = random.Random(seed)
+        files = [self.corpus.changed(chance) for _ in range(BATCH)]
+        files = [it for it in files if len(list(asked_by(it.command()))) == 1]
+        small = [it for it in files if is_small(Text(it.format, it.text))]
+        self.give(seed, small, is_judged=True)
+        for file in files:
+            if file not in small:
+                self.give(seed, [file], is_judged=False)
+
+    def give(self, seed: int, files: Sequence[File], is_judged: bool) -> None:
+        script = b"".join(it.command() for it in files)
+        status, out, err, cost = run(self.program, script)
+        replies = out.splitlines()
+        wrong = None
+        if status != 0 or err or len(replies) != len(files):
+            wrong = f"status {status}, {err[:200]!r}, {len(replies)} replies to {len(files)} files"
+        elif is_judged:
+            try:
+                judge(script, out)
+            except Difference as difference:
+                wrong = str(difference)
+        if wrong:
+            self.bad += 1
+            print(f"seed {seed}: {wrong}", flush=True)
+            return
+        for file, reply in zip(files, replies):
+            self.corpus.take(file, reply)
+        self.look_at_cost(files, replies, cost)
+
+    def look_at_cost(self, files: Sequence[File], replies: Sequence[bytes], cost: Cost) -> None:
+        """Keeps the dearest file of each reply, of those that are too dear."""
+        if not any(cost.is_too_dear(len(it.text)) for it in files):
+            return
+        for file, reply in zip(files, replies):
+            alone = cost if len(files) == 1 else run(self.program, file.command())[3]
+            key = file.format, b" ".join(reply.split()[:3]) if reply.startswith(b"refused") else b"accepted"
+            if alone.is_too_dear(len(file.text)) and alone > self.dear.get(key, (Cost(0, 0), b""))[0]:
+                self.dear[key] = alone, file.text
+
+    def tell(self, batches: int) -> None:
+        for (form, number), count in sorted(self.corpus.counted.items()):
+            print(f"{form}: {count} times {number or 'accepted'}")
+        for (form, reply), (cost, text) in sorted(self.dear.items(), key=lambda it: it[1], reverse=True):
+            print(f"dear: {form.name}, {reply.decode()}, {len(text)} bytes, {cost.seconds:.2f} s, "
+                  f"{cost.memory >> 20} MB: {text[:160]!r}")
+        print(f"{sum(self.corpus.counted.values())} files in {batches} batches, {self.bad} of them bad; "
+              f"{len(self.corpus.seen)} different replies; {len(self.dear)} of them dear")
+
+
+def main() -> int:
     words = argparse.ArgumentParser(description=__doc__, formatter_class=argparse.RawDescriptionHelpFormatter)
-    words.add_argument("--desk", default=f"{ROOT}/crates/desk/out/desk")
+    words.add_argument("--desk", default=str(ROOT / "crates/desk/out/desk"))
     words.add_argument("--seconds", type=float, default=60)
     words.add_argument("--seed", type=int, default=1)
     given = words.parse_args()
-    texts, counted, bad, seed = seeds(), collections.Counter(), 0, given.seed
-    end = time.monotonic() + given.seconds
+    fuzzing = Fuzzing(given.desk, corpus_of_examples())
+    end, seed = time.monotonic() + given.seconds, given.seed
     while time.monotonic() < end:
-        script, kinds = batch(random.Random(seed), texts, 100)
-        try:
-            done = subprocess.run([given.desk], input=script, capture_output=True, timeout=60)
-            status, out, err = done.returncode, done.stdout, done.stderr
-            fault = fault_of(kinds, out, counted) if status == 0 and not err else f"{status}, {err[:200]!r}"
-        except subprocess.TimeoutExpired:
-            fault = "it had not ended after 60 seconds"
-        if fault:
-            bad += 1
-            print(f"seed {seed}: {fault}", flush=True)
+        fuzzing.batch(seed)
         seed += 1
-    for (kind, number), count in sorted(counted.items()):
-        print(f"{kind}: {count} times {number or 'accepted'}")
-    peak = resource.getrusage(resource.RUSAGE_CHILDREN).ru_maxrss // 1024
-    print(f"{sum(counted.values())} files in {seed - given.seed} batches, {bad} of them bad; at most {peak} MB")
-    return 1 if bad else 0
+    fuzzing.tell(seed - given.seed)
+    return 1 if fuzzing.bad else 0
 
 
 if __name__ == "__main__":

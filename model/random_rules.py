@@ -95,7 +95,7 @@ def wild_rule(chance: random.Random) -> bytes:
 def random_table(chance: random.Random) -> bytes:
     neighborhood = chance.choice(list(Neighborhood))
     symmetry = chance.choice(neighborhood.symmetries).value.decode()
-    states = chance.choice((2, 2, 2, 3, 3, 4, 5, 9, 10, 11, 12))
+    states = chance.choice((2, 2, 2, 2, 3, 3, 3, 4, 5, 9, 10, 11, 12, 256))
     sets = _variables(chance, states)
     lines = _variable_lines(chance, sets)
     for _ in range(chance.randint(1, 8)):

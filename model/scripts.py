@@ -79,6 +79,8 @@ class _Writing:
     def __post_init__(self) -> None:
         self.is_tame = self.chance.random() < 0.3
         self.new_rule = tame_rule if self.is_tame else wild_rule
+        # Somebody who asks after nearly every edit, and seldom for another rule or start.
+        self.is_curious = self.chance.random() < 0.4
 
     def script(self) -> bytes:
         chance = self.chance
@@ -88,7 +90,7 @@ class _Writing:
         if chance.random() < 0.8:
             self.offer(self.start_text() if chance.random() < 0.3 else b"set " + self.cells() + b"\n")
             self.offer(b"mark %d " % self.generation() + self.view() + b"\n")
-        for _ in range(chance.choice((3, 8, 15, 25))):
+        for _ in range(40 if self.is_curious else chance.choice((3, 8, 15, 25))):
             self.offer(self.piece())
         if chance.random() < 0.03:
             self.crowd()
@@ -118,9 +120,10 @@ class _Writing:
     def piece(self) -> bytes:
         """One or two commands, or a text."""
         chance = self.chance
+        often, seldom = (4, 1) if self.is_curious else (1, 4)
         pieces: Sequence[Tuple[int, Callable[[], bytes]]] = (
-            (3, self.rule_text),
-            (6, self.start_text),
+            (seldom, self.rule_text),
+            (seldom, self.start_text),
             (12, lambda: b"set " + self.cells()),
             (16, lambda: self.on() + self.act()),
             (4, lambda: b"change %d " % self.id_of(self.document.interventions) + self.act_of_change()),
@@ -130,9 +133,9 @@ class _Writing:
             (2, lambda: b"unmark %d" % self.id_of(self.document.bookmarks)),
             (6, lambda: b"branch %d %d" % (self.branch(), self.generation())),
             (2, lambda: b"unbranch %d" % self.branch()),
-            (8, lambda: b"show %d" % self.id_of(self.document.bookmarks)),
-            (6, lambda: b"settle"),
-            (5, lambda: b"work"),
+            (8 * often, lambda: b"show %d" % self.id_of(self.document.bookmarks)),
+            (6 * often, lambda: b"settle"),
+            (5 * often, lambda: b"work"),
             (2, lambda: chance.choice((b"", b"# a comment", b" \t ", b"#"))),
         )
         weights, writers = zip(*pieces)
@@ -270,7 +273,7 @@ def _document_behind(document: Document, piece: bytes) -> Document:
     for ask in asked_by(piece):
         if isinstance(ask, Refused) and ask.fault is Fault.NoEnd:
             raise _TooDear
-        if isinstance(ask, Text) and not _is_small(ask):
+        if isinstance(ask, Text) and not is_small(ask):
             raise _TooDear
         if ask is Plain.QUIT:
             raise _TooDear
@@ -279,7 +282,7 @@ def _document_behind(document: Document, piece: bytes) -> Document:
     return document
 
 
-def _is_small(ask: Text) -> bool:
+def is_small(ask: Text) -> bool:
     """Whether a text of a pattern has so few cells that they can be listed."""
     if ask.format is Format.RLE:
         # Many cells need a large count, whose digits may stand apart.
