@@ -5,7 +5,7 @@ import enum
 from dataclasses import dataclass
 from typing import Callable, Dict, List, Optional, Sequence, Tuple, Union
 
-from documents import Every, Once
+from documents import Acts, Every, Once
 from edits import (
     AddBookmark,
     AddBranch,
@@ -94,19 +94,21 @@ def _in_branch(branch: int, words: Words) -> Command:
 
 
 def _change(words: Words) -> Command:
-    if len(words) > 1 and words[1] == b"every":
-        return ChangeIntervention(_count(words[0]), *_repeating(words[2:]))
-    return ChangeIntervention(_count(words[0]) if words else 0, *_once(words[1:]))
+    if len(words) < 2:
+        raise NotACommand
+    id_, rest = _count(words[0]), words[1:]
+    acts, cells = _repeating(rest[1:]) if rest[0] == b"every" else _once(rest)
+    return ChangeIntervention(id_, acts, cells)
 
 
-def _once(words: Words) -> Tuple[Once, Tuple[Cell, ...]]:
+def _once(words: Words) -> Tuple[Acts, Tuple[Cell, ...]]:
     """A generation, and cells behind the word `set`."""
     if len(words) < 2 or words[1] != b"set":
         raise NotACommand
     return Once(_count(words[0])), _cells(words[2:])
 
 
-def _repeating(words: Words) -> Tuple[Every, Tuple[Cell, ...]]:
+def _repeating(words: Words) -> Tuple[Acts, Tuple[Cell, ...]]:
     """A distance, the first generation and the last, and cells behind the word `set`."""
     if len(words) < 4 or words[3] != b"set":
         raise NotACommand

@@ -23,6 +23,8 @@ from worlds import BeyondTheModel
 
 ROOT = os.path.dirname(os.path.dirname(os.path.realpath(__file__)))
 SECONDS = 60
+# So many scripts that differ are shrunk, which takes some seconds each.
+MOST_SHRUNK = 5
 # Of squares that are said to be so few a script may run out.
 FEW_SQUARES = 100000
 
@@ -85,9 +87,8 @@ def verdicts(seeds: List[str], program: str, jobs: int) -> Iterator[Verdict]:
         yield from pool.map(verdict_on_seed, seeds, [program] * len(seeds), chunksize=8)
 
 
-def tell(seed: str, verdict: Verdict, program: str) -> None:
+def tell_shrunk(seed: str, program: str) -> None:
     """Prints a script that differs, with as few lines as may be."""
-    print(f"{seed}: FAILED, {verdict.difference}", flush=True)
     script = shrunk(random_script(seed), lambda it: verdict_on(it, program).difference is not None)
     print(f"{script.decode(errors='backslashreplace')}\n{verdict_on(script, program).difference}", flush=True)
 
@@ -105,7 +106,9 @@ def main() -> int:
     for seed, verdict in zip(seeds, verdicts(seeds, given.desk, given.jobs)):
         if verdict.difference:
             failed += 1
-            tell(seed, verdict, given.desk)
+            print(f"{seed}: FAILED, {verdict.difference}", flush=True)
+            if failed <= MOST_SHRUNK:
+                tell_shrunk(seed, given.desk)
         short += verdict.short_replies > 0
         beyond += verdict.is_beyond
     print(f"seed {given.seed}: {short} scripts ran out of squares, {beyond} were beyond the model")

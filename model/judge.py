@@ -9,6 +9,10 @@ from documents import Document
 from replies import Memory, Pending, Shortage, Unsettled, answer, asked_by
 
 
+# So many bytes more are told of what was found in place of a reply.
+A_LINE = 40
+
+
 @dataclass(frozen=True)
 class Allowed:
     """What may be short: the causes for which a settling may leave bookmarks pending, and memory for commands."""
@@ -36,7 +40,8 @@ def judge(script: bytes, replies: bytes, allowed: Allowed = NOTHING) -> int:
         shortage = _shortage_in(replies[at : replies.find(b"\n", at) + 1], allowed)
         told, document, ends = answer(document, ask, shortage)
         if not replies.startswith(told, at):
-            raise Difference(f"{_shortened(ask)}: {_shortened(replies[at : at + len(told)])}, not {_shortened(told)}")
+            found = replies[at : at + len(told) + A_LINE]
+            raise Difference(f"{_shortened(ask)}: {_shortened(found)}, not {_shortened(told)}")
         at += len(told)
         short_replies += shortage is not None
         if ends:
