@@ -13,6 +13,7 @@ from __future__ import annotations
 
 import argparse
 import collections
+import concurrent.futures
 import os
 import random
 import subprocess
@@ -104,7 +105,10 @@ def corpus_of_examples() -> Corpus:
 
 
 def run(program: str, script: bytes) -> Tuple[Optional[int], bytes, bytes, Cost]:
-    """The program's status, or None where it doesn't end, what it writes and what it costs."""
+    """The program's status, or None where it doesn't end, what it writes and what it costs.
+
+    The peak of a process counts from the one that began it, so this is called in a process that stays small.
+    """
     with tempfile.TemporaryFile() as given, tempfile.TemporaryFile() as out, tempfile.TemporaryFile() as err:
         given.write(script)
         given.seek(0)
@@ -126,6 +130,7 @@ class Fuzzing:
     """What was found in the files so far."""
 
     program: str
+    runner: concurrent.futures.Executor
     corpus: Corpus
     bad: int = 0
     dear: Dict[Tuple[Format, bytes], Tuple[Cost, bytes]] = field(default_factory=dict)
@@ -141,9 +146,12 @@ class Fuzzing:
             if file not in small:
                 self.give(seed, [file], is_judged=False)
 
+    def run(self, script: bytes) -> Tuple[Optional[int], bytes, bytes, Cost]:
+        return self.runner.submit(run, self.program, script).result()
+
     def give(self, seed: int, files: Sequence[File], is_judged: bool) -> None:
         script = b"".join(it.command() for it in files)
-        status, out, err, cost = run(self.program, script)
+        status, out, err, cost = self.run(script)
         replies = out.splitlines()
         wrong = None
         if status != 0 or err or len(replies) != len(files):
@@ -166,7 +174,7 @@ class Fuzzing:
         if not any(cost.is_too_dear(len(it.text)) for it in files):
             return
         for file, reply in zip(files, replies):
-            alone = cost if len(files) == 1 else run(self.program, file.command())[3]
+            alone = cost if len(files) == 1 else self.run(file.command())[3]
             key = file.format, b" ".join(reply.split()[:3]) if reply.startswith(b"refused") else b"accepted"
             if alone.is_too_dear(len(file.text)) and alone > self.dear.get(key, (Cost(0, 0), b""))[0]:
                 self.dear[key] = alone, file.text
@@ -187,11 +195,12 @@ def main() -> int:
     words.add_argument("--seconds", type=float, default=60)
     words.add_argument("--seed", type=int, default=1)
     given = words.parse_args()
-    fuzzing = Fuzzing(given.desk, corpus_of_examples())
     end, seed = time.monotonic() + given.seconds, given.seed
-    while time.monotonic() < end:
-        fuzzing.batch(seed)
-        seed += 1
+    with concurrent.futures.ProcessPoolExecutor(1) as runner:
+        fuzzing = Fuzzing(given.desk, runner, corpus_of_examples())
+        while time.monotonic() < end:
+            fuzzing.batch(seed)
+            seed += 1
     fuzzing.tell(seed - given.seed)
     return 1 if fuzzing.bad else 0
 

@@ -16,6 +16,7 @@ from dataclasses import dataclass, field
 from typing import Callable, List, Sequence, Tuple
 
 import macrocells
+import rle
 from commands import Format, Plain, Show
 from documents import Document, Elements
 from edits import FARTHEST, MOST_CELLS, MOST_INTERVENTIONS
@@ -41,6 +42,9 @@ MOST_GROWING = 150
 # How many cells there may be that don't grow, and how many of them may be set again and again.
 MOST_STANDING = 20000
 MOST_SET_AGAIN = 40000
+
+# How many cells a run or a macrocell of a file may have, if it is no more than may be read.
+MOST_LISTED = 1000
 
 # Ways in which a script ends: some don't end their last line, their text or all of their commands.
 ENDS = (b"", b"quit\n", b"quit", b"  quit \r\nset 0 0 1\n", b"rule\n@RULE X\n", b"start mc\n[M2]\nend")
@@ -288,10 +292,11 @@ def is_small(ask: Text) -> bool:
         # Many cells need a large count, whose digits may stand apart.
         digits = b"".join(ask.text.split())
         counts = [int(it) for it in "".join(chr(it) if 48 <= it <= 57 else " " for it in digits).split()]
-        return not any(1000 < it <= 16777216 for it in counts)
+        few = [it for it in counts if it <= MOST_LISTED]
+        return sum(few) <= 10 * MOST_LISTED and all(it > rle.MOST_LIVE for it in counts if it > MOST_LISTED)
     if ask.format is Format.MACROCELL:
         try:
-            return macrocells.said_by(ask.text).population() <= 1000
+            return macrocells.said_by(ask.text).population() <= MOST_LISTED
         except Refused:
             return True
     return True
