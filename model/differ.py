@@ -45,7 +45,7 @@ def verdict_on(script: bytes, program: str) -> Verdict:
         done = subprocess.run([program, *words], input=script, capture_output=True, timeout=SECONDS, check=False)
         if done.returncode or done.stderr:
             return Verdict(f"status {done.returncode}, {done.stderr[:200]!r}")
-        return Verdict(short_replies=judge(script, done.stdout, SQUARES if _has_few_squares(words) else NOTHING))
+        return Verdict(short_replies=judge(script, done.stdout, SQUARES if has_few_squares(words) else NOTHING))
     except Difference as difference:
         return Verdict(str(difference))
     except BeyondTheModel:
@@ -54,7 +54,8 @@ def verdict_on(script: bytes, program: str) -> Verdict:
         return Verdict(f"it had not ended after {SECONDS} seconds")
 
 
-def _has_few_squares(words: List[str]) -> bool:
+def has_few_squares(words: List[str]) -> bool:
+    """Whether a script may run out of squares with the words of the program."""
     return "--squares" in words and int(words[words.index("--squares") + 1]) < FEW_SQUARES
 
 

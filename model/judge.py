@@ -24,6 +24,7 @@ class Allowed:
 NOTHING = Allowed()
 SQUARES = Allowed(frozenset([71]))
 MEMORY = Allowed(frozenset([70]), memory=True)
+BOTH = Allowed(frozenset([70, 71]), memory=True)
 
 
 class Difference(Exception):
