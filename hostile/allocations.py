@@ -72,7 +72,9 @@ class Allocator:
         settings = {"LD_PRELOAD": self.library, "COUNTED": self.counted}
         settings.update(REFUSED=str(refused), LATER=str(int(later)))
         try:
-            done = subprocess.run(command, input=script, env=settings, capture_output=True, timeout=SECONDS, check=False)
+            done = subprocess.run(
+                command, input=script, env=settings, capture_output=True, timeout=SECONDS, check=False
+            )
         except subprocess.TimeoutExpired:
             raise NotRight(f"it had not ended after {SECONDS} seconds") from None
         (count,) = COUNT.unpack(Path(self.counted).read_bytes())

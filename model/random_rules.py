@@ -87,9 +87,9 @@ def tame_rule(chance: random.Random) -> bytes:
 def wild_rule(chance: random.Random) -> bytes:
     """Any rule: a known one, a random table or a random tree."""
     way = chance.random()
-    if way < 0.15:
+    if way < 0.2:
         return _written(chance, chance.choice(KNOWN).splitlines())
-    return random_tree(chance) if way < 0.3 else random_table(chance)
+    return random_tree(chance) if way < 0.35 else random_table(chance)
 
 
 def random_table(chance: random.Random) -> bytes:
@@ -177,13 +177,18 @@ def _rule_name(chance: random.Random) -> str:
     return "".join(chance.choices("abcXYZ-_09!~", k=chance.randint(1, 6)))
 
 
+def _loose(chance: random.Random, sign: str) -> str:
+    """A sign of a line with blanks around it, where they mean nothing."""
+    return chance.choice(("", " ")) + sign + chance.choice(("", "\t")) if sign in ",:={}" else sign
+
+
 def _written(chance: random.Random, lines: Sequence[str]) -> bytes:
     """The lines with what means nothing between them: blanks, comments, other sections, other line ends."""
     found: List[str] = ["", " \t"] if chance.random() < 0.1 else []
     is_loose = chance.random() < 0.2
     for line in lines:
         if is_loose and not line.startswith("@"):
-            line = "".join(chance.choice(("", " ")) + it + chance.choice(("", "\t")) if it in ",:={}" else it for it in line)
+            line = "".join(_loose(chance, sign) for sign in line)
             line = f" {line}{chance.choice(['', '  ', ' # said'])}" if chance.random() < 0.5 else line
         if line in ("@TABLE", "@TREE") and chance.random() < 0.2:
             found += ["passed over", "@NAMES", "0 nothing", "@COLORS"]

@@ -83,6 +83,7 @@ class _Writing:
     def __post_init__(self) -> None:
         self.is_tame = self.chance.random() < 0.3
         self.new_rule = tame_rule if self.is_tame else wild_rule
+        self.is_branching = self.chance.random() < 0.5
         # Somebody who asks after nearly every edit, and seldom for another rule or start.
         self.is_curious = self.chance.random() < 0.4
 
@@ -94,6 +95,8 @@ class _Writing:
         if chance.random() < 0.8:
             self.offer(self.start_text() if chance.random() < 0.3 else b"set " + self.cells() + b"\n")
             self.offer(b"mark %d " % self.generation() + self.view() + b"\n")
+        for _ in range(3 if self.is_branching else 0):
+            self.offer(b"branch %d %d\n" % (self.branch(), self.generation()))
         for _ in range(40 if self.is_curious else chance.choice((3, 8, 15, 25))):
             self.offer(self.piece())
         if chance.random() < 0.03:
@@ -243,7 +246,7 @@ class _Writing:
         return b"window %d %d %d %d" % (left, top, chance.randint(1, 12), chance.randint(1, 9))
 
     def on(self) -> bytes:
-        return b"on %d " % self.branch() if self.document.branches and self.chance.random() < 0.6 else b""
+        return b"on %d " % self.branch() if self.document.branches and self.chance.random() < 0.8 else b""
 
     def branch(self) -> int:
         return 0 if self.chance.random() < 0.3 else self.id_of(self.document.branches)
