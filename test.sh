@@ -14,6 +14,12 @@ passed=0 failed=0
 log=$(mktemp) || exit 1
 trap 'rm -f "$log"' EXIT
 
+if ! [ -x "$DESK" ]; then
+    echo "there is no program $DESK; ./desk.sh builds it, and DESK names another one"
+    echo "0 passed, 1 failed"
+    exit 1
+fi
+
 begin() {
     title=$1 begun=$SECONDS
     echo "-- $title"
