@@ -86,6 +86,8 @@ class _Writing:
         self.is_branching = self.chance.random() < 0.5
         # Somebody who asks after nearly every edit, and seldom for another rule or start.
         self.is_curious = self.chance.random() < 0.4
+        # Somebody who follows patterns farther, which takes the model seconds.
+        self.is_patient = not self.is_curious and self.chance.random() < 0.02
 
     def script(self) -> bytes:
         chance = self.chance
@@ -122,7 +124,7 @@ class _Writing:
         if self.is_tame:
             set_again = (cells + 1) * (document.marks_of_what_repeats() + 1)
             return _is_tame(document.rule) and cells <= MOST_STANDING and set_again <= MOST_SET_AGAIN
-        return farthest <= _near(document.rule) and cells <= (MOST_GROWING if farthest else MOST_STANDING)
+        return farthest <= self.near(document.rule) and cells <= (MOST_GROWING if farthest else MOST_STANDING)
 
     def piece(self) -> bytes:
         """One or two commands, or a text."""
@@ -231,7 +233,12 @@ class _Writing:
             return chance.choice((*FAR, 1000, 8191, 8192, 12345678901234))
         if chance.random() < 0.02:
             return chance.choice(FAR)
-        return chance.randint(0, 6) if chance.random() < 0.7 else chance.randint(0, _near(self.document.rule))
+        return chance.randint(0, 6) if chance.random() < 0.7 else chance.randint(0, self.near(self.document.rule))
+
+    def near(self, rule: Rule) -> int:
+        """How far a pattern may be followed that grows under the rule: farther where it grows in rows alone."""
+        is_in_rows = isinstance(rule.kind, Table) and rule.kind.neighborhood is Neighborhood.ONE_DIMENSIONAL
+        return (NEAR_IN_ROWS if is_in_rows else NEAR) * (3 if self.is_patient else 1)
 
     def view(self) -> bytes:
         chance = self.chance
@@ -303,12 +310,6 @@ def is_small(ask: Text) -> bool:
         except Refused:
             return True
     return True
-
-
-def _near(rule: Rule) -> int:
-    """How far a pattern may be followed that grows under the rule: farther where it grows in rows alone."""
-    is_in_rows = isinstance(rule.kind, Table) and rule.kind.neighborhood is Neighborhood.ONE_DIMENSIONAL
-    return NEAR_IN_ROWS if is_in_rows else NEAR
 
 
 def _is_tame(rule: Rule) -> bool:
