@@ -1,9 +1,9 @@
 #!/usr/bin/env python3
 """Gives the program random scripts, and compares its replies with those that the model says.
 
-    model/differ.py [--count 300] [--seed WORD] [--jobs 1] [--desk PROGRAM]
+    model/differ.py [--count 300] [--seed WORD] [--jobs 1] [--damaged] [--desk PROGRAM]
 
-The script n of a seed is that of `model/scripts.py SEED/n`. Where a run has few squares, its replies may tell of that
+The script n of a seed is that of `model/scripts.py SEED/n`, or with --damaged what some changes of its bytes make of it. Where a run has few squares, its replies may tell of that
 in place of the plain ones. A script whose replies differ is printed with as few lines as still differ, and the last
 line counts.
 """
@@ -18,7 +18,8 @@ from dataclasses import dataclass
 from typing import Callable, Iterator, List, Optional
 
 from judge import NOTHING, SQUARES, Difference, judge
-from scripts import random_script, words_of
+from replies import Text, asked_by, replies_to
+from scripts import damaged_script, is_small, random_script, words_of
 from worlds import BeyondTheModel
 
 ROOT = os.path.dirname(os.path.dirname(os.path.realpath(__file__)))
@@ -75,23 +76,46 @@ def shrunk(script: bytes, differs: Callable[[bytes], bool]) -> bytes:
     return first + b"".join(lines)
 
 
-def verdict_on_seed(seed: str, program: str) -> Verdict:
-    return verdict_on(random_script(seed), program)
+def verdict_on_damaged(script: bytes, program: str) -> Verdict:
+    """The same of a script that may ask for more than the model, and so perhaps the program, can compute."""
+    try:
+        if not all(is_small(ask) for ask in asked_by(script) if isinstance(ask, Text)):
+            return Verdict(is_beyond=True)
+        for _ in replies_to(script):
+            pass
+    except BeyondTheModel:
+        return Verdict(is_beyond=True)
+    return verdict_on(script, program)
 
 
-def verdicts(seeds: List[str], program: str, jobs: int) -> Iterator[Verdict]:
-    """The verdicts on the scripts of some seeds, in order."""
-    if jobs == 1:
-        yield from (verdict_on_seed(seed, program) for seed in seeds)
-        return
-    with concurrent.futures.ProcessPoolExecutor(jobs) as pool:
-        yield from pool.map(verdict_on_seed, seeds, [program] * len(seeds), chunksize=8)
+@dataclass(frozen=True)
+class Comparison:
+    """Which scripts are compared, and on which program."""
 
+    program: str
+    is_damaged: bool
 
-def tell_shrunk(seed: str, program: str) -> None:
-    """Prints a script that differs, with as few lines as may be."""
-    script = shrunk(random_script(seed), lambda it: verdict_on(it, program).difference is not None)
-    print(f"{script.decode(errors='backslashreplace')}\n{verdict_on(script, program).difference}", flush=True)
+    def script(self, seed: str) -> bytes:
+        return damaged_script(seed) if self.is_damaged else random_script(seed)
+
+    def verdict(self, script: bytes) -> Verdict:
+        return (verdict_on_damaged if self.is_damaged else verdict_on)(script, self.program)
+
+    def verdict_on_seed(self, seed: str) -> Verdict:
+        return self.verdict(self.script(seed))
+
+    def verdicts(self, seeds: List[str], jobs: int) -> Iterator[Verdict]:
+        """The verdicts on the scripts of some seeds, in order."""
+        if jobs == 1:
+            yield from map(self.verdict_on_seed, seeds)
+            return
+        with concurrent.futures.ProcessPoolExecutor(jobs) as pool:
+            yield from pool.map(self.verdict_on_seed, seeds, chunksize=8)
+
+    def tell_shrunk(self, seed: str) -> None:
+        """Prints a script that differs, with as few lines as may be."""
+        script = shrunk(self.script(seed), lambda it: self.verdict(it).difference is not None)
+        print(f"{script.decode(errors='backslashreplace')}\n{self.verdict(script).difference}", flush=True)
 
 
 def main() -> int:
@@ -100,16 +124,18 @@ def main() -> int:
     words.add_argument("--first", type=int, default=0, help="the number of the first script")
     words.add_argument("--seed", default="1", help="any word, such as the name of a commit")
     words.add_argument("--jobs", type=int, default=1)
+    words.add_argument("--damaged", action="store_true")
     words.add_argument("--desk", default=f"{ROOT}/crates/desk/out/desk")
     given = words.parse_args()
     seeds = [f"{given.seed}/{number}" for number in range(given.first, given.first + given.count)]
+    comparison = Comparison(given.desk, given.damaged)
     failed = short = beyond = 0
-    for seed, verdict in zip(seeds, verdicts(seeds, given.desk, given.jobs)):
+    for seed, verdict in zip(seeds, comparison.verdicts(seeds, given.jobs)):
         if verdict.difference:
             failed += 1
             print(f"{seed}: FAILED, {verdict.difference}", flush=True)
             if failed <= MOST_SHRUNK:
-                tell_shrunk(seed, given.desk)
+                comparison.tell_shrunk(seed)
         short += verdict.short_replies > 0
         beyond += verdict.is_beyond
     print(f"seed {given.seed}: {short} scripts ran out of squares, {beyond} were beyond the model")

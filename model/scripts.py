@@ -57,6 +57,13 @@ def random_script(seed: str) -> bytes:
     return _Writing(random.Random(seed)).script()
 
 
+def damaged_script(seed: str) -> bytes:
+    """The same with some bytes changed anywhere behind its first line. What it asks for may be beyond the model."""
+    script = random_script(seed)
+    first, rest = script[: script.index(b"\n") + 1], script[script.index(b"\n") + 1 :]
+    return first + mutated(random.Random(seed), rest, [rest])
+
+
 def words_of(script: bytes) -> List[str]:
     """The program's words that a script's first line names."""
     line = script.partition(b"\n")[0]
