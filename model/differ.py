@@ -3,9 +3,9 @@
 
     model/differ.py [--count 300] [--seed WORD] [--jobs 1] [--damaged] [--desk PROGRAM]
 
-The script n of a seed is that of `model/scripts.py SEED/n`, or with --damaged what some changes of its bytes make of it. Where a run has few squares, its replies may tell of that
-in place of the plain ones. A script whose replies differ is printed with as few lines as still differ, and the last
-line counts.
+The script n of a seed is that of `model/scripts.py SEED/n`, or with --damaged what changes of some bytes make of it.
+Where a run has few squares, its replies may tell of that in place of the plain ones. A script whose replies differ is
+printed with as few lines as still differ, and the last line counts.
 """
 from __future__ import annotations
 
