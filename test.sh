@@ -4,9 +4,9 @@
 #     ./test.sh                 tests crates/desk/out/desk
 #     DESK=PROGRAM ./test.sh    tests another one
 #
-# These are the scripts of examples/, hostile use, refused allocations, the model's own tests and random scripts that
-# are compared with it, the clients, and the program's first build. Each part says what it does, and the last line counts all of them. The
-# random scripts are those of the present commit.
+# These are the scripts of examples/, hostile use, refused allocations, the model's own tests and random scripts
+# that are compared with it, the clients, and the program's first build. Each part says what it does, and the last
+# line counts all of them. The random scripts are those of the present commit.
 cd "$(dirname "$0")" || exit 1
 DESK=$(realpath -m "${DESK:-crates/desk/out/desk}")
 export DESK PYTHONDONTWRITEBYTECODE=1
