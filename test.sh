@@ -55,20 +55,7 @@ python_tests() {
     count $((good > 0 ? good : 0)) "$wrong"
 }
 
-examples() {
-    begin "scripts of examples/ with the replies beside them"
-    local good=0 wrong=0 script
-    for script in examples/*.script; do
-        if examples/check.sh "$script" "$DESK"; then
-            good=$((good + 1))
-        else
-            wrong=$((wrong + 1))
-        fi
-    done
-    count "$good" "$wrong"
-}
-
-examples
+counted "scripts of examples/ with the replies beside them, in nine ways each" 400 python3 examples/each_way.py "$DESK"
 counted "hostile use: signals, failing devices, little memory, huge scripts" 120 python3 hostile/check.py "$DESK"
 counted "allocations that are refused in turn" 120 python3 hostile/allocations.py "$DESK" --seconds 45
 python_tests "the model's own tests" 180 model/tests 'test*.py'
