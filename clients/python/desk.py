@@ -15,10 +15,12 @@ from __future__ import annotations
 import gzip
 import os
 import re
-import subprocess
 import warnings
 import zlib
-from typing import Dict, Iterable, List, NamedTuple, Optional, Tuple, Union
+from typing import Callable, Dict, Iterable, List, NamedTuple, Optional, Tuple, Union
+
+from exchange import Exchange, Reply, Taken
+from trouble import Ended, Pending, Refused, Trouble  # noqa: F401
 
 BUILT = os.path.normpath(f"{os.path.realpath(__file__)}/../../../crates/desk/out/desk")
 Cell = Tuple[int, int, int]  # x, y (downwards) and the state
@@ -35,6 +37,7 @@ class Window(NamedTuple):
 
 View = Union[str, Window]  # "counts", "rle", "mc" or a window
 Shown = Union[Dict[int, int], List[List[int]], str]
+Keep = Callable[[List[str]], None]  # it keeps what the words of a reply tell
 
 
 class Settling(NamedTuple):
@@ -46,30 +49,6 @@ class Settling(NamedTuple):
 
 class RuleNameWarning(UserWarning):
     """A pattern names another rule than the one that is used."""
-
-
-class Trouble(Exception):
-    """Why there is no answer: one of those below, or a file or a program that can't be used."""
-
-
-class Refused(Trouble):
-    """A command was refused and changed nothing. docs/REFUSALS.md explains each number.
-
-    `place` is the line in the user's own file, from 1, or None where there is no such line. `told`
-    is the number that the reply itself has: a line of what was sent, or a byte of a pattern.
-    """
-
-    def __init__(self, number: int, name: str, place: Optional[int], told: Optional[int], of: str) -> None:
-        self.number, self.name, self.place, self.told, self.of = number, name, place, told, of
-        super().__init__(f"{of}{'' if place is None else f', line {place}'}: refused {number} {name}")
-
-
-class Pending(Trouble):
-    """A bookmark has no text, since a settling ended before. `settle` tells the cause."""
-
-
-class Ended(Trouble):
-    """The program ended before it replied. The text has its exit status and what it wrote of it."""
 
 
 def text_of(path: str) -> bytes:
@@ -100,7 +79,10 @@ class Desk:
     """A running program with its document: a rule, a start, interventions, bookmarks and branches.
 
     It ends with the `with` block, or by `close`. A call waits for its reply. Where one raises Refused
-    nothing is changed, and the desk can be used on. `revision` is the document's.
+    nothing is changed, and the desk can be used on.
+
+    A call that is broken off, as by Ctrl-C, is done all the same if its command was sent; `revision` tells of
+    an edit. The next call waits until it is done, and `close` doesn't.
     """
 
     def __init__(self, program: Optional[str] = None, squares: Optional[int] = None) -> None:
@@ -110,15 +92,14 @@ class Desk:
         """
         words = [program or os.environ.get("DESK") or BUILT]
         words += [] if squares is None else [f"--squares={squares}"]
-        pipe = subprocess.PIPE
         try:
-            self._run = subprocess.Popen(words, stdin=pipe, stdout=pipe, stderr=pipe)
+            self._exchange = Exchange(words)
         except OSError as fault:
             how = "./desk.sh < examples/first_path.script builds it; DESK or --desk names another"
             raise Trouble(f"no program {words[0]} ({fault.strerror}): {how}") from fault
         self._views: Dict[int, View] = {}
         self._rule_name, self._pattern_rule = "", ""
-        self.revision = 0
+        self._revision = 0
 
     def __enter__(self) -> Desk:
         return self
@@ -128,14 +109,22 @@ class Desk:
 
     def close(self) -> None:
         """Ends the program, whatever it is at. It stores nothing, so nothing is lost."""
-        self._run.kill()
-        self._run.communicate()
+        self._exchange.close()
+
+    @property
+    def revision(self) -> int:
+        """The document's. Where a call was broken off, what it does is waited for."""
+        self._exchange.wait()
+        return self._revision
 
     def rule(self, path: str) -> None:
         """Takes the rule of a .rule file."""
         text = text_of(path)
-        self._edit("rule", text, path)
-        self._rule_name = _rule_named_by(text)
+
+        def keep(words: List[str]) -> None:
+            self._rule_name = _rule_named_by(text)
+
+        self._edit("rule", text, path, keep)
         self._compare_names()
 
     def start(self, path: str) -> int:
@@ -144,8 +133,11 @@ class Desk:
         The desk counts generations from 0 all the same.
         """
         text = text_of(path)
-        words = self._edit("start mc" if text.startswith(b"[M2]") else "start rle", text, path)
-        self._pattern_rule = _rule_named_by(text)
+
+        def keep(words: List[str]) -> None:
+            self._pattern_rule = _rule_named_by(text)
+
+        words = self._edit("start mc" if text.startswith(b"[M2]") else "start rle", text, path, keep)
         self._compare_names()
         return int(words[3])
 
@@ -183,9 +175,11 @@ class Desk:
         Gives its id. The view is "counts", "rle", "mc" or a Window.
         """
         said = view if isinstance(view, str) else "window " + " ".join(map(str, view))
-        bookmark = int(self._edit(f"{_branch_words(on)}mark {generation} {said}")[3])
-        self._views[bookmark] = view
-        return bookmark
+
+        def keep(words: List[str]) -> None:
+            self._views[int(words[3])] = view
+
+        return int(self._edit(f"{_branch_words(on)}mark {generation} {said}", keep=keep)[3])
 
     def move(self, bookmark: int, generation: int) -> None:
         """Moves a bookmark to another generation of its branch."""
@@ -213,7 +207,7 @@ class Desk:
 
     def settle(self) -> Settling:
         """Computes the texts of all bookmarks as far as memory and squares reach."""
-        words = self._ask("settle")
+        words = self._ask("settle").words
         return Settling(0, 0) if words == ["settled"] else Settling(int(words[1]), int(words[2]))
 
     def show(self, bookmark: int) -> Shown:
@@ -222,13 +216,10 @@ class Desk:
         Counts are a dict from each state that is there to its number of cells, a window is a list
         of rows of states, a pattern is its text. Raises Pending where it couldn't be computed.
         """
-        words = self._ask(f"show {bookmark}")
-        if words[2] == "pending":
+        reply = self._ask(f"show {bookmark}")
+        if reply.words[2] == "pending":
             raise Pending(f"bookmark {bookmark} is pending")
-        text = self._run.stdout.read(int(words[3])).decode("latin-1")
-        if len(text) < int(words[3]):
-            raise self._ended()
-        view = self._views[bookmark]
+        text, view = reply.text.decode("latin-1"), self._views[bookmark]
         if isinstance(view, str) and view != "counts":
             return text
         rows = [[int(it) for it in line.split()] for line in text.splitlines() if line != "empty"]
@@ -239,35 +230,29 @@ class Desk:
         if rule and named and rule != named:
             warnings.warn(f"the pattern names the rule {named}, and the rule is {rule}", RuleNameWarning, 3)
 
-    def _edit(self, command: str, text: Optional[bytes] = None, path: str = "") -> List[str]:
-        words = self._ask(command, text, path)
-        self.revision = int(words[1])
-        return words
+    def _edit(self, command: str, text: Optional[bytes] = None, path: str = "", keep: Optional[Keep] = None) -> List[str]:
+        """Sends an edit, and gives the words of its reply once they are kept, if it was accepted."""
 
-    def _ask(self, command: str, text: Optional[bytes] = None, path: str = "") -> List[str]:
-        """Sends a command and the text that belongs to it, and gives the words of the reply."""
+        def taken(reply: Reply) -> None:
+            if reply.words[0] == "ok":
+                self._revision = int(reply.words[1])
+                if keep:
+                    keep(reply.words)
+
+        return self._ask(command, text, path, taken).words
+
+    def _ask(self, command: str, text: Optional[bytes] = None, path: str = "", taken: Optional[Taken] = None) -> Reply:
+        """Sends a command and the text that belongs to it, and gives the reply."""
         sent = command.encode() + b"\n"
         if text is not None:
             if re.search(rb"(?m)^[ \t]*end[ \t]*\r?$", text):
                 raise Trouble(f"{path}: a line is just `end`, and would end the text")
             # A file's last line may lack its end, and `end` is a line of its own.
             sent += text + (b"end\n" if text.endswith(b"\n") or not text else b"\nend\n")
-        try:
-            self._run.stdin.write(sent)
-            self._run.stdin.flush()
-        except OSError as fault:
-            raise self._ended() from fault
-        line = self._run.stdout.readline()
-        if not line.endswith(b"\n"):
-            raise self._ended()
-        words = line.decode("latin-1").split()
-        if words[0] == "refused":
-            raise _refusal(words, text, path or f"`{command if len(command) < 60 else command[:57] + '...'}`")
-        return words
-
-    def _ended(self) -> Ended:
-        said = self._run.stderr.read().decode(errors="replace").strip()
-        return Ended(f"the program ended with status {self._run.wait()}{said and ': '}{said}")
+        reply = self._exchange.ask(sent, taken or (lambda reply: None))
+        if reply.words[0] == "refused":
+            raise _refusal(reply.words, text, path or f"`{command if len(command) < 60 else command[:57] + '...'}`")
+        return reply
 
 
 def _refusal(words: List[str], text: Optional[bytes], of: str) -> Refused:

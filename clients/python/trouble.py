@@ -1,0 +1,28 @@
+"""The exceptions of the clients: why there is no answer."""
+from __future__ import annotations
+
+from typing import Optional
+
+
+class Trouble(Exception):
+    """Why there is no answer: one of those below, or a file or a program that can't be used."""
+
+
+class Refused(Trouble):
+    """A command was refused and changed nothing. docs/REFUSALS.md explains each number.
+
+    `place` is the line in the user's own file, from 1, or None where there is no such line. `told`
+    is the number that the reply itself has: a line of what was sent, or a byte of a pattern.
+    """
+
+    def __init__(self, number: int, name: str, place: Optional[int], told: Optional[int], of: str) -> None:
+        self.number, self.name, self.place, self.told, self.of = number, name, place, told, of
+        super().__init__(f"{of}{'' if place is None else f', line {place}'}: refused {number} {name}")
+
+
+class Pending(Trouble):
+    """A bookmark has no text, since a settling ended before. `settle` tells the cause."""
+
+
+class Ended(Trouble):
+    """The program ended before it replied. The text has its exit status and what it wrote of it."""
