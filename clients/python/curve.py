@@ -2,7 +2,8 @@
 """How many cells each state has, from generation 0 up to another: a table, a CSV file, a plot.
 
 It asks the program `desk`, by desk.py beside it. It is no part of what is proved. The table goes to
-standard output, and how far it is to standard error. A plot needs matplotlib.
+standard output, and how far it is to standard error. A plot needs matplotlib. What is broken off by
+Ctrl-C writes the rows that it has.
 """
 from __future__ import annotations
 
@@ -24,6 +25,7 @@ REMEDIES = {
     71: "a step needs more squares than it may keep: --squares N allows more, and more --points make shorter steps",
     73: "the numbers of jobs are spent",
 }
+BROKEN_OFF = 130  # the exit status after Ctrl-C, as shells have it
 # A row of the table: a generation, and how many cells each state has that is there.
 Row = Tuple[int, Dict[int, int]]
 
@@ -111,42 +113,60 @@ def words() -> argparse.Namespace:
     return given
 
 
-def computed(given: argparse.Namespace) -> Tuple[List[Row], str]:
-    """The rows that could be computed, and why there are no more, or nothing."""
+def computed(given: argparse.Namespace) -> Tuple[List[Row], str, int]:
+    """The rows that could be computed, why there are no more, or nothing, and the exit status."""
     found: List[Row] = []
     at = generations(given.to, given.points)
-    with Desk(given.desk, given.squares) as desk:
-        desk.rule(given.rule)
-        if desk.start(given.pattern):
-            print("curve.py: the pattern's own generation isn't used, generations count from 0", file=sys.stderr)
-        try:
-            for row in told(rows(desk, at), len(at)):
-                found.append(row)
-        except Pending:
-            cause = desk.settle().cause
-            return found, f"generation {at[len(found)]} isn't computed: {REMEDIES.get(cause, f'cause {cause}')}"
-    return found, ""
+    try:
+        with Desk(given.desk, given.squares) as desk:
+            desk.rule(given.rule)
+            if desk.start(given.pattern):
+                print("curve.py: the pattern's own generation isn't used, generations count from 0", file=sys.stderr)
+            try:
+                for row in told(rows(desk, at), len(at)):
+                    found.append(row)
+            except Pending:
+                cause = desk.settle().cause
+                lack = f"generation {at[len(found)]} isn't computed: {REMEDIES.get(cause, f'cause {cause}')}"
+                return found, lack, 1
+    except KeyboardInterrupt:
+        return found, f"broken off with {len(found)} of {len(at)} bookmarks, {reached(found)}", BROKEN_OFF
+    return found, "", 0
+
+
+def reached(found: List[Row]) -> str:
+    """How far the rows go, in words."""
+    return f"up to generation {found[-1][0]}" if found else "no generation"
+
+
+def written(given: argparse.Namespace) -> int:
+    """Computes the rows and writes what there is of them, and gives the exit status."""
+    is_plotted = not given.png or can_plot()
+    found, lack, status = computed(given)
+    lines = table(found)
+    print(aligned(lines), flush=True)
+    if given.csv:
+        with open(given.csv, "w", encoding="utf-8", newline="") as file:
+            csv.writer(file, lineterminator="\n").writerows(lines)
+    if given.png and is_plotted:
+        plot(found, given.png, given.pattern)
+    if lack:
+        clear = "\r\033[K" if sys.stderr.isatty() else ""
+        print(f"{clear}curve.py: {lack}", file=sys.stderr)
+    return status or (0 if is_plotted else 1)
 
 
 def main() -> int:
     given = words()
     warnings.showwarning = lambda text, *_: print(f"curve.py: {text}", file=sys.stderr)
-    is_plotted = not given.png or can_plot()
     try:
-        found, lack = computed(given)
-        lines = table(found)
-        print(aligned(lines))
-        if given.csv:
-            with open(given.csv, "w", encoding="utf-8", newline="") as file:
-                csv.writer(file, lineterminator="\n").writerows(lines)
-        if given.png and is_plotted:
-            plot(found, given.png, given.pattern)
-        if lack:
-            raise Trouble(lack)
+        return written(given)
     except (Trouble, OSError) as fault:
         print(f"curve.py: {fault}", file=sys.stderr)
         return 1
-    return 0 if is_plotted else 1
+    except KeyboardInterrupt:
+        print("curve.py: broken off while writing", file=sys.stderr)
+        return BROKEN_OFF
 
 
 if __name__ == "__main__":

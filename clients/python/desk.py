@@ -230,7 +230,9 @@ class Desk:
         if rule and named and rule != named:
             warnings.warn(f"the pattern names the rule {named}, and the rule is {rule}", RuleNameWarning, 3)
 
-    def _edit(self, command: str, text: Optional[bytes] = None, path: str = "", keep: Optional[Keep] = None) -> List[str]:
+    def _edit(
+        self, command: str, text: Optional[bytes] = None, path: str = "", keep: Optional[Keep] = None
+    ) -> List[str]:
         """Sends an edit, and gives the words of its reply once they are kept, if it was accepted."""
 
         def taken(reply: Reply) -> None:

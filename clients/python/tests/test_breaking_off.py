@@ -138,7 +138,7 @@ class BreakingOffTest(unittest.TestCase):
             broken += is_broken_off(lambda: desk.show(marks[cut]), longest * moment / 40)
             asked = chosen.randrange(len(views))
             self.assertEqual(desk.show(marks[asked]), wanted[asked], (moment, cut, asked))
-        self.assertGreater(broken, 5)
+        self.assertGreater(broken, 3)
 
     def test_a_start_is_taken_or_not(self):
         soups = [rle(seed, 500) for seed in (1, 2)]
@@ -146,16 +146,16 @@ class BreakingOffTest(unittest.TestCase):
         desk = self.desk
         longest, last = duration(lambda: desk.start(paths[0])), 0
         mark, revision, broken = desk.mark(0, "counts"), 2, 0
-        for moment in range(40):
-            broken += is_broken_off(lambda: desk.start(paths[1 - last]), longest * 1.1 * moment / 40)
+        for moment in range(24):
+            broken += is_broken_off(lambda: desk.start(paths[1 - last]), longest * 1.1 * moment / 24)
             last, revision = (last, revision) if desk.revision == revision else (1 - last, revision + 1)
             self.assertEqual(desk.revision, revision)
             self.assertEqual(desk.show(mark), {1: soups[last][1]}, moment)
-        self.assertGreater(broken, 5)
-        self.assertGreater(revision, 7)
+        self.assertGreater(broken, 3)
+        self.assertGreater(revision, 4)
 
     def test_a_rule_is_taken_or_refused(self):
-        lines = "".join(f"0,{a},{b},0\n" for a in range(100) for b in range(100)) * 4
+        lines = "".join(f"0,{a},{b},0\n" for a in range(100) for b in range(100)) * 2
         head = "@RULE {}\n@TABLE\nn_states:{}\nneighborhood:oneDimensional\nsymmetries:none\n"
         paths = [self.file("many.rule", head.format("many", 100) + lines),
                  self.file("bad.rule", head.format("bad", 99) + lines)]

@@ -8,10 +8,12 @@ import csv
 import gzip
 import os
 import re
+import signal
 import struct
 import subprocess
 import sys
 import tempfile
+import time
 import unittest
 import warnings
 import zlib
@@ -190,6 +192,23 @@ class CurveTest(WithFiles):
         self.assertEqual(run.returncode, 1)
         self.assertIn("--squares N allows more", run.stderr)
         self.assertEqual(run.stdout.split()[-3:], ["0", "14", "4"])
+
+    def test_what_is_broken_off_keeps_what_is_known(self):
+        table = self.folder / "brain.csv"
+        words = ["examples/brain.rule", "examples/brain.rle", "--to", str(2**40), "--points", "2"]
+        run = [sys.executable, "-B", str(CLIENTS / "curve.py"), *words, "--csv", str(table), "--desk", PROGRAM]
+        pipe = subprocess.PIPE
+        for seconds in (1, 3, 9):  # a busy machine may need them for the first row
+            with subprocess.Popen(run, cwd=ROOT, stdout=pipe, stderr=pipe, text=True) as client:
+                time.sleep(seconds)
+                client.send_signal(signal.SIGINT)
+                output, errors = client.communicate(timeout=30)
+            if "broken off with 1 of 2" in errors:
+                break
+        self.assertEqual((client.returncode, errors),
+                         (130, "curve.py: broken off with 1 of 2 bookmarks, up to generation 0\n"))
+        self.assertEqual(output.split()[-3:], ["0", "14", "4"])
+        self.assertEqual(table.read_text(), "generation,state 1,state 2\n0,14,4\n")
 
     def test_a_plot_or_a_clear_word(self):
         plot = self.folder / "plot.png"
