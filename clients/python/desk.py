@@ -85,13 +85,22 @@ class Desk:
     an edit. The next call waits until it is done, and `close` doesn't.
     """
 
-    def __init__(self, program: Optional[str] = None, squares: Optional[int] = None) -> None:
+    def __init__(
+        self,
+        program: Optional[str] = None,
+        squares: Optional[int] = None,
+        workers: Optional[int] = None,
+        facts: Optional[int] = None,
+    ) -> None:
         """Starts the program: the one named, or the environment's DESK, or the repository's.
 
-        `squares` is how many squares the engine of a worker may hold, 64 to 16,777,216.
+        squares: how many squares the engine of a worker may hold, 64 to 16,777,216, each of about 48 bytes
+        workers: how many threads compute, 1 to 8
+        facts: how many results of steps are kept beyond those that the document needs, 1 to 4,096
         """
+        options = {"squares": squares, "workers": workers, "facts": facts}
         words = [program or os.environ.get("DESK") or BUILT]
-        words += [] if squares is None else [f"--squares={squares}"]
+        words += [f"--{name}={value}" for name, value in options.items() if value is not None]
         try:
             self._exchange = Exchange(words)
         except OSError as fault:
@@ -108,7 +117,10 @@ class Desk:
         self.close()
 
     def close(self) -> None:
-        """Ends the program, whatever it is at. It stores nothing, so nothing is lost."""
+        """Ends the program, whatever it is at. It stores nothing, so nothing is lost.
+
+        A call after it is a Trouble; to close again does nothing.
+        """
         self._exchange.close()
 
     @property

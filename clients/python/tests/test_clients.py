@@ -158,11 +158,34 @@ class DeskTest(WithFiles):
             with self.assertRaises(Pending):
                 desk.show(bookmark)
 
+    def test_options_reach_the_program(self):
+        least, most = {"squares": 64, "workers": 1, "facts": 1}, {"squares": 16777216, "workers": 8, "facts": 4096}
+        for options in (least, most):
+            with Desk(PROGRAM, **options) as desk:
+                self.assertEqual(desk.show(desk.mark(0, "counts")), {})
+        for options in (least, most):
+            for name, value in options.items():
+                beyond = value - 1 if options is least else value + 1
+                with self.subTest(name), Desk(PROGRAM, **{name: beyond}) as desk:
+                    with self.assertRaisesRegex(Ended, f"status 2: error: invalid value '{beyond}'.*--{name}"):
+                        desk.settle()
+
+    def test_a_closed_desk(self):
+        self.desk.set([(0, 0, 1)])
+        self.desk.close()
+        self.desk.close()
+        for call in (self.desk.settle, lambda: self.desk.set([(0, 0, 1)]), lambda: self.desk.show(1)):
+            with self.assertRaisesRegex(Trouble, "the desk is closed"):
+                call()
+        self.assertEqual(self.desk.revision, 1)
+
     def test_a_program_that_ends_early(self):
         quits = self.file("quits", "#!/bin/sh\nread line\necho no more >&2\nexit 3\n")
         os.chmod(quits, 0o755)
-        with Desk(quits) as desk, self.assertRaisesRegex(Ended, "status 3: no more"):
-            desk.mark(1, "counts")
+        with Desk(quits) as desk:
+            for _ in range(2):
+                with self.assertRaisesRegex(Ended, "status 3: no more"):
+                    desk.mark(1, "counts")
         with Desk(PROGRAM, squares=1) as desk, self.assertRaisesRegex(Ended, "status 2: error: invalid value '1'"):
             desk.settle()
 
