@@ -17,25 +17,13 @@ import os
 import re
 import warnings
 import zlib
-from typing import Callable, Dict, Iterable, List, NamedTuple, Optional, Tuple, Union
+from typing import Callable, Dict, Iterable, List, NamedTuple, Optional, Union
 
 from exchange import Exchange, Reply, Taken
-from trouble import Ended, Pending, Refused, Trouble  # noqa: F401
+from trouble import Ended, Malformed, Pending, Refused, Trouble  # noqa: F401
+from words import Cell, View, Window, branch_words, cell_words, checked_view, natural, view_words  # noqa: F401
 
 BUILT = os.path.normpath(f"{os.path.realpath(__file__)}/../../../crates/desk/out/desk")
-Cell = Tuple[int, int, int]  # x, y (downwards) and the state
-
-
-class Window(NamedTuple):
-    """The view of w by h cells, with the cell (x, y) at its left and top."""
-
-    x: int
-    y: int
-    w: int
-    h: int
-
-
-View = Union[str, Window]  # "counts", "rle", "mc" or a window
 Shown = Union[Dict[int, int], List[List[int]], str]
 Keep = Callable[[List[str]], None]  # it keeps what the words of a reply tell
 
@@ -65,14 +53,6 @@ def _rule_named_by(text: bytes) -> str:
     """The rule's name that a rule file, a macrocell text or an RLE text carries, or an empty one."""
     found = re.search(rb"(?m)^[ \t]*(?:@RULE |#R[ \t]+|x[ \t]*=[^\n]*?rule[ \t]*=[ \t]*)([^\n]*?)[ \t\r]*$", text)
     return found[1].decode("latin-1") if found else ""
-
-
-def _words_of(cells: Iterable[Cell]) -> str:
-    return " ".join(f"{x} {y} {state}" for x, y, state in cells)
-
-
-def _branch_words(on: int) -> str:
-    return f"on {on} " if on else ""
 
 
 class Desk:
@@ -155,11 +135,12 @@ class Desk:
 
     def set(self, cells: Iterable[Cell]) -> None:
         """Sets cells of the start. The last mention of a cell wins."""
-        self._edit(f"set {_words_of(cells)}")
+        self._edit(f"set {cell_words(cells)}")
 
     def at(self, generation: int, cells: Iterable[Cell], on: int = 0) -> int:
         """Adds an intervention, which sets cells at a generation of the branch `on`, and gives its id."""
-        return int(self._edit(f"{_branch_words(on)}at {generation} set {_words_of(cells)}")[3])
+        when = f"{branch_words(on)}at {natural(generation, 'the generation')}"
+        return int(self._edit(f"{when} set {cell_words(cells)}")[3])
 
     def every(self, distance: int, first: int, last: int, cells: Iterable[Cell], on: int = 0) -> int:
         """Adds an intervention that sets cells again and again, and gives its id.
@@ -167,39 +148,42 @@ class Desk:
         It acts at the generation `first` of the branch `on`, and at each that is `distance` after one
         at which it acts, up to `last`.
         """
-        return int(self._edit(f"{_branch_words(on)}every {distance} {first} {last} set {_words_of(cells)}")[3])
+        when = f"{branch_words(on)}{_every_words(distance, first, last)}"
+        return int(self._edit(f"{when} set {cell_words(cells)}")[3])
 
     def change(self, intervention: int, generation: int, cells: Iterable[Cell]) -> None:
         """Lets an intervention act once, at a generation of its branch, with these cells."""
-        self._edit(f"change {intervention} {generation} set {_words_of(cells)}")
+        which, when = natural(intervention, "the intervention"), natural(generation, "the generation")
+        self._edit(f"change {which} {when} set {cell_words(cells)}")
 
     def repeat(self, intervention: int, distance: int, first: int, last: int, cells: Iterable[Cell]) -> None:
         """Lets an intervention act again and again, as one of `every` does, with these cells."""
-        self._edit(f"change {intervention} every {distance} {first} {last} set {_words_of(cells)}")
+        which, when = natural(intervention, "the intervention"), _every_words(distance, first, last)
+        self._edit(f"change {which} {when} set {cell_words(cells)}")
 
     def drop(self, intervention: int) -> None:
         """Removes an intervention."""
-        self._edit(f"drop {intervention}")
+        self._edit(f"drop {natural(intervention, 'the intervention')}")
 
     def mark(self, generation: int, view: View, on: int = 0) -> int:
         """Adds a bookmark of the branch `on`, which shows the view after its own generation's interventions.
 
         Gives its id. The view is "counts", "rle", "mc" or a Window.
         """
-        said = view if isinstance(view, str) else "window " + " ".join(map(str, view))
+        kept_view, when = checked_view(view), f"mark {natural(generation, 'the generation')}"
 
         def keep(words: List[str]) -> None:
-            self._views[int(words[3])] = view
+            self._views[int(words[3])] = kept_view
 
-        return int(self._edit(f"{_branch_words(on)}mark {generation} {said}", keep=keep)[3])
+        return int(self._edit(f"{branch_words(on)}{when} {view_words(kept_view)}", keep=keep)[3])
 
     def move(self, bookmark: int, generation: int) -> None:
         """Moves a bookmark to another generation of its branch."""
-        self._edit(f"move {bookmark} {generation}")
+        self._edit(f"move {natural(bookmark, 'the bookmark')} {natural(generation, 'the generation')}")
 
     def unmark(self, bookmark: int) -> None:
         """Removes a bookmark."""
-        self._edit(f"unmark {bookmark}")
+        self._edit(f"unmark {natural(bookmark, 'the bookmark')}")
 
     def branch(self, parent: int, generation: int) -> int:
         """Adds a branch, which leaves its parent at a generation, and gives its number.
@@ -207,11 +191,11 @@ class Desk:
         It begins with the parent's pattern after the interventions of that generation. Branch 0 is there
         from the beginning.
         """
-        return int(self._edit(f"branch {parent} {generation}")[3])
+        return int(self._edit(f"branch {natural(parent, 'the parent')} {natural(generation, 'the generation')}")[3])
 
     def unbranch(self, branch: int) -> None:
         """Removes a branch without interventions and bookmarks, which no other one leaves."""
-        self._edit(f"unbranch {branch}")
+        self._edit(f"unbranch {natural(branch, 'the branch')}")
 
     def work(self) -> None:
         """Lets the workers begin with what is pending, and doesn't wait for them."""
@@ -228,6 +212,7 @@ class Desk:
         Counts are a dict from each state that is there to its number of cells, a window is a list
         of rows of states, a pattern is its text. Raises Pending where it couldn't be computed.
         """
+        bookmark = natural(bookmark, "the bookmark")
         reply = self._ask(f"show {bookmark}")
         if reply.words[2] == "pending":
             raise Pending(f"bookmark {bookmark} is pending")
@@ -267,6 +252,11 @@ class Desk:
         if reply.words[0] == "refused":
             raise _refusal(reply.words, text, path or f"`{command if len(command) < 60 else command[:57] + '...'}`")
         return reply
+
+
+def _every_words(distance: int, first: int, last: int) -> str:
+    numbers = natural(distance, "the distance"), natural(first, "the first"), natural(last, "the last")
+    return "every {} {} {}".format(*numbers)
 
 
 def _refusal(words: List[str], text: Optional[bytes], of: str) -> Refused:

@@ -8,6 +8,10 @@ class Trouble(Exception):
     """Why there is no answer: one of those below, or a file or a program that can't be used."""
 
 
+class Malformed(Trouble, ValueError):
+    """A call was given what no command can have. Nothing was sent, and the desk can be used on."""
+
+
 class Refused(Trouble):
     """A command was refused and changed nothing. docs/REFUSALS.md explains each number.
 

@@ -24,7 +24,18 @@ ROOT = Path(__file__).resolve().parents[3]
 CLIENTS, EXAMPLES = ROOT / "clients/python", ROOT / "examples"
 sys.path.insert(0, str(CLIENTS))
 
-from desk import BUILT, Desk, Ended, Pending, Refused, RuleNameWarning, Settling, Trouble, Window  # noqa: E402
+from desk import (  # noqa: E402
+    BUILT,
+    Desk,
+    Ended,
+    Malformed,
+    Pending,
+    Refused,
+    RuleNameWarning,
+    Settling,
+    Trouble,
+    Window,
+)
 from picture import Squares, colors_of, framed  # noqa: E402
 
 PROGRAM = os.environ.get("DESK") or BUILT
@@ -118,7 +129,6 @@ class DeskTest(WithFiles):
             (lambda: self.desk.start(bad_mc), 32, "BadChild", 4, f"{bad_mc}, line 4: refused 32 BadChild"),
             (lambda: self.desk.set([(0, 0, 2)]), 42, "CellStateTooHigh", None,
              "`set 0 0 2`: refused 42 CellStateTooHigh"),
-            (lambda: self.desk.set([]), 80, "BadCommand", None, "`set `: refused 80 BadCommand"),
         ]
         for call, number, name, place, text in cases:
             with self.subTest(name), self.assertRaises(Refused) as caught:
@@ -127,6 +137,64 @@ class DeskTest(WithFiles):
             self.assertEqual((found.number, found.name, found.place, str(found)), (number, name, place, text))
         self.desk.set([(0, 0, 1)])
         self.assertEqual(self.desk.show(self.desk.mark(0, "counts")), {1: 1})
+
+    def test_what_no_command_can_have_is_not_sent(self):
+        desk, cell = self.desk, [(0, 0, 1)]
+        kinds = '"counts", "rle", "mc" or a Window of four integers'
+        cases = [
+            (lambda: desk.mark(5, "count"), kinds),
+            (lambda: desk.mark(5, "rle\nset 0 0 1"), kinds),
+            (lambda: desk.mark(5, "abcd"), kinds),
+            (lambda: desk.mark(5, None), kinds),
+            (lambda: desk.mark(5, (0, 0, 1)), kinds),
+            (lambda: desk.mark(5, (0, 0, 1, 1.0)), kinds),
+            (lambda: desk.mark(5, Window(0, 0, -1, 1)), kinds),
+            (lambda: desk.mark(5, Window(0, 0, "1\nset 0 0 1", 1)), kinds),
+            (lambda: desk.mark(-1, "counts"), "the generation is -1, and can't be negative"),
+            (lambda: desk.mark("5 counts\nset 0 0 1\nmark 5", "counts"), "the generation is '5 c.*integer"),
+            (lambda: desk.mark(1.0, "counts"), "the generation is 1.0"),
+            (lambda: desk.mark(1, "counts", on="0 "), "the branch is '0 '"),
+            (lambda: desk.set([]), "there are no cells"),
+            (lambda: desk.at(1, iter(())), "there are no cells"),
+            (lambda: desk.every(1, 1, 2, []), "there are no cells"),
+            (lambda: desk.change(1, 2, []), "there are no cells"),
+            (lambda: desk.repeat(1, 1, 1, 2, []), "there are no cells"),
+            (lambda: desk.set(None), "cells are a list of them, and not None"),
+            (lambda: desk.set([(0, 0)]), r"three integers, x, y and a state, and not \(0, 0\)"),
+            (lambda: desk.set([(0, 0, 1, 1)]), "three integers"),
+            (lambda: desk.set([5]), "three integers"),
+            (lambda: desk.set([(0, 0, "1")]), "three integers.*the state is '1'"),
+            (lambda: desk.set([(0, 0.5, 1)]), "three integers.*y is 0.5"),
+            (lambda: desk.set([(0, 0, -1)]), "three integers.*can't be negative"),
+            (lambda: desk.every(1, -1, 2, cell), "the first is -1"),
+            (lambda: desk.drop("1"), "the intervention is '1'"),
+            (lambda: desk.move(1, None), "the generation is None"),
+            (lambda: desk.show("1\nquit"), "the bookmark is "),
+            (lambda: desk.branch(0, -2), "the generation is -2"),
+            (lambda: desk.unbranch(None), "the branch is None"),
+        ]
+        for number, (call, text) in enumerate(cases):
+            with self.subTest(number), self.assertRaisesRegex(Malformed, text) as caught:
+                call()
+            self.assertIsInstance(caught.exception, Trouble)
+            self.assertIsInstance(caught.exception, ValueError)
+        self.assertEqual(desk.revision, 0)
+        self.assertEqual(desk.show(desk.mark(0, (0, 0, 2, 1))), [[0, 0]])
+
+    def test_what_has_a_better_reason_is_left_to_the_program(self):
+        far = 2**70
+        cases = [
+            (lambda: self.desk.mark(far, "counts"), "GenerationTooFar"),
+            (lambda: self.desk.mark(0, Window(0, 0, 0, 1)), "BadWindow"),
+            (lambda: self.desk.set([(far, 0, 1)]), "CellOutOfRange"),
+            (lambda: self.desk.set([(0, 0, far)]), "CellStateTooHigh"),
+            (lambda: self.desk.set([(0, 0, 1)] * 10001), "TooManyCells"),
+            (lambda: self.desk.drop(far), "NoSuchIntervention"),
+        ]
+        for call, name in cases:
+            with self.assertRaises(Refused) as caught:
+                call()
+            self.assertEqual(caught.exception.name, name)
 
     def test_names_of_rules_are_compared(self):
         rule, named = self.file("x.rule", X_RULE), "x = 1, y = 1, rule = {}\no!\n"
