@@ -261,7 +261,20 @@ def _every_words(distance: int, first: int, last: int) -> str:
 
 def _refusal(words: List[str], text: Optional[bytes], of: str) -> Refused:
     """What a reply of refusal says, its place as a line of the file whose text was sent."""
-    told = int(words[3]) if len(words) > 3 else None
-    is_byte = text is not None and words[2] == "BadRun"
-    place = text[:told].count(b"\n") + 1 if is_byte else None if text is None else told
-    return Refused(int(words[1]), words[2], place, told, of)
+    number, name, told = int(words[1]), words[2], int(words[3]) if len(words) > 3 else None
+    if text is None or told is None:
+        return Refused(number, name, None, told, of)
+    is_byte = name == "BadRun"
+    place = text.count(b"\n", 0, told) + 1 if is_byte else told
+    lines = text.split(b"\n", place)
+    line = lines[place - 1] if place <= len(lines) else b""
+    column = told - (text.rfind(b"\n", 0, told) + 1) if is_byte else 0
+    return Refused(number, name, place, told, of, _shortened(line.decode(errors="replace"), column))
+
+
+def _shortened(line: str, column: int) -> str:
+    """A line, or of a long one what stands about a column; signs that can't be printed are replaced."""
+    first = max(0, min(column - 30, len(line) - 60)) if len(line) > 60 else 0
+    cut = line[first:first + 60].replace("\t", " ").strip()
+    shown = "".join(it if it.isprintable() else "\ufffd" for it in cut)
+    return f"{'...' if first else ''}{shown}{'...' if first + 60 < len(line) else ''}"

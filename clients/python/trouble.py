@@ -15,13 +15,17 @@ class Malformed(Trouble, ValueError):
 class Refused(Trouble):
     """A command was refused and changed nothing. docs/REFUSALS.md explains each number.
 
-    `place` is the line in the user's own file, from 1, or None where there is no such line. `told`
-    is the number that the reply itself has: a line of what was sent, or a byte of a pattern.
+    `place` is the line in the user's own file, from 1, or None where there is no such line, and `line`
+    is its text, shortened. `told` is the number that the reply itself has: a line of what was sent, or a
+    byte of a pattern.
     """
 
-    def __init__(self, number: int, name: str, place: Optional[int], told: Optional[int], of: str) -> None:
-        self.number, self.name, self.place, self.told, self.of = number, name, place, told, of
-        super().__init__(f"{of}{'' if place is None else f', line {place}'}: refused {number} {name}")
+    def __init__(
+        self, number: int, name: str, place: Optional[int], told: Optional[int], of: str, line: str = ""
+    ) -> None:
+        self.number, self.name, self.place, self.told, self.of, self.line = number, name, place, told, of, line
+        where, what = "" if place is None else f", line {place}", f": `{line}`" if line else ""
+        super().__init__(f"{of}{where}: refused {number} {name}{what}")
 
 
 class Pending(Trouble):

@@ -123,10 +123,11 @@ class DeskTest(WithFiles):
         bad_rule = self.file("bad.rule", X_RULE.replace("1,0,0,0", "# fine\n1,0,0"))
         bad_rle = self.file("bad.rle", "#C a comment\nx = 3, y = 3\no$o$\n?o!\n")
         bad_mc = self.file("bad.mc", "[M2]\n1 0 1 0 0\n\n3 1 0 0 0\n")
+        end = "refused 8 BadTransition: `1,0,0`"
         cases = [
-            (lambda: self.desk.rule(bad_rule), 8, "BadTransition", 9, f"{bad_rule}, line 9: refused 8 BadTransition"),
-            (lambda: self.desk.start(bad_rle), 22, "BadRun", 4, f"{bad_rle}, line 4: refused 22 BadRun"),
-            (lambda: self.desk.start(bad_mc), 32, "BadChild", 4, f"{bad_mc}, line 4: refused 32 BadChild"),
+            (lambda: self.desk.rule(bad_rule), 8, "BadTransition", 9, f"{bad_rule}, line 9: {end}"),
+            (lambda: self.desk.start(bad_rle), 22, "BadRun", 4, f"{bad_rle}, line 4: refused 22 BadRun: `?o!`"),
+            (lambda: self.desk.start(bad_mc), 32, "BadChild", 4, f"{bad_mc}, line 4: refused 32 BadChild: `3 1 0 0 0`"),
             (lambda: self.desk.set([(0, 0, 2)]), 42, "CellStateTooHigh", None,
              "`set 0 0 2`: refused 42 CellStateTooHigh"),
         ]
@@ -137,6 +138,19 @@ class DeskTest(WithFiles):
             self.assertEqual((found.number, found.name, found.place, str(found)), (number, name, place, text))
         self.desk.set([(0, 0, 1)])
         self.assertEqual(self.desk.show(self.desk.mark(0, "counts")), {1: 1})
+
+    def test_long_lines_are_shortened_in_a_refusal(self):
+        row, o = "bo" * 100, "o" * 100
+        cases = [
+            ("a.rule", X_RULE + "1,1,0," + o + "\r\n", f"line 10: refused 8 BadTransition: `1,1,0,{o[:54]}...`"),
+            ("b.rle", f"x = 9, y = 9\n{row}$\n{row}?{row}!\n", f"line 3: .*: `...{row[:30]}[?]{row[:29]}...`"),
+            ("c.rle", f"x = 9, y = 9\n{row}?", f"line 2: refused 22 BadRun: `...{'ob' * 29}o[?]`"),
+            ("d.rle", "x = 9, y = 9\no\x1bo!\r\n", "line 2: refused 22 BadRun: `o\ufffdo!`"),
+        ]
+        for name, text, told in cases:
+            path = self.file(name, text)
+            with self.subTest(name), self.assertRaisesRegex(Refused, told + "$"):
+                (self.desk.rule if name.endswith("rule") else self.desk.start)(path)
 
     def test_what_no_command_can_have_is_not_sent(self):
         desk, cell = self.desk, [(0, 0, 1)]
