@@ -17,9 +17,11 @@ import os
 import re
 import warnings
 import zlib
+from codecs import BOM_UTF8
 from typing import Callable, Dict, Iterable, List, NamedTuple, Optional, Union
 
 from exchange import Exchange, Reply, Taken
+from lifelike import is_same_rule, rule_text
 from trouble import Ended, Malformed, Pending, Refused, Trouble  # noqa: F401
 from words import Cell, View, Window, branch_words, cell_words, checked_view, natural, view_words  # noqa: F401
 
@@ -40,13 +42,14 @@ class RuleNameWarning(UserWarning):
 
 
 def text_of(path: str) -> bytes:
-    """A file's bytes, unpacked where gzip packed them."""
+    """A file's bytes, unpacked where gzip packed them, without a byte order mark."""
     try:
         with open(path, "rb") as file:
             found = file.read()
-        return gzip.decompress(found) if found.startswith(b"\x1f\x8b") else found
+        found = gzip.decompress(found) if found.startswith(b"\x1f\x8b") else found
     except (OSError, EOFError, zlib.error) as fault:
         raise Trouble(f"{path}: {getattr(fault, 'strerror', None) or fault}") from fault
+    return found[len(BOM_UTF8):] if found.startswith(BOM_UTF8) else found
 
 
 def _rule_named_by(text: bytes) -> str:
@@ -111,12 +114,12 @@ class Desk:
 
     def rule(self, path: str) -> None:
         """Takes the rule of a .rule file."""
-        text = text_of(path)
+        self._take_rule(text_of(path), path)
+        self._compare_names()
 
-        def keep(words: List[str]) -> None:
-            self._rule_name = _rule_named_by(text)
-
-        self._edit("rule", text, path, keep)
+    def lifelike(self, name: str) -> None:
+        """Takes a Life-like rule by its name, as B3/S23 or 23/3, or B2/S345/C4 or 345/2/4 for one of Generations."""
+        self._take_rule(rule_text(name).encode(), name)
         self._compare_names()
 
     def start(self, path: str) -> int:
@@ -222,9 +225,15 @@ class Desk:
         rows = [[int(it) for it in line.split()] for line in text.splitlines() if line != "empty"]
         return dict(rows) if view == "counts" else rows
 
+    def _take_rule(self, text: bytes, path: str) -> None:
+        def keep(words: List[str]) -> None:
+            self._rule_name = _rule_named_by(text)
+
+        self._edit("rule", text, path, keep)
+
     def _compare_names(self) -> None:
         rule, named = self._rule_name, self._pattern_rule
-        if rule and named and rule != named:
+        if rule and named and not is_same_rule(rule, named):
             warnings.warn(f"the pattern names the rule {named}, and the rule is {rule}", RuleNameWarning, 3)
 
     def _edit(

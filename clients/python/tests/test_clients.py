@@ -222,6 +222,31 @@ class DeskTest(WithFiles):
         with self.assertWarns(RuleNameWarning):
             self.desk.start(self.file("other.mc", "[M2]\n#R Z\n1 1 0 0 0\n"))
 
+    def test_spellings_of_one_rule_are_the_same(self):
+        self.desk.lifelike("B3/S23")
+        named = "x = 1, y = 1, rule = {}\no!\n"
+        with warnings.catch_warnings():
+            warnings.simplefilter("error")
+            for name in ("b3s23", "23/3", "Life", "Conway's Life", "S23/B3"):
+                self.desk.start(self.file("same.rle", named.format(name)))
+            self.desk.start(self.file("same.mc", "[M2]\n#R life\n1 1 0 0 0\n"))
+        with self.assertWarnsRegex(RuleNameWarning, "names the rule b36s23, and the rule is B3/S23") as caught:
+            self.desk.start(self.file("other.rle", named.format("b36s23")))
+        self.assertEqual(caught.filename, __file__)
+        with self.assertWarnsRegex(RuleNameWarning, "the rule is B2/S") as caught:
+            self.desk.lifelike("B2/S")
+        self.assertEqual(caught.filename, __file__)
+
+    def test_a_byte_order_mark_is_taken_off(self):
+        mark = "\ufeff"
+        self.desk.rule(self.file("x.rule", mark + X_RULE))
+        self.desk.start(self.file("x.rle", mark + "x = 2, y = 1, rule = X\n2o!"))
+        self.desk.start(self.file("x.rle.gz", gzip.compress((mark + "x = 2, y = 1, rule = X\n2o!").encode())))
+        self.desk.start(self.file("x.mc", mark + "[M2]\n#R X\n1 1 0 0 0\n"))
+        self.assertEqual(self.desk.revision, 4)
+        with self.assertRaisesRegex(Refused, "bad.rle, line 2: refused 22 BadRun: `o[?]!`"):
+            self.desk.start(self.file("bad.rle", mark + "x = 2, y = 1\no?!"))
+
     def test_what_cannot_be_sent_or_read(self):
         for name, text in (("end.rule", X_RULE + " end \n"), ("cut.gz", gzip.compress(b"x" * 99)[:-9])):
             with self.subTest(name), self.assertRaisesRegex(Trouble, name):
