@@ -6,6 +6,7 @@ that a signal raises comes in the main thread alone. So no command gets a reply 
 """
 from __future__ import annotations
 
+import os
 import signal
 import subprocess
 import threading
@@ -50,7 +51,8 @@ class Exchange:
         # A simple queue is in no state between two that a broken-off call could leave it in.
         self._requests: SimpleQueue[Optional[Request]] = SimpleQueue()
         threading.Thread(target=_serve, args=(self._run, self._requests), daemon=True).start()
-        weakref.finalize(self, _end, self._run, self._requests)
+        self._owner = os.getpid()
+        weakref.finalize(self, _end, self._owner, self._run, self._requests)
 
     def ask(self, sent: bytes, taken: Taken = _ignored) -> Reply:
         """Sends a command and waits for its reply.
@@ -68,19 +70,23 @@ class Exchange:
 
     def close(self) -> None:
         """Ends the program, whatever it is at. A second time does nothing."""
-        self._run.kill()
+        if os.getpid() == self._owner:
+            self._run.kill()
         self._answer(None, _ignored)
 
     def _answer(self, sent: Optional[bytes], taken: Taken) -> Union[Reply, Trouble]:
+        if os.getpid() != self._owner:  # a fork has no thread
+            return Trouble("the desk is one of another process")
         request = Request(sent, taken, SimpleQueue())
         self._requests.put(request)
         return request.answers.get()
 
 
-def _end(run: subprocess.Popen[bytes], requests: SimpleQueue[Optional[Request]]) -> None:
-    """Ends the program and the thread of an exchange that nothing refers to."""
-    run.kill()
-    requests.put(None)
+def _end(owner: int, run: subprocess.Popen[bytes], requests: SimpleQueue[Optional[Request]]) -> None:
+    """Ends the program and the thread of an exchange that nothing refers to, but not from a fork of its process."""
+    if os.getpid() == owner:
+        run.kill()
+        requests.put(None)
 
 
 def _serve(run: subprocess.Popen[bytes], requests: SimpleQueue[Optional[Request]]) -> None:

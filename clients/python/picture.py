@@ -210,6 +210,9 @@ def main() -> int:
         how = "; --squares N gives the engine more room" if isinstance(fault, Pending) else ""
         print(f"picture.py: {fault}{how}", file=sys.stderr)
         return 1
+    except KeyboardInterrupt:
+        print("picture.py: broken off", file=sys.stderr)
+        return 130
     scale = f", {frame.step} by {frame.step} cells a pixel" if frame.step > 1 else ""
     print(f"picture.py: {frame.w} by {frame.h} from ({frame.x}, {frame.y}){scale}", file=sys.stderr)
     return 0

@@ -387,6 +387,18 @@ class PictureTest(WithFiles):
         self.assertEqual(live, wanted)
         self.assertEqual(framed(Window(-3, 5, 9, 1), 4, 4)[:], (-4, 4, 3, 1, 4))
 
+    def test_what_is_broken_off_says_so(self):
+        words = ["examples/brain.rule", "examples/brain.rle", "--at", str(2**40), "--desk", PROGRAM]
+        run = [sys.executable, "-B", str(CLIENTS / "picture.py"), *words]
+        for seconds in (1, 3, 9):  # a busy machine may need them to begin
+            with subprocess.Popen(run, cwd=ROOT, stderr=subprocess.PIPE, text=True) as client:
+                time.sleep(seconds)
+                client.send_signal(signal.SIGINT)
+                errors = client.communicate(timeout=30)[1]
+            if client.returncode == 130:
+                break
+        self.assertEqual((client.returncode, errors), (130, "picture.py: broken off\n"))
+
     def test_colors(self):
         colors = b"0 0 200 0 200 0 from, to\n# no\n2 1 2 3 two\n"
         found = colors_of(b"@RULE C\n@TABLE\nn_states:4\n@COLORS\n" + colors + b"@ICONS\n3 9 9 9\n")
