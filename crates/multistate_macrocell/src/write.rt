@@ -1,6 +1,5 @@
 //! Writing a macrocell file.
-ghost use Rattle.std.specs.Prelude.{◌≡◌, ◌≤◌, ◌∷◌, ◌++◌, [], length, IfOk, OnOk, decimal};
-ghost use Rattle.plane_core.specs.WorldRows.{rows_of};
+ghost use Rattle.std.specs.Prelude.{◌≡◌, ◌∷◌, ◌++◌, [], IfOk, OnOk, decimal};
 ghost use Rattle.multistate_macrocell.specs.Lines.{heading_text, row_line};
 ghost use Rattle.multistate_macrocell.specs.PatternText.{macrocell_text, nodes_of};
 ghost use Rattle.macrocell_lines.specs.WrittenText.{written_text};
@@ -12,17 +11,16 @@ use std::alloc::{AllocError, Global};
 /// The text of the plane's pattern at a generation, under a rule of this name.
 ///
 /// Behind the lines of the name and the generation stands a line for each of the plane's rows of
-/// squares, in their order, by its level and its quadrants nw, ne, sw and se, at most 16,777,216. So
-/// the empty pattern is the one line `1 0 0 0 0`.
+/// squares, in their order, by its level and its quadrants nw, ne, sw and se. So the empty pattern is
+/// the one line `1 0 0 0 0`. A text of more than 16,777,216 nodes is beyond what `read_mc` takes.
 pub fn write_mc(
     alloc: Global,
     plane: &Plane,
     name: &[u8],
     generation: u64,
 ) -> Result<Vec<u8>, AllocError>
-    ensures text { IfOk result (λ text.
+    ensures { IfOk result (λ text.
         text.items ≡ macrocell_text plane.now name.now generation) }
-    ensures few { IfOk result (λ _. length (rows_of plane.now) ≤ 16777216) }
 {
     let rows = plane.squares()?;
     text_of(alloc, &rows, name, generation)

@@ -7,6 +7,6 @@ pub mod Walking
 pub mod Validity
 pub mod Laying
 pub mod Blocks
-pub mod Gathering
+pub mod Entries
 pub mod Written
 pub mod Boxed

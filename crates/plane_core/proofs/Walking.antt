@@ -1,5 +1,5 @@
 -- A walk over rows, step by step.
-use Rattle.std.proofs.Common.{◌≡◌, ℕ, zero, suc, ◌-◌, ◌<◌, ◌≤◌, List, length, get_or, Option, Some, None, sym, ap, ◌∙◌, subst, arith, inl, inr, get_or-set_same, get_or-set_other}
+use Rattle.std.proofs.Common.{◌≡◌, ℕ, zero, suc, ◌-◌, ◌<◌, ◌≤◌, ◌^◌, List, length, get_or, Option, Some, None, sym, ap, ◌∙◌, subst, arith, inl, inr, get_or-set_same, get_or-set_other}
 use Rattle.std.proofs.lemmas.Bool.{cases_eq}
 use Rattle.std.proofs.Math.ListN.{set}
 use Rattle.std.proofs.lemmas.List.{length-set}
@@ -44,7 +44,7 @@ walks-four rows d0 d1 d2 d3 d4 d5 (suc k) (suc i) a b c d m hk hn =
     subst (λ p. P (suc k - 1) p) one_less (subst (λ j. P j i) less here)
 
 -- one more row is remembered
-pub remembers-more : (rows d0 d4 d5 : List SquareRow) (numbers : List (Option ℕ)) (k n m : ℕ) → 0 < k → 0 < n → IsNumber rows k n → Remembers rows d4 numbers → Grows d4 d5 → length d5 ≤ 16777216 → Walks k (square_in rows k n) d0 d5 m
+pub remembers-more : (rows d0 d4 d5 : List SquareRow) (numbers : List (Option ℕ)) (k n m : ℕ) → 0 < k → 0 < n → IsNumber rows k n → Remembers rows d4 numbers → Grows d4 d5 → length d5 < 2 ^ 32 → Walks k (square_in rows k n) d0 d5 m
     → Remembers rows d5 (set numbers (n - 1) (Some m))
 remembers-more rows d0 d4 d5 numbers zero n m hk hn h r g few walks = absurd (omega (arith, hk))
 remembers-more rows d0 d4 d5 numbers (suc k) n m hk hn h r g few walks =

@@ -3,7 +3,6 @@ pub mod Walks
 pub mod Centre
 pub mod Measures
 pub mod Laid
-pub mod Entries
 pub mod Counts
 pub mod WorldRows
 pub mod Laws

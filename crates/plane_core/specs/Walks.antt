@@ -1,5 +1,5 @@
 -- What a walk remembers of the rows that it has seen.
-use Rattle.std.specs.Prelude.{◌≡◌, ℕ, suc, ◌<◌, ◌≤◌, List, length, get_or, [], Option, Some, None}
+use Rattle.std.specs.Prelude.{◌≡◌, ℕ, suc, ◌<◌, ◌^◌, List, length, get_or, [], Option, Some, None}
 use Rattle.plane_core.specs.declared.row.SquareRow.{SquareRow}
 use Rattle.worlds.specs.Square.{Square}
 use Rattle.plane_core.specs.Rows.{no_row, number_square, square_in, AreRows, IsNumber, root_level, root_of}
@@ -15,7 +15,7 @@ Walks k t old new n = number_square k t old ≡ record { rows = new; number = n 
 -- what is remembered of a row is the number of its square among the completed rows, of which
 -- numbers can tell
 pub record Remembers (rows done : List SquareRow) (numbers : List (Option ℕ)) : Type 0 where
-  pub few : length done ≤ 16777216
+  pub few : length done < 2 ^ 32
   pub count : length numbers ≡ length rows
   pub each : (i n : ℕ) → i < length rows → get_or numbers i None ≡ Some n
       → Has (get_or rows i no_row).level (square_in rows (get_or rows i no_row).level (suc i)) done

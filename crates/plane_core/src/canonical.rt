@@ -1,5 +1,5 @@
 //! The one list of rows that a pattern is kept as.
-ghost use Rattle.std.specs.Prelude.{◌≡◌, ◌≤◌, length, IfOk};
+ghost use Rattle.std.specs.Prelude.{◌≡◌, ◌<◌, ◌^◌, length, IfOk};
 ghost use Rattle.plane_core.specs.Rows.{AreKept, world_of_rows, written};
 ghost use Rattle.plane_core.specs.Walks.{AreWalked};
 
@@ -12,10 +12,10 @@ use std::alloc::{AllocError, Global};
 // only rows that a smaller root was added to are walked once more.
 pub fn canonical(alloc: Global, mut rows: Vec<SquareRow>) -> Result<Vec<SquareRow>, AllocError>
     requires rows { AreWalked rows.items }
-    requires few { length rows.items ≤ 16777216 }
+    requires few { length rows.items < 2 ^ 32 }
     ensures kept { IfOk result (λ all. AreKept all.items) }
     ensures world { IfOk result (λ all. world_of_rows all.items ≡ world_of_rows rows.items) }
-    ensures few { IfOk result (λ all. length all.items ≤ 16777216) }
+    ensures few { IfOk result (λ all. length all.items < 2 ^ 32) }
 {
     if add_centres(&mut rows)? {
         return walked(alloc, &rows);

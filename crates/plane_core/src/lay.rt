@@ -1,8 +1,8 @@
 //! Cells laid on a pattern: only the squares that hold one of them are made anew.
 //!
 //! Each square passes the cells that lie in it on to its quadrants, so cells that lie together
-//! share the rows of the squares around them. Scattered cells take at most 62 rows each: where there
-//! are more rows than a plane may have, those that stand there twice go.
+//! share the rows of the squares around them. Scattered cells take at most 62 rows each: where many
+//! rows have come together, those that stand there twice go.
 ghost use Rattle.std.specs.Prelude.{◌≡◌, ◌↔◌, ℕ, ◌+◌, ◌/◌, ◌%◌, ◌<◌, ◌≤◌, ◌^◌, length, get_or, All, IfOk, OnOk, IsTrue, pos, ◌+ℤ◌};
 ghost use Rattle.worlds.specs.Lay.{lay};
 ghost use Rattle.worlds.specs.Range.{CanBeLaid};
@@ -13,12 +13,16 @@ ghost use Rattle.plane_core.specs.Laid.{IsCellOf, AreLaidStates, AreParted, AreP
 use crate::descent::{Spot, corner_of, root_level, shifted, side};
 use crate::raise::{push_row, quadrants, raise};
 use crate::row::SquareRow;
-use crate::walk::{MOST_ROWS, walked};
+use crate::walk::walked;
 use std::alloc::{AllocError, Global};
 use worlds::CellSet;
 
 // So many cells are laid at a time, since they are copied for it.
 const BATCH: usize = 1 << 16;
+
+// Rows that stand there twice are looked for only where there are more rows than this: the walk that
+// finds them would cost more than the rows do.
+const MANY: usize = 1 << 24;
 
 // Whether a cell lies in a square.
 fn is_in(side: u64, corner: Spot, cell: &CellSet) -> bool
@@ -261,7 +265,7 @@ pub fn lay_rows(
         (world_of_rows rows.new.items ≡ lay cells.now (world_of_rows rows.old.items)) }
 {
     let mut rest = cells;
-    let mut most = MOST_ROWS;
+    let mut most = MANY;
     while rest.len() > BATCH {
         let (batch, more) = rest.split_at(BATCH);
         lay_batch(alloc, rows, batch)?;

@@ -9,9 +9,9 @@
 //! a smaller root does, and measures them in one more pass, so that `population`, `greatest` and
 //! `bounds` are there. `get` is one descent of at most 62 levels, and `equals` compares rows. `lay`
 //! adds a row for each square that holds a laid cell, at most 62 a cell, and makes the rows canonical
-//! again; `from_cells` lets the list of cells go before that. `live` descends to each live cell once,
-//! `cells_within` only to those in its box, and `counts` takes one pass over the rows from the root
-//! down.
+//! again; `from_cells` lets the list of cells go before that. `cells_within` descends to each live cell
+//! in its box once, `live` sorts what it finds without one, and `counts` takes one pass over the rows
+//! from the root down.
 //!
 //! The crate hands on what `worlds` declares of cells, rules and stops. `Loaded` is a pattern as a
 //! file holds it.

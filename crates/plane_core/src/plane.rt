@@ -1,5 +1,5 @@
 //! The pattern as the list of its distinct squares.
-ghost use Rattle.std.specs.Prelude.{◌≡◌, ◌↔◌, ◌<◌, ◌≤◌, ℕ, All, length, map, slice_index, IfNone, IfOk, IfSome, IsNone, IsTrue};
+ghost use Rattle.std.specs.Prelude.{◌≡◌, ◌↔◌, ◌<◌, ◌≤◌, ◌^◌, ℕ, All, length, map, slice_index, IfNone, IfOk, IfSome, IsNone, IsTrue};
 ghost use Rattle.worlds.specs.World.{cell, blank};
 ghost use Rattle.worlds.specs.Lay.{lay};
 ghost use Rattle.worlds.specs.Live.{count_of, live, of_cell, population};
@@ -15,7 +15,7 @@ use crate::lay::lay_rows;
 use crate::live::live_cells;
 use crate::measures::{Measures, measured, no_measures};
 use crate::row::SquareRow;
-use crate::walk::{MOST_ROWS, walked};
+use crate::walk::walked;
 use crate::within::live_within;
 use std::alloc::{AllocError, Global};
 use std::marker::Model;
@@ -23,8 +23,10 @@ use worlds::{Bounds, Cell, CellSet};
 
 /// The states of all cells, of which all but finitely many are 0. Contracts see it as a world.
 ///
-/// Its live cells lie in `-2^61 <= x, y < 2^61`. It is kept as the rows of its distinct squares, at
-/// most 16,777,216: a call that would give a plane of more is refused as one without memory.
+/// Its live cells lie in `-2^61 <= x, y < 2^61`. It is kept as the rows of its distinct squares, as
+/// many as have numbers, which count from 1 and are below 2^32. A call that would give the number
+/// 2^32 is refused as one without memory. No pattern gets there within the memory of a machine,
+/// since 2^32 rows take over 100 GB while they are made canonical.
 #[derive(Drop)]
 pub struct Plane {
     rows: Vec<SquareRow>,
@@ -33,7 +35,7 @@ pub struct Plane {
 }
 
 impl Model for Plane {
-    ghost use Rattle.std.specs.Prelude.{◌≤◌, length};
+    ghost use Rattle.std.specs.Prelude.{◌<◌, ◌^◌, length};
     ghost use Rattle.worlds.specs.World.{World, coded_world};
     ghost use Rattle.plane_core.specs.Rows.{world_of_rows, AreKept};
     ghost use Rattle.plane_core.specs.Measures.{AreMeasuresOf};
@@ -44,7 +46,7 @@ impl Model for Plane {
 
     ghost view = { λ p. world_of_rows p.rows.items };
 
-    ghost invariant = { λ p. AreKept p.rows.items × (length p.rows.items ≤ 16777216) × AreMeasuresOf (world_of_rows p.rows.items) p.measures };
+    ghost invariant = { λ p. AreKept p.rows.items × (length p.rows.items < 2 ^ 32) × AreMeasuresOf (world_of_rows p.rows.items) p.measures };
 }
 
 impl Plane {
@@ -76,7 +78,7 @@ impl Plane {
         requires { AreWalked rows.items }
         ensures { IfOk result (λ plane. plane ≡ world_of_rows rows.items) }
     {
-        if rows.len() > MOST_ROWS {
+        if rows.len() > u32::MAX as usize {
             return Err(AllocError);
         }
         let mut rows = canonical(alloc, rows)?;
@@ -131,11 +133,11 @@ impl Plane {
     }
 
     /// The rows of the distinct squares that aren't empty, in the order in which the walk nw, ne,
-    /// sw, se from the least root completes them, at most 16,777,216. Those of the empty plane are
-    /// one row, of the empty square of level 1.
+    /// sw, se from the least root completes them, fewer than 2^32. Those of the empty plane are one
+    /// row, of the empty square of level 1.
     pub fn squares(&self) -> Result<Vec<SquareRow>, AllocError>
         ensures squares { IfOk result (λ rows. AreSquaresOf self.now rows.items) }
-        ensures few { IfOk result (λ rows. length rows.items ≤ 16777216) }
+        ensures few { IfOk result (λ rows. length rows.items < 2 ^ 32) }
     {
         written(self.alloc, &self.rows)
     }

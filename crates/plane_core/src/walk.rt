@@ -8,9 +8,9 @@ use crate::row::SquareRow;
 use indexmap::IndexSet;
 use std::alloc::{AllocError, Global};
 
-/// A plane has at most so many rows: as many as a macrocell file may have nodes, so that each plane
-/// can be written as one.
-pub const MOST_ROWS: usize = 16_777_216;
+// Room for at most so many completed rows is made before a walk: of rows of which most stand there
+// twice, far fewer are completed.
+const ROOM: usize = 1 << 24;
 
 // The rows that are completed, and the number that each row that was seen has among them.
 #[derive(Drop)]
@@ -19,12 +19,13 @@ struct Walk {
     numbers: Vec<Option<u32>>,
 }
 
-// The number of a row among those that are completed, of which it becomes the last if it is new.
+// The number of a row among those that are completed, of which it becomes the last if it is new. It
+// is refused where the number would be 2^32, which is beyond the range of numbers.
 fn complete(done: &mut IndexSet<SquareRow>, row: SquareRow) -> Result<u32, AllocError>
-    requires { length done.old.keys ≤ 16777216 }
+    requires { length done.old.keys < 2 ^ 32 }
     ensures rows { OnOk result ((number_row row done.old.keys).rows ≡ done.new.keys) }
     ensures number { IfOk result (λ n. (number_row row done.old.keys).number ≡ n) }
-    ensures few { OnOk result (length done.new.keys ≤ 16777216) }
+    ensures few { OnOk result (length done.new.keys < 2 ^ 32) }
 {
     if row.kids == [0; 4] {
         return Ok(0);
@@ -32,7 +33,7 @@ fn complete(done: &mut IndexSet<SquareRow>, row: SquareRow) -> Result<u32, Alloc
     let Ok((place, _)) = done.insert_full(row) else {
         return Err(AllocError);
     };
-    if place >= MOST_ROWS {
+    if place >= u32::MAX as usize {
         return Err(AllocError);
     }
     Ok(place as u32 + 1)
@@ -77,16 +78,16 @@ fn walk_square(
 }
 
 // The rows of the distinct squares that aren't empty, in the order in which the walk from the root
-// completes them. It is refused from the first row that a plane has no room for.
+// completes them. It is refused from the first row that has no number.
 pub fn walked(alloc: Global, rows: &[SquareRow]) -> Result<Vec<SquareRow>, AllocError>
     requires rows { AreRows rows.now }
     requires few { length rows.now < 2 ^ 32 }
     ensures rows { IfOk result (λ done.
         (number_square (root_level rows.now) (root_of rows.now) []).rows ≡ done.items) }
-    ensures few { IfOk result (λ done. length done.items ≤ 16777216) }
+    ensures few { IfOk result (λ done. length done.items < 2 ^ 32) }
 {
     let mut walk = Walk {
-        done: IndexSet::with_capacity(alloc, rows.len().min(MOST_ROWS))?,
+        done: IndexSet::with_capacity(alloc, rows.len().min(ROOM))?,
         numbers: Vec::from_elem(alloc, None, rows.len())?,
     };
     walk_square(rows, &mut walk, root_level(rows), rows.len() as u32)?;

@@ -1,4 +1,4 @@
-use Rattle.std.proofs.Common.{◌≡◌, ◌∙◌, List, length, ap, sym, arith}
+use Rattle.std.proofs.Common.{◌≡◌, ◌∙◌, List, ap, sym}
 use Rattle.std.proofs.lemmas.Result.{IfOk-weaker}
 use Rattle.plane_core.specs.declared.row.SquareRow.{SquareRow}
 use Rattle.macrocell_lines.specs.WrittenText.{written_text}
@@ -7,17 +7,11 @@ use Rattle.plane_core.specs.WorldRows.{rows_of}
 use Rattle.plane_core.proofs.Shared.WorldRows.{rows_of-squares}
 use Rattle.multistate_macrocell.proofs.write.write_mc.Goals as goal
 
-pub returns-clause-text : goal.returns-clause-text
-returns-clause-text c =
+pub returns : goal.returns
+returns c =
     let name = c.args.name.now in
     let generation = c.args.generation in
     let rows : c.deref.result.now ≡ rows_of c.args.plane.now = c.deref.ensures.value ∙ sym (rows_of-squares c.args.plane.now c.in_ok-rows.rows.items c.in_ok-rows.ensures.squares) in
     IfOk-weaker c.text_of.result _ _
     (λ text is. is ∙ ap (λ (rs : List SquareRow). written_text name generation (nodes_of rs)) rows)
     c.text_of.ensures
-
-pub returns-clause-few : goal.returns-clause-few
-returns-clause-few c =
-    let same : length (rows_of c.args.plane.now) ≡ length c.in_ok-rows.rows.items = ap length (rows_of-squares c.args.plane.now c.in_ok-rows.rows.items c.in_ok-rows.ensures.squares) in
-    let few = c.in_ok-rows.ensures.few in
-    IfOk-weaker c.text_of.result _ _ (λ text is. omega (arith, same, few)) c.text_of.ensures

@@ -1,4 +1,4 @@
-use Rattle.std.proofs.Common.{◌+◌, ◌≤◌, List, length, sym, ap, subst, ◌∙◌, arith}
+use Rattle.std.proofs.Common.{◌+◌, ◌<◌, ◌^◌, List, length, sym, ap, subst, ◌∙◌, arith}
 use Rattle.plane_core.specs.declared.row.SquareRow.{SquareRow}
 use Rattle.plane_core.specs.Rows.{Numbered}
 use Rattle.plane_core.proofs.Shared.Numbering.{number_row-empty, number_row-insert, few_more}
@@ -19,5 +19,5 @@ returns-clause-number c = ap (λ (r : Numbered). r.number) (number_row-insert c.
 pub returns-clause-few : goal.returns-clause-few
 returns-clause-few c =
     let index = c.in-Ok.ensures.index in
-    let less = few_more c.args.row c.args.done.now.keys 16777217 (omega (arith, c.requires)) (omega (arith, index)) in
-    subst (λ (rows : List SquareRow). length rows ≤ 16777216) (sym c.in-Ok.ensures.keys) (omega (arith, less))
+    let less = few_more c.args.row c.args.done.now.keys (2 ^ 32) c.requires (omega (arith, index)) in
+    subst (λ (rows : List SquareRow). length rows < 2 ^ 32) (sym c.in-Ok.ensures.keys) less

@@ -1,4 +1,4 @@
-use Rattle.std.proofs.Common.{◌≤◌, List, [], ◌∷◌, length, sym, subst, ◌∙◌, ap, arith}
+use Rattle.std.proofs.Common.{◌<◌, ◌^◌, List, [], ◌∷◌, length, sym, subst, ◌∙◌, ap, arith}
 use Rattle.std.proofs.lemmas.Result.{IfOk-weaker}
 use Rattle.plane_core.specs.declared.row.SquareRow.{SquareRow}
 use Rattle.plane_core.specs.Rows.{AreSquaresOf, written}
@@ -6,7 +6,7 @@ use Rattle.plane_core.proofs.Written.{squares-written}
 use Rattle.plane_core.proofs.plane.Plane.squares.Goals as goal
 
 -- the row of the empty square is written only where there is no other
-few-written : (rows : List SquareRow) → length rows ≤ 16777216 → length (written rows) ≤ 16777216
+few-written : (rows : List SquareRow) → length rows < 2 ^ 32 → length (written rows) < 2 ^ 32
 few-written [] few = omega arith
 few-written (row ∷ rows) few = few
 
@@ -16,4 +16,4 @@ returns-clause-squares c =
 
 pub returns-clause-few : goal.returns-clause-few
 returns-clause-few c =
-    IfOk-weaker c.written.result _ _ (λ found is. subst (λ (rows : List SquareRow). length rows ≤ 16777216) (sym (is ∙ ap written c.deref.ensures.value)) (few-written c.self.inside.rows.items c.self.invariant.1)) c.written.ensures
+    IfOk-weaker c.written.result _ _ (λ found is. subst (λ (rows : List SquareRow). length rows < 2 ^ 32) (sym (is ∙ ap written c.deref.ensures.value)) (few-written c.self.inside.rows.items c.self.invariant.1)) c.written.ensures
