@@ -77,9 +77,12 @@ Adds-fours t u1 u2 u3 u4 nine count g1 s1 g2 s2 g3 s3 g4 s4 k ss are =
       grows = Grows-then t u3 u4 g13 g4;
       among = λ all made rows.
           let each = subst (All (Contains all)) of made in
-          more all _ t u3 u4 (each 3 (one 0) (omega arith)) (Adds-made u3 u4 _ k _ g4 s4 (λ n is. StandsFor-of_nine u3 u4 u4 k n nine ss 4 5 7 8 count (lit< tt) (lit< tt) (lit< tt) (lit< tt) (StandForAll-grows t u3 k nine ss g13 are) g4 (Grows-same u4) is))
-          (more all _ t u2 u3 (each 2 (one 0) (omega arith)) (Adds-made u2 u3 _ k _ g3 s3 (λ n is. StandsFor-of_nine u2 u3 u3 k n nine ss 3 4 6 7 count (lit< tt) (lit< tt) (lit< tt) (lit< tt) (StandForAll-grows t u2 k nine ss g12 are) g3 (Grows-same u3) is))
-          (more all _ t u1 u2 (each 1 (one 0) (omega arith)) (Adds-made u1 u2 _ k _ g2 s2 (λ n is. StandsFor-of_nine u1 u2 u2 k n nine ss 1 2 4 5 count (lit< tt) (lit< tt) (lit< tt) (lit< tt) (StandForAll-grows t u1 k nine ss g1 are) g2 (Grows-same u2) is))
+          more all _ t u3 u4 (each 3 (one 0) (omega arith))
+          (Adds-made u3 u4 _ k _ g4 s4 (λ n is. StandsFor-of_nine u3 u4 u4 k n nine ss 4 5 7 8 count (lit< tt) (lit< tt) (lit< tt) (lit< tt) (StandForAll-grows t u3 k nine ss g13 are) g4 (Grows-same u4) is))
+          (more all _ t u2 u3 (each 2 (one 0) (omega arith))
+          (Adds-made u2 u3 _ k _ g3 s3 (λ n is. StandsFor-of_nine u2 u3 u3 k n nine ss 3 4 6 7 count (lit< tt) (lit< tt) (lit< tt) (lit< tt) (StandForAll-grows t u2 k nine ss g12 are) g3 (Grows-same u3) is))
+          (more all _ t u1 u2 (each 1 (one 0) (omega arith))
+          (Adds-made u1 u2 _ k _ g2 s2 (λ n is. StandsFor-of_nine u1 u2 u2 k n nine ss 1 2 4 5 count (lit< tt) (lit< tt) (lit< tt) (lit< tt) (StandForAll-grows t u1 k nine ss g1 are) g2 (Grows-same u2) is))
           (more all _ t t u1 (each 0 (one 0) (omega arith)) (Adds-made t u1 _ k _ g1 s1 (λ n is. StandsFor-of_nine t u1 u1 k n nine ss 0 1 3 4 count (lit< tt) (lit< tt) (lit< tt) (lit< tt) are g1 (Grows-same u1) is)) (λ h. h)))) rows;
     }
 
@@ -91,7 +94,8 @@ AddsFor-none next k generations numbers t = record { among = λ all makes are. a
 way : (next : List ℕ → ℕ) (k generations n : ℕ) (rows : List (List ℕ)) (P : Square → Type 0) → All (λ i. Makes next k generations (square_in rows (suc (suc k)) i) P) (n ∷ []) → Makes next k generations (square_in rows (suc (suc k)) n) P
 way next k generations n rows P makes = makes 0 0 (omega arith)
 
-pub AddsFor-result : (next : List ℕ → ℕ) (k generations n : ℕ) (t u v : Table) (r : Square) → r ≡ result next k generations (square_in t.rows (suc (suc k)) n) → AddsFor next k generations (n ∷ []) t u → Adds (r ∷ []) u v → AddsFor next k generations (n ∷ []) t v
+pub AddsFor-result : (next : List ℕ → ℕ) (k generations n : ℕ) (t u v : Table) (r : Square) → r ≡ result next k generations (square_in t.rows (suc (suc k)) n) →
+    AddsFor next k generations (n ∷ []) t u → Adds (r ∷ []) u v → AddsFor next k generations (n ∷ []) t v
 AddsFor-result next k generations n t u v r is before adds = record {
   among = λ all makes are.
       more all r t u v (subst (Contains all) (sym is) (Makes-result next k generations _ (Contains all) (way next k generations n t.rows (Contains all) makes))) adds (before.among all makes) are;
@@ -143,13 +147,15 @@ module _ (next : List ℕ → ℕ) (k j generations first number : ℕ) (t : Tab
         (All-weaker _ _ (λ q. Makes-itself next j first q (Contains all)) (nine_of square) (parts_make (Contains all) makes).0) are;
   }
 
-  pub AddsFor-of_nine : (a b : Table) (nine : List ℕ) → StandForAll a.rows (suc (suc j)) nine (nine_of (square_in t.rows (suc (suc (suc j))) number)) → AddsFor next k generations (number ∷ []) t a → AddsFor next j first nine a b → AddsFor next k generations (number ∷ []) t b
+  pub AddsFor-of_nine : (a b : Table) (nine : List ℕ) → StandForAll a.rows (suc (suc j)) nine (nine_of (square_in t.rows (suc (suc (suc j))) number)) →
+      AddsFor next k generations (number ∷ []) t a → AddsFor next j first nine a b → AddsFor next k generations (number ∷ []) t b
   unfolding square
   AddsFor-of_nine a b nine stand before then = record {
     among = λ all makes are. then.among all (by_numbers next a.rows j first (Contains all) nine _ stand (parts_make (Contains all) makes).0) (before.among all makes are);
   }
 
-  pub AddsFor-fours : (b c : Table) (results : List ℕ) → StandForAll b.rows (suc j) results (map (result next j first) (nine_of (square_in t.rows (suc (suc (suc j))) number))) → AddsFor next k generations (number ∷ []) t b → AddsFours b results c → AddsFor next k generations (number ∷ []) t c
+  pub AddsFor-fours : (b c : Table) (results : List ℕ) → StandForAll b.rows (suc j) results (map (result next j first) (nine_of (square_in t.rows (suc (suc (suc j))) number))) →
+      AddsFor next k generations (number ∷ []) t b → AddsFours b results c → AddsFor next k generations (number ∷ []) t c
   unfolding square
   AddsFor-fours b c results stand before adds = record {
     among = λ all makes are.

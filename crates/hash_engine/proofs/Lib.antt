@@ -1,3 +1,4 @@
+pub mod Growth
 pub mod Standing
 pub mod Asked
 pub mod Picked

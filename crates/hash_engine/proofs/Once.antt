@@ -39,7 +39,8 @@ asked_in_two next k j generations first number nine fours t a b c d e m0 m1 m2 a
           let two = then.four (omega (arith, is_first, few, level)) in
           omega (arith, one, two, count-grows next t a m0 ta r0, count-grows next b c m1 bc r1, count-grows next d e m2 de r2);
       stand = λ w n puts stand.
-          let at : Puts next (suc j) generations (square_in t.rows (suc (suc (suc j))) number) (Stands next w n) = subst (λ l. Puts next l generations (square_in t.rows (suc (suc l)) number) (Stands next w n)) (sym is_k) (puts 0 0 (omega arith)) in
+          let at : Puts next (suc j) generations (square_in t.rows (suc (suc (suc j))) number) (Stands next w n) =
+          subst (λ l. Puts next l generations (square_in t.rows (suc (suc l)) number) (Stands next w n)) (sym is_k) (puts 0 0 (omega arith)) in
           let parts = Puts-parts next j generations first _ (Stands next w n) some is_first at in
           let first_puts = by_numbers next a.rows j first (Stands next w n) nine _ are_nine parts.0 in
           let then_puts = by_numbers next c.rows j (generations - first) (Stands next w n) fours _ are_fours parts.1 in
@@ -48,7 +49,8 @@ asked_in_two next k j generations first number nine fours t a b c d e m0 m1 m2 a
           AllStand-grows next w n d e m2 de r2 two;
     }
 
-only : (next : List ℕ → ℕ) (k generations : ℕ) (rows : List (List ℕ)) (number : ℕ) (P : Square → Type 0) → Puts next k generations (square_in rows (suc (suc k)) number) P → All (λ i. Puts next k generations (square_in rows (suc (suc k)) i) P) (number ∷ [])
+only : (next : List ℕ → ℕ) (k generations : ℕ) (rows : List (List ℕ)) (number : ℕ) (P : Square → Type 0) → Puts next k generations (square_in rows (suc (suc k)) number) P →
+    All (λ i. Puts next k generations (square_in rows (suc (suc k)) i) P) (number ∷ [])
 only next k generations rows number P is = All-cons (λ i. Puts next k generations (square_in rows (suc (suc k)) i) P) number [] is (All-nil (λ i. Puts next k generations (square_in rows (suc (suc k)) i) P))
 
 -- one square more of several
@@ -76,7 +78,8 @@ module _ (next : List ℕ → ℕ) (quiet : next nine_zeros ≡ 0) (w : World) (
 
   all_stand : AllStand next w generations u.rows m1
   all_stand =
-      let stands : Puts next k generations (square_in t.rows level number) (Stands next w generations) = subst (λ s. Puts next k generations s (Stands next w generations)) (sym at) (subst (λ l. Puts next k generations (square_at w l x y) (Stands next w generations)) (sym is_level) (what_is_put next quiet w k generations x y few)) in
+      let stands : Puts next k generations (square_in t.rows level number) (Stands next w generations) =
+      subst (λ s. Puts next k generations s (Stands next w generations)) (sym at) (subst (λ l. Puts next k generations (square_at w l x y) (Stands next w generations)) (sym is_level) (what_is_put next quiet w k generations x y few)) in
       asked.stand w generations (only next k generations t.rows number (Stands next w generations) (subst (λ l. Puts next k generations (square_in t.rows l number) (Stands next w generations)) is_level stands))
       (λ i there put. let never = nothing i in absurd cc)
 

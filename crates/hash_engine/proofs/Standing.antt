@@ -142,7 +142,8 @@ nil_each rows k j d e below = absurd (omega (arith, below))
 StandForAll-nil : (rows : List (List ℕ)) (k : ℕ) → StandForAll rows k [] []
 StandForAll-nil rows k = record { count = refl; each = nil_each rows k }
 
-cons_each : (rows : List (List ℕ)) (k n : ℕ) (s : Square) (ns : List ℕ) (ss : List Square) → StandsFor rows k n s → StandForAll rows k ns ss → (j d : ℕ) (e : Square) → j < length (n ∷ ns) → StandsFor rows k (get_or (n ∷ ns) j d) (get_or (s ∷ ss) j e)
+cons_each : (rows : List (List ℕ)) (k n : ℕ) (s : Square) (ns : List ℕ) (ss : List Square) → StandsFor rows k n s → StandForAll rows k ns ss → (j d : ℕ) (e : Square) → j < length (n ∷ ns) →
+    StandsFor rows k (get_or (n ∷ ns) j d) (get_or (s ∷ ss) j e)
 cons_each rows k n s ns ss is are zero d e below = is
 cons_each rows k n s ns ss is are (suc j) d e below = are.each j d e (omega (arith, below))
 
@@ -158,7 +159,8 @@ pub StandForAll-nine : (rows : List (List ℕ)) (k n1 n2 n3 n4 n5 n6 n7 n8 n9 : 
     StandsFor rows k n1 s1 → StandsFor rows k n2 s2 → StandsFor rows k n3 s3 → StandsFor rows k n4 s4 → StandsFor rows k n5 s5 → StandsFor rows k n6 s6 → StandsFor rows k n7 s7 → StandsFor rows k n8 s8 → StandsFor rows k n9 s9 →
     StandForAll rows k (n1 ∷ n2 ∷ n3 ∷ n4 ∷ n5 ∷ n6 ∷ n7 ∷ n8 ∷ n9 ∷ []) (s1 ∷ s2 ∷ s3 ∷ s4 ∷ s5 ∷ s6 ∷ s7 ∷ s8 ∷ s9 ∷ [])
 StandForAll-nine rows k n1 n2 n3 n4 n5 n6 n7 n8 n9 s1 s2 s3 s4 s5 s6 s7 s8 s9 h1 h2 h3 h4 h5 h6 h7 h8 h9 =
-    StandForAll-cons rows k n1 s1 _ _ h1 (StandForAll-cons rows k n2 s2 _ _ h2 (StandForAll-cons rows k n3 s3 _ _ h3 (StandForAll-cons rows k n4 s4 _ _ h4 (StandForAll-cons rows k n5 s5 _ _ h5 (StandForAll-four rows k n6 n7 n8 n9 s6 s7 s8 s9 h6 h7 h8 h9)))))
+    StandForAll-cons rows k n1 s1 _ _ h1 (StandForAll-cons rows k n2 s2 _ _ h2 (StandForAll-cons rows k n3 s3 _ _ h3
+    (StandForAll-cons rows k n4 s4 _ _ h4 (StandForAll-cons rows k n5 s5 _ _ h5 (StandForAll-four rows k n6 n7 n8 n9 s6 s7 s8 s9 h6 h7 h8 h9)))))
 
 -- a list of nine by its elements
 nine_at : (ss : List Square) (e : Square) → length ss ≡ 9 →

@@ -2,18 +2,21 @@
 use Rattle.std.proofs.Common.{◌≡◌, ℕ, suc, ◌+◌, ◌-◌, ◌<◌, ◌^◌, min, List, [], ◌∷◌, length, map, get_or, sym, subst, arith, inl, inr}
 use Rattle.std.specs.Prelude.{All}
 use Rattle.std.proofs.lemmas.Bool.{cases_eq}
-use Rattle.std.proofs.lemmas.List.Elements.{All-nil, All-cons, All-weaker}
-use Rattle.worlds.specs.Square.{Square, one}
+use Rattle.std.proofs.lemmas.List.Elements.{All-nil, All-cons}
+use Rattle.worlds.specs.Square.{Square}
 use Rattle.square_table.specs.Squares.{Table, IsNumber, square_in, Grows}
 use Rattle.square_table.specs.Made.{IsMade}
 use Rattle.square_table.proofs.Shared.Growth.{IsNumber-grows, square_in-grows}
 use Rattle.square_table.proofs.Shared.Making.{IsMade-grows}
+use Rattle.hash_life.specs.Result as hash_life
 use Rattle.hash_life.specs.Result.{result}
 use Rattle.hash_life.specs.Puts.{nine_of, fours_of}
 use Rattle.hash_life.specs.Makes.{Makes}
 use Rattle.hash_life.proofs.Shared.Made.{Makes-none, Makes-last, Makes-whole, Makes-weaker}
 use Rattle.hash_engine.specs.Standing.{StandsFor, StandForAll}
-use Rattle.hash_engine.specs.Adding.{HasWays}
+use Rattle.hash_engine.specs.Adding.{HasWays, GivesOf, GivesPut}
+use Rattle.hash_engine.specs.Found.{IsFound}
+use Rattle.hash_engine.proofs.Computed.{none_stands, base_stands}
 
 -- the way from one square
 only : (next : List ℕ → ℕ) (k generations n : ℕ) (t u : Table) → Makes next k generations (square_in t.rows (suc (suc k)) n) (IsMade u.rows) → HasWays next k generations (n ∷ []) t u
@@ -33,19 +36,23 @@ later : (next : List ℕ → ℕ) (k generations : ℕ) (s : Square) (u v : Tabl
 later next k generations s u v grows makes = Makes-weaker next k generations s (IsMade u.rows) (IsMade v.rows) (λ q is. IsMade-grows u v q grows is) makes
 
 -- for no generation
-pub HasWays-none : (next : List ℕ → ℕ) (k generations n r : ℕ) (t u : Table) → generations ≡ 0 → Grows t u → IsNumber t.rows (suc (suc k)) n → StandsFor u.rows (suc k) r (result next k generations (square_in t.rows (suc (suc k)) n)) → HasWays next k generations (n ∷ []) t u
-HasWays-none next k generations n r t u none grows numbered stands =
+pub IsFound-none : (next : List ℕ → ℕ) (k generations n r : ℕ) (t u : Table) → generations ≡ 0 → Grows t u → IsNumber t.rows (suc (suc k)) n → GivesOf hash_life.middle t n u r → IsFound next k generations n t u r
+IsFound-none next k generations n r t u none grows numbered gives =
     let s = square_in t.rows (suc (suc k)) n in
+    let stands = none_stands next t u k generations n r none numbered gives in
     let result_none : IsMade u.rows (result next k 0 s) = subst (λ g. IsMade u.rows (result next k g s)) none (found k r u _ stands) in
-    only next k generations n t u (subst (λ g. Makes next k g s (IsMade u.rows)) (sym none) (Makes-none next k s (IsMade u.rows) (whole (suc k) n t u grows numbered) result_none))
+    let makes = Makes-none next k s (IsMade u.rows) (whole (suc k) n t u grows numbered) result_none in
+    record { square = stands; ways = only next k generations n t u (subst (λ g. Makes next k g s (IsMade u.rows)) (sym none) makes) }
 
 -- for a square that is put to the rule
-pub HasWays-put : (next : List ℕ → ℕ) (generations n r : ℕ) (t u : Table) → Grows t u → IsNumber t.rows 2 n → StandsFor u.rows 1 r (result next 0 generations (square_in t.rows 2 n)) → HasWays next 0 generations (n ∷ []) t u
-HasWays-put next generations n r t u grows numbered stands =
-    only next 0 generations n t u (Makes-last next generations _ (IsMade u.rows) (whole 1 n t u grows numbered) (found 0 r u _ stands))
+pub IsFound-put : (next : List ℕ → ℕ) (generations n r : ℕ) (t u : Table) → 0 < generations → Grows t u → IsNumber t.rows 2 n → GivesPut next t n u r → IsFound next 0 generations n t u r
+IsFound-put next generations n r t u some grows numbered gives =
+    let stands = base_stands next t.rows u.rows generations n r some gives in
+    record { square = stands; ways = only next 0 generations n t u (Makes-last next generations _ (IsMade u.rows) (whole 1 n t u grows numbered) (found 0 r u _ stands)) }
 
 -- by the squares that numbers stand for
-by_squares : (next : List ℕ → ℕ) (k generations : ℕ) (ns : List ℕ) (ss : List Square) (t u v : Table) → StandForAll t.rows (suc (suc k)) ns ss → Grows u v → HasWays next k generations ns t u → All (λ q. Makes next k generations q (IsMade v.rows)) ss
+by_squares : (next : List ℕ → ℕ) (k generations : ℕ) (ns : List ℕ) (ss : List Square) (t u v : Table) → StandForAll t.rows (suc (suc k)) ns ss → Grows u v → HasWays next k generations ns t u →
+    All (λ q. Makes next k generations q (IsMade v.rows)) ss
 by_squares next k generations ns ss t u v are grows ways = λ i e below.
     let there : i < length ns = omega (arith, below, are.count) in
     later next k generations _ u v grows (subst (λ q. Makes next k generations q (IsMade u.rows)) (are.each i 0 e there).square (ways i 0 there))

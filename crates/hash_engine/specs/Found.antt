@@ -1,5 +1,5 @@
 -- How a search for a result ends.
-use Rattle.std.specs.Prelude.{◌≡◌, ℕ, ℤ, suc, ◌+◌, ◌-◌, ◌^◌, ◌<◌, ◌≤◌, List, length, map, All, Result, Err}
+use Rattle.std.specs.Prelude.{◌≡◌, ℕ, ℤ, suc, ◌+◌, ◌-◌, ◌^◌, ◌<◌, ◌≤◌, List, [], ◌∷◌, length, map, All, Result, Err}
 use Rattle.worlds.specs.World.{World}
 use Rattle.worlds.specs.Stop.{CountsStop}
 use Rattle.worlds.specs.Square as squares
@@ -14,7 +14,7 @@ use Rattle.hash_life.specs.Makes.{Makes}
 use Rattle.hash_engine.specs.Standing.{StandsFor, StandForAll, IsReady}
 use Rattle.hash_engine.specs.Memo.{IsRight, IsAnew}
 use Rattle.hash_engine.specs.Asked.{places_of_four}
-use Rattle.hash_engine.specs.Adding.{AddsFor}
+use Rattle.hash_engine.specs.Adding.{AddsFor, HasWays}
 use Rattle.hash_engine.specs.declared.memo.Memo.{Memo}
 use Rattle.hash_engine.specs.declared.later.Found.{Found}
 use Rattle.hash_engine.specs.declared.fault.ResultFault.{ResultFault}
@@ -66,16 +66,20 @@ pub record CanPut (next : List ℕ → ℕ) (state_count : ℕ) (t : Table) (mem
   pub ready : IsReady next state_count t.rows 0 generations number
   pub anew : IsAnew next t.rows memo generations number
 
--- n is the number of the result of the square of level k + 2 with this number
-abbrev pub IsFound : (List ℕ → ℕ) → ℕ → ℕ → ℕ → Table → Table → ℕ → Type 0
-IsFound next k generations number t u n =
-    StandsFor u.rows (suc k) n (result next k generations (square_in t.rows (suc (suc k)) number))
+-- n is the number of the result of the square of level k + 2 with this number, and the later table
+-- has all that is made on the way to it
+pub record IsFound (next : List ℕ → ℕ) (k generations number : ℕ) (t u : Table) (n : ℕ)
+    : Type 0 where
+  pub square : StandsFor u.rows (suc k) n
+      (result next k generations (square_in t.rows (suc (suc k)) number))
+  pub ways : HasWays next k generations (number ∷ []) t u
 
 -- so each of these is of one of those
-abbrev pub AreFound : (List ℕ → ℕ) → ℕ → ℕ → List ℕ → Table → Table → List ℕ → Type 0
-AreFound next k generations numbers t u found =
-    (ss : List squares.Square) → StandForAll t.rows (suc (suc k)) numbers ss →
-    StandForAll u.rows (suc k) found (map (result next k generations) ss)
+pub record AreFound (next : List ℕ → ℕ) (k generations : ℕ) (numbers : List ℕ) (t u : Table)
+    (found : List ℕ) : Type 0 where
+  pub squares : (ss : List squares.Square) → StandForAll t.rows (suc (suc k)) numbers ss →
+      StandForAll u.rows (suc k) found (map (result next k generations) ss)
+  pub ways : HasWays next k generations numbers t u
 
 -- a square of the table whose result can be asked for: it has at least 4 by 4 cells, and their
 -- states are the rule's

@@ -2,7 +2,7 @@
 
 ghost use Rattle.std.specs.Prelude.{◌≡◌, [], ◌∷◌, IfOk, OnOk, Err};
 ghost use Rattle.square_table.specs.Made.{IsFull};
-ghost use Rattle.hash_engine.specs.Adding.{GrowsOnWay, HasWays};
+ghost use Rattle.hash_engine.specs.Adding.{GrowsOnWay};
 ghost use Rattle.hash_engine.specs.Asked.{AsksFour, StandOn};
 ghost use Rattle.hash_engine.specs.Found.{KeepsRule, Stays, CanBeAsked, CanSearch, CanSeek, CanSeekAll, CanCompute, CanPut, IsFound, AreFound, IsEnd, IsLater, Finds, AsksOnceFor};
 ghost use Rattle.hash_engine.specs.Memo.{IsRight};
@@ -41,8 +41,6 @@ fn put<Q: Ask>(
         table.old table.new memo.new }
     ensures found { IfOk result
         (IsFound (Q.meaning rule.old) 0 ahead number table.old table.new) }
-    ensures ways { OnOk result
-        (HasWays (Q.meaning rule.old) 0 ahead (number ∷ []) table.old table.new) }
     ensures four { OnOk result
         (AsksFour 0 ahead Q.asks rule.old rule.new table.old memo.old table.new memo.new) }
     ensures stand { OnOk result (StandOn (Q.meaning rule.old) 0 ahead (number ∷ [])
@@ -56,9 +54,9 @@ fn put<Q: Ask>(
 
 // The result of a square of level k + 2, remembered or not. Most are, so that the look-up stands in
 // the loop that asks for several, and what it leads to doesn't.
-#[cycle(later)]
+#[cycle(forward)]
 #[inline(always)]
-fn later<Q: Ask, S: Stop>(
+fn forward<Q: Ask, S: Stop>(
     table: &mut SquareTable<'_>,
     memo: &mut Memo,
     rule: &mut Q,
@@ -74,8 +72,6 @@ fn later<Q: Ask, S: Stop>(
     ensures end { IsEnd table.new (S.yes_count stop.old) (S.yes_count stop.new) result }
     ensures found { IfOk result
         (IsFound (Q.meaning rule.old) k ahead number table.old table.new) }
-    ensures ways { OnOk result
-        (HasWays (Q.meaning rule.old) k ahead (number ∷ []) table.old table.new) }
     ensures four { OnOk result
         (AsksFour k ahead Q.asks rule.old rule.new table.old memo.old table.new memo.new) }
     ensures stand { OnOk result (StandOn (Q.meaning rule.old) k ahead (number ∷ [])
@@ -99,7 +95,7 @@ fn later<Q: Ask, S: Stop>(
 }
 
 // The result of a square of level k + 2 above level 2, which isn't remembered.
-#[cycle(later)]
+#[cycle(forward)]
 #[inline(never)]
 fn compute<Q: Ask, S: Stop>(
     table: &mut SquareTable<'_>,
@@ -117,8 +113,6 @@ fn compute<Q: Ask, S: Stop>(
     ensures end { IsEnd table.new (S.yes_count stop.old) (S.yes_count stop.new) result }
     ensures found { IfOk result
         (IsFound (Q.meaning rule.old) k ahead number table.old table.new) }
-    ensures ways { OnOk result
-        (HasWays (Q.meaning rule.old) k ahead (number ∷ []) table.old table.new) }
     ensures four { OnOk result
         (AsksFour k ahead Q.asks rule.old rule.new table.old memo.old table.new memo.new) }
     ensures stand { OnOk result (StandOn (Q.meaning rule.old) k ahead (number ∷ [])
@@ -126,16 +120,16 @@ fn compute<Q: Ask, S: Stop>(
 {
     let first = ahead.min(full(k - 1));
     let mut nine = parts::nine(table, number)?;
-    all_later(table, memo, rule, stop, k - 1, first, &mut nine)?;
+    all_forward(table, memo, rule, stop, k - 1, first, &mut nine)?;
     let mut fours = parts::fours(table, nine)?;
-    all_later(table, memo, rule, stop, k - 1, ahead - first, &mut fours)?;
+    all_forward(table, memo, rule, stop, k - 1, ahead - first, &mut fours)?;
     Ok(table.join_numbers(fours)?)
 }
 
 // The results in place of squares of level k + 2: most are remembered, and found here without a call.
 #[inline(always)]
-#[cycle(later)]
-fn all_later<Q: Ask, S: Stop>(
+#[cycle(forward)]
+fn all_forward<Q: Ask, S: Stop>(
     table: &mut SquareTable<'_>,
     memo: &mut Memo,
     rule: &mut Q,
@@ -151,15 +145,13 @@ fn all_later<Q: Ask, S: Stop>(
     ensures end { IsEnd table.new (S.yes_count stop.old) (S.yes_count stop.new) result }
     ensures found { OnOk result
         (AreFound (Q.meaning rule.old) k ahead numbers.old table.old table.new numbers.new) }
-    ensures ways { OnOk result
-        (HasWays (Q.meaning rule.old) k ahead numbers.old table.old table.new) }
     ensures four { OnOk result
         (AsksFour k ahead Q.asks rule.old rule.new table.old memo.old table.new memo.new) }
     ensures stand { OnOk result (StandOn (Q.meaning rule.old) k ahead numbers.old
         table.old memo.old table.new memo.new) }
 {
     for number in numbers.iter_mut() {
-        *number = later(table, memo, rule, stop, k, ahead, *number)?;
+        *number = forward(table, memo, rule, stop, k, ahead, *number)?;
     }
     Ok(())
 }
@@ -186,7 +178,7 @@ pub fn search<'a, Q: Ask, S: Stop>(
 {
     memo.turn_to(generations);
     let k = root.level() - 2;
-    let number = later(table, memo, rule, stop, k, generations, root.number())?;
+    let number = forward(table, memo, rule, stop, k, generations, root.number())?;
     Ok(table.square(k + 1, number)?)
 }
 
@@ -212,7 +204,7 @@ pub fn result<'a, Q: Ask, S: Stop>(
     let k = root.level() - 2;
     let mut memo = Memo::nothing(alloc);
     memo.turn_to(generations);
-    let number = later(table, &mut memo, rule, stop, k, generations, root.number())?;
+    let number = forward(table, &mut memo, rule, stop, k, generations, root.number())?;
     let counts = count_squares(table, &memo);
     Ok(Found {
         square: table.square(k + 1, number)?,

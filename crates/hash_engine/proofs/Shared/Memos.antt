@@ -24,7 +24,8 @@ IsResult-grows next t u k generations n r grows is =
     }
 
 -- the result of a square that was there before it
-pub IsResult-made : (next : List ℕ → ℕ) (t u : Table) (k generations n r : ℕ) → Grows t u → IsNumber t.rows (suc (suc k)) n → StandsFor u.rows (suc k) r (result next k generations (square_in t.rows (suc (suc k)) n)) → HasWays next k generations (n ∷ []) t u →
+pub IsResult-made : (next : List ℕ → ℕ) (t u : Table) (k generations n r : ℕ) → Grows t u → IsNumber t.rows (suc (suc k)) n →
+    StandsFor u.rows (suc k) r (result next k generations (square_in t.rows (suc (suc k)) n)) → HasWays next k generations (n ∷ []) t u →
     IsResult next u.rows k generations n r
 IsResult-made next t u k generations n r grows numbered stands ways = record {
   numbered = IsNumber-grows t u (suc (suc k)) n grows numbered;

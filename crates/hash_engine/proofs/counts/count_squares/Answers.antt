@@ -22,20 +22,23 @@ loop-place-preserved c =
           let put : is_put rows memo i ≡ true = is_put-by rows memo i _ _ c.is_four.ensures w.has_full.ensures ∙ cc in
           let more = count-passed (is_put rows memo) i put in
           let four = count-passed (λ j. is_four rows (first_number + j)) i (sym c.is_four.ensures ∙ w.if-is_four.true) in
-          let counts = w.counts-is in
-          record { put = omega (arith, was.put, more, ap (λ n. n.base) counts); base = omega (arith, was.base, ap (λ n. n.base) counts, ap (λ n. n.fours) counts); fours = omega (arith, was.fours, four, ap (λ n. n.fours) counts); few = omega (arith, was.few, ap (λ n. n.fours) counts) }
+          let base = ap (λ n. n.base) w.counts-is in
+          let fours = ap (λ n. n.fours) w.counts-is in
+          record { put = omega (arith, was.put, more, base); base = omega (arith, was.base, base, fours); fours = omega (arith, was.fours, four, fours); few = omega (arith, was.few, fours) }
       | then-is_four+else-has_full w ↦
           let put : is_put rows memo i ≡ false = is_put-by rows memo i _ _ c.is_four.ensures w.has_full.ensures ∙ cc in
           let same = count-failed (is_put rows memo) i put in
           let four = count-passed (λ j. is_four rows (first_number + j)) i (sym c.is_four.ensures ∙ w.if-is_four.true) in
-          let counts = w.counts-is in
-          record { put = omega (arith, was.put, same, ap (λ n. n.base) counts); base = omega (arith, was.base, ap (λ n. n.base) counts, ap (λ n. n.fours) counts); fours = omega (arith, was.fours, four, ap (λ n. n.fours) counts); few = omega (arith, was.few, ap (λ n. n.fours) counts) }
+          let base = ap (λ n. n.base) w.counts-is in
+          let fours = ap (λ n. n.fours) w.counts-is in
+          record { put = omega (arith, was.put, same, base); base = omega (arith, was.base, base, fours); fours = omega (arith, was.fours, four, fours); few = omega (arith, was.few, fours) }
       | else-is_four w ↦
           let put : is_put rows memo i ≡ false = is_put-not_four rows memo i (sym c.is_four.ensures ∙ w.if-is_four.false) in
           let same = count-failed (is_put rows memo) i put in
           let four = count-failed (λ j. is_four rows (first_number + j)) i (sym c.is_four.ensures ∙ w.if-is_four.false) in
-          let counts = w.counts-is in
-          record { put = omega (arith, was.put, same, ap (λ n. n.base) counts); base = omega (arith, was.base, ap (λ n. n.base) counts, ap (λ n. n.fours) counts); fours = omega (arith, was.fours, four, ap (λ n. n.fours) counts); few = omega (arith, was.few, ap (λ n. n.fours) counts) }
+          let base = ap (λ n. n.base) w.counts-is in
+          let fours = ap (λ n. n.fours) w.counts-is in
+          record { put = omega (arith, was.put, same, base); base = omega (arith, was.base, base, fours); fours = omega (arith, was.fours, four, fours); few = omega (arith, was.few, fours) }
     ]
 
 pub returns-clause-fours : goal.returns-clause-fours

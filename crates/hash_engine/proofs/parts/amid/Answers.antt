@@ -12,10 +12,10 @@ quadrants-requires-2 c = is_there _ c.requires.south.0 _ c.requires.south.1
 pub returns-clause-square : goal.returns-clause-square
 returns-clause-square c =
     IfOk-weaker c.join_guessed.result _ _
-    (λ n is k s t first second. StandsFor-amid c.args.table.now c.join_guessed.new.self k c.args.north c.args.south n c.quadrants.result c.quadrants-2.result s t c.quadrants.ensures c.quadrants-2.ensures c.join_guessed.ensures.grows is first second)
+    (λ n is k s t first second. StandsFor-amid _ _ k c.args.north c.args.south n _ _ s t c.quadrants.ensures c.quadrants-2.ensures c.join_guessed.ensures.grows is first second)
     c.join_guessed.ensures.square
 
 pub returns-clause-adds : goal.returns-clause-adds
 returns-clause-adds c = λ k s t first second.
     Adds-made c.args.table.now c.join_guessed.new.self _ k _ c.join_guessed.ensures.grows c.join_guessed.ensures.one
-    (λ n is. StandsFor-amid c.args.table.now c.join_guessed.new.self k c.args.north c.args.south n c.quadrants.result c.quadrants-2.result s t c.quadrants.ensures c.quadrants-2.ensures c.join_guessed.ensures.grows is first second)
+    (λ n is. StandsFor-amid _ _ k c.args.north c.args.south n _ _ s t c.quadrants.ensures c.quadrants-2.ensures c.join_guessed.ensures.grows is first second)

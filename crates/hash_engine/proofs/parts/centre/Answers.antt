@@ -22,12 +22,12 @@ quadrants-requires-5 c = (are_there _ _ _ c.quadrants.ensures c.requires).se
 pub returns-clause-square : goal.returns-clause-square
 returns-clause-square c =
     IfOk-weaker c.join_guessed.result _ _
-    (λ n is k s whole. StandsFor-middle c.args.table.now c.join_guessed.new.self k c.args.number n c.quadrants.result c.quadrants-2.result c.quadrants-3.result c.quadrants-4.result c.quadrants-5.result s
+    (λ n is k s whole. StandsFor-middle _ _ k c.args.number n _ _ _ _ _ s
     c.quadrants.ensures c.quadrants-2.ensures c.quadrants-3.ensures c.quadrants-4.ensures c.quadrants-5.ensures c.join_guessed.ensures.grows is whole)
     c.join_guessed.ensures.square
 
 pub returns-clause-adds : goal.returns-clause-adds
 returns-clause-adds c = λ k s whole.
     Adds-made c.args.table.now c.join_guessed.new.self _ k _ c.join_guessed.ensures.grows c.join_guessed.ensures.one
-    (λ n is. StandsFor-middle c.args.table.now c.join_guessed.new.self k c.args.number n c.quadrants.result c.quadrants-2.result c.quadrants-3.result c.quadrants-4.result c.quadrants-5.result s
+    (λ n is. StandsFor-middle _ _ k c.args.number n _ _ _ _ _ s
     c.quadrants.ensures c.quadrants-2.ensures c.quadrants-3.ensures c.quadrants-4.ensures c.quadrants-5.ensures c.join_guessed.ensures.grows is whole)

@@ -1,6 +1,7 @@
 use Rattle.std.proofs.Common.{◌≡◌, ◌∙◌, refl, sym, subst, suc, length, inl, lit<, rules}
 use Rattle.worlds.specs.Square.{one}
-use Rattle.square_table.proofs.Shared.Growth.{Grows-same, Grows-then}
+use Rattle.square_table.proofs.Shared.Growth.{Grows-same}
+use Rattle.hash_engine.proofs.Growth.{◌⟫◌}
 use Rattle.hash_engine.specs.Standing.{StandForAll}
 use Rattle.hash_engine.proofs.Standing.{StandsFor-of_nine, StandForAll-four, fours_at}
 use Rattle.hash_engine.proofs.Adding.{Adds-fours}
@@ -9,12 +10,17 @@ use Rattle.hash_engine.proofs.parts.fours.Goals as goal
 pub returns-clause-squares : goal.returns-clause-squares
 returns-clause-squares c = λ k ss are.
     let count : length c.args.nine ≡ 9 = search rules in
-    subst (StandForAll c.join_guessed-4.new.self.rows (suc k) _) (sym (fours_at ss (one 0) (sym are.count ∙ count)))
-    (StandForAll-four c.join_guessed-4.new.self.rows (suc k) _ _ _ _ _ _ _ _
-    (StandsFor-of_nine c.args.table.now c.join_guessed.new.self c.join_guessed-4.new.self k _ c.args.nine ss 0 1 3 4 count (lit< tt) (lit< tt) (lit< tt) (lit< tt) are c.in_ok-nw.ensures.grows (Grows-then c.join_guessed.new.self c.join_guessed-3.new.self c.join_guessed-4.new.self (Grows-then c.join_guessed.new.self c.join_guessed-2.new.self c.join_guessed-3.new.self c.in_ok-ne.ensures.grows c.in_ok-sw.ensures.grows) c.in_ok-se.ensures.grows) c.in_ok-nw.ensures.square)
-    (StandsFor-of_nine c.args.table.now c.join_guessed-2.new.self c.join_guessed-4.new.self k _ c.args.nine ss 1 2 4 5 count (lit< tt) (lit< tt) (lit< tt) (lit< tt) are (Grows-then c.args.table.now c.join_guessed.new.self c.join_guessed-2.new.self c.in_ok-nw.ensures.grows c.in_ok-ne.ensures.grows) (Grows-then c.join_guessed-2.new.self c.join_guessed-3.new.self c.join_guessed-4.new.self c.in_ok-sw.ensures.grows c.in_ok-se.ensures.grows) c.in_ok-ne.ensures.square)
-    (StandsFor-of_nine c.args.table.now c.join_guessed-3.new.self c.join_guessed-4.new.self k _ c.args.nine ss 3 4 6 7 count (lit< tt) (lit< tt) (lit< tt) (lit< tt) are (Grows-then c.args.table.now c.join_guessed-2.new.self c.join_guessed-3.new.self (Grows-then c.args.table.now c.join_guessed.new.self c.join_guessed-2.new.self c.in_ok-nw.ensures.grows c.in_ok-ne.ensures.grows) c.in_ok-sw.ensures.grows) c.in_ok-se.ensures.grows c.in_ok-sw.ensures.square)
-    (StandsFor-of_nine c.args.table.now c.join_guessed-4.new.self c.join_guessed-4.new.self k _ c.args.nine ss 4 5 7 8 count (lit< tt) (lit< tt) (lit< tt) (lit< tt) are (Grows-then c.args.table.now c.join_guessed-3.new.self c.join_guessed-4.new.self (Grows-then c.args.table.now c.join_guessed-2.new.self c.join_guessed-3.new.self (Grows-then c.args.table.now c.join_guessed.new.self c.join_guessed-2.new.self c.in_ok-nw.ensures.grows c.in_ok-ne.ensures.grows) c.in_ok-sw.ensures.grows) c.in_ok-se.ensures.grows) (Grows-same c.join_guessed-4.new.self) c.in_ok-se.ensures.square))
+    let nw = c.in_ok-nw.ensures in
+    let ne = c.in_ok-ne.ensures in
+    let sw = c.in_ok-sw.ensures in
+    let se = c.in_ok-se.ensures in
+    let all = c.join_guessed-4.new.self in
+    subst (StandForAll all.rows (suc k) _) (sym (fours_at ss (one 0) (sym are.count ∙ count)))
+    (StandForAll-four all.rows (suc k) _ _ _ _ _ _ _ _
+    (StandsFor-of_nine _ _ all k _ c.args.nine ss 0 1 3 4 count (lit< tt) (lit< tt) (lit< tt) (lit< tt) are nw.grows (ne.grows ⟫ sw.grows ⟫ se.grows) nw.square)
+    (StandsFor-of_nine _ _ all k _ c.args.nine ss 1 2 4 5 count (lit< tt) (lit< tt) (lit< tt) (lit< tt) are (nw.grows ⟫ ne.grows) (sw.grows ⟫ se.grows) ne.square)
+    (StandsFor-of_nine _ _ all k _ c.args.nine ss 3 4 6 7 count (lit< tt) (lit< tt) (lit< tt) (lit< tt) are (nw.grows ⟫ ne.grows ⟫ sw.grows) se.grows sw.square)
+    (StandsFor-of_nine _ _ all k _ c.args.nine ss 4 5 7 8 count (lit< tt) (lit< tt) (lit< tt) (lit< tt) are (nw.grows ⟫ ne.grows ⟫ sw.grows ⟫ se.grows) (Grows-same all) se.square))
 
 pub returns-in_err-nw-clause-adds : goal.returns-in_err-nw-clause-adds
 returns-in_err-nw-clause-adds c =

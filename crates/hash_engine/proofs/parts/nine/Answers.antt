@@ -1,5 +1,6 @@
 use Rattle.std.proofs.Common.{[], ◌∷◌, suc}
-use Rattle.square_table.proofs.Shared.Growth.{IsNumber-grows, Grows-same, Grows-then}
+use Rattle.square_table.proofs.Shared.Growth.{IsNumber-grows, Grows-same}
+use Rattle.hash_engine.proofs.Growth.{◌⟫◌}
 use Rattle.hash_life.specs.Result.{between, amid, middle}
 use Rattle.hash_engine.proofs.Standing.{is_there, quadrant_numbers, StandsFor-grows, StandForAll-nine_of}
 use Rattle.hash_engine.proofs.Adding.{Adds-nine, AddsOf-none, AddsOfTwo-none}
@@ -9,45 +10,65 @@ pub quadrants-requires : goal.quadrants-requires
 quadrants-requires c = is_there _ (suc c.requires.0) _ c.requires.1
 
 pub between-requires-clause-west : goal.between-requires-clause-west
-between-requires-clause-west c = (c.requires.0, (quadrant_numbers _ (suc c.requires.0) _ _ c.quadrants.ensures c.requires.1).nw)
+between-requires-clause-west c =
+    let quadrants = quadrant_numbers _ (suc c.requires.0) _ _ c.quadrants.ensures c.requires.1 in
+    (c.requires.0, quadrants.nw)
 
 pub between-requires-clause-east : goal.between-requires-clause-east
-between-requires-clause-east c = (c.requires.0, (quadrant_numbers _ (suc c.requires.0) _ _ c.quadrants.ensures c.requires.1).ne)
+between-requires-clause-east c =
+    let quadrants = quadrant_numbers _ (suc c.requires.0) _ _ c.quadrants.ensures c.requires.1 in
+    (c.requires.0, quadrants.ne)
 
 pub amid-requires-clause-north : goal.amid-requires-clause-north
-amid-requires-clause-north c = (c.requires.0, IsNumber-grows c.args.table.now c.between.new.table _ _ c.in_ok-north.ensures.grows (quadrant_numbers _ (suc c.requires.0) _ _ c.quadrants.ensures c.requires.1).nw)
+amid-requires-clause-north c =
+    let quadrants = quadrant_numbers _ (suc c.requires.0) _ _ c.quadrants.ensures c.requires.1 in
+    (c.requires.0, IsNumber-grows c.args.table.now c.between.new.table _ _ (c.in_ok-north.ensures.grows) quadrants.nw)
 
 pub amid-requires-clause-south : goal.amid-requires-clause-south
-amid-requires-clause-south c = (c.requires.0, IsNumber-grows c.args.table.now c.between.new.table _ _ c.in_ok-north.ensures.grows (quadrant_numbers _ (suc c.requires.0) _ _ c.quadrants.ensures c.requires.1).sw)
+amid-requires-clause-south c =
+    let quadrants = quadrant_numbers _ (suc c.requires.0) _ _ c.quadrants.ensures c.requires.1 in
+    (c.requires.0, IsNumber-grows c.args.table.now c.between.new.table _ _ (c.in_ok-north.ensures.grows) quadrants.sw)
 
 pub centre-requires : goal.centre-requires
-centre-requires c = (c.requires.0, IsNumber-grows c.args.table.now c.amid.new.table _ _ (Grows-then c.args.table.now c.between.new.table c.amid.new.table c.in_ok-north.ensures.grows c.in_ok-west.ensures.grows) c.requires.1)
+centre-requires c = (c.requires.0, IsNumber-grows c.args.table.now c.amid.new.table _ _ (c.in_ok-north.ensures.grows ⟫ c.in_ok-west.ensures.grows) c.requires.1)
 
 pub amid-requires-2-clause-north : goal.amid-requires-2-clause-north
-amid-requires-2-clause-north c = (c.requires.0, IsNumber-grows c.args.table.now c.centre.new.table _ _ (Grows-then c.args.table.now c.amid.new.table c.centre.new.table (Grows-then c.args.table.now c.between.new.table c.amid.new.table c.in_ok-north.ensures.grows c.in_ok-west.ensures.grows) c.in_ok-centre.ensures.grows) (quadrant_numbers _ (suc c.requires.0) _ _ c.quadrants.ensures c.requires.1).ne)
+amid-requires-2-clause-north c =
+    let quadrants = quadrant_numbers _ (suc c.requires.0) _ _ c.quadrants.ensures c.requires.1 in
+    (c.requires.0, IsNumber-grows c.args.table.now c.centre.new.table _ _ (c.in_ok-north.ensures.grows ⟫ c.in_ok-west.ensures.grows ⟫ c.in_ok-centre.ensures.grows) quadrants.ne)
 
 pub amid-requires-2-clause-south : goal.amid-requires-2-clause-south
-amid-requires-2-clause-south c = (c.requires.0, IsNumber-grows c.args.table.now c.centre.new.table _ _ (Grows-then c.args.table.now c.amid.new.table c.centre.new.table (Grows-then c.args.table.now c.between.new.table c.amid.new.table c.in_ok-north.ensures.grows c.in_ok-west.ensures.grows) c.in_ok-centre.ensures.grows) (quadrant_numbers _ (suc c.requires.0) _ _ c.quadrants.ensures c.requires.1).se)
+amid-requires-2-clause-south c =
+    let quadrants = quadrant_numbers _ (suc c.requires.0) _ _ c.quadrants.ensures c.requires.1 in
+    (c.requires.0, IsNumber-grows c.args.table.now c.centre.new.table _ _ (c.in_ok-north.ensures.grows ⟫ c.in_ok-west.ensures.grows ⟫ c.in_ok-centre.ensures.grows) quadrants.se)
 
 pub between-requires-2-clause-west : goal.between-requires-2-clause-west
-between-requires-2-clause-west c = (c.requires.0, IsNumber-grows c.args.table.now c.amid-2.new.table _ _ (Grows-then c.args.table.now c.centre.new.table c.amid-2.new.table (Grows-then c.args.table.now c.amid.new.table c.centre.new.table (Grows-then c.args.table.now c.between.new.table c.amid.new.table c.in_ok-north.ensures.grows c.in_ok-west.ensures.grows) c.in_ok-centre.ensures.grows) c.in_ok-east.ensures.grows) (quadrant_numbers _ (suc c.requires.0) _ _ c.quadrants.ensures c.requires.1).sw)
+between-requires-2-clause-west c =
+    let quadrants = quadrant_numbers _ (suc c.requires.0) _ _ c.quadrants.ensures c.requires.1 in
+    (c.requires.0, IsNumber-grows c.args.table.now c.amid-2.new.table _ _ (c.in_ok-north.ensures.grows ⟫ c.in_ok-west.ensures.grows ⟫ c.in_ok-centre.ensures.grows ⟫ c.in_ok-east.ensures.grows) quadrants.sw)
 
 pub between-requires-2-clause-east : goal.between-requires-2-clause-east
-between-requires-2-clause-east c = (c.requires.0, IsNumber-grows c.args.table.now c.amid-2.new.table _ _ (Grows-then c.args.table.now c.centre.new.table c.amid-2.new.table (Grows-then c.args.table.now c.amid.new.table c.centre.new.table (Grows-then c.args.table.now c.between.new.table c.amid.new.table c.in_ok-north.ensures.grows c.in_ok-west.ensures.grows) c.in_ok-centre.ensures.grows) c.in_ok-east.ensures.grows) (quadrant_numbers _ (suc c.requires.0) _ _ c.quadrants.ensures c.requires.1).se)
+between-requires-2-clause-east c =
+    let quadrants = quadrant_numbers _ (suc c.requires.0) _ _ c.quadrants.ensures c.requires.1 in
+    (c.requires.0, IsNumber-grows c.args.table.now c.amid-2.new.table _ _ (c.in_ok-north.ensures.grows ⟫ c.in_ok-west.ensures.grows ⟫ c.in_ok-centre.ensures.grows ⟫ c.in_ok-east.ensures.grows) quadrants.se)
 
 pub returns-clause-squares : goal.returns-clause-squares
 returns-clause-squares c = λ k s whole.
+    let north = c.in_ok-north.ensures in
+    let west = c.in_ok-west.ensures in
+    let centre = c.in_ok-centre.ensures in
+    let east = c.in_ok-east.ensures in
+    let south = c.in_ok-south.ensures in
+    let two = north.grows ⟫ west.grows in
+    let three = two ⟫ centre.grows in
+    let four = three ⟫ east.grows in
     StandForAll-nine_of c.args.table.now k c.args.number _ _ _ _ _ c.between.new.table c.amid.new.table c.centre.new.table c.amid-2.new.table c.between-2.new.table c.quadrants.result s whole c.quadrants.ensures
-    (Grows-then c.args.table.now c.amid-2.new.table c.between-2.new.table (Grows-then c.args.table.now c.centre.new.table c.amid-2.new.table (Grows-then c.args.table.now c.amid.new.table c.centre.new.table (Grows-then c.args.table.now c.between.new.table c.amid.new.table c.in_ok-north.ensures.grows c.in_ok-west.ensures.grows) c.in_ok-centre.ensures.grows) c.in_ok-east.ensures.grows) c.in_ok-south.ensures.grows)
-    (Grows-then c.between.new.table c.amid-2.new.table c.between-2.new.table (Grows-then c.between.new.table c.centre.new.table c.amid-2.new.table (Grows-then c.between.new.table c.amid.new.table c.centre.new.table c.in_ok-west.ensures.grows c.in_ok-centre.ensures.grows) c.in_ok-east.ensures.grows) c.in_ok-south.ensures.grows)
-    (Grows-then c.amid.new.table c.amid-2.new.table c.between-2.new.table (Grows-then c.amid.new.table c.centre.new.table c.amid-2.new.table c.in_ok-centre.ensures.grows c.in_ok-east.ensures.grows) c.in_ok-south.ensures.grows)
-    (Grows-then c.centre.new.table c.amid-2.new.table c.between-2.new.table c.in_ok-east.ensures.grows c.in_ok-south.ensures.grows)
-    c.in_ok-south.ensures.grows
-    (λ a b first second. c.in_ok-north.ensures.square k a b first second)
-    (λ a b first second. c.in_ok-west.ensures.square k a b (StandsFor-grows c.args.table.now c.between.new.table _ _ a c.in_ok-north.ensures.grows first) (StandsFor-grows c.args.table.now c.between.new.table _ _ b c.in_ok-north.ensures.grows second))
-    (c.in_ok-centre.ensures.square k s (StandsFor-grows c.args.table.now c.amid.new.table _ _ s (Grows-then c.args.table.now c.between.new.table c.amid.new.table c.in_ok-north.ensures.grows c.in_ok-west.ensures.grows) whole))
-    (λ a b first second. c.in_ok-east.ensures.square k a b (StandsFor-grows c.args.table.now c.centre.new.table _ _ a (Grows-then c.args.table.now c.amid.new.table c.centre.new.table (Grows-then c.args.table.now c.between.new.table c.amid.new.table c.in_ok-north.ensures.grows c.in_ok-west.ensures.grows) c.in_ok-centre.ensures.grows) first) (StandsFor-grows c.args.table.now c.centre.new.table _ _ b (Grows-then c.args.table.now c.amid.new.table c.centre.new.table (Grows-then c.args.table.now c.between.new.table c.amid.new.table c.in_ok-north.ensures.grows c.in_ok-west.ensures.grows) c.in_ok-centre.ensures.grows) second))
-    (λ a b first second. c.in_ok-south.ensures.square k a b (StandsFor-grows c.args.table.now c.amid-2.new.table _ _ a (Grows-then c.args.table.now c.centre.new.table c.amid-2.new.table (Grows-then c.args.table.now c.amid.new.table c.centre.new.table (Grows-then c.args.table.now c.between.new.table c.amid.new.table c.in_ok-north.ensures.grows c.in_ok-west.ensures.grows) c.in_ok-centre.ensures.grows) c.in_ok-east.ensures.grows) first) (StandsFor-grows c.args.table.now c.amid-2.new.table _ _ b (Grows-then c.args.table.now c.centre.new.table c.amid-2.new.table (Grows-then c.args.table.now c.amid.new.table c.centre.new.table (Grows-then c.args.table.now c.between.new.table c.amid.new.table c.in_ok-north.ensures.grows c.in_ok-west.ensures.grows) c.in_ok-centre.ensures.grows) c.in_ok-east.ensures.grows) second))
+    (four ⟫ south.grows) (west.grows ⟫ centre.grows ⟫ east.grows ⟫ south.grows) (centre.grows ⟫ east.grows ⟫ south.grows) (east.grows ⟫ south.grows) south.grows
+    (λ a b first second. north.square k a b first second)
+    (λ a b first second. west.square k a b (StandsFor-grows _ _ _ _ a north.grows first) (StandsFor-grows _ _ _ _ b north.grows second))
+    (centre.square k s (StandsFor-grows _ _ _ _ s two whole))
+    (λ a b first second. east.square k a b (StandsFor-grows _ _ _ _ a three first) (StandsFor-grows _ _ _ _ b three second))
+    (λ a b first second. south.square k a b (StandsFor-grows _ _ _ _ a four first) (StandsFor-grows _ _ _ _ b four second))
 
 pub returns-in_err-north-clause-adds : goal.returns-in_err-north-clause-adds
 returns-in_err-north-clause-adds c = λ k s whole.

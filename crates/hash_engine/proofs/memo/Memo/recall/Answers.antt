@@ -15,5 +15,5 @@ pub returns-then-generations-self-clause-some : goal.returns-then-generations-se
 returns-then-generations-self-clause-some c =
     IfSome_then c.found-then-generations-self.result c.found-then-generations-self.ensures.some
     (λ r is next rows right number.
-    recalled next (λ k. get_or c.args.self.now.counts k 0) rows c.deref-then-generations-self.result.now c.args.k c.args.generations c.args.number r (c.if-generations-self.true ∙ ap (λ k. get_or c.args.self.now.counts k 0) c.from.ensures) c.requires.number is.0 is.1
+    recalled next (λ k. get_or c.args.self.now.counts k 0) rows _ c.args.k c.args.generations c.args.number r (c.if-generations-self.true ∙ ap (λ k. get_or c.args.self.now.counts k 0) c.from.ensures) c.requires.number is.0 is.1
     (subst (AreKnown next (λ k. get_or c.args.self.now.counts k 0) rows) (sym c.deref-then-generations-self.ensures.value) right.part) number)

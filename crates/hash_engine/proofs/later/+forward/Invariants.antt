@@ -1,0 +1,22 @@
+use Rattle.std.proofs.Common.{◌≡◌, ◌+◌, ◌*◌}
+use Rattle.hash_engine.specs.Asked.{AsksForMore}
+use Rattle.hash_engine.specs.Found.{Stays}
+use Rattle.hash_engine.proofs.Turns.{AreDone}
+use Rattle.hash_engine.proofs.later.+forward.Given as goal
+
+abbrev pub decreases-all_forward : goal.decreases-all_forward
+decreases-all_forward g l = 3 * l.k + 3
+
+abbrev pub decreases-compute : goal.decreases-compute
+decreases-compute g l = 3 * l.k + 1
+
+abbrev pub decreases-forward : goal.decreases-forward
+decreases-forward g l = 3 * l.k + 2
+
+abbrev pub invariant-all_forward-loop-number : goal.invariant-all_forward-loop-number
+invariant-all_forward-loop-number g l = record {
+  stays : Stays g.Q.Ask.meaning g.Q.Ask.state_count l.fn.rule l.rule l.k l.ahead l.fn.numbers l.fn.table l.table l.memo;
+  went_on : g.S.Stop.yes_count l.stop ≡ g.S.Stop.yes_count l.fn.stop;
+  done : AreDone (g.Q.Ask.meaning l.fn.rule) l.k l.ahead l.number-index l.fn.numbers l.numbers l.fn.table l.table;
+  asks : AsksForMore (g.Q.Ask.meaning l.fn.rule) l.k l.ahead l.fn.numbers l.fn.table l.table l.fn.memo l.memo (g.Q.Ask.asks l.fn.rule) (g.Q.Ask.asks l.rule);
+}
