@@ -1,12 +1,13 @@
 #!/usr/bin/env python3
 """Times desk beside bgolly, Golly's engine without a window, on the same rules and patterns.
 
-    bench/bench.py [--desk PROGRAM] [--golly FOLDER] [--only WORD] [--more]
+    bench/bench.py [--desk PROGRAM] [--golly FOLDER] [--only WORD] [--more | --leaps] [--squares N]
 
 bgolly and its patterns come with Debian's package `golly`. Each program runs once for each pattern;
 the table has the processor seconds of the whole process and the peak of its memory, start-up
 included. bgolly runs its RuleLoader, and both get the rule as a table from the same file. With
-`--more` it runs other patterns of the package, and soups under other rules.
+`--more` it runs other patterns of the package, and soups under other rules; with `--leaps` those whose
+squares fill a table, which are worth running with `--squares 4194304`, the program's default, too.
 """
 import argparse
 import gzip
@@ -55,6 +56,15 @@ MORE = [
     ("Self-Rep/Devore/Devore-rep.rle", "Devore", 2**16),
     ("Turmites/ComputerArt.rle", "Turmite_180121020081", 2**18),
     ("Turmites/LangtonsAnt_LLRR.rle", "LangtonsAnt_LLRR", 2**18),
+]
+
+
+# Patterns whose squares fill a table, so that the lengths of leaps count.
+LEAPS = [
+    ("Loops/Evoloop.rle", "Evoloop", 20000),
+    ("Margolus/TMGas_largeWithHole.rle", "TMGasMargolus_emulated", 2000),
+    ("Turmites/LangtonsAnt_LLRR.rle", "LangtonsAnt_LLRR", 2**20),
+    ("Other-Rules/HPP-demo.rle", "HPP", 1000),
 ]
 
 
@@ -114,13 +124,26 @@ def cases(golly, desk):
     ]
 
 
+def of_package(golly, listed):
+    """The same of patterns of the package."""
+    patterns, rules = f"{golly}/Patterns", f"{golly}/Rules"
+    return [
+        (f"{path.split('/')[-1].split('.')[0]} to {generations}", "rle", text_of(f"{patterns}/{path}"), text_of(f"{rules}/{rule}.rule"), generations)
+        for path, rule, generations in listed
+    ]
+
+
+def leap_cases(golly):
+    """The same of patterns whose squares fill a table."""
+    brain = soup(300, "BriansBrain", ".", "AB")
+    rule = text_of(f"{golly}/Rules/BriansBrain.rule")
+    return [("a soup of Brian's Brain to 1000", "rle", brain, rule, 1000), *of_package(golly, LEAPS)]
+
+
 def more_cases(golly):
     """The same of the other patterns, and of soups under other rules."""
-    patterns, rules = f"{golly}/Patterns", f"{golly}/Rules"
-    found = [
-        (f"{path.split('/')[-1].split('.')[0]} to {generations}", "rle", text_of(f"{patterns}/{path}"), text_of(f"{rules}/{rule}.rule"), generations)
-        for path, rule, generations in MORE
-    ]
+    rules = f"{golly}/Rules"
+    found = of_package(golly, MORE)
     brain = soup(256, "BriansBrain", ".", "AB")
     wars = soup(256, "StarWars", ".", "ABC")
     return [
@@ -128,6 +151,13 @@ def more_cases(golly):
         ("a soup of Brian's Brain to 512", "rle", brain, text_of(f"{rules}/BriansBrain.rule"), 512),
         ("a soup of Star Wars to 512", "rle", wars, text_of(f"{rules}/StarWars.rule"), 512),
     ]
+
+
+def listed(given):
+    """The cases that were asked for."""
+    if given.leaps:
+        return leap_cases(given.golly)
+    return more_cases(given.golly) if given.more else cases(given.golly, given.desk)
 
 
 def desk_script(form, pattern, rule, generations):
@@ -139,13 +169,16 @@ def main():
     words.add_argument("--desk", default=f"{HERE}/../crates/desk/out/desk")
     words.add_argument("--golly", default="/usr/share/golly")
     words.add_argument("--only", default="")
-    words.add_argument("--more", action="store_true")
+    words.add_argument("--squares", type=int, default=SQUARES)
+    kind = words.add_mutually_exclusive_group()
+    kind.add_argument("--more", action="store_true")
+    kind.add_argument("--leaps", action="store_true")
     given = words.parse_args()
     ratios = []
     print("| pattern | desk s | bgolly s | ratio | desk MB | bgolly MB | ratio |")
     print("|---|---|---|---|---|---|---|")
     with tempfile.TemporaryDirectory() as room:
-        for name, form, pattern, rule, generations in more_cases(given.golly) if given.more else cases(given.golly, given.desk):
+        for name, form, pattern, rule, generations in listed(given):
             if given.only not in name:
                 continue
             rule_name = rule.split()[1]
@@ -153,7 +186,7 @@ def main():
                 with open(path, "w", encoding="utf-8") as file:
                     file.write(text)
             script = desk_script(form, pattern, rule, generations)
-            seconds, peak, said = measured([given.desk, "--squares", str(SQUARES)], script)
+            seconds, peak, said = measured([given.desk, "--squares", str(given.squares)], script)
             theirs, their_peak, _ = measured(
                 ["bgolly", "-a", "RuleLoader", "-s", f"{room}/", "-q", "-q", "-m", str(generations), "-i", str(generations), f"{room}/pattern.{form}"]
             )

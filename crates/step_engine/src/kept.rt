@@ -19,6 +19,9 @@ use square_table::{Square, SquareTable};
 use std::alloc::{AllocError, Global};
 use std::marker::Model;
 
+// A table holds no more.
+const MOST_SQUARES: u32 = 16777216;
+
 // A plane, and one of its squares round the origin.
 #[derive(Drop)]
 struct Packed<'a> {
@@ -89,6 +92,10 @@ pub struct Engine<'a, R: Next> {
     table: SquareTable<'a>,
     memo: Memo,
     latest: Option<Packed<'a>>,
+    // How far a leap may go that begins the next way, 0 where none was made, and how many squares the
+    // leap before made.
+    pace: u64,
+    made: u32,
 }
 
 impl<'a, R: Next> Model for Engine<'a, R> {
@@ -120,6 +127,8 @@ impl<'a, R: Next> Engine<'a, R> {
             table: no_squares(alloc, arena, limit)?,
             memo: Memo::nothing(alloc),
             latest: None,
+            pace: 0,
+            made: 0,
         })
     }
 
@@ -177,5 +186,77 @@ impl<'a, R: Next> Engine<'a, R> {
             generations,
             stop,
         )
+    }
+
+    /// The plane `generations` later, as `evolve` gives it. All squares are given up before, where as
+    /// many as the last leap made wouldn't fit twice more.
+    pub(crate) fn leap<S: Stop>(
+        &mut self,
+        plane: &Plane,
+        generations: u64,
+        stop: &mut S,
+    ) -> Result<Plane, EvolveFault>
+        requires { CanEvolve (R.state_count self.old.rule) generations plane.now }
+        ensures plane { IfOk result (λ later.
+            later ≡ iterate generations (step (R.meaning self.old.rule)) plane.now) }
+        ensures same { self.new ≡ self.old }
+        ensures stop { CountsStop result (Err EvolveFault.Stopped)
+            (S.yes_count stop.old) (S.yes_count stop.new) }
+        ensures no_room { result ≡ Err EvolveFault.NoRoom →
+            IsRoomSpent self.old.limit (R.meaning self.old.rule) plane.now generations }
+    {
+        if self.is_nearly_full() {
+            self.give_up()?;
+        }
+        let before = self.table.len();
+        let found = self.evolve(plane, generations, stop);
+        self.note_made(before);
+        found
+    }
+
+    // Whether as many squares as the last leap made wouldn't fit twice more.
+    fn is_nearly_full(&self) -> bool {
+        u64::from(self.table.len()) + 2 * u64::from(self.made) > u64::from(self.most())
+    }
+
+    // Gives all squares and results up.
+    fn give_up(&mut self) -> Result<(), AllocError>
+        ensures { self.new ≡ self.old }
+    {
+        self.latest = None;
+        self.table = no_squares(self.alloc, self.arena, self.limit)?;
+        self.memo = Memo::nothing(self.alloc);
+        Ok(())
+    }
+
+    // Notes how many squares a leap made, of which there were so many before, unless they were given
+    // up.
+    fn note_made(&mut self, before: u32)
+        ensures { self.new ≡ self.old }
+    {
+        let after = self.table.len();
+        self.made = after.checked_sub(before).unwrap_or(after);
+    }
+
+    /// How many squares the leap before made.
+    pub(crate) fn made(&self) -> u32 {
+        self.made
+    }
+
+    /// How many squares there may be.
+    pub(crate) fn most(&self) -> u32 {
+        self.limit.min(MOST_SQUARES)
+    }
+
+    /// How far the leap may go that begins a way, 0 where none was made yet.
+    pub(crate) fn pace(&self) -> u64 {
+        self.pace
+    }
+
+    /// Keeps how far it may go.
+    pub(crate) fn keep_pace(&mut self, pace: u64)
+        ensures { self.new ≡ self.old }
+    {
+        self.pace = pace;
     }
 }

@@ -4,8 +4,8 @@
 //! finds the result of the whole for any number of generations (R. Wm. Gosper, Exploiting
 //! Regularities in Large Cellular Spaces, Physica 10D, 1984), and packs it as a plane. What is the
 //! same in space or time is computed once, so that a pattern may be carried 2^60 generations ahead.
-//! An `Engine` keeps the squares and their results from one call to the next, and goes in pieces
-//! where there is no room for all generations at once.
+//! An `Engine` keeps the squares and their results from one call to the next, and goes in leaps as
+//! long as the room for squares allows.
 //!
 //! `evolve_plain` goes one generation after another. Between them a generation is the list of its
 //! live cells and the same cells as a patch. The next one comes of asking the rule once at each
@@ -19,6 +19,7 @@ mod evolved;
 mod generation;
 mod kept;
 mod margin;
+mod pace;
 mod padding;
 mod pieces;
 mod reach;

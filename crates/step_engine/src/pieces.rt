@@ -1,5 +1,10 @@
-//! Many generations of a plane in pieces, where there is no room for all at once.
-ghost use Rattle.std.specs.Prelude.{◌≡◌, ◌<◌, ◌≤◌, IfOk, Err};
+//! Many generations of a plane in leaps, whose lengths follow what they cost.
+//!
+//! Each leap is HashLife's (Gosper 1984), by a power of two generations where it isn't the whole way,
+//! since those results are shared by all leaps. Its length begins near the pattern's size and is
+//! doubled or halved by the squares that it made, as in Golly's hyperspeed, so that no leap is likely
+//! to fill the table. A way of n generations of a regular pattern has some 2 log n leaps.
+ghost use Rattle.std.specs.Prelude.{◌≡◌, ◌<◌, ◌≤◌, ◌^◌, IfOk, Err};
 ghost use Rattle.worlds.specs.Iterate.{iterate};
 ghost use Rattle.worlds.specs.Step.{step};
 ghost use Rattle.worlds.specs.Stop.{CountsStop};
@@ -8,18 +13,18 @@ ghost use Rattle.step_engine.specs.Pieces.{IsPieceSpent};
 
 use crate::evolved::EvolveFault;
 use crate::kept::Engine;
+use crate::pace::{eased, falls, first, paced, stride};
 use plane_core::{Next, Plane, Stop};
 
-// So many pieces are enough for all generations.
-const MOST_PIECES: u64 = 4096;
+// A leap that finds no room is given up where it is no more than such a part of the way.
+const MOST_LEAPS: u64 = 4096;
 
 impl<'a, R: Next> Engine<'a, R> {
     /// The plane `generations` later, as `evolve` gives it, also where there is no room for the
     /// way of all of them at once.
     ///
-    /// Then the plane is evolved by half of them at a time, by a quarter where there is no room
-    /// either, and so on, down to a 4,096th. So there are at most 4,096 pieces, and at most thirteen
-    /// of them that had no room.
+    /// The plane goes in leaps, as long as the squares that they make allow. Where there is no room for
+    /// a leap, a shorter one is tried, down to a 4,096th of the way, and at last the whole way at once.
     pub fn evolve_in_pieces<S: Stop>(
         &mut self,
         plane: &Plane,
@@ -37,14 +42,14 @@ impl<'a, R: Next> Engine<'a, R> {
         ensures piece { result ≡ Err EvolveFault.NoRoom →
             IsPieceSpent self.old.limit (R.meaning self.old.rule) plane.now generations }
     {
-        match self.evolve(plane, generations, stop) {
-            Err(EvolveFault::NoRoom) => self.by_pieces(plane, generations, stop),
+        match self.by_leaps(plane, generations, stop) {
+            Err(EvolveFault::NoRoom) => self.evolve(plane, generations, stop),
             found => found,
         }
     }
 
-    // The plane `generations` later, by at most half of them at a time.
-    fn by_pieces<S: Stop>(
+    // The plane `generations` later, by leaps.
+    fn by_leaps<S: Stop>(
         &mut self,
         plane: &Plane,
         generations: u64,
@@ -59,29 +64,27 @@ impl<'a, R: Next> Engine<'a, R> {
         ensures piece { result ≡ Err EvolveFault.NoRoom →
             IsPieceSpent self.old.limit (R.meaning self.old.rule) plane.now generations }
     {
-        let least = generations.div_ceil(MOST_PIECES);
+        let least = generations.div_ceil(MOST_LEAPS);
         let mut now = plane.copy()?;
         let mut left = generations;
-        let mut piece = halved(generations, least);
+        let mut length = first(self.pace(), plane);
+        let mut last = 0;
         while left > 0 {
-            let count = piece.min(left);
-            match self.evolve(&now, count, stop) {
+            let count = stride(length, left, generations);
+            let before = self.made();
+            match self.leap(&now, count, stop) {
                 Ok(later) => {
                     now = later;
                     left -= count;
+                    let falls = falls(last, before, count, self.made());
+                    length = paced(length, count, least, self.made(), self.most(), falls);
+                    last = count;
                 }
-                Err(EvolveFault::NoRoom) if count > least => piece = halved(count, least),
+                Err(EvolveFault::NoRoom) if count > least => length = eased(count),
                 Err(fault) => return Err(fault),
             }
         }
+        self.keep_pace(length);
         Ok(now)
     }
-}
-
-// Half as many, but not fewer than the least.
-fn halved(many: u64, least: u64) -> u64
-    ensures least { least ≤ result }
-    ensures fewer { 1 ≤ least → least < many → result < many }
-{
-    many.div_ceil(2).max(least)
 }

@@ -112,6 +112,46 @@ fn goes_in_pieces_where_there_is_no_room_for_all(rt: HostRuntime) {
     assert!(rt; any, "no answer in pieces alone");
 }
 
+/// Stops the test where a kept engine of so many squares gives another plane than the plain way, or
+/// none though it is asked for one that has room.
+fn is_plain_way<R: Next>(
+    rt: &impl Abort,
+    alloc: Global,
+    engine: &mut Engine<'_, R>,
+    plane: &Plane,
+    generations: u64,
+    limit: u32,
+) {
+    assert!(rt;
+        is_below(plane, engine.rule().states()),
+        "a state isn't the rule's"
+    );
+    assert!(rt; generations <= 1 << 60);
+    assert!(rt; fits(plane, generations));
+    let answer = evolve_plain(alloc, engine.rule(), plane, generations, &mut NoStop, 0);
+    let wanted = answer.expect(rt, "a plane").plane;
+    let found = engine.evolve_in_pieces(plane, generations, &mut NoStop);
+    let found = found.expect(rt, "a plane in pieces");
+    assert!(rt;
+        found.equals(&wanted),
+        "{generations} by {limit}: another plane"
+    );
+}
+
+#[test]
+fn goes_by_leaps_as_the_plain_way_does(rt: HostRuntime) {
+    let alloc = rt.alloc();
+    let rule = Copying { from: WEST };
+    let plane = plane_of(&rt, alloc, SCATTERED);
+    for limit in [500, 1000, 20000] {
+        let arena = Bump::new(alloc);
+        let mut engine = Engine::new(alloc, &arena, &rule, limit).expect(&rt, "memory");
+        for generations in [1, 20, 5] {
+            is_plain_way(&rt, alloc, &mut engine, &plane, generations, limit);
+        }
+    }
+}
+
 #[test]
 fn finds_no_room_however_many_generations_there_are(rt: HostRuntime) {
     let alloc = rt.alloc();
