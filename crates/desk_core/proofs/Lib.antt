@@ -1,6 +1,7 @@
 mod Fed
 mod Known
 mod Out
+mod Polls
 mod Run
 pub mod Shared
 mod Steps

@@ -1,12 +1,15 @@
 -- How a settling goes on by what is issued, sent, answered and cancelled.
-use Rattle.std.proofs.Common.{◌≡◌, ◌⊎◌, ℕ, ◌+◌, ◌*◌, ◌<◌, ◌≤◌, ◌∙◌, List, [], ◌∷◌, ◌++◌, length, refl, sym, ap, subst, inl, inr, arith, append_assoc, append-nil, Option, None, Some, false}
+use Rattle.std.proofs.Common.{◌≡◌, ◌⊎◌, ℕ, true, ◌+◌, ◌*◌, ◌<◌, ◌≤◌, ◌∙◌, List, [], ◌∷◌, ◌++◌, length, refl, sym, ap, subst, inl, inr, arith, append_assoc, append-nil, Option, None, Some, false}
 use Rattle.std.specs.Prelude.{IfSome, is_some, unwrap_or}
 use Rattle.std.proofs.lemmas.List.{length-map}
 use Rattle.step_engine.specs.declared.evolved.EvolveFault.{EvolveFault}
 use Rattle.revision_jobs.specs.declared.answer.Job.{Job}
-use Rattle.revision_jobs.specs.declared.entries.Entries.{Entries}
+use Rattle.revision_jobs.specs.declared.post.Sent.{Sent}
+use Rattle.revision_jobs.specs.declared.post.Sent.TheVariants.{Taken, Full, Closed}
+use Rattle.revision_jobs.specs.declared.post.Received.TheVariants as received
 use Rattle.revision_jobs.specs.Answer.{JobResult}
 use Rattle.revision_jobs.specs.Entries.{IsOf}
+use Rattle.revision_jobs.specs.Posted.{IsAsked, IsOwnAnswer, IsSent, PostView, Receives, Sends, SendsPromptly}
 use Rattle.desk_events.specs.declared.need.Need.{Need}
 use Rattle.dependency_book.specs.RowState.{has_number}
 use Rattle.dependency_book.specs.Jobs.{SameBook, SameDocument}
@@ -23,13 +26,13 @@ use Rattle.desk_core.specs.declared.issue.IssueFault.{IssueFault}
 use Rattle.desk_core.specs.declared.progress.Progress.{Progress}
 use Rattle.desk_core.specs.declared.unsent.Unsent.TheVariants.{Nothing, Ready}
 use Rattle.desk_core.specs.Collected.{IsCollected}
-use Rattle.desk_core.specs.Progress.{CanBeSent, CancelsAny, Fits, GoesOn, HasCome, IsAccounted, IsAtHand, Stage, job_in, ready, stage}
+use Rattle.desk_core.specs.Progress.{CanBeSent, CancelsAny, Fits, GoesOn, HasCome, IsAccounted, IsAtHand, KeepsJobs, Stage, job_in, ready, stage}
 use Rattle.desk_core.specs.Cause.{cause_of_answer, cause_of_issue}
 use Rattle.desk_core.specs.Issued.{IssuesFor, RefusesIssue}
-use Rattle.desk_core.specs.Settling.{Explains, GivesAtMost, IsHeld, OutOrSent, Serves, Settles, rows_of}
+use Rattle.desk_core.specs.Settling.{Explains, GivesAtMost, Keeps, KeepsKnown, Serves, ServesOn, Settles, rows_of}
 use Rattle.desk_core.proofs.Shared.Causes.{explains-kept, explains-collected, explains-refused}
 use Rattle.desk_core.proofs.Known.{KeepsKnown-same, KeepsKnown-on, KeepsKnown-issued, KeepsKnown-filled, KeepsKnown-cancelled}
-use Rattle.desk_core.proofs.Out.{IsAtHand-cancelled, IsHeld-at_hand, issued_out, filled_out, cancelled_out, not_numbered}
+use Rattle.desk_core.proofs.Out.{IsAtHand-answered, IsAtHand-cancelled, IsAtHand-held, IsAtHand-issued, IsHeld-at_hand, issued_out, filled_out, cancelled_out, not_numbered}
 use Rattle.desk_core.proofs.Shared.Given.{same_given, issued_given}
 
 pub SameDocument-on : (c d e : BookState) → SameDocument c d → SameDocument d e → SameDocument c e
@@ -38,131 +41,353 @@ SameDocument-on c d e h k = record { table = cc; plan = cc; marks = cc; bookmark
 pub SameDocument-same : (d : BookState) → SameDocument d d
 SameDocument-same d = record { table = refl; plan = refl; marks = refl; bookmarks = refl }
 
+CancelsAny-book : (unsent : Option Job) (old new : BookState) → CancelsAny unsent old new → SameBook old new
+CancelsAny-book None old new same =
+    subst (SameBook old) (sym same) (record { document = SameDocument-same old; entries = refl })
+CancelsAny-book (Some job) old new cancels = cancels.book
+
+-- a cause that was met stays
+
+same_cause : (before after : Option Cause) → after ≡ before → IfSome before (λ cause. after ≡ Some cause)
+same_cause None after same = tt
+same_cause (Some cause) after same = same
+
+first_cause : (before after : Option Cause) (told cause : Cause) → cause ≡ unwrap_or before told → after ≡ Some cause
+    → IfSome before (λ first. after ≡ Some first)
+first_cause None after told cause is caused = tt
+first_cause (Some first) after told cause is caused = caused ∙ ap (λ c. Some c) is
+
+still_caused : (a b c : Option Cause) → IfSome a (λ cause. b ≡ Some cause) → IfSome b (λ cause. c ≡ Some cause)
+    → IfSome a (λ cause. c ≡ Some cause)
+still_caused None b c h k = tt
+still_caused (Some cause) b c h k = subst (λ x. IfSome x (λ y. c ≡ Some y)) h k
+
+pub none_before : (a b : Option Cause) → IfSome a (λ cause. b ≡ Some cause) → b ≡ None → a ≡ None
+none_before None b h none = refl
+none_before (Some cause) b h none = absurd (cc)
+
+pub no_cause : (cause : Option Cause) → false ≡ is_some cause → cause ≡ None
+no_cause None h = refl
+no_cause (Some cause) h = absurd cc
+
+-- what fits a desk and a post
+
+sent_on : (old new : BookState) (floor : ℕ) (unsent : Option Job) → SameBook old new
+    → IfSome unsent (CanBeSent old floor) → IfSome unsent (CanBeSent new floor)
+sent_on old new floor None same h = tt
+sent_on old new floor (Some job) same h = record {
+  own = subst (λ table. IsOf table job.place) (sym same.document.table) h.own;
+  rises = h.rises;
+  given = omega (arith, h.given, same_given same);
+}
+
+pub Serves-book : (old new : BookState) (post : PostView) → SameBook old new → Serves old post → Serves new post
+Serves-book old new post same h = record {
+  table = h.table ∙ sym same.document.table;
+  numbers = let least = h.numbers in omega (arith, least, same_given same);
+}
+
+Fits-book : (old new : BookState) (post : PostView) (unsent : Option Job) → SameBook old new → Fits old post unsent
+    → Fits new post unsent
+Fits-book old new post unsent same h = record {
+  serves = Serves-book old new post same h.serves;
+  unsent = sent_on old new post.floor unsent same h.unsent;
+}
+
+-- a post of which nothing came: it is as it was but for what it was asked
+pub record Idles (p q : PostView) : Type 0 where
+  pub same : IsAsked p q
+  pub floor : q.floor ≡ p.floor
+  pub answers : q.answers ≡ p.answers
+  pub held : p.is_prompt ≡ true → q.held ≡ p.held
+
+-- so is one that didn't take a job
+pub Idles-refused : (job : Job) (p q : PostView) (said : Sent) → (said ≡ Taken → ⊥) → Sends job p q said → Idles p q
+Idles-refused job p q said other h =
+    record { same = h.same; floor = floor said other h.sent; answers = h.answers; held = λ k. held said other (h.prompt k) }
+  where
+    floor : (said : Sent) → (said ≡ Taken → ⊥) → IsSent job p.floor q.floor said → q.floor ≡ p.floor
+    floor Taken other h = absurd (other refl)
+    floor (Full back) other h = h.1
+    floor (Closed back) other h = h.1
+
+    held : (said : Sent) → (said ≡ Taken → ⊥) → SendsPromptly job p.held q.held said → q.held ≡ p.held
+    held Taken other h = absurd (other refl)
+    held (Full back) other h = h.1
+    held (Closed back) other h = absurd h
+
+-- and one that gave no answer
+pub Idles-nothing : (p q : PostView) → Receives p q received.Nothing → Idles p q
+Idles-nothing p q h = record {
+  same = h.same;
+  floor = h.floor;
+  answers = h.answers;
+  held = λ prompt. (h.prompt prompt).1 ∙ sym (h.prompt prompt).0;
+}
+
+pub Idles-ended : (p q : PostView) → Receives p q received.Ended → Idles p q
+Idles-ended p q h =
+    record { same = h.same; floor = h.floor; answers = h.answers; held = λ prompt. absurd (h.prompt prompt) }
+
+Fits-idle : (d : BookState) (p q : PostView) (unsent : Option Job) → q.table ≡ p.table → q.floor ≡ p.floor
+    → Fits d p unsent → Fits d q unsent
+Fits-idle d p q unsent table floor h = record {
+  serves = record {
+    table = table ∙ h.serves.table;
+    numbers = subst (λ n. n ≤ given_of d) (sym floor) h.serves.numbers;
+  };
+  unsent = subst (λ n. IfSome unsent (CanBeSent d n)) (sym floor) h.unsent;
+}
+
+Fits-issued : (old new : BookState) (post : PostView) (need : Need) (job : Job) → IssuesFor old new job need
+    → Serves old post → Fits new post (Some job)
+Fits-issued old new post need job issued serves = record {
+  serves = record {
+    table = serves.table ∙ sym issued.is.document.table;
+    numbers = let one = issued_given issued in let least = serves.numbers in omega (arith, one, least);
+  };
+  unsent = record {
+    own = subst (λ table. IsOf table job.place) (sym issued.is.document.table) issued.next.own;
+    rises = let is = issued.next.number in let least = serves.numbers in omega (arith, is, least);
+    given = let is = issued.next.number in let one = issued_given issued in omega (arith, is, one);
+  };
+}
+
+Fits-sent : (d : BookState) (p q : PostView) (job : Job) → Sends job p q Taken → Fits d p (Some job) → Fits d q None
+Fits-sent d p q job sends h = record {
+  serves = record {
+    table = sends.same.table ∙ h.serves.table;
+    numbers = let is = sends.sent in let given = h.unsent.given in omega (arith, is, given);
+  };
+  unsent = tt;
+}
+
+Fits-cancelled : (old new : BookState) (post : PostView) (unsent : Option Job) → CancelsAny unsent old new
+    → Fits old post unsent → Fits new post None
+Fits-cancelled old new post unsent cancels h =
+    record { serves = Serves-book old new post (CancelsAny-book unsent old new cancels) h.serves; unsent = tt }
+
+Fits-answered : (old new : BookState) (p q : PostView) (unsent : Option Job) (answer : JobResult)
+    → Receives p q (received.Answer answer) → SameBook old new → Fits old p unsent → Fits new q unsent
+Fits-answered old new p q unsent answer receives same h =
+    Fits-idle new p q unsent receives.same.table receives.floor (Fits-book old new p unsent same h)
+
+-- the same, for what is sent next in a progress
+fit_as : (d : BookState) (post : PostView) (unsent after : Option Job) → after ≡ unsent → Fits d post unsent
+    → Fits d post after
+fit_as d post unsent after same h = subst (Fits d post) (sym same) h
+
 -- where settlings have come to
 
-pub HasCome-first : (d : BookState) (floor : ℕ) (answers : List JobResult) (p : Progress) → p.cause ≡ None
-    → HasCome d answers (stage d floor answers p)
-HasCome-first d floor answers p none = record {
+pub HasCome-first : (d : BookState) (post : PostView) (p : Progress) → p.unsent ≡ Nothing → p.cause ≡ None
+    → Serves d post → HasCome d post (stage d post p)
+HasCome-first d post p nothing none serves = record {
   known = KeepsKnown-same d;
   document = SameDocument-same d;
-  later = [];
-  gave = sym (append-nil answers);
-  cause = subst (λ c. IfSome c (Explains d [])) (sym none) tt;
-  out = λ need job out. inl out;
+  jobs = subst (λ unsent. KeepsJobs d post d post (job_in unsent)) (sym nothing) (record {
+    fits = record { serves = serves; unsent = tt };
+    out = λ need job out. inl out;
+    at_hand = λ all. IsAtHand-held post.held d all.held;
+  });
+  told = record {
+    later = [];
+    gave = sym (append-nil post.answers);
+    explained = subst (λ c. IfSome c (Explains post.limit d [])) (sym none) tt;
+  };
+  limit = refl;
+  kind = refl;
 }
 
 -- nothing changes but the progress, whose job stays
-HasCome-told : (first d : BookState) (before : List JobResult) (floor : ℕ) (answers : List JobResult) (p q : Progress)
-    → job_in q.unsent ≡ job_in p.unsent
-    → ((later : List JobResult) → IfSome p.cause (Explains d later) → IfSome q.cause (Explains d later))
-    → HasCome first before (stage d floor answers p) → HasCome first before (stage d floor answers q)
-HasCome-told first d before floor answers p q unsent cause h = record {
+HasCome-told : (first d : BookState) (begun post : PostView) (p q : Progress) → job_in q.unsent ≡ job_in p.unsent
+    → ((later : List JobResult) → IfSome p.cause (Explains begun.limit d later)
+    → IfSome q.cause (Explains begun.limit d later))
+    → HasCome first begun (stage d post p) → HasCome first begun (stage d post q)
+HasCome-told first d begun post p q unsent cause h = record {
   known = h.known;
   document = h.document;
-  later = h.later;
-  gave = h.gave;
-  cause = cause h.later h.cause;
-  out = λ need job out. subst (λ u. (expected first need ≡ Some job) ⊎ ((u ≡ Some job) ⊎ (job.number < floor)))
-      (sym unsent) (h.out need job out);
+  jobs = subst (KeepsJobs first begun d post) (sym unsent) h.jobs;
+  told = record { later = h.told.later; gave = h.told.gave; explained = cause h.told.later h.told.explained };
+  limit = h.limit;
+  kind = h.kind;
+}
+
+-- nothing came of the post
+HasCome-idle : (first d : BookState) (begun p q : PostView) (progress : Progress) → Idles p q
+    → HasCome first begun (stage d p progress) → HasCome first begun (stage d q progress)
+HasCome-idle first d begun p q progress idles h = record {
+  known = h.known;
+  document = h.document;
+  jobs = record {
+    fits = Fits-idle d p q (job_in progress.unsent) idles.same.table idles.floor h.jobs.fits;
+    out = λ need job out. subst (λ n. IsAccounted first n (job_in progress.unsent) need job) (sym idles.floor)
+        (h.jobs.out need job out);
+    at_hand = λ all. subst (λ held. IsAtHand (job_in progress.unsent) held d)
+        (sym (idles.held (h.kind ∙ all.prompt))) (h.jobs.at_hand all);
+  };
+  told = record {
+    later = h.told.later;
+    gave = idles.answers ∙ h.told.gave;
+    explained = h.told.explained;
+  };
+  limit = idles.same.limit ∙ h.limit;
+  kind = idles.same.kind ∙ h.kind;
 }
 
 -- a job is issued, where there is none to send and no cause
-HasCome-issued : (first old new : BookState) (before : List JobResult) (floor : ℕ) (answers : List JobResult)
-    (p q : Progress) (need : Need) (job : Job) → p.unsent ≡ Nothing → q.unsent ≡ Ready job → q.cause ≡ None
-    → IssuesFor old new job need → HasCome first before (stage old floor answers p)
-    → HasCome first before (stage new floor answers q)
-HasCome-issued first old new before floor answers p q need job was is none issued h = record {
+HasCome-issued : (first old new : BookState) (begun post : PostView) (p q : Progress) (need : Need) (job : Job)
+    → p.unsent ≡ Nothing → q.unsent ≡ Ready job → q.cause ≡ None → IssuesFor old new job need
+    → HasCome first begun (stage old post p) → HasCome first begun (stage new post q)
+HasCome-issued first old new begun post p q need job was is none issued h = record {
   known = KeepsKnown-on first old new h.known (KeepsKnown-issued old new need job issued.empty issued.is.rows);
   document = SameDocument-on first old new h.document issued.is.document;
-  later = h.later;
-  gave = h.gave;
-  cause = subst (λ c. IfSome c (Explains new h.later)) (sym none) tt;
-  out = λ other out k. accounted other out (issued_out old new need job issued.is.rows other out k);
+  jobs = subst (λ unsent. KeepsJobs first begun new post (job_in unsent)) (sym is) (record {
+    fits = Fits-issued old new post need job issued h.jobs.fits.serves;
+    out = λ other out k. accounted other out (issued_out old new need job issued.is.rows other out k);
+    at_hand = λ all. IsAtHand-issued old new need job post.held issued.is.rows
+        (subst (λ unsent. IsAtHand (job_in unsent) post.held old) was (h.jobs.at_hand all));
+  });
+  told = record {
+    later = h.told.later;
+    gave = h.told.gave;
+    explained = subst (λ c. IfSome c (Explains begun.limit new h.told.later)) (sym none) tt;
+  };
+  limit = h.limit;
+  kind = h.kind;
 }
   where
-    still : (other : Need) (out : Job) → IsAccounted first (stage old floor answers p) other out
-        → IsAccounted first (stage new floor answers q) other out
+    still : (other : Need) (out : Job) → IsAccounted first post.floor None other out
+        → IsAccounted first post.floor (Some job) other out
     still other out (inl first_out) = inl first_out
-    still other out (inr (inl there)) = let k = ap job_in was in absurd (cc)
+    still other out (inr (inl there)) = absurd (cc)
     still other out (inr (inr sent)) = inr (inr sent)
 
     accounted : (other : Need) (out : Job) → (Some job ≡ Some out) ⊎ (expected old other ≡ Some out)
-        → IsAccounted first (stage new floor answers q) other out
-    accounted other out (inl this) = inr (inl (ap job_in is ∙ this))
-    accounted other out (inr was_out) = still other out (h.out other out was_out)
+        → IsAccounted first post.floor (Some job) other out
+    accounted other out (inl this) = inr (inl this)
+    accounted other out (inr was_out) = still other out
+        (subst (λ unsent. IsAccounted first post.floor (job_in unsent) other out) was (h.jobs.out other out was_out))
 
 -- a job is sent
-pub HasCome-sent : (first d : BookState) (before : List JobResult) (floor higher : ℕ) (answers : List JobResult)
-    (p : Progress) (job : Job) → floor ≤ job.number → higher ≡ job.number + 1 → p.unsent ≡ Nothing
-    → HasCome first before (stage d floor answers (ready job p)) → HasCome first before (stage d higher answers p)
-HasCome-sent first d before floor higher answers p job rises is none h = record {
+HasCome-sent : (first d : BookState) (begun p q : PostView) (progress : Progress) (job : Job) → Sends job p q Taken
+    → progress.unsent ≡ Nothing → HasCome first begun (stage d p (ready job progress))
+    → HasCome first begun (stage d q progress)
+HasCome-sent first d begun p q progress job sends none h = record {
   known = h.known;
   document = h.document;
-  later = h.later;
-  gave = h.gave;
-  cause = h.cause;
-  out = λ other out k. accounted other out (h.out other out k);
+  jobs = subst (λ unsent. KeepsJobs first begun d q (job_in unsent)) (sym none) (record {
+    fits = Fits-sent d p q job sends h.jobs.fits;
+    out = λ other out k. accounted other out (h.jobs.out other out k);
+    at_hand = λ all other out k.
+        let sent = sends.prompt (h.kind ∙ all.prompt) in
+        inr (held other out sent.0 sent.1 (h.jobs.at_hand all other out k));
+  });
+  told = record {
+    later = h.told.later;
+    gave = sends.answers ∙ h.told.gave;
+    explained = h.told.explained;
+  };
+  limit = sends.same.limit ∙ h.limit;
+  kind = sends.same.kind ∙ h.kind;
 }
   where
-    above : (out : Job) → Some job ≡ Some out → out.number < higher
-    above out same = let k : job ≡ out = cc in let n = ap (λ (j : Job). j.number) k in omega (arith, n, is)
+    above : (out : Job) → Some job ≡ Some out → out.number < q.floor
+    above out same = let k : job ≡ out = cc in let n = ap (λ (j : Job). j.number) k in let is = sends.sent in
+        omega (arith, n, is)
 
-    accounted : (other : Need) (out : Job) → IsAccounted first (stage d floor answers (ready job p)) other out
-        → IsAccounted first (stage d higher answers p) other out
+    accounted : (other : Need) (out : Job) → IsAccounted first p.floor (Some job) other out
+        → IsAccounted first q.floor None other out
     accounted other out (inl first_out) = inl first_out
     accounted other out (inr (inl this)) = inr (inr (above out this))
-    accounted other out (inr (inr sent)) = inr (inr (omega (arith, sent, rises, is)))
+    accounted other out (inr (inr sent)) =
+        let rises = h.jobs.fits.unsent.rises in let is = sends.sent in inr (inr (omega (arith, sent, rises, is)))
+
+    held : (other : Need) (out : Job) → p.held ≡ None → q.held ≡ Some job
+        → (Some job ≡ Some out) ⊎ (p.held ≡ Some out) → q.held ≡ Some out
+    held other out was is (inl this) = is ∙ this
+    held other out was is (inr there) = absurd (cc)
 
 -- an answer comes
-HasCome-answered : (first old new : BookState) (before : List JobResult) (floor : ℕ) (answers : List JobResult)
-    (p q : Progress) (answer : JobResult) → Fills answer old new → SameBook old new → job_in q.unsent ≡ job_in p.unsent
-    → ((later : List JobResult) → IfSome p.cause (Explains new (later ++ answer ∷ []))
-    → IfSome q.cause (Explains new (later ++ answer ∷ [])))
-    → HasCome first before (stage old floor answers p)
-    → HasCome first before (stage new floor (answers ++ answer ∷ []) q)
-HasCome-answered first old new before floor answers p q answer fills same unsent cause h = record {
+HasCome-answered : (first old new : BookState) (begun p q : PostView) (before after : Progress) (answer : JobResult)
+    → Receives p q (received.Answer answer) → Fills answer old new → SameBook old new
+    → job_in after.unsent ≡ job_in before.unsent
+    → (p.limit ≡ begun.limit → (later : List JobResult)
+    → IfSome before.cause (Explains begun.limit new (later ++ answer ∷ []))
+    → IfSome after.cause (Explains begun.limit new (later ++ answer ∷ [])))
+    → HasCome first begun (stage old p before) → HasCome first begun (stage new q after)
+HasCome-answered first old new begun p q before after answer receives fills same unsent cause h = record {
   known = KeepsKnown-on first old new h.known (KeepsKnown-filled old new answer fills);
   document = SameDocument-on first old new h.document same.document;
-  later = h.later ++ answer ∷ [];
-  gave = ap (λ xs. xs ++ answer ∷ []) h.gave ∙ append_assoc before h.later (answer ∷ []);
-  cause = cause h.later (explains-kept old new h.later (answer ∷ []) p.cause same h.cause);
-  out = λ other out k.
-      subst (λ u. (expected first other ≡ Some out) ⊎ ((u ≡ Some out) ⊎ (out.number < floor))) (sym unsent)
-      (h.out other out (filled_out old new answer fills other out k).0);
+  jobs = subst (KeepsJobs first begun new q) (sym unsent) (record {
+    fits = Fits-answered old new p q (job_in before.unsent) answer receives same h.jobs.fits;
+    out = λ other out k. subst (λ n. IsAccounted first n (job_in before.unsent) other out) (sym receives.floor)
+        (h.jobs.out other out (filled_out old new answer fills other out k).0);
+    at_hand = λ all.
+        let held = receives.prompt (h.kind ∙ all.prompt) in
+        subst (λ x. IsAtHand (job_in before.unsent) x new) (sym held.1)
+        (IsAtHand-answered old new answer (job_in before.unsent) fills
+        (subst (λ x. IsAtHand (job_in before.unsent) x old) held.0 (h.jobs.at_hand all)));
+  });
+  told = record {
+    later = h.told.later ++ answer ∷ [];
+    gave = receives.answers ∙ ap (λ xs. xs ++ answer ∷ []) h.told.gave
+        ∙ append_assoc begun.answers h.told.later (answer ∷ []);
+    explained = cause h.limit h.told.later
+        (explains-kept begun.limit old new h.told.later (answer ∷ []) before.cause same h.told.explained);
+  };
+  limit = receives.same.limit ∙ h.limit;
+  kind = receives.same.kind ∙ h.kind;
 }
+
+-- what is at hand after the job that isn't sent yet was cancelled
+
+IsAtHand-given_up : (unsent held : Option Job) (old new : BookState) → CancelsAny unsent old new
+    → IsAtHand unsent held old → IsAtHand None held new
+IsAtHand-given_up None held old new h at_hand = subst (IsAtHand None held) (sym h) at_hand
+IsAtHand-given_up (Some job) held old new h at_hand = IsAtHand-cancelled old new job held h.rows at_hand
+
+KeepsKnown-given_up : (unsent : Option Job) (old new : BookState) → CancelsAny unsent old new → KeepsKnown old new
+KeepsKnown-given_up None old new same = subst (KeepsKnown old) (sym same) (KeepsKnown-same old)
+KeepsKnown-given_up (Some job) old new cancels = KeepsKnown-cancelled old new job.number cancels.rows
+
+out_given_up : (first old new : BookState) (floor : ℕ) (unsent : Option Job) → CancelsAny unsent old new
+    → ((need : Need) (job : Job) → expected old need ≡ Some job → IsAccounted first floor unsent need job)
+    → (need : Need) (job : Job) → expected new need ≡ Some job → IsAccounted first floor None need job
+out_given_up first old new floor None same h need job out =
+    h need job (subst (λ (d : BookState). expected d need ≡ Some job) same out)
+out_given_up first old new floor (Some given) cancels h need job out =
+    let left = cancelled_out given.number old new cancels.rows need job out in either left.1 (h need job left.0)
+  where
+    either : has_number given.number (Some job) ≡ false → IsAccounted first floor (Some given) need job
+        → IsAccounted first floor None need job
+    either others (inl first_out) = inl first_out
+    either others (inr (inl there)) = absurd (not_numbered given job others there)
+    either others (inr (inr sent)) = inr (inr sent)
 
 -- the job that isn't sent yet is cancelled
-cancels-any : (first old new : BookState) (before : List JobResult) (floor : ℕ) (answers : List JobResult)
-    (p q : Progress) (unsent : Option Job) → job_in p.unsent ≡ unsent → CancelsAny unsent old new
-    → job_in q.unsent ≡ None → q.cause ≡ p.cause → HasCome first before (stage old floor answers p)
-    → HasCome first before (stage new floor answers q)
-cancels-any first old new before floor answers p q None was same is cause h =
-    subst (λ d. HasCome first before (stage d floor answers q)) (sym same)
-    (HasCome-told first old before floor answers p q (is ∙ sym was)
-    (λ later k. subst (λ c. IfSome c (Explains old later)) (sym cause) k) h)
-cancels-any first old new before floor answers p q (Some job) was cancels is cause h = record {
-  known = KeepsKnown-on first old new h.known (KeepsKnown-cancelled old new job.number cancels.rows);
-  document = SameDocument-on first old new h.document cancels.book.document;
-  later = h.later ++ [];
-  gave = h.gave ∙ ap (λ xs. before ++ xs) (sym (append-nil h.later));
-  cause = subst (λ c. IfSome c (Explains new (h.later ++ []))) (sym cause)
-      (explains-kept old new h.later [] p.cause cancels.book h.cause);
-  out = λ other out k. let left = cancelled_out job.number old new cancels.rows other out k in
-      accounted other out left.1 (h.out other out left.0);
-}
-  where
-    accounted : (other : Need) (out : Job) → has_number job.number (Some out) ≡ false
-        → IsAccounted first (stage old floor answers p) other out
-        → IsAccounted first (stage new floor answers q) other out
-    accounted other out others (inl first_out) = inl first_out
-    accounted other out others (inr (inl there)) = absurd (not_numbered job out others (sym was ∙ there))
-    accounted other out others (inr (inr sent)) = inr (inr sent)
-
-pub HasCome-cancelled : (first old new : BookState) (before : List JobResult) (floor : ℕ) (answers : List JobResult)
-    (p q : Progress) → CancelsAny (job_in p.unsent) old new → job_in q.unsent ≡ None → q.cause ≡ p.cause
-    → HasCome first before (stage old floor answers p) → HasCome first before (stage new floor answers q)
-HasCome-cancelled first old new before floor answers p q =
-    cancels-any first old new before floor answers p q (job_in p.unsent) refl
+pub HasCome-cancelled : (first old new : BookState) (begun post : PostView) (p q : Progress)
+    → CancelsAny (job_in p.unsent) old new → job_in q.unsent ≡ None → q.cause ≡ p.cause
+    → HasCome first begun (stage old post p) → HasCome first begun (stage new post q)
+HasCome-cancelled first old new begun post p q cancels is cause h =
+    let unsent = job_in p.unsent in
+    let same = CancelsAny-book unsent old new cancels in
+    record {
+      known = KeepsKnown-on first old new h.known (KeepsKnown-given_up unsent old new cancels);
+      document = SameDocument-on first old new h.document same.document;
+      jobs = subst (KeepsJobs first begun new post) (sym is) (record {
+        fits = Fits-cancelled old new post unsent cancels h.jobs.fits;
+        out = out_given_up first old new post.floor unsent cancels h.jobs.out;
+        at_hand = λ all. IsAtHand-given_up unsent post.held old new cancels (h.jobs.at_hand all);
+      });
+      told = record {
+        later = h.told.later ++ [];
+        gave = h.told.gave ∙ ap (λ xs. begun.answers ++ xs) (sym (append-nil h.told.later));
+        explained = subst (λ c. IfSome c (Explains begun.limit new (h.told.later ++ []))) (sym cause)
+            (explains-kept begun.limit old new h.told.later [] p.cause same h.told.explained);
+      };
+      limit = h.limit;
+      kind = h.kind;
+    }
 
 -- how many numbers are given
 
@@ -176,159 +401,114 @@ pub gives_on : (count : ℕ) (old mid new : BookState) → GivesAtMost count old
     → GivesAtMost (count + 1) old new
 gives_on count old mid new h k = (omega (arith, h.0, k.0), omega (arith, h.1, k.1))
 
-CancelsAny-book : (unsent : Option Job) (old new : BookState) → CancelsAny unsent old new → SameBook old new
-CancelsAny-book None old new same =
-    subst (SameBook old) (sym same) (record { document = SameDocument-same old; entries = refl })
-CancelsAny-book (Some job) old new cancels = cancels.book
-
 -- how settlings go on
-
-pub GoesOn-same : (s : Stage) → GoesOn 0 s s
-GoesOn-same s = record { cause = λ none. none; comes = λ first before h. h; given = gives_none s.desk s.desk refl }
 
 pub GoesOn-on : {most : ℕ} (s t u : Stage) → GoesOn most s t → GoesOn 0 t u → GoesOn most s u
 GoesOn-on s t u h k = record {
-  cause = λ none. h.cause (k.cause none);
-  comes = λ first before come. k.comes first before (h.comes first before come);
+  cause = still_caused s.progress.cause t.progress.cause u.progress.cause h.cause k.cause;
+  fits = λ fit. k.fits (h.fits fit);
+  comes = λ first begun come. k.comes first begun (h.comes first begun come);
   given = (omega (arith, h.given.0, k.given.0), omega (arith, h.given.1, k.given.1));
 }
 
 -- nothing changes but how the progress is told
-pub GoesOn-told : (d : BookState) (floor : ℕ) (answers : List JobResult) (p q : Progress)
-    → job_in q.unsent ≡ job_in p.unsent → q.cause ≡ p.cause → GoesOn 0 (stage d floor answers p) (stage d floor answers q)
-GoesOn-told d floor answers p q unsent cause = record {
-  cause = λ none. sym cause ∙ none;
-  comes = λ first before.
-      HasCome-told first d before floor answers p q unsent
-      (λ later h. subst (λ c. IfSome c (Explains d later)) (sym cause) h);
+pub GoesOn-told : (d : BookState) (post : PostView) (p q : Progress) → job_in q.unsent ≡ job_in p.unsent
+    → q.cause ≡ p.cause → GoesOn 0 (stage d post p) (stage d post q)
+GoesOn-told d post p q unsent cause = record {
+  cause = same_cause p.cause q.cause cause;
+  fits = fit_as d post (job_in p.unsent) (job_in q.unsent) unsent;
+  comes = λ first begun. HasCome-told first d begun post p q unsent
+      (λ later h. subst (λ c. IfSome c (Explains begun.limit d later)) (sym cause) h);
   given = gives_none d d refl;
 }
 
-pub GoesOn-issued : (old new : BookState) (floor : ℕ) (answers : List JobResult) (p : Progress) (need : Need)
-    (job : Job) → p.unsent ≡ Nothing → p.cause ≡ None → IssuesFor old new job need
-    → GoesOn 1 (stage old floor answers p) (stage new floor answers (ready job p))
-GoesOn-issued old new floor answers p need job was none issued = record {
-  cause = λ h. h;
-  comes = λ first before.
-      HasCome-issued first old new before floor answers p (ready job p) need job was refl none issued;
+-- nothing came of the post
+pub GoesOn-idle : (d : BookState) (p q : PostView) (progress : Progress) → Idles p q
+    → GoesOn 0 (stage d p progress) (stage d q progress)
+GoesOn-idle d p q progress idles = record {
+  cause = same_cause progress.cause progress.cause refl;
+  fits = Fits-idle d p q (job_in progress.unsent) idles.same.table idles.floor;
+  comes = λ first begun. HasCome-idle first d begun p q progress idles;
+  given = gives_none d d refl;
+}
+
+pub GoesOn-issued : (old new : BookState) (post : PostView) (p : Progress) (need : Need) (job : Job)
+    → p.unsent ≡ Nothing → p.cause ≡ None → IssuesFor old new job need
+    → GoesOn 1 (stage old post p) (stage new post (ready job p))
+GoesOn-issued old new post p need job was none issued = record {
+  cause = same_cause p.cause p.cause refl;
+  fits = λ fit. Fits-issued old new post need job issued fit.serves;
+  comes = λ first begun. HasCome-issued first old new begun post p (ready job p) need job was refl none issued;
   given = (omega (arith, issued_given issued), omega (arith, issued_given issued));
 }
 
-pub GoesOn-refused : (old new : BookState) (floor : ℕ) (answers : List JobResult) (p q : Progress) (fault : IssueFault)
-    → new ≡ old → q.unsent ≡ p.unsent → q.cause ≡ Some (cause_of_issue fault) → RefusesIssue old fault
-    → GoesOn 1 (stage old floor answers p) (stage new floor answers q)
-GoesOn-refused old new floor answers p q fault same unsent cause refuses =
-    subst (λ d. GoesOn 1 (stage old floor answers p) (stage d floor answers q)) (sym same) (record {
-      cause = λ none. absurd (cc);
-      comes = λ first before. HasCome-told first old before floor answers p q (ap job_in unsent)
-          (λ later h.
-          subst (λ c. IfSome c (Explains old later)) (sym cause) (explains-refused old later fault refuses));
+pub GoesOn-refused : (old new : BookState) (post : PostView) (p q : Progress) (fault : IssueFault) → new ≡ old
+    → p.cause ≡ None → q.unsent ≡ p.unsent → q.cause ≡ Some (cause_of_issue fault) → RefusesIssue old fault
+    → GoesOn 1 (stage old post p) (stage new post q)
+GoesOn-refused old new post p q fault same none unsent cause refuses =
+    subst (λ d. GoesOn 1 (stage old post p) (stage d post q)) (sym same) (record {
+      cause = subst (λ c. IfSome c (λ first. q.cause ≡ Some first)) (sym none) tt;
+      fits = fit_as old post (job_in p.unsent) (job_in q.unsent) (ap job_in unsent);
+      comes = λ first begun. HasCome-told first old begun post p q (ap job_in unsent)
+          (λ later h. subst (λ c. IfSome c (Explains begun.limit old later)) (sym cause)
+          (explains-refused begun.limit old later fault refuses));
       given = (omega arith, omega arith);
     })
 
-pub GoesOn-answered : (old new : BookState) (floor : ℕ) (answers : List JobResult) (p : Progress) (answer : JobResult)
-    → Fills answer old new → SameBook old new
-    → GoesOn 0 (stage old floor answers p) (stage new floor (answers ++ answer ∷ []) p)
-GoesOn-answered old new floor answers p answer fills same = record {
-  cause = λ none. none;
-  comes = λ first before. HasCome-answered first old new before floor answers p p answer fills same refl (λ later h. h);
+pub GoesOn-answered : (old new : BookState) (p q : PostView) (progress : Progress) (answer : JobResult)
+    → Receives p q (received.Answer answer) → Fills answer old new → SameBook old new
+    → GoesOn 0 (stage old p progress) (stage new q progress)
+GoesOn-answered old new p q progress answer receives fills same = record {
+  cause = same_cause progress.cause progress.cause refl;
+  fits = Fits-answered old new p q (job_in progress.unsent) answer receives same;
+  comes = λ first begun. HasCome-answered first old new begun p q progress progress answer receives fills same refl
+      (λ limit later h. h);
   given = gives_none old new (same_given same);
 }
 
-pub GoesOn-released : (old new : BookState) (floor : ℕ) (answers : List JobResult) (p q : Progress) (answer : JobResult)
-    (fault : EvolveFault) (told cause : Cause) → Fills answer old new → SameBook old new
-    → IsCollected old new answer (Released fault) → told ≡ cause_of_answer fault → cause ≡ unwrap_or p.cause told
-    → q.unsent ≡ p.unsent → q.cause ≡ Some cause
-    → GoesOn 0 (stage old floor answers p) (stage new floor (answers ++ answer ∷ []) q)
-GoesOn-released old new floor answers p q answer fault told cause fills same collected is first unsent caused = record {
-  cause = λ none. absurd (cc);
-  comes = λ begun before. HasCome-answered begun old new before floor answers p q answer fills same (ap job_in unsent)
-      (λ later h. subst (λ c. IfSome c (Explains new (later ++ answer ∷ []))) (sym caused)
-      (explains-collected old new later answer p.cause fault told cause collected is first h));
-  given = gives_none old new (same_given same);
-}
+pub GoesOn-released : (old new : BookState) (p q : PostView) (before after : Progress) (answer : JobResult)
+    (fault : EvolveFault) (told cause : Cause) → Receives p q (received.Answer answer) → Fills answer old new
+    → SameBook old new → IsCollected old new answer (Released fault) → told ≡ cause_of_answer fault
+    → cause ≡ unwrap_or before.cause told → after.unsent ≡ before.unsent → after.cause ≡ Some cause
+    → GoesOn 0 (stage old p before) (stage new q after)
+GoesOn-released old new p q before after answer fault told cause receives fills same collected is first unsent caused =
+    record {
+      cause = first_cause before.cause after.cause told cause first caused;
+      fits = λ fit. fit_as new q (job_in before.unsent) (job_in after.unsent) (ap job_in unsent)
+          (Fits-answered old new p q (job_in before.unsent) answer receives same fit);
+      comes = λ start begun. HasCome-answered start old new begun p q before after answer receives fills same
+          (ap job_in unsent)
+          (λ limit later h. subst (λ c. IfSome c (Explains begun.limit new (later ++ answer ∷ []))) (sym caused)
+          (explains-collected begun.limit old new later answer before.cause fault told cause
+          (subst (λ n. IsOwnAnswer p.table n answer) limit receives.own) collected is first h));
+      given = gives_none old new (same_given same);
+    }
 
-pub GoesOn-cancelled : (old new : BookState) (floor : ℕ) (answers : List JobResult) (p q : Progress)
-    → CancelsAny (job_in p.unsent) old new → job_in q.unsent ≡ None → q.cause ≡ p.cause
-    → GoesOn 0 (stage old floor answers p) (stage new floor answers q)
-GoesOn-cancelled old new floor answers p q cancels unsent cause = record {
-  cause = λ none. sym cause ∙ none;
-  comes = λ first before. HasCome-cancelled first old new before floor answers p q cancels unsent cause;
+pub GoesOn-cancelled : (old new : BookState) (post : PostView) (p q : Progress) → CancelsAny (job_in p.unsent) old new
+    → job_in q.unsent ≡ None → q.cause ≡ p.cause → GoesOn 0 (stage old post p) (stage new post q)
+GoesOn-cancelled old new post p q cancels unsent cause = record {
+  cause = same_cause p.cause q.cause cause;
+  fits = λ fit. fit_as new post None (job_in q.unsent) unsent (Fits-cancelled old new post (job_in p.unsent) cancels fit);
+  comes = λ first begun. HasCome-cancelled first old new begun post p q cancels unsent cause;
   given = gives_none old new (same_given (CancelsAny-book (job_in p.unsent) old new cancels));
 }
 
-pub GoesOn-sent : (d : BookState) (floor higher : ℕ) (answers : List JobResult) (p : Progress) (job : Job)
-    → floor ≤ job.number → higher ≡ job.number + 1 → p.unsent ≡ Nothing → GoesOn 0 (stage d floor answers (ready job p))
-    (stage d higher answers p)
-GoesOn-sent d floor higher answers p job rises is none = record {
-  cause = λ h. h;
-  comes = λ first before. HasCome-sent first d before floor higher answers p job rises is none;
+pub GoesOn-sent : (d : BookState) (p q : PostView) (progress : Progress) (job : Job) → Sends job p q Taken
+    → progress.unsent ≡ Nothing → GoesOn 0 (stage d p (ready job progress)) (stage d q progress)
+GoesOn-sent d p q progress job sends none = record {
+  cause = same_cause progress.cause progress.cause refl;
+  fits = λ fit. fit_as d q None (job_in progress.unsent) (ap job_in none) (Fits-sent d p q job sends fit);
+  comes = λ first begun. HasCome-sent first d begun p q progress job sends none;
   given = gives_none d d refl;
 }
 
 -- a turn begins with what is issued, and goes on with what isn't sent taken out or not
-pub GoesOn-turn : (old mid : BookState) (floor : ℕ) (answers : List JobResult) (before issued shown : Progress)
-    (t : Stage) → GoesOn 1 (stage old floor answers before) (stage mid floor answers issued)
-    → job_in shown.unsent ≡ job_in issued.unsent → shown.cause ≡ issued.cause
-    → GoesOn 0 (stage mid floor answers shown) t → GoesOn 1 (stage old floor answers before) t
-GoesOn-turn old mid floor answers before issued shown t h unsent cause k =
-    GoesOn-on (stage old floor answers before) (stage mid floor answers issued) t h
-    (GoesOn-on (stage mid floor answers issued) (stage mid floor answers shown) t
-    (GoesOn-told mid floor answers issued shown unsent cause) k)
-
--- the post's view of it
-pub GoesOn-post : {most : ℕ} (s : Stage) (d : BookState) (floor higher : ℕ) (answers more : List JobResult) (p : Progress)
-    → higher ≡ floor → more ≡ answers → GoesOn most s (stage d floor answers p)
-    → GoesOn most s (stage d higher more p)
-GoesOn-post {most} s d floor higher answers more p same still h =
-    subst (λ n. GoesOn most s (stage d n more p)) (sym same)
-    (subst (λ xs. GoesOn most s (stage d floor xs p)) (sym still) h)
-
-pub no_cause : (cause : Option Cause) → false ≡ is_some cause → cause ≡ None
-no_cause None h = refl
-no_cause (Some cause) h = absurd cc
-
--- jobs at hand
-
-pub IsAtHand-given_up : (unsent held : Option Job) (old new : BookState) → CancelsAny unsent old new
-    → IsAtHand unsent held old → IsAtHand None held new
-IsAtHand-given_up None held old new h at_hand = subst (IsAtHand None held) (sym h) at_hand
-IsAtHand-given_up (Some job) held old new h at_hand = IsAtHand-cancelled old new job held h.rows at_hand
-
-pub IsHeld-given_up : (unsent held : Option Job) (old new : BookState) → CancelsAny unsent old new
-    → IsAtHand unsent held old → IsHeld held new
-IsHeld-given_up unsent held old new h at_hand =
-    IsHeld-at_hand held new (IsAtHand-given_up unsent held old new h at_hand)
-
--- jobs that can be sent
-
-sent_on : (old new : BookState) (floor : ℕ) (unsent : Option Job) → SameBook old new
-    → IfSome unsent (CanBeSent old floor) → IfSome unsent (CanBeSent new floor)
-sent_on old new floor None same h = tt
-sent_on old new floor (Some job) same h = record {
-  own = subst (λ table. IsOf table job.place) (sym same.document.table) h.own;
-  rises = h.rises;
-  given = omega (arith, h.given, same_given same);
-}
-
-pub Serves-book : (old new : BookState) (entries : Entries) (floor : ℕ) → SameBook old new → Serves old entries floor
-    → Serves new entries floor
-Serves-book old new entries floor same h = record {
-  table = h.table ∙ sym same.document.table;
-  numbers = let least = h.numbers in omega (arith, least, same_given same);
-}
-
-pub Fits-book : (old new : BookState) (entries : Entries) (floor : ℕ) (unsent : Option Job) → SameBook old new
-    → Fits old entries floor unsent → Fits new entries floor unsent
-Fits-book old new entries floor unsent same h = record {
-  serves = Serves-book old new entries floor same h.serves;
-  unsent = sent_on old new floor unsent same h.unsent;
-}
-
-pub Fits-post : (d : BookState) (before after : Entries) (floor higher : ℕ) (unsent : Option Job) → after ≡ before
-    → higher ≡ floor → Fits d before floor unsent → Fits d after higher unsent
-Fits-post d before after floor higher unsent same_table same_floor h =
-    subst (λ t. Fits d t higher unsent) (sym same_table) (subst (λ f. Fits d before f unsent) (sym same_floor) h)
+pub GoesOn-turn : (old mid : BookState) (post : PostView) (before issued shown : Progress) (t : Stage)
+    → GoesOn 1 (stage old post before) (stage mid post issued) → job_in shown.unsent ≡ job_in issued.unsent
+    → shown.cause ≡ issued.cause → GoesOn 0 (stage mid post shown) t → GoesOn 1 (stage old post before) t
+GoesOn-turn old mid post before issued shown t h unsent cause k =
+    GoesOn-on (stage old post before) (stage mid post issued) t h
+    (GoesOn-on (stage mid post issued) (stage mid post shown) t (GoesOn-told mid post issued shown unsent cause) k)
 
 -- after an answer that isn't that a job gave up no more rows are wanting
 pub wanting-collected : (old new : BookState) (answer : JobResult) (collected : Collected)
@@ -338,27 +518,49 @@ wanting-collected old new answer Accepted kept h = h.wanting
 wanting-collected old new answer (Released fault) kept h = absurd (kept fault refl)
 wanting-collected old new answer (Stale number revision) kept h = let same = ap wanting_of h.same in omega (arith, same)
 
+-- what a settling leaves that has nothing left to send
+
+sent_or_out : (first : BookState) (floor : ℕ) (need : Need) (job : Job) → IsAccounted first floor None need job
+    → (expected first need ≡ Some job) ⊎ (job.number < floor)
+sent_or_out first floor need job (inl was_out) = inl was_out
+sent_or_out first floor need job (inr (inl there)) = absurd (cc)
+sent_or_out first floor need job (inr (inr sent)) = inr sent
+
+pub Keeps-come : (first d : BookState) (begun post : PostView) (progress : Progress) → progress.unsent ≡ Nothing
+    → HasCome first begun (stage d post progress) → Keeps first d post
+Keeps-come first d begun post progress none h = record {
+  known = h.known;
+  out = λ need job out. sent_or_out first post.floor need job
+      (subst (λ unsent. IsAccounted first post.floor (job_in unsent) need job) none (h.jobs.out need job out));
+  plan = h.document.plan;
+  table = h.document.table;
+}
+
+pub ServesOn-come : (first d : BookState) (begun post : PostView) (progress : Progress) → progress.unsent ≡ Nothing
+    → HasCome first begun (stage d post progress) → ServesOn begun post first d
+ServesOn-come first d begun post progress none h = record {
+  serves = h.jobs.fits.serves;
+  limit = h.limit;
+  kind = h.kind;
+  held = λ all. record {
+    prompt = h.kind ∙ all.prompt;
+    held = IsHeld-at_hand post.held d
+        (subst (λ unsent. IsAtHand (job_in unsent) post.held d) none (h.jobs.at_hand all));
+  };
+}
+
+same_length : {K V : Type 0} (xs ys : List (Row K V)) → keys xs ≡ keys ys → length xs ≡ length ys
+same_length xs ys same = sym (length-map xs (λ r. r.key)) ∙ ap length same ∙ length-map ys (λ r. r.key)
+
 -- a settling as a whole, whose last job that isn't sent is cancelled
 
-module _ (first mid last : BookState) (before answers : List JobResult) (floor : ℕ) (p : Progress)
-    (come : HasCome first before (stage mid floor answers p)) (cancels : CancelsAny (job_in p.unsent) mid last) where
+module _ (first mid last : BookState) (begun post : PostView) (p : Progress)
+    (come : HasCome first begun (stage mid post p)) (cancels : CancelsAny (job_in p.unsent) mid last) where
   abbrev end : Progress
   end = record { unsent = Nothing; cause = p.cause }
 
-  whole : HasCome first before (stage last floor answers end)
-  whole = HasCome-cancelled first mid last before floor answers p end cancels refl refl come
-
-  sent_or_out : OutOrSent first last floor
-  sent_or_out need job out = either (whole.out need job out)
-    where
-      either : IsAccounted first (stage last floor answers end) need job
-          → (expected first need ≡ Some job) ⊎ (job.number < floor)
-      either (inl was_out) = inl was_out
-      either (inr (inl there)) = absurd (cc)
-      either (inr (inr sent)) = inr sent
-
-  same_length : {K V : Type 0} (xs ys : List (Row K V)) → keys xs ≡ keys ys → length xs ≡ length ys
-  same_length xs ys same = sym (length-map xs (λ r. r.key)) ∙ ap length same ∙ length-map ys (λ r. r.key)
+  pub whole : HasCome first begun (stage last post end)
+  whole = HasCome-cancelled first mid last begun post p end cancels refl refl come
 
   given-whole : (turns : ℕ) → GivesAtMost turns first mid → GivesAtMost turns first last
   given-whole turns given =
@@ -372,19 +574,13 @@ module _ (first mid last : BookState) (before answers : List JobResult) (floor :
       let bookmarks = same_length last.texts first.texts whole.document.bookmarks in
       omega (arith, few, marks, bookmarks)
 
-  pub settles-whole : (turns : ℕ) → GivesAtMost turns first mid → IsRight last → Settles first last turns floor
+  pub settles-whole : (turns : ℕ) → GivesAtMost turns first mid → IsRight last → Settles first last turns post
   settles-whole turns given right = record {
-    known = whole.known;
-    out = sent_or_out;
-    given = given-whole turns given;
+    keeps = Keeps-come first last begun post end refl whole;
     right = right;
-    plan = whole.document.plan;
-    table = whole.document.table;
+    given = given-whole turns given;
     enough = enough-whole right;
   }
 
-  pub serves-whole : (entries : Entries) → Serves mid entries floor → Serves last entries floor
-  serves-whole entries h = Serves-book mid last entries floor (CancelsAny-book (job_in p.unsent) mid last cancels) h
-
-  pub gave-whole : (later : List JobResult) × (answers ≡ before ++ later) × IfSome p.cause (Explains last later)
-  gave-whole = (whole.later, whole.gave, whole.cause)
+  pub serves-whole : ServesOn begun post first last
+  serves-whole = ServesOn-come first last begun post end refl whole

@@ -1,11 +1,11 @@
 -- How settling ends, and what it leaves.
-use Rattle.std.specs.Prelude.{◌≡◌, ◌⊎◌, ℕ, ◌+◌, ◌*◌, ◌<◌, ◌≤◌, true, List, length, Option, Some, IsSome, IfSome, Err, ⊤, Bool, ◌++◌}
+use Rattle.std.specs.Prelude.{◌≡◌, ◌⊎◌, ℕ, ◌+◌, ◌*◌, ◌<◌, ◌≤◌, true, List, length, Option, Some, None, IsSome, IfSome, Err, ⊤, ◌++◌}
 use Rattle.std.specs.List.{Any}
 use Rattle.step_engine.specs.declared.evolved.EvolveFault.{EvolveFault}
 use Rattle.revision_jobs.specs.declared.answer.Job.{Job}
-use Rattle.revision_jobs.specs.declared.entries.Entries.{Entries}
 use Rattle.revision_jobs.specs.Answer.{JobResult}
 use Rattle.revision_jobs.specs.Entries.{entry_of}
+use Rattle.revision_jobs.specs.Posted.{PostView}
 use Rattle.revision_jobs.specs.Room.{HasNoRoom}
 use Rattle.revision_jobs.specs.Value.{Value}
 use Rattle.desk_events.specs.declared.need.Need.{Need}
@@ -22,50 +22,48 @@ abbrev pub GaveUp : List JobResult → EvolveFault → Type 0
 GaveUp answers fault = Any (λ (answer : JobResult). answer.outcome ≡ Err fault) answers
 
 -- one of the answers says that its job gave up for want of room, and its job's entry has none at
--- some limit
-abbrev pub FoundNoRoom : List JobResult → Type 0
-FoundNoRoom answers = Any (λ (answer : JobResult).
-    (answer.outcome ≡ Err EvolveFault.NoRoom)
-    × ((limit : ℕ) × HasNoRoom limit (entry_of answer.job.place))) answers
+-- this limit
+abbrev pub FoundNoRoom : ℕ → List JobResult → Type 0
+FoundNoRoom limit answers = Any (λ (answer : JobResult).
+    (answer.outcome ≡ Err EvolveFault.NoRoom) × HasNoRoom limit (entry_of answer.job.place)) answers
 
--- a cause is that of an answer that was given, for want of room to an entry that has none, or of an
--- issue that was refused: every number was given, or else memory ran out
-abbrev pub Explains : BookState → List JobResult → Cause → Type 0
-Explains d answers NoMemory = GaveUp answers EvolveFault.NoMemory ⊎ (given_of d < 16777216)
-Explains d answers NoRoom = FoundNoRoom answers
-Explains d answers Stopped = GaveUp answers EvolveFault.Stopped
-Explains d answers NumbersSpent = 16777216 ≤ given_of d
+-- a cause is that of an answer that was given, for want of room to an entry that has none at the
+-- limit, or of an issue that was refused: every number was given, or else memory ran out
+abbrev pub Explains : ℕ → BookState → List JobResult → Cause → Type 0
+Explains limit d answers NoMemory = GaveUp answers EvolveFault.NoMemory ⊎ (given_of d < 16777216)
+Explains limit d answers NoRoom = FoundNoRoom limit answers
+Explains limit d answers Stopped = GaveUp answers EvolveFault.Stopped
+Explains limit d answers NumbersSpent = 16777216 ≤ given_of d
 
--- settling over these answers ends with every bookmark current, or with so many pending, for its
--- cause if one is told
-abbrev pub Ends : BookState → List JobResult → Settling → Type 0
-Ends d answers Settled = pending_of d ≡ 0
-Ends d answers (Unsettled pending cause) =
-    (pending ≡ pending_of d) × (0 < pending) × (pending ≤ length d.plan.bookmarks)
-    × IfSome cause (Explains d answers)
+-- a cause, if there is one, is explained by the answers that a post gave meanwhile, at its limit,
+-- or by an issue that was refused
+pub record TellsCause (p q : PostView) (d : BookState) (cause : Option Cause) : Type 0 where
+  pub later : List JobResult
+  pub gave : q.answers ≡ p.answers ++ later
+  pub explained : IfSome cause (Explains p.limit d later)
 
--- so it ends over the answers that a post gave meanwhile
-abbrev pub EndsOver : {P : Type 0} → (P → List JobResult) → P → P → BookState → Settling → Type 0
-EndsOver answers p q d ending =
-    (later : List JobResult) × (answers q ≡ answers p ++ later) × Ends d later ending
-
--- if it ends with some pending, a cause is told
-abbrev pub HasCause : Settling → Type 0
-HasCause Settled = ⊤
-HasCause (Unsettled pending cause) = IsSome cause
-
--- a post serves a desk: it is of the desk's table, and no number that it took is still to be given
-pub record Serves (d : BookState) (entries : Entries) (floor : ℕ) : Type 0 where
-  pub table : entries ≡ d.table
-  pub numbers : floor ≤ given_of d
+-- a post serves a desk: it is of the desk's table, and no number that it took is still to be
+-- given
+pub record Serves (d : BookState) (post : PostView) : Type 0 where
+  pub table : post.table ≡ d.table
+  pub numbers : post.floor ≤ given_of d
 
 -- each job that is out is the one that a post holds
 abbrev pub IsHeld : Option Job → BookState → Type 0
 IsHeld held d = (need : Need) (job : Job) → expected d need ≡ Some job → held ≡ Some job
 
--- this is so where a post is prompt and holds whatever is out
-abbrev pub IfPrompt : {P : Type 0} → (P → Bool) → (P → Option Job) → P → BookState → Type 0 → Type 0
-IfPrompt is_prompt held p d fact = is_prompt p ≡ true → IsHeld (held p) d → fact
+-- a post is prompt, and holds whatever is out
+pub record HoldsAllOut (d : BookState) (post : PostView) : Type 0 where
+  pub prompt : post.is_prompt ≡ true
+  pub held : IsHeld post.held d
+
+-- a post that served the one desk serves the other, at its limit and of its kind; if it held
+-- whatever was out it does so still
+pub record ServesOn (p q : PostView) (old new : BookState) : Type 0 where
+  pub serves : Serves new q
+  pub limit : q.limit ≡ p.limit
+  pub kind : q.is_prompt ≡ p.is_prompt
+  pub held : HoldsAllOut old p → HoldsAllOut new q
 
 -- how many marks and bookmarks a document has
 abbrev pub rows_of : BookState → ℕ
@@ -82,18 +80,53 @@ OutOrSent old new floor =
     (need : Need) (job : Job) → expected new need ≡ Some job
     → (expected old need ≡ Some job) ⊎ (job.number < floor)
 
+-- what was known is so still, what is out was so before or was sent to the post, and the document
+-- and the table are the same
+pub record Keeps (old new : BookState) (post : PostView) : Type 0 where
+  pub known : KeepsKnown old new
+  pub out : OutOrSent old new post.floor
+  pub plan : new.plan ≡ old.plan
+  pub table : new.table ≡ old.table
+
 -- numbers of jobs were given, at most so many
 abbrev pub GivesAtMost : ℕ → BookState → BookState → Type 0
 GivesAtMost most old new = (given_of old ≤ given_of new) × (given_of new ≤ given_of old + most)
 
--- after settling for so many turns over a post of this floor what was known is so still, what is
--- out was so before or was sent, at most a number a turn was given, all is right, and the document
--- and the table are the same; no document has more rows than 1,000,000 turns are enough for
-pub record Settles (old new : BookState) (turns floor : ℕ) : Type 0 where
-  pub known : KeepsKnown old new
-  pub out : OutOrSent old new floor
-  pub given : GivesAtMost turns old new
+-- settling for so many turns keeps what it has to, gives at most a number a turn, and all is right;
+-- no document has more rows than 1,000,000 turns are enough for
+pub record Settles (old new : BookState) (turns : ℕ) (post : PostView) : Type 0 where
+  pub keeps : Keeps old new post
   pub right : IsRight new
-  pub plan : new.plan ≡ old.plan
-  pub table : new.table ≡ old.table
+  pub given : GivesAtMost turns old new
   pub enough : 4 * rows_of old ≤ 1000000
+
+-- why a settling over these answers left bookmarks pending: for its cause, if one is told, and else
+-- the post is over or was asked in every turn
+abbrev pub IsWhy : ℕ → PostView → PostView → BookState → List JobResult → Option Cause → Type 0
+IsWhy turns p q d later (Some cause) = Explains p.limit d later cause
+IsWhy turns p q d later None = (q.is_over ≡ true) ⊎ (p.asked + turns ≤ q.asked)
+
+-- settling over these answers ends with every bookmark current, or with so many pending and why
+abbrev pub Ends : ℕ → PostView → PostView → BookState → List JobResult → Settling → Type 0
+Ends turns p q d later Settled = pending_of d ≡ 0
+Ends turns p q d later (Unsettled pending cause) =
+    (pending ≡ pending_of d) × (0 < pending) × (pending ≤ length d.plan.bookmarks)
+    × IsWhy turns p q d later cause
+
+-- so it ends over the answers that a post gave meanwhile
+pub record EndsOver (turns : ℕ) (p q : PostView) (d : BookState) (ending : Settling)
+    : Type 0 where
+  pub later : List JobResult
+  pub gave : q.answers ≡ p.answers ++ later
+  pub ends : Ends turns p q d later ending
+
+-- so it ends with this number pending: Settled where none is, and else with the cause, if there is
+-- one
+abbrev pub IsEnding : ℕ → Option Cause → Settling → Type 0
+IsEnding pending cause Settled = pending ≡ 0
+IsEnding pending cause (Unsettled told why) = (told ≡ pending) × (why ≡ cause) × (0 < pending)
+
+-- if it ends with some pending, a cause is told
+abbrev pub HasCause : Settling → Type 0
+HasCause Settled = ⊤
+HasCause (Unsettled pending cause) = IsSome cause

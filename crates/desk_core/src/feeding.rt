@@ -1,34 +1,61 @@
 //! Feeding a post with jobs.
-ghost use Rattle.std.specs.Prelude.{◌≡◌};
-ghost use Rattle.desk_core.specs.Feed.{Feeds};
-ghost use Rattle.desk_core.specs.Settling.{IfPrompt, IsHeld, Serves};
+ghost use Rattle.desk_core.specs.Feed.{Feeds, FeedsAll};
+ghost use Rattle.desk_core.specs.Settling.{Serves, ServesOn};
 
 use crate::desk::Desk;
+use crate::issue::IssueFault;
 use revision_jobs::{Post, Sent};
 use std::sync::Wait;
 
+/// How many jobs were taken, and why no more could be issued, if that ended it.
+#[derive(Drop)]
+pub(crate) struct Fed {
+    pub(crate) taken: u32,
+    pub(crate) refused: Option<IssueFault>,
+}
+
 /// Issues jobs for what isn't known and sends them, until nothing is to be computed next, none can
 /// be issued, or the post doesn't take one, which is cancelled. How many it took. Nothing is
-/// received, so whatever was known or out stays so. It may wait where the post does.
+/// received, so whatever was known or out stays so (`Feeds`), and the post serves the desk still
+/// (`ServesOn`). It may wait where the post's send does.
 pub fn feed<P: Post>(rt: &impl Wait, desk: &mut Desk<'_>, post: &mut P) -> u32
-    requires { Serves desk.old (P.table post.old) (P.floor post.old) }
-    ensures feeds { Feeds desk.old desk.new (P.floor post.old) (P.floor post.new) result }
-    ensures post { Serves desk.new (P.table post.new) (P.floor post.new)
-        × (P.is_prompt post.new ≡ P.is_prompt post.old) }
-    ensures silent { P.answers post.new ≡ P.answers post.old }
-    ensures held { IfPrompt P.is_prompt P.held post.old desk.old
-        (IsHeld (P.held post.new) desk.new) }
+    requires { Serves desk.old (P.view post.old) }
+    ensures feeds { FeedsAll (P.view post.old) (P.view post.new) desk.old desk.new result }
+    ensures post { ServesOn (P.view post.old) (P.view post.new) desk.old desk.new }
+{
+    feed_on(rt, desk, post).taken
+}
+
+/// Feeds the post as `feed` does, and tells too why no more jobs could be issued.
+pub(crate) fn feed_on<P: Post>(rt: &impl Wait, desk: &mut Desk<'_>, post: &mut P) -> Fed
+    requires { Serves desk.old (P.view post.old) }
+    ensures feeds { Feeds (P.view post.old) (P.view post.new) desk.old desk.new
+        result.taken result.refused }
+    ensures post { ServesOn (P.view post.old) (P.view post.new) desk.old desk.new }
 {
     let mut taken = 0;
-    while let Ok(Some(job)) = desk.issue(rt) {
+    loop {
+        let job = match desk.issue(rt) {
+            Ok(Some(job)) => job,
+            Ok(None) => return Fed {
+                taken,
+                refused: None,
+            },
+            Err(fault) => return Fed {
+                taken,
+                refused: Some(fault),
+            },
+        };
         let number = job.number;
         match post.send(job) {
             Sent::Taken => taken += 1,
             _ => {
                 desk.cancel(number);
-                break;
+                return Fed {
+                    taken,
+                    refused: None,
+                };
             }
         }
     }
-    taken
 }

@@ -7,7 +7,8 @@
 //! What isn't known is computed by jobs, which a desk numbers and whoever likes works. An answer
 //! counts where a row of the present document expects its job, however late it comes and whatever
 //! edits were made meanwhile; any other is stale and changes nothing. `settle` issues, sends and
-//! collects over a post until nothing is needed; `feed` only issues and sends.
+//! collects over a post until nothing is needed; `feed` only issues and sends, and `poll` collects
+//! what has come and then feeds, without waiting for an answer.
 //!
 //! An edit keeps what it doesn't touch, known or expected. Nothing is computed here.
 #![tactic(auto)]
@@ -18,6 +19,7 @@ mod desk;
 mod feeding;
 mod issue;
 mod laws;
+mod polling;
 mod progress;
 mod rows;
 mod settling;
@@ -30,6 +32,7 @@ pub use desk::Desk;
 pub use feeding::feed;
 pub use issue::IssueFault;
 pub use laws::calls_show_only_scratch;
+pub use polling::{Polled, poll};
 pub use revision_jobs::{
     Answer, Entries, Entry, InlinePost, Job, NoGate, Outcome, Place, Post, Received, Sent, work,
 };

@@ -1,11 +1,11 @@
 //! The progress of a settling.
-ghost use Rattle.std.specs.Prelude.{◌≡◌, ◌≤◌, None, Some, true};
+ghost use Rattle.std.specs.Prelude.{◌≡◌, ◌≤◌, ◌*◌, ◌+◌, None, Some, true};
 ghost use Rattle.revision_jobs.specs.Entries.{IsOf};
 ghost use Rattle.dependency_book.specs.BookState.{wanting_of};
-ghost use Rattle.desk_core.specs.Progress.{Fits, GivesBack, GoesOnBy, GoesOnOver, GoesOnWith};
-ghost use Rattle.desk_core.specs.Progress.{HasCome, NearsOver, ReceivesOver, Runs, SeesAll};
-ghost use Rattle.desk_core.specs.Progress.{StaysAtHand, StaysFit, TakesNoMore, job_in, over, ready};
-ghost use Rattle.desk_core.specs.Settling.{GivesAtMost, IfPrompt};
+ghost use Rattle.desk_core.specs.Progress.{Advances, Asks, Fits, Frees, GoesOn, GoesOnBy};
+ghost use Rattle.desk_core.specs.Progress.{GoesOnWith, HasCome, IsDoneBy, RunsOut, SeesAll};
+ghost use Rattle.desk_core.specs.Progress.{TakesNoMore, job_in, ready, stage};
+ghost use Rattle.desk_core.specs.Settling.{GivesAtMost, HoldsAllOut, Serves, rows_of};
 
 use crate::cause::Cause;
 use crate::collect::Collected;
@@ -25,6 +25,16 @@ pub(crate) struct Progress {
 }
 
 impl Progress {
+    // Nothing was issued yet.
+    pub(crate) fn begun() -> Progress
+        ensures { (result.unsent ≡ Unsent.Nothing) × (result.cause ≡ None) }
+    {
+        Progress {
+            unsent: Unsent::Nothing,
+            cause: None,
+        }
+    }
+
     // Settles for at most so many turns.
     pub(crate) fn run<P: Post>(
         rt: &impl Wait,
@@ -32,19 +42,15 @@ impl Progress {
         post: &mut P,
         turns: u32,
     ) -> Progress
-        requires { Fits desk.old (P.table post.old) (P.floor post.old) None }
-        ensures fits { Fits desk.new (P.table post.new) (P.floor post.new) (job_in result.unsent) }
-        ensures comes { HasCome desk.old (P.answers post.old)
-            (over P.floor P.answers post.new desk.new result) }
+        requires { Serves desk.old (P.view post.old) }
+        ensures comes { HasCome desk.old (P.view post.old)
+            (stage desk.new (P.view post.new) result) }
         ensures given { GivesAtMost turns desk.old desk.new }
-        ensures kind { P.is_prompt post.new ≡ P.is_prompt post.old }
-        ensures prompt { IfPrompt P.is_prompt P.held post.old desk.old
-            (Runs (P.held post.new) desk.old desk.new turns result) }
+        ensures ended { RunsOut turns (P.view post.old) (stage desk.new (P.view post.new) result) }
+        ensures done { HoldsAllOut desk.old (P.view post.old) → 4 * rows_of desk.old ≤ turns →
+            IsDoneBy (stage desk.new (P.view post.new) result) }
     {
-        let mut progress = Progress {
-            unsent: Unsent::Nothing,
-            cause: None,
-        };
+        let mut progress = Progress::begun();
         for _ in 0..turns {
             match progress.turn(rt, desk, post) {
                 ControlFlow::Continue(()) => {}
@@ -62,14 +68,13 @@ impl Progress {
         desk: &mut Desk<'_>,
         post: &mut P,
     ) -> ControlFlow<()>
-        requires { Fits desk.old (P.table post.old) (P.floor post.old) (job_in self.old.unsent) }
-        ensures fits { Fits desk.new (P.table post.new) (P.floor post.new)
-            (job_in self.new.unsent) }
-        ensures goes { GoesOnOver 1 P.floor P.answers post.old post.new
-            desk.old desk.new self.old self.new }
-        ensures kind { P.is_prompt post.new ≡ P.is_prompt post.old }
-        ensures prompt { NearsOver P.is_prompt P.held post.old post.new
-            desk.old desk.new self.old self.new result }
+        requires { Fits desk.old (P.view post.old) (job_in self.old.unsent) }
+        ensures goes { GoesOn 1 (stage desk.old (P.view post.old) self.old)
+            (stage desk.new (P.view post.new) self.new) }
+        ensures asks { Asks (stage desk.old (P.view post.old) self.old)
+            (stage desk.new (P.view post.new) self.new) result }
+        ensures nears { Advances (stage desk.old (P.view post.old) self.old)
+            (stage desk.new (P.view post.new) self.new) result }
     {
         self.issue(rt, desk);
         match mem::replace(&mut self.unsent, Unsent::Nothing) {
@@ -92,8 +97,6 @@ impl Progress {
     // cause.
     fn issue(&mut self, rt: &impl Wait, desk: &mut Desk<'_>)
         ensures goes { GoesOnBy desk.old desk.new self.old self.new }
-        ensures fits { StaysFit desk.old desk.new self.old self.new }
-        ensures out { StaysAtHand desk.old desk.new self.old self.new }
         ensures turns { TakesNoMore desk.old desk.new self.old self.new }
         ensures none { SeesAll desk.new self.new }
     {
@@ -109,15 +112,14 @@ impl Progress {
 
     // Hands a job on. A post that takes none any more ends the settling.
     fn send<P: Post>(&mut self, desk: &mut Desk<'_>, post: &mut P, job: Job) -> ControlFlow<()>
-        requires fits { Fits desk.old (P.table post.old) (P.floor post.old) (Some job) }
+        requires fits { Fits desk.old (P.view post.old) (Some job) }
         requires none { self.old.unsent ≡ Unsent.Nothing }
-        ensures fits { Fits desk.new (P.table post.new) (P.floor post.new)
-            (job_in self.new.unsent) }
-        ensures goes { GoesOnOver 0 P.floor P.answers post.old post.new
-            desk.old desk.new (ready job self.old) self.new }
-        ensures kind { P.is_prompt post.new ≡ P.is_prompt post.old }
-        ensures prompt { NearsOver P.is_prompt P.held post.old post.new
-            desk.old desk.new (ready job self.old) self.new result }
+        ensures goes { GoesOn 0 (stage desk.old (P.view post.old) (ready job self.old))
+            (stage desk.new (P.view post.new) self.new) }
+        ensures asks { Asks (stage desk.old (P.view post.old) (ready job self.old))
+            (stage desk.new (P.view post.new) self.new) result }
+        ensures nears { Advances (stage desk.old (P.view post.old) (ready job self.old))
+            (stage desk.new (P.view post.new) self.new) result }
     {
         match post.send(job) {
             Sent::Taken => ControlFlow::Continue(()),
@@ -134,14 +136,14 @@ impl Progress {
 
     // Takes an answer, if there is one. A post that has none any more ends the settling.
     fn receive<P: Post>(&mut self, desk: &mut Desk<'_>, post: &mut P) -> ControlFlow<()>
-        requires { Fits desk.old (P.table post.old) (P.floor post.old) (job_in self.old.unsent) }
-        ensures fits { Fits desk.new (P.table post.new) (P.floor post.new)
-            (job_in self.new.unsent) }
-        ensures goes { GoesOnOver 0 P.floor P.answers post.old post.new
-            desk.old desk.new self.old self.new }
-        ensures kind { P.is_prompt post.new ≡ P.is_prompt post.old }
-        ensures prompt { ReceivesOver P.is_prompt P.held post.old post.new
-            desk.old desk.new self.old self.new result }
+        requires { Fits desk.old (P.view post.old) (job_in self.old.unsent) }
+        ensures goes { GoesOn 0 (stage desk.old (P.view post.old) self.old)
+            (stage desk.new (P.view post.new) self.new) }
+        ensures asks { Asks (stage desk.old (P.view post.old) self.old)
+            (stage desk.new (P.view post.new) self.new) result }
+        ensures frees { (P.view post.old).is_prompt ≡ true →
+            Frees (stage desk.old (P.view post.old) self.old)
+            (stage desk.new (P.view post.new) self.new) result }
     {
         match post.receive() {
             Received::Answer(answer) => {
@@ -155,13 +157,12 @@ impl Progress {
 
     // Collects an answer. Where its job gave up nothing more is issued, and the job that isn't sent
     // yet is cancelled.
-    fn collect(&mut self, desk: &mut Desk<'_>, answer: Answer)
+    pub(crate) fn collect(&mut self, desk: &mut Desk<'_>, answer: Answer)
         requires { IsOf desk.old.table answer.job.place }
         ensures goes { GoesOnWith answer desk.old desk.new self.old self.new }
-        ensures fits { StaysFit desk.old desk.new self.old self.new }
-        ensures out { GivesBack answer.job desk.old desk.new self.old self.new }
         ensures same { self.new.cause ≡ None → self.new.unsent ≡ self.old.unsent }
         ensures wanting { self.new.cause ≡ None → wanting_of desk.new ≤ wanting_of desk.old }
+        ensures none { self.old.unsent ≡ Unsent.Nothing → self.new.unsent ≡ Unsent.Nothing }
     {
         if let Collected::Released(fault) = desk.collect(answer) {
             self.cause = Some(self.cause.unwrap_or(Cause::of_answer(fault)));

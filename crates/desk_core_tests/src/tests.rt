@@ -343,6 +343,34 @@ const WITHOUT_ROOM: &[Act] = &[
     Act::FirstOut(None),
 ];
 
+// The first poll sends the step to 8. The second finds its pattern and sends the view, whose text the
+// third finds.
+const POLLED: &[Act] = &[
+    Act::Poll(&[1, 1, 0, 0]),
+    Act::Given(2),
+    Act::FirstOut(None),
+    Act::Shows(1, "1 2\n"),
+];
+
+// The view at 0 and the step to 8 can both be computed at once, but the post takes one job, so that
+// the second is cancelled and issued anew.
+const POLLED_TWICE: &[Act] = &[
+    Act::Edit(Change::Mark(0)),
+    Act::Poll(&[2, 1, 1, 0]),
+    Act::Given(4),
+    Act::Shows(1, "1 2\n"),
+    Act::Shows(2, "1 1\n"),
+];
+
+const POLLED_WITHOUT_ROOM: &[Act] = &[
+    Act::Edit(Change::Mark(1 << 60)),
+    Act::PollInNoRoom(1),
+    Act::FirstOut(None),
+    Act::Given(1),
+];
+
+const POLLED_WHILE_CLOSED: &[Act] = &[Act::PollClosed(1), Act::FirstOut(None), Act::Given(1)];
+
 const WITHOUT_TURNS: &[Act] = &[
     Act::SettleInNoTurn(Settling::Unsettled {
         pending: 1,
@@ -456,6 +484,21 @@ fn refused_job_is_cancelled(rt: HostRuntime) {
 #[test]
 fn too_little_room_is_told(rt: HostRuntime) {
     play(&rt, rt.alloc(), ONE_CELL, WITHOUT_ROOM);
+}
+
+#[test]
+fn polls_settle_in_the_end(rt: HostRuntime) {
+    let alloc = rt.alloc();
+    play(&rt, alloc, &[], &[Act::Poll(&[0])]);
+    play(&rt, alloc, AT_8, POLLED);
+    play(&rt, alloc, AT_8, POLLED_TWICE);
+}
+
+#[test]
+fn polls_tell_causes(rt: HostRuntime) {
+    let alloc = rt.alloc();
+    play(&rt, alloc, ONE_CELL, POLLED_WITHOUT_ROOM);
+    play(&rt, alloc, AT_8, POLLED_WHILE_CLOSED);
 }
 
 #[test]

@@ -1,33 +1,52 @@
 -- What contracts see of a pool's post.
-use Rattle.std.specs.Prelude.{◌≡◌, ℕ, List, [], length, All}
+use Rattle.std.specs.Prelude.{◌≡◌, ℕ, List, [], length, All, None, false}
 use Rattle.std.specs.Fn.{Once}
 use Rattle.std.specs.Borrow.{MutBor}
 use Rattle.revision_jobs.specs.declared.entries.Entries.{Entries}
-use Rattle.revision_jobs.specs.Answer.{JobResult}
+use Rattle.revision_jobs.specs.Posted.{PostHistory, PostView, no_history}
 use Rattle.job_queue.specs.declared.rule.Slip.{Slip}
 use Rattle.job_queue.specs.Ends.{Sending}
+use Rattle.job_queue.specs.Slips.{floor_of}
+use Rattle.job_pool.specs.declared.answer_rule.Terms.{Terms}
+use Rattle.job_pool.specs.Home.{terms_of}
 
--- its table, the slips of the jobs that it took, and the answers that it gave, the latest last
+-- its table, how many squares a step may keep, the slips of the jobs that it took, and its history
 pub record Pool : Type 0 where
   pub table : Entries
+  pub limit : ℕ
   pub sent : List Slip
-  pub answers : List JobResult
+  pub history : PostHistory
 
--- a post over this sender that gave no answer yet
-abbrev pub pool_over : Sending → Pool
-pool_over jobs = record { table = jobs.table; sent = jobs.sent; answers = [] }
+-- as a post: its floor is one more than the last number that it took, and it isn't prompt
+abbrev pub pool_view : Pool → PostView
+pool_view pool = record {
+  table = pool.table;
+  limit = pool.limit;
+  floor = floor_of pool.sent;
+  answers = pool.history.answers;
+  is_prompt = false;
+  held = None;
+  asked = pool.history.asked;
+  is_over = pool.history.is_over;
+}
 
--- a post of the table that took no job and gave no answer yet
-abbrev pub new_pool : Entries → Pool
-new_pool entries = record { table = entries; sent = []; answers = [] }
+-- a post over this sender, at this limit, that wasn't asked yet
+abbrev pub pool_over : Sending → ℕ → Pool
+pool_over jobs limit =
+    record { table = jobs.table; limit = limit; sent = jobs.sent; history = no_history }
 
--- the ends for so many workers: each takes jobs and sends answers of the table, and nothing was
--- sent
-pub record AreEnds (table : Entries) (workers : ℕ) (inboxes senders : List Entries) : Type 0 where
+-- a post of the table, at this limit, that took no job and wasn't asked yet
+abbrev pub new_pool : Entries → ℕ → Pool
+new_pool entries limit =
+    record { table = entries; limit = limit; sent = []; history = no_history }
+
+-- the ends for so many workers: each takes jobs of the table, and sends answers of it at the limit
+pub record AreEnds (table : Entries) (limit workers : ℕ) (inboxes : List Entries)
+    (senders : List Terms) : Type 0 where
   pub inboxes_many : length inboxes ≡ workers
   pub inboxes_own : All (λ inbox. inbox ≡ table) inboxes
   pub senders_many : length senders ≡ workers
-  pub senders_own : All (λ sender. sender ≡ table) senders
+  pub senders_own : All (λ sender. sender ≡ terms_of table limit) senders
 
 -- the body may be called once, on the post and the input
 abbrev pub CallTakes : {F I T : Type 0}

@@ -2,13 +2,12 @@
 ghost use Rattle.std.specs.Prelude.{◌≡◌, ◌≤◌, All, IfOk, IfSome, Some, vec_len};
 ghost use Rattle.crossbeam_channel.specs.Claims.{view, IsSeatAt};
 ghost use Rattle.crossbeam_channel.specs.Ends.{sends_on};
-ghost use Rattle.revision_jobs.specs.Entries.{IsOf};
-ghost use Rattle.job_queue.specs.Tables.{table_in};
+ghost use Rattle.revision_jobs.specs.Posted.{IsOwnAnswer, IsReceived};
+ghost use Rattle.job_pool.specs.Home.{terms_in, terms_of};
 
-use crate::answer_rule::{MakesEnd, NamesTable, OfTable, Passes};
-use crossbeam_channel::{Pass, RuledReceiver, RuledSender, bounded_with};
-use job_queue::Naming;
-use revision_jobs::{Answer, Entries};
+use crate::answer_rule::{MakesEnd, NamesTerms, Naming, OfTable, Passes, Terms};
+use crossbeam_channel::{Pass, RuledReceiver, RuledSender, TryRecvError, bounded_with};
+use revision_jobs::{Answer, Entries, Received};
 use std::alloc::{AllocError, Global};
 use std::marker::{Brand, Model};
 use std::sync::Wait;
@@ -16,55 +15,55 @@ use std::sync::Wait;
 /// How many answers may wait.
 const CAPACITY: usize = 32;
 
-/// A worker's end. Contracts see the table of its answers.
+/// A worker's end. Contracts see the table of its answers, and their limit.
 #[derive(Drop)]
 pub(crate) struct AnswerSender {
-    end: RuledSender<Answer, Option<Entries>, OfTable>,
-    pass: Pass<Answer, Option<Entries>>,
+    end: RuledSender<Answer, Option<Terms>, OfTable>,
+    pass: Pass<Answer, Option<Terms>>,
 }
 
 impl Model for AnswerSender {
     ghost use Rattle.std.specs.Prelude.{◌≡◌, Some};
     ghost use Rattle.crossbeam_channel.specs.Claims.{view as known, IsSeatAt};
     ghost use Rattle.crossbeam_channel.specs.Ends.{sends_on};
-    ghost use Rattle.revision_jobs.specs.declared.entries.Entries.{Entries};
-    ghost use Rattle.job_queue.specs.Tables.{table_in};
+    ghost use Rattle.job_pool.specs.declared.answer_rule.Terms.{Terms};
+    ghost use Rattle.job_pool.specs.Home.{terms_in};
 
-    ghost Value = { Entries };
+    ghost Value = { Terms };
 
-    ghost view = { λ s. table_in (known s.pass) };
+    ghost view = { λ s. terms_in (known s.pass) };
 
     ghost invariant = { λ s. IsSeatAt (sends_on s.end) s.pass
-        × (known s.pass ≡ Some (table_in (known s.pass))) };
+        × (known s.pass ≡ Some (terms_in (known s.pass))) };
 }
 
-/// The post's end. Contracts see the table of its answers.
+/// The post's end. Contracts see the table of its answers, and their limit.
 #[derive(Drop)]
 pub(crate) struct AnswerReceiver {
-    end: RuledReceiver<Answer, Option<Entries>, OfTable>,
-    pass: Pass<Answer, Option<Entries>>,
+    end: RuledReceiver<Answer, Option<Terms>, OfTable>,
+    pass: Pass<Answer, Option<Terms>>,
 }
 
 impl Model for AnswerReceiver {
     ghost use Rattle.std.specs.Prelude.{◌≡◌, Some};
     ghost use Rattle.crossbeam_channel.specs.Claims.{view as known, IsSeatAt};
     ghost use Rattle.crossbeam_channel.specs.Ends.{receives_on};
-    ghost use Rattle.revision_jobs.specs.declared.entries.Entries.{Entries};
-    ghost use Rattle.job_queue.specs.Tables.{table_in};
+    ghost use Rattle.job_pool.specs.declared.answer_rule.Terms.{Terms};
+    ghost use Rattle.job_pool.specs.Home.{terms_in};
 
-    ghost Value = { Entries };
+    ghost Value = { Terms };
 
-    ghost view = { λ r. table_in (known r.pass) };
+    ghost view = { λ r. terms_in (known r.pass) };
 
     ghost invariant = { λ r. IsSeatAt (receives_on r.end) r.pass
-        × (known r.pass ≡ Some (table_in (known r.pass))) };
+        × (known r.pass ≡ Some (terms_in (known r.pass))) };
 }
 
 impl AnswerSender {
     /// Sends an answer back. It is dropped where nobody waits for it any more. It waits while 32
     /// answers wait.
     pub(crate) fn send<R: Wait>(&mut self, rt: &R, answer: Answer)
-        requires { IsOf self.old answer.job.place }
+        requires { IsOwnAnswer self.old.table self.old.limit answer }
         ensures { self.new ≡ self.old }
     {
         let _sent = self.end.send_as::<Passes, R>(rt, &mut self.pass, answer);
@@ -72,45 +71,65 @@ impl AnswerSender {
 }
 
 impl AnswerReceiver {
-    /// The next answer, or None where there is none and no worker is left. It waits while there is
-    /// none.
-    pub(crate) fn receive<R: Wait>(&mut self, rt: &R) -> Option<Answer>
+    /// The next answer. It waits while there is none, and is Ended where none is and no worker is
+    /// left.
+    pub(crate) fn receive<R: Wait>(&mut self, rt: &R) -> Received
         ensures same { self.new ≡ self.old }
-        ensures own { IfSome result (λ answer. IsOf self.old answer.job.place) }
+        ensures own { IsReceived self.old.table self.old.limit result }
     {
-        self.end.recv_as::<Passes, R>(rt, &mut self.pass).ok()
+        match self.end.recv_as::<Passes, R>(rt, &mut self.pass) {
+            Ok(answer) => Received::Answer(answer),
+            Err(_) => Received::Ended,
+        }
+    }
+
+    /// The next answer, if there is one already: Nothing where there is none, and Ended where no
+    /// worker is left either.
+    pub(crate) fn try_receive<R: Wait>(&mut self, rt: &R) -> Received
+        ensures same { self.new ≡ self.old }
+        ensures own { IsReceived self.old.table self.old.limit result }
+    {
+        match self.end.try_recv_as::<Passes, R>(rt, &mut self.pass) {
+            Ok(answer) => Received::Answer(answer),
+            Err(TryRecvError::Empty) => Received::Nothing,
+            Err(TryRecvError::Disconnected) => Received::Ended,
+        }
     }
 }
 
-/// A channel for answers of the table, with so many senders.
+/// A channel for answers of the table and at the limit, with so many senders.
 pub(crate) fn answer_queue(
     alloc: Global,
     entries: &Entries,
+    limit: u32,
     senders: u8,
 ) -> Result<(Vec<AnswerSender>, AnswerReceiver), AllocError>
     ensures count { IfOk result (λ ends. vec_len ends.0 ≡ senders) }
-    ensures senders { IfOk result (λ ends. All (λ s. s ≡ entries.now) ends.0.items) }
-    ensures receiver { IfOk result (λ ends. ends.1 ≡ entries.now) }
+    ensures senders { IfOk result (λ ends.
+        All (λ s. s ≡ terms_of entries.now limit) ends.0.items) }
+    ensures receiver { IfOk result (λ ends. ends.1 ≡ terms_of entries.now limit) }
 {
-    queue_of::<Brand>(alloc, entries, senders)
+    queue_of::<Brand>(alloc, entries, limit, senders)
 }
 
-// A channel whose table has a name.
+// A channel whose terms have a name.
 fn queue_of<K: Naming>(
     alloc: Global,
     entries: &Entries,
+    limit: u32,
     senders: u8,
 ) -> Result<(Vec<AnswerSender>, AnswerReceiver), AllocError>
-    requires { K.table ≡ entries.now }
+    requires { K.terms ≡ terms_of entries.now limit }
     ensures count { IfOk result (λ ends. vec_len ends.0 ≡ senders) }
-    ensures senders { IfOk result (λ ends. All (λ s. s ≡ entries.now) ends.0.items) }
-    ensures receiver { IfOk result (λ ends. ends.1 ≡ entries.now) }
+    ensures senders { IfOk result (λ ends.
+        All (λ s. s ≡ terms_of entries.now limit) ends.0.items) }
+    ensures receiver { IfOk result (λ ends. ends.1 ≡ terms_of entries.now limit) }
 {
     let mut all = Vec::new(alloc);
-    let (end, from, mut pass) = bounded_with::<Answer, Option<Entries>, OfTable, Global>(
+    let (end, from, mut pass) = bounded_with::<Answer, Option<Terms>, OfTable, Global>(
         alloc, CAPACITY,
     )?;
-    let theirs = end.another::<NamesTable<K>>(&mut pass);
+    let theirs = end.another::<NamesTerms<K>>(&mut pass);
     let receiver = AnswerReceiver {
         end: from,
         pass: theirs,
@@ -123,13 +142,13 @@ fn queue_of<K: Naming>(
 
 // Another sender of the channel.
 fn another_sender(
-    end: &RuledSender<Answer, Option<Entries>, OfTable>,
-    pass: &mut Pass<Answer, Option<Entries>>,
+    end: &RuledSender<Answer, Option<Terms>, OfTable>,
+    pass: &mut Pass<Answer, Option<Terms>>,
 ) -> Result<AnswerSender, AllocError>
     requires queue { IsSeatAt (sends_on end.now) pass.old }
-    requires tabled { view pass.old ≡ Some (table_in (view pass.old)) }
+    requires tabled { view pass.old ≡ Some (terms_in (view pass.old)) }
     ensures pass { IsSeatAt (sends_on end.now) pass.new × (view pass.new ≡ view pass.old) }
-    ensures sender { IfOk result (λ s. s ≡ table_in (view pass.old)) }
+    ensures sender { IfOk result (λ s. s ≡ terms_in (view pass.old)) }
 {
     let theirs = end.another::<MakesEnd>(pass);
     Ok(AnswerSender {

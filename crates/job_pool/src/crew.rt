@@ -1,6 +1,7 @@
 //! Starting workers, and calling a body on their post.
 ghost use Rattle.std.specs.Prelude.{◌≡◌, ◌≤◌, IfErr, IfOk, vec_len};
 ghost use Rattle.job_queue.specs.Ends.{new_sender};
+ghost use Rattle.job_pool.specs.Home.{terms_of};
 ghost use Rattle.job_pool.specs.Pool.{AreEnds, CallGives, CallTakes, new_pool, pool_over};
 
 use crate::answers::{AnswerReceiver, answer_queue};
@@ -36,26 +37,28 @@ where
     I: Drop,
     F: FnOnce(&mut PoolPost<'_, R>, I) -> T + Drop,
     requires gates { (1 ≤ vec_len gates) × (vec_len gates ≤ 8) }
-    requires body { CallTakes F.FnOnce body (new_pool entries.now) input }
-    ensures called { IfOk result (CallGives F.FnOnce body (new_pool entries.now) input) }
+    requires body { CallTakes F.FnOnce body (new_pool entries.now squares) input }
+    ensures called { IfOk result (CallGives F.FnOnce body (new_pool entries.now squares) input) }
     ensures refused { IfErr result (λ none. none.input ≡ input) }
 {
     let count = gates.len() as u8;
     let Ok((outbox, inboxes)) = lanes(alloc, entries, count) else {
         return Err(NoPool::of(PoolFault::NoMemory, input));
     };
-    let Ok((senders, receiver)) = answer_queue(alloc, entries, count) else {
+    let Ok((senders, receiver)) = answer_queue(alloc, entries, squares, count) else {
         return Err(NoPool::of(PoolFault::NoMemory, input));
     };
     thread::scope(
         thread::scope_env(),
         rt,
         move |scope| -> Result<T, NoPool<I>>
-            requires ends { (outbox ≡ new_sender entries.now) × (receiver ≡ entries.now) }
-            requires workers { AreEnds entries.now (vec_len gates) inboxes.items senders.items }
-            requires body { CallTakes F.FnOnce body (new_pool entries.now) input }
+            requires ends { (outbox ≡ new_sender entries.now)
+                × (receiver ≡ terms_of entries.now squares) }
+            requires workers { AreEnds entries.now squares (vec_len gates)
+                inboxes.items senders.items }
+            requires body { CallTakes F.FnOnce body (new_pool entries.now squares) input }
             ensures called { IfOk result
-                (CallGives F.FnOnce body (new_pool entries.entry.now) input) }
+                (CallGives F.FnOnce body (new_pool entries.entry.now squares) input) }
             ensures refused { IfErr result (λ none. none.input ≡ input) }
         {
             let count = gates.len();
@@ -71,7 +74,7 @@ where
                     unreachable!()
                 };
                 let worker = move ||
-                    requires { (jobs ≡ entries.now) × (back ≡ entries.now) }
+                    requires { (jobs ≡ entries.now) × (back ≡ terms_of entries.now squares) }
                 { work_all(rt, alloc, entries, jobs, back, gate, squares) };
                 if scope.spawn(worker).is_err() {
                     return Err(NoPool::of(PoolFault::NoWorker, input));
@@ -92,9 +95,9 @@ fn attend<'a, R: Wait, I, F, T>(
 ) -> T
 where
     F: FnOnce(&mut PoolPost<'_, R>, I) -> T,
-    requires table { back ≡ jobs.table }
-    requires body { CallTakes F.FnOnce body (pool_over jobs) input }
-    ensures { CallGives F.FnOnce body (pool_over jobs.entry) input result }
+    requires table { back.table ≡ jobs.table }
+    requires body { CallTakes F.FnOnce body (pool_over jobs back.limit) input }
+    ensures { CallGives F.FnOnce body (pool_over jobs.entry back.limit) input result }
 {
     let mut post = PoolPost::new(rt, jobs, back);
     body(&mut post, input)

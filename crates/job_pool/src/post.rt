@@ -3,20 +3,22 @@ ghost use Rattle.std.specs.Prelude.{◌≡◌};
 
 use crate::answers::AnswerReceiver;
 use crate::outbox::Outbox;
-use revision_jobs::{Answers, Job, Post, Received, Sent};
+use revision_jobs::{History, Job, Post, Received, Sent};
 use std::marker::Model;
 use std::sync::Wait;
 
 /// The post of a pool. A send is an offer to the queue of its job's kind, and a receive waits for
-/// an answer: it is Ended where every worker is gone.
+/// an answer: it is Ended where every worker is gone. `try_receive` doesn't wait; for a moment it
+/// may see nothing though an answer has just come.
 ///
-/// Contracts see its table, the slips of the jobs that it took, and the answers that it gave.
+/// Contracts see its table, how many squares a step may keep, the slips of the jobs that it took,
+/// and its history.
 #[derive(Drop)]
 pub struct PoolPost<'a, R: Wait> {
     rt: &'a R,
     jobs: Outbox<'a>,
     back: AnswerReceiver,
-    answers: Answers,
+    history: History,
 }
 
 impl<'a, R: Wait> Model for PoolPost<'a, R> {
@@ -31,63 +33,62 @@ impl<'a, R: Wait> Model for PoolPost<'a, R> {
 
     ghost view = { λ p. record {
       table = p.jobs.table;
+      limit = p.back.limit;
       sent = p.jobs.sent;
-      answers = p.answers;
+      history = p.history;
     } };
 
-    ghost invariant = { λ p. p.back ≡ p.jobs.table };
+    ghost invariant = { λ p. p.back.table ≡ p.jobs.table };
 }
 
 impl<'a, R: Wait> PoolPost<'a, R> {
     ghost use Rattle.job_pool.specs.Pool.{pool_over};
 
     pub(crate) fn new(rt: &'a R, jobs: Outbox<'a>, back: AnswerReceiver) -> PoolPost<'a, R>
-        requires { back ≡ jobs.table }
-        ensures { result ≡ pool_over jobs.entry }
+        requires { back.table ≡ jobs.table }
+        ensures { result ≡ pool_over jobs.entry back.limit }
     {
         PoolPost {
             rt,
             jobs,
             back,
-            answers: Answers::none(),
+            history: History::none(),
         }
     }
 }
 
 impl<'a, R: Wait> Post for PoolPost<'a, R> {
-    ghost use Rattle.std.specs.Prelude.{◌≡◌, ◌≤◌, false, None};
+    ghost use Rattle.std.specs.Prelude.{◌≡◌, ◌≤◌};
     ghost use Rattle.revision_jobs.specs.Entries.{IsOf};
+    ghost use Rattle.revision_jobs.specs.Posted.{history_sent};
     ghost use Rattle.job_queue.specs.Ends.{IsOffered};
     ghost use Rattle.job_queue.specs.Slips.{floor_of};
+    ghost use Rattle.job_pool.specs.Pool.{pool_view};
 
-    ghost table = { λ post. post.table };
-
-    ghost floor = { λ post. floor_of post.sent };
-
-    ghost answers = { λ post. post.answers };
-
-    ghost is_prompt = { λ _. false };
-
-    ghost held = { λ _. None };
+    ghost view = { pool_view };
 
     fn send(&mut self, job: Job) -> Sent
         requires own { IsOf self.old.table job.place }
         requires rises { floor_of self.old.sent ≤ job.number }
-        ensures table { self.new.table ≡ self.old.table }
-        ensures answers { self.new.answers ≡ self.old.answers }
+        ensures table { (self.new.table ≡ self.old.table) × (self.new.limit ≡ self.old.limit) }
+        ensures history { self.new.history ≡ history_sent self.old.history result }
         ensures offered { IsOffered job self.old.sent self.new.sent result }
     {
-        self.jobs.offer(self.rt, job)
+        let sent = self.jobs.offer(self.rt, job);
+        self.history.note_sent(&sent);
+        sent
     }
 
     fn receive(&mut self) -> Received {
-        match self.back.receive(self.rt) {
-            Some(answer) => {
-                self.answers.push(&answer);
-                Received::Answer(answer)
-            }
-            None => Received::Ended,
-        }
+        let received = self.back.receive(self.rt);
+        self.history.note_received(&received);
+        received
+    }
+
+    fn try_receive(&mut self) -> Received {
+        let received = self.back.try_receive(self.rt);
+        self.history.note_received(&received);
+        received
     }
 
     fn floor(&self) -> u64 {

@@ -1,6 +1,7 @@
 //! What a worker does.
 ghost use Rattle.std.specs.Prelude.{◌≡◌, IfSome};
 ghost use Rattle.revision_jobs.specs.Entries.{IsOf};
+ghost use Rattle.job_pool.specs.Home.{terms_of};
 
 use crate::answers::AnswerSender;
 use crate::inbox::Inbox;
@@ -28,7 +29,7 @@ pub(crate) fn work_all<R: Wait, G: Gate>(
 )
 where
     G: Drop,
-    requires { (jobs ≡ entries.now) × (back ≡ entries.now) }
+    requires { (jobs ≡ entries.now) × (back ≡ terms_of entries.now squares) }
 {
     let mut next = jobs.take(rt);
     for _ in rt.forever() {
@@ -53,9 +54,9 @@ fn work_alike<R: Wait, G: Gate>(
     squares: u32,
     job: Job,
 ) -> Option<Job>
-    requires table { (jobs.old ≡ entries.now) × (back.old ≡ entries.now) }
+    requires table { (jobs.old ≡ entries.now) × (back.old ≡ terms_of entries.now squares) }
     requires own { IsOf entries.now job.place }
-    ensures table { (jobs.new ≡ entries.now) × (back.new ≡ entries.now) }
+    ensures table { (jobs.new ≡ entries.now) × (back.new ≡ terms_of entries.now squares) }
     ensures own { IfSome result (λ job. IsOf entries.now job.place) }
 {
     let arena = Bump::new(alloc);

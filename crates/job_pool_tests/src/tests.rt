@@ -32,8 +32,8 @@ fn same<T: PartialEq + Debug, A: Debug>(rt: &impl Abort, found: &T, wanted: &T, 
 
 /// Sends a job, and says whether it was taken.
 fn is_taken<P: Post>(rt: &impl Abort, post: &mut P, number: u32, place: &Place) -> bool
-    requires { IsOf (P.table post.old) place.now }
-    ensures { P.table post.new ≡ P.table post.old }
+    requires { IsOf (P.view post.old).table place.now }
+    ensures { (P.view post.new).table ≡ (P.view post.old).table }
 {
     assert!(rt;
         post.floor() <= u64::from(number),
@@ -55,8 +55,8 @@ fn is_taken<P: Post>(rt: &impl Abort, post: &mut P, number: u32, place: &Place) 
 
 /// Sends the jobs of the numbers below this one, each as soon as it is taken.
 fn send_below<P: Post>(rt: &impl Abort, post: &mut P, place: &Place, end: u32)
-    requires { IsOf (P.table post.old) place.now }
-    ensures { P.table post.new ≡ P.table post.old }
+    requires { IsOf (P.view post.old).table place.now }
+    ensures { (P.view post.new).table ≡ (P.view post.old).table }
 {
     let mut number = 0;
     for _ in 0..TURNS {
@@ -181,7 +181,7 @@ fn pair<G: Drop>(rt: &impl Abort, alloc: Global, one: G, other: G) -> Vec<G>
 
 /// Sends a job of each place and receives both answers, and adds their numbers up.
 fn work_two<P: Post>(rt: &impl Abort, post: &mut P, one: &Place, other: &Place) -> u32
-    requires { IsOf (P.table post.old) one.now × IsOf (P.table post.old) other.now }
+    requires { IsOf (P.view post.old).table one.now × IsOf (P.view post.old).table other.now }
 {
     assert!(rt; is_taken(rt, post, 0, one), "one");
     assert!(rt; is_taken(rt, post, 1, other), "the other");
@@ -226,7 +226,7 @@ fn stop_one<P: Post>(
     place: &Place,
     go_on: &AtomicBool,
 ) -> Option<u8>
-    requires { (P.table post.old ≡ entries.now) × IsOf entries.now place.now }
+    requires { ((P.view post.old).table ≡ entries.now) × IsOf entries.now place.now }
 {
     assert!(rt; is_taken(rt, post, 0, place), "taken");
     entries.raise(place);
@@ -265,7 +265,7 @@ fn expect_dot(rt: &impl Abort, answer: Answer) {
 
 /// Sends jobs of the two places by turns, and receives their answers.
 fn work_by_turns<P: Post>(rt: &impl Abort, post: &mut P, still: &Place, gone: &Place)
-    requires { IsOf (P.table post.old) still.now × IsOf (P.table post.old) gone.now }
+    requires { IsOf (P.view post.old).table still.now × IsOf (P.view post.old).table gone.now }
 {
     assert!(rt; is_taken(rt, post, 0, still), "0");
     assert!(rt; is_taken(rt, post, 1, gone), "1");

@@ -1,28 +1,26 @@
 -- What a post without threads is.
-use Rattle.std.specs.Prelude.{ℕ, List, [], Option, None, IfSome}
+use Rattle.std.specs.Prelude.{ℕ, [], Option, None, IfSome, true, false}
 use Rattle.revision_jobs.specs.declared.entries.Entries.{Entries}
 use Rattle.revision_jobs.specs.declared.answer.Job.{Job}
-use Rattle.revision_jobs.specs.Answer.{JobResult}
 use Rattle.revision_jobs.specs.Entries.{IsOf}
+use Rattle.revision_jobs.specs.Posted.{PostHistory, PostView, no_history}
 
--- its table, one more than the greatest number that it took, the job that it holds, the answers
--- that it gave, and how many squares a step may keep
-pub record Inline : Type 0 where
-  pub table : Entries
-  pub floor : ℕ
-  pub held : Option Job
-  pub answers : List JobResult
-  pub squares : ℕ
-
--- a post of the table that holds no job and gave no answer
-abbrev pub new_inline : Entries → ℕ → Inline
-new_inline entries squares = record {
+-- a prompt post with this history
+abbrev pub inline_view : Entries → ℕ → ℕ → Option Job → PostHistory → PostView
+inline_view entries squares floor held history = record {
   table = entries;
-  floor = 0;
-  held = None;
-  answers = [];
-  squares = squares;
+  limit = squares;
+  floor = floor;
+  answers = history.answers;
+  is_prompt = true;
+  held = held;
+  asked = history.asked;
+  is_over = history.is_over;
 }
+
+-- a prompt post of the table that holds no job and wasn't asked yet
+abbrev pub new_inline : Entries → ℕ → PostView
+new_inline entries squares = inline_view entries squares 0 None no_history
 
 -- a job that it holds is of its table
 abbrev pub IsHeldOf : Entries → Option Job → Type 0

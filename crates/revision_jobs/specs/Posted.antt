@@ -1,5 +1,6 @@
 -- What a post does with jobs.
-use Rattle.std.specs.Prelude.{◌≡◌, ℕ, ◌+◌, List, [], ◌∷◌, ◌++◌, Option, Some, None, IsSome, ⊤}
+use Rattle.std.specs.Prelude.{◌≡◌, ℕ, ◌+◌, List, [], ◌∷◌, ◌++◌, Option, Some, None, IsSome, Bool, true, false, Err, ⊤}
+use Rattle.step_engine.specs.declared.evolved.EvolveFault.{EvolveFault}
 use Rattle.revision_jobs.specs.declared.entries.Entries.{Entries}
 use Rattle.revision_jobs.specs.declared.answer.Job.{Job}
 use Rattle.revision_jobs.specs.declared.post.Sent.{Sent}
@@ -7,7 +8,32 @@ use Rattle.revision_jobs.specs.declared.post.Sent.TheVariants.{Taken, Full, Clos
 use Rattle.revision_jobs.specs.declared.post.Received.{Received}
 use Rattle.revision_jobs.specs.declared.post.Received.TheVariants.{Answer, Nothing, Ended}
 use Rattle.revision_jobs.specs.Answer.{JobResult}
-use Rattle.revision_jobs.specs.Entries.{IsOf}
+use Rattle.revision_jobs.specs.Entries.{IsOf, entry_of}
+use Rattle.revision_jobs.specs.Room.{HasNoRoom}
+
+-- a post: its table, how many squares a step may keep, one more than the greatest number that it
+-- took, the answers that it gave, whether it is prompt, the job that it holds if it is, how often
+-- it was asked to send or to receive, and whether it said Closed or Ended
+pub record PostView : Type 0 where
+  pub table : Entries
+  pub limit : ℕ
+  pub floor : ℕ
+  pub answers : List JobResult
+  pub is_prompt : Bool
+  pub held : Option Job
+  pub asked : ℕ
+  pub is_over : Bool
+
+-- what a post was asked and what it said: the answers that it gave, how often it was asked, and
+-- whether it said Closed or Ended
+pub record PostHistory : Type 0 where
+  pub answers : List JobResult
+  pub asked : ℕ
+  pub is_over : Bool
+
+-- a post that wasn't asked yet
+abbrev pub no_history : PostHistory
+no_history = record { answers = []; asked = 0; is_over = false }
 
 -- the floor rises to just above a job that was taken; a job that wasn't comes back
 abbrev pub IsSent : Job → ℕ → ℕ → Sent → Type 0
@@ -15,17 +41,35 @@ IsSent job before after Taken = after ≡ job.number + 1
 IsSent job before after (Full back) = (back ≡ job) × (after ≡ before)
 IsSent job before after (Closed back) = (back ≡ job) × (after ≡ before)
 
--- an answer's job is of the table
-abbrev pub IsReceived : Entries → Received → Type 0
-IsReceived table (Answer answer) = IsOf table answer.job.place
-IsReceived table Nothing = ⊤
-IsReceived table Ended = ⊤
+-- the answer's job is of the table, and that there was no room is said only where its entry has
+-- none at the limit
+pub record IsOwnAnswer (table : Entries) (limit : ℕ) (answer : JobResult) : Type 0 where
+  pub own : IsOf table answer.job.place
+  pub room : answer.outcome ≡ Err EvolveFault.NoRoom → HasNoRoom limit (entry_of answer.job.place)
+
+-- an answer that is given is of the table, and at the limit
+abbrev pub IsReceived : Entries → ℕ → Received → Type 0
+IsReceived table limit (Answer answer) = IsOwnAnswer table limit answer
+IsReceived table limit Nothing = ⊤
+IsReceived table limit Ended = ⊤
 
 -- the answers that were given before, and behind them the one that is given now
 abbrev pub answers_with : List JobResult → Received → List JobResult
 answers_with before (Answer answer) = before ++ answer ∷ []
 answers_with before Nothing = before
 answers_with before Ended = before
+
+-- a post is over once it takes no more jobs
+abbrev pub over_sent : Bool → Sent → Bool
+over_sent before Taken = before
+over_sent before (Full back) = before
+over_sent before (Closed back) = true
+
+-- or once no answer comes any more
+abbrev pub over_received : Bool → Received → Bool
+over_received before (Answer answer) = before
+over_received before Nothing = before
+over_received before Ended = true
 
 -- a prompt post takes a job exactly where it holds none, and then holds that one
 abbrev pub SendsPromptly : Job → Option Job → Option Job → Sent → Type 0
@@ -38,3 +82,45 @@ abbrev pub ReceivesPromptly : Option Job → Option Job → Received → Type 0
 ReceivesPromptly before after (Answer answer) = (before ≡ Some answer.job) × (after ≡ None)
 ReceivesPromptly before after Nothing = (before ≡ None) × (after ≡ None)
 ReceivesPromptly before after Ended = ⊥
+
+-- a post was asked once more, and has the table, the limit and the kind that it had
+pub record IsAsked (old new : PostView) : Type 0 where
+  pub table : new.table ≡ old.table
+  pub limit : new.limit ≡ old.limit
+  pub kind : new.is_prompt ≡ old.is_prompt
+  pub asked : new.asked ≡ old.asked + 1
+
+-- a post was asked to take a job, and said this: no answer was given, a job that was taken raises
+-- the floor, one that wasn't comes back
+pub record Sends (job : Job) (old new : PostView) (said : Sent) : Type 0 where
+  pub same : IsAsked old new
+  pub answers : new.answers ≡ old.answers
+  pub sent : IsSent job old.floor new.floor said
+  pub over : new.is_over ≡ over_sent old.is_over said
+  pub prompt : old.is_prompt ≡ true → SendsPromptly job old.held new.held said
+
+-- a post was asked for an answer, and said this: an answer is one of its table and at its limit,
+-- and stands behind those that were given
+pub record Receives (old new : PostView) (said : Received) : Type 0 where
+  pub same : IsAsked old new
+  pub floor : new.floor ≡ old.floor
+  pub own : IsReceived old.table old.limit said
+  pub answers : new.answers ≡ answers_with old.answers said
+  pub over : new.is_over ≡ over_received old.is_over said
+  pub prompt : old.is_prompt ≡ true → ReceivesPromptly old.held new.held said
+
+-- the history with one more send, which came to this
+abbrev pub history_sent : PostHistory → Sent → PostHistory
+history_sent before said = record {
+  answers = before.answers;
+  asked = before.asked + 1;
+  is_over = over_sent before.is_over said;
+}
+
+-- and with one more receive
+abbrev pub history_received : PostHistory → Received → PostHistory
+history_received before said = record {
+  answers = answers_with before.answers said;
+  asked = before.asked + 1;
+  is_over = over_received before.is_over said;
+}

@@ -10,7 +10,7 @@ use std::snapshot::Snapshot;
 /// The answers that a post gave so far, the latest last, as clauses see them. It takes no bytes and
 /// no memory, and no answer can be read from it.
 #[derive(Drop)]
-pub struct Answers {
+pub(crate) struct Answers {
     past: Snapshot<Past>,
 }
 
@@ -31,7 +31,7 @@ impl Model for Answers {
 
 impl Answers {
     /// No answers.
-    pub fn none() -> Answers
+    pub(crate) fn none() -> Answers
         ensures { result ≡ [] }
     {
         Answers {
@@ -40,7 +40,7 @@ impl Answers {
     }
 
     /// Notes one more answer.
-    pub fn push(&mut self, answer: &Answer)
+    pub(crate) fn push(&mut self, answer: &Answer)
         ensures { self.new ≡ self.old ++ answer.now ∷ [] }
     {
         let before = mem::replace(&mut self.past, Snapshot::of(&Past::Nothing));

@@ -3,25 +3,24 @@ ghost use Rattle.std.specs.Prelude.{◌≡◌};
 ghost use Rattle.revision_jobs.specs.Inline.{new_inline};
 
 use crate::answer::Job;
-use crate::answers::Answers;
 use crate::entries::Entries;
 use crate::gate::NoGate;
+use crate::history::History;
 use crate::post::{Post, Received, Sent};
 use crate::worker::work;
 use std::alloc::Global;
 use std::marker::Model;
 
 /// A prompt post, which works the job that it holds in the caller's thread, when its answer is
-/// asked for.
+/// asked for. So its answer is always there already.
 ///
-/// Contracts see its table, its floor, the job that it holds, the answers that it gave, and how many
-/// squares a step may keep.
+/// Contracts see it as a post.
 #[derive(Drop)]
 pub struct InlinePost<'a> {
     entries: &'a Entries,
     floor: u64,
     held: Option<Job>,
-    answers: Answers,
+    history: History,
     squares: u32,
     alloc: Global,
 }
@@ -29,21 +28,15 @@ pub struct InlinePost<'a> {
 impl<'a> Model for InlinePost<'a> {
     ghost use Rattle.std.specs.Coded.{codes};
     ghost use Rattle.worlds.specs.World.{coded_world};
-    ghost use Rattle.revision_jobs.specs.Inline.{Inline};
+    ghost use Rattle.revision_jobs.specs.Posted.{PostView};
 
-    ghost Value = { Inline };
+    ghost Value = { PostView };
 
     ghost coded = { Prim.hlevel (codes, coded_world) };
 
-    ghost use Rattle.revision_jobs.specs.Inline.{IsHeldOf};
+    ghost use Rattle.revision_jobs.specs.Inline.{IsHeldOf, inline_view};
 
-    ghost view = { λ p. record {
-      table = p.entries.now;
-      floor = p.floor;
-      held = p.held;
-      answers = p.answers;
-      squares = p.squares;
-    } };
+    ghost view = { λ p. inline_view p.entries.now p.squares p.floor p.held p.history };
 
     ghost invariant = { λ p. IsHeldOf p.entries.now p.held };
 }
@@ -58,7 +51,7 @@ impl<'a> InlinePost<'a> {
             entries,
             floor: 0,
             held: None,
-            answers: Answers::none(),
+            history: History::none(),
             squares,
             alloc,
         }
@@ -66,42 +59,41 @@ impl<'a> InlinePost<'a> {
 }
 
 impl<'a> Post for InlinePost<'a> {
-    ghost use Rattle.std.specs.Prelude.{true};
-
-    ghost table = { λ post. post.table };
-
-    ghost floor = { λ post. post.floor };
-
-    ghost answers = { λ post. post.answers };
-
-    ghost is_prompt = { λ _. true };
-
-    ghost held = { λ post. post.held };
+    ghost view = { λ post. post };
 
     fn send(&mut self, job: Job) -> Sent {
-        if self.held.is_some() {
-            return Sent::Full(job);
-        }
-        self.floor = u64::from(job.number) + 1;
-        self.held = Some(job);
-        Sent::Taken
+        let sent = if self.held.is_some() {
+            Sent::Full(job)
+        } else {
+            self.floor = u64::from(job.number) + 1;
+            self.held = Some(job);
+            Sent::Taken
+        };
+        self.history.note_sent(&sent);
+        sent
     }
 
     fn receive(&mut self) -> Received {
-        let Some(job) = self.held.take() else {
-            return Received::Nothing;
+        let received = match self.held.take() {
+            Some(job) => {
+                let mut stop = self.entries.stop(&job.place);
+                Received::Answer(work(
+                    self.alloc,
+                    job,
+                    self.entries,
+                    &mut NoGate,
+                    &mut stop,
+                    self.squares,
+                ))
+            }
+            None => Received::Nothing,
         };
-        let mut stop = self.entries.stop(&job.place);
-        let answer = work(
-            self.alloc,
-            job,
-            self.entries,
-            &mut NoGate,
-            &mut stop,
-            self.squares,
-        );
-        self.answers.push(&answer);
-        Received::Answer(answer)
+        self.history.note_received(&received);
+        received
+    }
+
+    fn try_receive(&mut self) -> Received {
+        self.receive()
     }
 
     fn floor(&self) -> u64 {

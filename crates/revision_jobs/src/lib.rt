@@ -13,9 +13,11 @@
 
 mod answer;
 mod answers;
+mod count;
 mod entries;
 mod entry;
 mod gate;
+mod history;
 mod inline;
 mod laid;
 mod past;
@@ -24,10 +26,10 @@ mod stop;
 mod worker;
 
 pub use answer::{Answer, Job, Outcome};
-pub use answers::Answers;
 pub use entries::{Entries, Place};
 pub use entry::{Entry, Rendering, Step};
 pub use gate::{Gate, NoGate};
+pub use history::History;
 pub use inline::InlinePost;
 pub use post::{Post, Received, Sent};
 pub use stop::EntryStop;

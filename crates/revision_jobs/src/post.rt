@@ -1,13 +1,7 @@
 //! Where jobs are sent and answers come from.
-ghost use Rattle.std.specs.Prelude.{◌≡◌, ◌≤◌, ℕ, Bool, true, List, Option};
+ghost use Rattle.std.specs.Prelude.{◌≡◌, ◌≤◌};
 ghost use Rattle.revision_jobs.specs.Entries.{IsOf};
-ghost use Rattle.revision_jobs.specs.Posted.{
-  IsReceived,
-  IsSent,
-  ReceivesPromptly,
-  SendsPromptly,
-  answers_with,
-};
+ghost use Rattle.revision_jobs.specs.Posted.{Receives, Sends};
 
 use crate::answer::{Answer, Job};
 
@@ -35,47 +29,33 @@ pub enum Received {
 
 /// A post takes jobs of one table of entries, whose numbers rise, and gives their answers.
 ///
-/// `table` is the table. `floor` is one more than the greatest number that the post took, 0 before
-/// any. `answers` is every answer that it gave so far, the latest last. A post that `is_prompt`
-/// holds at most one job, `held`, takes a job where it holds none, and answers the one that it holds
-/// at the next receive.
+/// Contracts see it as a `PostView`: its table, and the limit of the squares that a step may keep,
+/// at which each answer was worked; its floor, which is one more than the greatest number that it
+/// took, 0 before any; every answer that it gave so far, the latest last; how often it was asked to
+/// send or to receive, and whether it said Closed or Ended. A post that is prompt holds at most one
+/// job, takes a job where it holds none, and answers the one that it holds at the next receive.
+///
+/// `Sends` and `Receives` say what being asked changes of that.
 pub trait Post {
-    ghost use Rattle.revision_jobs.specs.Answer.{JobResult};
-    ghost use Rattle.revision_jobs.specs.declared.entries.Entries.{Entries};
-    ghost use Rattle.revision_jobs.specs.declared.answer.Job.{Job};
+    ghost use Rattle.revision_jobs.specs.Posted.{PostView};
 
-    ghost table: { Self → Entries };
+    ghost view: { Self → PostView };
 
-    ghost floor: { Self → ℕ };
-
-    ghost answers: { Self → List JobResult };
-
-    ghost is_prompt: { Self → Bool };
-
-    ghost held: { Self → Option Job };
-
-    /// Hands a job on. Its number is at least `floor`.
+    /// Hands a job on. Its number is at least the floor.
     fn send(&mut self, job: Job) -> Sent
-        requires own { IsOf (table self.old) job.place }
-        requires rises { floor self.old ≤ job.number }
-        ensures table { table self.new ≡ table self.old }
-        ensures same { (is_prompt self.new ≡ is_prompt self.old)
-            × (answers self.new ≡ answers self.old) }
-        ensures sent { IsSent job (floor self.old) (floor self.new) result }
-        ensures prompt { is_prompt self.old ≡ true →
-            SendsPromptly job (held self.old) (held self.new) result };
+        requires own { IsOf (view self.old).table job.place }
+        requires rises { (view self.old).floor ≤ job.number }
+        ensures { Sends job (view self.old) (view self.new) result };
 
-    /// Gives an answer, if there is one.
+    /// Gives an answer. It may wait for one.
     fn receive(&mut self) -> Received
-        ensures table { table self.new ≡ table self.old }
-        ensures kind { is_prompt self.new ≡ is_prompt self.old }
-        ensures floor { floor self.new ≡ floor self.old }
-        ensures own { IsReceived (table self.old) result }
-        ensures answers { answers self.new ≡ answers_with (answers self.old) result }
-        ensures prompt { is_prompt self.old ≡ true →
-            ReceivesPromptly (held self.old) (held self.new) result };
+        ensures { Receives (view self.old) (view self.new) result };
+
+    /// Gives an answer, if there is one already. It waits for nobody.
+    fn try_receive(&mut self) -> Received
+        ensures { Receives (view self.old) (view self.new) result };
 
     /// One more than the greatest number that it took, 0 before any.
     fn floor(&self) -> u64
-        ensures { result ≡ floor self.now };
+        ensures { result ≡ (view self.now).floor };
 }

@@ -1,5 +1,5 @@
 -- What explains a cause explains it still, while jobs come and go.
-use Rattle.std.proofs.Common.{◌≡◌, ℕ, ◌+◌, ◌<◌, ◌≤◌, ◌∙◌, List, [], ◌∷◌, ◌++◌, length, refl, sym, subst, inl, inr, arith, append-nil, Option, None, Some, Err}
+use Rattle.std.proofs.Common.{◌≡◌, ℕ, ◌+◌, ◌<◌, ◌≤◌, ◌∙◌, List, [], ◌∷◌, ◌++◌, length, sym, subst, inl, inr, arith, append-nil, Option, None, Some, Err}
 use Rattle.std.specs.Prelude.{IfSome, unwrap_or}
 use Rattle.std.specs.List.{Any}
 use Rattle.std.proofs.Math.ListN.{get_or-append}
@@ -8,8 +8,10 @@ use Rattle.std.proofs.lemmas.List.{get_or-append-add}
 use Rattle.step_engine.specs.declared.evolved.EvolveFault.{EvolveFault}
 use Rattle.revision_jobs.specs.Answer.{JobResult}
 use Rattle.revision_jobs.specs.Entries.{entry_of}
+use Rattle.revision_jobs.specs.Posted.{IsOwnAnswer}
 use Rattle.revision_jobs.specs.Room.{HasNoRoom}
-use Rattle.dependency_book.specs.Jobs.{SameBook, StepExpects}
+use Rattle.revision_jobs.specs.declared.entries.Entries.{Entries}
+use Rattle.dependency_book.specs.Jobs.{SameBook}
 use Rattle.dependency_book.specs.BookState.{BookState}
 use Rattle.desk_core.specs.declared.cause.Cause.{Cause}
 use Rattle.desk_core.specs.declared.cause.Cause.TheVariants.{NoMemory, NoRoom, Stopped as WasStopped, NumbersSpent}
@@ -43,58 +45,62 @@ any-last P answers answer says =
 abbrev Gave : EvolveFault → JobResult → Type 0
 Gave fault answer = answer.outcome ≡ Err fault
 
-abbrev FoundNone : JobResult → Type 0
-FoundNone answer = (answer.outcome ≡ Err EvolveFault.NoRoom)
-    × ((limit : ℕ) × HasNoRoom limit (entry_of answer.job.place))
+abbrev FoundNone : ℕ → JobResult → Type 0
+FoundNone limit answer = (answer.outcome ≡ Err EvolveFault.NoRoom) × HasNoRoom limit (entry_of answer.job.place)
 
 -- causes
 
 -- a cause fits still where no more numbers are given
-pub explains-kept : (old new : BookState) (answers more : List JobResult) (cause : Option Cause) → SameBook old new
-    → IfSome cause (Explains old answers) → IfSome cause (Explains new (answers ++ more))
-explains-kept old new answers more None same h = tt
-explains-kept old new answers more (Some NoMemory) same (inl gave) =
+pub explains-kept : (limit : ℕ) (old new : BookState) (answers more : List JobResult) (cause : Option Cause)
+    → SameBook old new → IfSome cause (Explains limit old answers) → IfSome cause (Explains limit new (answers ++ more))
+explains-kept limit old new answers more None same h = tt
+explains-kept limit old new answers more (Some NoMemory) same (inl gave) =
     inl (any-before (Gave EvolveFault.NoMemory) answers more gave)
-explains-kept old new answers more (Some NoMemory) same (inr few) = inr (subst (λ n. n < 16777216) (sym (same_given same)) few)
-explains-kept old new answers more (Some NoRoom) same h = any-before FoundNone answers more h
-explains-kept old new answers more (Some WasStopped) same h = any-before (Gave EvolveFault.Stopped) answers more h
-explains-kept old new answers more (Some NumbersSpent) same h = subst (λ n. 16777216 ≤ n) (sym (same_given same)) h
+explains-kept limit old new answers more (Some NoMemory) same (inr few) =
+    inr (subst (λ n. n < 16777216) (sym (same_given same)) few)
+explains-kept limit old new answers more (Some NoRoom) same h = any-before (FoundNone limit) answers more h
+explains-kept limit old new answers more (Some WasStopped) same h = any-before (Gave EvolveFault.Stopped) answers more h
+explains-kept limit old new answers more (Some NumbersSpent) same h =
+    subst (λ n. 16777216 ≤ n) (sym (same_given same)) h
 
--- why a job gave up fits: for want of room only where its entry has none
-explains-released : (old new : BookState) (answers : List JobResult) (answer : JobResult) (fault : EvolveFault)
-    → answer.outcome ≡ Err fault → (fault ≡ EvolveFault.NoRoom → StepExpects old answer.job)
-    → Explains new (answers ++ answer ∷ []) (cause_of_answer fault)
-explains-released old new answers answer EvolveFault.NoMemory gave room =
+-- why a job gave up fits: for want of room only where its entry has none at the limit
+explains-released : (limit : ℕ) (table : Entries) (new : BookState) (answers : List JobResult) (answer : JobResult)
+    (fault : EvolveFault) → IsOwnAnswer table limit answer → answer.outcome ≡ Err fault
+    → Explains limit new (answers ++ answer ∷ []) (cause_of_answer fault)
+explains-released limit table new answers answer EvolveFault.NoMemory own gave =
     inl (any-last (Gave EvolveFault.NoMemory) answers answer gave)
-explains-released old new answers answer EvolveFault.Stopped gave room =
+explains-released limit table new answers answer EvolveFault.Stopped own gave =
     any-last (Gave EvolveFault.Stopped) answers answer gave
-explains-released old new answers answer EvolveFault.NoRoom gave room =
-    any-last FoundNone answers answer (gave, (room refl).spent)
+explains-released limit table new answers answer EvolveFault.NoRoom own gave =
+    any-last (FoundNone limit) answers answer (gave, own.room gave)
 
 -- the first cause is told
-explains-first : (d : BookState) (answers : List JobResult) (before : Option Cause) (cause : Cause)
-    → Explains d answers cause → IfSome before (Explains d answers) → Explains d answers (unwrap_or before cause)
-explains-first d answers None cause h first = h
-explains-first d answers (Some c) cause h first = first
+explains-first : (limit : ℕ) (d : BookState) (answers : List JobResult) (before : Option Cause) (cause : Cause)
+    → Explains limit d answers cause → IfSome before (Explains limit d answers)
+    → Explains limit d answers (unwrap_or before cause)
+explains-first limit d answers None cause h first = h
+explains-first limit d answers (Some c) cause h first = first
 
-pub explains-collected : (old new : BookState) (answers : List JobResult) (answer : JobResult) (before : Option Cause)
-    (fault : EvolveFault) (told cause : Cause) → IsCollected old new answer (Released fault)
-    → told ≡ cause_of_answer fault → cause ≡ unwrap_or before told
-    → IfSome before (Explains new (answers ++ answer ∷ [])) → Explains new (answers ++ answer ∷ []) cause
-explains-collected old new answers answer before fault told cause h is first so =
-    subst (Explains new (answers ++ answer ∷ [])) (sym first)
-    (explains-first new (answers ++ answer ∷ []) before told
-    (subst (Explains new (answers ++ answer ∷ [])) (sym is)
-    (explains-released old new answers answer fault h.gave_up h.room))
+pub explains-collected : (limit : ℕ) {table : Entries} (old new : BookState) (answers : List JobResult)
+    (answer : JobResult) (before : Option Cause) (fault : EvolveFault) (told cause : Cause)
+    → IsOwnAnswer table limit answer → IsCollected old new answer (Released fault) → told ≡ cause_of_answer fault
+    → cause ≡ unwrap_or before told → IfSome before (Explains limit new (answers ++ answer ∷ []))
+    → Explains limit new (answers ++ answer ∷ []) cause
+explains-collected limit {table} old new answers answer before fault told cause own h is first so =
+    subst (Explains limit new (answers ++ answer ∷ [])) (sym first)
+    (explains-first limit new (answers ++ answer ∷ []) before told
+    (subst (Explains limit new (answers ++ answer ∷ [])) (sym is)
+    (explains-released limit table new answers answer fault own h.gave_up))
     so)
 
-pub explains-refused : (d : BookState) (answers : List JobResult) (fault : IssueFault) → RefusesIssue d fault
-    → Explains d answers (cause_of_issue fault)
-explains-refused d answers issue.NumbersSpent h = h.1
-explains-refused d answers issue.NoMemory h = inr h.1
+pub explains-refused : (limit : ℕ) (d : BookState) (answers : List JobResult) (fault : IssueFault) → RefusesIssue d fault
+    → Explains limit d answers (cause_of_issue fault)
+explains-refused limit d answers issue.NumbersSpent h = h.1
+explains-refused limit d answers issue.NoMemory h = inr h.1
 
 -- what explains a cause explains it while no more numbers are given
-pub explains-cancelled : (old new : BookState) → SameBook old new → (answers : List JobResult) (cause : Cause)
-    → Explains old answers cause → Explains new answers cause
-explains-cancelled old new same answers cause h =
-    subst (λ xs. Explains new xs cause) (append-nil answers) (explains-kept old new answers [] (Some cause) same h)
+pub explains-cancelled : (limit : ℕ) (old new : BookState) → SameBook old new → (answers : List JobResult)
+    (cause : Cause) → Explains limit old answers cause → Explains limit new answers cause
+explains-cancelled limit old new same answers cause h =
+    subst (λ xs. Explains limit new xs cause) (append-nil answers)
+    (explains-kept limit old new answers [] (Some cause) same h)

@@ -1,13 +1,14 @@
 //! A desk with its table of entries, and what tests do with them.
 ghost use Rattle.std.specs.Prelude.{◌≡◌, ◌≤◌};
 ghost use Rattle.revision_jobs.specs.Entries.{IsOf};
+ghost use Rattle.desk_core.specs.Settling.{Serves};
 
 use super::changes::{Change, edit_of};
 use super::posts::{LosingPost, RefusingPost};
 use super::same;
 use desk_core::{
     Answer, Cause, Collected, Desk, EditFault, Edited, Entries, Entry, EvolveFault, InlinePost,
-    Job, NoGate, Outcome, Place, Settling, Shown, feed, settle, work,
+    Job, NoGate, Outcome, Place, Polled, Post, Settling, Shown, feed, poll, settle, work,
 };
 use std::alloc::Global;
 use std::marker::Model;
@@ -91,6 +92,14 @@ pub(super) enum Act {
     FeedLosing(u32),
     /// Feeds a post that is closed.
     FeedClosed,
+    /// Polls a post without threads, once for each of these, which is how many bookmarks it finds
+    /// pending.
+    Poll(&'static [u32]),
+    /// Polls such a post twice with the least room for squares, finds so many pending each time, and
+    /// the second time that there is no room.
+    PollInNoRoom(u32),
+    /// Polls a post that is closed, and finds so many pending.
+    PollClosed(u32),
     /// A job of this number is issued, for this.
     Issue(u32, Wanted),
     /// The stop of the job is raised.
@@ -173,6 +182,12 @@ impl<'e> Bench<'e> {
                 let mut post = RefusingPost::new(self.entries, true);
                 same(rt, &feed(rt, &mut self.desk, &mut post), &0, act);
             }
+            Act::Poll(wanted) => self.poll(rt, wanted),
+            Act::PollInNoRoom(pending) => self.poll_in_no_room(rt, pending),
+            Act::PollClosed(pending) => {
+                let mut post = RefusingPost::new(self.entries, true);
+                poll_once(rt, &mut self.desk, &mut post, pending, None);
+            }
             Act::Issue(number, wanted) => self.issue(rt, number, &wanted),
             Act::Raise => self.raise(rt),
             Act::Work => self.work(rt),
@@ -228,6 +243,17 @@ impl<'e> Bench<'e> {
     fn settled<R: Wait>(&mut self, rt: &R, squares: u32, turns: u32) -> Settling {
         let mut post = InlinePost::new(self.alloc, self.entries, squares);
         settle(rt, &mut self.desk, &mut post, turns)
+    }
+
+    fn poll<R: Abort + Wait>(&mut self, rt: &R, wanted: &[u32]) {
+        let mut post = InlinePost::new(self.alloc, self.entries, SQUARES);
+        poll_all(rt, &mut self.desk, &mut post, wanted);
+    }
+
+    fn poll_in_no_room<R: Abort + Wait>(&mut self, rt: &R, pending: u32) {
+        let mut post = InlinePost::new(self.alloc, self.entries, 64);
+        poll_once(rt, &mut self.desk, &mut post, pending, None);
+        poll_once(rt, &mut self.desk, &mut post, pending, Some(Cause::NoRoom));
     }
 
     // Settles with memory for all. Where a growth is refused the cause is told, and the next
@@ -326,6 +352,30 @@ impl<'e> Bench<'e> {
             Outcome::Plane(_) => panic!(rt; "a plane"),
             Outcome::Text(_) => panic!(rt; "a text"),
         }
+    }
+}
+
+fn poll_once<R: Abort + Wait, P: Post>(
+    rt: &R,
+    desk: &mut Desk<'_>,
+    post: &mut P,
+    pending: u32,
+    cause: Option<Cause>,
+)
+    requires { Serves desk.old (P.view post.old) }
+    ensures serves { Serves desk.new (P.view post.new) }
+    ensures table { desk.new.table ≡ desk.old.table }
+{
+    let wanted = Polled { pending, cause };
+    same(rt, &poll(rt, desk, post), &wanted, &"polled");
+}
+
+fn poll_all<R: Abort + Wait>(rt: &R, desk: &mut Desk<'_>, post: &mut InlinePost<'_>, wanted: &[u32])
+    requires { Serves desk.old post.old }
+    ensures { desk.new.table ≡ desk.old.table }
+{
+    for pending in wanted {
+        poll_once(rt, desk, post, *pending, None);
     }
 }
 

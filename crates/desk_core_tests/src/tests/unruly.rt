@@ -1,11 +1,10 @@
 //! A post that loses, repeats, delays and reorders answers, as a list says.
 ghost use Rattle.std.specs.Prelude.{◌≡◌, ◌≤◌};
 ghost use Rattle.std.specs.Option.{ForSome};
-ghost use Rattle.revision_jobs.specs.Entries.{IsOf};
-ghost use Rattle.revision_jobs.specs.Posted.{IsReceived};
+ghost use Rattle.revision_jobs.specs.Posted.{IsOwnAnswer, IsReceived};
 
 use desk_core::{Answer, Entries, InlinePost, Job, Post, Received, Sent};
-use revision_jobs::Answers;
+use revision_jobs::History;
 use std::alloc::Global;
 
 /// What the post does where it is asked for an answer.
@@ -32,18 +31,19 @@ pub(super) struct Unruly<'a> {
     last: Option<Answer>,
     deeds: &'static [Deed],
     pub(super) floor: u64,
-    answers: Answers,
-    ghost same: { second.table ≡ first.table },
+    history: History,
+    ghost same: { (second.table ≡ first.table) × (second.limit ≡ first.limit) },
     ghost below: { (first.floor ≤ floor) × (second.floor ≤ floor) },
-    ghost own: { ForSome last (λ answer. IsOf first.table answer.job.place) },
+    ghost own: { ForSome last (IsOwnAnswer first.table first.limit) },
 }
 
 // What the one post answers, or else the other.
 fn either<'a>(one: &mut InlinePost<'a>, other: &mut InlinePost<'a>) -> Received
-    requires { other.old.table ≡ one.old.table }
+    requires { (other.old.table ≡ one.old.table) × (other.old.limit ≡ one.old.limit) }
     ensures tables { (one.new.table ≡ one.old.table) × (other.new.table ≡ other.old.table) }
+    ensures limits { (one.new.limit ≡ one.old.limit) × (other.new.limit ≡ other.old.limit) }
     ensures floors { (one.new.floor ≡ one.old.floor) × (other.new.floor ≡ other.old.floor) }
-    ensures own { IsReceived one.old.table result }
+    ensures own { IsReceived one.old.table one.old.limit result }
 {
     match one.receive() {
         Received::Nothing => other.receive(),
@@ -67,14 +67,14 @@ impl<'a> Unruly<'a> {
             last: None,
             deeds,
             floor: 0,
-            answers: Answers::none(),
+            history: History::none(),
         }
     }
 
     // The next of the list.
     fn deed(&mut self) -> Deed
         ensures { (self.new.first ≡ self.old.first) × (self.new.floor ≡ self.old.floor)
-            × (self.new.answers ≡ self.old.answers) }
+            × (self.new.history ≡ self.old.history) }
     {
         match self.deeds.split_first() {
             Some((deed, rest)) => {
@@ -86,9 +86,11 @@ impl<'a> Unruly<'a> {
     }
 
     fn does(&mut self, deed: Deed) -> Received
-        ensures kept { (self.new.first.table ≡ self.old.first.table)
-            × (self.new.floor ≡ self.old.floor) × (self.new.answers ≡ self.old.answers) }
-        ensures own { IsReceived self.old.first.table result }
+        ensures first { (self.new.first.table ≡ self.old.first.table)
+            × (self.new.first.limit ≡ self.old.first.limit) }
+        ensures kept { (self.new.floor ≡ self.old.floor)
+            × (self.new.history ≡ self.old.history) }
+        ensures own { IsReceived self.old.first.table self.old.first.limit result }
     {
         match deed {
             Deed::Waits => Received::Nothing,
@@ -109,15 +111,16 @@ impl<'a> Unruly<'a> {
 impl<'a> Post for Unruly<'a> {
     ghost use Rattle.std.specs.Prelude.{None, false};
 
-    ghost table = { λ post. post.first.table };
-
-    ghost floor = { λ post. post.floor };
-
-    ghost answers = { λ post. post.answers };
-
-    ghost is_prompt = { λ _. false };
-
-    ghost held = { λ _. None };
+    ghost view = { λ post. record {
+      table = post.first.table;
+      limit = post.first.limit;
+      floor = post.floor;
+      answers = post.history.answers;
+      is_prompt = false;
+      held = None;
+      asked = post.history.asked;
+      is_over = post.history.is_over;
+    } };
 
     fn send(&mut self, job: Job) -> Sent {
         let floor = u64::from(job.number) + 1;
@@ -128,6 +131,7 @@ impl<'a> Post for Unruly<'a> {
         if let Sent::Taken = sent {
             self.floor = floor;
         }
+        self.history.note_sent(&sent);
         sent
     }
 
@@ -136,9 +140,13 @@ impl<'a> Post for Unruly<'a> {
         let received = self.does(deed);
         if let Received::Answer(answer) = &received {
             self.last = answer.again().ok();
-            self.answers.push(answer);
         }
+        self.history.note_received(&received);
         received
+    }
+
+    fn try_receive(&mut self) -> Received {
+        self.receive()
     }
 
     fn floor(&self) -> u64 {

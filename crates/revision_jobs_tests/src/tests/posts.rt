@@ -10,8 +10,8 @@ const SQUARES: u32 = 4096;
 
 /// Sends a job, and answers the number of the job that came back, if one did.
 fn sent<P: Post>(rt: &impl Abort, post: &mut P, number: u32, place: Place) -> Option<u32>
-    requires { IsOf (P.table post.old) place }
-    ensures { P.table post.new ≡ P.table post.old }
+    requires { IsOf (P.view post.old).table place }
+    ensures { (P.view post.new).table ≡ (P.view post.old).table }
 {
     assert!(rt;
         post.floor() <= u64::from(number),
@@ -26,7 +26,7 @@ fn sent<P: Post>(rt: &impl Abort, post: &mut P, number: u32, place: Place) -> Op
 
 /// The number of the job that is answered by a plane, if an answer comes.
 fn received<P: Post>(rt: &impl Abort, post: &mut P) -> Option<u32>
-    ensures { P.table post.new ≡ P.table post.old }
+    ensures { (P.view post.new).table ≡ (P.view post.old).table }
 {
     match post.receive() {
         Received::Answer(answer) => Some(number_of(rt, answer)),
@@ -74,7 +74,7 @@ fn holds_one_job(rt: HostRuntime) {
 
 /// Stops the test where the job that the post holds isn't given up by the refusal of this number.
 fn expect_gave<P: Post>(rt: &impl Abort, post: &mut P, number: u8)
-    ensures { P.table post.new ≡ P.table post.old }
+    ensures { (P.view post.new).table ≡ (P.view post.old).table }
 {
     let outcome = match post.receive() {
         Received::Answer(answer) => answer.into_parts().1,

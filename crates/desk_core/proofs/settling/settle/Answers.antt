@@ -1,75 +1,42 @@
-use Rattle.std.proofs.Common.{◌<◌, ◌∙◌, rules}
+use Rattle.std.proofs.Common.{◌∙◌}
 use Rattle.dependency_book.proofs.Shared.Settled.{none_pending}
-use Rattle.desk_core.specs.Progress.{job_in}
-use Rattle.desk_core.proofs.Steps.{IsHeld-given_up, gave-whole, serves-whole, settles-whole}
-use Rattle.desk_core.proofs.Turns.{cause-left}
+use Rattle.desk_core.proofs.Steps.{serves-whole, settles-whole, whole}
+use Rattle.desk_core.proofs.Turns.{cause-left, caused-so, ends-so, why-left}
 use Rattle.desk_core.proofs.settling.settle.Goals as goal
 
-pub returns-in-0-clause-ends : goal.returns-in-0-clause-ends
-returns-in-0-clause-ends g c =
+pub returns-clause-settles : goal.returns-clause-settles
+returns-clause-settles g c =
     let run = c.run-unsent in
-    let gave = gave-whole c.args.desk.now run.new.desk c.cancel.new.desk (g.P.Post.answers c.args.post.now)
-    (g.P.Post.answers run.new.post) (g.P.Post.floor run.new.post) run.result run.ensures.comes c.cancel.ensures in
-    (gave.0, gave.1, search rules)
-
-pub returns-in-0-clause-settles : goal.returns-in-0-clause-settles
-returns-in-0-clause-settles g c =
-    let run = c.run-unsent in
-    settles-whole c.args.desk.now run.new.desk c.cancel.new.desk (g.P.Post.answers c.args.post.now)
-    (g.P.Post.answers run.new.post)
-    (g.P.Post.floor run.new.post) run.result run.ensures.comes c.cancel.ensures c.args.turns run.ensures.given
+    settles-whole c.args.desk.now run.new.desk c.cancel.new.desk (g.P.Post.view c.args.post.now)
+    (g.P.Post.view run.new.post) run.result run.ensures.comes c.cancel.ensures c.args.turns run.ensures.given
     c.pending.ensures.right
 
-pub returns-in-0-clause-post : goal.returns-in-0-clause-post
-returns-in-0-clause-post g c =
-    let run = c.run-unsent in (
-      serves-whole c.args.desk.now run.new.desk c.cancel.new.desk (g.P.Post.answers c.args.post.now)
-          (g.P.Post.answers run.new.post) (g.P.Post.floor run.new.post) run.result run.ensures.comes c.cancel.ensures
-          (g.P.Post.table run.new.post) run.ensures.fits.serves,
-      run.ensures.kind,
-    )
-
-pub returns-in-0-clause-held : goal.returns-in-0-clause-held
-returns-in-0-clause-held g c = λ prompt held.
+pub returns-clause-post : goal.returns-clause-post
+returns-clause-post g c =
     let run = c.run-unsent in
-    IsHeld-given_up (job_in run.result.unsent)
-    (g.P.Post.held run.new.post) run.new.desk c.cancel.new.desk c.cancel.ensures ((run.ensures.prompt prompt held).out)
+    serves-whole c.args.desk.now run.new.desk c.cancel.new.desk (g.P.Post.view c.args.post.now)
+    (g.P.Post.view run.new.post) run.result run.ensures.comes c.cancel.ensures
 
-pub returns-in_default-clause-ends : goal.returns-in_default-clause-ends
-returns-in_default-clause-ends g c =
+pub returns-clause-ends : goal.returns-clause-ends
+returns-clause-ends g c =
     let run = c.run-unsent in
-    let some : 0 < c.pending.result = search rules in
-    let gave = gave-whole c.args.desk.now run.new.desk c.cancel.new.desk (g.P.Post.answers c.args.post.now)
-    (g.P.Post.answers run.new.post) (g.P.Post.floor run.new.post) run.result run.ensures.comes c.cancel.ensures in
-    (gave.0, gave.1, (c.pending.ensures.count, some, c.pending.ensures.bound, gave.2))
+    let p = g.P.Post.view c.args.post.now in
+    let q = g.P.Post.view run.new.post in
+    let told = (whole c.args.desk.now run.new.desk c.cancel.new.desk p q run.result run.ensures.comes
+    c.cancel.ensures).told in
+    record {
+      later = told.later;
+      gave = told.gave;
+      ends = ends-so c.args.turns p q c.cancel.new.desk told.later c.pending.result run.result.cause _
+          c.ending.ensures c.pending.ensures.count c.pending.ensures.bound
+          (λ some. why-left c.args.turns run.new.desk c.cancel.new.desk p q run.result c.pending.result told.later
+          run.ensures.ended c.cancel.ensures c.pending.ensures.count some told.explained);
+    }
 
-pub returns-in_default-clause-settles : goal.returns-in_default-clause-settles
-returns-in_default-clause-settles g c =
+pub returns-clause-caused : goal.returns-clause-caused
+returns-clause-caused g c = λ all enough.
     let run = c.run-unsent in
-    settles-whole c.args.desk.now run.new.desk c.cancel.new.desk (g.P.Post.answers c.args.post.now)
-    (g.P.Post.answers run.new.post)
-    (g.P.Post.floor run.new.post) run.result run.ensures.comes c.cancel.ensures c.args.turns run.ensures.given
-    c.pending.ensures.right
-
-pub returns-in_default-clause-post : goal.returns-in_default-clause-post
-returns-in_default-clause-post g c =
-    let run = c.run-unsent in (
-      serves-whole c.args.desk.now run.new.desk c.cancel.new.desk (g.P.Post.answers c.args.post.now)
-          (g.P.Post.answers run.new.post) (g.P.Post.floor run.new.post) run.result run.ensures.comes c.cancel.ensures
-          (g.P.Post.table run.new.post) run.ensures.fits.serves,
-      run.ensures.kind,
-    )
-
-pub returns-in_default-clause-held : goal.returns-in_default-clause-held
-returns-in_default-clause-held g c = λ prompt held.
-    let run = c.run-unsent in
-    IsHeld-given_up (job_in run.result.unsent)
-    (g.P.Post.held run.new.post) run.new.desk c.cancel.new.desk c.cancel.ensures ((run.ensures.prompt prompt held).out)
-
-pub returns-in_default-clause-caused : goal.returns-in_default-clause-caused
-returns-in_default-clause-caused g c = λ prompt held enough.
-    let run = c.run-unsent in
-    let some : 0 < c.pending.result = search rules in
-    cause-left run.new.desk c.cancel.new.desk run.result c.pending.result
-    ((run.ensures.prompt prompt held).done enough) c.cancel.ensures c.pending.ensures.count
-    (λ out none. c.pending.ensures.count ∙ none_pending c.cancel.new.desk c.pending.ensures.right out none) some
+    caused-so c.pending.result run.result.cause _ c.ending.ensures
+    (cause-left run.new.desk c.cancel.new.desk (g.P.Post.view run.new.post) run.result c.pending.result
+    (run.ensures.done all enough) c.cancel.ensures c.pending.ensures.count
+    (λ out none. c.pending.ensures.count ∙ none_pending c.cancel.new.desk c.pending.ensures.right out none))

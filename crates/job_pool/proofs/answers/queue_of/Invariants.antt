@@ -2,13 +2,13 @@ use Rattle.std.proofs.Common.{◌≡◌, Some, vec_len}
 use Rattle.std.specs.Prelude.{All}
 use Rattle.crossbeam_channel.specs.Claims.{view, IsSeatAt}
 use Rattle.crossbeam_channel.specs.Ends.{sends_on}
-use Rattle.revision_jobs.specs.declared.entries.Entries.{Entries}
+use Rattle.job_pool.specs.declared.answer_rule.Terms.{Terms}
 use Rattle.job_pool.proofs.answers.queue_of.Given as goal
 
 abbrev pub invariant-senders : goal.invariant-senders
 invariant-senders g l = record {
   seat : IsSeatAt (sends_on l.end) l.pass;
-  known : view l.pass ≡ Some g.K.Naming.table;
+  known : view l.pass ≡ Some g.K.Naming.terms;
   many : vec_len l.all ≡ l.made;
-  new : All (λ (s : Entries). s ≡ g.K.Naming.table) l.all.items;
+  new : All (λ (s : Terms). s ≡ g.K.Naming.terms) l.all.items;
 }

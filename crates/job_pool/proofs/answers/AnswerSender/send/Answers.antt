@@ -1,11 +1,11 @@
 use Rattle.std.proofs.Common.{sym, subst, Option}
-use Rattle.revision_jobs.specs.declared.entries.Entries.{Entries}
-use Rattle.revision_jobs.specs.Entries.{IsOf}
+use Rattle.revision_jobs.specs.Posted.{IsOwnAnswer}
+use Rattle.job_pool.specs.declared.answer_rule.Terms.{Terms}
 use Rattle.job_pool.specs.Home.{IsAnswerOf}
 use Rattle.job_pool.proofs.Homes.{gives}
 use Rattle.job_pool.proofs.answers.AnswerSender.send.Goals as goal
 
 pub send_as-sent-requires-clause-rule : goal.send_as-sent-requires-clause-rule
 send_as-sent-requires-clause-rule g c =
-    let own = subst (λ (m : Entries). IsOf m c.args.answer.job.place) (sym c.self.view_is) c.requires in
-    (gives _ _ _ _ (subst (λ (t : Option Entries). IsAnswerOf t c.args.answer) (sym c.self.invariant.1) own), λ _ _ _ _. tt)
+    let own = subst (λ (m : Terms). IsOwnAnswer m.table m.limit c.args.answer) (sym c.self.view_is) c.requires in
+    (gives _ _ _ _ (subst (λ (t : Option Terms). IsAnswerOf t c.args.answer) (sym c.self.invariant.1) own), λ _ _ _ _. tt)

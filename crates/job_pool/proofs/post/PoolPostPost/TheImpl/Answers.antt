@@ -2,7 +2,7 @@ use Rattle.std.proofs.Common.{◌∙◌, refl, List, ap, true≢false, sym}
 use Rattle.revision_jobs.specs.declared.answer.Job.{Job}
 use Rattle.revision_jobs.specs.declared.post.Sent.{Sent}
 use Rattle.revision_jobs.specs.declared.post.Sent.TheVariants.{Taken, Full, Closed}
-use Rattle.revision_jobs.specs.Posted.{IsSent}
+use Rattle.revision_jobs.specs.Posted.{IsSent, PostHistory}
 use Rattle.job_queue.specs.declared.rule.Slip.{Slip}
 use Rattle.job_queue.specs.Ends.{IsOffered}
 use Rattle.job_queue.specs.Slips.{floor_of, slip_of}
@@ -17,8 +17,14 @@ sent_of job before after (Closed back) e = (e.0, ap floor_of e.1)
 
 pub send-tells : goal.send-tells
 send-tells g c = record {
-  table = c.ensures.table;
-  same = (refl, c.ensures.answers);
+  same = record {
+    table = c.ensures.table.0;
+    limit = c.ensures.table.1;
+    kind = refl;
+    asked = ap (λ (h : PostHistory). h.asked) c.ensures.history;
+  };
+  answers = ap (λ (h : PostHistory). h.answers) c.ensures.history;
   sent = sent_of c.args.job c.args.self.now.sent c.new.self.now.sent c.result c.ensures.offered;
+  over = ap (λ (h : PostHistory). h.is_over) c.ensures.history;
   prompt = λ e. absurd (true≢false (sym e));
 }

@@ -1,0 +1,43 @@
+-- What polling a post does to a desk.
+use Rattle.std.specs.Prelude.{◌≡◌, ◌⊎◌, ℕ, ◌+◌, ◌≤◌, length, Option, Some, None}
+use Rattle.revision_jobs.specs.Posted.{PostView}
+use Rattle.dependency_book.specs.BookState.{BookState, given_of, pending_of}
+use Rattle.dependency_book.specs.Right.{IsRight}
+use Rattle.desk_core.specs.declared.cause.Cause.{Cause}
+use Rattle.desk_core.specs.declared.issue.IssueFault.{IssueFault}
+use Rattle.desk_core.specs.declared.polling.Polled.{Polled}
+use Rattle.desk_core.specs.Cause.{cause_of_issue}
+use Rattle.desk_core.specs.Feed.{Feeds}
+use Rattle.desk_core.specs.Settling.{Keeps, ServesOn, TellsCause}
+
+-- answers were collected until the post had none, or 64, and no number was given; the cause that is
+-- met, if one is, is that of an answer
+pub record Collects (p q : PostView) (old new : BookState) (cause : Option Cause) : Type 0 where
+  pub told : TellsCause p q new cause
+  pub all : (q.asked ≡ p.asked + (length told.later + 1)) ⊎ (64 ≤ length told.later)
+  pub given : given_of new ≡ given_of old
+  pub keeps : Keeps old new q
+  pub serves : ServesOn p q old new
+
+-- the cause that is told, if one is, is the refusal of an issue
+abbrev pub IsCauseOf : Option IssueFault → Option Cause → Type 0
+IsCauseOf (Some fault) told = told ≡ Some (cause_of_issue fault)
+IsCauseOf None told = told ≡ None
+
+-- then the post was fed, if no cause was met; a refusal that ended that is the cause
+abbrev pub FeedsUnless : Option Cause → PostView → PostView → BookState → BookState → Option Cause
+    → Type 0
+FeedsUnless (Some cause) p q old new told = (q ≡ p) × (new ≡ old) × (told ≡ Some cause)
+FeedsUnless None p q old new told =
+    (taken : ℕ) × ((refused : Option IssueFault)
+    × (Feeds p q old new taken refused × IsCauseOf refused told))
+
+-- the answers that had come were collected, and then the post was fed unless a cause was met
+pub record Polls (p q : PostView) (old new : BookState) (polled : Polled) : Type 0 where
+  pub met : Option Cause
+  pub post : PostView
+  pub desk : BookState
+  pub collects : Collects p post old desk met
+  pub feeds : FeedsUnless met post q desk new polled.cause
+  pub pending : polled.pending ≡ pending_of new
+  pub right : IsRight new

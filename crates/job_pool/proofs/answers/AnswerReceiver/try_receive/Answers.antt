@@ -1,0 +1,5 @@
+use Rattle.job_pool.proofs.Homes.{takes}
+use Rattle.job_pool.proofs.answers.AnswerReceiver.try_receive.Goals as goal
+
+pub try_recv_as-requires-clause-rule : goal.try_recv_as-requires-clause-rule
+try_recv_as-requires-clause-rule g c = (takes _ _, λ _ _ _ _. tt)
