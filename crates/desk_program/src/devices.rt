@@ -30,8 +30,8 @@ pub(crate) fn answer_over<R: Read, W: Write, L: Ledger, M: Ledger, P: Post>(
     devices: Devices<R, W>,
 ) -> (Ending, R, W)
     requires devices { AreOpenable devices L.name L.parts M.name M.parts }
-    requires post { IsFresh P.table P.floor post.old entries.now }
-    ensures { Answers (P.is_prompt post.old) R.remaining W.contents devices.reader devices.writer
+    requires post { IsFresh (P.view post.old) entries.now }
+    ensures { Answers (P.view post.old).is_prompt R.remaining W.contents devices.reader devices.writer
         result.0 result.1 result.2 }
 {
     let mut reader = CountedReader::<_, L>::new(devices.reader, devices.reader_blank);

@@ -25,7 +25,8 @@ use Rattle.desk_events.specs.Marks.{is_start, mark_at}
 use Rattle.dependency_book.specs.BookState.{BookState, given_of, row_of, expected, opened, arrival_row, text_row, pending_of, NothingOut}
 use Rattle.desk_events.specs.Wanted.{bookmark_in}
 use Rattle.desk_core.specs.declared.cause.Cause.{Cause}
-use Rattle.desk_core.specs.Settling.{Explains, IsHeld, Serves}
+use Rattle.revision_jobs.specs.Posted.{PostView}
+use Rattle.desk_core.specs.Settling.{Explains, HoldsAllOut, IsHeld, IsWhy, ServesOn}
 use Rattle.desk_server.specs.Jobs.{Carries, CarriesOn, IsFresh, DropsJobs, IsDoneWith, KeepsCauses}
 use Rattle.std.proofs.Common.{length}
 use Rattle.desk_core.proofs.Shared.Given.{same_given}
@@ -162,12 +163,11 @@ none_opened table held (Step branch g) job e =
     (none_at (is_start m) (opening 0).start job (sym (out_of_map pattern (arrival_row (opened table 0) m)) ∙ e))
 none_opened table held (View id) job e = absurd (cc)
 
-pub carries_first : {P : Type 0} (table : P → Entries) (floor : P → ℕ) (is_prompt : P → Bool) (held : P → Option Job)
-    (post : P) (entries : Entries) (d : BookState) → d ≡ opened entries 0
-    → IsFresh table floor post entries → Carries table floor is_prompt held post d
-carries_first table floor is_prompt held post entries d same fresh = rw same (record {
+pub carries_first : (post : PostView) (entries : Entries) (d : BookState) → d ≡ opened entries 0 → IsFresh post entries
+    → Carries post d
+carries_first post entries d same fresh = rw same (record {
   serves = record { table = fresh.own; numbers = subst (λ n. n ≤ 0) (sym fresh.none) (omega arith) };
-  out = λ _. none_opened entries (held post);
+  out = λ _. none_opened entries post.held;
 })
 
 -- where some text isn't known, no job is out
@@ -176,15 +176,14 @@ nothing_out d n (inl none) is some = absurd (some (is ∙ none))
 nothing_out d n (inr out) is some = out
 
 -- a post that wasn't touched carries the jobs of a desk that gave no new ones
-carries_same : {P : Type 0} (table : P → Entries) (floor : P → ℕ) (is_prompt : P → Bool) (held : P → Option Job)
-    (post : P) (old new : BookState) → DropsJobs old new
-    → Carries table floor is_prompt held post old → CarriesOn table floor is_prompt held post post new
-carries_same table floor is_prompt held post old new drops c = record {
+carries_same : (post : PostView) (old new : BookState) → DropsJobs old new → Carries post old → CarriesOn post post new
+carries_same post old new drops c = record {
+  limit = refl;
   kind = refl;
   carries = record {
     serves = record {
       table = c.serves.table ∙ sym drops.table;
-      numbers = subst (λ n. floor post ≤ n)
+      numbers = subst (λ n. post.floor ≤ n)
           (sym drops.given) c.serves.numbers;
     };
     out = λ e need job x. c.out e need job (drops.out need job x);
@@ -192,42 +191,42 @@ carries_same table floor is_prompt held post old new drops c = record {
 }
 
 -- what explained a cause before jobs were given up
-pub causes_kept : (old new : BookState) (answers : List JobResult) (cause : Option Cause) → KeepsCauses old new
-    → IfSome cause (Explains old answers) → IfSome cause (Explains new answers)
-causes_kept old new answers None keeps h = tt
-causes_kept old new answers (Some cause) keeps h = keeps answers cause h
+pub causes_kept : (limit : ℕ) (old new : BookState) (answers : List JobResult) (cause : Option Cause)
+    → KeepsCauses old new → IfSome cause (Explains limit old answers) → IfSome cause (Explains limit new answers)
+causes_kept limit old new answers None keeps h = tt
+causes_kept limit old new answers (Some cause) keeps h = keeps limit answers cause h
+
+-- the cause of a settling, if it has one, is explained
+pub why_explained : (turns : ℕ) (p q : PostView) (d : BookState) (later : List JobResult) (cause : Option Cause)
+    → IsWhy turns p q d later cause → IfSome cause (Explains p.limit d later)
+why_explained turns p q d later None h = tt
+why_explained turns p q d later (Some cause) h = h
 
 -- a cause that is told
 pub none_untold : (cause : Option Cause) (fact : Type 0) → IsSome cause → IfNone cause fact
 none_untold None fact some = absurd (cc)
 none_untold (Some cause) fact some = tt
 
--- a settling leaves a post that carries on
-pub carries_settled : {P : Type 0} (table : P → Entries) (floor : P → ℕ) (is_prompt : P → Bool) (held : P → Option Job)
-    (first last : P) (old new : BookState) → Carries table floor is_prompt held first old
-    → Serves new (table last) (floor last) → is_prompt last ≡ is_prompt first
-    → (is_prompt first ≡ true → IsHeld (held first) old → IsHeld (held last) new)
-    → CarriesOn table floor is_prompt held first last new
-carries_settled table floor is_prompt held first last old new c serves kind prompt = record {
-  kind = kind;
+-- a post that serves the desk on carries on
+pub carries_served : (first last : PostView) (old new : BookState) → Carries first old → ServesOn first last old new
+    → CarriesOn first last new
+carries_served first last old new c s = record {
+  limit = s.limit;
+  kind = s.kind;
   carries = record {
-    serves = serves;
-    out = λ e. prompt (sym kind ∙ e) (c.out (sym kind ∙ e));
+    serves = s.serves;
+    out = λ e. (s.held (record { prompt = sym s.kind ∙ e; held = c.out (sym s.kind ∙ e) })).held;
   };
 }
 
 -- what a desk is left with that gave jobs up after a post carried on
-pub carries_on : {P : Type 0} (table : P → Entries) (floor : P → ℕ) (is_prompt : P → Bool) (held : P → Option Job)
-    (first last : P) (mid new : BookState) → DropsJobs mid new
-    → CarriesOn table floor is_prompt held first last mid → CarriesOn table floor is_prompt held first last new
-carries_on table floor is_prompt held first last mid new drops c = record {
-  kind = c.kind;
-  carries = (carries_same table floor is_prompt held last mid new drops c.carries).carries;
-}
+pub carries_on : (first last : PostView) (mid new : BookState) → DropsJobs mid new → CarriesOn first last mid
+    → CarriesOn first last new
+carries_on first last mid new drops c =
+    record { limit = c.limit; kind = c.kind; carries = (carries_same last mid new drops c.carries).carries }
 
 -- after one command, and then another
-pub carries_further : {P : Type 0} (table : P → Entries) (floor : P → ℕ) (is_prompt : P → Bool) (held : P → Option Job)
-    (first mid last : P) (d : BookState) → is_prompt mid ≡ is_prompt first
-    → CarriesOn table floor is_prompt held mid last d → CarriesOn table floor is_prompt held first last d
-carries_further table floor is_prompt held first mid last d kind c =
-    record { kind = c.kind ∙ kind; carries = c.carries }
+pub carries_further : (first mid last : PostView) (d : BookState) → mid.limit ≡ first.limit
+    → mid.is_prompt ≡ first.is_prompt → CarriesOn mid last d → CarriesOn first last d
+carries_further first mid last d limit kind c =
+    record { limit = c.limit ∙ limit; kind = c.kind ∙ kind; carries = c.carries }

@@ -10,7 +10,7 @@ use Rattle.schedule.specs.declared.document.Bookmark.{Bookmark}
 use Rattle.schedule.specs.Plan.{Plan}
 use Rattle.desk_events.specs.Wanted.{bookmark_in}
 use Rattle.desk_server.specs.View.{alone}
-use Rattle.desk_server.specs.Command.{edit_by, one_count, command_of, command_of_words, command_by, format_of, format_of_words, start_of}
+use Rattle.desk_server.specs.Command.{edit_by, one_count, command_of, command_of_words, command_by, looking_by, format_of, format_of_words, start_of}
 use Rattle.desk_server.specs.Script.{asked_by}
 use Rattle.desk_server.specs.Shortage.{Memory}
 use Rattle.desk_server.specs.Answer.{shown, no_memory, CanLackMemory}
@@ -23,6 +23,8 @@ use Rattle.desk_server.specs.declared.command.Command.TheVariants as command
 abbrev is_fixed : Option Command → Bool
 is_fixed (Some command.Settle) = true
 is_fixed (Some command.Work) = true
+is_fixed (Some command.Poll) = true
+is_fixed (Some command.List) = true
 is_fixed (Some command.Quit) = true
 is_fixed _ = false
 
@@ -41,6 +43,9 @@ other-lacks n (Some (command.Edit edit)) h = λ p. refl
 other-lacks n (Some command.Settle) h = absurd (cc)
 other-lacks n (Some command.Work) h = absurd (cc)
 other-lacks n (Some (command.Show id)) h = λ p. shown-lacks p id (bookmark_in p.bookmarks id)
+other-lacks n (Some (command.Peek id)) h = λ p. shown-lacks p id (bookmark_in p.bookmarks id)
+other-lacks n (Some command.Poll) h = absurd (cc)
+other-lacks n (Some command.List) h = absurd (cc)
 other-lacks n (Some command.Quit) h = absurd (cc)
 
 edit-open : (e : Option Edit) → is_fixed (option_map command.Edit e) ≡ false
@@ -50,6 +55,10 @@ edit-open (Some e) = refl
 show-open : (id : Option ℕ) → is_fixed (option_map command.Show id) ≡ false
 show-open None = refl
 show-open (Some id) = refl
+
+peek-open : (id : Option ℕ) → is_fixed (option_map command.Peek id) ≡ false
+peek-open None = refl
+peek-open (Some id) = refl
 
 -- each edit can
 pub edit-lacks : (e : Option Edit) (n : ℕ) → CanLackMemory (asked_by n (option_map command.Edit e))
@@ -76,6 +85,40 @@ alone-opens f (w ∷ rest) h = absurd (cc)
 abbrev IsShort : List ℕ → List (List ℕ) → Type 0
 IsShort word rest = (length word ≤ 6) × (length (join_with_byte 32 rest) ≤ 3)
 
+-- where the first word is none of the first four
+last-of : (a b c d : Bool) (s w h q l : Option Command) → a ≡ false → b ≡ false → c ≡ false → d ≡ false
+    → cond a s (cond b w (cond c h (cond d q l))) ≡ l
+last-of true b c d s w h q l e f g k = absurd (cc)
+last-of false true c d s w h q l e f g k = absurd (cc)
+last-of false false true d s w h q l e f g k = absurd (cc)
+last-of false false false true s w h q l e f g k = absurd (cc)
+last-of false false false false s w h q l e f g k = refl
+
+pub looked : (word : List ℕ) (rest : List (List ℕ)) → bytes_eq word (codes "settle") ≡ false
+    → bytes_eq word (codes "work") ≡ false → bytes_eq word (codes "show") ≡ false
+    → bytes_eq word (codes "quit") ≡ false → command_by word rest ≡ looking_by word rest
+looked word rest e f g k = last-of (bytes_eq word (codes "settle")) (bytes_eq word (codes "work"))
+    (bytes_eq word (codes "show")) (bytes_eq word (codes "quit")) (alone (Some command.Settle) rest)
+    (alone (Some command.Work) rest) (option_map command.Show (one_count rest)) (alone (Some command.Quit) rest)
+    (looking_by word rest) e f g k
+
+-- of a command that looks
+looking-short : (word : List ℕ) (rest : List (List ℕ)) → is_fixed (looking_by word rest) ≡ true → IsShort word rest
+looking-short word rest h = chosen (bytes_eq word (codes "peek")) (bytes_eq word (codes "poll"))
+    (bytes_eq word (codes "list")) (short word (codes "poll") 6 (omega arith))
+    (short word (codes "list") 6 (omega arith)) h
+  where
+    chosen : (a b c : Bool) → (b ≡ true → length word ≤ 6) → (c ≡ true → length word ≤ 6)
+        → is_fixed
+        (cond a (option_map command.Peek (one_count rest))
+        (cond b (alone (Some command.Poll) rest)
+        (cond c (alone (Some command.List) rest) (option_map command.Edit (edit_by word rest))))) ≡ true
+        → IsShort word rest
+    chosen true b c p l k = absurd (cc (k, peek-open (one_count rest)))
+    chosen false true c p l k = (p refl, alone-fixed command.Poll rest k)
+    chosen false false true p l k = (l refl, alone-fixed command.List rest k)
+    chosen false false false p l k = absurd (cc (k, edit-open (edit_by word rest)))
+
 -- of a command of fixed words
 command-short : (word : List ℕ) (rest : List (List ℕ)) → is_fixed (command_by word rest) ≡ true → IsShort word rest
 command-short word rest h = chosen (bytes_eq word (codes "settle")) (bytes_eq word (codes "work"))
@@ -88,13 +131,13 @@ command-short word rest h = chosen (bytes_eq word (codes "settle")) (bytes_eq wo
         (cond a (alone (Some command.Settle) rest)
         (cond b (alone (Some command.Work) rest)
         (cond c (option_map command.Show (one_count rest))
-        (cond d (alone (Some command.Quit) rest) (option_map command.Edit (edit_by word rest)))))) ≡ true
+        (cond d (alone (Some command.Quit) rest) (looking_by word rest))))) ≡ true
         → IsShort word rest
     chosen true b c d s w q k = (s refl, alone-fixed command.Settle rest k)
     chosen false true c d s w q k = (w refl, alone-fixed command.Work rest k)
     chosen false false true d s w q k = absurd (cc (k, show-open (one_count rest)))
     chosen false false false true s w q k = (q refl, alone-fixed command.Quit rest k)
-    chosen false false false false s w q k = absurd (cc (k, edit-open (edit_by word rest)))
+    chosen false false false false s w q k = looking-short word rest k
 
 -- of the command of a text
 start-short : (ws : List (List ℕ)) → opens (start_of ws) ≡ true → length (join_with_byte 32 ws) ≤ 3

@@ -9,3 +9,4 @@ pub mod Noted
 pub mod Plain
 pub mod RuleStates
 pub mod OneLine
+pub mod Lines

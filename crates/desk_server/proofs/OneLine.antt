@@ -38,11 +38,11 @@ use Rattle.desk_server.specs.declared.format.Format.TheVariants as format
 use Rattle.desk_server.specs.declared.command.Command.{Command}
 use Rattle.desk_server.specs.declared.command.Command.TheVariants as command
 use Rattle.desk_server.specs.Faults.{Fault, of_edit, of_rule, of_pattern, of_macrocell, of_script}
-use Rattle.desk_server.specs.Reply.{settled_text, unsettled_text}
+use Rattle.desk_server.specs.Reply.{settled_text, polled_text, unsettled_text}
 use Rattle.desk_server.specs.View.{alone, view_of}
-use Rattle.desk_server.specs.Command.{cells_of, some_cells, cells_set, counted, set_of, at_of, every_of, on_of, change_of, change_named, change_once_of, change_repeat_of, changed_by, repeated_of, drop_of, mark_of, move_of, unmark_of, branch_of, unbranch_of, edit_in_branch, edit_in_named, further_edit_by, edit_by, command_of, command_of_words, format_of, count_of, one_count}
-use Rattle.desk_server.specs.Shortage.{Shortage, NoShortage, Memory, Unsettled, Pending}
-use Rattle.desk_server.specs.Answer.{Ask, Obey, Take, Refuse, After, accepted, answer, edited, id_word, only, refused, settled, shown, started, taken, there, unless_fault, unless_memory}
+use Rattle.desk_server.specs.Command.{cells_of, some_cells, cells_set, counted, set_of, at_of, every_of, on_of, change_of, change_named, change_once_of, change_repeat_of, changed_by, repeated_of, drop_of, mark_of, move_of, unmark_of, branch_of, unbranch_of, edit_in_branch, edit_in_named, further_edit_by, edit_by, looking_by, command_of, command_of_words, format_of, count_of, one_count}
+use Rattle.desk_server.specs.Shortage.{Shortage, NoShortage, Memory, Unsettled, Pending, Still, Known}
+use Rattle.desk_server.specs.Answer.{Ask, Obey, Take, Refuse, After, accepted, answer, edited, id_word, listed, only, polled, refused, settled, shown, started, taken, there, unless_fault, unless_memory}
 use Rattle.desk_server.specs.Script.{asked_at, asked_by, asks, afters, Between, InText, Place, place_behind, documents_of, documents_with, first_shortage, later_shortages}
 use Rattle.desk_server.specs.OneLine.{adds_branch, AddsNoBranch, HasOneLine}
 use Rattle.desk_server.proofs.RuleStates.{rule_of-few}
@@ -162,6 +162,26 @@ show-command : (adds : Bool) (id : Option ℕ) → SaysCommand adds (option_map 
 show-command adds None = tt
 show-command adds (Some id) = tt
 
+peek-command : (adds : Bool) (id : Option ℕ) → SaysCommand adds (option_map command.Peek id)
+peek-command adds None = tt
+peek-command adds (Some id) = tt
+
+looking-says : (word : List ℕ) (rest : List (List ℕ))
+    → SaysCommand (bytes_eq word (codes "branch")) (looking_by word rest)
+looking-says word rest = chosen (bytes_eq word (codes "peek")) (bytes_eq word (codes "poll"))
+    (bytes_eq word (codes "list"))
+  where
+    chosen : (a b c : Bool)
+        → SaysCommand (bytes_eq word (codes "branch"))
+        (cond a (option_map command.Peek (one_count rest))
+        (cond b (alone (Some command.Poll) rest)
+        (cond c (alone (Some command.List) rest) (option_map command.Edit (edit_by word rest)))))
+    chosen true b c = peek-command (bytes_eq word (codes "branch")) (one_count rest)
+    chosen false true c = alone-command (bytes_eq word (codes "branch")) command.Poll rest tt
+    chosen false false true = alone-command (bytes_eq word (codes "branch")) command.List rest tt
+    chosen false false false = edit-command (bytes_eq word (codes "branch")) (edit_by word rest)
+        (edit-says word rest)
+
 words-say : (ws : List (List ℕ)) → SaysCommand (adds_branch ws) (command_of_words ws)
 words-say [] = tt
 words-say (word ∷ rest) = chosen (bytes_eq word (codes "settle")) (bytes_eq word (codes "work"))
@@ -172,13 +192,12 @@ words-say (word ∷ rest) = chosen (bytes_eq word (codes "settle")) (bytes_eq wo
         (cond a (alone (Some command.Settle) rest)
         (cond b (alone (Some command.Work) rest)
         (cond c (option_map command.Show (one_count rest))
-        (cond d (alone (Some command.Quit) rest) (option_map command.Edit (edit_by word rest))))))
+        (cond d (alone (Some command.Quit) rest) (looking_by word rest)))))
     chosen true b c d = alone-command (bytes_eq word (codes "branch")) command.Settle rest tt
     chosen false true c d = alone-command (bytes_eq word (codes "branch")) command.Work rest tt
     chosen false false true d = show-command (bytes_eq word (codes "branch")) (one_count rest)
     chosen false false false true = alone-command (bytes_eq word (codes "branch")) command.Quit rest tt
-    chosen false false false false = edit-command (bytes_eq word (codes "branch")) (edit_by word rest)
-        (edit-says word rest)
+    chosen false false false false = looking-says word rest
 
 -- what is asked is of these edits, if it is one
 abbrev Fits : (Asked → Type 0) → Ask → Type 0
@@ -192,6 +211,9 @@ asked-fits Q n adds (Some (command.Edit edit)) f h = f (asked_of edit) h
 asked-fits Q n adds (Some command.Settle) f h = tt
 asked-fits Q n adds (Some command.Work) f h = tt
 asked-fits Q n adds (Some (command.Show id)) f h = tt
+asked-fits Q n adds (Some (command.Peek id)) f h = tt
+asked-fits Q n adds (Some command.Poll) f h = tt
+asked-fits Q n adds (Some command.List) f h = tt
 asked-fits Q n adds (Some command.Quit) f h = tt
 
 -- what each line that says one asks is of these edits
@@ -239,6 +261,8 @@ unless_memory-keeps K NoShortage p after k h = h
 unless_memory-keeps K Memory p after k h = k
 unless_memory-keeps K (Unsettled n cause) p after k h = h
 unless_memory-keeps K Pending p after k h = h
+unless_memory-keeps K (Still n cause) p after k h = h
+unless_memory-keeps K (Known known) p after k h = h
 
 unless_fault-keeps : {A E : Type 0} (K : Plan → Type 0) (p : Plan) (refusal : E → Fault) (done : A → After)
     (r : Result A E) → K p → ((value : A) → r ≡ Ok value → K (done value).plan) → K (unless_fault p refusal done r).plan
@@ -285,6 +309,28 @@ settled-keeps K (Unsettled n cause) p k = either (nat_le 1 n && nat_le n (length
     either true = k
     either false = k
 settled-keeps K Pending p k = k
+settled-keeps K (Still n cause) p k = k
+settled-keeps K (Known known) p k = k
+
+polled-keeps : (K : Plan → Type 0) (short : Shortage) (p : Plan) → K p → K (polled short p).plan
+polled-keeps K NoShortage p k = k
+polled-keeps K Memory p k = k
+polled-keeps K (Unsettled n cause) p k = k
+polled-keeps K Pending p k = k
+polled-keeps K (Still n cause) p k = either (nat_le n (length p.bookmarks))
+  where
+    either : (b : Bool) → K (cond b (only p (polled_text n cause)) (only p (polled_text 0 None))).plan
+    either true = k
+    either false = k
+polled-keeps K (Known known) p k = k
+
+listed-keeps : (K : Plan → Type 0) (short : Shortage) (p : Plan) → K p → K (listed short p).plan
+listed-keeps K NoShortage p k = k
+listed-keeps K Memory p k = k
+listed-keeps K (Unsettled n cause) p k = k
+listed-keeps K Pending p k = k
+listed-keeps K (Still n cause) p k = k
+listed-keeps K (Known known) p k = k
 
 there-keeps : (K : Plan → Type 0) (short : Shortage) (p : Plan) (id : ℕ) (b : Bookmark) → K p
     → K (there short p id b).plan
@@ -292,6 +338,8 @@ there-keeps K NoShortage p id b k = k
 there-keeps K Memory p id b k = k
 there-keeps K (Unsettled n cause) p id b k = k
 there-keeps K Pending p id b k = k
+there-keeps K (Still n cause) p id b k = k
+there-keeps K (Known known) p id b k = k
 
 shown-keeps : (K : Plan → Type 0) (short : Shortage) (p : Plan) (id : ℕ) (b : Option Bookmark) → K p
     → K (shown short p id b).plan
@@ -305,6 +353,9 @@ answer-keeps K Q stays short p (Obey (command.Edit edit)) q k =
 answer-keeps K Q stays short p (Obey command.Settle) q k = settled-keeps K short p k
 answer-keeps K Q stays short p (Obey command.Work) q k = k
 answer-keeps K Q stays short p (Obey (command.Show id)) q k = shown-keeps K short p id (bookmark_in p.bookmarks id) k
+answer-keeps K Q stays short p (Obey (command.Peek id)) q k = shown-keeps K short p id (bookmark_in p.bookmarks id) k
+answer-keeps K Q stays short p (Obey command.Poll) q k = polled-keeps K short p k
+answer-keeps K Q stays short p (Obey command.List) q k = listed-keeps K short p k
 answer-keeps K Q stays short p (Obey command.Quit) q k = k
 answer-keeps K Q stays short p (Take format text) q k =
     unless_memory-keeps K short p (taken p format text) k (taken-keeps K Q stays p format text k)

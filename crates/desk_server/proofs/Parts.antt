@@ -1,37 +1,53 @@
--- The parts of a reply, one after the other.
-use Rattle.std.proofs.Common.{◌≡◌, ℕ, zero, suc, ◌+◌, ◌<◌, List, [], ◌∷◌, ◌++◌, length, drop, get_or, refl, sym, ap, ◌∙◌, append_assoc, arith, add-one, subst, Option}
+-- Lines or parts of a reply, one after the other.
+use Rattle.std.proofs.Common.{◌≡◌, ℕ, zero, suc, ◌+◌, ◌<◌, List, [], ◌∷◌, ◌++◌, length, drop, get_or, refl, sym, ap, ◌∙◌, append_assoc, arith, add-one, subst, Option, Result, Ok, Err}
+use Rattle.std.specs.Prelude.{flat_map}
 use Rattle.std.proofs.KnownBytes.{Appends-trans}
 use Rattle.std.specs.Io.KnownBytes.{Appends}
-use Rattle.script_lines.specs.Faults.{AppendsFront}
+use Rattle.script_lines.specs.Faults.{AppendsFront, Wrote}
 use Rattle.script_lines.proofs.Shared.Told.{IsUnderWay, front_first, front_then}
-use Rattle.desk_server.specs.Told.{part_text, parts_text}
-use Rattle.desk_server.specs.declared.reply.Part.{Part}
 
--- what is left to write begins with the next part
-next_suc : (ps : List Part) (k : ℕ) (d : Part) → k < length ps
-    → parts_text (drop k ps) ≡ part_text (get_or ps k d) ++ parts_text (drop (suc k) ps)
-next_suc [] k d h = absurd (omega (arith, h))
-next_suc (p ∷ ps) zero d h = refl
-next_suc (p ∷ ps) (suc k) d h = next_suc ps k d (omega (arith, h))
+-- what was written, and then what a call wrote
+pub wrote_then : {T E : Type 0} (a b c : Option (List ℕ)) (r : Result T E) (xs ys : List ℕ) → Appends a b xs
+    → Wrote b c r ys → Wrote a c r (xs ++ ys)
+wrote_then a b c (Ok value) xs ys w h = Appends-trans a b c xs ys w h
+wrote_then a b c (Err fault) xs ys w h = front_then a b c xs ys w h
 
-next_part : (ps : List Part) (k : ℕ) (d : Part) → k < length ps
-    → parts_text (drop k ps) ≡ part_text (get_or ps k d) ++ parts_text (drop (k + 1) ps)
-next_part ps k d h = next_suc ps k d h ∙ ap (λ j. part_text (get_or ps k d) ++ parts_text (drop j ps)) (sym (add-one k))
+module _ {A : Type 0} (text : A → List ℕ) where
+  -- one more was written of those that are left
+  pub more : (a b c : Option (List ℕ)) (all : List ℕ) (x : A) (rest : List A)
+      → IsUnderWay a b all (flat_map text (x ∷ rest)) → Appends b c (text x) → IsUnderWay a c all (flat_map text rest)
+  more a b c all x rest h w = record {
+    written = h.written ++ text x;
+    split = h.split ∙ sym (append_assoc h.written (text x) (flat_map text rest));
+    grew = Appends-trans a b c h.written (text x) h.grew w;
+  }
 
-pub parts_more : (a b c : Option (List ℕ)) (ps : List Part) (k : ℕ) (d : Part) → k < length ps
-    → IsUnderWay a b (parts_text ps) (parts_text (drop k ps)) → Appends b c (part_text (get_or ps k d))
-    → IsUnderWay a c (parts_text ps) (parts_text (drop (k + 1) ps))
-parts_more a b c ps k d low h w = record {
-  written = h.written ++ part_text (get_or ps k d);
-  split = h.split ∙ ap (λ t. h.written ++ t) (next_part ps k d low)
-      ∙ sym (append_assoc h.written (part_text (get_or ps k d)) (parts_text (drop (k + 1) ps)));
-  grew = Appends-trans a b c h.written (part_text (get_or ps k d)) h.grew w;
-}
+  -- a beginning of it was written
+  pub broken : (a b c : Option (List ℕ)) (all : List ℕ) (x : A) (rest : List A)
+      → IsUnderWay a b all (flat_map text (x ∷ rest)) → AppendsFront b c (text x) → AppendsFront a c all
+  broken a b c all x rest h w = subst (AppendsFront a c) (sym h.split)
+      (front_then a b c h.written (text x ++ flat_map text rest) h.grew
+      (front_first b c (text x) (flat_map text rest) w))
 
-pub parts_broken : (a b c : Option (List ℕ)) (ps : List Part) (k : ℕ) (d : Part) → k < length ps
-    → IsUnderWay a b (parts_text ps) (parts_text (drop k ps)) → AppendsFront b c (part_text (get_or ps k d))
-    → AppendsFront a c (parts_text ps)
-parts_broken a b c ps k d low h w =
-    subst (AppendsFront a c) (sym (h.split ∙ ap (λ t. h.written ++ t) (next_part ps k d low)))
-    (front_then a b c h.written (part_text (get_or ps k d) ++ parts_text (drop (k + 1) ps)) h.grew
-    (front_first b c (part_text (get_or ps k d)) (parts_text (drop (k + 1) ps)) w))
+  -- those that are left begin with the next one
+  next_suc : (xs : List A) (k : ℕ) (d : A) → k < length xs
+      → flat_map text (drop k xs) ≡ flat_map text (get_or xs k d ∷ drop (suc k) xs)
+  next_suc [] k d h = absurd (omega (arith, h))
+  next_suc (x ∷ xs) zero d h = refl
+  next_suc (x ∷ xs) (suc k) d h = next_suc xs k d (omega (arith, h))
+
+  next : (xs : List A) (k : ℕ) (d : A) → k < length xs
+      → flat_map text (drop k xs) ≡ flat_map text (get_or xs k d ∷ drop (k + 1) xs)
+  next xs k d h = next_suc xs k d h ∙ ap (λ j. flat_map text (get_or xs k d ∷ drop j xs)) (sym (add-one k))
+
+  pub parts_more : (a b c : Option (List ℕ)) (xs : List A) (k : ℕ) (d : A) → k < length xs
+      → IsUnderWay a b (flat_map text xs) (flat_map text (drop k xs)) → Appends b c (text (get_or xs k d))
+      → IsUnderWay a c (flat_map text xs) (flat_map text (drop (k + 1) xs))
+  parts_more a b c xs k d low h w = more a b c (flat_map text xs) (get_or xs k d) (drop (k + 1) xs)
+      (subst (IsUnderWay a b (flat_map text xs)) (next xs k d low) h) w
+
+  pub parts_broken : (a b c : Option (List ℕ)) (xs : List A) (k : ℕ) (d : A) → k < length xs
+      → IsUnderWay a b (flat_map text xs) (flat_map text (drop k xs)) → AppendsFront b c (text (get_or xs k d))
+      → AppendsFront a c (flat_map text xs)
+  parts_broken a b c xs k d low h w = broken a b c (flat_map text xs) (get_or xs k d) (drop (k + 1) xs)
+      (subst (IsUnderWay a b (flat_map text xs)) (next xs k d low) h) w

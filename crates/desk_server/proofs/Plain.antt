@@ -1,19 +1,21 @@
 -- Answers for which nothing is short.
-use Rattle.std.proofs.Common.{◌≡◌, ◌⊎◌, inl, inr, ℕ, ◌&&◌, nat_le, List, [], ◌∷◌, length, Bool, true, false, cond, refl, ap, ◌∙◌, Option, None, Some}
+use Rattle.std.proofs.Common.{◌≡◌, ◌⊎◌, inl, inr, ℕ, zero, suc, ◌<◌, ◌&&◌, nat_le, List, [], ◌∷◌, ◌++◌, length, Bool, true, false, cond, refl, ap, ap₂, ◌∙◌, Option, None, Some, codes, arith}
+use Rattle.std.specs.Prelude.{decimal, flat_map}
 use Rattle.schedule.specs.Plan.{Plan}
 use Rattle.schedule.specs.Asked.{asked_of}
 use Rattle.schedule.specs.declared.document.Bookmark.{Bookmark}
 use Rattle.desk_core.specs.declared.cause.Cause.{Cause}
-use Rattle.std.specs.List.{AllByRecursion}
+use Rattle.std.specs.List.{AllByRecursion, list_all}
 use Rattle.desk_events.specs.Wanted.{bookmark_in}
-use Rattle.desk_server.specs.Reply.{unsettled_text, settled_text}
-use Rattle.desk_server.specs.Shortage.{Shortage, NoShortage, Memory, Unsettled, Pending, IsCaused, IsCausedOver, AllCausedOver}
-use Rattle.desk_server.specs.Answer.{Ask, Obey, Take, Refuse, After, answer, only, unless_memory, edited, settled, shown, obeyed}
+use Rattle.desk_server.specs.Reply.{unsettled_text, settled_text, polled_text}
+use Rattle.desk_server.specs.Listed.{bookmark_line, branch_line, intervention_line, lines_of, listed_text}
+use Rattle.desk_server.specs.Shortage.{Shortage, NoShortage, Memory, Unsettled, Pending, Still, Known, IsCaused, IsCausedOver, AllCausedOver}
+use Rattle.desk_server.specs.Answer.{Ask, Obey, Take, Refuse, After, answer, only, unless_memory, edited, settled, polled, listed, shown, obeyed}
 use Rattle.desk_server.specs.Script.{first_shortage, later_shortages, afters}
 use Rattle.desk_server.specs.Plain.{ShowsShortage, NoneShows}
 use Rattle.desk_server.specs.declared.fault.ScriptFault.TheVariants.{BadCommand, NoEnd}
 use Rattle.desk_server.specs.declared.command.Command.{Command}
-use Rattle.desk_server.specs.declared.command.Command.TheVariants.{Edit, Settle, Work, Show, Quit}
+use Rattle.desk_server.specs.declared.command.Command.TheVariants as command
 
 -- an answer is the plain one, or its reply shows the shortage
 abbrev IsPlain : Bool → After → After → Type 0
@@ -25,6 +27,8 @@ unless-plain prompt NoShortage p plain = inl refl
 unless-plain prompt Memory p plain = inr (inl refl)
 unless-plain prompt (Unsettled n cause) p plain = inl refl
 unless-plain prompt Pending p plain = inl refl
+unless-plain prompt (Still n cause) p plain = inl refl
+unless-plain prompt (Known known) p plain = inl refl
 
 left-plain : (prompt b : Bool) (p : Plan) (n : ℕ) (cause : Option Cause) → IsCausedOver prompt (Unsettled n cause)
     → IsPlain prompt (cond b (only p (unsettled_text n cause)) (only p settled_text)) (only p settled_text)
@@ -38,6 +42,58 @@ settled-plain prompt Memory p h = inl refl
 settled-plain prompt (Unsettled n cause) p h =
     left-plain prompt (nat_le 1 n && nat_le n (length p.bookmarks)) p n cause h
 settled-plain prompt Pending p h = inl refl
+settled-plain prompt (Still n cause) p h = inl refl
+settled-plain prompt (Known known) p h = inl refl
+
+still-plain : (prompt b : Bool) (p : Plan) (n : ℕ) (cause : Option Cause)
+    → IsPlain prompt (cond b (only p (polled_text n cause)) (only p (polled_text 0 None))) (only p (polled_text 0 None))
+still-plain prompt false p n cause = inl refl
+still-plain prompt true p zero None = inl refl
+still-plain prompt true p zero (Some cause) = inr (inr (inr (inr (inl (0, Some cause, inr refl, refl)))))
+still-plain prompt true p (suc n) cause = inr (inr (inr (inr (inl (suc n, cause, inl (omega arith), refl)))))
+
+polled-plain : (prompt : Bool) (short : Shortage) (p : Plan) → IsPlain prompt (polled short p) (polled NoShortage p)
+polled-plain prompt NoShortage p = inl refl
+polled-plain prompt Memory p = inl refl
+polled-plain prompt (Unsettled n cause) p = inl refl
+polled-plain prompt Pending p = inl refl
+polled-plain prompt (Still n cause) p = still-plain prompt (nat_le n (length p.bookmarks)) p n cause
+polled-plain prompt (Known known) p = inl refl
+
+-- of two that both hold
+first-known : (v w : Bool) → (v && w) ≡ true → v ≡ true
+first-known true w h = refl
+first-known false w h = absurd (cc)
+
+rest-known : (v w : Bool) → (v && w) ≡ true → w ≡ true
+rest-known true w h = h
+rest-known false w h = absurd (cc)
+
+-- the lines of bookmarks whose texts are all known
+known-lines : (known : ℕ → Bool) (bs : List Bookmark) → list_all (λ b. known b.id) bs ≡ true
+    → flat_map (λ (b : Bookmark). bookmark_line b (known b.id)) bs
+    ≡ flat_map (λ (b : Bookmark). bookmark_line b true) bs
+known-lines known [] h = refl
+known-lines known (b ∷ bs) h =
+    ap₂ (λ v rest. bookmark_line b v ++ rest) (first-known (known b.id) (list_all (λ b. known b.id) bs) h)
+    (known-lines known bs (rest-known (known b.id) (list_all (λ b. known b.id) bs) h))
+
+listed-plain : (prompt : Bool) (short : Shortage) (p : Plan) → IsPlain prompt (listed short p) (listed NoShortage p)
+listed-plain prompt NoShortage p = inl refl
+listed-plain prompt Memory p = inl refl
+listed-plain prompt (Unsettled n cause) p = inl refl
+listed-plain prompt Pending p = inl refl
+listed-plain prompt (Still n cause) p = inl refl
+listed-plain prompt (Known known) p = either (list_all (λ b. known b.id) p.bookmarks) refl
+  where
+    either : (v : Bool) → list_all (λ b. known b.id) p.bookmarks ≡ v
+        → IsPlain prompt (only p (listed_text p known)) (only p (listed_text p (λ _. true)))
+    either true e = inl
+        (ap (λ lines. only p (flat_map branch_line p.branches
+        ++ (flat_map intervention_line p.interventions
+        ++ (lines ++ (codes "listed " ++ (decimal (lines_of p) ++ codes "\n"))))))
+        (known-lines known p.bookmarks e))
+    either false e = inr (inr (inr (inr (inr (p, known, e, refl)))))
 
 shown-plain : (prompt : Bool) (short : Shortage) (p : Plan) (id : ℕ) (b : Option Bookmark)
     → IsPlain prompt (shown short p id b) (shown NoShortage p id b)
@@ -45,15 +101,20 @@ shown-plain prompt short p id None = unless-plain prompt short p (shown NoShorta
 shown-plain prompt NoShortage p id (Some b) = inl refl
 shown-plain prompt Memory p id (Some b) = inr (inl refl)
 shown-plain prompt (Unsettled n cause) p id (Some b) = inl refl
-shown-plain prompt Pending p id (Some b) = inr (inr (inr (id, refl)))
+shown-plain prompt Pending p id (Some b) = inr (inr (inr (inl (id, refl))))
+shown-plain prompt (Still n cause) p id (Some b) = inl refl
+shown-plain prompt (Known known) p id (Some b) = inl refl
 
 obeyed-plain : (prompt : Bool) (short : Shortage) (p : Plan) (command : Command) → IsCausedOver prompt short
     → IsPlain prompt (obeyed short p command) (obeyed NoShortage p command)
-obeyed-plain prompt short p (Edit edit) h = unless-plain prompt short p (edited p (asked_of edit))
-obeyed-plain prompt short p Settle h = settled-plain prompt short p h
-obeyed-plain prompt short p Work h = inl refl
-obeyed-plain prompt short p (Show id) h = shown-plain prompt short p id (bookmark_in p.bookmarks id)
-obeyed-plain prompt short p Quit h = inl refl
+obeyed-plain prompt short p (command.Edit edit) h = unless-plain prompt short p (edited p (asked_of edit))
+obeyed-plain prompt short p command.Settle h = settled-plain prompt short p h
+obeyed-plain prompt short p command.Work h = inl refl
+obeyed-plain prompt short p (command.Show id) h = shown-plain prompt short p id (bookmark_in p.bookmarks id)
+obeyed-plain prompt short p (command.Peek id) h = shown-plain prompt short p id (bookmark_in p.bookmarks id)
+obeyed-plain prompt short p command.Poll h = polled-plain prompt short p
+obeyed-plain prompt short p command.List h = listed-plain prompt short p
+obeyed-plain prompt short p command.Quit h = inl refl
 
 answer-plain : (prompt : Bool) (short : Shortage) (p : Plan) (ask : Ask) → IsCausedOver prompt short
     → IsPlain prompt (answer short p ask) (answer NoShortage p ask)

@@ -13,10 +13,10 @@ use Rattle.dependency_book.specs.declared.shown.Shown.{Shown}
 use Rattle.dependency_book.specs.declared.shown.Shown.TheVariants.{Current, NoSuch}
 use Rattle.dependency_book.specs.declared.shown.Shown.TheVariants as shown
 use Rattle.desk_server.specs.Faults.{Fault, of_edit, of_script}
-use Rattle.desk_server.specs.Shortage.{NoShortage, Memory, Unsettled, Pending}
-use Rattle.desk_server.specs.Answer.{Ask, Refuse, After, answer, refused, CanLackMemory, only, unless_fault, settled, obeyed}
+use Rattle.desk_server.specs.Shortage.{NoShortage, Memory, Unsettled, Pending, Still}
+use Rattle.desk_server.specs.Answer.{Ask, Refuse, After, answer, refused, CanLackMemory, only, unless_fault, settled, polled, obeyed}
 use Rattle.desk_server.specs.declared.command.Command.TheVariants.{Show}
-use Rattle.desk_server.specs.Reply.{pending_text, refused_text, settled_text, unsettled_text}
+use Rattle.desk_server.specs.Reply.{pending_text, polled_text, refused_text, settled_text, unsettled_text}
 use Rattle.desk_server.specs.Told.{reply_text, ends, shown_text}
 use Rattle.desk_server.specs.Heard.{AsksFor, Gives, GivesBy, GivesOrLacks, Serves}
 use Rattle.script_lines.specs.declared.text.Text.{Text}
@@ -75,6 +75,21 @@ gives-unsettled prompt p new n cause same caused is some few = (
     has_cause : (o : Option Cause) → IfNone o (pending_of new ≡ 0) → IsSome o
     has_cause None none = absurd (some (is ∙ none))
     has_cause (Some why) none = refl
+
+-- a poll
+still : (a : Bool) (x y : After) → a ≡ true → cond a x y ≡ x
+still true x y h = refl
+still false x y h = absurd (cc)
+
+pub gives-polled : (prompt : Bool) (p : Plan) (new : BookState) (n : ℕ) (cause : Option Cause) → new.plan ≡ p
+    → n ≤ length new.plan.bookmarks → GivesBy prompt (λ short. polled short p) (reply.Polled n cause) new
+gives-polled prompt p new n cause same few = (
+  Still n cause,
+  λ _. tt,
+  subst (λ q. Gives (polled (Still n cause) q) (reply.Polled n cause) new) same
+      (still (nat_le n (length new.plan.bookmarks)) (only new.plan (polled_text n cause))
+      (only new.plan (polled_text 0 None)) (grind (arith, nat_tests))),
+)
 
 some_of : (o : Option Bookmark) → IsSome o → (b : Bookmark) × (o ≡ Some b)
 some_of None h = absurd (cc)

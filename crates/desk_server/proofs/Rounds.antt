@@ -47,6 +47,8 @@ ends-other reply.Settled h = refl
 ends-other reply.Working h = refl
 ends-other (reply.Unsettled pending cause) h = refl
 ends-other (reply.Shown id) h = refl
+ends-other (reply.Polled pending cause) h = refl
+ends-other reply.Listed h = refl
 ends-other (reply.Refused number name place) h = refl
 ends-other reply.Bye h = absurd (h refl)
 

@@ -18,10 +18,11 @@ use Rattle.desk_server.specs.declared.fault.ScriptFault.TheVariants.{BadCommand,
 use Rattle.desk_server.specs.declared.format.Format.{Format}
 use Rattle.desk_server.specs.declared.format.Format.TheVariants as format
 use Rattle.desk_server.specs.declared.command.Command.{Command}
-use Rattle.desk_server.specs.declared.command.Command.TheVariants.{Edit, Settle, Work, Show, Quit}
+use Rattle.desk_server.specs.declared.command.Command.TheVariants as command
 use Rattle.desk_server.specs.Faults.{Fault, of_rule, of_pattern, of_macrocell, of_edit, of_script}
-use Rattle.desk_server.specs.Shortage.{Shortage, NoShortage, Memory, Unsettled, Pending}
-use Rattle.desk_server.specs.Reply.{accepted_text, settled_text, working_text, unsettled_text, current_text, pending_text, refused_text, bye_text}
+use Rattle.desk_server.specs.Listed.{listed_text}
+use Rattle.desk_server.specs.Shortage.{Shortage, Memory, Unsettled, Pending, Still, Known}
+use Rattle.desk_server.specs.Reply.{accepted_text, settled_text, working_text, unsettled_text, polled_text, current_text, pending_text, refused_text, bye_text}
 
 -- what is asked of the desk: a command, what a text of a format means, or to refuse what lines say
 pub data Ask : Type 0 where
@@ -47,10 +48,8 @@ no_memory p = refused p (of_edit NoMemory)
 
 -- a command that does nothing where it is out of memory
 abbrev pub unless_memory : Shortage → Plan → After → After
-unless_memory NoShortage p after = after
 unless_memory Memory p after = no_memory p
-unless_memory (Unsettled n cause) p after = after
-unless_memory Pending p after = after
+unless_memory _ p after = after
 
 -- what is done with a value that was found, or the refusal for its fault
 abbrev pub unless_fault : {A E : Type 0} → Plan → (E → Fault) → (A → After) → Result A E → After
@@ -95,33 +94,44 @@ taken p format.Macrocell text =
 
 -- all texts were computed, or a shortage leaves some bookmarks pending
 abbrev pub settled : Shortage → Plan → After
-settled NoShortage p = only p settled_text
-settled Memory p = only p settled_text
 settled (Unsettled n cause) p =
     if nat_le 1 n && nat_le n (length p.bookmarks) then only p (unsettled_text n cause)
     else only p settled_text
-settled Pending p = only p settled_text
+settled _ p = only p settled_text
 
 -- a bookmark of the document is shown with the text that starting over gives, unless a shortage
 -- left it pending
 abbrev pub there : Shortage → Plan → ℕ → Bookmark → After
-there NoShortage p id b = only p (current_text id (scratch p b))
 there Memory p id b = no_memory p
-there (Unsettled n cause) p id b = only p (current_text id (scratch p b))
 there Pending p id b = only p (pending_text id)
+there _ p id b = only p (current_text id (scratch p b))
 
 -- a bookmark is shown, if there is one
 abbrev pub shown : Shortage → Plan → ℕ → Option Bookmark → After
 shown short p id None = unless_memory short p (refused p (of_edit NoSuchBookmark))
 shown short p id (Some b) = there short p id b
 
+-- no bookmark is pending any more, or so many of the document's are, with a cause if one was met
+abbrev pub polled : Shortage → Plan → After
+polled (Still n cause) p =
+    if nat_le n (length p.bookmarks) then only p (polled_text n cause) else only p (polled_text 0 None)
+polled _ p = only p (polled_text 0 None)
+
+-- what the document has is listed, each bookmark as current unless its text isn't known
+abbrev pub listed : Shortage → Plan → After
+listed (Known known) p = only p (listed_text p known)
+listed _ p = only p (listed_text p (λ _. true))
+
 -- a command
 abbrev pub obeyed : Shortage → Plan → Command → After
-obeyed short p (Edit edit) = unless_memory short p (edited p (asked_of edit))
-obeyed short p Settle = settled short p
-obeyed short p Work = only p working_text
-obeyed short p (Show id) = shown short p id (bookmark_in p.bookmarks id)
-obeyed short p Quit = record { told = bye_text; plan = p; ends = true }
+obeyed short p (command.Edit edit) = unless_memory short p (edited p (asked_of edit))
+obeyed short p command.Settle = settled short p
+obeyed short p command.Work = only p working_text
+obeyed short p (command.Show id) = shown short p id (bookmark_in p.bookmarks id)
+obeyed short p (command.Peek id) = shown short p id (bookmark_in p.bookmarks id)
+obeyed short p command.Poll = polled short p
+obeyed short p command.List = listed short p
+obeyed short p command.Quit = record { told = bye_text; plan = p; ends = true }
 
 -- what is replied to what is asked; a shortage that can't stand against it counts as none
 abbrev pub answer : Shortage → Plan → Ask → After

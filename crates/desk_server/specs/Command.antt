@@ -159,6 +159,14 @@ edit_by word rest =
     else (if bytes_eq word (codes "drop") then drop_of rest
     else further_edit_by word rest)))
 
+-- the command of any other first word and those behind it: one that looks, or an edit
+abbrev pub looking_by : List ℕ → List (List ℕ) → Option Command
+looking_by word rest =
+    if bytes_eq word (codes "peek") then option_map command.Peek (one_count rest)
+    else (if bytes_eq word (codes "poll") then alone (Some command.Poll) rest
+    else (if bytes_eq word (codes "list") then alone (Some command.List) rest
+    else option_map command.Edit (edit_by word rest)))
+
 -- the command of a first word and those behind it
 abbrev pub command_by : List ℕ → List (List ℕ) → Option Command
 command_by word rest =
@@ -166,7 +174,7 @@ command_by word rest =
     else (if bytes_eq word (codes "work") then alone (Some command.Work) rest
     else (if bytes_eq word (codes "show") then option_map command.Show (one_count rest)
     else (if bytes_eq word (codes "quit") then alone (Some command.Quit) rest
-    else option_map command.Edit (edit_by word rest))))
+    else looking_by word rest)))
 
 abbrev pub command_of_words : List (List ℕ) → Option Command
 command_of_words [] = None

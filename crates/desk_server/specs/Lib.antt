@@ -10,6 +10,7 @@ pub mod Script
 pub mod Plain
 pub mod OneLine
 pub mod Jobs
+pub mod Listed
 pub mod Told
 pub mod Heard
 pub mod Run

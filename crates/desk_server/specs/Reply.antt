@@ -29,6 +29,13 @@ unsettled_text pending cause =
     ++ (decimal pending
     ++ (codes " " ++ (decimal (option_map_or cause_number cause 0) ++ codes "\n")))
 
+-- so many bookmarks are pending still, with a cause if one was met
+abbrev pub polled_text : ℕ → Option Cause → List ℕ
+polled_text pending None = codes "polled " ++ (decimal pending ++ codes "\n")
+polled_text pending (Some cause) =
+    codes "polled "
+    ++ (decimal pending ++ (codes " " ++ (decimal (cause_number cause) ++ codes "\n")))
+
 -- a bookmark's text, after a line with its length
 abbrev pub current_text : ℕ → List ℕ → List ℕ
 current_text id text =

@@ -3,20 +3,21 @@ use Rattle.std.specs.Prelude.{◌≡◌, ℕ, Bool, true, List, Option, IsSome, 
 use Rattle.std.specs.List.{AllByRecursion}
 use Rattle.desk_core.specs.declared.cause.Cause.{Cause}
 
--- nothing, memory, a settling that left so many bookmarks pending, for its cause if it has one, or
--- a bookmark that stayed pending
+-- nothing, memory, a settling that left so many bookmarks pending, for its cause if it has one, a
+-- bookmark that stayed pending, a poll after which so many are pending still, with a cause if it met
+-- one, or texts where bookmarks are listed: those of the ids with `true` alone are known
 pub data Shortage : Type 0 where
   NoShortage : Shortage
   Memory : Shortage
   Unsettled : ℕ → Option Cause → Shortage
   Pending : Shortage
+  Still : ℕ → Option Cause → Shortage
+  Known : (ℕ → Bool) → Shortage
 
 -- a settling that left bookmarks pending has a cause
 abbrev pub IsCaused : Shortage → Type 0
-IsCaused NoShortage = ⊤
-IsCaused Memory = ⊤
 IsCaused (Unsettled n cause) = IsSome cause
-IsCaused Pending = ⊤
+IsCaused _ = ⊤
 
 -- over a prompt post it has one
 abbrev pub IsCausedOver : Bool → Shortage → Type 0

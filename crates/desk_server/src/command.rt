@@ -2,7 +2,7 @@
 ghost use Rattle.std.specs.Prelude.{◌≡◌, IfOk, OnErr};
 ghost use Rattle.std.specs.Option.{option_map};
 ghost use Rattle.script_lines.specs.Words.{words};
-ghost use Rattle.desk_server.specs.Command.{command_of, command_by, edit_by, one_count};
+ghost use Rattle.desk_server.specs.Command.{command_of, command_by, edit_by, looking_by, one_count};
 ghost use Rattle.desk_server.specs.Heard.{LineCanLackMemory};
 
 use crate::edits::read_edit;
@@ -22,6 +22,12 @@ pub enum Command {
     Work,
     /// The text of the bookmark of this id is to be shown.
     Show { id: u64 },
+    /// The same, as far as it is known: nothing is computed for it.
+    Peek { id: u64 },
+    /// Answers that have come are to be collected and further jobs sent, and none is waited for.
+    Poll,
+    /// What the document has is to be listed.
+    List,
     /// The script ends.
     Quit,
 }
@@ -51,7 +57,7 @@ fn read_by(alloc: Global, word: &[u8], rest: &[u8]) -> Result<Option<Command>, A
     } else if word == b"quit".as_slice() {
         Ok(alone(Command::Quit, rest))
     } else {
-        read_edit_command(alloc, word, rest)
+        read_looking(alloc, word, rest)
     }
 }
 
@@ -60,6 +66,29 @@ fn read_show(rest: &[u8]) -> Option<Command>
 {
     let id = one_count(rest)?;
     Some(Command::Show { id })
+}
+
+// The command of any other first word and those behind it.
+fn read_looking(alloc: Global, word: &[u8], rest: &[u8]) -> Result<Option<Command>, AllocError>
+    ensures ok { IfOk result (λ command. command ≡ looking_by word.now (words rest.now)) }
+    ensures err { OnErr result (LineCanLackMemory (looking_by word.now (words rest.now))) }
+{
+    if word == b"peek".as_slice() {
+        Ok(read_peek(rest))
+    } else if word == b"poll".as_slice() {
+        Ok(alone(Command::Poll, rest))
+    } else if word == b"list".as_slice() {
+        Ok(alone(Command::List, rest))
+    } else {
+        read_edit_command(alloc, word, rest)
+    }
+}
+
+fn read_peek(rest: &[u8]) -> Option<Command>
+    ensures { result ≡ option_map Command.Peek (one_count (words rest.now)) }
+{
+    let id = one_count(rest)?;
+    Some(Command::Peek { id })
 }
 
 // The command that is an edit. Each edit can run out of memory.

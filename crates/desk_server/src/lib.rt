@@ -23,6 +23,8 @@ mod format;
 mod heard;
 mod interventions;
 mod laws;
+mod listing;
+mod part;
 mod reply;
 mod request;
 mod serve;

@@ -5,9 +5,11 @@ ghost use Rattle.dependency_book.specs.BookState.{BookState};
 ghost use Rattle.std.specs.Option.{option_map_or};
 ghost use Rattle.desk_core.specs.Cause.{cause_number};
 ghost use Rattle.desk_server.specs.Faults.{fault_of};
-ghost use Rattle.desk_server.specs.Reply.{accepted_text, refused_text, unsettled_text};
-ghost use Rattle.desk_server.specs.Told.{reply_text, ends, part_text, parts_text};
+ghost use Rattle.desk_server.specs.Reply.{accepted_text, polled_text, refused_text, unsettled_text};
+ghost use Rattle.desk_server.specs.Told.{reply_text, ends};
 
+use crate::listing::tell_list;
+use crate::part::{Part, tell_parts};
 use desk_core::{Cause, Desk, EditFault, Refusal, Shown};
 use script_lines::{CountedWriter, Failed};
 use std::io::Write;
@@ -35,6 +37,13 @@ pub enum Reply {
     Shown {
         id: u64,
     },
+    /// So many bookmarks are pending still, with this cause, if one was met.
+    Polled {
+        pending: u32,
+        cause: Option<Cause>,
+    },
+    /// What the document has.
+    Listed,
     /// A refusal: its number and name, and its line or offset if it has one.
     Refused {
         number: u8,
@@ -43,13 +52,6 @@ pub enum Reply {
     },
     /// The script ends.
     Bye,
-}
-
-/// A part of a reply.
-#[derive(Clone, Copy, Debug)]
-pub enum Part<'a> {
-    Text(&'a [u8]),
-    Number(u64),
 }
 
 /// The reply to something refused.
@@ -63,34 +65,6 @@ pub(crate) fn refused<F: Refusal>(fault: &F) -> Reply
         name: fault.name(),
         place: fault.place(),
     }
-}
-
-fn tell_part<W: Write, L: Ledger>(
-    writer: &mut CountedWriter<W, L>,
-    part: Part<'_>,
-) -> Result<(), Failed>
-    ensures bytes { Wrote writer.old.contents writer.new.contents result (part_text part.entry) }
-    ensures worked { OnOk result (writer.new.failures ≡ writer.old.failures) }
-    ensures failed { OnErr result (writer.new.failures ≡ writer.old.failures + 1) }
-{
-    match part {
-        Part::Text(bytes) => writer.tell(bytes),
-        Part::Number(number) => writer.tell_number(number),
-    }
-}
-
-fn tell_parts<W: Write, L: Ledger>(
-    writer: &mut CountedWriter<W, L>,
-    parts: &[Part<'_>],
-) -> Result<(), Failed>
-    ensures bytes { Wrote writer.old.contents writer.new.contents result (parts_text parts.now) }
-    ensures worked { OnOk result (writer.new.failures ≡ writer.old.failures) }
-    ensures failed { OnErr result (writer.new.failures ≡ writer.old.failures + 1) }
-{
-    for part in parts {
-        tell_part(writer, *part)?;
-    }
-    Ok(())
 }
 
 fn tell_accepted<W: Write, L: Ledger>(
@@ -154,6 +128,27 @@ fn tell_unsettled<W: Write, L: Ledger>(
             Part::Text(b"\n"),
         ],
     )
+}
+
+fn tell_polled<W: Write, L: Ledger>(
+    writer: &mut CountedWriter<W, L>,
+    pending: u32,
+    cause: Option<Cause>,
+) -> Result<(), Failed>
+    ensures bytes { Wrote writer.old.contents writer.new.contents result
+        (polled_text pending cause) }
+    ensures worked { OnOk result (writer.new.failures ≡ writer.old.failures) }
+    ensures failed { OnErr result (writer.new.failures ≡ writer.old.failures + 1) }
+{
+    let (polled, pending) = (Part::Text(b"polled "), Part::Number(u64::from(pending)));
+    let end = Part::Text(b"\n");
+    match cause {
+        None => tell_parts(writer, &[polled, pending, end]),
+        Some(cause) => {
+            let number = Part::Number(u64::from(cause.number()));
+            tell_parts(writer, &[polled, pending, Part::Text(b" "), number, end])
+        }
+    }
 }
 
 fn tell_refused<W: Write, L: Ledger>(
@@ -236,6 +231,8 @@ fn tell<W: Write, L: Ledger>(
         Reply::Working => writer.tell(b"working\n"),
         Reply::Unsettled { pending, cause } => tell_unsettled(writer, pending, cause),
         Reply::Shown { id } => tell_shown(writer, desk, id),
+        Reply::Polled { pending, cause } => tell_polled(writer, pending, cause),
+        Reply::Listed => tell_list(writer, desk),
         Reply::Refused {
             number,
             name,

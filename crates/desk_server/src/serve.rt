@@ -4,17 +4,18 @@ ghost use Rattle.std.specs.Arc.{arc_value};
 ghost use Rattle.schedule.specs.Asked.{asked_of};
 ghost use Rattle.dependency_book.specs.BookState.{NothingOut, pending_of};
 ghost use Rattle.dependency_book.specs.Shown.{IsPending};
-ghost use Rattle.desk_server.specs.Answer.{edited, id_word, obeyed, settled, started, taken};
+ghost use Rattle.desk_server.specs.Answer.{edited, id_word, obeyed, polled, settled, started, taken};
 ghost use Rattle.desk_server.specs.Heard.{GivesBy, GivesOrLacks, Serves};
 ghost use Rattle.desk_server.specs.Jobs.{Carries, CarriesOn, DropsJobs};
-ghost use Rattle.desk_server.specs.Jobs.{IsDoneWith, IsExplained, KeepsCauses};
-ghost use Rattle.desk_server.specs.Told.{ComputesFor, LeavesOver};
+ghost use Rattle.desk_core.specs.Settling.{TellsCause};
+ghost use Rattle.desk_server.specs.Jobs.{IsDoneWith, KeepsCauses};
+ghost use Rattle.desk_server.specs.Told.{LeavesOver, PollsBy, TakesAnswers};
 
 use crate::command::Command;
 use crate::format::Format;
 use crate::reply::{Reply, refused};
 use crate::request::Request;
-use desk_core::{Cause, Desk, Edit, EditFault, Plane, Post, Rule, Settling, Shown};
+use desk_core::{Cause, Desk, Edit, EditFault, Plane, Polled, Post, Rule, Settling, Shown};
 use multistate_macrocell::read_mc;
 use multistate_rle::read_rle;
 use plane_core::Loaded;
@@ -152,12 +153,12 @@ fn give_up(desk: &mut Desk<'_>)
 // Computes what isn't known, and gives the cause where one left bookmarks pending. Whatever is out
 // then is given up, so that it is computed anew another time.
 fn compute<P: Post>(rt: &impl Wait, desk: &mut Desk<'_>, post: &mut P) -> Option<Cause>
-    requires { Carries P.table P.floor P.is_prompt P.held post.old desk.old }
+    requires { Carries (P.view post.old) desk.old }
     ensures plan { desk.new.plan ≡ desk.old.plan }
-    ensures caused { P.is_prompt post.old ≡ true → IfNone result (pending_of desk.new ≡ 0) }
-    ensures explained { IsExplained P.answers post.old post.new desk.new result }
+    ensures caused { (P.view post.old).is_prompt ≡ true → IfNone result (pending_of desk.new ≡ 0) }
+    ensures explained { TellsCause (P.view post.old) (P.view post.new) desk.new result }
     ensures given_up { IsDoneWith desk.new }
-    ensures post { CarriesOn P.table P.floor P.is_prompt P.held post.old post.new desk.new }
+    ensures post { CarriesOn (P.view post.old) (P.view post.new) desk.new }
 {
     match desk_core::settle(rt, desk, post, TURNS) {
         Settling::Settled => None,
@@ -169,11 +170,11 @@ fn compute<P: Post>(rt: &impl Wait, desk: &mut Desk<'_>, post: &mut P) -> Option
 }
 
 fn settle<P: Post>(rt: &impl Wait, desk: &mut Desk<'_>, post: &mut P) -> Reply
-    requires { Carries P.table P.floor P.is_prompt P.held post.old desk.old }
-    ensures answer { GivesBy (P.is_prompt post.old) (λ short. settled short desk.old.plan)
+    requires { Carries (P.view post.old) desk.old }
+    ensures answer { GivesBy (P.view post.old).is_prompt (λ short. settled short desk.old.plan)
         result desk.new }
-    ensures leaves { LeavesOver P.answers post.old post.new result desk.new }
-    ensures post { CarriesOn P.table P.floor P.is_prompt P.held post.old post.new desk.new }
+    ensures leaves { LeavesOver (P.view post.old) (P.view post.new) result desk.new }
+    ensures post { CarriesOn (P.view post.old) (P.view post.new) desk.new }
 {
     let cause = compute(rt, desk, post);
     match desk.pending() {
@@ -184,11 +185,11 @@ fn settle<P: Post>(rt: &impl Wait, desk: &mut Desk<'_>, post: &mut P) -> Reply
 
 // Sends jobs for what isn't known, as many as the post takes, and waits for no answer.
 fn work<P: Post>(rt: &impl Wait, desk: &mut Desk<'_>, post: &mut P) -> Reply
-    requires { Carries P.table P.floor P.is_prompt P.held post.old desk.old }
-    ensures answer { GivesBy (P.is_prompt post.old)
+    requires { Carries (P.view post.old) desk.old }
+    ensures answer { GivesBy (P.view post.old).is_prompt
         (λ short. obeyed short desk.old.plan Command.Work) result desk.new }
-    ensures silent { P.answers post.new ≡ P.answers post.old }
-    ensures post { CarriesOn P.table P.floor P.is_prompt P.held post.old post.new desk.new }
+    ensures silent { (P.view post.new).answers ≡ (P.view post.old).answers }
+    ensures post { CarriesOn (P.view post.old) (P.view post.new) desk.new }
 {
     desk_core::feed(rt, desk, post);
     Reply::Working
@@ -196,12 +197,12 @@ fn work<P: Post>(rt: &impl Wait, desk: &mut Desk<'_>, post: &mut P) -> Reply
 
 // Shows a bookmark: at once, unless its text isn't known. Then what isn't known is computed first.
 fn show<P: Post>(rt: &impl Wait, desk: &mut Desk<'_>, post: &mut P, id: u64) -> Reply
-    requires { Carries P.table P.floor P.is_prompt P.held post.old desk.old }
-    ensures answer { GivesBy (P.is_prompt post.old)
+    requires { Carries (P.view post.old) desk.old }
+    ensures answer { GivesBy (P.view post.old).is_prompt
         (λ short. obeyed short desk.old.plan (Command.Show id)) result desk.new }
     ensures at_once { ¬ IsPending desk.old id → (desk.new ≡ desk.old) × (post.new ≡ post.old) }
-    ensures leaves { LeavesOver P.answers post.old post.new result desk.new }
-    ensures post { CarriesOn P.table P.floor P.is_prompt P.held post.old post.new desk.new }
+    ensures leaves { LeavesOver (P.view post.old) (P.view post.new) result desk.new }
+    ensures post { CarriesOn (P.view post.old) (P.view post.new) desk.new }
 {
     if desk.shown(id) != Shown::Pending {
         return Reply::Shown { id };
@@ -212,19 +213,55 @@ fn show<P: Post>(rt: &impl Wait, desk: &mut Desk<'_>, post: &mut P, id: u64) -> 
     Reply::Shown { id }
 }
 
-fn obey<P: Post>(rt: &impl Wait, desk: &mut Desk<'_>, post: &mut P, command: Command) -> Reply
-    requires { Carries P.table P.floor P.is_prompt P.held post.old desk.old }
-    ensures answer { GivesBy (P.is_prompt post.old) (λ short. obeyed short desk.old.plan command)
+// Collects the answers that have come and sends jobs for what is needed next, and waits for no
+// answer.
+fn poll<P: Post>(rt: &impl Wait, desk: &mut Desk<'_>, post: &mut P) -> Reply
+    requires { Carries (P.view post.old) desk.old }
+    ensures answer { GivesBy (P.view post.old).is_prompt (λ short. polled short desk.old.plan)
         result desk.new }
-    ensures leaves { ComputesFor command
-        → LeavesOver P.answers post.old post.new result desk.new }
-    ensures post { CarriesOn P.table P.floor P.is_prompt P.held post.old post.new desk.new }
+    ensures leaves { LeavesOver (P.view post.old) (P.view post.new) result desk.new }
+    ensures polls { PollsBy (P.view post.old) (P.view post.new) desk.old desk.new result }
+    ensures post { CarriesOn (P.view post.old) (P.view post.new) desk.new }
+{
+    let Polled { pending, cause } = desk_core::poll(rt, desk, post);
+    // No document has more bookmarks than its own.
+    let _pending = desk.pending();
+    Reply::Polled { pending, cause }
+}
+
+// Shows a bookmark as it is known now.
+fn peek(desk: &Desk<'_>, id: u64) -> Reply
+    ensures { GivesBy true (λ short. obeyed short desk.now.plan (Command.Peek id)) result desk.now }
+{
+    // What the desk shows is what starting over gives.
+    let _shown = desk.shown(id);
+    Reply::Shown { id }
+}
+
+// Lists what the document has.
+fn list(desk: &Desk<'_>) -> Reply
+    ensures { GivesBy true (λ short. obeyed short desk.now.plan Command.List) result desk.now }
+{
+    let _plan = desk.document();
+    Reply::Listed
+}
+
+fn obey<P: Post>(rt: &impl Wait, desk: &mut Desk<'_>, post: &mut P, command: Command) -> Reply
+    requires { Carries (P.view post.old) desk.old }
+    ensures answer { GivesBy (P.view post.old).is_prompt (λ short. obeyed short desk.old.plan command)
+        result desk.new }
+    ensures leaves { TakesAnswers command
+        → LeavesOver (P.view post.old) (P.view post.new) result desk.new }
+    ensures post { CarriesOn (P.view post.old) (P.view post.new) desk.new }
 {
     match command {
         Command::Edit(change) => edit(desk, &change),
         Command::Settle => settle(rt, desk, post),
         Command::Work => work(rt, desk, post),
         Command::Show { id } => show(rt, desk, post, id),
+        Command::Peek { id } => peek(desk, id),
+        Command::Poll => poll(rt, desk, post),
+        Command::List => list(desk),
         Command::Quit => Reply::Bye,
     }
 }
@@ -237,11 +274,11 @@ pub(crate) fn serve<P: Post>(
     post: &mut P,
     request: Request,
 ) -> Reply
-    requires { Carries P.table P.floor P.is_prompt P.held post.old desk.old }
-    ensures answer { Serves (P.is_prompt post.old) request result desk.old desk.new }
+    requires { Carries (P.view post.old) desk.old }
+    ensures answer { Serves (P.view post.old).is_prompt request result desk.old desk.new }
     ensures leaves { (command : Command) → request ≡ Request.Obey command
-        → ComputesFor command → LeavesOver P.answers post.old post.new result desk.new }
-    ensures post { CarriesOn P.table P.floor P.is_prompt P.held post.old post.new desk.new }
+        → TakesAnswers command → LeavesOver (P.view post.old) (P.view post.new) result desk.new }
+    ensures post { CarriesOn (P.view post.old) (P.view post.new) desk.new }
 {
     match request {
         Request::Obey(command) => obey(rt, desk, post, command),

@@ -48,15 +48,15 @@ fn answer_commands<R: Read, W: Write, L: Ledger, M: Ledger, P: Post, V: Watch>(
     watch: &mut V,
 ) -> Result<u64, Device>
     requires opening { desk.old.plan ≡ opening 0 }
-    requires carries { Carries P.table P.floor P.is_prompt P.held post.old desk.old }
+    requires carries { Carries (P.view post.old) desk.old }
     ensures done { OnOk result
-        (Completes (P.is_prompt post.old) reader.old reader.new writer.old writer.new) }
-    ensures noted { IfOk result (λ missed. NotesReplies V.notes missed (P.is_prompt post.old)
+        (Completes (P.view post.old).is_prompt reader.old reader.new writer.old writer.new) }
+    ensures noted { IfOk result (λ missed. NotesReplies V.notes missed (P.view post.old).is_prompt
         reader.old writer.old writer.new watch.old watch.new) }
-    ensures read { result ≡ Err Device.Reader → ReadStops R.remaining (P.is_prompt post.old)
+    ensures read { result ≡ Err Device.Reader → ReadStops R.remaining (P.view post.old).is_prompt
         reader.old reader.new writer.old writer.new }
     ensures write { result ≡ Err Device.Writer
-        → WriteStops (P.is_prompt post.old) reader.old writer.old writer.new }
+        → WriteStops (P.view post.old).is_prompt reader.old writer.old writer.new }
 {
     let mut missed = 0;
     reader.begin();
@@ -96,15 +96,15 @@ fn answer_all<R: Read, W: Write, L: Ledger, M: Ledger, P: Post, V: Watch>(
     post: &mut P,
     watch: &mut V,
 ) -> Result<u64, RunFault>
-    requires { IsFresh P.table P.floor post.old entries.now }
+    requires { IsFresh (P.view post.old) entries.now }
     ensures done { OnOk result
-        (Completes (P.is_prompt post.old) reader.old reader.new writer.old writer.new) }
-    ensures noted { IfOk result (λ missed. NotesReplies V.notes missed (P.is_prompt post.old)
+        (Completes (P.view post.old).is_prompt reader.old reader.new writer.old writer.new) }
+    ensures noted { IfOk result (λ missed. NotesReplies V.notes missed (P.view post.old).is_prompt
         reader.old writer.old writer.new watch.old watch.new) }
-    ensures read { result ≡ Err RunFault.Read → ReadStops R.remaining (P.is_prompt post.old)
+    ensures read { result ≡ Err RunFault.Read → ReadStops R.remaining (P.view post.old).is_prompt
         reader.old reader.new writer.old writer.new }
     ensures write { result ≡ Err RunFault.Write
-        → WriteStops (P.is_prompt post.old) reader.old writer.old writer.new }
+        → WriteStops (P.view post.old).is_prompt reader.old writer.old writer.new }
     ensures no_memory { result ≡ Err RunFault.NoMemory
         → (reader.new ≡ reader.old) × (writer.new ≡ writer.old) }
 {
@@ -140,21 +140,21 @@ pub fn run<R: Read, W: Write, L: Ledger, M: Ledger, P: Post>(
     post: &mut P,
 ) -> Result<(), RunFault>
     // The post is of the table, and took no job before.
-    requires { IsFresh P.table P.floor post.old entries.now }
+    requires { IsFresh (P.view post.old) entries.now }
 
     // The replies to the script were written, for some shortages; no failure was counted, and what
     // was written was handed on.
     ensures done { OnOk result
-        (Completes (P.is_prompt post.old) reader.old reader.new writer.old writer.new) }
+        (Completes (P.view post.old).is_prompt reader.old reader.new writer.old writer.new) }
 
     // Where a read failed, or 2^64 - 1 bytes came, all that was read was taken, and the commands
     // that were read whole were answered.
-    ensures read { result ≡ Err RunFault.Read → ReadStops R.remaining (P.is_prompt post.old)
+    ensures read { result ≡ Err RunFault.Read → ReadStops R.remaining (P.view post.old).is_prompt
         reader.old reader.new writer.old writer.new }
 
     // Where a write failed, a beginning of the replies was written.
     ensures write { result ≡ Err RunFault.Write
-        → WriteStops (P.is_prompt post.old) reader.old writer.old writer.new }
+        → WriteStops (P.view post.old).is_prompt reader.old writer.old writer.new }
 
     // Where there was no memory to begin with, nothing was read or written.
     ensures no_memory { result ≡ Err RunFault.NoMemory
@@ -188,26 +188,26 @@ pub fn run_with_board<R: Read, W: Write, L: Ledger, M: Ledger, P: Post, B: Wait>
     publisher: &mut Publisher<B>,
 ) -> Result<u64, RunFault>
     // The post is of the table, and took no job before.
-    requires { IsFresh P.table P.floor post.old entries.now }
+    requires { IsFresh (P.view post.old) entries.now }
 
     // The replies to the script were written, for some shortages; no failure was counted, and what
     // was written was handed on.
     ensures done { OnOk result
-        (Completes (P.is_prompt post.old) reader.old reader.new writer.old writer.new) }
+        (Completes (P.view post.old).is_prompt reader.old reader.new writer.old writer.new) }
 
     // For each of these replies but `bye`, in order, a snapshot with the document after it was put
     // behind the history, or was refused, and so many were; 2^64 - 1 may stand for more.
-    ensures shown { IfOk result (λ refused. NotesReplies ShowsNext refused (P.is_prompt post.old)
+    ensures shown { IfOk result (λ refused. NotesReplies ShowsNext refused (P.view post.old).is_prompt
         reader.old writer.old writer.new publisher.old publisher.new) }
 
     // Where a read failed, or 2^64 - 1 bytes came, all that was read was taken, and the commands
     // that were read whole were answered.
-    ensures read { result ≡ Err RunFault.Read → ReadStops R.remaining (P.is_prompt post.old)
+    ensures read { result ≡ Err RunFault.Read → ReadStops R.remaining (P.view post.old).is_prompt
         reader.old reader.new writer.old writer.new }
 
     // Where a write failed, a beginning of the replies was written.
     ensures write { result ≡ Err RunFault.Write
-        → WriteStops (P.is_prompt post.old) reader.old writer.old writer.new }
+        → WriteStops (P.view post.old).is_prompt reader.old writer.old writer.new }
 
     // Where there was no memory to begin with, nothing was read or written.
     ensures no_memory { result ≡ Err RunFault.NoMemory

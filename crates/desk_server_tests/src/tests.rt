@@ -50,7 +50,7 @@ fn answer_counted<P: Post, W: Write, L: Ledger, M: Ledger>(
     reader_blank: Blank,
     writer_blank: Blank,
 ) -> (Result<(), RunFault>, W)
-    requires fresh { IsFresh P.table P.floor post.old entries.now }
+    requires fresh { IsFresh (P.view post.old) entries.now }
     requires reader { (reader_blank.name ≡ L.name) × (reader_blank.parts ≡ L.parts)
         × (0 < reader_blank.parts) }
     requires writer { (writer_blank.name ≡ M.name) × (writer_blank.parts ≡ M.parts)
@@ -71,7 +71,7 @@ pub fn answer_over<P: Post, W: Write>(
     pieces: Pieces<'_>,
     writer: W,
 ) -> (Result<(), RunFault>, W)
-    requires { IsFresh P.table P.floor post.old entries.now }
+    requires { IsFresh (P.view post.old) entries.now }
 {
     answer_counted::<_, _, Brand, Brand>(
         rt,

@@ -26,6 +26,9 @@ Commands of a script, one a line; blank lines and lines that begin with # are pa
   work                      lets the workers begin and doesn't wait for them
   settle                    computes the texts of all bookmarks
   show ID                   does so, and then shows the text of a bookmark
+  peek ID                   shows it as far as it is known
+  poll                      takes what the workers have computed and lets them go on
+  list                      lists the branches, interventions and bookmarks
   quit                      ends the script
 
 Exit status:

@@ -1,5 +1,6 @@
 //! A writer whose failures are counted.
 ghost use Rattle.std.specs.Prelude.{true, false, ◌≡◌, ◌+◌, ◌<◌, OnOk, OnErr, decimal};
+ghost use Rattle.std.specs.Fmt.{signed_decimal};
 ghost use Rattle.std.specs.Io.KnownBytes.{Keeps};
 ghost use Rattle.script_lines.specs.Faults.{Wrote};
 ghost use Rattle.script_lines.specs.Counted.{fresh_writer};
@@ -95,6 +96,18 @@ impl<W: Write, L: Ledger> CountedWriter<W, L> {
     pub fn tell_number(&mut self, number: u64) -> Result<(), Failed>
         ensures bytes { Wrote self.old.contents self.new.contents result
             (decimal number) }
+        ensures worked { OnOk result (self.new.failures ≡ self.old.failures) }
+        ensures failed { OnErr result (self.new.failures ≡ self.old.failures + 1) }
+        ensures flushed { self.new.flushed ≡ false }
+    {
+        let mut buffer = Buffer::new();
+        self.tell(buffer.format(number).as_bytes())
+    }
+
+    /// Writes an integer, with a minus sign before it where it is negative.
+    pub fn tell_signed(&mut self, number: i64) -> Result<(), Failed>
+        ensures bytes { Wrote self.old.contents self.new.contents result
+            (signed_decimal number) }
         ensures worked { OnOk result (self.new.failures ≡ self.old.failures) }
         ensures failed { OnErr result (self.new.failures ≡ self.old.failures + 1) }
         ensures flushed { self.new.flushed ≡ false }

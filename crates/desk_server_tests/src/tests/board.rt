@@ -65,7 +65,7 @@ fn answer_shown<P: Post, B: Wait, L: Ledger, M: Ledger>(
     reader_blank: Blank,
     writer_blank: Blank,
 ) -> (Result<u64, RunFault>, Vec<u8>)
-    requires fresh { IsFresh P.table P.floor post.old entries.now }
+    requires fresh { IsFresh (P.view post.old) entries.now }
     requires reader { (reader_blank.name ≡ L.name) × (reader_blank.parts ≡ L.parts)
         × (0 < reader_blank.parts) }
     requires writer { (writer_blank.name ≡ M.name) × (writer_blank.parts ≡ M.parts)

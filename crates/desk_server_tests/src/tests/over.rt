@@ -33,7 +33,7 @@ fn answers_over<P: Post>(
     replies: &'static [u8],
     floor: u64,
 )
-    requires { IsFresh P.table P.floor post.old entries.now }
+    requires { IsFresh (P.view post.old) entries.now }
 {
     let pieces = Pieces::whole(script);
     let (answered, told) = answer_over(rt, alloc, entries, post, pieces, Vec::new(alloc));

@@ -40,6 +40,19 @@ const SCRIPTS: &[Row] = &[
         script: b"set\nset 0\nset 0 0\nset 0 0 1 2\nset 0 0 -1\nset a 0 0\nmark 1\nmark counts\nmark -1 counts\nmark 1 macrocell\nmark 1 counts 2\n",
         replies: b"refused 80 BadCommand 1\nrefused 80 BadCommand 2\nrefused 80 BadCommand 3\nrefused 80 BadCommand 4\nrefused 80 BadCommand 5\nrefused 80 BadCommand 6\nrefused 80 BadCommand 7\nrefused 80 BadCommand 8\nrefused 80 BadCommand 9\nrefused 80 BadCommand 10\nrefused 80 BadCommand 11\n",
     },
+    // What is looked at. Each poll works one job: here a step, and then a text.
+    Row {
+        script: b"mark 5 counts\npeek 1\npeek 2\npoll\npoll\npeek 1\npoll\npeek 1\npoll\n",
+        replies: b"ok 1 bookmark 1\nbookmark 1 pending\nrefused 44 NoSuchBookmark\npolled 1\npolled 1\nbookmark 1 pending\npolled 0\nbookmark 1 current 6\nempty\npolled 0\n",
+    },
+    Row {
+        script: b"branch 0 3\nat 2 set 1 1 1 0 0 0\non 1 every 2 4 10 set 5 5 1\nmark 0 counts\non 1 mark 9 window -3 -2 4 5\nlist\nsettle\nmark 1 rle\nmark 2 mc\nlist\n",
+        replies: b"ok 1 branch 1\nok 2 intervention 1\nok 3 intervention 2\nok 4 bookmark 1\nok 5 bookmark 2\nbranch 1 of 0 at 3\nintervention 1 on 0 at 2 cells 2\nintervention 2 on 1 every 2 4 10 cells 1\nbookmark 1 on 0 at 0 counts pending\nbookmark 2 on 1 at 9 window -3 -2 4 5 pending\nlisted 5\nsettled\nok 6 bookmark 3\nok 7 bookmark 4\nbranch 1 of 0 at 3\nintervention 1 on 0 at 2 cells 2\nintervention 2 on 1 every 2 4 10 cells 1\nbookmark 1 on 0 at 0 counts current\nbookmark 2 on 1 at 9 window -3 -2 4 5 current\nbookmark 3 on 0 at 1 rle pending\nbookmark 4 on 0 at 2 mc pending\nlisted 7\n",
+    },
+    Row {
+        script: b"list\nlist 1\npoll 1\npeek\npeek 1 2\n",
+        replies: b"listed 0\nrefused 80 BadCommand 2\nrefused 80 BadCommand 3\nrefused 80 BadCommand 4\nrefused 80 BadCommand 5\n",
+    },
     // Texts without their end.
     Row {
         script: b"rule\n@RULE X\n",

@@ -5,7 +5,7 @@ pub returns : goal.returns
 returns g c =
     let ran = c.run-answered in
     answers_of
-    (g.P.Post.is_prompt c.args.post.now) g.R.Read.remaining g.W.Write.contents c.args.devices.reader
+    (g.P.Post.view c.args.post.now).is_prompt g.R.Read.remaining g.W.Write.contents c.args.devices.reader
     c.args.devices.writer ran.result c.of_run.result c.into_inner.result c.into_inner-2.result c.new-reader.result
     ran.new.reader c.new-writer.result ran.new.writer
     c.of_run.ensures c.new-reader.ensures c.new-writer.ensures c.into_inner.ensures c.into_inner-2.ensures.inner

@@ -3,18 +3,18 @@ use Rattle.desk_server.proofs.serve.serve.Goals as goal
 
 pub returns-in-Take-clause-answer : goal.returns-in-Take-clause-answer
 returns-in-Take-clause-answer g c =
-    serves-memory (g.P.Post.is_prompt c.args.post.now) c.args.request c.refused.result c.args.desk.now
+    serves-memory _ c.args.request c.refused.result c.args.desk.now
     (take-lacks c.args.request c.in-Take.format c.in-Take.text c.in-Take.is)
     (c.refused.ensures.text c.args.desk.now) c.refused.ensures.goes_on
 
 pub returns-in-Refuse-clause-answer : goal.returns-in-Refuse-clause-answer
 returns-in-Refuse-clause-answer g c =
     serves-refused
-    (g.P.Post.is_prompt c.args.post.now) c.args.request c.in-Refuse.fault c.refused-in-Refuse.result c.args.desk.now
+    _ c.args.request c.in-Refuse.fault c.refused-in-Refuse.result c.args.desk.now
     c.in-Refuse.is (c.refused-in-Refuse.ensures.text c.args.desk.now) c.refused-in-Refuse.ensures.goes_on
 
 pub returns-clause-answer : goal.returns-clause-answer
 returns-clause-answer g c =
-    serves-memory (g.P.Post.is_prompt c.args.post.now) c.args.request c.refused-in-NoMemory.result c.args.desk.now
+    serves-memory _ c.args.request c.refused-in-NoMemory.result c.args.desk.now
     (none-lacks c.args.request c.in-NoMemory.is)
     (c.refused-in-NoMemory.ensures.text c.args.desk.now) c.refused-in-NoMemory.ensures.goes_on

@@ -10,25 +10,26 @@ returns-in-0-clause-answer g c = (NoShortage, λ _. tt, search rules)
 pub returns-in_default-clause-answer : goal.returns-in_default-clause-answer
 returns-in_default-clause-answer g c =
     let some : c.pending.result ≢ 0 = search rules in
-    gives-unsettled
-    (g.P.Post.is_prompt c.args.post.now) c.args.desk.now.plan c.compute-cause.new.desk c.pending.result
+    gives-unsettled _ c.args.desk.now.plan c.compute-cause.new.desk c.pending.result
     c.compute-cause.result c.compute-cause.ensures.plan c.compute-cause.ensures.caused c.pending.ensures.count some
     c.pending.ensures.bound
 
 pub returns-in_default-clause-leaves : goal.returns-in_default-clause-leaves
 returns-in_default-clause-leaves g c =
     let some : c.pending.result ≢ 0 = search rules in
-    let explained = c.compute-cause.ensures.explained in (
-      explained.0,
-      explained.1,
-      (
+    let told = c.compute-cause.ensures.explained in
+    record {
+      later = told.later;
+      gave = told.gave;
+      leaves = (
         c.pending.ensures.count,
         nothing_out c.compute-cause.new.desk c.pending.result c.compute-cause.ensures.given_up c.pending.ensures.count
             some,
-        explained.2,
-      ),
-    )
+        told.explained,
+      );
+    }
 
 pub returns-in-0-clause-leaves : goal.returns-in-0-clause-leaves
-returns-in-0-clause-leaves g c = let explained =
-    c.compute-cause.ensures.explained in (explained.0, explained.1, search rules)
+returns-in-0-clause-leaves g c =
+    let told = c.compute-cause.ensures.explained in
+    record { later = told.later; gave = told.gave; leaves = search rules }

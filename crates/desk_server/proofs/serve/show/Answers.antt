@@ -5,25 +5,24 @@ use Rattle.desk_server.proofs.serve.show.Goals as goal
 
 pub returns-clause-answer : goal.returns-clause-answer
 returns-clause-answer g c =
-    gives-shown
-    (g.P.Post.is_prompt c.args.post.now) c.args.desk.now.plan c.compute.new.desk c.args.id c.shown-shown.result
+    gives-shown _ c.args.desk.now.plan c.compute.new.desk c.args.id c.shown-shown.result
     c.compute.ensures.plan c.shown-shown.ensures
 
 pub returns-then-ne-clause-answer : goal.returns-then-ne-clause-answer
 returns-then-ne-clause-answer g c =
-    gives-shown
-    (g.P.Post.is_prompt c.args.post.now) c.args.desk.now.plan c.args.desk.now c.args.id c.shown.result refl
-    c.shown.ensures
+    gives-shown _ c.args.desk.now.plan c.args.desk.now c.args.id c.shown.result refl c.shown.ensures
 
 pub returns-clause-leaves : goal.returns-clause-leaves
-returns-clause-leaves g c = let explained =
-    c.compute.ensures.explained in (explained.0, explained.1, λ pending. c.compute.ensures.given_up)
+returns-clause-leaves g c =
+    let told = c.compute.ensures.explained in
+    record { later = told.later; gave = told.gave; leaves = λ pending. c.compute.ensures.given_up }
 
 pub returns-then-ne-clause-leaves : goal.returns-then-ne-clause-leaves
 returns-then-ne-clause-leaves g c =
-    let other : c.shown.result ≢ Pending = search rules in (
-      [],
-      sym (append-nil (g.P.Post.answers c.args.post.now)),
-      λ pending.
-          absurd (not_pending c.args.desk.now c.args.id c.shown.result c.shown.ensures other pending),
-    )
+    let other : c.shown.result ≢ Pending = search rules in
+    record {
+      later = [];
+      gave = sym (append-nil _);
+      leaves = λ pending.
+          absurd (not_pending c.args.desk.now c.args.id c.shown.result c.shown.ensures other pending);
+    }

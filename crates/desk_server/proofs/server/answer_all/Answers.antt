@@ -8,5 +8,4 @@ answer_commands-answered-requires-clause-opening g c = ap (λ (k : BookState). k
 
 pub answer_commands-answered-requires-clause-carries : goal.answer_commands-answered-requires-clause-carries
 answer_commands-answered-requires-clause-carries g c =
-    carries_first g.P.Post.table g.P.Post.floor g.P.Post.is_prompt g.P.Post.held c.args.post.now c.args.entries.now
-    c.in-Ok.desk c.in-Ok.ensures.opened c.requires
+    carries_first _ c.args.entries.now c.in-Ok.desk c.in-Ok.ensures.opened c.requires

@@ -11,9 +11,9 @@ use Rattle.desk_server.proofs.server.answer_commands.Goals as goal
 
 pub script-init : goal.script-init
 script-init g c = rw c.begin.ensures (record {
-  answered = answers_none _ (g.P.Post.is_prompt c.args.post.now) _ _ _ (opening 0) c.args.desk.now.plan 1
+  answered = answers_none _ (g.P.Post.view c.args.post.now).is_prompt _ _ _ (opening 0) c.args.desk.now.plan 1
       (notes_none g.V.Watch.notes 0 c.args.watch.now) refl c.requires.opening;
-  post = record { kind = refl; carries = c.requires.carries };
+  post = record { limit = refl; kind = refl; carries = c.requires.carries };
   works = record { reads = refl; writes = refl; flushed = λ h. h };
 })
 
@@ -38,7 +38,7 @@ returns-then-last g c =
     let works : Works c.script.reader c.listen.new.reader c.script.writer c.script.writer = search rules in
     let ends = answers_finishes _ _ _ _ _ _ _ _ _ _ _ _ _ _
     (notes_join g.V.Watch.notes 0 _ _ _ _ _) h.answered
-    (done_silent _ (g.P.Post.is_prompt c.args.post.now) _ _ _ _ _ c.script.desk _ _
+    (done_silent _ (g.P.Post.view c.args.post.now).is_prompt _ _ _ _ _ c.script.desk _ _
     (notes_none g.V.Watch.notes _ c.script.watch) c.in_default-request.is c.if-last.true heard) in
     let all = completed g.V.Watch.notes _ _ _ _ _ _ _ _ ends (works_then _ _ _ _ _ _ h.works works) in
     record { done = all.0; noted = all.1; read = search rules; write = search rules }
@@ -51,7 +51,7 @@ script-preserved-in_default-request g c =
       answered =
           answers_answers _ _ _ _ _ _ _ _ _ _ _ _ _ _ _ _
           (notes_join g.V.Watch.notes 0 _ _ _ _ _) h.answered
-          (goes_on_silent _ (g.P.Post.is_prompt c.args.post.now) _ _ _ _ _ c.script.desk _ _
+          (goes_on_silent _ (g.P.Post.view c.args.post.now).is_prompt _ _ _ _ _ c.script.desk _ _
           (notes_none g.V.Watch.notes _ c.script.watch) c.in_default-request.is c.if-last.false c.in-Ok.ensures.heard);
       post = h.post;
       works = works_then _ _ _ _ _ _ h.works works;
@@ -60,7 +60,7 @@ script-preserved-in_default-request g c =
 pub returns-then-is_err-clause-write : goal.returns-then-is_err-clause-write
 returns-then-is_err-clause-write g c = λ _.
     let h = c.script.invariant in
-    let prompt = g.P.Post.is_prompt c.args.post.now in
+    let prompt = (g.P.Post.view c.args.post.now).is_prompt in
     let heard = c.in-Ok.ensures.heard in
     let fails : c.send.new.writer.failures ≡ c.script.writer.failures + 1 = search rules in
     record {
@@ -75,7 +75,7 @@ returns-then-is_err-clause-write g c = λ _.
 pub returns-then-eq : goal.returns-then-eq
 returns-then-eq g c =
     let h = c.script.invariant in
-    let prompt = g.P.Post.is_prompt c.args.post.now in
+    let prompt = (g.P.Post.view c.args.post.now).is_prompt in
     let heard = c.in-Ok.ensures.heard in
     let bye : c.serve-reply.result ≡ reply.Bye = search rules in
     let works : Works c.script.reader c.listen.new.reader c.script.writer c.send.new.writer = search rules in
@@ -92,7 +92,7 @@ returns-then-eq g c =
 pub returns-then-last-2 : goal.returns-then-last-2
 returns-then-last-2 g c =
     let h = c.script.invariant in
-    let prompt = g.P.Post.is_prompt c.args.post.now in
+    let prompt = (g.P.Post.view c.args.post.now).is_prompt in
     let heard = c.in-Ok.ensures.heard in
     let other : c.serve-reply.result ≢ reply.Bye = search rules in
     let works : Works c.script.reader c.listen.new.reader c.script.writer c.send.new.writer = search rules in
@@ -109,7 +109,7 @@ returns-then-last-2 g c =
 pub script-preserved : goal.script-preserved
 script-preserved g c =
     let h = c.script.invariant in
-    let prompt = g.P.Post.is_prompt c.args.post.now in
+    let prompt = (g.P.Post.view c.args.post.now).is_prompt in
     let heard = c.in-Ok.ensures.heard in
     let other : c.serve-reply.result ≢ reply.Bye = search rules in
     let works : Works c.script.reader c.listen.new.reader c.script.writer c.send.new.writer = search rules in
@@ -122,7 +122,6 @@ script-preserved g c =
           (served prompt c.in-Ok.heard.request c.in-Some.request heard.asked c.script.desk c.serve-reply.new.desk
           c.serve-reply.result c.in-Some.is heard.is (rw h.post.kind at c.serve-reply.ensures.answer))
           (wrote_is_ok _ _ c.send.result _ (sym c.is_err.ensures.value ∙ c.if-is_err.false) c.send.ensures.bytes));
-      post = carries_further g.P.Post.table g.P.Post.floor g.P.Post.is_prompt g.P.Post.held _ _ _ _ h.post.kind
-          c.serve-reply.ensures.post;
+      post = carries_further _ _ _ _ h.post.limit h.post.kind c.serve-reply.ensures.post;
       works = works_then _ _ _ _ _ _ h.works works;
     }

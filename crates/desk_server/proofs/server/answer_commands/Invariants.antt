@@ -9,10 +9,9 @@ use Rattle.desk_server.proofs.server.answer_commands.Given as goal
 abbrev pub invariant-script : goal.invariant-script
 invariant-script g l = record {
   answered : Answers (NotesOrCounts {V = g.row.V.Denot} g.V.Watch.notes 0 l.missed l.fn.watch l.watch)
-      (g.P.Post.is_prompt l.fn.post) l.fn.reader.ahead l.reader.ahead l.fn.writer.contents l.writer.contents
+      (g.P.Post.view l.fn.post).is_prompt l.fn.reader.ahead l.reader.ahead l.fn.writer.contents l.writer.contents
       (opening 0) l.desk.plan 1 (l.reader.lines + 1);
-  post : CarriesOn {P = g.row.P.Denot} g.P.Post.table g.P.Post.floor g.P.Post.is_prompt g.P.Post.held l.fn.post l.post
-      l.desk;
+  post : CarriesOn (g.P.Post.view l.fn.post) (g.P.Post.view l.post) l.desk;
   works : Works {R = g.row.R.Denot} {W = g.row.W.Denot} l.fn.reader l.reader l.fn.writer l.writer;
 }
 

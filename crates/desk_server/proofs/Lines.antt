@@ -1,0 +1,70 @@
+-- The lines of `list`.
+use Rattle.std.proofs.Common.{◌≡◌, ◌∙◌, ℕ, List, [], ◌∷◌, ◌++◌, Option, Some, None, map, length, refl, sym, ap, ap₂, append_assoc, codes}
+use Rattle.std.specs.Prelude.{decimal, flat_map, is_some}
+use Rattle.std.specs.Option.{option_map}
+use Rattle.schedule.specs.declared.acts.Acts.TheVariants.{Once, Every}
+use Rattle.schedule.specs.declared.document.Intervention.{Intervention}
+use Rattle.schedule.specs.declared.document.Bookmark.{Bookmark}
+use Rattle.dependency_book.specs.BookState.{BookState}
+use Rattle.dependency_book.specs.ShownRows.{shown_row, shown_rows}
+use Rattle.schedule.specs.declared.branch.Branch.{Branch}
+use Rattle.desk_server.specs.Listed.{acts_words, bookmark_line, branch_line, intervention_line, lines_of, listed_text}
+use Rattle.desk_server.specs.Told.{has_text, row_line}
+
+-- an intervention that acts once
+pub once-line : (i : Intervention) (generation n : ℕ) → i.acts ≡ Once generation → n ≡ length i.cells
+    → codes "intervention "
+    ++ (decimal i.id
+    ++ (codes " on "
+    ++ (decimal i.branch
+    ++ (codes " at " ++ (decimal generation ++ (codes " cells " ++ (decimal n ++ codes "\n")))))))
+    ≡ intervention_line i
+once-line i generation n acts count =
+    ap₂ (λ words cells. codes "intervention " ++ (decimal i.id ++ (codes " on " ++ (decimal i.branch
+    ++ (acts_words words ++ (codes " cells " ++ (decimal cells ++ codes "\n"))))))) (sym acts) count
+
+-- one that repeats
+pub every-line : (i : Intervention) (first every last n : ℕ) → i.acts ≡ Every first every last → n ≡ length i.cells
+    → codes "intervention "
+    ++ (decimal i.id
+    ++ (codes " on "
+    ++ (decimal i.branch
+    ++ (codes " every "
+    ++ (decimal every
+    ++ (codes " "
+    ++ (decimal first ++ (codes " " ++ (decimal last ++ (codes " cells " ++ (decimal n ++ codes "\n")))))))))))
+    ≡ intervention_line i
+every-line i first every last n acts count =
+    let rest = codes " cells " ++ (decimal n ++ codes "\n") in
+    ap (λ words. codes "intervention " ++ (decimal i.id ++ (codes " on " ++ (decimal i.branch ++ (codes " every " ++ words)))))
+    (sym (append_assoc (decimal every) (codes " " ++ (decimal first ++ (codes " " ++ decimal last))) rest
+    ∙ ap (λ words. decimal every ++ (codes " " ++ words)) (append_assoc (decimal first) (codes " " ++ decimal last) rest)))
+    ∙ ap₂ (λ words cells. codes "intervention " ++ (decimal i.id ++ (codes " on " ++ (decimal i.branch
+    ++ (acts_words words ++ (codes " cells " ++ (decimal cells ++ codes "\n"))))))) (sym acts) count
+
+-- a bookmark with its text, if it has one
+pub row-line : {T : Type 0} (b : Bookmark) (text : T → List ℕ) (o : Option T)
+    → row_line (b, option_map text o) ≡ bookmark_line b (is_some o)
+row-line b text None = refl
+row-line b text (Some t) = refl
+
+-- all bookmarks
+pub rows-lines : (d : BookState) (bs : List Bookmark)
+    → flat_map row_line (map (shown_row d) bs) ≡ flat_map (λ (b : Bookmark). bookmark_line b (has_text d b.id)) bs
+rows-lines d [] = refl
+rows-lines d (b ∷ bs) = ap (λ rest. bookmark_line b (has_text d b.id) ++ rest) (rows-lines d bs)
+
+-- all lines of a desk, and how many there are
+abbrev pub lines_text : BookState → List Branch → List Intervention → ℕ → List ℕ
+lines_text d branches interventions lines =
+    flat_map branch_line branches
+    ++ (flat_map intervention_line interventions
+    ++ (flat_map row_line (shown_rows d) ++ (codes "listed " ++ (decimal lines ++ codes "\n"))))
+
+pub all-lines : (d : BookState) (branches : List Branch) (interventions : List Intervention) (lines : ℕ)
+    → branches ≡ d.plan.branches → interventions ≡ d.plan.interventions → lines ≡ lines_of d.plan
+    → lines_text d branches interventions lines ≡ listed_text d.plan (has_text d)
+all-lines d branches interventions lines e f h =
+    ap₂ (λ b i. lines_text d b i lines) e f ∙ ap (lines_text d d.plan.branches d.plan.interventions) h
+    ∙ ap (λ rows. flat_map branch_line d.plan.branches ++ (flat_map intervention_line d.plan.interventions
+    ++ (rows ++ (codes "listed " ++ (decimal (lines_of d.plan) ++ codes "\n"))))) (rows-lines d d.plan.bookmarks)

@@ -1,0 +1,13 @@
+use Rattle.std.proofs.Common.{◌≡◌}
+use Rattle.std.specs.Prelude.{flat_map}
+use Rattle.script_lines.proofs.Shared.Told.{IsUnderWay}
+use Rattle.dependency_book.specs.ShownRows.{shown_rows}
+use Rattle.desk_server.specs.Told.{row_line}
+use Rattle.desk_server.proofs.listing.tell_bookmarks.Given as goal
+
+abbrev pub invariant-loop-bookmark : goal.invariant-loop-bookmark
+invariant-loop-bookmark g l = record {
+  told : IsUnderWay l.fn.writer.contents l.writer.contents (flat_map row_line (shown_rows l.fn.desk))
+      (flat_map row_line l.bookmark-iterator);
+  worked : l.writer.failures ≡ l.fn.writer.failures;
+}

@@ -1,0 +1,49 @@
+use Rattle.std.proofs.Common.{◌≡◌, ◌++◌, refl, subst, rules, codes}
+use Rattle.std.specs.Prelude.{decimal, flat_map}
+use Rattle.script_lines.specs.Faults.{AppendsFront, Wrote}
+use Rattle.script_lines.proofs.Shared.Told.{front_first, front_then, wrote_err}
+use Rattle.dependency_book.specs.ShownRows.{shown_rows}
+use Rattle.desk_server.specs.Listed.{branch_line, intervention_line, lines_of}
+use Rattle.desk_server.specs.Told.{row_line}
+use Rattle.desk_server.proofs.Lines.{all-lines}
+use Rattle.desk_server.proofs.Parts.{wrote_then}
+use Rattle.desk_server.proofs.listing.tell_list.Goals as goal
+
+pub returns-in_err-tell_branches-clause-bytes : goal.returns-in_err-tell_branches-clause-bytes
+returns-in_err-tell_branches-clause-bytes g c =
+    let d = c.args.desk.now in
+    wrote_err _ _ c.from_residual.result _ c.from_residual.ensures.0
+    (subst (AppendsFront _ _)
+    (all-lines d c.branches-branches.result.now d.plan.interventions (lines_of d.plan) (search rules) refl refl)
+    (front_first _ _ _ _ c.in_err-tell_branches.ensures.bytes))
+
+pub returns-in_err-tell_interventions-clause-bytes : goal.returns-in_err-tell_interventions-clause-bytes
+returns-in_err-tell_interventions-clause-bytes g c =
+    let d = c.args.desk.now in
+    wrote_err _ _ c.from_residual-in_err-tell_interventions.result _ c.from_residual-in_err-tell_interventions.ensures.0
+    (subst (AppendsFront _ _)
+    (all-lines d c.branches-branches.result.now c.interventions-interventions.result.now (lines_of d.plan) (search rules)
+    (search rules) refl)
+    (front_then _ _ _ _ _ c.in_ok-tell_branches.ensures.bytes
+    (front_first _ _ _ _ c.in_err-tell_interventions.ensures.bytes)))
+
+pub returns-in_err-tell_bookmarks-clause-bytes : goal.returns-in_err-tell_bookmarks-clause-bytes
+returns-in_err-tell_bookmarks-clause-bytes g c =
+    let d = c.args.desk.now in
+    wrote_err _ _ c.from_residual-in_err-tell_bookmarks.result _ c.from_residual-in_err-tell_bookmarks.ensures.0
+    (subst (AppendsFront _ _)
+    (all-lines d c.branches-branches.result.now c.interventions-interventions.result.now (lines_of d.plan) (search rules)
+    (search rules) refl)
+    (front_then _ _ _ _ _ c.in_ok-tell_branches.ensures.bytes
+    (front_then _ _ _ _ _ c.in_ok-tell_interventions.ensures.bytes
+    (front_first _ _ _ _ c.in_err-tell_bookmarks.ensures.bytes))))
+
+pub returns-clause-bytes : goal.returns-clause-bytes
+returns-clause-bytes g c =
+    let d = c.args.desk.now in
+    subst (Wrote _ _ c.tell_parts.result)
+    (all-lines d c.branches-branches.result.now c.interventions-interventions.result.now _ (search rules) (search rules)
+    (search rules))
+    (wrote_then _ _ _ c.tell_parts.result _ _ c.in_ok-tell_branches.ensures.bytes
+    (wrote_then _ _ _ c.tell_parts.result _ _ c.in_ok-tell_interventions.ensures.bytes
+    (wrote_then _ _ _ c.tell_parts.result _ _ c.in_ok-tell_bookmarks.ensures.bytes c.tell_parts.ensures.bytes)))

@@ -1,0 +1,7 @@
+use Rattle.std.proofs.Common.{refl}
+use Rattle.desk_server.specs.Shortage.{Known}
+use Rattle.desk_server.specs.Told.{has_text}
+use Rattle.desk_server.proofs.serve.list.Goals as goal
+
+pub returns : goal.returns
+returns c = (Known (has_text c.args.desk.now), λ _. tt, refl)
