@@ -101,6 +101,35 @@ def killed(by):
     return case
 
 
+# Polls
+
+LOOK = b"poll\npeek 2\nlist\n"
+LOOKED = (b"polled 1\nbookmark 2 pending\nbookmark 1 on 0 at 0 counts current\n"
+          b"bookmark 2 on 0 at 1000000 counts pending\nlisted 2\n")
+LOOKS, AT_A_TIME = 20000, 100
+# A program that quits waits for no worker. It takes some milliseconds, and may be put off on a busy machine.
+SECONDS_TO_QUIT = 3
+
+
+def quits_among_polls():
+    before, told = ENDLESS.replace(b"settle\nshow 2\n", b""), BEFORE_THE_KILL
+    for workers in ("1", "2", "8"):
+        with started("--workers", workers) as process:
+            process.stdin.write(before)
+            process.stdin.flush()
+            need(process.stdout.read(len(told)) == told, "other replies before the polls")
+            for _ in range(LOOKS // AT_A_TIME):
+                process.stdin.write(LOOK * AT_A_TIME)
+                process.stdin.flush()
+                found = process.stdout.read(len(LOOKED) * AT_A_TIME)
+                need(found == LOOKED * AT_A_TIME, shortened(found))
+            begun = time.monotonic()
+            out, err = process.communicate(LOOK + b"quit\n", timeout=SECONDS)
+            took = time.monotonic() - begun
+        expect((process.returncode, out, err), 0, LOOKED + b"bye\n")
+        need(took < SECONDS_TO_QUIT, f"with {workers} workers it took {took:.1f} s to quit")
+
+
 # Devices
 
 def input_is_closed():
@@ -374,6 +403,7 @@ def limited(script, judge, megabytes):
 CASES = {
     "SIGTERM in the middle": killed(signal.SIGTERM),
     "SIGKILL in the middle": killed(signal.SIGKILL),
+    "it quits among 20,000 polls": quits_among_polls,
     "standard input is closed": input_is_closed,
     "standard output is closed": output_is_closed,
     "standard error is closed": errors_are_closed,

@@ -44,6 +44,8 @@ class Plain(enum.Enum):
 
     SETTLE = b"settle"
     WORK = b"work"
+    POLL = b"poll"
+    LIST = b"list"
     QUIT = b"quit"
 
 
@@ -54,7 +56,14 @@ class Show:
     id: int
 
 
-Command = Union[Edit, Plain, Show]
+@dataclass(frozen=True)
+class Peek:
+    """To show a bookmark as it is known now."""
+
+    id: int
+
+
+Command = Union[Edit, Plain, Show, Peek]
 
 
 class NotACommand(Exception):
@@ -165,4 +174,5 @@ READERS: Dict[bytes, Callable[[Words], Command]] = {
     b"branch": lambda words: AddBranch(*_counts(words, 2)),
     b"unbranch": lambda words: RemoveBranch(*_counts(words, 1)),
     b"show": lambda words: Show(*_counts(words, 1)),
+    b"peek": lambda words: Peek(*_counts(words, 1)),
 }

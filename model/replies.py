@@ -2,14 +2,15 @@
 from __future__ import annotations
 
 from dataclasses import dataclass
-from typing import Iterator, List, NamedTuple, Optional, Union
+from typing import FrozenSet, Iterator, List, NamedTuple, Optional, Union
 
 import macrocells
 import rle
-from commands import Command, Format, NotACommand, Plain, Show, command_of, format_of
+from commands import Command, Format, NotACommand, Peek, Plain, Show, command_of, format_of
 from documents import Document
 from edits import Edit, ReplaceRule, ReplaceStart, changed
 from history import shown_by
+from listing import listed
 from refusals import Fault, Refused
 from rule_files import rule_of
 from texts import lines_of, words_of
@@ -45,8 +46,23 @@ class Pending:
     """A bookmark that was to be shown is pending."""
 
 
+@dataclass(frozen=True)
+class Still:
+    """So many bookmarks are pending after a poll, which met this cause, if it met one."""
+
+    pending: int
+    cause: Optional[int] = None
+
+
+@dataclass(frozen=True)
+class Known:
+    """Of the bookmarks that were listed the texts of these alone are known."""
+
+    ids: FrozenSet[int]
+
+
 # What was short when something was asked, if something was.
-Shortage = Union[None, Memory, Unsettled, Pending]
+Shortage = Union[None, Memory, Unsettled, Pending, Still, Known]
 
 
 class After(NamedTuple):
@@ -105,7 +121,7 @@ def answer(document: Document, ask: Ask, short: Shortage = None) -> After:
             raise ask
         if isinstance(ask, Text):
             return _taken(document, ask)
-        if isinstance(ask, Show):
+        if isinstance(ask, (Show, Peek)):
             return After(_shown(document, ask.id, isinstance(short, Pending)), document)
         return _edited(document, ask)
     except Refused as refused:
@@ -117,9 +133,20 @@ def _plain(document: Document, ask: Plain, short: Shortage) -> After:
         return After(b"bye\n", document, ends=True)
     if ask is Plain.WORK:
         return After(b"working\n", document)
+    if ask is Plain.LIST:
+        known = short.ids if isinstance(short, Known) else document.bookmarks.keys()
+        return After(listed(document, known), document)
+    if ask is Plain.POLL:
+        return After(_polled(document, short), document)
     if isinstance(short, Unsettled) and 1 <= short.pending <= len(document.bookmarks):
         return After(b"unsettled %d %d\n" % (short.pending, short.cause), document)
     return After(b"settled\n", document)
+
+
+def _polled(document: Document, short: Shortage) -> bytes:
+    if not isinstance(short, Still) or short.pending > len(document.bookmarks):
+        return b"polled 0\n"
+    return b"polled %d" % short.pending + (b"" if short.cause is None else b" %d" % short.cause) + b"\n"
 
 
 def _taken(document: Document, ask: Text) -> After:

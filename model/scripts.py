@@ -17,7 +17,7 @@ from typing import Callable, List, Sequence, Tuple
 
 import macrocells
 import rle
-from commands import Format, Plain, Show
+from commands import Format, Peek, Plain, Show
 from documents import Document, Elements
 from edits import FARTHEST, MOST_CELLS, MOST_INTERVENTIONS
 from random_patterns import EDGES, random_macrocell, random_rle
@@ -152,6 +152,9 @@ class _Writing:
             (8 * often, lambda: b"show %d" % self.id_of(self.document.bookmarks)),
             (6 * often, lambda: b"settle"),
             (5 * often, lambda: b"work"),
+            (6 * often, lambda: b"peek %d" % self.id_of(self.document.bookmarks)),
+            (6 * often, lambda: b"poll"),
+            (3 * often, lambda: b"list"),
             (2, lambda: chance.choice((b"", b"# a comment", b" \t ", b"#"))),
         )
         weights, writers = zip(*pieces)
@@ -298,7 +301,7 @@ def _document_behind(document: Document, piece: bytes) -> Document:
             raise _TooDear
         if ask is Plain.QUIT:
             raise _TooDear
-        if not isinstance(ask, (Plain, Show, Refused)):
+        if not isinstance(ask, (Plain, Show, Peek, Refused)):
             document = answer(document, ask).document
     return document
 

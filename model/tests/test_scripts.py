@@ -92,6 +92,25 @@ class Documents(unittest.TestCase):
             "refused 51 BeforeFork",
         )
 
+    def test_what_there_is_is_listed_by_rising_ids(self):
+        self.check(
+            "list\nmark 9 mc\nbranch 0 3\non 1 mark 7 window -4 -5 6 7\nevery 2 3 9 set 1 1 1 2 2 0\n"
+            "on 1 at 4 set 0 0 1\nbranch 1 3\nmark 0 counts\nmark 0 rle\nunmark 3\nmove 2 8\nchange 1 5 set 0 0 0\n"
+            "change 2 every 1 4 6 set 0 0 0 1 1 1 1 1 1\nlist\n",
+            "listed 0", "ok 1 bookmark 1", "ok 2 branch 1", "ok 3 bookmark 2", "ok 4 intervention 1",
+            "ok 5 intervention 2", "ok 6 branch 2", "ok 7 bookmark 3", "ok 8 bookmark 4", "ok 9", "ok 10", "ok 11",
+            "ok 12",
+            "branch 1 of 0 at 3", "branch 2 of 1 at 3", "intervention 1 on 0 at 5 cells 1",
+            "intervention 2 on 1 every 1 4 6 cells 3", "bookmark 1 on 0 at 9 mc current",
+            "bookmark 2 on 1 at 8 window -4 -5 6 7 current", "bookmark 4 on 0 at 0 rle current", "listed 7",
+        )
+
+    def test_a_peek_shows_as_show_does(self):
+        self.check(
+            RULE_X + "set 0 0 1\nmark 2 counts\npoll\npeek 1\npeek 2\n",
+            "ok 1", "ok 2", "ok 3 bookmark 1", "polled 0", "bookmark 1 current 4", "1 2", "refused 44 NoSuchBookmark",
+        )
+
     def test_limits(self):
         self.check(
             "set 1152921504606846975 0 1\nset 1152921504606846976 0 1\nmark 1152921504606846977 counts\n"
@@ -131,7 +150,8 @@ class Lines(unittest.TestCase):
     def test_what_is_no_command(self):
         for line in ("paint 3", "set 0 0", "set", "settle x", "show", "show x", "mark 0", "mark 0 window 1 1 1",
                      "at 1 0 0 1", "on 0 set 0 0 1", "on at 1 set 0 0 1", "every 1 2 set 0 0 1", "rule x", "start foo",
-                     "move 1", "set\t0 0 1", "set +1 0 1", "set 0 0 -1", "quit now"):
+                     "move 1", "set\t0 0 1", "set +1 0 1", "set 0 0 -1", "quit now",
+                     "peek", "peek 1 1", "poll 1", "list 0"):
             with self.subTest(line=line):
                 self.assertEqual(replied(f"\n# said\n{line}\n"), "refused 80 BadCommand 3\n")
 
