@@ -15,30 +15,58 @@ from __future__ import annotations
 import gzip
 import os
 import re
+import time
 import warnings
 import zlib
 from codecs import BOM_UTF8
-from typing import Callable, Dict, Iterable, List, NamedTuple, Optional, Union
+from dataclasses import dataclass
+from typing import Any, Callable, Dict, Iterable, List, NamedTuple, Optional, TypeVar, Union
 
+from accepted import Accepted, Edit, Line, edits_of
 from exchange import Exchange, Reply, Taken
 from lifelike import is_same_rule, rule_text
-from trouble import Ended, Malformed, Pending, Refused, Trouble  # noqa: F401
-from words import Cell, View, Window, branch_words, cell_words, checked_view, natural, view_words  # noqa: F401
+from listed import Bookmark, Branch, Intervention, Listing, listing_of  # noqa: F401
+from trouble import Ended, Malformed, Pending, Refused, TimedOut, Trouble  # noqa: F401
+from words import Cell, View, Window, branch_words, cell_words, checked_view, natural, view_of, view_words  # noqa: F401
 
 BUILT = os.path.normpath(f"{os.path.realpath(__file__)}/../../../crates/desk/out/desk")
-Shown = Union[Dict[int, int], List[List[int]], str]
+Shown = Union[Dict[int, int], List[List[int]], str, Any]  # anything is an array of numpy
 Keep = Callable[[List[str]], None]  # it keeps what the words of a reply tell
+Progress = Callable[[int, int], object]  # it is told how many bookmarks are pending, and how many there are
+Array = Callable[[List[List[int]], View], Any]  # it makes an array from the rows of a view
+Found = TypeVar("Found")
+SHORTEST_PAUSE, LONGEST_PAUSE = 0.0002, 0.005  # seconds between two polls
 
 
 class Settling(NamedTuple):
-    """How a settling ended: how many bookmarks are pending, and the number of the cause."""
+    """How a settling ended: how many bookmarks are pending, and the number of the cause.
+
+    The cause is None where bookmarks are pending because the time that was given is over.
+    """
 
     pending: int
-    cause: int
+    cause: Optional[int]
+
+
+@dataclass(frozen=True)
+class Polling:
+    """What a poll told: how many bookmarks are pending still, and the number of the cause if it met one."""
+
+    pending: int
+    cause: Optional[int] = None
 
 
 class RuleNameWarning(UserWarning):
     """A pattern names another rule than the one that is used."""
+
+
+def __getattr__(name: str) -> object:
+    """`sweep` is here too. It stands in a module of its own, which needs this one."""
+    if name == "sweep":
+        from sweep import sweep
+
+        return sweep
+    raise AttributeError(f"the module desk has no {name}")
 
 
 def text_of(path: str) -> bytes:
@@ -92,6 +120,31 @@ class Desk:
         self._views: Dict[int, View] = {}
         self._rule_name, self._pattern_rule = "", ""
         self._revision = 0
+        self._accepted = Accepted()
+
+    @classmethod
+    def open(
+        cls,
+        path: str,
+        program: Optional[str] = None,
+        squares: Optional[int] = None,
+        workers: Optional[int] = None,
+        facts: Optional[int] = None,
+    ) -> Desk:
+        """Starts a program and makes the document of a script, as `save` writes it.
+
+        Commands of the script that only look are passed over. An edit that is refused ends it.
+        """
+        edits = list(edits_of(text_of(path), path))
+        desk = cls(program, squares, workers, facts)
+        try:
+            for line in edits:
+                desk._make(line, path)
+            desk._compare_names()
+        except BaseException:
+            desk.close()
+            raise
+        return desk
 
     def __enter__(self) -> Desk:
         return self
@@ -107,6 +160,11 @@ class Desk:
         self._exchange.close()
 
     @property
+    def process(self) -> int:
+        """The number of the program's process."""
+        return self._exchange.process
+
+    @property
     def revision(self) -> int:
         """The document's. Where a call was broken off, what it does is waited for."""
         self._exchange.wait()
@@ -115,6 +173,11 @@ class Desk:
     def rule(self, path: str) -> None:
         """Takes the rule of a .rule file."""
         self._take_rule(text_of(path), path)
+        self._compare_names()
+
+    def rule_text(self, text: Union[str, bytes], name: str = "the rule's text") -> None:
+        """Takes the rule of the text of a .rule file. Refusals call it by the name that is given."""
+        self._take_rule(text.encode() if isinstance(text, str) else text, name)
         self._compare_names()
 
     def lifelike(self, name: str) -> None:
@@ -127,14 +190,11 @@ class Desk:
 
         The desk counts generations from 0 all the same.
         """
-        text = text_of(path)
+        return self._take_start(text_of(path), path)
 
-        def keep(words: List[str]) -> None:
-            self._pattern_rule = _rule_named_by(text)
-
-        words = self._edit("start mc" if text.startswith(b"[M2]") else "start rle", text, path, keep)
-        self._compare_names()
-        return int(words[3])
+    def start_text(self, text: Union[str, bytes], name: str = "the pattern's text") -> int:
+        """Takes the pattern of an RLE or macrocell text. Refusals call it by the name that is given."""
+        return self._take_start(text.encode() if isinstance(text, str) else text, name)
 
     def set(self, cells: Iterable[Cell]) -> None:
         """Sets cells of the start. The last mention of a cell wins."""
@@ -173,12 +233,8 @@ class Desk:
 
         Gives its id. The view is "counts", "rle", "mc" or a Window.
         """
-        kept_view, when = checked_view(view), f"mark {natural(generation, 'the generation')}"
-
-        def keep(words: List[str]) -> None:
-            self._views[int(words[3])] = kept_view
-
-        return int(self._edit(f"{branch_words(on)}{when} {view_words(kept_view)}", keep=keep)[3])
+        words, when = view_words(checked_view(view)), natural(generation, "the generation")
+        return self._mark(f"{branch_words(on)}mark {when} {words}")
 
     def move(self, bookmark: int, generation: int) -> None:
         """Moves a bookmark to another generation of its branch."""
@@ -204,26 +260,130 @@ class Desk:
         """Lets the workers begin with what is pending, and doesn't wait for them."""
         self._ask("work")
 
-    def settle(self) -> Settling:
-        """Computes the texts of all bookmarks as far as memory and squares reach."""
-        words = self._ask("settle").words
-        return Settling(0, 0) if words == ["settled"] else Settling(int(words[1]), int(words[2]))
+    def poll(self) -> Polling:
+        """Takes what the workers have computed and lets them go on, and waits for nobody."""
+        words = self._ask("poll").words
+        return Polling(int(words[1]), int(words[2]) if len(words) > 2 else None)
 
-    def show(self, bookmark: int) -> Shown:
+    def settle(self, timeout: Optional[float] = None, progress: Optional[Progress] = None) -> Settling:
+        """Computes the texts of all bookmarks as far as memory and squares reach.
+
+        With a timeout, in seconds, or a callback it polls again and again in place of one long wait. The callback
+        gets how many bookmarks are pending, and how many there are. Once the time is over the workers go on with
+        what is pending.
+        """
+        if timeout is None and progress is None:
+            words = self._ask("settle").words
+            return Settling(0, 0) if words == ["settled"] else Settling(int(words[1]), int(words[2]))
+        last = Polling(0)
+
+        def look() -> Optional[Settling]:
+            nonlocal last
+            last = self.poll()
+            if progress:
+                progress(last.pending, self._accepted.bookmarks)
+            if last.pending and last.cause is None:
+                return None
+            return Settling(last.pending, (last.cause or 0) if last.pending else 0)
+
+        return _repeated(look, timeout) or Settling(last.pending, None)
+
+    def show(self, bookmark: int, timeout: Optional[float] = None, as_array: bool = False) -> Shown:
         """What a bookmark shows; all bookmarks are settled first where it isn't known.
 
         Counts are a dict from each state that is there to its number of cells, a window is a list
-        of rows of states, a pattern is its text. Raises Pending where it couldn't be computed.
+        of rows of states, a pattern is its text. Raises Pending where it couldn't be computed, and TimedOut
+        where it wasn't within a timeout, in seconds.
+
+        As arrays of numpy a window has a row for each of its rows, and counts have the rows (state, cells).
         """
-        bookmark = natural(bookmark, "the bookmark")
-        reply = self._ask(f"show {bookmark}")
+        bookmark, array = natural(bookmark, "the bookmark"), _array() if as_array else None
+        if timeout is None:
+            reply = self._ask(f"show {bookmark}")
+        else:
+            reply = _repeated(lambda: self._polled(bookmark), timeout)
+            if reply is None:
+                raise TimedOut(f"bookmark {bookmark} is pending after {timeout} s")
         if reply.words[2] == "pending":
             raise Pending(f"bookmark {bookmark} is pending")
+        return self._shown(bookmark, reply, array)
+
+    def peek(self, bookmark: int, as_array: bool = False) -> Optional[Shown]:
+        """What a bookmark shows as `show` gives it, if that is known now, or None. Nothing is computed for it."""
+        bookmark, array = natural(bookmark, "the bookmark"), _array() if as_array else None
+        reply = self._ask(f"peek {bookmark}")
+        return None if reply.words[2] == "pending" else self._shown(bookmark, reply, array)
+
+    def list(self) -> Listing:
+        """The branches, interventions and bookmarks that there are, and which bookmarks are known now."""
+        return listing_of(self._ask("list").text.decode("latin-1"))
+
+    def script(self) -> bytes:
+        """A script that makes the document anew, with the same ids, by the edits that were accepted.
+
+        Run in a new program its bookmarks show the same. Edits that later ones made needless may lack, and then the
+        revision is lower. Where a call was broken off, what it does is waited for.
+        """
+        found: List[bytes] = []
+
+        def take(_reply: Optional[Reply] = None) -> None:
+            found.append(self._accepted.script())
+
+        if not self._exchange.wait(take):
+            take()
+        return found[0]
+
+    def save(self, path: str) -> None:
+        """Writes the script of the document to a file, which `open` takes. No half of one is left there."""
+        script, new = self.script(), f"{os.path.realpath(path)}.new"
+        try:
+            with open(new, "wb") as file:
+                file.write(script)
+            os.replace(new, os.path.realpath(path))
+        except OSError as fault:
+            raise Trouble(f"{path}: {fault.strerror or fault}") from fault
+
+    def _polled(self, bookmark: int) -> Optional[Reply]:
+        """Polls, and gives the reply of a bookmark if it is known or nothing more is computed for it."""
+        polling = self.poll()
+        reply = self._ask(f"peek {bookmark}")
+        is_over = polling.cause is not None or not polling.pending
+        return reply if is_over or reply.words[2] == "current" else None
+
+    def _shown(self, bookmark: int, reply: Reply, array: Optional[Array]) -> Shown:
+        """What the text of a bookmark says, by its view."""
         text, view = reply.text.decode("latin-1"), self._views[bookmark]
         if isinstance(view, str) and view != "counts":
+            if array:
+                raise Trouble(f"bookmark {bookmark} shows a text, which is no array")
             return text
         rows = [[int(it) for it in line.split()] for line in text.splitlines() if line != "empty"]
+        if array:
+            return array(rows, view)
         return dict(rows) if view == "counts" else rows
+
+    def _make(self, line: Line, path: str) -> None:
+        """Makes an edit of a script. A refusal has its line there."""
+        edit = line.edit
+        try:
+            if edit.kind == "mark":
+                self._mark(edit.command)
+            else:
+                self._edit(edit.command, edit.text, path)
+        except Refused as fault:
+            place, said = line.number + (fault.place or 0), fault.line or _brief(edit.command)
+            raise Refused(fault.number, fault.name, place, fault.told, path, said) from None
+        if edit.kind == "rule":
+            self._rule_name = _rule_named_by(edit.text or b"")
+        elif edit.kind == "start":
+            self._pattern_rule = _rule_named_by(edit.text or b"")
+
+    def _mark(self, command: str) -> int:
+        def keep(words: List[str]) -> None:
+            said = command.split(" ")
+            self._views[int(words[3])] = view_of(said[said.index("mark") + 2:])
+
+        return int(self._edit(command, keep=keep)[3])
 
     def _take_rule(self, text: bytes, path: str) -> None:
         def keep(words: List[str]) -> None:
@@ -231,10 +391,18 @@ class Desk:
 
         self._edit("rule", text, path, keep)
 
-    def _compare_names(self) -> None:
+    def _take_start(self, text: bytes, path: str) -> int:
+        def keep(words: List[str]) -> None:
+            self._pattern_rule = _rule_named_by(text)
+
+        words = self._edit("start mc" if text.startswith(b"[M2]") else "start rle", text, path, keep)
+        self._compare_names(4)
+        return int(words[3])
+
+    def _compare_names(self, above: int = 3) -> None:
         rule, named = self._rule_name, self._pattern_rule
         if rule and named and not is_same_rule(rule, named):
-            warnings.warn(f"the pattern names the rule {named}, and the rule is {rule}", RuleNameWarning, 3)
+            warnings.warn(f"the pattern names the rule {named}, and the rule is {rule}", RuleNameWarning, above)
 
     def _edit(
         self, command: str, text: Optional[bytes] = None, path: str = "", keep: Optional[Keep] = None
@@ -251,16 +419,51 @@ class Desk:
 
     def _ask(self, command: str, text: Optional[bytes] = None, path: str = "", taken: Optional[Taken] = None) -> Reply:
         """Sends a command and the text that belongs to it, and gives the reply."""
-        sent = command.encode() + b"\n"
-        if text is not None:
-            if re.search(rb"(?m)^[ \t]*end[ \t]*\r?$", text):
-                raise Trouble(f"{path}: a line is just `end`, and would end the text")
-            # A file's last line may lack its end, and `end` is a line of its own.
-            sent += text + (b"end\n" if text.endswith(b"\n") or not text else b"\nend\n")
-        reply = self._exchange.ask(sent, taken or (lambda reply: None))
+        if text is not None and re.search(rb"(?m)^[ \t]*end[ \t]*\r?$", text):
+            raise Trouble(f"{path}: a line is just `end`, and would end the text")
+
+        def kept(reply: Reply) -> None:
+            if reply.words[0] == "ok":
+                self._accepted.add(command, text, reply.words)
+            if taken:
+                taken(reply)
+
+        reply = self._exchange.ask(Edit(command, text).sent(), kept)
         if reply.words[0] == "refused":
-            raise _refusal(reply.words, text, path or f"`{command if len(command) < 60 else command[:57] + '...'}`")
+            raise _refusal(reply.words, text, path or f"`{_brief(command)}`")
         return reply
+
+
+def _repeated(look: Callable[[], Optional[Found]], timeout: Optional[float]) -> Optional[Found]:
+    """What a look finds. It is repeated until it finds something or the time is over, with pauses that grow."""
+    until, pause = None if timeout is None else time.monotonic() + timeout, SHORTEST_PAUSE
+    while True:
+        found = look()
+        left = pause if until is None else until - time.monotonic()
+        if found is not None or left <= 0:
+            return found
+        time.sleep(min(pause, left))
+        pause = min(2 * pause, LONGEST_PAUSE)
+
+
+def _array() -> Array:
+    """What makes an array of numpy from the rows of a view."""
+    try:
+        import numpy
+    except ImportError:
+        raise Trouble("this Python has no numpy, of which the arrays are") from None
+
+    def made(rows: List[List[int]], view: View) -> Any:
+        if view != "counts":
+            return numpy.array(rows, numpy.uint8)
+        fits = all(count < 2**63 for _, count in rows)
+        return numpy.array(rows, numpy.int64 if fits else object).reshape(-1, 2)
+
+    return made
+
+
+def _brief(command: str) -> str:
+    return command if len(command) < 60 else command[:57] + "..."
 
 
 def _every_words(distance: int, first: int, last: int) -> str:

@@ -20,7 +20,7 @@ CHUNK = 65536
 
 
 class Reply(NamedTuple):
-    """The words of a reply's line, and the text behind it if it shows a bookmark."""
+    """The words of a reply's last line, with the lines before it of a list, or the text behind it of a bookmark."""
 
     words: List[str]
     text: bytes
@@ -54,6 +54,11 @@ class Exchange:
         self._owner = os.getpid()
         weakref.finalize(self, _end, self._owner, self._run, self._requests)
 
+    @property
+    def process(self) -> int:
+        """The number of the program's process."""
+        return self._run.pid
+
     def ask(self, sent: bytes, taken: Taken = _ignored) -> Reply:
         """Sends a command and waits for its reply.
 
@@ -64,9 +69,9 @@ class Exchange:
             raise answer
         return answer
 
-    def wait(self) -> None:
-        """Waits until no reply is due any more."""
-        self._answer(b"", _ignored)
+    def wait(self, taken: Taken = _ignored) -> bool:
+        """Waits until no reply is due any more, and calls then. Where the program is gone it doesn't, and says so."""
+        return not isinstance(self._answer(b"", taken), Trouble)
 
     def close(self) -> None:
         """Ends the program, whatever it is at. A second time does nothing."""
@@ -114,11 +119,10 @@ class _Talk:
         if self._fault:
             kind, why = self._fault
             return kind(why)
-        if not request.sent:
-            return Reply([], b"")
         try:
-            self._write(request.sent)
-            reply = self._reply()
+            if request.sent:
+                self._write(request.sent)
+            reply = self._reply() if request.sent else Reply([], b"")
             request.taken(reply)
             return reply
         except Ended as ended:
@@ -144,17 +148,28 @@ class _Talk:
             raise self._ended() from fault
 
     def _reply(self) -> Reply:
-        while b"\n" not in self._rest:
-            self._read()
-        line, _, self._rest = self._rest.partition(b"\n")
-        words = line.decode("latin-1").split()
+        begin, lines = 0, 0
+        words, end = self._line(begin)
+        while words[0] in ("branch", "intervention") or words[0] == "bookmark" and words[2] == "on":
+            begin, lines = end, lines + 1
+            words, end = self._line(begin)
+        if lines != (int(words[1]) if words[0] == "listed" else 0):
+            raise ValueError("another number of lines")
         size = int(words[3]) if words[0] == "bookmark" and words[2] == "current" else 0
-        while len(self._rest) < size:
+        while len(self._rest) < end + size:
             self._read()
-        if len(self._rest) > size:
+        if len(self._rest) > end + size:
             raise ValueError("more than one reply")
-        text, self._rest = bytes(self._rest), bytearray()
+        text, self._rest = bytes(self._rest[end:] if size else self._rest[:begin]), bytearray()
         return Reply(words, text)
+
+    def _line(self, begin: int) -> Tuple[List[str], int]:
+        """The words of the line that begins there, and where the next one does."""
+        looked = begin
+        while (end := self._rest.find(b"\n", looked)) < 0:
+            looked = len(self._rest)
+            self._read()
+        return self._rest[begin:end].decode("latin-1").split(), end + 1
 
     def _read(self) -> None:
         found = self._run.stdout.read(CHUNK)

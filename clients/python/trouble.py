@@ -32,5 +32,9 @@ class Pending(Trouble):
     """A bookmark has no text, since a settling ended before. `settle` tells the cause."""
 
 
+class TimedOut(Pending):
+    """A bookmark has no text yet, and the time that was given is over. The workers go on."""
+
+
 class Ended(Trouble):
     """The program ended before it replied. The text has its exit status and what it wrote of it."""

@@ -7,7 +7,7 @@ from __future__ import annotations
 
 import operator
 from reprlib import repr as short
-from typing import Iterable, NamedTuple, Tuple, Union
+from typing import Iterable, NamedTuple, Sequence, Tuple, Union
 
 from trouble import Malformed
 
@@ -58,6 +58,11 @@ def checked_view(given: object) -> View:
 def view_words(given: View) -> str:
     """The words of a view."""
     return given if isinstance(given, str) else "window " + " ".join(map(str, given))
+
+
+def view_of(words: Sequence[str]) -> View:
+    """The view that words say, as `mark` takes them and `list` tells them."""
+    return words[0] if words[0] in TEXTS else Window(*map(int, words[1:]))
 
 
 def cell_words(cells: Iterable[Cell]) -> str:

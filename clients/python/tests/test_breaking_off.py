@@ -232,6 +232,26 @@ class BreakingOffTest(unittest.TestCase):
         self.assertEqual(desk.show(mark), wanted)
         self.assertEqual((desk.settle(), desk.revision), (Settling(0, 0), 4))
 
+    def test_looks_leave_no_reply_to_the_next(self):
+        desk, views = self.desk, ("rle", Window(0, 0, 200, 200), "counts", Window(1, 1, 2, 2))
+        desk.start(self.file("soup.rle", rle("looks", 300)[0]))
+        marks = [desk.mark(0, view) for view in views] * 3
+        for _ in range(500):
+            desk.mark(0, "counts")
+        desk.settle()
+        wanted, listed, script = [desk.show(it) for it in marks], desk.list(), desk.script()
+        looks = [desk.list, desk.poll, desk.script, lambda: desk.settle(5), lambda: desk.peek(marks[0]),
+                 lambda: desk.show(marks[1], 5)]
+        longest, broken = [duration(look, 3) for look in looks], 0
+        for moment in range(240):
+            look = moment % len(looks)
+            broken += is_broken_off(looks[look], longest[look] * moment / 240)
+            asked = moment * 7 % len(marks)
+            self.assertEqual(desk.peek(marks[asked]), wanted[asked], moment)
+            self.assertEqual((desk.list(), desk.poll().pending, desk.revision), (listed, 0, 505), moment)
+        self.assertEqual(desk.script(), script)
+        self.assertGreater(broken, 20)
+
     def test_close_waits_for_nothing(self):
         self.desk.rule(str(EXAMPLES / "brain.rule"))
         self.desk.start(str(EXAMPLES / "brain.rle"))

@@ -1,0 +1,226 @@
+"""Tests of looking at what is known, against the built program. They run with the other tests, or alone by
+
+    python3 -m unittest discover -s clients/python/tests -p test_looking.py
+"""
+import os
+import sys
+import tempfile
+import threading
+import time
+import unittest
+from importlib import util
+from pathlib import Path
+from unittest import mock
+
+sys.dont_write_bytecode = True
+CLIENTS = Path(__file__).resolve().parents[1]
+sys.path.insert(0, str(CLIENTS))
+
+from desk import (  # noqa: E402
+    BUILT,
+    Bookmark,
+    Branch,
+    Desk,
+    Intervention,
+    Listing,
+    Malformed,
+    Pending,
+    Polling,
+    Refused,
+    Settling,
+    TimedOut,
+    Trouble,
+    Window,
+)
+
+PROGRAM = os.environ.get("DESK") or BUILT
+EXAMPLES = CLIENTS.parents[1] / "examples"
+ENDLESS = 2**40 + 12345  # the brain's pattern there takes longer than anybody waits
+
+
+class WithBrain(unittest.TestCase):
+    def setUp(self):
+        self.desk = self.opened()
+
+    def opened(self, **options):
+        desk = Desk(PROGRAM, **options)
+        self.addCleanup(desk.close)
+        desk.rule(str(EXAMPLES / "brain.rule"))
+        desk.start(str(EXAMPLES / "brain.rle"))
+        return desk
+
+
+class LookingTest(WithBrain):
+    def test_a_peek_shows_what_is_known(self):
+        desk = self.desk
+        views = ("counts", "rle", "mc", Window(-3, -2, 5, 4))
+        marks = [desk.mark(8, view) for view in views]
+        self.assertEqual([desk.peek(it) for it in marks], [None] * 4)
+        self.assertEqual(desk.settle(), Settling(0, 0))
+        self.assertEqual([desk.peek(it) for it in marks], [desk.show(it) for it in marks])
+        self.assertEqual(len(desk.peek(marks[3])), 4)
+        desk.set([(0, 0, 0)])
+        self.assertIsNone(desk.peek(marks[0]))
+        with self.assertRaises(Refused) as caught:
+            desk.peek(99)
+        self.assertEqual((caught.exception.number, caught.exception.name), (44, "NoSuchBookmark"))
+        with self.assertRaises(Malformed):
+            desk.peek("1\nquit")
+
+    def test_polls_come_to_the_end(self):
+        desk = self.desk
+        self.assertEqual(desk.poll(), Polling(0))
+        marks, found, until = [desk.mark(it, "counts") for it in (3, 60, 9)], [], time.monotonic() + 30
+        while not found or found[-1].pending and time.monotonic() < until:
+            found.append(desk.poll())
+        self.assertEqual(found[0], Polling(3))
+        self.assertEqual(found[-1], Polling(0))
+        self.assertEqual(found, sorted(found, key=lambda it: -it.pending))
+        self.assertNotIn(None, [desk.peek(it) for it in marks])
+
+    def test_what_there_is_is_listed(self):
+        desk = self.desk
+        self.assertEqual(desk.list(), Listing())
+        desk.branch(0, 3)
+        desk.branch(1, 4)
+        desk.at(5, [(0, 0, 1)], on=1)
+        desk.every(2, 6, 60, [(0, 0, 1), (1, 0, 2)])
+        desk.mark(7, "rle", on=2)
+        desk.mark(2**60, Window(-5, -(2**60), 3, 2))
+        desk.unmark(desk.mark(1, "counts"))
+        desk.mark(0, "mc")
+        wanted = Listing(
+            [Branch(1, 0, 3), Branch(2, 1, 4)],
+            [Intervention(1, 1, 5, 5, None, 1), Intervention(2, 0, 6, 60, 2, 2)],
+            [Bookmark(1, 2, 7, "rle", False), Bookmark(2, 0, 2**60, Window(-5, -(2**60), 3, 2), False),
+             Bookmark(4, 0, 0, "mc", False)],
+        )
+        self.assertEqual(desk.list(), wanted)
+        desk.unmark(2)
+        desk.settle()
+        self.assertEqual(desk.list().bookmarks, [Bookmark(1, 2, 7, "rle", True), Bookmark(4, 0, 0, "mc", True)])
+
+    def test_a_long_list(self):
+        for number in range(4096):
+            self.desk.mark(number, "counts")
+        began = time.monotonic()
+        found = self.desk.list().bookmarks
+        self.assertLess(time.monotonic() - began, 5)
+        self.assertEqual([(it.id, it.generation) for it in found], [(it + 1, it) for it in range(4096)])
+        self.assertEqual(self.desk.revision, 4098)
+
+    def test_a_settling_tells_how_far_it_is(self):
+        desk, told = self.desk, []
+        for generation in (5, 40, 90):
+            desk.mark(generation, "counts")
+        desk.unmark(1)
+        self.assertEqual(desk.settle(progress=lambda *numbers: told.append(numbers)), Settling(0, 0))
+        self.assertEqual((told[0], told[-1]), ((2, 2), (0, 2)))
+        self.assertEqual(told, sorted(told, reverse=True))
+        self.assertEqual(desk.settle(timeout=0), Settling(0, 0))
+
+    def test_time_runs_out(self):
+        desk = self.desk
+        near, far = desk.mark(2, "counts"), desk.mark(ENDLESS, "counts")
+        for timeout in (0, 0.02, 0.3):
+            began = time.monotonic()
+            self.assertIn(desk.settle(timeout), (Settling(1, None), Settling(2, None)))
+            with self.assertRaisesRegex(TimedOut, f"bookmark 2 is pending after {timeout} s"):
+                desk.show(far, timeout=timeout)
+            self.assertGreaterEqual(time.monotonic() - began, 2 * timeout)
+            self.assertLess(time.monotonic() - began, 2 * timeout + 5)
+        wanted = {1: 14, 2: 12}
+        self.assertEqual(desk.show(near, timeout=30), wanted)
+        self.assertEqual([it.is_current for it in desk.list().bookmarks], [True, False])
+        desk.move(far, 2)
+        self.assertEqual(desk.show(far, timeout=30), wanted)
+
+    def test_a_callback_may_break_it_off(self):
+        self.desk.mark(ENDLESS, "counts")
+
+        def enough(pending, of):
+            raise KeyError((pending, of))
+
+        with self.assertRaisesRegex(KeyError, r"\(1, 1\)"):
+            self.desk.settle(progress=enough)
+        self.assertEqual(self.desk.poll(), Polling(1))
+
+    def test_a_cause_ends_it(self):
+        desk = self.opened(squares=64)
+        bookmark = desk.mark(64, "counts")
+        self.assertEqual(desk.settle(timeout=60), Settling(1, 71))
+        self.assertEqual(desk.settle(progress=lambda pending, of: None), Settling(1, 71))
+        with self.assertRaises(Pending) as caught:
+            desk.show(bookmark, timeout=60)
+        self.assertNotIsInstance(caught.exception, TimedOut)
+        polls, until = [], time.monotonic() + 60
+        while Polling(1, 71) not in polls and time.monotonic() < until:
+            polls.append(desk.poll())
+        self.assertEqual(set(polls) - {Polling(1)}, {Polling(1, 71)})
+
+    def test_several_threads_look_while_one_edits(self):
+        desk, ends, wrong = self.desk, threading.Event(), []
+        marks = [desk.mark(it, Window(0, 0, 1 + it, 1)) for it in range(4)]
+
+        def look(it):
+            while not ends.is_set():
+                found, listed = desk.peek(marks[it]), desk.list()
+                if found is not None and len(found[0]) != 1 + it or len(listed.bookmarks) != 4:
+                    wrong.append((it, found, listed))
+                if desk.poll().pending > 4 or desk.script().count(b"\nmark ") != 4:
+                    wrong.append(it)
+
+        threads = [threading.Thread(target=look, args=(it,)) for it in range(4)]
+        for thread in threads:
+            thread.start()
+        for edit in range(200):
+            desk.move(marks[edit % 4], edit % 30)
+        ends.set()
+        for thread in threads:
+            thread.join()
+        self.assertEqual(wrong, [])
+
+    def test_lists_that_make_no_sense_end_all(self):
+        branch = "branch 1 of 0 at 3\\n"
+        for reply in ("listed 1", f"{branch}listed 2", f"{branch}bye", "listed 0\\nok 1", "listed"):
+            with self.subTest(reply), tempfile.TemporaryDirectory() as folder:
+                odd = Path(folder) / "odd"
+                odd.write_text(f"#!/bin/sh\nprintf '{reply}\\n'\nexec sleep 60\n", encoding="utf-8")
+                odd.chmod(0o755)
+                with Desk(str(odd)) as desk:
+                    with self.assertRaisesRegex(Trouble, "the call was broken off by"):
+                        desk.list()
+                    with self.assertRaisesRegex(Trouble, "the call before was broken off by"):
+                        desk.peek(1)
+
+
+class ArrayTest(WithBrain):
+    def test_without_numpy_it_is_said(self):
+        bookmark = self.desk.mark(0, "counts")
+        with mock.patch.dict(sys.modules, {"numpy": None}):
+            for call in (self.desk.show, self.desk.peek):
+                with self.assertRaisesRegex(Trouble, "no numpy"):
+                    call(bookmark, as_array=True)
+        self.assertIsNone(self.desk.peek(bookmark))
+
+    @unittest.skipUnless(util.find_spec("numpy"), "there is no numpy")
+    def test_arrays(self):
+        desk = self.desk
+        window, counts, text = (desk.mark(2, it) for it in (Window(-2, -2, 6, 5), "counts", "rle"))
+        rows, numbers = desk.show(window), desk.show(counts)
+        for call in (desk.show, desk.peek):
+            found = call(window, as_array=True)
+            self.assertEqual((found.shape, str(found.dtype), found.tolist()), ((5, 6), "uint8", rows))
+            found = call(counts, as_array=True)
+            self.assertEqual((str(found.dtype), dict(found.tolist())), ("int64", numbers))
+            with self.assertRaisesRegex(Trouble, "no array"):
+                call(text, as_array=True)
+        desk.start(str(EXAMPLES / "doubling.mc"))
+        self.assertEqual(desk.show(desk.mark(0, "counts"), as_array=True).tolist(), [[1, 2**122]])
+        desk.set([(it, 0, 0) for it in range(3)])
+        with Desk(PROGRAM) as fresh:
+            self.assertEqual(fresh.show(fresh.mark(0, "counts"), as_array=True).shape, (0, 2))
+
+
+if __name__ == "__main__":
+    unittest.main()
