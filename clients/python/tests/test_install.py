@@ -26,7 +26,7 @@ with desk.Desk() as it:
 class InstallTest(unittest.TestCase):
     def test_all_modules_are_named(self):
         text = (CLIENTS / "pyproject.toml").read_text(encoding="utf-8")
-        named = re.search(r"(?m)^py-modules = \[(.*)\]$", text)[1]
+        named = re.search(r"(?ms)^py-modules = \[(.*?)\]$", text)[1]
         self.assertEqual(set(re.findall(r'"(\w+)"', named)), MODULES)
 
     @unittest.skipUnless(CAN_BUILD, "there is no pip, no setuptools or no wheel")
