@@ -1,5 +1,5 @@
 #!/bin/bash
-# Tests the built program, without proving anything, within five minutes on four processors.
+# Tests the built program, without proving anything, within ten minutes on four processors.
 #
 #     ./test.sh                 tests crates/desk/out/desk
 #     DESK=PROGRAM ./test.sh    tests another one
@@ -61,7 +61,7 @@ counted "allocations that are refused in turn" 120 python3 hostile/allocations.p
 python_tests "the model's own tests" 180 model/tests 'test*.py'
 counted "random scripts, compared with the model" 180 \
     python3 model/differ.py --count 300 --jobs 4 --seed "$(git rev-parse HEAD 2> /dev/null || echo 1)" --desk "$DESK"
-python_tests "the clients in Python" 120 clients/python/tests 'test*.py'
+python_tests "the clients in Python" 600 clients/python/tests 'test*.py'
 python_tests "the program's first build" 300 .ci '*_test.py'
 
 echo "$passed passed, $failed failed"

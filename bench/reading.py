@@ -4,7 +4,7 @@
     bench/reading.py [--desk PROGRAM]
 
 Strewn: 1,000,000 cells at random places of 2^57 by 2^57, whose 37 million distinct squares are more
-than a plane may have. Runs: 1,000,000 rows of a run of 15 cells and a single one, as far apart. Grid:
+than an engine holds. Runs: 1,000,000 rows of a run of 15 cells and a single one, as far apart. Grid:
 16,777,216 cells, each with empty ones round it, which are few distinct squares. The table has the
 processor seconds of the whole process, the peak of its memory, and the reply.
 """
