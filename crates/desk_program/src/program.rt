@@ -56,13 +56,18 @@ where
         return (no_memory, devices.reader, devices.writer);
     };
     let facts = options.facts;
+    let squares = options.squares;
     let body = |post: &mut PoolPost<'_, T>, devices: Devices<R, W>| -> (Ending, R, W)
-        requires post { post.old ≡ new_pool entries }
+        requires post { post.old ≡ new_pool entries squares }
         requires devices { AreOpenable devices L.name L.parts M.name M.parts }
         ensures { Answers false R.remaining W.contents devices.reader devices.writer
             result.0 result.1 result.2 }
-    { answer_over::<_, _, L, M, _>(rt, alloc, &entries, facts, post, devices) };
-    match pool(rt, alloc, &entries, gates, options.squares, devices, body) {
+    {
+        // What is asked of the post tells of its limit.
+        let _limit = squares;
+        answer_over::<_, _, L, M, _>(rt, alloc, &entries, facts, post, devices)
+    };
+    match pool(rt, alloc, &entries, gates, squares, devices, body) {
         Ok(answered) => answered,
         Err(
             NoPool {
