@@ -28,7 +28,7 @@ struct Scene<'e> {
     desk: Desk<'e>,
     post: Unruly<'e>,
     ghost own: { desk.table ≡ entries.now },
-    ghost posted: { post.first.table ≡ entries.now },
+    ghost posted: { post.table ≡ entries.now },
     ghost floor: { post.floor ≤ given_of desk },
 }
 

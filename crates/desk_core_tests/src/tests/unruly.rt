@@ -1,11 +1,11 @@
 //! A post that loses, repeats, delays and reorders answers, as a list says.
-ghost use Rattle.std.specs.Prelude.{◌≡◌, ◌≤◌};
-ghost use Rattle.std.specs.Option.{ForSome};
-ghost use Rattle.revision_jobs.specs.Posted.{IsOwnAnswer, IsReceived};
+ghost use Rattle.std.specs.Prelude.{◌≡◌};
+ghost use Rattle.revision_jobs.specs.Posted.{IsReceived};
 
 use desk_core::{Answer, Entries, InlinePost, Job, Post, Received, Sent};
 use revision_jobs::History;
 use std::alloc::Global;
+use std::marker::Model;
 
 /// What the post does where it is asked for an answer.
 #[derive(Clone, Copy, Debug)]
@@ -26,15 +26,38 @@ pub(super) enum Deed {
 /// answers what it holds.
 #[derive(Drop)]
 pub(super) struct Unruly<'a> {
-    pub(super) first: InlinePost<'a>,
+    first: InlinePost<'a>,
     second: InlinePost<'a>,
     last: Option<Answer>,
     deeds: &'static [Deed],
-    pub(super) floor: u64,
+    floor: u64,
     history: History,
-    ghost same: { (second.table ≡ first.table) × (second.limit ≡ first.limit) },
-    ghost below: { (first.floor ≤ floor) × (second.floor ≤ floor) },
-    ghost own: { ForSome last (IsOwnAnswer first.table first.limit) },
+}
+
+impl<'a> Model for Unruly<'a> {
+    ghost use Rattle.std.specs.Coded.{codes};
+    ghost use Rattle.std.specs.Prelude.{◌≡◌, ◌≤◌, IfSome, None, false};
+    ghost use Rattle.worlds.specs.World.{coded_world};
+    ghost use Rattle.revision_jobs.specs.Posted.{IsOwnAnswer, PostView};
+
+    ghost Value = { PostView };
+
+    ghost coded = { Prim.hlevel (codes, coded_world) };
+
+    ghost view = { λ u. record {
+      table = u.first.table;
+      limit = u.first.limit;
+      floor = u.floor;
+      answers = u.history.answers;
+      is_prompt = false;
+      held = None;
+      asked = u.history.asked;
+      is_over = u.history.is_over;
+    } };
+
+    ghost invariant = { λ u. (u.second.table ≡ u.first.table) × (u.second.limit ≡ u.first.limit)
+        × (u.first.floor ≤ u.floor) × (u.second.floor ≤ u.floor)
+        × IfSome u.last (IsOwnAnswer u.first.table u.first.limit) };
 }
 
 // What the one post answers, or else the other.
@@ -59,7 +82,7 @@ impl<'a> Unruly<'a> {
         squares: u32,
         deeds: &'static [Deed],
     ) -> Unruly<'a>
-        ensures { (result.first.table ≡ entries.now) × (result.floor ≡ 0) }
+        ensures { (result.table ≡ entries.now) × (result.floor ≡ 0) }
     {
         Unruly {
             first: InlinePost::new(alloc, entries, squares),
@@ -73,8 +96,7 @@ impl<'a> Unruly<'a> {
 
     // The next of the list.
     fn deed(&mut self) -> Deed
-        ensures { (self.new.first ≡ self.old.first) × (self.new.floor ≡ self.old.floor)
-            × (self.new.history ≡ self.old.history) }
+        ensures { self.new ≡ self.old }
     {
         match self.deeds.split_first() {
             Some((deed, rest)) => {
@@ -86,11 +108,8 @@ impl<'a> Unruly<'a> {
     }
 
     fn does(&mut self, deed: Deed) -> Received
-        ensures first { (self.new.first.table ≡ self.old.first.table)
-            × (self.new.first.limit ≡ self.old.first.limit) }
-        ensures kept { (self.new.floor ≡ self.old.floor)
-            × (self.new.history ≡ self.old.history) }
-        ensures own { IsReceived self.old.first.table self.old.first.limit result }
+        ensures kept { self.new ≡ self.old }
+        ensures own { IsReceived self.old.table self.old.limit result }
     {
         match deed {
             Deed::Waits => Received::Nothing,
@@ -109,18 +128,7 @@ impl<'a> Unruly<'a> {
 }
 
 impl<'a> Post for Unruly<'a> {
-    ghost use Rattle.std.specs.Prelude.{None, false};
-
-    ghost view = { λ post. record {
-      table = post.first.table;
-      limit = post.first.limit;
-      floor = post.floor;
-      answers = post.history.answers;
-      is_prompt = false;
-      held = None;
-      asked = post.history.asked;
-      is_over = post.history.is_over;
-    } };
+    ghost view = { λ post. post };
 
     fn send(&mut self, job: Job) -> Sent {
         let floor = u64::from(job.number) + 1;

@@ -6,7 +6,7 @@ use crate::tests::devices::Pieces;
 use crate::tests::posts::{Closes, Repeats, Reverses, Swallows};
 use crate::tests::{SQUARES, answer_over, same};
 use desk_server::{Entries, InlinePost, Post};
-use revision_jobs::Answers;
+use revision_jobs::History;
 use std::alloc::Global;
 use std::process::Abort;
 use std::sync::Wait;
@@ -55,6 +55,7 @@ fn swallows(
         entries: &entries,
         floor: 0,
         ended,
+        history: History::none(),
     };
     answers_over(rt, alloc, &entries, &mut post, script, replies, floor);
 }
@@ -86,6 +87,7 @@ fn closes(
     let mut post = Closes {
         inner: InlinePost::new(alloc, &entries, SQUARES),
         left,
+        history: History::none(),
     };
     answers_over(rt, alloc, &entries, &mut post, script, replies, floor);
 }
@@ -109,7 +111,7 @@ fn answers_may_come_twice(rt: HostRuntime) {
     let mut post = Repeats {
         inner: InlinePost::new(alloc, &entries, SQUARES),
         again: None,
-        answers: Answers::none(),
+        history: History::none(),
     };
     answers_over(&rt, alloc, &entries, &mut post, SCRIPT, SETTLED, 3);
 }
@@ -122,7 +124,7 @@ fn answers_may_come_in_another_order(rt: HostRuntime) {
         first: InlinePost::new(alloc, &entries, SQUARES),
         last: InlinePost::new(alloc, &entries, SQUARES),
         floor: 0,
-        answers: Answers::none(),
+        history: History::none(),
     };
     answers_over(&rt, alloc, &entries, &mut post, SCRIPT, SETTLED, 3);
 }

@@ -1,10 +1,10 @@
 //! Posts that aren't prompt: they swallow jobs, close, answer twice, or answer the last job first.
 ghost use Rattle.std.specs.Prelude.{◌≡◌, ◌≤◌};
 ghost use Rattle.std.specs.Option.{ForSome};
-ghost use Rattle.revision_jobs.specs.Entries.{IsOf};
+ghost use Rattle.revision_jobs.specs.Posted.{IsOwnAnswer};
 
 use desk_server::{Entries, InlinePost, Post};
-use revision_jobs::{Answer, Answers, Job, Received, Sent};
+use revision_jobs::{Answer, History, Job, Received, Sent};
 
 // Takes every job and answers none. It has ended, or there is no answer now.
 #[derive(Drop)]
@@ -12,32 +12,41 @@ pub struct Swallows<'a> {
     pub entries: &'a Entries,
     pub floor: u64,
     pub ended: bool,
+    pub history: History,
 }
 
 impl<'a> Post for Swallows<'a> {
-    ghost use Rattle.std.specs.Prelude.{[], None, false};
+    ghost use Rattle.std.specs.Prelude.{None, false};
 
-    ghost table = { λ post. post.entries.now };
-
-    ghost floor = { λ post. post.floor };
-
-    ghost answers = { λ _. [] };
-
-    ghost is_prompt = { λ _. false };
-
-    ghost held = { λ _. None };
+    ghost view = { λ post. record {
+      table = post.entries.now;
+      limit = 0;
+      floor = post.floor;
+      answers = post.history.answers;
+      is_prompt = false;
+      held = None;
+      asked = post.history.asked;
+      is_over = post.history.is_over;
+    } };
 
     fn send(&mut self, job: Job) -> Sent {
         self.floor = u64::from(job.number) + 1;
+        self.history.note_sent(&Sent::Taken);
         Sent::Taken
     }
 
     fn receive(&mut self) -> Received {
-        if self.ended {
+        let received = if self.ended {
             Received::Ended
         } else {
             Received::Nothing
-        }
+        };
+        self.history.note_received(&received);
+        received
+    }
+
+    fn try_receive(&mut self) -> Received {
+        self.receive()
     }
 
     fn floor(&self) -> u64 {
@@ -50,26 +59,31 @@ impl<'a> Post for Swallows<'a> {
 pub struct Closes<'a> {
     pub inner: InlinePost<'a>,
     pub left: u32,
+    pub history: History,
 }
 
 impl<'a> Post for Closes<'a> {
     ghost use Rattle.std.specs.Prelude.{None, false};
 
-    ghost table = { λ post. post.inner.table };
-
-    ghost floor = { λ post. post.inner.floor };
-
-    ghost answers = { λ post. post.inner.answers };
-
-    ghost is_prompt = { λ _. false };
-
-    ghost held = { λ _. None };
+    ghost view = { λ post. record {
+      table = post.inner.table;
+      limit = post.inner.limit;
+      floor = post.inner.floor;
+      answers = post.history.answers;
+      is_prompt = false;
+      held = None;
+      asked = post.history.asked;
+      is_over = post.history.is_over;
+    } };
 
     fn send(&mut self, job: Job) -> Sent {
         if self.left == 0 {
-            return Sent::Closed(job);
+            let sent = Sent::Closed(job);
+            self.history.note_sent(&sent);
+            return sent;
         }
         let sent = self.inner.send(job);
+        self.history.note_sent(&sent);
         if let Sent::Taken = sent {
             self.left -= 1;
         }
@@ -77,7 +91,13 @@ impl<'a> Post for Closes<'a> {
     }
 
     fn receive(&mut self) -> Received {
-        self.inner.receive()
+        let received = self.inner.receive();
+        self.history.note_received(&received);
+        received
+    }
+
+    fn try_receive(&mut self) -> Received {
+        self.receive()
     }
 
     fn floor(&self) -> u64 {
@@ -90,38 +110,46 @@ impl<'a> Post for Closes<'a> {
 pub struct Repeats<'a> {
     pub inner: InlinePost<'a>,
     pub again: Option<Answer>,
-    pub answers: Answers,
-    ghost own: { ForSome again (λ answer. IsOf inner.table answer.job.place) },
+    pub history: History,
+    ghost own: { ForSome again (IsOwnAnswer inner.table inner.limit) },
 }
 
 impl<'a> Post for Repeats<'a> {
     ghost use Rattle.std.specs.Prelude.{None, false};
 
-    ghost table = { λ post. post.inner.table };
-
-    ghost floor = { λ post. post.inner.floor };
-
-    ghost answers = { λ post. post.answers };
-
-    ghost is_prompt = { λ _. false };
-
-    ghost held = { λ _. None };
+    ghost view = { λ post. record {
+      table = post.inner.table;
+      limit = post.inner.limit;
+      floor = post.inner.floor;
+      answers = post.history.answers;
+      is_prompt = false;
+      held = None;
+      asked = post.history.asked;
+      is_over = post.history.is_over;
+    } };
 
     fn send(&mut self, job: Job) -> Sent {
-        self.inner.send(job)
+        let sent = self.inner.send(job);
+        self.history.note_sent(&sent);
+        sent
     }
 
     fn receive(&mut self) -> Received {
         if let Some(answer) = self.again.take() {
-            self.answers.push(&answer);
-            return Received::Answer(answer);
+            let received = Received::Answer(answer);
+            self.history.note_received(&received);
+            return received;
         }
-        let Received::Answer(answer) = self.inner.receive() else {
-            return Received::Nothing;
-        };
-        self.again = answer.again().ok();
-        self.answers.push(&answer);
-        Received::Answer(answer)
+        let received = self.inner.receive();
+        self.history.note_received(&received);
+        if let Received::Answer(answer) = &received {
+            self.again = answer.again().ok();
+        }
+        received
+    }
+
+    fn try_receive(&mut self) -> Received {
+        self.receive()
     }
 
     fn floor(&self) -> u64 {
@@ -135,23 +163,24 @@ pub struct Reverses<'a> {
     pub first: InlinePost<'a>,
     pub last: InlinePost<'a>,
     pub floor: u64,
-    pub answers: Answers,
-    ghost same: { last.table ≡ first.table },
+    pub history: History,
+    ghost same: { (last.table ≡ first.table) × (last.limit ≡ first.limit) },
     ghost below: { (first.floor ≤ floor) × (last.floor ≤ floor) },
 }
 
 impl<'a> Post for Reverses<'a> {
     ghost use Rattle.std.specs.Prelude.{None, false};
 
-    ghost table = { λ post. post.first.table };
-
-    ghost floor = { λ post. post.floor };
-
-    ghost answers = { λ post. post.answers };
-
-    ghost is_prompt = { λ _. false };
-
-    ghost held = { λ _. None };
+    ghost view = { λ post. record {
+      table = post.first.table;
+      limit = post.first.limit;
+      floor = post.floor;
+      answers = post.history.answers;
+      is_prompt = false;
+      held = None;
+      asked = post.history.asked;
+      is_over = post.history.is_over;
+    } };
 
     fn send(&mut self, job: Job) -> Sent {
         let floor = u64::from(job.number) + 1;
@@ -159,6 +188,7 @@ impl<'a> Post for Reverses<'a> {
             Sent::Full(job) => self.last.send(job),
             sent => sent,
         };
+        self.history.note_sent(&sent);
         if let Sent::Taken = sent {
             self.floor = floor;
         }
@@ -170,10 +200,12 @@ impl<'a> Post for Reverses<'a> {
             Received::Nothing => self.first.receive(),
             received => received,
         };
-        if let Received::Answer(answer) = &received {
-            self.answers.push(answer);
-        }
+        self.history.note_received(&received);
         received
+    }
+
+    fn try_receive(&mut self) -> Received {
+        self.receive()
     }
 
     fn floor(&self) -> u64 {

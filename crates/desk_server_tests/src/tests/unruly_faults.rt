@@ -3,7 +3,7 @@ use crate::tests::devices::{Narrow, Pieces};
 use crate::tests::posts::{Repeats, Swallows};
 use crate::tests::{SQUARES, answer_over, same};
 use desk_server::{Entries, InlinePost, RunFault};
-use revision_jobs::Answers;
+use revision_jobs::History;
 use std::alloc::Global;
 use std::process::Abort;
 use std::sync::Wait;
@@ -34,7 +34,7 @@ fn answer(
         let mut post = Repeats {
             inner: InlinePost::new(alloc, &entries, SQUARES),
             again: None,
-            answers: Answers::none(),
+            history: History::none(),
         };
         answer_over(rt, alloc, &entries, &mut post, pieces, narrow)
     } else {
@@ -42,6 +42,7 @@ fn answer(
             entries: &entries,
             floor: 0,
             ended: true,
+            history: History::none(),
         };
         answer_over(rt, alloc, &entries, &mut post, pieces, narrow)
     };
