@@ -108,11 +108,7 @@ fn a_closed_post_leaves_bookmarks_pending(rt: HostRuntime) {
 fn answers_may_come_twice(rt: HostRuntime) {
     let alloc = rt.alloc();
     let entries = Entries::new(alloc).expect(&rt, "memory");
-    let mut post = Repeats {
-        inner: InlinePost::new(alloc, &entries, SQUARES),
-        again: None,
-        history: History::none(),
-    };
+    let mut post = Repeats::new(alloc, &entries, SQUARES);
     answers_over(&rt, alloc, &entries, &mut post, SCRIPT, SETTLED, 3);
 }
 

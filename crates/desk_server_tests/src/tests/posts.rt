@@ -1,10 +1,10 @@
 //! Posts that aren't prompt: they swallow jobs, close, answer twice, or answer the last job first.
 ghost use Rattle.std.specs.Prelude.{◌≡◌, ◌≤◌};
-ghost use Rattle.std.specs.Option.{ForSome};
-ghost use Rattle.revision_jobs.specs.Posted.{IsOwnAnswer};
 
 use desk_server::{Entries, InlinePost, Post};
 use revision_jobs::{Answer, History, Job, Received, Sent};
+use std::alloc::Global;
+use std::marker::Model;
 
 // Takes every job and answers none. It has ended, or there is no answer now.
 #[derive(Drop)]
@@ -108,14 +108,20 @@ impl<'a> Post for Closes<'a> {
 // Gives each answer twice.
 #[derive(Drop)]
 pub struct Repeats<'a> {
-    pub inner: InlinePost<'a>,
-    pub again: Option<Answer>,
-    pub history: History,
-    ghost own: { ForSome again (IsOwnAnswer inner.table inner.limit) },
+    inner: InlinePost<'a>,
+    again: Option<Answer>,
+    history: History,
 }
 
-impl<'a> Post for Repeats<'a> {
-    ghost use Rattle.std.specs.Prelude.{None, false};
+impl<'a> Model for Repeats<'a> {
+    ghost use Rattle.std.specs.Coded.{codes};
+    ghost use Rattle.std.specs.Prelude.{IfSome, None, false};
+    ghost use Rattle.worlds.specs.World.{coded_world};
+    ghost use Rattle.revision_jobs.specs.Posted.{IsOwnAnswer, PostView};
+
+    ghost Value = { PostView };
+
+    ghost coded = { Prim.hlevel (codes, coded_world) };
 
     ghost view = { λ post. record {
       table = post.inner.table;
@@ -127,6 +133,25 @@ impl<'a> Post for Repeats<'a> {
       asked = post.history.asked;
       is_over = post.history.is_over;
     } };
+
+    ghost invariant = { λ post. IfSome post.again (IsOwnAnswer post.inner.table post.inner.limit) };
+}
+
+impl<'a> Repeats<'a> {
+    // A post without jobs.
+    pub fn new(alloc: Global, entries: &'a Entries, squares: u32) -> Repeats<'a>
+        ensures { (result.table ≡ entries.now) × (result.floor ≡ 0) }
+    {
+        Repeats {
+            inner: InlinePost::new(alloc, entries, squares),
+            again: None,
+            history: History::none(),
+        }
+    }
+}
+
+impl<'a> Post for Repeats<'a> {
+    ghost view = { λ post. post };
 
     fn send(&mut self, job: Job) -> Sent {
         let sent = self.inner.send(job);

@@ -2,7 +2,7 @@
 use crate::tests::devices::{Narrow, Pieces};
 use crate::tests::posts::{Repeats, Swallows};
 use crate::tests::{SQUARES, answer_over, same};
-use desk_server::{Entries, InlinePost, RunFault};
+use desk_server::{Entries, RunFault};
 use revision_jobs::History;
 use std::alloc::Global;
 use std::process::Abort;
@@ -31,11 +31,7 @@ fn answer(
         limit,
     };
     let (answered, narrow) = if repeats {
-        let mut post = Repeats {
-            inner: InlinePost::new(alloc, &entries, SQUARES),
-            again: None,
-            history: History::none(),
-        };
+        let mut post = Repeats::new(alloc, &entries, SQUARES);
         answer_over(rt, alloc, &entries, &mut post, pieces, narrow)
     } else {
         let mut post = Swallows {
