@@ -441,12 +441,12 @@ class DocumentsTest(unittest.TestCase):
         doubling = (EXAMPLES / "doubling.mc").read_text(encoding="utf-8")
         self.assertIn(f"start mc\n{doubling}end\n", (EXAMPLES / "doubling.script").read_text(encoding="utf-8"))
 
-    def test_help_names_the_commands_of_the_readme(self):
+    def test_help_names_the_commands_of_the_documents(self):
         said = subprocess.run([PROGRAM, "--help"], capture_output=True, text=True, timeout=50).stdout
         if "Commands of a script" not in said:
             self.skipTest("this program's help has no commands yet")
-        readme = (ROOT / "README.md").read_text(encoding="utf-8")
-        table = re.findall(r"(?m)^\| `(\w+)", readme.split("| command |")[1].split("\n\n")[0])
+        using = (ROOT / "docs/USING.md").read_text(encoding="utf-8")
+        table = re.findall(r"(?m)^\| `(\w+)", using.split("| command |")[1].split("\n\n")[0])
         helped = re.findall(r"(?m)^  ([a-z]+)\b", said.split("Commands of a script")[1].split("\n\n")[0])
         self.assertEqual(set(table), set(helped))
 
