@@ -9,37 +9,13 @@ included. bgolly runs its RuleLoader, and both get the rule as a table from the 
 `--more` it runs other patterns of the package, and soups under other rules; with `--leaps` those whose
 squares fill a table, which are worth running with `--squares 4194304`, the program's default, too.
 """
-import argparse
-import gzip
 import math
-import os
-import random
-import subprocess
 import sys
 import tempfile
 
-HERE = os.path.dirname(os.path.realpath(__file__))
+from measuring import LIFE, begun, measured, soup, text_of, words_of
+
 SQUARES = 16777216
-
-LIFE = """@RULE LifeTable
-@TABLE
-n_states:2
-neighborhood:Moore
-symmetries:permute
-var a={0,1}
-var b={0,1}
-var c={0,1}
-var d={0,1}
-var e={0,1}
-var f={0,1}
-var g={0,1}
-var h={0,1}
-0,1,1,1,0,0,0,0,0,1
-1,1,1,0,0,0,0,0,0,1
-1,1,1,1,0,0,0,0,0,1
-1,a,b,c,d,e,f,g,h,0
-"""
-
 
 # Other patterns of the package, their rules and how far they are followed.
 MORE = [
@@ -66,32 +42,6 @@ LEAPS = [
     ("Turmites/LangtonsAnt_LLRR.rle", "LangtonsAnt_LLRR", 2**20),
     ("Other-Rules/HPP-demo.rle", "HPP", 1000),
 ]
-
-
-def measured(words, given=None):
-    """Processor seconds, peak in MB and output of a program."""
-    with tempfile.TemporaryFile() as said, tempfile.TemporaryFile() as script:
-        script.write((given or "").encode())
-        script.seek(0)
-        child = subprocess.Popen(words, stdin=script, stdout=said, stderr=subprocess.DEVNULL)
-        _, status, used = os.wait4(child.pid, 0)
-        child.returncode = os.waitstatus_to_exitcode(status)
-        said.seek(0)
-        return used.ru_utime + used.ru_stime, used.ru_maxrss / 1024, said.read().decode(errors="replace")
-
-
-def soup(side, rule="LifeTable", dead="b", live="o"):
-    """A square of cells of which one in three lives, in one of some states, as RLE."""
-    chance = random.Random(1)
-    rows = ["".join(chance.choice(live) if chance.random() < 1 / 3 else dead for _ in range(side)) for _ in range(side)]
-    return f"x = {side}, y = {side}, rule = {rule}\n" + "$\n".join(rows) + "!\n"
-
-
-def text_of(path):
-    """A file's text, unpacked where it is packed."""
-    opened = gzip.open(path, "rt") if path.endswith(".gz") else open(path, encoding="utf-8")
-    with opened as file:
-        return file.read()
 
 
 def under(text, rule):
@@ -161,13 +111,11 @@ def listed(given):
 
 
 def desk_script(form, pattern, rule, generations):
-    return f"rule\n{rule.rstrip()}\nend\nstart {form}\n{pattern.rstrip()}\nend\nmark {generations} counts\nsettle\nshow 1\nquit\n"
+    return f"{begun(rule, pattern, form)}mark {generations} counts\nsettle\nshow 1\nquit\n"
 
 
 def main():
-    words = argparse.ArgumentParser(description=__doc__.splitlines()[0])
-    words.add_argument("--desk", default=f"{HERE}/../crates/desk/out/desk")
-    words.add_argument("--golly", default="/usr/share/golly")
+    words = words_of(__doc__, golly=True)
     words.add_argument("--only", default="")
     words.add_argument("--squares", type=int, default=SQUARES)
     kind = words.add_mutually_exclusive_group()

@@ -8,26 +8,12 @@ as many cells in the same square or row, strewn by another seed. So no step serv
 of the wall from `settle` to its reply, the median of the runs with one worker and with two in turns, and
 the texts that are shown have to be the same. The exit status is 1 where a ratio is above RATIO (0.6).
 """
-import argparse
-import os
 import random
 import statistics
-import subprocess
 import sys
-import time
 
-from bench import HERE, LIFE
+from measuring import LIFE, THIRTY, Session, taking, words_of
 
-THIRTY = """@RULE Thirty
-@TABLE
-n_states:2
-neighborhood:oneDimensional
-symmetries:none
-0,1,0,1
-0,0,1,1
-1,1,0,0
-1,1,1,0
-"""
 AT_A_TIME = 10_000  # cells that an intervention may name
 
 # Name, rule, width and height of what is strewn, how many cells, generations.
@@ -51,30 +37,15 @@ def document(rule, width, height, count, generations):
     for branch in (1, 2):
         edits += interventions(branch, width, height, count)
         edits.append(f"on {branch} mark {generations} counts")
-    return f"rule\n{rule.rstrip()}\nend\n" + "\n".join(edits) + "\n", 1 + len(edits)
+    return taking(rule) + "\n".join(edits) + "\n", 1 + len(edits)
 
 
 def settled(program, workers, text, replies):
     """The seconds of the settling, and what both bookmarks show."""
-    words = [program, "--workers", str(workers), "--squares", "16777216"]
-    with subprocess.Popen(words, stdin=subprocess.PIPE, stdout=subprocess.PIPE) as desk:
-
-        def asked(lines, count, word):
-            desk.stdin.write(lines.encode())
-            desk.stdin.flush()
-            for _ in range(count):
-                reply = desk.stdout.readline().decode()
-                if not reply.startswith(word):
-                    raise SystemExit(f"the reply is {reply!r}, not {word!r}")
-
-        asked(text, replies, "ok")
-        begun = time.perf_counter()
-        asked("settle\n", 1, "settled")
-        seconds = time.perf_counter() - begun
-        desk.stdin.write(b"show 1\nshow 2\nquit\n")
-        desk.stdin.close()
-        shown = desk.stdout.read()
-    return seconds, shown
+    with Session(program, workers=workers, squares=16777216) as desk:
+        desk.asked(text, *["ok"] * replies)
+        seconds = desk.asked("settle\n", "settled")
+        return seconds, desk.told("show 1\nshow 2\nquit\n")
 
 
 def compared(program, runs, case):
@@ -92,16 +63,14 @@ def compared(program, runs, case):
 
 
 def main():
-    words = argparse.ArgumentParser(description=__doc__.splitlines()[0])
-    words.add_argument("--desk", default=f"{HERE}/../crates/desk/out/desk")
-    words.add_argument("--runs", type=int, default=5)
+    words = words_of(__doc__, runs=5)
     words.add_argument("--most", type=float, default=0.6)
     given = words.parse_args()
     worst = 0.0
     print("| two branches | one worker, s | two workers, s | ratio |")
     print("|---|---|---|---|")
     for name, *case in CASES:
-        one, two = compared(os.path.abspath(given.desk), given.runs, case)
+        one, two = compared(given.desk, given.runs, case)
         worst = max(worst, two / one)
         print(f"| {name} | {one:.2f} | {two:.2f} | {two / one:.2f} |", flush=True)
     return 1 if worst > given.most else 0

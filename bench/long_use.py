@@ -8,10 +8,7 @@ Both have bookmarks at the generations 16 and 64, and are edited in two ways: a 
 intervention at generation 16. What an edit costs is the difference between a session of all edits and one of a tenth
 of them, so that what the pattern costs by itself doesn't count. With --part a tenth of the edits is made, say.
 """
-import argparse
-import os
-
-from bench import HERE, LIFE, measured, soup
+from measuring import LIFE, begun, measured, soup, words_of
 
 GLIDER = "x = 3, y = 3\nbo$2bo$3o!\n"
 MARKS = "mark 16 counts\nmark 64 counts\nat 16 set 300 0 1\nsettle\n"
@@ -33,15 +30,14 @@ PATTERNS = [("a glider", GLIDER, 100000), ("a soup of 256 by 256", soup(256), 50
 def session(pattern, edit, count):
     """A script of so many edits, each settled."""
     edits = "".join(f"{edit(k)}settle\n" for k in range(count))
-    return f"rule\n{LIFE}end\nstart rle\n{pattern}end\n{MARKS}{edits}quit\n"
+    return f"{begun(LIFE, pattern)}{MARKS}{edits}quit\n"
 
 
 def main():
-    words = argparse.ArgumentParser(description=__doc__, formatter_class=argparse.RawDescriptionHelpFormatter)
-    words.add_argument("--desk", default=f"{HERE}/../crates/desk/out/desk")
+    words = words_of(__doc__)
     words.add_argument("--part", type=float, default=1)
     given = words.parse_args()
-    desk = [os.path.abspath(given.desk)]
+    desk = [given.desk]
     print("| pattern | edits of | edits | s | MB | ms an edit | bytes an edit |\n|---|---|---|---|---|---|---|")
     for name, pattern, most in PATTERNS:
         for kind, edit in EDITS.items():

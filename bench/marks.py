@@ -9,11 +9,9 @@ that never changes, and is settled once. What is measured is the desk's own work
 Editing: a document with 4,096 interventions and 4,096 bookmarks takes 1,000 edits of each kind. The
 time of an edit is that of the script beside the same script without them.
 """
-import argparse
-import os
 import sys
 
-from bench import HERE, measured
+from measuring import measured, words_of
 
 MOST = 4096
 EDITS = 1000
@@ -43,10 +41,7 @@ KINDS = {
 
 
 def main():
-    words = argparse.ArgumentParser(description=__doc__.splitlines()[0])
-    words.add_argument("--desk", default=f"{HERE}/../crates/desk/out/desk")
-    given = words.parse_args()
-    desk = [os.path.abspath(given.desk)]
+    desk = [words_of(__doc__).parse_args().desk]
     print("| bookmarks that are settled | s | MB |")
     print("|---|---|---|")
     for marks in (512, 1024, 2048, 4096):

@@ -7,46 +7,15 @@
 - A job's way there and back: the time that a settling of one job adds to a script of edits.
 """
 
-import argparse
 import random
 import statistics
 import subprocess
 import time
 
-RULE = """rule
-@RULE X
-@TABLE
-n_states:2
-neighborhood:oneDimensional
-symmetries:none
-0,1,0,1
-0,0,1,1
-1,0,0,0
-1,1,1,0
-end
-"""
+from measuring import THIRTY, Session, begun, taking, words_of
 
 
-class Desk:
-    """A program that runs, to which commands are given one at a time."""
-
-    def __init__(self, program, *words):
-        self.process = subprocess.Popen(
-            [program, *words], stdin=subprocess.PIPE, stdout=subprocess.PIPE)
-
-    def ask(self, text, wanted):
-        self.process.stdin.write(text.encode())
-        self.process.stdin.flush()
-        reply = self.process.stdout.readline().decode().strip()
-        if not reply.startswith(wanted):
-            raise SystemExit(f"the reply is {reply!r}, not {wanted!r}")
-
-    def quit(self):
-        self.ask("quit\n", "bye")
-        self.process.wait()
-
-
-def soup(side, cells):
+def strewn(side, cells):
     """The RLE text of so many live cells in a square, strewn at random."""
     live = set(random.Random(1).sample(range(side * side), cells))
     rows = []
@@ -54,19 +23,16 @@ def soup(side, cells):
         row = "".join("o" if y * side + x in live else "b" for x in range(side))
         rows.append(row)
     body = "$\n".join(rows)
-    return f"start rle\nx = {side}, y = {side}, rule = X\n{body}!\nend\n"
+    return f"x = {side}, y = {side}, rule = Thirty\n{body}!"
 
 
 def views(program, workers, pattern, kinds):
-    desk = Desk(program, "--workers", str(workers))
-    desk.ask(RULE, "ok")
-    desk.ask(pattern, "ok")
-    for kind in kinds:
-        desk.ask(f"mark 0 {kind}\n", "ok")
-    begun = time.perf_counter()
-    desk.ask("settle\n", "settled")
-    taken = time.perf_counter() - begun
-    desk.quit()
+    with Session(program, workers=workers) as desk:
+        desk.asked(begun(THIRTY, pattern), "ok", "ok")
+        for kind in kinds:
+            desk.asked(f"mark 0 {kind}\n", "ok")
+        taken = desk.asked("settle\n", "settled")
+        desk.asked("quit\n", "bye")
     return taken
 
 
@@ -79,7 +45,7 @@ def run_once(program, words, script):
 def edits(count, line):
     """So many edits of one cell, each with this line behind it."""
     body = "".join(f"set 0 0 {1 - turn % 2}\n{line}" for turn in range(count))
-    return (RULE + "mark 0 counts\n" + body + "quit\n").encode()
+    return (taking(THIRTY) + "mark 0 counts\n" + body + "quit\n").encode()
 
 
 def medians(runs, *calls):
@@ -92,14 +58,12 @@ def medians(runs, *calls):
 
 
 def main():
-    parser = argparse.ArgumentParser()
-    parser.add_argument("--desk", default="crates/desk/out/desk")
-    parser.add_argument("--runs", type=int, default=9)
+    parser = words_of(__doc__, runs=9)
     parser.add_argument("--cells", type=int, default=1_000_000)
     options = parser.parse_args()
     program = options.desk
 
-    pattern = soup(2 * int(options.cells ** 0.5), options.cells)
+    pattern = strewn(2 * int(options.cells ** 0.5), options.cells)
     for kinds in (("rle", "rle"), ("rle", "mc")):
         one, two = medians(
             options.runs,

@@ -8,11 +8,9 @@ than an engine holds. Runs: 1,000,000 rows of a run of 15 cells and a single one
 16,777,216 cells, each with empty ones round it, which are few distinct squares. The table has the
 processor seconds of the whole process, the peak of its memory, and the reply.
 """
-import argparse
-import os
 import random
 
-from bench import HERE, LIFE, measured
+from measuring import LIFE, begun, measured, words_of
 
 ROWS = 1_000_000
 
@@ -37,15 +35,12 @@ def grid():
 
 
 def main():
-    words = argparse.ArgumentParser(description=__doc__.splitlines()[0])
-    words.add_argument("--desk", default=f"{HERE}/../crates/desk/out/desk")
-    desk = os.path.abspath(words.parse_args().desk)
+    desk = words_of(__doc__).parse_args().desk
     print("| text | MB of text | reply | s | MB |")
     print("|---|---|---|---|---|")
     for case in (strewn, runs, grid):
         pattern = f"x = 0, y = 0, rule = LifeTable\n{case()}!"
-        script = f"rule\n{LIFE.rstrip()}\nend\nstart rle\n{pattern}\nend\nquit\n"
-        seconds, peak, said = measured([desk], script)
+        seconds, peak, said = measured([desk], f"{begun(LIFE, pattern)}quit\n")
         reply = said.splitlines()[1]
         print(f"| {case.__name__} | {len(pattern) / 1e6:.0f} | `{reply}` | {seconds:.1f} | {peak:.0f} |", flush=True)
     return 0

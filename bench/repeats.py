@@ -8,13 +8,10 @@ so that each generation is a mark. A pattern of two cells that never changes sho
 a mark; one that blinks is computed once for each of its two states. Then one of the interventions is
 changed where nothing is felt, and where it is.
 """
-import argparse
-import os
-
-from bench import HERE, LIFE, measured
+from measuring import LIFE, measured, taking, words_of
 
 STILL = "set 0 0 1 1 0 1\n"
-BLINKER = f"rule\n{LIFE.rstrip()}\nend\nset 0 0 1 1 0 1 2 0 1\n"
+BLINKER = f"{taking(LIFE)}set 0 0 1 1 0 1 2 0 1\n"
 MOST = 8192  # marks of interventions that repeat
 
 CASES = [
@@ -32,9 +29,7 @@ def document(start, count):
 
 
 def main():
-    words = argparse.ArgumentParser(description=__doc__.splitlines()[0])
-    words.add_argument("--desk", default=f"{HERE}/../crates/desk/out/desk")
-    desk = [os.path.abspath(words.parse_args().desk)]
+    desk = [words_of(__doc__).parse_args().desk]
     print("| document of 8,192 marks | s to make it | s to settle it | MB | ms of an edit that isn't felt | ms of one that is |")
     print("|---|---|---|---|---|---|")
     for name, start, count in CASES:

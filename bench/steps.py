@@ -8,13 +8,11 @@ in as many increments. The last column is what it costs to settle once more afte
 0.9 of the way was changed, in the hundred of the first settling. Each number is the median of the
 runs, in processor seconds of the whole process.
 """
-import argparse
-import os
 import statistics
 import sys
 import tempfile
 
-from bench import HERE, LIFE, measured, soup, text_of
+from measuring import LIFE, begun, measured, soup, text_of, words_of
 
 
 def as_history(text):
@@ -41,12 +39,12 @@ def cases(golly):
 def script(form, pattern, rule, generations, marks, is_changed):
     """A document with its marks and an intervention, settled, and once more after a change."""
     at = generations * 9 // 10
-    lines = ["rule", rule.rstrip(), "end", f"start {form}", pattern.rstrip(), "end", f"at {at} set 1000 1000 1"]
+    lines = [f"at {at} set 1000 1000 1"]
     lines += [f"mark {generations * k // marks} counts" for k in range(1, marks + 1)]
     lines.append("settle")
     if is_changed:
         lines += [f"change 1 {at} set 1001 1000 1", "settle"]
-    return "\n".join([*lines, "quit"]) + "\n"
+    return begun(rule, pattern, form) + "\n".join([*lines, "quit"]) + "\n"
 
 
 def seconds_of(desk, text, settlings):
@@ -57,14 +55,11 @@ def seconds_of(desk, text, settlings):
 
 
 def main():
-    words = argparse.ArgumentParser(description=__doc__.splitlines()[0])
-    words.add_argument("--desk", default=f"{HERE}/../crates/desk/out/desk")
-    words.add_argument("--golly", default="/usr/share/golly")
+    words = words_of(__doc__, golly=True, runs=3)
     words.add_argument("--only", default="")
     words.add_argument("--marks", type=int, default=64)
-    words.add_argument("--runs", type=int, default=3)
     given = words.parse_args()
-    desk = [os.path.abspath(given.desk)]
+    desk = [given.desk]
     print(f"| pattern, {given.marks} marks | desk s | bgolly s | ratio | desk MB | bgolly MB | changed, in the hundred |")
     print("|---|---|---|---|---|---|---|")
     with tempfile.TemporaryDirectory() as room:

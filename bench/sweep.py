@@ -11,7 +11,6 @@ A cut is an intervention that empties a cell of the conductor of Langton's loop,
 4,200 are asked for. The sweep tells each case as edits of the one before; beside it some of the cases are run with a
 program that is started for each of them.
 """
-import argparse
 import csv
 import os
 import re
@@ -20,7 +19,7 @@ import sys
 import tempfile
 import time
 
-from bench import HERE, LIFE
+from measuring import HERE, LIFE, words_of
 
 CLIENTS = f"{HERE}/../clients/python"
 sys.path.insert(0, CLIENTS)
@@ -116,10 +115,7 @@ def cuts(desk, count):
 
 
 def main():
-    form = argparse.RawDescriptionHelpFormatter
-    words = argparse.ArgumentParser(description=__doc__, formatter_class=form)
-    words.add_argument("--desk", default=os.environ.get("DESK") or f"{HERE}/../crates/desk/out/desk")
-    words.add_argument("--golly", default="/usr/share/golly")
+    words = words_of(__doc__, golly=True)
     words.add_argument("--soups", type=int, default=500)
     words.add_argument("--jobs", type=int, default=1)
     words.add_argument("--cuts", type=int, default=4096)
@@ -127,11 +123,10 @@ def main():
     given = words.parse_args()
     cut.golly = given.golly
     os.sched_setaffinity(0, sorted(os.sched_getaffinity(0))[-given.jobs:])
-    desk = os.path.abspath(given.desk)
     if given.only != "cuts":
-        soups(desk, given.soups, given.jobs)
+        soups(given.desk, given.soups, given.jobs)
     if given.only != "soups":
-        cuts(desk, given.cuts)
+        cuts(given.desk, given.cuts)
     return 0
 
 

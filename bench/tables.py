@@ -10,11 +10,9 @@ kept as a table; the processor seconds and the peak of memory are those of findi
 Expanded: the table has 200 states and just under 1,000,000 expanded transitions, by two variables
 of all states under rotate8. Its tree has about half a million nodes.
 """
-import argparse
-import os
 import sys
 
-from bench import HERE, measured
+from measuring import measured, words_of
 
 LINES = (
     "0,z1,z2,z3,z4,a,z5,z6,a,1",
@@ -44,13 +42,11 @@ def expanded(states):
 
 
 def main():
-    words = argparse.ArgumentParser(description=__doc__.splitlines()[0])
-    words.add_argument("--desk", default=f"{HERE}/../crates/desk/out/desk")
-    given = words.parse_args()
+    desk = [words_of(__doc__).parse_args().desk]
     print("| table | states | s | MB |")
     print("|---|---|---|---|")
     for table, states in ((corners, 32), (corners, 48), (corners, 64), (corners, 255), (expanded, 200)):
-        seconds, peak, said = measured([os.path.abspath(given.desk)], table(states))
+        seconds, peak, said = measured(desk, table(states))
         kept = "" if said.startswith("ok 1") else f" ({said.splitlines()[0]})"
         print(f"| {table.__name__} | {states}{kept} | {seconds:.1f} | {peak:.0f} |", flush=True)
     return 0

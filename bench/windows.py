@@ -7,11 +7,9 @@ A script marks many windows of one start, each a cell further to the right, and 
 has the processor milliseconds of one window: what the script takes more than one without windows,
 shared out. To compare two programs, run it once with each.
 """
-import argparse
-import os
 import sys
 
-from bench import HERE, LIFE, measured, soup
+from measuring import LIFE, begun, measured, soup, words_of
 
 WINDOWS = 100
 SIDE = 256
@@ -40,9 +38,8 @@ CASES = {
 
 def script(start, left, top, windows):
     """A script with so many windows of a start."""
-    head = ["rule", LIFE.rstrip("\n"), "end", "start rle", start.rstrip("\n"), "end"]
     marks = [f"mark 0 window {left + k} {top} {SIDE} {SIDE}" for k in range(windows)]
-    return "\n".join([*head, *marks, "settle", "quit"]) + "\n"
+    return begun(LIFE, start) + "\n".join([*marks, "settle", "quit"]) + "\n"
 
 
 def least(program, given):
@@ -51,9 +48,7 @@ def least(program, given):
 
 
 def main():
-    words = argparse.ArgumentParser(description=__doc__.splitlines()[0])
-    words.add_argument("--desk", default=f"{HERE}/../crates/desk/out/desk")
-    program = os.path.abspath(words.parse_args().desk)
+    program = words_of(__doc__).parse_args().desk
     print("| window of | ms |")
     print("|---|---|")
     for name, (start, left, top) in CASES.items():

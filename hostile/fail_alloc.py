@@ -1,7 +1,7 @@
 #!/usr/bin/env python3
 """Runs the tests of crates again and again, with one more allocation of each test failing each time.
 
-    bench/fail_alloc.py [--minutes 30] [--at 1,2,3,..] [CRATE_tests ..]
+    hostile/fail_alloc.py [--minutes 30] [--at 1,2,3,..] [CRATE_tests ..]
 
 A test that has no memory is to end by a refusal that says so, "memory", NoMemory or 70. Printed is
 whatever else happens: a fault, a hang, another end, or a test that passes although a later failing
