@@ -2,6 +2,7 @@
 #![tactic(auto)]
 
 use desk_program::{given_words, start};
+use std::io::IsTerminal;
 use std::marker::Brand;
 use std::process::ExitCode;
 use std::sync::ledger::Blank;
@@ -13,6 +14,7 @@ fn main(rt: HostRuntime) -> ExitCode {
         &rt,
         rt.alloc(),
         &words,
+        rt.stdin().is_terminal(),
         rt.stdin(),
         rt.stdout(),
         Blank::new(1),

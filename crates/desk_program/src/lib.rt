@@ -9,9 +9,11 @@
 
 mod devices;
 mod ending;
+mod greeting;
 mod program;
 
 pub use desk_server::RunFault;
 pub use desk_words::{OptionFault, given_words};
 pub use ending::{Ending, report, tell};
+pub use greeting::greeting;
 pub use program::start;

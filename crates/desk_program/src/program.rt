@@ -8,6 +8,7 @@ ghost use Rattle.desk_program.specs.Start.{Answers, AreOpenable, Opens, Starts};
 
 use crate::devices::{Devices, answer_over};
 use crate::ending::{Ending, report, tell};
+use crate::greeting::greet;
 use desk_server::{Entries, RunFault};
 use desk_words::{Options, check_words};
 use job_pool::{NoPool, PoolPost, pool};
@@ -79,14 +80,15 @@ where
 }
 
 /// Reads the words, and answers the script if they are in order, with the workers and the squares
-/// that they choose; or says on the outputs why they are not, and leaves both devices untouched. It
-/// tells how that ended, gives the exit status, and hands both devices back. Failures of the devices
+/// that they choose; or says on the outputs why they are not, and leaves both devices untouched. Where
+/// the script is typed it says first on standard error what it waits for. It tells how that ended, gives the exit status, and hands both devices back. Failures of the devices
 /// are counted in ledgers of their own, made of the two blanks.
 pub fn start<T, H: Print + Eprint, R, W, L: Ledger, M: Ledger>(
     rt: &T,
     outputs: &H,
     alloc: Global,
     words: &io::Result<Vec<String>>,
+    is_typed: bool,
     reader: R,
     writer: W,
     reader_blank: Blank,
@@ -105,6 +107,7 @@ where
 {
     match check_words(alloc, words) {
         Ok(options) => {
+            greet(outputs, is_typed);
             let devices = Devices {
                 reader,
                 writer,

@@ -1,5 +1,5 @@
 //! What is written where, and the endings.
-use desk_program::{Ending, OptionFault, RunFault, report, start, tell};
+use desk_program::{Ending, OptionFault, RunFault, greeting, report, start, tell};
 use std::alloc::Global;
 use std::cell::Cell;
 use std::fmt::{Debug, Display};
@@ -188,11 +188,22 @@ fn words_of(rt: &impl Abort, alloc: Global, word: &str) -> Vec<String> {
     words
 }
 
-// The program's status with this word, and what the writer then holds.
+// The program's status with this word, and what the writer then holds, where the script isn't typed.
 fn started<R: Read + Drop, W: Write + Drop>(
     rt: &(impl Abort + Threads + Wait + Sync),
     outputs: &Outputs,
     word: &str,
+    reader: R,
+    writer: W,
+) -> (ExitCode, W) {
+    begun(rt, outputs, word, false, reader, writer)
+}
+
+fn begun<R: Read + Drop, W: Write + Drop>(
+    rt: &(impl Abort + Threads + Wait + Sync),
+    outputs: &Outputs,
+    word: &str,
+    is_typed: bool,
     reader: R,
     writer: W,
 ) -> (ExitCode, W) {
@@ -202,6 +213,7 @@ fn started<R: Read + Drop, W: Write + Drop>(
         outputs,
         outputs.alloc,
         &words,
+        is_typed,
         reader,
         writer,
         Blank::new(1),
@@ -309,4 +321,21 @@ fn devices_fail(rt: HostRuntime) {
     let (unwritten, _) = started(&rt, &outputs, "", b"quit\n".as_slice(), Broken);
     same(&rt, &unwritten, &failed, &"writer");
     hold(&rt, &outputs, None, Some("desk: writing failed\n"));
+}
+
+#[test]
+fn who_types_is_greeted(rt: HostRuntime) {
+    let alloc = rt.alloc();
+    let greeted = "desk: waiting for a script, whose first command is mostly `rule`; see desk --help";
+    same(&rt, &greeting(true), &Some(greeted), &"typed");
+    same(&rt, &greeting(false), &None, &"from a file");
+    let outputs = Outputs::new(alloc, false);
+    let (status, written) = begun(&rt, &outputs, "", true, b"quit\n".as_slice(), Vec::new(alloc));
+    same(&rt, &status, &ExitCode::from(0), &"typed");
+    same(&rt, &written.as_slice(), &b"bye\n".as_slice(), &"typed");
+    let line =
+        "desk: waiting for a script, whose first command is mostly `rule`; see desk --help\n";
+    hold(&rt, &outputs, None, Some(line));
+    let (refused, _) = begun(&rt, &outputs, "work", true, b"".as_slice(), Vec::new(alloc));
+    same(&rt, &refused, &ExitCode::from(2), &"refused");
 }

@@ -1,4 +1,4 @@
-use Rattle.desk_program_tests.proofs.tests.started.Given as goal
+use Rattle.desk_program_tests.proofs.tests.begun.Given as goal
 
 abbrev pub ghosts-start-L-Ledger : goal.ghosts-start-L-Ledger
 ghosts-start-L-Ledger g a = record { name = a.reader_blank.name; parts = a.reader_blank.parts }
