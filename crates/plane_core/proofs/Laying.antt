@@ -12,7 +12,8 @@ use Rattle.worlds.specs.Lay.{lay, last_mention, cell-lay}
 use Rattle.plane_core.specs.declared.row.SquareRow.{SquareRow}
 use Rattle.worlds.specs.Square.{Square, cell_in, IsIn}
 use Rattle.plane_core.specs.Rows.{IsNumber, AreRows, square_in, row_at, root_level, edge_of, world_of_rows}
-use Rattle.plane_core.specs.Laid.{square_of, AreQuadrants, Keeps, IsAdded, IsFrom, IsOnPlane, AreThoseIn, GoesOn, IsCellOf, IsLaid, RootHolds}
+use Rattle.plane_core.specs.Part.{IsFrom}
+use Rattle.plane_core.specs.Laid.{square_of, AreQuadrants, Keeps, IsAdded, IsOnPlane, AreThoseIn, GoesOn, IsCellOf, IsLaid, RootHolds}
 use Rattle.plane_core.proofs.Shared.Sound.{IsNumber-level, IsNumber-state, square_in-state}
 use Rattle.plane_core.proofs.Shared.Cells.{double, cell_in-one, cell_in-nw, cell_in-ne, cell_in-sw, cell_in-se, in_or_out, offset}
 use Rattle.plane_core.proofs.Shared.Roots.{root_level-some, world-outside, root-cells, root-side, rooted}

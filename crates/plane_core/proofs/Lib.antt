@@ -9,4 +9,5 @@ pub mod Laying
 pub mod Blocks
 pub mod Entries
 pub mod Written
+pub mod Parts
 pub mod Boxed

@@ -1,11 +1,12 @@
 -- Rows that come behind others, and cells that are laid on the squares of rows.
-use Rattle.std.specs.Prelude.{◌≡◌, ℕ, suc, ◌/◌, ◌%◌, ◌<◌, ◌≤◌, ◌^◌, List, [], ◌∷◌, ◌++◌, length, get_or, All, ℤ, pos, neg_ℤ, ◌+ℤ◌, ◌≤ℤ◌}
+use Rattle.std.specs.Prelude.{◌≡◌, ℕ, suc, ◌/◌, ◌%◌, ◌<◌, ◌≤◌, ◌^◌, List, [], ◌∷◌, ◌++◌, length, get_or, All, ℤ, pos, ◌+ℤ◌}
 use Rattle.worlds.specs.declared.cell.CellSet.{CellSet}
 use Rattle.worlds.specs.World.{World, cell}
 use Rattle.worlds.specs.Lay.{last_mention}
 use Rattle.plane_core.specs.declared.row.SquareRow.{SquareRow}
 use Rattle.plane_core.specs.declared.lay.Parts.{Parts}
 use Rattle.worlds.specs.Square.{Square, four, cell_in, IsIn}
+use Rattle.plane_core.specs.Part.{IsFrom}
 use Rattle.plane_core.specs.Rows.{IsNumber, AreRows, square_in, root_level, edge_of, world_of_rows}
 
 -- the square whose quadrants these numbers name
@@ -41,11 +42,6 @@ pub record IsRaised (old new : List SquareRow) : Type 0 where
   pub few : length new < 2 ^ 32
   pub level : root_level new ≡ suc (root_level old)
   pub world : world_of_rows new ≡ world_of_rows old
-
--- a coordinate in the range of planes, with so far to go in it
-pub record IsFrom (start : ℤ) (far : ℕ) : Type 0 where
-  pub low : neg_ℤ (pos (2 ^ 61)) ≤ℤ start
-  pub high : (start +ℤ pos far) ≤ℤ pos (2 ^ 61)
 
 -- the square of this side with the upper left cell (left, top) lies in the range of planes
 pub record IsOnPlane (side : ℕ) (left top : ℤ) : Type 0 where

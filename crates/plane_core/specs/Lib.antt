@@ -1,4 +1,5 @@
 pub mod Rows
+pub mod Part
 pub mod Walks
 pub mod Centre
 pub mod Measures

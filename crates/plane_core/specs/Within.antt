@@ -1,10 +1,11 @@
 -- The live cells of a world that lie in a box.
-use Rattle.std.specs.Prelude.{◌≡◌, ℕ, zero, suc, ◌<◌, ◌^◌, Bool, cond, ◌||◌, ◌==◌, List, [], ◌∷◌, ◌++◌, All, count_by, ℤ, pos, ◌+ℤ◌, int_le, int_lt}
+use Rattle.std.specs.Prelude.{◌≡◌, ℕ, ◌+◌, ◌<◌, List, All, count_by, ℤ}
 use Rattle.worlds.specs.declared.cell.Bounds.{Bounds}
 use Rattle.worlds.specs.declared.cell.Cell.{Cell}
 use Rattle.worlds.specs.World.{World, cell, same_place}
 use Rattle.worlds.specs.Range.{IsInBox}
-use Rattle.worlds.specs.Square.{Square, one, four}
+use Rattle.plane_core.specs.declared.part.Part.{Part}
+use Rattle.plane_core.specs.Part.{Covers, quadrant_at}
 
 -- a live cell of the world, with its state, in the box
 pub record IsLiveWithin (b : Bounds) (w : World) (c : Cell) : Type 0 where
@@ -21,20 +22,14 @@ pub record AreLiveWithin (b : Bounds) (w : World) (cells : List Cell) : Type 0 w
   pub each : All (IsLiveWithin b w) cells
   pub once : (x y : ℤ) → IsInBox b x y → 0 < cell w x y → count_at x y cells ≡ 1
 
--- whether so many coordinates from z on lie apart from those from the first to the last
-abbrev pub misses : ℤ → ℤ → ℤ → ℕ → Bool
-misses first last z side = int_lt last z || int_le (z +ℤ pos side) first
+-- the live cells that lie in the box and at these places are added, each once
+pub record Gathers (b : Bounds) (w : World) (Here : ℤ → ℤ → Type 0) (old new : List Cell)
+    : Type 0 where
+  pub each : All (IsLiveWithin b w) old → All (IsLiveWithin b w) new
+  pub once : (x y : ℤ) → Here x y → IsInBox b x y → 0 < cell w x y
+      → count_at x y new ≡ count_at x y old + 1
+  pub others : (x y : ℤ) → (Here x y → ⊥) → count_at x y new ≡ count_at x y old
 
--- whether the square of this side with the upper left cell (x, y) lies apart from the box
-abbrev pub is_apart : Bounds → ℕ → ℤ → ℤ → Bool
-is_apart b side x y = misses b.left b.right x side || misses b.top b.bottom y side
-
--- the live cells of a square that lie in the box, in the order of the walk nw, ne, sw, se
-unfoldable pub cells_within : Bounds → ℕ → Square → ℤ → ℤ → List Cell
-cells_within b k (one s) x y =
-    cond (s == 0) [] (cond (is_apart b 1 x y) [] (record { x = x; y = y; state = s } ∷ []))
-cells_within b zero (four nw ne sw se) x y = []
-cells_within b (suc k) (four nw ne sw se) x y =
-    let h = pos (2 ^ k) in
-    ((cells_within b k nw x y ++ cells_within b k ne (x +ℤ h) y)
-    ++ cells_within b k sw x (y +ℤ h)) ++ cells_within b k se (x +ℤ h) (y +ℤ h)
+-- (x, y) lies in one of the first q quadrants
+abbrev pub InFirst : ℕ → Part → ℤ → ℤ → Type 0
+InFirst q p x y = Covers p x y × (quadrant_at p x y < q)

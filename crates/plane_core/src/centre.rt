@@ -4,7 +4,7 @@ ghost use Rattle.worlds.specs.Square.{Square};
 ghost use Rattle.plane_core.specs.Rows.{IsNumber, IsLeastLevel, square_in, root_level, world_of_rows};
 ghost use Rattle.plane_core.specs.Centre.{is_passed, is_alone, IsCorner, IsCentre, AreCentred, AreFilled, cornered};
 
-use crate::descent::root_level;
+use crate::part::root_level;
 use crate::row::SquareRow;
 use std::alloc::AllocError;
 

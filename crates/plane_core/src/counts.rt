@@ -7,7 +7,7 @@ ghost use Rattle.worlds.specs.Live.{count_of};
 ghost use Rattle.plane_core.specs.Rows.{AreRows, IsNumber, square_in, world_of_rows};
 ghost use Rattle.plane_core.specs.Counts.{Gains, HasRoom, row_square};
 
-use crate::descent::root_level;
+use crate::part::root_level;
 use crate::row::SquareRow;
 use std::alloc::{AllocError, Global};
 

@@ -10,7 +10,7 @@ ghost use Rattle.worlds.specs.Square.{IsIn};
 ghost use Rattle.plane_core.specs.Rows.{AreRows, IsNumber, root_level, world_of_rows};
 ghost use Rattle.plane_core.specs.Laid.{IsCellOf, AreLaidStates, AreParted, ArePut, IsLaid, IsOnPlane, RootHolds};
 
-use crate::descent::{Spot, corner_of, root_level, shifted, side};
+use crate::part::{Spot, corner_of, root_level, shifted, side};
 use crate::raise::{push_row, quadrants, raise};
 use crate::row::SquareRow;
 use crate::walk::walked;

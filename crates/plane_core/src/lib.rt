@@ -26,6 +26,7 @@ mod lay;
 mod live;
 mod loaded;
 mod measures;
+mod part;
 mod plane;
 mod raise;
 mod row;

@@ -4,7 +4,7 @@ ghost use Rattle.std.specs.Prelude.{◌≡◌, ◌+◌, ◌<◌, ◌≤◌, ◌^
 ghost use Rattle.plane_core.specs.Rows.{AreRows, world_of_rows};
 ghost use Rattle.plane_core.specs.Measures.{AreMeasured, AreMeasuresAt, AreMeasuresOf, IsWithin, LiesIn, joined, joined_bounds, measures_in, measures_of_state, moved_box, no_measures, placed};
 
-use crate::descent::{Spot, root_level, side};
+use crate::part::{Spot, root_level, side};
 use crate::row::SquareRow;
 use std::alloc::{AllocError, Global};
 use worlds::Bounds;

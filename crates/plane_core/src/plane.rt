@@ -10,10 +10,11 @@ ghost use Rattle.plane_core.specs.Within.{AreLiveWithin};
 
 use crate::canonical::{canonical, written};
 use crate::counts::counts;
-use crate::descent::{Spot, state_at};
+use crate::descent::state_at;
 use crate::lay::lay_rows;
 use crate::live::live_cells;
 use crate::measures::{Measures, measured, no_measures};
+use crate::part::Spot;
 use crate::row::SquareRow;
 use crate::walk::walked;
 use crate::within::live_within;

@@ -4,7 +4,7 @@ ghost use Rattle.plane_core.specs.Rows.{AreRows, IsNumber, IsRow, square_in, roo
 ghost use Rattle.plane_core.specs.Centre.{cornered};
 ghost use Rattle.plane_core.specs.Laid.{AreQuadrants, IsAdded, IsRaised, square_of};
 
-use crate::descent::root_level;
+use crate::part::root_level;
 use crate::row::SquareRow;
 use std::alloc::AllocError;
 

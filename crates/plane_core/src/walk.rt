@@ -3,7 +3,7 @@ ghost use Rattle.std.specs.Prelude.{◌≡◌, ◌<◌, ◌≤◌, ◌^◌, [], 
 ghost use Rattle.plane_core.specs.Rows.{AreRows, IsNumber, number_row, number_square, square_in, root_level, root_of};
 ghost use Rattle.plane_core.specs.Walks.{Remembers, Walks};
 
-use crate::descent::root_level;
+use crate::part::root_level;
 use crate::row::SquareRow;
 use indexmap::IndexSet;
 use std::alloc::{AllocError, Global};

@@ -2,66 +2,45 @@
 //!
 //! The walk passes over squares that are empty or lie apart from the box, so of a large pattern it
 //! visits little more than the squares that hold the cells that it finds.
-ghost use Rattle.std.specs.Prelude.{◌≡◌, [], ◌∷◌, ◌++◌, ◌<◌, ◌≤◌, ◌^◌, length, IfOk, OnOk};
-ghost use Rattle.plane_core.specs.Rows.{AreRows, IsNumber, square_in, world_of_rows};
-ghost use Rattle.plane_core.specs.Laid.{IsFrom, IsOnPlane};
-ghost use Rattle.plane_core.specs.Within.{AreLiveWithin, cells_within, is_apart, misses};
+ghost use Rattle.std.specs.Prelude.{◌≡◌, [], ◌∷◌, ◌++◌, ◌<◌, ◌^◌, false, length, ℤ, pos, ◌+ℤ◌, ◌≤ℤ◌, ◌<ℤ◌, IfOk, OnOk, IsTrue};
+ghost use Rattle.worlds.specs.Range.{IsInBox};
+ghost use Rattle.worlds.specs.World.{World};
+ghost use Rattle.plane_core.specs.Rows.{AreRows, world_of_rows};
+ghost use Rattle.plane_core.specs.Part.{Covers, IsFrom, IsOnPlane, IsPart, Shows};
+ghost use Rattle.plane_core.specs.Within.{AreLiveWithin, Gathers};
 
-use crate::descent::{Spot, corner_of, root_level, shifted, side};
-use crate::raise::quadrants;
+use crate::part::{Part, Spot, side};
 use crate::row::SquareRow;
 use std::alloc::{AllocError, Global};
 use worlds::{Bounds, Cell};
 
-// Whether so many coordinates from the start on lie apart from those from the first to the last.
+// Whether none of so many coordinates from the start on is one of those from the first to the last.
 fn misses(first: i64, last: i64, start: i64, side: u64) -> bool
     requires { IsFrom start side }
-    ensures { result ≡ misses first last start side }
+    ensures apart { IsTrue result → ((z : ℤ) → start ≤ℤ z → z <ℤ (start +ℤ pos side)
+        → first ≤ℤ z → z ≤ℤ last → ⊥) }
+    ensures near { result ≡ false → side ≡ 1 → (first ≤ℤ start) × (start ≤ℤ last) }
 {
-    start > last || start + side as i64 <= first
+    if start > last {
+        return true;
+    }
+    start + side as i64 <= first
 }
 
-// Whether the square of this side lies apart from the box.
-fn is_apart(within: &Bounds, corner: Spot, side: u64) -> bool
-    requires { IsOnPlane side corner.x corner.y }
-    ensures { result ≡ is_apart within.now side corner.x corner.y }
+// Whether the square lies apart from the box.
+fn is_apart(within: &Bounds, part: Part) -> bool
+    requires { IsOnPlane part }
+    ensures apart { IsTrue result
+        → ((x y : ℤ) → Covers part x y → IsInBox within.now x y → ⊥) }
+    ensures near { result ≡ false → part.level ≡ 0
+        → IsInBox within.now part.corner.x part.corner.y }
 {
-    misses(within.left, within.right, corner.x, side)
-        || misses(within.top, within.bottom, corner.y, side)
-}
-
-// Adds the live cells of the square with this upper left cell that lie in the box.
-fn gather_within(
-    rows: &[SquareRow],
-    level: u8,
-    number: u32,
-    corner: Spot,
-    within: &Bounds,
-    found: &mut Vec<Cell>,
-) -> Result<(), AllocError>
-    requires square { AreRows rows.now × (level ≤ 62) × IsNumber rows.now level number }
-    requires on_plane { IsOnPlane (2 ^ level) corner.x corner.y }
-    ensures { OnOk result (found.new.items ≡ found.old.items
-        ++ cells_within within.now level (square_in rows.now level number) corner.x corner.y) }
-{
-    if number == 0 {
-        return Ok(());
+    let side = side(part.level);
+    let Spot { x, y } = part.corner;
+    if misses(within.left, within.right, x, side) {
+        return true;
     }
-    if is_apart(within, corner, side(level)) {
-        return Ok(());
-    }
-    if level == 0 {
-        return push_cell(found, corner, number as u8);
-    }
-    let half = side(level - 1);
-    let kids = quadrants(rows, level, number);
-    gather_within(rows, level - 1, kids[0], corner, within, found)?;
-    let east = shifted(corner, half, 0);
-    gather_within(rows, level - 1, kids[1], east, within, found)?;
-    let south = shifted(corner, 0, half);
-    gather_within(rows, level - 1, kids[2], south, within, found)?;
-    let middle = shifted(corner, half, half);
-    gather_within(rows, level - 1, kids[3], middle, within, found)
+    misses(within.top, within.bottom, y, side)
 }
 
 // Adds a live cell.
@@ -77,6 +56,32 @@ fn push_cell(found: &mut Vec<Cell>, spot: Spot, state: u8) -> Result<(), AllocEr
     Ok(())
 }
 
+// Adds the live cells of the square that lie in the box.
+fn gather_within(
+    rows: &[SquareRow],
+    part: Part,
+    within: &Bounds,
+    found: &mut Vec<Cell>,
+) -> Result<(), AllocError>
+    requires { IsPart rows.now part }
+    ensures { OnOk result ((w : World) → Shows w rows.now part
+        → Gathers within.now w (Covers part) found.old.items found.new.items) }
+{
+    if part.number == 0 {
+        return Ok(());
+    }
+    if is_apart(within, part) {
+        return Ok(());
+    }
+    if part.level == 0 {
+        return push_cell(found, part.corner, part.number as u8);
+    }
+    for q in 0..4 {
+        gather_within(rows, part.quadrant(rows, q), within, found)?;
+    }
+    Ok(())
+}
+
 /// The live cells that lie in the box, each once.
 pub fn live_within(
     alloc: Global,
@@ -88,14 +93,6 @@ pub fn live_within(
     ensures { IfOk result (λ cells. AreLiveWithin within.now (world_of_rows rows.now) cells.items) }
 {
     let mut found = Vec::new(alloc);
-    let level = root_level(rows);
-    gather_within(
-        rows,
-        level,
-        rows.len() as u32,
-        corner_of(level),
-        within,
-        &mut found,
-    )?;
+    gather_within(rows, Part::root(rows), within, &mut found)?;
     Ok(found)
 }

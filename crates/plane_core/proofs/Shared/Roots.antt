@@ -1,5 +1,5 @@
 -- The root of rows, its world, and that a world has one list of rows.
-use Rattle.std.proofs.Common.{◌≡◌, ℕ, zero, suc, ◌+◌, ◌-◌, ◌<◌, ◌≤◌, ◌^◌, List, [], ◌∷◌, length, get_or, refl, sym, ap, ap₂, ◌∙◌, subst, arith, inl, inr, lit<, pow_mono, ℤ, pos, neg_ℤ, ◌+ℤ◌}
+use Rattle.std.proofs.Common.{◌≡◌, ℕ, zero, suc, ◌+◌, ◌-◌, ◌<◌, ◌≤◌, ◌^◌, List, [], ◌∷◌, length, get_or, refl, sym, ap, ◌∙◌, subst, arith, inl, inr, lit<, pow_mono, ℤ, pos, ◌+ℤ◌}
 use Rattle.std.proofs.lemmas.Int.{ints}
 use Rattle.worlds.specs.World.{cell, blank, cell-blank, same_world}
 use Rattle.worlds.specs.Range.{HasMargin}
@@ -153,20 +153,3 @@ margin rows valid x y live =
     let half : 2 ^ (root_level rows - 1) ≤ 2 ^ 61 = pow_mono (let less : root_level rows - 1 ≤ 61 = omega arith in less) in
     let side = root-side (root_level rows) low in
     record { left = omega (arith, ints); right = omega (arith, ints); top = omega (arith, ints); bottom = omega (arith, ints) }
-
--- what the descent finds in the root's square
-pub found-inside : (rows : List SquareRow) (x y : ℤ) (k half i j s : ℕ) → AreRows rows → k ≡ root_level rows → half ≡ 2 ^ (k - 1) → x ≡ neg_ℤ (pos half) +ℤ pos i → y ≡ neg_ℤ (pos half) +ℤ pos j
-    → i < half + half → j < half + half → s ≡ cell_in k (square_in rows k (length rows)) i j → s ≡ cell (world_of_rows rows) x y
-found-inside rows x y k half i j s valid ek eh ex ey hi hj es =
-    let low : 1 ≤ k = subst (λ m. 1 ≤ m) (sym ek) (rooted rows valid).low in
-    let side : 2 ^ k ≡ half + half = root-side k low ∙ ap (λ m. m + m) (sym eh) in
-    es ∙ root-cells rows k i j valid (sym ek) (omega arith) (omega arith)
-    ∙ ap₂ (cell (world_of_rows rows)) (ap (λ m. neg_ℤ (pos m) +ℤ pos i) (sym eh) ∙ sym ex) (ap (λ m. neg_ℤ (pos m) +ℤ pos j) (sym eh) ∙ sym ey)
-
--- and outside it
-pub found-outside : (rows : List SquareRow) (x y : ℤ) (k half : ℕ) → AreRows rows → k ≡ root_level rows → half ≡ 2 ^ (k - 1) → (IsIn (half + half) (neg_ℤ (pos half)) (neg_ℤ (pos half)) x y → ⊥) → 0 ≡ cell (world_of_rows rows) x y
-found-outside rows x y k half valid ek eh out =
-    let low : 1 ≤ k = subst (λ m. 1 ≤ m) (sym ek) (rooted rows valid).low in
-    let side : 2 ^ k ≡ half + half = root-side k low ∙ ap (λ m. m + m) (sym eh) in
-    let here : IsIn (2 ^ k) (edge_of k) (edge_of k) x y → ⊥ = λ h. out (subst (λ n. IsIn n (neg_ℤ (pos half)) (neg_ℤ (pos half)) x y) side (subst (λ m. IsIn (2 ^ k) (neg_ℤ (pos m)) (neg_ℤ (pos m)) x y) (sym eh) h)) in
-    sym (world-outside rows x y valid (subst (λ m. IsIn (2 ^ m) (edge_of m) (edge_of m) x y → ⊥) ek here))

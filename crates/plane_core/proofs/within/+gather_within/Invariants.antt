@@ -1,4 +1,10 @@
+use Rattle.worlds.specs.World.{World}
+use Rattle.plane_core.specs.Part.{Shows}
+use Rattle.plane_core.specs.Within.{Gathers, InFirst}
 use Rattle.plane_core.proofs.within.+gather_within.Given as goal
 
 abbrev pub decreases-gather_within : goal.decreases-gather_within
-decreases-gather_within l = l.level
+decreases-gather_within l = l.part.level
+
+abbrev pub invariant-loop-q : goal.invariant-loop-q
+invariant-loop-q l = (w : World) → Shows w l.rows l.part → Gathers l.within w (InFirst l.q l.part) l.initial.found.items l.found.items

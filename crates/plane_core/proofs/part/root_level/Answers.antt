@@ -5,7 +5,7 @@ use Rattle.std.proofs.lemmas.Option.{slice_get_within, get_or_from_slice_get, sl
 use Rattle.plane_core.specs.declared.row.SquareRow.{SquareRow}
 use Rattle.plane_core.specs.Rows.{root_level, no_row}
 use Rattle.plane_core.proofs.Shared.Roots.{root_level-some, root_level-none, rooted}
-use Rattle.plane_core.proofs.descent.root_level.Goals as goal
+use Rattle.plane_core.proofs.part.root_level.Goals as goal
 
 pub returns-in-Some-clause-level : goal.returns-in-Some-clause-level
 returns-in-Some-clause-level c =

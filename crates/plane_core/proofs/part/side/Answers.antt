@@ -1,5 +1,5 @@
 use Rattle.std.proofs.Common.{◌≡◌, ◌*◌, ◌^◌, ◌%◌, ◌≤◌, lit<, arith, shl_exact, pow_mono}
-use Rattle.plane_core.proofs.descent.side.Goals as goal
+use Rattle.plane_core.proofs.part.side.Goals as goal
 
 pub returns-clause-small : goal.returns-clause-small
 returns-clause-small c =

@@ -1,0 +1,192 @@
+-- Squares that stand at places of a world, and their quadrants.
+use Rattle.std.proofs.Common.{◌≡◌, ℕ, zero, suc, ◌+◌, ◌-◌, ◌<◌, ◌≤◌, ◌^◌, cond, List, get_or, length, refl, sym, ap, ap₂, ◌∙◌, subst, arith, inl, inr, pow_mono, ℤ, pos, ◌+ℤ◌}
+use Rattle.std.specs.Prelude.{int_le}
+use Rattle.std.proofs.lemmas.Bool.{cases_lt}
+use Rattle.std.proofs.lemmas.Int.{ints}
+use Rattle.worlds.specs.World.{World, cell}
+use Rattle.worlds.specs.Square.{Square, four, cell_in, IsIn}
+use Rattle.plane_core.specs.declared.row.SquareRow.{SquareRow}
+use Rattle.plane_core.specs.declared.part.Part.{Part}
+use Rattle.plane_core.specs.Rows.{IsNumber, AreRows, square_in, row_at, kid, no_row, root_level, edge_of, world_of_rows}
+use Rattle.plane_core.specs.Part.{Covers, IsPart, Shows, IsKid, IsQuadrant, IsRoot, east, south, quadrant_at}
+use Rattle.plane_core.proofs.Shared.Cells.{cell_in-nw, cell_in-ne, cell_in-sw, cell_in-se, cell_in-empty, cell_in-one, offsets}
+use Rattle.plane_core.proofs.Shared.Roots.{root-cells, root-side, rooted, root-Fits}
+use Rattle.plane_core.proofs.Shared.Sound.{square_in-none, square_in-row, square_in-state}
+use Rattle.plane_core.proofs.Shared.Centres.{zero-IsNumber}
+use Rattle.plane_core.proofs.Descents.{number-kid}
+
+pub east-le : (h q : ℕ) → east h q ≤ h
+east-le h q = grind (arith)
+
+pub south-le : (h q : ℕ) → south h q ≤ h
+south-le h q = grind (arith)
+
+-- which of four squares of side h around (l, t) holds (x, y)
+abbrev place : ℕ → ℤ → ℤ → ℤ → ℤ → ℕ
+place h l t x y = cond (int_le (t +ℤ pos h) y) (cond (int_le (l +ℤ pos h) x) 3 2) (cond (int_le (l +ℤ pos h) x) 1 0)
+
+module _ (h : ℕ) (l t x y : ℤ) where
+  pub placed : (q : ℕ) → q < 4 → IsIn h (l +ℤ pos (east h q)) (t +ℤ pos (south h q)) x y → IsIn (h + h) l t x y × (place h l t x y ≡ q)
+  placed zero few is = let a = is.left in let b = is.right in let c = is.top in let d = is.bottom in
+      (record { left = omega (arith, ints); right = omega (arith, ints); top = omega (arith, ints); bottom = omega (arith, ints) }, grind (arith, ints))
+  placed (suc zero) few is = let a = is.left in let b = is.right in let c = is.top in let d = is.bottom in
+      (record { left = omega (arith, ints); right = omega (arith, ints); top = omega (arith, ints); bottom = omega (arith, ints) }, grind (arith, ints))
+  placed (suc (suc zero)) few is = let a = is.left in let b = is.right in let c = is.top in let d = is.bottom in
+      (record { left = omega (arith, ints); right = omega (arith, ints); top = omega (arith, ints); bottom = omega (arith, ints) }, grind (arith, ints))
+  placed (suc (suc (suc zero))) few is = let a = is.left in let b = is.right in let c = is.top in let d = is.bottom in
+      (record { left = omega (arith, ints); right = omega (arith, ints); top = omega (arith, ints); bottom = omega (arith, ints) }, grind (arith, ints))
+  placed (suc (suc (suc (suc q)))) few is = absurd (omega (arith, few))
+
+  pub found : (q : ℕ) → q ≡ place h l t x y → IsIn (h + h) l t x y → IsIn h (l +ℤ pos (east h q)) (t +ℤ pos (south h q)) x y
+  found q e is = subst (λ q. IsIn h (l +ℤ pos (east h q)) (t +ℤ pos (south h q)) x y) (sym e)
+      (let a = is.left in let b = is.right in let c = is.top in let d = is.bottom in
+      record { left = grind (arith, ints); right = grind (arith, ints); top = grind (arith, ints); bottom = grind (arith, ints) })
+
+pub moved : (n m : ℕ) (l l' t t' x y : ℤ) → n ≡ m → l ≡ l' → t ≡ t' → IsIn n l t x y → IsIn m l' t' x y
+moved n m l l' t t' x y en el et is = let a = is.left in let b = is.right in let c = is.top in let d = is.bottom in
+    record { left = omega (arith, ints); right = omega (arith, ints); top = omega (arith, ints); bottom = omega (arith, ints) }
+
+-- what a quadrant covers is what its square covers there
+module _ (q : ℕ) (p r : Part) (some : 1 ≤ p.level) (few : q < 4) (is : IsQuadrant q p r) (x y : ℤ) where
+  half : 2 ^ r.level ≡ 2 ^ (p.level - 1)
+  half = ap (λ k. 2 ^ k) is.level
+
+  pub in_quadrant : Covers r x y → Covers p x y × (quadrant_at p x y ≡ q)
+  in_quadrant h =
+      let at = placed (2 ^ (p.level - 1)) p.corner.x p.corner.y x y q few (moved _ _ _ _ _ _ x y half is.x is.y h) in
+      (moved _ _ _ _ _ _ x y (sym (root-side p.level some)) refl refl at.0, at.1)
+
+  pub of_quadrant : Covers p x y → quadrant_at p x y ≡ q → Covers r x y
+  of_quadrant h e =
+      moved _ _ _ _ _ _ x y (sym half) (sym is.x) (sym is.y)
+      (found (2 ^ (p.level - 1)) p.corner.x p.corner.y x y q (sym e) (moved _ _ _ _ _ _ x y (root-side p.level some) refl refl h))
+
+-- a cell of a quadrant
+quadrant-cell : (k q i j : ℕ) (f : ℕ → Square) → q < 4 → i < 2 ^ k → j < 2 ^ k → cell_in (suc k) (four (f 0) (f 1) (f 2) (f 3)) (east (2 ^ k) q + i) (south (2 ^ k) q + j) ≡ cell_in k (f q) i j
+quadrant-cell k zero i j f few hi hj = cell_in-nw k _ _ _ _ (0 + i) (0 + j) (omega arith) (omega arith) ∙ ap₂ (cell_in k (f 0)) (omega arith) (omega arith)
+quadrant-cell k (suc zero) i j f few hi hj = cell_in-ne k _ _ _ _ (2 ^ k + i) (0 + j) (omega arith) (omega arith) ∙ ap₂ (cell_in k (f 1)) (omega arith) (omega arith)
+quadrant-cell k (suc (suc zero)) i j f few hi hj = cell_in-sw k _ _ _ _ (0 + i) (2 ^ k + j) (omega arith) (omega arith) ∙ ap₂ (cell_in k (f 2)) (omega arith) (omega arith)
+quadrant-cell k (suc (suc (suc zero))) i j f few hi hj = cell_in-se k _ _ _ _ (2 ^ k + i) (2 ^ k + j) (omega arith) (omega arith) ∙ ap₂ (cell_in k (f 3)) (omega arith) (omega arith)
+quadrant-cell k (suc (suc (suc (suc q)))) i j f few hi hj = absurd (omega (arith, few))
+
+-- the kids of a row name its quadrants
+kid-cells : (rows : List SquareRow) (k n q i j : ℕ) → 1 ≤ k → 0 < n → q < 4 → i < 2 ^ (k - 1) → j < 2 ^ (k - 1)
+    → cell_in k (square_in rows k n) (east (2 ^ (k - 1)) q + i) (south (2 ^ (k - 1)) q + j) ≡ cell_in (k - 1) (square_in rows (k - 1) (kid (row_at rows n) q)) i j
+kid-cells rows zero n q i j some live few = absurd (omega (arith, some))
+kid-cells rows (suc k) zero q i j some live few = absurd (omega (arith, live))
+kid-cells rows (suc k) (suc m) q i j some live few =
+    let less : k ≡ suc k - 1 = omega arith in
+    let same : m ≡ suc m - 1 = omega arith in
+    subst (λ h. i < 2 ^ h → j < 2 ^ h → cell_in (suc k) (square_in rows (suc k) (suc m)) (east (2 ^ h) q + i) (south (2 ^ h) q + j) ≡ cell_in h (square_in rows h (kid (row_at rows (suc m)) q)) i j) less (λ hi hj.
+    ap (λ (s : Square). cell_in (suc k) s (east (2 ^ k) q + i) (south (2 ^ k) q + j)) (square_in-row rows k m)
+    ∙ quadrant-cell k q i j (λ q. square_in rows k (kid (get_or rows m no_row) q)) few hi hj
+    ∙ ap (λ m. cell_in k (square_in rows k (kid (get_or rows m no_row) q)) i j) same)
+
+-- no cell of the square 0 is live
+none-cell : (rows : List SquareRow) (k i j : ℕ) → cell_in k (square_in rows k 0) i j ≡ 0
+none-cell rows k i j = ap (λ (s : Square). cell_in k s i j) (square_in-none rows k) ∙ cell_in-empty k i j
+
+pub kid-none : (rows : List SquareRow) (p : Part) (q : ℕ) → p.number ≡ 0 → IsKid rows p q 0
+kid-none rows p q none = record {
+  number = zero-IsNumber rows (p.level - 1);
+  cells = λ i j hi hj. ap (λ n. cell_in p.level (square_in rows p.level n) (east (2 ^ (p.level - 1)) q + i) (south (2 ^ (p.level - 1)) q + j)) none ∙ none-cell rows p.level _ _ ∙ sym (none-cell rows (p.level - 1) i j);
+}
+
+pub kid-row : (rows : List SquareRow) (p : Part) (q : ℕ) → IsPart rows p → 1 ≤ p.level → 0 < p.number → q < 4 → IsKid rows p q (kid (row_at rows p.number) q)
+kid-row rows p q is some live few = record {
+  number = number-kid rows p.level p.number q is.valid some live is.number few;
+  cells = λ i j hi hj. kid-cells rows p.level p.number q i j some live few hi hj;
+}
+
+-- the cells of the world that a square shows
+pub shows-cell : (w : World) (rows : List SquareRow) (p : Part) (x y : ℤ) → Shows w rows p → Covers p x y → (i : ℕ) × (j : ℕ) × (cell w x y ≡ cell_in p.level (square_in rows p.level p.number) i j)
+shows-cell w rows p x y shows h = let at = offsets (2 ^ p.level) p.corner.x p.corner.y x y h in (at.i, at.j, ap₂ (cell w) at.ex at.ey ∙ shows.cells at.i at.j at.hi at.hj)
+
+-- no cell is live where the number is 0
+pub shows-none : (w : World) (rows : List SquareRow) (p : Part) (x y : ℤ) → p.number ≡ 0 → Shows w rows p → Covers p x y → cell w x y ≡ 0
+shows-none w rows p x y none shows h =
+    let at = shows-cell w rows p x y shows h in
+    at.2 ∙ ap (λ n. cell_in p.level (square_in rows p.level n) at.0 at.1) none ∙ none-cell rows p.level at.0 at.1
+
+-- one cell is its number
+pub shows-state : (w : World) (rows : List SquareRow) (p : Part) (x y : ℤ) → p.level ≡ 0 → Shows w rows p → Covers p x y → cell w x y ≡ p.number
+shows-state w rows p x y ground_level shows h =
+    let at = shows-cell w rows p x y shows h in
+    at.2
+    ∙ ap (λ k. cell_in k (square_in rows k p.number) at.0 at.1) ground_level
+    ∙ ap (λ (s : Square). cell_in 0 s at.0 at.1) (square_in-state rows p.number)
+    ∙ cell_in-one 0 p.number at.0 at.1
+
+-- a quadrant shows what its square shows
+pub shows-quadrant : (w : World) (rows : List SquareRow) (q : ℕ) (p r : Part) → r.level ≡ p.level - 1 → 1 ≤ p.level → IsQuadrant q p r → IsKid rows p q r.number → Shows w rows p → Shows w rows r
+shows-quadrant w rows q p r level some is kid shows = record {
+  cells = λ i j hi hj.
+      let h = 2 ^ (p.level - 1) in
+      let a = east-le h q in let b = south-le h q in let twice = root-side p.level some in
+      let ex = is.x in let ey = is.y in
+      let half : 2 ^ r.level ≡ h = ap (λ k. 2 ^ k) level in
+      ap₂ (cell w) (omega (arith, ints)) (omega (arith, ints))
+      ∙ shows.cells (east h q + i) (south h q + j) (omega arith) (omega arith)
+      ∙ kid.cells i j (omega arith) (omega arith)
+      ∙ ap (λ k. cell_in k (square_in rows k r.number) i j) (sym level);
+}
+
+-- it lies in the range of planes
+pub quadrant-IsPart : (rows : List SquareRow) (q : ℕ) (p r : Part) → 1 ≤ p.level → IsPart rows p → IsQuadrant q p r → IsKid rows p q r.number → IsPart rows r
+quadrant-IsPart rows q p r some is quadrant kid =
+    let h = 2 ^ (p.level - 1) in
+    let a = east-le h q in let b = south-le h q in let twice = root-side p.level some in
+    let ex = quadrant.x in let ey = quadrant.y in let level = quadrant.level in
+    let half : 2 ^ r.level ≡ h = ap (λ k. 2 ^ k) level in
+    let low = is.on_plane.across.low in let high = is.on_plane.across.high in let top = is.on_plane.down.low in let bottom = is.on_plane.down.high in
+    let most = is.on_plane.level in
+    record {
+      valid = is.valid;
+      number = subst (λ k. IsNumber rows k r.number) (sym level) kid.number;
+      on_plane = record {
+        level = omega arith;
+        across = record { low = omega (arith, ints); high = omega (arith, ints) };
+        down = record { low = omega (arith, ints); high = omega (arith, ints) };
+      };
+    }
+
+-- the root shows the world
+pub is_root : (rows : List SquareRow) (p : Part) → AreRows rows → p.level ≡ root_level rows → p.number ≡ length rows → p.corner.x ≡ edge_of p.level → p.corner.y ≡ edge_of p.level → IsRoot rows p
+is_root rows p valid level number ex ey =
+    let root = rooted rows valid in
+    let low = root.low in let high = root.high in
+    let side = root-side p.level (omega arith) in
+    let half : 2 ^ (p.level - 1) ≤ 2 ^ 61 = pow_mono (let less : p.level - 1 ≤ 61 = omega arith in less) in
+    record {
+      part = record {
+        valid = valid;
+        number = subst (λ k. IsNumber rows k p.number) (sym level) (subst (λ n. IsNumber rows (root_level rows) n) (sym number) root.number);
+        on_plane = record {
+          level = omega arith;
+          across = record { low = omega (arith, ints); high = omega (arith, ints) };
+          down = record { low = omega (arith, ints); high = omega (arith, ints) };
+        };
+      };
+      low = omega arith;
+      level = level;
+      number = number;
+      x = ex ∙ ap edge_of level;
+      y = ey ∙ ap edge_of level;
+      shows = record {
+        cells = λ i j hi hj.
+            ap₂ (λ x y. cell (world_of_rows rows) (x +ℤ pos i) (y +ℤ pos j)) ex ey
+            ∙ sym (root-cells rows p.level i j valid (sym level) hi hj)
+            ∙ ap (λ n. cell_in p.level (square_in rows p.level n) i j) (sym number);
+      };
+    }
+
+-- it covers each live cell
+pub root-live : (rows : List SquareRow) (p : Part) (x y : ℤ) → IsRoot rows p → 0 < cell (world_of_rows rows) x y → Covers p x y
+root-live rows p x y root live = moved _ _ _ _ _ _ x y (ap (λ k. 2 ^ k) (sym root.level)) (sym root.x) (sym root.y) (root-Fits rows root.part.valid x y live)
+
+pub root-outside : (rows : List SquareRow) (p : Part) (x y : ℤ) → IsRoot rows p → (Covers p x y → ⊥) → cell (world_of_rows rows) x y ≡ 0
+root-outside rows p x y root out =
+    elim (cases_lt 0 (cell (world_of_rows rows) x y)) [
+      | inl live ↦ absurd (out (root-live rows p x y root live))
+      | inr none ↦ omega arith
+    ]

@@ -1,0 +1,15 @@
+use Rattle.std.proofs.Common.{◌^◌, sym, refl, ap, ◌∙◌, rules}
+use Rattle.plane_core.proofs.Parts.{moved}
+use Rattle.plane_core.proofs.within.is_apart.Goals as goal
+
+pub returns-clause-apart : goal.returns-clause-apart
+returns-clause-apart c = λ t x y h box.
+    let at = moved _ c.side-side.result _ _ _ _ x y (sym c.side-side.ensures.value) refl refl h in
+    let top = at.top in let bottom = at.bottom in let low = box.top in let high = box.bottom in
+    c.misses-2.ensures.apart t y (search rules) (search rules) (search rules) (search rules)
+
+pub returns-clause-near : goal.returns-clause-near
+returns-clause-near c = λ near unit.
+    let one = c.side-side.ensures.value ∙ ap (λ k. 2 ^ k) unit in
+    let across = c.misses.ensures.near (search rules) one in let down = c.misses-2.ensures.near near one in
+    record { left = search (rules, across.0); right = search (rules, across.1); top = search (rules, down.0); bottom = search (rules, down.1) }
