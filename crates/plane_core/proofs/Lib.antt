@@ -6,7 +6,6 @@ pub mod Descents
 pub mod Walking
 pub mod Validity
 pub mod Laying
-pub mod Blocks
 pub mod Entries
 pub mod Written
 pub mod Parts

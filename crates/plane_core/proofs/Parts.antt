@@ -61,8 +61,32 @@ module _ (q : ℕ) (p r : Part) (some : 1 ≤ p.level) (few : q < 4) (is : IsQua
       moved _ _ _ _ _ _ x y (sym half) (sym is.x) (sym is.y)
       (found (2 ^ (p.level - 1)) p.corner.x p.corner.y x y q (sym e) (moved _ _ _ _ _ _ x y (root-side p.level some) refl refl h))
 
+-- which quadrant holds a cell that lies so far to the right and down
+pub record IsSplit (h x y : ℕ) : Type 0 where
+  pub q : ℕ
+  pub i : ℕ
+  pub j : ℕ
+  pub few : q < 4
+  pub at_x : x ≡ east h q + i
+  pub at_y : y ≡ south h q + j
+  pub hi : i < h
+  pub hj : j < h
+
+pub quadrant-split : (h x y : ℕ) → x < h + h → y < h + h → IsSplit h x y
+quadrant-split h x y hx hy =
+    elim (cases_lt x h) [
+      | inl a ↦ elim (cases_lt y h) [
+        | inl b ↦ record { q = 0; i = x; j = y; few = omega arith; at_x = omega arith; at_y = omega arith; hi = a; hj = b }
+        | inr b ↦ record { q = 2; i = x; j = y - h; few = omega arith; at_x = omega arith; at_y = omega arith; hi = a; hj = omega arith }
+      ]
+      | inr a ↦ elim (cases_lt y h) [
+        | inl b ↦ record { q = 1; i = x - h; j = y; few = omega arith; at_x = omega arith; at_y = omega arith; hi = omega arith; hj = b }
+        | inr b ↦ record { q = 3; i = x - h; j = y - h; few = omega arith; at_x = omega arith; at_y = omega arith; hi = omega arith; hj = omega arith }
+      ]
+    ]
+
 -- a cell of a quadrant
-quadrant-cell : (k q i j : ℕ) (f : ℕ → Square) → q < 4 → i < 2 ^ k → j < 2 ^ k → cell_in (suc k) (four (f 0) (f 1) (f 2) (f 3)) (east (2 ^ k) q + i) (south (2 ^ k) q + j) ≡ cell_in k (f q) i j
+pub quadrant-cell : (k q i j : ℕ) (f : ℕ → Square) → q < 4 → i < 2 ^ k → j < 2 ^ k → cell_in (suc k) (four (f 0) (f 1) (f 2) (f 3)) (east (2 ^ k) q + i) (south (2 ^ k) q + j) ≡ cell_in k (f q) i j
 quadrant-cell k zero i j f few hi hj = cell_in-nw k _ _ _ _ (0 + i) (0 + j) (omega arith) (omega arith) ∙ ap₂ (cell_in k (f 0)) (omega arith) (omega arith)
 quadrant-cell k (suc zero) i j f few hi hj = cell_in-ne k _ _ _ _ (2 ^ k + i) (0 + j) (omega arith) (omega arith) ∙ ap₂ (cell_in k (f 1)) (omega arith) (omega arith)
 quadrant-cell k (suc (suc zero)) i j f few hi hj = cell_in-sw k _ _ _ _ (0 + i) (2 ^ k + j) (omega arith) (omega arith) ∙ ap₂ (cell_in k (f 2)) (omega arith) (omega arith)
@@ -109,13 +133,19 @@ shows-none w rows p x y none shows h =
     at.2 ∙ ap (λ n. cell_in p.level (square_in rows p.level n) at.0 at.1) none ∙ none-cell rows p.level at.0 at.1
 
 -- one cell is its number
+pub state-cell : (rows : List SquareRow) (k n i j : ℕ) → k ≡ 0 → cell_in k (square_in rows k n) i j ≡ n
+state-cell rows k n i j is = ap (λ k. cell_in k (square_in rows k n) i j) is ∙ ap (λ (s : Square). cell_in 0 s i j) (square_in-state rows n) ∙ cell_in-one 0 n i j
+
 pub shows-state : (w : World) (rows : List SquareRow) (p : Part) (x y : ℤ) → p.level ≡ 0 → Shows w rows p → Covers p x y → cell w x y ≡ p.number
-shows-state w rows p x y ground_level shows h =
-    let at = shows-cell w rows p x y shows h in
-    at.2
-    ∙ ap (λ k. cell_in k (square_in rows k p.number) at.0 at.1) ground_level
-    ∙ ap (λ (s : Square). cell_in 0 s at.0 at.1) (square_in-state rows p.number)
-    ∙ cell_in-one 0 p.number at.0 at.1
+shows-state w rows p x y is shows h = let at = shows-cell w rows p x y shows h in at.2 ∙ state-cell rows p.level p.number at.0 at.1 is
+
+pub shows-one : (w : World) (rows : List SquareRow) (p : Part) → p.level ≡ 0 → cell w p.corner.x p.corner.y ≡ p.number → Shows w rows p
+shows-one w rows p is state = record {
+  cells = λ i j hi hj.
+      let unit : 2 ^ p.level ≡ 1 = ap (λ k. 2 ^ k) is in
+      let ei : i ≡ 0 = omega arith in let ej : j ≡ 0 = omega arith in
+      ap₂ (cell w) (omega (arith, ints)) (omega (arith, ints)) ∙ state ∙ sym (state-cell rows p.level p.number i j is);
+}
 
 -- a quadrant shows what its square shows
 pub shows-quadrant : (w : World) (rows : List SquareRow) (q : ℕ) (p r : Part) → r.level ≡ p.level - 1 → 1 ≤ p.level → IsQuadrant q p r → IsKid rows p q r.number → Shows w rows p → Shows w rows r

@@ -1,13 +1,14 @@
 -- Rows that come behind others, and cells that are laid on the squares of rows.
-use Rattle.std.specs.Prelude.{◌≡◌, ℕ, suc, ◌/◌, ◌%◌, ◌<◌, ◌≤◌, ◌^◌, List, [], ◌∷◌, ◌++◌, length, get_or, All, ℤ, pos, ◌+ℤ◌}
+use Rattle.std.specs.Prelude.{◌≡◌, ℕ, zero, suc, ◌-◌, ◌<◌, ◌≤◌, ◌^◌, ◌==◌, cond, List, [], ◌∷◌, ◌++◌, length, get_or, All, ℤ, pos, ◌+ℤ◌}
 use Rattle.worlds.specs.declared.cell.CellSet.{CellSet}
 use Rattle.worlds.specs.World.{World, cell}
-use Rattle.worlds.specs.Lay.{last_mention}
+use Rattle.worlds.specs.Lay.{lay}
+use Rattle.worlds.specs.Square.{Square, four, IsIn}
 use Rattle.plane_core.specs.declared.row.SquareRow.{SquareRow}
+use Rattle.plane_core.specs.declared.part.Part.{Part}
 use Rattle.plane_core.specs.declared.lay.Parts.{Parts}
-use Rattle.worlds.specs.Square.{Square, four, cell_in, IsIn}
-use Rattle.plane_core.specs.Part.{IsFrom}
-use Rattle.plane_core.specs.Rows.{IsNumber, AreRows, square_in, root_level, edge_of, world_of_rows}
+use Rattle.plane_core.specs.Rows.{IsNumber, AreRows, square_in, root_level, world_of_rows}
+use Rattle.plane_core.specs.Part.{Covers, IsRoot, Shows, east, south}
 
 -- the square whose quadrants these numbers name
 abbrev pub square_of : List SquareRow → ℕ → List ℕ → Square
@@ -43,72 +44,74 @@ pub record IsRaised (old new : List SquareRow) : Type 0 where
   pub level : root_level new ≡ suc (root_level old)
   pub world : world_of_rows new ≡ world_of_rows old
 
--- the square of this side with the upper left cell (left, top) lies in the range of planes
-pub record IsOnPlane (side : ℕ) (left top : ℤ) : Type 0 where
-  pub across : IsFrom left side
-  pub down : IsFrom top side
-
 -- no cell of that square is live
 abbrev pub IsClear : ℕ → ℤ → ℤ → World → Type 0
 IsClear side left top w = (x y : ℤ) → IsIn side left top x y → cell w x y ≡ 0
 
--- the cells, in their order, that lie in the square of this side
-pub record AreThoseIn (side : ℕ) (left top : ℤ) (cells here : List CellSet) : Type 0 where
-  pub inside : (i : ℕ) (d : CellSet) → i < length here
-      → IsIn side left top (get_or here i d).x (get_or here i d).y
-  pub states : (i : ℕ) (d : CellSet) → i < length here → (get_or here i d).state < 256
-  pub mentions : (x y : ℤ) (s : ℕ) → IsIn side left top x y
-      → last_mention here x y s ≡ last_mention cells x y s
+-- the part of the quadrant q that n names
+abbrev pub quadrant_of : Part → ℕ → ℕ → Part
+quadrant_of p q n =
+    record {
+      level = p.level - 1;
+      number = n;
+      corner =
+          record {
+            x = p.corner.x +ℤ pos (east (2 ^ (p.level - 1)) q);
+            y = p.corner.y +ℤ pos (south (2 ^ (p.level - 1)) q);
+          };
+    }
 
--- a cell of the square of this side, with a state below 256
-abbrev pub IsCellOf : ℕ → ℤ → ℤ → CellSet → Type 0
-IsCellOf side left top c = IsIn side left top c.x c.y × (c.state < 256)
+-- the place of p with another number
+abbrev pub renumbered : Part → ℕ → Part
+renumbered p n = record { level = p.level; number = n; corner = p.corner }
 
--- the cells by the quadrants, of side half, of the square with the upper left cell (left, top)
-pub record AreParted (half : ℕ) (left top : ℤ) (cells : List CellSet) (parts : Parts) : Type 0 where
-  pub nw : AreThoseIn half left top cells parts.nw.items
-  pub ne : AreThoseIn half (left +ℤ pos half) top cells parts.ne.items
-  pub sw : AreThoseIn half left (top +ℤ pos half) cells parts.sw.items
-  pub se : AreThoseIn half (left +ℤ pos half) (top +ℤ pos half) cells parts.se.items
+-- a cell of the square, with a state below 256
+abbrev pub IsCellOf : Part → CellSet → Type 0
+IsCellOf p c = Covers p c.x c.y × (c.state < 256)
 
--- a list that goes on with a cell where that lies in the square of this side, and else stays
-pub record GoesOn (side : ℕ) (left top : ℤ) (c : CellSet) (old new : List CellSet) : Type 0 where
-  pub inside : IsIn side left top c.x c.y → new ≡ old ++ c ∷ []
-  pub outside : (IsIn side left top c.x c.y → ⊥) → new ≡ old
+-- those of the cells that lie in the square: there they do to each world what all of them do
+pub record AreThoseIn (p : Part) (cells here : List CellSet) : Type 0 where
+  pub inside : All (IsCellOf p) here
+  pub same : (w : World) (x y : ℤ) → Covers p x y → cell (lay here w) x y ≡ cell (lay cells w) x y
 
--- a cell of the square with the upper left cell (left, top) is put on the list of its quadrant, of
--- side half
-pub record ArePut (half : ℕ) (left top : ℤ) (c : CellSet) (old new : Parts) : Type 0 where
-  pub nw : GoesOn half left top c old.nw.items new.nw.items
-  pub ne : GoesOn half (left +ℤ pos half) top c old.ne.items new.ne.items
-  pub sw : GoesOn half left (top +ℤ pos half) c old.sw.items new.sw.items
-  pub se : GoesOn half (left +ℤ pos half) (top +ℤ pos half) c old.se.items new.se.items
+-- the list of a quadrant
+abbrev pub list_of : Parts → ℕ → List CellSet
+list_of parts zero = parts.nw.items
+list_of parts (suc zero) = parts.ne.items
+list_of parts (suc (suc zero)) = parts.sw.items
+list_of parts (suc (suc (suc q))) = parts.se.items
 
--- after names the square of level k with the upper left cell (left, top) that before named, with
--- the cells laid on it
-pub record IsLaid (old new : List SquareRow) (k before after : ℕ) (left top : ℤ)
-    (cells : List CellSet)
+-- the cells by the quadrants of the square
+abbrev pub AreParted : Part → List CellSet → Parts → Type 0
+AreParted p cells parts =
+    (q : ℕ) → q < 4 → AreThoseIn (quadrant_of p q 0) cells (list_of parts q)
+
+-- a cell is put behind the list of a quadrant
+abbrev pub IsPut : ℕ → CellSet → Parts → Parts → Type 0
+IsPut q c old new =
+    (r : ℕ) → r < 4
+    → list_of new r ≡ cond (r == q) (list_of old r ++ c ∷ []) (list_of old r)
+
+-- n names the square that p becomes when the cells are laid on it
+pub record IsLaid (old new : List SquareRow) (p : Part) (n : ℕ) (cells : List CellSet)
     : Type 0 where
   pub keeps : Keeps old new
-  pub number : IsNumber new k after
-  pub each : (i j : ℕ) → i < 2 ^ k → j < 2 ^ k
-      → cell_in k (square_in new k after) i j
-      ≡ last_mention cells (left +ℤ pos i) (top +ℤ pos j)
-      (cell_in k (square_in old k before) i j)
-  pub last : 0 < k → before ≡ length old → after ≡ length new
+  pub number : IsNumber new p.level n
+  pub shows : (w : World) → Shows w old p → Shows (lay cells w) new (renumbered p n)
+  pub last : p.number ≡ length old → n ≡ length new
 
--- new are the states old of the square of level 1 with the upper left cell (left, top), with the
--- cells laid on it
-pub record AreLaidStates (left top : ℤ) (cells : List CellSet) (old new : List ℕ) : Type 0 where
+-- the states of the cells of a square of level 1 in a world
+abbrev pub AreStatesOf : World → Part → List ℕ → Type 0
+AreStatesOf w p states =
+    (q : ℕ) → q < 4
+    → cell w (quadrant_of p q 0).corner.x (quadrant_of p q 0).corner.y ≡ get_or states q 0
+
+-- the states of the cells of a square of level 1, and those after the cells are laid on it
+pub record AreLaidStates (p : Part) (cells : List CellSet) (old new : List ℕ) : Type 0 where
   pub count : length new ≡ length old
   pub small : (q : ℕ) → q < 4 → get_or new q 0 < 256
-  pub each : (q : ℕ) → q < 4
-      → get_or new q 0
-      ≡ last_mention cells (left +ℤ pos (q % 2)) (top +ℤ pos (q / 2)) (get_or old q 0)
+  pub each : (w : World) → AreStatesOf w p old → AreStatesOf (lay cells w) p new
 
 -- each of the cells lies in the square of the root
 abbrev pub RootHolds : List SquareRow → List CellSet → Type 0
-RootHolds rows cells =
-    All (λ c.
-    IsIn (2 ^ root_level rows) (edge_of (root_level rows)) (edge_of (root_level rows)) c.x c.y)
-    cells
+RootHolds rows cells = (p : Part) → IsRoot rows p → All (λ c. Covers p c.x c.y) cells

@@ -3,14 +3,14 @@
 //! Each square passes the cells that lie in it on to its quadrants, so cells that lie together
 //! share the rows of the squares around them. Scattered cells take at most 62 rows each: where many
 //! rows have come together, those that stand there twice go.
-ghost use Rattle.std.specs.Prelude.{◌≡◌, ◌↔◌, ℕ, ◌+◌, ◌/◌, ◌%◌, ◌<◌, ◌≤◌, ◌^◌, length, get_or, All, IfOk, OnOk, IsTrue, pos, ◌+ℤ◌};
+ghost use Rattle.std.specs.Prelude.{◌≡◌, ◌↔◌, ℕ, ◌<◌, ◌≤◌, ◌^◌, length, get_or, All, IfOk, OnOk, IsTrue};
 ghost use Rattle.worlds.specs.Lay.{lay};
 ghost use Rattle.worlds.specs.Range.{CanBeLaid};
-ghost use Rattle.worlds.specs.Square.{IsIn};
-ghost use Rattle.plane_core.specs.Rows.{AreRows, IsNumber, root_level, world_of_rows};
-ghost use Rattle.plane_core.specs.Laid.{IsCellOf, AreLaidStates, AreParted, ArePut, IsLaid, IsOnPlane, RootHolds};
+ghost use Rattle.plane_core.specs.Rows.{AreRows, world_of_rows};
+ghost use Rattle.plane_core.specs.Part.{Covers, IsOnPlane, IsPart};
+ghost use Rattle.plane_core.specs.Laid.{AreLaidStates, AreParted, IsCellOf, IsLaid, IsPut, RootHolds};
 
-use crate::part::{Spot, corner_of, root_level, shifted, side};
+use crate::part::{Part, Spot, root_level};
 use crate::raise::{push_row, quadrants, raise};
 use crate::row::SquareRow;
 use crate::walk::walked;
@@ -24,26 +24,31 @@ const BATCH: usize = 1 << 16;
 // finds them would cost more than the rows do.
 const MANY: usize = 1 << 24;
 
-// Whether a cell lies in a square.
-fn is_in(side: u64, corner: Spot, cell: &CellSet) -> bool
-    requires { IsOnPlane side corner.x corner.y }
-    ensures { IsTrue result ↔ IsIn side corner.x corner.y cell.now.x cell.now.y }
+// Where a cell lies.
+fn place_of(cell: &CellSet) -> Spot
+    ensures { result ≡ record { x = cell.now.x; y = cell.now.y } }
 {
-    let Spot { x, y } = corner;
-    let side = side as i64;
-    if cell.x < x || cell.x >= x + side || cell.y < y || cell.y >= y + side {
-        return false;
+    Spot {
+        x: cell.x,
+        y: cell.y,
     }
-    true
 }
 
-// Whether each of the cells lies in a square.
-fn are_in(side: u64, corner: Spot, cells: &[CellSet]) -> bool
-    requires { IsOnPlane side corner.x corner.y }
-    ensures { IsTrue result → All (λ c. IsIn side corner.x corner.y c.x c.y) cells.now }
+// Whether a cell lies in the square.
+fn is_in(part: Part, cell: &CellSet) -> bool
+    requires { IsOnPlane part }
+    ensures { IsTrue result ↔ Covers part cell.now.x cell.now.y }
+{
+    part.covers(place_of(cell))
+}
+
+// Whether each of the cells lies in the square.
+fn are_in(part: Part, cells: &[CellSet]) -> bool
+    requires { IsOnPlane part }
+    ensures { IsTrue result → All (λ c. Covers part c.x c.y) cells.now }
 {
     for cell in cells {
-        if !is_in(side, corner, cell) {
+        if !is_in(part, cell) {
             return false;
         }
     }
@@ -60,34 +65,26 @@ struct Parts {
 }
 
 impl Parts {
-    // Puts a cell of the square with this upper left cell on the list of its quadrant, with this side.
-    fn put(&mut self, half: u64, corner: Spot, cell: CellSet) -> Result<(), AllocError>
-        requires square { IsOnPlane (half + half) corner.x corner.y }
-        requires cell { IsIn (half + half) corner.x corner.y cell.x cell.y }
-        ensures { OnOk result (ArePut half corner.x corner.y cell self.old self.new) }
+    // Puts a cell on the list of a quadrant.
+    fn put(&mut self, q: usize, cell: CellSet) -> Result<(), AllocError>
+        requires { q < 4 }
+        ensures { OnOk result (IsPut q cell self.old self.new) }
     {
-        let half = half as i64;
-        if cell.y < corner.y + half {
-            if cell.x < corner.x + half {
-                self.nw.push(cell)?;
-            } else {
-                self.ne.push(cell)?;
-            }
-        } else if cell.x < corner.x + half {
-            self.sw.push(cell)?;
-        } else {
-            self.se.push(cell)?;
+        match q {
+            0 => self.nw.push(cell)?,
+            1 => self.ne.push(cell)?,
+            2 => self.sw.push(cell)?,
+            _ => self.se.push(cell)?,
         }
         Ok(())
     }
 }
 
-// The cells by the quadrants, with this side, of the square with this upper left cell. The list
-// that held them together is let go.
-fn parted(alloc: Global, half: u64, corner: Spot, cells: Vec<CellSet>) -> Result<Parts, AllocError>
-    requires square { IsOnPlane (half + half) corner.x corner.y }
-    requires cells { All (IsCellOf (half + half) corner.x corner.y) cells.items }
-    ensures { IfOk result (AreParted half corner.x corner.y cells.items) }
+// The cells by the quadrants of the square. The list that held them together is let go.
+fn parted(alloc: Global, part: Part, cells: Vec<CellSet>) -> Result<Parts, AllocError>
+    requires square { IsOnPlane part × (1 ≤ part.level) }
+    requires cells { All (IsCellOf part) cells.items }
+    ensures { IfOk result (AreParted part cells.items) }
 {
     let mut parts = Parts {
         nw: Vec::new(alloc),
@@ -96,102 +93,65 @@ fn parted(alloc: Global, half: u64, corner: Spot, cells: Vec<CellSet>) -> Result
         se: Vec::new(alloc),
     };
     for cell in &cells {
-        parts.put(half, corner, *cell)?;
+        parts.put(part.quadrant_at(place_of(cell)), *cell)?;
     }
     Ok(parts)
 }
 
-// Which cell of the square of level 1 with this upper left cell a cell is, in the order nw, ne, sw,
-// se.
-fn place_of(corner: Spot, cell: &CellSet) -> usize
-    requires { IsIn 2 corner.x corner.y cell.now.x cell.now.y }
-    ensures within { result < 4 }
-    ensures x { cell.now.x ≡ corner.x +ℤ pos (result % 2) }
-    ensures y { cell.now.y ≡ corner.y +ℤ pos (result / 2) }
-{
-    if cell.y == corner.y {
-        if cell.x == corner.x { 0 } else { 1 }
-    } else if cell.x == corner.x {
-        2
-    } else {
-        3
-    }
-}
-
-// The states of the square of level 1 with this upper left cell after its cells are set in turn.
-fn laid_states(states: [u32; 4], corner: Spot, cells: &[CellSet]) -> [u32; 4]
+// The states of a square of level 1 after its cells are set in turn.
+fn laid_states(states: [u32; 4], part: Part, cells: &[CellSet]) -> [u32; 4]
+    requires square { IsOnPlane part × (part.level ≡ 1) }
     requires states { (q : ℕ) → q < 4 → get_or states q 0 < 256 }
-    requires cells { All (IsCellOf 2 corner.x corner.y) cells.now }
-    ensures { AreLaidStates corner.x corner.y cells.now states result }
+    requires cells { All (IsCellOf part) cells.now }
+    ensures { AreLaidStates part cells.now states result }
 {
     let mut laid = states;
     for cell in cells {
-        laid[place_of(corner, cell)] = u32::from(cell.state);
+        laid[part.quadrant_at(place_of(cell))] = u32::from(cell.state);
     }
     laid
 }
 
-// Lays the cells of the square of level 1 with this upper left cell on it, and gives the number of
-// what it becomes.
-fn lay_block(
-    rows: &mut Vec<SquareRow>,
-    number: u32,
-    corner: Spot,
-    cells: &[CellSet],
-) -> Result<u32, AllocError>
-    requires rows { AreRows rows.old.items × (length rows.old.items < 2 ^ 32) }
-    requires number { IsNumber rows.old.items 1 number }
-    requires cells { All (IsCellOf 2 corner.x corner.y) cells.now }
-    ensures { IfOk result (λ n.
-        IsLaid rows.old.items rows.new.items 1 number n corner.x corner.y cells.now) }
+// Lays the cells of a square of level 1 on it, and gives the number of what it becomes.
+fn lay_block(rows: &mut Vec<SquareRow>, part: Part, cells: &[CellSet]) -> Result<u32, AllocError>
+    requires square { IsPart rows.old.items part × (part.level ≡ 1) }
+    requires few { length rows.old.items < 2 ^ 32 }
+    requires cells { All (IsCellOf part) cells.now }
+    ensures { IfOk result (λ n. IsLaid rows.old.items rows.new.items part n cells.now) }
 {
-    let states = quadrants(rows, 1, number);
+    let states = quadrants(rows, 1, part.number);
     let row = SquareRow {
         level: 1,
-        kids: laid_states(states, corner, cells),
+        kids: laid_states(states, part, cells),
     };
     push_row(rows, row)
 }
 
-// Lays the cells of the square with this upper left cell on it, and gives the number of what it
-// becomes.
+// Lays the cells of the square on it, and gives the number of what it becomes.
 fn lay_in(
     alloc: Global,
     rows: &mut Vec<SquareRow>,
-    level: u8,
-    number: u32,
-    corner: Spot,
+    part: Part,
     cells: Vec<CellSet>,
 ) -> Result<u32, AllocError>
-    requires rows { AreRows rows.old.items × (length rows.old.items < 2 ^ 32) }
-    requires level { level ≤ 62 }
-    requires number { IsNumber rows.old.items level number }
-    requires square { IsOnPlane (2 ^ level) corner.x corner.y }
-    requires cells { All (IsCellOf (2 ^ level) corner.x corner.y) cells.items }
-    ensures { IfOk result (λ n.
-        IsLaid rows.old.items rows.new.items level number n corner.x corner.y cells.items) }
+    requires square { IsPart rows.old.items part × (1 ≤ part.level) }
+    requires few { length rows.old.items < 2 ^ 32 }
+    requires cells { All (IsCellOf part) cells.items }
+    ensures { IfOk result (λ n. IsLaid rows.old.items rows.new.items part n cells.items) }
 {
-    let Some(last) = cells.last() else {
-        return Ok(number);
-    };
-    if level == 0 {
-        return Ok(u32::from(last.state));
+    if cells.is_empty() {
+        return Ok(part.number);
     }
-    if level == 1 {
-        return lay_block(rows, number, corner, &cells);
+    if part.level == 1 {
+        return lay_block(rows, part, &cells);
     }
-    let half = side(level - 1);
-    let kids = quadrants(rows, level, number);
-    let parts = parted(alloc, half, corner, cells)?;
-    let east = shifted(corner, half, 0);
-    let south = shifted(corner, 0, half);
-    let far = shifted(corner, half, half);
-    let nw = lay_in(alloc, rows, level - 1, kids[0], corner, parts.nw)?;
-    let ne = lay_in(alloc, rows, level - 1, kids[1], east, parts.ne)?;
-    let sw = lay_in(alloc, rows, level - 1, kids[2], south, parts.sw)?;
-    let se = lay_in(alloc, rows, level - 1, kids[3], far, parts.se)?;
+    let parts = parted(alloc, part, cells)?;
+    let nw = lay_in(alloc, rows, part.quadrant(rows, 0), parts.nw)?;
+    let ne = lay_in(alloc, rows, part.quadrant(rows, 1), parts.ne)?;
+    let sw = lay_in(alloc, rows, part.quadrant(rows, 2), parts.sw)?;
+    let se = lay_in(alloc, rows, part.quadrant(rows, 3), parts.se)?;
     let row = SquareRow {
-        level,
+        level: part.level,
         kids: [nw, ne, sw, se],
     };
     push_row(rows, row)
@@ -206,8 +166,7 @@ fn raise_around(rows: &mut Vec<SquareRow>, cells: &[CellSet]) -> Result<(), Allo
     ensures holds { OnOk result (RootHolds rows.new.items cells.now) }
 {
     while root_level(rows) < 62 {
-        let level = root_level(rows);
-        if are_in(side(level), corner_of(level), cells) {
+        if are_in(Part::root(rows), cells) {
             return Ok(());
         }
         raise(rows)?;
@@ -224,16 +183,8 @@ fn lay_batch(alloc: Global, rows: &mut Vec<SquareRow>, cells: &[CellSet]) -> Res
         (world_of_rows rows.new.items ≡ lay cells.now (world_of_rows rows.old.items)) }
 {
     raise_around(rows, cells)?;
-    let level = root_level(rows);
-    let number = rows.len() as u32;
-    lay_in(
-        alloc,
-        rows,
-        level,
-        number,
-        corner_of(level),
-        cells.to_vec(alloc)?,
-    )?;
+    let root = Part::root(rows);
+    lay_in(alloc, rows, root, cells.to_vec(alloc)?)?;
     Ok(())
 }
 

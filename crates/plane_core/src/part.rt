@@ -45,19 +45,6 @@ pub fn root_level(rows: &[SquareRow]) -> u8
     }
 }
 
-// The cell so far to the right and down.
-pub fn shifted(spot: Spot, right: u64, down: u64) -> Spot
-    requires x { IsFrom spot.x right }
-    requires y { IsFrom spot.y down }
-    ensures x { result.x ≡ spot.x +ℤ pos right }
-    ensures y { result.y ≡ spot.y +ℤ pos down }
-{
-    Spot {
-        x: spot.x + right as i64,
-        y: spot.y + down as i64,
-    }
-}
-
 // The upper left cell of the square of this level with the cell (0, 0) in its middle.
 pub fn corner_of(level: u8) -> Spot
     requires { (1 ≤ level) × (level ≤ 62) }

@@ -1,7 +1,7 @@
 use Rattle.std.proofs.Common.{ℕ, ◌<◌, get_or}
 use Rattle.worlds.specs.declared.cell.CellSet.{CellSet}
-use Rattle.worlds.specs.Square.{IsIn}
+use Rattle.plane_core.specs.Part.{Covers}
 use Rattle.plane_core.proofs.lay.are_in.Given as goal
 
 abbrev pub invariant-loop-cell : goal.invariant-loop-cell
-invariant-loop-cell l = (k : ℕ) (d : CellSet) → k < l.cell-index → IsIn l.side l.corner.x l.corner.y (get_or l.cells k d).x (get_or l.cells k d).y
+invariant-loop-cell l = (k : ℕ) (d : CellSet) → k < l.cell-index → Covers l.part (get_or l.cells k d).x (get_or l.cells k d).y
