@@ -222,38 +222,67 @@ next-of rows t n i valid more e room =
       room = subst (λ j. HasRoom rows t n (row_square rows j)) (sym e) room;
     }
 
--- the room for each quadrant in turn
-pub room-first : (rows : List SquareRow) (t : Tally) (n i k : ℕ) → suc k ≡ (get_or rows i no_row).level → HasRoom rows t n (row_square rows i) → HasRoom rows t n (quadrant rows i k 0)
-room-first rows t n i k level room = let e = row-tally rows i k is_any n level in let all = room.room in record { room = omega arith; states = room.states }
+-- what the first q quadrants add up to
+abbrev first : List SquareRow → ℕ → ℕ → (ℕ → ℕ) → ℕ → ℕ
+first rows i n f = sum_to (λ q. n * tally f (quadrant rows i ((get_or rows i no_row).level - 1) q))
 
-pub room-second : (rows : List SquareRow) (t a : Tally) (n i k : ℕ) → suc k ≡ (get_or rows i no_row).level → HasRoom rows t n (row_square rows i) → Gains rows t a n (quadrant rows i k 0) → HasRoom rows a n (quadrant rows i k 1)
-room-second rows t a n i k level room ga = let e = row-tally rows i k is_any n level in let all = room.room in let la = ga.most in record { room = omega arith; states = ga.states }
+-- the first q quadrants of the i-th row are added
+pub record GainsFirst (rows : List SquareRow) (old new : Tally) (n i q : ℕ) : Type 0 where
+  pub each : (f : ℕ → ℕ) → f 0 ≡ 0 → held rows f new ≡ held rows f old + first rows i n f q
+  pub most : held rows is_any new ≤ held rows is_any old + first rows i n is_any q
+  pub none : get_or new.counts 0 0 ≡ get_or old.counts 0 0
+  pub states : length new.counts ≡ 256
+  pub left : length new.times.items ≡ length old.times.items
 
-pub room-third : (rows : List SquareRow) (t a b : Tally) (n i k : ℕ) → suc k ≡ (get_or rows i no_row).level → HasRoom rows t n (row_square rows i) → Gains rows t a n (quadrant rows i k 0) → Gains rows a b n (quadrant rows i k 1) → HasRoom rows b n (quadrant rows i k 2)
-room-third rows t a b n i k level room ga gb = let e = row-tally rows i k is_any n level in let all = room.room in let la = ga.most in let lb = gb.most in record { room = omega arith; states = gb.states }
+pub first-none : (rows : List SquareRow) (t : Tally) (n i : ℕ) → length t.counts ≡ 256 → GainsFirst rows t t n i 0
+first-none rows t n i states = record { each = λ f none. let e = sum-none (λ q. n * tally f (quadrant rows i ((get_or rows i no_row).level - 1) q)) in omega arith; most = omega arith; none = refl; states = states; left = refl }
 
-pub room-fourth : (rows : List SquareRow) (t a b c : Tally) (n i k : ℕ) → suc k ≡ (get_or rows i no_row).level → HasRoom rows t n (row_square rows i) → Gains rows t a n (quadrant rows i k 0) → Gains rows a b n (quadrant rows i k 1) → Gains rows b c n (quadrant rows i k 2)
-    → HasRoom rows c n (quadrant rows i k 3)
-room-fourth rows t a b c n i k level room ga gb gc =
-    let e = row-tally rows i k is_any n level in let all = room.room in let la = ga.most in let lb = gb.most in let lc = gc.most in record { room = omega arith; states = gc.states }
+first-more : (rows : List SquareRow) (i n : ℕ) (f : ℕ → ℕ) (q : ℕ) → first rows i n f (q + 1) ≡ first rows i n f q + n * tally f (quadrant rows i ((get_or rows i no_row).level - 1) q)
+first-more rows i n f q = ap (first rows i n f) (let up : q + 1 ≡ suc q = omega arith in up) ∙ sum-more (λ q. n * tally f (quadrant rows i ((get_or rows i no_row).level - 1) q)) q
 
-pub gains-four : (rows : List SquareRow) (t a b c d : Tally) (n i k : ℕ) → suc k ≡ (get_or rows i no_row).level → Gains rows t a n (quadrant rows i k 0) → Gains rows a b n (quadrant rows i k 1) → Gains rows b c n (quadrant rows i k 2) → Gains rows c d n (quadrant rows i k 3)
-    → Gains rows t d n (row_square rows i)
-gains-four rows t a b c d n i k level ga gb gc gd =
-    let la = ga.left in let lb = gb.left in let lc = gc.left in let ld = gd.left in
+pub first-next : (rows : List SquareRow) (t a b : Tally) (n i q : ℕ) → GainsFirst rows t a n i q → Gains rows a b n (quadrant rows i ((get_or rows i no_row).level - 1) q) → GainsFirst rows t b n i (q + 1)
+first-next rows t a b n i q before next =
+    let la = before.left in let lb = next.left in
     record {
-      each = λ f none.
-          let e = row-tally rows i k f n level in
-          let ea = ga.each f none in let eb = gb.each f none in let ec = gc.each f none in let ed = gd.each f none in
-          omega arith;
-      most =
-          let e = row-tally rows i k is_any n level in
-          let ea = ga.most in let eb = gb.most in let ec = gc.most in let ed = gd.most in
-          omega arith;
-      none = gd.none ∙ gc.none ∙ gb.none ∙ ga.none;
-      states = gd.states;
+      each = λ f none. let e = first-more rows i n f q in let ea = before.each f none in let eb = next.each f none in omega arith;
+      most = let e = first-more rows i n is_any q in let ea = before.most in let eb = next.most in omega arith;
+      none = next.none ∙ before.none;
+      states = next.states;
       left = omega arith;
     }
+
+-- four quadrants are the square of the row
+first-four : (rows : List SquareRow) (i n : ℕ) (f : ℕ → ℕ) → suc ((get_or rows i no_row).level - 1) ≡ (get_or rows i no_row).level → first rows i n f 4 ≡ n * tally f (row_square rows i)
+first-four rows i n f level =
+    let e0 = sum-none (λ q. n * tally f (quadrant rows i ((get_or rows i no_row).level - 1) q)) in
+    let e1 = first-more rows i n f 0 in let e2 = first-more rows i n f 1 in let e3 = first-more rows i n f 2 in let e4 = first-more rows i n f 3 in
+    let all = row-tally rows i ((get_or rows i no_row).level - 1) f n level in
+    omega arith
+
+sum-le : (g : ℕ → ℕ) (m n : ℕ) → m ≤ n → sum_to g m ≤ sum_to g n
+sum-le g m zero h = let e : sum_to g m ≡ sum_to g 0 = ap (sum_to g) (omega arith) in omega arith
+sum-le g m (suc n) h =
+    elim (cases_lt m (suc n)) [
+      | inl lt ↦ let le = sum-le g m n (omega (arith, lt)) in let e = sum-more g n in omega arith
+      | inr ge ↦ let e : sum_to g m ≡ sum_to g (suc n) = ap (sum_to g) (omega arith) in omega arith
+    ]
+
+-- there is room for the next
+pub first-room : (rows : List SquareRow) (t a : Tally) (n i q : ℕ) → q < 4 → IsNext rows t n i → GainsFirst rows t a n i q → HasRoom rows a n (quadrant rows i ((get_or rows i no_row).level - 1) q)
+first-room rows t a n i q few next before =
+    let all = first-four rows i n is_any next.level in let e = first-more rows i n is_any q in
+    let le = sum-le (λ q. n * tally is_any (quadrant rows i ((get_or rows i no_row).level - 1) q)) (q + 1) 4 (omega arith) in
+    let room = next.room.room in let most = before.most in
+    record { room = omega arith; states = before.states }
+
+pub first-all : (rows : List SquareRow) (t d : Tally) (n i q : ℕ) → q ≡ 4 → IsNext rows t n i → GainsFirst rows t d n i q → Gains rows t d n (row_square rows i)
+first-all rows t d n i q last next all = record {
+  each = λ f none. let e = first-four rows i n f next.level in let is = all.each f none in let same : first rows i n f q ≡ first rows i n f 4 = ap (first rows i n f) last in omega arith;
+  most = let e = first-four rows i n is_any next.level in let is = all.most in let same : first rows i n is_any q ≡ first rows i n is_any 4 = ap (first rows i n is_any) last in omega arith;
+  none = all.none;
+  states = all.states;
+  left = all.left;
+}
 
 -- before anything is added
 held-none : (rows : List SquareRow) (t : Tally) (n : ℕ) (f : ℕ → ℕ) → t.counts ≡ replicate 256 0 → t.times.items ≡ replicate n 0 → held rows f t ≡ 0

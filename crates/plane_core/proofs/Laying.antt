@@ -74,9 +74,6 @@ module _ (p : Part) (c : CellSet) (q r n : ℕ) (some : 1 ≤ p.level) (is : IsC
   in_no_other : (r ≡ q → ⊥) → Covers (quadrant_of p r n) c.x c.y → ⊥
   in_no_other other here = other (sym (in_quadrant r p (quadrant_of p r n) some few stands c.x c.y here).1 ∙ sym at)
 
-pub those-none : (p : Part) → AreThoseIn p [] []
-those-none p = record { inside = All-nil _; same = λ w x y h. refl }
-
 pub parted-more : (p : Part) (cs : List CellSet) (c : CellSet) (old new : Parts) (q : ℕ) → 1 ≤ p.level → IsCellOf p c → q ≡ quadrant_at p c.x c.y → IsPut q c old new → AreParted p cs old → AreParted p (cs ++ c ∷ []) new
 parted-more p cs c old new q some is at put before r few =
     elim (cases_eq r q) [
@@ -117,9 +114,6 @@ laid-more p cs c old new q one is at there laid =
     }
 
 -- what was shown stays shown
-pub part-kept : (old new : List SquareRow) (p : Part) → Keeps old new → IsPart old p → IsPart new p
-part-kept old new p keeps is = record { valid = keeps.valid; number = keeps.number p.level p.number is.number; on_plane = is.on_plane }
-
 shows-kept : (w : World) (old new : List SquareRow) (p : Part) → Keeps old new → IsNumber old p.level p.number → Shows w old p → Shows w new p
 shows-kept w old new p keeps number shows = record { cells = λ i j hi hj. shows.cells i j hi hj ∙ ap (λ (s : Square). cell_in p.level s i j) (sym (keeps.square p.level p.number number)) }
 

@@ -1,5 +1,5 @@
 -- Two worlds together, of which no cell is live in both: their greatest state and their bounds.
-use Rattle.std.proofs.Common.{◌≡◌, ℕ, ◌+◌, ◌<◌, ◌≤◌, ◌^◌, ◌⊎◌, max, true, false, cond, Option, None, Some, refl, sym, ap, ◌∙◌, subst, arith, inl, inr, ℤ, pos, ◌+ℤ◌, ◌-ℤ◌, ◌≤ℤ◌}
+use Rattle.std.proofs.Common.{◌≡◌, ℕ, ◌+◌, ◌<◌, ◌≤◌, ◌^◌, ◌⊎◌, max, true, false, cond, Option, None, Some, refl, sym, ap, ◌∙◌, subst, arith, inl, inr, ℤ, pos, ◌+ℤ◌, ◌-ℤ◌}
 use Rattle.std.specs.Prelude.{int_lt, IfSome}
 use Rattle.std.specs.Int.{int_min, int_max}
 use Rattle.std.proofs.lemmas.Int.{ints}
@@ -41,37 +41,16 @@ by_min P x y hx hy = elim (int_lt y x) as (λ t. P (cond t y x)) [ true ↦ hy |
 by_max : (P : ℤ → Type 0) (x y : ℤ) → P x → P y → P (int_max x y)
 by_max P x y hx hy = elim (int_lt y x) as (λ t. P (cond t x y)) [ true ↦ hx | false ↦ hy ]
 
-min_left : (x y : ℤ) → int_min x y ≤ℤ x
-min_left x y = grind (arith, ints)
-
-min_right : (x y : ℤ) → int_min x y ≤ℤ y
-min_right x y = grind (arith, ints)
-
-max_left : (x y : ℤ) → x ≤ℤ int_max x y
-max_left x y = grind (arith, ints)
-
-max_right : (x y : ℤ) → y ≤ℤ int_max x y
-max_right x y = grind (arith, ints)
-
-le_trans : (x y z : ℤ) → x ≤ℤ y → y ≤ℤ z → x ≤ℤ z
-le_trans x y z h g = omega (arith, ints)
-
 -- a box that holds both holds each
 in_left : (a b : Bounds) (x y : ℤ) → IsInBox a x y → IsInBox (joined_box a b) x y
-in_left a b x y h = record {
-  left = le_trans _ _ _ (min_left a.left b.left) h.left;
-  right = le_trans _ _ _ h.right (max_left a.right b.right);
-  top = le_trans _ _ _ (min_left a.top b.top) h.top;
-  bottom = le_trans _ _ _ h.bottom (max_left a.bottom b.bottom);
-}
+in_left a b x y h =
+    let left = h.left in let right = h.right in let top = h.top in let bottom = h.bottom in
+    record { left = grind (arith, ints); right = grind (arith, ints); top = grind (arith, ints); bottom = grind (arith, ints) }
 
 in_right : (a b : Bounds) (x y : ℤ) → IsInBox b x y → IsInBox (joined_box a b) x y
-in_right a b x y h = record {
-  left = le_trans _ _ _ (min_right a.left b.left) h.left;
-  right = le_trans _ _ _ h.right (max_right a.right b.right);
-  top = le_trans _ _ _ (min_right a.top b.top) h.top;
-  bottom = le_trans _ _ _ h.bottom (max_right a.bottom b.bottom);
-}
+in_right a b x y h =
+    let left = h.left in let right = h.right in let top = h.top in let bottom = h.bottom in
+    record { left = grind (arith, ints); right = grind (arith, ints); top = grind (arith, ints); bottom = grind (arith, ints) }
 
 -- what is live in either is live in both together
 live_left : (u v w : World) → Overlays u v w → (x y : ℤ) → 0 < cell v x y → 0 < cell u x y

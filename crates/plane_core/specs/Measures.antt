@@ -1,5 +1,5 @@
 -- What is measured of a world, and how the measures of a square come from those of its quadrants.
-use Rattle.std.specs.Prelude.{◌≡◌, ℕ, zero, suc, ◌+◌, ◌<◌, ◌≤◌, max, List, length, get_or, ℤ, pos, neg_ℤ, ◌+ℤ◌, ◌≤ℤ◌, ◌<ℤ◌, Option, None, Some}
+use Rattle.std.specs.Prelude.{◌≡◌, ℕ, zero, suc, ◌+◌, ◌-◌, ◌<◌, ◌≤◌, max, List, length, get_or, ℤ, pos, neg_ℤ, ◌+ℤ◌, ◌≤ℤ◌, ◌<ℤ◌, Option, None, Some}
 use Rattle.std.specs.Int.{int_min, int_max}
 use Rattle.worlds.specs.World.{World, blank}
 use Rattle.worlds.specs.Live.{population}
@@ -8,7 +8,7 @@ use Rattle.worlds.specs.declared.cell.Bounds.{Bounds}
 use Rattle.plane_core.specs.declared.measures.Measures.{Measures}
 use Rattle.plane_core.specs.declared.row.SquareRow.{SquareRow}
 use Rattle.worlds.specs.Square.{Square, put_square}
-use Rattle.plane_core.specs.Rows.{no_row, square_in}
+use Rattle.plane_core.specs.Rows.{no_row, kid, square_in}
 
 -- the least box that holds the live cells, None where no cell is live
 abbrev pub AreBoundsOf : World → Option Bounds → Type 0
@@ -100,6 +100,11 @@ unfoldable pub measures_in : List Measures → ℕ → ℕ → Measures
 measures_in all zero n = measures_of_state n
 measures_in all (suc k) zero = no_measures
 measures_in all (suc k) (suc i) = get_or all i no_measures
+
+-- the measures of the q-th quadrant of the next row
+abbrev pub kid_measures : List SquareRow → List Measures → ℕ → Measures
+kid_measures rows all q =
+    let row = get_or rows (length all) no_row in measures_in all (row.level - 1) (kid row q)
 
 -- the measures of the square of the i-th row
 abbrev pub AreMeasuresAt : List SquareRow → ℕ → Measures → Type 0

@@ -47,10 +47,9 @@ fn add_quadrants(rows: &[SquareRow], tally: &mut Tally, times: u128)
 {
     let row = rows[tally.times.len()];
     let level = row.level - 1;
-    add_square(rows, tally, level, row.kids[0], times);
-    add_square(rows, tally, level, row.kids[1], times);
-    add_square(rows, tally, level, row.kids[2], times);
-    add_square(rows, tally, level, row.kids[3], times);
+    for q in 0..4 {
+        add_square(rows, tally, level, row.kids[q], times);
+    }
 }
 
 /// How many live cells of the pattern that rows stand for have each state.

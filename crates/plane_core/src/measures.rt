@@ -2,7 +2,7 @@
 //! quadrants, however often it stands in the pattern.
 ghost use Rattle.std.specs.Prelude.{◌≡◌, ◌+◌, ◌<◌, ◌≤◌, ◌^◌, length, IfOk, IfSome};
 ghost use Rattle.plane_core.specs.Rows.{AreRows, world_of_rows};
-ghost use Rattle.plane_core.specs.Measures.{AreMeasured, AreMeasuresAt, AreMeasuresOf, IsWithin, LiesIn, joined, joined_bounds, measures_in, measures_of_state, moved_box, no_measures, placed};
+ghost use Rattle.plane_core.specs.Measures.{AreMeasured, AreMeasuresAt, AreMeasuresOf, IsWithin, LiesIn, joined, joined_bounds, kid_measures, measures_in, measures_of_state, moved_box, no_measures, placed};
 
 use crate::part::{Spot, root_level, side};
 use crate::row::SquareRow;
@@ -119,6 +119,18 @@ fn measures_in(all: &[Measures], level: u8, number: u32) -> Measures
     all[number as usize - 1]
 }
 
+// The measures of a quadrant of the next row, by those of the rows before it.
+fn measures_of_kid(rows: &[SquareRow], all: &[Measures], q: usize) -> Measures
+    requires rows { AreRows rows.now × AreMeasured rows.now all.now }
+    requires more { (length all.now < length rows.now) × (q < 4) }
+    ensures measures { result ≡ kid_measures rows.now all.now q }
+    ensures few { result.population ≤ 2 ^ 122 }
+    ensures near { IfSome result.bounds (LiesIn (2 ^ 62)) }
+{
+    let row = rows[all.len()];
+    measures_in(all, row.level - 1, row.kids[q])
+}
+
 // The measures of the square of the next row, by those of the rows before it.
 fn measures_of_next(rows: &[SquareRow], all: &[Measures]) -> Measures
     requires rows { AreRows rows.now }
@@ -126,16 +138,13 @@ fn measures_of_next(rows: &[SquareRow], all: &[Measures]) -> Measures
     requires more { length all.now < length rows.now }
     ensures { AreMeasuresAt rows.now (length all.now) result }
 {
-    let row = rows[all.len()];
-    let level = row.level - 1;
-    let half = side(level) as i64;
-    let nw = measures_in(all, level, row.kids[0]);
-    let ne = measures_in(all, level, row.kids[1]);
-    let sw = measures_in(all, level, row.kids[2]);
-    let se = measures_in(all, level, row.kids[3]);
-    let upper = joined(nw, placed(ne, Spot { x: half, y: 0 }));
-    let most = joined(upper, placed(sw, Spot { x: 0, y: half }));
-    joined(most, placed(se, Spot { x: half, y: half }))
+    let half = side(rows[all.len()].level - 1) as i64;
+    let ne = placed(measures_of_kid(rows, all, 1), Spot { x: half, y: 0 });
+    let sw = placed(measures_of_kid(rows, all, 2), Spot { x: 0, y: half });
+    let se = placed(measures_of_kid(rows, all, 3), Spot { x: half, y: half });
+    let upper = joined(measures_of_kid(rows, all, 0), ne);
+    let most = joined(upper, sw);
+    joined(most, se)
 }
 
 /// The measures of the pattern that rows stand for.

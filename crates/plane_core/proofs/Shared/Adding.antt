@@ -1,6 +1,7 @@
 -- Rows that come behind others, and the root of one level more.
 use Rattle.std.proofs.Common.{◌≡◌, ℕ, zero, suc, ◌+◌, ◌-◌, ◌<◌, ◌≤◌, ◌^◌, List, [], ◌∷◌, ◌++◌, length, get_or, slice_set, refl, sym, ap, ◌∙◌, subst, arith, lit<, Result}
-use Rattle.std.specs.Prelude.{IfOk, Ok, Err}
+use Rattle.std.specs.Prelude.{IfOk}
+use Rattle.std.proofs.lemmas.Result.{IfOk-weaker}
 use Rattle.std.proofs.lemmas.List.{length_push, get_or_push}
 use Rattle.plane_core.specs.declared.row.SquareRow.{SquareRow}
 use Rattle.worlds.specs.Square.{Square, four, empty_square}
@@ -201,5 +202,4 @@ corner_kids rows k (suc (suc (suc (suc c)))) n h hc = absurd (omega (arith, hc))
 
 -- what follows from what holds of the value follows of it
 pub IfOk_then : {T E : Type 0} (r : Result T E) (P Q : T → Type 0) → ((t : T) → P t → Q t) → IfOk r P → IfOk r Q
-IfOk_then (Ok t) P Q h p = h t p
-IfOk_then (Err e) P Q h p = tt
+IfOk_then = IfOk-weaker

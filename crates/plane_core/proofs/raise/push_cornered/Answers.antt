@@ -3,7 +3,8 @@ use Rattle.worlds.specs.Square.{Square}
 use Rattle.plane_core.specs.Centre.{cornered}
 use Rattle.plane_core.specs.Rows.{square_in}
 use Rattle.plane_core.specs.Laid.{IsAdded, square_of}
-use Rattle.plane_core.proofs.Shared.Adding.{corner_kids, IfOk_then}
+use Rattle.std.proofs.lemmas.Result.{IfOk-weaker}
+use Rattle.plane_core.proofs.Shared.Adding.{corner_kids}
 use Rattle.plane_core.proofs.raise.push_cornered.Goals as goal
 
 pub push_row-requires-clause-row : goal.push_row-requires-clause-row
@@ -17,7 +18,7 @@ pub returns : goal.returns
 returns c =
     let rows = c.args.rows.now.items in
     let k = c.args.level - 1 in
-    IfOk_then c.push_row.result
+    IfOk-weaker c.push_row.result
     (λ n. IsAdded rows c.push_row.new.rows.items c.args.level n (square_of rows k (slice_set (0 ∷ 0 ∷ 0 ∷ 0 ∷ []) c.args.corner c.args.number)))
     (λ n. IsAdded rows c.push_row.new.rows.items c.args.level n (cornered k c.args.corner (square_in rows k c.args.number)))
     (λ n h. subst (λ (s : Square). IsAdded rows c.push_row.new.rows.items c.args.level n s) (corner_kids rows k c.args.corner c.args.number c.requires.number c.requires.corner).square h)
