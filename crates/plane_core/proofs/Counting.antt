@@ -1,5 +1,6 @@
 -- The counts of states, row by row.
-use Rattle.std.proofs.Common.{◌≡◌, ℕ, zero, suc, ◌+◌, ◌*◌, ◌-◌, ◌<◌, ◌≤◌, ◌^◌, ◌==◌, false, cond, List, [], ◌∷◌, ◌++◌, length, get_or, set, replicate, get_or-set_same, get_or-set_other, refl, sym, ap, ap₂, ◌∙◌, subst, arith, inl, inr, lit<, pow_mono, ℤ}
+use Rattle.std.proofs.Common.{◌≡◌, ℕ, zero, suc, ◌+◌, ◌*◌, ◌-◌, ◌<◌, ◌≤◌, ◌^◌, ◌==◌, false, cond, List, [], ◌∷◌, ◌++◌, length, get_or, set, replicate, refl, sym, ap, ap₂, ◌∙◌, subst, arith, inl, inr, lit<, pow_mono, ℤ}
+use Rattle.std.proofs.Common.{get_or-set_same, get_or-set_other}
 use Rattle.std.specs.List.{AllByRecursion, count_by}
 use Rattle.std.proofs.lemmas.Bool.{cases_lt, eq-eqb, ne_eqb}
 use Rattle.std.proofs.lemmas.List.{get_or_append_left, get_or_push, length_push, get_or-replicate, length-replicate, length-set}
@@ -124,7 +125,8 @@ gains-none rows t n k number e states =
     }
 
 -- a cell is counted
-pub gains-state : (rows : List SquareRow) (old new : Tally) (n k s : ℕ) → k ≡ 0 → (s ≡ 0 → ⊥) → IsNumber rows k s → length old.counts ≡ 256 → s < 256 → new.counts ≡ set old.counts s (get_or old.counts s 0 + n) → new.times.items ≡ old.times.items
+pub gains-state : (rows : List SquareRow) (old new : Tally) (n k s : ℕ) → k ≡ 0 → (s ≡ 0 → ⊥) → IsNumber rows k s → length old.counts ≡ 256 → s < 256
+    → new.counts ≡ set old.counts s (get_or old.counts s 0 + n) → new.times.items ≡ old.times.items
     → Gains rows old new n (square_in rows k s)
 gains-state rows old new n k s ground_level live is states small counts times =
     let at : square_in rows k s ≡ one s = ap (λ j. square_in rows j s) ground_level ∙ square_in-state rows s in
@@ -340,7 +342,8 @@ popped-room rows root t p n counts times is =
     let most = is.most in
     record { room = omega arith; states = ap length counts ∙ is.states }
 
-pub tallied-more : (rows : List SquareRow) (root : Square) (t p new : Tally) (n : ℕ) → p.counts ≡ t.counts → t.times.items ≡ p.times.items ++ n ∷ [] → IsTallied rows root t → Gains rows p new n (row_square rows (length p.times.items)) → IsTallied rows root new
+pub tallied-more : (rows : List SquareRow) (root : Square) (t p new : Tally) (n : ℕ) → p.counts ≡ t.counts → t.times.items ≡ p.times.items ++ n ∷ [] → IsTallied rows root t
+    → Gains rows p new n (row_square rows (length p.times.items)) → IsTallied rows root new
 tallied-more rows root t p new n counts times is gain =
     let left = is.left in let same = gain.left in
     record {

@@ -86,7 +86,8 @@ parted-more p cs c old new q some is at put before r few =
     ]
 
 -- one more cell is set on a square of level 1
-pub laid-more : (p : Part) (cs : List CellSet) (c : CellSet) (old new : List ℕ) (q : ℕ) → p.level ≡ 1 → IsCellOf p c → q ≡ quadrant_at p c.x c.y → q < length new → AreLaidStates p cs old new → AreLaidStates p (cs ++ c ∷ []) old (slice_set new q c.state)
+pub laid-more : (p : Part) (cs : List CellSet) (c : CellSet) (old new : List ℕ) (q : ℕ) → p.level ≡ 1 → IsCellOf p c → q ≡ quadrant_at p c.x c.y → q < length new
+    → AreLaidStates p cs old new → AreLaidStates p (cs ++ c ∷ []) old (slice_set new q c.state)
 laid-more p cs c old new q one is at there laid =
     let some : 1 ≤ p.level = omega arith in
     let set = λ (r : ℕ) (same : r ≡ q). ap (λ k. get_or (slice_set new q c.state) k 0) same ∙ get_or-set_same new q c.state 0 there in
@@ -152,9 +153,10 @@ each_of_four P a b c d (suc (suc (suc (suc q)))) h = absurd (omega (arith, h))
 same_part : (q n : ℕ) (p r : Part) → IsQuadrant q p r → renumbered r n ≡ quadrant_of p q n
 same_part q n p r is = λ i. record { level = is.level i; number = n; corner = record { x = is.x i; y = is.y i } }
 
--- the cells of a quadrant lie in it
-pub those-inside : (q : ℕ) (p r : Part) (cells own : List CellSet) → IsQuadrant q p r → AreThoseIn (quadrant_of p q 0) cells own → All (IsCellOf r) own
-those-inside q p r cells own is those = subst (λ (r : Part). All (IsCellOf r) own) (sym (same_part q 0 p r is)) those.inside
+-- the cells of a quadrant may be laid on it
+pub goes_on : (q : ℕ) (p r : Part) (d rows : List SquareRow) (cells own : List CellSet) → d ≡ rows → length rows < 2 ^ 32 → 1 ≤ r.level → IsPart d r → IsQuadrant q p r → AreThoseIn (quadrant_of p q 0) cells own
+    → (IsPart rows r × (1 ≤ r.level)) × ((length rows < 2 ^ 32) × All (IsCellOf r) own)
+goes_on q p r d rows cells own same few low is at those = ((subst (λ (rs : List SquareRow). IsPart rs r) same is, low), (few, subst (λ (r : Part). All (IsCellOf r) own) (sym (same_part q 0 p r at)) those.inside))
 
 -- the cells are laid on one quadrant while others were made or will be
 pub laid-quadrant : (rows r1 r2 r4 : List SquareRow) (q n : ℕ) (p r : Part) (cells own : List CellSet) → IsPart rows p → IsQuadrant q p r → {d : List SquareRow} → d ≡ r1 → ((w : World) → Shows w d p → Shows w d r)

@@ -149,7 +149,8 @@ abbrev pub NoCorner : List SquareRow → ℕ → ℕ → ℕ → Type 0
 NoCorner rows k q corner = (s : Square) → square_in rows (suc k) (kid (row_at rows (length rows)) q) ≡ cornered k corner s → ⊥
 
 not_centred : (rows : List SquareRow) (k : ℕ) → AreRows rows → root_level rows ≡ suc (suc k) → 0 < length rows
-    → (HasCorners k (square_in rows (suc k) (kid (row_at rows (length rows)) 0)) (square_in rows (suc k) (kid (row_at rows (length rows)) 1)) (square_in rows (suc k) (kid (row_at rows (length rows)) 2)) (square_in rows (suc k) (kid (row_at rows (length rows)) 3)) → ⊥)
+    → (HasCorners k (square_in rows (suc k) (kid (row_at rows (length rows)) 0)) (square_in rows (suc k) (kid (row_at rows (length rows)) 1))
+    (square_in rows (suc k) (kid (row_at rows (length rows)) 2)) (square_in rows (suc k) (kid (row_at rows (length rows)) 3)) → ⊥)
     → IsLeastLevel (root_level rows) (world_of_rows rows)
 not_centred rows k valid ek some none =
     let root = row_at rows (length rows) in
@@ -214,7 +215,8 @@ module _ (rows : List SquareRow) (k a b c d : ℕ) (valid : AreRows rows) (none 
   middle_valid =
       let root = rooted rows valid in
       let high = root.high in
-      AreRows-push rows (row_of (suc k) a b c d) valid (record { low = omega arith; high = omega arith; kids = λ q hq. let less : suc k - 1 ≡ k = omega arith in subst (λ m. IsNumber rows m (kid (row_of (suc k) a b c d) q)) (sym less) (middle_kid q hq) })
+      AreRows-push rows (row_of (suc k) a b c d) valid
+      (record { low = omega arith; high = omega arith; kids = λ q hq. let less : suc k - 1 ≡ k = omega arith in subst (λ m. IsNumber rows m (kid (row_of (suc k) a b c d) q)) (sym less) (middle_kid q hq) })
 
   middle_level : root_level (rows ++ row_of (suc k) a b c d ∷ []) ≡ suc k
   middle_level =
@@ -271,7 +273,8 @@ module _ (rows : List SquareRow) (k a b c d : ℕ) (valid : AreRows rows) (none 
       let row = row_of (suc k) a b c d in
       let all = rows ++ row ∷ [] in
       let level : suc k ≡ suc j = IsNumber-last rows row j i last h in
-      let here : square_in all (suc k) (suc (length rows)) ≡ empty_square (suc k) = subst (λ m. square_in all (suc m) (suc (length rows)) ≡ empty_square (suc m)) (let same : j ≡ k = omega (arith, level) in same) (subst (λ m. square_in all (suc j) (suc m) ≡ empty_square (suc j)) last e) in
+      let here : square_in all (suc k) (suc (length rows)) ≡ empty_square (suc k) = subst (λ m. square_in all (suc m) (suc (length rows)) ≡ empty_square (suc m)) (let same : j ≡ k = omega (arith, level) in same)
+      (subst (λ m. square_in all (suc j) (suc m) ≡ empty_square (suc j)) last e) in
       absurd (not_empty (sym middle_square ∙ here))
 
   middle_none : NoneEmpty (rows ++ row_of (suc k) a b c d ∷ [])

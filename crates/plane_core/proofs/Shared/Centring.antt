@@ -6,7 +6,8 @@ use Rattle.worlds.specs.World.{World, cell, blank, cell-blank, same_world}
 use Rattle.worlds.specs.Square.{Square, one, four, empty_square, IsSquare, cell_in, put_square, IsIn}
 use Rattle.plane_core.specs.Rows.{Fits, edge_of}
 use Rattle.plane_core.specs.Centre.{cornered, centred}
-use Rattle.plane_core.proofs.Shared.Cells.{double, cell_in-nw, cell_in-ne, cell_in-sw, cell_in-se, cell_in-empty, IsSquare-empty, IsSquare-four, IsSquare-parts, same_square, in_or_out, offsets, nw_of, ne_of, sw_of, se_of, put_square-inside, put_square-outside}
+use Rattle.plane_core.proofs.Shared.Cells.{double, cell_in-nw, cell_in-ne, cell_in-sw, cell_in-se, cell_in-empty, IsSquare-empty, IsSquare-four, IsSquare-parts, same_square}
+use Rattle.plane_core.proofs.Shared.Cells.{in_or_out, offsets, nw_of, ne_of, sw_of, se_of, put_square-inside, put_square-outside}
 
 -- the cells of each quadrant, by how far they lie from its edges
 module _ (k : ℕ) (a b c d : Square) (i j : ℕ) (hi : i < 2 ^ k) (hj : j < 2 ^ k) where
@@ -127,11 +128,14 @@ module _ (k : ℕ) (a b c d : Square) where
       elim (cases_lt i m) [
         | inl x ↦ elim (cases_lt j m) [
           | inl y ↦ cell_in-nw (suc k) nw ne sw se i j x y ∙ only_se k a i j (elim (cases_lt i n) [ inl p ↦ inl p | inr p ↦ elim (cases_lt j n) [ inl q ↦ inr q | inr q ↦ absurd (out p (omega arith) q (omega arith)) ] ])
-          | inr y ↦ cell_in-sw (suc k) nw ne sw se i j x y ∙ only_ne k c i (j - m) (elim (cases_lt i n) [ inl p ↦ inl p | inr p ↦ elim (cases_lt (j - m) n) [ inl q ↦ absurd (out p (omega arith) (omega arith) (omega arith)) | inr q ↦ inr q ] ])
+          | inr y ↦ cell_in-sw (suc k) nw ne sw se i j x y ∙ only_ne k c i (j - m)
+              (elim (cases_lt i n) [ inl p ↦ inl p | inr p ↦ elim (cases_lt (j - m) n) [ inl q ↦ absurd (out p (omega arith) (omega arith) (omega arith)) | inr q ↦ inr q ] ])
         ]
         | inr x ↦ elim (cases_lt j m) [
-          | inl y ↦ cell_in-ne (suc k) nw ne sw se i j x y ∙ only_sw k b (i - m) j (elim (cases_lt (i - m) n) [ inr p ↦ inl p | inl p ↦ elim (cases_lt j n) [ inl q ↦ inr q | inr q ↦ absurd (out (omega arith) (omega arith) q (omega arith)) ] ])
-          | inr y ↦ cell_in-se (suc k) nw ne sw se i j x y ∙ only_nw k d (i - m) (j - m) (elim (cases_lt (i - m) n) [ inr p ↦ inl p | inl p ↦ elim (cases_lt (j - m) n) [ inl q ↦ absurd (out (omega arith) (omega arith) (omega arith) (omega arith)) | inr q ↦ inr q ] ])
+          | inl y ↦ cell_in-ne (suc k) nw ne sw se i j x y ∙ only_sw k b (i - m) j
+              (elim (cases_lt (i - m) n) [ inr p ↦ inl p | inl p ↦ elim (cases_lt j n) [ inl q ↦ inr q | inr q ↦ absurd (out (omega arith) (omega arith) q (omega arith)) ] ])
+          | inr y ↦ cell_in-se (suc k) nw ne sw se i j x y ∙ only_nw k d (i - m) (j - m)
+              (elim (cases_lt (i - m) n) [ inr p ↦ inl p | inl p ↦ elim (cases_lt (j - m) n) [ inl q ↦ absurd (out (omega arith) (omega arith) (omega arith) (omega arith)) | inr q ↦ inr q ] ])
         ]
       ]
 

@@ -152,7 +152,8 @@ measures-four k h nw ne sw se a b c d eh is ha hb hc hd =
     let m3 : AreMeasuresOf w3 (joined (joined a (placed b (pos 0 +ℤ pos n) (pos 0))) (placed c (pos 0) (pos 0 +ℤ pos n))) = measures-joined k sw (pos 0) (pos 0 +ℤ pos n) w2 _ c parts.2 free.sw m2 hc in
     let m4 = measures-joined k se (pos 0 +ℤ pos n) (pos 0 +ℤ pos n) w3 _ d parts.3 free.se m3 hd in
     subst (λ (z : ℤ). AreMeasuresOf (alone (suc k) (four nw ne sw se)) (joined (joined (joined a (placed b z (pos 0))) (placed c (pos 0) z)) (placed d z z))) edge
-    (subst (λ (w : World). AreMeasuresOf w (joined (joined (joined a (placed b (pos 0 +ℤ pos n) (pos 0))) (placed c (pos 0) (pos 0 +ℤ pos n))) (placed d (pos 0 +ℤ pos n) (pos 0 +ℤ pos n)))) (sym (put_square-four k nw ne sw se (pos 0) (pos 0) blank)) m4)
+    (subst (λ (w : World). AreMeasuresOf w (joined (joined (joined a (placed b (pos 0 +ℤ pos n) (pos 0))) (placed c (pos 0) (pos 0 +ℤ pos n))) (placed d (pos 0 +ℤ pos n) (pos 0 +ℤ pos n))))
+    (sym (put_square-four k nw ne sw se (pos 0) (pos 0) blank)) m4)
 
 -- what the measures of a square say of their size
 few_live : (k : ℕ) (s : Square) (m : Measures) → IsSquare k s → k ≤ 61 → AreMeasuresOf (alone k s) m → m.population ≤ 2 ^ 122
@@ -248,7 +249,8 @@ next_measured rows all k h valid known more ek eh =
     let nw = part 0 (lit< tt) in let ne = part 1 (lit< tt) in let sw = part 2 (lit< tt) in let se = part 3 (lit< tt) in
     let is = IsSquare-parts k _ _ _ _ nw.square ne.square sw.square se.square in
     let m = measures-four k h _ _ _ _ _ _ _ _ eh is nw.measures ne.measures sw.measures se.measures in
-    let M : Measures = joined (joined (joined (measures_in all k (kid (get_or rows i no_row) 0)) (placed (measures_in all k (kid (get_or rows i no_row) 1)) h (pos 0))) (placed (measures_in all k (kid (get_or rows i no_row) 2)) (pos 0) h)) (placed (measures_in all k (kid (get_or rows i no_row) 3)) h h) in
+    let M : Measures =
+    let a = λ (q : ℕ). measures_in all k (kid (get_or rows i no_row) q) in joined (joined (joined (a 0) (placed (a 1) h (pos 0))) (placed (a 2) (pos 0) h)) (placed (a 3) h h) in
     subst (λ j. AreMeasuresOf (alone j (square_in rows j (suc i))) M) level
     (subst (λ (t : Square). AreMeasuresOf (alone (suc k) t) M) (sym (square_in-row rows k i)) m)
 

@@ -12,7 +12,8 @@ use Rattle.worlds.specs.Live.{by_place, cell-state_at, live, live-states}
 use Rattle.plane_core.specs.declared.row.SquareRow.{SquareRow}
 use Rattle.worlds.specs.Square.{Square, IsIn, IsSquare, cell_in, four, one, put_square, square_at}
 use Rattle.plane_core.specs.Rows.{AreKept, AreRows, AreSquaresOf, Fits, IsLeastLevel, completed, edge_of, root_level, root_of, world_of_rows, written}
-use Rattle.plane_core.proofs.Shared.Cells.{IsSquare-one, IsSquare-parts, cell_in-ne, cell_in-nw, cell_in-one, cell_in-se, cell_in-sw, double, in_or_out, offsets, put_square-inside, put_square-outside, same_square, square_at-cells, square_at-suc, square_at-zero}
+use Rattle.plane_core.proofs.Shared.Cells.{IsSquare-one, IsSquare-parts, cell_in-ne, cell_in-nw, cell_in-one, cell_in-se, cell_in-sw, double, in_or_out, offsets}
+use Rattle.plane_core.proofs.Shared.Cells.{put_square-inside, put_square-outside, same_square, square_at-cells, square_at-suc, square_at-zero}
 use Rattle.plane_core.proofs.Shared.Roots.{kept-none, root-IsSquare, rooted, world-inside, world-none, world-outside}
 use Rattle.plane_core.specs.Laws.{EmptyWorldHasOneRow, WorldsHaveRows}
 use Rattle.plane_core.specs.WorldRows.{holds_all, is_within, least_level, rows_of}

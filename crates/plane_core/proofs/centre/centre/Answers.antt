@@ -54,6 +54,7 @@ returns-in_err-se-clause-none c =
 
 pub returns-clause-some : goal.returns-clause-some
 returns-clause-some c =
-    let middle : HasMiddle c.args.rows.now ((c.root_level-level.result - 1) - 1) c.in_ok-nw.nw c.in_ok-ne.ne c.in_ok-sw.sw c.in_ok-se.se = record { nw = c.in_ok-nw.ensures.some; ne = c.in_ok-ne.ensures.some; sw = c.in_ok-sw.ensures.some; se = c.in_ok-se.ensures.some } in
+    let middle : HasMiddle c.args.rows.now ((c.root_level-level.result - 1) - 1) c.in_ok-nw.nw c.in_ok-ne.ne c.in_ok-sw.sw c.in_ok-se.se =
+    record { nw = c.in_ok-nw.ensures.some; ne = c.in_ok-ne.ensures.some; sw = c.in_ok-sw.ensures.some; se = c.in_ok-se.ensures.some } in
     centre-is c.args.rows.now (c.root_level-level.result - 1) c.in_ok-nw.nw c.in_ok-ne.ne c.in_ok-sw.sw c.in_ok-se.se c.requires.rows.valid c.requires.rows.none_empty
     (λ e. c.if-level-eq1.false (c.root_level-level.ensures.level ∙ e)) (ap (λ k. k - 1) c.root_level-level.ensures.level) middle

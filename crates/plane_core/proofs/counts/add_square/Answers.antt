@@ -23,7 +23,8 @@ pub overflow_add-index_mut : goal.overflow_add-index_mut
 overflow_add-index_mut c =
     let there : c.args.number ≤ length c.args.tally.now.times.items = c.requires.listed (omega (arith, c.if-level-eq0.false)) in
     let some : c.args.number - 1 < length c.args.tally.now.times.items = omega (arith, there, c.if-number-eq0.false) in
-    let le : get_or c.args.tally.now.times.items (c.args.number - 1) 0 + c.args.times ≤ 2 ^ 124 = room-row c.args.rows.now c.args.tally.now c.args.times (c.args.number - 1) (square_in c.args.rows.now c.args.level c.args.number) some c.requires.room in
+    let le : get_or c.args.tally.now.times.items (c.args.number - 1) 0 + c.args.times ≤ 2 ^ 124 = room-row c.args.rows.now c.args.tally.now c.args.times (c.args.number - 1)
+    (square_in c.args.rows.now c.args.level c.args.number) some c.requires.room in
     let at : c.index_mut.result.now ≡ get_or c.args.tally.now.times.items (c.args.number - 1) 0 = c.index_mut.ensures.value ∙ get_or_default_zero c.args.tally.now.times.items (c.args.number - 1) c.index_mut.result.now some in
     omega (arith, le, at)
 

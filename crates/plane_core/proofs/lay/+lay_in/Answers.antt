@@ -6,28 +6,28 @@ use Rattle.plane_core.specs.declared.row.SquareRow.{SquareRow}
 use Rattle.plane_core.specs.Part.{IsPart, Shows}
 use Rattle.plane_core.specs.Laid.{quadrant_of}
 use Rattle.plane_core.proofs.Shared.Adding.{Keeps-none, Keeps-then}
-use Rattle.plane_core.proofs.Laying.{each_of_four, laid-four, laid-quadrant, those-inside}
+use Rattle.plane_core.proofs.Laying.{each_of_four, goes_on, laid-four, laid-quadrant}
 use Rattle.plane_core.proofs.lay.+lay_in.Goals as goal
 
 pub lay_in-requires : goal.lay_in-requires
 lay_in-requires t c =
     let at = c.quadrant.ensures.place in let level = at.level in
-    (omega (arith, c.decreases), ((subst (λ (rs : List SquareRow). IsPart rs c.quadrant.result) c.deref-2.ensures.value c.quadrant.ensures.part, omega arith), (c.requires.few, those-inside 0 c.args.part c.quadrant.result _ _ at (c.in_ok-parts.ensures 0 (lit< tt)))))
+    (omega (arith, c.decreases), goes_on 0 c.args.part c.quadrant.result _ _ _ _ c.deref-2.ensures.value c.requires.few (omega arith) c.quadrant.ensures.part at (c.in_ok-parts.ensures 0 (lit< tt)))
 
 pub lay_in-requires-2 : goal.lay_in-requires-2
 lay_in-requires-2 t c =
     let at = c.quadrant-2.ensures.place in let level = at.level in
-    (omega (arith, c.decreases), ((subst (λ (rs : List SquareRow). IsPart rs c.quadrant-2.result) c.deref-3.ensures.value c.quadrant-2.ensures.part, omega arith), (c.in_ok-nw.ensures.keeps.few, those-inside 1 c.args.part c.quadrant-2.result _ _ at (c.in_ok-parts.ensures 1 (lit< tt)))))
+    (omega (arith, c.decreases), goes_on 1 c.args.part c.quadrant-2.result _ _ _ _ c.deref-3.ensures.value c.in_ok-nw.ensures.keeps.few (omega arith) c.quadrant-2.ensures.part at (c.in_ok-parts.ensures 1 (lit< tt)))
 
 pub lay_in-requires-3 : goal.lay_in-requires-3
 lay_in-requires-3 t c =
     let at = c.quadrant-3.ensures.place in let level = at.level in
-    (omega (arith, c.decreases), ((subst (λ (rs : List SquareRow). IsPart rs c.quadrant-3.result) c.deref-4.ensures.value c.quadrant-3.ensures.part, omega arith), (c.in_ok-ne.ensures.keeps.few, those-inside 2 c.args.part c.quadrant-3.result _ _ at (c.in_ok-parts.ensures 2 (lit< tt)))))
+    (omega (arith, c.decreases), goes_on 2 c.args.part c.quadrant-3.result _ _ _ _ c.deref-4.ensures.value c.in_ok-ne.ensures.keeps.few (omega arith) c.quadrant-3.ensures.part at (c.in_ok-parts.ensures 2 (lit< tt)))
 
 pub lay_in-requires-4 : goal.lay_in-requires-4
 lay_in-requires-4 t c =
     let at = c.quadrant-4.ensures.place in let level = at.level in
-    (omega (arith, c.decreases), ((subst (λ (rs : List SquareRow). IsPart rs c.quadrant-4.result) c.deref-5.ensures.value c.quadrant-4.ensures.part, omega arith), (c.in_ok-sw.ensures.keeps.few, those-inside 3 c.args.part c.quadrant-4.result _ _ at (c.in_ok-parts.ensures 3 (lit< tt)))))
+    (omega (arith, c.decreases), goes_on 3 c.args.part c.quadrant-4.result _ _ _ _ c.deref-5.ensures.value c.in_ok-sw.ensures.keeps.few (omega arith) c.quadrant-4.ensures.part at (c.in_ok-parts.ensures 3 (lit< tt)))
 
 pub returns : goal.returns
 returns t c =
@@ -44,8 +44,10 @@ returns t c =
     IfOk-weaker c.push_row.result _ _ (λ n added.
     laid-four rows r4 c.push_row.new.rows.items p (nw ∷ ne ∷ sw ∷ se ∷ []) n cells (omega arith) (Keeps-then rows r3 r4 to_three l4.keeps)
     (each_of_four (λ q. (w : World) → Shows w rows p → Shows (lay cells w) r4 (quadrant_of p q (get_or (nw ∷ ne ∷ sw ∷ se ∷ []) q 0)))
-    (laid-quadrant rows rows r1 r4 0 nw p c.quadrant.result cells c.in_ok-parts.parts.nw.items is c.quadrant.ensures.place c.deref-2.ensures.value c.quadrant.ensures.cells (Keeps-none rows is.valid c.requires.few) l1 (part 0 (lit< tt)) from_one)
+    (laid-quadrant rows rows r1 r4 0 nw p c.quadrant.result cells c.in_ok-parts.parts.nw.items is c.quadrant.ensures.place c.deref-2.ensures.value c.quadrant.ensures.cells
+    (Keeps-none rows is.valid c.requires.few) l1 (part 0 (lit< tt)) from_one)
     (laid-quadrant rows r1 r2 r4 1 ne p c.quadrant-2.result cells c.in_ok-parts.parts.ne.items is c.quadrant-2.ensures.place c.deref-3.ensures.value c.quadrant-2.ensures.cells l1.keeps l2 (part 1 (lit< tt)) from_two)
     (laid-quadrant rows r2 r3 r4 2 sw p c.quadrant-3.result cells c.in_ok-parts.parts.sw.items is c.quadrant-3.ensures.place c.deref-4.ensures.value c.quadrant-3.ensures.cells to_two l3 (part 2 (lit< tt)) l4.keeps)
-    (laid-quadrant rows r3 r4 r4 3 se p c.quadrant-4.result cells c.in_ok-parts.parts.se.items is c.quadrant-4.ensures.place c.deref-5.ensures.value c.quadrant-4.ensures.cells to_three l4 (part 3 (lit< tt)) (Keeps-none r4 l4.keeps.valid l4.keeps.few)))
+    (laid-quadrant rows r3 r4 r4 3 se p c.quadrant-4.result cells c.in_ok-parts.parts.se.items is c.quadrant-4.ensures.place c.deref-5.ensures.value c.quadrant-4.ensures.cells
+    to_three l4 (part 3 (lit< tt)) (Keeps-none r4 l4.keeps.valid l4.keeps.few)))
     added) c.push_row.ensures
