@@ -1,9 +1,10 @@
 //! Many generations of a plane in leaps, whose lengths follow what they cost.
 //!
-//! Each leap is HashLife's (Gosper 1984), by a power of two generations where it isn't the whole way,
-//! since those results are shared by all leaps. Its length begins near the pattern's size and is
-//! doubled or halved by the squares that it made, as in Golly's hyperspeed, so that no leap is likely
-//! to fill the table. A way of n generations of a regular pattern has some 2 log n leaps.
+//! Each leap is HashLife's (Gosper 1984), by a power of two generations as a rule, since those results
+//! are shared by all leaps. Its length begins at an eighth of the pattern's side and is doubled or
+//! halved by the squares that it made, as in Golly's hyperspeed, so that no leap is likely to fill the
+//! table. A pattern whose leaps make no more squares when they get longer is regular, and goes on
+//! 16 times as far: so a way of n generations of such a pattern has few more than log n / 4 leaps.
 ghost use Rattle.std.specs.Prelude.{◌≡◌, ◌<◌, ◌≤◌, ◌^◌, IfOk, Err};
 ghost use Rattle.worlds.specs.Iterate.{iterate};
 ghost use Rattle.worlds.specs.Step.{step};
@@ -13,7 +14,7 @@ ghost use Rattle.step_engine.specs.Pieces.{IsPieceSpent};
 
 use crate::evolved::EvolveFault;
 use crate::kept::Engine;
-use crate::pace::{eased, falls, first, paced, stride};
+use crate::pace::{Leap, eased, first, paced, stride};
 use plane_core::{Next, Plane, Stop};
 
 // A leap that finds no room is given up where it is no more than such a part of the way.
@@ -68,17 +69,22 @@ impl<'a, R: Next> Engine<'a, R> {
         let mut now = plane.copy()?;
         let mut left = generations;
         let mut length = first(self.pace(), plane);
-        let mut last = 0;
+        let mut last = Leap {
+            count: 0,
+            made: self.made(),
+        };
         while left > 0 {
-            let count = stride(length, left, generations);
-            let before = self.made();
+            let count = stride(length, left, last.count);
             match self.leap(&now, count, stop) {
                 Ok(later) => {
                     now = later;
                     left -= count;
-                    let falls = falls(last, before, count, self.made());
-                    length = paced(length, count, least, self.made(), self.most(), falls);
-                    last = count;
+                    let leap = Leap {
+                        count,
+                        made: self.made(),
+                    };
+                    length = paced(length, least, self.most(), last, leap);
+                    last = leap;
                 }
                 Err(EvolveFault::NoRoom) if count > least => length = eased(count),
                 Err(fault) => return Err(fault),
