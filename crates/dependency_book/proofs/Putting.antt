@@ -126,6 +126,7 @@ arrival_puts d m s marks can =
               bookmarks = refl;
             };
         entries = refl;
+        refused = refl;
       };
       rows = λ other. arrival_rows h other;
       wanting =
@@ -163,6 +164,7 @@ text_puts d id s bookmarks can =
       book = record {
         document = record { table = refl; plan = refl; marks = refl; bookmarks = keys-put bookmark_rank id s d.texts };
         entries = refl;
+        refused = refl;
       };
       rows = text_rows d id s there;
       wanting =

@@ -57,6 +57,7 @@ after_edit d q felt marks = record {
   entries = d.entries;
   arrivals = map (remade_row mark_rank (mark_stays q.branches felt) d.arrivals) marks;
   texts = map (remade_row bookmark_rank (bookmark_stays q.branches felt) d.texts) q.bookmarks;
+  refused = d.refused;
 }
 
 -- the marks that stay
@@ -290,7 +291,14 @@ unrefused (Some fault) c e h = absurd cc
 
 -- the book of a document with other rows
 abbrev pub with_rows : BookState → Plan → List ArrivalRow → List TextRow → BookState
-with_rows d q arrivals texts = record { table = d.table; plan = q; entries = d.entries; arrivals = arrivals; texts = texts }
+with_rows d q arrivals texts = record {
+  table = d.table;
+  plan = q;
+  entries = d.entries;
+  arrivals = arrivals;
+  texts = texts;
+  refused = d.refused;
+}
 
 -- rows that were made of a book's rows after an edit
 pub revises : (d : BookState) (q : Plan) (asked : Asked) (edited : Edited) (arrivals : List ArrivalRow)

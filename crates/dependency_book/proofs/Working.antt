@@ -44,7 +44,7 @@ use Rattle.desk_events.specs.Law.{Calls}
 use Rattle.desk_events.specs.Right.{IsRight as IsRightCore}
 use Rattle.desk_events.proofs.Shared.Right.{get_last, get_left, one_number, unawaited, uncancelled}
 use Rattle.desk_events.proofs.Shared.Right as core
-use Rattle.dependency_book.specs.BookState.{given_of}
+use Rattle.dependency_book.specs.BookState.{given_of, with_refusal}
 use Rattle.dependency_book.specs.Called.{IsCancel, IsCollect, IsIssue}
 use Rattle.dependency_book.specs.Core.{core_of, plain_row}
 use Rattle.dependency_book.specs.Jobs.{result_of}
@@ -173,6 +173,28 @@ kept_more {d} {places} {cursor} {issued} {facts} need job after next kept is =
           };
     }
 
+-- the book in which an issue more was refused
+
+right_refused : (d : BookState) → IsRight d → IsRight (with_refusal d)
+right_refused d right = record {
+  core = right.core;
+  marks = right.marks;
+  bookmarks = right.bookmarks;
+  out = λ other out is. let h = right.out other out is in record { own = h.own; entry = h.entry };
+}
+
+pub kept_refused : {d : BookState} {places : List ℕ} {cursor : Cursor} {issued : List Place} {facts : List Fact}
+    → IsKept d places cursor issued facts → IsKept (with_refusal d) places cursor issued facts
+kept_refused {d} kept =
+    let held = kept.held in
+    let passed = kept.passed in
+    record {
+      held = record { places = held.places; right = right_refused d held.right };
+      passed = record { views = passed.views; steps = passed.steps };
+      own = kept.own;
+      facts = kept.facts;
+    }
+
 pub may_await : (d : BookState) (need : Need) (job : Job) → IsRight d → IsNextJob d need job
     → CanBePut (more d job.place) need (Expected job)
 may_await d need job right next = record {
@@ -210,6 +232,7 @@ issue_is d e need job next puts = record {
     bookmarks = puts.book.document.bookmarks;
   };
   entries = puts.book.entries;
+  refused = puts.book.refused;
   fewer = (let none = ap missing (next_row d need next.next).1 in let count = puts.wanting in omega (arith, none, count));
   event = issues_call d e need job next puts;
 }

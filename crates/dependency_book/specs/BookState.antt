@@ -17,13 +17,15 @@ use Rattle.dependency_book.specs.RowState.{known, is_known, is_empty, job_of, st
 use Rattle.dependency_book.specs.Rows.{ArrivalRow, TextRow, state_at, mark_rank, bookmark_rank}
 
 -- the table of entries that its jobs are of, the document, the entry of each number that was given,
--- a row for each of the document's marks but the start, and a row for each of its bookmarks
+-- a row for each of the document's marks but the start, a row for each of its bookmarks, and how
+-- often an issue was refused because memory ran out
 pub record BookState : Type 0 where
   pub table : Entries
   pub plan : Plan
   pub entries : List Entry
   pub arrivals : List ArrivalRow
   pub texts : List TextRow
+  pub refused : ℕ
 
 -- the book of the opening document, of which nothing is known or out
 abbrev pub opened : Entries → ℕ → BookState
@@ -33,7 +35,12 @@ opened table revision = record {
   entries = [];
   arrivals = [];
   texts = [];
+  refused = 0;
 }
+
+-- the book with one more issue refused
+abbrev pub with_refusal : BookState → BookState
+with_refusal d = record d { refused = d.refused + 1 }
 
 -- how many numbers of jobs were given
 abbrev pub given_of : BookState → ℕ

@@ -20,11 +20,12 @@ pub record IsEdit (asked : Asked) (old new : BookState) : Type 0 where
   pub event : Calls (edits asked felt) (core_of old) (core_of new)
 
 -- a job is issued for a need: the row expects it, and no other changes; its number was given for
--- its entry
+-- its entry, and no issue was refused
 pub record IsIssue (need : Need) (job : Job) (old new : BookState) : Type 0 where
   pub rows : (other : Need) → row_of new other ≡ issued need job other (row_of old other)
   pub document : SameDocument old new
   pub entries : new.entries ≡ old.entries ++ said_at job.place ∷ []
+  pub refused : new.refused ≡ old.refused
   pub fewer : wanting_of new + 1 ≡ wanting_of old
   pub event : Calls (issues need (said_at job.place)) (core_of old) (core_of new)
 

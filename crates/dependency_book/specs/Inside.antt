@@ -11,4 +11,5 @@ state_of book = record {
   entries = map said_at book.issued.items;
   arrivals = book.arrivals.items;
   texts = book.texts.items;
+  refused = book.refused;
 }

@@ -9,6 +9,7 @@ ghost use Rattle.dependency_book.specs.declared.row.RowState.TheVariants.{Empty}
 use crate::cursor::Cursor;
 use crate::marks::ArrivalRow;
 use crate::need::{first_step, first_view};
+use crate::refusals::Refusals;
 use crate::row::place_in;
 use crate::shown::Shown;
 use crate::texts::{TextRow, pending_count};
@@ -34,6 +35,8 @@ pub struct Book<'e> {
     pub(crate) places: Vec<usize>,
     pub(crate) cursor: Cursor,
     pub(crate) facts: Facts,
+    // How often an issue was refused.
+    pub(crate) refused: Refusals,
     pub(crate) alloc: Global,
 }
 
@@ -76,6 +79,7 @@ impl<'e> Book<'e> {
             places: Vec::new(alloc),
             cursor: Cursor::start(),
             facts: Facts::new(alloc, facts)?,
+            refused: Refusals::none(),
             alloc,
         })
     }

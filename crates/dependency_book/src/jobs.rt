@@ -11,7 +11,7 @@ ghost use Rattle.dependency_book.specs.Jobs.{IsAnyOut, IsFilled, IsFirstOut, IsF
 ghost use Rattle.dependency_book.specs.Jobs.{Expects, FreesOne, IsNextJob, NoneExpects, SameBook};
 ghost use Rattle.dependency_book.specs.Jobs.{SameDocument};
 ghost use Rattle.desk_events.specs.Needs.{step_to};
-ghost use Rattle.dependency_book.specs.BookState.{given_of, row_of};
+ghost use Rattle.dependency_book.specs.BookState.{given_of, row_of, with_refusal};
 ghost use Rattle.dependency_book.specs.Called.{IsCancel, IsCollect, IsIssue};
 ghost use Rattle.dependency_book.specs.Recalled.{Fills};
 ghost use Rattle.dependency_book.specs.Right.{IsRight};
@@ -48,6 +48,14 @@ impl Book<'_> {
         self.issued.push(job.place.share())?;
         self.await_job(need, job);
         Ok(())
+    }
+
+    /// Notes that an issue was refused, since memory ran out. Clauses alone count it.
+    pub fn note_refusal(&mut self, _refused: AllocError)
+        ensures noted { self.new ≡ with_refusal self.old }
+        ensures right { IsRight self.new }
+    {
+        self.refused.note();
     }
 
     // Notes in the row of a need that a job is out, whose number was given last.

@@ -30,6 +30,7 @@ mod mark;
 mod marks;
 mod need;
 mod recall;
+mod refusals;
 mod remade;
 mod revise;
 mod room;

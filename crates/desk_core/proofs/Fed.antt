@@ -17,8 +17,9 @@ use Rattle.desk_events.specs.Needs.{is_need}
 use Rattle.dependency_book.specs.BookState.{BookState, given_of, expected, row_of}
 use Rattle.dependency_book.specs.Right.{IsRight}
 use Rattle.desk_core.specs.declared.issue.IssueFault.{IssueFault}
+use Rattle.desk_core.specs.declared.issue.IssueFault.TheVariants.{NumbersSpent, NoMemory}
 use Rattle.desk_core.specs.Feed.{AsksFor, FedUntil, Feeds, floor_after}
-use Rattle.desk_core.specs.Issued.{IssuesFor}
+use Rattle.desk_core.specs.Issued.{IssuesFor, RefusesIssue}
 use Rattle.desk_core.specs.Progress.{Cancels}
 use Rattle.desk_core.specs.Settling.{IsHeld, Keeps, KeepsKnown, Serves, ServesOn}
 use Rattle.desk_core.proofs.Known.{same_need}
@@ -37,6 +38,7 @@ pub record HasFed (first d : BookState) (p q : PostView) (taken : ℕ) : Type 0 
   pub asked : q.asked ≡ p.asked + taken
   pub document : SameDocument first d
   pub silent : q.answers ≡ p.answers
+  pub refused : d.refused ≡ first.refused
   pub serves : ServesOn p q first d
 
 pub HasFed-first : (d : BookState) (post : PostView) → Serves d post → HasFed d d post post 0
@@ -48,6 +50,7 @@ HasFed-first d post serves = record {
   asked = omega arith;
   document = SameDocument-same d;
   silent = refl;
+  refused = refl;
   serves = record { serves = serves; limit = refl; kind = refl; held = λ all. all };
 }
 
@@ -84,6 +87,7 @@ HasFed-taken first old new need job p q r taken issued sends h = record {
   asked = let one = sends.same.asked in let was = h.asked in omega (arith, one, was);
   document = SameDocument-on first old new h.document issued.is.document;
   silent = sends.answers ∙ h.silent;
+  refused = issued.is.refused ∙ h.refused;
   serves = record {
     serves = record {
       table = sends.same.table ∙ h.serves.serves.table ∙ sym issued.is.document.table;
@@ -201,6 +205,52 @@ Feeds-ended first old new p q taken refused same right ended h =
         ended = ended (record { given = h.given; asked = h.asked });
       },
       h.serves,
+    )
+
+-- an issue was refused
+pub Feeds-unissued : (first old new : BookState) (p q : PostView) (taken : ℕ) (fault : IssueFault)
+    → RefusesIssue old new fault → IsRight new → HasFed first old p q taken
+    → Feeds p q first new taken (Some fault) × ServesOn p q first new
+Feeds-unissued first old new p q taken NumbersSpent refuses right h =
+    Feeds-ended first old new p q taken (Some NumbersSpent) refuses.2 right
+    (λ asks. (
+      asks,
+      record {
+        before = old;
+        none = h.refused;
+        refuses = (refuses.0, refuses.1, refl);
+      },
+    )) h
+Feeds-unissued first old new p q taken NoMemory refuses right h =
+    subst (λ d. Feeds p q first d taken (Some NoMemory) × ServesOn p q first d) (sym refuses.2) (
+      record {
+        stays = h.stays;
+        keeps = record {
+          known = KeepsKnown-stays first old h.stays;
+          out = h.out;
+          plan = h.document.plan;
+          table = h.document.table;
+        };
+        right = subst IsRight refuses.2 right;
+        floor = h.floor;
+        document = record {
+          table = h.document.table;
+          plan = h.document.plan;
+          marks = h.document.marks;
+          bookmarks = h.document.bookmarks;
+        };
+        silent = h.silent;
+        ended = (
+          record { given = h.given; asked = h.asked },
+          record { before = old; none = h.refused; refuses = (refuses.0, refuses.1, refl) },
+        );
+      },
+      record {
+        serves = record { table = h.serves.serves.table; numbers = h.serves.serves.numbers };
+        limit = h.serves.limit;
+        kind = h.serves.kind;
+        held = λ all. let there = h.serves.held all in record { prompt = there.prompt; held = there.held };
+      },
     )
 
 -- the last job wasn't taken

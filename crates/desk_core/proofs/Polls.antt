@@ -44,6 +44,7 @@ pub Collects-come : (old new : BookState) (p q : PostView) (progress : Progress)
     → Collects p q old new progress.cause
 Collects-come old new p q progress count come none given many all = record {
   told = come.told;
+  refused = come.refused;
   all = subst (λ n. (q.asked ≡ p.asked + (n + 1)) ⊎ (64 ≤ n))
       (sym (many_later p.answers come.told.later q.answers count come.told.gave many)) all;
   given = given;
@@ -88,19 +89,20 @@ ServesOn-on p q r old mid new h k = record {
 }
 
 pub TellsCause-fed : (old mid new : BookState) (p q r : PostView) (taken : ℕ) (refused : Option IssueFault)
-    (told : Option Cause) → TellsCause p q mid None → Feeds q r mid new taken refused → IsCauseOf refused told
-    → TellsCause p r new told
-TellsCause-fed old mid new p q r taken refused told h feeds is = record {
+    (told : Option Cause) → TellsCause p q old mid None → old.refused ≤ mid.refused
+    → Feeds q r mid new taken refused → IsCauseOf refused told → TellsCause p r old new told
+TellsCause-fed old mid new p q r taken refused told h before feeds is = record {
   later = h.later;
   gave = feeds.silent ∙ h.gave;
   explained = by_refusal refused feeds.ended is;
 }
   where
     by_refusal : (refused : Option IssueFault) → FedUntil q r mid new taken refused → IsCauseOf refused told
-        → IfSome told (Explains p.limit new h.later)
-    by_refusal None ended same = subst (λ c. IfSome c (Explains p.limit new h.later)) (sym same) tt
-    by_refusal (Some fault) ended same = subst (λ c. IfSome c (Explains p.limit new h.later)) (sym same)
-        (explains-refused p.limit new h.later fault ended.1)
+        → IfSome told (Explains p.limit old new h.later)
+    by_refusal None ended same = subst (λ c. IfSome c (Explains p.limit old new h.later)) (sym same) tt
+    by_refusal (Some fault) ended same = subst (λ c. IfSome c (Explains p.limit old new h.later)) (sym same)
+        (explains-refused p.limit old ended.1.before new h.later fault
+        (let none = ended.1.none in omega (arith, before, none)) ended.1.refuses)
 
 none_of : (cause : Option Cause) → ((other : Cause) → cause ≡ Some other → ⊥) → cause ≡ None
 none_of None h = refl

@@ -13,7 +13,7 @@ use Rattle.revision_jobs.specs.Posted.{IsAsked, IsOwnAnswer, IsSent, PostView, R
 use Rattle.desk_events.specs.declared.need.Need.{Need}
 use Rattle.dependency_book.specs.RowState.{has_number}
 use Rattle.dependency_book.specs.Jobs.{SameBook, SameDocument}
-use Rattle.dependency_book.specs.BookState.{BookState, given_of, expected, wanting_of}
+use Rattle.dependency_book.specs.BookState.{BookState, given_of, expected, wanting_of, with_refusal}
 use Rattle.dependency_book.specs.Recalled.{Fills}
 use Rattle.dependency_book.specs.Right.{IsRight}
 use Rattle.dependency_book.specs.declared.row.Row.{Row}
@@ -23,6 +23,7 @@ use Rattle.desk_core.specs.declared.cause.Cause.{Cause}
 use Rattle.desk_core.specs.declared.collect.Collected.{Collected}
 use Rattle.desk_core.specs.declared.collect.Collected.TheVariants.{Accepted, Released, Stale}
 use Rattle.desk_core.specs.declared.issue.IssueFault.{IssueFault}
+use Rattle.desk_core.specs.declared.issue.IssueFault.TheVariants as issue
 use Rattle.desk_core.specs.declared.progress.Progress.{Progress}
 use Rattle.desk_core.specs.declared.unsent.Unsent.TheVariants.{Nothing, Ready}
 use Rattle.desk_core.specs.Collected.{IsCollected}
@@ -43,7 +44,7 @@ SameDocument-same d = record { table = refl; plan = refl; marks = refl; bookmark
 
 CancelsAny-book : (unsent : Option Job) (old new : BookState) → CancelsAny unsent old new → SameBook old new
 CancelsAny-book None old new same =
-    subst (SameBook old) (sym same) (record { document = SameDocument-same old; entries = refl })
+    subst (SameBook old) (sym same) (record { document = SameDocument-same old; entries = refl; refused = refl })
 CancelsAny-book (Some job) old new cancels = cancels.book
 
 -- a cause that was met stays
@@ -72,26 +73,37 @@ no_cause (Some cause) h = absurd cc
 
 -- what fits a desk and a post
 
-sent_on : (old new : BookState) (floor : ℕ) (unsent : Option Job) → SameBook old new
+-- two desks have one table, and gave as many numbers
+record AreAlike (old new : BookState) : Type 0 where
+  pub table : new.table ≡ old.table
+  pub given : given_of new ≡ given_of old
+
+refused_alike : (d : BookState) → AreAlike d (with_refusal d)
+refused_alike d = record { table = refl; given = refl }
+
+alike_book : (old new : BookState) → SameBook old new → AreAlike old new
+alike_book old new same = record { table = same.document.table; given = same_given same }
+
+sent_on : (old new : BookState) (floor : ℕ) (unsent : Option Job) → AreAlike old new
     → IfSome unsent (CanBeSent old floor) → IfSome unsent (CanBeSent new floor)
-sent_on old new floor None same h = tt
-sent_on old new floor (Some job) same h = record {
-  own = subst (λ table. IsOf table job.place) (sym same.document.table) h.own;
+sent_on old new floor None alike h = tt
+sent_on old new floor (Some job) alike h = record {
+  own = subst (λ table. IsOf table job.place) (sym alike.table) h.own;
   rises = h.rises;
-  given = omega (arith, h.given, same_given same);
+  given = let low = h.given in let same = alike.given in omega (arith, low, same);
 }
 
-pub Serves-book : (old new : BookState) (post : PostView) → SameBook old new → Serves old post → Serves new post
-Serves-book old new post same h = record {
-  table = h.table ∙ sym same.document.table;
-  numbers = let least = h.numbers in omega (arith, least, same_given same);
+Serves-alike : (old new : BookState) (post : PostView) → AreAlike old new → Serves old post → Serves new post
+Serves-alike old new post alike h = record {
+  table = h.table ∙ sym alike.table;
+  numbers = let least = h.numbers in let same = alike.given in omega (arith, least, same);
 }
 
-Fits-book : (old new : BookState) (post : PostView) (unsent : Option Job) → SameBook old new → Fits old post unsent
+Fits-alike : (old new : BookState) (post : PostView) (unsent : Option Job) → AreAlike old new → Fits old post unsent
     → Fits new post unsent
-Fits-book old new post unsent same h = record {
-  serves = Serves-book old new post same h.serves;
-  unsent = sent_on old new post.floor unsent same h.unsent;
+Fits-alike old new post unsent alike h = record {
+  serves = Serves-alike old new post alike h.serves;
+  unsent = sent_on old new post.floor unsent alike h.unsent;
 }
 
 -- a post of which nothing came: it is as it was but for what it was asked
@@ -165,12 +177,15 @@ Fits-sent d p q job sends h = record {
 Fits-cancelled : (old new : BookState) (post : PostView) (unsent : Option Job) → CancelsAny unsent old new
     → Fits old post unsent → Fits new post None
 Fits-cancelled old new post unsent cancels h =
-    record { serves = Serves-book old new post (CancelsAny-book unsent old new cancels) h.serves; unsent = tt }
+    record {
+      serves = Serves-alike old new post (alike_book old new (CancelsAny-book unsent old new cancels)) h.serves;
+      unsent = tt;
+    }
 
 Fits-answered : (old new : BookState) (p q : PostView) (unsent : Option Job) (answer : JobResult)
     → Receives p q (received.Answer answer) → SameBook old new → Fits old p unsent → Fits new q unsent
 Fits-answered old new p q unsent answer receives same h =
-    Fits-idle new p q unsent receives.same.table receives.floor (Fits-book old new p unsent same h)
+    Fits-idle new p q unsent receives.same.table receives.floor (Fits-alike old new p unsent (alike_book old new same) h)
 
 -- the same, for what is sent next in a progress
 fit_as : (d : BookState) (post : PostView) (unsent after : Option Job) → after ≡ unsent → Fits d post unsent
@@ -192,22 +207,24 @@ HasCome-first d post p nothing none serves = record {
   told = record {
     later = [];
     gave = sym (append-nil post.answers);
-    explained = subst (λ c. IfSome c (Explains post.limit d [])) (sym none) tt;
+    explained = subst (λ c. IfSome c (Explains post.limit d d [])) (sym none) tt;
   };
+  refused = omega arith;
   limit = refl;
   kind = refl;
 }
 
 -- nothing changes but the progress, whose job stays
 HasCome-told : (first d : BookState) (begun post : PostView) (p q : Progress) → job_in q.unsent ≡ job_in p.unsent
-    → ((later : List JobResult) → IfSome p.cause (Explains begun.limit d later)
-    → IfSome q.cause (Explains begun.limit d later))
+    → ((later : List JobResult) → IfSome p.cause (Explains begun.limit first d later)
+    → IfSome q.cause (Explains begun.limit first d later))
     → HasCome first begun (stage d post p) → HasCome first begun (stage d post q)
 HasCome-told first d begun post p q unsent cause h = record {
   known = h.known;
   document = h.document;
   jobs = subst (KeepsJobs first begun d post) (sym unsent) h.jobs;
   told = record { later = h.told.later; gave = h.told.gave; explained = cause h.told.later h.told.explained };
+  refused = h.refused;
   limit = h.limit;
   kind = h.kind;
 }
@@ -230,6 +247,7 @@ HasCome-idle first d begun p q progress idles h = record {
     gave = idles.answers ∙ h.told.gave;
     explained = h.told.explained;
   };
+  refused = h.refused;
   limit = idles.same.limit ∙ h.limit;
   kind = idles.same.kind ∙ h.kind;
 }
@@ -250,8 +268,9 @@ HasCome-issued first old new begun post p q need job was is none issued h = reco
   told = record {
     later = h.told.later;
     gave = h.told.gave;
-    explained = subst (λ c. IfSome c (Explains begun.limit new h.told.later)) (sym none) tt;
+    explained = subst (λ c. IfSome c (Explains begun.limit first new h.told.later)) (sym none) tt;
   };
+  refused = subst (λ n. first.refused ≤ n) (sym issued.is.refused) h.refused;
   limit = h.limit;
   kind = h.kind;
 }
@@ -287,6 +306,7 @@ HasCome-sent first d begun p q progress job sends none h = record {
     gave = sends.answers ∙ h.told.gave;
     explained = h.told.explained;
   };
+  refused = h.refused;
   limit = sends.same.limit ∙ h.limit;
   kind = sends.same.kind ∙ h.kind;
 }
@@ -312,8 +332,8 @@ HasCome-answered : (first old new : BookState) (begun p q : PostView) (before af
     → Receives p q (received.Answer answer) → Fills answer old new → SameBook old new
     → job_in after.unsent ≡ job_in before.unsent
     → (p.limit ≡ begun.limit → (later : List JobResult)
-    → IfSome before.cause (Explains begun.limit new (later ++ answer ∷ []))
-    → IfSome after.cause (Explains begun.limit new (later ++ answer ∷ [])))
+    → IfSome before.cause (Explains begun.limit first new (later ++ answer ∷ []))
+    → IfSome after.cause (Explains begun.limit first new (later ++ answer ∷ [])))
     → HasCome first begun (stage old p before) → HasCome first begun (stage new q after)
 HasCome-answered first old new begun p q before after answer receives fills same unsent cause h = record {
   known = KeepsKnown-on first old new h.known (KeepsKnown-filled old new answer fills);
@@ -333,8 +353,9 @@ HasCome-answered first old new begun p q before after answer receives fills same
     gave = receives.answers ∙ ap (λ xs. xs ++ answer ∷ []) h.told.gave
         ∙ append_assoc begun.answers h.told.later (answer ∷ []);
     explained = cause h.limit h.told.later
-        (explains-kept begun.limit old new h.told.later (answer ∷ []) before.cause same h.told.explained);
+        (explains-kept begun.limit first old new h.told.later (answer ∷ []) before.cause same h.told.explained);
   };
+  refused = subst (λ n. first.refused ≤ n) (sym same.refused) h.refused;
   limit = receives.same.limit ∙ h.limit;
   kind = receives.same.kind ∙ h.kind;
 }
@@ -382,12 +403,37 @@ HasCome-cancelled first old new begun post p q cancels is cause h =
       told = record {
         later = h.told.later ++ [];
         gave = h.told.gave ∙ ap (λ xs. begun.answers ++ xs) (sym (append-nil h.told.later));
-        explained = subst (λ c. IfSome c (Explains begun.limit new (h.told.later ++ []))) (sym cause)
-            (explains-kept begun.limit old new h.told.later [] p.cause same h.told.explained);
+        explained = subst (λ c. IfSome c (Explains begun.limit first new (h.told.later ++ []))) (sym cause)
+            (explains-kept begun.limit first old new h.told.later [] p.cause same h.told.explained);
       };
+      refused = subst (λ n. first.refused ≤ n) (sym same.refused) h.refused;
       limit = h.limit;
       kind = h.kind;
     }
+
+-- an issue is refused because memory ran out
+HasCome-refused : (first d : BookState) (begun post : PostView) (p q : Progress)
+    → job_in q.unsent ≡ job_in p.unsent
+    → ((later : List JobResult) → IfSome q.cause (Explains begun.limit first (with_refusal d) later))
+    → HasCome first begun (stage d post p) → HasCome first begun (stage (with_refusal d) post q)
+HasCome-refused first d begun post p q unsent cause h = record {
+  known = h.known;
+  document = record {
+    table = h.document.table;
+    plan = h.document.plan;
+    marks = h.document.marks;
+    bookmarks = h.document.bookmarks;
+  };
+  jobs = subst (KeepsJobs first begun (with_refusal d) post) (sym unsent) (record {
+    fits = Fits-alike d (with_refusal d) post (job_in p.unsent) (refused_alike d) h.jobs.fits;
+    out = h.jobs.out;
+    at_hand = h.jobs.at_hand;
+  });
+  told = record { later = h.told.later; gave = h.told.gave; explained = cause h.told.later };
+  refused = let was = h.refused in omega (arith, was);
+  limit = h.limit;
+  kind = h.kind;
+}
 
 -- how many numbers are given
 
@@ -418,7 +464,7 @@ GoesOn-told d post p q unsent cause = record {
   cause = same_cause p.cause q.cause cause;
   fits = fit_as d post (job_in p.unsent) (job_in q.unsent) unsent;
   comes = λ first begun. HasCome-told first d begun post p q unsent
-      (λ later h. subst (λ c. IfSome c (Explains begun.limit d later)) (sym cause) h);
+      (λ later h. subst (λ c. IfSome c (Explains begun.limit first d later)) (sym cause) h);
   given = gives_none d d refl;
 }
 
@@ -442,16 +488,27 @@ GoesOn-issued old new post p need job was none issued = record {
   given = (omega (arith, issued_given issued), omega (arith, issued_given issued));
 }
 
-pub GoesOn-refused : (old new : BookState) (post : PostView) (p q : Progress) (fault : IssueFault) → new ≡ old
-    → p.cause ≡ None → q.unsent ≡ p.unsent → q.cause ≡ Some (cause_of_issue fault) → RefusesIssue old fault
+pub GoesOn-refused : (old new : BookState) (post : PostView) (p q : Progress) (fault : IssueFault)
+    → p.cause ≡ None → q.unsent ≡ p.unsent → q.cause ≡ Some (cause_of_issue fault) → RefusesIssue old new fault
     → GoesOn 1 (stage old post p) (stage new post q)
-GoesOn-refused old new post p q fault same none unsent cause refuses =
-    subst (λ d. GoesOn 1 (stage old post p) (stage d post q)) (sym same) (record {
+GoesOn-refused old new post p q issue.NumbersSpent none unsent cause refuses =
+    subst (λ d. GoesOn 1 (stage old post p) (stage d post q)) (sym refuses.2) (record {
       cause = subst (λ c. IfSome c (λ first. q.cause ≡ Some first)) (sym none) tt;
       fits = fit_as old post (job_in p.unsent) (job_in q.unsent) (ap job_in unsent);
       comes = λ first begun. HasCome-told first old begun post p q (ap job_in unsent)
-          (λ later h. subst (λ c. IfSome c (Explains begun.limit old later)) (sym cause)
-          (explains-refused begun.limit old later fault refuses));
+          (λ later h. subst (λ c. IfSome c (Explains begun.limit first old later)) (sym cause) refuses.1);
+      given = (omega arith, omega arith);
+    })
+GoesOn-refused old new post p q issue.NoMemory none unsent cause refuses =
+    subst (λ d. GoesOn 1 (stage old post p) (stage d post q)) (sym refuses.2) (record {
+      cause = subst (λ c. IfSome c (λ first. q.cause ≡ Some first)) (sym none) tt;
+      fits = λ fit. fit_as (with_refusal old) post (job_in p.unsent) (job_in q.unsent) (ap job_in unsent)
+          (Fits-alike old (with_refusal old) post (job_in p.unsent) (refused_alike old) fit);
+      comes = λ first begun come. HasCome-refused first old begun post p q (ap job_in unsent)
+          (λ later. subst (λ c. IfSome c (Explains begun.limit first (with_refusal old) later)) (sym cause)
+          (explains-refused begun.limit first old (with_refusal old) later issue.NoMemory come.refused
+          (refuses.0, refuses.1, refl)))
+          come;
       given = (omega arith, omega arith);
     })
 
@@ -478,8 +535,8 @@ GoesOn-released old new p q before after answer fault told cause receives fills 
           (Fits-answered old new p q (job_in before.unsent) answer receives same fit);
       comes = λ start begun. HasCome-answered start old new begun p q before after answer receives fills same
           (ap job_in unsent)
-          (λ limit later h. subst (λ c. IfSome c (Explains begun.limit new (later ++ answer ∷ []))) (sym caused)
-          (explains-collected begun.limit old new later answer before.cause fault told cause
+          (λ limit later h. subst (λ c. IfSome c (Explains begun.limit start new (later ++ answer ∷ []))) (sym caused)
+          (explains-collected begun.limit start old new later answer before.cause fault told cause
           (subst (λ n. IsOwnAnswer p.table n answer) limit receives.own) collected is first h));
       given = gives_none old new (same_given same);
     }

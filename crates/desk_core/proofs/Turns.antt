@@ -188,11 +188,11 @@ cause-left old new post progress pending done cancels count none some = no_cause
     none_pending new pending count none (subst IsDone (sym same) ended.1))
 
 -- and where it has none, the post is over or was asked in every turn
-pub why-left : (turns : ℕ) (old new : BookState) (p q : PostView) (progress : Progress) (pending : ℕ)
+pub why-left : (turns : ℕ) (first old new : BookState) (p q : PostView) (progress : Progress) (pending : ℕ)
     (later : List JobResult) → RunsOut turns p (stage old q progress) → CancelsAny (job_in progress.unsent) old new
-    → pending ≡ pending_of new → 0 < pending → IfSome progress.cause (Explains p.limit new later)
-    → IsWhy turns p q new later progress.cause
-why-left turns old new p q progress pending later runs cancels count some explained =
+    → pending ≡ pending_of new → 0 < pending → IfSome progress.cause (Explains p.limit first new later)
+    → IsWhy turns p q first new later progress.cause
+why-left turns first old new p q progress pending later runs cancels count some explained =
     by_cause progress.cause refl runs explained
   where
     settled : HasAll (stage old q progress) → ⊥
@@ -202,7 +202,7 @@ why-left turns old new p q progress pending later runs cancels count some explai
         omega (arith, same, none, count, some)
 
     by_cause : (cause : Option Cause) → progress.cause ≡ cause → RunsOut turns p (stage old q progress)
-        → IfSome cause (Explains p.limit new later) → IsWhy turns p q new later cause
+        → IfSome cause (Explains p.limit first new later) → IsWhy turns p q first new later cause
     by_cause (Some cause) is h k = k
     by_cause None is (inl over) k = inl over
     by_cause None is (inr (inl spent)) k = inr spent
@@ -210,16 +210,16 @@ why-left turns old new p q progress pending later runs cancels count some explai
 
 -- how a settling ends
 
-pub ends-so : (turns : ℕ) (p q : PostView) (d : BookState) (later : List JobResult) (pending : ℕ)
+pub ends-so : (turns : ℕ) (p q : PostView) (first d : BookState) (later : List JobResult) (pending : ℕ)
     (cause : Option Cause) (ending : Settling) → IsEnding pending cause ending → pending ≡ pending_of d
-    → pending ≤ length d.plan.bookmarks → (0 < pending → IsWhy turns p q d later cause)
-    → Ends turns p q d later ending
-ends-so turns p q d later pending cause Settled h count bound why = sym count ∙ h
-ends-so turns p q d later pending cause (Unsettled told shown) h count bound why = (
+    → pending ≤ length d.plan.bookmarks → (0 < pending → IsWhy turns p q first d later cause)
+    → Ends turns p q first d later ending
+ends-so turns p q first d later pending cause Settled h count bound why = sym count ∙ h
+ends-so turns p q first d later pending cause (Unsettled told shown) h count bound why = (
   h.0 ∙ count,
   subst (λ n. 0 < n) (sym h.0) h.2,
   subst (λ n. n ≤ length d.plan.bookmarks) (sym h.0) bound,
-  subst (IsWhy turns p q d later) (sym h.1) (why h.2),
+  subst (IsWhy turns p q first d later) (sym h.1) (why h.2),
 )
 
 pub caused-so : (pending : ℕ) (cause : Option Cause) (ending : Settling) → IsEnding pending cause ending

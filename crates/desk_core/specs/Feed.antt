@@ -20,10 +20,16 @@ pub record AsksFor (p q : PostView) (old new : BookState) (count : ℕ) : Type 0
   pub given : given_of new ≡ given_of old + count
   pub asked : q.asked ≡ p.asked + count
 
+-- an issue was refused for this reason, and none before
+pub record RefusesFirst (old new : BookState) (fault : IssueFault) : Type 0 where
+  pub before : BookState
+  pub none : before.refused ≡ old.refused
+  pub refuses : RefusesIssue before new fault
+
 -- why a feeding by which so many jobs were taken ended: a job couldn't be issued, for this reason;
 -- nothing is to be computed next; or one more job was sent and not taken
 abbrev pub FedUntil : PostView → PostView → BookState → BookState → ℕ → Option IssueFault → Type 0
-FedUntil p q old new taken (Some fault) = AsksFor p q old new taken × RefusesIssue new fault
+FedUntil p q old new taken (Some fault) = AsksFor p q old new taken × RefusesFirst old new fault
 FedUntil p q old new taken None =
     (AsksFor p q old new taken × IsNext new None) ⊎ AsksFor p q old new (taken + 1)
 

@@ -5,7 +5,7 @@ use Rattle.desk_events.specs.declared.need.Need.{Need}
 use Rattle.dependency_book.specs.declared.row.RowState.TheVariants.{Empty}
 use Rattle.dependency_book.specs.Called.{IsIssue}
 use Rattle.dependency_book.specs.Jobs.{IsNextJob}
-use Rattle.dependency_book.specs.BookState.{BookState, given_of, row_of, pending_of, NothingOut}
+use Rattle.dependency_book.specs.BookState.{BookState, given_of, row_of, pending_of, with_refusal, NothingOut}
 use Rattle.dependency_book.specs.Needs.{IsNext}
 use Rattle.desk_core.specs.declared.issue.IssueFault.{IssueFault}
 use Rattle.desk_core.specs.declared.issue.IssueFault.TheVariants.{NumbersSpent, NoMemory}
@@ -27,7 +27,9 @@ IsIssued old new (Some job) = (need : Need) × IssuesFor old new job need
 abbrev pub HasNext : BookState → Type 0
 HasNext d = (need : Need) × IsNext d (Some need)
 
--- something is to be computed; every number was given, or else memory ran out
-abbrev pub RefusesIssue : BookState → IssueFault → Type 0
-RefusesIssue d NumbersSpent = HasNext d × (16777216 ≤ given_of d)
-RefusesIssue d NoMemory = HasNext d × (given_of d < 16777216)
+-- something is to be computed; every number was given, and nothing changes, or else memory ran out,
+-- and one more issue was refused
+abbrev pub RefusesIssue : BookState → BookState → IssueFault → Type 0
+RefusesIssue old new NumbersSpent = HasNext old × (16777216 ≤ given_of old) × (new ≡ old)
+RefusesIssue old new NoMemory =
+    HasNext old × (given_of old < 16777216) × (new ≡ with_refusal old)

@@ -13,9 +13,10 @@ use Rattle.desk_core.specs.Settling.{Keeps, ServesOn, TellsCause}
 -- answers were collected until the post had none, or 64, and no number was given; the cause that is
 -- met, if one is, is that of an answer
 pub record Collects (p q : PostView) (old new : BookState) (cause : Option Cause) : Type 0 where
-  pub told : TellsCause p q new cause
+  pub told : TellsCause p q old new cause
   pub all : (q.asked ≡ p.asked + (length told.later + 1)) ⊎ (64 ≤ length told.later)
   pub given : given_of new ≡ given_of old
+  pub refused : old.refused ≤ new.refused
   pub keeps : Keeps old new q
   pub serves : ServesOn p q old new
 

@@ -27,20 +27,26 @@ abbrev pub FoundNoRoom : ℕ → List JobResult → Type 0
 FoundNoRoom limit answers = Any (λ (answer : JobResult).
     (answer.outcome ≡ Err EvolveFault.NoRoom) × HasNoRoom limit (entry_of answer.job.place)) answers
 
--- a cause is that of an answer that was given, for want of room to an entry that has none at the
--- limit, or of an issue that was refused: every number was given, or else memory ran out
-abbrev pub Explains : ℕ → BookState → List JobResult → Cause → Type 0
-Explains limit d answers NoMemory = GaveUp answers EvolveFault.NoMemory ⊎ (given_of d < 16777216)
-Explains limit d answers NoRoom = FoundNoRoom limit answers
-Explains limit d answers Stopped = GaveUp answers EvolveFault.Stopped
-Explains limit d answers NumbersSpent = 16777216 ≤ given_of d
+-- an issue was refused since a first desk because memory ran out, and not every number was given
+abbrev pub RanOut : BookState → BookState → Type 0
+RanOut first d = (first.refused < d.refused) × (given_of d < 16777216)
+
+-- a cause is that of an answer that was given since a first desk, for want of room to an entry that
+-- has none at the limit, or of an issue that was refused since then: every number was given, or
+-- else memory ran out
+abbrev pub Explains : ℕ → BookState → BookState → List JobResult → Cause → Type 0
+Explains limit first d answers NoMemory = GaveUp answers EvolveFault.NoMemory ⊎ RanOut first d
+Explains limit first d answers NoRoom = FoundNoRoom limit answers
+Explains limit first d answers Stopped = GaveUp answers EvolveFault.Stopped
+Explains limit first d answers NumbersSpent = 16777216 ≤ given_of d
 
 -- a cause, if there is one, is explained by the answers that a post gave meanwhile, at its limit,
--- or by an issue that was refused
-pub record TellsCause (p q : PostView) (d : BookState) (cause : Option Cause) : Type 0 where
+-- or by an issue that was refused meanwhile
+pub record TellsCause (p q : PostView) (old new : BookState) (cause : Option Cause)
+    : Type 0 where
   pub later : List JobResult
   pub gave : q.answers ≡ p.answers ++ later
-  pub explained : IfSome cause (Explains p.limit d later)
+  pub explained : IfSome cause (Explains p.limit old new later)
 
 -- a post serves a desk: it is of the desk's table, and no number that it took is still to be
 -- given
@@ -102,23 +108,25 @@ pub record Settles (old new : BookState) (turns : ℕ) (post : PostView) : Type 
 
 -- why a settling over these answers left bookmarks pending: for its cause, if one is told, and else
 -- the post is over or was asked in every turn
-abbrev pub IsWhy : ℕ → PostView → PostView → BookState → List JobResult → Option Cause → Type 0
-IsWhy turns p q d later (Some cause) = Explains p.limit d later cause
-IsWhy turns p q d later None = (q.is_over ≡ true) ⊎ (p.asked + turns ≤ q.asked)
+abbrev pub IsWhy : ℕ → PostView → PostView → BookState → BookState → List JobResult
+    → Option Cause → Type 0
+IsWhy turns p q old new later (Some cause) = Explains p.limit old new later cause
+IsWhy turns p q old new later None = (q.is_over ≡ true) ⊎ (p.asked + turns ≤ q.asked)
 
 -- settling over these answers ends with every bookmark current, or with so many pending and why
-abbrev pub Ends : ℕ → PostView → PostView → BookState → List JobResult → Settling → Type 0
-Ends turns p q d later Settled = pending_of d ≡ 0
-Ends turns p q d later (Unsettled pending cause) =
-    (pending ≡ pending_of d) × (0 < pending) × (pending ≤ length d.plan.bookmarks)
-    × IsWhy turns p q d later cause
+abbrev pub Ends : ℕ → PostView → PostView → BookState → BookState → List JobResult
+    → Settling → Type 0
+Ends turns p q old new later Settled = pending_of new ≡ 0
+Ends turns p q old new later (Unsettled pending cause) =
+    (pending ≡ pending_of new) × (0 < pending) × (pending ≤ length new.plan.bookmarks)
+    × IsWhy turns p q old new later cause
 
 -- so it ends over the answers that a post gave meanwhile
-pub record EndsOver (turns : ℕ) (p q : PostView) (d : BookState) (ending : Settling)
+pub record EndsOver (turns : ℕ) (p q : PostView) (old new : BookState) (ending : Settling)
     : Type 0 where
   pub later : List JobResult
   pub gave : q.answers ≡ p.answers ++ later
-  pub ends : Ends turns p q d later ending
+  pub ends : Ends turns p q old new later ending
 
 -- so it ends with this number pending: Settled where none is, and else with the cause, if there is
 -- one

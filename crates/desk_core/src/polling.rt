@@ -37,7 +37,7 @@ pub fn poll<P: Post>(rt: &impl Wait, desk: &mut Desk<'_>, post: &mut P) -> Polle
     requires { Serves desk.old (P.view post.old) }
     ensures keeps { Keeps desk.old desk.new (P.view post.new) }
     ensures post { ServesOn (P.view post.old) (P.view post.new) desk.old desk.new }
-    ensures cause { TellsCause (P.view post.old) (P.view post.new) desk.new result.cause }
+    ensures cause { TellsCause (P.view post.old) (P.view post.new) desk.old desk.new result.cause }
     ensures polls { Polls (P.view post.old) (P.view post.new) desk.old desk.new result }
 {
     if let Some(cause) = collect_all(desk, post) {

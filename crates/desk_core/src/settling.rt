@@ -27,8 +27,8 @@ pub enum Settling {
 /// What was known stays so, a job that is out was out before or was sent, and document and table
 /// are the same (`Settles`); the post serves the desk still (`ServesOn`). Settled says that nothing
 /// is pending. Unsettled tells how many bookmarks are, and the cause, which an answer that came
-/// meanwhile gives, or an issue that was refused; without one the post said Closed or Ended, or it
-/// was asked in every turn (`EndsOver`).
+/// meanwhile gives, or an issue that was refused meanwhile; without one the post said Closed or
+/// Ended, or it was asked in every turn (`EndsOver`).
 ///
 /// Over a prompt post that holds whatever is out, four turns for each mark and bookmark are always
 /// enough: it settles, or tells a cause. So are 1,000,000.
@@ -36,7 +36,7 @@ pub fn settle<P: Post>(rt: &impl Wait, desk: &mut Desk<'_>, post: &mut P, turns:
     requires { Serves desk.old (P.view post.old) }
     ensures settles { Settles desk.old desk.new turns (P.view post.new) }
     ensures post { ServesOn (P.view post.old) (P.view post.new) desk.old desk.new }
-    ensures ends { EndsOver turns (P.view post.old) (P.view post.new) desk.new result }
+    ensures ends { EndsOver turns (P.view post.old) (P.view post.new) desk.old desk.new result }
     ensures caused { HoldsAllOut desk.old (P.view post.old) → 4 * rows_of desk.old ≤ turns →
         HasCause result }
 {

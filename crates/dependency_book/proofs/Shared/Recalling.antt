@@ -34,7 +34,11 @@ recalls_then d e f h k = (h.0 ++ k.0, entered_then h.0 k.0 d e f h.1 k.1)
 -- the book is the same
 
 same_book : (d : BookState) → SameBook d d
-same_book d = record { document = record { table = refl; plan = refl; marks = refl; bookmarks = refl }; entries = refl }
+same_book d = record {
+  document = record { table = refl; plan = refl; marks = refl; bookmarks = refl };
+  entries = refl;
+  refused = refl;
+}
 
 pub book_then : (d e f : BookState) → SameBook d e → SameBook e f → SameBook d f
 book_then d e f h k = record {
@@ -45,6 +49,7 @@ book_then d e f h k = record {
     bookmarks = k.document.bookmarks ∙ h.document.bookmarks;
   };
   entries = k.entries ∙ h.entries;
+  refused = k.refused ∙ h.refused;
 }
 
 entered_book : (xs : List (Mark × Stepping)) (d e : BookState) → Entered xs d e → SameBook d e

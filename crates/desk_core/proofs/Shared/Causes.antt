@@ -12,7 +12,7 @@ use Rattle.revision_jobs.specs.Posted.{IsOwnAnswer}
 use Rattle.revision_jobs.specs.Room.{HasNoRoom}
 use Rattle.revision_jobs.specs.declared.entries.Entries.{Entries}
 use Rattle.dependency_book.specs.Jobs.{SameBook}
-use Rattle.dependency_book.specs.BookState.{BookState}
+use Rattle.dependency_book.specs.BookState.{BookState, given_of}
 use Rattle.desk_core.specs.declared.cause.Cause.{Cause}
 use Rattle.desk_core.specs.declared.cause.Cause.TheVariants.{NoMemory, NoRoom, Stopped as WasStopped, NumbersSpent}
 use Rattle.desk_core.specs.declared.collect.Collected.TheVariants.{Released}
@@ -21,7 +21,7 @@ use Rattle.desk_core.specs.declared.issue.IssueFault.TheVariants as issue
 use Rattle.desk_core.specs.Cause.{cause_of_answer, cause_of_issue}
 use Rattle.desk_core.specs.Collected.{IsCollected}
 use Rattle.desk_core.specs.Issued.{RefusesIssue}
-use Rattle.desk_core.specs.Settling.{Explains}
+use Rattle.desk_core.specs.Settling.{Explains, RanOut}
 use Rattle.desk_core.proofs.Shared.Given.{same_given}
 
 -- one of more answers
@@ -50,57 +50,64 @@ FoundNone limit answer = (answer.outcome ≡ Err EvolveFault.NoRoom) × HasNoRoo
 
 -- causes
 
--- a cause fits still where no more numbers are given
-pub explains-kept : (limit : ℕ) (old new : BookState) (answers more : List JobResult) (cause : Option Cause)
-    → SameBook old new → IfSome cause (Explains limit old answers) → IfSome cause (Explains limit new (answers ++ more))
-explains-kept limit old new answers more None same h = tt
-explains-kept limit old new answers more (Some NoMemory) same (inl gave) =
+-- a cause fits still where no more numbers are given and no issue is refused
+pub explains-kept : (limit : ℕ) (first old new : BookState) (answers more : List JobResult) (cause : Option Cause)
+    → SameBook old new → IfSome cause (Explains limit first old answers)
+    → IfSome cause (Explains limit first new (answers ++ more))
+explains-kept limit first old new answers more None same h = tt
+explains-kept limit first old new answers more (Some NoMemory) same (inl gave) =
     inl (any-before (Gave EvolveFault.NoMemory) answers more gave)
-explains-kept limit old new answers more (Some NoMemory) same (inr few) =
-    inr (subst (λ n. n < 16777216) (sym (same_given same)) few)
-explains-kept limit old new answers more (Some NoRoom) same h = any-before (FoundNone limit) answers more h
-explains-kept limit old new answers more (Some WasStopped) same h = any-before (Gave EvolveFault.Stopped) answers more h
-explains-kept limit old new answers more (Some NumbersSpent) same h =
+explains-kept limit first old new answers more (Some NoMemory) same (inr ran) = inr (
+  subst (λ n. first.refused < n) (sym same.refused) ran.0,
+  subst (λ n. n < 16777216) (sym (same_given same)) ran.1,
+)
+explains-kept limit first old new answers more (Some NoRoom) same h = any-before (FoundNone limit) answers more h
+explains-kept limit first old new answers more (Some WasStopped) same h =
+    any-before (Gave EvolveFault.Stopped) answers more h
+explains-kept limit first old new answers more (Some NumbersSpent) same h =
     subst (λ n. 16777216 ≤ n) (sym (same_given same)) h
 
 -- why a job gave up fits: for want of room only where its entry has none at the limit
-explains-released : (limit : ℕ) (table : Entries) (new : BookState) (answers : List JobResult) (answer : JobResult)
-    (fault : EvolveFault) → IsOwnAnswer table limit answer → answer.outcome ≡ Err fault
-    → Explains limit new (answers ++ answer ∷ []) (cause_of_answer fault)
-explains-released limit table new answers answer EvolveFault.NoMemory own gave =
+explains-released : (limit : ℕ) (table : Entries) (first new : BookState) (answers : List JobResult)
+    (answer : JobResult) (fault : EvolveFault) → IsOwnAnswer table limit answer → answer.outcome ≡ Err fault
+    → Explains limit first new (answers ++ answer ∷ []) (cause_of_answer fault)
+explains-released limit table first new answers answer EvolveFault.NoMemory own gave =
     inl (any-last (Gave EvolveFault.NoMemory) answers answer gave)
-explains-released limit table new answers answer EvolveFault.Stopped own gave =
+explains-released limit table first new answers answer EvolveFault.Stopped own gave =
     any-last (Gave EvolveFault.Stopped) answers answer gave
-explains-released limit table new answers answer EvolveFault.NoRoom own gave =
+explains-released limit table first new answers answer EvolveFault.NoRoom own gave =
     any-last (FoundNone limit) answers answer (gave, own.room gave)
 
 -- the first cause is told
-explains-first : (limit : ℕ) (d : BookState) (answers : List JobResult) (before : Option Cause) (cause : Cause)
-    → Explains limit d answers cause → IfSome before (Explains limit d answers)
-    → Explains limit d answers (unwrap_or before cause)
-explains-first limit d answers None cause h first = h
-explains-first limit d answers (Some c) cause h first = first
+explains-first : (limit : ℕ) (first d : BookState) (answers : List JobResult) (before : Option Cause) (cause : Cause)
+    → Explains limit first d answers cause → IfSome before (Explains limit first d answers)
+    → Explains limit first d answers (unwrap_or before cause)
+explains-first limit first d answers None cause h was = h
+explains-first limit first d answers (Some c) cause h was = was
 
-pub explains-collected : (limit : ℕ) {table : Entries} (old new : BookState) (answers : List JobResult)
+pub explains-collected : (limit : ℕ) {table : Entries} (first old new : BookState) (answers : List JobResult)
     (answer : JobResult) (before : Option Cause) (fault : EvolveFault) (told cause : Cause)
     → IsOwnAnswer table limit answer → IsCollected old new answer (Released fault) → told ≡ cause_of_answer fault
-    → cause ≡ unwrap_or before told → IfSome before (Explains limit new (answers ++ answer ∷ []))
-    → Explains limit new (answers ++ answer ∷ []) cause
-explains-collected limit {table} old new answers answer before fault told cause own h is first so =
-    subst (Explains limit new (answers ++ answer ∷ [])) (sym first)
-    (explains-first limit new (answers ++ answer ∷ []) before told
-    (subst (Explains limit new (answers ++ answer ∷ [])) (sym is)
-    (explains-released limit table new answers answer fault own h.gave_up))
+    → cause ≡ unwrap_or before told → IfSome before (Explains limit first new (answers ++ answer ∷ []))
+    → Explains limit first new (answers ++ answer ∷ []) cause
+explains-collected limit {table} first old new answers answer before fault told cause own h is told_first so =
+    subst (Explains limit first new (answers ++ answer ∷ [])) (sym told_first)
+    (explains-first limit first new (answers ++ answer ∷ []) before told
+    (subst (Explains limit first new (answers ++ answer ∷ [])) (sym is)
+    (explains-released limit table first new answers answer fault own h.gave_up))
     so)
 
-pub explains-refused : (limit : ℕ) (d : BookState) (answers : List JobResult) (fault : IssueFault) → RefusesIssue d fault
-    → Explains limit d answers (cause_of_issue fault)
-explains-refused limit d answers issue.NumbersSpent h = h.1
-explains-refused limit d answers issue.NoMemory h = inr h.1
+-- so does an issue that was refused
+pub explains-refused : (limit : ℕ) (first old new : BookState) (answers : List JobResult) (fault : IssueFault)
+    → first.refused ≤ old.refused → RefusesIssue old new fault → Explains limit first new answers (cause_of_issue fault)
+explains-refused limit first old new answers issue.NumbersSpent before h =
+    subst (λ (d : BookState). 16777216 ≤ given_of d) (sym h.2) h.1
+explains-refused limit first old new answers issue.NoMemory before h =
+    inr (subst (RanOut first) (sym h.2) (omega (arith, before), h.1))
 
--- what explains a cause explains it while no more numbers are given
-pub explains-cancelled : (limit : ℕ) (old new : BookState) → SameBook old new → (answers : List JobResult)
-    (cause : Cause) → Explains limit old answers cause → Explains limit new answers cause
-explains-cancelled limit old new same answers cause h =
-    subst (λ xs. Explains limit new xs cause) (append-nil answers)
-    (explains-kept limit old new answers [] (Some cause) same h)
+-- what explains a cause explains it while no more numbers are given and no issue is refused
+pub explains-cancelled : (limit : ℕ) (first old new : BookState) → SameBook old new → (answers : List JobResult)
+    (cause : Cause) → Explains limit first old answers cause → Explains limit first new answers cause
+explains-cancelled limit first old new same answers cause h =
+    subst (λ xs. Explains limit first new xs cause) (append-nil answers)
+    (explains-kept limit first old new answers [] (Some cause) same h)

@@ -1,5 +1,5 @@
 use Rattle.desk_core.specs.Progress.{Cancels}
-use Rattle.desk_core.proofs.Fed.{Feeds-refused, HasFed-first, HasFed-taken, ServesOn-refused}
+use Rattle.desk_core.proofs.Fed.{Feeds-refused, Feeds-unissued, HasFed-first, HasFed-taken, ServesOn-refused}
 use Rattle.desk_core.proofs.feeding.feed_on.Goals as goal
 
 pub loop-job-init : goal.loop-job-init
@@ -13,6 +13,18 @@ loop-job-preserved g c =
           (g.P.Post.view c.args.post.now) (g.P.Post.view c.loop-job.post) (g.P.Post.view c.send.new.self)
           c.loop-job.taken issued.1 c.in-Taken.ensures c.loop-job.invariant.fed;
     }
+
+pub returns-in-Err-clause-feeds : goal.returns-in-Err-clause-feeds
+returns-in-Err-clause-feeds g c =
+    (Feeds-unissued c.args.desk.now c.loop-job.desk c.issue.new.self (g.P.Post.view c.args.post.now)
+    (g.P.Post.view c.loop-job.post) c.loop-job.taken c.in-Err.fault c.in-Err.ensures.refused c.issue.ensures.right
+    c.loop-job.invariant.fed).0
+
+pub returns-in-Err-clause-post : goal.returns-in-Err-clause-post
+returns-in-Err-clause-post g c =
+    (Feeds-unissued c.args.desk.now c.loop-job.desk c.issue.new.self (g.P.Post.view c.args.post.now)
+    (g.P.Post.view c.loop-job.post) c.loop-job.taken c.in-Err.fault c.in-Err.ensures.refused c.issue.ensures.right
+    c.loop-job.invariant.fed).1
 
 pub returns-in_default : goal.returns-in_default
 returns-in_default g c =

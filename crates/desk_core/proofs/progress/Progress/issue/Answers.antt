@@ -13,5 +13,5 @@ pub returns-in-Err-clause-goes : goal.returns-in-Err-clause-goes
 returns-in-Err-clause-goes g c = λ post.
     let after : Progress = record { unsent = c.args.self.now.unsent; cause = Some c.of_issue.result } in
     GoesOn-refused c.args.desk.now c.issue.new.self post c.args.self.now after c.in-Err.fault
-    c.in-Err.ensures.unchanged (no_cause c.args.self.now.cause c.if-is_some.ensures) refl
+    (no_cause c.args.self.now.cause c.if-is_some.ensures) refl
     (ap (λ cause. Some cause) c.of_issue.ensures) c.in-Err.ensures.refused
