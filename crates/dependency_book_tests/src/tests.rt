@@ -74,6 +74,18 @@ const OPENED: &[Act] = &[
     Act::Shows(1, "empty\n"),
 ];
 
+// Under the opening rule the step from 4 to 8 is the one from 0 to 4 once more, so what comes of it
+// is known as soon as that one is filled.
+const KNOWN_AT_ONCE: &[Act] = &[
+    Act::Mark(4),
+    Act::Mark(8),
+    Act::Compute(Need::Step { branch: 0, mark: 4 }),
+    Act::Compute(Need::View { id: 1 }),
+    Act::Compute(Need::View { id: 2 }),
+    Act::Next(None),
+    Act::Shows(2, "empty\n"),
+];
+
 const VIEWS_BEFORE_STEPS: &[Act] = &[
     Act::Start,
     Act::Mark(2),
@@ -379,6 +391,11 @@ const STOPPED: &[Act] = &[
 #[test]
 fn opens(rt: HostRuntime) {
     play(&rt, rt.alloc(), &[], OPENED);
+}
+
+#[test]
+fn step_that_was_computed_is_known_at_once(rt: HostRuntime) {
+    play(&rt, rt.alloc(), &[], KNOWN_AT_ONCE);
 }
 
 #[test]

@@ -70,6 +70,22 @@ const STEP_IS_REMEMBERED: &[Act] = &[
 
 const STEP_IS_FORGOTTEN: &[Act] = &[Act::Issue(5, Wanted::Step(8))];
 
+// Under the opening rule the step from 4 to 8 is the one from 0 to 4 once more, so what comes of it
+// is known as soon as that one is collected.
+const STEP_IS_KNOWN_AT_ONCE: &[Act] = &[
+    Act::Edit(Change::Mark(4)),
+    Act::Edit(Change::Mark(8)),
+    Act::Issue(0, Wanted::Step(4)),
+    Act::Work,
+    Act::Collect(Collected::Accepted),
+    Act::Issue(1, Wanted::View(4)),
+    Act::Issue(2, Wanted::View(8)),
+    Act::Work,
+    Act::Collect(Collected::Accepted),
+    Act::Shows(2, "empty\n"),
+    Act::Waits(1),
+];
+
 const OPENED: &[Act] = &[
     Act::Revision(0),
     Act::Rule("still"),
@@ -385,6 +401,7 @@ fn steps_that_were_computed_are_remembered(rt: HostRuntime) {
     play_keeping(&rt, alloc, 64, CHANGED_AND_PUT_BACK, STEP_IS_REMEMBERED);
     play_keeping(&rt, alloc, 4096, CHANGED_AND_PUT_BACK, STEP_IS_REMEMBERED);
     play_keeping(&rt, alloc, 1, CHANGED_AND_PUT_BACK, STEP_IS_FORGOTTEN);
+    play_keeping(&rt, alloc, 1, &[], STEP_IS_KNOWN_AT_ONCE);
 }
 
 #[test]
