@@ -1,19 +1,32 @@
 //! What is replied where a step may keep too few squares.
 use crate::tests::devices::Pieces;
-use crate::tests::{answer_to, same};
+use crate::tests::{Row, answer_to, same};
+use std::alloc::Global;
+use std::process::Abort;
+use std::sync::Wait;
 
 // Eight cells far from each other, whose plane has more than 64 distinct squares. The bookmark at
 // generation 0 needs no step. Where the cells are gone there is room, and the step is made anew.
-const SCRIPT: &[u8] =
-    b"set 0 0 1 1000 0 1 3000 7 1 7000 90 1 20000 300 1 50000 -70 1 -30000 0 1 -9999 -9999 1\nmark 1 counts\nmark 0 counts\nmark 2 counts\nsettle\nshow 1\nshow 2\nsettle\nset 1000 0 0 3000 7 0 7000 90 0 20000 300 0 50000 -70 0 -30000 0 0 -9999 -9999 0\nsettle\nshow 1\nshow 3\n";
+const FAR_APART: Row = Row {
+    script: b"set 0 0 1 1000 0 1 3000 7 1 7000 90 1 20000 300 1 50000 -70 1 -30000 0 1 -9999 -9999 1\nmark 1 counts\nmark 0 counts\nmark 2 counts\nsettle\nshow 1\nshow 2\nsettle\nset 1000 0 0 3000 7 0 7000 90 0 20000 300 0 50000 -70 0 -30000 0 0 -9999 -9999 0\nsettle\nshow 1\nshow 3\n",
+    replies: b"ok 1\nok 2 bookmark 1\nok 3 bookmark 2\nok 4 bookmark 3\nunsettled 2 71\nbookmark 1 pending\nbookmark 2 current 4\n1 8\nunsettled 2 71\nok 5\nsettled\nbookmark 1 current 4\n1 1\nbookmark 3 current 4\n1 1\n",
+};
 
-const REPLIES: &[u8] =
-    b"ok 1\nok 2 bookmark 1\nok 3 bookmark 2\nok 4 bookmark 3\nunsettled 2 71\nbookmark 1 pending\nbookmark 2 current 4\n1 8\nunsettled 2 71\nok 5\nsettled\nbookmark 1 current 4\n1 1\nbookmark 3 current 4\n1 1\n";
+// One cell at the last generation. An edit is taken then as ever.
+const FAR_AHEAD: Row = Row {
+    script: b"rule\n@RULE X\n@TABLE\nn_states:2\nneighborhood:oneDimensional\nsymmetries:none\n0,1,0,1\n0,0,1,1\n1,0,0,0\n1,1,1,0\nend\nset 0 0 1\nmark 1152921504606846976 counts\nsettle\nshow 1\nset 5 0 1\n",
+    replies: b"ok 1\nok 2\nok 3 bookmark 1\nunsettled 1 71\nbookmark 1 pending\nok 4\n",
+};
+
+// The replies to a script where a step may keep 64 squares.
+fn answers_in_64_squares(rt: &(impl Abort + Wait), alloc: Global, row: &Row) {
+    let (answered, told) = answer_to(rt, alloc, 64, Pieces::whole(row.script), Vec::new(alloc));
+    same(rt, &answered, &Ok(()), &row.script);
+    same(rt, &told.as_slice(), &row.replies, &row.script);
+}
 
 #[test]
 fn too_few_squares_leave_bookmarks_pending(rt: HostRuntime) {
-    let alloc = rt.alloc();
-    let (answered, told) = answer_to(&rt, alloc, 64, Pieces::whole(SCRIPT), Vec::new(alloc));
-    same(&rt, &answered, &Ok(()), &64);
-    same(&rt, &told.as_slice(), &REPLIES, &64);
+    answers_in_64_squares(&rt, rt.alloc(), &FAR_APART);
+    answers_in_64_squares(&rt, rt.alloc(), &FAR_AHEAD);
 }
