@@ -85,6 +85,14 @@ impl Memo {
         }
     }
 
+    /// Gives up all results, and keeps their memory.
+    pub fn clear(&mut self)
+        ensures { (next : List ℕ → ℕ) (rows : List (List ℕ)) → IsRight next rows self.new }
+    {
+        Vec::clear(&mut self.full);
+        Vec::clear(&mut self.part);
+    }
+
     /// Makes it ready for a search by so many generations. Results by the other counts are given up
     /// where the last search was by another number.
     pub(crate) fn turn_to(&mut self, generations: u64)

@@ -135,6 +135,14 @@ pub fn chains(alloc: Global, count: usize) -> Result<Vec<u32>, AllocError>
     vec![in alloc; 0u32; count]
 }
 
+/// Takes the rows off all chains.
+pub fn empty(heads: &mut [u32])
+    ensures count { length heads.new ≡ length heads.old }
+    ensures empty { (b : ℕ) → slice_index heads.new b ≡ 0 }
+{
+    heads.fill(0);
+}
+
 /// Twice as many chains, where there is memory for them; a table with too few is only slower.
 pub fn widen(alloc: Global, rows: &mut [Row], heads: &mut Vec<u32>)
     requires chained { IsChained rows.old 0 heads.old.items }

@@ -7,7 +7,7 @@ ghost use Rattle.square_table.specs.Made.{IsFull};
 ghost use Rattle.square_table.specs.Loading.{GrowsFrom};
 ghost use Rattle.square_table.specs.declared.square.Square.{Square};
 
-use crate::chains::{Row, chains, find, head, insert, is_same, widen};
+use crate::chains::{Row, chains, empty, find, head, insert, is_same, widen};
 use crate::fault::TableFault;
 use crate::square::Square;
 use bumpalo::Bump;
@@ -83,6 +83,15 @@ impl<'a> SquareTable<'a> {
             limit,
             alloc,
         })
+    }
+
+    /// Gives up all squares. It keeps their memory, so that as many more take no more time than those
+    /// that they replace, and no chain is made anew.
+    pub fn clear(&mut self)
+        ensures { self.new ≡ record { rows = []; limit = self.old.limit } }
+    {
+        self.rows.clear();
+        empty(&mut self.heads);
     }
 
     // Where its memory comes from. Who asks makes rows of its squares, which are distinct.

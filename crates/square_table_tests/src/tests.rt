@@ -59,6 +59,18 @@ fn a_full_table_has_no_room(rt: HostRuntime) {
 }
 
 #[test]
+fn a_cleared_table_begins_anew(rt: HostRuntime) {
+    let arena = Bump::new(rt.alloc());
+    let mut table = SquareTable::new(rt.alloc(), &arena, 2).expect(&rt, "memory");
+    assert!(&rt; table.blank(2).is_ok());
+    table.clear();
+    assert_eq!(&rt; table.len(), 0);
+    assert_eq!(&rt; table.join_numbers([1, 0, 0, 1]).expect(&rt, "room"), 256);
+    assert_eq!(&rt; table.join_numbers([0, 0, 0, 0]).expect(&rt, "room"), 257);
+    assert!(&rt; matches!(&table.join_numbers([0, 1, 1, 0]), Err(TableFault::NoRoom)));
+}
+
+#[test]
 fn faults_have_numbers_and_names(rt: HostRuntime) {
     assert_eq!(&rt; TableFault::NoRoom.number(), 71);
     assert_eq!(&rt; TableFault::NoRoom.name(), "NoRoom");

@@ -206,7 +206,7 @@ impl<'a, R: Next> Engine<'a, R> {
             IsRoomSpent self.old.limit (R.meaning self.old.rule) plane.now generations }
     {
         if self.is_nearly_full() {
-            self.give_up()?;
+            self.give_up();
         }
         let before = self.table.len();
         let found = self.evolve(plane, generations, stop);
@@ -220,13 +220,12 @@ impl<'a, R: Next> Engine<'a, R> {
     }
 
     // Gives all squares and results up.
-    fn give_up(&mut self) -> Result<(), AllocError>
+    fn give_up(&mut self)
         ensures { self.new ≡ self.old }
     {
         self.latest = None;
-        self.table = no_squares(self.alloc, self.arena, self.limit)?;
-        self.memo = Memo::nothing(self.alloc);
-        Ok(())
+        self.table.clear();
+        self.memo.clear();
     }
 
     // Notes how many squares a leap made, of which there were so many before, unless they were given
