@@ -4,12 +4,13 @@
 #     ./test.sh                 tests crates/desk/out/desk
 #     DESK=PROGRAM ./test.sh    tests another one
 #
-# These are the scripts of examples/, hostile use, refused allocations, the model's own tests and random scripts
-# that are compared with it, the clients, and the program's first build. Each part says what it does, and the last
-# line counts all of them. The random scripts are those of the present commit.
+# These are the scripts of examples/, hostile use, refused allocations, threads under stress, the model's own tests and
+# random scripts that are compared with it, the clients, and the program's first build. Each part says what it does, and
+# the last line counts all of them. The random scripts and runs are those of the present commit.
 cd "$(dirname "$0")" || exit 1
 DESK=$(realpath -m "${DESK:-crates/desk/out/desk}")
 export DESK PYTHONDONTWRITEBYTECODE=1
+commit=$(git rev-parse HEAD 2> /dev/null || echo 1)
 passed=0 failed=0
 log=$(mktemp) || exit 1
 trap 'rm -f "$log"' EXIT
@@ -58,9 +59,11 @@ python_tests() {
 counted "scripts of examples/ with the replies beside them, in nine ways each" 400 python3 examples/each_way.py "$DESK"
 counted "hostile use: signals, failing devices, little memory, huge scripts" 120 python3 hostile/check.py "$DESK"
 counted "allocations that are refused in turn" 120 python3 hostile/allocations.py "$DESK" --seconds 45
+counted "threads under stress, and random runs whose threads stall" 180 \
+    python3 hostile/threads.py "$DESK" --runs 100 --seed "$commit"
 python_tests "the model's own tests" 180 model/tests 'test*.py'
 counted "random scripts, compared with the model" 180 \
-    python3 model/differ.py --count 300 --jobs 4 --seed "$(git rev-parse HEAD 2> /dev/null || echo 1)" --desk "$DESK"
+    python3 model/differ.py --count 300 --jobs 4 --seed "$commit" --desk "$DESK"
 python_tests "the clients in Python" 600 clients/python/tests 'test*.py'
 python_tests "the program's first build" 300 .ci '*_test.py'
 

@@ -1,0 +1,158 @@
+"""A running program that is sent commands, and is watched while a reply is due."""
+from __future__ import annotations
+
+import contextlib
+import os
+import select
+import subprocess
+import time
+from pathlib import Path
+from typing import Callable, Dict, Iterator
+
+# So long may a program write nothing while it takes no time of the processor, and so long at all.
+SECONDS_OF_SLEEP, SECONDS = 5, 60
+TICKS = os.sysconf("SC_CLK_TCK")
+
+
+class Wrong(Exception):
+    """What a case or a run found."""
+
+
+def need(holds: object, found: object) -> None:
+    if not holds:
+        raise Wrong(found)
+
+
+class Session:
+    """The program while it runs.
+
+    A read that waits for a reply fails where all threads sleep: then a wake-up was lost. It waits on where they work.
+    """
+
+    def __init__(self, program: str, *words: str, **settings: object) -> None:
+        devices = {"stdin": subprocess.PIPE, "stdout": subprocess.PIPE, "stderr": subprocess.PIPE}
+        self.process = subprocess.Popen([program, *words], bufsize=0, **{**devices, **settings})
+        self.rest = bytearray()
+
+    def close(self) -> None:
+        self.process.kill()
+        self.process.wait()
+        for pipe in (self.process.stdin, self.process.stdout, self.process.stderr):
+            if pipe:
+                pipe.close()
+
+    def tell(self, commands: bytes) -> None:
+        left = memoryview(commands)
+        while left:
+            left = left[self.process.stdin.write(left):]
+
+    def expect(self, command: bytes, reply: bytes) -> None:
+        self.tell(command + b"\n")
+        found = self.line()
+        need(found == reply, f"{command!r}: {found!r}, not {reply!r}")
+
+    def edit(self, *edits: bytes) -> None:
+        """Sends edits that have to be accepted."""
+        self.tell(b"\n".join(edits) + b"\n")
+        for edit in edits:
+            reply = self.line()
+            need(reply.startswith(b"ok "), f"{edit[:60]!r}: {reply!r}")
+
+    def work(self) -> None:
+        self.expect(b"work", b"working")
+
+    def settle(self) -> None:
+        self.expect(b"settle", b"settled")
+
+    def expect_text(self, bookmark: int, text: bytes) -> None:
+        """Wants a bookmark to show a text."""
+        self.expect(b"show %d" % bookmark, b"bookmark %d current %d" % (bookmark, len(text)))
+        while len(self.rest) < len(text):
+            need(self.read(), "the replies end within a text")
+        need(self.rest.startswith(text), f"bookmark {bookmark} shows {bytes(self.rest)!r}, not {text!r}")
+        del self.rest[: len(text)]
+
+    def is_known(self, bookmark: int) -> bool:
+        """Whether a bookmark is current now."""
+        self.tell(b"list\n")
+        line, is_current = self.line(), False
+        while not line.startswith(b"listed "):
+            is_current |= line.startswith(b"bookmark %d on " % bookmark) and line.endswith(b" current")
+            line = self.line()
+        return is_current
+
+    def line(self) -> bytes:
+        """The next line of the replies."""
+        while (end := self.rest.find(b"\n")) < 0:
+            need(self.read(), f"the replies end with {bytes(self.rest)!r}")
+        line = bytes(self.rest[:end])
+        del self.rest[: end + 1]
+        return line
+
+    def read(self) -> bool:
+        """Reads some more of the replies, and says whether there was more."""
+        begun = slept = time.monotonic()
+        spent = self.spent()
+        while not select.select([self.process.stdout], [], [], 0.2)[0]:
+            now, spent_now = time.monotonic(), self.spent()
+            if spent_now != spent:
+                slept, spent = now, spent_now
+            need(now - slept < SECONDS_OF_SLEEP, "all threads sleep, and a reply is due")
+            need(now - begun < SECONDS, f"no reply within {SECONDS} s")
+        found = os.read(self.process.stdout.fileno(), 1 << 16)
+        self.rest += found
+        return bool(found)
+
+    def expect_end(self, status: int) -> None:
+        """Wants it to end by itself, which it may take seconds for where the machine is busy."""
+        try:
+            found = self.process.wait(SECONDS_OF_SLEEP)
+        except subprocess.TimeoutExpired:
+            raise Wrong(f"it had not ended after {SECONDS_OF_SLEEP} s") from None
+        need(found == status, f"it ended with status {found}, not {status}")
+
+    def spent(self) -> float:
+        """The seconds of the processor that it took so far."""
+        try:
+            return _ticks_in(f"/proc/{self.process.pid}/stat") / TICKS
+        except OSError:
+            return 0
+
+    def ticks(self) -> Dict[str, int]:
+        """Of each worker, by the name of its thread, how many ticks of the processor it took so far."""
+        threads = (it.name for it in Path(f"/proc/{self.process.pid}/task").iterdir())
+        return {it: _ticks_in(f"/proc/{self.process.pid}/task/{it}/stat")
+                for it in threads if it != str(self.process.pid)}
+
+    def poll_until(self, holds: Callable[[], bool], seconds: float, fault: str) -> None:
+        end = time.monotonic() + seconds
+        while not holds():
+            need(time.monotonic() < end, fault)
+            time.sleep(0.01)
+            self.tell(b"poll\n")
+            self.line()
+
+    def poll_until_busy(self, workers: int) -> None:
+        """Polls until so many workers are at long steps."""
+        before = self.ticks()
+        self.work()
+
+        def are_busy() -> bool:
+            return sum(ticks >= before[name] + 2 for name, ticks in self.ticks().items()) == workers
+
+        self.poll_until(are_busy, SECONDS, f"{workers} workers aren't at long steps")
+
+
+def _ticks_in(path: str) -> int:
+    words = Path(path).read_text().rpartition(")")[2].split()
+    return int(words[11]) + int(words[12])
+
+
+@contextlib.contextmanager
+def started(program: str, *words: str, **settings: object) -> Iterator[Session]:
+    """The program while a case looks at it, and no longer. Settings are as Popen takes them."""
+    session = Session(program, *words, **settings)
+    try:
+        yield session
+    finally:
+        session.close()
