@@ -7,10 +7,12 @@ import select
 import subprocess
 import time
 from pathlib import Path
-from typing import Callable, Dict, Iterator
+from typing import Callable, Dict, Iterator, List, NamedTuple
 
-# So long may a program write nothing while it takes no time of the processor, and so long at all.
-SECONDS_OF_SLEEP, SECONDS = 5, 60
+# A program may be found so often in a row with all threads asleep while a reply is due, each time after a wait of so
+# many seconds, which makes five. Where the machine is busy these waits take longer, and threads are found that would run.
+LOOKS, SECONDS_A_LOOK = 25, 0.2
+SECONDS_TO_REPLY, SECONDS_TO_END = 120, 20
 TICKS = os.sysconf("SC_CLK_TCK")
 
 
@@ -26,13 +28,15 @@ def need(holds: object, found: object) -> None:
 class Session:
     """The program while it runs.
 
-    A read that waits for a reply fails where all threads sleep: then a wake-up was lost. It waits on where they work.
+    A read that waits for a reply fails where all threads sleep: then a wake-up was lost. It waits on where they work,
+    and while commands are still being sent.
     """
 
     def __init__(self, program: str, *words: str, **settings: object) -> None:
         devices = {"stdin": subprocess.PIPE, "stdout": subprocess.PIPE, "stderr": subprocess.PIPE}
         self.process = subprocess.Popen([program, *words], bufsize=0, **{**devices, **settings})
         self.rest = bytearray()
+        self.is_sending: Callable[[], bool] = lambda: False
 
     def close(self) -> None:
         self.process.kill()
@@ -91,14 +95,12 @@ class Session:
 
     def read(self) -> bool:
         """Reads some more of the replies, and says whether there was more."""
-        begun = slept = time.monotonic()
-        spent = self.spent()
-        while not select.select([self.process.stdout], [], [], 0.2)[0]:
-            now, spent_now = time.monotonic(), self.spent()
-            if spent_now != spent:
-                slept, spent = now, spent_now
-            need(now - slept < SECONDS_OF_SLEEP, "all threads sleep, and a reply is due")
-            need(now - begun < SECONDS, f"no reply within {SECONDS} s")
+        begun, asleep, spent = time.monotonic(), 0, self.spent()
+        while not select.select([self.process.stdout], [], [], SECONDS_A_LOOK)[0]:
+            before, spent = spent, self.spent()
+            asleep = asleep + 1 if self.sleeps() and spent == before and not self.is_sending() else 0
+            need(asleep < LOOKS, "all threads sleep, and a reply is due")
+            need(time.monotonic() - begun < SECONDS_TO_REPLY, f"no reply within {SECONDS_TO_REPLY} s")
         found = os.read(self.process.stdout.fileno(), 1 << 16)
         self.rest += found
         return bool(found)
@@ -106,23 +108,25 @@ class Session:
     def expect_end(self, status: int) -> None:
         """Wants it to end by itself, which it may take seconds for where the machine is busy."""
         try:
-            found = self.process.wait(SECONDS_OF_SLEEP)
+            found = self.process.wait(SECONDS_TO_END)
         except subprocess.TimeoutExpired:
-            raise Wrong(f"it had not ended after {SECONDS_OF_SLEEP} s") from None
+            raise Wrong(f"it had not ended after {SECONDS_TO_END} s") from None
         need(found == status, f"it ended with status {found}, not {status}")
 
     def spent(self) -> float:
         """The seconds of the processor that it took so far."""
-        try:
-            return _ticks_in(f"/proc/{self.process.pid}/stat") / TICKS
-        except OSError:
-            return 0
+        return _of(Path(f"/proc/{self.process.pid}")).ticks / TICKS
+
+    def sleeps(self) -> bool:
+        """Whether each of its threads waits for something."""
+        return all(_of(thread).state == "S" for thread in self.threads())
+
+    def threads(self) -> List[Path]:
+        return list(Path(f"/proc/{self.process.pid}/task").iterdir())
 
     def ticks(self) -> Dict[str, int]:
         """Of each worker, by the name of its thread, how many ticks of the processor it took so far."""
-        threads = (it.name for it in Path(f"/proc/{self.process.pid}/task").iterdir())
-        return {it: _ticks_in(f"/proc/{self.process.pid}/task/{it}/stat")
-                for it in threads if it != str(self.process.pid)}
+        return {it.name: _of(it).ticks for it in self.threads() if it.name != str(self.process.pid)}
 
     def poll_until(self, holds: Callable[[], bool], seconds: float, fault: str) -> None:
         end = time.monotonic() + seconds
@@ -140,12 +144,22 @@ class Session:
         def are_busy() -> bool:
             return sum(ticks >= before[name] + 2 for name, ticks in self.ticks().items()) == workers
 
-        self.poll_until(are_busy, SECONDS, f"{workers} workers aren't at long steps")
+        self.poll_until(are_busy, SECONDS_TO_REPLY, f"{workers} workers aren't at long steps")
 
 
-def _ticks_in(path: str) -> int:
-    words = Path(path).read_text().rpartition(")")[2].split()
-    return int(words[11]) + int(words[12])
+class _Task(NamedTuple):
+    """What the system tells of a process or a thread: its state, and how many ticks of the processor it took."""
+
+    state: str
+    ticks: int
+
+
+def _of(task: Path) -> _Task:
+    try:
+        words = (task / "stat").read_text().rpartition(")")[2].split()
+    except OSError:  # it has just ended
+        return _Task("X", 0)
+    return _Task(words[0], int(words[11]) + int(words[12]))
 
 
 @contextlib.contextmanager

@@ -101,6 +101,7 @@ def _run(session: Session, script: bytes, chance: random.Random) -> None:
     """Sends a script and judges its replies."""
     sender = threading.Thread(target=_send_in_pieces, args=(session, script, chance), daemon=True)
     sender.start()
+    session.is_sending = sender.is_alive
     try:
         while session.read():
             pass

@@ -9,8 +9,8 @@ beside views, chains of steps that go from worker to worker, edits and ends in t
 1 to 8 workers, which are sent in pieces with pauses between them, while a library lets the threads stall by chance
 (`stall.c`, made by `cc`), so that workers answer late and in any order. The model of model/ judges the replies.
 
-A run that writes nothing for five seconds, and takes no time of the processor meanwhile, has lost a wake-up, and is a
-failure. The last line counts the cases and the runs.
+A run whose threads all sleep for five seconds while a reply is due has lost a wake-up, and is a failure. The last line
+counts the cases and the runs.
 """
 from __future__ import annotations
 
@@ -35,7 +35,7 @@ QUEUE, ANSWERS = 16, 32
 WORKERS = (1, 2, 3, 8)
 # A program that ends while workers are at steps takes some milliseconds. One of so many tries has to be quick, since
 # a busy machine may put it off.
-SECONDS_TO_END, TRIES = 1, 5
+SECONDS, TRIES = 1, 5
 
 Case = Callable[[str, int], None]  # of a program and a number of workers
 
@@ -192,7 +192,7 @@ def ends_soon(end: Callable[[Session], None], status: int) -> Case:
                 end(session)
                 session.expect_end(status)
                 took = time.monotonic() - begun
-            if took < SECONDS_TO_END:
+            if took < SECONDS:
                 return
         raise Wrong(f"it took {took:.1f} s to end")
     return case
