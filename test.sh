@@ -59,7 +59,7 @@ python_tests() {
 counted "scripts of examples/ with the replies beside them, in nine ways each" 400 python3 examples/each_way.py "$DESK"
 counted "hostile use: signals, failing devices, little memory, huge scripts" 120 python3 hostile/check.py "$DESK"
 counted "allocations that are refused in turn" 120 python3 hostile/allocations.py "$DESK" --seconds 45
-counted "threads under stress, and random runs whose threads stall" 180 \
+counted "threads under stress, and random runs whose threads stall" 300 \
     python3 hostile/threads.py "$DESK" --runs 100 --seed "$commit"
 python_tests "the model's own tests" 180 model/tests 'test*.py'
 counted "random scripts, compared with the model" 180 \

@@ -13,6 +13,8 @@ from typing import Callable, Dict, Iterator, List, NamedTuple
 # many seconds, which makes five. Where the machine is busy these waits take longer, and threads are found that would run.
 LOOKS, SECONDS_A_LOOK = 25, 0.2
 SECONDS_TO_REPLY, SECONDS_TO_END = 120, 20
+# So many seconds of the processor a program may take while something is polled for.
+SECONDS_OF_WORK = 8
 TICKS = os.sysconf("SC_CLK_TCK")
 
 
@@ -128,10 +130,10 @@ class Session:
         """Of each worker, by the name of its thread, how many ticks of the processor it took so far."""
         return {it.name: _of(it).ticks for it in self.threads() if it.name != str(self.process.pid)}
 
-    def poll_until(self, holds: Callable[[], bool], seconds: float, fault: str) -> None:
-        end = time.monotonic() + seconds
+    def poll_until(self, holds: Callable[[], bool], fault: str) -> None:
+        begun, spent = time.monotonic(), self.spent()
         while not holds():
-            need(time.monotonic() < end, fault)
+            need(self.spent() - spent < SECONDS_OF_WORK and time.monotonic() - begun < SECONDS_TO_REPLY, fault)
             time.sleep(0.01)
             self.tell(b"poll\n")
             self.line()
@@ -144,7 +146,7 @@ class Session:
         def are_busy() -> bool:
             return sum(ticks >= before[name] + 2 for name, ticks in self.ticks().items()) == workers
 
-        self.poll_until(are_busy, SECONDS_TO_REPLY, f"{workers} workers aren't at long steps")
+        self.poll_until(are_busy, f"{workers} workers aren't at long steps")
 
 
 class _Task(NamedTuple):

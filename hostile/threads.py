@@ -32,7 +32,7 @@ RULE_30 = (b"rule\n@RULE Thirty\n@TABLE\nn_states:2\nneighborhood:oneDimensional
 LONG, ENDLESS = 4096, 1000000
 # So many jobs a queue holds, of which steps have one and views another, and so many answers may wait.
 QUEUE, ANSWERS = 16, 32
-WORKERS = (1, 2, 3, 8)
+WORKERS = (1, 2, 8)
 # A program that ends while workers are at steps takes some milliseconds. One of so many tries has to be quick, since
 # a busy machine may put it off.
 SECONDS, TRIES = 1, 5
@@ -92,7 +92,7 @@ def a_view_goes_before_steps(program: str) -> None:
         hold(session, 1, 2 * LONG)
         session.edit(b"mark %d counts" % ENDLESS, b"mark 0 window 0 0 1 1")
         session.work()
-        session.poll_until(lambda: session.is_known(3), 20, "a view waits for an endless step")
+        session.poll_until(lambda: session.is_known(3), "a view waits for an endless step")
         session.expect_text(3, b"1\n")
 
 
@@ -146,7 +146,7 @@ def edits_free_workers(program: str, workers: int) -> None:
     """Workers stop at endless steps that an edit has made needless, again and again."""
     with started(program, "--workers", str(workers)) as session:
         session.edit(RULE_30, b"set 0 0 1", b"mark 5 counts", *branches_to(ENDLESS, workers))
-        for turn in range(5):
+        for turn in range(3):
             session.poll_until_busy(workers)
             first = 2 + turn * workers
             session.edit(*(b"unmark %d" % bookmark for bookmark in range(first, first + workers)),
@@ -228,7 +228,7 @@ def each(case: Case, *numbers: int) -> Callable[[str], None]:
 
 
 CASES: Dict[str, Callable[[str], None]] = {
-    "both queues are full while workers are held": each(queues_are_full, 1, 2, 4),
+    "both queues are full while workers are held": each(queues_are_full, 1, 2),
     "a view goes before an endless step": a_view_goes_before_steps,
     "chains of steps go from worker to worker": each(chains_go_on),
     "an engine serves more than one job": an_engine_serves_on,
