@@ -4,6 +4,7 @@ ghost use Rattle.revision_jobs.specs.Entries.{IsOf};
 
 mod entries;
 mod gates;
+mod lanes;
 
 use basics::Refusal;
 use bookmarks::View;
