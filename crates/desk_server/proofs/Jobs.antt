@@ -26,7 +26,7 @@ use Rattle.dependency_book.specs.BookState.{BookState, given_of, row_of, expecte
 use Rattle.desk_events.specs.Wanted.{bookmark_in}
 use Rattle.desk_core.specs.declared.cause.Cause.{Cause}
 use Rattle.revision_jobs.specs.Posted.{PostView}
-use Rattle.desk_core.specs.Settling.{Explains, HoldsAllOut, IsHeld, IsWhy, ServesOn}
+use Rattle.desk_core.specs.Settling.{Explains, IsHeld, IsWhy, ServesOn}
 use Rattle.desk_server.specs.Jobs.{Carries, CarriesOn, IsFresh, DropsJobs, IsDoneWith, KeepsCauses}
 use Rattle.std.proofs.Common.{length}
 use Rattle.desk_core.proofs.Shared.Given.{same_given}
@@ -191,16 +191,17 @@ carries_same post old new drops c = record {
 }
 
 -- what explained a cause before jobs were given up
-pub causes_kept : (limit : ℕ) (old new : BookState) (answers : List JobResult) (cause : Option Cause)
-    → KeepsCauses old new → IfSome cause (Explains limit old answers) → IfSome cause (Explains limit new answers)
-causes_kept limit old new answers None keeps h = tt
-causes_kept limit old new answers (Some cause) keeps h = keeps limit answers cause h
+pub causes_kept : (limit : ℕ) (first old new : BookState) (answers : List JobResult) (cause : Option Cause)
+    → KeepsCauses old new → IfSome cause (Explains limit first old answers)
+    → IfSome cause (Explains limit first new answers)
+causes_kept limit first old new answers None keeps h = tt
+causes_kept limit first old new answers (Some cause) keeps h = keeps limit first answers cause h
 
 -- the cause of a settling, if it has one, is explained
-pub why_explained : (turns : ℕ) (p q : PostView) (d : BookState) (later : List JobResult) (cause : Option Cause)
-    → IsWhy turns p q d later cause → IfSome cause (Explains p.limit d later)
-why_explained turns p q d later None h = tt
-why_explained turns p q d later (Some cause) h = h
+pub why_explained : (turns : ℕ) (p q : PostView) (old new : BookState) (later : List JobResult) (cause : Option Cause)
+    → IsWhy turns p q old new later cause → IfSome cause (Explains p.limit old new later)
+why_explained turns p q old new later None h = tt
+why_explained turns p q old new later (Some cause) h = h
 
 -- a cause that is told
 pub none_untold : (cause : Option Cause) (fact : Type 0) → IsSome cause → IfNone cause fact

@@ -1,5 +1,5 @@
 -- Answers for which nothing is short.
-use Rattle.std.proofs.Common.{◌≡◌, ◌⊎◌, inl, inr, ℕ, zero, suc, ◌<◌, ◌&&◌, nat_le, List, [], ◌∷◌, ◌++◌, length, Bool, true, false, cond, refl, ap, ap₂, ◌∙◌, Option, None, Some, codes, arith}
+use Rattle.std.proofs.Common.{◌≡◌, ◌⊎◌, inl, inr, ℕ, zero, suc, ◌&&◌, nat_le, List, [], ◌∷◌, ◌++◌, length, Bool, true, false, cond, refl, ap, ap₂, ◌∙◌, Option, None, Some, codes, arith}
 use Rattle.std.specs.Prelude.{decimal, flat_map}
 use Rattle.schedule.specs.Plan.{Plan}
 use Rattle.schedule.specs.Asked.{asked_of}

@@ -37,8 +37,8 @@ pub record DropsJobs (old new : BookState) : Type 0 where
   pub given : given_of new ≡ given_of old
   pub out : (need : Need) (job : Job) → expected new need ≡ Some job → expected old need ≡ Some job
 
--- what explains a cause explains it still
+-- what explains a cause since any first desk explains it still
 abbrev pub KeepsCauses : BookState → BookState → Type 0
 KeepsCauses old new =
-    (limit : ℕ) (answers : List JobResult) (cause : Cause) → Explains limit old answers cause
-    → Explains limit new answers cause
+    (limit : ℕ) (first : BookState) (answers : List JobResult) (cause : Cause)
+    → Explains limit first old answers cause → Explains limit first new answers cause

@@ -1,5 +1,5 @@
 -- How a reply reads, with the texts that the desk knows.
-use Rattle.std.specs.Prelude.{◌≡◌, ℕ, List, [], ◌∷◌, ◌++◌, Bool, true, false, Option, None, Some, IfSome, is_some, decimal, flat_map, ⊤}
+use Rattle.std.specs.Prelude.{◌≡◌, ℕ, List, ◌++◌, Bool, true, false, Option, None, Some, IfSome, is_some, decimal, flat_map, ⊤}
 use Rattle.std.specs.Fmt.{signed_decimal}
 use Rattle.schedule.specs.declared.document.Bookmark.{Bookmark}
 use Rattle.schedule.specs.declared.fault.EditFault.TheVariants.{NoSuchBookmark}
@@ -63,20 +63,20 @@ TakesAnswers _ = ⊥
 -- known, or so many that aren't, then no job out, and a cause that is told is explained; where the
 -- bookmark isn't current, nothing left to compute or no job out; after a poll so many that aren't
 -- known, and a cause that is told is explained
-abbrev pub Leaves : ℕ → List JobResult → Reply → BookState → Type 0
-Leaves limit answers reply.Settled d = pending_of d ≡ 0
-Leaves limit answers (reply.Unsettled pending cause) d =
-    (pending ≡ pending_of d) × NothingOut d × IfSome cause (Explains limit d answers)
-Leaves limit answers (reply.Shown id) d = IsPending d id → IsDoneWith d
-Leaves limit answers (reply.Polled pending cause) d =
-    (pending ≡ pending_of d) × IfSome cause (Explains limit d answers)
-Leaves limit answers _ d = ⊤
+abbrev pub Leaves : ℕ → List JobResult → Reply → BookState → BookState → Type 0
+Leaves limit answers reply.Settled old new = pending_of new ≡ 0
+Leaves limit answers (reply.Unsettled pending cause) old new =
+    (pending ≡ pending_of new) × NothingOut new × IfSome cause (Explains limit old new answers)
+Leaves limit answers (reply.Shown id) old new = IsPending new id → IsDoneWith new
+Leaves limit answers (reply.Polled pending cause) old new =
+    (pending ≡ pending_of new) × IfSome cause (Explains limit old new answers)
+Leaves limit answers _ old new = ⊤
 
 -- the post gave more answers, over which the command leaves this at the post's limit
-pub record LeavesOver (old new : PostView) (reply : Reply) (d : BookState) : Type 0 where
+pub record LeavesOver (p q : PostView) (reply : Reply) (old new : BookState) : Type 0 where
   pub later : List JobResult
-  pub gave : new.answers ≡ old.answers ++ later
-  pub leaves : Leaves old.limit later reply d
+  pub gave : q.answers ≡ p.answers ++ later
+  pub leaves : Leaves p.limit later reply old new
 
 -- the post was polled, and the reply tells what was found
 abbrev pub PollsBy : PostView → PostView → BookState → BookState → Reply → Type 0

@@ -156,7 +156,7 @@ fn compute<P: Post>(rt: &impl Wait, desk: &mut Desk<'_>, post: &mut P) -> Option
     requires { Carries (P.view post.old) desk.old }
     ensures plan { desk.new.plan ≡ desk.old.plan }
     ensures caused { (P.view post.old).is_prompt ≡ true → IfNone result (pending_of desk.new ≡ 0) }
-    ensures explained { TellsCause (P.view post.old) (P.view post.new) desk.new result }
+    ensures explained { TellsCause (P.view post.old) (P.view post.new) desk.old desk.new result }
     ensures given_up { IsDoneWith desk.new }
     ensures post { CarriesOn (P.view post.old) (P.view post.new) desk.new }
 {
@@ -173,7 +173,7 @@ fn settle<P: Post>(rt: &impl Wait, desk: &mut Desk<'_>, post: &mut P) -> Reply
     requires { Carries (P.view post.old) desk.old }
     ensures answer { GivesBy (P.view post.old).is_prompt (λ short. settled short desk.old.plan)
         result desk.new }
-    ensures leaves { LeavesOver (P.view post.old) (P.view post.new) result desk.new }
+    ensures leaves { LeavesOver (P.view post.old) (P.view post.new) result desk.old desk.new }
     ensures post { CarriesOn (P.view post.old) (P.view post.new) desk.new }
 {
     let cause = compute(rt, desk, post);
@@ -201,7 +201,7 @@ fn show<P: Post>(rt: &impl Wait, desk: &mut Desk<'_>, post: &mut P, id: u64) -> 
     ensures answer { GivesBy (P.view post.old).is_prompt
         (λ short. obeyed short desk.old.plan (Command.Show id)) result desk.new }
     ensures at_once { ¬ IsPending desk.old id → (desk.new ≡ desk.old) × (post.new ≡ post.old) }
-    ensures leaves { LeavesOver (P.view post.old) (P.view post.new) result desk.new }
+    ensures leaves { LeavesOver (P.view post.old) (P.view post.new) result desk.old desk.new }
     ensures post { CarriesOn (P.view post.old) (P.view post.new) desk.new }
 {
     if desk.shown(id) != Shown::Pending {
@@ -219,7 +219,7 @@ fn poll<P: Post>(rt: &impl Wait, desk: &mut Desk<'_>, post: &mut P) -> Reply
     requires { Carries (P.view post.old) desk.old }
     ensures answer { GivesBy (P.view post.old).is_prompt (λ short. polled short desk.old.plan)
         result desk.new }
-    ensures leaves { LeavesOver (P.view post.old) (P.view post.new) result desk.new }
+    ensures leaves { LeavesOver (P.view post.old) (P.view post.new) result desk.old desk.new }
     ensures polls { PollsBy (P.view post.old) (P.view post.new) desk.old desk.new result }
     ensures post { CarriesOn (P.view post.old) (P.view post.new) desk.new }
 {
@@ -251,7 +251,7 @@ fn obey<P: Post>(rt: &impl Wait, desk: &mut Desk<'_>, post: &mut P, command: Com
     ensures answer { GivesBy (P.view post.old).is_prompt (λ short. obeyed short desk.old.plan command)
         result desk.new }
     ensures leaves { TakesAnswers command
-        → LeavesOver (P.view post.old) (P.view post.new) result desk.new }
+        → LeavesOver (P.view post.old) (P.view post.new) result desk.old desk.new }
     ensures post { CarriesOn (P.view post.old) (P.view post.new) desk.new }
 {
     match command {
@@ -277,7 +277,8 @@ pub(crate) fn serve<P: Post>(
     requires { Carries (P.view post.old) desk.old }
     ensures answer { Serves (P.view post.old).is_prompt request result desk.old desk.new }
     ensures leaves { (command : Command) → request ≡ Request.Obey command
-        → TakesAnswers command → LeavesOver (P.view post.old) (P.view post.new) result desk.new }
+        → TakesAnswers command
+        → LeavesOver (P.view post.old) (P.view post.new) result desk.old desk.new }
     ensures post { CarriesOn (P.view post.old) (P.view post.new) desk.new }
 {
     match request {

@@ -1,4 +1,4 @@
-use Rattle.std.proofs.Common.{◌≡◌, length, subst, rules}
+use Rattle.std.proofs.Common.{subst, rules}
 use Rattle.script_lines.specs.Faults.{Wrote}
 use Rattle.desk_server.proofs.Lines.{every-line, once-line}
 use Rattle.desk_server.proofs.listing.tell_intervention.Goals as goal

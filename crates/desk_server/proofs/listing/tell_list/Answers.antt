@@ -1,10 +1,7 @@
-use Rattle.std.proofs.Common.{◌≡◌, ◌++◌, refl, subst, rules, codes}
-use Rattle.std.specs.Prelude.{decimal, flat_map}
+use Rattle.std.proofs.Common.{refl, subst, rules}
 use Rattle.script_lines.specs.Faults.{AppendsFront, Wrote}
 use Rattle.script_lines.proofs.Shared.Told.{front_first, front_then, wrote_err}
-use Rattle.dependency_book.specs.ShownRows.{shown_rows}
-use Rattle.desk_server.specs.Listed.{branch_line, intervention_line, lines_of}
-use Rattle.desk_server.specs.Told.{row_line}
+use Rattle.desk_server.specs.Listed.{lines_of}
 use Rattle.desk_server.proofs.Lines.{all-lines}
 use Rattle.desk_server.proofs.Parts.{wrote_then}
 use Rattle.desk_server.proofs.listing.tell_list.Goals as goal

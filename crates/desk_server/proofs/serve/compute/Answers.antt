@@ -25,9 +25,9 @@ returns-in-Unsettled-clause-explained g c =
     record {
       later = over.later;
       gave = over.gave;
-      explained = causes_kept _ c.settle.new.desk c.give_up.new.desk over.later c.in-Unsettled.cause
+      explained = causes_kept _ c.args.desk.now c.settle.new.desk c.give_up.new.desk over.later c.in-Unsettled.cause
           c.give_up.ensures.causes (why_explained _ (g.P.Post.view c.args.post.now) (g.P.Post.view c.settle.new.post)
-          c.settle.new.desk over.later c.in-Unsettled.cause over.ends.3);
+          c.args.desk.now c.settle.new.desk over.later c.in-Unsettled.cause over.ends.3);
     }
 
 pub returns-in-Unsettled-clause-caused : goal.returns-in-Unsettled-clause-caused

@@ -9,7 +9,7 @@ loop-first-init c =
     record {
       plan = refl;
       drops = drops_none _ _ refl;
-      causes = λ limit answers cause h.
+      causes = λ limit first answers cause h.
           h;
       first = c.first_out-first.ensures;
     }
@@ -27,7 +27,7 @@ loop-first-preserved c = record {
   plan = c.cancel.ensures.book.document.plan ∙ c.loop-first.invariant.plan;
   drops = drops_drops _ _ _ c.loop-first.invariant.drops
       (cancel_drops _ _ _ c.cancel.ensures.rows c.cancel.ensures.book);
-  causes = λ limit answers cause h. explains-cancelled limit c.loop-first.desk c.cancel.new.self c.cancel.ensures.book
-      answers cause (c.loop-first.invariant.causes limit answers cause h);
+  causes = λ limit first answers cause h. explains-cancelled limit first c.loop-first.desk c.cancel.new.self
+      c.cancel.ensures.book answers cause (c.loop-first.invariant.causes limit first answers cause h);
   first = c.first_out-first-in-Some.ensures;
 }
