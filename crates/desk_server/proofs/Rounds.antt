@@ -15,12 +15,12 @@ use Rattle.dependency_book.specs.BookState.{BookState}
 use Rattle.std.specs.List.{AllByRecursion}
 use Rattle.desk_server.specs.Shortage.{Shortage, IsCaused, AllCausedOver}
 use Rattle.desk_server.specs.Answer.{Ask, After, answer}
-use Rattle.desk_server.specs.Script.{asks, Between, afters, document_after, documents_of, texts_of, replies_to, replies_by, replies_with}
+use Rattle.desk_server.specs.Script.{asks, Between, afters, afters_with, document_after, documents_of, texts_of, replies_to, replies_by, replies_with}
 use Rattle.desk_server.specs.Told.{reply_text, ends}
 use Rattle.desk_server.specs.Heard.{AsksIfAny, Hears, Gives, Serves, Served, BreaksOff}
 use Rattle.desk_server.specs.Run.{Answers, Finishes, StopsTelling, AnswersWhole, AnswersAll, AnswersFront}
 use Rattle.desk_server.specs.Ending.{Works, Completes}
-use Rattle.desk_server.specs.Watch.{NotesOrCounts, NotesScript, NotesReplies}
+use Rattle.desk_server.specs.Watch.{NotesFront, NotesOrCounts, NotesScript, NotesReplies}
 use Rattle.desk_server.specs.declared.request.Request.{Request}
 use Rattle.desk_server.specs.declared.reply.Reply.{Reply}
 use Rattle.desk_server.specs.declared.reply.Reply.TheVariants as reply
@@ -320,10 +320,6 @@ answers_none noted prompt a b x p q n notes e same = record {
   law = λ stop more later. ap (λ r. afters r (asks stop Between n (lines_until stop more)) later) (sym same);
 }
 
--- the answers to a whole script
-abbrev afters_with : List ℕ → List Shortage → List After
-afters_with script shortages = afters (opening 0) (asks Ended Between 1 (lines_until Ended script)) shortages
-
 -- at the end
 all_finished : {V : Type 0} (notes : V → Plan → V → Type 0) (missed : ℕ) (old new : V) (prompt : Bool)
     (a c x z : Option (List ℕ)) (bytes : List ℕ) (given : List After) (shortages : List Shortage)
@@ -396,3 +392,44 @@ pub stops_front : (prompt : Bool) (a c : Ahead) (x z : Option (List ℕ)) → St
     → IfSome a.bytes (AnswersFront prompt x z)
 stops_front prompt a c x z f =
     front_stopped prompt a.bytes c.bytes x z f.bytes f.shortages f.caused f.taken.consumed f.law
+
+-- where it stops before the end
+front_noted : {V : Type 0} (notes : V → Plan → V → Type 0) (missed : ℕ) (old new : V) (prompt : Bool)
+    (a c : Option (List ℕ)) (bytes : List ℕ) (given : List After) (shortages : List Shortage)
+    → AllCausedOver prompt shortages → Consumes a c bytes → NotesOrCounts notes 0 missed old new (documents_of given)
+    → ((rest : List ℕ) → (later : List After) × (afters_with (bytes ++ rest) shortages ≡ given ++ later))
+    → IfSome a (NotesFront notes prompt old new)
+front_noted notes missed old new prompt None c bytes given shortages caused taken noted law = tt
+front_noted notes missed old new prompt (Some script) None bytes given shortages caused taken noted law = absurd taken
+front_noted notes missed old new prompt (Some script) (Some rest) bytes given shortages caused taken noted law = record {
+  shortages = shortages;
+  caused = caused;
+  given = given;
+  later = (law rest).0;
+  front = subst (λ v. afters_with v shortages ≡ given ++ (law rest).0) (sym taken) (law rest).1;
+  missed = missed;
+  noted = noted;
+}
+
+pub begun : {V : Type 0} (notes : V → Plan → V → Type 0) (missed : ℕ) (old new : V) (prompt : Bool) (a c : Ahead)
+    (x y : Option (List ℕ)) (q : Plan) (m : ℕ)
+    → Answers (NotesOrCounts notes 0 missed old new) prompt a c x y (opening 0) q 1 m
+    → IfSome a.bytes (NotesFront notes prompt old new)
+begun notes missed old new prompt a c x y q m f =
+    front_noted notes missed old new prompt a.bytes c.bytes f.bytes f.given (f.shortages ++ [])
+    (λ e. caused-append f.shortages [] (f.caused e) tt) f.taken.consumed f.notes
+    (λ rest. (afters q (asks Ended Between m (lines_until Ended rest)) [], f.law Ended rest []))
+
+-- where nothing was read
+pub none_begun : {V : Type 0} (notes : V → Plan → V → Type 0) (v : V) (prompt : Bool) (bytes : Option (List ℕ))
+    → IfSome bytes (NotesFront notes prompt v v)
+none_begun notes v prompt None = tt
+none_begun notes v prompt (Some script) = record {
+  shortages = [];
+  caused = λ _. tt;
+  given = [];
+  later = afters_with script [];
+  front = refl;
+  missed = 0;
+  noted = (refl, refl);
+}

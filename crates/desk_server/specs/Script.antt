@@ -87,10 +87,14 @@ replies_by stop script shortages =
 abbrev pub replies_with : List ℕ → List Shortage → List ℕ
 replies_with = replies_by Ended
 
+-- what is replied to each command of a script, with the document after it
+abbrev pub afters_with : List ℕ → List Shortage → List After
+afters_with script shortages =
+    afters (opening 0) (asks Ended Between 1 (lines_until Ended script)) shortages
+
 -- the document after each reply to a script but `bye`, in order
 abbrev pub documents_with : List ℕ → List Shortage → List Plan
-documents_with script shortages =
-    documents_of (afters (opening 0) (asks Ended Between 1 (lines_until Ended script)) shortages)
+documents_with script shortages = documents_of (afters_with script shortages)
 
 -- the replies to a script for which nothing is short
 abbrev pub replies : List ℕ → List ℕ

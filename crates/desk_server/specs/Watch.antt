@@ -1,6 +1,6 @@
 -- What is noted of a run: the document after each reply but `bye`.
 use Rattle.std.specs.Prelude.{◌≡◌, ◌⊎◌, ℕ, ◌+◌, ◌-◌, ◌^◌, ◌<◌, Bool, List, [], ◌∷◌, ◌++◌, Option}
-use Rattle.std.specs.Prelude.{IfSome, length, map}
+use Rattle.std.specs.Prelude.{IfSome, Result, Ok, Err, length, map}
 use Rattle.std.specs.Io.KnownBytes.{Appends}
 use Rattle.std.specs.Io.Iter.{u64_saturate}
 use Rattle.script_lines.specs.Ahead.{LineReading}
@@ -9,7 +9,8 @@ use Rattle.schedule.specs.Plan.{Plan}
 use Rattle.desk_board.specs.Picture.{Picture, IsRight}
 use Rattle.desk_board.specs.History.{History, history, and_then}
 use Rattle.desk_server.specs.Shortage.{Shortage, AllCausedOver}
-use Rattle.desk_server.specs.Script.{documents_with, replies_with}
+use Rattle.desk_server.specs.Answer.{After}
+use Rattle.desk_server.specs.Script.{afters_with, documents_of, documents_with, replies_with}
 
 -- each of these documents in turn was noted, or passed over and counted, from `count` up to
 -- `total`; the count stays at 2 ^ 64 - 1
@@ -36,6 +37,28 @@ abbrev pub NotesReplies
     → CountedWriting W → V → V → Type 0
 NotesReplies notes missed prompt r w x old new =
     IfSome r.ahead.bytes (NotesScript notes missed prompt w.contents x.contents old new)
+
+-- a beginning of the replies to a script was given, for some shortages, and the document after each
+-- of them but `bye` in turn was noted, or passed over
+pub record NotesFront {V : Type 0} (notes : V → Plan → V → Type 0) (prompt : Bool) (old new : V)
+    (script : List ℕ)
+    : Type 0 where
+  pub shortages : List Shortage
+  pub caused : AllCausedOver prompt shortages
+  pub given : List After
+  pub later : List After
+  pub front : afters_with script shortages ≡ given ++ later
+  pub missed : ℕ
+  pub noted : NotesOrCounts notes 0 missed old new (documents_of given)
+
+-- the script that this reader had, where that is known, was answered to its end, and so many
+-- documents were passed over; or a beginning of it was
+abbrev pub NotesRun
+    : {R W V E : Type 0} → (V → Plan → V → Type 0) → Result ℕ E → Bool → LineReading R
+    → CountedWriting W → CountedWriting W → V → V → Type 0
+NotesRun notes (Ok missed) prompt r w x old new = NotesReplies notes missed prompt r w x old new
+NotesRun notes (Err fault) prompt r w x old new =
+    IfSome r.ahead.bytes (NotesFront notes prompt old new)
 
 -- a snapshot of the document, whose texts are right, was put behind a history
 abbrev pub ShowsNext : History → Plan → History → Type 0

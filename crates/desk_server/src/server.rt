@@ -1,9 +1,9 @@
 //! A script, answered while it is read.
-ghost use Rattle.std.specs.Prelude.{◌≡◌, Err, IfOk, OnOk};
+ghost use Rattle.std.specs.Prelude.{◌≡◌, Err, OnOk};
 ghost use Rattle.schedule.specs.Plan.{opening};
 ghost use Rattle.desk_server.specs.Jobs.{Carries, IsFresh};
 ghost use Rattle.desk_server.specs.Ending.{Completes, ReadStops, WriteStops};
-ghost use Rattle.desk_server.specs.Watch.{NotesReplies, ShowsNext};
+ghost use Rattle.desk_server.specs.Watch.{NotesRun, ShowsNext};
 
 use crate::heard::{Heard, listen};
 use crate::reply::{Reply, send};
@@ -51,8 +51,8 @@ fn answer_commands<R: Read, W: Write, L: Ledger, M: Ledger, P: Post, V: Watch>(
     requires carries { Carries (P.view post.old) desk.old }
     ensures done { OnOk result
         (Completes (P.view post.old).is_prompt reader.old reader.new writer.old writer.new) }
-    ensures noted { IfOk result (λ missed. NotesReplies V.notes missed (P.view post.old).is_prompt
-        reader.old writer.old writer.new watch.old watch.new) }
+    ensures noted { NotesRun V.notes result (P.view post.old).is_prompt
+        reader.old writer.old writer.new watch.old watch.new }
     ensures read { result ≡ Err Device.Reader → ReadStops R.remaining (P.view post.old).is_prompt
         reader.old reader.new writer.old writer.new }
     ensures write { result ≡ Err Device.Writer
@@ -99,8 +99,8 @@ fn answer_all<R: Read, W: Write, L: Ledger, M: Ledger, P: Post, V: Watch>(
     requires { IsFresh (P.view post.old) entries.now }
     ensures done { OnOk result
         (Completes (P.view post.old).is_prompt reader.old reader.new writer.old writer.new) }
-    ensures noted { IfOk result (λ missed. NotesReplies V.notes missed (P.view post.old).is_prompt
-        reader.old writer.old writer.new watch.old watch.new) }
+    ensures noted { NotesRun V.notes result (P.view post.old).is_prompt
+        reader.old writer.old writer.new watch.old watch.new }
     ensures read { result ≡ Err RunFault.Read → ReadStops R.remaining (P.view post.old).is_prompt
         reader.old reader.new writer.old writer.new }
     ensures write { result ≡ Err RunFault.Write
@@ -196,9 +196,10 @@ pub fn run_with_board<R: Read, W: Write, L: Ledger, M: Ledger, P: Post, B: Wait>
         (Completes (P.view post.old).is_prompt reader.old reader.new writer.old writer.new) }
 
     // For each of these replies but `bye`, in order, a snapshot with the document after it was put
-    // behind the history, or was refused, and so many were; 2^64 - 1 may stand for more.
-    ensures shown { IfOk result (λ refused. NotesReplies ShowsNext refused (P.view post.old).is_prompt
-        reader.old writer.old writer.new publisher.old publisher.new) }
+    // behind the history, or was refused, and so many were; 2^64 - 1 may stand for more. So it was
+    // for a beginning of the replies where the run stopped before the script's end.
+    ensures shown { NotesRun ShowsNext result (P.view post.old).is_prompt
+        reader.old writer.old writer.new publisher.old publisher.new }
 
     // Where a read failed, or 2^64 - 1 bytes came, all that was read was taken, and the commands
     // that were read whole were answered.

@@ -6,7 +6,7 @@ use Rattle.desk_server.specs.Ending.{Works}
 use Rattle.desk_server.specs.declared.reply.Reply.TheVariants as reply
 use Rattle.desk_server.proofs.Jobs.{carries_further}
 use Rattle.desk_server.proofs.Noted.{notes_join, notes_none}
-use Rattle.desk_server.proofs.Rounds.{answers_none, answers_answers, answers_finishes, answers_stops, answers_breaks, completed, stops_front, served, goes_on_silent, done_silent, goes_on_told, done_last, done_bye, stops_telling, works_then}
+use Rattle.desk_server.proofs.Rounds.{answers_none, answers_answers, answers_finishes, answers_stops, answers_breaks, begun, completed, stops_front, served, goes_on_silent, done_silent, goes_on_told, done_last, done_bye, stops_telling, works_then}
 use Rattle.desk_server.proofs.server.answer_commands.Goals as goal
 
 pub script-init : goal.script-init
@@ -16,6 +16,12 @@ script-init g c = rw c.begin.ensures (record {
   post = record { limit = refl; kind = refl; carries = c.requires.carries };
   works = record { reads = refl; writes = refl; flushed = λ h. h };
 })
+
+pub returns-in_default-clause-noted : goal.returns-in_default-clause-noted
+returns-in_default-clause-noted g c = begun g.V.Watch.notes _ _ _ _ _ _ _ _ _ _ c.script.invariant.answered
+
+pub returns-then-is_err-clause-noted : goal.returns-then-is_err-clause-noted
+returns-then-is_err-clause-noted g c = begun g.V.Watch.notes _ _ _ _ _ _ _ _ _ _ c.script.invariant.answered
 
 pub returns-in_default-clause-read : goal.returns-in_default-clause-read
 returns-in_default-clause-read g c = λ _.
