@@ -326,11 +326,19 @@ fn devices_fail(rt: HostRuntime) {
 #[test]
 fn who_types_is_greeted(rt: HostRuntime) {
     let alloc = rt.alloc();
-    let greeted = "desk: waiting for a script, whose first command is mostly `rule`; see desk --help";
+    let greeted =
+        "desk: waiting for a script, whose first command is mostly `rule`; see desk --help";
     same(&rt, &greeting(true), &Some(greeted), &"typed");
     same(&rt, &greeting(false), &None, &"from a file");
     let outputs = Outputs::new(alloc, false);
-    let (status, written) = begun(&rt, &outputs, "", true, b"quit\n".as_slice(), Vec::new(alloc));
+    let (status, written) = begun(
+        &rt,
+        &outputs,
+        "",
+        true,
+        b"quit\n".as_slice(),
+        Vec::new(alloc),
+    );
     same(&rt, &status, &ExitCode::from(0), &"typed");
     same(&rt, &written.as_slice(), &b"bye\n".as_slice(), &"typed");
     let line =
