@@ -100,7 +100,7 @@ def words() -> argparse.Namespace:
     form = argparse.RawDescriptionHelpFormatter
     found = argparse.ArgumentParser(description=__doc__, epilog=EXAMPLE, formatter_class=form)
     found.add_argument("rule", metavar="RULE", help="a .rule file, or one packed by gzip")
-    found.add_argument("pattern", metavar="PATTERN", help="an RLE or macrocell file, or one packed by gzip")
+    found.add_argument("pattern", metavar="PATTERN", help="an RLE, macrocell or MCell file, or one packed by gzip")
     found.add_argument("--to", metavar="G", type=int, required=True, help="the last generation, up to 2^60")
     found.add_argument("--points", metavar="N", type=int, default=33, help="how many generations, 2 to 4096; else 33")
     found.add_argument("--csv", metavar="FILE", help="writes the table there too, with commas")

@@ -26,6 +26,7 @@ from accepted import Accepted, Edit, Line, edits_of
 from exchange import Exchange, Reply, Taken
 from lifelike import is_same_rule, rule_text
 from listed import Bookmark, Branch, Intervention, Listing, listing_of  # noqa: F401
+from mcell import is_mcell, rle_of, wraps
 from trouble import Ended, Malformed, Pending, Refused, TimedOut, Trouble  # noqa: F401
 from words import Cell, View, Window, branch_words, cell_words, checked_view, natural, view_of, view_words  # noqa: F401
 
@@ -58,6 +59,10 @@ class Polling:
 
 class RuleNameWarning(UserWarning):
     """A pattern names another rule than the one that is used."""
+
+
+class BoardWarning(UserWarning):
+    """A pattern is made for a board that wraps round, and the plane has no bounds."""
 
 
 def __getattr__(name: str) -> object:
@@ -186,14 +191,14 @@ class Desk:
         self._compare_names()
 
     def start(self, path: str) -> int:
-        """Takes the pattern of an RLE or macrocell file, and gives the generation that it names.
+        """Takes the pattern of an RLE, macrocell or MCell file, and gives the generation that it names.
 
         The desk counts generations from 0 all the same.
         """
         return self._take_start(text_of(path), path)
 
     def start_text(self, text: Union[str, bytes], name: str = "the pattern's text") -> int:
-        """Takes the pattern of an RLE or macrocell text. Refusals call it by the name that is given."""
+        """Takes the pattern of an RLE, macrocell or MCell text. Refusals call it by the name that is given."""
         return self._take_start(text.encode() if isinstance(text, str) else text, name)
 
     def set(self, cells: Iterable[Cell]) -> None:
@@ -392,6 +397,11 @@ class Desk:
         self._edit("rule", text, path, keep)
 
     def _take_start(self, text: bytes, path: str) -> int:
+        if is_mcell(text):
+            if wraps(text):
+                warnings.warn(f"{path}: its board wraps round, and the plane has no bounds", BoardWarning, 3)
+            text = rle_of(text, path)
+
         def keep(words: List[str]) -> None:
             self._pattern_rule = _rule_named_by(text)
 

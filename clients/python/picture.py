@@ -179,7 +179,7 @@ def words() -> argparse.Namespace:
     form = argparse.RawDescriptionHelpFormatter
     found = argparse.ArgumentParser(description=__doc__, epilog=EXAMPLE, formatter_class=form)
     found.add_argument("rule", metavar="RULE", help="a .rule file, or one packed by gzip")
-    found.add_argument("pattern", metavar="PATTERN", help="an RLE or macrocell file, or one packed by gzip")
+    found.add_argument("pattern", metavar="PATTERN", help="an RLE, macrocell or MCell file, or one packed by gzip")
     found.add_argument("--at", metavar="G", type=int, required=True, help="the generation, from 0 to 2^60")
     found.add_argument("--window", metavar=("X", "Y", "W", "H"), type=int, nargs=4,
                        help="W by H cells from (X, Y) to the right and down; without it the bounding box")

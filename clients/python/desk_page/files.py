@@ -7,6 +7,7 @@ from codecs import BOM_UTF8
 from typing import Optional
 
 from lifelike import NAMED, rule_text
+from mcell import is_mcell, rle_of
 from trouble import Trouble
 
 from .document import File
@@ -35,6 +36,8 @@ def file_of(name: str, data: bytes) -> Optional[File]:
         return File("rule", name, text)
     if bare.endswith(".mc") or text.startswith(b"[M2]"):
         return File("start mc", name, text)
+    if is_mcell(text):
+        return File("start rle", name, rle_of(text, name))
     if bare.endswith(".rle") or re.search(rb"(?m)^[ \t]*x[ \t]*=", text[:65536]) and not bare.endswith(".script"):
         return File("start rle", name, text)
     return None
