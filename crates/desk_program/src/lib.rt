@@ -9,11 +9,11 @@
 
 mod devices;
 mod ending;
-mod greeting;
 mod program;
+mod typed;
 
 pub use desk_server::RunFault;
 pub use desk_words::{OptionFault, given_words};
 pub use ending::{Ending, report, tell};
-pub use greeting::greeting;
 pub use program::start;
+pub use typed::greeting;

@@ -8,7 +8,7 @@ ghost use Rattle.desk_program.specs.Start.{Answers, AreOpenable, Opens, Starts};
 
 use crate::devices::{Devices, answer_over};
 use crate::ending::{Ending, report, tell};
-use crate::greeting::greet;
+use crate::typed::greet;
 use desk_server::{Entries, RunFault};
 use desk_words::{Options, check_words};
 use job_pool::{NoPool, PoolPost, pool};
