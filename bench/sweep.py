@@ -1,11 +1,12 @@
 #!/usr/bin/env python3
 """Times sweeps: soups beside bgolly in a loop of the shell, and a signal that is cut at each of 4,096 generations.
 
-    bench/sweep.py [--desk PROGRAM] [--soups 500] [--jobs 1] [--cuts 4096] [--only soups]
+    bench/sweep.py [--desk PROGRAM] [--soups 500] [--jobs 1] [--loops 1] [--cuts 4096] [--only soups]
 
-bgolly, Golly's engine without a window, comes with Debian's package `golly`. It is started for each soup, by a shell
-for each job; sweep.py keeps as many programs as there are jobs. Both are bound to as many processors as jobs, get the
-same files' cells and the same table of Life, and the numbers of live cells that they give have to be equal.
+bgolly, Golly's engine without a window, comes with Debian's package `golly`. It is started for each soup, by so many
+loops of the shell side by side; sweep.py keeps as many programs as there are jobs. Both are bound to as many processors
+as jobs, get the same files' cells and the same table of Life, and the numbers of live cells that they give have to be
+equal. With four jobs and one loop it is what a person gains who writes a loop over bgolly today.
 
 A cut is an intervention that empties a cell of the conductor of Langton's loop, whose cells of each state at generation
 4,200 are asked for. The sweep tells each case as edits of the one before; beside it some of the cases are run with a
@@ -48,14 +49,14 @@ def timed(words):
         return time.monotonic() - began, used.ru_utime + used.ru_stime, said.read().decode()
 
 
-def by_bgolly(room, side, to, count, jobs):
-    """The live cells of each soup, and the seconds, by a loop of the shell for each job."""
+def by_bgolly(room, side, to, count, loops):
+    """The live cells of each soup, and the seconds, by so many loops of the shell side by side."""
     for seed in range(1, count + 1):
         with open(f"{room}/{seed}.rle", "w", encoding="utf-8") as file:
             file.write(rle(Soup(seed, side, side, DENSITY), (1,), "LifeTable"))
     one = f"bgolly -a RuleLoader -s {room}/ -m {to} -i {to} {room}/$seed.rle > {room}/$seed.said"
-    loops = [f"for seed in $(seq {job + 1} {jobs} {count}); do {one} || exit 1; done" for job in range(jobs)]
-    wall, used, _ = timed(["sh", "-c", " & ".join(f"({it})" for it in loops) + "; wait"])
+    shells = [f"for seed in $(seq {loop + 1} {loops} {count}); do {one} || exit 1; done" for loop in range(loops)]
+    wall, used, _ = timed(["sh", "-c", " & ".join(f"({it})" for it in shells) + "; wait"])
     cells = {}
     for seed in range(1, count + 1):
         with open(f"{room}/{seed}.said", encoding="utf-8") as file:
@@ -73,14 +74,14 @@ def by_sweep(room, side, to, count, jobs, desk):
         return {int(row["seed"]): int(row["population"]) for row in csv.DictReader(file)}, wall, used
 
 
-def soups(desk, count, jobs):
+def soups(desk, count, jobs, loops):
     print("| soups | desk, cases a second | bgolly | ratio | desk, processor ms a case | bgolly | ratio |")
     print("|---|---|---|---|---|---|---|")
     with tempfile.TemporaryDirectory() as room:
         with open(f"{room}/LifeTable.rule", "w", encoding="utf-8") as file:
             file.write(LIFE)
         for side, to in SOUPS:
-            theirs, their_wall, their_used = by_bgolly(room, side, to, count, jobs)
+            theirs, their_wall, their_used = by_bgolly(room, side, to, count, loops)
             ours, wall, used = by_sweep(room, side, to, count, jobs, desk)
             if ours != theirs:
                 raise SystemExit(f"the cells differ: {[it for it in theirs if ours.get(it) != theirs[it]][:9]}")
@@ -118,13 +119,14 @@ def main():
     words = words_of(__doc__, golly=True)
     words.add_argument("--soups", type=int, default=500)
     words.add_argument("--jobs", type=int, default=1)
+    words.add_argument("--loops", type=int, default=1)
     words.add_argument("--cuts", type=int, default=4096)
     words.add_argument("--only", choices=["soups", "cuts"])
     given = words.parse_args()
     cut.golly = given.golly
     os.sched_setaffinity(0, sorted(os.sched_getaffinity(0))[-given.jobs:])
     if given.only != "cuts":
-        soups(given.desk, given.soups, given.jobs)
+        soups(given.desk, given.soups, given.jobs, given.loops)
     if given.only != "soups":
         cuts(given.desk, given.cuts)
     return 0

@@ -1,7 +1,8 @@
-"""A limit of time for what a desk is asked: the one place that knows how such a limit is kept.
+"""A limit of time for all that is done with a desk, whatever waits there.
 
-A call waits for its reply, so today the program is ended where the time is over, and the call is told so. Whoever
-goes on takes another desk.
+A sweep polls for what a case wants to be shown, and leaves that in time by itself. A function that makes the document
+may wait for replies of its own; where it does so for too long its program is ended a little later, and whoever goes on
+takes another desk.
 """
 from __future__ import annotations
 
@@ -11,14 +12,18 @@ from typing import Optional
 from desk import Desk
 
 
+# So many seconds more has whoever polls, and so leaves in time, before the program is ended.
+MARGIN = 1.0
+
+
 class TimeLimit:
-    """Ends a desk's program if what is done within the `with` block takes longer than so many seconds."""
+    """Ends a desk's program if what is done within the `with` block takes longer than so many seconds and a margin."""
 
     def __init__(self, desk: Desk, seconds: Optional[float]) -> None:
         """Without a number of seconds there is no limit."""
         self.is_over = False
         self._desk = desk
-        self._timer = threading.Timer(seconds, self._end) if seconds is not None else None
+        self._timer = threading.Timer(seconds + MARGIN, self._end) if seconds is not None else None
 
     def __enter__(self) -> TimeLimit:
         if self._timer:

@@ -31,7 +31,7 @@ from typing import Any, Callable, Dict, Iterable, Iterator, List, NamedTuple, Op
 from desk import Desk
 from limit import TimeLimit
 from programs import Settings, Used, programs
-from trouble import Ended, Malformed, Pending, Refused, Trouble
+from trouble import Ended, Malformed, Pending, Refused, TimedOut, Trouble
 from words import View
 
 Build = Callable[[Desk, Any], Any]
@@ -228,16 +228,19 @@ def _tried(build: Build, case: Any, used: Used, settings: Settings) -> Tuple[Out
     """What comes of a case in a program, and whether that can be used on."""
     began = time.monotonic()
     used.cases += 1
+    until = None if settings.limit is None else began + settings.limit
     cause, why, value = "", "", None
     with TimeLimit(used.desk, settings.limit) as time_limit:
         try:
             used.desk.begin()
-            value = _shown(used.desk, build(used.desk, case))
+            value = _shown(used.desk, build(used.desk, case), until)
+        except TimedOut as trouble:
+            cause, why = "out of time", str(trouble)
         except Trouble as trouble:
             cause, why = _cause(used.desk, trouble)
-    if time_limit.is_over:
+    is_well = not time_limit.is_over and cause in ("", "refused", "malformed", "out of squares", "out of time")
+    if time_limit.is_over or cause and until is not None and time.monotonic() >= until:
         cause, why, value = "out of time", f"it took longer than {settings.limit:g} s", None
-    is_well = cause in ("", "refused", "malformed", "out of squares")
     return Outcome(case, value, cause, why, time.monotonic() - began), is_well
 
 
@@ -256,8 +259,11 @@ def _cause(desk: Desk, trouble: Trouble) -> Tuple[str, str]:
     return "ended" if isinstance(trouble, Ended) else "trouble", str(trouble)
 
 
-def _shown(desk: Desk, wanted: Any) -> Any:
-    """What `build` gave, with what each Show in it shows. All of them are marked before the first is computed."""
+def _shown(desk: Desk, wanted: Any, until: Optional[float]) -> Any:
+    """What `build` gave, with what each Show in it shows. All of them are marked before the first is computed.
+
+    Up to a moment that is given the desk polls, and then leaves what it was at, so that its program serves on.
+    """
     marks: Dict[int, int] = {}
 
     def mark(it: Any) -> None:
@@ -270,7 +276,7 @@ def _shown(desk: Desk, wanted: Any) -> Any:
 
     def show(it: Any) -> Any:
         if isinstance(it, Show):
-            return desk.show(marks[id(it)])
+            return desk.show(marks[id(it)], None if until is None else max(0.0, until - time.monotonic()))
         if type(it) in (list, tuple):
             return type(it)(map(show, it))
         return {key: show(part) for key, part in it.items()} if type(it) is dict else it

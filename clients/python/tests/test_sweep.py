@@ -91,6 +91,15 @@ def odd(desk, case):
     return Show(300 if case == "squares" else 2)
 
 
+def slow(desk, case):
+    """Cases of which one is shown too late, and one is waited for by the function itself."""
+    desk.lifelike("B3/S12345" if case else "B3/S23")
+    desk.start_text(rle(Soup(1, 48, 48, 0.5), (1,)))
+    if case == "waited for":
+        desk.show(desk.mark(2**40 + 12345, "counts"))
+    return {"process": desk.process, "cells": Show(2**40 + 12345 if case else 2)}
+
+
 def processes_of(parent):
     """The programs that a process has started and that still run."""
     found = []
@@ -141,6 +150,13 @@ class SweepTest(unittest.TestCase):
         for it in found:
             self.assertEqual((it.cause, it.why), wanted[it.case], it)
             self.assertEqual(it.value, None if it.cause else well)
+
+    def test_a_program_serves_on_after_a_case_that_took_too_long(self):
+        for case, is_kept in (("shown late", True), ("waited for", False)):
+            first, late, last = self.run_sweep(slow, ["", case, ""], jobs=1, limit=0.7, ordered=True)
+            self.assertEqual((late.cause, late.why), ("out of time", "it took longer than 0.7 s"))
+            self.assertEqual(first.value["cells"], last.value["cells"])
+            self.assertEqual(first.value["process"] == last.value["process"], is_kept, case)
 
     def test_too_few_squares(self):
         for case in ("squares", "pending"):
