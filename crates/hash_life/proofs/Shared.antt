@@ -5,4 +5,5 @@ pub mod InTwo
 pub mod Made
 pub mod Nine
 pub mod Places
+pub mod Put
 pub mod Steps

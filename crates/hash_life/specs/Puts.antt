@@ -1,5 +1,5 @@
 -- Which squares HashLife puts to the rule on its way to a result.
-use Rattle.std.specs.Prelude.{⊤, ◌≡◌, ◌≢◌, ℕ, zero, suc, ◌+◌, ◌-◌, ◌*◌, ◌<◌, ◌≤◌, ◌^◌, min, List, [], ◌∷◌, length, map, All, ℤ}
+use Rattle.std.specs.Prelude.{⊤, ◌≡◌, ◌≢◌, ℕ, zero, suc, ◌+◌, ◌-◌, ◌*◌, ◌<◌, ◌≤◌, ◌^◌, min, List, [], ◌∷◌, length, map, All, ℤ, Contains}
 use Rattle.std.specs.List.{AllPairs}
 use Rattle.worlds.specs.World.{World}
 use Rattle.worlds.specs.Step.{step, nine_zeros}
@@ -29,6 +29,15 @@ Puts next (suc k) (suc n) s P =
     All (λ q. Puts next k (min (suc n) (2 ^ k)) q P) (nine_of s)
     × All (λ q. Puts next k (suc n - min (suc n) (2 ^ k)) q P)
     (fours_of (map (result next k (min (suc n) (2 ^ k))) (nine_of s)))
+
+-- so many different squares of level 2 are put to the rule on the way to the result of a square of
+-- level k + 2: these are all of them, and any list that has all of them has these
+pub record PutsBlocks (next : List ℕ → ℕ) (k n : ℕ) (s : Square) (many : ℕ) : Type 0 where
+  pub blocks : List Square
+  pub count : length blocks ≡ many
+  pub different : AllPairs (λ p q. p ≢ q) blocks
+  pub all : Puts next k n s (Contains blocks)
+  pub only : (those : List Square) → Puts next k n s (Contains those) → All (Contains those) blocks
 
 -- each of its states is below n
 unfoldable pub IsBelow : ℕ → Square → Type 0
