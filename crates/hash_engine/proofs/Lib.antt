@@ -8,4 +8,6 @@ pub mod Turns
 pub mod Way
 pub mod Ways
 pub mod Once
+pub mod Blocks
+pub mod Put
 pub mod Adding

@@ -1,6 +1,7 @@
 -- How often the rule is asked on the way to results of several squares, and to that of one.
 use Rattle.std.proofs.Common.{◌≡◌, ℕ, suc, ◌+◌, ◌-◌, ◌<◌, ◌≤◌, ◌^◌, min, List, [], ◌∷◌, length, map, get_or, sym, ◌∙◌, ap, subst, arith}
-use Rattle.std.specs.Prelude.{All, true, false, ◌≢◌, ℤ}
+use Rattle.std.specs.Prelude.{All, false, ◌≢◌, ℤ}
+use Rattle.std.specs.List.{AllPairs}
 use Rattle.std.proofs.lemmas.List.{length-map}
 use Rattle.std.proofs.lemmas.List.Elements.{All-nil, All-cons}
 use Rattle.worlds.specs.World.{World}
@@ -20,7 +21,7 @@ use Rattle.hash_engine.proofs.Shared.Puts.{is_put-none, IsNumber-put, count-grow
 use Rattle.hash_life.proofs.Shared.InTwo.{Puts-parts}
 
 -- what is put to the rule for squares is put to it for their numbers
-by_numbers : (next : List ℕ → ℕ) (rows : List (List ℕ)) (k generations : ℕ) (P : Square → Type 0) (ns : List ℕ) (ss : List Square) → StandForAll rows (suc (suc k)) ns ss → All (λ q. Puts next k generations q P) ss →
+pub by_numbers : (next : List ℕ → ℕ) (rows : List (List ℕ)) (k generations : ℕ) (P : Square → Type 0) (ns : List ℕ) (ss : List Square) → StandForAll rows (suc (suc k)) ns ss → All (λ q. Puts next k generations q P) ss →
     All (λ i. Puts next k generations (square_in rows (suc (suc k)) i) P) ns
 by_numbers next rows k generations P ns ss are puts = λ i d below.
     subst (λ q. Puts next k generations q P) (sym (are.each i d (one 0) below).square) (puts i (one 0) (omega (arith, below, are.count)))
@@ -49,7 +50,8 @@ asked_in_two next k j generations first number nine fours t a b c d e m0 m1 m2 a
           AllStand-grows next w n d e m2 de r2 two;
     }
 
-only : (next : List ℕ → ℕ) (k generations : ℕ) (rows : List (List ℕ)) (number : ℕ) (P : Square → Type 0) → Puts next k generations (square_in rows (suc (suc k)) number) P →
+-- of one square
+pub only : (next : List ℕ → ℕ) (k generations : ℕ) (rows : List (List ℕ)) (number : ℕ) (P : Square → Type 0) → Puts next k generations (square_in rows (suc (suc k)) number) P →
     All (λ i. Puts next k generations (square_in rows (suc (suc k)) i) P) (number ∷ [])
 only next k generations rows number P is = All-cons (λ i. Puts next k generations (square_in rows (suc (suc k)) i) P) number [] is (All-nil (λ i. Puts next k generations (square_in rows (suc (suc k)) i) P))
 
@@ -62,13 +64,22 @@ asked_turn next k generations numbers i number t u v m0 m1 m2 a0 a1 a2 below sam
   stand = λ w n puts stand. now.stand w n (only next k generations u.rows number (Stands next w n) (subst (λ q. Puts next k generations q (Stands next w n)) (sym (same 0)) (puts i 0 below))) (before.stand w n puts stand);
 }
 
+-- the squares that were put to the rule differ
+abbrev pub block : List (List ℕ) → ℕ → Square
+block rows i = square_in rows 2 (first_number + i)
+
+pub blocks_differ : (next : List ℕ → ℕ) (rows : List (List ℕ)) (memo : Memo) → IsRight next rows memo → AreDistinct rows → AllPairs (λ s t. s ≢ t) (map (block rows) (places_put rows memo))
+unfolding places_put
+blocks_differ next rows memo right distinct =
+    different-picked (block rows) (is_put rows memo) (length rows)
+    (λ i j below there put_i put_j same.
+    let equal = one_number rows distinct 2 (first_number + i) (first_number + j) (IsNumber-put next rows memo i right put_i) (IsNumber-put next rows memo j right put_j) same in
+    absurd (omega (arith, equal, below)))
+
 -- the rule is asked for the blocks of a world that are put to it, once for each
 module _ (next : List ℕ → ℕ) (quiet : next nine_zeros ≡ 0) (w : World) (level k generations number base : ℕ) (x y : ℤ) (t u : Table) (m0 m1 : Memo) (a0 a1 : ℕ) (few : generations ≤ 2 ^ k) (is_level : level ≡ suc (suc k))
     (at : square_in t.rows level number ≡ square_at w level x y) (none : m0.full.items ≡ []) (right : IsRight next u.rows m1) (distinct : AreDistinct u.rows) (count : base ≡ length (places_put u.rows m1))
     (asked : AsksForMore next k generations (number ∷ []) t u m0 m1 a0 a1) where
-  block : ℕ → Square
-  block i = square_in u.rows 2 (first_number + i)
-
   nothing : (i : ℕ) → is_put t.rows m0 i ≡ false
   nothing i = is_put-none t.rows m0 i (ap (λ known. get_or known i 0) none)
 
@@ -83,18 +94,12 @@ module _ (next : List ℕ → ℕ) (quiet : next nine_zeros ≡ 0) (w : World) (
       asked.stand w generations (only next k generations t.rows number (Stands next w generations) (subst (λ l. Puts next k generations (square_in t.rows l number) (Stands next w generations)) is_level stands))
       (λ i there put. let never = nothing i in absurd cc)
 
-  differ : (i j : ℕ) → j < i → i < length u.rows → is_put u.rows m1 i ≡ true → is_put u.rows m1 j ≡ true → block i ≢ block j
-  unfolding block
-  differ i j below there put_i put_j same =
-      let equal = one_number u.rows distinct 2 (first_number + i) (first_number + j) (IsNumber-put next u.rows m1 i right put_i) (IsNumber-put next u.rows m1 j right put_j) same in
-      absurd (omega (arith, equal, below))
-
   pub asked_once : AsksOnce next w generations base a0 a1
-  unfolding places_put block
+  unfolding places_put
   asked_once = record {
-    blocks = map block (places_put u.rows m1);
-    count = length-map (places_put u.rows m1) block ∙ sym count;
-    different = different-picked block (is_put u.rows m1) (length u.rows) differ;
-    stand = All-picked (Stands next w generations) block (is_put u.rows m1) (length u.rows) all_stand;
+    blocks = map (block u.rows) (places_put u.rows m1);
+    count = length-map (places_put u.rows m1) (block u.rows) ∙ sym count;
+    different = blocks_differ next u.rows m1 right distinct;
+    stand = All-picked (Stands next w generations) (block u.rows) (is_put u.rows m1) (length u.rows) all_stand;
     four = (let all = asked.four few in omega (arith, all, no_places, count));
   }

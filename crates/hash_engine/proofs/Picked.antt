@@ -1,9 +1,9 @@
 -- The numbers that pass a test.
-use Rattle.std.proofs.Common.{◌≡◌, ℕ, zero, suc, ◌+◌, add-one, ◌<◌, ◌≤◌, List, ◌∷◌, length, map, refl, sym, ◌∙◌, ap, arith, inl, inr}
-use Rattle.std.specs.Prelude.{Bool, true, false, cond, All, ◌≢◌}
+use Rattle.std.proofs.Common.{◌≡◌, ℕ, zero, suc, ◌+◌, add-one, ◌<◌, ◌≤◌, List, [], ◌∷◌, length, map, refl, sym, ◌∙◌, ap, subst, arith, inl, inr}
+use Rattle.std.specs.Prelude.{Bool, true, false, cond, All, Contains, ◌≢◌}
 use Rattle.std.specs.List.{AllPairs}
 use Rattle.std.proofs.lemmas.Bool.{cases_eq}
-use Rattle.std.proofs.lemmas.List.Elements.{All-nil, All-cons}
+use Rattle.std.proofs.lemmas.List.Elements.{All-nil, All-cons, Contains-get_or, Contains-append_right}
 use Rattle.std.proofs.lemmas.List.Kept.{AllPairs-cons}
 use Rattle.hash_engine.specs.Asked.{picked}
 
@@ -57,6 +57,23 @@ pub All-picked : {X : Type 0} (P : X → Type 0) (f : ℕ → X) (p : ℕ → Bo
 unfolding picked
 All-picked P f p zero holds = All-nil P
 All-picked P f p (suc n) holds = All-cond P f (p n) n (picked p n) (holds n (omega arith)) (All-picked P f p n (λ i below. holds i (omega (arith, below))))
+
+-- each number that passes is there
+first-cond : {X : Type 0} (f : ℕ → X) (b : Bool) (n : ℕ) (xs : List ℕ) → b ≡ true → Contains (map f (cond b (n ∷ xs) xs)) (f n)
+first-cond f true n xs is = Contains-get_or (map f (n ∷ xs)) 0 (f n) (omega arith)
+first-cond f false n xs is = absurd cc
+
+later-cond : {X : Type 0} (f : ℕ → X) (b : Bool) (n : ℕ) (xs : List ℕ) (x : X) → Contains (map f xs) x → Contains (map f (cond b (n ∷ xs) xs)) x
+later-cond f true n xs x has = Contains-append_right (f n ∷ []) (map f xs) x has
+later-cond f false n xs x has = has
+
+pub Contains-picked : {X : Type 0} (f : ℕ → X) (p : ℕ → Bool) (n i : ℕ) → i < n → p i ≡ true → Contains (map f (picked p n)) (f i)
+unfolding picked
+Contains-picked f p zero i below is = absurd (omega (arith, below))
+Contains-picked f p (suc n) i below is = elim (cases_eq i n) [
+  | inl here ↦ subst (λ j. Contains (map f (cond (p n) (n ∷ picked p n) (picked p n))) (f j)) (sym here) (first-cond f (p n) n (picked p n) (ap p (sym here) ∙ is))
+  | inr other ↦ later-cond f (p n) n (picked p n) (f i) (Contains-picked f p n i (omega (arith, below, other)) is)
+]
 
 -- what differs for different numbers that pass
 different-cond : {X : Type 0} (f : ℕ → X) (b : Bool) (n : ℕ) (xs : List ℕ) → (b ≡ true → All (λ t. f n ≢ t) (map f xs)) → AllPairs (λ s t. s ≢ t) (map f xs) → AllPairs (λ s t. s ≢ t) (map f (cond b (n ∷ xs) xs))

@@ -14,11 +14,12 @@ use Rattle.hash_life.specs.Makes.{Makes}
 use Rattle.square_table.specs.Made.{IsMade}
 use Rattle.hash_engine.specs.declared.memo.Memo.{Memo}
 use Rattle.hash_engine.specs.Adding.{AddsFor, HasWays}
-use Rattle.hash_engine.specs.Asked.{AsksForMore}
+use Rattle.hash_engine.specs.Asked.{PutsFirst, PutsOn, AsksForMore}
 use Rattle.hash_engine.specs.Found.{IsSameRule, IsFound, AreFound, CanSeek, CanSeekAll, Stays}
 use Rattle.hash_engine.proofs.Adding.{AddsFor-turn}
 use Rattle.hash_engine.proofs.Computed.{IsRight-same}
 use Rattle.hash_engine.proofs.Once.{asked_turn}
+use Rattle.hash_engine.proofs.Blocks.{put_turn}
 use Rattle.hash_engine.proofs.Ways.{ways_more}
 use Rattle.hash_engine.proofs.Way.{Stays-then}
 use Rattle.hash_engine.proofs.Standing.{StandsFor-grows}
@@ -127,6 +128,11 @@ module _ {R : Type 0} (meaning : R → List ℕ → ℕ) (states : R → ℕ) {o
         ways = ways_more (meaning old) k ahead olds i (get_or news i 0) t u v grows are.ways same ways;
         rest = rest_more olds news i r are.rest;
       }
+
+  pub turn_put : {v : Table} {after : Memo} → PutsFirst (meaning old) k ahead i olds t first u before → PutsOn (meaning mid) k ahead (get_or news i 0 ∷ []) u before v after → PutsFirst (meaning old) k ahead (i + 1) olds t first v after
+  turn_put {v} {after} puts now =
+      let more = subst (λ f. PutsOn f k ahead (get_or news i 0 ∷ []) u before v after) so_far.rule.meaning now in
+      put_turn (meaning old) k ahead olds i (get_or news i 0) t u v first before after below same puts more
 
   pub turn_asked : {v : Table} {after : Memo} {a0 a1 a2 : ℕ} → AsksForMore (meaning old) k ahead olds t u first before a0 a1 → AsksForMore (meaning mid) k ahead (get_or news i 0 ∷ []) u v before after a1 a2 →
       AsksForMore (meaning old) k ahead olds t v first after a0 a2

@@ -7,7 +7,7 @@ use Rattle.worlds.specs.Square.{Square}
 use Rattle.hash_engine.specs.declared.memo.Memo.{Memo}
 use Rattle.hash_engine.specs.Standing.{StandsFor, StandForAll, IsReady}
 use Rattle.hash_engine.specs.Memo.{IsRight}
-use Rattle.hash_engine.specs.Asked.{AsksForMore}
+use Rattle.hash_engine.specs.Asked.{PutsOn, AsksForMore}
 use Rattle.hash_engine.specs.Adding.{AddsOf, AddsFours, AddsFor, GiveAllOf, GiveFours, HasWays}
 use Rattle.hash_engine.specs.Found.{IsFound, AreFound, CanCompute, CanSeekAll, Stays}
 use Rattle.hash_engine.proofs.Growth.{◌⟫◌}
@@ -16,6 +16,7 @@ use Rattle.hash_engine.proofs.Computed.{IsReady-lower, IsReady-same, IsRight-sam
 use Rattle.hash_engine.proofs.Adding.{Adds-made, AddsFor-result, AddsFor-nine, AddsFor-of_nine, AddsFor-fours, AddsFor-of_fours}
 use Rattle.hash_engine.proofs.Ways.{HasWays-computed}
 use Rattle.hash_engine.proofs.Once.{asked_in_two}
+use Rattle.hash_engine.proofs.Blocks.{put_in_two}
 
 module _ {R : Type 0} (meaning : R → List ℕ → ℕ) (states : R → ℕ) where
   -- the rule wasn't asked
@@ -144,6 +145,11 @@ module _ {R : Type 0} (meaning : R → List ℕ → ℕ) (states : R → ℕ) (o
                       square = square;
                       ways = HasWays-computed next k (k - 1) ahead first number n nine fours t a b c d e level_of can.some is_first lower.numbered (ta ⟫ one.grows ⟫ since) since de nine_are found.ways fours_are ways square;
                     }
+
+                pub put : PutsOn next (k - 1) first nine a memo b after → PutsOn (meaning mid) (k - 1) (ahead - first) fours c after d last → PutsOn next k ahead (number ∷ []) t memo e last
+                put puts more =
+                    let rest = subst (λ f. PutsOn f (k - 1) (ahead - first) fours c after d last) one.rule.meaning more in
+                    put_in_two next k (k - 1) ahead first number nine fours t a b c d e memo after last level_of can.some is_first nine_are fours_are ta bc de can.seek.right one.right fours_sought.right puts rest
 
                 pub asked : {a0 a1 a2 : ℕ} → AsksForMore next (k - 1) first nine a b memo after a0 a1 → AsksForMore (meaning mid) (k - 1) (ahead - first) fours c d after last a1 a2 →
                     AsksForMore next k ahead (number ∷ []) t e memo last a0 a2

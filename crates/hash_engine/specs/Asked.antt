@@ -1,8 +1,10 @@
 -- Which squares were put to the rule, and how often it was asked.
-use Rattle.std.specs.Prelude.{◌≡◌, ◌&&◌, not, Bool, true, cond, nat_lt, ℕ, zero, suc, ◌+◌, ◌*◌, ◌^◌, ◌<◌, ◌≤◌, List, [], ◌∷◌, All, length, get_or}
+use Rattle.std.specs.Prelude.{◌≡◌, ◌&&◌, not, Bool, true, cond, nat_lt, ℕ, zero, suc, ◌+◌, ◌*◌, ◌^◌, ◌<◌, ◌≤◌, List, [], ◌∷◌, All, Contains, length, get_or}
 use Rattle.worlds.specs.World.{World}
+use Rattle.worlds.specs.Square.{Square}
 use Rattle.square_table.specs.Squares.{Table, square_in, kid_at, first_number}
 use Rattle.hash_life.specs.Puts.{Puts, Stands}
+use Rattle.hash_engine.specs.Memo.{IsPut, HasPut}
 use Rattle.hash_engine.specs.declared.memo.Memo.{Memo}
 
 -- whether n is the number of a square of 4 by 4 cells: its first quadrant is a square, whose first
@@ -54,3 +56,26 @@ pub record AsksForMore (next : List ℕ → ℕ) (k generations : ℕ) (numbers 
     (old new : Memo) (asks new_asks : ℕ) : Type 0 where
   pub four : AsksFour k generations (λ n. n) asks new_asks t old u new
   pub stand : StandOn next k generations numbers t old u new
+
+-- no square was put to the rule but these
+abbrev pub PutsOnly : List Square → Table → Memo → Type 0
+PutsOnly all t memo = (s : Square) → IsPut t.rows memo.full.items s → Contains all s
+
+-- once the first so many of these squares of level k + 2 have their results: what had been put to
+-- the rule is put still, nothing else was but on the way to them, and all that is on it was, where
+-- that holds of the ways to what was remembered
+pub record PutsFirst (next : List ℕ → ℕ) (k generations many : ℕ) (numbers : List ℕ) (t : Table)
+    (old : Memo) (u : Table) (new : Memo) : Type 0 where
+  pub kept : (s : Square) → IsPut t.rows old.full.items s → IsPut u.rows new.full.items s
+  pub among : (all : List Square) →
+      All (λ i. Puts next k generations (square_in t.rows (suc (suc k)) i) (Contains all)) numbers →
+      PutsOnly all t old → PutsOnly all u new
+  pub stays : generations ≤ 2 ^ k → HasPut next t.rows old → HasPut next u.rows new
+  pub ways : generations ≤ 2 ^ k → HasPut next t.rows old → (j e : ℕ) → j < many →
+      Puts next k generations (square_in t.rows (suc (suc k)) (get_or numbers j e))
+      (IsPut u.rows new.full.items)
+
+-- once all of them have
+abbrev pub PutsOn : (List ℕ → ℕ) → ℕ → ℕ → List ℕ → Table → Memo → Table → Memo → Type 0
+PutsOn next k generations numbers t old u new =
+    PutsFirst next k generations (length numbers) numbers t old u new

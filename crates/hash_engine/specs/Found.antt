@@ -9,7 +9,7 @@ use Rattle.square_table.specs.Squares.{Table, IsHeld, Grows, square_in, level_of
 use Rattle.square_table.specs.Made.{IsFull, IsMade}
 use Rattle.square_table.specs.declared.fault.TableFault.TheVariants.{NoRoom}
 use Rattle.hash_life.specs.Result.{result}
-use Rattle.hash_life.specs.Puts.{IsBelow, AsksOnce}
+use Rattle.hash_life.specs.Puts.{IsBelow, PutsBlocks, AsksOnce}
 use Rattle.hash_life.specs.Makes.{Makes}
 use Rattle.hash_engine.specs.Standing.{StandsFor, StandForAll, IsReady}
 use Rattle.hash_engine.specs.Memo.{IsRight, IsAnew}
@@ -109,7 +109,7 @@ pub record IsEnd {A : Type 0} (table : Table) (yes new_yes : ℕ) (r : Result A 
   pub full : r ≡ Err (ResultFault.Table NoRoom) → IsFull table
 
 -- what was found on the way from the root's table t to u, which has all that is made on it: the
--- square, how many of the squares have 4 by 4 cells, and no more of these that were put to the rule
+-- square, how many of the squares have 4 by 4 cells, and how many of these HashLife puts to the rule
 pub record Finds (next : List ℕ → ℕ) (generations : ℕ) (t : Table) (root : Square) (u : Table)
     (found : Found) : Type 0 where
   pub square : IsLater next generations t root u found.square
@@ -117,6 +117,8 @@ pub record Finds (next : List ℕ → ℕ) (generations : ℕ) (t : Table) (root
   pub fours : found.fours ≡ length (places_of_four u.rows)
   pub few : found.fours ≤ length u.rows
   pub base : found.base ≤ found.fours
+  pub put : generations ≤ 2 ^ (level_of root - 2) →
+      PutsBlocks next (level_of root - 2) generations (cells_of t root) found.base
 
 -- in a world where the root stands, each block of 4 by 4 cells that was put to the rule was put
 -- once, and stands in one of the generations before the last

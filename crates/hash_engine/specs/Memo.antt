@@ -1,8 +1,10 @@
 -- What is remembered.
-use Rattle.std.specs.Prelude.{◌≡◌, ◌≢◌, ℕ, suc, ◌+◌, ◌-◌, ◌^◌, ◌<◌, List, [], get_or}
+use Rattle.std.specs.Prelude.{◌≡◌, ◌≢◌, ℕ, suc, ◌+◌, ◌-◌, ◌^◌, ◌<◌, ◌≤◌, List, [], get_or}
+use Rattle.worlds.specs.Square.{Square}
 use Rattle.square_table.specs.Squares.{IsNumber, square_in, first_number}
 use Rattle.square_table.specs.Made.{IsMade}
 use Rattle.hash_life.specs.Result.{result}
+use Rattle.hash_life.specs.Puts.{Puts}
 use Rattle.hash_life.specs.Makes.{Makes}
 use Rattle.hash_engine.specs.Standing.{StandsFor}
 use Rattle.hash_engine.specs.declared.memo.Memo.{Memo}
@@ -27,6 +29,25 @@ pub record IsRight (next : List ℕ → ℕ) (rows : List (List ℕ)) (memo : Me
   pub full : AreKnown next (λ k. 2 ^ k) rows memo.full.items
   pub part : AreKnown next (λ k. get_or memo.counts k 0) rows memo.part.items
 
+-- the square is one of 4 by 4 cells that was put to the rule: its result by the full count is known
+pub record IsPut (rows : List (List ℕ)) (full : List ℕ) (s : Square) : Type 0 where
+  pub place : ℕ
+  pub numbered : IsNumber rows 2 (first_number + place)
+  pub known : 0 < get_or full place 0
+  pub square : square_in rows 2 (first_number + place) ≡ s
+
+-- what HashLife puts to the rule on the ways to these results was put to it, where the count isn't
+-- above the full one
+abbrev pub ArePut : (List ℕ → ℕ) → (ℕ → ℕ) → List (List ℕ) → List ℕ → List ℕ → Type 0
+ArePut next count rows full known = (i k : ℕ) → 0 < get_or known i 0 →
+    IsNumber rows (suc (suc k)) (first_number + i) → count k ≤ 2 ^ k →
+    Puts next k (count k) (square_in rows (suc (suc k)) (first_number + i)) (IsPut rows full)
+
+-- so it was on the ways to all results that are remembered
+pub record HasPut (next : List ℕ → ℕ) (rows : List (List ℕ)) (memo : Memo) : Type 0 where
+  pub full : ArePut next (λ k. 2 ^ k) rows memo.full.items memo.full.items
+  pub part : ArePut next (λ k. get_or memo.counts k 0) rows memo.full.items memo.part.items
+
 -- no result by a full count is remembered
 abbrev pub HasNoFull : Memo → Type 0
 HasNoFull memo = memo.full.items ≡ []
@@ -44,15 +65,26 @@ pub record IsNoted (i r : ℕ) (old new : List ℕ) : Type 0 where
   pub others : (j : ℕ) → j ≢ i → get_or new j 0 ≡ get_or old j 0
 
 -- of a square of level k + 2 this result is remembered, among those by the full counts where its
--- own is one
+-- own is one; of the others no more than its own has changed, and only where it's by the other count
 pub record IsRemembered (k generations n r : ℕ) (old new : Memo) : Type 0 where
   pub full : generations ≡ 2 ^ k → IsNoted (n - first_number) r old.full.items new.full.items
   pub other : generations ≢ 2 ^ k → new.full.items ≡ old.full.items
+  pub counts : new.counts ≡ old.counts
+  pub part : generations ≡ get_or old.counts k 0 → (j : ℕ) → j ≢ n - first_number →
+      get_or new.part.items j 0 ≡ get_or old.part.items j 0
+  pub rest : generations ≢ get_or old.counts k 0 → new.part.items ≡ old.part.items
 
 -- r is the result of the square with the number n, if what is remembered is right
 abbrev pub Recalls : Memo → ℕ → ℕ → ℕ → ℕ → Type 0
 Recalls memo k generations n = λ r. (next : List ℕ → ℕ) (rows : List (List ℕ)) →
     IsRight next rows memo → IsNumber rows (suc (suc k)) n → IsResult next rows k generations n r
+
+-- what is put to the rule on the way to the result was put to it, if that holds of all that is
+-- remembered
+abbrev pub RecallsPut : Memo → ℕ → ℕ → ℕ → Type 0
+RecallsPut memo k generations n = (next : List ℕ → ℕ) (rows : List (List ℕ)) →
+    HasPut next rows memo → IsNumber rows (suc (suc k)) n → generations ≤ 2 ^ k →
+    Puts next k generations (square_in rows (suc (suc k)) n) (IsPut rows memo.full.items)
 
 -- what is remembered stays right with this result, if that is one
 abbrev pub StaysRight : ℕ → ℕ → ℕ → ℕ → Memo → Memo → Type 0
@@ -63,3 +95,8 @@ StaysRight k generations n r old new = (next : List ℕ → ℕ) (rows : List (L
 abbrev pub StaysRightFor : Memo → Memo → Type 0
 StaysRightFor old new = (next : List ℕ → ℕ) (rows : List (List ℕ)) →
     IsRight next rows old → IsRight next rows new
+
+-- if what is put to the rule on the ways to all that is remembered was put to it, it still was
+abbrev pub StaysPutFor : Memo → Memo → Type 0
+StaysPutFor old new = (next : List ℕ → ℕ) (rows : List (List ℕ)) →
+    HasPut next rows old → HasPut next rows new

@@ -3,7 +3,7 @@
 ghost use Rattle.std.specs.Prelude.{◌≡◌, [], ◌∷◌, IfOk, OnOk, Err};
 ghost use Rattle.square_table.specs.Made.{IsFull};
 ghost use Rattle.hash_engine.specs.Adding.{GrowsOnWay};
-ghost use Rattle.hash_engine.specs.Asked.{AsksFour, StandOn};
+ghost use Rattle.hash_engine.specs.Asked.{AsksFour, StandOn, PutsOn};
 ghost use Rattle.hash_engine.specs.Found.{KeepsRule, Stays, CanBeAsked, CanSearch, CanSeek, CanSeekAll, CanCompute, CanPut, IsFound, AreFound, IsEnd, IsLater, Finds, AsksOnceFor};
 ghost use Rattle.hash_engine.specs.Memo.{IsRight};
 
@@ -45,6 +45,8 @@ fn put<Q: Ask>(
         (AsksFour 0 ahead Q.asks rule.old rule.new table.old memo.old table.new memo.new) }
     ensures stand { OnOk result (StandOn (Q.meaning rule.old) 0 ahead (number ∷ [])
         table.old memo.old table.new memo.new) }
+    ensures put { OnOk result (PutsOn (Q.meaning rule.old) 0 ahead (number ∷ [])
+        table.old memo.old table.new memo.new) }
     ensures full { result ≡ Err TableFault.NoRoom → IsFull table.new }
 {
     let made = parts::later(table, rule, number)?;
@@ -75,6 +77,8 @@ fn forward<Q: Ask, S: Stop>(
     ensures four { OnOk result
         (AsksFour k ahead Q.asks rule.old rule.new table.old memo.old table.new memo.new) }
     ensures stand { OnOk result (StandOn (Q.meaning rule.old) k ahead (number ∷ [])
+        table.old memo.old table.new memo.new) }
+    ensures put { OnOk result (PutsOn (Q.meaning rule.old) k ahead (number ∷ [])
         table.old memo.old table.new memo.new) }
 {
     if ahead == 0 {
@@ -117,6 +121,8 @@ fn compute<Q: Ask, S: Stop>(
         (AsksFour k ahead Q.asks rule.old rule.new table.old memo.old table.new memo.new) }
     ensures stand { OnOk result (StandOn (Q.meaning rule.old) k ahead (number ∷ [])
         table.old memo.old table.new memo.new) }
+    ensures put { OnOk result (PutsOn (Q.meaning rule.old) k ahead (number ∷ [])
+        table.old memo.old table.new memo.new) }
 {
     let first = ahead.min(full(k - 1));
     let mut nine = parts::nine(table, number)?;
@@ -148,6 +154,8 @@ fn all_forward<Q: Ask, S: Stop>(
     ensures four { OnOk result
         (AsksFour k ahead Q.asks rule.old rule.new table.old memo.old table.new memo.new) }
     ensures stand { OnOk result (StandOn (Q.meaning rule.old) k ahead numbers.old
+        table.old memo.old table.new memo.new) }
+    ensures put { OnOk result (PutsOn (Q.meaning rule.old) k ahead numbers.old
         table.old memo.old table.new memo.new) }
 {
     for number in numbers.iter_mut() {

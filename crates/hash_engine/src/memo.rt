@@ -2,7 +2,7 @@
 
 ghost use Rattle.std.specs.Prelude.{◌≡◌, ◌+◌, ◌-◌, ◌^◌, ◌<◌, ◌≤◌, ℕ, List, get_or, nat_lt, IfSome, IfNone, OnOk, OnErr};
 ghost use Rattle.square_table.specs.Squares.{first_number};
-ghost use Rattle.hash_engine.specs.Memo.{IsRight, IsNoted, IsRemembered, HasNoFull, Recalls, StaysRight, StaysRightFor};
+ghost use Rattle.hash_engine.specs.Memo.{IsRight, IsNoted, IsRemembered, HasNoFull, HasPut, Recalls, RecallsPut, StaysRight, StaysRightFor, StaysPutFor};
 
 use std::alloc::{AllocError, Global};
 
@@ -76,6 +76,7 @@ impl Memo {
     pub fn nothing(alloc: Global) -> Memo
         ensures right { (next : List ℕ → ℕ) (rows : List (List ℕ)) → IsRight next rows result }
         ensures none { HasNoFull result }
+        ensures put { (next : List ℕ → ℕ) (rows : List (List ℕ)) → HasPut next rows result }
     {
         Memo {
             full: Vec::new(alloc),
@@ -97,6 +98,7 @@ impl Memo {
     /// where the last search was by another number.
     pub(crate) fn turn_to(&mut self, generations: u64)
         ensures right { StaysRightFor self.old self.new }
+        ensures put { StaysPutFor self.old self.new }
         ensures full { self.new.full.items ≡ self.old.full.items }
     {
         if generations == self.generations {
@@ -112,6 +114,7 @@ impl Memo {
         requires k { k ≤ 61 }
         requires number { first_number ≤ number }
         ensures some { IfSome result (Recalls self.now k generations number) }
+        ensures put { IfSome result (λ _. RecallsPut self.now k generations number) }
         ensures none { IfNone result (generations ≡ 2 ^ k →
             get_or self.now.full.items (number - first_number) 0 ≡ 0) }
     {

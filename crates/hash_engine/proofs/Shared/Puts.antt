@@ -36,7 +36,7 @@ pub is_put-not_four : (rows : List (List ℕ)) (memo : Memo) (i : ℕ) → is_fo
 unfolding is_put
 is_put-not_four rows memo i not_four = cc
 
-is_put-two : (rows : List (List ℕ)) (memo : Memo) (i : ℕ) → IsNumber rows 2 (first_number + i) → 0 < get_or memo.full.items i 0 → is_put rows memo i ≡ true
+pub is_put-two : (rows : List (List ℕ)) (memo : Memo) (i : ℕ) → IsNumber rows 2 (first_number + i) → 0 < get_or memo.full.items i 0 → is_put rows memo i ≡ true
 unfolding is_put
 is_put-two rows memo i number some = let four = is_four-two rows (first_number + i) number in grind (arith, nat_tests, four, some)
 
@@ -55,6 +55,10 @@ IsNumber-put next rows memo i right is =
     let both = and_parts (is_four rows (first_number + i)) (nat_lt 0 (get_or memo.full.items i 0)) is in
     let h = right.full.right i (ltb-true 0 (get_or memo.full.items i 0) both.1) in
     two_of rows h.0 (first_number + i) h.1.numbered both.0
+
+pub known-put : (rows : List (List ℕ)) (memo : Memo) (i : ℕ) → is_put rows memo i ≡ true → 0 < get_or memo.full.items i 0
+unfolding is_put
+known-put rows memo i is = ltb-true 0 (get_or memo.full.items i 0) (and_parts (is_four rows (first_number + i)) (nat_lt 0 (get_or memo.full.items i 0)) is).1
 
 -- a place with no row
 is_put-new : (next : List ℕ → ℕ) (rows more : List (List ℕ)) (memo : Memo) (i : ℕ) → IsRight next rows memo → length rows ≤ i → is_put more memo i ≡ false
@@ -103,7 +107,7 @@ none_put next k generations ns t u memo asks grows right = record {
 }
 
 -- what is remembered elsewhere
-others : (k generations n r : ℕ) (old new : Memo) (i : ℕ) → IsRemembered k generations n r old new → i ≢ n - first_number → get_or new.full.items i 0 ≡ get_or old.full.items i 0
+pub others : (k generations n r : ℕ) (old new : Memo) (i : ℕ) → IsRemembered k generations n r old new → i ≢ n - first_number → get_or new.full.items i 0 ≡ get_or old.full.items i 0
 others k generations n r old new i is other = elim (cases_eq generations (2 ^ k)) [
   | inl full ↦ (is.full full).others i other
   | inr part ↦ ap (λ known. get_or known i 0) (is.other part)

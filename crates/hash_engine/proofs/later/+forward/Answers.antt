@@ -7,8 +7,10 @@ use Rattle.hash_engine.proofs.Shared.Memos.{IsResult-made}
 use Rattle.hash_engine.proofs.Shared.Puts.{none_put, higher_remembered}
 use Rattle.hash_engine.proofs.Adding.{AddsFor-none, AddsFor-middle}
 use Rattle.hash_engine.proofs.Ways.{IsFound-none}
-use Rattle.hash_engine.proofs.Turns.{AreDone-none, AreDone-all, turn_can, turn_sought, turn_done, turn_asked}
-use Rattle.hash_engine.proofs.Way.{Stays-made, nine_made, nine_can, nine_sought, fours_made, fours_can, fours_sought, joined, computed, asked}
+use Rattle.hash_engine.proofs.Put.{first_none, put_none, higher_put}
+use Rattle.hash_engine.proofs.Blocks.{put_all}
+use Rattle.hash_engine.proofs.Turns.{AreDone-none, AreDone-all, turn_can, turn_sought, turn_done, turn_put, turn_asked}
+use Rattle.hash_engine.proofs.Way.{Stays-made, nine_made, nine_can, nine_sought, fours_made, fours_can, fours_sought, joined, computed, put, asked}
 use Rattle.hash_engine.proofs.later.+forward.Goals as goal
 
 pub all_forward-loop-number-init : goal.all_forward-loop-number-init
@@ -19,6 +21,7 @@ all_forward-loop-number-init g t c =
       stays = Stays-made g.Q.Ask.meaning g.Q.Ask.state_count c.args.rule.now _ _ _ _ _ _ grows c.requires.right (AddsFor-none next _ _ _ _);
       went_on = search rules;
       done = AreDone-none next _ _ _ _;
+      puts = first_none next _ _ _ _ _ grows c.requires.right;
       asks = none_put next _ _ _ _ _ _ _ grows c.requires.right;
     }
 
@@ -38,6 +41,7 @@ all_forward-loop-number-preserved g t c =
       stays = turn_sought g.Q.Ask.meaning g.Q.Ask.state_count c.requires below was.stays was.done now.stays;
       went_on = now.end.stop.went_on (λ e. search rules) ∙ was.went_on;
       done = turn_done g.Q.Ask.meaning g.Q.Ask.state_count c.requires below was.stays was.done now.stays.grows now.found;
+      puts = turn_put g.Q.Ask.meaning g.Q.Ask.state_count c.requires below was.stays was.done was.puts now.put;
       asks = turn_asked g.Q.Ask.meaning g.Q.Ask.state_count c.requires below was.stays was.done was.asks (record { four = now.four; stand = now.stand });
     }
 
@@ -57,6 +61,9 @@ all_forward-returns-clause-four g t c = c.loop-number.invariant.asks.four
 
 pub all_forward-returns-clause-stand : goal.all_forward-returns-clause-stand
 all_forward-returns-clause-stand g t c = c.loop-number.invariant.asks.stand
+
+pub all_forward-returns-clause-put : goal.all_forward-returns-clause-put
+all_forward-returns-clause-put g t c = put_all c.loop-number.invariant.puts c.loop-number-test.false
 
 pub compute-returns-in_err-nine-clause-stays : goal.compute-returns-in_err-nine-clause-stays
 compute-returns-in_err-nine-clause-stays g t c =
@@ -131,6 +138,8 @@ compute-returns g t c =
           two.found join.grows join.square;
       four = asks.four;
       stand = asks.stand;
+      put = put g.Q.Ask.meaning g.Q.Ask.state_count c.args.rule.now c.requires first nine.grows nine.adds c.in_ok-nine.nine nine.squares one.stays one.found four.grows four.adds c.in_ok-fours.fours four.squares two.stays two.found
+          join.grows one.put two.put;
     }
 
 pub forward-returns-in_err-middle-clause-stays : goal.forward-returns-in_err-middle-clause-stays
@@ -150,6 +159,7 @@ forward-returns-then-ahead-eq0 g t c =
       found = IsFound-none next _ _ _ _ _ _ c.if-ahead-eq0.true grows numbered c.in_ok-middle.ensures.square;
       four = asks.four;
       stand = asks.stand;
+      put = put_none next _ _ _ _ _ _ c.if-ahead-eq0.true grows c.requires.right;
     }
 
 pub forward-recall-requires-clause-number : goal.forward-recall-requires-clause-number
@@ -180,4 +190,6 @@ forward-returns g t c =
       found = made.found;
       four = asks.four;
       stand = asks.stand;
+      put = higher_put next c.args.k c.args.ahead c.args.number c.in_ok-made.made c.args.table.now c.compute.new.table c.args.memo.now c.compute.new.memo c.remember.new.self (omega (arith, c.if-k-eq0.false))
+          (let high = above c.compute.new.table.rows c.args.k c.in_ok-made.made made.found.square.numbered in omega (arith, high)) made.stays.grows numbered c.in_ok-remember.ensures.noted made.put;
     }

@@ -1,5 +1,5 @@
 use Rattle.std.proofs.Common.{◌≡◌, ◌+◌, ◌*◌}
-use Rattle.hash_engine.specs.Asked.{AsksForMore}
+use Rattle.hash_engine.specs.Asked.{PutsFirst, AsksForMore}
 use Rattle.hash_engine.specs.Found.{Stays}
 use Rattle.hash_engine.proofs.Turns.{AreDone}
 use Rattle.hash_engine.proofs.later.+forward.Given as goal
@@ -18,5 +18,6 @@ invariant-all_forward-loop-number g l = record {
   stays : Stays g.Q.Ask.meaning g.Q.Ask.state_count l.fn.rule l.rule l.k l.ahead l.fn.numbers l.fn.table l.table l.memo;
   went_on : g.S.Stop.yes_count l.stop ≡ g.S.Stop.yes_count l.fn.stop;
   done : AreDone (g.Q.Ask.meaning l.fn.rule) l.k l.ahead l.number-index l.fn.numbers l.numbers l.fn.table l.table;
+  puts : PutsFirst (g.Q.Ask.meaning l.fn.rule) l.k l.ahead l.number-index l.fn.numbers l.fn.table l.fn.memo l.table l.memo;
   asks : AsksForMore (g.Q.Ask.meaning l.fn.rule) l.k l.ahead l.fn.numbers l.fn.table l.table l.fn.memo l.memo (g.Q.Ask.asks l.fn.rule) (g.Q.Ask.asks l.rule);
 }

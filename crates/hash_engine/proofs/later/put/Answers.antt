@@ -3,6 +3,7 @@ use Rattle.hash_engine.proofs.Standing.{above}
 use Rattle.hash_engine.proofs.Shared.Memos.{IsRight-grows, IsResult-made}
 use Rattle.hash_engine.proofs.Computed.{base_below}
 use Rattle.hash_engine.proofs.Shared.Puts.{put_once}
+use Rattle.hash_engine.proofs.Put.{block_put}
 use Rattle.hash_engine.proofs.Adding.{AddsFor-later}
 use Rattle.hash_engine.proofs.Ways.{IsFound-put}
 use Rattle.hash_engine.proofs.later.put.Goals as goal
@@ -56,5 +57,6 @@ returns g c =
       found = found;
       four = once.four;
       stand = once.stand;
+      put = block_put next _ _ _ _ _ _ _ c.requires.some some grows numbered c.requires.anew.right c.in_ok-remember.ensures.noted;
       full = search rules;
     }

@@ -2,10 +2,12 @@ use Rattle.std.proofs.Common.{◌≡◌, suc, ◌-◌, ◌^◌, ◌≤◌, ◌�
 use Rattle.worlds.specs.Square.{square_at}
 use Rattle.square_table.specs.Squares.{level_of, number_of, square_in, cells_of}
 use Rattle.square_table.specs.Made.{IsMade}
+use Rattle.hash_life.specs.Puts.{PutsBlocks}
 use Rattle.hash_life.specs.Makes.{Makes}
 use Rattle.hash_engine.specs.Asked.{AsksForMore}
 use Rattle.hash_engine.proofs.Computed.{IsReady-root}
 use Rattle.hash_engine.proofs.Once.{asked_once}
+use Rattle.hash_engine.proofs.Blocks.{put_blocks}
 use Rattle.hash_engine.proofs.later.result.Goals as goal
 
 pub forward-requires : goal.forward-requires
@@ -33,6 +35,14 @@ returns-clause-found g c =
       fours = c.count_squares-counts.ensures.fours;
       few = c.count_squares-counts.ensures.few;
       base = c.count_squares-counts.ensures.base;
+      put = λ few.
+          let next = g.Q.Ask.meaning c.args.rule.now in
+          let enough : c.args.generations ≤ 2 ^ k = subst (λ j. c.args.generations ≤ 2 ^ j) (sym less) few in
+          let ready = c.turn_to.ensures.put next c.args.table.now.rows (c.nothing-memo.ensures.put next c.args.table.now.rows) in
+          let blocks = put_blocks next k c.args.generations c.number.result c.count_squares-counts.result.base c.args.table.now c.forward.new.table c.turn_to.new.self c.forward.new.memo enough
+          (c.turn_to.ensures.full ∙ c.nothing-memo.ensures.none) ready c.in_ok-number.ensures.stays.right c.count_squares-counts.ensures.distinct c.count_squares-counts.ensures.put c.in_ok-number.ensures.put in
+          subst (λ j. PutsBlocks next j c.args.generations (cells_of c.args.table.now c.args.root) c.count_squares-counts.result.base) less
+          (subst (λ s. PutsBlocks next k c.args.generations s c.count_squares-counts.result.base) root blocks);
     }
 
 pub returns-clause-once : goal.returns-clause-once
