@@ -27,6 +27,7 @@ pool_view pool = record {
   is_prompt = false;
   held = None;
   asked = pool.history.asked;
+  stops = pool.history.stops;
   is_over = pool.history.is_over;
 }
 

@@ -15,6 +15,7 @@ inline_view entries squares floor held history = record {
   is_prompt = true;
   held = held;
   asked = history.asked;
+  stops = history.stops;
   is_over = history.is_over;
 }
 

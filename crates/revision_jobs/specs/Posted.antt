@@ -1,5 +1,6 @@
 -- What a post does with jobs.
-use Rattle.std.specs.Prelude.{◌≡◌, ℕ, ◌+◌, List, [], ◌∷◌, ◌++◌, Option, Some, None, IsSome, Bool, true, false, Err, ⊤}
+use Rattle.std.specs.Prelude.{◌≡◌, ℕ, ◌+◌, ◌≤◌, List, [], ◌∷◌, ◌++◌, Option, Some, None, IsSome, Bool, true, false, Err, ⊤}
+use Rattle.worlds.specs.Stop.{CountsStop}
 use Rattle.step_engine.specs.declared.evolved.EvolveFault.{EvolveFault}
 use Rattle.revision_jobs.specs.declared.entries.Entries.{Entries}
 use Rattle.revision_jobs.specs.declared.answer.Job.{Job}
@@ -13,7 +14,8 @@ use Rattle.revision_jobs.specs.Room.{HasNoRoom}
 
 -- a post: its table, how many squares a step may keep, one more than the greatest number that it
 -- took, the answers that it gave, whether it is prompt, the job that it holds if it is, how often
--- it was asked to send or to receive, and whether it said Closed or Ended
+-- it was asked to send or to receive, how often it saw the flag of a job raised, and whether it
+-- said Closed or Ended
 pub record PostView : Type 0 where
   pub table : Entries
   pub limit : ℕ
@@ -22,18 +24,20 @@ pub record PostView : Type 0 where
   pub is_prompt : Bool
   pub held : Option Job
   pub asked : ℕ
+  pub stops : ℕ
   pub is_over : Bool
 
--- what a post was asked and what it said: the answers that it gave, how often it was asked, and
--- whether it said Closed or Ended
+-- what a post was asked and what it said: the answers that it gave, how often it was asked, how
+-- often it saw a flag raised, and whether it said Closed or Ended
 pub record PostHistory : Type 0 where
   pub answers : List JobResult
   pub asked : ℕ
+  pub stops : ℕ
   pub is_over : Bool
 
 -- a post that wasn't asked yet
 abbrev pub no_history : PostHistory
-no_history = record { answers = []; asked = 0; is_over = false }
+no_history = record { answers = []; asked = 0; stops = 0; is_over = false }
 
 -- the floor rises to just above a job that was taken; a job that wasn't comes back
 abbrev pub IsSent : Job → ℕ → ℕ → Sent → Type 0
@@ -83,6 +87,13 @@ ReceivesPromptly before after (Answer answer) = (before ≡ Some answer.job) × 
 ReceivesPromptly before after Nothing = (before ≡ None) × (after ≡ None)
 ReceivesPromptly before after Ended = ⊥
 
+-- it saw a flag raised, once, exactly where it answers that the job was stopped
+abbrev pub StopsPromptly : ℕ → ℕ → Received → Type 0
+StopsPromptly before after (Answer answer) =
+    CountsStop answer.outcome (Err EvolveFault.Stopped) before after
+StopsPromptly before after Nothing = after ≡ before
+StopsPromptly before after Ended = ⊥
+
 -- a post was asked once more, and has the table, the limit and the kind that it had
 pub record IsAsked (old new : PostView) : Type 0 where
   pub table : new.table ≡ old.table
@@ -90,30 +101,35 @@ pub record IsAsked (old new : PostView) : Type 0 where
   pub kind : new.is_prompt ≡ old.is_prompt
   pub asked : new.asked ≡ old.asked + 1
 
--- a post was asked to take a job, and said this: no answer was given, a job that was taken raises
--- the floor, one that wasn't comes back
+-- a post was asked to take a job, and said this: no answer was given and no flag seen raised, a job
+-- that was taken raises the floor, one that wasn't comes back
 pub record Sends (job : Job) (old new : PostView) (said : Sent) : Type 0 where
   pub same : IsAsked old new
   pub answers : new.answers ≡ old.answers
+  pub stops : new.stops ≡ old.stops
   pub sent : IsSent job old.floor new.floor said
   pub over : new.is_over ≡ over_sent old.is_over said
   pub prompt : old.is_prompt ≡ true → SendsPromptly job old.held new.held said
 
 -- a post was asked for an answer, and said this: an answer is one of its table and at its limit,
--- and stands behind those that were given
+-- and stands behind those that were given; a prompt post says that a job was stopped only where it
+-- saw the job's flag raised
 pub record Receives (old new : PostView) (said : Received) : Type 0 where
   pub same : IsAsked old new
   pub floor : new.floor ≡ old.floor
   pub own : IsReceived old.table old.limit said
   pub answers : new.answers ≡ answers_with old.answers said
+  pub stops : old.stops ≤ new.stops
   pub over : new.is_over ≡ over_received old.is_over said
   pub prompt : old.is_prompt ≡ true → ReceivesPromptly old.held new.held said
+  pub stopped : old.is_prompt ≡ true → StopsPromptly old.stops new.stops said
 
 -- the history with one more send, which came to this
 abbrev pub history_sent : PostHistory → Sent → PostHistory
 history_sent before said = record {
   answers = before.answers;
   asked = before.asked + 1;
+  stops = before.stops;
   is_over = over_sent before.is_over said;
 }
 
@@ -122,5 +138,15 @@ abbrev pub history_received : PostHistory → Received → PostHistory
 history_received before said = record {
   answers = answers_with before.answers said;
   asked = before.asked + 1;
+  stops = before.stops;
   is_over = over_received before.is_over said;
+}
+
+-- and with so many flags seen raised
+abbrev pub history_stopped : PostHistory → ℕ → PostHistory
+history_stopped before seen = record {
+  answers = before.answers;
+  asked = before.asked;
+  stops = before.stops + seen;
+  is_over = before.is_over;
 }

@@ -3,6 +3,7 @@ ghost use Rattle.std.specs.Prelude.{◌≡◌, ◌+◌};
 
 use boxcar::tag::{Names, Tag};
 use std::marker::Model;
+use std::mem;
 
 /// A number that takes no bytes and so has no last value. Contracts see the number.
 #[derive(Drop)]
@@ -16,6 +17,14 @@ impl Names<Tag> for OneMore {
     ghost use Rattle.std.specs.Prelude.{◌∷◌};
 
     ghost numbers = { λ tag. 0 ∷ tag.numbers };
+}
+
+struct Sum;
+
+impl Names<(Tag, Tag)> for Sum {
+    ghost use Rattle.std.specs.Prelude.{◌++◌};
+
+    ghost numbers = { λ tags. tags.0.numbers ++ tags.1.numbers };
 }
 
 impl Model for Count {
@@ -37,5 +46,12 @@ impl Count {
         ensures { self.new ≡ self.old + 1 }
     {
         self.tag = Tag::of::<Tag, OneMore>(&self.tag);
+    }
+
+    pub(crate) fn add(&mut self, more: Count)
+        ensures { self.new ≡ self.old + more }
+    {
+        let before = mem::replace(&mut self.tag, Tag::empty());
+        self.tag = Tag::of::<(Tag, Tag), Sum>(&(before, more.tag));
     }
 }

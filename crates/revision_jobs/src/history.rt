@@ -1,20 +1,24 @@
 //! What a post was asked and what it said.
 ghost use Rattle.std.specs.Prelude.{◌≡◌};
-ghost use Rattle.revision_jobs.specs.Posted.{history_received, history_sent, no_history};
+ghost use Rattle.revision_jobs.specs.Posted.{history_received, history_sent};
+ghost use Rattle.revision_jobs.specs.Posted.{history_stopped, no_history};
 
 use crate::answers::Answers;
 use crate::count::Count;
 use crate::post::{Received, Sent};
+use crate::stop::{EntryStop, Seen};
 use std::marker::Model;
 use std::snapshot::Snapshot;
 
 /// What a post was asked and what it said so far, as clauses see it: the answers that it gave, how
-/// often it was asked to send or to receive, and whether it said Closed or Ended. It takes no bytes
-/// and no memory, and nothing can be read from it. Each post notes here what it says.
+/// often it was asked to send or to receive, how often it saw a flag raised, and whether it said
+/// Closed or Ended. It takes no bytes and no memory, and nothing can be read from it. Each post notes
+/// here what it says.
 #[derive(Drop)]
 pub struct History {
     answers: Answers,
     asked: Count,
+    stops: Seen,
     over: Snapshot<bool>,
 }
 
@@ -30,6 +34,7 @@ impl Model for History {
     ghost view = { λ h. record {
       answers = h.answers;
       asked = h.asked;
+      stops = h.stops;
       is_over = h.over.value;
     } };
 }
@@ -42,6 +47,7 @@ impl History {
         History {
             answers: Answers::none(),
             asked: Count::zero(),
+            stops: Seen::none(),
             over: Snapshot::of(&false),
         }
     }
@@ -66,5 +72,12 @@ impl History {
             Received::Nothing => {}
             Received::Ended => self.over = Snapshot::of(&true),
         }
+    }
+
+    /// Notes how often the stop of a job saw its flag raised.
+    pub fn note_stop(&mut self, stop: EntryStop<'_>)
+        ensures { self.new ≡ history_stopped self.old stop.entry }
+    {
+        self.stops.take_over(stop);
     }
 }

@@ -77,14 +77,16 @@ impl<'a> Post for InlinePost<'a> {
         let received = match self.held.take() {
             Some(job) => {
                 let mut stop = self.entries.stop(&job.place);
-                Received::Answer(work(
+                let answer = work(
                     self.alloc,
                     job,
                     self.entries,
                     &mut NoGate,
                     &mut stop,
                     self.squares,
-                ))
+                );
+                self.history.note_stop(stop);
+                Received::Answer(answer)
             }
             None => Received::Nothing,
         };

@@ -1,16 +1,17 @@
-//! The stop of an entry.
-ghost use Rattle.std.specs.Prelude.{◌≡◌};
+//! The stop of an entry, and how often stops saw a flag raised.
+ghost use Rattle.std.specs.Prelude.{◌≡◌, ◌+◌};
 
 use crate::count::Count;
 use plane_core::Stop;
 use std::marker::Model;
 use std::sync::atomic::{AtomicBool, Ordering};
 
-/// A stop that reads the flag of an entry. Contracts see how often it said yes.
+/// A stop that reads the flag of an entry. Contracts see how often it said yes, which is how often
+/// it saw the flag raised.
 #[derive(Drop)]
 pub struct EntryStop<'a> {
     flag: &'a AtomicBool,
-    yes: Count,
+    yes: Seen,
 }
 
 impl<'a> Model for EntryStop<'a> {
@@ -27,7 +28,7 @@ impl<'a> EntryStop<'a> {
     {
         EntryStop {
             flag,
-            yes: Count::zero(),
+            yes: Seen::none(),
         }
     }
 }
@@ -41,5 +42,44 @@ impl<'a> Stop for EntryStop<'a> {
             self.yes.raise();
         }
         raised
+    }
+}
+
+/// How often flags were seen raised, for clauses alone. It rises nowhere but in a stop that has just
+/// read its flag as raised: what else holds one has no way to raise it but to take over a stop.
+#[derive(Drop)]
+pub(crate) struct Seen {
+    times: Count,
+}
+
+impl Model for Seen {
+    ghost use Rattle.std.specs.Prelude.{ℕ};
+
+    ghost Value = { ℕ };
+
+    ghost view = { λ seen. seen.times };
+}
+
+impl Seen {
+    pub(crate) fn none() -> Seen
+        ensures { result ≡ 0 }
+    {
+        Seen {
+            times: Count::zero(),
+        }
+    }
+
+    // Private to this file, where `poll` alone calls it.
+    fn raise(&mut self)
+        ensures { self.new ≡ self.old + 1 }
+    {
+        self.times.raise();
+    }
+
+    /// What the stop saw is counted here from now on.
+    pub(crate) fn take_over(&mut self, stop: EntryStop<'_>)
+        ensures { self.new ≡ self.old + stop.entry }
+    {
+        self.times.add(stop.yes.times);
     }
 }

@@ -35,6 +35,7 @@ impl<'a> Post for LosingPost<'a> {
       is_prompt = false;
       held = None;
       asked = post.history.asked;
+      stops = post.history.stops;
       is_over = post.history.is_over;
     } };
 
@@ -89,6 +90,7 @@ impl<'a> Post for RefusingPost<'a> {
       is_prompt = false;
       held = None;
       asked = post.history.asked;
+      stops = post.history.stops;
       is_over = post.history.is_over;
     } };
 

@@ -52,6 +52,7 @@ impl<'a> Model for Unruly<'a> {
       is_prompt = false;
       held = None;
       asked = u.history.asked;
+      stops = u.history.stops;
       is_over = u.history.is_over;
     } };
 

@@ -26,6 +26,7 @@ impl<'a> Post for Swallows<'a> {
       is_prompt = false;
       held = None;
       asked = post.history.asked;
+      stops = post.history.stops;
       is_over = post.history.is_over;
     } };
 
@@ -73,6 +74,7 @@ impl<'a> Post for Closes<'a> {
       is_prompt = false;
       held = None;
       asked = post.history.asked;
+      stops = post.history.stops;
       is_over = post.history.is_over;
     } };
 
@@ -131,6 +133,7 @@ impl<'a> Model for Repeats<'a> {
       is_prompt = false;
       held = None;
       asked = post.history.asked;
+      stops = post.history.stops;
       is_over = post.history.is_over;
     } };
 
@@ -204,6 +207,7 @@ impl<'a> Post for Reverses<'a> {
       is_prompt = false;
       held = None;
       asked = post.history.asked;
+      stops = post.history.stops;
       is_over = post.history.is_over;
     } };
 

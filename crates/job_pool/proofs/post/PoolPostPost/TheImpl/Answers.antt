@@ -24,6 +24,7 @@ send-tells g c = record {
     asked = ap (λ (h : PostHistory). h.asked) c.ensures.history;
   };
   answers = ap (λ (h : PostHistory). h.answers) c.ensures.history;
+  stops = ap (λ (h : PostHistory). h.stops) c.ensures.history;
   sent = sent_of c.args.job c.args.self.now.sent c.new.self.now.sent c.result c.ensures.offered;
   over = ap (λ (h : PostHistory). h.is_over) c.ensures.history;
   prompt = λ e. absurd (true≢false (sym e));
