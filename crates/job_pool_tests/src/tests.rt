@@ -9,7 +9,7 @@ mod lanes;
 use basics::Refusal;
 use bookmarks::View;
 use entries::{GONE, STILL, push_dot, push_step, push_view, table};
-use gates::{Counting, Meeting, Waiting};
+use gates::{Counting, Gathering, Meeting, Waiting};
 use job_pool::{NoPool, PoolFault, PoolPost, pool};
 use revision_jobs::{Answer, Entries, Job, NoGate, Outcome, Place, Post, Received, Sent};
 use std::alloc::Global;
@@ -169,6 +169,57 @@ fn two_workers_run_at_once(rt: HostRuntime) {
     let sum = answered(&rt, pool(&rt, alloc, &entries, gates, SQUARES, (), body));
     same(&rt, &sum, &1, &"sum");
     assert!(rt; met.load(Ordering::SeqCst), "job 0 waited in vain");
+}
+
+/// So many gates, each of which waits for all others.
+fn gathering<'a>(
+    rt: &impl Abort,
+    alloc: Global,
+    count: u8,
+    begun: &'a AtomicU64,
+    met: &'a AtomicU64,
+) -> Vec<Gathering<'a>>
+    ensures { vec_len result ≡ count }
+{
+    let mut gates = Vec::new(alloc);
+    for _ in 0..count {
+        let gate = Gathering {
+            wanted: u64::from(count),
+            begun,
+            met,
+        };
+        gates.push(gate).expect(rt, "memory");
+    }
+    gates
+}
+
+/// Stops the test where so many jobs aren't worked at once by so many workers, each of which waits
+/// for all others to begin.
+fn expect_all_at_once<R: Abort + Threads + Wait + Sync>(rt: &R, alloc: Global, workers: u8)
+    requires { (1 ≤ workers) × (workers ≤ 8) }
+{
+    let entries = table(rt, alloc);
+    let place = push_view(rt, alloc, &entries, View::Counts);
+    let begun = AtomicU64::new(0);
+    let met = AtomicU64::new(0);
+    let gates = gathering(rt, alloc, workers, &begun, &met);
+    let body = |post: &mut PoolPost<'_, R>, jobs: u32| -> u32
+        requires { IsOf post.old.table place }
+    {
+        send_below(rt, post, &place, jobs);
+        receive_texts(rt, post, jobs, "empty\n")
+    };
+    let jobs = u32::from(workers);
+    answered(rt, pool(rt, alloc, &entries, gates, SQUARES, jobs, body));
+    let together = met.load(Ordering::SeqCst);
+    same(rt, &together, &u64::from(workers), &workers);
+}
+
+#[test]
+fn as_many_workers_come_as_there_are_gates(rt: HostRuntime) {
+    expect_all_at_once(&rt, rt.alloc(), 2);
+    expect_all_at_once(&rt, rt.alloc(), 3);
+    expect_all_at_once(&rt, rt.alloc(), 8);
 }
 
 fn pair<G: Drop>(rt: &impl Abort, alloc: Global, one: G, other: G) -> Vec<G>

@@ -12,6 +12,7 @@ use std::alloc::Global;
 use std::fmt::Debug;
 use std::process::Abort;
 use std::sync::{Arc, Wait};
+use std::thread;
 
 /// Stops the test where what was found isn't what was wanted.
 fn same<T: PartialEq + Debug, A: Debug>(rt: &impl Abort, found: &T, wanted: &T, at: &A) {
@@ -165,4 +166,32 @@ fn takers_share_what_was_sent(rt: HostRuntime) {
     same(&rt, &taken(&rt, &mut one), &Some(0), &"one");
     same(&rt, &taken(&rt, &mut other), &Some(1), &"the other");
     same(&rt, &taken(&rt, &mut one), &Some(2), &"one again");
+}
+
+/// How often the sender lets others run before it sends.
+const TURNS: u32 = 100_000;
+
+/// Sends job 7, but lets others run before.
+fn send_later<R: Abort + Wait>(rt: &R, sender: JobSender, place: &Place)
+    requires { IsOf sender.table place.now }
+{
+    let mut sender = sender;
+    for _ in 0..TURNS {
+        thread::yield_now();
+    }
+    expect_offered(rt, &mut sender, 7, place, Offered::Taken);
+}
+
+// While the queue is open and nothing waits in it, a take waits for a job.
+#[test]
+fn a_take_waits_while_the_queue_is_open(rt: HostRuntime) {
+    let alloc = rt.alloc();
+    let entries = table(&rt, alloc);
+    let place = push_counts(&rt, alloc, &entries);
+    let (sender, mut taker) = queue_of_one(&rt, alloc, &entries);
+    let later = move ||
+        requires { IsOf sender.table place }
+    { send_later(&rt, sender, &place) };
+    let (number, _sent) = thread::join(&rt, || taken(&rt, &mut taker), later);
+    same(&rt, &number, &Some(7), &"what is sent later");
 }

@@ -154,3 +154,21 @@ fn what_was_used_last_stays(rt: HostRuntime) {
     expect_lacking(&rt, rt.alloc(), &mut facts, &OTHERS[1]);
     expect_found(&rt, rt.alloc(), &mut facts, &OTHERS[2]);
 }
+
+// Of four steps the last ones are found, as many as there is room for, and no older one.
+#[test]
+fn as_many_are_kept_as_there_is_room_for(rt: HostRuntime) {
+    for most in 1..=OTHERS.len() {
+        let mut facts = facts_for(&rt, rt.alloc(), most);
+        for case in &OTHERS {
+            keep(&rt, rt.alloc(), &mut facts, case);
+        }
+        let (older, last) = OTHERS.split_at(OTHERS.len() - most);
+        for case in older {
+            expect_lacking(&rt, rt.alloc(), &mut facts, case);
+        }
+        for case in last {
+            expect_found(&rt, rt.alloc(), &mut facts, case);
+        }
+    }
+}

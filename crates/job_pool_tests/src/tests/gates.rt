@@ -36,6 +36,37 @@ impl<'a> Gate for Meeting<'a> {
     fn end(&mut self, _number: u32) {}
 }
 
+/// Holds each job up until so many have begun, and counts those for which so many did in time.
+#[derive(Drop)]
+pub(super) struct Gathering<'a> {
+    pub(super) wanted: u64,
+    pub(super) begun: &'a AtomicU64,
+    pub(super) met: &'a AtomicU64,
+}
+
+impl<'a> Gathering<'a> {
+    fn are_there(&self) -> bool {
+        for _ in 0..TURNS {
+            if self.begun.load(Ordering::SeqCst) >= self.wanted {
+                return true;
+            }
+            thread::yield_now();
+        }
+        false
+    }
+}
+
+impl<'a> Gate for Gathering<'a> {
+    fn begin(&mut self, _number: u32) {
+        self.begun.fetch_add(1, Ordering::SeqCst);
+        if self.are_there() {
+            self.met.fetch_add(1, Ordering::SeqCst);
+        }
+    }
+
+    fn end(&mut self, _number: u32) {}
+}
+
 /// Holds each job up until the flag is raised.
 #[derive(Drop)]
 pub(super) struct Waiting<'a> {
