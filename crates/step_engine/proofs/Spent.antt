@@ -8,6 +8,7 @@ use Rattle.worlds.specs.Iterate.{iterate}
 use Rattle.worlds.specs.Square as squares
 use Rattle.worlds.specs.Square.{square_at, IsIn}
 use Rattle.plane_core.specs.Rows.{Fits}
+use Rattle.hash_life.specs.Puts.{PutsBlocks}
 use Rattle.hash_life.specs.Makes.{Makes}
 use Rattle.square_table.specs.declared.square.Square.{Square}
 use Rattle.square_table.specs.declared.fault.TableFault.{TableFault}
@@ -26,7 +27,7 @@ use Rattle.step_engine.specs.declared.evolved.Report.{Report}
 use Rattle.step_engine.specs.declared.evolved.EvolveFault.TheVariants.{NoRoom}
 use Rattle.step_engine.specs.Reach.{HasRoomFor, IsRoomLevel}
 use Rattle.step_engine.specs.Padded.{AddsRound, AddsStart, IsRooted, IsWidened}
-use Rattle.step_engine.specs.Evolved.{HasWay, AreReported, IsRoomSpent, of_table, of_result}
+use Rattle.step_engine.specs.Evolved.{HasWay, AreReported, HasPut, IsRoomSpent, of_table, of_result}
 use Rattle.step_engine.proofs.Centring.{edge-suc}
 use Rattle.step_engine.proofs.Evolving.{IsCentred-later}
 use Rattle.step_engine.proofs.Held.{reported, held_many}
@@ -130,6 +131,16 @@ searched all next w n t u v root report adds rooted grows makes distinct among i
     let way : Makes next adds.k n (square_in v.rows (suc (suc adds.k)) number) (IsMade v.rows) =
     subst (λ s. Makes next adds.k n s (IsMade v.rows)) (cells ∙ sym kept) (subst (λ j. Makes next j n (cells_of u root) (IsMade v.rows)) less makes) in
     reported all next w adds.k n v.rows number report distinct among is_many is_fours (IsNumber-grows u v (suc (suc adds.k)) number grows there) (kept ∙ square) way
+
+-- and all that is put to the rule on the way is counted
+pub all-put : (next : List ℕ → ℕ) (w : World) (n : ℕ) (t u : Table) (root : Square) (base : ℕ) (adds : AddsStart w n t u) → IsRooted w n u root →
+    (n ≤ 2 ^ (level_of root - 2) → PutsBlocks next (level_of root - 2) n (cells_of u root) base) → HasPut next w adds.k n base
+all-put next w n t u root base adds rooted puts =
+    let at = rooted.level adds.k adds.root in
+    let less : level_of root - 2 ≡ adds.k = omega (arith, at) in
+    let square : cells_of u root ≡ square_at w (suc (suc adds.k)) (edge (suc (suc adds.k))) (edge (suc (suc adds.k))) = rooted.centred.square ∙ ap (λ l. square_at w l (edge l) (edge l)) at in
+    subst (λ s. PutsBlocks next adds.k n s base) square
+    (subst (λ j. PutsBlocks next j n (cells_of u root) base) less (puts (subst (λ j. n ≤ 2 ^ j) (sym less) adds.root.room.few)))
 
 -- a new table has no rows
 pub none-among : (all : List squares.Square) (t : Table) (limit : ℕ) → t ≡ record { rows = []; limit = limit } → AreAmong all t.rows

@@ -6,7 +6,7 @@ use Rattle.worlds.specs.Iterate.{iterate}
 use Rattle.worlds.specs.Range.{HasMargin, AllBelow}
 use Rattle.worlds.specs.Square.{Square, one, four, square_at}
 use Rattle.hash_life.specs.Makes.{Makes}
-use Rattle.hash_life.specs.Puts.{AsksOnce}
+use Rattle.hash_life.specs.Puts.{PutsBlocks, AsksOnce}
 use Rattle.square_table.specs.Centred.{edge}
 use Rattle.square_table.specs.Made.{HoldsWithin, HasStart}
 use Rattle.step_engine.specs.Reach.{IsRoomLevel}
@@ -85,13 +85,21 @@ pub record AreReported (all : List Square) (next : List ℕ → ℕ) (w : World)
   pub blocks : length (filter is_block squares) ≡ report.fours
   pub search : HasSearch squares next w k n
 
--- a report of all squares that the search goes through, and of none that isn't made on the way
+-- so many different squares of 4 by 4 cells are put to the rule where the world's square of level
+-- k + 2 goes n generations ahead
+abbrev pub HasPut : (List ℕ → ℕ) → World → ℕ → ℕ → ℕ → Type 0
+HasPut next w k n many =
+    PutsBlocks next k n (square_at w (suc (suc k)) (edge (suc (suc k))) (edge (suc (suc k)))) many
+
+-- a report of all squares that the search goes through, and of none that isn't made on the way, and
+-- of as many as are put to the rule on it
 pub record IsReport (limit : ℕ) (next : List ℕ → ℕ) (w : World) (n : ℕ) (report : Report)
     : Type 0 where
   pub within : IsWithin limit report
   pub k : ℕ
   pub root : IsRoomLevel n w k
   pub held : (all : List Square) → HasWay all next w k n → AreReported all next w k n report
+  pub put : HasPut next w k n report.base
 
 -- the world n generations later, and the report of the way
 pub record IsEvolved (limit : ℕ) (next : List ℕ → ℕ) (w : World) (n : ℕ) (evolved : Evolved)

@@ -4,7 +4,7 @@ use Rattle.worlds.specs.Iterate.{iterate}
 use Rattle.square_table.proofs.Shared.Centring.{one_world}
 use Rattle.step_engine.proofs.Evolving.{IsBelow-centred, HasMargin-iterate}
 use Rattle.square_table.specs.Made.{IsFull}
-use Rattle.step_engine.proofs.Spent.{root-for, root-later, searching, searched, start-spent, search-spent, none-among}
+use Rattle.step_engine.proofs.Spent.{root-for, root-later, searching, searched, all-put, start-spent, search-spent, none-among}
 use Rattle.step_engine.proofs.shared.evolve_by.Goals as goal
 
 pub result-requires : goal.result-requires
@@ -53,5 +53,6 @@ returns-clause-evolved g c =
         root = adds.root;
         held = λ all way. searched all next c.args.plane.now c.args.generations c.in_ok-table.table c.rooted.new.table c.result.new.table _ _ adds c.in_ok-root.ensures.root c.result.ensures.grows.grows counts.made c.len.ensures.distinct
             (searching all next c.args.plane.now c.args.generations c.in_ok-table.table c.rooted.new.table c.result.new.table _ adds c.in_ok-root.ensures.root way c.result.ensures.grows (none-among all c.in_ok-table.table _ c.in_ok-table.ensures)) c.len.ensures.count counts.fours;
+        put = all-put next c.args.plane.now c.args.generations c.in_ok-table.table c.rooted.new.table _ _ adds c.in_ok-root.ensures.root counts.put;
       };
     }
