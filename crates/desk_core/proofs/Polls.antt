@@ -16,9 +16,9 @@ use Rattle.desk_core.specs.declared.unsent.Unsent.TheVariants.{Nothing}
 use Rattle.desk_core.specs.Feed.{FedUntil, Feeds, floor_after}
 use Rattle.desk_core.specs.Polling.{Collects, IsCauseOf, Polls}
 use Rattle.desk_core.specs.Progress.{HasCome, stage}
-use Rattle.desk_core.specs.Settling.{Explains, GivesAtMost, Keeps, Serves, ServesOn, TellsCause}
+use Rattle.desk_core.specs.Settling.{Explains, GivesAtMost, Keeps, SawStop, Serves, ServesOn, TellsCause}
 use Rattle.desk_core.proofs.Known.{KeepsKnown-on}
-use Rattle.desk_core.proofs.Shared.Causes.{explains-refused}
+use Rattle.desk_core.proofs.Shared.Causes.{explains-refused, saw-refused}
 use Rattle.desk_core.proofs.Steps.{Keeps-come, ServesOn-come}
 
 -- how many answers came
@@ -95,8 +95,13 @@ TellsCause-fed old mid new p q r taken refused told h before feeds is = record {
   later = h.later;
   gave = feeds.silent ∙ h.gave;
   explained = by_refusal refused feeds.ended is;
+  stopped = no_stop refused is;
 }
   where
+    no_stop : (refused : Option IssueFault) → IsCauseOf refused told → IfSome told (SawStop p r)
+    no_stop None same = subst (λ c. IfSome c (SawStop p r)) (sym same) tt
+    no_stop (Some fault) same = subst (λ c. IfSome c (SawStop p r)) (sym same) (saw-refused p r fault)
+
     by_refusal : (refused : Option IssueFault) → FedUntil q r mid new taken refused → IsCauseOf refused told
         → IfSome told (Explains p.limit old new h.later)
     by_refusal None ended same = subst (λ c. IfSome c (Explains p.limit old new h.later)) (sym same) tt

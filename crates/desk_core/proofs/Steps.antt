@@ -30,8 +30,8 @@ use Rattle.desk_core.specs.Collected.{IsCollected}
 use Rattle.desk_core.specs.Progress.{CanBeSent, CancelsAny, Fits, GoesOn, HasCome, IsAccounted, IsAtHand, KeepsJobs, Stage, job_in, ready, stage}
 use Rattle.desk_core.specs.Cause.{cause_of_answer, cause_of_issue}
 use Rattle.desk_core.specs.Issued.{IssuesFor, RefusesIssue}
-use Rattle.desk_core.specs.Settling.{Explains, GivesAtMost, Keeps, KeepsKnown, Serves, ServesOn, Settles, rows_of}
-use Rattle.desk_core.proofs.Shared.Causes.{explains-kept, explains-collected, explains-refused}
+use Rattle.desk_core.specs.Settling.{Explains, GivesAtMost, Keeps, KeepsKnown, SawStop, Serves, ServesOn, Settles, rows_of}
+use Rattle.desk_core.proofs.Shared.Causes.{explains-kept, explains-collected, explains-refused, saw-collected, saw-on}
 use Rattle.desk_core.proofs.Known.{KeepsKnown-same, KeepsKnown-on, KeepsKnown-issued, KeepsKnown-filled, KeepsKnown-cancelled}
 use Rattle.desk_core.proofs.Out.{IsAtHand-answered, IsAtHand-cancelled, IsAtHand-held, IsAtHand-issued, IsHeld-at_hand, issued_out, filled_out, cancelled_out, not_numbered}
 use Rattle.desk_core.proofs.Shared.Given.{same_given, issued_given}
@@ -111,12 +111,19 @@ pub record Idles (p q : PostView) : Type 0 where
   pub same : IsAsked p q
   pub floor : q.floor ≡ p.floor
   pub answers : q.answers ≡ p.answers
+  pub stops : p.stops ≤ q.stops
   pub held : p.is_prompt ≡ true → q.held ≡ p.held
 
 -- so is one that didn't take a job
 pub Idles-refused : (job : Job) (p q : PostView) (said : Sent) → (said ≡ Taken → ⊥) → Sends job p q said → Idles p q
 Idles-refused job p q said other h =
-    record { same = h.same; floor = floor said other h.sent; answers = h.answers; held = λ k. held said other (h.prompt k) }
+    record {
+      same = h.same;
+      floor = floor said other h.sent;
+      answers = h.answers;
+      stops = let still = h.stops in omega (arith, still);
+      held = λ k. held said other (h.prompt k);
+    }
   where
     floor : (said : Sent) → (said ≡ Taken → ⊥) → IsSent job p.floor q.floor said → q.floor ≡ p.floor
     floor Taken other h = absurd (other refl)
@@ -134,12 +141,19 @@ Idles-nothing p q h = record {
   same = h.same;
   floor = h.floor;
   answers = h.answers;
+  stops = h.stops;
   held = λ prompt. (h.prompt prompt).1 ∙ sym (h.prompt prompt).0;
 }
 
 pub Idles-ended : (p q : PostView) → Receives p q received.Ended → Idles p q
 Idles-ended p q h =
-    record { same = h.same; floor = h.floor; answers = h.answers; held = λ prompt. absurd (h.prompt prompt) }
+    record {
+      same = h.same;
+      floor = h.floor;
+      answers = h.answers;
+      stops = h.stops;
+      held = λ prompt. absurd (h.prompt prompt);
+    }
 
 Fits-idle : (d : BookState) (p q : PostView) (unsent : Option Job) → q.table ≡ p.table → q.floor ≡ p.floor
     → Fits d p unsent → Fits d q unsent
@@ -208,8 +222,10 @@ HasCome-first d post p nothing none serves = record {
     later = [];
     gave = sym (append-nil post.answers);
     explained = subst (λ c. IfSome c (Explains post.limit d d [])) (sym none) tt;
+    stopped = subst (λ c. IfSome c (SawStop post post)) (sym none) tt;
   };
   refused = omega arith;
+  stops = omega arith;
   limit = refl;
   kind = refl;
 }
@@ -218,13 +234,20 @@ HasCome-first d post p nothing none serves = record {
 HasCome-told : (first d : BookState) (begun post : PostView) (p q : Progress) → job_in q.unsent ≡ job_in p.unsent
     → ((later : List JobResult) → IfSome p.cause (Explains begun.limit first d later)
     → IfSome q.cause (Explains begun.limit first d later))
+    → (IfSome p.cause (SawStop begun post) → IfSome q.cause (SawStop begun post))
     → HasCome first begun (stage d post p) → HasCome first begun (stage d post q)
-HasCome-told first d begun post p q unsent cause h = record {
+HasCome-told first d begun post p q unsent cause saw h = record {
   known = h.known;
   document = h.document;
   jobs = subst (KeepsJobs first begun d post) (sym unsent) h.jobs;
-  told = record { later = h.told.later; gave = h.told.gave; explained = cause h.told.later h.told.explained };
+  told = record {
+    later = h.told.later;
+    gave = h.told.gave;
+    explained = cause h.told.later h.told.explained;
+    stopped = saw h.told.stopped;
+  };
   refused = h.refused;
+  stops = h.stops;
   limit = h.limit;
   kind = h.kind;
 }
@@ -246,8 +269,10 @@ HasCome-idle first d begun p q progress idles h = record {
     later = h.told.later;
     gave = idles.answers ∙ h.told.gave;
     explained = h.told.explained;
+    stopped = saw-on begun p q progress.cause idles.stops h.told.stopped;
   };
   refused = h.refused;
+  stops = let more = idles.stops in let was = h.stops in omega (arith, more, was);
   limit = idles.same.limit ∙ h.limit;
   kind = idles.same.kind ∙ h.kind;
 }
@@ -269,8 +294,10 @@ HasCome-issued first old new begun post p q need job was is none issued h = reco
     later = h.told.later;
     gave = h.told.gave;
     explained = subst (λ c. IfSome c (Explains begun.limit first new h.told.later)) (sym none) tt;
+    stopped = subst (λ c. IfSome c (SawStop begun post)) (sym none) tt;
   };
   refused = subst (λ n. first.refused ≤ n) (sym issued.is.refused) h.refused;
+  stops = h.stops;
   limit = h.limit;
   kind = h.kind;
 }
@@ -305,8 +332,10 @@ HasCome-sent first d begun p q progress job sends none h = record {
     later = h.told.later;
     gave = sends.answers ∙ h.told.gave;
     explained = h.told.explained;
+    stopped = saw-on begun p q progress.cause (let still = sends.stops in omega (arith, still)) h.told.stopped;
   };
   refused = h.refused;
+  stops = let still = sends.stops in let was = h.stops in omega (arith, still, was);
   limit = sends.same.limit ∙ h.limit;
   kind = sends.same.kind ∙ h.kind;
 }
@@ -334,8 +363,10 @@ HasCome-answered : (first old new : BookState) (begun p q : PostView) (before af
     → (p.limit ≡ begun.limit → (later : List JobResult)
     → IfSome before.cause (Explains begun.limit first new (later ++ answer ∷ []))
     → IfSome after.cause (Explains begun.limit first new (later ++ answer ∷ [])))
+    → (p.is_prompt ≡ begun.is_prompt → begun.stops ≤ p.stops → IfSome before.cause (SawStop begun q)
+    → IfSome after.cause (SawStop begun q))
     → HasCome first begun (stage old p before) → HasCome first begun (stage new q after)
-HasCome-answered first old new begun p q before after answer receives fills same unsent cause h = record {
+HasCome-answered first old new begun p q before after answer receives fills same unsent cause saw h = record {
   known = KeepsKnown-on first old new h.known (KeepsKnown-filled old new answer fills);
   document = SameDocument-on first old new h.document same.document;
   jobs = subst (KeepsJobs first begun new q) (sym unsent) (record {
@@ -354,8 +385,10 @@ HasCome-answered first old new begun p q before after answer receives fills same
         ∙ append_assoc begun.answers h.told.later (answer ∷ []);
     explained = cause h.limit h.told.later
         (explains-kept begun.limit first old new h.told.later (answer ∷ []) before.cause same h.told.explained);
+    stopped = saw h.kind h.stops (saw-on begun p q before.cause receives.stops h.told.stopped);
   };
   refused = subst (λ n. first.refused ≤ n) (sym same.refused) h.refused;
+  stops = let more = receives.stops in let was = h.stops in omega (arith, more, was);
   limit = receives.same.limit ∙ h.limit;
   kind = receives.same.kind ∙ h.kind;
 }
@@ -405,8 +438,10 @@ HasCome-cancelled first old new begun post p q cancels is cause h =
         gave = h.told.gave ∙ ap (λ xs. begun.answers ++ xs) (sym (append-nil h.told.later));
         explained = subst (λ c. IfSome c (Explains begun.limit first new (h.told.later ++ []))) (sym cause)
             (explains-kept begun.limit first old new h.told.later [] p.cause same h.told.explained);
+        stopped = subst (λ c. IfSome c (SawStop begun post)) (sym cause) h.told.stopped;
       };
       refused = subst (λ n. first.refused ≤ n) (sym same.refused) h.refused;
+      stops = h.stops;
       limit = h.limit;
       kind = h.kind;
     }
@@ -415,8 +450,9 @@ HasCome-cancelled first old new begun post p q cancels is cause h =
 HasCome-refused : (first d : BookState) (begun post : PostView) (p q : Progress)
     → job_in q.unsent ≡ job_in p.unsent
     → ((later : List JobResult) → IfSome q.cause (Explains begun.limit first (with_refusal d) later))
+    → IfSome q.cause (SawStop begun post)
     → HasCome first begun (stage d post p) → HasCome first begun (stage (with_refusal d) post q)
-HasCome-refused first d begun post p q unsent cause h = record {
+HasCome-refused first d begun post p q unsent cause saw h = record {
   known = h.known;
   document = record {
     table = h.document.table;
@@ -429,8 +465,9 @@ HasCome-refused first d begun post p q unsent cause h = record {
     out = h.jobs.out;
     at_hand = h.jobs.at_hand;
   });
-  told = record { later = h.told.later; gave = h.told.gave; explained = cause h.told.later };
+  told = record { later = h.told.later; gave = h.told.gave; explained = cause h.told.later; stopped = saw };
   refused = let was = h.refused in omega (arith, was);
+  stops = h.stops;
   limit = h.limit;
   kind = h.kind;
 }
@@ -464,7 +501,8 @@ GoesOn-told d post p q unsent cause = record {
   cause = same_cause p.cause q.cause cause;
   fits = fit_as d post (job_in p.unsent) (job_in q.unsent) unsent;
   comes = λ first begun. HasCome-told first d begun post p q unsent
-      (λ later h. subst (λ c. IfSome c (Explains begun.limit first d later)) (sym cause) h);
+      (λ later h. subst (λ c. IfSome c (Explains begun.limit first d later)) (sym cause) h)
+      (subst (λ c. IfSome c (SawStop begun post)) (sym cause));
   given = gives_none d d refl;
 }
 
@@ -496,7 +534,8 @@ GoesOn-refused old new post p q issue.NumbersSpent none unsent cause refuses =
       cause = subst (λ c. IfSome c (λ first. q.cause ≡ Some first)) (sym none) tt;
       fits = fit_as old post (job_in p.unsent) (job_in q.unsent) (ap job_in unsent);
       comes = λ first begun. HasCome-told first old begun post p q (ap job_in unsent)
-          (λ later h. subst (λ c. IfSome c (Explains begun.limit first old later)) (sym cause) refuses.1);
+          (λ later h. subst (λ c. IfSome c (Explains begun.limit first old later)) (sym cause) refuses.1)
+          (λ h. subst (λ c. IfSome c (SawStop begun post)) (sym cause) tt);
       given = (omega arith, omega arith);
     })
 GoesOn-refused old new post p q issue.NoMemory none unsent cause refuses =
@@ -508,6 +547,7 @@ GoesOn-refused old new post p q issue.NoMemory none unsent cause refuses =
           (λ later. subst (λ c. IfSome c (Explains begun.limit first (with_refusal old) later)) (sym cause)
           (explains-refused begun.limit first old (with_refusal old) later issue.NoMemory come.refused
           (refuses.0, refuses.1, refl)))
+          (subst (λ c. IfSome c (SawStop begun post)) (sym cause) tt)
           come;
       given = (omega arith, omega arith);
     })
@@ -519,7 +559,7 @@ GoesOn-answered old new p q progress answer receives fills same = record {
   cause = same_cause progress.cause progress.cause refl;
   fits = Fits-answered old new p q (job_in progress.unsent) answer receives same;
   comes = λ first begun. HasCome-answered first old new begun p q progress progress answer receives fills same refl
-      (λ limit later h. h);
+      (λ limit later h. h) (λ kind stops h. h);
   given = gives_none old new (same_given same);
 }
 
@@ -537,7 +577,9 @@ GoesOn-released old new p q before after answer fault told cause receives fills 
           (ap job_in unsent)
           (λ limit later h. subst (λ c. IfSome c (Explains begun.limit start new (later ++ answer ∷ []))) (sym caused)
           (explains-collected begun.limit start old new later answer before.cause fault told cause
-          (subst (λ n. IsOwnAnswer p.table n answer) limit receives.own) collected is first h));
+          (subst (λ n. IsOwnAnswer p.table n answer) limit receives.own) collected is first h))
+          (λ kind stops h. subst (λ c. IfSome c (SawStop begun q)) (sym caused)
+          (saw-collected begun p q old new answer before.cause fault told cause kind stops receives collected is first h));
       given = gives_none old new (same_given same);
     }
 

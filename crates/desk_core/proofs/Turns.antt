@@ -18,7 +18,7 @@ use Rattle.desk_core.specs.declared.unsent.Unsent.{Unsent}
 use Rattle.desk_core.specs.declared.unsent.Unsent.TheVariants.{Nothing, Ready, Waiting}
 use Rattle.desk_core.specs.Issued.{IssuesFor}
 use Rattle.desk_core.specs.Progress.{Advances, Asks, CancelsAny, Frees, GoesOn, HasAll, HasCome, IsAtHand, IsDone, IsDoneBy, Nears, RunsOut, Stage, TakesNoMore, job_in, stage, turns_at, turns_for, turns_from}
-use Rattle.desk_core.specs.Settling.{Ends, Explains, HasCause, IsEnding, IsWhy, rows_of}
+use Rattle.desk_core.specs.Settling.{Ends, Explains, HasCause, IsEnding, IsWhy, SawStop, rows_of}
 use Rattle.desk_core.proofs.Out.{held_out}
 use Rattle.desk_core.proofs.Steps.{GoesOn-told, none_before}
 
@@ -191,9 +191,9 @@ cause-left old new post progress pending done cancels count none some = no_cause
 pub why-left : (turns : ℕ) (first old new : BookState) (p q : PostView) (progress : Progress) (pending : ℕ)
     (later : List JobResult) → RunsOut turns p (stage old q progress) → CancelsAny (job_in progress.unsent) old new
     → pending ≡ pending_of new → 0 < pending → IfSome progress.cause (Explains p.limit first new later)
-    → IsWhy turns p q first new later progress.cause
-why-left turns first old new p q progress pending later runs cancels count some explained =
-    by_cause progress.cause refl runs explained
+    → IfSome progress.cause (SawStop p q) → IsWhy turns p q first new later progress.cause
+why-left turns first old new p q progress pending later runs cancels count some explained saw =
+    by_cause progress.cause refl runs explained saw
   where
     settled : HasAll (stage old q progress) → ⊥
     settled all =
@@ -202,11 +202,12 @@ why-left turns first old new p q progress pending later runs cancels count some 
         omega (arith, same, none, count, some)
 
     by_cause : (cause : Option Cause) → progress.cause ≡ cause → RunsOut turns p (stage old q progress)
-        → IfSome cause (Explains p.limit first new later) → IsWhy turns p q first new later cause
-    by_cause (Some cause) is h k = k
-    by_cause None is (inl over) k = inl over
-    by_cause None is (inr (inl spent)) k = inr spent
-    by_cause None is (inr (inr all)) k = absurd (settled (all is))
+        → IfSome cause (Explains p.limit first new later) → IfSome cause (SawStop p q)
+        → IsWhy turns p q first new later cause
+    by_cause (Some cause) is h k saw = (k, saw)
+    by_cause None is (inl over) k saw = inl over
+    by_cause None is (inr (inl spent)) k saw = inr spent
+    by_cause None is (inr (inr all)) k saw = absurd (settled (all is))
 
 -- how a settling ends
 

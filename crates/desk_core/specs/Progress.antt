@@ -77,14 +77,15 @@ abbrev pub stage : BookState → PostView → Progress → Stage
 stage d post progress = record { desk = d; post = post; progress = progress }
 
 -- a settling that began with this desk and this post has come so far: what was known is so still,
--- the document is the same, no job is lost, and the answers and the refused issues since then
--- explain the cause
+-- the document is the same, no job is lost, and the answers, the flags that were seen raised and the
+-- refused issues since then explain the cause
 pub record HasCome (first : BookState) (begun : PostView) (s : Stage) : Type 0 where
   pub known : KeepsKnown first s.desk
   pub document : SameDocument first s.desk
   pub jobs : KeepsJobs first begun s.desk s.post (job_in s.progress.unsent)
   pub told : TellsCause begun s.post first s.desk s.progress.cause
   pub refused : first.refused ≤ s.desk.refused
+  pub stops : begun.stops ≤ s.post.stops
   pub limit : s.post.limit ≡ begun.limit
   pub kind : s.post.is_prompt ≡ begun.is_prompt
 

@@ -40,13 +40,22 @@ Explains limit first d answers NoRoom = FoundNoRoom limit answers
 Explains limit first d answers Stopped = GaveUp answers EvolveFault.Stopped
 Explains limit first d answers NumbersSpent = 16777216 ≤ given_of d
 
+-- that a job was stopped is a cause over a prompt post only where it saw a job's flag raised
+-- meanwhile
+abbrev pub SawStop : PostView → PostView → Cause → Type 0
+SawStop p q NoMemory = ⊤
+SawStop p q NoRoom = ⊤
+SawStop p q Stopped = p.is_prompt ≡ true → p.stops < q.stops
+SawStop p q NumbersSpent = ⊤
+
 -- a cause, if there is one, is explained by the answers that a post gave meanwhile, at its limit,
--- or by an issue that was refused meanwhile
+-- and where that is a stop by a flag that it saw raised, or by an issue that was refused meanwhile
 pub record TellsCause (p q : PostView) (old new : BookState) (cause : Option Cause)
     : Type 0 where
   pub later : List JobResult
   pub gave : q.answers ≡ p.answers ++ later
   pub explained : IfSome cause (Explains p.limit old new later)
+  pub stopped : IfSome cause (SawStop p q)
 
 -- a post serves a desk: it is of the desk's table, and no number that it took is still to be
 -- given
@@ -110,7 +119,8 @@ pub record Settles (old new : BookState) (turns : ℕ) (post : PostView) : Type 
 -- the post is over or was asked in every turn
 abbrev pub IsWhy : ℕ → PostView → PostView → BookState → BookState → List JobResult
     → Option Cause → Type 0
-IsWhy turns p q old new later (Some cause) = Explains p.limit old new later cause
+IsWhy turns p q old new later (Some cause) =
+    Explains p.limit old new later cause × SawStop p q cause
 IsWhy turns p q old new later None = (q.is_over ≡ true) ⊎ (p.asked + turns ≤ q.asked)
 
 -- settling over these answers ends with every bookmark current, or with so many pending and why

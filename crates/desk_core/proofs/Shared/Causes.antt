@@ -8,7 +8,8 @@ use Rattle.std.proofs.lemmas.List.{get_or-append-add}
 use Rattle.step_engine.specs.declared.evolved.EvolveFault.{EvolveFault}
 use Rattle.revision_jobs.specs.Answer.{JobResult}
 use Rattle.revision_jobs.specs.Entries.{entry_of}
-use Rattle.revision_jobs.specs.Posted.{IsOwnAnswer}
+use Rattle.revision_jobs.specs.Posted.{IsOwnAnswer, PostView, Receives}
+use Rattle.revision_jobs.specs.declared.post.Received.TheVariants.{Answer}
 use Rattle.revision_jobs.specs.Room.{HasNoRoom}
 use Rattle.revision_jobs.specs.declared.entries.Entries.{Entries}
 use Rattle.dependency_book.specs.Jobs.{SameBook}
@@ -21,7 +22,7 @@ use Rattle.desk_core.specs.declared.issue.IssueFault.TheVariants as issue
 use Rattle.desk_core.specs.Cause.{cause_of_answer, cause_of_issue}
 use Rattle.desk_core.specs.Collected.{IsCollected}
 use Rattle.desk_core.specs.Issued.{RefusesIssue}
-use Rattle.desk_core.specs.Settling.{Explains, RanOut}
+use Rattle.desk_core.specs.Settling.{Explains, RanOut, SawStop}
 use Rattle.desk_core.proofs.Shared.Given.{same_given}
 
 -- one of more answers
@@ -104,6 +105,46 @@ explains-refused limit first old new answers issue.NumbersSpent before h =
     subst (λ (d : BookState). 16777216 ≤ given_of d) (sym h.2) h.1
 explains-refused limit first old new answers issue.NoMemory before h =
     inr (subst (RanOut first) (sym h.2) (omega (arith, before), h.1))
+
+-- and over a prompt post a stop only where it saw a flag raised
+
+saw-released : (begun p q : PostView) (answer : JobResult) (fault : EvolveFault) → p.is_prompt ≡ begun.is_prompt
+    → begun.stops ≤ p.stops → Receives p q (Answer answer) → answer.outcome ≡ Err fault
+    → SawStop begun q (cause_of_answer fault)
+saw-released begun p q answer EvolveFault.NoMemory kind before receives gave = tt
+saw-released begun p q answer EvolveFault.NoRoom kind before receives gave = tt
+saw-released begun p q answer EvolveFault.Stopped kind before receives gave = λ prompt.
+    let once = (receives.stopped (kind ∙ prompt)).stopped gave in omega (arith, before, once)
+
+saw-first : (begun q : PostView) (before : Option Cause) (cause : Cause) → SawStop begun q cause
+    → IfSome before (SawStop begun q) → SawStop begun q (unwrap_or before cause)
+saw-first begun q None cause h was = h
+saw-first begun q (Some c) cause h was = was
+
+pub saw-collected : (begun p q : PostView) (old new : BookState) (answer : JobResult) (before : Option Cause)
+    (fault : EvolveFault) (told cause : Cause) → p.is_prompt ≡ begun.is_prompt → begun.stops ≤ p.stops
+    → Receives p q (Answer answer) → IsCollected old new answer (Released fault) → told ≡ cause_of_answer fault
+    → cause ≡ unwrap_or before told → IfSome before (SawStop begun q) → SawStop begun q cause
+saw-collected begun p q old new answer before fault told cause kind stops receives h is told_first so =
+    subst (SawStop begun q) (sym told_first) (saw-first begun q before told
+    (subst (SawStop begun q) (sym is) (saw-released begun p q answer fault kind stops receives h.gave_up)) so)
+
+-- what was seen raised was so however many more are
+saw-more : (begun p q : PostView) (cause : Cause) → p.stops ≤ q.stops → SawStop begun p cause → SawStop begun q cause
+saw-more begun p q NoMemory more h = tt
+saw-more begun p q NoRoom more h = tt
+saw-more begun p q WasStopped more h = λ prompt. let was = h prompt in omega (arith, more, was)
+saw-more begun p q NumbersSpent more h = tt
+
+pub saw-on : (begun p q : PostView) (cause : Option Cause) → p.stops ≤ q.stops → IfSome cause (SawStop begun p)
+    → IfSome cause (SawStop begun q)
+saw-on begun p q None more h = tt
+saw-on begun p q (Some cause) more h = saw-more begun p q cause more h
+
+-- the refusal of an issue is no stop
+pub saw-refused : (p q : PostView) (fault : IssueFault) → SawStop p q (cause_of_issue fault)
+saw-refused p q issue.NumbersSpent = tt
+saw-refused p q issue.NoMemory = tt
 
 -- what explains a cause explains it while no more numbers are given and no issue is refused
 pub explains-cancelled : (limit : ℕ) (first old new : BookState) → SameBook old new → (answers : List JobResult)

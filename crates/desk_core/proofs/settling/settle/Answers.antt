@@ -30,7 +30,7 @@ returns-clause-ends g c =
       ends = ends-so c.args.turns p q c.args.desk.now c.cancel.new.desk told.later c.pending.result run.result.cause _
           c.ending.ensures c.pending.ensures.count c.pending.ensures.bound
           (λ some. why-left c.args.turns c.args.desk.now run.new.desk c.cancel.new.desk p q run.result c.pending.result told.later
-          run.ensures.ended c.cancel.ensures c.pending.ensures.count some told.explained);
+          run.ensures.ended c.cancel.ensures c.pending.ensures.count some told.explained told.stopped);
     }
 
 pub returns-clause-caused : goal.returns-clause-caused
