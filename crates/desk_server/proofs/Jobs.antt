@@ -26,7 +26,7 @@ use Rattle.dependency_book.specs.BookState.{BookState, given_of, row_of, expecte
 use Rattle.desk_events.specs.Wanted.{bookmark_in}
 use Rattle.desk_core.specs.declared.cause.Cause.{Cause}
 use Rattle.revision_jobs.specs.Posted.{PostView}
-use Rattle.desk_core.specs.Settling.{Explains, IsHeld, IsWhy, ServesOn}
+use Rattle.desk_core.specs.Settling.{Explains, IsHeld, IsWhy, SawStop, ServesOn}
 use Rattle.desk_server.specs.Jobs.{Carries, CarriesOn, IsFresh, DropsJobs, IsDoneWith, KeepsCauses}
 use Rattle.std.proofs.Common.{length}
 use Rattle.desk_core.proofs.Shared.Given.{same_given}
@@ -201,7 +201,13 @@ causes_kept limit first old new answers (Some cause) keeps h = keeps limit first
 pub why_explained : (turns : ℕ) (p q : PostView) (old new : BookState) (later : List JobResult) (cause : Option Cause)
     → IsWhy turns p q old new later cause → IfSome cause (Explains p.limit old new later)
 why_explained turns p q old new later None h = tt
-why_explained turns p q old new later (Some cause) h = h
+why_explained turns p q old new later (Some cause) h = h.0
+
+-- and that a job was stopped is told of a prompt post only where it saw a flag raised
+pub why_stopped : (turns : ℕ) (p q : PostView) (old new : BookState) (later : List JobResult) (cause : Option Cause)
+    → IsWhy turns p q old new later cause → IfSome cause (SawStop p q)
+why_stopped turns p q old new later None h = tt
+why_stopped turns p q old new later (Some cause) h = h.1
 
 -- a cause that is told
 pub none_untold : (cause : Option Cause) (fact : Type 0) → IsSome cause → IfNone cause fact

@@ -1,5 +1,5 @@
 use Rattle.std.proofs.Common.{inl}
-use Rattle.desk_server.proofs.Jobs.{carries_served, carries_on, causes_kept, none_untold, why_explained}
+use Rattle.desk_server.proofs.Jobs.{carries_served, carries_on, causes_kept, none_untold, why_explained, why_stopped}
 use Rattle.desk_server.proofs.serve.compute.Goals as goal
 
 pub returns-in-Settled-clause-post : goal.returns-in-Settled-clause-post
@@ -17,7 +17,8 @@ returns-in-Settled-clause-given_up g c = inl c.in-Settled.ensures.ends.ends
 
 pub returns-in-Settled-clause-explained : goal.returns-in-Settled-clause-explained
 returns-in-Settled-clause-explained g c =
-    let over = c.in-Settled.ensures.ends in record { later = over.later; gave = over.gave; explained = tt }
+    let over = c.in-Settled.ensures.ends in
+    record { later = over.later; gave = over.gave; explained = tt; stopped = tt }
 
 pub returns-in-Unsettled-clause-explained : goal.returns-in-Unsettled-clause-explained
 returns-in-Unsettled-clause-explained g c =
@@ -28,6 +29,8 @@ returns-in-Unsettled-clause-explained g c =
       explained = causes_kept _ c.args.desk.now c.settle.new.desk c.give_up.new.desk over.later c.in-Unsettled.cause
           c.give_up.ensures.causes (why_explained _ (g.P.Post.view c.args.post.now) (g.P.Post.view c.settle.new.post)
           c.args.desk.now c.settle.new.desk over.later c.in-Unsettled.cause over.ends.3);
+      stopped = why_stopped _ (g.P.Post.view c.args.post.now) (g.P.Post.view c.settle.new.post) c.args.desk.now
+          c.settle.new.desk over.later c.in-Unsettled.cause over.ends.3;
     }
 
 pub returns-in-Unsettled-clause-caused : goal.returns-in-Unsettled-clause-caused
