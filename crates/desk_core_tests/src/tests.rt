@@ -359,6 +359,15 @@ const WITHOUT_ROOM: &[Act] = &[
     Act::FirstOut(None),
 ];
 
+// The flag that was raised is that of one job: the next settling issues another.
+const STOPPED_WHILE_SETTLING: &[Act] = &[
+    Act::SettleStopped,
+    Act::FirstOut(None),
+    Act::Waits(1),
+    Act::Settle,
+    Act::Shows(1, "1 2\n"),
+];
+
 // The first poll sends the step to 8. The second finds its pattern and sends the view, whose text the
 // third finds.
 const POLLED: &[Act] = &[
@@ -400,6 +409,9 @@ fn steps_that_were_computed_are_remembered(rt: HostRuntime) {
     let alloc = rt.alloc();
     play_keeping(&rt, alloc, 64, CHANGED_AND_PUT_BACK, STEP_IS_REMEMBERED);
     play_keeping(&rt, alloc, 4096, CHANGED_AND_PUT_BACK, STEP_IS_REMEMBERED);
+    // Behind it there are two more.
+    play_keeping(&rt, alloc, 3, CHANGED_AND_PUT_BACK, STEP_IS_REMEMBERED);
+    play_keeping(&rt, alloc, 2, CHANGED_AND_PUT_BACK, STEP_IS_FORGOTTEN);
     play_keeping(&rt, alloc, 1, CHANGED_AND_PUT_BACK, STEP_IS_FORGOTTEN);
     play_keeping(&rt, alloc, 1, &[], STEP_IS_KNOWN_AT_ONCE);
 }
@@ -501,6 +513,11 @@ fn refused_job_is_cancelled(rt: HostRuntime) {
 #[test]
 fn too_little_room_is_told(rt: HostRuntime) {
     play(&rt, rt.alloc(), ONE_CELL, WITHOUT_ROOM);
+}
+
+#[test]
+fn a_stop_is_told(rt: HostRuntime) {
+    play(&rt, rt.alloc(), AT_8, STOPPED_WHILE_SETTLING);
 }
 
 #[test]

@@ -80,6 +80,9 @@ pub(super) enum Act {
     SettleInNoRoom(Settling),
     /// Settles with no turn, which ends so.
     SettleInNoTurn(Settling),
+    /// Feeds a post without threads, asks it to stop, and settles over it. Of one bookmark that is
+    /// pending none is computed then.
+    SettleStopped,
     /// Settles with so many turns over a post that loses each job.
     Lose(u32),
     /// Settles with so many turns over a post that is closed.
@@ -167,6 +170,7 @@ impl<'e> Bench<'e> {
             Act::SettleInNoTurn(wanted) => {
                 same(rt, &self.settled(rt, SQUARES, 0), &wanted, act);
             }
+            Act::SettleStopped => self.settle_stopped(rt),
             Act::Lose(turns) => self.settle_over_losing(rt, turns),
             Act::Closed(turns) => self.settle_over_refusing(rt, turns, true),
             Act::Full(turns) => self.settle_over_refusing(rt, turns, false),
@@ -271,6 +275,19 @@ impl<'e> Bench<'e> {
         let again = self.settled(rt, SQUARES, TURNS);
         same(rt, &again, &Settling::Settled, &"settled again");
         panic!(rt; "memory");
+    }
+
+    // Settles over a post without threads that was asked to stop what it holds.
+    fn settle_stopped<R: Abort + Wait>(&mut self, rt: &R) {
+        let mut post = InlinePost::new(self.alloc, self.entries, SQUARES);
+        feed(rt, &mut self.desk, &mut post);
+        self.desk.stop_all();
+        let stopped = Settling::Unsettled {
+            pending: 1,
+            cause: Some(Cause::Stopped),
+        };
+        let left = settle(rt, &mut self.desk, &mut post, TURNS);
+        same(rt, &left, &stopped, &"stopped");
     }
 
     // Settles over a post that loses its jobs, with one bookmark pending.
