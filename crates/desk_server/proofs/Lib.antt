@@ -6,6 +6,7 @@ pub mod Replies
 pub mod Parts
 pub mod Rounds
 pub mod Noted
+pub mod Pictured
 pub mod Plain
 pub mod RuleStates
 pub mod OneLine

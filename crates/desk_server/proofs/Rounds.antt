@@ -15,16 +15,17 @@ use Rattle.dependency_book.specs.BookState.{BookState}
 use Rattle.std.specs.List.{AllByRecursion}
 use Rattle.desk_server.specs.Shortage.{Shortage, IsCaused, AllCausedOver}
 use Rattle.desk_server.specs.Answer.{Ask, After, answer}
-use Rattle.desk_server.specs.Script.{asks, Between, afters, afters_with, document_after, documents_of, texts_of, replies_to, replies_by, replies_with}
+use Rattle.desk_server.specs.Script.{asks, Between, afters, afters_with, unless_bye, but_bye, texts_of, replies_to, replies_by, replies_with}
 use Rattle.desk_server.specs.Told.{reply_text, ends}
 use Rattle.desk_server.specs.Heard.{AsksIfAny, Hears, Gives, Serves, Served, BreaksOff}
 use Rattle.desk_server.specs.Run.{Answers, Finishes, StopsTelling, AnswersWhole, AnswersAll, AnswersFront}
 use Rattle.desk_server.specs.Ending.{Works, Completes}
-use Rattle.desk_server.specs.Watch.{NotesFront, NotesOrCounts, NotesScript, NotesReplies}
+use Rattle.desk_server.specs.Watch.{NotesFront, NotesEach, NotesScript, NotesReplies}
 use Rattle.desk_server.specs.declared.request.Request.{Request}
 use Rattle.desk_server.specs.declared.reply.Reply.{Reply}
 use Rattle.desk_server.specs.declared.reply.Reply.TheVariants as reply
 use Rattle.desk_server.proofs.Hearing.{follows-any}
+use Rattle.desk_server.proofs.Noted.{after_of}
 
 -- no failure was counted, and then none
 pub works_then : {R W : Type 0} (r s t : LineReading R) (w x y : CountedWriting W) → Works r s w x → Works s t x y
@@ -62,41 +63,37 @@ follows_nothing : (last : Bool) (new : Option (List ℕ)) (rest : List ℕ) → 
 follows_nothing false new rest h e = tt
 follows_nothing true new rest h e = (refl, at_end_nil new rest (h refl) e)
 
--- what is left after a reply
-abbrev after_of : BookState → Reply → After
-after_of k r = record { told = reply_text k r; plan = k.plan; ends = ends r }
-
 -- the answer to one command, and those to the rest
 after_is : (short : Shortage) (p : Plan) (ask : Ask) (r : Reply) (k : BookState) → Gives (answer short p ask) r k
     → (rest : List Ask) (later : List Shortage)
     → afters p (ask ∷ rest) (short ∷ later) ≡ after_of k r ∷ cond (ends r) [] (afters k.plan rest later)
 after_is short p ask r k e rest later = ap (λ (a : After). a ∷ cond a.ends [] (afters a.plan rest later)) e
 
--- of two lists of answers, the texts and the documents
+-- of two lists of answers, the texts and those but `bye`
 texts-append : (xs ys : List After) → texts_of (xs ++ ys) ≡ texts_of xs ++ texts_of ys
 texts-append = flat_map-append (λ (a : After). a.told)
 
-documents-append : (xs ys : List After) → documents_of (xs ++ ys) ≡ documents_of xs ++ documents_of ys
-documents-append = flat_map-append document_after
+but_bye-append : (xs ys : List After) → but_bye (xs ++ ys) ≡ but_bye xs ++ but_bye ys
+but_bye-append = flat_map-append unless_bye
 
 -- one answer alone
 wrote_one : (before after : Option (List ℕ)) (k : BookState) (r : Reply) → Appends before after (reply_text k r)
     → Appends before after (texts_of (after_of k r ∷ []))
 wrote_one before after k r w = subst (Appends before after) (sym (append-nil (reply_text k r))) w
 
-noted_one : (noted : List Plan → Type 0) (k : BookState) (r : Reply) → r ≢ reply.Bye → noted (k.plan ∷ [])
-    → noted (documents_of (after_of k r ∷ []))
-noted_one noted k r other h = subst (λ v. noted (cond v [] (k.plan ∷ []) ++ [])) (sym (ends-other r other)) h
+noted_one : (noted : List After → Type 0) (k : BookState) (r : Reply) → r ≢ reply.Bye → noted (after_of k r ∷ [])
+    → noted (but_bye (after_of k r ∷ []))
+noted_one noted k r other h = subst (λ v. noted (cond v [] (after_of k r ∷ []) ++ [])) (sym (ends-other r other)) h
 
-noted_bye : (noted : List Plan → Type 0) (k : BookState) (r : Reply) → r ≡ reply.Bye → noted []
-    → noted (documents_of (after_of k r ∷ []))
-noted_bye noted k r bye h = subst (λ v. noted (cond (ends v) [] (k.plan ∷ []) ++ [])) (sym bye) h
+noted_bye : (noted : List After → Type 0) (k : BookState) (r : Reply) → r ≡ reply.Bye → noted []
+    → noted (but_bye (after_of k r ∷ []))
+noted_bye noted k r bye h = subst (λ v. noted (cond (ends v) [] (after_of k r ∷ []) ++ [])) (sym bye) h
 
 -- nothing was asked
 asked_nothing : (heard : Option Request) (asked : List Ask) → heard ≡ None → AsksIfAny heard asked → asked ≡ []
 asked_nothing heard asked e is = subst (λ o. AsksIfAny o asked) e is
 
-pub goes_on_silent : (noted : List Plan → Type 0) (prompt : Bool) (old new : Ahead) (told : Option (List ℕ))
+pub goes_on_silent : (noted : List After → Type 0) (prompt : Bool) (old new : Ahead) (told : Option (List ℕ))
     (heard : Option Request) (last : Bool) (k : BookState) (n m : ℕ) → noted [] → heard ≡ None → last ≡ false
     → (h : Hears old new Between heard last n m) → Answers noted prompt old new told told k.plan k.plan n m
 goes_on_silent noted prompt old new told heard last k n m notes none e h = record {
@@ -113,7 +110,7 @@ goes_on_silent noted prompt old new told heard last k n m notes none e h = recor
       (asked_nothing heard h.asked none h.is));
 }
 
-pub done_silent : (noted : List Plan → Type 0) (prompt : Bool) (old new : Ahead) (told : Option (List ℕ))
+pub done_silent : (noted : List After → Type 0) (prompt : Bool) (old new : Ahead) (told : Option (List ℕ))
     (heard : Option Request) (last : Bool) (k : BookState) (n m : ℕ) → noted [] → heard ≡ None → last ≡ true
     → (h : Hears old new Between heard last n m) → Finishes noted prompt old new told told k.plan n
 done_silent noted prompt old new told heard last k n m notes none e h = record {
@@ -150,8 +147,8 @@ afters_from prompt old new heard last j k n m r h s stop more later f =
     (h.law stop more f ∙ ap (λ v. v ++ asks stop Between m (lines_until stop more)) s.1)
     ∙ after_is s.2.0 j.plan s.0 r k s.2.2 (asks stop Between m (lines_until stop more)) later
 
-pub goes_on_told : (noted : List Plan → Type 0) (prompt : Bool) (old new : Ahead) (before after : Option (List ℕ))
-    (heard : Option Request) (last : Bool) (j k : BookState) (n m : ℕ) (r : Reply) → noted (k.plan ∷ []) → last ≡ false
+pub goes_on_told : (noted : List After → Type 0) (prompt : Bool) (old new : Ahead) (before after : Option (List ℕ))
+    (heard : Option Request) (last : Bool) (j k : BookState) (n m : ℕ) (r : Reply) → noted (after_of k r ∷ []) → last ≡ false
     → r ≢ reply.Bye
     → (h : Hears old new Between heard last n m) → Served prompt r h.asked j k → Appends before after (reply_text k r)
     → Answers noted prompt old new before after j.plan k.plan n m
@@ -174,9 +171,9 @@ nothing_more true a = refl
 nothing_more false a = refl
 
 -- the last answer, behind which no command is answered
-done_told : (noted : List Plan → Type 0) (prompt : Bool) (old new : Ahead) (before after : Option (List ℕ))
+done_told : (noted : List After → Type 0) (prompt : Bool) (old new : Ahead) (before after : Option (List ℕ))
     (heard : Option Request) (last : Bool) (j k : BookState) (n m : ℕ) (r : Reply)
-    → noted (documents_of (after_of k r ∷ []))
+    → noted (but_bye (after_of k r ∷ []))
     → (h : Hears old new Between heard last n m) → Served prompt r h.asked j k → Appends before after (reply_text k r)
     → ((rest : List ℕ) → new.bytes ≡ Some rest
     → after_of k r ∷ cond (ends r) [] (afters k.plan (asks Ended Between m (lines_until Ended rest)) [])
@@ -193,8 +190,8 @@ done_told noted prompt old new before after heard last j k n m r notes h s w end
       (follows_nothing last new.bytes rest h.at_end x) ∙ ended rest x;
 }
 
-pub done_last : (noted : List Plan → Type 0) (prompt : Bool) (old new : Ahead) (before after : Option (List ℕ))
-    (heard : Option Request) (last : Bool) (j k : BookState) (n m : ℕ) (r : Reply) → noted (k.plan ∷ []) → r ≢ reply.Bye
+pub done_last : (noted : List After → Type 0) (prompt : Bool) (old new : Ahead) (before after : Option (List ℕ))
+    (heard : Option Request) (last : Bool) (j k : BookState) (n m : ℕ) (r : Reply) → noted (after_of k r ∷ []) → r ≢ reply.Bye
     → last ≡ true
     → (h : Hears old new Between heard last n m) → Served prompt r h.asked j k → Appends before after (reply_text k r)
     → Finishes noted prompt old new before after j.plan n
@@ -203,7 +200,7 @@ done_last noted prompt old new before after heard last j k n m r notes b e h s w
     (λ rest x. ap (λ v. after_of k r ∷ cond (ends r) [] (afters k.plan (asks Ended Between m (lines_until Ended v)) []))
     (at_end_nil new.bytes rest (h.at_end e) x) ∙ nothing_more (ends r) (after_of k r))
 
-pub done_bye : (noted : List Plan → Type 0) (prompt : Bool) (old new : Ahead) (before after : Option (List ℕ))
+pub done_bye : (noted : List After → Type 0) (prompt : Bool) (old new : Ahead) (before after : Option (List ℕ))
     (heard : Option Request) (last : Bool) (j k : BookState) (n m : ℕ) (r : Reply) → noted [] → r ≡ reply.Bye
     → (h : Hears old new Between heard last n m) → Served prompt r h.asked j k → Appends before after (reply_text k r)
     → Finishes noted prompt old new before after j.plan n
@@ -234,14 +231,14 @@ wrote_both : (x y z : Option (List ℕ)) (xs ys : List After) → Appends x y (t
 wrote_both x y z xs ys f g =
     subst (Appends x z) (sym (texts-append xs ys)) (Appends-trans x y z (texts_of xs) (texts_of ys) f g)
 
-notes_both : (first next both : List Plan → Type 0) → ((ps qs : List Plan) → first ps → next qs → both (ps ++ qs))
-    → (xs ys : List After) → first (documents_of xs) → next (documents_of ys) → both (documents_of (xs ++ ys))
+notes_both : (first next both : List After → Type 0) → ((ps qs : List After) → first ps → next qs → both (ps ++ qs))
+    → (xs ys : List After) → first (but_bye xs) → next (but_bye ys) → both (but_bye (xs ++ ys))
 notes_both first next both join xs ys f g =
-    subst both (sym (documents-append xs ys)) (join (documents_of xs) (documents_of ys) f g)
+    subst both (sym (but_bye-append xs ys)) (join (but_bye xs) (but_bye ys) f g)
 
 -- what was answered, and then what was answered next
-pub answers_answers : (first next both : List Plan → Type 0) (prompt : Bool) (a b c : Ahead) (x y z : Option (List ℕ))
-    (p q s : Plan) (n m k : ℕ) → ((ps qs : List Plan) → first ps → next qs → both (ps ++ qs))
+pub answers_answers : (first next both : List After → Type 0) (prompt : Bool) (a b c : Ahead) (x y z : Option (List ℕ))
+    (p q s : Plan) (n m k : ℕ) → ((ps qs : List After) → first ps → next qs → both (ps ++ qs))
     → Answers first prompt a b x y p q n m → Answers next prompt b c y z q s m k → Answers both prompt a c x z p s n k
 answers_answers first next both prompt a b c x y z p q s n m k join f g = record {
   bytes = f.bytes ++ g.bytes;
@@ -260,8 +257,8 @@ answers_answers first next both prompt a b c x y z p q s n m k join f g = record
       ∙ sym (append_assoc f.given g.given (afters s (asks stop Between k (lines_until stop more)) later));
 }
 
-pub answers_finishes : (first next both : List Plan → Type 0) (prompt : Bool) (a b c : Ahead) (x y z : Option (List ℕ))
-    (p q : Plan) (n m : ℕ) → ((ps qs : List Plan) → first ps → next qs → both (ps ++ qs))
+pub answers_finishes : (first next both : List After → Type 0) (prompt : Bool) (a b c : Ahead) (x y z : Option (List ℕ))
+    (p q : Plan) (n m : ℕ) → ((ps qs : List After) → first ps → next qs → both (ps ++ qs))
     → Answers first prompt a b x y p q n m → Finishes next prompt b c y z q m → Finishes both prompt a c x z p n
 answers_finishes first next both prompt a b c x y z p q n m join f g = record {
   bytes = f.bytes ++ g.bytes;
@@ -277,7 +274,7 @@ answers_finishes first next both prompt a b c x y z p q n m join f g = record {
       ∙ f.law Ended (g.bytes ++ rest) g.shortages ∙ ap (λ v. f.given ++ v) (g.law rest e);
 }
 
-pub answers_stops : (noted : List Plan → Type 0) (prompt : Bool) (a b c : Ahead) (x y z : Option (List ℕ)) (p q : Plan)
+pub answers_stops : (noted : List After → Type 0) (prompt : Bool) (a b c : Ahead) (x y z : Option (List ℕ)) (p q : Plan)
     (n m : ℕ) → Answers noted prompt a b x y p q n m → StopsTelling prompt b c y z q m → StopsTelling prompt a c x z p n
 answers_stops noted prompt a b c x y z p q n m f g = record {
   bytes = f.bytes ++ g.bytes;
@@ -293,7 +290,7 @@ answers_stops noted prompt a b c x y z p q n m f g = record {
       (replies_to q (asks Ended Between m (lines_until Ended (g.bytes ++ rest))) g.shortages) f.wrote (g.law rest e));
 }
 
-pub answers_breaks : (noted : List Plan → Type 0) (prompt : Bool) (a b c : Ahead) (x y : Option (List ℕ)) (q : Plan)
+pub answers_breaks : (noted : List After → Type 0) (prompt : Bool) (a b c : Ahead) (x y : Option (List ℕ)) (q : Plan)
     (m : ℕ) → Answers noted prompt a b x y (opening 0) q 1 m → BreaksOff b c Between m → AnswersWhole prompt a c x y
 answers_breaks noted prompt a b c x y q m f g =
     let all : replies_by Broken (f.bytes ++ g.bytes) (f.shortages ++ []) ≡ texts_of f.given
@@ -307,7 +304,7 @@ answers_breaks noted prompt a b c x y q m f g =
     }
 
 -- at the beginning
-pub answers_none : (noted : List Plan → Type 0) (prompt : Bool) (a b : Ahead) (x : Option (List ℕ)) (p q : Plan) (n : ℕ)
+pub answers_none : (noted : List After → Type 0) (prompt : Bool) (a b : Ahead) (x : Option (List ℕ)) (p q : Plan) (n : ℕ)
     → noted [] → b ≡ a → q ≡ p → Answers noted prompt a b x x p q n n
 answers_none noted prompt a b x p q n notes e same = record {
   bytes = [];
@@ -321,10 +318,10 @@ answers_none noted prompt a b x p q n notes e same = record {
 }
 
 -- at the end
-all_finished : {V : Type 0} (notes : V → Plan → V → Type 0) (missed : ℕ) (old new : V) (prompt : Bool)
+all_finished : {V : Type 0} (notes : V → BookState → V → Type 0) (missed : ℕ) (old new : V) (prompt : Bool)
     (a c x z : Option (List ℕ)) (bytes : List ℕ) (given : List After) (shortages : List Shortage)
     → AllCausedOver prompt shortages → Consumes a c bytes → Appends x z (texts_of given)
-    → NotesOrCounts notes 0 missed old new (documents_of given)
+    → NotesEach notes 0 missed old new (but_bye given)
     → ((rest : List ℕ) → c ≡ Some rest → afters_with (bytes ++ rest) shortages ≡ given)
     → IfSome a (NotesScript notes missed prompt x z old new)
 all_finished notes missed old new prompt None c x z bytes given shortages caused taken wrote noted law = tt
@@ -336,11 +333,11 @@ all_finished notes missed old new prompt (Some script) (Some rest) x z bytes giv
       shortages = shortages;
       caused = caused;
       wrote = subst (λ v. Appends x z (texts_of v)) is wrote;
-      noted = subst (λ v. NotesOrCounts notes 0 missed old new (documents_of v)) is noted;
+      noted = subst (λ v. NotesEach notes 0 missed old new (but_bye v)) is noted;
     }
 
-pub finishes_all : {V : Type 0} (notes : V → Plan → V → Type 0) (missed : ℕ) (old new : V) (prompt : Bool) (a c : Ahead)
-    (x z : Option (List ℕ)) → Finishes (NotesOrCounts notes 0 missed old new) prompt a c x z (opening 0) 1
+pub finishes_all : {V : Type 0} (notes : V → BookState → V → Type 0) (missed : ℕ) (old new : V) (prompt : Bool) (a c : Ahead)
+    (x z : Option (List ℕ)) → Finishes (NotesEach notes 0 missed old new) prompt a c x z (opening 0) 1
     → IfSome a.bytes (NotesScript notes missed prompt x z old new)
 finishes_all notes missed old new prompt a c x z f =
     all_finished notes missed old new prompt a.bytes c.bytes x z f.bytes f.given f.shortages f.caused f.taken.consumed
@@ -361,15 +358,15 @@ all_told prompt (Some script) (Some rest) x z bytes given shortages caused taken
       wrote = subst (λ v. Appends x z (texts_of v)) is wrote;
     }
 
-pub finishes_told : (noted : List Plan → Type 0) (prompt : Bool) (a c : Ahead) (x z : Option (List ℕ))
+pub finishes_told : (noted : List After → Type 0) (prompt : Bool) (a c : Ahead) (x z : Option (List ℕ))
     → Finishes noted prompt a c x z (opening 0) 1 → IfSome a.bytes (AnswersAll prompt x z)
 finishes_told noted prompt a c x z f =
     all_told prompt a.bytes c.bytes x z f.bytes f.given f.shortages f.caused f.taken.consumed f.wrote f.law
 
 -- so its run completes, and what was noted of it is known
-pub completed : {R W V : Type 0} (notes : V → Plan → V → Type 0) (missed : ℕ) (old new : V) (prompt : Bool)
+pub completed : {R W V : Type 0} (notes : V → BookState → V → Type 0) (missed : ℕ) (old new : V) (prompt : Bool)
     (r s : LineReading R) (w x : CountedWriting W)
-    → Finishes (NotesOrCounts notes 0 missed old new) prompt r.ahead s.ahead w.contents x.contents (opening 0) 1
+    → Finishes (NotesEach notes 0 missed old new) prompt r.ahead s.ahead w.contents x.contents (opening 0) 1
     → Works r s w x → Completes prompt r s w x × NotesReplies notes missed prompt r w x old new
 completed notes missed old new prompt r s w x f works = (
   record { answered = finishes_told _ prompt r.ahead s.ahead w.contents x.contents f; works = works },
@@ -394,9 +391,9 @@ stops_front prompt a c x z f =
     front_stopped prompt a.bytes c.bytes x z f.bytes f.shortages f.caused f.taken.consumed f.law
 
 -- where it stops before the end
-front_noted : {V : Type 0} (notes : V → Plan → V → Type 0) (missed : ℕ) (old new : V) (prompt : Bool)
+front_noted : {V : Type 0} (notes : V → BookState → V → Type 0) (missed : ℕ) (old new : V) (prompt : Bool)
     (a c : Option (List ℕ)) (bytes : List ℕ) (given : List After) (shortages : List Shortage)
-    → AllCausedOver prompt shortages → Consumes a c bytes → NotesOrCounts notes 0 missed old new (documents_of given)
+    → AllCausedOver prompt shortages → Consumes a c bytes → NotesEach notes 0 missed old new (but_bye given)
     → ((rest : List ℕ) → (later : List After) × (afters_with (bytes ++ rest) shortages ≡ given ++ later))
     → IfSome a (NotesFront notes prompt old new)
 front_noted notes missed old new prompt None c bytes given shortages caused taken noted law = tt
@@ -411,9 +408,9 @@ front_noted notes missed old new prompt (Some script) (Some rest) bytes given sh
   noted = noted;
 }
 
-pub begun : {V : Type 0} (notes : V → Plan → V → Type 0) (missed : ℕ) (old new : V) (prompt : Bool) (a c : Ahead)
+pub begun : {V : Type 0} (notes : V → BookState → V → Type 0) (missed : ℕ) (old new : V) (prompt : Bool) (a c : Ahead)
     (x y : Option (List ℕ)) (q : Plan) (m : ℕ)
-    → Answers (NotesOrCounts notes 0 missed old new) prompt a c x y (opening 0) q 1 m
+    → Answers (NotesEach notes 0 missed old new) prompt a c x y (opening 0) q 1 m
     → IfSome a.bytes (NotesFront notes prompt old new)
 begun notes missed old new prompt a c x y q m f =
     front_noted notes missed old new prompt a.bytes c.bytes f.bytes f.given (f.shortages ++ [])
@@ -421,7 +418,7 @@ begun notes missed old new prompt a c x y q m f =
     (λ rest. (afters q (asks Ended Between m (lines_until Ended rest)) [], f.law Ended rest []))
 
 -- where nothing was read
-pub none_begun : {V : Type 0} (notes : V → Plan → V → Type 0) (v : V) (prompt : Bool) (bytes : Option (List ℕ))
+pub none_begun : {V : Type 0} (notes : V → BookState → V → Type 0) (v : V) (prompt : Bool) (bytes : Option (List ℕ))
     → IfSome bytes (NotesFront notes prompt v v)
 none_begun notes v prompt None = tt
 none_begun notes v prompt (Some script) = record {

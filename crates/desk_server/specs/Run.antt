@@ -7,12 +7,12 @@ use Rattle.script_lines.specs.Faults.{AppendsFront}
 use Rattle.schedule.specs.Plan.{Plan}
 use Rattle.desk_server.specs.Shortage.{Shortage, AllCausedOver}
 use Rattle.desk_server.specs.Answer.{After}
-use Rattle.desk_server.specs.Script.{asks, Between, afters, documents_of, texts_of}
+use Rattle.desk_server.specs.Script.{asks, Between, afters, but_bye, texts_of}
 use Rattle.desk_server.specs.Script.{replies_to, replies_by, replies_with}
 
 -- something was heard and answered: whatever follows, the answers are those that were given, which
--- were written, and then those to what follows; and `noted` holds of the documents after them
-pub record Answers (noted : List Plan → Type 0) (prompt : Bool) (old new : Ahead)
+-- were written, and then those to what follows; and `noted` holds of those but `bye`
+pub record Answers (noted : List After → Type 0) (prompt : Bool) (old new : Ahead)
     (before after : Option (List ℕ)) (p q : Plan) (n m : ℕ)
     : Type 0 where
   pub bytes : List ℕ
@@ -21,13 +21,13 @@ pub record Answers (noted : List Plan → Type 0) (prompt : Bool) (old new : Ahe
   pub given : List After
   pub taken : Takes old new bytes
   pub wrote : Appends before after (texts_of given)
-  pub notes : noted (documents_of given)
+  pub notes : noted (but_bye given)
   pub law : (stop : End) (more : List ℕ) (later : List Shortage)
       → afters p (asks stop Between n (lines_until stop (bytes ++ more))) (shortages ++ later)
       ≡ given ++ afters q (asks stop Between m (lines_until stop more)) later
 
--- the script was answered to its end, and `noted` holds of the documents after the answers
-pub record Finishes (noted : List Plan → Type 0) (prompt : Bool) (old new : Ahead)
+-- the script was answered to its end, and `noted` holds of the answers but `bye`
+pub record Finishes (noted : List After → Type 0) (prompt : Bool) (old new : Ahead)
     (before after : Option (List ℕ)) (p : Plan) (n : ℕ)
     : Type 0 where
   pub bytes : List ℕ
@@ -36,7 +36,7 @@ pub record Finishes (noted : List Plan → Type 0) (prompt : Bool) (old new : Ah
   pub taken : Takes old new bytes
   pub given : List After
   pub wrote : Appends before after (texts_of given)
-  pub notes : noted (documents_of given)
+  pub notes : noted (but_bye given)
   pub law : (rest : List ℕ) → new.bytes ≡ Some rest
       → afters p (asks Ended Between n (lines_until Ended (bytes ++ rest))) shortages ≡ given
 

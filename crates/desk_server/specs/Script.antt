@@ -70,6 +70,13 @@ document_after after = if after.ends then [] else after.plan ∷ []
 abbrev pub documents_of : List After → List Plan
 documents_of = flat_map document_after
 
+-- the answers, without the one that ends the script
+abbrev pub unless_bye : After → List After
+unless_bye after = if after.ends then [] else after ∷ []
+
+abbrev pub but_bye : List After → List After
+but_bye = flat_map unless_bye
+
 -- the texts of replies
 abbrev pub texts_of : List After → List ℕ
 texts_of = flat_map (λ (after : After). after.told)

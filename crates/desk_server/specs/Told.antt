@@ -1,5 +1,6 @@
 -- How a reply reads, with the texts that the desk knows.
-use Rattle.std.specs.Prelude.{◌≡◌, ℕ, List, ◌++◌, Bool, true, false, Option, None, Some, IfSome, is_some, decimal, flat_map, ⊤}
+use Rattle.std.specs.Prelude.{◌≡◌, ℕ, List, ◌++◌, Bool, true, false, Option, None, Some, IfSome, IsSome, is_some, decimal, flat_map, ⊤}
+use Rattle.std.specs.List.{AllByRecursion}
 use Rattle.std.specs.Fmt.{signed_decimal}
 use Rattle.schedule.specs.declared.document.Bookmark.{Bookmark}
 use Rattle.schedule.specs.declared.fault.EditFault.TheVariants.{NoSuchBookmark}
@@ -8,6 +9,7 @@ use Rattle.revision_jobs.specs.Posted.{PostView}
 use Rattle.dependency_book.specs.BookState.{BookState, text_known, pending_of, NothingOut}
 use Rattle.desk_events.specs.Wanted.{bookmark_in}
 use Rattle.dependency_book.specs.Shown.{IsPending}
+use Rattle.dependency_book.specs.ShownRows.{shown_rows}
 use Rattle.desk_core.specs.Polling.{Polls}
 use Rattle.desk_core.specs.Settling.{Explains}
 use Rattle.desk_server.specs.declared.command.Command.{Command}
@@ -51,6 +53,17 @@ row_line r = bookmark_line r.0 (is_some r.1)
 abbrev pub ends : Reply → Bool
 ends reply.Bye = true
 ends _ = false
+
+-- the text of each bookmark is known
+abbrev pub AllKnown : BookState → Type 0
+AllKnown d = AllByRecursion (λ (row : Bookmark × Option (List ℕ)). IsSome row.1) (shown_rows d)
+
+-- what a reply tells of how many bookmarks are pending is so of the desk
+abbrev pub TellsPending : Reply → BookState → Type 0
+TellsPending reply.Settled d = AllKnown d
+TellsPending (reply.Unsettled pending cause) d = pending ≡ pending_of d
+TellsPending (reply.Polled pending cause) d = pending ≡ pending_of d
+TellsPending _ d = ⊤
 
 -- the command takes answers from the post
 abbrev pub TakesAnswers : Command → Type 0

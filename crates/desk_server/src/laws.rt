@@ -1,7 +1,7 @@
 //! Laws of the definitions, each the contract of a function that does nothing.
 ghost use Rattle.desk_server.specs.OneLine.{DocumentsAreSound, OneLineWithoutBranch};
 ghost use Rattle.desk_server.specs.Plain.{PlainWithoutShortages};
-ghost use Rattle.desk_server.specs.Watch.{ShowsAllUnlessCounted};
+ghost use Rattle.desk_server.specs.Watch.{ShowsAllUnlessCounted, ShowsWhatIsTold};
 
 /// Where no reply shows a want, the replies are those where none is met.
 pub fn plain_without_shortages()
@@ -19,7 +19,13 @@ pub fn one_line_without_branch()
     ensures { OneLineWithoutBranch }
 {}
 
-/// Where no snapshot was refused, the history has one more for each document, in order.
+/// Where no snapshot was refused, the history has one more for each reply but `bye`, in order.
 pub fn shows_all_unless_counted()
     ensures { ShowsAllUnlessCounted }
+{}
+
+/// A snapshot shows what the reply before it tells: after `settled` each row has its text, and the
+/// bookmark that is shown has in its row the text that was told, or none where it is pending.
+pub fn shows_what_is_told()
+    ensures { ShowsWhatIsTold }
 {}

@@ -35,7 +35,8 @@ mod words;
 
 pub use desk_core::{Entries, InlinePost, Post};
 pub use laws::{
-    documents_are_sound, one_line_without_branch, plain_without_shortages, shows_all_unless_counted,
+    documents_are_sound, one_line_without_branch, plain_without_shortages,
+    shows_all_unless_counted, shows_what_is_told,
 };
 pub use script_lines::{CountedReader, CountedWriter};
 pub use server::{RunFault, run, run_with_board};

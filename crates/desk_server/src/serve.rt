@@ -9,7 +9,7 @@ ghost use Rattle.desk_server.specs.Heard.{GivesBy, GivesOrLacks, Serves};
 ghost use Rattle.desk_server.specs.Jobs.{Carries, CarriesOn, DropsJobs};
 ghost use Rattle.desk_core.specs.Settling.{TellsCause};
 ghost use Rattle.desk_server.specs.Jobs.{IsDoneWith, KeepsCauses};
-ghost use Rattle.desk_server.specs.Told.{LeavesOver, PollsBy, TakesAnswers};
+ghost use Rattle.desk_server.specs.Told.{LeavesOver, PollsBy, TakesAnswers, TellsPending};
 
 use crate::command::Command;
 use crate::format::Format;
@@ -42,6 +42,7 @@ fn edit(desk: &mut Desk<'_>, edit: &Edit) -> Reply
     ensures answer { GivesOrLacks desk.old.plan (edited desk.old.plan (asked_of edit.now))
         result desk.new }
     ensures jobs { DropsJobs desk.old desk.new }
+    ensures pending { TellsPending result desk.new }
 {
     match desk.edit(edit) {
         Ok(edited) => Reply::Accepted {
@@ -58,6 +59,7 @@ fn take_rule(alloc: Global, desk: &mut Desk<'_>, text: &[u8]) -> Reply
     ensures answer { GivesOrLacks desk.old.plan (taken desk.old.plan Format.Rule text.now)
         result desk.new }
     ensures jobs { DropsJobs desk.old desk.new }
+    ensures pending { TellsPending result desk.new }
 {
     let rule = match Rule::read(alloc, text) {
         Ok(rule) => rule,
@@ -75,6 +77,7 @@ fn begin(desk: &mut Desk<'_>, start: Arc<Plane>, generation: u64) -> Reply
     ensures answer { GivesOrLacks desk.old.plan (started desk.old.plan generation (arc_value start))
         result desk.new }
     ensures jobs { DropsJobs desk.old desk.new }
+    ensures pending { TellsPending result desk.new }
 {
     let edited = match desk.edit(&Edit::ReplaceStart(start)) {
         Ok(edited) => edited,
@@ -92,6 +95,7 @@ fn take_start(alloc: Global, desk: &mut Desk<'_>, pattern: Loaded) -> Reply
     ensures answer { GivesOrLacks desk.old.plan
         (started desk.old.plan pattern.generation pattern.plane) result desk.new }
     ensures jobs { DropsJobs desk.old desk.new }
+    ensures pending { TellsPending result desk.new }
 {
     match Arc::new(alloc, pattern.plane) {
         Ok(start) => begin(desk, start, pattern.generation),
@@ -104,6 +108,7 @@ fn take_rle(alloc: Global, desk: &mut Desk<'_>, text: &[u8]) -> Reply
     ensures answer { GivesOrLacks desk.old.plan (taken desk.old.plan Format.Rle text.now)
         result desk.new }
     ensures jobs { DropsJobs desk.old desk.new }
+    ensures pending { TellsPending result desk.new }
 {
     match read_rle(alloc, text) {
         Ok(pattern) => take_start(alloc, desk, pattern),
@@ -116,6 +121,7 @@ fn take_macrocell(alloc: Global, desk: &mut Desk<'_>, text: &[u8]) -> Reply
     ensures answer { GivesOrLacks desk.old.plan (taken desk.old.plan Format.Macrocell text.now)
         result desk.new }
     ensures jobs { DropsJobs desk.old desk.new }
+    ensures pending { TellsPending result desk.new }
 {
     match read_mc(alloc, text) {
         Ok(pattern) => take_start(alloc, desk, pattern),
@@ -128,6 +134,7 @@ fn take(alloc: Global, desk: &mut Desk<'_>, format: Format, text: &[u8]) -> Repl
     ensures answer { GivesOrLacks desk.old.plan (taken desk.old.plan format text.now)
         result desk.new }
     ensures jobs { DropsJobs desk.old desk.new }
+    ensures pending { TellsPending result desk.new }
 {
     match format {
         Format::Rule => take_rule(alloc, desk, text),
@@ -175,6 +182,7 @@ fn settle<P: Post>(rt: &impl Wait, desk: &mut Desk<'_>, post: &mut P) -> Reply
         result desk.new }
     ensures leaves { LeavesOver (P.view post.old) (P.view post.new) result desk.old desk.new }
     ensures post { CarriesOn (P.view post.old) (P.view post.new) desk.new }
+    ensures pending { TellsPending result desk.new }
 {
     let cause = compute(rt, desk, post);
     match desk.pending() {
@@ -190,6 +198,7 @@ fn work<P: Post>(rt: &impl Wait, desk: &mut Desk<'_>, post: &mut P) -> Reply
         (λ short. obeyed short desk.old.plan Command.Work) result desk.new }
     ensures silent { (P.view post.new).answers ≡ (P.view post.old).answers }
     ensures post { CarriesOn (P.view post.old) (P.view post.new) desk.new }
+    ensures pending { TellsPending result desk.new }
 {
     desk_core::feed(rt, desk, post);
     Reply::Working
@@ -203,6 +212,7 @@ fn show<P: Post>(rt: &impl Wait, desk: &mut Desk<'_>, post: &mut P, id: u64) -> 
     ensures at_once { ¬ IsPending desk.old id → (desk.new ≡ desk.old) × (post.new ≡ post.old) }
     ensures leaves { LeavesOver (P.view post.old) (P.view post.new) result desk.old desk.new }
     ensures post { CarriesOn (P.view post.old) (P.view post.new) desk.new }
+    ensures pending { TellsPending result desk.new }
 {
     if desk.shown(id) != Shown::Pending {
         return Reply::Shown { id };
@@ -222,6 +232,7 @@ fn poll<P: Post>(rt: &impl Wait, desk: &mut Desk<'_>, post: &mut P) -> Reply
     ensures leaves { LeavesOver (P.view post.old) (P.view post.new) result desk.old desk.new }
     ensures polls { PollsBy (P.view post.old) (P.view post.new) desk.old desk.new result }
     ensures post { CarriesOn (P.view post.old) (P.view post.new) desk.new }
+    ensures pending { TellsPending result desk.new }
 {
     let Polled { pending, cause } = desk_core::poll(rt, desk, post);
     // No document has more bookmarks than its own.
@@ -231,7 +242,9 @@ fn poll<P: Post>(rt: &impl Wait, desk: &mut Desk<'_>, post: &mut P) -> Reply
 
 // Shows a bookmark as it is known now.
 fn peek(desk: &Desk<'_>, id: u64) -> Reply
-    ensures { GivesBy true (λ short. obeyed short desk.now.plan (Command.Peek id)) result desk.now }
+    ensures answer { GivesBy true (λ short. obeyed short desk.now.plan (Command.Peek id)) result
+        desk.now }
+    ensures pending { TellsPending result desk.now }
 {
     // What the desk shows is what starting over gives.
     let _shown = desk.shown(id);
@@ -240,7 +253,9 @@ fn peek(desk: &Desk<'_>, id: u64) -> Reply
 
 // Lists what the document has.
 fn list(desk: &Desk<'_>) -> Reply
-    ensures { GivesBy true (λ short. obeyed short desk.now.plan Command.List) result desk.now }
+    ensures answer { GivesBy true (λ short. obeyed short desk.now.plan Command.List) result
+        desk.now }
+    ensures pending { TellsPending result desk.now }
 {
     let _plan = desk.document();
     Reply::Listed
@@ -253,6 +268,7 @@ fn obey<P: Post>(rt: &impl Wait, desk: &mut Desk<'_>, post: &mut P, command: Com
     ensures leaves { TakesAnswers command
         → LeavesOver (P.view post.old) (P.view post.new) result desk.old desk.new }
     ensures post { CarriesOn (P.view post.old) (P.view post.new) desk.new }
+    ensures pending { TellsPending result desk.new }
 {
     match command {
         Command::Edit(change) => edit(desk, &change),
@@ -280,6 +296,7 @@ pub(crate) fn serve<P: Post>(
         → TakesAnswers command
         → LeavesOver (P.view post.old) (P.view post.new) result desk.old desk.new }
     ensures post { CarriesOn (P.view post.old) (P.view post.new) desk.new }
+    ensures pending { TellsPending result desk.new }
 {
     match request {
         Request::Obey(command) => obey(rt, desk, post, command),

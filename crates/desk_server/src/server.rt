@@ -35,8 +35,8 @@ enum Device {
     Writer,
 }
 
-// Answers one command after another at a desk with the opening document, and lets the document
-// after each reply but `bye` be noted. Ok says how many were passed over.
+// Answers one command after another at a desk with the opening document, and lets the desk be noted
+// after each reply but `bye`. Ok says how often it was passed over.
 fn answer_commands<R: Read, W: Write, L: Ledger, M: Ledger, P: Post, V: Watch>(
     rt: &impl Wait,
     alloc: Global,
@@ -85,7 +85,7 @@ fn answer_commands<R: Read, W: Write, L: Ledger, M: Ledger, P: Post, V: Watch>(
     }
 }
 
-// `run`, while somebody looks on. Ok says how many documents were passed over.
+// `run`, while somebody looks on. Ok says how often the desk was passed over.
 fn answer_all<R: Read, W: Write, L: Ledger, M: Ledger, P: Post, V: Watch>(
     rt: &impl Wait,
     alloc: Global,
@@ -195,7 +195,7 @@ pub fn run_with_board<R: Read, W: Write, L: Ledger, M: Ledger, P: Post, B: Wait>
     ensures done { OnOk result
         (Completes (P.view post.old).is_prompt reader.old reader.new writer.old writer.new) }
 
-    // For each of these replies but `bye`, in order, a snapshot with the document after it was put
+    // For each of these replies but `bye`, in order, the snapshot of the desk that gave it was put
     // behind the history, or was refused, and so many were; 2^64 - 1 may stand for more. So it was
     // for a beginning of the replies where the run stopped before the script's end.
     ensures shown { NotesRun ShowsNext result (P.view post.old).is_prompt

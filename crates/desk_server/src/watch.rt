@@ -1,5 +1,5 @@
 //! Who looks on while a script is answered.
-ghost use Rattle.std.specs.Prelude.{◌≡◌, ◌∷◌, [], false, true};
+ghost use Rattle.std.specs.Prelude.{◌≡◌, false, true};
 ghost use Rattle.desk_server.specs.Watch.{NotesOrCounts};
 
 use desk_board::{Publisher, snapshot};
@@ -7,15 +7,15 @@ use desk_core::Desk;
 use std::alloc::Global;
 use std::sync::Wait;
 
-/// Notes the document of a desk after each reply. `notes` says what a note of a document changes.
+/// Notes a desk after each reply. `notes` says what a note of a desk changes.
 pub(crate) trait Watch {
-    ghost use Rattle.schedule.specs.Plan.{Plan};
+    ghost use Rattle.dependency_book.specs.BookState.{BookState};
 
-    ghost notes: { Self → Plan → Self → Type 0 };
+    ghost notes: { Self → BookState → Self → Type 0 };
 
-    /// Whether the desk's document was noted. Where it wasn't, nothing is changed.
+    /// Whether the desk was noted. Where it wasn't, nothing is changed.
     fn note(&mut self, alloc: Global, desk: &Desk<'_>) -> bool
-        ensures noted { result ≡ true → notes self.old desk.now.plan self.new }
+        ensures noted { result ≡ true → notes self.old desk.now self.new }
         ensures unchanged { result ≡ false → self.new ≡ self.old };
 }
 
@@ -50,9 +50,9 @@ impl<B: Wait> Watch for Publisher<B> {
     }
 }
 
-/// Notes the desk's document, or passes it over and counts that.
+/// Notes the desk, or passes it over and counts that.
 pub(crate) fn note<V: Watch>(watch: &mut V, alloc: Global, desk: &Desk<'_>, missed: &mut u64)
-    ensures { NotesOrCounts V.notes missed.old missed.new watch.old watch.new (desk.now.plan ∷ []) }
+    ensures { NotesOrCounts V.notes missed.old missed.new watch.old desk.now watch.new }
 {
     if !watch.note(alloc, desk) {
         *missed = missed.saturating_add(1);

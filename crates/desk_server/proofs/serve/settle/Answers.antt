@@ -1,6 +1,7 @@
 use Rattle.std.proofs.Common.{◌≢◌, rules}
 use Rattle.desk_server.specs.Shortage.{NoShortage}
 use Rattle.desk_server.proofs.Jobs.{nothing_out}
+use Rattle.desk_server.proofs.Pictured.{all_known}
 use Rattle.desk_server.proofs.Replies.{gives-unsettled}
 use Rattle.desk_server.proofs.serve.settle.Goals as goal
 
@@ -33,3 +34,6 @@ pub returns-in-0-clause-leaves : goal.returns-in-0-clause-leaves
 returns-in-0-clause-leaves g c =
     let told = c.compute-cause.ensures.explained in
     record { later = told.later; gave = told.gave; leaves = search rules }
+
+pub returns-in-0-clause-pending : goal.returns-in-0-clause-pending
+returns-in-0-clause-pending g c = all_known c.compute-cause.new.desk c.pending.ensures.right (search rules)

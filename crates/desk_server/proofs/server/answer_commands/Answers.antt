@@ -5,7 +5,7 @@ use Rattle.script_lines.proofs.Shared.Told.{wrote_is_err, wrote_is_ok}
 use Rattle.desk_server.specs.Ending.{Works}
 use Rattle.desk_server.specs.declared.reply.Reply.TheVariants as reply
 use Rattle.desk_server.proofs.Jobs.{carries_further}
-use Rattle.desk_server.proofs.Noted.{notes_join, notes_none}
+use Rattle.desk_server.proofs.Noted.{notes_join, notes_none, notes_one}
 use Rattle.desk_server.proofs.Rounds.{answers_none, answers_answers, answers_finishes, answers_stops, answers_breaks, begun, completed, stops_front, served, goes_on_silent, done_silent, goes_on_told, done_last, done_bye, stops_telling, works_then}
 use Rattle.desk_server.proofs.server.answer_commands.Goals as goal
 
@@ -105,7 +105,7 @@ returns-then-last-2 g c =
     let ends = answers_finishes _ _ _ _ _ _ _ _ _ _ _ _ _ _
     (notes_join g.V.Watch.notes 0 _ _ _ _ _) h.answered
     (done_last _ prompt _ _ _ _ _ _ c.script.desk c.serve-reply.new.desk _ _ c.serve-reply.result
-    c.note.ensures other c.if-last-2.true heard
+    (notes_one g.V.Watch.notes _ _ _ _ _ _ c.serve-reply.ensures.pending c.note.ensures) other c.if-last-2.true heard
     (served prompt c.in-Ok.heard.request c.in-Some.request heard.asked c.script.desk c.serve-reply.new.desk
     c.serve-reply.result c.in-Some.is heard.is (rw h.post.kind at c.serve-reply.ensures.answer))
     (wrote_is_ok _ _ c.send.result _ (sym c.is_err.ensures.value ∙ c.if-is_err.false) c.send.ensures.bytes)) in
@@ -124,7 +124,7 @@ script-preserved g c =
           answers_answers _ _ _ _ _ _ _ _ _ _ _ _ _ _ _ _
           (notes_join g.V.Watch.notes 0 _ _ _ _ _) h.answered
           (goes_on_told _ prompt _ _ _ _ _ _ c.script.desk c.serve-reply.new.desk _ _ c.serve-reply.result
-          c.note.ensures c.if-last-2.false other heard
+          (notes_one g.V.Watch.notes _ _ _ _ _ _ c.serve-reply.ensures.pending c.note.ensures) c.if-last-2.false other heard
           (served prompt c.in-Ok.heard.request c.in-Some.request heard.asked c.script.desk c.serve-reply.new.desk
           c.serve-reply.result c.in-Some.is heard.is (rw h.post.kind at c.serve-reply.ensures.answer))
           (wrote_is_ok _ _ c.send.result _ (sym c.is_err.ensures.value ∙ c.if-is_err.false) c.send.ensures.bytes));
