@@ -1,5 +1,6 @@
 mod Fed
 mod Known
+mod Looks
 mod Out
 mod Polls
 mod Run

@@ -4,6 +4,7 @@ pub mod Desk
 pub mod Edited
 pub mod Feed
 pub mod Issued
+pub mod Looks
 pub mod Polling
 pub mod Progress
 pub mod Run

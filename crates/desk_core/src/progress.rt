@@ -2,6 +2,7 @@
 ghost use Rattle.std.specs.Prelude.{◌≡◌, ◌≤◌, ◌*◌, ◌+◌, None, Some, true};
 ghost use Rattle.revision_jobs.specs.Entries.{IsOf};
 ghost use Rattle.dependency_book.specs.BookState.{wanting_of};
+ghost use Rattle.desk_core.specs.Looks.{LooksIfAnswered, LooksOn};
 ghost use Rattle.desk_core.specs.Progress.{Advances, Asks, Fits, Frees, GoesOn, GoesOnBy};
 ghost use Rattle.desk_core.specs.Progress.{GoesOnWith, HasCome, IsDoneBy, RunsOut, SeesAll};
 ghost use Rattle.desk_core.specs.Progress.{TakesNoMore, job_in, ready, stage};
@@ -10,6 +11,7 @@ ghost use Rattle.desk_core.specs.Settling.{GivesAtMost, HoldsAllOut, Serves, row
 use crate::cause::Cause;
 use crate::collect::Collected;
 use crate::desk::Desk;
+use crate::looking::Onlooker;
 use crate::unsent::Unsent;
 use revision_jobs::{Answer, Job, Post, Received, Sent};
 use std::mem;
@@ -35,12 +37,13 @@ impl Progress {
         }
     }
 
-    // Settles for at most so many turns.
-    pub(crate) fn run<P: Post>(
+    // Settles for at most so many turns, while somebody looks on.
+    pub(crate) fn run<P: Post, O: Onlooker>(
         rt: &impl Wait,
         desk: &mut Desk<'_>,
         post: &mut P,
         turns: u32,
+        onlooker: &mut O,
     ) -> Progress
         requires { Serves desk.old (P.view post.old) }
         ensures comes { HasCome desk.old (P.view post.old)
@@ -49,10 +52,13 @@ impl Progress {
         ensures ended { RunsOut turns (P.view post.old) (stage desk.new (P.view post.new) result) }
         ensures done { HoldsAllOut desk.old (P.view post.old) → 4 * rows_of desk.old ≤ turns →
             IsDoneBy (stage desk.new (P.view post.new) result) }
+        ensures looked { LooksOn O.sees (P.view post.old) (P.view post.new) desk.old
+            onlooker.old onlooker.new }
     {
+        onlooker.look(desk);
         let mut progress = Progress::begun();
         for _ in 0..turns {
-            match progress.turn(rt, desk, post) {
+            match progress.turn(rt, desk, post, onlooker) {
                 ControlFlow::Continue(()) => {}
                 ControlFlow::Break(()) => return progress,
             }
@@ -62,11 +68,12 @@ impl Progress {
 
     // A turn: one send, or one receive where there is nothing to send or the post had no room. The
     // settling ends where nothing is left to send and nothing is out.
-    fn turn<P: Post>(
+    fn turn<P: Post, O: Onlooker>(
         &mut self,
         rt: &impl Wait,
         desk: &mut Desk<'_>,
         post: &mut P,
+        onlooker: &mut O,
     ) -> ControlFlow<()>
         requires { Fits desk.old (P.view post.old) (job_in self.old.unsent) }
         ensures goes { GoesOn 1 (stage desk.old (P.view post.old) self.old)
@@ -75,17 +82,19 @@ impl Progress {
             (stage desk.new (P.view post.new) self.new) result }
         ensures nears { Advances (stage desk.old (P.view post.old) self.old)
             (stage desk.new (P.view post.new) self.new) result }
+        ensures looked { LooksIfAnswered O.sees (P.view post.old) (P.view post.new) desk.new
+            onlooker.old onlooker.new }
     {
         self.issue(rt, desk);
         match mem::replace(&mut self.unsent, Unsent::Nothing) {
             Unsent::Ready(job) => self.send(desk, post, job),
             Unsent::Waiting(job) => {
                 self.unsent = Unsent::Ready(job);
-                self.receive(desk, post)
+                self.receive(desk, post, onlooker)
             }
             Unsent::Nothing => {
                 if desk.is_out() {
-                    self.receive(desk, post)
+                    self.receive(desk, post, onlooker)
                 } else {
                     ControlFlow::Break(())
                 }
@@ -120,6 +129,7 @@ impl Progress {
             (stage desk.new (P.view post.new) self.new) result }
         ensures nears { Advances (stage desk.old (P.view post.old) (ready job self.old))
             (stage desk.new (P.view post.new) self.new) result }
+        ensures silent { (P.view post.new).answers ≡ (P.view post.old).answers }
     {
         match post.send(job) {
             Sent::Taken => ControlFlow::Continue(()),
@@ -134,8 +144,14 @@ impl Progress {
         }
     }
 
-    // Takes an answer, if there is one. A post that has none any more ends the settling.
-    fn receive<P: Post>(&mut self, desk: &mut Desk<'_>, post: &mut P) -> ControlFlow<()>
+    // Takes an answer, if there is one, and then lets the desk be looked at. A post that has none
+    // any more ends the settling.
+    fn receive<P: Post, O: Onlooker>(
+        &mut self,
+        desk: &mut Desk<'_>,
+        post: &mut P,
+        onlooker: &mut O,
+    ) -> ControlFlow<()>
         requires { Fits desk.old (P.view post.old) (job_in self.old.unsent) }
         ensures goes { GoesOn 0 (stage desk.old (P.view post.old) self.old)
             (stage desk.new (P.view post.new) self.new) }
@@ -144,10 +160,13 @@ impl Progress {
         ensures frees { (P.view post.old).is_prompt ≡ true →
             Frees (stage desk.old (P.view post.old) self.old)
             (stage desk.new (P.view post.new) self.new) result }
+        ensures looked { LooksIfAnswered O.sees (P.view post.old) (P.view post.new) desk.new
+            onlooker.old onlooker.new }
     {
         match post.receive() {
             Received::Answer(answer) => {
                 self.collect(desk, answer);
+                onlooker.look(desk);
                 ControlFlow::Continue(())
             }
             Received::Nothing => ControlFlow::Continue(()),

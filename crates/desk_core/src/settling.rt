@@ -1,10 +1,12 @@
 //! Settling: issuing, sending and collecting until every bookmark is current.
 ghost use Rattle.std.specs.Prelude.{◌≡◌, ◌≤◌, ◌*◌};
+ghost use Rattle.desk_core.specs.Looks.{LooksOn};
 ghost use Rattle.desk_core.specs.Settling.{EndsOver, HasCause, HoldsAllOut, Serves, ServesOn};
 ghost use Rattle.desk_core.specs.Settling.{IsEnding, Settles, rows_of};
 
 use crate::cause::Cause;
 use crate::desk::Desk;
+use crate::looking::{Onlooker, Unwatched};
 use crate::progress::Progress;
 use revision_jobs::Post;
 use std::sync::Wait;
@@ -40,7 +42,28 @@ pub fn settle<P: Post>(rt: &impl Wait, desk: &mut Desk<'_>, post: &mut P, turns:
     ensures caused { HoldsAllOut desk.old (P.view post.old) → 4 * rows_of desk.old ≤ turns →
         HasCause result }
 {
-    let Progress { unsent, cause } = Progress::run(rt, desk, post, turns);
+    settle_seen(rt, desk, post, turns, &mut Unwatched)
+}
+
+/// Settles as `settle` does, while somebody looks on: at the desk as it begins, and once more after
+/// each answer that it collected. Each desk that is looked at has the document.
+pub fn settle_seen<P: Post, O: Onlooker>(
+    rt: &impl Wait,
+    desk: &mut Desk<'_>,
+    post: &mut P,
+    turns: u32,
+    onlooker: &mut O,
+) -> Settling
+    requires { Serves desk.old (P.view post.old) }
+    ensures settles { Settles desk.old desk.new turns (P.view post.new) }
+    ensures post { ServesOn (P.view post.old) (P.view post.new) desk.old desk.new }
+    ensures ends { EndsOver turns (P.view post.old) (P.view post.new) desk.old desk.new result }
+    ensures caused { HoldsAllOut desk.old (P.view post.old) → 4 * rows_of desk.old ≤ turns →
+        HasCause result }
+    ensures looked { LooksOn O.sees (P.view post.old) (P.view post.new) desk.old
+        onlooker.old onlooker.new }
+{
+    let Progress { unsent, cause } = Progress::run(rt, desk, post, turns, onlooker);
     unsent.cancel(desk);
     ending(desk.pending(), cause)
 }

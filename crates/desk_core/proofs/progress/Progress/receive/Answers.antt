@@ -1,4 +1,6 @@
-use Rattle.std.proofs.Common.{refl}
+use Rattle.std.proofs.Common.{refl, ap, length, ◌∙◌}
+use Rattle.std.proofs.lemmas.List.{length-append}
+use Rattle.desk_core.proofs.Looks.{looked_at, looks_answered, looks_silent}
 use Rattle.desk_core.proofs.Steps.{GoesOn-idle, Idles-ended, Idles-nothing}
 use Rattle.desk_core.proofs.progress.Progress.receive.Goals as goal
 
@@ -25,3 +27,22 @@ returns-in-Ended-clause-goes g c =
     let p = g.P.Post.view c.args.post.now in
     let q = g.P.Post.view c.receive.new.self in
     GoesOn-idle c.args.desk.now p q c.args.self.now (Idles-ended p q c.in-Ended.ensures)
+
+pub returns-in-Answer-clause-looked : goal.returns-in-Answer-clause-looked
+returns-in-Answer-clause-looked g c =
+    let p = g.P.Post.view c.args.post.now in
+    let q = g.P.Post.view c.receive.new.self in
+    looks_answered g.O.Onlooker.sees p q c.collect.new.desk c.args.onlooker.now c.look.new.self
+    (ap (λ xs. length xs) c.in-Answer.ensures.answers ∙ length-append p.answers _)
+    (looked_at g.O.Onlooker.sees c.look.result c.args.onlooker.now c.look.new.self c.collect.new.desk c.look.ensures.seen
+    c.look.ensures.unseen)
+
+pub returns-in-Nothing-clause-looked : goal.returns-in-Nothing-clause-looked
+returns-in-Nothing-clause-looked g c =
+    looks_silent g.O.Onlooker.sees (g.P.Post.view c.args.post.now) (g.P.Post.view c.receive.new.self) c.args.desk.now
+    c.args.onlooker.now c.in-Nothing.ensures.answers
+
+pub returns-in-Ended-clause-looked : goal.returns-in-Ended-clause-looked
+returns-in-Ended-clause-looked g c =
+    looks_silent g.O.Onlooker.sees (g.P.Post.view c.args.post.now) (g.P.Post.view c.receive.new.self) c.args.desk.now
+    c.args.onlooker.now c.in-Ended.ensures.answers

@@ -1,5 +1,6 @@
 use Rattle.std.proofs.Common.{arith, inl, inr}
 use Rattle.desk_core.specs.Progress.{stage}
+use Rattle.desk_core.proofs.Looks.{looked_at, looks_first, looks_then}
 use Rattle.desk_core.proofs.Steps.{HasCome-first, gives_at_first, gives_on, none_before}
 use Rattle.desk_core.proofs.Turns.{asked-on, done-at_end, ended-at_end, turns-at_first, turns-spent, turns-on}
 use Rattle.desk_core.proofs.progress.Progress.run.Goals as goal
@@ -14,6 +15,9 @@ loop-init g c =
       asked = omega arith;
       turns = λ all enough none. turns-at_first c.args.desk.now c.begun-progress.result.unsent
           (g.P.Post.view c.args.post.now).held c.args.turns begun.0 enough;
+      looked = looks_first g.O.Onlooker.sees (g.P.Post.view c.args.post.now) c.args.desk.now c.args.onlooker.now c.look.new.self
+          (looked_at g.O.Onlooker.sees c.look.result c.args.onlooker.now c.look.new.self c.args.desk.now c.look.ensures.seen
+          c.look.ensures.unseen);
     }
 
 pub turn-requires : goal.turn-requires
@@ -49,6 +53,9 @@ loop-preserved g c =
       turns = λ all enough none. turns-on s t c.turn.result c.loop.counter c.args.turns c.in-Continue.is
           (c.loop.invariant.turns all enough (none_before _ _ c.turn.ensures.goes.cause none))
           (c.turn.ensures.nears _ _ c.loop.invariant.comes all none);
+      looked = looks_then g.O.Onlooker.sees (g.P.Post.view c.args.post.now) (g.P.Post.view c.loop.post) (g.P.Post.view c.turn.new.post)
+          c.args.desk.now c.turn.new.desk c.args.onlooker.now c.loop.onlooker c.turn.new.onlooker (c.turn.ensures.goes.comes _ _ c.loop.invariant.comes).document.plan
+          c.loop.invariant.looked c.turn.ensures.looked;
     }
 
 pub returns-clause-comes : goal.returns-clause-comes
@@ -62,3 +69,12 @@ pub returns-clause-done : goal.returns-clause-done
 returns-clause-done g c = λ all enough none.
     turns-spent (stage c.loop.desk (g.P.Post.view c.loop.post) c.loop.progress) c.loop.counter c.args.turns
     c.loop-test.false (c.loop.invariant.comes.jobs.at_hand all) (c.loop.invariant.turns all enough none)
+
+pub returns-in-Break-clause-looked : goal.returns-in-Break-clause-looked
+returns-in-Break-clause-looked g c =
+    looks_then g.O.Onlooker.sees (g.P.Post.view c.args.post.now) (g.P.Post.view c.loop.post) (g.P.Post.view c.turn.new.post)
+    c.args.desk.now c.turn.new.desk c.args.onlooker.now c.loop.onlooker c.turn.new.onlooker (c.turn.ensures.goes.comes _ _ c.loop.invariant.comes).document.plan
+    c.loop.invariant.looked c.turn.ensures.looked
+
+pub returns-clause-looked : goal.returns-clause-looked
+returns-clause-looked g c = c.loop.invariant.looked

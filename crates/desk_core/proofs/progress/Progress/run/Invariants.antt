@@ -1,4 +1,5 @@
 use Rattle.std.proofs.Common.{◌≡◌, ◌≤◌, ◌+◌, ◌*◌, None}
+use Rattle.desk_core.specs.Looks.{LooksOn}
 use Rattle.desk_core.specs.Progress.{HasCome, stage, turns_from}
 use Rattle.desk_core.specs.Settling.{GivesAtMost, HoldsAllOut, rows_of}
 use Rattle.desk_core.proofs.progress.Progress.run.Given as goal
@@ -12,4 +13,6 @@ invariant-loop g l = record {
   turns : HoldsAllOut l.initial.desk (g.P.Post.view l.initial.post)
       → 4 * rows_of l.initial.desk ≤ l.turns → l.progress.cause ≡ None
       → turns_from l.desk l.progress.unsent (g.P.Post.view l.post).held + l.counter ≤ l.turns;
+  looked : LooksOn {O = g.row.O.Denot} g.O.Onlooker.sees (g.P.Post.view l.fn.post) (g.P.Post.view l.post) l.fn.desk
+      l.fn.onlooker l.onlooker;
 }

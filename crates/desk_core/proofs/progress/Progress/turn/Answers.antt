@@ -6,6 +6,7 @@ use Rattle.desk_core.specs.declared.unsent.Unsent.{Unsent}
 use Rattle.desk_core.specs.declared.unsent.Unsent.TheVariants.{Nothing, Ready, Waiting}
 use Rattle.desk_core.specs.declared.progress.Progress.{Progress}
 use Rattle.desk_core.specs.Progress.{Fits, GoesOn, job_in, ready, stage}
+use Rattle.desk_core.proofs.Looks.{looks_silent}
 use Rattle.desk_core.proofs.Steps.{GoesOn-told, GoesOn-turn}
 use Rattle.desk_core.proofs.Turns.{advances-received, advances-sent, fewer-nothing, fewer-waiting}
 use Rattle.desk_core.proofs.progress.Progress.turn.Goals as goal
@@ -115,3 +116,19 @@ returns-else-is_out-clause-goes g c =
     (stage c.issue.new.desk post left) (c.issue.ensures.goes post)
     (same_job c.issue.new.self.unsent c.replace.result c.replace.new.dest c.replace.ensures.value c.in-Nothing.is
     c.replace.ensures.after) refl (GoesOn-told c.issue.new.desk post left left refl refl)
+
+pub returns-in-Ready-clause-looked : goal.returns-in-Ready-clause-looked
+returns-in-Ready-clause-looked g c =
+    looks_silent g.O.Onlooker.sees (g.P.Post.view c.args.post.now) (g.P.Post.view c.send.new.post) c.send.new.desk
+    c.args.onlooker.now c.send.ensures.silent
+
+pub returns-in-Waiting-clause-looked : goal.returns-in-Waiting-clause-looked
+returns-in-Waiting-clause-looked g c = c.receive.ensures.looked
+
+pub returns-then-is_out-clause-looked : goal.returns-then-is_out-clause-looked
+returns-then-is_out-clause-looked g c = c.receive-then-is_out.ensures.looked
+
+pub returns-else-is_out-clause-looked : goal.returns-else-is_out-clause-looked
+returns-else-is_out-clause-looked g c =
+    looks_silent g.O.Onlooker.sees (g.P.Post.view c.args.post.now) (g.P.Post.view c.args.post.now) c.issue.new.desk
+    c.args.onlooker.now refl

@@ -2,7 +2,7 @@ use Rattle.std.proofs.Common.{◌∙◌}
 use Rattle.dependency_book.proofs.Shared.Settled.{none_pending}
 use Rattle.desk_core.proofs.Steps.{serves-whole, settles-whole, whole}
 use Rattle.desk_core.proofs.Turns.{cause-left, caused-so, ends-so, why-left}
-use Rattle.desk_core.proofs.settling.settle.Goals as goal
+use Rattle.desk_core.proofs.settling.settle_seen.Goals as goal
 
 pub returns-clause-settles : goal.returns-clause-settles
 returns-clause-settles g c =
@@ -40,3 +40,6 @@ returns-clause-caused g c = λ all enough.
     (cause-left run.new.desk c.cancel.new.desk (g.P.Post.view run.new.post) run.result c.pending.result
     (run.ensures.done all enough) c.cancel.ensures c.pending.ensures.count
     (λ out none. c.pending.ensures.count ∙ none_pending c.cancel.new.desk c.pending.ensures.right out none))
+
+pub returns-clause-looked : goal.returns-clause-looked
+returns-clause-looked g c = c.run-unsent.ensures.looked
