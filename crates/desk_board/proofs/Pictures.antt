@@ -1,12 +1,13 @@
 -- The picture of a desk is right.
-use Rattle.std.proofs.Common.{◌≡◌, ◌∙◌, ℕ, List, [], ◌∷◌, ◌++◌, Option, map, refl, sym, ap, ap₂, append-nil}
+use Rattle.std.proofs.Common.{◌≡◌, ◌∙◌, ℕ, List, [], ◌∷◌, ◌++◌, Option, map, refl, sym, ap, ap₂, subst, append-nil}
 use Rattle.std.specs.List.{AllByRecursion}
 use Rattle.schedule.specs.declared.document.Bookmark.{Bookmark}
 use Rattle.schedule.specs.Plan.{Plan}
 use Rattle.dependency_book.specs.BookState.{BookState}
 use Rattle.dependency_book.specs.ShownRows.{IsScratch, shown_row, shown_rows}
 use Rattle.desk_board.specs.declared.row.ShownRow.{ShownRow}
-use Rattle.desk_board.specs.Picture.{IsCurrent, IsRight, bookmarks_of, picture, picture_of, row_of}
+use Rattle.desk_board.specs.Picture.{IsCurrent, IsRight, Picture, bookmarks_of, picture, picture_of, row_of}
+use Rattle.desk_board.specs.History.{History, ShowsNext, and_then}
 
 same_bookmarks : (d : BookState) (bs : List Bookmark) → bookmarks_of (map row_of (map (shown_row d) bs)) ≡ bs
 same_bookmarks d [] = refl
@@ -24,3 +25,8 @@ pub whole_picture : (d : BookState) (p : Plan) (rows : List ShownRow) (left : Li
 whole_picture d p rows left same none is =
     let all : rows ≡ map row_of (shown_rows d) = sym (append-nil rows) ∙ (sym (ap (λ v. rows ++ map row_of v) none) ∙ is) in
     ap₂ picture same all
+
+-- one snapshot of a desk is put behind a history
+pub shows_next : (old new : History) (s : Picture) (d : BookState) → s ≡ picture_of d → IsRight s → new ≡ and_then old s
+    → ShowsNext old d new
+shows_next old new s d is right more = (subst IsRight is right, more ∙ ap (and_then old) is)

@@ -2,7 +2,8 @@
 use Rattle.std.specs.Prelude.{◌≡◌, ◌<◌, List, [], ◌∷◌, ◌++◌, length}
 use mathlib.Core.List.{IsPrefix}
 use Rattle.logbook.specs.Pages.{Book}
-use Rattle.desk_board.specs.Picture.{Picture}
+use Rattle.dependency_book.specs.BookState.{BookState}
+use Rattle.desk_board.specs.Picture.{Picture, IsRight, picture_of}
 
 -- a board, and its history as far as it is known
 pub record History : Type 0 where
@@ -19,6 +20,10 @@ unseen board = history board []
 -- it, and one snapshot more
 abbrev pub and_then : History → Picture → History
 and_then h s = history h.board (h.pictures ++ s ∷ [])
+
+-- the picture of the desk, whose texts are right, is put behind it
+abbrev pub ShowsNext : History → BookState → History → Type 0
+ShowsNext old d new = IsRight (picture_of d) × (new ≡ and_then old (picture_of d))
 
 -- the last snapshot is s
 abbrev pub EndsWith : History → Picture → Type 0

@@ -22,6 +22,7 @@ mod absorbing;
 mod fault;
 mod history;
 mod latest;
+mod onlooking;
 mod opening;
 mod publisher;
 mod receipt;
