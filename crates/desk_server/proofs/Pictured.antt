@@ -1,8 +1,8 @@
 -- What a picture shows of what a reply tells.
-use Rattle.std.proofs.Common.{◌≡◌, ◌∙◌, ◌⊎◌, inl, inr, ℕ, ◌+◌, List, [], ◌∷◌, map, refl, sym, ap, subst, arith, cond, Bool, true, false, Option, Some, None}
-use Rattle.std.specs.Prelude.{IsSome, is_some, ◌==◌, count_by, not}
+use Rattle.std.proofs.Common.{◌≡◌, ◌∙◌, ℕ, ◌+◌, List, [], ◌∷◌, map, refl, sym, ap, subst, arith, cond, Bool, true, false, Option}
+use Rattle.std.specs.Prelude.{IsSome, ◌==◌, count_by, not}
 use Rattle.std.specs.List.{AllByRecursion}
-use Rattle.std.proofs.lemmas.Bool.{cond-true, cond-false}
+use Rattle.std.proofs.lemmas.Bool.{cond-true}
 use Rattle.std.proofs.lemmas.Bool.Decides.{nat_tests}
 use Rattle.std.proofs.lemmas.List.Sums.{sum_by-cons}
 use Rattle.schedule.specs.declared.document.Bookmark.{Bookmark}
@@ -12,12 +12,12 @@ use Rattle.dependency_book.specs.Right.{IsRight}
 use Rattle.dependency_book.specs.RowState.{known, is_known}
 use Rattle.dependency_book.specs.Rows.{TextRow, keys, state_at, bookmark_rank}
 use Rattle.dependency_book.specs.ShownRows.{shown_row, shown_rows}
-use Rattle.desk_board.specs.Picture.{Picture, picture_of, row_of}
+use Rattle.desk_board.specs.Picture.{picture_of, row_of}
 use Rattle.desk_board.specs.declared.row.ShownRow.{ShownRow}
 use Rattle.desk_events.specs.Wanted.{bookmark_in}
 use Rattle.desk_server.specs.Answer.{After}
 use Rattle.desk_server.specs.Told.{AllKnown, TellsPending, reply_text, shown_text}
-use Rattle.desk_server.specs.Watch.{IsPictureAfter, IsAsTold, ShowsWhatIsTold}
+use Rattle.desk_server.specs.Watch.{IsAsTold, ShowsWhatIsTold}
 use Rattle.desk_server.specs.declared.reply.Reply.{Reply}
 use Rattle.desk_server.specs.declared.reply.Reply.TheVariants as reply
 

@@ -20,12 +20,12 @@ use Rattle.desk_server.specs.Told.{reply_text, ends}
 use Rattle.desk_server.specs.Heard.{AsksIfAny, Hears, Gives, Serves, Served, BreaksOff}
 use Rattle.desk_server.specs.Run.{Answers, Finishes, StopsTelling, AnswersWhole, AnswersAll, AnswersFront}
 use Rattle.desk_server.specs.Ending.{Works, Completes}
-use Rattle.desk_server.specs.Watch.{NotesFront, NotesEach, NotesScript, NotesReplies}
+use Rattle.desk_server.specs.Watch.{IsWatched, NotesFront, NotesEach, NotesScript, NotesReplies, WatchesNext}
 use Rattle.desk_server.specs.declared.request.Request.{Request}
 use Rattle.desk_server.specs.declared.reply.Reply.{Reply}
 use Rattle.desk_server.specs.declared.reply.Reply.TheVariants as reply
 use Rattle.desk_server.proofs.Hearing.{follows-any}
-use Rattle.desk_server.proofs.Noted.{after_of}
+use Rattle.desk_server.proofs.Noted.{after_of, unwatched_next}
 
 -- no failure was counted, and then none
 pub works_then : {R W : Type 0} (r s t : LineReading R) (w x y : CountedWriting W) → Works r s w x → Works s t x y
@@ -391,31 +391,56 @@ stops_front prompt a c x z f =
     front_stopped prompt a.bytes c.bytes x z f.bytes f.shortages f.caused f.taken.consumed f.law
 
 -- where it stops before the end
-front_noted : {V : Type 0} (notes : V → BookState → V → Type 0) (missed : ℕ) (old new : V) (prompt : Bool)
+front_noted : {V : Type 0} (notes : V → BookState → V → Type 0) (missed : ℕ) (old last new : V) (prompt : Bool)
     (a c : Option (List ℕ)) (bytes : List ℕ) (given : List After) (shortages : List Shortage)
-    → AllCausedOver prompt shortages → Consumes a c bytes → NotesEach notes 0 missed old new (but_bye given)
-    → ((rest : List ℕ) → (later : List After) × (afters_with (bytes ++ rest) shortages ≡ given ++ later))
+    → AllCausedOver prompt shortages → Consumes a c bytes → NotesEach notes 0 missed old last (but_bye given)
+    → ((rest : List ℕ) → c ≡ Some rest → (later : List After) × (afters_with (bytes ++ rest) shortages ≡ given ++ later)
+    × WatchesNext notes later last new)
     → IfSome a (NotesFront notes prompt old new)
-front_noted notes missed old new prompt None c bytes given shortages caused taken noted law = tt
-front_noted notes missed old new prompt (Some script) None bytes given shortages caused taken noted law = absurd taken
-front_noted notes missed old new prompt (Some script) (Some rest) bytes given shortages caused taken noted law = record {
-  shortages = shortages;
-  caused = caused;
-  given = given;
-  later = (law rest).0;
-  front = subst (λ v. afters_with v shortages ≡ given ++ (law rest).0) (sym taken) (law rest).1;
-  missed = missed;
-  noted = noted;
-}
+front_noted notes missed old last new prompt None c bytes given shortages caused taken noted law = tt
+front_noted notes missed old last new prompt (Some script) None bytes given shortages caused taken noted law = absurd taken
+front_noted notes missed old last new prompt (Some script) (Some rest) bytes given shortages caused taken noted law =
+    let so = law rest refl in record {
+      shortages = shortages;
+      caused = caused;
+      given = given;
+      later = so.0;
+      front = subst (λ v. afters_with v shortages ≡ given ++ so.0) (sym taken) so.1;
+      missed = missed;
+      last = last;
+      noted = noted;
+      unanswered = so.2;
+    }
 
 pub begun : {V : Type 0} (notes : V → BookState → V → Type 0) (missed : ℕ) (old new : V) (prompt : Bool) (a c : Ahead)
     (x y : Option (List ℕ)) (q : Plan) (m : ℕ)
     → Answers (NotesEach notes 0 missed old new) prompt a c x y (opening 0) q 1 m
     → IfSome a.bytes (NotesFront notes prompt old new)
 begun notes missed old new prompt a c x y q m f =
-    front_noted notes missed old new prompt a.bytes c.bytes f.bytes f.given (f.shortages ++ [])
+    front_noted notes missed old new new prompt a.bytes c.bytes f.bytes f.given (f.shortages ++ [])
     (λ e. caused-append f.shortages [] (f.caused e) tt) f.taken.consumed f.notes
-    (λ rest. (afters q (asks Ended Between m (lines_until Ended rest)) [], f.law Ended rest []))
+    (λ rest _. let later = afters q (asks Ended Between m (lines_until Ended rest)) [] in
+    (later, f.law Ended rest [], unwatched_next notes later new))
+
+-- and the next reply wasn't written, while whose answer was computed desks were looked at
+pub begun_watched : {V : Type 0} (notes : V → BookState → V → Type 0) (missed : ℕ) (old last new : V) (prompt : Bool)
+    (a b c : Ahead) (x y : Option (List ℕ)) (heard : Option Request) (is_last : Bool) (j k : BookState) (n m : ℕ)
+    (r : Reply) → Answers (NotesEach notes 0 missed old last) prompt a b x y (opening 0) j.plan 1 n
+    → (h : Hears b c Between heard is_last n m) → Served prompt r h.asked j k → IsWatched notes k.plan last new
+    → IfSome a.bytes (NotesFront notes prompt old new)
+begun_watched notes missed old last new prompt a b c x y heard is_last j k n m r f h s watched =
+    front_noted notes missed old last new prompt a.bytes c.bytes (f.bytes ++ h.bytes) f.given (f.shortages ++ s.2.0 ∷ [])
+    (λ e. caused-append f.shortages (s.2.0 ∷ []) (f.caused e) (s.2.1 e, tt))
+    (takes_then a b c f.bytes h.bytes f.taken h.taken).consumed f.notes
+    (λ rest e. (
+      after_of k r ∷ cond (ends r) [] (afters k.plan (asks Ended Between m (lines_until Ended rest)) []),
+      ap (λ v. afters (opening 0) (asks Ended Between 1 (lines_until Ended v)) (f.shortages ++ s.2.0 ∷ []))
+          (append_assoc f.bytes h.bytes rest)
+          ∙ f.law Ended (h.bytes ++ rest) (s.2.0 ∷ [])
+          ∙ ap (λ v. f.given ++ v) (afters_from prompt b c heard is_last j k n m r h s Ended rest []
+          (follows_nothing is_last c.bytes rest h.at_end e)),
+      watched,
+    ))
 
 -- where nothing was read
 pub none_begun : {V : Type 0} (notes : V → BookState → V → Type 0) (v : V) (prompt : Bool) (bytes : Option (List ℕ))
@@ -428,5 +453,7 @@ none_begun notes v prompt (Some script) = record {
   later = afters_with script [];
   front = refl;
   missed = 0;
+  last = v;
   noted = (refl, refl);
+  unanswered = unwatched_next notes (afters_with script []) v;
 }

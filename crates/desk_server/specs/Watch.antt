@@ -1,6 +1,6 @@
--- What is noted of a run: the desk after each reply but `bye`.
-use Rattle.std.specs.Prelude.{◌≡◌, ◌⊎◌, ℕ, ◌+◌, ◌-◌, ◌^◌, ◌<◌, Bool, List, [], ◌∷◌, ◌++◌, Option}
-use Rattle.std.specs.Prelude.{IfSome, IsSome, Result, Ok, Err, length, map}
+-- What is seen of a run: the desk after each reply but `bye`, and desks before it.
+use Rattle.std.specs.Prelude.{◌≡◌, ◌⊎◌, ℕ, ◌+◌, ◌-◌, ◌^◌, ◌<◌, Bool, true, List, [], ◌∷◌, ◌++◌, Option, ⊤}
+use Rattle.std.specs.Prelude.{IfSome, IsSome, Result, Ok, Err, Some, None, count_by, flat_map, is_some, not}
 use Rattle.std.specs.List.{AllByRecursion}
 use Rattle.std.specs.Io.KnownBytes.{Appends}
 use Rattle.std.specs.Io.Iter.{u64_saturate}
@@ -8,13 +8,15 @@ use Rattle.script_lines.specs.Ahead.{LineReading}
 use Rattle.script_lines.specs.Counted.{CountedWriting}
 use Rattle.dependency_book.specs.BookState.{BookState}
 use Rattle.desk_events.specs.Wanted.{bookmark_in}
+use Rattle.schedule.specs.Plan.{Plan}
+use Rattle.desk_core.specs.Looks.{AreOfPlan, LooksAtEach}
 use Rattle.desk_board.specs.Picture.{Picture, IsRight, picture_of}
-use Rattle.desk_board.specs.History.{History, history, and_then}
+use Rattle.desk_board.specs.History.{History, ShowsNext, history}
 use Rattle.desk_board.specs.declared.row.ShownRow.{ShownRow}
 use Rattle.desk_server.specs.Shortage.{Shortage, AllCausedOver}
 use Rattle.desk_server.specs.Answer.{After}
 use Rattle.desk_server.specs.Script.{afters_with, but_bye, replies_with}
-use Rattle.desk_server.specs.Told.{TellsPending, shown_text}
+use Rattle.desk_server.specs.Told.{TellsPending, ends, shown_text}
 use Rattle.desk_server.specs.Heard.{Gives}
 use Rattle.desk_server.specs.declared.reply.Reply.{Reply}
 use Rattle.desk_server.specs.declared.reply.Reply.TheVariants.{Settled, Shown}
@@ -25,16 +27,32 @@ abbrev pub NotesOrCounts
 NotesOrCounts notes count total old d new =
     (notes old d new × (total ≡ count)) ⊎ ((new ≡ old) × (total ≡ u64_saturate (count + 1)))
 
--- at this desk this reply was given, which is the answer, and then the desk was noted, or passed
--- over and counted
+-- desks with this document were looked at, one after another
+pub record IsWatched {V : Type 0} (notes : V → BookState → V → Type 0) (plan : Plan) (old new : V)
+    : Type 0 where
+  pub desks : List BookState
+  pub document : AreOfPlan plan desks
+  pub looks : LooksAtEach notes old desks new
+
+-- before a reply desks with this document were looked at, and before `bye` none
+pub record WatchesReply {V : Type 0} (notes : V → BookState → V → Type 0) (reply : Reply)
+    (plan : Plan) (old new : V)
+    : Type 0 where
+  pub watched : IsWatched notes plan old new
+  pub quiet : ends reply ≡ true → new ≡ old
+
+-- desks with the document that an answer leaves were looked at; then at this desk this reply was
+-- given, which is the answer, and the desk was noted, or passed over and counted
 pub record NotesReply {V : Type 0} (notes : V → BookState → V → Type 0) (count total : ℕ) (old : V)
     (after : After) (new : V)
     : Type 0 where
+  pub watched : V
+  pub before : IsWatched notes after.plan old watched
   pub desk : BookState
   pub reply : Reply
   pub gives : Gives after reply desk
   pub pending : TellsPending reply desk
-  pub noted : NotesOrCounts notes count total old desk new
+  pub noted : NotesOrCounts notes count total watched desk new
 
 -- so it was for each of these answers in turn
 abbrev pub NotesEach
@@ -61,8 +79,14 @@ abbrev pub NotesReplies
 NotesReplies notes missed prompt r w x old new =
     IfSome r.ahead.bytes (NotesScript notes missed prompt w.contents x.contents old new)
 
+-- nobody looked any more, or only at desks with the document that the next answer leaves
+abbrev pub WatchesNext
+    : {V : Type 0} → (V → BookState → V → Type 0) → List After → V → V → Type 0
+WatchesNext notes [] old new = new ≡ old
+WatchesNext notes (after ∷ rest) old new = IsWatched notes after.plan old new
+
 -- a beginning of the replies to a script was given, for some shortages, and the desk after each of
--- them but `bye` in turn was noted, or passed over
+-- them but `bye` in turn was noted, or passed over; then the next answer may have been computed
 pub record NotesFront {V : Type 0} (notes : V → BookState → V → Type 0) (prompt : Bool)
     (old new : V) (script : List ℕ)
     : Type 0 where
@@ -72,7 +96,9 @@ pub record NotesFront {V : Type 0} (notes : V → BookState → V → Type 0) (p
   pub later : List After
   pub front : afters_with script shortages ≡ given ++ later
   pub missed : ℕ
-  pub noted : NotesEach notes 0 missed old new (but_bye given)
+  pub last : V
+  pub noted : NotesEach notes 0 missed old last (but_bye given)
+  pub unanswered : WatchesNext notes later last new
 
 -- the script that this reader had, where that is known, was answered to its end, and so many desks
 -- were passed over; or a beginning of it was
@@ -83,10 +109,6 @@ NotesRun notes (Ok missed) prompt r w x old new = NotesReplies notes missed prom
 NotesRun notes (Err fault) prompt r w x old new =
     IfSome r.ahead.bytes (NotesFront notes prompt old new)
 
--- the picture of the desk, whose texts are right, was put behind a history
-abbrev pub ShowsNext : History → BookState → History → Type 0
-ShowsNext old d new = IsRight (picture_of d) × (new ≡ and_then old (picture_of d))
-
 -- the picture of a desk at which this answer was given
 pub record IsPictureAfter (after : After) (s : Picture) : Type 0 where
   pub desk : BookState
@@ -96,25 +118,51 @@ pub record IsPictureAfter (after : After) (s : Picture) : Type 0 where
   pub is : s ≡ picture_of desk
   pub right : IsRight s
 
--- pictures of desks at which these answers were given, in order, of which some may be left out
-abbrev pub ArePicturesAfter : List Picture → List After → Type 0
-ArePicturesAfter pictures [] = pictures ≡ []
-ArePicturesAfter pictures (after ∷ rest) =
-    ((s : Picture) × (later : List Picture)
-    × (pictures ≡ s ∷ later) × IsPictureAfter after s × ArePicturesAfter later rest)
-    ⊎ ArePicturesAfter pictures rest
+-- pictures of this document, whose texts are right
+abbrev pub ArePicturesOf : Plan → List Picture → Type 0
+ArePicturesOf plan = AllByRecursion (λ (s : Picture). (s.plan ≡ plan) × IsRight s)
 
--- the history went on by the pictures of the desks at which these answers were given, in order; so
--- many were left out, where 2 ^ 64 - 1 may stand for more
+-- what a history shows of one answer: pictures that were put behind it before, and the picture that
+-- was put there after it, unless it was left out
+pub record Showing : Type 0 where
+  pub before : List Picture
+  pub own : Option Picture
+
+-- the picture, if there is one
+abbrev pub if_any : Option Picture → List Picture
+if_any None = []
+if_any (Some s) = s ∷ []
+
+abbrev pub pictures_in : Showing → List Picture
+pictures_in showing = showing.before ++ if_any showing.own
+
+abbrev pub is_left_out : Showing → Bool
+is_left_out showing = not (is_some showing.own)
+
+-- pictures of the document that the answer leaves, and the picture of a desk at which it was given
+pub record ShowsAnswer (after : After) (showing : Showing) : Type 0 where
+  pub before : ArePicturesOf after.plan showing.before
+  pub own : IfSome showing.own (IsPictureAfter after)
+
+-- so it is for each of these answers, in order
+abbrev pub ShowAnswers : List Showing → List After → Type 0
+ShowAnswers [] [] = ⊤
+ShowAnswers [] (after ∷ given) = ⊥
+ShowAnswers (showing ∷ showings) [] = ⊥
+ShowAnswers (showing ∷ showings) (after ∷ given) =
+    ShowsAnswer after showing × ShowAnswers showings given
+
+-- the history went on by what it shows of these answers, in order; so many pictures of their own
+-- were left out, where 2 ^ 64 - 1 may stand for more
 pub record ShowsOrCounts (count : ℕ) (old new : History) (given : List After) : Type 0 where
-  pub more : List Picture
-  pub goes_on : new ≡ history old.board (old.pictures ++ more)
-  pub pictures : ArePicturesAfter more given
-  pub left_out : count < 2 ^ 64 - 1 → length more + count ≡ length given
-  pub all : count ≡ 0 → map (λ s. s.plan) more ≡ map (λ after. after.plan) given
+  pub showings : List Showing
+  pub goes_on : new ≡ history old.board (old.pictures ++ flat_map pictures_in showings)
+  pub answers : ShowAnswers showings given
+  pub left_out : count < 2 ^ 64 - 1 → count_by is_left_out showings ≡ count
+  pub all : count ≡ 0 → AllByRecursion (λ (showing : Showing). IsSome showing.own) showings
 
 -- what was noted or passed over in turn, told of the whole history: where none was passed over, it
--- has one more member for each answer, in order
+-- shows for each answer, in order, the picture of the desk that gave it
 abbrev pub ShowsAllUnlessCounted : Type 0
 ShowsAllUnlessCounted =
     (count : ℕ) (old new : History) (given : List After)

@@ -6,7 +6,8 @@
 //! memory says so and changes nothing, or leaves a bookmark pending, as does a step that wants more
 //! squares than it may keep. What a settling leaves pending it says with its cause.
 //!
-//! `run_with_board` does the same, and publishes a snapshot of the desk after each reply but `bye`.
+//! `run_with_board` does the same, and publishes a snapshot of the desk after each reply but `bye`,
+//! and before it one after each answer that a settling collected. A bell is told when one waits.
 //!
 //! What isn't known is computed by jobs over a post, which the caller opens beside the table of
 //! entries that the jobs are of.
@@ -15,6 +16,7 @@
 //! else is in proportion to what is read and written.
 #![tactic(auto)]
 
+mod bell;
 mod cells;
 mod command;
 mod edits;
@@ -33,6 +35,7 @@ mod view;
 mod watch;
 mod words;
 
+pub use bell::Bell;
 pub use desk_core::{Entries, InlinePost, Post};
 pub use laws::{
     documents_are_sound, one_line_without_branch, plain_without_shortages,

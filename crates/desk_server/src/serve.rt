@@ -10,12 +10,16 @@ ghost use Rattle.desk_server.specs.Jobs.{Carries, CarriesOn, DropsJobs};
 ghost use Rattle.desk_core.specs.Settling.{TellsCause};
 ghost use Rattle.desk_server.specs.Jobs.{IsDoneWith, KeepsCauses};
 ghost use Rattle.desk_server.specs.Told.{LeavesOver, PollsBy, TakesAnswers, TellsPending};
+ghost use Rattle.desk_server.specs.Watch.{IsWatched, WatchesReply};
 
+use crate::bell::Bell;
 use crate::command::Command;
 use crate::format::Format;
 use crate::reply::{Reply, refused};
 use crate::request::Request;
-use desk_core::{Cause, Desk, Edit, EditFault, Plane, Polled, Post, Rule, Settling, Shown};
+use desk_core::{
+    Cause, Desk, Edit, EditFault, Onlooker, Plane, Polled, Post, Rule, Settling, Shown, settle_seen,
+};
 use multistate_macrocell::read_mc;
 use multistate_rle::read_rle;
 use plane_core::Loaded;
@@ -159,15 +163,21 @@ fn give_up(desk: &mut Desk<'_>)
 
 // Computes what isn't known, and gives the cause where one left bookmarks pending. Whatever is out
 // then is given up, so that it is computed anew another time.
-fn compute<P: Post>(rt: &impl Wait, desk: &mut Desk<'_>, post: &mut P) -> Option<Cause>
+fn compute<P: Post, O: Onlooker>(
+    rt: &impl Wait,
+    desk: &mut Desk<'_>,
+    post: &mut P,
+    onlooker: &mut O,
+) -> Option<Cause>
     requires { Carries (P.view post.old) desk.old }
     ensures plan { desk.new.plan ≡ desk.old.plan }
     ensures caused { (P.view post.old).is_prompt ≡ true → IfNone result (pending_of desk.new ≡ 0) }
     ensures explained { TellsCause (P.view post.old) (P.view post.new) desk.old desk.new result }
     ensures given_up { IsDoneWith desk.new }
     ensures post { CarriesOn (P.view post.old) (P.view post.new) desk.new }
+    ensures looked { IsWatched O.sees desk.new.plan onlooker.old onlooker.new }
 {
-    match desk_core::settle(rt, desk, post, TURNS) {
+    match settle_seen(rt, desk, post, TURNS, onlooker) {
         Settling::Settled => None,
         Settling::Unsettled { pending: _, cause } => {
             give_up(desk);
@@ -176,15 +186,24 @@ fn compute<P: Post>(rt: &impl Wait, desk: &mut Desk<'_>, post: &mut P) -> Option
     }
 }
 
-fn settle<P: Post>(rt: &impl Wait, desk: &mut Desk<'_>, post: &mut P) -> Reply
+fn settle<P: Post, O: Onlooker>(
+    rt: &impl Wait,
+    desk: &mut Desk<'_>,
+    post: &mut P,
+    onlooker: &mut O,
+    bell: &mut impl Bell,
+) -> Reply
     requires { Carries (P.view post.old) desk.old }
     ensures answer { GivesBy (P.view post.old).is_prompt (λ short. settled short desk.old.plan)
         result desk.new }
     ensures leaves { LeavesOver (P.view post.old) (P.view post.new) result desk.old desk.new }
     ensures post { CarriesOn (P.view post.old) (P.view post.new) desk.new }
     ensures pending { TellsPending result desk.new }
+    ensures looked { WatchesReply O.sees result desk.new.plan onlooker.old onlooker.new }
 {
-    let cause = compute(rt, desk, post);
+    bell.waits();
+    let cause = compute(rt, desk, post, onlooker);
+    bell.is_done();
     match desk.pending() {
         0 => Reply::Settled,
         pending => Reply::Unsettled { pending, cause },
@@ -205,7 +224,14 @@ fn work<P: Post>(rt: &impl Wait, desk: &mut Desk<'_>, post: &mut P) -> Reply
 }
 
 // Shows a bookmark: at once, unless its text isn't known. Then what isn't known is computed first.
-fn show<P: Post>(rt: &impl Wait, desk: &mut Desk<'_>, post: &mut P, id: u64) -> Reply
+fn show<P: Post, O: Onlooker>(
+    rt: &impl Wait,
+    desk: &mut Desk<'_>,
+    post: &mut P,
+    id: u64,
+    onlooker: &mut O,
+    bell: &mut impl Bell,
+) -> Reply
     requires { Carries (P.view post.old) desk.old }
     ensures answer { GivesBy (P.view post.old).is_prompt
         (λ short. obeyed short desk.old.plan (Command.Show id)) result desk.new }
@@ -213,11 +239,14 @@ fn show<P: Post>(rt: &impl Wait, desk: &mut Desk<'_>, post: &mut P, id: u64) -> 
     ensures leaves { LeavesOver (P.view post.old) (P.view post.new) result desk.old desk.new }
     ensures post { CarriesOn (P.view post.old) (P.view post.new) desk.new }
     ensures pending { TellsPending result desk.new }
+    ensures looked { WatchesReply O.sees result desk.new.plan onlooker.old onlooker.new }
 {
     if desk.shown(id) != Shown::Pending {
         return Reply::Shown { id };
     }
-    compute(rt, desk, post);
+    bell.waits();
+    compute(rt, desk, post, onlooker);
+    bell.is_done();
     // Whatever the desk kept, what it shows is what starting over gives.
     let _shown = desk.shown(id);
     Reply::Shown { id }
@@ -261,7 +290,14 @@ fn list(desk: &Desk<'_>) -> Reply
     Reply::Listed
 }
 
-fn obey<P: Post>(rt: &impl Wait, desk: &mut Desk<'_>, post: &mut P, command: Command) -> Reply
+fn obey<P: Post, O: Onlooker>(
+    rt: &impl Wait,
+    desk: &mut Desk<'_>,
+    post: &mut P,
+    command: Command,
+    onlooker: &mut O,
+    bell: &mut impl Bell,
+) -> Reply
     requires { Carries (P.view post.old) desk.old }
     ensures answer { GivesBy (P.view post.old).is_prompt (λ short. obeyed short desk.old.plan command)
         result desk.new }
@@ -269,12 +305,13 @@ fn obey<P: Post>(rt: &impl Wait, desk: &mut Desk<'_>, post: &mut P, command: Com
         → LeavesOver (P.view post.old) (P.view post.new) result desk.old desk.new }
     ensures post { CarriesOn (P.view post.old) (P.view post.new) desk.new }
     ensures pending { TellsPending result desk.new }
+    ensures looked { WatchesReply O.sees result desk.new.plan onlooker.old onlooker.new }
 {
     match command {
         Command::Edit(change) => edit(desk, &change),
-        Command::Settle => settle(rt, desk, post),
+        Command::Settle => settle(rt, desk, post, onlooker, bell),
         Command::Work => work(rt, desk, post),
-        Command::Show { id } => show(rt, desk, post, id),
+        Command::Show { id } => show(rt, desk, post, id, onlooker, bell),
         Command::Peek { id } => peek(desk, id),
         Command::Poll => poll(rt, desk, post),
         Command::List => list(desk),
@@ -282,13 +319,17 @@ fn obey<P: Post>(rt: &impl Wait, desk: &mut Desk<'_>, post: &mut P, command: Com
     }
 }
 
-/// Does what a request asks, and gives the reply. What has to be computed goes over the post.
-pub(crate) fn serve<P: Post>(
+/// Does what a request asks, and gives the reply. What has to be computed goes over the post, while
+/// the desk is looked at and the bell rings.
+#[tactic(auto, using(crate::proofs::Noted::unwatched_reply))]
+pub(crate) fn serve<P: Post, O: Onlooker>(
     rt: &impl Wait,
     alloc: Global,
     desk: &mut Desk<'_>,
     post: &mut P,
     request: Request,
+    onlooker: &mut O,
+    bell: &mut impl Bell,
 ) -> Reply
     requires { Carries (P.view post.old) desk.old }
     ensures answer { Serves (P.view post.old).is_prompt request result desk.old desk.new }
@@ -297,9 +338,10 @@ pub(crate) fn serve<P: Post>(
         → LeavesOver (P.view post.old) (P.view post.new) result desk.old desk.new }
     ensures post { CarriesOn (P.view post.old) (P.view post.new) desk.new }
     ensures pending { TellsPending result desk.new }
+    ensures looked { WatchesReply O.sees result desk.new.plan onlooker.old onlooker.new }
 {
     match request {
-        Request::Obey(command) => obey(rt, desk, post, command),
+        Request::Obey(command) => obey(rt, desk, post, command, onlooker, bell),
         Request::Take { format, text } => match text.bytes() {
             Some(bytes) => take(alloc, desk, format, bytes),
             None => refused(&EditFault::NoMemory),

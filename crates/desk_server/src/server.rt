@@ -3,14 +3,16 @@ ghost use Rattle.std.specs.Prelude.{◌≡◌, Err, OnOk};
 ghost use Rattle.schedule.specs.Plan.{opening};
 ghost use Rattle.desk_server.specs.Jobs.{Carries, IsFresh};
 ghost use Rattle.desk_server.specs.Ending.{Completes, ReadStops, WriteStops};
-ghost use Rattle.desk_server.specs.Watch.{NotesRun, ShowsNext};
+ghost use Rattle.desk_board.specs.History.{ShowsNext};
+ghost use Rattle.desk_server.specs.Watch.{NotesRun};
 
+use crate::bell::{Bell, Silent};
 use crate::heard::{Heard, listen};
 use crate::reply::{Reply, send};
 use crate::serve::serve;
-use crate::watch::{Unwatched, Watch, note};
+use crate::watch::note;
 use desk_board::Publisher;
-use desk_core::{Desk, Entries, Post};
+use desk_core::{Desk, Entries, Onlooker, Post, Unwatched};
 use script_lines::{CountedReader, CountedWriter, KeptLine};
 use std::alloc::Global;
 use std::io::{Read, Write};
@@ -37,7 +39,7 @@ enum Device {
 
 // Answers one command after another at a desk with the opening document, and lets the desk be noted
 // after each reply but `bye`. Ok says how often it was passed over.
-fn answer_commands<R: Read, W: Write, L: Ledger, M: Ledger, P: Post, V: Watch>(
+fn answer_commands<R: Read, W: Write, L: Ledger, M: Ledger, P: Post, O: Onlooker>(
     rt: &impl Wait,
     alloc: Global,
     reader: &mut CountedReader<R, L>,
@@ -45,14 +47,15 @@ fn answer_commands<R: Read, W: Write, L: Ledger, M: Ledger, P: Post, V: Watch>(
     line: &mut KeptLine,
     desk: &mut Desk<'_>,
     post: &mut P,
-    watch: &mut V,
+    onlooker: &mut O,
+    bell: &mut impl Bell,
 ) -> Result<u64, Device>
     requires opening { desk.old.plan ≡ opening 0 }
     requires carries { Carries (P.view post.old) desk.old }
     ensures done { OnOk result
         (Completes (P.view post.old).is_prompt reader.old reader.new writer.old writer.new) }
-    ensures noted { NotesRun V.notes result (P.view post.old).is_prompt
-        reader.old writer.old writer.new watch.old watch.new }
+    ensures noted { NotesRun O.sees result (P.view post.old).is_prompt
+        reader.old writer.old writer.new onlooker.old onlooker.new }
     ensures read { result ≡ Err Device.Reader → ReadStops R.remaining (P.view post.old).is_prompt
         reader.old reader.new writer.old writer.new }
     ensures write { result ≡ Err Device.Writer
@@ -71,14 +74,14 @@ fn answer_commands<R: Read, W: Write, L: Ledger, M: Ledger, P: Post, V: Watch>(
             }
             continue;
         };
-        let reply = serve(rt, alloc, desk, post, request);
+        let reply = serve(rt, alloc, desk, post, request, onlooker, bell);
         if send(writer, desk, reply).is_err() {
             return Err(Device::Writer);
         }
         if reply == Reply::Bye {
             return Ok(missed);
         }
-        note(watch, alloc, desk, &mut missed);
+        note(onlooker, desk, &mut missed);
         if last {
             return Ok(missed);
         }
@@ -86,7 +89,7 @@ fn answer_commands<R: Read, W: Write, L: Ledger, M: Ledger, P: Post, V: Watch>(
 }
 
 // `run`, while somebody looks on. Ok says how often the desk was passed over.
-fn answer_all<R: Read, W: Write, L: Ledger, M: Ledger, P: Post, V: Watch>(
+fn answer_all<R: Read, W: Write, L: Ledger, M: Ledger, P: Post, O: Onlooker>(
     rt: &impl Wait,
     alloc: Global,
     entries: &Entries,
@@ -94,13 +97,14 @@ fn answer_all<R: Read, W: Write, L: Ledger, M: Ledger, P: Post, V: Watch>(
     reader: &mut CountedReader<R, L>,
     writer: &mut CountedWriter<W, M>,
     post: &mut P,
-    watch: &mut V,
+    onlooker: &mut O,
+    bell: &mut impl Bell,
 ) -> Result<u64, RunFault>
     requires { IsFresh (P.view post.old) entries.now }
     ensures done { OnOk result
         (Completes (P.view post.old).is_prompt reader.old reader.new writer.old writer.new) }
-    ensures noted { NotesRun V.notes result (P.view post.old).is_prompt
-        reader.old writer.old writer.new watch.old watch.new }
+    ensures noted { NotesRun O.sees result (P.view post.old).is_prompt
+        reader.old writer.old writer.new onlooker.old onlooker.new }
     ensures read { result ≡ Err RunFault.Read → ReadStops R.remaining (P.view post.old).is_prompt
         reader.old reader.new writer.old writer.new }
     ensures write { result ≡ Err RunFault.Write
@@ -114,7 +118,9 @@ fn answer_all<R: Read, W: Write, L: Ledger, M: Ledger, P: Post, V: Watch>(
     let Ok(mut line) = KeptLine::new(alloc) else {
         return Err(RunFault::NoMemory);
     };
-    let answered = answer_commands(rt, alloc, reader, writer, &mut line, &mut desk, post, watch);
+    let answered = answer_commands(
+        rt, alloc, reader, writer, &mut line, &mut desk, post, onlooker, bell,
+    );
     // Nobody takes the answers of the jobs that are out.
     desk.stop_all();
     match answered {
@@ -169,14 +175,17 @@ pub fn run<R: Read, W: Write, L: Ledger, M: Ledger, P: Post>(
         writer,
         post,
         &mut Unwatched,
+        &mut Silent,
     ) {
         Ok(_) => Ok(()),
         Err(fault) => Err(fault),
     }
 }
 
-/// Does as `run` does, and publishes a snapshot of the desk after each reply but `bye`. A snapshot
-/// that is refused is passed over, and Ok says how many were. It may wait for viewers too.
+/// Does as `run` does, and publishes a snapshot of the desk after each reply but `bye`. One that is
+/// refused is passed over, and Ok says how many were. While a settling goes on it publishes the
+/// desk as it begins and after each answer that is collected, too; of these one that is refused
+/// isn't counted. The bell is told when that begins and ends. It may wait for viewers.
 pub fn run_with_board<R: Read, W: Write, L: Ledger, M: Ledger, P: Post, B: Wait>(
     rt: &impl Wait,
     alloc: Global,
@@ -186,6 +195,7 @@ pub fn run_with_board<R: Read, W: Write, L: Ledger, M: Ledger, P: Post, B: Wait>
     writer: &mut CountedWriter<W, M>,
     post: &mut P,
     publisher: &mut Publisher<B>,
+    bell: &mut impl Bell,
 ) -> Result<u64, RunFault>
     // The post is of the table, and took no job before.
     requires { IsFresh (P.view post.old) entries.now }
@@ -195,9 +205,10 @@ pub fn run_with_board<R: Read, W: Write, L: Ledger, M: Ledger, P: Post, B: Wait>
     ensures done { OnOk result
         (Completes (P.view post.old).is_prompt reader.old reader.new writer.old writer.new) }
 
-    // For each of these replies but `bye`, in order, the snapshot of the desk that gave it was put
-    // behind the history, or was refused, and so many were; 2^64 - 1 may stand for more. So it was
-    // for a beginning of the replies where the run stopped before the script's end.
+    // For each of these replies but `bye`, in order, snapshots of desks with the document that it
+    // leaves were put behind the history, and then that of the desk that gave it, or this one was
+    // refused, and so many were; 2^64 - 1 may stand for more. So it was for a beginning of the
+    // replies where the run stopped before the script's end.
     ensures shown { NotesRun ShowsNext result (P.view post.old).is_prompt
         reader.old writer.old writer.new publisher.old publisher.new }
 
@@ -214,5 +225,7 @@ pub fn run_with_board<R: Read, W: Write, L: Ledger, M: Ledger, P: Post, B: Wait>
     ensures no_memory { result ≡ Err RunFault.NoMemory
         → (reader.new ≡ reader.old) × (writer.new ≡ writer.old) }
 {
-    answer_all(rt, alloc, entries, facts, reader, writer, post, publisher)
+    answer_all(
+        rt, alloc, entries, facts, reader, writer, post, publisher, bell,
+    )
 }

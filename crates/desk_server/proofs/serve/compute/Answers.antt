@@ -1,13 +1,14 @@
-use Rattle.std.proofs.Common.{inl}
+use Rattle.std.proofs.Common.{inl, ◌∙◌}
 use Rattle.desk_server.proofs.Jobs.{carries_served, carries_on, causes_kept, none_untold, why_explained, why_stopped}
+use Rattle.desk_server.proofs.Noted.{watched_settling}
 use Rattle.desk_server.proofs.serve.compute.Goals as goal
 
 pub returns-in-Settled-clause-post : goal.returns-in-Settled-clause-post
-returns-in-Settled-clause-post g c = carries_served _ _ _ _ c.requires c.settle.ensures.post
+returns-in-Settled-clause-post g c = carries_served _ _ _ _ c.requires c.settle_seen.ensures.post
 
 pub returns-in-Unsettled-clause-post : goal.returns-in-Unsettled-clause-post
 returns-in-Unsettled-clause-post g c =
-    carries_on _ _ _ _ c.give_up.ensures.jobs (carries_served _ _ _ _ c.requires c.settle.ensures.post)
+    carries_on _ _ _ _ c.give_up.ensures.jobs (carries_served _ _ _ _ c.requires c.settle_seen.ensures.post)
 
 pub returns-in-Settled-clause-caused : goal.returns-in-Settled-clause-caused
 returns-in-Settled-clause-caused g c = λ prompt. c.in-Settled.ensures.ends.ends
@@ -26,15 +27,27 @@ returns-in-Unsettled-clause-explained g c =
     record {
       later = over.later;
       gave = over.gave;
-      explained = causes_kept _ c.args.desk.now c.settle.new.desk c.give_up.new.desk over.later c.in-Unsettled.cause
-          c.give_up.ensures.causes (why_explained _ (g.P.Post.view c.args.post.now) (g.P.Post.view c.settle.new.post)
-          c.args.desk.now c.settle.new.desk over.later c.in-Unsettled.cause over.ends.3);
-      stopped = why_stopped _ (g.P.Post.view c.args.post.now) (g.P.Post.view c.settle.new.post) c.args.desk.now
-          c.settle.new.desk over.later c.in-Unsettled.cause over.ends.3;
+      explained = causes_kept _ c.args.desk.now c.settle_seen.new.desk c.give_up.new.desk over.later c.in-Unsettled.cause
+          c.give_up.ensures.causes (why_explained _ (g.P.Post.view c.args.post.now) (g.P.Post.view c.settle_seen.new.post)
+          c.args.desk.now c.settle_seen.new.desk over.later c.in-Unsettled.cause over.ends.3);
+      stopped = why_stopped _ (g.P.Post.view c.args.post.now) (g.P.Post.view c.settle_seen.new.post) c.args.desk.now
+          c.settle_seen.new.desk over.later c.in-Unsettled.cause over.ends.3;
     }
 
 pub returns-in-Unsettled-clause-caused : goal.returns-in-Unsettled-clause-caused
 returns-in-Unsettled-clause-caused g c = λ prompt.
     none_untold c.in-Unsettled.cause _
     (c.in-Unsettled.ensures.caused (record { prompt = prompt; held = c.requires.out prompt })
-    c.settle.ensures.settles.enough)
+    c.settle_seen.ensures.settles.enough)
+
+pub returns-in-Settled-clause-looked : goal.returns-in-Settled-clause-looked
+returns-in-Settled-clause-looked g c =
+    watched_settling g.O.Onlooker.sees (g.P.Post.view c.args.post.now) (g.P.Post.view c.settle_seen.new.post)
+    c.args.desk.now c.settle_seen.new.desk.plan c.args.onlooker.now c.settle_seen.new.onlooker
+    c.settle_seen.ensures.settles.keeps.plan c.settle_seen.ensures.looked
+
+pub returns-in-Unsettled-clause-looked : goal.returns-in-Unsettled-clause-looked
+returns-in-Unsettled-clause-looked g c =
+    watched_settling g.O.Onlooker.sees (g.P.Post.view c.args.post.now) (g.P.Post.view c.settle_seen.new.post)
+    c.args.desk.now c.give_up.new.desk.plan c.args.onlooker.now c.settle_seen.new.onlooker
+    (c.give_up.ensures.plan ∙ c.settle_seen.ensures.settles.keeps.plan) c.settle_seen.ensures.looked

@@ -1,6 +1,8 @@
-use Rattle.std.proofs.Common.{◌≢◌, rules}
+use Rattle.std.proofs.Common.{◌≢◌, refl, rules}
 use Rattle.desk_server.specs.Shortage.{NoShortage}
 use Rattle.desk_server.proofs.Jobs.{nothing_out}
+use Rattle.desk_server.specs.declared.reply.Reply.TheVariants.{Settled, Unsettled}
+use Rattle.desk_server.proofs.Noted.{watched_reply}
 use Rattle.desk_server.proofs.Pictured.{all_known}
 use Rattle.desk_server.proofs.Replies.{gives-unsettled}
 use Rattle.desk_server.proofs.serve.settle.Goals as goal
@@ -37,3 +39,13 @@ returns-in-0-clause-leaves g c =
 
 pub returns-in-0-clause-pending : goal.returns-in-0-clause-pending
 returns-in-0-clause-pending g c = all_known c.compute-cause.new.desk c.pending.ensures.right (search rules)
+
+pub returns-in-0-clause-looked : goal.returns-in-0-clause-looked
+returns-in-0-clause-looked g c =
+    watched_reply g.O.Onlooker.sees Settled c.compute-cause.new.desk.plan c.args.onlooker.now c.compute-cause.new.onlooker
+    refl c.compute-cause.ensures.looked
+
+pub returns-in_default-clause-looked : goal.returns-in_default-clause-looked
+returns-in_default-clause-looked g c =
+    watched_reply g.O.Onlooker.sees (Unsettled c.pending.result c.compute-cause.result) c.compute-cause.new.desk.plan
+    c.args.onlooker.now c.compute-cause.new.onlooker refl c.compute-cause.ensures.looked

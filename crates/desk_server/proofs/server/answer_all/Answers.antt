@@ -13,8 +13,8 @@ answer_commands-answered-requires-clause-carries g c =
 
 pub returns-in_default-clause-noted : goal.returns-in_default-clause-noted
 returns-in_default-clause-noted g c =
-    none_begun g.V.Watch.notes c.args.watch.now (g.P.Post.view c.args.post.now).is_prompt c.args.reader.now.ahead.bytes
+    none_begun g.O.Onlooker.sees c.args.onlooker.now (g.P.Post.view c.args.post.now).is_prompt c.args.reader.now.ahead.bytes
 
 pub returns-in_default-new-clause-noted : goal.returns-in_default-new-clause-noted
 returns-in_default-new-clause-noted g c =
-    none_begun g.V.Watch.notes c.args.watch.now (g.P.Post.view c.args.post.now).is_prompt c.args.reader.now.ahead.bytes
+    none_begun g.O.Onlooker.sees c.args.onlooker.now (g.P.Post.view c.args.post.now).is_prompt c.args.reader.now.ahead.bytes

@@ -8,7 +8,7 @@ use Rattle.desk_server.proofs.server.answer_commands.Given as goal
 
 abbrev pub invariant-script : goal.invariant-script
 invariant-script g l = record {
-  answered : Answers (NotesEach {V = g.row.V.Denot} g.V.Watch.notes 0 l.missed l.fn.watch l.watch)
+  answered : Answers (NotesEach {V = g.row.O.Denot} g.O.Onlooker.sees 0 l.missed l.fn.onlooker l.onlooker)
       (g.P.Post.view l.fn.post).is_prompt l.fn.reader.ahead l.reader.ahead l.fn.writer.contents l.writer.contents
       (opening 0) l.desk.plan 1 (l.reader.lines + 1);
   post : CarriesOn (g.P.Post.view l.fn.post) (g.P.Post.view l.post) l.desk;
