@@ -1,13 +1,13 @@
 -- The numbers that the words choose.
-use Rattle.std.proofs.Common.{◌≡◌, ◌∙◌, ℕ, ap, sym, subst, refl, List, Result, Ok, Err, true, IfOk}
-use Rattle.clap.specs.Words.{App, HasMatchesOf, IsParsedFrom, Text, app_of, found_of, is_simple, matches_of, one_of, rows_of}
+use Rattle.std.proofs.Common.{◌≡◌, ◌∙◌, ℕ, ap, sym, subst, refl, Bool, List, Result, Ok, Err, true, IfOk}
+use Rattle.clap.specs.Words.{App, HasMatchesOf, IsParsedFrom, Text, app_of, found_of, is_simple, matches_of, one_of, one_text, rows_of}
 use Rattle.clap.proofs.WalkLemmas.{one_text-rows}
 use Rattle.clap.specs.declared.builder.command.Command.{Command}
 use Rattle.clap.specs.declared.error.Error.{Error}
 use Rattle.clap.specs.declared.parser.matches.ArgMatches.{ArgMatches}
 use Rattle.clap.specs.declared.parser.matches.Found.{Found}
 use Rattle.desk_words.specs.declared.settings.Setting.{Setting}
-use Rattle.desk_words.specs.Command.{AlwaysGives, ChoosesFor, Gives, IsNumberIn, desk, name_of}
+use Rattle.desk_words.specs.Command.{AlwaysGives, ChoosesFor, Gives, IsNumberIn, Says, desk, name_of, progress_name, progress_text}
 
 desk_is_simple : is_simple desk ≡ true
 desk_is_simple = refl
@@ -21,8 +21,15 @@ pub parse_gives : (command : Command) (words : List Text) (r : Result ArgMatches
 parse_gives command words (Err e) app gives parsed matches = tt
 parse_gives command words (Ok m) app gives parsed matches =
     let rows = rows_are m words (subst (λ (a : App). HasMatchesOf a words m) app matches) in
-    λ setting. (gives m parsed setting, one_text-rows (found_of m) (name_of setting) ∙ ap (one_of (name_of setting)) rows)
+    record {
+      settings = λ setting. (gives m parsed setting, one_text-rows (found_of m) (name_of setting) ∙ ap (one_of (name_of setting)) rows);
+      progress = one_text-rows (found_of m) progress_name ∙ ap (one_of progress_name) rows;
+    }
 
 -- the number in the text that is found is the one that the words choose
 pub chooses_for : (setting : Setting) (words : List Text) (found : Found) (n : ℕ) → Gives words found → IsNumberIn setting found n → ChoosesFor setting words n
-chooses_for setting words found n gives is = (is.0, sym (gives setting).1 ∙ is.1, is.2)
+chooses_for setting words found n gives is = (is.0, sym (gives.settings setting).1 ∙ is.1, is.2)
+
+-- what is found of progress is what the words say
+pub says_as : (words : List Text) (found : Found) (b : Bool) → Gives words found → Says (one_text found progress_name) b → Says (progress_text words) b
+says_as words found b gives says = subst (λ text. Says text b) gives.progress says

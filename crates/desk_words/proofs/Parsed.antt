@@ -1,5 +1,5 @@
 -- Whatever the command parses, each setting has a number.
-use Rattle.std.proofs.Common.{◌≡◌, ◌∙◌, ◌<◌, ◌≤◌, ◌++◌, ◌∷◌, ◌||◌, ap, ℕ, zero, suc, true, false, List, [], length, Some, None, refl, sym, subst, inl, inr, arith, slice_index}
+use Rattle.std.proofs.Common.{◌≡◌, ◌∙◌, ◌<◌, ◌≤◌, ◌++◌, ◌∷◌, ◌||◌, ap, ap₂, codes, ℕ, zero, suc, true, false, List, [], length, Some, None, refl, sym, subst, inl, inr, arith, slice_index}
 use Rattle.std.specs.List.{All, slice_index_or}
 use Rattle.std.specs.Str.{bytes_eq}
 use Rattle.std.proofs.lemmas.List.Elements.{All-nil}
@@ -12,10 +12,11 @@ use Rattle.clap.specs.declared.builder.arg.Arg.{Arg}
 use Rattle.clap.specs.declared.builder.command.Command.{Command}
 use Rattle.clap.specs.declared.builder.command.Command.TheViews.{out-Command}
 use Rattle.clap.specs.declared.builder.value_parser.ValueParser.TheVariants.{Unsigned}
-use Rattle.clap.specs.Walk.{Rule, Text}
+use Rattle.clap.specs.Walk.{Rule, Text, rule_of}
+use Rattle.clap.specs.Simple.{App, app_of, with_rule}
 use Rattle.desk_words.specs.declared.settings.Setting.{Setting}
 use Rattle.desk_words.specs.declared.settings.Setting.TheVariants.{Workers, Facts, Squares}
-use Rattle.desk_words.specs.Command.{AlwaysGives, IsOptionOf, least_of, most_of, name_of}
+use Rattle.desk_words.specs.Command.{AlwaysGives, IsOptionOf, IsProgress, desk, least_of, most_of, name_of, nameless_app, progress_name, progress_rule, setting_rule}
 use Rattle.desk_words.proofs.Defaults.{default_read}
 
 -- what a command knows of the argument of a setting
@@ -40,22 +41,24 @@ arg_of setting a x is same =
       parser = same.parser (Unsigned (least_of setting) (most_of setting)) (ap (λ (r : Rule). r.parser) is.rule);
     }
 
--- the list of the command's arguments: one for each setting, in this order
+-- the list of the command's arguments: one for each setting, in this order, and that for progress
 record HasSettings (xs : List Arg) : Type 0 where
   workers : Arg
   facts : Arg
   squares : Arg
-  list : xs ≡ workers ∷ facts ∷ squares ∷ []
+  progress : Arg
+  list : xs ≡ workers ∷ facts ∷ squares ∷ progress ∷ []
   workers_is : IsArgOf Workers workers
   facts_is : IsArgOf Facts facts
   squares_is : IsArgOf Squares squares
+  progress_is : progress.id.now ≡ progress_name
 
 abbrev place : Setting → ℕ
 place Workers = 0
 place Facts = 1
 place Squares = 2
 
-place_low : (s : Setting) → place s < 3
+place_low : (s : Setting) → place s < 4
 place_low Workers = omega arith
 place_low Facts = omega arith
 place_low Squares = omega arith
@@ -80,12 +83,24 @@ names_differ Squares Squares e = refl
 named_at : (xs : List Arg) → HasSettings xs → (s t : Setting) (e : Arg) → bytes_eq (slice_index_or xs (place t) e).id.now (name_of s) ≡ true → place t ≡ place s
 named_at xs has s t e same = names_differ s t (subst (λ n. bytes_eq n (name_of s) ≡ true) (arg_at xs has t e).id same)
 
+-- which isn't that for progress
+progress_differs : (s : Setting) → bytes_eq progress_name (name_of s) ≡ true → ⊥
+progress_differs Workers e = cc e
+progress_differs Facts e = cc e
+progress_differs Squares e = cc e
+
+progress_at : (xs : List Arg) → HasSettings xs → (s : Setting) (e : Arg) → bytes_eq (slice_index_or xs 3 e).id.now (name_of s) ≡ true → ⊥
+progress_at xs has s e same =
+    let is : (slice_index_or xs 3 e).id.now ≡ progress_name = subst (λ l. (slice_index_or l 3 e).id.now ≡ progress_name) (sym has.list) has.progress_is in
+    progress_differs s (subst (λ n. bytes_eq n (name_of s) ≡ true) is same)
+
 only_at : (xs : List Arg) → HasSettings xs → (s : Setting) (j : ℕ) (e : Arg) → j < length xs → bytes_eq (slice_index_or xs j e).id.now (name_of s) ≡ true → j ≡ place s
 only_at xs has s zero e low same = named_at xs has s Workers e same
 only_at xs has s (suc zero) e low same = named_at xs has s Facts e same
 only_at xs has s (suc (suc zero)) e low same = named_at xs has s Squares e same
-only_at xs has s (suc (suc (suc j))) e low same =
-    let few : suc (suc (suc j)) < 3 = subst (λ l. suc (suc (suc j)) < length l) has.list low in
+only_at xs has s (suc (suc (suc zero))) e low same = absurd (progress_at xs has s e same)
+only_at xs has s (suc (suc (suc (suc j)))) e low same =
+    let few : suc (suc (suc (suc j))) < 4 = subst (λ l. suc (suc (suc (suc j))) < length l) has.list low in
     absurd (omega (arith, few))
 
 not_empty : (s : Setting) → name_of s ≡ [] → ⊥
@@ -122,24 +137,41 @@ pub record IsBare (c : Command) : Type 0 where
 still_local : (a b : Command) (x : Arg) → AddsArg a x b → (out-Command a).has_globals ≡ false → x.global ≡ false → (out-Command b).has_globals ≡ false
 still_local a b x added globals own = added.globals ∙ (ap (λ g. g || x.global) globals ∙ ap (λ g. false || g) own)
 
--- a command with the three settings gives each a number
-pub always_gives : (start one two three : Command) (a b c : Arg) → IsBare start → AddsArg start a one → AddsArg one b two → AddsArg two c three
-    → IsOptionOf Workers a → IsOptionOf Facts b → IsOptionOf Squares c → AlwaysGives three
-always_gives start one two three a b c bare first second third is-a is-b is-c =
+-- a command with the three settings, and progress, gives each setting a number
+pub always_gives : (start one two three four : Command) (a b c d : Arg) → IsBare start → AddsArg start a one → AddsArg one b two → AddsArg two c three → AddsArg three d four
+    → IsOptionOf Workers a → IsOptionOf Facts b → IsOptionOf Squares c → IsProgress d → AlwaysGives four
+always_gives start one two three four a b c d bare first second third fourth is-a is-b is-c is-d =
     let start-plain : IsPlain start = (subst (All IsPlainArg) (sym bare.args) (All-nil IsPlainArg), bare.groups) in
     let one-plain = added_plain start one a first start-plain is-a.plain in
     let two-plain = added_plain one two b second one-plain is-b.plain in
     let three-plain = added_plain two three c third two-plain is-c.plain in
+    let four-plain = added_plain three four d fourth three-plain is-d.plain in
     let one-local = still_local start one a first bare.globals is-a.own in
     let two-local = still_local one two b second one-local is-b.own in
-    let list : args_of three ≡ first.arg ∷ second.arg ∷ third.arg ∷ [] =
-    third.args ∙ ap (λ l. l ++ third.arg ∷ []) (second.args ∙ ap (λ l. l ++ second.arg ∷ []) (first.args ∙ ap (λ l. l ++ first.arg ∷ []) bare.args)) in
-    has_number three (record {
+    let three-local = still_local two three c third two-local is-c.own in
+    let list : args_of four ≡ first.arg ∷ second.arg ∷ third.arg ∷ fourth.arg ∷ [] =
+    fourth.args ∙ ap (λ l. l ++ fourth.arg ∷ []) (third.args ∙ ap (λ l. l ++ third.arg ∷ [])
+    (second.args ∙ ap (λ l. l ++ second.arg ∷ []) (first.args ∙ ap (λ l. l ++ first.arg ∷ []) bare.args))) in
+    has_number four (record {
       workers = first.arg;
       facts = second.arg;
       squares = third.arg;
+      progress = fourth.arg;
       list = list;
       workers_is = arg_of Workers a first.arg is-a first.rules;
       facts_is = arg_of Facts b second.arg is-b second.rules;
       squares_is = arg_of Squares c third.arg is-c third.rules;
-    }) three-plain (still_local two three c third two-local is-c.own) a
+      progress_is = ap (λ i. i.now) fourth.rules.id ∙ ap (λ (r : Rule). r.id) is-d.rule;
+    }) four-plain (still_local three four d fourth three-local is-d.own) a
+
+with_arg : (a b : Command) (x : Arg) (app : App) (rule : Rule) → AddsArg a x b → x.global ≡ false → app_of a ≡ app → rule_of x ≡ rule → app_of b ≡ with_rule app rule
+with_arg a b x app rule added own is same = added.shape own ∙ ap₂ with_rule is same
+
+-- such a command is `desk`
+pub app_is : (start one two three four : Command) (a b c d : Arg) → app_of start ≡ nameless_app (codes "desk") → AddsArg start a one → AddsArg one b two → AddsArg two c three → AddsArg three d four
+    → IsOptionOf Workers a → IsOptionOf Facts b → IsOptionOf Squares c → IsProgress d → app_of four ≡ desk
+app_is start one two three four a b c d app first second third fourth is-a is-b is-c is-d =
+    with_arg three four d _ progress_rule fourth is-d.own
+    (with_arg two three c _ (setting_rule Squares) third is-c.own
+    (with_arg one two b _ (setting_rule Facts) second is-b.own
+    (with_arg start one a (nameless_app (codes "desk")) (setting_rule Workers) first is-a.own app is-a.rule) is-b.rule) is-c.rule) is-d.rule

@@ -18,8 +18,9 @@ use Rattle.clap.specs.declared.builder.value_parser.ValueParser.TheVariants.{Uns
 use Rattle.clap.proofs.OnLiterals.{clap_on_literals}
 use Rattle.desk_words.specs.declared.settings.Setting.{Setting}
 use Rattle.desk_words.specs.declared.settings.Setting.TheVariants.{Workers, Facts, Squares}
-use Rattle.desk_words.specs.Command.{desk, least_of, most_of, name_of, setting_rule}
-use Rattle.desk_words.specs.Words.{Choice, IsInOrder, words_of}
+use Rattle.desk_words.specs.Command.{desk, least_of, most_of, name_of, progress_name, progress_rule, setting_rule}
+use Rattle.desk_words.specs.Words.{Choice, IsInOrder, option_of, words_of}
+use Rattle.desk_words.specs.Words.Choice.{numbered, progress}
 use Rattle.desk_words.proofs.Rows.{no_more, put_behind}
 
 -- the command as it is built, and its options
@@ -32,6 +33,10 @@ rules = shape.rules
 -- the option of a setting there
 abbrev pub rule_for : Setting → Rule
 rule_for setting = with_index 1 (filled (setting_rule setting))
+
+-- and that for progress
+abbrev pub progress_in : Rule
+progress_in = with_index 1 (filled progress_rule)
 
 abbrev pub Pending : Type 0
 Pending = Option (Text × List Text)
@@ -91,6 +96,23 @@ value_walk Workers x word rows other = let stripped : strip_byte 45 (x ∷ word)
 value_walk Facts x word rows other = let stripped : strip_byte 45 (x ∷ word) ≡ None = rw other refl in rw stripped (rw other refl)
 value_walk Squares x word rows other = let stripped : strip_byte 45 (x ∷ word) ≡ None = rw other refl in rw stripped (rw other refl)
 
+abbrev pub flag : Text
+flag = codes "--" ++ progress_name
+
+flag_turn : (rows : List Row) (pending : Pending) → settle_fault rules false (held rows pending) ≡ []
+    → use_fault false progress_in [] (settled_rows rules pending rows) ≡ [] → turn_fault shape [] (between rows pending) flag ≡ []
+unfolding clap_on_literals
+flag_turn rows pending settles passes = rw (settles, passes) refl
+
+flag_walk : (rows : List Row) (pending : Pending) → walked rules [] (between rows pending) flag ≡ between (used progress_in [] (settled_rows rules pending rows)) None
+unfolding clap_on_literals
+flag_walk rows pending = refl
+
+-- it passes where it wasn't used before
+flag_passes : (rows : List Row) → has_row progress_name rows ≡ false → use_fault false progress_in [] rows ≡ []
+unfolding clap_on_literals
+flag_passes rows fresh = rw fresh refl
+
 -- such an option takes the value of a choice in order, where it wasn't used before
 value_passes : (s : Setting) (digits : Text) → value_kinds false (Unsigned (least_of s) (most_of s)) digits ≡ [] → (rows : List Row) → has_row (name_of s) rows ≡ false → use_fault false (rule_for s) (digits ∷ []) rows ≡ []
 value_passes s digits taken rows fresh = rw (fresh, taken) refl
@@ -113,16 +135,26 @@ pub record Stands (rows before : List Row) (pending : Pending) : Type 0 where
   pub settles : settle_fault rules false (held before pending) ≡ []
   pub are : settled_rows rules pending before ≡ rows
 
+-- the text of a choice, and its option
+abbrev pub text_for : Choice → Text
+text_for (numbered s digits apart) = digits
+text_for progress = codes "true"
+
+abbrev pub rule_by : Choice → Rule
+rule_by (numbered s digits apart) = rule_for s
+rule_by progress = progress_in
+
 -- the row of a choice
 abbrev pub row_for : Choice → Row
-row_for choice = record { id = name_of choice.setting; values = choice.digits ∷ []; count = None; source = Some CommandLine; reading = reading_by (rule_for choice.setting) }
+row_for choice = record { id = option_of choice; values = text_for choice ∷ []; count = None; source = Some CommandLine; reading = reading_by (rule_by choice) }
 
-used_is : (choice : Choice) (rows : List Row) → has_row (name_of choice.setting) rows ≡ false → used (rule_for choice.setting) (choice.digits ∷ []) rows ≡ rows ++ row_for choice ∷ []
-used_is choice rows fresh =
-    let id = name_of choice.setting in
+put_used : (choice : Choice) (rows : List Row) → has_row (option_of choice) rows ≡ false
+    → with_values (option_of choice) (reading_by (rule_by choice)) CommandLine (text_for choice ∷ []) (without (option_of choice) rows) ≡ rows ++ row_for choice ∷ []
+put_used choice rows fresh =
+    let id = option_of choice in
     let out : without id rows ≡ rows = put_behind id (λ _. []) [] rows fresh ∙ no_more rows in
-    ap (with_values id (reading_by (rule_for choice.setting)) CommandLine (choice.digits ∷ [])) out
-    ∙ put_behind id (more_values CommandLine (choice.digits ∷ [])) (row_for choice ∷ []) rows fresh
+    ap (with_values id (reading_by (rule_by choice)) CommandLine (text_for choice ∷ [])) out
+    ∙ put_behind id (more_values CommandLine (text_for choice ∷ [])) (row_for choice ∷ []) rows fresh
 
 -- one word more
 fault_step : (w after : Walk) (word : Text) (more : List Text) → turn_fault shape [] w word ≡ [] → walked rules [] w word ≡ after → walk_fault shape [] w (word ∷ more) ≡ walk_fault shape [] after more
@@ -153,35 +185,35 @@ no_plus (d ∷ ds) h =
     ap (λ b. drop (cond b 1 0) (d ∷ ds)) plus
 
 -- a number of its range passes
-taken : (choice : Choice) → IsInOrder choice → value_kinds false (Unsigned (least_of choice.setting) (most_of choice.setting)) choice.digits ≡ []
-taken choice order =
-    let small : digits_value 10 choice.digits < 2 ^ 64 = omega (arith, order.2, most_small choice.setting) in
-    let parser = Unsigned (least_of choice.setting) (most_of choice.setting) in
-    let accepted = Accepts-accepts false parser choice.digits (rw (no_plus choice.digits order.0) (order.0, small, order.1, order.2)) in
+taken : (s : Setting) (digits : Text) (apart : Bool) → IsInOrder (numbered s digits apart) → value_kinds false (Unsigned (least_of s) (most_of s)) digits ≡ []
+taken s digits apart order =
+    let small : digits_value 10 digits < 2 ^ 64 = omega (arith, order.2, most_small s) in
+    let parser = Unsigned (least_of s) (most_of s) in
+    let accepted = Accepts-accepts false parser digits (rw (no_plus digits order.0) (order.0, small, order.1, order.2)) in
     ap (λ b. if b then [] else refused_kind parser ∷ []) accepted
 
-attached_leads : (choice : Choice) (rows before : List Row) (pending : Pending) → Stands rows before pending → IsInOrder choice → has_row (name_of choice.setting) rows ≡ false
-    → Leads before pending (attached choice.setting choice.digits ∷ []) (rows ++ row_for choice ∷ [])
-attached_leads choice rows before pending stands order fresh =
-    let s = choice.setting in
-    let word = attached s choice.digits in
+attached_leads : (s : Setting) (digits : Text) (apart : Bool) (rows before : List Row) (pending : Pending) → Stands rows before pending → IsInOrder (numbered s digits apart) → has_row (name_of s) rows ≡ false
+    → Leads before pending (attached s digits ∷ []) (rows ++ row_for (numbered s digits apart) ∷ [])
+attached_leads s digits apart rows before pending stands order fresh =
+    let choice = numbered s digits apart in
+    let word = attached s digits in
     let settled = settled_rows rules pending before in
     let clear : has_row (name_of s) settled ≡ false = ap (has_row (name_of s)) stands.are ∙ fresh in
-    let turn = attached_turn s choice.digits before pending stands.settles (value_passes s choice.digits (taken choice order) settled clear) in
-    let step = attached_walk s choice.digits before pending in
+    let turn = attached_turn s digits before pending stands.settles (value_passes s digits (taken s digits apart order) settled clear) in
+    let step = attached_walk s digits before pending in
     record {
-      after = used (rule_for s) (choice.digits ∷ []) settled;
+      after = used (rule_for s) (digits ∷ []) settled;
       waits = None;
-      stands = record { settles = refl; are = used_is choice settled clear ∙ ap (λ r. r ++ row_for choice ∷ []) stands.are };
+      stands = record { settles = refl; are = put_used choice settled clear ∙ ap (λ r. r ++ row_for choice ∷ []) stands.are };
       faults = λ more. fault_step (between before pending) _ word more turn step;
       walk = λ more. fold_step (between before pending) _ word more step;
     }
 
-apart_leads : (s : Setting) (digits : Text) (apart : Bool) (rows before : List Row) (pending : Pending) → Stands rows before pending → IsInOrder (record { setting = s; digits = digits; apart = apart }) → has_row (name_of s) rows ≡ false
-    → Leads before pending (dashed s ∷ digits ∷ []) (rows ++ row_for (record { setting = s; digits = digits; apart = apart }) ∷ [])
+apart_leads : (s : Setting) (digits : Text) (apart : Bool) (rows before : List Row) (pending : Pending) → Stands rows before pending → IsInOrder (numbered s digits apart) → has_row (name_of s) rows ≡ false
+    → Leads before pending (dashed s ∷ digits ∷ []) (rows ++ row_for (numbered s digits apart) ∷ [])
 apart_leads s [] apart rows before pending stands order fresh = absurd (omega (arith, order.0.0))
 apart_leads s (x ∷ word) apart rows before pending stands order fresh =
-    let choice : Choice = record { setting = s; digits = x ∷ word; apart = apart } in
+    let choice = numbered s (x ∷ word) apart in
     let settled = settled_rows rules pending before in
     let clear : has_row (name_of s) settled ≡ false = ap (has_row (name_of s)) stands.are ∙ fresh in
     let digit : (x == 45) ≡ false = ne_eqb _ _ (λ e. omega (arith, digit_from_value x order.0.1.0)) in
@@ -191,19 +223,32 @@ apart_leads s (x ∷ word) apart rows before pending stands order fresh =
       after = settled;
       waits = Some (name_of s, (x ∷ word) ∷ []);
       stands = record {
-        settles = settles_as s (x ∷ word) settled ∙ value_passes s (x ∷ word) (taken choice order) settled clear;
-        are = settled_as s (x ∷ word) settled ∙ used_is choice settled clear ∙ ap (λ r. r ++ row_for choice ∷ []) stands.are;
+        settles = settles_as s (x ∷ word) settled ∙ value_passes s (x ∷ word) (taken s (x ∷ word) apart order) settled clear;
+        are = settled_as s (x ∷ word) settled ∙ put_used choice settled clear ∙ ap (λ r. r ++ row_for choice ∷ []) stands.are;
       };
       faults = λ more. fault_step (between before pending) _ (dashed s) ((x ∷ word) ∷ more) (dashed_turn s before pending stands.settles) first
           ∙ fault_step (behind s settled) _ (x ∷ word) more (value_turn s x word settled digit) second;
       walk = λ more. fold_step (between before pending) _ (dashed s) ((x ∷ word) ∷ more) first ∙ fold_step (behind s settled) _ (x ∷ word) more second;
     }
 
+flag_leads : (rows before : List Row) (pending : Pending) → Stands rows before pending → has_row progress_name rows ≡ false
+    → Leads before pending (flag ∷ []) (rows ++ row_for progress ∷ [])
+flag_leads rows before pending stands fresh =
+    let settled = settled_rows rules pending before in
+    let clear : has_row progress_name settled ≡ false = ap (has_row progress_name) stands.are ∙ fresh in
+    let turn = flag_turn before pending stands.settles (flag_passes settled clear) in
+    let step = flag_walk before pending in
+    record {
+      after = used progress_in [] settled;
+      waits = None;
+      stands = record { settles = refl; are = put_used progress settled clear ∙ ap (λ r. r ++ row_for progress ∷ []) stands.are };
+      faults = λ more. fault_step (between before pending) _ flag more turn step;
+      walk = λ more. fold_step (between before pending) _ flag more step;
+    }
+
 -- the words of a choice in order put its row behind the others
-pub choice_leads : (choice : Choice) (rows before : List Row) (pending : Pending) → Stands rows before pending → IsInOrder choice → has_row (name_of choice.setting) rows ≡ false
+pub choice_leads : (choice : Choice) (rows before : List Row) (pending : Pending) → Stands rows before pending → IsInOrder choice → has_row (option_of choice) rows ≡ false
     → Leads before pending (words_of choice) (rows ++ row_for choice ∷ [])
-choice_leads choice rows before pending stands order fresh = go choice.apart refl
-  where
-    go : (b : Bool) → choice.apart ≡ b → Leads before pending (words_of choice) (rows ++ row_for choice ∷ [])
-    go true is = rw is (apart_leads choice.setting choice.digits choice.apart rows before pending stands order fresh)
-    go false is = rw is (attached_leads choice rows before pending stands order fresh)
+choice_leads (numbered s digits true) rows before pending stands order fresh = apart_leads s digits true rows before pending stands order fresh
+choice_leads (numbered s digits false) rows before pending stands order fresh = attached_leads s digits false rows before pending stands order fresh
+choice_leads progress rows before pending stands order fresh = flag_leads rows before pending stands fresh

@@ -1,10 +1,10 @@
 -- What the command line may say, behind the program's name.
-use Rattle.std.specs.Prelude.{◌≡◌, ◌≢◌, ◌⊎◌, ◌≤◌, ℕ, Bool, List, [], ◌∷◌, ◌++◌, All, ⊤, Result, IfErr, IfOk, IsErrAnd, MatchResult, codes, if◌then◌else◌}
+use Rattle.std.specs.Prelude.{◌≡◌, ◌≢◌, ◌⊎◌, ◌≤◌, ℕ, Bool, false, true, List, [], ◌∷◌, ◌++◌, All, ⊤, Result, IfErr, IfOk, IsErrAnd, MatchResult, codes, if◌then◌else◌}
 use Rattle.std.specs.IoError.{error_kind}
 use Rattle.std.specs.Str.Parse.{IsNumeral, digits_value}
 use Rattle.std.specs.declared.io.Error.{Error}
 use Rattle.std.specs.declared.io.ErrorKind.TheVariants.{OutOfMemory}
-use Rattle.desk_words.specs.Command.{least_of, most_of, name_of}
+use Rattle.desk_words.specs.Command.{least_of, most_of, name_of, progress_name}
 use Rattle.desk_words.specs.Fault.{IsHelp, IsRefusal}
 use Rattle.desk_words.specs.declared.settings.Options.{Options}
 use Rattle.desk_words.specs.declared.settings.Setting.{Setting}
@@ -12,18 +12,23 @@ use Rattle.desk_words.specs.declared.settings.Setting.TheVariants.{Workers, Fact
 use Rattle.desk_words.specs.declared.words.OptionFault.{OptionFault}
 use Rattle.desk_words.specs.declared.words.OptionFault.TheVariants.{NoMemory}
 
--- a choice by a setting's option: the digits of its number, and whether they are a word of their
--- own
-pub record Choice : Type 0 where
-  pub setting : Setting
-  pub digits : List ℕ
-  pub apart : Bool
+-- a choice: of a number by a setting's option, with its digits, and whether they are a word of their
+-- own; or of progress
+pub data Choice : Type 0 where
+  numbered : Setting → List ℕ → Bool → Choice
+  progress : Choice
 
--- the words of a choice: `--NAME N` or `--NAME=N`
+-- the name of its option
+abbrev pub option_of : Choice → List ℕ
+option_of (numbered setting digits apart) = name_of setting
+option_of progress = progress_name
+
+-- the words of a choice: `--NAME N` or `--NAME=N`, or `--progress`
 abbrev pub words_of : Choice → List (List ℕ)
-words_of choice =
-    if choice.apart then (codes "--" ++ name_of choice.setting) ∷ choice.digits ∷ []
-    else (codes "--" ++ name_of choice.setting ++ codes "=" ++ choice.digits) ∷ []
+words_of (numbered setting digits apart) =
+    if apart then (codes "--" ++ name_of setting) ∷ digits ∷ []
+    else (codes "--" ++ name_of setting ++ codes "=" ++ digits) ∷ []
+words_of progress = (codes "--" ++ progress_name) ∷ []
 
 -- the words of all the choices
 abbrev pub all_words : List Choice → List (List ℕ)
@@ -32,17 +37,19 @@ all_words (choice ∷ choices) = words_of choice ++ all_words choices
 
 -- its digits are a number of the setting's range
 abbrev pub IsInOrder : Choice → Type 0
-IsInOrder choice =
-    IsNumeral 10 choice.digits
-    × (least_of choice.setting ≤ digits_value 10 choice.digits)
-    × (digits_value 10 choice.digits ≤ most_of choice.setting)
+IsInOrder (numbered setting digits apart) =
+    IsNumeral 10 digits
+    × (least_of setting ≤ digits_value 10 digits)
+    × (digits_value 10 digits ≤ most_of setting)
+IsInOrder progress = ⊤
 
--- no setting is chosen twice
+-- no option is chosen twice
 abbrev pub AreOnce : List Choice → Type 0
 AreOnce [] = ⊤
-AreOnce (choice ∷ choices) = All (λ other. other.setting ≢ choice.setting) choices × AreOnce choices
+AreOnce (choice ∷ choices) =
+    All (λ other. option_of other ≢ option_of choice) choices × AreOnce choices
 
--- the words are such choices, each setting at most once and with a number of its range
+-- the words are such choices, each option at most once, and a setting with a number of its range
 pub record AsksWith (choices : List Choice) (words : List (List ℕ)) : Type 0 where
   pub spelled : words ≡ all_words choices
   pub numbers : All IsInOrder choices
@@ -54,11 +61,17 @@ with_number Workers n options = record options { workers = n }
 with_number Facts n options = record options { facts = n }
 with_number Squares n options = record options { squares = n }
 
--- what the choices come to: where a setting isn't chosen, 2 workers, 64 facts, 4194304 squares
+-- the options with what is chosen
+abbrev pub with_choice : Choice → Options → Options
+with_choice (numbered setting digits apart) options =
+    with_number setting (digits_value 10 digits) options
+with_choice progress options = record options { progress = true }
+
+-- what the choices come to: where nothing is chosen, 2 workers, 64 facts, 4194304 squares and no
+-- progress
 abbrev pub chosen_by : List Choice → Options
-chosen_by [] = record { workers = 2; facts = 64; squares = 4194304 }
-chosen_by (choice ∷ choices) =
-    with_number choice.setting (digits_value 10 choice.digits) (chosen_by choices)
+chosen_by [] = record { workers = 2; facts = 64; squares = 4194304; progress = false }
+chosen_by (choice ∷ choices) = with_choice choice (chosen_by choices)
 
 -- a word for help is asked with, and no other
 abbrev pub AsksForHelp : List (List ℕ) → Type 0
@@ -78,8 +91,8 @@ pub record IsInRange (options : Options) : Type 0 where
 
 -- what the words come to
 pub record ReadsWords (words : List (List ℕ)) (result : Result Options OptionFault) : Type 0 where
-  -- settings, each at most once and with a number of its range, are chosen, and refused but for
-  -- memory
+  -- options, each at most once, and a setting with a number of its range, are chosen, and refused
+  -- but for memory
   pub given : (choices : List Choice) → AsksWith choices words
       → MatchResult result (λ options. options ≡ chosen_by choices) (λ fault. fault ≡ NoMemory)
   -- words that begin with no option are refused

@@ -1,9 +1,10 @@
 //! The command that the words belong to, as `clap` knows it.
 ghost use Rattle.std.specs.Prelude.{◌≡◌, IfOk, IsErrAnd, MatchResult, List, map};
-ghost use Rattle.clap.specs.Words.{FailsBy, app_of, found_of, kind_of};
+ghost use Rattle.clap.specs.Words.{FailsBy, app_of, found_of, kind_of, one_text};
 ghost use Rattle.desk_words.specs.Words.{AsksForHelp, AsksWith, BeginsPlain, Choice, chosen_by};
 ghost use Rattle.desk_words.specs.Command.{AlwaysGives, Chooses, Gives, HasNumber, IsHelpOrMemory};
-ghost use Rattle.desk_words.specs.Command.{IsNumberIn, IsOptionOf, IsUnknownOrMemory, desk, faults};
+ghost use Rattle.desk_words.specs.Command.{IsNumberIn, IsOptionOf, IsProgress, IsUnknownOrMemory};
+ghost use Rattle.desk_words.specs.Command.{Says, desk, faults, progress_name};
 
 use crate::help::COMMANDS;
 use crate::settings::{Options, Setting};
@@ -15,6 +16,12 @@ use std::convert::AsStr;
 
 const ABOUT: &str =
     "Evolves a cellular automaton as a script on standard input says, and replies on standard output";
+
+/// The name of the option for progress.
+const PROGRESS: &str = "progress";
+
+const PROGRESS_HELP: &str =
+    "While a settling takes long, shows on standard error how far it is; so it is without the option where that is a terminal";
 
 // The option of a setting.
 fn option(alloc: Global, setting: Setting) -> Arg<'static>
@@ -30,6 +37,16 @@ fn option(alloc: Global, setting: Setting) -> Arg<'static>
         .help(setting.help())
 }
 
+// The option for progress.
+fn progress_option(alloc: Global) -> Arg<'static>
+    ensures { IsProgress result }
+{
+    Arg::new(alloc, PROGRESS)
+        .long(PROGRESS)
+        .action(ArgAction::SetTrue)
+        .help(PROGRESS_HELP)
+}
+
 fn command<'a>(alloc: Global) -> Result<Command<'a>, AllocError>
     ensures app { IfOk result (λ command. app_of command ≡ desk) }
     ensures gives { IfOk result AlwaysGives }
@@ -40,7 +57,8 @@ fn command<'a>(alloc: Global) -> Result<Command<'a>, AllocError>
         .no_binary_name(true)
         .arg(option(alloc, Setting::Workers))?
         .arg(option(alloc, Setting::Facts))?
-        .arg(option(alloc, Setting::Squares))
+        .arg(option(alloc, Setting::Squares))?
+        .arg(progress_option(alloc))
 }
 
 // What `clap` finds in the words.
@@ -62,9 +80,16 @@ fn number(matches: &ArgMatches<'_>, setting: Setting) -> u32
     }
 }
 
+// Whether progress is asked for.
+fn asks_for_progress(matches: &ArgMatches<'_>) -> bool
+    ensures { Says (one_text (found_of matches.now) progress_name) result }
+{
+    matches.get_flag(PROGRESS)
+}
+
 /// Reads the words behind the program's name.
 ///
-/// The options are the settings and help. An error is a request for help, a refused word with the
+/// The options are the settings, progress and help. An error is a request for help, a refused word with the
 /// text for the user, or 'out of memory'.
 pub(crate) fn read<'a, S: AsStr>(alloc: Global, words: &'a [S]) -> Result<Options, Error>
     ensures faults { FailsBy (faults (map S.text words.now)) result }
@@ -80,6 +105,7 @@ pub(crate) fn read<'a, S: AsStr>(alloc: Global, words: &'a [S]) -> Result<Option
         workers: workers as u8,
         facts: number(&matches, Setting::Facts),
         squares: number(&matches, Setting::Squares),
+        progress: asks_for_progress(&matches),
     })
 }
 

@@ -2,7 +2,7 @@
 //!
 //! The program has the options `--workers`, the number of workers that compute, `--facts`, how many
 //! results of steps a desk may keep, and `--squares`, how many squares the engine of a worker may
-//! hold; and it has help. Whoever starts it gets what its words choose, or learns why they are
+//! hold; it has `--progress`, which shows how far a settling is; and it has help. Whoever starts it gets what its words choose, or learns why they are
 //! refused, with the text for the user; nothing of `clap` shows outside, so that a program above
 //! stands on this crate alone. Words cost time and memory in proportion to their length.
 #![tactic(auto)]

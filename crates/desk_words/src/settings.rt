@@ -11,6 +11,8 @@ pub struct Options {
     pub facts: u32,
     /// How many squares an engine may hold, from 64 to 16777216.
     pub squares: u32,
+    /// Whether progress is shown wherever standard error goes.
+    pub progress: bool,
 }
 
 /// An option of the command, whose value is a number.

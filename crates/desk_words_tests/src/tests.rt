@@ -38,6 +38,8 @@ impl Env for Started {
 enum Verdict {
     // They are read, and choose so many workers, facts and squares.
     Chosen(u8, u32, u32),
+    // So many, and progress.
+    Watched(u8, u32, u32),
     Help,
     // An unknown word.
     Unknown,
@@ -47,6 +49,10 @@ enum Verdict {
     Number,
     // The option a second time.
     Again,
+    // Progress a second time.
+    AgainProgress,
+    // Progress with a value.
+    ValueOfProgress,
     // The option without its number.
     Missing,
     // A word that is no UTF-8.
@@ -57,7 +63,7 @@ enum Verdict {
 const END: &str = "\n\nFor more information, try '--help'.\n";
 
 const OPTIONS: &str =
-    "\n\nUsage: desk [OPTIONS]\n\nOptions:\n      --workers <N>  How many workers compute, from 1 to 8 [default: 2]\n      --facts <N>    How many results of steps a desk may keep, with their patterns, from 1 to 4096 [default: 64]\n      --squares <N>  How many squares the engine of a worker may hold, from 64 to 16777216. A square takes about 48 bytes: 4194304 take about 200 MB [default: 4194304]\n  -h, --help         Print help\n\nCommands of a script,";
+    "\n\nUsage: desk [OPTIONS]\n\nOptions:\n      --workers <N>  How many workers compute, from 1 to 8 [default: 2]\n      --facts <N>    How many results of steps a desk may keep, with their patterns, from 1 to 4096 [default: 64]\n      --squares <N>  How many squares the engine of a worker may hold, from 64 to 16777216. A square takes about 48 bytes: 4194304 take about 200 MB [default: 4194304]\n      --progress     While a settling takes long, shows on standard error how far it is; so it is without the option where that is a terminal\n  -h, --help         Print help\n\nCommands of a script,";
 
 fn is_help(text: &str) -> bool {
     text.contains(OPTIONS)
@@ -79,6 +85,10 @@ fn refusal(text: &str) -> Verdict {
         && text.contains(" <N>' cannot be used multiple")
     {
         Verdict::Again
+    } else if text.starts_with("error: the argument '--progress' cannot be used multiple") {
+        Verdict::AgainProgress
+    } else if text.starts_with("error: unexpected value 'yes' for '--progress' found;") {
+        Verdict::ValueOfProgress
     } else if text.starts_with("error: a value is required for '--")
         && text.contains(" <N>' but none")
     {
@@ -92,6 +102,7 @@ fn refusal(text: &str) -> Verdict {
 
 fn said(answer: &Result<Options, OptionFault>) -> Verdict {
     match answer {
+        Ok(read) if read.progress => Verdict::Watched(read.workers, read.facts, read.squares),
         Ok(read) => Verdict::Chosen(read.workers, read.facts, read.squares),
         Err(OptionFault::Help(text)) if is_help(text.as_str()) => Verdict::Help,
         Err(OptionFault::Refused(text)) => refusal(text.as_str()),
@@ -190,6 +201,30 @@ const READ: &[Row] = &[
     Row {
         words: &["--facts", "9", "--squares", "66", "--workers=4"],
         said: Verdict::Chosen(4, 9, 66),
+    },
+    Row {
+        words: &["--progress"],
+        said: Verdict::Watched(2, 64, 4_194_304),
+    },
+    Row {
+        words: &["--workers", "3", "--progress", "--facts=7"],
+        said: Verdict::Watched(3, 7, 4_194_304),
+    },
+    Row {
+        words: &["--progress", "--squares=65"],
+        said: Verdict::Watched(2, 64, 65),
+    },
+    Row {
+        words: &["--progress", "--progress"],
+        said: Verdict::AgainProgress,
+    },
+    Row {
+        words: &["--progress=yes"],
+        said: Verdict::ValueOfProgress,
+    },
+    Row {
+        words: &["--progress", "yes"],
+        said: Verdict::Unknown,
     },
     Row {
         words: &["--squares", "63"],

@@ -3,7 +3,7 @@ use Rattle.clap.specs.Words.{FailsBy, found_of}
 use Rattle.desk_words.specs.declared.settings.Setting.TheVariants.{Workers, Facts, Squares}
 use Rattle.desk_words.specs.Command.{Chooses, faults}
 use Rattle.desk_words.proofs.Asked.{asked_reads}
-use Rattle.desk_words.proofs.Chosen.{chooses_for}
+use Rattle.desk_words.proofs.Chosen.{chooses_for, says_as}
 use Rattle.desk_words.proofs.Requests.{help_answers, plain_refused}
 use Rattle.desk_words.proofs.command.read.Goals as goal
 
@@ -24,13 +24,13 @@ returns-in_err-matches-clause-help g c =
     help_answers (map g.S.AsStr.text c.args.words.now) c.from_residual.result fails
 
 pub number-workers-requires : goal.number-workers-requires
-number-workers-requires g c = (c.in_ok-matches.ensures.gives Workers).0
+number-workers-requires g c = (c.in_ok-matches.ensures.gives.settings Workers).0
 
 pub number-requires : goal.number-requires
-number-requires g c = (c.in_ok-matches.ensures.gives Facts).0
+number-requires g c = (c.in_ok-matches.ensures.gives.settings Facts).0
 
 pub number-requires-2 : goal.number-requires-2
-number-requires-2 g c = (c.in_ok-matches.ensures.gives Squares).0
+number-requires-2 g c = (c.in_ok-matches.ensures.gives.settings Squares).0
 
 pub returns-clause-chosen : goal.returns-clause-chosen
 returns-clause-chosen g c =
@@ -41,11 +41,12 @@ returns-clause-chosen g c =
       workers = chooses_for Workers words found c.number-workers.result gives c.number-workers.ensures;
       facts = chooses_for Facts words found c.number.result gives c.number.ensures;
       squares = chooses_for Squares words found c.number-2.result gives c.number-2.ensures;
+      progress = says_as words found c.asks_for_progress.result gives c.asks_for_progress.ensures;
     }
 
 pub returns-clause-given : goal.returns-clause-given
 returns-clause-given g c =
-    asked_reads (map g.S.AsStr.text c.args.words.now) (Ok (record { workers = c.number-workers.result; facts = c.number.result; squares = c.number-2.result }))
+    asked_reads (map g.S.AsStr.text c.args.words.now) (Ok (record { workers = c.number-workers.result; facts = c.number.result; squares = c.number-2.result; progress = c.asks_for_progress.result }))
     c.in_ok-matches.ensures.faults (returns-clause-chosen g c)
 
 pub returns-clause-plain : goal.returns-clause-plain
