@@ -1,6 +1,8 @@
 //! The line.
+ghost use Rattle.std.specs.Prelude.{◌≡◌, ◌≤◌, count_by};
+ghost use Rattle.desk_progress.specs.Line.{is_current, line_of};
 
-use desk_board::Snapshot;
+use desk_board::{ShownRow, Snapshot};
 use std::fmt;
 
 /// How far a settling is: of which revision, how many of all bookmarks are current, and how many
@@ -31,14 +33,28 @@ impl fmt::Display for Line {
     }
 }
 
+// How many of the bookmarks have a text.
+fn current_count(rows: &[ShownRow]) -> usize
+    ensures { result ≡ count_by is_current rows.now }
+{
+    let mut current = 0;
+    for row in rows {
+        if row.text.is_some() {
+            current += 1;
+        }
+    }
+    current
+}
+
 impl Line {
-    /// The line for what a snapshot shows.
-    pub(crate) fn of(snapshot: &Snapshot, seconds: u64) -> Line {
+    /// The line for what a snapshot shows, and so many seconds.
+    pub(crate) fn of(snapshot: &Snapshot, seconds: u64) -> Line
+        ensures { result ≡ line_of snapshot.now seconds }
+    {
         let rows = snapshot.rows();
-        let current = rows.iter().filter(|row| row.text.is_some()).count();
         Line {
             revision: snapshot.document().revision(),
-            current: current as u64,
+            current: current_count(rows) as u64,
             all: rows.len() as u64,
             seconds,
         }
