@@ -4,8 +4,8 @@
 #     ./test.sh                 tests crates/desk/out/desk
 #     DESK=PROGRAM ./test.sh    tests another one
 #
-# These are the scripts of examples/, hostile use, refused allocations, threads under stress, the model's own tests and
-# random scripts that are compared with it, the clients, and the program's first build. Each part says what it does, and
+# These are the scripts of examples/, hostile use, refused allocations, threads under stress, the line of progress, the
+# model's own tests and random scripts that are compared with it, the clients, and the program's first build. Each part says what it does, and
 # the last line counts all of them. The random scripts and runs are those of the present commit.
 cd "$(dirname "$0")" || exit 1
 DESK=$(realpath -m "${DESK:-crates/desk/out/desk}")
@@ -61,6 +61,7 @@ counted "hostile use: signals, failing devices, little memory, huge scripts" 120
 counted "allocations that are refused in turn" 120 python3 hostile/allocations.py "$DESK" --seconds 45
 counted "threads under stress, and random runs whose threads stall" 300 \
     python3 hostile/threads.py "$DESK" --runs 100 --seed "$commit"
+counted "the line that says how far a settling is" 120 python3 hostile/progress.py "$DESK"
 python_tests "the model's own tests" 180 model/tests 'test*.py'
 counted "random scripts, compared with the model" 180 \
     python3 model/differ.py --count 300 --jobs 4 --seed "$commit" --desk "$DESK"

@@ -15,6 +15,7 @@ fn main(rt: HostRuntime) -> ExitCode {
         rt.alloc(),
         &words,
         rt.stdin().is_terminal(),
+        rt.stderr().is_terminal(),
         rt.stdin(),
         rt.stdout(),
         Blank::new(1),

@@ -1,14 +1,18 @@
 //! What a script is read from and answered on.
-ghost use Rattle.std.specs.Prelude.{◌≤◌};
+ghost use Rattle.std.specs.Prelude.{◌≡◌, ◌≤◌, Err, OnOk};
+ghost use Rattle.desk_server.specs.Ending.{Completes, ReadStops, WriteStops};
 ghost use Rattle.desk_server.specs.Jobs.{IsFresh};
 ghost use Rattle.desk_program.specs.Start.{Answers, AreOpenable};
 
 use crate::ending::Ending;
-use desk_server::{CountedReader, CountedWriter, Entries, Post, run};
+use crate::shown::{Board, ScreenBell};
+use desk_progress::Screen;
+use desk_server::{CountedReader, CountedWriter, Entries, Post, RunFault, run, run_with_board};
 use std::alloc::Global;
 use std::io::{Read, Write};
 use std::sync::Wait;
 use std::sync::ledger::{Blank, Ledger};
+use std::time::Clock;
 
 /// A reader and a writer, and the blanks of the ledgers in which their failures are counted.
 #[derive(Drop)]
@@ -19,15 +23,58 @@ pub(crate) struct Devices<R, W> {
     pub(crate) writer_blank: Blank,
 }
 
-/// Answers the script that the reader gives over a post of the table, and hands the reader and the
-/// writer back with how that ended.
-pub(crate) fn answer_over<R: Read, W: Write, L: Ledger, M: Ledger, P: Post>(
-    rt: &impl Wait,
+// Runs the script, with its progress shown or not: what is written is the same.
+fn run_shown<T: Wait + Clock + Eprint, R: Read, W: Write, L: Ledger, M: Ledger, P: Post>(
+    rt: &T,
+    alloc: Global,
+    entries: &Entries,
+    facts: u32,
+    reader: &mut CountedReader<R, L>,
+    writer: &mut CountedWriter<W, M>,
+    post: &mut P,
+    board: &mut Board<'_, T>,
+    screen: &Screen,
+) -> Result<(), RunFault>
+    requires { IsFresh (P.view post.old) entries.now }
+    ensures done { OnOk result
+        (Completes (P.view post.old).is_prompt reader.old reader.new writer.old writer.new) }
+    ensures read { result ≡ Err RunFault.Read → ReadStops R.remaining (P.view post.old).is_prompt
+        reader.old reader.new writer.old writer.new }
+    ensures write { result ≡ Err RunFault.Write
+        → WriteStops (P.view post.old).is_prompt reader.old writer.old writer.new }
+    ensures no_memory { result ≡ Err RunFault.NoMemory
+        → (reader.new ≡ reader.old) × (writer.new ≡ writer.old) }
+{
+    let Some(publisher) = board else {
+        return run(rt, alloc, entries, facts, reader, writer, post);
+    };
+    let mut bell = ScreenBell { rt, screen };
+    match run_with_board(
+        rt, alloc, entries, facts, reader, writer, post, publisher, &mut bell,
+    ) {
+        Ok(_) => Ok(()),
+        Err(fault) => Err(fault),
+    }
+}
+
+/// Answers the script that the reader gives over a post of the table, with its progress shown or
+/// not, and hands the reader and the writer back with how that ended.
+pub(crate) fn answer_over<
+    T: Wait + Clock + Eprint,
+    R: Read,
+    W: Write,
+    L: Ledger,
+    M: Ledger,
+    P: Post,
+>(
+    rt: &T,
     alloc: Global,
     entries: &Entries,
     facts: u32,
     post: &mut P,
     devices: Devices<R, W>,
+    board: &mut Board<'_, T>,
+    screen: &Screen,
 ) -> (Ending, R, W)
     requires devices { AreOpenable devices L.name L.parts M.name M.parts }
     requires post { IsFresh (P.view post.old) entries.now }
@@ -36,7 +83,17 @@ pub(crate) fn answer_over<R: Read, W: Write, L: Ledger, M: Ledger, P: Post>(
 {
     let mut reader = CountedReader::<_, L>::new(devices.reader, devices.reader_blank);
     let mut writer = CountedWriter::<_, M>::new(devices.writer, devices.writer_blank);
-    let answered = run(rt, alloc, entries, facts, &mut reader, &mut writer, post);
+    let answered = run_shown(
+        rt,
+        alloc,
+        entries,
+        facts,
+        &mut reader,
+        &mut writer,
+        post,
+        board,
+        screen,
+    );
     (
         Ending::of_run(answered),
         reader.into_inner(),

@@ -8,18 +8,22 @@ ghost use Rattle.desk_program.specs.Start.{Answers, AreOpenable, Opens, Starts};
 
 use crate::devices::{Devices, answer_over};
 use crate::ending::{Ending, report, tell};
+use crate::shown::{Board, end};
 use crate::typed::greet;
+use desk_board::Viewer;
+use desk_progress::{Screen, empty_board, watch};
 use desk_server::{Entries, RunFault};
 use desk_words::{Options, check_words};
 use job_pool::{NoPool, PoolPost, pool};
 use revision_jobs::NoGate;
 use std::alloc::{AllocError, Global};
-use std::io;
 use std::io::{Read, Write};
 use std::process::ExitCode;
 use std::sync::Wait;
 use std::sync::ledger::{Blank, Ledger};
 use std::thread::Threads;
+use std::time::Clock;
+use std::{io, thread};
 
 // A gate that does nothing for each worker.
 fn no_gates(alloc: Global, workers: u8) -> Result<Vec<NoGate>, AllocError>
@@ -34,14 +38,17 @@ fn no_gates(alloc: Global, workers: u8) -> Result<Vec<NoGate>, AllocError>
 
 // Answers the script over a pool of workers, and hands the reader and the writer back with how that
 // ended.
-fn answer<T, R, W, L: Ledger, M: Ledger>(
+fn answer_by_workers<T, R, W, L: Ledger, M: Ledger>(
     rt: &T,
     alloc: Global,
     options: Options,
+    entries: &Entries,
     devices: Devices<R, W>,
+    board: &mut Board<'_, T>,
+    screen: &Screen,
 ) -> (Ending, R, W)
 where
-    T: Threads + Wait + Sync,
+    T: Threads + Wait + Clock + Eprint + Sync,
     R: Read + Drop,
     W: Write + Drop,
     requires range { IsInRange options }
@@ -50,25 +57,22 @@ where
         result.0 result.1 result.2 }
 {
     let no_memory = Ending::Failed(RunFault::NoMemory);
-    let Ok(entries) = Entries::new(alloc) else {
-        return (no_memory, devices.reader, devices.writer);
-    };
     let Ok(gates) = no_gates(alloc, options.workers) else {
         return (no_memory, devices.reader, devices.writer);
     };
     let facts = options.facts;
     let squares = options.squares;
     let body = |post: &mut PoolPost<'_, T>, devices: Devices<R, W>| -> (Ending, R, W)
-        requires post { post.old ≡ new_pool entries squares }
+        requires post { post.old ≡ new_pool entries.now squares }
         requires devices { AreOpenable devices L.name L.parts M.name M.parts }
         ensures { Answers false R.remaining W.contents devices.reader devices.writer
             result.0 result.1 result.2 }
     {
         // What is asked of the post tells of its limit.
         let _limit = squares;
-        answer_over::<_, _, L, M, _>(rt, alloc, &entries, facts, post, devices)
+        answer_over::<_, _, _, L, M, _>(rt, alloc, entries, facts, post, devices, board, screen)
     };
-    match pool(rt, alloc, &entries, gates, squares, devices, body) {
+    match pool(rt, alloc, entries, gates, squares, devices, body) {
         Ok(answered) => answered,
         Err(
             NoPool {
@@ -79,23 +83,109 @@ where
     }
 }
 
+// Answers the script while a thread looks at the board and shows how far each settling is. Where the
+// thread is refused nothing is shown.
+fn answer_watched<T, R, W, L: Ledger, M: Ledger>(
+    rt: &T,
+    alloc: Global,
+    options: Options,
+    entries: &Entries,
+    devices: Devices<R, W>,
+    board: &mut Board<'_, T>,
+    screen: &Screen,
+    viewer: Viewer,
+) -> (Ending, R, W)
+where
+    T: Threads + Wait + Clock + Eprint + Sync,
+    R: Read + Drop,
+    W: Write + Drop,
+    requires range { IsInRange options }
+    requires devices { AreOpenable devices L.name L.parts M.name M.parts }
+    ensures { Answers false R.remaining W.contents devices.reader devices.writer
+        result.0 result.1 result.2 }
+{
+    thread::scope(
+        thread::scope_env(),
+        rt,
+        move |scope| -> (Ending, R, W)
+            requires range { IsInRange options }
+            requires devices { AreOpenable devices L.name L.parts M.name M.parts }
+            ensures { Answers false R.remaining W.contents devices.reader devices.writer
+                result.0 result.1 result.2 }
+        {
+            let _started = scope.spawn(move || watch(rt, screen, viewer));
+            let answered = answer_by_workers::<_, _, _, L, M>(
+                rt, alloc, options, entries, devices, board, screen,
+            );
+            screen.close(rt);
+            answered
+        },
+    )
+}
+
+// Answers the script, and shows its progress or doesn't. Where there is no memory for a board
+// nothing is shown.
+fn answer<T, R, W, L: Ledger, M: Ledger>(
+    rt: &T,
+    alloc: Global,
+    options: Options,
+    devices: Devices<R, W>,
+) -> (Ending, R, W)
+where
+    T: Threads + Wait + Clock + Eprint + Sync,
+    R: Read + Drop,
+    W: Write + Drop,
+    requires range { IsInRange options }
+    requires devices { AreOpenable devices L.name L.parts M.name M.parts }
+    ensures { Answers false R.remaining W.contents devices.reader devices.writer
+        result.0 result.1 result.2 }
+{
+    let Ok(entries) = Entries::new(alloc) else {
+        let no_memory = Ending::Failed(RunFault::NoMemory);
+        return (no_memory, devices.reader, devices.writer);
+    };
+    let watched = if options.progress {
+        empty_board(rt, alloc, &entries)
+    } else {
+        None
+    };
+    let screen = Screen::new();
+    let Some((publisher, viewer)) = watched else {
+        let mut board = None;
+        let answered = answer_by_workers::<_, _, _, L, M>(
+            rt, alloc, options, &entries, devices, &mut board, &screen,
+        );
+        end(board);
+        return answered;
+    };
+    let mut board = Some(publisher);
+    let answered = answer_watched::<_, _, _, L, M>(
+        rt, alloc, options, &entries, devices, &mut board, &screen, viewer,
+    );
+    end(board);
+    answered
+}
+
 /// Reads the words, and answers the script if they are in order, with the workers and the squares
 /// that they choose; or says on the outputs why they are not, and leaves both devices untouched. Where
-/// the script is typed it says first on standard error what it waits for. It tells how that ended, gives the exit status, and hands both devices back. Failures of the devices
-/// are counted in ledgers of their own, made of the two blanks.
+/// the script is typed it says first on standard error what it waits for. Where the words ask for
+/// progress, or standard error is watched, a long settling shows there how far it is. It tells how
+/// that ended, gives the exit status, and hands both devices back. Failures of the devices are counted
+/// in ledgers of their own, made of the two blanks.
 pub fn start<T, H: Print + Eprint, R, W, L: Ledger, M: Ledger>(
     rt: &T,
     outputs: &H,
     alloc: Global,
     words: &io::Result<Vec<String>>,
     is_typed: bool,
+    is_watched: bool,
     reader: R,
     writer: W,
     reader_blank: Blank,
     writer_blank: Blank,
 ) -> (ExitCode, R, W)
 where
-    T: Threads + Wait + Sync,
+    T: Threads + Wait + Clock + Eprint + Sync,
     R: Read + Drop,
     W: Write + Drop,
     requires reader { Opens reader_blank L.name L.parts }
@@ -108,6 +198,10 @@ where
     match check_words(alloc, words) {
         Ok(options) => {
             greet(outputs, is_typed);
+            let options = Options {
+                progress: options.progress || is_watched,
+                ..options
+            };
             let devices = Devices {
                 reader,
                 writer,

@@ -10,6 +10,7 @@ use std::process::{Abort, ExitCode};
 use std::sync::Wait;
 use std::sync::ledger::Blank;
 use std::thread::Threads;
+use std::time::Clock;
 
 fn same<T: PartialEq + Debug, A: Debug>(rt: &impl Abort, found: &T, wanted: &T, at: &A) {
     assert_eq!(rt; *found, *wanted, "at {at:?}");
@@ -190,7 +191,7 @@ fn words_of(rt: &impl Abort, alloc: Global, word: &str) -> Vec<String> {
 
 // The program's status with this word, and what the writer then holds, where the script isn't typed.
 fn started<R: Read + Drop, W: Write + Drop>(
-    rt: &(impl Abort + Threads + Wait + Sync),
+    rt: &(impl Abort + Threads + Wait + Clock + Eprint + Sync),
     outputs: &Outputs,
     word: &str,
     reader: R,
@@ -200,7 +201,7 @@ fn started<R: Read + Drop, W: Write + Drop>(
 }
 
 fn begun<R: Read + Drop, W: Write + Drop>(
-    rt: &(impl Abort + Threads + Wait + Sync),
+    rt: &(impl Abort + Threads + Wait + Clock + Eprint + Sync),
     outputs: &Outputs,
     word: &str,
     is_typed: bool,
@@ -214,6 +215,7 @@ fn begun<R: Read + Drop, W: Write + Drop>(
         outputs.alloc,
         &words,
         is_typed,
+        false,
         reader,
         writer,
         Blank::new(1),
@@ -223,7 +225,7 @@ fn begun<R: Read + Drop, W: Write + Drop>(
 }
 
 fn answers(
-    rt: &(impl Abort + Threads + Wait + Sync),
+    rt: &(impl Abort + Threads + Wait + Clock + Eprint + Sync),
     alloc: Global,
     word: &str,
     script: &[u8],
@@ -245,6 +247,7 @@ fn words_come_before_the_script(rt: HostRuntime) {
     answers(&rt, alloc, "--workers=9", b"quit\n", 2, b"");
     answers(&rt, alloc, "--facts=1", b"quit\n", 0, b"bye\n");
     answers(&rt, alloc, "--squares=63", b"quit\n", 2, b"");
+    answers(&rt, alloc, "--progress", b"quit\n", 0, b"bye\n");
     answers(&rt, alloc, "--help", b"quit\n", 0, b"");
     answers(&rt, alloc, "work", b"quit\n", 2, b"");
 }
@@ -273,7 +276,7 @@ const WORKED: &[u8] =
 
 // The script has these replies with 1, 2 and 8 workers.
 fn any_workers(
-    rt: &(impl Abort + Threads + Wait + Sync),
+    rt: &(impl Abort + Threads + Wait + Clock + Eprint + Sync),
     alloc: Global,
     script: &[u8],
     wanted: &[u8],
@@ -294,8 +297,31 @@ fn any_workers_answer_the_same(rt: HostRuntime) {
     any_workers(&rt, alloc, WORKED, wanted);
 }
 
+// A viewer's thread looks on, and what is written is the same.
+#[test]
+fn progress_changes_no_reply(rt: HostRuntime) {
+    let alloc = rt.alloc();
+    let wanted =
+        b"ok 1\nok 2 bookmark 1\nok 3 bookmark 2\nok 4 bookmark 3\nsettled\nok 5 intervention 1\nsettled\nbookmark 1 current 4\n1 2\nbookmark 3 current 4\n1 3\n";
+    answers(&rt, alloc, "--progress", EDITED, 0, wanted);
+    answers(
+        &rt,
+        alloc,
+        "--progress",
+        b"show 1\nquit\n",
+        0,
+        b"refused 44 NoSuchBookmark\nbye\n",
+    );
+    breaks(&rt, alloc, "--progress", 1);
+}
+
 // The program's status with this word, where both devices fail.
-fn breaks(rt: &(impl Abort + Threads + Wait + Sync), alloc: Global, word: &str, status: u8) {
+fn breaks(
+    rt: &(impl Abort + Threads + Wait + Clock + Eprint + Sync),
+    alloc: Global,
+    word: &str,
+    status: u8,
+) {
     let outputs = Outputs::new(alloc, false);
     let (found, _) = started(rt, &outputs, word, Broken, Broken);
     same(rt, &found, &ExitCode::from(status), &word);

@@ -3,7 +3,7 @@ use Rattle.desk_program.proofs.devices.answer_over.Goals as goal
 
 pub returns : goal.returns
 returns g c =
-    let ran = c.run-answered in
+    let ran = c.run_shown-answered in
     answers_of
     (g.P.Post.view c.args.post.now).is_prompt g.R.Read.remaining g.W.Write.contents c.args.devices.reader
     c.args.devices.writer ran.result c.of_run.result c.into_inner.result c.into_inner-2.result c.new-reader.result

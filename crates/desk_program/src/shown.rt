@@ -1,0 +1,37 @@
+//! How a run shows its progress.
+
+use desk_board::Publisher;
+use desk_progress::Screen;
+use desk_server::Bell;
+use std::sync::Wait;
+use std::time::Clock;
+
+/// The board that a run publishes to, if it shows its progress.
+pub(crate) type Board<'r, T> = Option<Publisher<&'r T>>;
+
+/// Ends the board, if there is one. It may wait for its viewer.
+pub(crate) fn end<T: Wait>(board: Board<'_, T>) {
+    match board {
+        Some(publisher) => {
+            publisher.end();
+        }
+        None => {}
+    }
+}
+
+/// Tells a screen of the settlings of a run.
+#[derive(Drop)]
+pub(crate) struct ScreenBell<'r, 's, T: Wait + Clock + Eprint> {
+    pub(crate) rt: &'r T,
+    pub(crate) screen: &'s Screen,
+}
+
+impl<T: Wait + Clock + Eprint> Bell for ScreenBell<'_, '_, T> {
+    fn waits(&mut self) {
+        self.screen.begin(self.rt);
+    }
+
+    fn is_done(&mut self) {
+        self.screen.end(self.rt);
+    }
+}
