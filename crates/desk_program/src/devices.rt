@@ -7,7 +7,7 @@ ghost use Rattle.desk_program.specs.Start.{Answers, AreOpenable};
 use crate::ending::Ending;
 use crate::shown::{Board, ScreenBell};
 use desk_progress::Screen;
-use desk_server::{CountedReader, CountedWriter, Entries, Post, RunFault, run, run_with_board};
+use desk_server::{CountedReader, CountedWriter, Entries, Post, RunFault, run, run_seen};
 use std::alloc::Global;
 use std::io::{Read, Write};
 use std::sync::Wait;
@@ -32,7 +32,7 @@ fn run_shown<T: Wait + Clock + Eprint, R: Read, W: Write, L: Ledger, M: Ledger, 
     reader: &mut CountedReader<R, L>,
     writer: &mut CountedWriter<W, M>,
     post: &mut P,
-    board: &mut Board<'_, T>,
+    board: &mut Board<'_, '_, T>,
     screen: &Screen,
 ) -> Result<(), RunFault>
     requires { IsFresh (P.view post.old) entries.now }
@@ -45,12 +45,12 @@ fn run_shown<T: Wait + Clock + Eprint, R: Read, W: Write, L: Ledger, M: Ledger, 
     ensures no_memory { result ≡ Err RunFault.NoMemory
         → (reader.new ≡ reader.old) × (writer.new ≡ writer.old) }
 {
-    let Some(publisher) = board else {
+    let Some(glimpses) = board else {
         return run(rt, alloc, entries, facts, reader, writer, post);
     };
     let mut bell = ScreenBell { rt, screen };
-    match run_with_board(
-        rt, alloc, entries, facts, reader, writer, post, publisher, &mut bell,
+    match run_seen(
+        rt, alloc, entries, facts, reader, writer, post, glimpses, &mut bell,
     ) {
         Ok(_) => Ok(()),
         Err(fault) => Err(fault),
@@ -73,7 +73,7 @@ pub(crate) fn answer_over<
     facts: u32,
     post: &mut P,
     devices: Devices<R, W>,
-    board: &mut Board<'_, T>,
+    board: &mut Board<'_, '_, T>,
     screen: &Screen,
 ) -> (Ending, R, W)
     requires devices { AreOpenable devices L.name L.parts M.name M.parts }

@@ -11,7 +11,7 @@ use crate::ending::{Ending, report, tell};
 use crate::shown::{Board, end};
 use crate::typed::greet;
 use desk_board::Viewer;
-use desk_progress::{Screen, empty_board, watch};
+use desk_progress::{Glimpses, Screen, empty_board, watch};
 use desk_server::{Entries, RunFault};
 use desk_words::{Options, check_words};
 use job_pool::{NoPool, PoolPost, pool};
@@ -44,7 +44,7 @@ fn answer_by_workers<T, R, W, L: Ledger, M: Ledger>(
     options: Options,
     entries: &Entries,
     devices: Devices<R, W>,
-    board: &mut Board<'_, T>,
+    board: &mut Board<'_, '_, T>,
     screen: &Screen,
 ) -> (Ending, R, W)
 where
@@ -91,7 +91,7 @@ fn answer_watched<T, R, W, L: Ledger, M: Ledger>(
     options: Options,
     entries: &Entries,
     devices: Devices<R, W>,
-    board: &mut Board<'_, T>,
+    board: &mut Board<'_, '_, T>,
     screen: &Screen,
     viewer: Viewer,
 ) -> (Ending, R, W)
@@ -158,7 +158,7 @@ where
         end(board);
         return answered;
     };
-    let mut board = Some(publisher);
+    let mut board = Some(Glimpses::new(rt, publisher, &screen));
     let answered = answer_watched::<_, _, _, L, M>(
         rt, alloc, options, &entries, devices, &mut board, &screen, viewer,
     );

@@ -1,19 +1,18 @@
 //! How a run shows its progress.
 
-use desk_board::Publisher;
-use desk_progress::Screen;
+use desk_progress::{Glimpses, Screen};
 use desk_server::Bell;
 use std::sync::Wait;
 use std::time::Clock;
 
-/// The board that a run publishes to, if it shows its progress.
-pub(crate) type Board<'r, T> = Option<Publisher<&'r T>>;
+/// What looks on at a run and publishes to a board, if it shows its progress.
+pub(crate) type Board<'r, 's, T> = Option<Glimpses<'r, 's, T>>;
 
 /// Ends the board, if there is one. It may wait for its viewer.
-pub(crate) fn end<T: Wait>(board: Board<'_, T>) {
+pub(crate) fn end<T: Wait + Clock>(board: Board<'_, '_, T>) {
     match board {
-        Some(publisher) => {
-            publisher.end();
+        Some(glimpses) => {
+            glimpses.end();
         }
         None => {}
     }

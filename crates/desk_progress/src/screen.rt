@@ -31,6 +31,7 @@ impl Screen {
             *self.stage.lock(rt) = Stage::Settling(Settling {
                 since,
                 is_shown: false,
+                published: None,
             });
             self.changed.notify_all();
         }
@@ -50,6 +51,25 @@ impl Screen {
     pub fn close<R: Wait>(&self, rt: &R) {
         *self.stage.lock(rt) = Stage::Over;
         self.changed.notify_all();
+    }
+
+    // Whether a settling goes on whose desk wasn't published for a while. It counts as published then.
+    pub(crate) fn is_due<R: Wait + Clock>(&self, rt: &R) -> bool {
+        let mut stage = self.stage.lock(rt);
+        let Stage::Settling(settling) = *stage else {
+            return false;
+        };
+        if settling.was_published_lately(rt) {
+            return false;
+        }
+        let Ok(now) = Instant::now(rt) else {
+            return false;
+        };
+        *stage = Stage::Settling(Settling {
+            published: Some(now),
+            ..settling
+        });
+        true
     }
 
     // Waits until something is computed, or nothing will be.

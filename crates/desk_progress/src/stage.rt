@@ -1,6 +1,6 @@
 //! Where the thread that edits is.
 
-use std::time::Instant;
+use std::time::{Clock, Duration, Instant};
 
 /// Where the thread that edits is.
 #[derive(Clone, Copy)]
@@ -13,11 +13,26 @@ pub(crate) enum Stage {
     Over,
 }
 
-/// Since when it computes, and whether a line stands on standard error.
+/// Since when it computes, whether a line stands on standard error, and when the desk was published
+/// last since then.
 #[derive(Clone, Copy)]
 pub(crate) struct Settling {
     pub(crate) since: Instant,
     pub(crate) is_shown: bool,
+    pub(crate) published: Option<Instant>,
+}
+
+impl Settling {
+    // Whether it was less than half a second ago.
+    pub(crate) fn was_published_lately<R: Clock>(&self, rt: &R) -> bool {
+        let Some(published) = self.published else {
+            return false;
+        };
+        match published.elapsed(rt) {
+            Ok(passed) => passed < Duration::from_millis(500),
+            Err(_) => false,
+        }
+    }
 }
 
 impl Stage {

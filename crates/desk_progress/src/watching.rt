@@ -9,10 +9,10 @@ use std::time::Clock;
 
 // Writes the line for what the board shows, where the settling takes a second already.
 fn show<R: Clock + Eprint>(rt: &R, stage: &mut Stage, viewer: Viewer) -> Viewer {
-    let Stage::Settling(Settling { since, .. }) = *stage else {
+    let Stage::Settling(settling) = *stage else {
         return viewer;
     };
-    let passed = match since.elapsed(rt) {
+    let passed = match settling.since.elapsed(rt) {
         Ok(passed) if passed >= one_second() => passed,
         _ => return viewer,
     };
@@ -24,8 +24,8 @@ fn show<R: Clock + Eprint>(rt: &R, stage: &mut Stage, viewer: Viewer) -> Viewer 
     // Where standard error takes nothing, nobody looks on.
     let _ = eprint!(rt; "\r{line}\x1b[K");
     *stage = Stage::Settling(Settling {
-        since,
         is_shown: true,
+        ..settling
     });
     seen.done()
 }

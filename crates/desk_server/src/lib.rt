@@ -6,8 +6,9 @@
 //! memory says so and changes nothing, or leaves a bookmark pending, as does a step that wants more
 //! squares than it may keep. What a settling leaves pending it says with its cause.
 //!
-//! `run_with_board` does the same, and publishes a snapshot of the desk after each reply but `bye`,
-//! and before it one after each answer that a settling collected. A bell is told when one waits.
+//! `run_seen` does the same while somebody looks on at the desk: after each reply but `bye`, and
+//! before it after each answer that a settling collected. A board's publisher looks on by publishing
+//! a snapshot. A bell is told when a settling waits.
 //!
 //! What isn't known is computed by jobs over a post, which the caller opens beside the table of
 //! entries that the jobs are of.
@@ -36,10 +37,10 @@ mod watch;
 mod words;
 
 pub use bell::Bell;
-pub use desk_core::{Entries, InlinePost, Post};
+pub use desk_core::{Entries, InlinePost, Onlooker, Post};
 pub use laws::{
     documents_are_sound, one_line_without_branch, plain_without_shortages,
     shows_all_unless_counted, shows_what_is_told,
 };
 pub use script_lines::{CountedReader, CountedWriter};
-pub use server::{RunFault, run, run_with_board};
+pub use server::{RunFault, run, run_seen};

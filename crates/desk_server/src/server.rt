@@ -3,7 +3,6 @@ ghost use Rattle.std.specs.Prelude.{◌≡◌, Err, OnOk};
 ghost use Rattle.schedule.specs.Plan.{opening};
 ghost use Rattle.desk_server.specs.Jobs.{Carries, IsFresh};
 ghost use Rattle.desk_server.specs.Ending.{Completes, ReadStops, WriteStops};
-ghost use Rattle.desk_board.specs.History.{ShowsNext};
 ghost use Rattle.desk_server.specs.Watch.{NotesRun};
 
 use crate::bell::{Bell, Silent};
@@ -11,7 +10,6 @@ use crate::heard::{Heard, listen};
 use crate::reply::{Reply, send};
 use crate::serve::serve;
 use crate::watch::note;
-use desk_board::Publisher;
 use desk_core::{Desk, Entries, Onlooker, Post, Unwatched};
 use script_lines::{CountedReader, CountedWriter, KeptLine};
 use std::alloc::Global;
@@ -182,11 +180,13 @@ pub fn run<R: Read, W: Write, L: Ledger, M: Ledger, P: Post>(
     }
 }
 
-/// Does as `run` does, and publishes a snapshot of the desk after each reply but `bye`. One that is
-/// refused is passed over, and Ok says how many were. While a settling goes on it publishes the
-/// desk as it begins and after each answer that is collected, too; of these one that is refused
-/// isn't counted. The bell is told when that begins and ends. It may wait for viewers.
-pub fn run_with_board<R: Read, W: Write, L: Ledger, M: Ledger, P: Post, B: Wait>(
+/// Does as `run` does, while somebody looks on at the desk: after each reply but `bye`, and Ok says
+/// how many of these looks saw nothing; and where a settling or a show computes, as that begins and
+/// after each answer that is collected. The bell is told when that begins and ends. It may wait where
+/// the onlooker does.
+///
+/// With a board's publisher as the onlooker each look publishes a snapshot.
+pub fn run_seen<R: Read, W: Write, L: Ledger, M: Ledger, P: Post, O: Onlooker>(
     rt: &impl Wait,
     alloc: Global,
     entries: &Entries,
@@ -194,7 +194,7 @@ pub fn run_with_board<R: Read, W: Write, L: Ledger, M: Ledger, P: Post, B: Wait>
     reader: &mut CountedReader<R, L>,
     writer: &mut CountedWriter<W, M>,
     post: &mut P,
-    publisher: &mut Publisher<B>,
+    onlooker: &mut O,
     bell: &mut impl Bell,
 ) -> Result<u64, RunFault>
     // The post is of the table, and took no job before.
@@ -205,12 +205,12 @@ pub fn run_with_board<R: Read, W: Write, L: Ledger, M: Ledger, P: Post, B: Wait>
     ensures done { OnOk result
         (Completes (P.view post.old).is_prompt reader.old reader.new writer.old writer.new) }
 
-    // For each of these replies but `bye`, in order, snapshots of desks with the document that it
-    // leaves were put behind the history, and then that of the desk that gave it, or this one was
-    // refused, and so many were; 2^64 - 1 may stand for more. So it was for a beginning of the
-    // replies where the run stopped before the script's end.
-    ensures shown { NotesRun ShowsNext result (P.view post.old).is_prompt
-        reader.old writer.old writer.new publisher.old publisher.new }
+    // For each of these replies but `bye`, in order, desks with the document that it leaves were
+    // looked at, and then the one that gave it: it was seen, or it wasn't, and so often it wasn't;
+    // 2^64 - 1 may stand for more. So it was for a beginning of the replies where the run stopped
+    // before the script's end. What a publisher sees is put behind its board's history (`ShowsNext`).
+    ensures shown { NotesRun O.sees result (P.view post.old).is_prompt
+        reader.old writer.old writer.new onlooker.old onlooker.new }
 
     // Where a read failed, or 2^64 - 1 bytes came, all that was read was taken, and the commands
     // that were read whole were answered.
@@ -226,6 +226,6 @@ pub fn run_with_board<R: Read, W: Write, L: Ledger, M: Ledger, P: Post, B: Wait>
         → (reader.new ≡ reader.old) × (writer.new ≡ writer.old) }
 {
     answer_all(
-        rt, alloc, entries, facts, reader, writer, post, publisher, bell,
+        rt, alloc, entries, facts, reader, writer, post, onlooker, bell,
     )
 }

@@ -8,7 +8,7 @@ use crate::tests::{SQUARES, same};
 use desk_board::{Publisher, Seen, Viewer, board, snapshot};
 use desk_core::Desk;
 use desk_server::{
-    Bell, CountedReader, CountedWriter, Entries, InlinePost, Post, RunFault, run_with_board,
+    Bell, CountedReader, CountedWriter, Entries, InlinePost, Post, RunFault, run_seen,
 };
 use revision_jobs::{Job, Received, Sent};
 use std::alloc::{AllocFailed, Global};
@@ -149,7 +149,7 @@ fn answer_shown<P: Post, B: Wait, L: Ledger, M: Ledger>(
     };
     let mut reader = CountedReader::<_, L>::new(Pieces::whole(script), reader_blank);
     let mut writer = CountedWriter::<_, M>::new(narrow, writer_blank);
-    let answered = run_with_board(
+    let answered = run_seen(
         rt,
         alloc,
         entries,
