@@ -163,6 +163,31 @@ fn answer_shown<P: Post, B: Wait, L: Ledger, M: Ledger>(
     (answered, writer.into_inner().taken)
 }
 
+/// The same, with ledgers of its own.
+fn answer_alone<P: Post, B: Wait>(
+    rt: &impl Wait,
+    alloc: Global,
+    entries: &Entries,
+    script: &[u8],
+    post: &mut P,
+    publisher: &mut Publisher<B>,
+    bell: &mut impl Bell,
+) -> (Result<u64, RunFault>, Vec<u8>)
+    requires { IsFresh (P.view post.old) entries.now }
+{
+    answer_shown::<_, _, Brand, Brand>(
+        rt,
+        alloc,
+        entries,
+        script,
+        post,
+        publisher,
+        bell,
+        Blank::new(1),
+        Blank::new(1),
+    )
+}
+
 // The script is answered as without viewers, each snapshot is published, and no viewer sees an
 // earlier revision after a later one.
 #[test]
@@ -225,7 +250,7 @@ fn a_settling_is_shown_answer_by_answer(rt: HostRuntime) {
         viewer: viewers.pop(),
         seen: Vec::new(alloc),
     };
-    let (answered, told) = answer_shown::<_, _, Brand, Brand>(
+    let (answered, told) = answer_alone(
         &rt,
         alloc,
         &entries,
@@ -233,8 +258,6 @@ fn a_settling_is_shown_answer_by_answer(rt: HostRuntime) {
         &mut post,
         &mut publisher,
         &mut bell,
-        Blank::new(1),
-        Blank::new(1),
     );
     same(&rt, &answered, &Ok(0), &"answered");
     let replies: &[u8] = b"ok 1\nok 2 bookmark 1\nok 3 bookmark 2\nsettled\nbye\n";
