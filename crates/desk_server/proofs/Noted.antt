@@ -1,67 +1,113 @@
 -- What is noted of one part of a run after the other.
-use Rattle.std.proofs.Common.{◌≡◌, ◌∙◌, inl, inr, ℕ, ◌+◌, ◌-◌, ◌^◌, ◌<◌, ◌≤◌, List, [], ◌∷◌, ◌++◌, Some, None, refl, sym, ap, subst, arith, append_assoc, append-nil, Bool, false, cond}
-use Rattle.std.specs.Prelude.{IsSome, count_by, flat_map}
+use Rattle.std.proofs.Common.{◌≡◌, ◌∙◌, ◌⊎◌, inl, inr, ℕ, suc, ◌+◌, ◌-◌, ◌^◌, ◌<◌, ◌≤◌, List, [], ◌∷◌, ◌++◌, Some, None, refl, sym, ap, subst, arith, append_assoc, append-nil, length, length-append, Bool, true, false, cond}
+use Rattle.std.specs.Prelude.{IsSome, count_by, sum_by, flat_map}
 use Rattle.std.specs.List.{AllByRecursion}
 use Rattle.std.proofs.lemmas.List.Sums.{sum_by-cons}
 use Rattle.std.specs.Io.Iter.{u64_saturate}
+use Rattle.revision_jobs.specs.Answer.{JobResult}
+use Rattle.revision_jobs.specs.Posted.{PostView}
 use Rattle.dependency_book.specs.BookState.{BookState}
 use Rattle.desk_board.specs.Picture.{Picture, IsRight, picture_of}
 use Rattle.desk_board.specs.History.{History, ShowsNext, history, and_then}
-use Rattle.revision_jobs.specs.Posted.{PostView}
 use Rattle.schedule.specs.Plan.{Plan}
 use Rattle.desk_core.specs.Looks.{AreOfPlan, LooksAt, LooksAtEach, LooksOn}
-use Rattle.desk_server.specs.Answer.{After}
-use Rattle.desk_server.specs.Heard.{Gives}
-use Rattle.desk_server.specs.Told.{TellsPending, reply_text, ends}
-use Rattle.desk_server.specs.Watch.{IsWatched, NotesOrCounts, NotesReply, NotesEach, WatchesReply, ArePicturesOf, Showing, ShowAnswers, WatchesNext, pictures_in, is_left_out, ShowsAllUnlessCounted}
+use Rattle.desk_server.specs.Answer.{Ask, Obey, Take, Refuse, After}
+use Rattle.desk_server.specs.Heard.{AsksFor, Gives}
+use Rattle.desk_server.specs.Script.{Answered}
+use Rattle.desk_server.specs.Told.{TellsPending, IsRefused, reply_text, ends}
+use Rattle.desk_server.specs.Watch.{HasToCompute, AsksForAnswers, Draws, WatchesComputing, WatchesReply, Moment, moment, NotesOrCounts, NotesReply, NotesEach, WatchesNext, ArePicturesOf, Showing, ShowAnswers, may_compute, pictures_in, is_left_out, ShowsAllUnlessCounted}
+use Rattle.desk_server.specs.declared.command.Command.{Command}
+use Rattle.desk_server.specs.declared.command.Command.TheVariants as command
+use Rattle.desk_server.specs.declared.fault.ScriptFault.{ScriptFault}
+use Rattle.desk_server.specs.declared.format.Format.{Format}
+use Rattle.desk_server.specs.declared.request.Request.{Request}
+use Rattle.desk_server.specs.declared.request.Request.TheVariants as request
+use Rattle.script_lines.specs.declared.text.Text.{Text}
 use Rattle.desk_server.specs.declared.reply.Reply.{Reply}
 
 -- what is left after a reply
 abbrev pub after_of : BookState → Reply → After
 after_of k r = record { told = reply_text k r; plan = k.plan; ends = ends r }
 
-module _ {V : Type 0} (notes : V → BookState → V → Type 0) where
-  pub notes_join : (i m n : ℕ) (a b c : V) (xs ys : List After) → NotesEach notes i m a b xs
-      → NotesEach notes m n b c ys → NotesEach notes i n a c (xs ++ ys)
-  notes_join i m n a b c [] ys f g =
-      subst (λ v. NotesEach notes v n a c ys) f.0 (subst (λ v. NotesEach notes m n v c ys) f.1 g)
-  notes_join i m n a b c (x ∷ xs) ys f g = (f.0, f.1, f.2, notes_join f.0 m n f.1 b c xs ys f.3 g)
+-- no answer was taken
+pub draws_none : (ask : Ask) (d : BookState) (p q : PostView) → q.answers ≡ p.answers → Draws ask d p q
+draws_none ask d p q same = record { later = []; gave = same ∙ sym (append-nil p.answers); none = λ _. refl }
 
-  pub notes_none : (m : ℕ) (a : V) → NotesEach notes m m a a []
-  notes_none m a = (refl, refl)
+-- where answers are taken, any may be
+pub draws_more : (ask : Ask) (d : BookState) (p q : PostView) (later : List JobResult) → AsksForAnswers ask d
+    → q.answers ≡ p.answers ++ later → Draws ask d p q
+draws_more ask d p q later takes gave = record { later = later; gave = gave; none = λ no. absurd (no takes) }
+
+module _ {V : Type 0} (notes : V → BookState → V → Type 0) where
+  pub notes_join : (a b c : Moment V) (xs ys : List Answered) → NotesEach notes a b xs → NotesEach notes b c ys
+      → NotesEach notes a c (xs ++ ys)
+  notes_join a b c [] ys f g = subst (λ v. NotesEach notes v c ys) f g
+  notes_join a b c (x ∷ xs) ys f g = (f.0, f.1, notes_join f.0 b c xs ys f.2 g)
+
+  pub notes_none : (a : Moment V) → NotesEach notes a a []
+  notes_none a = refl
+
+  -- nothing changed
+  pub notes_same : (m : ℕ) (p q : PostView) (d : BookState) (a b : V) → q ≡ p → b ≡ a
+      → NotesEach notes (moment m p d a) (moment m q d b) []
+  notes_same m p q d a b post same = ap (λ v. moment m v d b) post ∙ ap (moment m p d) same
 
   -- nobody looked
-  pub notes_same : (m : ℕ) (a b : V) → b ≡ a → NotesEach notes m m a b []
-  notes_same m a b same = (refl, same)
-
-  pub unwatched : (plan : Plan) (a : V) → IsWatched notes plan a a
-  unwatched plan a = record { desks = []; document = tt; looks = refl }
-
-  pub unwatched_reply : (reply : Reply) (plan : Plan) (a : V) → WatchesReply notes reply plan a a
-  unwatched_reply reply plan a = record { watched = unwatched plan a; quiet = λ _. refl }
-
-  pub watched_reply : (reply : Reply) (plan : Plan) (a b : V) → ends reply ≡ false → IsWatched notes plan a b
-      → WatchesReply notes reply plan a b
-  watched_reply reply plan a b goes_on watched = record { watched = watched; quiet = λ e. absurd (cc (goes_on, e)) }
-
-  pub unwatched_next : (later : List After) (a : V) → WatchesNext notes later a a
-  unwatched_next [] a = refl
-  unwatched_next (x ∷ xs) a = unwatched x.plan a
+  pub unwatched : (ask : Ask) (r : Reply) (p q : PostView) (d e : BookState) (a : V) → Draws ask d p q
+      → (HasToCompute ask d → IsRefused r) → (ends r ≡ true → q ≡ p) → WatchesReply notes ask r p q d e a a
+  unwatched ask r p q d e a post refused still =
+      record { post = post; looks = inr (refl, refused); bye = λ bye. (still bye, refl) }
 
   -- a settling was looked at
-  pub watched_settling : (p q : PostView) (first : BookState) (plan : Plan) (a b : V) → plan ≡ first.plan
-      → LooksOn notes p q first a b → IsWatched notes plan a b
-  watched_settling p q first plan a b same on =
-      subst (λ v. IsWatched notes v a b) (sym same)
-      (record { desks = first ∷ on.later; document = (refl, on.document); looks = on.looks })
+  pub watched : (ask : Ask) (r : Reply) (p q : PostView) (d e : BookState) (a b : V) → Draws ask d p q
+      → HasToCompute ask d → e.plan ≡ d.plan → LooksOn notes p q d a b → ends r ≡ false
+      → WatchesReply notes ask r p q d e a b
+  watched ask r p q d e a b post computes same on goes_on = record {
+    post = post;
+    looks = inl (record { computes = computes; document = same; looks = on });
+    bye = λ bye. absurd (cc (goes_on, bye));
+  }
 
-  pub notes_one : (m n : ℕ) (a w b : V) (k : BookState) (r : Reply) → IsWatched notes k.plan a w → TellsPending r k
-      → NotesOrCounts notes m n w k b → NotesEach notes m n a b (after_of k r ∷ [])
-  notes_one m n a w b k r before pending noted = (
-    n,
+  -- what a request asks
+  pub looked_obeyed : (asked : Request) (command : Command) (r : Reply) (p q : PostView) (d e : BookState) (a b : V)
+      → asked ≡ request.Obey command → WatchesReply notes (Obey command) r p q d e a b
+      → (ask : Ask) → AsksFor asked ask → WatchesReply notes ask r p q d e a b
+  looked_obeyed asked command r p q d e a b is looked ask asks =
+      let one : ask ≡ Obey command = subst (λ v. AsksFor v ask) is asks in
+      subst (λ v. WatchesReply notes v r p q d e a b) (sym one) looked
+
+  pub looked_taken : (asked : Request) (format : Format) (text : Text) (r : Reply) (p : PostView) (d e : BookState)
+      (a : V) → asked ≡ request.Take format text
+      → (ask : Ask) → AsksFor asked ask → WatchesReply notes ask r p p d e a a
+  looked_taken asked format text r p d e a is ask asks =
+      let one = subst (λ v. AsksFor v ask) is asks in
+      subst (λ v. WatchesReply notes v r p p d e a a) (sym one.1)
+      (unwatched (Take format one.0) r p p d e a (draws_none (Take format one.0) d p p refl) (λ h. absurd h) (λ _. refl))
+
+  pub looked_refused : (asked : Request) (fault : ScriptFault) (r : Reply) (p : PostView) (d e : BookState) (a : V)
+      → asked ≡ request.Refuse fault
+      → (ask : Ask) → AsksFor asked ask → WatchesReply notes ask r p p d e a a
+  looked_refused asked fault r p d e a is ask asks =
+      let one : ask ≡ Refuse fault = subst (λ v. AsksFor v ask) is asks in
+      subst (λ v. WatchesReply notes v r p p d e a a) (sym one)
+      (unwatched (Refuse fault) r p p d e a (draws_none (Refuse fault) d p p refl) (λ h. absurd h) (λ _. refl))
+
+  pub looked_none : (r : Reply) (p : PostView) (d e : BookState) (a : V) (asked : Request) → IsRefused r
+      → (ask : Ask) → AsksFor asked ask → WatchesReply notes ask r p p d e a a
+  looked_none r p d e a asked refused ask asks =
+      unwatched ask r p p d e a (draws_none ask d p p refl) (λ _. refused) (λ _. refl)
+
+  pub unwatched_next : (a : Moment V) (later : List Answered) → WatchesNext notes a later a.post a.seen
+  unwatched_next a [] = (refl, refl)
+  unwatched_next a (x ∷ xs) = inl (refl, refl)
+
+  pub notes_one : (a b : Moment V) (w : V) (ask : Ask) (r : Reply)
+      → WatchesReply notes ask r a.post b.post a.desk b.desk a.seen w → TellsPending r b.desk
+      → NotesOrCounts notes a.missed b.missed w b.desk b.seen → NotesEach notes a b ((ask, after_of b.desk r) ∷ [])
+  notes_one a b w ask r before pending noted = (
     b,
-    record { watched = w; before = before; desk = k; reply = r; gives = refl; pending = pending; noted = noted },
-    (refl, refl),
+    record { reply = r; gives = refl; pending = pending; watched = w; before = before; noted = noted },
+    refl,
   )
 
   -- a count doesn't fall
@@ -69,11 +115,12 @@ module _ {V : Type 0} (notes : V → BookState → V → Type 0) where
   count_up m n a b k low (inl f) = let is = f.1 in (omega (arith, is), omega (arith, is, low))
   count_up m n a b k low (inr f) = let is = f.1 in (omega (arith, is, low), omega (arith, is, low))
 
-  counts_up : (m n : ℕ) (a b : V) (xs : List After) → m ≤ 2 ^ 64 - 1 → NotesEach notes m n a b xs → m ≤ n
-  counts_up m n a b [] low f = omega (arith, f.0)
-  counts_up m n a b (x ∷ xs) low f =
-      let one = count_up m f.0 f.2.watched f.1 f.2.desk low f.2.noted in
-      let rest = counts_up f.0 n f.1 b xs one.1 f.3 in omega (arith, one.0, rest)
+  counts_up : (a b : Moment V) (xs : List Answered) → a.missed ≤ 2 ^ 64 - 1 → NotesEach notes a b xs
+      → a.missed ≤ b.missed
+  counts_up a b [] low f = let is = ap (λ (m : Moment V). m.missed) f in omega (arith, is)
+  counts_up a b (x ∷ xs) low f =
+      let one = count_up a.missed f.0.missed f.1.watched f.0.seen f.0.desk low f.1.noted in
+      let rest = counts_up f.0 b xs one.1 f.2 in omega (arith, one.0, rest)
 
 -- one history goes on from another, and a third from that
 goes_over : (old next new : History) (xs ys : List Picture) → next ≡ history old.board (old.pictures ++ xs)
@@ -85,102 +132,174 @@ goes_over old next new xs ys first more =
 goes_nowhere : (old new : History) → new ≡ old → new ≡ history old.board (old.pictures ++ [])
 goes_nowhere old new same = same ∙ sym (ap (history old.board) (append-nil old.pictures))
 
--- desks with a document were looked at: so many pictures of it
-record Seen (plan : Plan) (old new : History) : Type 0 where
+-- desks with a document were looked at: at most so many pictures of it
+record Seen (plan : Plan) (most : ℕ) (old new : History) : Type 0 where
   pictures : List Picture
   goes_on : new ≡ history old.board (old.pictures ++ pictures)
   are : ArePicturesOf plan pictures
+  few : length pictures ≤ most
 
-seen_one : (plan : Plan) (d : BookState) (old next new : History) → d.plan ≡ plan → LooksAt ShowsNext old d next
-    → Seen plan next new → Seen plan old new
-seen_one plan d old next new is (inl seen) rest = record {
+seen_one : (plan : Plan) (n : ℕ) (d : BookState) (old next new : History) → d.plan ≡ plan → LooksAt ShowsNext old d next
+    → Seen plan n next new → Seen plan (suc n) old new
+seen_one plan n d old next new is (inl seen) rest = record {
   pictures = picture_of d ∷ rest.pictures;
   goes_on = goes_over old next new (picture_of d ∷ []) rest.pictures seen.1 rest.goes_on;
   are = ((is, seen.0), rest.are);
+  few = let few = rest.few in omega (arith, few);
 }
-seen_one plan d old next new is (inr same) rest = record {
+seen_one plan n d old next new is (inr same) rest = record {
   pictures = rest.pictures;
   goes_on = goes_over old next new [] rest.pictures (goes_nowhere old next same) rest.goes_on;
   are = rest.are;
+  few = let few = rest.few in omega (arith, few);
 }
 
 seen_each : (plan : Plan) (ds : List BookState) (old new : History) → AreOfPlan plan ds
-    → LooksAtEach ShowsNext old ds new → Seen plan old new
-seen_each plan [] old new all looks = record { pictures = []; goes_on = goes_nowhere old new looks; are = tt }
+    → LooksAtEach ShowsNext old ds new → Seen plan (length ds) old new
+seen_each plan [] old new all looks =
+    record { pictures = []; goes_on = goes_nowhere old new looks; are = tt; few = omega arith }
 seen_each plan (d ∷ ds) old new all looks =
-    seen_one plan d old looks.0 new all.0 looks.1 (seen_each plan ds looks.0 new all.1 looks.2)
+    seen_one plan (length ds) d old looks.0 new all.0 looks.1 (seen_each plan ds looks.0 new all.1 looks.2)
 
--- what `ShowsOrCounts` says, where the count began at `start`
-record Shows (start count : ℕ) (old new : History) (given : List After) : Type 0 where
+-- what was looked at before a reply, by how many answers the post gave
+record Shown (one : Answered) (p q : PostView) (old new : History) : Type 0 where
+  gave : ℕ
+  came : length q.answers ≡ length p.answers + gave
+  seen : Seen one.1.plan (gave + 1) old new
+  none : may_compute one.0 ≡ false → seen.pictures ≡ []
+
+cannot : (ask : Ask) (d : BookState) → may_compute ask ≡ false → HasToCompute ask d → ⊥
+cannot (Obey (command.Edit edit)) d idle has = has
+cannot (Obey command.Settle) d idle has = cc
+cannot (Obey command.Work) d idle has = has
+cannot (Obey (command.Show id)) d idle has = cc
+cannot (Obey (command.Peek id)) d idle has = has
+cannot (Obey command.Poll) d idle has = has
+cannot (Obey command.List) d idle has = has
+cannot (Obey command.Quit) d idle has = has
+cannot (Take format text) d idle has = has
+cannot (Refuse fault) d idle has = has
+
+shown_before : (one : Answered) (r : Reply) (p q : PostView) (d e : BookState) (old new : History) → Gives one.1 r e
+    → WatchesReply ShowsNext one.0 r p q d e old new → Shown one p q old new
+shown_before one r p q d e old new gives watched = by watched.looks
+  where
+    plan : one.1.plan ≡ e.plan
+    plan = ap (λ (a : After). a.plan) gives
+
+    by : WatchesComputing ShowsNext one.0 p q d e old new ⊎ ((new ≡ old) × (HasToCompute one.0 d → IsRefused r))
+        → Shown one p q old new
+    by (inl on) = record {
+      gave = length on.looks.later;
+      came = on.looks.answers;
+      seen = subst (λ v. Seen v (length on.looks.later + 1) old new) (sym (plan ∙ on.document))
+          (subst (λ n. Seen d.plan n old new) (omega arith)
+          (seen_each d.plan (d ∷ on.looks.later) old new (refl, on.looks.document) on.looks.looks));
+      none = λ idle. absurd (cannot one.0 d idle on.computes);
+    }
+    by (inr still) = record {
+      gave = length watched.post.later;
+      came = ap length watched.post.gave ∙ length-append p.answers watched.post.later;
+      seen = record { pictures = []; goes_on = goes_nowhere old new still.0; are = tt; few = omega arith };
+      none = λ _. refl;
+    }
+
+-- what `ShowsOrCounts` says, where the count began at what was passed over before
+record Shows (old new : Moment History) (given : List Answered) : Type 0 where
   showings : List Showing
-  goes_on : new ≡ history old.board (old.pictures ++ flat_map pictures_in showings)
+  goes_on : new.seen ≡ history old.seen.board (old.seen.pictures ++ flat_map pictures_in showings)
   answers : ShowAnswers showings given
-  left_out : count < 2 ^ 64 - 1 → count_by is_left_out showings + start ≡ count
-  all : count ≡ 0 → AllByRecursion (λ (showing : Showing). IsSome showing.own) showings
+  gave : length new.post.answers ≡ length old.post.answers + sum_by (λ (showing : Showing). showing.gave) showings
+  left_out : new.missed < 2 ^ 64 - 1 → count_by is_left_out showings + old.missed ≡ new.missed
+  all : new.missed ≡ 0 → AllByRecursion (λ (showing : Showing). IsSome showing.own) showings
 
 abbrev one_if : Bool → ℕ
 one_if b = cond b 1 0
 
-shows_one : (m k n : ℕ) (old watched next new : History) (x : After) (xs : List After) (d : BookState) (r : Reply)
-    → m ≤ 2 ^ 64 - 1 → k ≤ n → Seen x.plan old watched → Gives x r d → TellsPending r d
-    → NotesOrCounts ShowsNext m k watched d next → Shows k n next new xs → Shows m n old new (x ∷ xs)
-shows_one m k n old watched next new x xs d r low up seen gives pending (inl noted) rest =
+shows_one : (old next new : Moment History) (watched : History) (x : Answered) (xs : List Answered) (r : Reply)
+    → old.missed ≤ 2 ^ 64 - 1 → next.missed ≤ new.missed → Shown x old.post next.post old.seen watched
+    → Gives x.1 r next.desk → TellsPending r next.desk
+    → NotesOrCounts ShowsNext old.missed next.missed watched next.desk next.seen → Shows next new xs
+    → Shows old new (x ∷ xs)
+shows_one old next new watched x xs r low up shown gives pending (inl noted) rest =
+    let d = next.desk in
     let s = picture_of d in
     let right : IsRight s = noted.0.0 in
-    let is : next ≡ and_then watched s = noted.0.1 in
-    let same : k ≡ m = noted.1 in
-    let showing : Showing = record { before = seen.pictures; own = Some s } in
+    let is : next.seen ≡ and_then watched s = noted.0.1 in
+    let same : next.missed ≡ old.missed = noted.1 in
+    let seen = shown.seen in
+    let showing : Showing = record { gave = shown.gave; before = seen.pictures; own = Some s } in
     let counted : count_by is_left_out (showing ∷ rest.showings) ≡ 0 + count_by is_left_out rest.showings =
-    sum_by-cons (λ (y : Showing). one_if (is_left_out y)) showing rest.showings in record {
+    sum_by-cons (λ (y : Showing). one_if (is_left_out y)) showing rest.showings in
+    let summed : sum_by (λ (y : Showing). y.gave) (showing ∷ rest.showings)
+    ≡ shown.gave + sum_by (λ (y : Showing). y.gave) rest.showings =
+    sum_by-cons (λ (y : Showing). y.gave) showing rest.showings in
+    let came = shown.came in
+    let gave = rest.gave in record {
       showings = showing ∷ rest.showings;
-      goes_on = goes_over old next new (seen.pictures ++ s ∷ []) (flat_map pictures_in rest.showings)
-          (goes_over old watched next seen.pictures (s ∷ []) seen.goes_on is) rest.goes_on;
+      goes_on = goes_over old.seen next.seen new.seen (seen.pictures ++ s ∷ []) (flat_map pictures_in rest.showings)
+          (goes_over old.seen watched next.seen seen.pictures (s ∷ []) seen.goes_on is) rest.goes_on;
       answers = (
         record {
           before = seen.are;
+          few = seen.few;
+          none = shown.none;
           own = record { desk = d; reply = r; gives = gives; pending = pending; is = refl; right = right };
         },
         rest.answers,
       );
+      gave = omega (arith, came, gave, summed);
       left_out = λ small. omega (arith, rest.left_out small, same, counted);
       all = λ none. (refl, rest.all none);
     }
-shows_one m k n old watched next new x xs d r low up seen gives pending (inr passed) rest =
-    let is : k ≡ u64_saturate (m + 1) = passed.1 in
-    let showing : Showing = record { before = seen.pictures; own = None } in
+shows_one old next new watched x xs r low up shown gives pending (inr passed) rest =
+    let is : next.missed ≡ u64_saturate (old.missed + 1) = passed.1 in
+    let seen = shown.seen in
+    let showing : Showing = record { gave = shown.gave; before = seen.pictures; own = None } in
     let counted : count_by is_left_out (showing ∷ rest.showings) ≡ 1 + count_by is_left_out rest.showings =
-    sum_by-cons (λ (y : Showing). one_if (is_left_out y)) showing rest.showings in record {
+    sum_by-cons (λ (y : Showing). one_if (is_left_out y)) showing rest.showings in
+    let summed : sum_by (λ (y : Showing). y.gave) (showing ∷ rest.showings)
+    ≡ shown.gave + sum_by (λ (y : Showing). y.gave) rest.showings =
+    sum_by-cons (λ (y : Showing). y.gave) showing rest.showings in
+    let came = shown.came in
+    let gave = rest.gave in record {
       showings = showing ∷ rest.showings;
-      goes_on = goes_over old next new (seen.pictures ++ []) (flat_map pictures_in rest.showings)
-          (goes_over old watched next seen.pictures [] seen.goes_on (goes_nowhere watched next passed.0)) rest.goes_on;
-      answers = (record { before = seen.are; own = tt }, rest.answers);
+      goes_on = goes_over old.seen next.seen new.seen (seen.pictures ++ []) (flat_map pictures_in rest.showings)
+          (goes_over old.seen watched next.seen seen.pictures [] seen.goes_on (goes_nowhere watched next.seen passed.0))
+          rest.goes_on;
+      answers = (record { before = seen.are; few = seen.few; none = shown.none; own = tt }, rest.answers);
+      gave = omega (arith, came, gave, summed);
       left_out = λ small. omega (arith, rest.left_out small, up, small, is, counted);
       all = λ none. absurd (omega (arith, up, none, is));
     }
 
-shows : (m n : ℕ) (old new : History) (xs : List After) → m ≤ 2 ^ 64 - 1 → NotesEach ShowsNext m n old new xs
-    → Shows m n old new xs
-shows m n old new [] low noted = record {
+shows : (old new : Moment History) (xs : List Answered) → old.missed ≤ 2 ^ 64 - 1 → NotesEach ShowsNext old new xs
+    → Shows old new xs
+shows old new [] low noted = record {
   showings = [];
-  goes_on = goes_nowhere old new noted.1;
+  goes_on = goes_nowhere old.seen new.seen (ap (λ (m : Moment History). m.seen) noted);
   answers = tt;
-  left_out = λ _. omega (arith, noted.0);
+  gave = let same = ap (λ (m : Moment History). length m.post.answers) noted in omega (arith, same);
+  left_out = λ _. let same = ap (λ (m : Moment History). m.missed) noted in omega (arith, same);
   all = λ _. tt;
 }
-shows m n old new (x ∷ xs) low noted =
-    let one : NotesReply ShowsNext m noted.0 old x noted.1 = noted.2 in
-    let low_next = (count_up ShowsNext m noted.0 one.watched noted.1 one.desk low one.noted).1 in
-    shows_one m noted.0 n old one.watched noted.1 new x xs one.desk one.reply low
-    (counts_up ShowsNext noted.0 n noted.1 new xs low_next noted.3)
-    (seen_each x.plan one.before.desks old one.watched one.before.document one.before.looks) one.gives one.pending one.noted
-    (shows noted.0 n noted.1 new xs low_next noted.3)
+shows old new (x ∷ xs) low noted =
+    let next : Moment History = noted.0 in
+    let one : NotesReply ShowsNext old x next = noted.1 in
+    let low_next = (count_up ShowsNext old.missed next.missed one.watched next.seen next.desk low one.noted).1 in
+    shows_one old next new one.watched x xs one.reply low
+    (counts_up ShowsNext next new xs low_next noted.2)
+    (shown_before x one.reply old.post next.post old.desk next.desk old.seen one.watched one.gives one.before)
+    one.gives one.pending one.noted
+    (shows next new xs low_next noted.2)
 
 pub shows_all : ShowsAllUnlessCounted
-shows_all n old new given noted =
-    let all = shows 0 n old new given (omega arith) noted in record {
+shows_all old new given none noted =
+    let all = shows old new given (omega (arith, none)) noted in record {
       showings = all.showings;
       goes_on = all.goes_on;
       answers = all.answers;
-      left_out = λ small. omega (arith, all.left_out small);
+      gave = all.gave;
+      left_out = λ small. omega (arith, all.left_out small, none);
       all = all.all;
     }

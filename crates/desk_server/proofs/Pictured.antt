@@ -19,7 +19,6 @@ use Rattle.desk_server.specs.Answer.{After}
 use Rattle.desk_server.specs.Told.{AllKnown, TellsPending, reply_text, shown_text}
 use Rattle.desk_server.specs.Watch.{IsAsTold, ShowsWhatIsTold}
 use Rattle.desk_server.specs.declared.reply.Reply.{Reply}
-use Rattle.desk_server.specs.declared.reply.Reply.TheVariants as reply
 
 -- where no text of rows is pending, that of each of their bookmarks is found
 

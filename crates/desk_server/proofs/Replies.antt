@@ -17,7 +17,8 @@ use Rattle.desk_server.specs.Shortage.{NoShortage, Memory, Unsettled, Pending, S
 use Rattle.desk_server.specs.Answer.{Ask, Refuse, After, answer, refused, CanLackMemory, only, unless_fault, settled, polled, obeyed}
 use Rattle.desk_server.specs.declared.command.Command.TheVariants.{Show}
 use Rattle.desk_server.specs.Reply.{pending_text, polled_text, refused_text, settled_text, unsettled_text}
-use Rattle.desk_server.specs.Told.{reply_text, ends, shown_text}
+use Rattle.revision_jobs.specs.Posted.{PostView}
+use Rattle.desk_server.specs.Told.{PollsBy, reply_text, ends, shown_text}
 use Rattle.desk_server.specs.Heard.{AsksFor, Gives, GivesBy, GivesOrLacks, Serves}
 use Rattle.script_lines.specs.declared.text.Text.{Text}
 use Rattle.desk_server.specs.declared.fault.ScriptFault.{ScriptFault}
@@ -154,3 +155,15 @@ serves-refused prompt asked fault r d e is goes = λ ask asks.
       ap (answer NoShortage d.plan) one ∙ plainly_refused d.plan fault
           ∙ gives-only d.plan d r (refused_text (of_script fault)) refl is goes,
     )
+
+-- the script goes on after a poll
+pub polled_goes_on : (p q : PostView) (old new : BookState) (r : Reply) → PollsBy p q old new r → ends r ≡ false
+polled_goes_on p q old new (reply.Accepted revision word number) h = absurd h
+polled_goes_on p q old new reply.Settled h = absurd h
+polled_goes_on p q old new reply.Working h = absurd h
+polled_goes_on p q old new (reply.Unsettled pending cause) h = absurd h
+polled_goes_on p q old new (reply.Shown id) h = absurd h
+polled_goes_on p q old new (reply.Polled pending cause) h = refl
+polled_goes_on p q old new reply.Listed h = absurd h
+polled_goes_on p q old new (reply.Refused number name place) h = absurd h
+polled_goes_on p q old new reply.Bye h = absurd h

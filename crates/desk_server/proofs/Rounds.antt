@@ -1,5 +1,6 @@
 -- One command after another.
-use Rattle.std.proofs.Common.{◌≡◌, ◌≢◌, ℕ, List, [], ◌∷◌, ◌++◌, Bool, true, false, cond, sym, ◌∙◌, ap, refl, append_assoc, append-nil, subst, Option, Some, None, IfSome}
+use Rattle.std.proofs.Common.{◌≡◌, ◌≢◌, ℕ, List, [], ◌∷◌, ◌++◌, Bool, true, false, cond, sym, ◌∙◌, ap, refl, append_assoc, append-nil, subst, Option, Some, None, IfSome, inr}
+use Rattle.std.specs.Prelude.{zip}
 use Rattle.std.proofs.lemmas.List.Concat.{flat_map-append}
 use Rattle.std.proofs.KnownBytes.{Appends-nil, Appends-trans}
 use Rattle.script_lines.specs.Ahead.{Ahead, Takes, LineReading}
@@ -15,12 +16,13 @@ use Rattle.dependency_book.specs.BookState.{BookState}
 use Rattle.std.specs.List.{AllByRecursion}
 use Rattle.desk_server.specs.Shortage.{Shortage, IsCaused, AllCausedOver}
 use Rattle.desk_server.specs.Answer.{Ask, After, answer}
-use Rattle.desk_server.specs.Script.{asks, Between, afters, afters_with, unless_bye, but_bye, texts_of, replies_to, replies_by, replies_with}
+use Rattle.revision_jobs.specs.Posted.{PostView}
+use Rattle.desk_server.specs.Script.{asks, Between, Answered, afters, answered, answered_with, first_shortage, later_shortages, unless_bye, but_bye, texts_of, told_to, replies_to, replies_by, replies_with}
 use Rattle.desk_server.specs.Told.{reply_text, ends}
 use Rattle.desk_server.specs.Heard.{AsksIfAny, Hears, Gives, Serves, Served, BreaksOff}
 use Rattle.desk_server.specs.Run.{Answers, Finishes, StopsTelling, AnswersWhole, AnswersAll, AnswersFront}
 use Rattle.desk_server.specs.Ending.{Works, Completes}
-use Rattle.desk_server.specs.Watch.{IsWatched, NotesFront, NotesEach, NotesScript, NotesReplies, WatchesNext}
+use Rattle.desk_server.specs.Watch.{Moment, moment, NotesFront, NotesEach, NotesScript, NotesReplies, WatchesNext, WatchesReply}
 use Rattle.desk_server.specs.declared.request.Request.{Request}
 use Rattle.desk_server.specs.declared.reply.Reply.{Reply}
 use Rattle.desk_server.specs.declared.reply.Reply.TheVariants as reply
@@ -63,37 +65,67 @@ follows_nothing : (last : Bool) (new : Option (List ℕ)) (rest : List ℕ) → 
 follows_nothing false new rest h e = tt
 follows_nothing true new rest h e = (refl, at_end_nil new rest (h refl) e)
 
+-- one that was answered, with what is left after its reply
+abbrev pub one_of : Ask → BookState → Reply → Answered
+one_of ask k r = (ask, after_of k r)
+
+zip_none : {K X : Type 0} (ks : List K) → zip {K = K} {X = X} ks [] ≡ []
+zip_none [] = refl
+zip_none (k ∷ ks) = refl
+
+zip_unless : {K X : Type 0} (b : Bool) (ks : List K) (xs : List X) → zip ks (cond b [] xs) ≡ cond b [] (zip ks xs)
+zip_unless true ks xs = zip_none ks
+zip_unless false ks xs = refl
+
 -- the answer to one command, and those to the rest
 after_is : (short : Shortage) (p : Plan) (ask : Ask) (r : Reply) (k : BookState) → Gives (answer short p ask) r k
     → (rest : List Ask) (later : List Shortage)
-    → afters p (ask ∷ rest) (short ∷ later) ≡ after_of k r ∷ cond (ends r) [] (afters k.plan rest later)
-after_is short p ask r k e rest later = ap (λ (a : After). a ∷ cond a.ends [] (afters a.plan rest later)) e
+    → answered p (ask ∷ rest) (short ∷ later) ≡ one_of ask k r ∷ cond (ends r) [] (answered k.plan rest later)
+after_is short p ask r k e rest later =
+    ap (λ (a : After). (ask, a) ∷ zip rest (cond a.ends [] (afters a.plan rest later))) e
+    ∙ ap (λ v. one_of ask k r ∷ v) (zip_unless (ends r) rest (afters k.plan rest later))
 
 -- of two lists of answers, the texts and those but `bye`
-texts-append : (xs ys : List After) → texts_of (xs ++ ys) ≡ texts_of xs ++ texts_of ys
-texts-append = flat_map-append (λ (a : After). a.told)
+texts-append : (xs ys : List Answered) → told_to (xs ++ ys) ≡ told_to xs ++ told_to ys
+texts-append = flat_map-append (λ (one : Answered). one.1.told)
 
-but_bye-append : (xs ys : List After) → but_bye (xs ++ ys) ≡ but_bye xs ++ but_bye ys
+but_bye-append : (xs ys : List Answered) → but_bye (xs ++ ys) ≡ but_bye xs ++ but_bye ys
 but_bye-append = flat_map-append unless_bye
 
+-- the replies are those to each that was answered
+told_unless : (b : Bool) (asked : List Ask) (given : List After) → texts_of given ≡ told_to (zip asked given)
+    → texts_of (cond b [] given) ≡ told_to (zip asked (cond b [] given))
+told_unless true asked given same = ap told_to (sym (zip_none {X = After} asked))
+told_unless false asked given same = same
+
+replies_told : (p : Plan) (asked : List Ask) (shortages : List Shortage)
+    → replies_to p asked shortages ≡ told_to (answered p asked shortages)
+replies_told p [] shortages = refl
+replies_told p (ask ∷ rest) shortages =
+    let after : After = answer (first_shortage shortages) p ask in
+    let later = afters after.plan rest (later_shortages shortages) in
+    ap (λ v. after.told ++ v)
+    (told_unless after.ends rest later (replies_told after.plan rest (later_shortages shortages)))
+
 -- one answer alone
-wrote_one : (before after : Option (List ℕ)) (k : BookState) (r : Reply) → Appends before after (reply_text k r)
-    → Appends before after (texts_of (after_of k r ∷ []))
-wrote_one before after k r w = subst (Appends before after) (sym (append-nil (reply_text k r))) w
+wrote_one : (before after : Option (List ℕ)) (ask : Ask) (k : BookState) (r : Reply) → Appends before after (reply_text k r)
+    → Appends before after (told_to (one_of ask k r ∷ []))
+wrote_one before after ask k r w = subst (Appends before after) (sym (append-nil (reply_text k r))) w
 
-noted_one : (noted : List After → Type 0) (k : BookState) (r : Reply) → r ≢ reply.Bye → noted (after_of k r ∷ [])
-    → noted (but_bye (after_of k r ∷ []))
-noted_one noted k r other h = subst (λ v. noted (cond v [] (after_of k r ∷ []) ++ [])) (sym (ends-other r other)) h
+noted_one : (noted : List Answered → Type 0) (ask : Ask) (k : BookState) (r : Reply) → r ≢ reply.Bye
+    → noted (one_of ask k r ∷ []) → noted (but_bye (one_of ask k r ∷ []))
+noted_one noted ask k r other h =
+    subst (λ v. noted (cond v [] (one_of ask k r ∷ []) ++ [])) (sym (ends-other r other)) h
 
-noted_bye : (noted : List After → Type 0) (k : BookState) (r : Reply) → r ≡ reply.Bye → noted []
-    → noted (but_bye (after_of k r ∷ []))
-noted_bye noted k r bye h = subst (λ v. noted (cond (ends v) [] (after_of k r ∷ []) ++ [])) (sym bye) h
+noted_bye : (noted : List Answered → Type 0) (ask : Ask) (k : BookState) (r : Reply) → r ≡ reply.Bye → noted []
+    → noted (but_bye (one_of ask k r ∷ []))
+noted_bye noted ask k r bye h = subst (λ v. noted (cond (ends v) [] (one_of ask k r ∷ []) ++ [])) (sym bye) h
 
 -- nothing was asked
 asked_nothing : (heard : Option Request) (asked : List Ask) → heard ≡ None → AsksIfAny heard asked → asked ≡ []
 asked_nothing heard asked e is = subst (λ o. AsksIfAny o asked) e is
 
-pub goes_on_silent : (noted : List After → Type 0) (prompt : Bool) (old new : Ahead) (told : Option (List ℕ))
+pub goes_on_silent : (noted : List Answered → Type 0) (prompt : Bool) (old new : Ahead) (told : Option (List ℕ))
     (heard : Option Request) (last : Bool) (k : BookState) (n m : ℕ) → noted [] → heard ≡ None → last ≡ false
     → (h : Hears old new Between heard last n m) → Answers noted prompt old new told told k.plan k.plan n m
 goes_on_silent noted prompt old new told heard last k n m notes none e h = record {
@@ -105,12 +137,12 @@ goes_on_silent noted prompt old new told heard last k n m notes none e h = recor
   wrote = Appends-nil told;
   notes = notes;
   law = λ stop more later.
-      ap (λ v. afters k.plan v later)
+      ap (λ v. answered k.plan v later)
       (h.law stop more (follows-any last stop more e) ∙ ap (λ v. v ++ asks stop Between m (lines_until stop more))
       (asked_nothing heard h.asked none h.is));
 }
 
-pub done_silent : (noted : List After → Type 0) (prompt : Bool) (old new : Ahead) (told : Option (List ℕ))
+pub done_silent : (noted : List Answered → Type 0) (prompt : Bool) (old new : Ahead) (told : Option (List ℕ))
     (heard : Option Request) (last : Bool) (k : BookState) (n m : ℕ) → noted [] → heard ≡ None → last ≡ true
     → (h : Hears old new Between heard last n m) → Finishes noted prompt old new told told k.plan n
 done_silent noted prompt old new told heard last k n m notes none e h = record {
@@ -122,7 +154,7 @@ done_silent noted prompt old new told heard last k n m notes none e h = record {
   wrote = Appends-nil told;
   notes = notes;
   law = λ rest x.
-      ap (λ v. afters k.plan v [])
+      ap (λ v. answered k.plan v [])
       (h.law Ended rest (follows_nothing last new.bytes rest h.at_end x)
       ∙ ap (λ v. v ++ asks Ended Between m (lines_until Ended rest)) (asked_nothing heard h.asked none h.is)
       ∙ ap (λ v. asks Ended Between m (lines_until Ended v)) (at_end_nil new.bytes rest (h.at_end e) x));
@@ -131,114 +163,118 @@ done_silent noted prompt old new told heard last k n m notes none e h = record {
 -- one thing was asked, and the reply to it found
 pub served : (prompt : Bool) (heard : Option Request) (request : Request) (asked : List Ask) (j k : BookState)
     (r : Reply) → heard ≡ Some request → AsksIfAny heard asked
-    → Serves prompt request r j k → Served prompt r asked j k
+    → Serves prompt request r j k → Served prompt request r asked j k
 served prompt heard request asked j k r e is gives = let one =
-    subst (λ o. AsksIfAny o asked) e is in (one.0, one.1, gives one.0 one.2)
+    subst (λ o. AsksIfAny o asked) e is in (one.0, one.1, gives one.0 one.2, one.2)
 
 -- the answers from here on
 afters_from : (prompt : Bool) (old new : Ahead) (heard : Option Request) (last : Bool) (j k : BookState) (n m : ℕ)
-    (r : Reply)
-    → (h : Hears old new Between heard last n m) → (s : Served prompt r h.asked j k)
+    (q : Request) (r : Reply)
+    → (h : Hears old new Between heard last n m) → (s : Served prompt q r h.asked j k)
     → (stop : End) (more : List ℕ) (later : List Shortage) → Follows last stop more
-    → afters j.plan (asks stop Between n (lines_until stop (h.bytes ++ more))) (s.2.0 ∷ later) ≡ after_of k r ∷ cond
-    (ends r) [] (afters k.plan (asks stop Between m (lines_until stop more)) later)
-afters_from prompt old new heard last j k n m r h s stop more later f =
-    ap (λ v. afters j.plan v (s.2.0 ∷ later))
+    → answered j.plan (asks stop Between n (lines_until stop (h.bytes ++ more))) (s.2.0 ∷ later) ≡ one_of s.0 k r ∷ cond
+    (ends r) [] (answered k.plan (asks stop Between m (lines_until stop more)) later)
+afters_from prompt old new heard last j k n m q r h s stop more later f =
+    ap (λ v. answered j.plan v (s.2.0 ∷ later))
     (h.law stop more f ∙ ap (λ v. v ++ asks stop Between m (lines_until stop more)) s.1)
     ∙ after_is s.2.0 j.plan s.0 r k s.2.2 (asks stop Between m (lines_until stop more)) later
 
-pub goes_on_told : (noted : List After → Type 0) (prompt : Bool) (old new : Ahead) (before after : Option (List ℕ))
-    (heard : Option Request) (last : Bool) (j k : BookState) (n m : ℕ) (r : Reply) → noted (after_of k r ∷ []) → last ≡ false
+pub goes_on_told : (noted : List Answered → Type 0) (prompt : Bool) (old new : Ahead) (before after : Option (List ℕ))
+    (heard : Option Request) (last : Bool) (j k : BookState) (n m : ℕ) (q : Request) (r : Reply) → last ≡ false
     → r ≢ reply.Bye
-    → (h : Hears old new Between heard last n m) → Served prompt r h.asked j k → Appends before after (reply_text k r)
-    → Answers noted prompt old new before after j.plan k.plan n m
-goes_on_told noted prompt old new before after heard last j k n m r notes e b h s w = record {
+    → (h : Hears old new Between heard last n m) → (s : Served prompt q r h.asked j k) → noted (one_of s.0 k r ∷ [])
+    → Appends before after (reply_text k r) → Answers noted prompt old new before after j.plan k.plan n m
+goes_on_told noted prompt old new before after heard last j k n m q r e b h s notes w = record {
   bytes = h.bytes;
   shortages = s.2.0 ∷ [];
   caused = λ e. (s.2.1 e, tt);
-  given = after_of k r ∷ [];
+  given = one_of s.0 k r ∷ [];
   taken = h.taken;
-  wrote = wrote_one before after k r w;
-  notes = noted_one noted k r b notes;
-  law = λ stop more later. afters_from prompt old new heard last j k n m r h s stop more later
+  wrote = wrote_one before after s.0 k r w;
+  notes = noted_one noted s.0 k r b notes;
+  law = λ stop more later. afters_from prompt old new heard last j k n m q r h s stop more later
       (follows-any last stop more e)
-      ∙ ap (λ v. after_of k r ∷ cond v [] (afters k.plan (asks stop Between m (lines_until stop more)) later))
+      ∙ ap (λ v. one_of s.0 k r ∷ cond v [] (answered k.plan (asks stop Between m (lines_until stop more)) later))
       (ends-other r b);
 }
 
-nothing_more : (v : Bool) (a : After) → a ∷ cond v [] [] ≡ a ∷ []
+nothing_more : (v : Bool) (a : Answered) → a ∷ cond v [] [] ≡ a ∷ []
 nothing_more true a = refl
 nothing_more false a = refl
 
 -- the last answer, behind which no command is answered
-done_told : (noted : List After → Type 0) (prompt : Bool) (old new : Ahead) (before after : Option (List ℕ))
-    (heard : Option Request) (last : Bool) (j k : BookState) (n m : ℕ) (r : Reply)
-    → noted (but_bye (after_of k r ∷ []))
-    → (h : Hears old new Between heard last n m) → Served prompt r h.asked j k → Appends before after (reply_text k r)
+done_told : (noted : List Answered → Type 0) (prompt : Bool) (old new : Ahead) (before after : Option (List ℕ))
+    (heard : Option Request) (last : Bool) (j k : BookState) (n m : ℕ) (q : Request) (r : Reply)
+    → (h : Hears old new Between heard last n m) → (s : Served prompt q r h.asked j k)
+    → noted (but_bye (one_of s.0 k r ∷ [])) → Appends before after (reply_text k r)
     → ((rest : List ℕ) → new.bytes ≡ Some rest
-    → after_of k r ∷ cond (ends r) [] (afters k.plan (asks Ended Between m (lines_until Ended rest)) [])
-    ≡ after_of k r ∷ []) → Finishes noted prompt old new before after j.plan n
-done_told noted prompt old new before after heard last j k n m r notes h s w ended = record {
+    → one_of s.0 k r ∷ cond (ends r) [] (answered k.plan (asks Ended Between m (lines_until Ended rest)) [])
+    ≡ one_of s.0 k r ∷ []) → Finishes noted prompt old new before after j.plan n
+done_told noted prompt old new before after heard last j k n m q r h s notes w ended = record {
   bytes = h.bytes;
   shortages = s.2.0 ∷ [];
   caused = λ e. (s.2.1 e, tt);
   taken = h.taken;
-  given = after_of k r ∷ [];
-  wrote = wrote_one before after k r w;
+  given = one_of s.0 k r ∷ [];
+  wrote = wrote_one before after s.0 k r w;
   notes = notes;
-  law = λ rest x. afters_from prompt old new heard last j k n m r h s Ended rest []
+  law = λ rest x. afters_from prompt old new heard last j k n m q r h s Ended rest []
       (follows_nothing last new.bytes rest h.at_end x) ∙ ended rest x;
 }
 
-pub done_last : (noted : List After → Type 0) (prompt : Bool) (old new : Ahead) (before after : Option (List ℕ))
-    (heard : Option Request) (last : Bool) (j k : BookState) (n m : ℕ) (r : Reply) → noted (after_of k r ∷ []) → r ≢ reply.Bye
+pub done_last : (noted : List Answered → Type 0) (prompt : Bool) (old new : Ahead) (before after : Option (List ℕ))
+    (heard : Option Request) (last : Bool) (j k : BookState) (n m : ℕ) (q : Request) (r : Reply) → r ≢ reply.Bye
     → last ≡ true
-    → (h : Hears old new Between heard last n m) → Served prompt r h.asked j k → Appends before after (reply_text k r)
-    → Finishes noted prompt old new before after j.plan n
-done_last noted prompt old new before after heard last j k n m r notes b e h s w =
-    done_told noted prompt old new before after heard last j k n m r (noted_one noted k r b notes) h s w
-    (λ rest x. ap (λ v. after_of k r ∷ cond (ends r) [] (afters k.plan (asks Ended Between m (lines_until Ended v)) []))
-    (at_end_nil new.bytes rest (h.at_end e) x) ∙ nothing_more (ends r) (after_of k r))
+    → (h : Hears old new Between heard last n m) → (s : Served prompt q r h.asked j k) → noted (one_of s.0 k r ∷ [])
+    → Appends before after (reply_text k r) → Finishes noted prompt old new before after j.plan n
+done_last noted prompt old new before after heard last j k n m q r b e h s notes w =
+    done_told noted prompt old new before after heard last j k n m q r h s (noted_one noted s.0 k r b notes) w
+    (λ rest x. ap (λ v. one_of s.0 k r ∷ cond (ends r) []
+    (answered k.plan (asks Ended Between m (lines_until Ended v)) []))
+    (at_end_nil new.bytes rest (h.at_end e) x) ∙ nothing_more (ends r) (one_of s.0 k r))
 
-pub done_bye : (noted : List After → Type 0) (prompt : Bool) (old new : Ahead) (before after : Option (List ℕ))
-    (heard : Option Request) (last : Bool) (j k : BookState) (n m : ℕ) (r : Reply) → noted [] → r ≡ reply.Bye
-    → (h : Hears old new Between heard last n m) → Served prompt r h.asked j k → Appends before after (reply_text k r)
+pub done_bye : (noted : List Answered → Type 0) (prompt : Bool) (old new : Ahead) (before after : Option (List ℕ))
+    (heard : Option Request) (last : Bool) (j k : BookState) (n m : ℕ) (q : Request) (r : Reply) → noted []
+    → r ≡ reply.Bye
+    → (h : Hears old new Between heard last n m) → Served prompt q r h.asked j k → Appends before after (reply_text k r)
     → Finishes noted prompt old new before after j.plan n
-done_bye noted prompt old new before after heard last j k n m r notes b h s w =
-    done_told noted prompt old new before after heard last j k n m r (noted_bye noted k r b notes) h s w
-    (λ rest _. ap (λ v. after_of k r ∷ cond (ends v) []
-    (afters k.plan (asks Ended Between m (lines_until Ended rest)) [])) b)
+done_bye noted prompt old new before after heard last j k n m q r notes b h s w =
+    done_told noted prompt old new before after heard last j k n m q r h s (noted_bye noted s.0 k r b notes) w
+    (λ rest _. ap (λ v. one_of s.0 k r ∷ cond (ends v) []
+    (answered k.plan (asks Ended Between m (lines_until Ended rest)) [])) b)
 
 pub stops_telling : (prompt : Bool) (old new : Ahead) (before after : Option (List ℕ)) (heard : Option Request)
-    (last : Bool) (j k : BookState) (n m : ℕ) (r : Reply)
-    → (h : Hears old new Between heard last n m) → Served prompt r h.asked j k
+    (last : Bool) (j k : BookState) (n m : ℕ) (q : Request) (r : Reply)
+    → (h : Hears old new Between heard last n m) → Served prompt q r h.asked j k
     → AppendsFront before after (reply_text k r) → StopsTelling prompt old new before after j.plan n
-stops_telling prompt old new before after heard last j k n m r h s w = record {
+stops_telling prompt old new before after heard last j k n m q r h s w = record {
   bytes = h.bytes;
   shortages = s.2.0 ∷ [];
   caused = λ e. (s.2.1 e, tt);
   taken = h.taken;
   law = λ rest x.
-      subst (λ v. AppendsFront before after (texts_of v))
-      (sym (afters_from prompt old new heard last j k n m r h s Ended rest []
-      (follows_nothing last new.bytes rest h.at_end x)))
+      let all = asks Ended Between n (lines_until Ended (h.bytes ++ rest)) in
+      subst (AppendsFront before after)
+      (sym (replies_told j.plan all (s.2.0 ∷ [])
+      ∙ ap told_to (afters_from prompt old new heard last j k n m q r h s Ended rest []
+      (follows_nothing last new.bytes rest h.at_end x))))
       (front_first before after (reply_text k r)
-      (texts_of (cond (ends r) [] (afters k.plan (asks Ended Between m (lines_until Ended rest)) []))) w);
+      (told_to (cond (ends r) [] (answered k.plan (asks Ended Between m (lines_until Ended rest)) []))) w);
 }
 
-wrote_both : (x y z : Option (List ℕ)) (xs ys : List After) → Appends x y (texts_of xs) → Appends y z (texts_of ys)
-    → Appends x z (texts_of (xs ++ ys))
+wrote_both : (x y z : Option (List ℕ)) (xs ys : List Answered) → Appends x y (told_to xs) → Appends y z (told_to ys)
+    → Appends x z (told_to (xs ++ ys))
 wrote_both x y z xs ys f g =
-    subst (Appends x z) (sym (texts-append xs ys)) (Appends-trans x y z (texts_of xs) (texts_of ys) f g)
+    subst (Appends x z) (sym (texts-append xs ys)) (Appends-trans x y z (told_to xs) (told_to ys) f g)
 
-notes_both : (first next both : List After → Type 0) → ((ps qs : List After) → first ps → next qs → both (ps ++ qs))
-    → (xs ys : List After) → first (but_bye xs) → next (but_bye ys) → both (but_bye (xs ++ ys))
+notes_both : (first next both : List Answered → Type 0) → ((ps qs : List Answered) → first ps → next qs → both (ps ++ qs))
+    → (xs ys : List Answered) → first (but_bye xs) → next (but_bye ys) → both (but_bye (xs ++ ys))
 notes_both first next both join xs ys f g =
     subst both (sym (but_bye-append xs ys)) (join (but_bye xs) (but_bye ys) f g)
 
 -- what was answered, and then what was answered next
-pub answers_answers : (first next both : List After → Type 0) (prompt : Bool) (a b c : Ahead) (x y z : Option (List ℕ))
-    (p q s : Plan) (n m k : ℕ) → ((ps qs : List After) → first ps → next qs → both (ps ++ qs))
+pub answers_answers : (first next both : List Answered → Type 0) (prompt : Bool) (a b c : Ahead) (x y z : Option (List ℕ))
+    (p q s : Plan) (n m k : ℕ) → ((ps qs : List Answered) → first ps → next qs → both (ps ++ qs))
     → Answers first prompt a b x y p q n m → Answers next prompt b c y z q s m k → Answers both prompt a c x z p s n k
 answers_answers first next both prompt a b c x y z p q s n m k join f g = record {
   bytes = f.bytes ++ g.bytes;
@@ -249,16 +285,16 @@ answers_answers first next both prompt a b c x y z p q s n m k join f g = record
   wrote = wrote_both x y z f.given g.given f.wrote g.wrote;
   notes = notes_both first next both join f.given g.given f.notes g.notes;
   law = λ stop more later.
-      ap (λ v. afters p (asks stop Between n (lines_until stop v)) ((f.shortages ++ g.shortages) ++ later))
+      ap (λ v. answered p (asks stop Between n (lines_until stop v)) ((f.shortages ++ g.shortages) ++ later))
       (append_assoc f.bytes g.bytes more)
-      ∙ ap (afters p (asks stop Between n (lines_until stop (f.bytes ++ (g.bytes ++ more)))))
+      ∙ ap (answered p (asks stop Between n (lines_until stop (f.bytes ++ (g.bytes ++ more)))))
       (append_assoc f.shortages g.shortages later)
       ∙ f.law stop (g.bytes ++ more) (g.shortages ++ later) ∙ ap (λ v. f.given ++ v) (g.law stop more later)
-      ∙ sym (append_assoc f.given g.given (afters s (asks stop Between k (lines_until stop more)) later));
+      ∙ sym (append_assoc f.given g.given (answered s (asks stop Between k (lines_until stop more)) later));
 }
 
-pub answers_finishes : (first next both : List After → Type 0) (prompt : Bool) (a b c : Ahead) (x y z : Option (List ℕ))
-    (p q : Plan) (n m : ℕ) → ((ps qs : List After) → first ps → next qs → both (ps ++ qs))
+pub answers_finishes : (first next both : List Answered → Type 0) (prompt : Bool) (a b c : Ahead) (x y z : Option (List ℕ))
+    (p q : Plan) (n m : ℕ) → ((ps qs : List Answered) → first ps → next qs → both (ps ++ qs))
     → Answers first prompt a b x y p q n m → Finishes next prompt b c y z q m → Finishes both prompt a c x z p n
 answers_finishes first next both prompt a b c x y z p q n m join f g = record {
   bytes = f.bytes ++ g.bytes;
@@ -269,12 +305,12 @@ answers_finishes first next both prompt a b c x y z p q n m join f g = record {
   wrote = wrote_both x y z f.given g.given f.wrote g.wrote;
   notes = notes_both first next both join f.given g.given f.notes g.notes;
   law = λ rest e.
-      ap (λ v. afters p (asks Ended Between n (lines_until Ended v)) (f.shortages ++ g.shortages))
+      ap (λ v. answered p (asks Ended Between n (lines_until Ended v)) (f.shortages ++ g.shortages))
       (append_assoc f.bytes g.bytes rest)
       ∙ f.law Ended (g.bytes ++ rest) g.shortages ∙ ap (λ v. f.given ++ v) (g.law rest e);
 }
 
-pub answers_stops : (noted : List After → Type 0) (prompt : Bool) (a b c : Ahead) (x y z : Option (List ℕ)) (p q : Plan)
+pub answers_stops : (noted : List Answered → Type 0) (prompt : Bool) (a b c : Ahead) (x y z : Option (List ℕ)) (p q : Plan)
     (n m : ℕ) → Answers noted prompt a b x y p q n m → StopsTelling prompt b c y z q m → StopsTelling prompt a c x z p n
 answers_stops noted prompt a b c x y z p q n m f g = record {
   bytes = f.bytes ++ g.bytes;
@@ -282,19 +318,23 @@ answers_stops noted prompt a b c x y z p q n m f g = record {
   caused = λ e. caused-append f.shortages g.shortages (f.caused e) (g.caused e);
   taken = takes_then a b c f.bytes g.bytes f.taken g.taken;
   law = λ rest e.
+      let all = asks Ended Between m (lines_until Ended (g.bytes ++ rest)) in
       let same = ap (λ v. replies_to p (asks Ended Between n (lines_until Ended v)) (f.shortages ++ g.shortages))
-      (append_assoc f.bytes g.bytes rest) ∙ ap texts_of (f.law Ended (g.bytes ++ rest) g.shortages)
-      ∙ texts-append f.given (afters q (asks Ended Between m (lines_until Ended (g.bytes ++ rest))) g.shortages) in
+      (append_assoc f.bytes g.bytes rest)
+      ∙ replies_told p (asks Ended Between n (lines_until Ended (f.bytes ++ (g.bytes ++ rest)))) (f.shortages ++ g.shortages)
+      ∙ ap told_to (f.law Ended (g.bytes ++ rest) g.shortages)
+      ∙ texts-append f.given (answered q all g.shortages)
+      ∙ ap (λ v. told_to f.given ++ v) (sym (replies_told q all g.shortages)) in
       subst (AppendsFront x z) (sym same)
-      (front_then x y z (texts_of f.given)
-      (replies_to q (asks Ended Between m (lines_until Ended (g.bytes ++ rest))) g.shortages) f.wrote (g.law rest e));
+      (front_then x y z (told_to f.given) (replies_to q all g.shortages) f.wrote (g.law rest e));
 }
 
-pub answers_breaks : (noted : List After → Type 0) (prompt : Bool) (a b c : Ahead) (x y : Option (List ℕ)) (q : Plan)
+pub answers_breaks : (noted : List Answered → Type 0) (prompt : Bool) (a b c : Ahead) (x y : Option (List ℕ)) (q : Plan)
     (m : ℕ) → Answers noted prompt a b x y (opening 0) q 1 m → BreaksOff b c Between m → AnswersWhole prompt a c x y
 answers_breaks noted prompt a b c x y q m f g =
-    let all : replies_by Broken (f.bytes ++ g.bytes) (f.shortages ++ []) ≡ texts_of f.given
-    = ap texts_of (f.law Broken g.bytes [] ∙ ap (λ v. f.given ++ afters q v []) g.law ∙ append-nil f.given) in
+    let all : replies_by Broken (f.bytes ++ g.bytes) (f.shortages ++ []) ≡ told_to f.given
+    = replies_told (opening 0) (asks Broken Between 1 (lines_until Broken (f.bytes ++ g.bytes))) (f.shortages ++ [])
+    ∙ ap told_to (f.law Broken g.bytes [] ∙ ap (λ v. f.given ++ answered q v []) g.law ∙ append-nil f.given) in
     record {
       read = f.bytes ++ g.bytes;
       shortages = f.shortages ++ [];
@@ -304,7 +344,7 @@ answers_breaks noted prompt a b c x y q m f g =
     }
 
 -- at the beginning
-pub answers_none : (noted : List After → Type 0) (prompt : Bool) (a b : Ahead) (x : Option (List ℕ)) (p q : Plan) (n : ℕ)
+pub answers_none : (noted : List Answered → Type 0) (prompt : Bool) (a b : Ahead) (x : Option (List ℕ)) (p q : Plan) (n : ℕ)
     → noted [] → b ≡ a → q ≡ p → Answers noted prompt a b x x p q n n
 answers_none noted prompt a b x p q n notes e same = record {
   bytes = [];
@@ -314,63 +354,67 @@ answers_none noted prompt a b x p q n notes e same = record {
   taken = subst (λ o. Takes a o []) (sym e) (takes_none a);
   wrote = Appends-nil x;
   notes = notes;
-  law = λ stop more later. ap (λ r. afters r (asks stop Between n (lines_until stop more)) later) (sym same);
+  law = λ stop more later. ap (λ r. answered r (asks stop Between n (lines_until stop more)) later) (sym same);
 }
 
+-- so are the replies to a script
+told_script : (x z : Option (List ℕ)) (script : List ℕ) (shortages : List Shortage)
+    → Appends x z (told_to (answered_with script shortages)) → Appends x z (replies_with script shortages)
+told_script x z script shortages wrote =
+    subst (Appends x z) (sym (replies_told (opening 0) (asks Ended Between 1 (lines_until Ended script)) shortages)) wrote
+
 -- at the end
-all_finished : {V : Type 0} (notes : V → BookState → V → Type 0) (missed : ℕ) (old new : V) (prompt : Bool)
-    (a c x z : Option (List ℕ)) (bytes : List ℕ) (given : List After) (shortages : List Shortage)
-    → AllCausedOver prompt shortages → Consumes a c bytes → Appends x z (texts_of given)
-    → NotesEach notes 0 missed old new (but_bye given)
-    → ((rest : List ℕ) → c ≡ Some rest → afters_with (bytes ++ rest) shortages ≡ given)
-    → IfSome a (NotesScript notes missed prompt x z old new)
-all_finished notes missed old new prompt None c x z bytes given shortages caused taken wrote noted law = tt
-all_finished notes missed old new prompt (Some script) None x z bytes given shortages caused taken wrote noted law =
-    absurd taken
-all_finished notes missed old new prompt (Some script) (Some rest) x z bytes given shortages caused taken wrote noted law =
-    let is : given ≡ afters_with script shortages = sym (ap (λ v. afters_with v shortages) taken ∙ law rest refl) in
+all_finished : {V : Type 0} (notes : V → BookState → V → Type 0) (missed : ℕ) (p q : PostView) (first last : BookState)
+    (old new : V) (a c x z : Option (List ℕ)) (bytes : List ℕ) (given : List Answered) (shortages : List Shortage)
+    → first.plan ≡ opening 0 → AllCausedOver p.is_prompt shortages → Consumes a c bytes → Appends x z (told_to given)
+    → NotesEach notes (moment 0 p first old) (moment missed q last new) (but_bye given)
+    → ((rest : List ℕ) → c ≡ Some rest → answered_with (bytes ++ rest) shortages ≡ given)
+    → IfSome a (NotesScript notes missed p q x z old new)
+all_finished notes missed p q first last old new None c x z bytes given shortages opens caused taken wrote noted law = tt
+all_finished notes missed p q first last old new (Some script) None x z bytes given shortages opens caused taken wrote noted
+    law = absurd taken
+all_finished notes missed p q first last old new (Some script) (Some rest) x z bytes given shortages opens caused taken wrote
+    noted law =
+    let is : given ≡ answered_with script shortages = sym (ap (λ v. answered_with v shortages) taken ∙ law rest refl) in
     record {
       shortages = shortages;
       caused = caused;
-      wrote = subst (λ v. Appends x z (texts_of v)) is wrote;
-      noted = subst (λ v. NotesEach notes 0 missed old new (but_bye v)) is noted;
+      wrote = told_script x z script shortages (subst (λ v. Appends x z (told_to v)) is wrote);
+      first = first;
+      opens = opens;
+      last = last;
+      noted = subst (λ v. NotesEach notes (moment 0 p first old) (moment missed q last new) (but_bye v)) is noted;
     }
 
-pub finishes_all : {V : Type 0} (notes : V → BookState → V → Type 0) (missed : ℕ) (old new : V) (prompt : Bool) (a c : Ahead)
-    (x z : Option (List ℕ)) → Finishes (NotesEach notes 0 missed old new) prompt a c x z (opening 0) 1
-    → IfSome a.bytes (NotesScript notes missed prompt x z old new)
-finishes_all notes missed old new prompt a c x z f =
-    all_finished notes missed old new prompt a.bytes c.bytes x z f.bytes f.given f.shortages f.caused f.taken.consumed
-    f.wrote f.notes f.law
-
 -- whatever was noted
-all_told : (prompt : Bool) (a c x z : Option (List ℕ)) (bytes : List ℕ) (given : List After) (shortages : List Shortage)
-    → AllCausedOver prompt shortages → Consumes a c bytes → Appends x z (texts_of given)
-    → ((rest : List ℕ) → c ≡ Some rest → afters_with (bytes ++ rest) shortages ≡ given)
+all_told : (prompt : Bool) (a c x z : Option (List ℕ)) (bytes : List ℕ) (given : List Answered) (shortages : List Shortage)
+    → AllCausedOver prompt shortages → Consumes a c bytes → Appends x z (told_to given)
+    → ((rest : List ℕ) → c ≡ Some rest → answered_with (bytes ++ rest) shortages ≡ given)
     → IfSome a (AnswersAll prompt x z)
 all_told prompt None c x z bytes given shortages caused taken wrote law = tt
 all_told prompt (Some script) None x z bytes given shortages caused taken wrote law = absurd taken
 all_told prompt (Some script) (Some rest) x z bytes given shortages caused taken wrote law =
-    let is : given ≡ afters_with script shortages = sym (ap (λ v. afters_with v shortages) taken ∙ law rest refl) in
+    let is : given ≡ answered_with script shortages = sym (ap (λ v. answered_with v shortages) taken ∙ law rest refl) in
     record {
       shortages = shortages;
       caused = caused;
-      wrote = subst (λ v. Appends x z (texts_of v)) is wrote;
+      wrote = told_script x z script shortages (subst (λ v. Appends x z (told_to v)) is wrote);
     }
 
-pub finishes_told : (noted : List After → Type 0) (prompt : Bool) (a c : Ahead) (x z : Option (List ℕ))
-    → Finishes noted prompt a c x z (opening 0) 1 → IfSome a.bytes (AnswersAll prompt x z)
-finishes_told noted prompt a c x z f =
-    all_told prompt a.bytes c.bytes x z f.bytes f.given f.shortages f.caused f.taken.consumed f.wrote f.law
-
 -- so its run completes, and what was noted of it is known
-pub completed : {R W V : Type 0} (notes : V → BookState → V → Type 0) (missed : ℕ) (old new : V) (prompt : Bool)
-    (r s : LineReading R) (w x : CountedWriting W)
-    → Finishes (NotesEach notes 0 missed old new) prompt r.ahead s.ahead w.contents x.contents (opening 0) 1
-    → Works r s w x → Completes prompt r s w x × NotesReplies notes missed prompt r w x old new
-completed notes missed old new prompt r s w x f works = (
-  record { answered = finishes_told _ prompt r.ahead s.ahead w.contents x.contents f; works = works },
-  finishes_all notes missed old new prompt r.ahead s.ahead w.contents x.contents f,
+pub completed : {R W V : Type 0} (notes : V → BookState → V → Type 0) (missed : ℕ) (p q : PostView)
+    (first last : BookState) (old new : V) (r s : LineReading R) (w x : CountedWriting W) → first.plan ≡ opening 0
+    → Finishes (NotesEach notes (moment 0 p first old) (moment missed q last new)) p.is_prompt r.ahead s.ahead w.contents
+    x.contents (opening 0) 1
+    → Works r s w x → Completes p.is_prompt r s w x × NotesReplies notes missed p q r w x old new
+completed notes missed p q first last old new r s w x opens f works = (
+  record {
+    answered = all_told p.is_prompt r.ahead.bytes s.ahead.bytes w.contents x.contents f.bytes f.given f.shortages f.caused
+        f.taken.consumed f.wrote f.law;
+    works = works;
+  },
+  all_finished notes missed p q first last old new r.ahead.bytes s.ahead.bytes w.contents x.contents f.bytes f.given
+      f.shortages opens f.caused f.taken.consumed f.wrote f.notes f.law,
 )
 
 front_stopped : (prompt : Bool) (a c x z : Option (List ℕ)) (bytes : List ℕ) (shortages : List Shortage)
@@ -391,69 +435,74 @@ stops_front prompt a c x z f =
     front_stopped prompt a.bytes c.bytes x z f.bytes f.shortages f.caused f.taken.consumed f.law
 
 -- where it stops before the end
-front_noted : {V : Type 0} (notes : V → BookState → V → Type 0) (missed : ℕ) (old last new : V) (prompt : Bool)
-    (a c : Option (List ℕ)) (bytes : List ℕ) (given : List After) (shortages : List Shortage)
-    → AllCausedOver prompt shortages → Consumes a c bytes → NotesEach notes 0 missed old last (but_bye given)
-    → ((rest : List ℕ) → c ≡ Some rest → (later : List After) × (afters_with (bytes ++ rest) shortages ≡ given ++ later)
-    × WatchesNext notes later last new)
-    → IfSome a (NotesFront notes prompt old new)
-front_noted notes missed old last new prompt None c bytes given shortages caused taken noted law = tt
-front_noted notes missed old last new prompt (Some script) None bytes given shortages caused taken noted law = absurd taken
-front_noted notes missed old last new prompt (Some script) (Some rest) bytes given shortages caused taken noted law =
+front_noted : {V : Type 0} (notes : V → BookState → V → Type 0) (p q : PostView) (first : BookState) (old new : V)
+    (last : Moment V) (a c : Option (List ℕ)) (bytes : List ℕ) (given : List Answered) (shortages : List Shortage)
+    → first.plan ≡ opening 0 → AllCausedOver p.is_prompt shortages → Consumes a c bytes
+    → NotesEach notes (moment 0 p first old) last (but_bye given)
+    → ((rest : List ℕ) → c ≡ Some rest
+    → (later : List Answered) × (answered_with (bytes ++ rest) shortages ≡ given ++ later)
+    × WatchesNext notes last later q new)
+    → IfSome a (NotesFront notes p q old new)
+front_noted notes p q first old new last None c bytes given shortages opens caused taken noted law = tt
+front_noted notes p q first old new last (Some script) None bytes given shortages opens caused taken noted law = absurd taken
+front_noted notes p q first old new last (Some script) (Some rest) bytes given shortages opens caused taken noted law =
     let so = law rest refl in record {
       shortages = shortages;
       caused = caused;
       given = given;
       later = so.0;
-      front = subst (λ v. afters_with v shortages ≡ given ++ so.0) (sym taken) so.1;
-      missed = missed;
+      front = subst (λ v. answered_with v shortages ≡ given ++ so.0) (sym taken) so.1;
+      first = first;
+      opens = opens;
       last = last;
       noted = noted;
       unanswered = so.2;
     }
 
-pub begun : {V : Type 0} (notes : V → BookState → V → Type 0) (missed : ℕ) (old new : V) (prompt : Bool) (a c : Ahead)
-    (x y : Option (List ℕ)) (q : Plan) (m : ℕ)
-    → Answers (NotesEach notes 0 missed old new) prompt a c x y (opening 0) q 1 m
-    → IfSome a.bytes (NotesFront notes prompt old new)
-begun notes missed old new prompt a c x y q m f =
-    front_noted notes missed old new new prompt a.bytes c.bytes f.bytes f.given (f.shortages ++ [])
+pub begun : {V : Type 0} (notes : V → BookState → V → Type 0) (p : PostView) (first : BookState) (old : V)
+    (last : Moment V) (a c : Ahead) (x y : Option (List ℕ)) (m : ℕ) → first.plan ≡ opening 0
+    → Answers (NotesEach notes (moment 0 p first old) last) p.is_prompt a c x y (opening 0) last.desk.plan 1 m
+    → IfSome a.bytes (NotesFront notes p last.post old last.seen)
+begun notes p first old last a c x y m opens f =
+    front_noted notes p last.post first old last.seen last a.bytes c.bytes f.bytes f.given (f.shortages ++ []) opens
     (λ e. caused-append f.shortages [] (f.caused e) tt) f.taken.consumed f.notes
-    (λ rest _. let later = afters q (asks Ended Between m (lines_until Ended rest)) [] in
-    (later, f.law Ended rest [], unwatched_next notes later new))
+    (λ rest _. let later = answered last.desk.plan (asks Ended Between m (lines_until Ended rest)) [] in
+    (later, f.law Ended rest [], unwatched_next notes last later))
 
 -- and the next reply wasn't written, while whose answer was computed desks were looked at
-pub begun_watched : {V : Type 0} (notes : V → BookState → V → Type 0) (missed : ℕ) (old last new : V) (prompt : Bool)
-    (a b c : Ahead) (x y : Option (List ℕ)) (heard : Option Request) (is_last : Bool) (j k : BookState) (n m : ℕ)
-    (r : Reply) → Answers (NotesEach notes 0 missed old last) prompt a b x y (opening 0) j.plan 1 n
-    → (h : Hears b c Between heard is_last n m) → Served prompt r h.asked j k → IsWatched notes k.plan last new
-    → IfSome a.bytes (NotesFront notes prompt old new)
-begun_watched notes missed old last new prompt a b c x y heard is_last j k n m r f h s watched =
-    front_noted notes missed old last new prompt a.bytes c.bytes (f.bytes ++ h.bytes) f.given (f.shortages ++ s.2.0 ∷ [])
+pub begun_watched : {V : Type 0} (notes : V → BookState → V → Type 0) (p q : PostView) (first k : BookState) (old new : V)
+    (last : Moment V) (a b c : Ahead) (x y : Option (List ℕ)) (heard : Option Request) (is_last : Bool) (n m : ℕ)
+    (request : Request) (r : Reply) → first.plan ≡ opening 0
+    → Answers (NotesEach notes (moment 0 p first old) last) p.is_prompt a b x y (opening 0) last.desk.plan 1 n
+    → (h : Hears b c Between heard is_last n m) → (s : Served p.is_prompt request r h.asked last.desk k)
+    → WatchesReply notes s.0 r last.post q last.desk k last.seen new → IfSome a.bytes (NotesFront notes p q old new)
+begun_watched notes p q first k old new last a b c x y heard is_last n m request r opens f h s watched =
+    front_noted notes p q first old new last a.bytes c.bytes (f.bytes ++ h.bytes) f.given (f.shortages ++ s.2.0 ∷ []) opens
     (λ e. caused-append f.shortages (s.2.0 ∷ []) (f.caused e) (s.2.1 e, tt))
     (takes_then a b c f.bytes h.bytes f.taken h.taken).consumed f.notes
     (λ rest e. (
-      after_of k r ∷ cond (ends r) [] (afters k.plan (asks Ended Between m (lines_until Ended rest)) []),
-      ap (λ v. afters (opening 0) (asks Ended Between 1 (lines_until Ended v)) (f.shortages ++ s.2.0 ∷ []))
+      one_of s.0 k r ∷ cond (ends r) [] (answered k.plan (asks Ended Between m (lines_until Ended rest)) []),
+      ap (λ v. answered (opening 0) (asks Ended Between 1 (lines_until Ended v)) (f.shortages ++ s.2.0 ∷ []))
           (append_assoc f.bytes h.bytes rest)
           ∙ f.law Ended (h.bytes ++ rest) (s.2.0 ∷ [])
-          ∙ ap (λ v. f.given ++ v) (afters_from prompt b c heard is_last j k n m r h s Ended rest []
+          ∙ ap (λ v. f.given ++ v) (afters_from p.is_prompt b c heard is_last last.desk k n m request r h s Ended rest []
           (follows_nothing is_last c.bytes rest h.at_end e)),
-      watched,
+      inr (record { reply = r; desk = k; gives = refl; watched = watched }),
     ))
 
 -- where nothing was read
-pub none_begun : {V : Type 0} (notes : V → BookState → V → Type 0) (v : V) (prompt : Bool) (bytes : Option (List ℕ))
-    → IfSome bytes (NotesFront notes prompt v v)
-none_begun notes v prompt None = tt
-none_begun notes v prompt (Some script) = record {
+pub none_begun : {V : Type 0} (notes : V → BookState → V → Type 0) (p : PostView) (first : BookState) (v : V)
+    (bytes : Option (List ℕ)) → first.plan ≡ opening 0 → IfSome bytes (NotesFront notes p p v v)
+none_begun notes p first v None opens = tt
+none_begun notes p first v (Some script) opens = record {
   shortages = [];
   caused = λ _. tt;
   given = [];
-  later = afters_with script [];
+  later = answered_with script [];
   front = refl;
-  missed = 0;
-  last = v;
-  noted = (refl, refl);
-  unanswered = unwatched_next notes (afters_with script []) v;
+  first = first;
+  opens = opens;
+  last = moment 0 p first v;
+  noted = refl;
+  unanswered = unwatched_next notes (moment 0 p first v) (answered_with script []);
 }

@@ -78,7 +78,8 @@ Serves prompt request reply old new =
     (ask : Ask) → AsksFor request ask
     → GivesBy prompt (λ short. answer short old.plan ask) reply new
 
--- the reply to what was asked
-abbrev pub Served : Bool → Reply → List Ask → BookState → BookState → Type 0
-Served prompt reply asked old new =
-    (ask : Ask) × (asked ≡ ask ∷ []) × GivesBy prompt (λ short. answer short old.plan ask) reply new
+-- the reply to what was asked by this request
+abbrev pub Served : Bool → Request → Reply → List Ask → BookState → BookState → Type 0
+Served prompt request reply asked old new =
+    (ask : Ask) × (asked ≡ ask ∷ [])
+    × GivesBy prompt (λ short. answer short old.plan ask) reply new × AsksFor request ask

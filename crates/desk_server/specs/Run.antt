@@ -6,39 +6,38 @@ use Rattle.text_lines.specs.Lines.{End, Ended, Broken, lines_until}
 use Rattle.script_lines.specs.Faults.{AppendsFront}
 use Rattle.schedule.specs.Plan.{Plan}
 use Rattle.desk_server.specs.Shortage.{Shortage, AllCausedOver}
-use Rattle.desk_server.specs.Answer.{After}
-use Rattle.desk_server.specs.Script.{asks, Between, afters, but_bye, texts_of}
+use Rattle.desk_server.specs.Script.{asks, Between, Answered, answered, but_bye, told_to}
 use Rattle.desk_server.specs.Script.{replies_to, replies_by, replies_with}
 
 -- something was heard and answered: whatever follows, the answers are those that were given, which
 -- were written, and then those to what follows; and `noted` holds of those but `bye`
-pub record Answers (noted : List After → Type 0) (prompt : Bool) (old new : Ahead)
+pub record Answers (noted : List Answered → Type 0) (prompt : Bool) (old new : Ahead)
     (before after : Option (List ℕ)) (p q : Plan) (n m : ℕ)
     : Type 0 where
   pub bytes : List ℕ
   pub shortages : List Shortage
   pub caused : AllCausedOver prompt shortages
-  pub given : List After
+  pub given : List Answered
   pub taken : Takes old new bytes
-  pub wrote : Appends before after (texts_of given)
+  pub wrote : Appends before after (told_to given)
   pub notes : noted (but_bye given)
   pub law : (stop : End) (more : List ℕ) (later : List Shortage)
-      → afters p (asks stop Between n (lines_until stop (bytes ++ more))) (shortages ++ later)
-      ≡ given ++ afters q (asks stop Between m (lines_until stop more)) later
+      → answered p (asks stop Between n (lines_until stop (bytes ++ more))) (shortages ++ later)
+      ≡ given ++ answered q (asks stop Between m (lines_until stop more)) later
 
 -- the script was answered to its end, and `noted` holds of the answers but `bye`
-pub record Finishes (noted : List After → Type 0) (prompt : Bool) (old new : Ahead)
+pub record Finishes (noted : List Answered → Type 0) (prompt : Bool) (old new : Ahead)
     (before after : Option (List ℕ)) (p : Plan) (n : ℕ)
     : Type 0 where
   pub bytes : List ℕ
   pub shortages : List Shortage
   pub caused : AllCausedOver prompt shortages
   pub taken : Takes old new bytes
-  pub given : List After
-  pub wrote : Appends before after (texts_of given)
+  pub given : List Answered
+  pub wrote : Appends before after (told_to given)
   pub notes : noted (but_bye given)
   pub law : (rest : List ℕ) → new.bytes ≡ Some rest
-      → afters p (asks Ended Between n (lines_until Ended (bytes ++ rest))) shortages ≡ given
+      → answered p (asks Ended Between n (lines_until Ended (bytes ++ rest))) shortages ≡ given
 
 -- of the replies a beginning was written
 pub record StopsTelling (prompt : Bool) (old new : Ahead) (before after : Option (List ℕ))

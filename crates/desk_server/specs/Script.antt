@@ -1,5 +1,5 @@
 -- The replies to a script.
-use Rattle.std.specs.Prelude.{ℕ, ◌+◌, List, [], ◌∷◌, ◌++◌, Option, None, Some, flat_map, if◌then◌else◌}
+use Rattle.std.specs.Prelude.{ℕ, ◌+◌, List, [], ◌∷◌, ◌++◌, Option, None, Some, flat_map, zip, if◌then◌else◌}
 use Rattle.text_lines.specs.Lines.{End, Ended, Broken, Line, lines_until}
 use Rattle.script_lines.specs.ScriptLine.{is_passed_over, is_end}
 use Rattle.schedule.specs.Plan.{Plan, opening}
@@ -70,16 +70,27 @@ document_after after = if after.ends then [] else after.plan ∷ []
 abbrev pub documents_of : List After → List Plan
 documents_of = flat_map document_after
 
--- the answers, without the one that ends the script
-abbrev pub unless_bye : After → List After
-unless_bye after = if after.ends then [] else after ∷ []
+-- what was asked, with what was replied to it
+abbrev pub Answered : Type 0
+Answered = Ask × After
 
-abbrev pub but_bye : List After → List After
+-- each that was answered at the desk with this document
+abbrev pub answered : Plan → List Ask → List Shortage → List Answered
+answered p asked shortages = zip asked (afters p asked shortages)
+
+-- without the one that ends the script
+abbrev pub unless_bye : Answered → List Answered
+unless_bye one = if one.1.ends then [] else one ∷ []
+
+abbrev pub but_bye : List Answered → List Answered
 but_bye = flat_map unless_bye
 
 -- the texts of replies
 abbrev pub texts_of : List After → List ℕ
 texts_of = flat_map (λ (after : After). after.told)
+
+abbrev pub told_to : List Answered → List ℕ
+told_to = flat_map (λ (one : Answered). one.1.told)
 
 -- the replies to all
 abbrev pub replies_to : Plan → List Ask → List Shortage → List ℕ
@@ -98,6 +109,11 @@ replies_with = replies_by Ended
 abbrev pub afters_with : List ℕ → List Shortage → List After
 afters_with script shortages =
     afters (opening 0) (asks Ended Between 1 (lines_until Ended script)) shortages
+
+-- each command of a script that was answered, with what was replied to it
+abbrev pub answered_with : List ℕ → List Shortage → List Answered
+answered_with script shortages =
+    answered (opening 0) (asks Ended Between 1 (lines_until Ended script)) shortages
 
 -- the document after each reply to a script but `bye`, in order
 abbrev pub documents_with : List ℕ → List Shortage → List Plan

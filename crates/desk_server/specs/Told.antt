@@ -54,6 +54,11 @@ abbrev pub ends : Reply → Bool
 ends reply.Bye = true
 ends _ = false
 
+-- something was refused
+abbrev pub IsRefused : Reply → Type 0
+IsRefused (reply.Refused number name place) = ⊤
+IsRefused _ = ⊥
+
 -- the text of each bookmark is known
 abbrev pub AllKnown : BookState → Type 0
 AllKnown d = AllByRecursion (λ (row : Bookmark × Option (List ℕ)). IsSome row.1) (shown_rows d)

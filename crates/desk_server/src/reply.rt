@@ -6,7 +6,7 @@ ghost use Rattle.std.specs.Option.{option_map_or};
 ghost use Rattle.desk_core.specs.Cause.{cause_number};
 ghost use Rattle.desk_server.specs.Faults.{fault_of};
 ghost use Rattle.desk_server.specs.Reply.{accepted_text, polled_text, refused_text, unsettled_text};
-ghost use Rattle.desk_server.specs.Told.{TellsPending, reply_text, ends};
+ghost use Rattle.desk_server.specs.Told.{IsRefused, TellsPending, reply_text, ends};
 
 use crate::listing::tell_list;
 use crate::part::{Part, tell_parts};
@@ -60,6 +60,7 @@ pub(crate) fn refused<F: Refusal>(fault: &F) -> Reply
         (fault_of (F.number_of fault.now) (F.name_of fault.now) (F.place_of fault.now)) }
     ensures goes_on { ends result ≡ false }
     ensures pending { (known : BookState) → TellsPending result known }
+    ensures is { IsRefused result }
 {
     Reply::Refused {
         number: fault.number(),

@@ -1,16 +1,18 @@
 //! What the desk does when something is asked.
-ghost use Rattle.std.specs.Prelude.{◌≡◌, IfNone, true};
+ghost use Rattle.std.specs.Prelude.{◌≡◌, IfNone, false, true};
 ghost use Rattle.std.specs.Arc.{arc_value};
 ghost use Rattle.schedule.specs.Asked.{asked_of};
 ghost use Rattle.dependency_book.specs.BookState.{NothingOut, pending_of};
 ghost use Rattle.dependency_book.specs.Shown.{IsPending};
+ghost use Rattle.desk_core.specs.Looks.{LooksOn};
+ghost use Rattle.desk_server.specs.Answer.{Ask, Obey};
 ghost use Rattle.desk_server.specs.Answer.{edited, id_word, obeyed, polled, settled, started, taken};
-ghost use Rattle.desk_server.specs.Heard.{GivesBy, GivesOrLacks, Serves};
+ghost use Rattle.desk_server.specs.Heard.{AsksFor, GivesBy, GivesOrLacks, Serves};
 ghost use Rattle.desk_server.specs.Jobs.{Carries, CarriesOn, DropsJobs};
 ghost use Rattle.desk_core.specs.Settling.{TellsCause};
 ghost use Rattle.desk_server.specs.Jobs.{IsDoneWith, KeepsCauses};
-ghost use Rattle.desk_server.specs.Told.{LeavesOver, PollsBy, TakesAnswers, TellsPending};
-ghost use Rattle.desk_server.specs.Watch.{IsWatched, WatchesReply};
+ghost use Rattle.desk_server.specs.Told.{LeavesOver, PollsBy, TakesAnswers, TellsPending, ends};
+ghost use Rattle.desk_server.specs.Watch.{WatchesReply};
 
 use crate::bell::Bell;
 use crate::command::Command;
@@ -175,7 +177,8 @@ fn compute<P: Post, O: Onlooker>(
     ensures explained { TellsCause (P.view post.old) (P.view post.new) desk.old desk.new result }
     ensures given_up { IsDoneWith desk.new }
     ensures post { CarriesOn (P.view post.old) (P.view post.new) desk.new }
-    ensures looked { IsWatched O.sees desk.new.plan onlooker.old onlooker.new }
+    ensures looked { LooksOn O.sees (P.view post.old) (P.view post.new) desk.old
+        onlooker.old onlooker.new }
 {
     match settle_seen(rt, desk, post, TURNS, onlooker) {
         Settling::Settled => None,
@@ -199,7 +202,8 @@ fn settle<P: Post, O: Onlooker>(
     ensures leaves { LeavesOver (P.view post.old) (P.view post.new) result desk.old desk.new }
     ensures post { CarriesOn (P.view post.old) (P.view post.new) desk.new }
     ensures pending { TellsPending result desk.new }
-    ensures looked { WatchesReply O.sees result desk.new.plan onlooker.old onlooker.new }
+    ensures looked { WatchesReply O.sees (Obey Command.Settle) result (P.view post.old)
+        (P.view post.new) desk.old desk.new onlooker.old onlooker.new }
 {
     bell.waits();
     let cause = compute(rt, desk, post, onlooker);
@@ -218,6 +222,7 @@ fn work<P: Post>(rt: &impl Wait, desk: &mut Desk<'_>, post: &mut P) -> Reply
     ensures silent { (P.view post.new).answers ≡ (P.view post.old).answers }
     ensures post { CarriesOn (P.view post.old) (P.view post.new) desk.new }
     ensures pending { TellsPending result desk.new }
+    ensures goes_on { ends result ≡ false }
 {
     desk_core::feed(rt, desk, post);
     Reply::Working
@@ -238,8 +243,9 @@ fn show<P: Post, O: Onlooker>(
     ensures at_once { ¬ IsPending desk.old id → (desk.new ≡ desk.old) × (post.new ≡ post.old) }
     ensures leaves { LeavesOver (P.view post.old) (P.view post.new) result desk.old desk.new }
     ensures post { CarriesOn (P.view post.old) (P.view post.new) desk.new }
-    ensures pending { TellsPending result desk.new }
-    ensures looked { WatchesReply O.sees result desk.new.plan onlooker.old onlooker.new }
+    ensures is { result ≡ Reply.Shown id }
+    ensures looked { WatchesReply O.sees (Obey (Command.Show id)) result (P.view post.old)
+        (P.view post.new) desk.old desk.new onlooker.old onlooker.new }
 {
     if desk.shown(id) != Shown::Pending {
         return Reply::Shown { id };
@@ -305,7 +311,8 @@ fn obey<P: Post, O: Onlooker>(
         → LeavesOver (P.view post.old) (P.view post.new) result desk.old desk.new }
     ensures post { CarriesOn (P.view post.old) (P.view post.new) desk.new }
     ensures pending { TellsPending result desk.new }
-    ensures looked { WatchesReply O.sees result desk.new.plan onlooker.old onlooker.new }
+    ensures looked { WatchesReply O.sees (Obey command) result (P.view post.old)
+        (P.view post.new) desk.old desk.new onlooker.old onlooker.new }
 {
     match command {
         Command::Edit(change) => edit(desk, &change),
@@ -321,7 +328,6 @@ fn obey<P: Post, O: Onlooker>(
 
 /// Does what a request asks, and gives the reply. What has to be computed goes over the post, while
 /// the desk is looked at and the bell rings.
-#[tactic(auto, using(crate::proofs::Noted::unwatched_reply))]
 pub(crate) fn serve<P: Post, O: Onlooker>(
     rt: &impl Wait,
     alloc: Global,
@@ -338,7 +344,8 @@ pub(crate) fn serve<P: Post, O: Onlooker>(
         → LeavesOver (P.view post.old) (P.view post.new) result desk.old desk.new }
     ensures post { CarriesOn (P.view post.old) (P.view post.new) desk.new }
     ensures pending { TellsPending result desk.new }
-    ensures looked { WatchesReply O.sees result desk.new.plan onlooker.old onlooker.new }
+    ensures looked { (ask : Ask) → AsksFor request ask → WatchesReply O.sees ask result (P.view post.old)
+        (P.view post.new) desk.old desk.new onlooker.old onlooker.new }
 {
     match request {
         Request::Obey(command) => obey(rt, desk, post, command, onlooker, bell),

@@ -52,7 +52,7 @@ fn answer_commands<R: Read, W: Write, L: Ledger, M: Ledger, P: Post, O: Onlooker
     requires carries { Carries (P.view post.old) desk.old }
     ensures done { OnOk result
         (Completes (P.view post.old).is_prompt reader.old reader.new writer.old writer.new) }
-    ensures noted { NotesRun O.sees result (P.view post.old).is_prompt
+    ensures noted { NotesRun O.sees result (P.view post.old) (P.view post.new)
         reader.old writer.old writer.new onlooker.old onlooker.new }
     ensures read { result ≡ Err Device.Reader → ReadStops R.remaining (P.view post.old).is_prompt
         reader.old reader.new writer.old writer.new }
@@ -83,48 +83,6 @@ fn answer_commands<R: Read, W: Write, L: Ledger, M: Ledger, P: Post, O: Onlooker
         if last {
             return Ok(missed);
         }
-    }
-}
-
-// `run`, while somebody looks on. Ok says how often the desk was passed over.
-fn answer_all<R: Read, W: Write, L: Ledger, M: Ledger, P: Post, O: Onlooker>(
-    rt: &impl Wait,
-    alloc: Global,
-    entries: &Entries,
-    facts: u32,
-    reader: &mut CountedReader<R, L>,
-    writer: &mut CountedWriter<W, M>,
-    post: &mut P,
-    onlooker: &mut O,
-    bell: &mut impl Bell,
-) -> Result<u64, RunFault>
-    requires { IsFresh (P.view post.old) entries.now }
-    ensures done { OnOk result
-        (Completes (P.view post.old).is_prompt reader.old reader.new writer.old writer.new) }
-    ensures noted { NotesRun O.sees result (P.view post.old).is_prompt
-        reader.old writer.old writer.new onlooker.old onlooker.new }
-    ensures read { result ≡ Err RunFault.Read → ReadStops R.remaining (P.view post.old).is_prompt
-        reader.old reader.new writer.old writer.new }
-    ensures write { result ≡ Err RunFault.Write
-        → WriteStops (P.view post.old).is_prompt reader.old writer.old writer.new }
-    ensures no_memory { result ≡ Err RunFault.NoMemory
-        → (reader.new ≡ reader.old) × (writer.new ≡ writer.old) }
-{
-    let Ok(mut desk) = Desk::open(alloc, entries, facts) else {
-        return Err(RunFault::NoMemory);
-    };
-    let Ok(mut line) = KeptLine::new(alloc) else {
-        return Err(RunFault::NoMemory);
-    };
-    let answered = answer_commands(
-        rt, alloc, reader, writer, &mut line, &mut desk, post, onlooker, bell,
-    );
-    // Nobody takes the answers of the jobs that are out.
-    desk.stop_all();
-    match answered {
-        Ok(missed) => Ok(missed),
-        Err(Device::Reader) => Err(RunFault::Read),
-        Err(Device::Writer) => Err(RunFault::Write),
     }
 }
 
@@ -164,7 +122,7 @@ pub fn run<R: Read, W: Write, L: Ledger, M: Ledger, P: Post>(
     ensures no_memory { result ≡ Err RunFault.NoMemory
         → (reader.new ≡ reader.old) × (writer.new ≡ writer.old) }
 {
-    match answer_all(
+    match run_seen(
         rt,
         alloc,
         entries,
@@ -205,11 +163,13 @@ pub fn run_seen<R: Read, W: Write, L: Ledger, M: Ledger, P: Post, O: Onlooker>(
     ensures done { OnOk result
         (Completes (P.view post.old).is_prompt reader.old reader.new writer.old writer.new) }
 
-    // For each of these replies but `bye`, in order, desks with the document that it leaves were
-    // looked at, and then the one that gave it: it was seen, or it wasn't, and so often it wasn't;
-    // 2^64 - 1 may stand for more. So it was for a beginning of the replies where the run stopped
-    // before the script's end. What a publisher sees is put behind its board's history (`ShowsNext`).
-    ensures shown { NotesRun O.sees result (P.view post.old).is_prompt
+    // For each of these replies but `bye`, in order, the desk that gave it was looked at: it was
+    // seen, or it wasn't, and so often it wasn't; 2^64 - 1 may stand for more. Before that desks with
+    // the reply's document were looked at only for a settling or for a show of a pending bookmark:
+    // one, and one more for each answer that the post gave for it. So it was for a beginning of the
+    // replies where the run stopped before the script's end. What a publisher sees is put behind its
+    // board's history (`ShowsNext`).
+    ensures shown { NotesRun O.sees result (P.view post.old) (P.view post.new)
         reader.old writer.old writer.new onlooker.old onlooker.new }
 
     // Where a read failed, or 2^64 - 1 bytes came, all that was read was taken, and the commands
@@ -225,7 +185,20 @@ pub fn run_seen<R: Read, W: Write, L: Ledger, M: Ledger, P: Post, O: Onlooker>(
     ensures no_memory { result ≡ Err RunFault.NoMemory
         → (reader.new ≡ reader.old) × (writer.new ≡ writer.old) }
 {
-    answer_all(
-        rt, alloc, entries, facts, reader, writer, post, onlooker, bell,
-    )
+    let Ok(mut desk) = Desk::open(alloc, entries, facts) else {
+        return Err(RunFault::NoMemory);
+    };
+    let Ok(mut line) = KeptLine::new(alloc) else {
+        return Err(RunFault::NoMemory);
+    };
+    let answered = answer_commands(
+        rt, alloc, reader, writer, &mut line, &mut desk, post, onlooker, bell,
+    );
+    // Nobody takes the answers of the jobs that are out.
+    desk.stop_all();
+    match answered {
+        Ok(missed) => Ok(missed),
+        Err(Device::Reader) => Err(RunFault::Read),
+        Err(Device::Writer) => Err(RunFault::Write),
+    }
 }

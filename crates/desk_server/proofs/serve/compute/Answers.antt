@@ -1,6 +1,5 @@
-use Rattle.std.proofs.Common.{inl, ◌∙◌}
+use Rattle.std.proofs.Common.{inl}
 use Rattle.desk_server.proofs.Jobs.{carries_served, carries_on, causes_kept, none_untold, why_explained, why_stopped}
-use Rattle.desk_server.proofs.Noted.{watched_settling}
 use Rattle.desk_server.proofs.serve.compute.Goals as goal
 
 pub returns-in-Settled-clause-post : goal.returns-in-Settled-clause-post
@@ -39,15 +38,3 @@ returns-in-Unsettled-clause-caused g c = λ prompt.
     none_untold c.in-Unsettled.cause _
     (c.in-Unsettled.ensures.caused (record { prompt = prompt; held = c.requires.out prompt })
     c.settle_seen.ensures.settles.enough)
-
-pub returns-in-Settled-clause-looked : goal.returns-in-Settled-clause-looked
-returns-in-Settled-clause-looked g c =
-    watched_settling g.O.Onlooker.sees (g.P.Post.view c.args.post.now) (g.P.Post.view c.settle_seen.new.post)
-    c.args.desk.now c.settle_seen.new.desk.plan c.args.onlooker.now c.settle_seen.new.onlooker
-    c.settle_seen.ensures.settles.keeps.plan c.settle_seen.ensures.looked
-
-pub returns-in-Unsettled-clause-looked : goal.returns-in-Unsettled-clause-looked
-returns-in-Unsettled-clause-looked g c =
-    watched_settling g.O.Onlooker.sees (g.P.Post.view c.args.post.now) (g.P.Post.view c.settle_seen.new.post)
-    c.args.desk.now c.give_up.new.desk.plan c.args.onlooker.now c.settle_seen.new.onlooker
-    (c.give_up.ensures.plan ∙ c.settle_seen.ensures.settles.keeps.plan) c.settle_seen.ensures.looked

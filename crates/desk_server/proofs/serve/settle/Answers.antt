@@ -1,8 +1,10 @@
 use Rattle.std.proofs.Common.{◌≢◌, refl, rules}
 use Rattle.desk_server.specs.Shortage.{NoShortage}
 use Rattle.desk_server.proofs.Jobs.{nothing_out}
+use Rattle.desk_server.specs.Answer.{Obey}
+use Rattle.desk_server.specs.declared.command.Command.TheVariants.{Settle}
 use Rattle.desk_server.specs.declared.reply.Reply.TheVariants.{Settled, Unsettled}
-use Rattle.desk_server.proofs.Noted.{watched_reply}
+use Rattle.desk_server.proofs.Noted.{draws_more, watched}
 use Rattle.desk_server.proofs.Pictured.{all_known}
 use Rattle.desk_server.proofs.Replies.{gives-unsettled}
 use Rattle.desk_server.proofs.serve.settle.Goals as goal
@@ -42,10 +44,17 @@ returns-in-0-clause-pending g c = all_known c.compute-cause.new.desk c.pending.e
 
 pub returns-in-0-clause-looked : goal.returns-in-0-clause-looked
 returns-in-0-clause-looked g c =
-    watched_reply g.O.Onlooker.sees Settled c.compute-cause.new.desk.plan c.args.onlooker.now c.compute-cause.new.onlooker
-    refl c.compute-cause.ensures.looked
+    let told = c.compute-cause.ensures.explained in
+    watched g.O.Onlooker.sees (Obey Settle) Settled (g.P.Post.view c.args.post.now) (g.P.Post.view c.compute-cause.new.post)
+    c.args.desk.now c.compute-cause.new.desk c.args.onlooker.now c.compute-cause.new.onlooker
+    (draws_more (Obey Settle) c.args.desk.now _ _ told.later tt told.gave) tt c.compute-cause.ensures.plan
+    c.compute-cause.ensures.looked refl
 
 pub returns-in_default-clause-looked : goal.returns-in_default-clause-looked
 returns-in_default-clause-looked g c =
-    watched_reply g.O.Onlooker.sees (Unsettled c.pending.result c.compute-cause.result) c.compute-cause.new.desk.plan
-    c.args.onlooker.now c.compute-cause.new.onlooker refl c.compute-cause.ensures.looked
+    let told = c.compute-cause.ensures.explained in
+    watched g.O.Onlooker.sees (Obey Settle) (Unsettled c.pending.result c.compute-cause.result)
+    (g.P.Post.view c.args.post.now) (g.P.Post.view c.compute-cause.new.post)
+    c.args.desk.now c.compute-cause.new.desk c.args.onlooker.now c.compute-cause.new.onlooker
+    (draws_more (Obey Settle) c.args.desk.now _ _ told.later tt told.gave) tt c.compute-cause.ensures.plan
+    c.compute-cause.ensures.looked refl

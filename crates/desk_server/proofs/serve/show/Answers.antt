@@ -1,7 +1,10 @@
 use Rattle.std.proofs.Common.{◌≢◌, [], refl, sym, append-nil, rules}
 use Rattle.dependency_book.specs.declared.shown.Shown.TheVariants.{Pending}
+use Rattle.dependency_book.specs.Shown.{IsPending}
+use Rattle.desk_server.specs.Answer.{Obey}
+use Rattle.desk_server.specs.declared.command.Command.TheVariants.{Show}
 use Rattle.desk_server.specs.declared.reply.Reply.TheVariants.{Shown}
-use Rattle.desk_server.proofs.Noted.{unwatched_reply, watched_reply}
+use Rattle.desk_server.proofs.Noted.{draws_more, draws_none, unwatched, watched}
 use Rattle.desk_server.proofs.Replies.{gives-shown, not_pending}
 use Rattle.desk_server.proofs.serve.show.Goals as goal
 
@@ -31,9 +34,18 @@ returns-then-ne-clause-leaves g c =
 
 pub returns-clause-looked : goal.returns-clause-looked
 returns-clause-looked g c =
-    watched_reply g.O.Onlooker.sees (Shown c.args.id) c.compute.new.desk.plan c.args.onlooker.now c.compute.new.onlooker refl
-    c.compute.ensures.looked
+    let told = c.compute.ensures.explained in
+    let pending : IsPending c.args.desk.now c.args.id = search rules in
+    watched g.O.Onlooker.sees (Obey (Show c.args.id)) (Shown c.args.id) (g.P.Post.view c.args.post.now)
+    (g.P.Post.view c.compute.new.post) c.args.desk.now c.compute.new.desk c.args.onlooker.now c.compute.new.onlooker
+    (draws_more (Obey (Show c.args.id)) c.args.desk.now _ _ told.later pending told.gave) pending c.compute.ensures.plan
+    c.compute.ensures.looked refl
 
 pub returns-then-ne-clause-looked : goal.returns-then-ne-clause-looked
 returns-then-ne-clause-looked g c =
-    unwatched_reply g.O.Onlooker.sees (Shown c.args.id) c.args.desk.now.plan c.args.onlooker.now
+    let other : c.shown.result ≢ Pending = search rules in
+    unwatched g.O.Onlooker.sees (Obey (Show c.args.id)) (Shown c.args.id) (g.P.Post.view c.args.post.now)
+    (g.P.Post.view c.args.post.now) c.args.desk.now c.args.desk.now c.args.onlooker.now
+    (draws_none (Obey (Show c.args.id)) c.args.desk.now _ _ refl)
+    (λ pending. absurd (not_pending c.args.desk.now c.args.id c.shown.result c.shown.ensures other pending))
+    (λ _. refl)

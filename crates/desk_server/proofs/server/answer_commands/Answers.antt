@@ -4,6 +4,7 @@ use Rattle.script_lines.specs.Input.{FailsOrFull}
 use Rattle.script_lines.proofs.Shared.Told.{wrote_is_err, wrote_is_ok}
 use Rattle.desk_server.specs.Ending.{Works}
 use Rattle.desk_server.specs.Told.{ends}
+use Rattle.desk_server.specs.Watch.{moment}
 use Rattle.desk_server.specs.declared.reply.Reply.TheVariants as reply
 use Rattle.desk_server.proofs.Jobs.{carries_further}
 use Rattle.desk_server.proofs.Noted.{notes_join, notes_none, notes_one, notes_same}
@@ -13,24 +14,29 @@ use Rattle.desk_server.proofs.server.answer_commands.Goals as goal
 pub script-init : goal.script-init
 script-init g c = rw c.begin.ensures (record {
   answered = answers_none _ (g.P.Post.view c.args.post.now).is_prompt _ _ _ (opening 0) c.args.desk.now.plan 1
-      (notes_none g.O.Onlooker.sees 0 c.args.onlooker.now) refl c.requires.opening;
+      (notes_none g.O.Onlooker.sees (moment 0 (g.P.Post.view c.args.post.now) c.args.desk.now c.args.onlooker.now)) refl
+      c.requires.opening;
   post = record { limit = refl; kind = refl; carries = c.requires.carries };
   works = record { reads = refl; writes = refl; flushed = λ h. h };
 })
 
 pub returns-in_default-clause-noted : goal.returns-in_default-clause-noted
-returns-in_default-clause-noted g c = begun g.O.Onlooker.sees _ _ _ _ _ _ _ _ _ _ c.script.invariant.answered
+returns-in_default-clause-noted g c =
+    begun g.O.Onlooker.sees (g.P.Post.view c.args.post.now) c.args.desk.now c.args.onlooker.now
+    (moment c.script.missed (g.P.Post.view c.script.post) c.script.desk c.script.onlooker) _ _ _ _ _ c.requires.opening
+    c.script.invariant.answered
 
 pub returns-then-is_err-clause-noted : goal.returns-then-is_err-clause-noted
 returns-then-is_err-clause-noted g c =
     let h = c.script.invariant in
     let prompt = (g.P.Post.view c.args.post.now).is_prompt in
     let heard = c.in-Ok.ensures.heard in
-    begun_watched g.O.Onlooker.sees _ _ _ _ prompt _ _ _ _ _ _ _ c.script.desk c.serve-reply.new.desk _ _
-    c.serve-reply.result h.answered heard
-    (served prompt c.in-Ok.heard.request c.in-Some.request heard.asked c.script.desk c.serve-reply.new.desk
-    c.serve-reply.result c.in-Some.is heard.is (rw h.post.kind at c.serve-reply.ensures.answer))
-    c.serve-reply.ensures.looked.watched
+    let s = served prompt c.in-Ok.heard.request c.in-Some.request heard.asked c.script.desk c.serve-reply.new.desk
+    c.serve-reply.result c.in-Some.is heard.is (rw h.post.kind at c.serve-reply.ensures.answer) in
+    begun_watched g.O.Onlooker.sees (g.P.Post.view c.args.post.now) (g.P.Post.view c.serve-reply.new.post) c.args.desk.now
+    c.serve-reply.new.desk c.args.onlooker.now c.serve-reply.new.onlooker
+    (moment c.script.missed (g.P.Post.view c.script.post) c.script.desk c.script.onlooker) _ _ _ _ _ _ _ _ _
+    c.in-Some.request c.serve-reply.result c.requires.opening h.answered heard s (c.serve-reply.ensures.looked s.0 s.3)
 
 pub returns-in_default-clause-read : goal.returns-in_default-clause-read
 returns-in_default-clause-read g c = λ _.
@@ -51,11 +57,12 @@ returns-then-last g c =
     let h = c.script.invariant in
     let heard = c.in-Ok.ensures.heard in
     let works : Works c.script.reader c.listen.new.reader c.script.writer c.script.writer = search rules in
-    let ends = answers_finishes _ _ _ _ _ _ _ _ _ _ _ _ _ _
-    (notes_join g.O.Onlooker.sees 0 _ _ _ _ _) h.answered
+    let finishes = answers_finishes _ _ _ _ _ _ _ _ _ _ _ _ _ _
+    (notes_join g.O.Onlooker.sees _ _ _) h.answered
     (done_silent _ (g.P.Post.view c.args.post.now).is_prompt _ _ _ _ _ c.script.desk _ _
-    (notes_none g.O.Onlooker.sees _ c.script.onlooker) c.in_default-request.is c.if-last.true heard) in
-    let all = completed g.O.Onlooker.sees _ _ _ _ _ _ _ _ ends (works_then _ _ _ _ _ _ h.works works) in
+    (notes_none g.O.Onlooker.sees (moment c.script.missed (g.P.Post.view c.script.post) c.script.desk c.script.onlooker)) c.in_default-request.is c.if-last.true heard) in
+    let all = completed g.O.Onlooker.sees _ _ _ _ _ _ _ _ _ _ _ c.requires.opening finishes
+    (works_then _ _ _ _ _ _ h.works works) in
     record { done = all.0; noted = all.1; read = search rules; write = search rules }
 
 pub script-preserved-in_default-request : goal.script-preserved-in_default-request
@@ -65,9 +72,9 @@ script-preserved-in_default-request g c =
     record {
       answered =
           answers_answers _ _ _ _ _ _ _ _ _ _ _ _ _ _ _ _
-          (notes_join g.O.Onlooker.sees 0 _ _ _ _ _) h.answered
+          (notes_join g.O.Onlooker.sees _ _ _) h.answered
           (goes_on_silent _ (g.P.Post.view c.args.post.now).is_prompt _ _ _ _ _ c.script.desk _ _
-          (notes_none g.O.Onlooker.sees _ c.script.onlooker) c.in_default-request.is c.if-last.false c.in-Ok.ensures.heard);
+          (notes_none g.O.Onlooker.sees (moment c.script.missed (g.P.Post.view c.script.post) c.script.desk c.script.onlooker)) c.in_default-request.is c.if-last.false c.in-Ok.ensures.heard);
       post = h.post;
       works = works_then _ _ _ _ _ _ h.works works;
     }
@@ -80,8 +87,8 @@ returns-then-is_err-clause-write g c = λ _.
     let fails : c.send.new.writer.failures ≡ c.script.writer.failures + 1 = search rules in
     record {
       answered = stops_front _ _ _ _ _ (answers_stops _ _ _ _ _ _ _ _ _ _ _ _ h.answered
-          (stops_telling prompt _ _ _ _ _ _ c.script.desk c.serve-reply.new.desk _ _ c.serve-reply.result heard
-          (served prompt c.in-Ok.heard.request c.in-Some.request heard.asked c.script.desk c.serve-reply.new.desk
+          (stops_telling prompt _ _ _ _ _ _ c.script.desk c.serve-reply.new.desk _ _ c.in-Some.request c.serve-reply.result
+          heard (served prompt c.in-Ok.heard.request c.in-Some.request heard.asked c.script.desk c.serve-reply.new.desk
           c.serve-reply.result c.in-Some.is heard.is (rw h.post.kind at c.serve-reply.ensures.answer))
           (wrote_is_err _ _ c.send.result _ (sym c.is_err.ensures.value ∙ c.if-is_err.true) c.send.ensures.bytes)));
       fails = fails ∙ ap (λ n. n + 1) h.works.writes;
@@ -93,16 +100,18 @@ returns-then-eq g c =
     let prompt = (g.P.Post.view c.args.post.now).is_prompt in
     let heard = c.in-Ok.ensures.heard in
     let bye : c.serve-reply.result ≡ reply.Bye = search rules in
+    let s = served prompt c.in-Ok.heard.request c.in-Some.request heard.asked c.script.desk c.serve-reply.new.desk
+    c.serve-reply.result c.in-Some.is heard.is (rw h.post.kind at c.serve-reply.ensures.answer) in
+    let still = (c.serve-reply.ensures.looked s.0 s.3).bye (ap ends bye) in
     let works : Works c.script.reader c.listen.new.reader c.script.writer c.send.new.writer = search rules in
-    let ends = answers_finishes _ _ _ _ _ _ _ _ _ _ _ _ _ _
-    (notes_join g.O.Onlooker.sees 0 _ _ _ _ _) h.answered
-    (done_bye _ prompt _ _ _ _ _ _ c.script.desk c.serve-reply.new.desk _ _ c.serve-reply.result
-    (notes_same g.O.Onlooker.sees _ c.script.onlooker c.serve-reply.new.onlooker
-    (c.serve-reply.ensures.looked.quiet (ap ends bye))) bye heard
-    (served prompt c.in-Ok.heard.request c.in-Some.request heard.asked c.script.desk c.serve-reply.new.desk
-    c.serve-reply.result c.in-Some.is heard.is (rw h.post.kind at c.serve-reply.ensures.answer))
+    let finishes = answers_finishes _ _ _ _ _ _ _ _ _ _ _ _ _ _
+    (notes_join g.O.Onlooker.sees _ _ _) h.answered
+    (done_bye _ prompt _ _ _ _ _ _ c.script.desk c.serve-reply.new.desk _ _ c.in-Some.request c.serve-reply.result
+    (notes_same g.O.Onlooker.sees c.script.missed (g.P.Post.view c.script.post) (g.P.Post.view c.serve-reply.new.post)
+    c.script.desk c.script.onlooker c.serve-reply.new.onlooker still.0 still.1) bye heard s
     (wrote_is_ok _ _ c.send.result _ (sym c.is_err.ensures.value ∙ c.if-is_err.false) c.send.ensures.bytes)) in
-    let all = completed g.O.Onlooker.sees _ _ _ _ _ _ _ _ ends (works_then _ _ _ _ _ _ h.works works) in
+    let all = completed g.O.Onlooker.sees _ _ _ _ _ _ _ _ _ _ _ c.requires.opening finishes
+    (works_then _ _ _ _ _ _ h.works works) in
     record { done = all.0; noted = all.1; read = search rules; write = search rules }
 
 pub returns-then-last-2 : goal.returns-then-last-2
@@ -112,15 +121,20 @@ returns-then-last-2 g c =
     let heard = c.in-Ok.ensures.heard in
     let other : c.serve-reply.result ≢ reply.Bye = search rules in
     let works : Works c.script.reader c.listen.new.reader c.script.writer c.send.new.writer = search rules in
-    let ends = answers_finishes _ _ _ _ _ _ _ _ _ _ _ _ _ _
-    (notes_join g.O.Onlooker.sees 0 _ _ _ _ _) h.answered
-    (done_last _ prompt _ _ _ _ _ _ c.script.desk c.serve-reply.new.desk _ _ c.serve-reply.result
-    (notes_one g.O.Onlooker.sees _ _ c.script.onlooker c.serve-reply.new.onlooker c.note.new.onlooker c.serve-reply.new.desk
-    c.serve-reply.result c.serve-reply.ensures.looked.watched c.serve-reply.ensures.pending c.note.ensures) other c.if-last-2.true heard
-    (served prompt c.in-Ok.heard.request c.in-Some.request heard.asked c.script.desk c.serve-reply.new.desk
-    c.serve-reply.result c.in-Some.is heard.is (rw h.post.kind at c.serve-reply.ensures.answer))
+    let s = served prompt c.in-Ok.heard.request c.in-Some.request heard.asked c.script.desk c.serve-reply.new.desk
+    c.serve-reply.result c.in-Some.is heard.is (rw h.post.kind at c.serve-reply.ensures.answer) in
+    let finishes = answers_finishes _ _ _ _ _ _ _ _ _ _ _ _ _ _
+    (notes_join g.O.Onlooker.sees _ _ _) h.answered
+    (done_last _ prompt _ _ _ _ _ _ c.script.desk c.serve-reply.new.desk _ _ c.in-Some.request c.serve-reply.result other
+    c.if-last-2.true heard s
+    (notes_one g.O.Onlooker.sees
+    (moment c.script.missed (g.P.Post.view c.script.post) c.script.desk c.script.onlooker)
+    (moment c.note.new.missed (g.P.Post.view c.serve-reply.new.post) c.serve-reply.new.desk c.note.new.onlooker)
+    c.serve-reply.new.onlooker s.0 c.serve-reply.result (c.serve-reply.ensures.looked s.0 s.3)
+    c.serve-reply.ensures.pending c.note.ensures)
     (wrote_is_ok _ _ c.send.result _ (sym c.is_err.ensures.value ∙ c.if-is_err.false) c.send.ensures.bytes)) in
-    let all = completed g.O.Onlooker.sees _ _ _ _ _ _ _ _ ends (works_then _ _ _ _ _ _ h.works works) in
+    let all = completed g.O.Onlooker.sees _ _ _ _ _ _ _ _ _ _ _ c.requires.opening finishes
+    (works_then _ _ _ _ _ _ h.works works) in
     record { done = all.0; noted = all.1; read = search rules; write = search rules }
 
 pub script-preserved : goal.script-preserved
@@ -130,15 +144,19 @@ script-preserved g c =
     let heard = c.in-Ok.ensures.heard in
     let other : c.serve-reply.result ≢ reply.Bye = search rules in
     let works : Works c.script.reader c.listen.new.reader c.script.writer c.send.new.writer = search rules in
+    let s = served prompt c.in-Ok.heard.request c.in-Some.request heard.asked c.script.desk c.serve-reply.new.desk
+    c.serve-reply.result c.in-Some.is heard.is (rw h.post.kind at c.serve-reply.ensures.answer) in
     record {
       answered =
           answers_answers _ _ _ _ _ _ _ _ _ _ _ _ _ _ _ _
-          (notes_join g.O.Onlooker.sees 0 _ _ _ _ _) h.answered
-          (goes_on_told _ prompt _ _ _ _ _ _ c.script.desk c.serve-reply.new.desk _ _ c.serve-reply.result
-          (notes_one g.O.Onlooker.sees _ _ c.script.onlooker c.serve-reply.new.onlooker c.note.new.onlooker c.serve-reply.new.desk
-          c.serve-reply.result c.serve-reply.ensures.looked.watched c.serve-reply.ensures.pending c.note.ensures) c.if-last-2.false other heard
-          (served prompt c.in-Ok.heard.request c.in-Some.request heard.asked c.script.desk c.serve-reply.new.desk
-          c.serve-reply.result c.in-Some.is heard.is (rw h.post.kind at c.serve-reply.ensures.answer))
+          (notes_join g.O.Onlooker.sees _ _ _) h.answered
+          (goes_on_told _ prompt _ _ _ _ _ _ c.script.desk c.serve-reply.new.desk _ _ c.in-Some.request
+          c.serve-reply.result c.if-last-2.false other heard s
+          (notes_one g.O.Onlooker.sees
+          (moment c.script.missed (g.P.Post.view c.script.post) c.script.desk c.script.onlooker)
+          (moment c.note.new.missed (g.P.Post.view c.serve-reply.new.post) c.serve-reply.new.desk c.note.new.onlooker)
+          c.serve-reply.new.onlooker s.0 c.serve-reply.result (c.serve-reply.ensures.looked s.0 s.3)
+          c.serve-reply.ensures.pending c.note.ensures)
           (wrote_is_ok _ _ c.send.result _ (sym c.is_err.ensures.value ∙ c.if-is_err.false) c.send.ensures.bytes));
       post = carries_further _ _ _ _ h.post.limit h.post.kind c.serve-reply.ensures.post;
       works = works_then _ _ _ _ _ _ h.works works;

@@ -3,12 +3,14 @@ use Rattle.schedule.specs.Plan.{opening}
 use Rattle.desk_server.specs.Ending.{Works}
 use Rattle.desk_server.specs.Jobs.{CarriesOn}
 use Rattle.desk_server.specs.Run.{Answers}
-use Rattle.desk_server.specs.Watch.{NotesEach}
+use Rattle.desk_server.specs.Watch.{NotesEach, moment}
 use Rattle.desk_server.proofs.server.answer_commands.Given as goal
 
 abbrev pub invariant-script : goal.invariant-script
 invariant-script g l = record {
-  answered : Answers (NotesEach {V = g.row.O.Denot} g.O.Onlooker.sees 0 l.missed l.fn.onlooker l.onlooker)
+  answered : Answers (NotesEach {V = g.row.O.Denot} g.O.Onlooker.sees
+      (moment 0 (g.P.Post.view l.fn.post) l.fn.desk l.fn.onlooker)
+      (moment l.missed (g.P.Post.view l.post) l.desk l.onlooker))
       (g.P.Post.view l.fn.post).is_prompt l.fn.reader.ahead l.reader.ahead l.fn.writer.contents l.writer.contents
       (opening 0) l.desk.plan 1 (l.reader.lines + 1);
   post : CarriesOn (g.P.Post.view l.fn.post) (g.P.Post.view l.post) l.desk;
