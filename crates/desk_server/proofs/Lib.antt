@@ -11,3 +11,4 @@ pub mod Plain
 pub mod RuleStates
 pub mod OneLine
 pub mod Lines
+pub mod Example

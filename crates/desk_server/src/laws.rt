@@ -1,4 +1,5 @@
 //! Laws of the definitions, each the contract of a function that does nothing.
+ghost use Rattle.desk_server.specs.Example.{PicturesOfOne};
 ghost use Rattle.desk_server.specs.OneLine.{DocumentsAreSound, OneLineWithoutBranch};
 ghost use Rattle.desk_server.specs.Plain.{PlainWithoutShortages};
 ghost use Rattle.desk_server.specs.Watch.{ShowsAllUnlessCounted, ShowsWhatIsTold};
@@ -28,4 +29,11 @@ pub fn shows_all_unless_counted()
 /// bookmark that is shown has in its row the text that was told, or none where it is pending.
 pub fn shows_what_is_told()
     ensures { ShowsWhatIsTold }
+{}
+
+/// Worked pictures, to which that law applies. A desk has one bookmark. With its text the picture
+/// stands after `settled` and after the text was shown, and without it after the bookmark was told
+/// to be pending.
+pub fn pictures_of_one_bookmark()
+    ensures { PicturesOfOne }
 {}

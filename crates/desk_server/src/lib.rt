@@ -39,8 +39,8 @@ mod words;
 pub use bell::Bell;
 pub use desk_core::{Entries, InlinePost, Onlooker, Post};
 pub use laws::{
-    documents_are_sound, one_line_without_branch, plain_without_shortages,
-    shows_all_unless_counted, shows_what_is_told,
+    documents_are_sound, one_line_without_branch, pictures_of_one_bookmark,
+    plain_without_shortages, shows_all_unless_counted, shows_what_is_told,
 };
 pub use script_lines::{CountedReader, CountedWriter};
 pub use server::{RunFault, run, run_seen};
