@@ -344,8 +344,8 @@ pub(crate) fn serve<P: Post, O: Onlooker>(
         → LeavesOver (P.view post.old) (P.view post.new) result desk.old desk.new }
     ensures post { CarriesOn (P.view post.old) (P.view post.new) desk.new }
     ensures pending { TellsPending result desk.new }
-    ensures looked { (ask : Ask) → AsksFor request ask → WatchesReply O.sees ask result (P.view post.old)
-        (P.view post.new) desk.old desk.new onlooker.old onlooker.new }
+    ensures looked { (ask : Ask) → AsksFor request ask → WatchesReply O.sees ask result
+        (P.view post.old) (P.view post.new) desk.old desk.new onlooker.old onlooker.new }
 {
     match request {
         Request::Obey(command) => obey(rt, desk, post, command, onlooker, bell),

@@ -164,11 +164,11 @@ pub fn run_seen<R: Read, W: Write, L: Ledger, M: Ledger, P: Post, O: Onlooker>(
         (Completes (P.view post.old).is_prompt reader.old reader.new writer.old writer.new) }
 
     // For each of these replies but `bye`, in order, the desk that gave it was looked at: it was
-    // seen, or it wasn't, and so often it wasn't; 2^64 - 1 may stand for more. Before that desks with
-    // the reply's document were looked at only for a settling or for a show of a pending bookmark:
-    // one, and one more for each answer that the post gave for it. So it was for a beginning of the
-    // replies where the run stopped before the script's end. What a publisher sees is put behind its
-    // board's history (`ShowsNext`).
+    // seen, or it wasn't, and so often it wasn't; 2^64 - 1 may stand for more. Before that, desks
+    // with the reply's document were looked at only for a settling or for a show of a pending
+    // bookmark: one, and one more for each answer that the post gave for it. So it was for a
+    // beginning of the replies where the run stopped before the script's end. What a publisher
+    // sees is put behind its board's history (`ShowsNext`).
     ensures shown { NotesRun O.sees result (P.view post.old) (P.view post.new)
         reader.old writer.old writer.new onlooker.old onlooker.new }
 
