@@ -1,0 +1,106 @@
+-- The edits that add the bookmarks of a document, or skip ids, aren't refused.
+use Rattle.std.proofs.Common.{◌≡◌, ℕ, ◌+◌, ◌<◌, ◌≤◌, ◌^◌, not, List, [], ◌∷◌, ◌++◌, length, nat_lt, refl, sym, ap, ap₂, ◌∙◌, subst, arith, length-append}
+use Rattle.std.specs.List.{AllByRecursion}
+use Rattle.basics.proofs.Shared.Lists.{all_so}
+use Rattle.bookmarks.specs.declared.view.View.{View}
+use Rattle.bookmarks.specs.declared.view.View.TheVariants.{Counts}
+use Rattle.bookmarks.specs.Within.{IsWithin}
+use Rattle.schedule.specs.declared.document.Bookmark.{Bookmark}
+use Rattle.schedule.specs.Asked.{AddBookmark, RemoveBookmark}
+use Rattle.schedule.specs.Branches.{fork_of}
+use Rattle.schedule.specs.Change.{changed_bookmarks, next_bookmark, refusals}
+use Rattle.schedule.specs.Ids.{bookmark_id, branch_id, without}
+use Rattle.schedule.specs.Plan.{Plan}
+use Rattle.schedule.specs.Repeats.{repeat_marks}
+use Rattle.schedule.specs.Sound.{IsPlaced, IsSound}
+use Rattle.schedule.proofs.Shared.Branches.{fork_of-zero}
+use Rattle.document_replay.specs.Law.{Lead, last_id}
+use Rattle.document_replay.specs.Replay.{add_bookmark, skip_bookmark}
+use Rattle.document_replay.proofs.Branches.{with_branches}
+use Rattle.document_replay.proofs.Elements.{all_parts, there_last, without_last}
+use Rattle.document_replay.proofs.Tests.{few_marks, free, not_less, not_most, unspent}
+use Rattle.document_replay.proofs.Shared.Leading.{Adds}
+
+-- the document with rule, start and branches, and these bookmarks
+abbrev pub with_bookmarks : Plan → ℕ → List Bookmark → ℕ → Plan
+with_bookmarks p k done last = record (with_branches p k p.branches (last_id branch_id 0 p.branches)) {
+  bookmarks = done;
+  last_bookmark = last;
+}
+
+no_marks : (p : Plan) (k : ℕ) (done : List Bookmark) (last b generation : ℕ) (view : View)
+    → repeat_marks (changed_bookmarks (with_bookmarks p k done last) b generation view).plan ≤ 8192
+no_marks p k done last b generation view = omega arith
+
+few : (p : Plan) → IsSound p → (done : List Bookmark) (x : Bookmark) (rest : List Bookmark)
+    → done ++ x ∷ rest ≡ p.bookmarks → length done < 4096
+few p sound done x rest is =
+    let most = sound.few_bookmarks in
+    let long : length (done ++ x ∷ rest) ≡ length p.bookmarks = ap length is in
+    omega (arith, most, long, length-append done (x ∷ rest))
+
+-- what holds of the one where the list is cut
+here : (P : Bookmark → Type 0) (xs done : List Bookmark) (x : Bookmark) (rest : List Bookmark) → done ++ x ∷ rest ≡ xs
+    → AllByRecursion P xs → P x
+here P xs done x rest is all = (all_parts P done (x ∷ rest) (subst (AllByRecursion P) (sym is) all)).1.0
+
+add_one : (p : Plan) → IsSound p → (done : List Bookmark) (x : Bookmark) (rest : List Bookmark) (k last : ℕ)
+    → done ++ x ∷ rest ≡ p.bookmarks → last + 1 ≡ x.id → k + 1 < 2 ^ 64
+    → Lead (add_bookmark x ∷ []) (with_bookmarks p k done last) (with_bookmarks p (k + 1) (done ++ x ∷ []) x.id)
+add_one p sound done x rest k last is next left =
+    let q : Plan = with_bookmarks p k done last in
+    let near : x.generation ≤ 2 ^ 60 =
+    here (λ (y : Bookmark). y.generation ≤ 2 ^ 60) p.bookmarks done x rest is sound.bookmarks_near in
+    let within : IsWithin x.view = here (λ (y : Bookmark). IsWithin y.view) p.bookmarks done x rest is sound.views_within in
+    let placed : IsPlaced p.branches x.branch x.generation =
+    here (λ (y : Bookmark). IsPlaced p.branches y.branch y.generation) p.bookmarks done x rest is
+    sound.branches_sound.bookmarks_placed in (
+      free (refusals q (AddBookmark x.branch x.generation x.view)) (ap not placed.there, (
+        not_less (2 ^ 60) x.generation near,
+        (not_less x.generation (fork_of p.branches x.branch) placed.from_fork, (
+          not_most 4096 (length done) (few p sound done x rest is),
+          (ap not within.0, (ap not within.1, (
+            few_marks (changed_bookmarks q x.branch x.generation x.view).plan
+                (no_marks p k done last x.branch x.generation x.view),
+            (unspent k left, tt),
+          ))),
+        )),
+      )),
+      ap (λ n. with_bookmarks p (k + 1) (done ++ (record x { id = n }) ∷ []) n) (sym next),
+    )
+
+skip_one : (p : Plan) → IsSound p → (done : List Bookmark) (x : Bookmark) (rest : List Bookmark) (k last : ℕ)
+    → done ++ x ∷ rest ≡ p.bookmarks → last + 1 < x.id → AllByRecursion (λ (y : Bookmark). y.id ≤ last) done
+    → k + 2 < 2 ^ 64
+    → Lead (skip_bookmark (last + 1)) (with_bookmarks p k done last) (with_bookmarks p (k + 2) done (last + 1))
+skip_one p sound done x rest k last is gap given left =
+    let q : Plan = with_bookmarks p k done last in
+    let y : Bookmark = next_bookmark q 0 0 Counts in
+    let more : List Bookmark = done ++ y ∷ [] in
+    let r : Plan = with_bookmarks p (k + 1) more (last + 1) in
+    let kept : without bookmark_id more (last + 1) ≡ done = without_last bookmark_id done y (last + 1)
+    (all_so (λ (z : Bookmark). z.id ≤ last) (λ (z : Bookmark). z.id < last + 1) done (λ z h. omega (arith, h)) given)
+    refl in (
+      free (refusals q (AddBookmark 0 0 Counts)) (refl, (refl, (
+        ap (λ n. nat_lt 0 n) (fork_of-zero p.branches sound.branches_sound.forked),
+        (not_most 4096 (length done) (few p sound done x rest is), (refl, (refl, (
+          few_marks (changed_bookmarks q 0 0 Counts).plan (no_marks p k done last 0 0 Counts),
+          (unspent k (omega (arith, left)), tt),
+        )))),
+      ))),
+      (
+        free (refusals r (RemoveBookmark (last + 1))) (
+          ap not (there_last bookmark_id done y (last + 1) refl),
+          (unspent (k + 1) (omega (arith, left)), tt),
+        ),
+        ap₂ (λ a bs. with_bookmarks p a bs (last + 1)) (omega arith) (sym kept),
+      ),
+    )
+
+pub bookmarks_added : (p : Plan) → IsSound p
+    → Adds bookmark_id skip_bookmark add_bookmark (with_bookmarks p) p.bookmarks
+bookmarks_added p sound = record {
+  adds = add_one p sound;
+  skips = skip_one p sound;
+  two = λ n. refl;
+}

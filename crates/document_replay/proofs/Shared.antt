@@ -1,0 +1,4 @@
+-- Lemmas that other crates may cite.
+pub mod Leading
+pub mod Made
+pub mod Remade

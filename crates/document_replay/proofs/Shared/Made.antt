@@ -1,0 +1,286 @@
+-- What holds of every document that edits made of an opening one.
+use Rattle.std.proofs.Common.{◌≡◌, ℕ, ◌+◌, ◌*◌, ◌<◌, ◌≤◌, ◌^◌, Bool, true, false, not, List, [], ◌∷◌, ◌++◌, length, map, filter, nat_le, nat_lt, refl, sym, ap, ◌∙◌, subst, arith, Option, None, Some, length-append}
+use Rattle.std.specs.Prelude.{if◌then◌else◌, ◌==◌, is_none}
+use Rattle.std.specs.List.{AllByRecursion}
+use Rattle.std.specs.Option.{unwrap_or}
+use Rattle.std.proofs.lemmas.List.{length-map}
+use Rattle.std.proofs.lemmas.Bool.{ltb-false}
+use Rattle.basics.proofs.Shared.Lists.{all_append, all_so}
+use Rattle.worlds.specs.declared.cell.CellSet.{CellSet}
+use Rattle.schedule.specs.declared.acts.Acts.{Acts}
+use Rattle.schedule.specs.declared.acts.Acts.TheVariants.{Once, Every}
+use Rattle.schedule.specs.declared.fault.EditFault.{EditFault}
+use Rattle.schedule.specs.Acts.{first_of}
+use Rattle.schedule.specs.Branches.{has_branch, intervention_branch}
+use Rattle.schedule.specs.declared.document.Intervention.{Intervention}
+use Rattle.schedule.specs.declared.document.Bookmark.{Bookmark}
+use Rattle.schedule.specs.declared.branch.Branch.{Branch}
+use Rattle.schedule.specs.Asked.{Asked, InsertIntervention, ChangeIntervention, InsertRepeat, ChangeRepeat, RemoveIntervention, SetCells, ReplaceStart, ReplaceRule, AddBookmark, MoveBookmark, RemoveBookmark, AddBranch, RemoveBranch}
+use Rattle.schedule.specs.Change.{acting, acts_too_far, changed, first_refusal, for_cells_before, for_changed, for_changed_intervention, for_inserted, for_intervention, is_bad_repeat, is_before_fork, marking, next_bookmark, next_branch, next_intervention, refusal, with_changed_intervention, with_intervention}
+use Rattle.schedule.specs.Ids.{IdsRise, bookmark_id, branch_id, changed_at, intervention_id, without}
+use Rattle.schedule.specs.Plan.{Plan, opening}
+use Rattle.schedule.specs.Sound.{IsSound}
+use Rattle.schedule.proofs.Shared.Ids.{each_filter, each_map, given_push, rise_filter, rise_map, rise_push}
+use Rattle.document_replay.specs.Law.{DocumentsAreMadeAnew, EditsMake, IsMade, Lead, last_id}
+use Rattle.document_replay.specs.Replay.{add_all, add_bookmark, add_branch, add_intervention, edits_for, row_edits, skip_bookmark, skip_branch, skip_intervention}
+use Rattle.document_replay.proofs.Elements.{length-without}
+use Rattle.document_replay.proofs.Shared.Leading.{length-add_all}
+use Rattle.document_replay.proofs.Shared.Remade.{branches_from_one, length-rows, made_anew}
+
+-- rising ids from 1 up to `last`
+record AreNumbered {X : Type 0} (id : X → ℕ) (xs : List X) (last : ℕ) : Type 0 where
+  from_one : AllByRecursion (λ x. 0 < id x) xs
+  given : AllByRecursion (λ x. id x ≤ last) xs
+  rise : IdsRise id xs
+
+-- one more, some changed, and one left out
+
+numbered_push : {X : Type 0} (id : X → ℕ) (xs : List X) (x : X) (last : ℕ) → AreNumbered id xs last → id x ≡ last + 1
+    → AreNumbered id (xs ++ x ∷ []) (last + 1)
+numbered_push id xs x last h next = record {
+  from_one = all_append (λ y. 0 < id y) xs (x ∷ []) h.from_one (omega (arith, next), tt);
+  given = given_push id xs x last h.given next;
+  rise = rise_push id xs x last h.rise h.given (omega (arith, next));
+}
+
+numbered_changed : {X : Type 0} (id : X → ℕ) (f : X → X) (xs : List X) (n last : ℕ) → ((x : X) → id (f x) ≡ id x)
+    → AreNumbered id xs last → AreNumbered id (changed_at id f xs n) last
+numbered_changed id f xs n last same h = record {
+  from_one = each_map (λ x. 0 < id x) (λ x. id x == n) f xs (λ x k. let e = same x in omega (arith, e, k)) h.from_one;
+  given = each_map (λ x. id x ≤ last) (λ x. id x == n) f xs (λ x k. let e = same x in omega (arith, e, k)) h.given;
+  rise = rise_map id (λ x. id x == n) f xs same h.rise;
+}
+
+numbered_without : {X : Type 0} (id : X → ℕ) (xs : List X) (n last : ℕ) → AreNumbered id xs last
+    → AreNumbered id (without id xs n) last
+numbered_without id xs n last h = record {
+  from_one = each_filter (λ x. 0 < id x) (λ x. not (id x == n)) xs h.from_one;
+  given = each_filter (λ x. id x ≤ last) (λ x. not (id x == n)) xs h.given;
+  rise = rise_filter id (λ x. not (id x == n)) xs h.rise;
+}
+
+-- interventions of few cells
+abbrev AreSmall : List Intervention → Type 0
+AreSmall = AllByRecursion (λ (i : Intervention). length i.cells ≤ 10000)
+
+-- how many elements there are, and how many revisions making them took at least: each id that was given one, and each
+-- element that was removed another
+abbrev elements : Plan → ℕ
+elements p = length p.interventions + length p.bookmarks + length p.branches
+
+abbrev ids_given : Plan → ℕ
+ids_given p = p.last_intervention + p.last_bookmark + p.last_branch
+
+record IsNumbered (p : Plan) : Type 0 where
+  interventions : AreNumbered intervention_id p.interventions p.last_intervention
+  bookmarks : AreNumbered bookmark_id p.bookmarks p.last_bookmark
+  branches : AreNumbered branch_id p.branches p.last_branch
+  small : AreSmall p.interventions
+  spent : 2 * ids_given p ≤ p.revision + elements p
+
+numbered_opening : (revision : ℕ) → IsNumbered (opening revision)
+numbered_opening revision = record {
+  interventions = record { from_one = tt; given = tt; rise = tt };
+  bookmarks = record { from_one = tt; given = tt; rise = tt };
+  branches = record { from_one = tt; given = tt; rise = tt };
+  small = tt;
+  spent = omega arith;
+}
+
+-- what isn't refused
+passed : (b : Bool) (fault : EditFault) (rest : Option EditFault) → (if b then Some fault else rest) ≡ None
+    → (b ≡ false) × (rest ≡ None)
+passed true fault rest h = absurd cc
+passed false fault rest h = (refl, h)
+
+few_cells : (p : Plan) (cells : List CellSet) (rest : List (Bool × EditFault))
+    → first_refusal (for_cells_before p cells rest) ≡ None → length cells ≤ 10000
+few_cells p cells rest h = ltb-false 10000 (length cells) (passed (nat_lt 10000 (length cells)) _ _ h).0
+
+-- an inserted intervention sets few cells
+few_inserted : (p : Plan) (b : ℕ) (acts : Acts) (cells : List CellSet)
+    → first_refusal (for_intervention p b acts cells) ≡ None → length cells ≤ 10000
+few_inserted p b acts cells h =
+    let there = passed (not (has_branch p.branches b)) _ _ h in
+    let far = passed (acts_too_far acts) _ _ there.1 in
+    let bad = passed (is_bad_repeat acts) _ _ far.1 in
+    let late = passed (is_before_fork p b (first_of acts)) _ _ bad.1 in
+    let many = passed (nat_le 4096 (length p.interventions)) _ _ late.1 in
+    few_cells p cells (for_inserted p b acts cells) many.1
+
+-- so does a changed one
+few_changed : (p : Plan) (id : ℕ) (acts : Acts) (cells : List CellSet)
+    → first_refusal (for_changed_intervention p id acts cells) ≡ None → length cells ≤ 10000
+few_changed p id acts cells h =
+    let b = intervention_branch p.interventions id in
+    let there = passed (is_none b) _ _ h in
+    let far = passed (acts_too_far acts) _ _ there.1 in
+    let bad = passed (is_bad_repeat acts) _ _ far.1 in
+    let late = passed (is_before_fork p (unwrap_or b 0) (first_of acts)) _ _ bad.1 in
+    few_cells p cells (for_changed p id acts cells) late.1
+
+numbered_inserted : (p : Plan) (b : ℕ) (acts : Acts) (cells : List CellSet) → IsNumbered p → length cells ≤ 10000
+    → IsNumbered (with_intervention p b acts cells).plan
+numbered_inserted p b acts cells h few =
+    let i : Intervention = next_intervention p b acts cells in
+    let spent = h.spent in
+    record {
+      interventions = numbered_push intervention_id p.interventions i p.last_intervention h.interventions refl;
+      bookmarks = h.bookmarks;
+      branches = h.branches;
+      small = all_append (λ (j : Intervention). length j.cells ≤ 10000) p.interventions (i ∷ []) h.small (few, tt);
+      spent = (let long = length-append p.interventions (i ∷ []) in omega (arith, spent, long));
+    }
+
+numbered_acting : (p : Plan) (id : ℕ) (acts : Acts) (cells : List CellSet) → IsNumbered p → length cells ≤ 10000
+    → IsNumbered (with_changed_intervention p id acts cells).plan
+numbered_acting p id acts cells h few =
+    let f = acting acts cells in
+    let spent = h.spent in
+    record {
+      interventions =
+          numbered_changed intervention_id f p.interventions id p.last_intervention (λ i. refl) h.interventions;
+      bookmarks = h.bookmarks;
+      branches = h.branches;
+      small = each_map (λ (j : Intervention). length j.cells ≤ 10000) (λ (j : Intervention). j.id == id) f
+          p.interventions (λ _ _. few) h.small;
+      spent = (let long = length-map p.interventions (λ (i : Intervention). if i.id == id then f i else i) in
+          omega (arith, spent, long));
+    }
+
+numbered_step : (p : Plan) (asked : Asked) → IsNumbered p → refusal p asked ≡ None → IsNumbered (changed p asked).plan
+numbered_step p (InsertIntervention b generation cells) h free =
+    numbered_inserted p b (Once generation) cells h (few_inserted p b (Once generation) cells free)
+numbered_step p (ChangeIntervention id generation cells) h free =
+    numbered_acting p id (Once generation) cells h (few_changed p id (Once generation) cells free)
+numbered_step p (InsertRepeat b first every last cells) h free =
+    numbered_inserted p b (Every first every last) cells h (few_inserted p b (Every first every last) cells free)
+numbered_step p (ChangeRepeat id first every last cells) h free =
+    numbered_acting p id (Every first every last) cells h (few_changed p id (Every first every last) cells free)
+numbered_step p (RemoveIntervention id) h free =
+    let spent = h.spent in
+    let long = length-without intervention_id p.interventions id h.interventions.rise in
+    record {
+      interventions = numbered_without intervention_id p.interventions id p.last_intervention h.interventions;
+      bookmarks = h.bookmarks;
+      branches = h.branches;
+      small = each_filter (λ (j : Intervention). length j.cells ≤ 10000) (λ (j : Intervention). not (j.id == id))
+          p.interventions h.small;
+      spent = omega (arith, spent, long);
+    }
+numbered_step p (SetCells cells) h free = let spent = h.spent in record {
+  interventions = h.interventions;
+  bookmarks = h.bookmarks;
+  branches = h.branches;
+  small = h.small;
+  spent = omega (arith, spent);
+}
+numbered_step p (ReplaceStart start) h free = let spent = h.spent in record {
+  interventions = h.interventions;
+  bookmarks = h.bookmarks;
+  branches = h.branches;
+  small = h.small;
+  spent = omega (arith, spent);
+}
+numbered_step p (ReplaceRule rule) h free = let spent = h.spent in record {
+  interventions = h.interventions;
+  bookmarks = h.bookmarks;
+  branches = h.branches;
+  small = h.small;
+  spent = omega (arith, spent);
+}
+numbered_step p (AddBookmark b generation view) h free =
+    let k : Bookmark = next_bookmark p b generation view in
+    let spent = h.spent in
+    let long = length-append p.bookmarks (k ∷ []) in
+    record {
+      interventions = h.interventions;
+      bookmarks = numbered_push bookmark_id p.bookmarks k p.last_bookmark h.bookmarks refl;
+      branches = h.branches;
+      small = h.small;
+      spent = omega (arith, spent, long);
+    }
+numbered_step p (MoveBookmark id generation) h free =
+    let f = marking generation in
+    let spent = h.spent in
+    let long = length-map p.bookmarks (λ (k : Bookmark). if k.id == id then f k else k) in
+    record {
+      interventions = h.interventions;
+      bookmarks = numbered_changed bookmark_id f p.bookmarks id p.last_bookmark (λ k. refl) h.bookmarks;
+      branches = h.branches;
+      small = h.small;
+      spent = omega (arith, spent, long);
+    }
+numbered_step p (RemoveBookmark id) h free =
+    let spent = h.spent in
+    let long = length-without bookmark_id p.bookmarks id h.bookmarks.rise in
+    record {
+      interventions = h.interventions;
+      bookmarks = numbered_without bookmark_id p.bookmarks id p.last_bookmark h.bookmarks;
+      branches = h.branches;
+      small = h.small;
+      spent = omega (arith, spent, long);
+    }
+numbered_step p (AddBranch parent generation) h free =
+    let x : Branch = next_branch p parent generation in
+    let spent = h.spent in
+    let long = length-append p.branches (x ∷ []) in
+    record {
+      interventions = h.interventions;
+      bookmarks = h.bookmarks;
+      branches = numbered_push branch_id p.branches x p.last_branch h.branches refl;
+      small = h.small;
+      spent = omega (arith, spent, long);
+    }
+numbered_step p (RemoveBranch b) h free =
+    let spent = h.spent in
+    let long = length-without branch_id p.branches b h.branches.rise in
+    record {
+      interventions = h.interventions;
+      bookmarks = h.bookmarks;
+      branches = numbered_without branch_id p.branches b p.last_branch h.branches;
+      small = h.small;
+      spent = omega (arith, spent, long);
+    }
+
+numbered_all : (edits : List Asked) (p q : Plan) → IsNumbered p → Lead edits p q → IsNumbered q
+numbered_all [] p q h is = subst IsNumbered (sym is) h
+numbered_all (asked ∷ edits) p q h lead =
+    numbered_all edits (changed p asked).plan q (numbered_step p asked h lead.0) lead.1
+
+made : (p : Plan) → IsNumbered p → IsMade p
+made p h = record {
+  interventions_from_one = h.interventions.from_one;
+  bookmarks_from_one = h.bookmarks.from_one;
+  few_cells = h.small;
+}
+
+pub edits_make : EditsMake
+edits_make revision edits p lead =
+    made p (numbered_all edits (opening revision) p (numbered_opening revision) lead)
+
+-- the last id of a list was given
+last_given : {X : Type 0} (id : X → ℕ) (last most : ℕ) (xs : List X) → last ≤ most
+    → AllByRecursion (λ x. id x ≤ most) xs → last_id id last xs ≤ most
+last_given id last most [] low given = low
+last_given id last most (x ∷ xs) low given = last_given id (id x) most xs given.0 given.1
+
+-- adding elements takes no more edits than revisions were spent on them
+rows_few : (p : Plan) → IsNumbered p → length (row_edits p) ≤ p.revision
+rows_few p h =
+    let spent = h.spent in
+    omega (arith, spent, length-rows p,
+    length-add_all intervention_id skip_intervention add_intervention (λ n. refl) 0 p.interventions
+    h.interventions.from_one h.interventions.rise,
+    length-add_all bookmark_id skip_bookmark add_bookmark (λ n. refl) 0 p.bookmarks h.bookmarks.from_one
+    h.bookmarks.rise,
+    length-add_all branch_id skip_branch add_branch (λ n. refl) 0 p.branches h.branches.from_one h.branches.rise,
+    last_given intervention_id 0 p.last_intervention p.interventions (omega arith) h.interventions.given,
+    last_given bookmark_id 0 p.last_bookmark p.bookmarks (omega arith) h.bookmarks.given,
+    last_given branch_id 0 p.last_branch p.branches (omega arith) h.branches.given)
+
+pub documents_are_made_anew : DocumentsAreMadeAnew
+documents_are_made_anew revision edits p sound lead left =
+    let h = numbered_all edits (opening revision) p (numbered_opening revision) lead in
+    let few = rows_few p h in
+    made_anew p sound (made p h) (omega (arith, few, left))
