@@ -55,17 +55,29 @@ add_one p sound done x rest k last is next left =
     let placed : IsPlaced p.branches x.branch x.generation =
     here (λ (y : Bookmark). IsPlaced p.branches y.branch y.generation) p.bookmarks done x rest is
     sound.branches_sound.bookmarks_placed in (
-      free (refusals q (AddBookmark x.branch x.generation x.view)) (ap not placed.there, (
-        not_less (2 ^ 60) x.generation near,
-        (not_less x.generation (fork_of p.branches x.branch) placed.from_fork, (
-          not_most 4096 (length done) (few p sound done x rest is),
-          (ap not within.0, (ap not within.1, (
-            few_marks (changed_bookmarks q x.branch x.generation x.view).plan
-                (no_marks p k done last x.branch x.generation x.view),
-            (unspent k left, tt),
-          ))),
-        )),
-      )),
+      free (refusals q (AddBookmark x.branch x.generation x.view)) (
+        ap not placed.there,
+        (
+          not_less (2 ^ 60) x.generation near,
+          (
+            not_less x.generation (fork_of p.branches x.branch) placed.from_fork,
+            (
+              not_most 4096 (length done) (few p sound done x rest is),
+              (
+                ap not within.0,
+                (
+                  ap not within.1,
+                  (
+                    few_marks (changed_bookmarks q x.branch x.generation x.view).plan
+                        (no_marks p k done last x.branch x.generation x.view),
+                    (unspent k left, tt),
+                  ),
+                ),
+              ),
+            ),
+          ),
+        ),
+      ),
       ap (λ n. with_bookmarks p (k + 1) (done ++ (record x { id = n }) ∷ []) n) (sym next),
     )
 
@@ -81,13 +93,28 @@ skip_one p sound done x rest k last is gap given left =
     let kept : without bookmark_id more (last + 1) ≡ done = without_last bookmark_id done y (last + 1)
     (all_so (λ (z : Bookmark). z.id ≤ last) (λ (z : Bookmark). z.id < last + 1) done (λ z h. omega (arith, h)) given)
     refl in (
-      free (refusals q (AddBookmark 0 0 Counts)) (refl, (refl, (
-        ap (λ n. nat_lt 0 n) (fork_of-zero p.branches sound.branches_sound.forked),
-        (not_most 4096 (length done) (few p sound done x rest is), (refl, (refl, (
-          few_marks (changed_bookmarks q 0 0 Counts).plan (no_marks p k done last 0 0 Counts),
-          (unspent k (omega (arith, left)), tt),
-        )))),
-      ))),
+      free (refusals q (AddBookmark 0 0 Counts)) (
+        refl,
+        (
+          refl,
+          (
+            ap (λ n. nat_lt 0 n) (fork_of-zero p.branches sound.branches_sound.forked),
+            (
+              not_most 4096 (length done) (few p sound done x rest is),
+              (
+                refl,
+                (
+                  refl,
+                  (
+                    few_marks (changed_bookmarks q 0 0 Counts).plan (no_marks p k done last 0 0 Counts),
+                    (unspent k (omega (arith, left)), tt),
+                  ),
+                ),
+              ),
+            ),
+          ),
+        ),
+      ),
       (
         free (refusals r (RemoveBookmark (last + 1))) (
           ap not (there_last bookmark_id done y (last + 1) refl),

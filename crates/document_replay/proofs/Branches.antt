@@ -67,17 +67,25 @@ add_one p sound done x rest k last is next left =
     let parts = cut p sound done x rest is in
     let here = parts.here in
     let lower : x.parent < x.id = here.later in
-    let placed = placed_before done (x ∷ rest) x.parent x.fork
-    (lower, all_so (λ (y : Branch). x.id < y.id) (λ (y : Branch). x.parent < y.id) rest
-    (λ y h. omega (arith, h, lower)) parts.later)
+    let placed = placed_before done (x ∷ rest) x.parent x.fork (
+      lower,
+      all_so (λ (y : Branch). x.id < y.id) (λ (y : Branch). x.parent < y.id) rest
+          (λ y h. omega (arith, h, lower)) parts.later,
+    )
     (subst (λ bs. IsPlaced bs x.parent x.fork) (sym is) here.placed) in (
-      free (refusals q (AddBranch x.parent x.fork)) (ap not placed.there, (
-        not_less (2 ^ 60) x.fork here.near,
-        (not_less x.fork (fork_of done x.parent) placed.from_fork, (
-          not_most 64 (length done) parts.few,
-          (few_marks (with_branch q x.parent x.fork).plan (no_marks p k done last x.parent x.fork), (unspent k left, tt)),
-        )),
-      )),
+      free (refusals q (AddBranch x.parent x.fork)) (
+        ap not placed.there,
+        (
+          not_less (2 ^ 60) x.fork here.near,
+          (
+            not_less x.fork (fork_of done x.parent) placed.from_fork,
+            (
+              not_most 64 (length done) parts.few,
+              (few_marks (with_branch q x.parent x.fork).plan (no_marks p k done last x.parent x.fork), (unspent k left, tt)),
+            ),
+          ),
+        ),
+      ),
       ap (λ n. with_branches p (k + 1) (done ++ (record x { id = n }) ∷ []) n) (sym next),
     )
 
@@ -91,9 +99,11 @@ skip_one p sound done x rest k last is gap given left =
     let y : Branch = next_branch q 0 0 in
     let more : List Branch = done ++ y ∷ [] in
     let r : Plan = with_branches p (k + 1) more (last + 1) in
-    let positive : AllByRecursion (λ (z : Branch). 0 < z.id) (x ∷ rest) = (omega (arith, gap),
-    all_so (IsForked p.branches) (λ (z : Branch). 0 < z.id) rest (λ z h. (let l = h.later in omega (arith, l)))
-    parts.behind) in
+    let positive : AllByRecursion (λ (z : Branch). 0 < z.id) (x ∷ rest) = (
+      omega (arith, gap),
+      all_so (IsForked p.branches) (λ (z : Branch). 0 < z.id) rest (λ z h. (let l = h.later in omega (arith, l)))
+          parts.behind,
+    ) in
     let first : fork_of done 0 ≡ 0 =
     ap (λ (o : Option Branch). option_map_or (λ (z : Branch). z.fork) o 0)
     (sym (found_before branch_id done (x ∷ rest) 0 positive))
@@ -106,10 +116,22 @@ skip_one p sound done x rest k last is gap given left =
     (apart 0 (last + 1) (omega arith), tt)) in
     let kept : without branch_id more (last + 1) ≡ done = without_last branch_id done y (last + 1)
     (all_so (λ (z : Branch). z.id ≤ last) (λ (z : Branch). z.id < last + 1) done (λ z h. omega (arith, h)) given) refl in (
-      free (refusals q (AddBranch 0 0)) (refl, (refl, (ap (λ n. nat_lt 0 n) first, (not_most 64 (length done) parts.few, (
-        few_marks (with_branch q 0 0).plan (no_marks p k done last 0 0),
-        (unspent k (omega (arith, left)), tt),
-      ))))),
+      free (refusals q (AddBranch 0 0)) (
+        refl,
+        (
+          refl,
+          (
+            ap (λ n. nat_lt 0 n) first,
+            (
+              not_most 64 (length done) parts.few,
+              (
+                few_marks (with_branch q 0 0).plan (no_marks p k done last 0 0),
+                (unspent k (omega (arith, left)), tt),
+              ),
+            ),
+          ),
+        ),
+      ),
       (
         free (refusals r (RemoveBranch (last + 1))) (
           ap not (ap (λ t. last + 1 == 0 || t) (there_last branch_id done y (last + 1) refl) ∙ or_true (last + 1 == 0)),

@@ -25,7 +25,7 @@ use Rattle.document_replay.proofs.Bookmarks.{with_bookmarks}
 use Rattle.document_replay.proofs.Elements.{all_parts, there_last, without_last}
 use Rattle.document_replay.proofs.Tests.{all_pass, apart_above, but_few, few_marks, free, less, neither, not_less, not_most, unspent}
 use Rattle.document_replay.proofs.Shared.Leading.{Adds}
-use Rattle.document_replay.proofs.Worlds.{named, some_states}
+use Rattle.document_replay.proofs.Shared.Worlds.{named, some_states}
 
 -- the document with rule, start, branches and bookmarks, and these interventions
 abbrev pub with_interventions : Plan → ℕ → List Intervention → ℕ → Plan
@@ -104,19 +104,34 @@ add_one p sound made done x rest k last is next left =
     sound.branches_sound.interventions_placed in
     let tests = timely x.acts allowed.timely in
     let r : Plan = (with_intervention q x.branch x.acts x.cells).plan in (
-      insert_free q x.branch x.acts x.cells (free (for_intervention q x.branch x.acts x.cells) (ap not placed.there, (
-        tests.0,
-        (tests.1, (not_less (first_of x.acts) (fork_of p.branches x.branch) placed.from_fork, (
-          not_most 4096 (length done) (few p sound done x rest is),
-          (not_less 10000 (length x.cells) small, (
-            cells_stay x.cells allowed.named,
-            (cells_below (states_of p.rule) x.cells allowed.below, (
-              but_few (repeats x.acts) (has_too_many_marks r) (few_marks r (marks_before p sound done x rest k last is)),
-              (unspent k left, tt),
-            )),
-          )),
-        ))),
-      ))),
+      insert_free q x.branch x.acts x.cells (free (for_intervention q x.branch x.acts x.cells) (
+        ap not placed.there,
+        (
+          tests.0,
+          (
+            tests.1,
+            (
+              not_less (first_of x.acts) (fork_of p.branches x.branch) placed.from_fork,
+              (
+                not_most 4096 (length done) (few p sound done x rest is),
+                (
+                  not_less 10000 (length x.cells) small,
+                  (
+                    cells_stay x.cells allowed.named,
+                    (
+                      cells_below (states_of p.rule) x.cells allowed.below,
+                      (
+                        but_few (repeats x.acts) (has_too_many_marks r) (few_marks r (marks_before p sound done x rest k last is)),
+                        (unspent k left, tt),
+                      ),
+                    ),
+                  ),
+                ),
+              ),
+            ),
+          ),
+        ),
+      )),
       ap (λ n. with_interventions p (k + 1) (done ++ (record x { id = n }) ∷ []) n) (sym next)
           ∙ insert_makes q x.branch x.acts x.cells,
     )
@@ -137,13 +152,31 @@ skip_one p sound done x rest k last is gap given left =
     let kept : without intervention_id more (last + 1) ≡ done = without_last intervention_id done y (last + 1)
     (all_so (λ (z : Intervention). z.id ≤ last) (λ (z : Intervention). z.id < last + 1) done
     (λ z h. omega (arith, h)) given) refl in (
-      free (refusals q (InsertIntervention 0 0 origin)) (refl, (refl, (refl, (
-        ap (λ n. nat_lt 0 n) (fork_of-zero p.branches sound.branches_sound.forked),
-        (not_most 4096 (length done) (few p sound done x rest is), (refl, (refl, (
-          cells_below (states_of p.rule) origin (some_states p sound, tt),
-          (refl, (unspent k (omega (arith, left)), tt)),
-        )))),
-      )))),
+      free (refusals q (InsertIntervention 0 0 origin)) (
+        refl,
+        (
+          refl,
+          (
+            refl,
+            (
+              ap (λ n. nat_lt 0 n) (fork_of-zero p.branches sound.branches_sound.forked),
+              (
+                not_most 4096 (length done) (few p sound done x rest is),
+                (
+                  refl,
+                  (
+                    refl,
+                    (
+                      cells_below (states_of p.rule) origin (some_states p sound, tt),
+                      (refl, (unspent k (omega (arith, left)), tt)),
+                    ),
+                  ),
+                ),
+              ),
+            ),
+          ),
+        ),
+      ),
       (
         free (refusals r (RemoveIntervention (last + 1))) (
           ap not (there_last intervention_id done y (last + 1) refl),

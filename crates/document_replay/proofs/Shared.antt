@@ -2,3 +2,4 @@
 pub mod Leading
 pub mod Made
 pub mod Remade
+pub mod Worlds

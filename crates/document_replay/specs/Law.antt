@@ -63,6 +63,6 @@ ShowsTheSame =
     (p : Plan) (revision : ℕ) (b : Bookmark) → scratch (remade revision p) b ≡ scratch p b
 
 -- whatever edits make of an opening document has ids from 1 on, and interventions of few cells
-abbrev pub EditsMake : Type 0
-EditsMake =
+abbrev pub EditsMakeDocuments : Type 0
+EditsMakeDocuments =
     (revision : ℕ) (edits : List Asked) (p : Plan) → Lead edits (opening revision) p → IsMade p

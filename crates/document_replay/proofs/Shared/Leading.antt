@@ -37,8 +37,12 @@ length-skips : (skip : ℕ → List Asked) → ((n : ℕ) → length (skip n) �
     → length (flat_map skip (range_with_len a n)) ≡ 2 * n
 length-skips skip two a zero = refl
 length-skips skip two a (suc n) =
-    omega (arith, length-append (skip a) (flat_map skip (range_with_len (a + 1) n)), two a,
-    length-skips skip two (a + 1) n)
+    omega (
+      arith,
+      length-append (skip a) (flat_map skip (range_with_len (a + 1) n)),
+      two a,
+      length-skips skip two (a + 1) n,
+    )
 
 skip_all : {X : Type 0} (id : X → ℕ) (skip : ℕ → List Asked) (add : X → Asked) (at : ℕ → List X → ℕ → Plan)
     (xs : List X) (all : Adds id skip add at xs) (done : List X) (x : X) (rest : List X) → done ++ x ∷ rest ≡ xs
@@ -64,9 +68,13 @@ length-add_all id skip add two last [] above rise = omega arith
 length-add_all id skip add two last (x ∷ xs) above rise =
     let more = above.0 in
     let rest = add_all id skip add (id x) xs in
-    omega (arith, length-append (flat_map skip (ids_between last (id x))) (add x ∷ rest),
-    length-skips skip two (last + 1) (id x - (last + 1)), more,
-    length-add_all id skip add two (id x) xs rise.0 rise.1)
+    omega (
+      arith,
+      length-append (flat_map skip (ids_between last (id x))) (add x ∷ rest),
+      length-skips skip two (last + 1) (id x - (last + 1)),
+      more,
+      length-add_all id skip add two (id x) xs rise.0 rise.1,
+    )
 
 -- all of them lead from the document that has those before to the one that has them all
 pub add_all_lead : {X : Type 0} (id : X → ℕ) (skip : ℕ → List Asked) (add : X → Asked) (at : ℕ → List X → ℕ → Plan)
@@ -99,3 +107,20 @@ add_all_lead id skip add at xs all done (x ∷ rest) k last is given above rise 
     (lead_on (add x ∷ []) later before after end here
     (lead_to later after (at (k + 2 * n + 1 + length later) xs (last_id id (id x) rest)) end behind
     (ap (λ a. at a xs (last_id id (id x) rest)) (omega (arith, long, twice)))))
+
+-- the edits for a list with one more element at its end
+pub add_all-push : {X : Type 0} (id : X → ℕ) (skip : ℕ → List Asked) (add : X → Asked) (last : ℕ) (xs : List X) (x : X)
+    → add_all id skip add last (xs ++ x ∷ [])
+    ≡ add_all id skip add last xs
+    ++ (flat_map skip (ids_between (last_id id last xs) (id x)) ++ add x ∷ [])
+add_all-push id skip add last [] x = refl
+add_all-push id skip add last (y ∷ xs) x =
+    let gap : List Asked = flat_map skip (ids_between last (id y)) in
+    let end : List Asked = flat_map skip (ids_between (last_id id (id y) xs) (id x)) ++ add x ∷ [] in
+    ap (λ edits. gap ++ add y ∷ edits) (add_all-push id skip add (id y) xs x)
+    ∙ sym (append_assoc gap (add y ∷ add_all id skip add (id y) xs) end)
+
+-- the last id of such a list
+pub last_id-push : {X : Type 0} (id : X → ℕ) (last : ℕ) (xs : List X) (x : X) → last_id id last (xs ++ x ∷ []) ≡ id x
+last_id-push id last [] x = refl
+last_id-push id last (y ∷ xs) x = last_id-push id (id y) xs x

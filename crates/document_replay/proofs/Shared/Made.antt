@@ -21,17 +21,17 @@ use Rattle.schedule.specs.Ids.{IdsRise, bookmark_id, branch_id, changed_at, inte
 use Rattle.schedule.specs.Plan.{Plan, opening}
 use Rattle.schedule.specs.Sound.{IsSound}
 use Rattle.schedule.proofs.Shared.Ids.{each_filter, each_map, given_push, rise_filter, rise_map, rise_push}
-use Rattle.document_replay.specs.Law.{DocumentsAreMadeAnew, EditsMake, IsMade, Lead, last_id}
+use Rattle.document_replay.specs.Law.{DocumentsAreMadeAnew, EditsMakeDocuments, IsMade, Lead, last_id}
 use Rattle.document_replay.specs.Replay.{add_all, add_bookmark, add_branch, add_intervention, edits_for, row_edits, skip_bookmark, skip_branch, skip_intervention}
 use Rattle.document_replay.proofs.Elements.{length-without}
 use Rattle.document_replay.proofs.Shared.Leading.{length-add_all}
 use Rattle.document_replay.proofs.Shared.Remade.{branches_from_one, length-rows, made_anew}
 
 -- rising ids from 1 up to `last`
-record AreNumbered {X : Type 0} (id : X → ℕ) (xs : List X) (last : ℕ) : Type 0 where
-  from_one : AllByRecursion (λ x. 0 < id x) xs
-  given : AllByRecursion (λ x. id x ≤ last) xs
-  rise : IdsRise id xs
+pub record AreNumbered {X : Type 0} (id : X → ℕ) (xs : List X) (last : ℕ) : Type 0 where
+  pub from_one : AllByRecursion (λ x. 0 < id x) xs
+  pub given : AllByRecursion (λ x. id x ≤ last) xs
+  pub rise : IdsRise id xs
 
 -- one more, some changed, and one left out
 
@@ -60,25 +60,25 @@ numbered_without id xs n last h = record {
 }
 
 -- interventions of few cells
-abbrev AreSmall : List Intervention → Type 0
+abbrev pub AreSmall : List Intervention → Type 0
 AreSmall = AllByRecursion (λ (i : Intervention). length i.cells ≤ 10000)
 
--- how many elements there are, and how many revisions making them took at least: each id that was given one, and each
--- element that was removed another
-abbrev elements : Plan → ℕ
-elements p = length p.interventions + length p.bookmarks + length p.branches
-
-abbrev ids_given : Plan → ℕ
+abbrev pub ids_given : Plan → ℕ
 ids_given p = p.last_intervention + p.last_bookmark + p.last_branch
 
-record IsNumbered (p : Plan) : Type 0 where
-  interventions : AreNumbered intervention_id p.interventions p.last_intervention
-  bookmarks : AreNumbered bookmark_id p.bookmarks p.last_bookmark
-  branches : AreNumbered branch_id p.branches p.last_branch
-  small : AreSmall p.interventions
-  spent : 2 * ids_given p ≤ p.revision + elements p
+abbrev pub elements : Plan → ℕ
+elements p = length p.interventions + length p.bookmarks + length p.branches
 
-numbered_opening : (revision : ℕ) → IsNumbered (opening revision)
+-- ids are given from 1 on, and interventions are small. Each id that was given took a revision, and so did each element
+-- that was removed
+pub record IsNumbered (p : Plan) : Type 0 where
+  pub interventions : AreNumbered intervention_id p.interventions p.last_intervention
+  pub bookmarks : AreNumbered bookmark_id p.bookmarks p.last_bookmark
+  pub branches : AreNumbered branch_id p.branches p.last_branch
+  pub small : AreSmall p.interventions
+  pub spent : 2 * ids_given p ≤ p.revision + elements p
+
+pub numbered_opening : (revision : ℕ) → IsNumbered (opening revision)
 numbered_opening revision = record {
   interventions = record { from_one = tt; given = tt; rise = tt };
   bookmarks = record { from_one = tt; given = tt; rise = tt };
@@ -119,6 +119,7 @@ few_changed p id acts cells h =
     let late = passed (is_before_fork p (unwrap_or b 0) (first_of acts)) _ _ bad.1 in
     few_cells p cells (for_changed p id acts cells) late.1
 
+-- one more intervention, and one that is changed
 numbered_inserted : (p : Plan) (b : ℕ) (acts : Acts) (cells : List CellSet) → IsNumbered p → length cells ≤ 10000
     → IsNumbered (with_intervention p b acts cells).plan
 numbered_inserted p b acts cells h few =
@@ -148,7 +149,8 @@ numbered_acting p id acts cells h few =
           omega (arith, spent, long));
     }
 
-numbered_step : (p : Plan) (asked : Asked) → IsNumbered p → refusal p asked ≡ None → IsNumbered (changed p asked).plan
+-- an edit that isn't refused keeps that
+pub numbered_step : (p : Plan) (asked : Asked) → IsNumbered p → refusal p asked ≡ None → IsNumbered (changed p asked).plan
 numbered_step p (InsertIntervention b generation cells) h free =
     numbered_inserted p b (Once generation) cells h (few_inserted p b (Once generation) cells free)
 numbered_step p (ChangeIntervention id generation cells) h free =
@@ -243,20 +245,21 @@ numbered_step p (RemoveBranch b) h free =
       spent = omega (arith, spent, long);
     }
 
-numbered_all : (edits : List Asked) (p q : Plan) → IsNumbered p → Lead edits p q → IsNumbered q
+-- so do all of a list
+pub numbered_all : (edits : List Asked) (p q : Plan) → IsNumbered p → Lead edits p q → IsNumbered q
 numbered_all [] p q h is = subst IsNumbered (sym is) h
 numbered_all (asked ∷ edits) p q h lead =
     numbered_all edits (changed p asked).plan q (numbered_step p asked h lead.0) lead.1
 
-made : (p : Plan) → IsNumbered p → IsMade p
+pub made : (p : Plan) → IsNumbered p → IsMade p
 made p h = record {
   interventions_from_one = h.interventions.from_one;
   bookmarks_from_one = h.bookmarks.from_one;
   few_cells = h.small;
 }
 
-pub edits_make : EditsMake
-edits_make revision edits p lead =
+pub edits_make_documents : EditsMakeDocuments
+edits_make_documents revision edits p lead =
     made p (numbered_all edits (opening revision) p (numbered_opening revision) lead)
 
 -- the last id of a list was given
@@ -266,18 +269,22 @@ last_given id last most [] low given = low
 last_given id last most (x ∷ xs) low given = last_given id (id x) most xs given.0 given.1
 
 -- adding elements takes no more edits than revisions were spent on them
-rows_few : (p : Plan) → IsNumbered p → length (row_edits p) ≤ p.revision
+pub rows_few : (p : Plan) → IsNumbered p → length (row_edits p) ≤ p.revision
 rows_few p h =
     let spent = h.spent in
-    omega (arith, spent, length-rows p,
-    length-add_all intervention_id skip_intervention add_intervention (λ n. refl) 0 p.interventions
-    h.interventions.from_one h.interventions.rise,
-    length-add_all bookmark_id skip_bookmark add_bookmark (λ n. refl) 0 p.bookmarks h.bookmarks.from_one
-    h.bookmarks.rise,
-    length-add_all branch_id skip_branch add_branch (λ n. refl) 0 p.branches h.branches.from_one h.branches.rise,
-    last_given intervention_id 0 p.last_intervention p.interventions (omega arith) h.interventions.given,
-    last_given bookmark_id 0 p.last_bookmark p.bookmarks (omega arith) h.bookmarks.given,
-    last_given branch_id 0 p.last_branch p.branches (omega arith) h.branches.given)
+    omega (
+      arith,
+      spent,
+      length-rows p,
+      length-add_all intervention_id skip_intervention add_intervention (λ n. refl) 0 p.interventions
+          h.interventions.from_one h.interventions.rise,
+      length-add_all bookmark_id skip_bookmark add_bookmark (λ n. refl) 0 p.bookmarks h.bookmarks.from_one
+          h.bookmarks.rise,
+      length-add_all branch_id skip_branch add_branch (λ n. refl) 0 p.branches h.branches.from_one h.branches.rise,
+      last_given intervention_id 0 p.last_intervention p.interventions (omega arith) h.interventions.given,
+      last_given bookmark_id 0 p.last_bookmark p.bookmarks (omega arith) h.bookmarks.given,
+      last_given branch_id 0 p.last_branch p.branches (omega arith) h.branches.given,
+    )
 
 pub documents_are_made_anew : DocumentsAreMadeAnew
 documents_are_made_anew revision edits p sound lead left =

@@ -8,7 +8,7 @@ use Rattle.schedule.specs.Plan.{Plan, opening}
 use Rattle.schedule.specs.Sound.{IsForked, IsSound}
 use Rattle.document_replay.specs.Law.{IsMade, Lead, RowsAreMadeAnew, bare, last_id, remade}
 use Rattle.document_replay.specs.Replay.{bookmark_edits, branch_edits, edits_for, intervention_edits, row_edits}
-use Rattle.document_replay.proofs.Worlds.{worlds_lead}
+use Rattle.document_replay.proofs.Shared.Worlds.{rule_leads, start_leads}
 use Rattle.document_replay.proofs.Branches.{branches_added, with_branches}
 use Rattle.document_replay.proofs.Bookmarks.{bookmarks_added, with_bookmarks}
 use Rattle.document_replay.proofs.Interventions.{interventions_added, with_interventions}
@@ -22,8 +22,11 @@ branches_from_one p sound = all_so (IsForked p.branches) (λ (x : Branch). 0 < x
 pub length-rows : (p : Plan)
     → length (row_edits p) ≡ length (branch_edits p) + length (bookmark_edits p) + length (intervention_edits p)
 length-rows p =
-    omega (arith, length-append (branch_edits p ++ bookmark_edits p) (intervention_edits p),
-    length-append (branch_edits p) (bookmark_edits p))
+    omega (
+      arith,
+      length-append (branch_edits p ++ bookmark_edits p) (intervention_edits p),
+      length-append (branch_edits p) (bookmark_edits p),
+    )
 
 pub rows_are_made_anew : RowsAreMadeAnew
 rows_are_made_anew p sound made k left =
@@ -50,8 +53,12 @@ rows_are_made_anew p sound made k left =
 pub made_anew : (p : Plan) → IsSound p → IsMade p → length (edits_for p) < 2 ^ 64
     → Lead (edits_for p) (opening 0) (remade (length (edits_for p)) p)
 made_anew p sound made left =
-    let both : List Asked = ReplaceRule p.rule ∷ ReplaceStart p.start ∷ [] in
-    lead_to (edits_for p) (opening 0) (remade (2 + length (row_edits p)) p) (remade (length (edits_for p)) p)
-    (lead_on both (row_edits p) (opening 0) (bare 2 p) (remade (2 + length (row_edits p)) p)
-    (worlds_lead p sound) (rows_are_made_anew p sound made 2 (omega (arith, left))))
+    let rule : List Asked = ReplaceRule p.rule ∷ [] in
+    let start : List Asked = ReplaceStart p.start ∷ [] in
+    let ruled : Plan = record (opening 1) { rule = p.rule } in
+    let end : Plan = remade (2 + length (row_edits p)) p in
+    lead_to (edits_for p) (opening 0) end (remade (length (edits_for p)) p)
+    (lead_on rule (start ++ row_edits p) (opening 0) ruled end (rule_leads p 0 (omega arith))
+    (lead_on start (row_edits p) ruled (bare 2 p) end (start_leads p sound 1 (omega arith))
+    (rows_are_made_anew p sound made 2 (omega (arith, left)))))
     (ap (λ n. remade n p) (omega arith))

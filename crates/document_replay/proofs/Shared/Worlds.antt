@@ -56,18 +56,24 @@ none_live = live-entries blank ∙ ap (map as_live) entries-blank
 blank_below : (n : ℕ) → lies_below n blank ≡ true
 blank_below n = ap (list_all (λ (e : Place × ℕ). nat_lt e.1 n)) none_live
 
--- from the opening document to the one with rule and start alone
-pub worlds_lead : (p : Plan) → IsSound p → Lead (ReplaceRule p.rule ∷ ReplaceStart p.start ∷ []) (opening 0) (bare 2 p)
-worlds_lead p sound =
-    let n = states_of p.rule in
-    let q : Plan = record (opening 0) { rule = p.rule; revision = 1 } in (
-      free (refusals (opening 0) (ReplaceRule p.rule))
-          (ap not (both (lies_below n blank) (all_set_below n []) (blank_below n) refl), (unspent 0 (omega arith), tt)),
-      (
-        free (refusals q (ReplaceStart p.start)) (
-          ap not (lies_near-margin p.start sound.start_inside),
-          (ap not (lies_below-all n p.start sound.start_below), (unspent 1 (omega arith), tt)),
-        ),
-        refl,
+-- from an opening document to one with this rule
+pub rule_leads : (p : Plan) (k : ℕ) → k + 1 < 2 ^ 64
+    → Lead (ReplaceRule p.rule ∷ []) (opening k) (record (opening (k + 1)) { rule = p.rule })
+rule_leads p k left =
+    let n = states_of p.rule in (
+      free (refusals (opening k) (ReplaceRule p.rule))
+          (ap not (both (lies_below n blank) (all_set_below n []) (blank_below n) refl), (unspent k left, tt)),
+      refl,
+    )
+
+-- and from there to the one with the start too
+pub start_leads : (p : Plan) → IsSound p → (k : ℕ) → k + 1 < 2 ^ 64
+    → Lead (ReplaceStart p.start ∷ []) (record (opening k) { rule = p.rule }) (bare (k + 1) p)
+start_leads p sound k left =
+    let q : Plan = record (opening k) { rule = p.rule } in (
+      free (refusals q (ReplaceStart p.start)) (
+        ap not (lies_near-margin p.start sound.start_inside),
+        (ap not (lies_below-all (states_of p.rule) p.start sound.start_below), (unspent k left, tt)),
       ),
+      refl,
     )
