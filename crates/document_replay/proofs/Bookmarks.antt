@@ -1,5 +1,5 @@
 -- The edits that add the bookmarks of a document, or skip ids, aren't refused.
-use Rattle.std.proofs.Common.{◌≡◌, ℕ, ◌+◌, ◌<◌, ◌≤◌, ◌^◌, not, List, [], ◌∷◌, ◌++◌, length, nat_lt, refl, sym, ap, ap₂, ◌∙◌, subst, arith, length-append}
+use Rattle.std.proofs.Common.{◌≡◌, ℕ, ◌+◌, ◌<◌, ◌≤◌, ◌^◌, not, List, [], ◌∷◌, ◌++◌, length, nat_lt, refl, sym, ap, ap₂, arith}
 use Rattle.std.specs.List.{AllByRecursion}
 use Rattle.basics.proofs.Shared.Lists.{all_so}
 use Rattle.bookmarks.specs.declared.view.View.{View}
@@ -17,7 +17,7 @@ use Rattle.schedule.proofs.Shared.Branches.{fork_of-zero}
 use Rattle.document_replay.specs.Law.{Lead, last_id}
 use Rattle.document_replay.specs.Replay.{add_bookmark, skip_bookmark}
 use Rattle.document_replay.proofs.Branches.{with_branches}
-use Rattle.document_replay.proofs.Elements.{all_parts, there_last, without_last}
+use Rattle.document_replay.proofs.Elements.{at_cut, fewer_before, there_last, without_last}
 use Rattle.document_replay.proofs.Tests.{few_marks, free, not_less, not_most, unspent}
 use Rattle.document_replay.proofs.Shared.Leading.{Adds}
 
@@ -32,28 +32,16 @@ no_marks : (p : Plan) (k : ℕ) (done : List Bookmark) (last b generation : ℕ)
     → repeat_marks (changed_bookmarks (with_bookmarks p k done last) b generation view).plan ≤ 8192
 no_marks p k done last b generation view = omega arith
 
-few : (p : Plan) → IsSound p → (done : List Bookmark) (x : Bookmark) (rest : List Bookmark)
-    → done ++ x ∷ rest ≡ p.bookmarks → length done < 4096
-few p sound done x rest is =
-    let most = sound.few_bookmarks in
-    let long : length (done ++ x ∷ rest) ≡ length p.bookmarks = ap length is in
-    omega (arith, most, long, length-append done (x ∷ rest))
-
--- what holds of the one where the list is cut
-here : (P : Bookmark → Type 0) (xs done : List Bookmark) (x : Bookmark) (rest : List Bookmark) → done ++ x ∷ rest ≡ xs
-    → AllByRecursion P xs → P x
-here P xs done x rest is all = (all_parts P done (x ∷ rest) (subst (AllByRecursion P) (sym is) all)).1.0
-
 add_one : (p : Plan) → IsSound p → (done : List Bookmark) (x : Bookmark) (rest : List Bookmark) (k last : ℕ)
     → done ++ x ∷ rest ≡ p.bookmarks → last + 1 ≡ x.id → k + 1 < 2 ^ 64
     → Lead (add_bookmark x ∷ []) (with_bookmarks p k done last) (with_bookmarks p (k + 1) (done ++ x ∷ []) x.id)
 add_one p sound done x rest k last is next left =
     let q : Plan = with_bookmarks p k done last in
     let near : x.generation ≤ 2 ^ 60 =
-    here (λ (y : Bookmark). y.generation ≤ 2 ^ 60) p.bookmarks done x rest is sound.bookmarks_near in
-    let within : IsWithin x.view = here (λ (y : Bookmark). IsWithin y.view) p.bookmarks done x rest is sound.views_within in
+    at_cut (λ (y : Bookmark). y.generation ≤ 2 ^ 60) p.bookmarks done x rest is sound.bookmarks_near in
+    let within : IsWithin x.view = at_cut (λ (y : Bookmark). IsWithin y.view) p.bookmarks done x rest is sound.views_within in
     let placed : IsPlaced p.branches x.branch x.generation =
-    here (λ (y : Bookmark). IsPlaced p.branches y.branch y.generation) p.bookmarks done x rest is
+    at_cut (λ (y : Bookmark). IsPlaced p.branches y.branch y.generation) p.bookmarks done x rest is
     sound.branches_sound.bookmarks_placed in (
       free (refusals q (AddBookmark x.branch x.generation x.view)) (
         ap not placed.there,
@@ -62,7 +50,7 @@ add_one p sound done x rest k last is next left =
           (
             not_less x.generation (fork_of p.branches x.branch) placed.from_fork,
             (
-              not_most 4096 (length done) (few p sound done x rest is),
+              not_most 4096 (length done) (fewer_before p.bookmarks done x rest 4096 is sound.few_bookmarks),
               (
                 ap not within.0,
                 (
@@ -100,7 +88,7 @@ skip_one p sound done x rest k last is gap given left =
           (
             ap (λ n. nat_lt 0 n) (fork_of-zero p.branches sound.branches_sound.forked),
             (
-              not_most 4096 (length done) (few p sound done x rest is),
+              not_most 4096 (length done) (fewer_before p.bookmarks done x rest 4096 is sound.few_bookmarks),
               (
                 refl,
                 (

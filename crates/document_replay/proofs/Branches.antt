@@ -1,12 +1,12 @@
 -- The edits that add the branches of a document, or skip ids, aren't refused.
-use Rattle.std.proofs.Common.{◌≡◌, ℕ, ◌+◌, ◌<◌, ◌≤◌, ◌^◌, false, not, List, [], ◌∷◌, ◌++◌, length, nat_lt, refl, sym, ap, ap₂, ◌∙◌, subst, arith, Option, length-append}
+use Rattle.std.proofs.Common.{◌≡◌, ℕ, ◌+◌, ◌<◌, ◌≤◌, ◌^◌, false, not, List, [], ◌∷◌, ◌++◌, length, nat_lt, refl, sym, ap, ap₂, ◌∙◌, subst, arith, Option}
 use Rattle.std.specs.Prelude.{◌==◌, ◌||◌}
 use Rattle.std.specs.Option.{option_map_or}
 use Rattle.std.specs.List.{AllByRecursion}
 use Rattle.basics.proofs.Shared.Lists.{all_append, all_so}
 use Rattle.schedule.specs.declared.branch.Branch.{Branch}
 use Rattle.schedule.specs.Asked.{AddBranch, RemoveBranch}
-use Rattle.schedule.specs.Branches.{fork_of, has_branch, has_children}
+use Rattle.schedule.specs.Branches.{fork_of, has_children}
 use Rattle.schedule.specs.Change.{next_branch, refusals, with_branch}
 use Rattle.schedule.specs.Ids.{IdsRise, branch_id, without}
 use Rattle.schedule.specs.Plan.{Plan}
@@ -15,7 +15,7 @@ use Rattle.schedule.specs.Sound.{IsForked, IsPlaced, IsSound}
 use Rattle.schedule.proofs.Shared.Branches.{fork_of-zero}
 use Rattle.document_replay.specs.Law.{Lead, bare}
 use Rattle.document_replay.specs.Replay.{add_branch, skip_branch}
-use Rattle.document_replay.proofs.Elements.{all_both, all_parts, found_before, none_any, or_true, rise_parts, there_before, there_last, without_last}
+use Rattle.document_replay.proofs.Elements.{all_both, all_parts, fewer_before, found_before, none_any, or_true, rise_parts, there_before, there_last, without_last}
 use Rattle.document_replay.proofs.Tests.{apart, apart_above, few_marks, free, neither, not_less, not_most, unspent}
 use Rattle.document_replay.proofs.Shared.Leading.{Adds}
 
@@ -45,14 +45,12 @@ cut p sound done x rest is =
     let forked = all_parts (IsForked p.branches) done (x ∷ rest)
     (subst (AllByRecursion (IsForked p.branches)) (sym is) sound.branches_sound.forked) in
     let rise = rise_parts branch_id done (x ∷ rest) (subst (IdsRise branch_id) (sym is) sound.branches_sound.rise) in
-    let few = sound.branches_sound.few in
-    let long : length (done ++ x ∷ rest) ≡ length p.branches = ap length is in
     record {
       before = forked.0;
       here = forked.1.0;
       behind = forked.1.1;
       later = rise.1.0;
-      few = omega (arith, few, long, length-append done (x ∷ rest));
+      few = fewer_before p.branches done x rest 64 is sound.branches_sound.few;
     }
 
 no_marks : (p : Plan) (k : ℕ) (done : List Branch) (last : ℕ) (parent generation : ℕ)

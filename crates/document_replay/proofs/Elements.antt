@@ -1,8 +1,8 @@
 -- Lists of elements with rising ids, cut in two, and with one more.
-use Rattle.std.proofs.Common.{◌≡◌, ℕ, ◌+◌, ◌<◌, ◌≤◌, ◌==◌, Bool, true, false, cond, not, List, [], ◌∷◌, ◌++◌, length, filter, refl, sym, ap, ◌∙◌, subst, arith, Option, None, Some}
-use Rattle.std.specs.Prelude.{find, ◌||◌}
+use Rattle.std.proofs.Common.{◌≡◌, ℕ, ◌+◌, ◌<◌, ◌≤◌, ◌==◌, Bool, true, false, cond, not, List, [], ◌∷◌, ◌++◌, length, refl, sym, ap, ◌∙◌, subst, arith, length-append, Option, Some}
+use Rattle.std.specs.Prelude.{◌||◌}
 use Rattle.std.specs.List.{AllByRecursion, list_any}
-use Rattle.std.proofs.lemmas.Bool.{cond-false, cond-true}
+use Rattle.std.proofs.lemmas.Bool.{cond-false}
 use Rattle.std.proofs.lemmas.Bool.Decides.{nat_tests}
 use Rattle.schedule.specs.Branches.{element_at}
 use Rattle.schedule.specs.Ids.{IdsRise, has_id, without}
@@ -17,6 +17,18 @@ pub rise_parts : {X : Type 0} (id : X → ℕ) (xs ys : List X) → IdsRise id (
 rise_parts id [] ys h = (tt, h)
 rise_parts id (x ∷ xs) ys h =
     let rest = rise_parts id xs ys h.1 in ((((all_parts (λ y. id x < id y) xs ys h.0).0), rest.0), rest.1)
+
+-- what holds of the element where a list is cut
+pub at_cut : {X : Type 0} (P : X → Type 0) (xs done : List X) (x : X) (rest : List X) → done ++ x ∷ rest ≡ xs
+    → AllByRecursion P xs → P x
+at_cut P xs done x rest is all = (all_parts P done (x ∷ rest) (subst (AllByRecursion P) (sym is) all)).1.0
+
+-- those before it are fewer
+pub fewer_before : {X : Type 0} (xs done : List X) (x : X) (rest : List X) (n : ℕ) → done ++ x ∷ rest ≡ xs
+    → length xs ≤ n → length done < n
+fewer_before xs done x rest n is few =
+    let long : length (done ++ x ∷ rest) ≡ length xs = ap length is in
+    omega (arith, few, long, length-append done (x ∷ rest))
 
 -- what is found in the first part, where no later element has the id
 pub found_before : {X : Type 0} (id : X → ℕ) (xs ys : List X) (n : ℕ) → AllByRecursion (λ y. n < id y) ys

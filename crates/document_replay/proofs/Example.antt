@@ -1,5 +1,5 @@
 -- The worked document.
-use Rattle.std.proofs.Common.{◌≡◌, ℕ, ◌<◌, List, [], ◌∷◌, refl, sym, subst, arith, None}
+use Rattle.std.proofs.Common.{◌<◌, List, [], ◌∷◌, refl, sym, subst, arith}
 use Rattle.std.specs.List.{AllByRecursion}
 use Rattle.worlds.specs.World.{blank}
 use Rattle.rule_tree.specs.Rule.{states_of, states_of-still, still}

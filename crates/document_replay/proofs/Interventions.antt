@@ -1,5 +1,5 @@
 -- The edits that insert the interventions of a document, or skip ids, aren't refused.
-use Rattle.std.proofs.Common.{◌≡◌, ℕ, ◌+◌, ◌<◌, ◌≤◌, ◌^◌, false, true, not, List, [], ◌∷◌, ◌++◌, length, nat_lt, refl, sym, ap, ap₂, ◌∙◌, subst, arith, None, pos, length-append}
+use Rattle.std.proofs.Common.{◌≡◌, ℕ, ◌+◌, ◌<◌, ◌≤◌, ◌^◌, false, not, List, [], ◌∷◌, ◌++◌, length, nat_lt, refl, sym, ap, ap₂, ◌∙◌, arith, None, pos}
 use Rattle.std.specs.List.{AllByRecursion, sum_by}
 use Rattle.std.specs.Prelude.{◌==◌}
 use Rattle.std.proofs.lemmas.List.Sums.{sum_by-append, sum_by-cons, sum_by_push}
@@ -22,7 +22,7 @@ use Rattle.schedule.proofs.Shared.Branches.{fork_of-zero}
 use Rattle.document_replay.specs.Law.{IsMade, Lead, last_id}
 use Rattle.document_replay.specs.Replay.{add_intervention, insert, skip_intervention}
 use Rattle.document_replay.proofs.Bookmarks.{with_bookmarks}
-use Rattle.document_replay.proofs.Elements.{all_parts, there_last, without_last}
+use Rattle.document_replay.proofs.Elements.{at_cut, fewer_before, there_last, without_last}
 use Rattle.document_replay.proofs.Tests.{all_pass, apart_above, but_few, few_marks, free, less, neither, not_less, not_most, unspent}
 use Rattle.document_replay.proofs.Shared.Leading.{Adds}
 use Rattle.document_replay.proofs.Shared.Worlds.{named, some_states}
@@ -67,13 +67,6 @@ insert_makes : (q : Plan) (b : ℕ) (acts : Acts) (cells : List CellSet)
 insert_makes q b (Once generation) cells = refl
 insert_makes q b (Every first every last) cells = refl
 
-few : (p : Plan) → IsSound p → (done : List Intervention) (x : Intervention) (rest : List Intervention)
-    → done ++ x ∷ rest ≡ p.interventions → length done < 4096
-few p sound done x rest is =
-    let most = sound.few_interventions in
-    let long : length (done ++ x ∷ rest) ≡ length p.interventions = ap length is in
-    omega (arith, most, long, length-append done (x ∷ rest))
-
 -- there are no more marks than those of the document
 marks_before : (p : Plan) → IsSound p → (done : List Intervention) (x : Intervention) (rest : List Intervention)
     (k last : ℕ) → done ++ x ∷ rest ≡ p.interventions
@@ -85,22 +78,17 @@ marks_before p sound done x rest k last is =
     let all : sum_by f (done ++ x ∷ rest) ≡ repeat_marks p = ap (sum_by f) is in
     omega (arith, most, all, sum_by-append f done (x ∷ rest), sum_by-cons f x rest, sum_by_push f done y)
 
--- what holds of the one where the list is cut
-here : (P : Intervention → Type 0) (xs done : List Intervention) (x : Intervention) (rest : List Intervention)
-    → done ++ x ∷ rest ≡ xs → AllByRecursion P xs → P x
-here P xs done x rest is all = (all_parts P done (x ∷ rest) (subst (AllByRecursion P) (sym is) all)).1.0
-
 add_one : (p : Plan) → IsSound p → IsMade p → (done : List Intervention) (x : Intervention) (rest : List Intervention)
     (k last : ℕ) → done ++ x ∷ rest ≡ p.interventions → last + 1 ≡ x.id → k + 1 < 2 ^ 64
     → Lead (add_intervention x ∷ []) (with_interventions p k done last)
     (with_interventions p (k + 1) (done ++ x ∷ []) x.id)
 add_one p sound made done x rest k last is next left =
     let q : Plan = with_interventions p k done last in
-    let allowed = here (IsAllowed (states_of p.rule)) p.interventions done x rest is sound.interventions_allowed in
+    let allowed = at_cut (IsAllowed (states_of p.rule)) p.interventions done x rest is sound.interventions_allowed in
     let small : length x.cells ≤ 10000 =
-    here (λ (y : Intervention). length y.cells ≤ 10000) p.interventions done x rest is made.few_cells in
+    at_cut (λ (y : Intervention). length y.cells ≤ 10000) p.interventions done x rest is made.few_cells in
     let placed : IsPlaced p.branches x.branch (first_of x.acts) =
-    here (λ (y : Intervention). IsPlaced p.branches y.branch (first_of y.acts)) p.interventions done x rest is
+    at_cut (λ (y : Intervention). IsPlaced p.branches y.branch (first_of y.acts)) p.interventions done x rest is
     sound.branches_sound.interventions_placed in
     let tests = timely x.acts allowed.timely in
     let r : Plan = (with_intervention q x.branch x.acts x.cells).plan in (
@@ -113,7 +101,7 @@ add_one p sound made done x rest k last is next left =
             (
               not_less (first_of x.acts) (fork_of p.branches x.branch) placed.from_fork,
               (
-                not_most 4096 (length done) (few p sound done x rest is),
+                not_most 4096 (length done) (fewer_before p.interventions done x rest 4096 is sound.few_interventions),
                 (
                   not_less 10000 (length x.cells) small,
                   (
@@ -161,7 +149,7 @@ skip_one p sound done x rest k last is gap given left =
             (
               ap (λ n. nat_lt 0 n) (fork_of-zero p.branches sound.branches_sound.forked),
               (
-                not_most 4096 (length done) (few p sound done x rest is),
+                not_most 4096 (length done) (fewer_before p.interventions done x rest 4096 is sound.few_interventions),
                 (
                   refl,
                   (

@@ -29,26 +29,26 @@ insert b (Every first every last) cells = InsertRepeat b first every last cells
 abbrev pub add_intervention : Intervention → Asked
 add_intervention i = insert i.branch i.acts i.cells
 
--- the edits by which a branch is given this id and removed
+-- the edits that skip an id of branches: one is added, which gets it, and is removed
 abbrev pub skip_branch : ℕ → List Asked
 skip_branch id = AddBranch 0 0 ∷ RemoveBranch id ∷ []
 
--- those for a bookmark
+-- those that skip one of bookmarks
 abbrev pub skip_bookmark : ℕ → List Asked
 skip_bookmark id = AddBookmark 0 0 Counts ∷ RemoveBookmark id ∷ []
 
--- those for an intervention
+-- those that skip one of interventions
 abbrev pub skip_intervention : ℕ → List Asked
 skip_intervention id =
     InsertIntervention 0 0 (record { x = pos 0; y = pos 0; state = 0 } ∷ [])
     ∷ RemoveIntervention id ∷ []
 
--- the ids above `last` and below `id`
+-- the ids above one and below another
 abbrev pub ids_between : ℕ → ℕ → List ℕ
 ids_between last id = range_with_len (last + 1) (id - (last + 1))
 
 -- the edits that add the elements of a list, whose ids rise, where `last` is the last id that was
--- given: before each element the ids that it leaves out are given and their elements removed
+-- given: before each element the ids that are left out are skipped
 abbrev pub add_all :
     {X : Type 0} → (X → ℕ) → (ℕ → List Asked) → (X → Asked) → ℕ → List X → List Asked
 add_all id skip add last [] = []
@@ -68,7 +68,8 @@ abbrev pub intervention_edits : Plan → List Asked
 intervention_edits p =
     add_all intervention_id skip_intervention add_intervention 0 p.interventions
 
--- the edits that add all three
+-- the edits that add all three; interventions come last, so that no marks are counted before them,
+-- and then never more than those of the document
 abbrev pub row_edits : Plan → List Asked
 row_edits p = branch_edits p ++ bookmark_edits p ++ intervention_edits p
 

@@ -1,12 +1,15 @@
 -- What holds of every document that edits made of an opening one.
-use Rattle.std.proofs.Common.{◌≡◌, ℕ, ◌+◌, ◌*◌, ◌<◌, ◌≤◌, ◌^◌, Bool, true, false, not, List, [], ◌∷◌, ◌++◌, length, map, filter, nat_le, nat_lt, refl, sym, ap, ◌∙◌, subst, arith, Option, None, Some, length-append}
+use Rattle.std.proofs.Common.{◌≡◌, ℕ, ◌+◌, ◌*◌, ◌<◌, ◌≤◌, Bool, true, false, not, List, [], ◌∷◌, ◌++◌, length, nat_le, nat_lt, refl, sym, subst, arith, Option, None, Some, length-append}
 use Rattle.std.specs.Prelude.{if◌then◌else◌, ◌==◌, is_none}
 use Rattle.std.specs.List.{AllByRecursion}
 use Rattle.std.specs.Option.{unwrap_or}
 use Rattle.std.proofs.lemmas.List.{length-map}
 use Rattle.std.proofs.lemmas.Bool.{ltb-false}
-use Rattle.basics.proofs.Shared.Lists.{all_append, all_so}
+use Rattle.basics.proofs.Shared.Lists.{all_append}
 use Rattle.worlds.specs.declared.cell.CellSet.{CellSet}
+use Rattle.worlds.specs.Lay.{lay}
+use Rattle.worlds.specs.World.{World}
+use Rattle.rule_tree.specs.declared.rule.Rule.{Rule}
 use Rattle.schedule.specs.declared.acts.Acts.{Acts}
 use Rattle.schedule.specs.declared.acts.Acts.TheVariants.{Once, Every}
 use Rattle.schedule.specs.declared.fault.EditFault.{EditFault}
@@ -15,17 +18,21 @@ use Rattle.schedule.specs.Branches.{has_branch, intervention_branch}
 use Rattle.schedule.specs.declared.document.Intervention.{Intervention}
 use Rattle.schedule.specs.declared.document.Bookmark.{Bookmark}
 use Rattle.schedule.specs.declared.branch.Branch.{Branch}
-use Rattle.schedule.specs.Asked.{Asked, InsertIntervention, ChangeIntervention, InsertRepeat, ChangeRepeat, RemoveIntervention, SetCells, ReplaceStart, ReplaceRule, AddBookmark, MoveBookmark, RemoveBookmark, AddBranch, RemoveBranch}
-use Rattle.schedule.specs.Change.{acting, acts_too_far, changed, first_refusal, for_cells_before, for_changed, for_changed_intervention, for_inserted, for_intervention, is_bad_repeat, is_before_fork, marking, next_bookmark, next_branch, next_intervention, refusal, with_changed_intervention, with_intervention}
+use Rattle.schedule.specs.Asked.{Asked, InsertIntervention, ChangeIntervention, InsertRepeat, ChangeRepeat}
+use Rattle.schedule.specs.Asked.{RemoveIntervention, SetCells, ReplaceStart, ReplaceRule, AddBookmark, MoveBookmark}
+use Rattle.schedule.specs.Asked.{RemoveBookmark, AddBranch, RemoveBranch}
+use Rattle.schedule.specs.Change.{acting, changed, marking, next_bookmark, next_branch, next_intervention, refusal, revised}
+use Rattle.schedule.specs.Change.{with_changed_intervention, with_intervention, acts_too_far, first_refusal}
+use Rattle.schedule.specs.Change.{for_cells_before, for_changed, for_changed_intervention, for_inserted}
+use Rattle.schedule.specs.Change.{for_intervention, is_bad_repeat, is_before_fork}
 use Rattle.schedule.specs.Ids.{IdsRise, bookmark_id, branch_id, changed_at, intervention_id, without}
 use Rattle.schedule.specs.Plan.{Plan, opening}
-use Rattle.schedule.specs.Sound.{IsSound}
 use Rattle.schedule.proofs.Shared.Ids.{each_filter, each_map, given_push, rise_filter, rise_map, rise_push}
 use Rattle.document_replay.specs.Law.{DocumentsAreMadeAnew, EditsMakeDocuments, IsMade, Lead, last_id}
-use Rattle.document_replay.specs.Replay.{add_all, add_bookmark, add_branch, add_intervention, edits_for, row_edits, skip_bookmark, skip_branch, skip_intervention}
+use Rattle.document_replay.specs.Replay.{add_bookmark, add_branch, add_intervention, row_edits, skip_bookmark, skip_branch, skip_intervention}
 use Rattle.document_replay.proofs.Elements.{length-without}
 use Rattle.document_replay.proofs.Shared.Leading.{length-add_all}
-use Rattle.document_replay.proofs.Shared.Remade.{branches_from_one, length-rows, made_anew}
+use Rattle.document_replay.proofs.Shared.Remade.{length-rows, made_anew}
 
 -- rising ids from 1 up to `last`
 pub record AreNumbered {X : Type 0} (id : X → ℕ) (xs : List X) (last : ℕ) : Type 0 where
@@ -63,9 +70,11 @@ numbered_without id xs n last h = record {
 abbrev pub AreSmall : List Intervention → Type 0
 AreSmall = AllByRecursion (λ (i : Intervention). length i.cells ≤ 10000)
 
+-- how many ids were given
 abbrev pub ids_given : Plan → ℕ
 ids_given p = p.last_intervention + p.last_bookmark + p.last_branch
 
+-- how many elements there are
 abbrev pub elements : Plan → ℕ
 elements p = length p.interventions + length p.bookmarks + length p.branches
 
@@ -119,38 +128,76 @@ few_changed p id acts cells h =
     let late = passed (is_before_fork p (unwrap_or b 0) (first_of acts)) _ _ bad.1 in
     few_cells p cells (for_changed p id acts cells) late.1
 
--- one more intervention, and one that is changed
+-- other lists of elements, where one that is gone or an id more takes a revision
+
+numbered_interventions : (p : Plan) (is : List Intervention) (last : ℕ) → IsNumbered p
+    → AreNumbered intervention_id is last → AreSmall is
+    → 2 * last + length p.interventions ≤ 2 * p.last_intervention + length is + 1
+    → IsNumbered (record (revised p) { interventions = is; last_intervention = last })
+numbered_interventions p is last h listed small few = let spent = h.spent in record {
+  interventions = listed;
+  bookmarks = h.bookmarks;
+  branches = h.branches;
+  small = small;
+  spent = omega (arith, spent, few);
+}
+
+numbered_bookmarks : (p : Plan) (bs : List Bookmark) (last : ℕ) → IsNumbered p → AreNumbered bookmark_id bs last
+    → 2 * last + length p.bookmarks ≤ 2 * p.last_bookmark + length bs + 1
+    → IsNumbered (record (revised p) { bookmarks = bs; last_bookmark = last })
+numbered_bookmarks p bs last h listed few = let spent = h.spent in record {
+  interventions = h.interventions;
+  bookmarks = listed;
+  branches = h.branches;
+  small = h.small;
+  spent = omega (arith, spent, few);
+}
+
+numbered_branches : (p : Plan) (xs : List Branch) (last : ℕ) → IsNumbered p → AreNumbered branch_id xs last
+    → 2 * last + length p.branches ≤ 2 * p.last_branch + length xs + 1
+    → IsNumbered (record (revised p) { branches = xs; last_branch = last })
+numbered_branches p xs last h listed few = let spent = h.spent in record {
+  interventions = h.interventions;
+  bookmarks = h.bookmarks;
+  branches = listed;
+  small = h.small;
+  spent = omega (arith, spent, few);
+}
+
+numbered_world : (p : Plan) (rule : Rule) (start : World) → IsNumbered p
+    → IsNumbered (record (revised p) { rule = rule; start = start })
+numbered_world p rule start h = let spent = h.spent in record {
+  interventions = h.interventions;
+  bookmarks = h.bookmarks;
+  branches = h.branches;
+  small = h.small;
+  spent = omega (arith, spent);
+}
+
 numbered_inserted : (p : Plan) (b : ℕ) (acts : Acts) (cells : List CellSet) → IsNumbered p → length cells ≤ 10000
     → IsNumbered (with_intervention p b acts cells).plan
 numbered_inserted p b acts cells h few =
     let i : Intervention = next_intervention p b acts cells in
-    let spent = h.spent in
-    record {
-      interventions = numbered_push intervention_id p.interventions i p.last_intervention h.interventions refl;
-      bookmarks = h.bookmarks;
-      branches = h.branches;
-      small = all_append (λ (j : Intervention). length j.cells ≤ 10000) p.interventions (i ∷ []) h.small (few, tt);
-      spent = (let long = length-append p.interventions (i ∷ []) in omega (arith, spent, long));
-    }
+    let long = length-append p.interventions (i ∷ []) in
+    numbered_interventions p (p.interventions ++ i ∷ []) (p.last_intervention + 1) h
+    (numbered_push intervention_id p.interventions i p.last_intervention h.interventions refl)
+    (all_append (λ (j : Intervention). length j.cells ≤ 10000) p.interventions (i ∷ []) h.small (few, tt))
+    (omega (arith, long))
 
 numbered_acting : (p : Plan) (id : ℕ) (acts : Acts) (cells : List CellSet) → IsNumbered p → length cells ≤ 10000
     → IsNumbered (with_changed_intervention p id acts cells).plan
 numbered_acting p id acts cells h few =
     let f = acting acts cells in
-    let spent = h.spent in
-    record {
-      interventions =
-          numbered_changed intervention_id f p.interventions id p.last_intervention (λ i. refl) h.interventions;
-      bookmarks = h.bookmarks;
-      branches = h.branches;
-      small = each_map (λ (j : Intervention). length j.cells ≤ 10000) (λ (j : Intervention). j.id == id) f
-          p.interventions (λ _ _. few) h.small;
-      spent = (let long = length-map p.interventions (λ (i : Intervention). if i.id == id then f i else i) in
-          omega (arith, spent, long));
-    }
+    let c : Intervention → Bool = λ i. i.id == id in
+    let long = length-map p.interventions (λ i. if c i then f i else i) in
+    numbered_interventions p (changed_at intervention_id f p.interventions id) p.last_intervention h
+    (numbered_changed intervention_id f p.interventions id p.last_intervention (λ i. refl) h.interventions)
+    (each_map (λ (i : Intervention). length i.cells ≤ 10000) c f p.interventions (λ _ _. few) h.small)
+    (omega (arith, long))
 
 -- an edit that isn't refused keeps that
-pub numbered_step : (p : Plan) (asked : Asked) → IsNumbered p → refusal p asked ≡ None → IsNumbered (changed p asked).plan
+pub numbered_step : (p : Plan) (asked : Asked) → IsNumbered p → refusal p asked ≡ None
+    → IsNumbered (changed p asked).plan
 numbered_step p (InsertIntervention b generation cells) h free =
     numbered_inserted p b (Once generation) cells h (few_inserted p b (Once generation) cells free)
 numbered_step p (ChangeIntervention id generation cells) h free =
@@ -160,90 +207,37 @@ numbered_step p (InsertRepeat b first every last cells) h free =
 numbered_step p (ChangeRepeat id first every last cells) h free =
     numbered_acting p id (Every first every last) cells h (few_changed p id (Every first every last) cells free)
 numbered_step p (RemoveIntervention id) h free =
-    let spent = h.spent in
     let long = length-without intervention_id p.interventions id h.interventions.rise in
-    record {
-      interventions = numbered_without intervention_id p.interventions id p.last_intervention h.interventions;
-      bookmarks = h.bookmarks;
-      branches = h.branches;
-      small = each_filter (λ (j : Intervention). length j.cells ≤ 10000) (λ (j : Intervention). not (j.id == id))
-          p.interventions h.small;
-      spent = omega (arith, spent, long);
-    }
-numbered_step p (SetCells cells) h free = let spent = h.spent in record {
-  interventions = h.interventions;
-  bookmarks = h.bookmarks;
-  branches = h.branches;
-  small = h.small;
-  spent = omega (arith, spent);
-}
-numbered_step p (ReplaceStart start) h free = let spent = h.spent in record {
-  interventions = h.interventions;
-  bookmarks = h.bookmarks;
-  branches = h.branches;
-  small = h.small;
-  spent = omega (arith, spent);
-}
-numbered_step p (ReplaceRule rule) h free = let spent = h.spent in record {
-  interventions = h.interventions;
-  bookmarks = h.bookmarks;
-  branches = h.branches;
-  small = h.small;
-  spent = omega (arith, spent);
-}
+    numbered_interventions p (without intervention_id p.interventions id) p.last_intervention h
+    (numbered_without intervention_id p.interventions id p.last_intervention h.interventions)
+    (each_filter (λ (i : Intervention). length i.cells ≤ 10000) (λ (i : Intervention). not (i.id == id))
+    p.interventions h.small) (omega (arith, long))
+numbered_step p (SetCells cells) h free = numbered_world p p.rule (lay cells p.start) h
+numbered_step p (ReplaceStart start) h free = numbered_world p p.rule start h
+numbered_step p (ReplaceRule rule) h free = numbered_world p rule p.start h
 numbered_step p (AddBookmark b generation view) h free =
     let k : Bookmark = next_bookmark p b generation view in
-    let spent = h.spent in
     let long = length-append p.bookmarks (k ∷ []) in
-    record {
-      interventions = h.interventions;
-      bookmarks = numbered_push bookmark_id p.bookmarks k p.last_bookmark h.bookmarks refl;
-      branches = h.branches;
-      small = h.small;
-      spent = omega (arith, spent, long);
-    }
+    numbered_bookmarks p (p.bookmarks ++ k ∷ []) (p.last_bookmark + 1) h
+    (numbered_push bookmark_id p.bookmarks k p.last_bookmark h.bookmarks refl) (omega (arith, long))
 numbered_step p (MoveBookmark id generation) h free =
     let f = marking generation in
-    let spent = h.spent in
     let long = length-map p.bookmarks (λ (k : Bookmark). if k.id == id then f k else k) in
-    record {
-      interventions = h.interventions;
-      bookmarks = numbered_changed bookmark_id f p.bookmarks id p.last_bookmark (λ k. refl) h.bookmarks;
-      branches = h.branches;
-      small = h.small;
-      spent = omega (arith, spent, long);
-    }
+    numbered_bookmarks p (changed_at bookmark_id f p.bookmarks id) p.last_bookmark h
+    (numbered_changed bookmark_id f p.bookmarks id p.last_bookmark (λ k. refl) h.bookmarks) (omega (arith, long))
 numbered_step p (RemoveBookmark id) h free =
-    let spent = h.spent in
     let long = length-without bookmark_id p.bookmarks id h.bookmarks.rise in
-    record {
-      interventions = h.interventions;
-      bookmarks = numbered_without bookmark_id p.bookmarks id p.last_bookmark h.bookmarks;
-      branches = h.branches;
-      small = h.small;
-      spent = omega (arith, spent, long);
-    }
+    numbered_bookmarks p (without bookmark_id p.bookmarks id) p.last_bookmark h
+    (numbered_without bookmark_id p.bookmarks id p.last_bookmark h.bookmarks) (omega (arith, long))
 numbered_step p (AddBranch parent generation) h free =
     let x : Branch = next_branch p parent generation in
-    let spent = h.spent in
     let long = length-append p.branches (x ∷ []) in
-    record {
-      interventions = h.interventions;
-      bookmarks = h.bookmarks;
-      branches = numbered_push branch_id p.branches x p.last_branch h.branches refl;
-      small = h.small;
-      spent = omega (arith, spent, long);
-    }
+    numbered_branches p (p.branches ++ x ∷ []) (p.last_branch + 1) h
+    (numbered_push branch_id p.branches x p.last_branch h.branches refl) (omega (arith, long))
 numbered_step p (RemoveBranch b) h free =
-    let spent = h.spent in
     let long = length-without branch_id p.branches b h.branches.rise in
-    record {
-      interventions = h.interventions;
-      bookmarks = h.bookmarks;
-      branches = numbered_without branch_id p.branches b p.last_branch h.branches;
-      small = h.small;
-      spent = omega (arith, spent, long);
-    }
+    numbered_branches p (without branch_id p.branches b) p.last_branch h
+    (numbered_without branch_id p.branches b p.last_branch h.branches) (omega (arith, long))
 
 -- so do all of a list
 pub numbered_all : (edits : List Asked) (p q : Plan) → IsNumbered p → Lead edits p q → IsNumbered q

@@ -1,9 +1,8 @@
 -- The rule and the start of a document aren't refused.
-use Rattle.std.proofs.Common.{◌≡◌, ℕ, ◌+◌, ◌<◌, ◌≤◌, ◌^◌, true, false, not, List, [], ◌∷◌, map, nat_lt, refl, sym, ap, ◌∙◌, subst, arith, ℤ, pos, neg_ℤ, ◌≤ℤ◌, ◌<ℤ◌, ◌+ℤ◌, ◌-ℤ◌}
+use Rattle.std.proofs.Common.{◌≡◌, ℕ, ◌+◌, ◌<◌, ◌^◌, true, not, [], ◌∷◌, map, nat_lt, refl, sym, ap, ◌∙◌, subst, arith, ℤ, pos, neg_ℤ, ◌≤ℤ◌, ◌<ℤ◌, ◌+ℤ◌, ◌-ℤ◌}
 use Rattle.std.specs.Prelude.{int_le, int_lt, ◌&&◌}
-use Rattle.std.specs.List.{AllByRecursion, list_all}
+use Rattle.std.specs.List.{list_all}
 use Rattle.std.proofs.lemmas.Int.{ints}
-use Rattle.basics.proofs.Shared.Lists.{all_so}
 use Rattle.worlds.specs.World.{Place, World, blank, cell, entries-blank}
 use Rattle.worlds.specs.Live.{as_live, live, live-entries, live-states}
 use Rattle.worlds.specs.Range.{AllBelow, HasMargin, IsInside}
