@@ -13,7 +13,7 @@ use Rattle.schedule.specs.declared.document.Intervention.{Intervention}
 use Rattle.schedule.specs.Acts.{IsTimely, first_of, marks_to, repeats}
 use Rattle.schedule.specs.Asked.{InsertIntervention, RemoveIntervention}
 use Rattle.schedule.specs.Branches.{fork_of, reach}
-use Rattle.schedule.specs.Change.{acts_too_far, changed, first_refusal, for_intervention, is_bad_repeat, may_be_named, next_intervention, refusal, refusals, set_below, stay_in_range, with_intervention}
+use Rattle.schedule.specs.Change.{acts_too_far, changed, first_refusal, for_intervention, is_bad_repeat, may_be_named, next_intervention, refusal, set_below, stay_in_range, with_intervention}
 use Rattle.schedule.specs.Ids.{bookmark_id, intervention_id, without}
 use Rattle.schedule.specs.Plan.{Plan}
 use Rattle.schedule.specs.Repeats.{has_too_many_marks, repeat_marks}
@@ -23,7 +23,7 @@ use Rattle.document_replay.specs.Law.{IsMade, Lead, last_id}
 use Rattle.document_replay.specs.Replay.{add_intervention, insert, skip_intervention}
 use Rattle.document_replay.proofs.Bookmarks.{with_bookmarks}
 use Rattle.document_replay.proofs.Elements.{at_cut, fewer_before, there_last, without_last}
-use Rattle.document_replay.proofs.Tests.{all_pass, apart_above, but_few, few_marks, free, less, neither, not_less, not_most, unspent}
+use Rattle.document_replay.proofs.Tests.{all_pass, apart_above, but_few, few_marks, less, neither, not_less, not_most, pass, unspent}
 use Rattle.document_replay.proofs.Shared.Leading.{Adds}
 use Rattle.document_replay.proofs.Shared.Worlds.{named, some_states}
 
@@ -91,35 +91,16 @@ add_one p sound made done x rest k last is next left =
     at_cut (λ (y : Intervention). IsPlaced p.branches y.branch (first_of y.acts)) p.interventions done x rest is
     sound.branches_sound.interventions_placed in
     let tests = timely x.acts allowed.timely in
-    let r : Plan = (with_intervention q x.branch x.acts x.cells).plan in (
-      insert_free q x.branch x.acts x.cells (free (for_intervention q x.branch x.acts x.cells) (
-        ap not placed.there,
-        (
-          tests.0,
-          (
-            tests.1,
-            (
-              not_less (first_of x.acts) (fork_of p.branches x.branch) placed.from_fork,
-              (
-                not_most 4096 (length done) (fewer_before p.interventions done x rest 4096 is sound.few_interventions),
-                (
-                  not_less 10000 (length x.cells) small,
-                  (
-                    cells_stay x.cells allowed.named,
-                    (
-                      cells_below (states_of p.rule) x.cells allowed.below,
-                      (
-                        but_few (repeats x.acts) (has_too_many_marks r) (few_marks r (marks_before p sound done x rest k last is)),
-                        (unspent k left, tt),
-                      ),
-                    ),
-                  ),
-                ),
-              ),
-            ),
-          ),
-        ),
-      )),
+    let r : Plan = (with_intervention q x.branch x.acts x.cells).plan in
+    let marks = few_marks r (marks_before p sound done x rest k last is) in
+    let free : first_refusal (for_intervention q x.branch x.acts x.cells) ≡ None =
+    pass _ (ap not placed.there) (pass _ tests.0 (pass _ tests.1
+    (pass _ (not_less (first_of x.acts) (fork_of p.branches x.branch) placed.from_fork)
+    (pass _ (not_most 4096 (length done) (fewer_before p.interventions done x rest 4096 is sound.few_interventions))
+    (pass _ (not_less 10000 (length x.cells) small)
+    (pass _ (cells_stay x.cells allowed.named) (pass _ (cells_below (states_of p.rule) x.cells allowed.below)
+    (pass _ (but_few (repeats x.acts) (has_too_many_marks r) marks) (pass _ (unspent k left) refl))))))))) in (
+      insert_free q x.branch x.acts x.cells free,
       ap (λ n. with_interventions p (k + 1) (done ++ (record x { id = n }) ∷ []) n) (sym next)
           ∙ insert_makes q x.branch x.acts x.cells,
     )
@@ -137,42 +118,20 @@ skip_one p sound done x rest k last is gap given left =
     let y : Intervention = next_intervention q 0 (Once 0) origin in
     let more : List Intervention = done ++ y ∷ [] in
     let r : Plan = with_interventions p (k + 1) more (last + 1) in
-    let kept : without intervention_id more (last + 1) ≡ done = without_last intervention_id done y (last + 1)
-    (all_so (λ (z : Intervention). z.id ≤ last) (λ (z : Intervention). z.id < last + 1) done
-    (λ z h. omega (arith, h)) given) refl in (
-      free (refusals q (InsertIntervention 0 0 origin)) (
-        refl,
-        (
-          refl,
-          (
-            refl,
-            (
-              ap (λ n. nat_lt 0 n) (fork_of-zero p.branches sound.branches_sound.forked),
-              (
-                not_most 4096 (length done) (fewer_before p.interventions done x rest 4096 is sound.few_interventions),
-                (
-                  refl,
-                  (
-                    refl,
-                    (
-                      cells_below (states_of p.rule) origin (some_states p sound, tt),
-                      (refl, (unspent k (omega (arith, left)), tt)),
-                    ),
-                  ),
-                ),
-              ),
-            ),
-          ),
-        ),
-      ),
-      (
-        free (refusals r (RemoveIntervention (last + 1))) (
-          ap not (there_last intervention_id done y (last + 1) refl),
-          (unspent (k + 1) (omega (arith, left)), tt),
-        ),
-        ap₂ (λ a bs. with_interventions p a bs (last + 1)) (omega arith) (sym kept),
-      ),
-    )
+    let lower : AllByRecursion (λ (z : Intervention). z.id < last + 1) done =
+    all_so (λ (z : Intervention). z.id ≤ last) (λ (z : Intervention). z.id < last + 1) done
+    (λ z h. omega (arith, h)) given in
+    let kept : without intervention_id more (last + 1) ≡ done =
+    without_last intervention_id done y (last + 1) lower refl in
+    let free : refusal q (InsertIntervention 0 0 origin) ≡ None =
+    pass _ (ap (λ n. nat_lt 0 n) (fork_of-zero p.branches sound.branches_sound.forked))
+    (pass _ (not_most 4096 (length done) (fewer_before p.interventions done x rest 4096 is sound.few_interventions))
+    (pass _ (cells_below (states_of p.rule) origin (some_states p sound, tt))
+    (pass _ (unspent k (omega (arith, left))) refl))) in
+    let gone : refusal r (RemoveIntervention (last + 1)) ≡ None =
+    pass _ (ap not (there_last intervention_id done y (last + 1) refl))
+    (pass _ (unspent (k + 1) (omega (arith, left))) refl) in
+    (free, (gone, ap₂ (λ a bs. with_interventions p a bs (last + 1)) (omega arith) (sym kept)))
 
 pub interventions_added : (p : Plan) → IsSound p → IsMade p
     → Adds intervention_id skip_intervention add_intervention (with_interventions p) p.interventions

@@ -1,17 +1,16 @@
--- Refusals none of which applies.
-use Rattle.std.proofs.Common.{◌≡◌, ℕ, ◌+◌, ◌-◌, ◌<◌, ◌≤◌, ◌^◌, Bool, true, false, nat_lt, nat_le, List, [], ◌∷◌, refl, ap, ◌∙◌, arith, None, Some}
+-- Tests of edits, and refusals none of which applies.
+use Rattle.std.proofs.Common.{◌≡◌, ℕ, ◌+◌, ◌-◌, ◌<◌, ◌≤◌, ◌^◌, Bool, true, false, nat_lt, nat_le, List, [], ◌∷◌, refl, ap, ◌∙◌, arith, Option, None, Some}
 use Rattle.std.specs.Prelude.{if◌then◌else◌, ◌==◌, ◌&&◌, ◌||◌}
 use Rattle.std.specs.List.{AllByRecursion, list_all}
 use Rattle.std.proofs.lemmas.Bool.Decides.{nat_tests}
 use Rattle.schedule.specs.declared.fault.EditFault.{EditFault}
-use Rattle.schedule.specs.Change.{first_refusal}
 use Rattle.schedule.specs.Plan.{Plan}
 use Rattle.schedule.specs.Repeats.{repeat_marks, has_too_many_marks}
 
-pub free : (refusals : List (Bool × EditFault)) → AllByRecursion (λ r. r.0 ≡ false) refusals
-    → first_refusal refusals ≡ None
-free [] h = refl
-free (r ∷ refusals) h = ap (λ b. if b then Some r.1 else first_refusal refusals) h.0 ∙ free refusals h.1
+-- a refusal that doesn't apply, before others
+pub pass : {b : Bool} {others : Option EditFault} (fault : EditFault) → b ≡ false → others ≡ None
+    → (if b then Some fault else others) ≡ None
+pass {b} {others} fault h k = ap (λ t. if t then Some fault else others) h ∙ k
 
 pub not_less : (m n : ℕ) → n ≤ m → nat_lt m n ≡ false
 not_less m n h = grind (arith, nat_tests)

@@ -96,14 +96,16 @@ add_all_lead id skip add at xs all done (x ∷ rest) k last is given above rise 
     let before : Plan = at (k + 2 * n) done (last + n) in
     let after : Plan = at (k + 2 * n + 1) (done ++ x ∷ []) (id x) in
     let end : Plan = at (k + length (gap ++ add x ∷ later)) xs (last_id id (id x) rest) in
-    let here = all.adds done x rest (k + 2 * n) (last + n) is (omega (arith, more)) (omega (arith, left, long, twice)) in
+    let here = all.adds done x rest (k + 2 * n) (last + n) is (omega (arith, more))
+    (omega (arith, left, long, twice)) in
     let behind = add_all_lead id skip add at xs all (done ++ x ∷ []) rest (k + 2 * n + 1) (id x)
     (append_assoc done (x ∷ []) rest ∙ is)
     (all_append (λ y. id y ≤ id x) done (x ∷ [])
     (all_so (λ y. id y ≤ last) (λ y. id y ≤ id x) done (λ y h. omega (arith, h, more)) given) (omega arith, tt))
     rise.0 rise.1 (omega (arith, left, long, twice)) in
     lead_on gap (add x ∷ later) (at k done last) before end
-    (skip_all id skip add at xs all done x rest is n k last (omega (arith, more)) given (omega (arith, left, long, twice)))
+    (skip_all id skip add at xs all done x rest is n k last (omega (arith, more)) given
+    (omega (arith, left, long, twice)))
     (lead_on (add x ∷ []) later before after end here
     (lead_to later after (at (k + 2 * n + 1 + length later) xs (last_id id (id x) rest)) end behind
     (ap (λ a. at a xs (last_id id (id x) rest)) (omega (arith, long, twice)))))

@@ -8,11 +8,11 @@ use Rattle.worlds.specs.Live.{as_live, live, live-entries, live-states}
 use Rattle.worlds.specs.Range.{AllBelow, HasMargin, IsInside}
 use Rattle.rule_tree.specs.Rule.{states_of}
 use Rattle.schedule.specs.Asked.{ReplaceRule, ReplaceStart}
-use Rattle.schedule.specs.Change.{all_set_below, is_named, lies_below, lies_near, refusals}
+use Rattle.schedule.specs.Change.{all_set_below, is_named, lies_below, lies_near}
 use Rattle.schedule.specs.Plan.{Plan, opening}
 use Rattle.schedule.specs.Sound.{IsSound}
 use Rattle.document_replay.specs.Law.{Lead, bare}
-use Rattle.document_replay.proofs.Tests.{all_pass, both, free, less, unspent}
+use Rattle.document_replay.proofs.Tests.{all_pass, both, less, pass, unspent}
 
 pub named : (x y : ℤ) → IsInside (2 ^ 60) x y → (is_named x && is_named y) ≡ true
 named x y h = both (is_named x) (is_named y) (named_one x h.left h.right) (named_one y h.top h.bottom)
@@ -59,20 +59,14 @@ blank_below n = ap (list_all (λ (e : Place × ℕ). nat_lt e.1 n)) none_live
 pub rule_leads : (p : Plan) (k : ℕ) → k + 1 < 2 ^ 64
     → Lead (ReplaceRule p.rule ∷ []) (opening k) (record (opening (k + 1)) { rule = p.rule })
 rule_leads p k left =
-    let n = states_of p.rule in (
-      free (refusals (opening k) (ReplaceRule p.rule))
-          (ap not (both (lies_below n blank) (all_set_below n []) (blank_below n) refl), (unspent k left, tt)),
-      refl,
-    )
+    let n = states_of p.rule in
+    let fits = both (lies_below n blank) (all_set_below n []) (blank_below n) refl in
+    (pass _ (ap not fits) (pass _ (unspent k left) refl), refl)
 
 -- and from there to the one with the start too
 pub start_leads : (p : Plan) → IsSound p → (k : ℕ) → k + 1 < 2 ^ 64
     → Lead (ReplaceStart p.start ∷ []) (record (opening k) { rule = p.rule }) (bare (k + 1) p)
 start_leads p sound k left =
-    let q : Plan = record (opening k) { rule = p.rule } in (
-      free (refusals q (ReplaceStart p.start)) (
-        ap not (lies_near-margin p.start sound.start_inside),
-        (ap not (lies_below-all (states_of p.rule) p.start sound.start_below), (unspent k left, tt)),
-      ),
-      refl,
-    )
+    let near = lies_near-margin p.start sound.start_inside in
+    let below = lies_below-all (states_of p.rule) p.start sound.start_below in
+    (pass _ (ap not near) (pass _ (ap not below) (pass _ (unspent k left) refl)), refl)
