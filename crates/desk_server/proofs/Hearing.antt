@@ -20,7 +20,7 @@ use Rattle.desk_server.specs.declared.request.Request.{Request}
 use Rattle.desk_server.specs.declared.request.Request.TheVariants as request
 
 -- lines up to one that is `end` are the text
-asks-text : (stop : End) (at : ℕ) (f : Format) (kept : List ℕ) (n : ℕ) (lines : List Line) (closing : Line)
+pub asks-text : (stop : End) (at : ℕ) (f : Format) (kept : List ℕ) (n : ℕ) (lines : List Line) (closing : Line)
     (rest : List Line) → NoneEnds lines → is_end closing.says ≡ true
     → asks stop (InText at f kept) n (lines ++ closing ∷ rest) ≡ Take f (kept ++ raw_bytes lines) ∷ asks stop Between
     (n + length lines + 1) rest
@@ -40,12 +40,12 @@ asks-open_text stop at f kept n [] inside = refl
 asks-open_text stop at f kept n (line ∷ lines) inside =
     rw inside.0 (asks-open_text stop at f (kept ++ line.raw) (n + 1) lines inside.1)
 
-asks-command : (stop : End) (n : ℕ) (line : Line) (rest : List Line) → is_passed_over line.says ≡ false
+pub asks-command : (stop : End) (n : ℕ) (line : Line) (rest : List Line) → is_passed_over line.says ≡ false
     → format_of line.says ≡ None
     → asks stop Between n (line ∷ rest) ≡ asked_by n (command_of line.says) ∷ asks stop Between (n + 1) rest
 asks-command stop n line rest passed text = rw passed (rw text refl)
 
-asks-text_command : (stop : End) (n : ℕ) (f : Format) (line : Line) (rest : List Line)
+pub asks-text_command : (stop : End) (n : ℕ) (f : Format) (line : Line) (rest : List Line)
     → is_passed_over line.says ≡ false → format_of line.says ≡ Some f
     → asks stop Between n (line ∷ rest) ≡ asks stop (InText n f []) (n + 1) rest
 asks-text_command stop n f line rest passed text = rw passed (rw text refl)

@@ -38,14 +38,15 @@ shown-lacks p id (Some b) = refl
 
 -- all others can meet it
 other-lacks : (n : ℕ) (c : Option Command) → is_fixed c ≡ false → CanLackMemory (asked_by n c)
-other-lacks n None h = λ p. refl
-other-lacks n (Some (command.Edit edit)) h = λ p. refl
+other-lacks n None h = λ s. refl
+other-lacks n (Some (command.Edit edit)) h = λ s. refl
 other-lacks n (Some command.Settle) h = absurd (cc)
 other-lacks n (Some command.Work) h = absurd (cc)
-other-lacks n (Some (command.Show id)) h = λ p. shown-lacks p id (bookmark_in p.bookmarks id)
-other-lacks n (Some (command.Peek id)) h = λ p. shown-lacks p id (bookmark_in p.bookmarks id)
+other-lacks n (Some (command.Show id)) h = λ s. shown-lacks s.plan id (bookmark_in s.plan.bookmarks id)
+other-lacks n (Some (command.Peek id)) h = λ s. shown-lacks s.plan id (bookmark_in s.plan.bookmarks id)
 other-lacks n (Some command.Poll) h = absurd (cc)
 other-lacks n (Some command.List) h = absurd (cc)
+other-lacks n (Some command.Script) h = λ s. refl
 other-lacks n (Some command.Quit) h = absurd (cc)
 
 edit-open : (e : Option Edit) → is_fixed (option_map command.Edit e) ≡ false
@@ -59,6 +60,10 @@ show-open (Some id) = refl
 peek-open : (id : Option ℕ) → is_fixed (option_map command.Peek id) ≡ false
 peek-open None = refl
 peek-open (Some id) = refl
+
+script-open : (rest : List (List ℕ)) → is_fixed (alone (Some command.Script) rest) ≡ false
+script-open [] = refl
+script-open (w ∷ rest) = refl
 
 -- each edit can
 pub edit-lacks : (e : Option Edit) (n : ℕ) → CanLackMemory (asked_by n (option_map command.Edit e))
@@ -105,19 +110,21 @@ looked word rest e f g k = last-of (bytes_eq word (codes "settle")) (bytes_eq wo
 -- of a command that looks
 looking-short : (word : List ℕ) (rest : List (List ℕ)) → is_fixed (looking_by word rest) ≡ true → IsShort word rest
 looking-short word rest h = chosen (bytes_eq word (codes "peek")) (bytes_eq word (codes "poll"))
-    (bytes_eq word (codes "list")) (short word (codes "poll") 6 (omega arith))
+    (bytes_eq word (codes "list")) (bytes_eq word (codes "script")) (short word (codes "poll") 6 (omega arith))
     (short word (codes "list") 6 (omega arith)) h
   where
-    chosen : (a b c : Bool) → (b ≡ true → length word ≤ 6) → (c ≡ true → length word ≤ 6)
+    chosen : (a b c d : Bool) → (b ≡ true → length word ≤ 6) → (c ≡ true → length word ≤ 6)
         → is_fixed
         (cond a (option_map command.Peek (one_count rest))
         (cond b (alone (Some command.Poll) rest)
-        (cond c (alone (Some command.List) rest) (option_map command.Edit (edit_by word rest))))) ≡ true
+        (cond c (alone (Some command.List) rest)
+        (cond d (alone (Some command.Script) rest) (option_map command.Edit (edit_by word rest)))))) ≡ true
         → IsShort word rest
-    chosen true b c p l k = absurd (cc (k, peek-open (one_count rest)))
-    chosen false true c p l k = (p refl, alone-fixed command.Poll rest k)
-    chosen false false true p l k = (l refl, alone-fixed command.List rest k)
-    chosen false false false p l k = absurd (cc (k, edit-open (edit_by word rest)))
+    chosen true b c d p l k = absurd (cc (k, peek-open (one_count rest)))
+    chosen false true c d p l k = (p refl, alone-fixed command.Poll rest k)
+    chosen false false true d p l k = (l refl, alone-fixed command.List rest k)
+    chosen false false false true p l k = absurd (cc (k, script-open rest))
+    chosen false false false false p l k = absurd (cc (k, edit-open (edit_by word rest)))
 
 -- of a command of fixed words
 command-short : (word : List ℕ) (rest : List (List ℕ)) → is_fixed (command_by word rest) ≡ true → IsShort word rest

@@ -4,6 +4,7 @@ pub mod Jobs
 pub mod Hearing
 pub mod Replies
 pub mod Parts
+pub mod Pushed
 pub mod Rounds
 pub mod Noted
 pub mod Pictured
@@ -12,3 +13,8 @@ pub mod RuleStates
 pub mod OneLine
 pub mod Lines
 pub mod Example
+pub mod Anew
+pub mod Remade
+pub mod Written
+pub mod RuleTexts
+pub mod EachSession

@@ -176,6 +176,7 @@ cannot (Obey (command.Show id)) d idle has = cc
 cannot (Obey (command.Peek id)) d idle has = has
 cannot (Obey command.Poll) d idle has = has
 cannot (Obey command.List) d idle has = has
+cannot (Obey command.Script) d idle has = has
 cannot (Obey command.Quit) d idle has = has
 cannot (Take format text) d idle has = has
 cannot (Refuse fault) d idle has = has

@@ -1,8 +1,8 @@
 -- What stays of a document while a script is answered.
-use Rattle.std.proofs.Common.{◌≡◌, ℕ, ◌<◌, List, [], ◌∷◌, ◌++◌, Bool, true, false, cond, codes, Option, Some, None, IfSome, Result, Ok, Err, refl, ap, subst, arith, ◌==◌, ◌||◌, ◌&&◌, ◌+◌, nat_le, length}
+use Rattle.std.proofs.Common.{◌≡◌, ℕ, ◌<◌, List, [], ◌∷◌, ◌++◌, Bool, true, false, cond, codes, Option, Some, None, IfSome, Result, Ok, Err, refl, ap, subst, arith, ◌==◌, ◌||◌, ◌&&◌, min, ◌-◌, ◌^◌, ◌+◌, nat_le, length}
 use Rattle.std.proofs.lemmas.Bool.Decides.{nat_tests}
 use Rattle.std.specs.List.{AllByRecursion}
-use Rattle.std.specs.Option.{option_map}
+use Rattle.std.specs.Option.{option_map, option_zip}
 use Rattle.std.specs.Prelude.{⊤}
 use Rattle.std.specs.Str.{bytes_eq}
 use Rattle.text_lines.specs.Lines.{End, Ended, Broken, Line, lines_until}
@@ -31,6 +31,9 @@ use Rattle.schedule.proofs.Sounds.{IsSound-opening}
 use Rattle.schedule.proofs.Shared.Changed.{HasStates, sound_changed, some_changed}
 use Rattle.schedule.proofs.Shared.Lines.{one_line}
 use Rattle.desk_events.specs.Wanted.{bookmark_in}
+use Rattle.worlds.specs.declared.cell.CellSet.{CellSet}
+use Rattle.text_lines.specs.Numbers.{number_of}
+use Rattle.desk_server.specs.Anew.{IsCount}
 use Rattle.desk_server.specs.declared.fault.ScriptFault.TheVariants.{BadCommand, NoEnd}
 use Rattle.desk_server.specs.declared.interventions.Repeated.{Repeated}
 use Rattle.desk_server.specs.declared.format.Format.{Format}
@@ -40,22 +43,39 @@ use Rattle.desk_server.specs.declared.command.Command.TheVariants as command
 use Rattle.desk_server.specs.Faults.{Fault, of_edit, of_rule, of_pattern, of_macrocell, of_script}
 use Rattle.desk_server.specs.Reply.{settled_text, polled_text, unsettled_text}
 use Rattle.desk_server.specs.View.{alone, view_of}
-use Rattle.desk_server.specs.Command.{cells_of, some_cells, cells_set, counted, set_of, at_of, every_of, on_of, change_of, change_named, change_once_of, change_repeat_of, changed_by, repeated_of, drop_of, mark_of, move_of, unmark_of, branch_of, unbranch_of, edit_in_branch, edit_in_named, further_edit_by, edit_by, looking_by, command_of, command_of_words, format_of, count_of, one_count}
+use Rattle.desk_server.specs.Command.{cells_of, repeated_by, some_cells, cells_set, counted, set_of, at_of, every_of, on_of, change_of, change_named, change_once_of, change_repeat_of, changed_by, repeated_of, drop_of, mark_of, move_of, unmark_of, branch_of, unbranch_of, edit_in_branch, edit_in_named, further_edit_by, edit_by, looking_by, command_of, command_of_words, format_of, count_of, one_count}
 use Rattle.desk_server.specs.Shortage.{Shortage, NoShortage, Memory, Unsettled, Pending, Still, Known}
+use Rattle.desk_server.specs.Scripted.{script_text, scripted_text}
+use Rattle.desk_server.specs.Answer.{Session, opening_session, scripted, session_after}
 use Rattle.desk_server.specs.Answer.{Ask, Obey, Take, Refuse, After, accepted, answer, edited, id_word, listed, only, polled, refused, settled, shown, started, taken, there, unless_fault, unless_memory}
 use Rattle.desk_server.specs.Script.{asked_at, asked_by, asks, afters, Between, InText, Place, place_behind, documents_of, documents_with, first_shortage, later_shortages}
 use Rattle.desk_server.specs.OneLine.{adds_branch, AddsNoBranch, HasOneLine}
 use Rattle.desk_server.proofs.RuleStates.{rule_of-few}
 
 -- the edit adds no branch
-abbrev AddsNone : Asked → Type 0
+abbrev pub AddsNone : Asked → Type 0
 AddsNone (AddBranch parent generation) = ⊥
 AddsNone _ = ⊤
 
+-- it sets a cell if it sets cells of interventions, at a distance of 64 bits if they repeat
+abbrev pub SetsSome : Asked → Type 0
+SetsSome (InsertIntervention b generation cells) = 0 < length cells
+SetsSome (ChangeIntervention id generation cells) = 0 < length cells
+SetsSome (InsertRepeat b first every last cells) = IsCount every × (0 < length cells)
+SetsSome (ChangeRepeat id first every last cells) = IsCount every × (0 < length cells)
+SetsSome _ = ⊤
+
+-- nor does it take a rule
+abbrev pub TakesNoRule : Asked → Type 0
+TakesNoRule (ReplaceRule rule) = ⊥
+TakesNoRule _ = ⊤
+
 -- what a command edits: a rule that it takes has states, and it adds no branch unless its first word says so
-record IsSaid (adds : Bool) (asked : Asked) : Type 0 where
-  states : HasStates asked
-  none : adds ≡ false → AddsNone asked
+pub record IsSaid (adds : Bool) (asked : Asked) : Type 0 where
+  pub states : HasStates asked
+  pub none : adds ≡ false → AddsNone asked
+  pub rule : TakesNoRule asked
+  pub rows : SetsSome asked
 
 abbrev SaysSuch : Bool → Option Edit → Type 0
 SaysSuch adds e = IfSome e (λ edit. IsSaid adds (asked_of edit))
@@ -66,6 +86,54 @@ mapped : {A : Type 0} (adds : Bool) (make : A → Edit) (o : Option A) → ((a :
 mapped adds make None h = tt
 mapped adds make (Some a) h = h a
 
+mapped-if : {A : Type 0} (P : A → Type 0) (adds : Bool) (make : A → Edit) (o : Option A) → IfSome o P
+    → ((a : A) → P a → IsSaid adds (asked_of (make a))) → SaysSuch adds (option_map make o)
+mapped-if P adds make None some h = tt
+mapped-if P adds make (Some a) some h = h a some
+
+-- numbers and cells that words name
+some-some : (o : Option (List CellSet)) → IfSome (some_cells o) (λ cs. 0 < length cs)
+some-some None = tt
+some-some (Some []) = tt
+some-some (Some (c ∷ cs)) = omega arith
+
+cells-some : (ws : List (List ℕ)) → IfSome (cells_set ws) (λ cs. 0 < length cs)
+cells-some [] = tt
+cells-some (word ∷ rest) = either (bytes_eq word (codes "set"))
+  where
+    either : (v : Bool) → IfSome (cond v (some_cells (cells_of rest)) None) (λ cs. 0 < length cs)
+    either true = some-some (cells_of rest)
+    either false = tt
+
+count-small : (o : Option ℕ) → IfSome (option_map (λ n. min n (2 ^ 64 - 1)) o) IsCount
+count-small None = tt
+count-small (Some n) = omega arith
+
+zip-if : {A : Type 0} (P : A → Type 0) (o : Option ℕ) (q : Option A) → IfSome o IsCount → IfSome q P
+    → IfSome (option_zip o q) (λ r. IsCount r.0 × P r.1)
+zip-if P None q h k = tt
+zip-if P (Some n) None h k = tt
+zip-if P (Some n) (Some a) h k = (h, k)
+
+counted-if : {A : Type 0} (P : A → Type 0) (named : List (List ℕ) → Option A)
+    → ((ws : List (List ℕ)) → IfSome (named ws) P) → (ws : List (List ℕ))
+    → IfSome (counted named ws) (λ r. IsCount r.0 × P r.1)
+counted-if P named h [] = tt
+counted-if P named h (word ∷ rest) = zip-if P (count_of word) (named rest) (count-small (number_of word)) (h rest)
+
+once-some : (ws : List (List ℕ)) → IfSome (counted cells_set ws) (λ r. IsCount r.0 × (0 < length r.1))
+once-some ws = counted-if (λ cs. 0 < length cs) cells_set cells-some ws
+
+repeated-some : (ws : List (List ℕ)) → IfSome (repeated_of ws) (λ (r : Repeated). IsCount r.every × (0 < length r.cells))
+repeated-some ws = by (counted (counted (counted cells_set)) ws) (counted-if (λ r. IsCount r.0 × (IsCount r.1.0 × (0 < length r.1.1)))
+    (counted (counted cells_set)) (counted-if (λ r. IsCount r.0 × (0 < length r.1)) (counted cells_set) once-some) ws)
+  where
+    by : (o : Option (ℕ × (ℕ × (ℕ × List CellSet))))
+        → IfSome o (λ r. IsCount r.0 × (IsCount r.1.0 × (IsCount r.1.1.0 × (0 < length r.1.1.1))))
+        → IfSome (option_map repeated_by o) (λ (r : Repeated). IsCount r.every × (0 < length r.cells))
+    by None h = tt
+    by (Some r) h = (h.0, h.1.1.1)
+
 in_branch-says : (adds : Bool) (b : ℕ) (word : List ℕ) (rest : List (List ℕ))
     → SaysSuch adds (edit_in_branch b word rest)
 in_branch-says adds b word rest = chosen (bytes_eq word (codes "at")) (bytes_eq word (codes "every"))
@@ -73,12 +141,13 @@ in_branch-says adds b word rest = chosen (bytes_eq word (codes "at")) (bytes_eq 
   where
     chosen : (v w u : Bool)
         → SaysSuch adds (cond v (at_of b rest) (cond w (every_of b rest) (cond u (mark_of b rest) None)))
-    chosen true w u = mapped adds (λ r. edit.InsertIntervention b r.0 r.1) (counted cells_set rest)
-        (λ r. record { states = tt; none = λ _. tt })
-    chosen false true u = mapped adds (λ (r : Repeated). edit.InsertRepeat b r.first r.every r.last r.cells)
-        (repeated_of rest) (λ r. record { states = tt; none = λ _. tt })
+    chosen true w u = mapped-if (λ r. IsCount r.0 × (0 < length r.1)) adds (λ r. edit.InsertIntervention b r.0 r.1)
+        (counted cells_set rest) (once-some rest) (λ r h. record { states = tt; none = λ _. tt; rule = tt; rows = h.1 })
+    chosen false true u = mapped-if (λ (r : Repeated). IsCount r.every × (0 < length r.cells)) adds
+        (λ (r : Repeated). edit.InsertRepeat b r.first r.every r.last r.cells)
+        (repeated_of rest) (repeated-some rest) (λ r h. record { states = tt; none = λ _. tt; rule = tt; rows = h })
     chosen false false true = mapped adds (λ r. edit.AddBookmark b r.0 r.1) (counted view_of rest)
-        (λ r. record { states = tt; none = λ _. tt })
+        (λ r. record { states = tt; none = λ _. tt; rule = tt; rows = tt })
     chosen false false false = tt
 
 named-says : (adds : Bool) (b : Option ℕ) (rest : List (List ℕ)) → SaysSuch adds (edit_in_named b rest)
@@ -100,25 +169,26 @@ further-says word rest = chosen (bytes_eq word (codes "move")) (bytes_eq word (c
         (cond a (move_of rest)
         (cond b (unmark_of rest) (cond c (branch_of rest) (cond d (unbranch_of rest) (edit_in_branch 0 word rest)))))
     chosen true b c d = mapped c (λ r. edit.MoveBookmark r.0 r.1) (counted one_count rest)
-        (λ r. record { states = tt; none = λ _. tt })
-    chosen false true c d = mapped c edit.RemoveBookmark (one_count rest) (λ r. record { states = tt; none = λ _. tt })
+        (λ r. record { states = tt; none = λ _. tt; rule = tt; rows = tt })
+    chosen false true c d = mapped c edit.RemoveBookmark (one_count rest) (λ r. record { states = tt; none = λ _. tt; rule = tt; rows = tt })
     chosen false false true d = mapped true (λ r. edit.AddBranch r.0 r.1) (counted one_count rest)
-        (λ r. record { states = tt; none = λ e. absurd cc })
+        (λ r. record { states = tt; none = λ e. absurd cc; rule = tt; rows = tt })
     chosen false false false true =
-        mapped false edit.RemoveBranch (one_count rest) (λ r. record { states = tt; none = λ _. tt })
+        mapped false edit.RemoveBranch (one_count rest) (λ r. record { states = tt; none = λ _. tt; rule = tt; rows = tt })
     chosen false false false false = in_branch-says false 0 word rest
 
 once-says : (adds : Bool) (id : ℕ) (rest : List (List ℕ)) → SaysSuch adds (change_once_of id rest)
-once-says adds id rest = mapped adds (λ r. edit.ChangeIntervention id r.0 r.1) (counted cells_set rest)
-    (λ r. record { states = tt; none = λ _. tt })
+once-says adds id rest = mapped-if (λ r. IsCount r.0 × (0 < length r.1)) adds (λ r. edit.ChangeIntervention id r.0 r.1)
+    (counted cells_set rest) (once-some rest) (λ r h. record { states = tt; none = λ _. tt; rule = tt; rows = h.1 })
 
 changed-says : (adds : Bool) (id : ℕ) (rest : List (List ℕ)) → SaysSuch adds (changed_by id rest)
 changed-says adds id [] = tt
 changed-says adds id (word ∷ rest) = chosen (bytes_eq word (codes "every"))
   where
     chosen : (a : Bool) → SaysSuch adds (cond a (change_repeat_of id rest) (change_once_of id (word ∷ rest)))
-    chosen true = mapped adds (λ (r : Repeated). edit.ChangeRepeat id r.first r.every r.last r.cells)
-        (repeated_of rest) (λ r. record { states = tt; none = λ _. tt })
+    chosen true = mapped-if (λ (r : Repeated). IsCount r.every × (0 < length r.cells)) adds
+        (λ (r : Repeated). edit.ChangeRepeat id r.first r.every r.last r.cells)
+        (repeated_of rest) (repeated-some rest) (λ r h. record { states = tt; none = λ _. tt; rule = tt; rows = h })
     chosen false = once-says adds id (word ∷ rest)
 
 change_named-says : (adds : Bool) (id : Option ℕ) (rest : List (List ℕ)) → SaysSuch adds (change_named id rest)
@@ -137,11 +207,11 @@ edit-says word rest = chosen (bytes_eq word (codes "set")) (bytes_eq word (codes
         (cond a (set_of rest)
         (cond b (on_of rest) (cond c (change_of rest) (cond d (drop_of rest) (further_edit_by word rest)))))
     chosen true b c d = mapped (bytes_eq word (codes "branch")) edit.SetCells (some_cells (cells_of rest))
-        (λ r. record { states = tt; none = λ _. tt })
+        (λ r. record { states = tt; none = λ _. tt; rule = tt; rows = tt })
     chosen false true c d = on-says (bytes_eq word (codes "branch")) rest
     chosen false false true d = change-says (bytes_eq word (codes "branch")) rest
     chosen false false false true = mapped (bytes_eq word (codes "branch")) edit.RemoveIntervention (one_count rest)
-        (λ r. record { states = tt; none = λ _. tt })
+        (λ r. record { states = tt; none = λ _. tt; rule = tt; rows = tt })
     chosen false false false false = further-says word rest
 
 -- the same of a command
@@ -169,17 +239,19 @@ peek-command adds (Some id) = tt
 looking-says : (word : List ℕ) (rest : List (List ℕ))
     → SaysCommand (bytes_eq word (codes "branch")) (looking_by word rest)
 looking-says word rest = chosen (bytes_eq word (codes "peek")) (bytes_eq word (codes "poll"))
-    (bytes_eq word (codes "list"))
+    (bytes_eq word (codes "list")) (bytes_eq word (codes "script"))
   where
-    chosen : (a b c : Bool)
+    chosen : (a b c d : Bool)
         → SaysCommand (bytes_eq word (codes "branch"))
         (cond a (option_map command.Peek (one_count rest))
         (cond b (alone (Some command.Poll) rest)
-        (cond c (alone (Some command.List) rest) (option_map command.Edit (edit_by word rest)))))
-    chosen true b c = peek-command (bytes_eq word (codes "branch")) (one_count rest)
-    chosen false true c = alone-command (bytes_eq word (codes "branch")) command.Poll rest tt
-    chosen false false true = alone-command (bytes_eq word (codes "branch")) command.List rest tt
-    chosen false false false = edit-command (bytes_eq word (codes "branch")) (edit_by word rest)
+        (cond c (alone (Some command.List) rest)
+        (cond d (alone (Some command.Script) rest) (option_map command.Edit (edit_by word rest))))))
+    chosen true b c d = peek-command (bytes_eq word (codes "branch")) (one_count rest)
+    chosen false true c d = alone-command (bytes_eq word (codes "branch")) command.Poll rest tt
+    chosen false false true d = alone-command (bytes_eq word (codes "branch")) command.List rest tt
+    chosen false false false true = alone-command (bytes_eq word (codes "branch")) command.Script rest tt
+    chosen false false false false = edit-command (bytes_eq word (codes "branch")) (edit_by word rest)
         (edit-says word rest)
 
 words-say : (ws : List (List ℕ)) → SaysCommand (adds_branch ws) (command_of_words ws)
@@ -200,7 +272,7 @@ words-say (word ∷ rest) = chosen (bytes_eq word (codes "settle")) (bytes_eq wo
     chosen false false false false = looking-says word rest
 
 -- what is asked is of these edits, if it is one
-abbrev Fits : (Asked → Type 0) → Ask → Type 0
+abbrev pub Fits : (Asked → Type 0) → Ask → Type 0
 Fits Q (Obey (command.Edit edit)) = Q (asked_of edit)
 Fits Q _ = ⊤
 
@@ -214,13 +286,14 @@ asked-fits Q n adds (Some (command.Show id)) f h = tt
 asked-fits Q n adds (Some (command.Peek id)) f h = tt
 asked-fits Q n adds (Some command.Poll) f h = tt
 asked-fits Q n adds (Some command.List) f h = tt
+asked-fits Q n adds (Some command.Script) f h = tt
 asked-fits Q n adds (Some command.Quit) f h = tt
 
 -- what each line that says one asks is of these edits
-abbrev LineFits : (Asked → Type 0) → Line → Type 0
+abbrev pub LineFits : (Asked → Type 0) → Line → Type 0
 LineFits Q line = (a : Asked) → IsSaid (adds_branch (words line.says)) a → Q a
 
-asks-fit : (Q : Asked → Type 0) (stop : End) (place : Place) (n : ℕ) (lines : List Line)
+pub asks-fit : (Q : Asked → Type 0) (stop : End) (place : Place) (n : ℕ) (lines : List Line)
     → AllByRecursion (LineFits Q) lines → AllByRecursion (Fits Q) (asks stop place n lines)
 asks-fit Q stop Between n [] h = tt
 asks-fit Q Ended (InText at format text) n [] h = (tt, tt)
@@ -250,12 +323,12 @@ asks-fit Q stop (InText at format text) n (line ∷ rest) h =
     inside false more = more (InText at format (text ++ line.raw))
 
 -- something that holds of documents stays, whatever of these edits is made
-record Stays (K : Plan → Type 0) (Q : Asked → Type 0) : Type 0 where
-  step : (p : Plan) (asked : Asked) → Q asked → K p → refusal p asked ≡ None → K (changed p asked).plan
-  rules : (text : List ℕ) (rule : FileRule) → rule_of text ≡ Ok rule → Q (ReplaceRule rule)
-  starts : (start : World) → Q (ReplaceStart start)
+pub record Stays (K : Plan → Type 0) (Q : Asked → Type 0) : Type 0 where
+  pub step : (p : Plan) (asked : Asked) → Q asked → K p → refusal p asked ≡ None → K (changed p asked).plan
+  pub rules : (text : List ℕ) (rule : FileRule) → rule_of text ≡ Ok rule → Q (ReplaceRule rule)
+  pub starts : (start : World) → Q (ReplaceStart start)
 
-unless_memory-keeps : (K : Plan → Type 0) (short : Shortage) (p : Plan) (after : After) → K p → K after.plan
+pub unless_memory-keeps : (K : Plan → Type 0) (short : Shortage) (p : Plan) (after : After) → K p → K after.plan
     → K (unless_memory short p after).plan
 unless_memory-keeps K NoShortage p after k h = h
 unless_memory-keeps K Memory p after k h = k
@@ -264,12 +337,12 @@ unless_memory-keeps K Pending p after k h = h
 unless_memory-keeps K (Still n cause) p after k h = h
 unless_memory-keeps K (Known known) p after k h = h
 
-unless_fault-keeps : {A E : Type 0} (K : Plan → Type 0) (p : Plan) (refusal : E → Fault) (done : A → After)
+pub unless_fault-keeps : {A E : Type 0} (K : Plan → Type 0) (p : Plan) (refusal : E → Fault) (done : A → After)
     (r : Result A E) → K p → ((value : A) → r ≡ Ok value → K (done value).plan) → K (unless_fault p refusal done r).plan
 unless_fault-keeps K p refusal done (Ok value) k h = h value refl
 unless_fault-keeps K p refusal done (Err fault) k h = k
 
-made-keeps : (K : Plan → Type 0) (p : Plan) (c : Changed) (word : List ℕ) (number : Changed → Option ℕ)
+pub made-keeps : (K : Plan → Type 0) (p : Plan) (c : Changed) (word : List ℕ) (number : Changed → Option ℕ)
     (o : Option EditFault) → K p → (o ≡ None → K c.plan)
     → K (unless_fault p of_edit (λ (d : Changed). accepted d word (number d)) (unless_refused o c)).plan
 made-keeps K p c word number None k h = h refl
@@ -300,7 +373,7 @@ taken-keeps K Q stays p format.Macrocell text k =
     (macrocells.pattern_of text) k
     (λ loaded is. started-keeps K Q stays p loaded.generation loaded.plane k)
 
-settled-keeps : (K : Plan → Type 0) (short : Shortage) (p : Plan) → K p → K (settled short p).plan
+pub settled-keeps : (K : Plan → Type 0) (short : Shortage) (p : Plan) → K p → K (settled short p).plan
 settled-keeps K NoShortage p k = k
 settled-keeps K Memory p k = k
 settled-keeps K (Unsettled n cause) p k = either (nat_le 1 n && nat_le n (length p.bookmarks))
@@ -312,7 +385,7 @@ settled-keeps K Pending p k = k
 settled-keeps K (Still n cause) p k = k
 settled-keeps K (Known known) p k = k
 
-polled-keeps : (K : Plan → Type 0) (short : Shortage) (p : Plan) → K p → K (polled short p).plan
+pub polled-keeps : (K : Plan → Type 0) (short : Shortage) (p : Plan) → K p → K (polled short p).plan
 polled-keeps K NoShortage p k = k
 polled-keeps K Memory p k = k
 polled-keeps K (Unsettled n cause) p k = k
@@ -324,7 +397,7 @@ polled-keeps K (Still n cause) p k = either (nat_le n (length p.bookmarks))
     either false = k
 polled-keeps K (Known known) p k = k
 
-listed-keeps : (K : Plan → Type 0) (short : Shortage) (p : Plan) → K p → K (listed short p).plan
+pub listed-keeps : (K : Plan → Type 0) (short : Shortage) (p : Plan) → K p → K (listed short p).plan
 listed-keeps K NoShortage p k = k
 listed-keeps K Memory p k = k
 listed-keeps K (Unsettled n cause) p k = k
@@ -341,27 +414,35 @@ there-keeps K Pending p id b k = k
 there-keeps K (Still n cause) p id b k = k
 there-keeps K (Known known) p id b k = k
 
-shown-keeps : (K : Plan → Type 0) (short : Shortage) (p : Plan) (id : ℕ) (b : Option Bookmark) → K p
+pub shown-keeps : (K : Plan → Type 0) (short : Shortage) (p : Plan) (id : ℕ) (b : Option Bookmark) → K p
     → K (shown short p id b).plan
 shown-keeps K short p id None k = unless_memory-keeps K short p (refused p (of_edit NoSuchBookmark)) k k
 shown-keeps K short p id (Some b) k = there-keeps K short p id b k
 
-answer-keeps : (K : Plan → Type 0) (Q : Asked → Type 0) → Stays K Q → (short : Shortage) (p : Plan) (ask : Ask)
-    → Fits Q ask → K p → K (answer short p ask).plan
-answer-keeps K Q stays short p (Obey (command.Edit edit)) q k =
-    unless_memory-keeps K short p (edited p (asked_of edit)) k (edited-keeps K Q stays p (asked_of edit) q k)
-answer-keeps K Q stays short p (Obey command.Settle) q k = settled-keeps K short p k
-answer-keeps K Q stays short p (Obey command.Work) q k = k
-answer-keeps K Q stays short p (Obey (command.Show id)) q k = shown-keeps K short p id (bookmark_in p.bookmarks id) k
-answer-keeps K Q stays short p (Obey (command.Peek id)) q k = shown-keeps K short p id (bookmark_in p.bookmarks id) k
-answer-keeps K Q stays short p (Obey command.Poll) q k = polled-keeps K short p k
-answer-keeps K Q stays short p (Obey command.List) q k = listed-keeps K short p k
-answer-keeps K Q stays short p (Obey command.Quit) q k = k
-answer-keeps K Q stays short p (Take format text) q k =
-    unless_memory-keeps K short p (taken p format text) k (taken-keeps K Q stays p format text k)
-answer-keeps K Q stays short p (Refuse (BadCommand line)) q k =
-    unless_memory-keeps K short p (refused p (of_script (BadCommand line))) k k
-answer-keeps K Q stays short p (Refuse (NoEnd line)) q k = k
+pub scripted-keeps : (K : Plan → Type 0) (short : Shortage) (s : Session) → K s.plan → K (scripted short s).plan
+scripted-keeps K short s k =
+    unless_memory-keeps K short s.plan (only s.plan (scripted_text (script_text s.rule_text s.plan))) k k
+
+pub answer-keeps : (K : Plan → Type 0) (Q : Asked → Type 0) → Stays K Q → (short : Shortage) (s : Session) (ask : Ask)
+    → Fits Q ask → K s.plan → K (answer short s ask).plan
+answer-keeps K Q stays short s (Obey (command.Edit edit)) q k =
+    unless_memory-keeps K short s.plan (edited s.plan (asked_of edit)) k
+    (edited-keeps K Q stays s.plan (asked_of edit) q k)
+answer-keeps K Q stays short s (Obey command.Settle) q k = settled-keeps K short s.plan k
+answer-keeps K Q stays short s (Obey command.Work) q k = k
+answer-keeps K Q stays short s (Obey (command.Show id)) q k =
+    shown-keeps K short s.plan id (bookmark_in s.plan.bookmarks id) k
+answer-keeps K Q stays short s (Obey (command.Peek id)) q k =
+    shown-keeps K short s.plan id (bookmark_in s.plan.bookmarks id) k
+answer-keeps K Q stays short s (Obey command.Poll) q k = polled-keeps K short s.plan k
+answer-keeps K Q stays short s (Obey command.List) q k = listed-keeps K short s.plan k
+answer-keeps K Q stays short s (Obey command.Script) q k = scripted-keeps K short s k
+answer-keeps K Q stays short s (Obey command.Quit) q k = k
+answer-keeps K Q stays short s (Take format text) q k =
+    unless_memory-keeps K short s.plan (taken s.plan format text) k (taken-keeps K Q stays s.plan format text k)
+answer-keeps K Q stays short s (Refuse (BadCommand line)) q k =
+    unless_memory-keeps K short s.plan (refused s.plan (of_script (BadCommand line))) k k
+answer-keeps K Q stays short s (Refuse (NoEnd line)) q k = k
 
 -- the document after a reply, and those after what follows
 documents-more : (K : Plan → Type 0) (q : Plan) (ends : Bool) (more : List After) → K q
@@ -371,33 +452,34 @@ documents-more K q true more k h = tt
 documents-more K q false more k h = (k, h)
 
 documents-keep : (K : Plan → Type 0) (Q : Asked → Type 0) → Stays K Q
-    → (p : Plan) (asked : List Ask) (shortages : List Shortage) → AllByRecursion (Fits Q) asked → K p
-    → AllByRecursion K (documents_of (afters p asked shortages))
-documents-keep K Q stays p [] shortages h k = tt
-documents-keep K Q stays p (ask ∷ rest) shortages h k =
-    let after : After = answer (first_shortage shortages) p ask in
-    let kept : K after.plan = answer-keeps K Q stays (first_shortage shortages) p ask h.0 k in
-    documents-more K after.plan after.ends (afters after.plan rest (later_shortages shortages)) kept
-    (documents-keep K Q stays after.plan rest (later_shortages shortages) h.1 kept)
+    → (s : Session) (asked : List Ask) (shortages : List Shortage) → AllByRecursion (Fits Q) asked → K s.plan
+    → AllByRecursion K (documents_of (afters s asked shortages))
+documents-keep K Q stays s [] shortages h k = tt
+documents-keep K Q stays s (ask ∷ rest) shortages h k =
+    let after : After = answer (first_shortage shortages) s ask in
+    let next : Session = session_after s ask after.plan in
+    let kept : K after.plan = answer-keeps K Q stays (first_shortage shortages) s ask h.0 k in
+    documents-more K after.plan after.ends (afters next rest (later_shortages shortages)) kept
+    (documents-keep K Q stays next rest (later_shortages shortages) h.1 kept)
 
-all-map : {A : Type 0} (P Q : A → Type 0) (xs : List A) → ((x : A) → P x → Q x) → AllByRecursion P xs
+pub all-map : {A : Type 0} (P Q : A → Type 0) (xs : List A) → ((x : A) → P x → Q x) → AllByRecursion P xs
     → AllByRecursion Q xs
 all-map P Q [] f h = tt
 all-map P Q (x ∷ xs) f h = (f x h.0, all-map P Q xs f h.1)
 
-any-line : (lines : List Line) → AllByRecursion (λ (line : Line). ⊤) lines
+pub any-line : (lines : List Line) → AllByRecursion (λ (line : Line). ⊤) lines
 any-line [] = tt
 any-line (line ∷ lines) = (tt, any-line lines)
 
 -- the limits of documents, and a rule with states
-abbrev KeepsLimits : Plan → Type 0
+abbrev pub KeepsLimits : Plan → Type 0
 KeepsLimits p = IsSound p × (0 < states_of p.rule)
 
-opening-keeps : KeepsLimits (opening 0)
+pub opening-keeps : KeepsLimits (opening 0)
 opening-keeps =
     (IsSound-opening still blank [] [] [] 0 refl refl refl refl refl, (let n = states_of-still in omega (arith, n)))
 
-limits-stay : Stays KeepsLimits HasStates
+pub limits-stay : Stays KeepsLimits HasStates
 limits-stay = record {
   step = λ p asked has k free. (sound_changed p asked k.0 k.1 has free, some_changed p asked k.1 has);
   rules = rule_of-few;
@@ -412,7 +494,7 @@ documents-sound script shortages =
     asks-fit HasStates Ended Between 1 lines
     (all-map (λ (line : Line). ⊤) (LineFits HasStates) lines (λ line _ a said. said.states) (any-line lines)) in
     all-map KeepsLimits IsSound (documents_with script shortages) (λ p k. k.0)
-    (documents-keep KeepsLimits HasStates limits-stay (opening 0)
+    (documents-keep KeepsLimits HasStates limits-stay opening_session
     (asks Ended Between 1 lines) shortages fit opening-keeps)
 
 -- and no branch
@@ -476,5 +558,5 @@ documents-one_line script shortages none =
     (all-map (λ (line : Line). adds_branch (words line.says) ≡ false) (LineFits AsksAlone) lines
     (λ line e a said. (said.states, said.none e)) none) in
     all-map IsAlone HasOneLine (documents_with script shortages) alone-one_line
-    (documents-keep IsAlone AsksAlone alone-stays (opening 0) (asks Ended Between 1 lines) shortages fit
+    (documents-keep IsAlone AsksAlone alone-stays opening_session (asks Ended Between 1 lines) shortages fit
     (opening-keeps, refl))

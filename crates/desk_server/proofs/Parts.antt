@@ -36,7 +36,7 @@ module _ {A : Type 0} (text : A → List ℕ) where
   next_suc (x ∷ xs) zero d h = refl
   next_suc (x ∷ xs) (suc k) d h = next_suc xs k d (omega (arith, h))
 
-  next : (xs : List A) (k : ℕ) (d : A) → k < length xs
+  pub next : (xs : List A) (k : ℕ) (d : A) → k < length xs
       → flat_map text (drop k xs) ≡ flat_map text (get_or xs k d ∷ drop (k + 1) xs)
   next xs k d h = next_suc xs k d h ∙ ap (λ j. flat_map text (get_or xs k d ∷ drop j xs)) (sym (add-one k))
 

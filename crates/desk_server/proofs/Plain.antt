@@ -10,7 +10,7 @@ use Rattle.desk_events.specs.Wanted.{bookmark_in}
 use Rattle.desk_server.specs.Reply.{unsettled_text, settled_text, polled_text}
 use Rattle.desk_server.specs.Listed.{bookmark_line, branch_line, intervention_line, lines_of, listed_text}
 use Rattle.desk_server.specs.Shortage.{Shortage, NoShortage, Memory, Unsettled, Pending, Still, Known, IsCaused, IsCausedOver, AllCausedOver}
-use Rattle.desk_server.specs.Answer.{Ask, Obey, Take, Refuse, After, answer, only, unless_memory, edited, settled, polled, listed, shown, obeyed}
+use Rattle.desk_server.specs.Answer.{Ask, Obey, Take, Refuse, After, Session, answer, only, unless_memory, edited, settled, polled, listed, shown, scripted, obeyed, session_after}
 use Rattle.desk_server.specs.Script.{first_shortage, later_shortages, afters}
 use Rattle.desk_server.specs.Plain.{ShowsShortage, NoneShows}
 use Rattle.desk_server.specs.declared.fault.ScriptFault.TheVariants.{BadCommand, NoEnd}
@@ -105,37 +105,45 @@ shown-plain prompt Pending p id (Some b) = inr (inr (inr (inl (id, refl))))
 shown-plain prompt (Still n cause) p id (Some b) = inl refl
 shown-plain prompt (Known known) p id (Some b) = inl refl
 
-obeyed-plain : (prompt : Bool) (short : Shortage) (p : Plan) (command : Command) → IsCausedOver prompt short
-    → IsPlain prompt (obeyed short p command) (obeyed NoShortage p command)
-obeyed-plain prompt short p (command.Edit edit) h = unless-plain prompt short p (edited p (asked_of edit))
-obeyed-plain prompt short p command.Settle h = settled-plain prompt short p h
-obeyed-plain prompt short p command.Work h = inl refl
-obeyed-plain prompt short p (command.Show id) h = shown-plain prompt short p id (bookmark_in p.bookmarks id)
-obeyed-plain prompt short p (command.Peek id) h = shown-plain prompt short p id (bookmark_in p.bookmarks id)
-obeyed-plain prompt short p command.Poll h = polled-plain prompt short p
-obeyed-plain prompt short p command.List h = listed-plain prompt short p
-obeyed-plain prompt short p command.Quit h = inl refl
+obeyed-plain : (prompt : Bool) (short : Shortage) (s : Session) (command : Command) → IsCausedOver prompt short
+    → IsPlain prompt (obeyed short s command) (obeyed NoShortage s command)
+obeyed-plain prompt short s (command.Edit edit) h =
+    unless-plain prompt short s.plan (edited s.plan (asked_of edit))
+obeyed-plain prompt short s command.Settle h = settled-plain prompt short s.plan h
+obeyed-plain prompt short s command.Work h = inl refl
+obeyed-plain prompt short s (command.Show id) h =
+    shown-plain prompt short s.plan id (bookmark_in s.plan.bookmarks id)
+obeyed-plain prompt short s (command.Peek id) h =
+    shown-plain prompt short s.plan id (bookmark_in s.plan.bookmarks id)
+obeyed-plain prompt short s command.Poll h = polled-plain prompt short s.plan
+obeyed-plain prompt short s command.List h = listed-plain prompt short s.plan
+obeyed-plain prompt short s command.Script h = unless-plain prompt short s.plan (scripted NoShortage s)
+obeyed-plain prompt short s command.Quit h = inl refl
 
-answer-plain : (prompt : Bool) (short : Shortage) (p : Plan) (ask : Ask) → IsCausedOver prompt short
-    → IsPlain prompt (answer short p ask) (answer NoShortage p ask)
-answer-plain prompt short p (Obey command) h = obeyed-plain prompt short p command h
-answer-plain prompt short p (Take format text) h = unless-plain prompt short p (answer NoShortage p (Take format text))
-answer-plain prompt short p (Refuse (BadCommand line)) h =
-    unless-plain prompt short p (answer NoShortage p (Refuse (BadCommand line)))
-answer-plain prompt short p (Refuse (NoEnd line)) h = inl refl
+answer-plain : (prompt : Bool) (short : Shortage) (s : Session) (ask : Ask) → IsCausedOver prompt short
+    → IsPlain prompt (answer short s ask) (answer NoShortage s ask)
+answer-plain prompt short s (Obey command) h = obeyed-plain prompt short s command h
+answer-plain prompt short s (Take format text) h =
+    unless-plain prompt short s.plan (answer NoShortage s (Take format text))
+answer-plain prompt short s (Refuse (BadCommand line)) h =
+    unless-plain prompt short s.plan (answer NoShortage s (Refuse (BadCommand line)))
+answer-plain prompt short s (Refuse (NoEnd line)) h = inl refl
 
 -- the plain answer was given, and what follows is plain where the script goes on
-goes_on : (prompt : Bool) (after plain : After) (rest : List Ask) (later : List Shortage) → IsPlain prompt after plain
-    → (ShowsShortage prompt after.told → ⊥)
-    → (after.ends ≡ false → afters after.plan rest later ≡ afters after.plan rest [])
-    → after ∷ cond after.ends [] (afters after.plan rest later) ≡ plain ∷ cond plain.ends [] (afters plain.plan rest [])
-goes_on prompt after plain rest later (inr shows) silent more = absurd (silent shows)
-goes_on prompt after plain rest later (inl same) silent more =
+goes_on : (prompt : Bool) (s : Session) (ask : Ask) (after plain : After) (rest : List Ask) (later : List Shortage)
+    → IsPlain prompt after plain → (ShowsShortage prompt after.told → ⊥)
+    → (after.ends ≡ false → afters (session_after s ask after.plan) rest later
+    ≡ afters (session_after s ask after.plan) rest [])
+    → after ∷ cond after.ends [] (afters (session_after s ask after.plan) rest later)
+    ≡ plain ∷ cond plain.ends [] (afters (session_after s ask plain.plan) rest [])
+goes_on prompt s ask after plain rest later (inr shows) silent more = absurd (silent shows)
+goes_on prompt s ask after plain rest later (inl same) silent more =
     ap (λ v. after ∷ v) (ends_or after.ends refl)
-    ∙ ap (λ (a : After). a ∷ cond a.ends [] (afters a.plan rest [])) same
+    ∙ ap (λ (a : After). a ∷ cond a.ends [] (afters (session_after s ask a.plan) rest [])) same
   where
-    ends_or : (b : Bool) → after.ends ≡ b → cond after.ends [] (afters after.plan rest later) ≡ cond after.ends []
-        (afters after.plan rest [])
+    ends_or : (b : Bool) → after.ends ≡ b
+        → cond after.ends [] (afters (session_after s ask after.plan) rest later)
+        ≡ cond after.ends [] (afters (session_after s ask after.plan) rest [])
     ends_or true e = rw e refl
     ends_or false e = ap (λ v. cond after.ends [] v) (more e)
 
@@ -151,13 +159,14 @@ first_caused : (shortages : List Shortage) → AllByRecursion IsCaused shortages
 first_caused [] h = (tt, tt)
 first_caused (x ∷ xs) h = h
 
-pub afters-plain : (prompt : Bool) (p : Plan) (asked : List Ask) (shortages : List Shortage)
-    → AllCausedOver prompt shortages → NoneShows prompt (afters p asked shortages)
-    → afters p asked shortages ≡ afters p asked []
-afters-plain prompt p [] shortages caused h = refl
-afters-plain prompt p (ask ∷ rest) shortages caused h =
-    let after = answer (first_shortage shortages) p ask in
-    goes_on prompt after (answer NoShortage p ask) rest (later_shortages shortages)
-    (answer-plain prompt (first_shortage shortages) p ask (λ e. (first_caused shortages (caused e)).0)) h.0
-    (λ e. afters-plain prompt after.plan rest (later_shortages shortages) (λ k. (first_caused shortages (caused k)).1)
-    (none_behind prompt after.ends (afters after.plan rest (later_shortages shortages)) h.1 e))
+pub afters-plain : (prompt : Bool) (s : Session) (asked : List Ask) (shortages : List Shortage)
+    → AllCausedOver prompt shortages → NoneShows prompt (afters s asked shortages)
+    → afters s asked shortages ≡ afters s asked []
+afters-plain prompt s [] shortages caused h = refl
+afters-plain prompt s (ask ∷ rest) shortages caused h =
+    let after = answer (first_shortage shortages) s ask in
+    let next = session_after s ask after.plan in
+    goes_on prompt s ask after (answer NoShortage s ask) rest (later_shortages shortages)
+    (answer-plain prompt (first_shortage shortages) s ask (λ e. (first_caused shortages (caused e)).0)) h.0
+    (λ e. afters-plain prompt next rest (later_shortages shortages) (λ k. (first_caused shortages (caused k)).1)
+    (none_behind prompt after.ends (afters next rest (later_shortages shortages)) h.1 e))

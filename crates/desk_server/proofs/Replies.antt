@@ -1,7 +1,9 @@
 -- What the desk's answers are by the definition of the replies.
-use Rattle.std.proofs.Common.{◌≡◌, ◌≢◌, ◌⊎◌, inl, inr, ℕ, List, Result, Err, ◌≤◌, Option, Some, None, IfNone, length, Bool, true, false, cond, ◌&&◌, refl, sym, ap, ap₂, ◌∙◌, subst, arith, nat_le}
+use Rattle.std.proofs.Common.{◌≡◌, ◌≢◌, ◌⊎◌, inl, inr, ℕ, List, Result, Err, ◌≤◌, Option, Some, None, IfNone, length, Bool, true, false, cond, not, ◌==◌, ◌&&◌, refl, sym, ap, ap₂, ◌∙◌, subst, arith, nat_le}
 use Rattle.std.specs.Prelude.{IsSome}
+use Rattle.std.proofs.lemmas.Bool.{cond-true}
 use Rattle.std.proofs.lemmas.Bool.Decides.{nat_tests}
+use Rattle.script_lines.specs.Text.{IsText}
 use Rattle.schedule.specs.Plan.{Plan}
 use Rattle.schedule.specs.declared.fault.EditFault.TheVariants.{NoMemory}
 use Rattle.schedule.specs.declared.document.Bookmark.{Bookmark}
@@ -14,23 +16,25 @@ use Rattle.dependency_book.specs.declared.shown.Shown.TheVariants.{Current, NoSu
 use Rattle.dependency_book.specs.declared.shown.Shown.TheVariants as shown
 use Rattle.desk_server.specs.Faults.{Fault, of_edit, of_script}
 use Rattle.desk_server.specs.Shortage.{NoShortage, Memory, Unsettled, Pending, Still}
-use Rattle.desk_server.specs.Answer.{Ask, Refuse, After, answer, refused, CanLackMemory, only, unless_fault, settled, polled, obeyed}
-use Rattle.desk_server.specs.declared.command.Command.TheVariants.{Show}
+use Rattle.desk_server.specs.Answer.{Ask, Obey, Take, Refuse, After, Session, answer, refused, CanLackMemory, only, unless_fault, settled, polled, rule_text_after}
+use Rattle.desk_server.specs.Answer.{shown as shown_by}
 use Rattle.desk_server.specs.Reply.{pending_text, polled_text, refused_text, settled_text, unsettled_text}
 use Rattle.revision_jobs.specs.Posted.{PostView}
 use Rattle.desk_server.specs.Told.{PollsBy, reply_text, ends, shown_text}
-use Rattle.desk_server.specs.Heard.{AsksFor, Gives, GivesBy, GivesOrLacks, Serves}
+use Rattle.desk_server.specs.Heard.{AsksFor, Gives, GivesBy, GivesOrLacks, KeepsTaken, KeepsText, Serves, TakesText, kept_text, session}
 use Rattle.script_lines.specs.declared.text.Text.{Text}
 use Rattle.desk_server.specs.declared.fault.ScriptFault.{ScriptFault}
 use Rattle.desk_server.specs.declared.fault.ScriptFault.TheVariants.{BadCommand, NoEnd}
 use Rattle.desk_server.specs.declared.format.Format.{Format}
+use Rattle.desk_server.specs.declared.format.Format.TheVariants as format
+use Rattle.desk_server.specs.declared.command.Command.{Command}
 use Rattle.desk_server.specs.declared.request.Request.{Request}
 use Rattle.desk_server.specs.declared.request.Request.TheVariants as request
 use Rattle.desk_server.specs.declared.reply.Reply.{Reply}
 use Rattle.desk_server.specs.declared.reply.Reply.TheVariants as reply
 
 -- a reply that changes nothing
-gives-only : (p : Plan) (new : BookState) (r : Reply) (told : List ℕ) → new.plan ≡ p → reply_text new r ≡ told
+pub gives-only : (p : Plan) (new : BookState) (r : Reply) (told : List ℕ) → new.plan ≡ p → reply_text new r ≡ told
     → ends r ≡ false → Gives (only p told) r new
 gives-only p new r told same is goes = ap (λ q. only q told) (sym same) ∙ sym (ap₂ (λ t e. after t e) is goes)
   where
@@ -104,11 +108,13 @@ pending-shown known id h = let b = some_of (bookmark_in known.plan.bookmarks id)
 
 -- what is shown of a bookmark, current or not
 pub gives-shown : (prompt : Bool) (p : Plan) (new : BookState) (id : ℕ) (s : Shown) → new.plan ≡ p → Shows new id s
-    → GivesBy prompt (λ short. obeyed short p (Show id)) (reply.Shown id) new
+    → GivesBy prompt (λ short. shown_by short p id (bookmark_in p.bookmarks id)) (reply.Shown id) new
 gives-shown prompt p new id s same shows =
-    subst (λ q. GivesBy prompt (λ short. obeyed short q (Show id)) (reply.Shown id) new) same (now s shows)
+    subst (λ q. GivesBy prompt (λ short. shown_by short q id (bookmark_in q.bookmarks id)) (reply.Shown id) new) same
+    (now s shows)
   where
-    now : (s : Shown) → Shows new id s → GivesBy prompt (λ short. obeyed short new.plan (Show id)) (reply.Shown id) new
+    now : (s : Shown) → Shows new id s
+        → GivesBy prompt (λ short. shown_by short new.plan id (bookmark_in new.plan.bookmarks id)) (reply.Shown id) new
     now NoSuch none = (NoShortage, λ _. tt, rw none refl)
     now (Current text) h = (NoShortage, λ _. tt, rw (h.there, h.known, h.scratch_text) refl)
     now shown.Pending h =
@@ -122,37 +128,34 @@ not_pending d id (Current text) shows other h = cc (shows.known, h.unknown)
 not_pending d id shown.Pending shows other h = other refl
 
 -- memory was short for what was asked
-pub serves-memory : (prompt : Bool) (asked : Request) (r : Reply) (d : BookState)
+pub serves-memory : (prompt : Bool) (asked : Request) (r : Reply) (d : BookState) (rule : Option (List ℕ))
     → ((ask : Ask) → AsksFor asked ask → CanLackMemory ask) → reply_text d r ≡ refused_text (of_edit NoMemory)
-    → ends r ≡ false → Serves prompt asked r d d
-serves-memory prompt asked r d can is goes =
-    λ ask asks.
-    (Memory, λ _. tt, can ask asks d.plan ∙ gives-only d.plan d r (refused_text (of_edit NoMemory)) refl is goes)
+    → ends r ≡ false → Serves prompt asked r (session d rule) d
+serves-memory prompt asked r d rule can is goes =
+    λ ask asks. (
+      Memory,
+      λ _. tt,
+      can ask asks (session d rule) ∙ gives-only d.plan d r (refused_text (of_edit NoMemory)) refl is goes,
+    )
 
--- a text can lack it
-pub take-lacks : (asked : Request) (format : Format) (text : Text) → asked ≡ request.Take format text → (ask : Ask)
-    → AsksFor asked ask → CanLackMemory ask
-take-lacks asked format text e ask asks =
-    let one = subst (λ q. AsksFor q ask) e asks in
-    subst CanLackMemory (sym one.1) (λ p. refl)
-
--- so can what is out of it already
+-- what is out of it already can
 pub none-lacks : (asked : Request) → asked ≡ request.NoMemory → (ask : Ask) → AsksFor asked ask → CanLackMemory ask
 none-lacks asked e ask asks = subst (λ q. AsksFor q ask) e asks
 
-plainly_refused : (p : Plan) (fault : ScriptFault) → answer NoShortage p (Refuse fault) ≡ refused p (of_script fault)
-plainly_refused p (BadCommand line) = refl
-plainly_refused p (NoEnd line) = refl
+plainly_refused : (s : Session) (fault : ScriptFault)
+    → answer NoShortage s (Refuse fault) ≡ refused s.plan (of_script fault)
+plainly_refused s (BadCommand line) = refl
+plainly_refused s (NoEnd line) = refl
 
 -- what lines say was refused
 pub serves-refused : (prompt : Bool) (asked : Request) (fault : ScriptFault) (r : Reply) (d : BookState)
-    → asked ≡ request.Refuse fault → reply_text d r ≡ refused_text (of_script fault) → ends r ≡ false
-    → Serves prompt asked r d d
-serves-refused prompt asked fault r d e is goes = λ ask asks.
+    (rule : Option (List ℕ)) → asked ≡ request.Refuse fault → reply_text d r ≡ refused_text (of_script fault)
+    → ends r ≡ false → Serves prompt asked r (session d rule) d
+serves-refused prompt asked fault r d rule e is goes = λ ask asks.
     let one : ask ≡ Refuse fault = subst (λ q. AsksFor q ask) e asks in (
       NoShortage,
       λ _. tt,
-      ap (answer NoShortage d.plan) one ∙ plainly_refused d.plan fault
+      ap (answer NoShortage (session d rule)) one ∙ plainly_refused (session d rule) fault
           ∙ gives-only d.plan d r (refused_text (of_script fault)) refl is goes,
     )
 
@@ -165,5 +168,59 @@ polled_goes_on p q old new (reply.Unsettled pending cause) h = absurd h
 polled_goes_on p q old new (reply.Shown id) h = absurd h
 polled_goes_on p q old new (reply.Polled pending cause) h = refl
 polled_goes_on p q old new reply.Listed h = absurd h
+polled_goes_on p q old new (reply.Scripted script) h = absurd h
 polled_goes_on p q old new (reply.Refused number name place) h = absurd h
 polled_goes_on p q old new reply.Bye h = absurd h
+
+-- a text was taken, unless memory was short for it
+pub serves-taken : (prompt : Bool) (asked : Request) (format : Format) (text : Text) (r : Reply) (old new : BookState)
+    (rule : Option (List ℕ)) → asked ≡ request.Take format text → TakesText format text r old new
+    → Serves prompt asked r (session old rule) new
+serves-taken prompt asked format text r old new rule e takes = λ ask asks.
+    let one = subst (λ q. AsksFor q ask) e asks in
+    let gives = takes one.0 one.2 in
+    subst (λ a. GivesBy prompt (λ short. answer short (session old rule) a) r new) (sym one.1)
+    (gives.0, λ _. gives.1 refl, gives.2)
+
+-- its bytes are kept if they are a rule's that was taken, and then there are some
+kept-rule : (b is_taken : Bool) (text : Option (List ℕ)) (bytes : List ℕ) (rule : Option (List ℕ))
+    → is_taken ≡ not b → (text ≡ None → b ≡ true) → IsText text bytes
+    → cond is_taken text rule ≡ cond b rule (Some bytes)
+kept-rule true is_taken text bytes rule is some says = rw is refl
+kept-rule false is_taken None bytes rule is some says = absurd (cc (some refl))
+kept-rule false is_taken (Some xs) bytes rule is some says = rw is (ap Some says)
+
+pub kept-taken : (format : Format) (text : Text) (old new : BookState) (rule kept : Option (List ℕ)) (is_taken : Bool)
+    → is_taken ≡ not (new.plan.revision == old.plan.revision) → (text ≡ None → new.plan ≡ old.plan)
+    → kept ≡ kept_text format is_taken text rule → KeepsTaken format text (session old rule) new kept
+kept-taken format.Rule text old new rule kept is_taken is none keeps = λ bytes says.
+    keeps ∙ kept-rule (new.plan.revision == old.plan.revision) is_taken text bytes rule is
+    (λ e. let same = ap (λ (p : Plan). p.revision) (none e) in grind (arith, nat_tests)) says
+kept-taken format.Rle text old new rule kept is_taken is none keeps = λ bytes says. keeps
+kept-taken format.Macrocell text old new rule kept is_taken is none keeps = λ bytes says. keeps
+
+-- the text of the rule stays where the document does
+pub rule-same : (s : Session) (ask : Ask) → rule_text_after s ask s.plan ≡ s.rule_text
+rule-same s (Obey command) = refl
+rule-same s (Take format.Rule text) = cond-true (s.plan.revision == s.plan.revision) s.rule_text (Some text)
+    (grind (arith, nat_tests))
+rule-same s (Take format.Rle text) = refl
+rule-same s (Take format.Macrocell text) = refl
+rule-same s (Refuse fault) = refl
+
+pub keeps-same : (asked : Request) (d : BookState) (rule : Option (List ℕ)) → KeepsText asked (session d rule) d rule
+keeps-same asked d rule = λ ask asks. sym (rule-same (session d rule) ask)
+
+-- and with a command
+pub keeps-obeyed : (asked : Request) (command : Command) (s : Session) (d : BookState) → asked ≡ request.Obey command
+    → KeepsText asked s d s.rule_text
+keeps-obeyed asked command s d e = λ ask asks.
+    let one : ask ≡ Obey command = subst (λ q. AsksFor q ask) e asks in
+    sym (ap (λ a. rule_text_after s a d.plan) one)
+
+pub keeps-taken : (asked : Request) (format : Format) (text : Text) (s : Session) (d : BookState)
+    (rule : Option (List ℕ)) → asked ≡ request.Take format text → KeepsTaken format text s d rule
+    → KeepsText asked s d rule
+keeps-taken asked format text s d rule e keeps = λ ask asks.
+    let one = subst (λ q. AsksFor q ask) e asks in
+    keeps one.0 one.2 ∙ sym (ap (λ a. rule_text_after s a d.plan) one.1)

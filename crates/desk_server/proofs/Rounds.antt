@@ -1,5 +1,5 @@
 -- One command after another.
-use Rattle.std.proofs.Common.{◌≡◌, ◌≢◌, ℕ, List, [], ◌∷◌, ◌++◌, Bool, true, false, cond, sym, ◌∙◌, ap, refl, append_assoc, append-nil, subst, Option, Some, None, IfSome, inr}
+use Rattle.std.proofs.Common.{◌≡◌, ◌≢◌, ℕ, List, [], ◌∷◌, ◌++◌, Bool, true, false, cond, sym, ◌∙◌, ap, ap₂, refl, append_assoc, append-nil, subst, Option, Some, None, IfSome, inr}
 use Rattle.std.specs.Prelude.{zip}
 use Rattle.std.proofs.lemmas.List.Concat.{flat_map-append}
 use Rattle.std.proofs.KnownBytes.{Appends-nil, Appends-trans}
@@ -15,11 +15,11 @@ use Rattle.schedule.specs.Plan.{Plan, opening}
 use Rattle.dependency_book.specs.BookState.{BookState}
 use Rattle.std.specs.List.{AllByRecursion}
 use Rattle.desk_server.specs.Shortage.{Shortage, IsCaused, AllCausedOver}
-use Rattle.desk_server.specs.Answer.{Ask, After, answer}
+use Rattle.desk_server.specs.Answer.{Session, opening_session, rule_text_after, session_after, Ask, After, answer}
 use Rattle.revision_jobs.specs.Posted.{PostView}
 use Rattle.desk_server.specs.Script.{asks, Between, Answered, afters, answered, answered_with, first_shortage, later_shortages, unless_bye, but_bye, texts_of, told_to, replies_to, replies_by, replies_with}
 use Rattle.desk_server.specs.Told.{reply_text, ends}
-use Rattle.desk_server.specs.Heard.{AsksIfAny, Hears, Gives, Serves, Served, BreaksOff}
+use Rattle.desk_server.specs.Heard.{KeepsText, session, AsksIfAny, Hears, Gives, Serves, Served, BreaksOff}
 use Rattle.desk_server.specs.Run.{Answers, Finishes, StopsTelling, AnswersWhole, AnswersAll, AnswersFront}
 use Rattle.desk_server.specs.Ending.{Works, Completes}
 use Rattle.desk_server.specs.Watch.{Moment, moment, NotesFront, NotesEach, NotesScript, NotesReplies, WatchesNext, WatchesReply}
@@ -52,8 +52,24 @@ ends-other (reply.Unsettled pending cause) h = refl
 ends-other (reply.Shown id) h = refl
 ends-other (reply.Polled pending cause) h = refl
 ends-other reply.Listed h = refl
+ends-other (reply.Scripted script) h = refl
 ends-other (reply.Refused number name place) h = refl
 ends-other reply.Bye h = absurd (h refl)
+
+pub bye-ends : (r : Reply) → ends r ≡ true → r ≡ reply.Bye
+bye-ends reply.Bye h = refl
+bye-ends (reply.Accepted revision word number) h = absurd (cc)
+bye-ends reply.Settled h = absurd (cc)
+bye-ends reply.Working h = absurd (cc)
+bye-ends (reply.Unsettled pending cause) h = absurd (cc)
+bye-ends (reply.Shown id) h = absurd (cc)
+bye-ends (reply.Polled pending cause) h = absurd (cc)
+bye-ends reply.Listed h = absurd (cc)
+bye-ends (reply.Scripted script) h = absurd (cc)
+bye-ends (reply.Refused number name place) h = absurd (cc)
+
+pub goes-on : (r : Reply) → ends r ≡ false → r ≢ reply.Bye
+goes-on r h e = cc (h, e)
 
 -- nothing is left of what is at its end
 at_end_nil : (new : Option (List ℕ)) (rest : List ℕ) → IsAtEnd new → new ≡ Some rest → rest ≡ []
@@ -78,12 +94,13 @@ zip_unless true ks xs = zip_none ks
 zip_unless false ks xs = refl
 
 -- the answer to one command, and those to the rest
-after_is : (short : Shortage) (p : Plan) (ask : Ask) (r : Reply) (k : BookState) → Gives (answer short p ask) r k
-    → (rest : List Ask) (later : List Shortage)
-    → answered p (ask ∷ rest) (short ∷ later) ≡ one_of ask k r ∷ cond (ends r) [] (answered k.plan rest later)
-after_is short p ask r k e rest later =
-    ap (λ (a : After). (ask, a) ∷ zip rest (cond a.ends [] (afters a.plan rest later))) e
-    ∙ ap (λ v. one_of ask k r ∷ v) (zip_unless (ends r) rest (afters k.plan rest later))
+after_is : (short : Shortage) (s : Session) (ask : Ask) (r : Reply) (k : BookState) (t : Option (List ℕ))
+    → Gives (answer short s ask) r k → t ≡ rule_text_after s ask k.plan → (rest : List Ask) (later : List Shortage)
+    → answered s (ask ∷ rest) (short ∷ later) ≡ one_of ask k r ∷ cond (ends r) [] (answered (session k t) rest later)
+after_is short s ask r k t e kept rest later =
+    ap (λ (a : After). (ask, a) ∷ zip rest (cond a.ends [] (afters (session_after s ask a.plan) rest later))) e
+    ∙ ap (λ v. one_of ask k r ∷ zip rest (cond (ends r) [] (afters (session k v) rest later))) (sym kept)
+    ∙ ap (λ v. one_of ask k r ∷ v) (zip_unless (ends r) rest (afters (session k t) rest later))
 
 -- of two lists of answers, the texts and those but `bye`
 texts-append : (xs ys : List Answered) → told_to (xs ++ ys) ≡ told_to xs ++ told_to ys
@@ -98,14 +115,14 @@ told_unless : (b : Bool) (asked : List Ask) (given : List After) → texts_of gi
 told_unless true asked given same = ap told_to (sym (zip_none {X = After} asked))
 told_unless false asked given same = same
 
-replies_told : (p : Plan) (asked : List Ask) (shortages : List Shortage)
+replies_told : (p : Session) (asked : List Ask) (shortages : List Shortage)
     → replies_to p asked shortages ≡ told_to (answered p asked shortages)
 replies_told p [] shortages = refl
 replies_told p (ask ∷ rest) shortages =
     let after : After = answer (first_shortage shortages) p ask in
-    let later = afters after.plan rest (later_shortages shortages) in
-    ap (λ v. after.told ++ v)
-    (told_unless after.ends rest later (replies_told after.plan rest (later_shortages shortages)))
+    let next = session_after p ask after.plan in
+    let later = afters next rest (later_shortages shortages) in
+    ap (λ v. after.told ++ v) (told_unless after.ends rest later (replies_told next rest (later_shortages shortages)))
 
 -- one answer alone
 wrote_one : (before after : Option (List ℕ)) (ask : Ask) (k : BookState) (r : Reply) → Appends before after (reply_text k r)
@@ -126,8 +143,8 @@ asked_nothing : (heard : Option Request) (asked : List Ask) → heard ≡ None �
 asked_nothing heard asked e is = subst (λ o. AsksIfAny o asked) e is
 
 pub goes_on_silent : (noted : List Answered → Type 0) (prompt : Bool) (old new : Ahead) (told : Option (List ℕ))
-    (heard : Option Request) (last : Bool) (k : BookState) (n m : ℕ) → noted [] → heard ≡ None → last ≡ false
-    → (h : Hears old new Between heard last n m) → Answers noted prompt old new told told k.plan k.plan n m
+    (heard : Option Request) (last : Bool) (k : Session) (n m : ℕ) → noted [] → heard ≡ None → last ≡ false
+    → (h : Hears old new Between heard last n m) → Answers noted prompt old new told told k k n m
 goes_on_silent noted prompt old new told heard last k n m notes none e h = record {
   bytes = h.bytes;
   shortages = [];
@@ -137,14 +154,14 @@ goes_on_silent noted prompt old new told heard last k n m notes none e h = recor
   wrote = Appends-nil told;
   notes = notes;
   law = λ stop more later.
-      ap (λ v. answered k.plan v later)
+      ap (λ v. answered k v later)
       (h.law stop more (follows-any last stop more e) ∙ ap (λ v. v ++ asks stop Between m (lines_until stop more))
       (asked_nothing heard h.asked none h.is));
 }
 
 pub done_silent : (noted : List Answered → Type 0) (prompt : Bool) (old new : Ahead) (told : Option (List ℕ))
-    (heard : Option Request) (last : Bool) (k : BookState) (n m : ℕ) → noted [] → heard ≡ None → last ≡ true
-    → (h : Hears old new Between heard last n m) → Finishes noted prompt old new told told k.plan n
+    (heard : Option Request) (last : Bool) (k : Session) (n m : ℕ) → noted [] → heard ≡ None → last ≡ true
+    → (h : Hears old new Between heard last n m) → Finishes noted prompt old new told told k n
 done_silent noted prompt old new told heard last k n m notes none e h = record {
   bytes = h.bytes;
   shortages = [];
@@ -154,37 +171,37 @@ done_silent noted prompt old new told heard last k n m notes none e h = record {
   wrote = Appends-nil told;
   notes = notes;
   law = λ rest x.
-      ap (λ v. answered k.plan v [])
+      ap (λ v. answered k v [])
       (h.law Ended rest (follows_nothing last new.bytes rest h.at_end x)
       ∙ ap (λ v. v ++ asks Ended Between m (lines_until Ended rest)) (asked_nothing heard h.asked none h.is)
       ∙ ap (λ v. asks Ended Between m (lines_until Ended v)) (at_end_nil new.bytes rest (h.at_end e) x));
 }
 
 -- one thing was asked, and the reply to it found
-pub served : (prompt : Bool) (heard : Option Request) (request : Request) (asked : List Ask) (j k : BookState)
-    (r : Reply) → heard ≡ Some request → AsksIfAny heard asked
-    → Serves prompt request r j k → Served prompt request r asked j k
-served prompt heard request asked j k r e is gives = let one =
-    subst (λ o. AsksIfAny o asked) e is in (one.0, one.1, gives one.0 one.2, one.2)
+pub served : (prompt : Bool) (heard : Option Request) (request : Request) (asked : List Ask) (j : Session)
+    (k : BookState) (t : Option (List ℕ)) (r : Reply) → heard ≡ Some request → AsksIfAny heard asked
+    → Serves prompt request r j k → KeepsText request j k t → Served prompt request r asked j k t
+served prompt heard request asked j k t r e is gives keeps = let one =
+    subst (λ o. AsksIfAny o asked) e is in (one.0, one.1, gives one.0 one.2, one.2, keeps one.0 one.2)
 
 -- the answers from here on
-afters_from : (prompt : Bool) (old new : Ahead) (heard : Option Request) (last : Bool) (j k : BookState) (n m : ℕ)
+afters_from : (prompt : Bool) (old new : Ahead) (heard : Option Request) (last : Bool) (j : Session) (k : BookState) (t : Option (List ℕ)) (n m : ℕ)
     (q : Request) (r : Reply)
-    → (h : Hears old new Between heard last n m) → (s : Served prompt q r h.asked j k)
+    → (h : Hears old new Between heard last n m) → (s : Served prompt q r h.asked j k t)
     → (stop : End) (more : List ℕ) (later : List Shortage) → Follows last stop more
-    → answered j.plan (asks stop Between n (lines_until stop (h.bytes ++ more))) (s.2.0 ∷ later) ≡ one_of s.0 k r ∷ cond
-    (ends r) [] (answered k.plan (asks stop Between m (lines_until stop more)) later)
-afters_from prompt old new heard last j k n m q r h s stop more later f =
-    ap (λ v. answered j.plan v (s.2.0 ∷ later))
+    → answered j (asks stop Between n (lines_until stop (h.bytes ++ more))) (s.2.0 ∷ later) ≡ one_of s.0 k r ∷ cond
+    (ends r) [] (answered (session k t) (asks stop Between m (lines_until stop more)) later)
+afters_from prompt old new heard last j k t n m q r h s stop more later f =
+    ap (λ v. answered j v (s.2.0 ∷ later))
     (h.law stop more f ∙ ap (λ v. v ++ asks stop Between m (lines_until stop more)) s.1)
-    ∙ after_is s.2.0 j.plan s.0 r k s.2.2 (asks stop Between m (lines_until stop more)) later
+    ∙ after_is s.2.0 j s.0 r k t s.2.2 s.4 (asks stop Between m (lines_until stop more)) later
 
 pub goes_on_told : (noted : List Answered → Type 0) (prompt : Bool) (old new : Ahead) (before after : Option (List ℕ))
-    (heard : Option Request) (last : Bool) (j k : BookState) (n m : ℕ) (q : Request) (r : Reply) → last ≡ false
+    (heard : Option Request) (last : Bool) (j : Session) (k : BookState) (t : Option (List ℕ)) (n m : ℕ) (q : Request) (r : Reply) → last ≡ false
     → r ≢ reply.Bye
-    → (h : Hears old new Between heard last n m) → (s : Served prompt q r h.asked j k) → noted (one_of s.0 k r ∷ [])
-    → Appends before after (reply_text k r) → Answers noted prompt old new before after j.plan k.plan n m
-goes_on_told noted prompt old new before after heard last j k n m q r e b h s notes w = record {
+    → (h : Hears old new Between heard last n m) → (s : Served prompt q r h.asked j k t) → noted (one_of s.0 k r ∷ [])
+    → Appends before after (reply_text k r) → Answers noted prompt old new before after j (session k t) n m
+goes_on_told noted prompt old new before after heard last j k t n m q r e b h s notes w = record {
   bytes = h.bytes;
   shortages = s.2.0 ∷ [];
   caused = λ e. (s.2.1 e, tt);
@@ -192,9 +209,9 @@ goes_on_told noted prompt old new before after heard last j k n m q r e b h s no
   taken = h.taken;
   wrote = wrote_one before after s.0 k r w;
   notes = noted_one noted s.0 k r b notes;
-  law = λ stop more later. afters_from prompt old new heard last j k n m q r h s stop more later
+  law = λ stop more later. afters_from prompt old new heard last j k t n m q r h s stop more later
       (follows-any last stop more e)
-      ∙ ap (λ v. one_of s.0 k r ∷ cond v [] (answered k.plan (asks stop Between m (lines_until stop more)) later))
+      ∙ ap (λ v. one_of s.0 k r ∷ cond v [] (answered (session k t) (asks stop Between m (lines_until stop more)) later))
       (ends-other r b);
 }
 
@@ -204,13 +221,13 @@ nothing_more false a = refl
 
 -- the last answer, behind which no command is answered
 done_told : (noted : List Answered → Type 0) (prompt : Bool) (old new : Ahead) (before after : Option (List ℕ))
-    (heard : Option Request) (last : Bool) (j k : BookState) (n m : ℕ) (q : Request) (r : Reply)
-    → (h : Hears old new Between heard last n m) → (s : Served prompt q r h.asked j k)
+    (heard : Option Request) (last : Bool) (j : Session) (k : BookState) (t : Option (List ℕ)) (n m : ℕ) (q : Request) (r : Reply)
+    → (h : Hears old new Between heard last n m) → (s : Served prompt q r h.asked j k t)
     → noted (but_bye (one_of s.0 k r ∷ [])) → Appends before after (reply_text k r)
     → ((rest : List ℕ) → new.bytes ≡ Some rest
-    → one_of s.0 k r ∷ cond (ends r) [] (answered k.plan (asks Ended Between m (lines_until Ended rest)) [])
-    ≡ one_of s.0 k r ∷ []) → Finishes noted prompt old new before after j.plan n
-done_told noted prompt old new before after heard last j k n m q r h s notes w ended = record {
+    → one_of s.0 k r ∷ cond (ends r) [] (answered (session k t) (asks Ended Between m (lines_until Ended rest)) [])
+    ≡ one_of s.0 k r ∷ []) → Finishes noted prompt old new before after j n
+done_told noted prompt old new before after heard last j k t n m q r h s notes w ended = record {
   bytes = h.bytes;
   shortages = s.2.0 ∷ [];
   caused = λ e. (s.2.1 e, tt);
@@ -218,36 +235,36 @@ done_told noted prompt old new before after heard last j k n m q r h s notes w e
   given = one_of s.0 k r ∷ [];
   wrote = wrote_one before after s.0 k r w;
   notes = notes;
-  law = λ rest x. afters_from prompt old new heard last j k n m q r h s Ended rest []
+  law = λ rest x. afters_from prompt old new heard last j k t n m q r h s Ended rest []
       (follows_nothing last new.bytes rest h.at_end x) ∙ ended rest x;
 }
 
 pub done_last : (noted : List Answered → Type 0) (prompt : Bool) (old new : Ahead) (before after : Option (List ℕ))
-    (heard : Option Request) (last : Bool) (j k : BookState) (n m : ℕ) (q : Request) (r : Reply) → r ≢ reply.Bye
+    (heard : Option Request) (last : Bool) (j : Session) (k : BookState) (t : Option (List ℕ)) (n m : ℕ) (q : Request) (r : Reply) → r ≢ reply.Bye
     → last ≡ true
-    → (h : Hears old new Between heard last n m) → (s : Served prompt q r h.asked j k) → noted (one_of s.0 k r ∷ [])
-    → Appends before after (reply_text k r) → Finishes noted prompt old new before after j.plan n
-done_last noted prompt old new before after heard last j k n m q r b e h s notes w =
-    done_told noted prompt old new before after heard last j k n m q r h s (noted_one noted s.0 k r b notes) w
+    → (h : Hears old new Between heard last n m) → (s : Served prompt q r h.asked j k t) → noted (one_of s.0 k r ∷ [])
+    → Appends before after (reply_text k r) → Finishes noted prompt old new before after j n
+done_last noted prompt old new before after heard last j k t n m q r b e h s notes w =
+    done_told noted prompt old new before after heard last j k t n m q r h s (noted_one noted s.0 k r b notes) w
     (λ rest x. ap (λ v. one_of s.0 k r ∷ cond (ends r) []
-    (answered k.plan (asks Ended Between m (lines_until Ended v)) []))
+    (answered (session k t) (asks Ended Between m (lines_until Ended v)) []))
     (at_end_nil new.bytes rest (h.at_end e) x) ∙ nothing_more (ends r) (one_of s.0 k r))
 
 pub done_bye : (noted : List Answered → Type 0) (prompt : Bool) (old new : Ahead) (before after : Option (List ℕ))
-    (heard : Option Request) (last : Bool) (j k : BookState) (n m : ℕ) (q : Request) (r : Reply) → noted []
+    (heard : Option Request) (last : Bool) (j : Session) (k : BookState) (t : Option (List ℕ)) (n m : ℕ) (q : Request) (r : Reply) → noted []
     → r ≡ reply.Bye
-    → (h : Hears old new Between heard last n m) → Served prompt q r h.asked j k → Appends before after (reply_text k r)
-    → Finishes noted prompt old new before after j.plan n
-done_bye noted prompt old new before after heard last j k n m q r notes b h s w =
-    done_told noted prompt old new before after heard last j k n m q r h s (noted_bye noted s.0 k r b notes) w
+    → (h : Hears old new Between heard last n m) → Served prompt q r h.asked j k t → Appends before after (reply_text k r)
+    → Finishes noted prompt old new before after j n
+done_bye noted prompt old new before after heard last j k t n m q r notes b h s w =
+    done_told noted prompt old new before after heard last j k t n m q r h s (noted_bye noted s.0 k r b notes) w
     (λ rest _. ap (λ v. one_of s.0 k r ∷ cond (ends v) []
-    (answered k.plan (asks Ended Between m (lines_until Ended rest)) [])) b)
+    (answered (session k t) (asks Ended Between m (lines_until Ended rest)) [])) b)
 
 pub stops_telling : (prompt : Bool) (old new : Ahead) (before after : Option (List ℕ)) (heard : Option Request)
-    (last : Bool) (j k : BookState) (n m : ℕ) (q : Request) (r : Reply)
-    → (h : Hears old new Between heard last n m) → Served prompt q r h.asked j k
-    → AppendsFront before after (reply_text k r) → StopsTelling prompt old new before after j.plan n
-stops_telling prompt old new before after heard last j k n m q r h s w = record {
+    (last : Bool) (j : Session) (k : BookState) (t : Option (List ℕ)) (n m : ℕ) (q : Request) (r : Reply)
+    → (h : Hears old new Between heard last n m) → Served prompt q r h.asked j k t
+    → AppendsFront before after (reply_text k r) → StopsTelling prompt old new before after j n
+stops_telling prompt old new before after heard last j k t n m q r h s w = record {
   bytes = h.bytes;
   shortages = s.2.0 ∷ [];
   caused = λ e. (s.2.1 e, tt);
@@ -255,11 +272,11 @@ stops_telling prompt old new before after heard last j k n m q r h s w = record 
   law = λ rest x.
       let all = asks Ended Between n (lines_until Ended (h.bytes ++ rest)) in
       subst (AppendsFront before after)
-      (sym (replies_told j.plan all (s.2.0 ∷ [])
-      ∙ ap told_to (afters_from prompt old new heard last j k n m q r h s Ended rest []
+      (sym (replies_told j all (s.2.0 ∷ [])
+      ∙ ap told_to (afters_from prompt old new heard last j k t n m q r h s Ended rest []
       (follows_nothing last new.bytes rest h.at_end x))))
       (front_first before after (reply_text k r)
-      (told_to (cond (ends r) [] (answered k.plan (asks Ended Between m (lines_until Ended rest)) []))) w);
+      (told_to (cond (ends r) [] (answered (session k t) (asks Ended Between m (lines_until Ended rest)) []))) w);
 }
 
 wrote_both : (x y z : Option (List ℕ)) (xs ys : List Answered) → Appends x y (told_to xs) → Appends y z (told_to ys)
@@ -274,7 +291,7 @@ notes_both first next both join xs ys f g =
 
 -- what was answered, and then what was answered next
 pub answers_answers : (first next both : List Answered → Type 0) (prompt : Bool) (a b c : Ahead) (x y z : Option (List ℕ))
-    (p q s : Plan) (n m k : ℕ) → ((ps qs : List Answered) → first ps → next qs → both (ps ++ qs))
+    (p q s : Session) (n m k : ℕ) → ((ps qs : List Answered) → first ps → next qs → both (ps ++ qs))
     → Answers first prompt a b x y p q n m → Answers next prompt b c y z q s m k → Answers both prompt a c x z p s n k
 answers_answers first next both prompt a b c x y z p q s n m k join f g = record {
   bytes = f.bytes ++ g.bytes;
@@ -294,7 +311,7 @@ answers_answers first next both prompt a b c x y z p q s n m k join f g = record
 }
 
 pub answers_finishes : (first next both : List Answered → Type 0) (prompt : Bool) (a b c : Ahead) (x y z : Option (List ℕ))
-    (p q : Plan) (n m : ℕ) → ((ps qs : List Answered) → first ps → next qs → both (ps ++ qs))
+    (p q : Session) (n m : ℕ) → ((ps qs : List Answered) → first ps → next qs → both (ps ++ qs))
     → Answers first prompt a b x y p q n m → Finishes next prompt b c y z q m → Finishes both prompt a c x z p n
 answers_finishes first next both prompt a b c x y z p q n m join f g = record {
   bytes = f.bytes ++ g.bytes;
@@ -310,7 +327,7 @@ answers_finishes first next both prompt a b c x y z p q n m join f g = record {
       ∙ f.law Ended (g.bytes ++ rest) g.shortages ∙ ap (λ v. f.given ++ v) (g.law rest e);
 }
 
-pub answers_stops : (noted : List Answered → Type 0) (prompt : Bool) (a b c : Ahead) (x y z : Option (List ℕ)) (p q : Plan)
+pub answers_stops : (noted : List Answered → Type 0) (prompt : Bool) (a b c : Ahead) (x y z : Option (List ℕ)) (p q : Session)
     (n m : ℕ) → Answers noted prompt a b x y p q n m → StopsTelling prompt b c y z q m → StopsTelling prompt a c x z p n
 answers_stops noted prompt a b c x y z p q n m f g = record {
   bytes = f.bytes ++ g.bytes;
@@ -329,11 +346,11 @@ answers_stops noted prompt a b c x y z p q n m f g = record {
       (front_then x y z (told_to f.given) (replies_to q all g.shortages) f.wrote (g.law rest e));
 }
 
-pub answers_breaks : (noted : List Answered → Type 0) (prompt : Bool) (a b c : Ahead) (x y : Option (List ℕ)) (q : Plan)
-    (m : ℕ) → Answers noted prompt a b x y (opening 0) q 1 m → BreaksOff b c Between m → AnswersWhole prompt a c x y
+pub answers_breaks : (noted : List Answered → Type 0) (prompt : Bool) (a b c : Ahead) (x y : Option (List ℕ)) (q : Session)
+    (m : ℕ) → Answers noted prompt a b x y opening_session q 1 m → BreaksOff b c Between m → AnswersWhole prompt a c x y
 answers_breaks noted prompt a b c x y q m f g =
     let all : replies_by Broken (f.bytes ++ g.bytes) (f.shortages ++ []) ≡ told_to f.given
-    = replies_told (opening 0) (asks Broken Between 1 (lines_until Broken (f.bytes ++ g.bytes))) (f.shortages ++ [])
+    = replies_told opening_session (asks Broken Between 1 (lines_until Broken (f.bytes ++ g.bytes))) (f.shortages ++ [])
     ∙ ap told_to (f.law Broken g.bytes [] ∙ ap (λ v. f.given ++ answered q v []) g.law ∙ append-nil f.given) in
     record {
       read = f.bytes ++ g.bytes;
@@ -344,7 +361,7 @@ answers_breaks noted prompt a b c x y q m f g =
     }
 
 -- at the beginning
-pub answers_none : (noted : List Answered → Type 0) (prompt : Bool) (a b : Ahead) (x : Option (List ℕ)) (p q : Plan) (n : ℕ)
+pub answers_none : (noted : List Answered → Type 0) (prompt : Bool) (a b : Ahead) (x : Option (List ℕ)) (p q : Session) (n : ℕ)
     → noted [] → b ≡ a → q ≡ p → Answers noted prompt a b x x p q n n
 answers_none noted prompt a b x p q n notes e same = record {
   bytes = [];
@@ -357,11 +374,17 @@ answers_none noted prompt a b x p q n notes e same = record {
   law = λ stop more later. ap (λ r. answered r (asks stop Between n (lines_until stop more)) later) (sym same);
 }
 
+pub opens : (d : BookState) (t : Option (List ℕ)) → d.plan ≡ opening 0 → t ≡ None → session d t ≡ opening_session
+opens d t plan none = ap₂ (λ p r. opened p r) plan none
+  where
+    opened : Plan → Option (List ℕ) → Session
+    opened p r = record { plan = p; rule_text = r }
+
 -- so are the replies to a script
 told_script : (x z : Option (List ℕ)) (script : List ℕ) (shortages : List Shortage)
     → Appends x z (told_to (answered_with script shortages)) → Appends x z (replies_with script shortages)
 told_script x z script shortages wrote =
-    subst (Appends x z) (sym (replies_told (opening 0) (asks Ended Between 1 (lines_until Ended script)) shortages)) wrote
+    subst (Appends x z) (sym (replies_told opening_session (asks Ended Between 1 (lines_until Ended script)) shortages)) wrote
 
 -- at the end
 all_finished : {V : Type 0} (notes : V → BookState → V → Type 0) (missed : ℕ) (p q : PostView) (first last : BookState)
@@ -405,7 +428,7 @@ all_told prompt (Some script) (Some rest) x z bytes given shortages caused taken
 pub completed : {R W V : Type 0} (notes : V → BookState → V → Type 0) (missed : ℕ) (p q : PostView)
     (first last : BookState) (old new : V) (r s : LineReading R) (w x : CountedWriting W) → first.plan ≡ opening 0
     → Finishes (NotesEach notes (moment 0 p first old) (moment missed q last new)) p.is_prompt r.ahead s.ahead w.contents
-    x.contents (opening 0) 1
+    x.contents opening_session 1
     → Works r s w x → Completes p.is_prompt r s w x × NotesReplies notes missed p q r w x old new
 completed notes missed p q first last old new r s w x opens f works = (
   record {
@@ -429,7 +452,7 @@ front_stopped prompt (Some script) (Some rest) x z bytes shortages caused taken 
   wrote = subst (λ v. AppendsFront x z (replies_with v shortages)) (sym taken) (law rest refl);
 }
 
-pub stops_front : (prompt : Bool) (a c : Ahead) (x z : Option (List ℕ)) → StopsTelling prompt a c x z (opening 0) 1
+pub stops_front : (prompt : Bool) (a c : Ahead) (x z : Option (List ℕ)) → StopsTelling prompt a c x z opening_session 1
     → IfSome a.bytes (AnswersFront prompt x z)
 stops_front prompt a c x z f =
     front_stopped prompt a.bytes c.bytes x z f.bytes f.shortages f.caused f.taken.consumed f.law
@@ -460,32 +483,32 @@ front_noted notes p q first old new last (Some script) (Some rest) bytes given s
     }
 
 pub begun : {V : Type 0} (notes : V → BookState → V → Type 0) (p : PostView) (first : BookState) (old : V)
-    (last : Moment V) (a c : Ahead) (x y : Option (List ℕ)) (m : ℕ) → first.plan ≡ opening 0
-    → Answers (NotesEach notes (moment 0 p first old) last) p.is_prompt a c x y (opening 0) last.desk.plan 1 m
+    (last : Moment V) (a c : Ahead) (x y : Option (List ℕ)) (j : Session) (m : ℕ) → first.plan ≡ opening 0
+    → Answers (NotesEach notes (moment 0 p first old) last) p.is_prompt a c x y opening_session j 1 m
     → IfSome a.bytes (NotesFront notes p last.post old last.seen)
-begun notes p first old last a c x y m opens f =
+begun notes p first old last a c x y j m opens f =
     front_noted notes p last.post first old last.seen last a.bytes c.bytes f.bytes f.given (f.shortages ++ []) opens
     (λ e. caused-append f.shortages [] (f.caused e) tt) f.taken.consumed f.notes
-    (λ rest _. let later = answered last.desk.plan (asks Ended Between m (lines_until Ended rest)) [] in
+    (λ rest _. let later = answered j (asks Ended Between m (lines_until Ended rest)) [] in
     (later, f.law Ended rest [], unwatched_next notes last later))
 
 -- and the next reply wasn't written, while whose answer was computed desks were looked at
 pub begun_watched : {V : Type 0} (notes : V → BookState → V → Type 0) (p q : PostView) (first k : BookState) (old new : V)
     (last : Moment V) (a b c : Ahead) (x y : Option (List ℕ)) (heard : Option Request) (is_last : Bool) (n m : ℕ)
-    (request : Request) (r : Reply) → first.plan ≡ opening 0
-    → Answers (NotesEach notes (moment 0 p first old) last) p.is_prompt a b x y (opening 0) last.desk.plan 1 n
-    → (h : Hears b c Between heard is_last n m) → (s : Served p.is_prompt request r h.asked last.desk k)
+    (request : Request) (r : Reply) (j : Session) (t : Option (List ℕ)) → first.plan ≡ opening 0
+    → Answers (NotesEach notes (moment 0 p first old) last) p.is_prompt a b x y opening_session j 1 n
+    → (h : Hears b c Between heard is_last n m) → (s : Served p.is_prompt request r h.asked j k t)
     → WatchesReply notes s.0 r last.post q last.desk k last.seen new → IfSome a.bytes (NotesFront notes p q old new)
-begun_watched notes p q first k old new last a b c x y heard is_last n m request r opens f h s watched =
+begun_watched notes p q first k old new last a b c x y heard is_last n m request r j t opens f h s watched =
     front_noted notes p q first old new last a.bytes c.bytes (f.bytes ++ h.bytes) f.given (f.shortages ++ s.2.0 ∷ []) opens
     (λ e. caused-append f.shortages (s.2.0 ∷ []) (f.caused e) (s.2.1 e, tt))
     (takes_then a b c f.bytes h.bytes f.taken h.taken).consumed f.notes
     (λ rest e. (
-      one_of s.0 k r ∷ cond (ends r) [] (answered k.plan (asks Ended Between m (lines_until Ended rest)) []),
-      ap (λ v. answered (opening 0) (asks Ended Between 1 (lines_until Ended v)) (f.shortages ++ s.2.0 ∷ []))
+      one_of s.0 k r ∷ cond (ends r) [] (answered (session k t) (asks Ended Between m (lines_until Ended rest)) []),
+      ap (λ v. answered opening_session (asks Ended Between 1 (lines_until Ended v)) (f.shortages ++ s.2.0 ∷ []))
           (append_assoc f.bytes h.bytes rest)
           ∙ f.law Ended (h.bytes ++ rest) (s.2.0 ∷ [])
-          ∙ ap (λ v. f.given ++ v) (afters_from p.is_prompt b c heard is_last last.desk k n m request r h s Ended rest []
+          ∙ ap (λ v. f.given ++ v) (afters_from p.is_prompt b c heard is_last j k t n m request r h s Ended rest []
           (follows_nothing is_last c.bytes rest h.at_end e)),
       inr (record { reply = r; desk = k; gives = refl; watched = watched }),
     ))

@@ -1,5 +1,5 @@
 -- What each command does to a document, and what is replied.
-use Rattle.std.specs.Prelude.{◌≡◌, ℕ, ◌&&◌, nat_le, List, [], length, Bool, true, false, if◌then◌else◌, codes, Option, None, Some, Result, Ok, Err}
+use Rattle.std.specs.Prelude.{◌≡◌, ℕ, ◌==◌, ◌&&◌, nat_le, List, [], length, Bool, true, false, if◌then◌else◌, codes, Option, None, Some, Result, Ok, Err}
 use Rattle.rule_tree.specs.declared.rule.Rule.{Rule as FileRule}
 use Rattle.rule_tree.specs.Rule.{rule_of}
 use Rattle.worlds.specs.World.{World}
@@ -8,7 +8,7 @@ use Rattle.multistate_rle.specs.Pattern.{pattern_of}
 use Rattle.multistate_macrocell.specs.Pattern as macrocells
 use Rattle.schedule.specs.declared.fault.EditFault.TheVariants.{NoMemory, NoSuchBookmark}
 use Rattle.schedule.specs.declared.document.Bookmark.{Bookmark}
-use Rattle.schedule.specs.Plan.{Plan}
+use Rattle.schedule.specs.Plan.{Plan, opening}
 use Rattle.schedule.specs.Asked.{Asked, asked_of, InsertIntervention, InsertRepeat, ReplaceStart, ReplaceRule, AddBookmark, AddBranch}
 use Rattle.schedule.specs.Change.{Changed, change}
 use Rattle.schedule.specs.Scratch.{scratch}
@@ -21,6 +21,7 @@ use Rattle.desk_server.specs.declared.command.Command.{Command}
 use Rattle.desk_server.specs.declared.command.Command.TheVariants as command
 use Rattle.desk_server.specs.Faults.{Fault, of_rule, of_pattern, of_macrocell, of_edit, of_script}
 use Rattle.desk_server.specs.Listed.{listed_text}
+use Rattle.desk_server.specs.Scripted.{script_text, scripted_text}
 use Rattle.desk_server.specs.Shortage.{Shortage, Memory, Unsettled, Pending, Still, Known}
 use Rattle.desk_server.specs.Reply.{accepted_text, settled_text, working_text, unsettled_text, polled_text, current_text, pending_text, refused_text, bye_text}
 
@@ -29,6 +30,16 @@ pub data Ask : Type 0 where
   Obey : Command → Ask
   Take : Format → List ℕ → Ask
   Refuse : ScriptFault → Ask
+
+-- what a script's commands are answered by: the document, and the text of the rule that was taken
+-- last, if one was
+pub record Session : Type 0 where
+  pub plan : Plan
+  pub rule_text : Option (List ℕ)
+
+-- what the first command of a script is answered by
+abbrev pub opening_session : Session
+opening_session = record { plan = opening 0; rule_text = None }
 
 -- what is replied, the document after it, and whether the script ends
 pub record After : Type 0 where
@@ -122,25 +133,45 @@ abbrev pub listed : Shortage → Plan → After
 listed (Known known) p = only p (listed_text p known)
 listed _ p = only p (listed_text p (λ _. true))
 
+-- the script that makes the document anew
+abbrev pub scripted : Shortage → Session → After
+scripted short s =
+    unless_memory short s.plan (only s.plan (scripted_text (script_text s.rule_text s.plan)))
+
 -- a command
-abbrev pub obeyed : Shortage → Plan → Command → After
-obeyed short p (command.Edit edit) = unless_memory short p (edited p (asked_of edit))
-obeyed short p command.Settle = settled short p
-obeyed short p command.Work = only p working_text
-obeyed short p (command.Show id) = shown short p id (bookmark_in p.bookmarks id)
-obeyed short p (command.Peek id) = shown short p id (bookmark_in p.bookmarks id)
-obeyed short p command.Poll = polled short p
-obeyed short p command.List = listed short p
-obeyed short p command.Quit = record { told = bye_text; plan = p; ends = true }
+abbrev pub obeyed : Shortage → Session → Command → After
+obeyed short s (command.Edit edit) = unless_memory short s.plan (edited s.plan (asked_of edit))
+obeyed short s command.Settle = settled short s.plan
+obeyed short s command.Work = only s.plan working_text
+obeyed short s (command.Show id) = shown short s.plan id (bookmark_in s.plan.bookmarks id)
+obeyed short s (command.Peek id) = shown short s.plan id (bookmark_in s.plan.bookmarks id)
+obeyed short s command.Poll = polled short s.plan
+obeyed short s command.List = listed short s.plan
+obeyed short s command.Script = scripted short s
+obeyed short s command.Quit = record { told = bye_text; plan = s.plan; ends = true }
 
 -- what is replied to what is asked; a shortage that can't stand against it counts as none
-abbrev pub answer : Shortage → Plan → Ask → After
-answer short p (Obey command) = obeyed short p command
-answer short p (Take format text) = unless_memory short p (taken p format text)
-answer short p (Refuse (BadCommand line)) = unless_memory short p
-    (refused p (of_script (BadCommand line)))
-answer short p (Refuse (NoEnd line)) = refused p (of_script (NoEnd line))
+abbrev pub answer : Shortage → Session → Ask → After
+answer short s (Obey command) = obeyed short s command
+answer short s (Take format text) = unless_memory short s.plan (taken s.plan format text)
+answer short s (Refuse (BadCommand line)) = unless_memory short s.plan
+    (refused s.plan (of_script (BadCommand line)))
+answer short s (Refuse (NoEnd line)) = refused s.plan (of_script (NoEnd line))
 
 -- where it is out of memory, that is replied and nothing changes
 abbrev pub CanLackMemory : Ask → Type 0
-CanLackMemory ask = (p : Plan) → answer Memory p ask ≡ no_memory p
+CanLackMemory ask = (s : Session) → answer Memory s ask ≡ no_memory s.plan
+
+-- the text of the rule after an answer that leaves this document: that of a rule that was taken,
+-- which made one more revision, or the one before
+abbrev pub rule_text_after : Session → Ask → Plan → Option (List ℕ)
+rule_text_after s (Take format.Rule text) p =
+    if p.revision == s.plan.revision then s.rule_text else Some text
+rule_text_after s (Take format.Rle text) p = s.rule_text
+rule_text_after s (Take format.Macrocell text) p = s.rule_text
+rule_text_after s (Obey command) p = s.rule_text
+rule_text_after s (Refuse fault) p = s.rule_text
+
+-- what the next one is answered by
+abbrev pub session_after : Session → Ask → Plan → Session
+session_after s ask p = record { plan = p; rule_text = rule_text_after s ask p }

@@ -165,7 +165,8 @@ looking_by word rest =
     if bytes_eq word (codes "peek") then option_map command.Peek (one_count rest)
     else (if bytes_eq word (codes "poll") then alone (Some command.Poll) rest
     else (if bytes_eq word (codes "list") then alone (Some command.List) rest
-    else option_map command.Edit (edit_by word rest)))
+    else (if bytes_eq word (codes "script") then alone (Some command.Script) rest
+    else option_map command.Edit (edit_by word rest))))
 
 -- the command of a first word and those behind it
 abbrev pub command_by : List ℕ → List (List ℕ) → Option Command

@@ -1,5 +1,5 @@
 -- What was heard of a script: the next thing that is asked, if there is one, and the reply to it.
-use Rattle.std.specs.Prelude.{◌≡◌, ℕ, List, [], ◌∷◌, ◌++◌, Bool, true, Option, None, Some}
+use Rattle.std.specs.Prelude.{◌≡◌, ℕ, List, [], ◌∷◌, ◌++◌, Bool, true, if◌then◌else◌, Option, None, Some}
 use Rattle.std.specs.Io.KnownBytes.{IsAtEnd}
 use Rattle.script_lines.specs.Ahead.{Ahead, Takes, LineReading, IsDrawn}
 use Rattle.script_lines.specs.Input.{FailsOrFull}
@@ -9,11 +9,14 @@ use Rattle.script_lines.specs.Text.{IsText}
 use Rattle.schedule.specs.Plan.{Plan}
 use Rattle.dependency_book.specs.BookState.{BookState}
 use Rattle.desk_server.specs.Shortage.{Shortage, IsCausedOver}
-use Rattle.desk_server.specs.Answer.{Ask, Obey, Take, Refuse, After, answer, unless_memory, CanLackMemory}
+use Rattle.desk_server.specs.Answer.{Ask, Obey, Take, Refuse, After, Session, answer}
+use Rattle.desk_server.specs.Answer.{taken, unless_memory, CanLackMemory, rule_text_after}
 use Rattle.desk_server.specs.Script.{asks, asked_by, Place, Between}
 use Rattle.desk_server.specs.Told.{reply_text, ends}
 use Rattle.desk_server.specs.declared.reply.Reply.{Reply}
 use Rattle.desk_server.specs.declared.command.Command.{Command}
+use Rattle.desk_server.specs.declared.format.Format.{Format}
+use Rattle.desk_server.specs.declared.format.Format.TheVariants as format
 use Rattle.desk_server.specs.declared.request.Request.{Request}
 use Rattle.desk_server.specs.declared.request.Request.TheVariants as request
 
@@ -72,14 +75,41 @@ GivesBy prompt after reply new =
 abbrev pub GivesOrLacks : Plan → After → Reply → BookState → Type 0
 GivesOrLacks p after = GivesBy true (λ shortage. unless_memory shortage p after)
 
--- whatever the request asks, they are those of the answer to that
-abbrev pub Serves : Bool → Request → Reply → BookState → BookState → Type 0
-Serves prompt request reply old new =
-    (ask : Ask) → AsksFor request ask
-    → GivesBy prompt (λ short. answer short old.plan ask) reply new
+-- whatever bytes the text has, its reply is that of taking what they mean
+abbrev pub TakesText : Format → Option (List ℕ) → Reply → BookState → BookState → Type 0
+TakesText format text reply old new =
+    (bytes : List ℕ) → IsText text bytes
+    → GivesOrLacks old.plan (taken old.plan format bytes) reply new
 
--- the reply to what was asked by this request
-abbrev pub Served : Bool → Request → Reply → List Ask → BookState → BookState → Type 0
-Served prompt request reply asked old new =
-    (ask : Ask) × (asked ≡ ask ∷ [])
-    × GivesBy prompt (λ short. answer short old.plan ask) reply new × AsksFor request ask
+-- the text of a rule that is taken is kept
+abbrev pub kept_text : Format → Bool → Option (List ℕ) → Option (List ℕ) → Option (List ℕ)
+kept_text format.Rule is_taken text rule = if is_taken then text else rule
+kept_text format.Rle is_taken text rule = rule
+kept_text format.Macrocell is_taken text rule = rule
+
+-- the session of a desk, with the text of its rule if it has one
+abbrev pub session : BookState → Option (List ℕ) → Session
+session d rule = record { plan = d.plan; rule_text = rule }
+
+-- whatever the request asks, they are those of the answer to that
+abbrev pub Serves : Bool → Request → Reply → Session → BookState → Type 0
+Serves prompt request reply s new =
+    (ask : Ask) → AsksFor request ask → GivesBy prompt (λ short. answer short s ask) reply new
+
+-- and the rule has the text that it has after that
+abbrev pub KeepsText : Request → Session → BookState → Option (List ℕ) → Type 0
+KeepsText request s new rule =
+    (ask : Ask) → AsksFor request ask → rule ≡ rule_text_after s ask new.plan
+
+-- the same where a text is taken
+abbrev pub KeepsTaken
+    : Format → Option (List ℕ) → Session → BookState → Option (List ℕ) → Type 0
+KeepsTaken format text s new rule =
+    (bytes : List ℕ) → IsText text bytes → rule ≡ rule_text_after s (Take format bytes) new.plan
+
+-- the reply to what was asked by this request, and the rule's text after that
+abbrev pub Served
+    : Bool → Request → Reply → List Ask → Session → BookState → Option (List ℕ) → Type 0
+Served prompt request reply asked s new rule =
+    (ask : Ask) × (asked ≡ ask ∷ []) × GivesBy prompt (λ short. answer short s ask) reply new
+    × AsksFor request ask × (rule ≡ rule_text_after s ask new.plan)

@@ -5,6 +5,7 @@ pub mod Cells
 pub mod Faults
 pub mod Reply
 pub mod Shortage
+pub mod Scripted
 pub mod Answer
 pub mod Script
 pub mod Plain
@@ -17,3 +18,4 @@ pub mod Run
 pub mod Watch
 pub mod Example
 pub mod Ending
+pub mod Anew

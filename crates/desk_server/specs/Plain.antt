@@ -8,7 +8,7 @@ use Rattle.desk_server.specs.Faults.{of_edit}
 use Rattle.desk_server.specs.Reply.{unsettled_text, pending_text, polled_text, refused_text}
 use Rattle.desk_server.specs.Listed.{listed_text}
 use Rattle.desk_server.specs.Shortage.{Shortage, Unsettled, IsCausedOver, AllCausedOver}
-use Rattle.desk_server.specs.Answer.{Ask, After}
+use Rattle.desk_server.specs.Answer.{Ask, After, Session}
 use Rattle.desk_server.specs.Script.{afters}
 
 -- the reply is that bookmarks are pending, for a cause if the post is prompt
@@ -42,6 +42,6 @@ NoneShows prompt = AllByRecursion (λ (after : After). ShowsShortage prompt afte
 -- then they are the replies where nothing is short
 abbrev pub PlainWithoutShortages : Type 0
 PlainWithoutShortages =
-    (prompt : Bool) (p : Plan) (asked : List Ask) (shortages : List Shortage)
+    (prompt : Bool) (s : Session) (asked : List Ask) (shortages : List Shortage)
     → AllCausedOver prompt shortages
-    → NoneShows prompt (afters p asked shortages) → afters p asked shortages ≡ afters p asked []
+    → NoneShows prompt (afters s asked shortages) → afters s asked shortages ≡ afters s asked []

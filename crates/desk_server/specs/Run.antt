@@ -4,15 +4,15 @@ use Rattle.std.specs.Io.KnownBytes.{Appends}
 use Rattle.script_lines.specs.Ahead.{Ahead, Takes}
 use Rattle.text_lines.specs.Lines.{End, Ended, Broken, lines_until}
 use Rattle.script_lines.specs.Faults.{AppendsFront}
-use Rattle.schedule.specs.Plan.{Plan}
 use Rattle.desk_server.specs.Shortage.{Shortage, AllCausedOver}
+use Rattle.desk_server.specs.Answer.{Session}
 use Rattle.desk_server.specs.Script.{asks, Between, Answered, answered, but_bye, told_to}
 use Rattle.desk_server.specs.Script.{replies_to, replies_by, replies_with}
 
 -- something was heard and answered: whatever follows, the answers are those that were given, which
 -- were written, and then those to what follows; and `noted` holds of those but `bye`
 pub record Answers (noted : List Answered → Type 0) (prompt : Bool) (old new : Ahead)
-    (before after : Option (List ℕ)) (p q : Plan) (n m : ℕ)
+    (before after : Option (List ℕ)) (p q : Session) (n m : ℕ)
     : Type 0 where
   pub bytes : List ℕ
   pub shortages : List Shortage
@@ -27,7 +27,7 @@ pub record Answers (noted : List Answered → Type 0) (prompt : Bool) (old new :
 
 -- the script was answered to its end, and `noted` holds of the answers but `bye`
 pub record Finishes (noted : List Answered → Type 0) (prompt : Bool) (old new : Ahead)
-    (before after : Option (List ℕ)) (p : Plan) (n : ℕ)
+    (before after : Option (List ℕ)) (p : Session) (n : ℕ)
     : Type 0 where
   pub bytes : List ℕ
   pub shortages : List Shortage
@@ -41,7 +41,7 @@ pub record Finishes (noted : List Answered → Type 0) (prompt : Bool) (old new 
 
 -- of the replies a beginning was written
 pub record StopsTelling (prompt : Bool) (old new : Ahead) (before after : Option (List ℕ))
-    (p : Plan) (n : ℕ)
+    (p : Session) (n : ℕ)
     : Type 0 where
   pub bytes : List ℕ
   pub shortages : List Shortage

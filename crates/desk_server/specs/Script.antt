@@ -2,13 +2,14 @@
 use Rattle.std.specs.Prelude.{ℕ, ◌+◌, List, [], ◌∷◌, ◌++◌, Option, None, Some, flat_map, zip, if◌then◌else◌}
 use Rattle.text_lines.specs.Lines.{End, Ended, Broken, Line, lines_until}
 use Rattle.script_lines.specs.ScriptLine.{is_passed_over, is_end}
-use Rattle.schedule.specs.Plan.{Plan, opening}
+use Rattle.schedule.specs.Plan.{Plan}
 use Rattle.desk_server.specs.Command.{command_of, format_of}
 use Rattle.desk_server.specs.declared.fault.ScriptFault.TheVariants.{BadCommand, NoEnd}
 use Rattle.desk_server.specs.declared.format.Format.{Format}
 use Rattle.desk_server.specs.declared.command.Command.{Command}
 use Rattle.desk_server.specs.Shortage.{Shortage, NoShortage}
-use Rattle.desk_server.specs.Answer.{Ask, Obey, Take, Refuse, After, answer}
+use Rattle.desk_server.specs.Answer.{Ask, Obey, Take, Refuse, After, Session, opening_session}
+use Rattle.desk_server.specs.Answer.{answer, session_after}
 
 -- where a line stands: between commands, or in the text of a format, of the command on line `at`
 pub data Place : Type 0 where
@@ -56,12 +57,13 @@ abbrev pub later_shortages : List Shortage → List Shortage
 later_shortages [] = []
 later_shortages (w ∷ ws) = ws
 
--- what is replied to each that is asked of the desk with this document, with the document after it
-abbrev pub afters : Plan → List Ask → List Shortage → List After
-afters p [] shortages = []
-afters p (ask ∷ rest) shortages =
-    let after = answer (first_shortage shortages) p ask in
-    after ∷ (if after.ends then [] else afters after.plan rest (later_shortages shortages))
+-- what is replied to each that is asked of the desk in this session, with the document after it
+abbrev pub afters : Session → List Ask → List Shortage → List After
+afters s [] shortages = []
+afters s (ask ∷ rest) shortages =
+    let after = answer (first_shortage shortages) s ask in
+    after ∷ (if after.ends then []
+    else afters (session_after s ask after.plan) rest (later_shortages shortages))
 
 -- the document after a reply, unless the script ends with that
 abbrev pub document_after : After → List Plan
@@ -74,9 +76,9 @@ documents_of = flat_map document_after
 abbrev pub Answered : Type 0
 Answered = Ask × After
 
--- each that was answered at the desk with this document
-abbrev pub answered : Plan → List Ask → List Shortage → List Answered
-answered p asked shortages = zip asked (afters p asked shortages)
+-- each that was answered in this session
+abbrev pub answered : Session → List Ask → List Shortage → List Answered
+answered s asked shortages = zip asked (afters s asked shortages)
 
 -- without the one that ends the script
 abbrev pub unless_bye : Answered → List Answered
@@ -93,14 +95,14 @@ abbrev pub told_to : List Answered → List ℕ
 told_to = flat_map (λ (one : Answered). one.1.told)
 
 -- the replies to all
-abbrev pub replies_to : Plan → List Ask → List Shortage → List ℕ
-replies_to p asked shortages = texts_of (afters p asked shortages)
+abbrev pub replies_to : Session → List Ask → List Shortage → List ℕ
+replies_to s asked shortages = texts_of (afters s asked shortages)
 
 -- the replies to a script, however its reading stopped, where the shortages say of one command
 -- after another what is short for it
 abbrev pub replies_by : End → List ℕ → List Shortage → List ℕ
 replies_by stop script shortages =
-    replies_to (opening 0) (asks stop Between 1 (lines_until stop script)) shortages
+    replies_to opening_session (asks stop Between 1 (lines_until stop script)) shortages
 
 abbrev pub replies_with : List ℕ → List Shortage → List ℕ
 replies_with = replies_by Ended
@@ -108,12 +110,12 @@ replies_with = replies_by Ended
 -- what is replied to each command of a script, with the document after it
 abbrev pub afters_with : List ℕ → List Shortage → List After
 afters_with script shortages =
-    afters (opening 0) (asks Ended Between 1 (lines_until Ended script)) shortages
+    afters opening_session (asks Ended Between 1 (lines_until Ended script)) shortages
 
 -- each command of a script that was answered, with what was replied to it
 abbrev pub answered_with : List ℕ → List Shortage → List Answered
 answered_with script shortages =
-    answered (opening 0) (asks Ended Between 1 (lines_until Ended script)) shortages
+    answered opening_session (asks Ended Between 1 (lines_until Ended script)) shortages
 
 -- the document after each reply to a script but `bye`, in order
 abbrev pub documents_with : List ℕ → List Shortage → List Plan

@@ -21,6 +21,7 @@ use Rattle.desk_server.specs.declared.part.Part.TheVariants as part
 use Rattle.desk_server.specs.Jobs.{IsDoneWith}
 use Rattle.desk_server.specs.Faults.{fault_of, of_edit}
 use Rattle.desk_server.specs.Listed.{bookmark_line, listed_text}
+use Rattle.desk_server.specs.Scripted.{scripted_text}
 use Rattle.desk_server.specs.Reply.{accepted_text, settled_text, working_text, unsettled_text, polled_text, current_text, pending_text, refused_text, bye_text}
 
 -- a bookmark that is shown: no such one, or without or with its text
@@ -42,6 +43,7 @@ reply_text known (reply.Shown id) =
     shown_text id (bookmark_in known.plan.bookmarks id) (text_known known id)
 reply_text known (reply.Polled pending cause) = polled_text pending cause
 reply_text known reply.Listed = listed_text known.plan (has_text known)
+reply_text known (reply.Scripted script) = scripted_text script
 reply_text known (reply.Refused number name place) = refused_text (fault_of number name.now place)
 reply_text known reply.Bye = bye_text
 

@@ -28,6 +28,8 @@ pub enum Command {
     Poll,
     /// What the document has is to be listed.
     List,
+    /// The document is to be written as a script that makes it anew.
+    Script,
     /// The script ends.
     Quit,
 }
@@ -79,6 +81,8 @@ fn read_looking(alloc: Global, word: &[u8], rest: &[u8]) -> Result<Option<Comman
         Ok(alone(Command::Poll, rest))
     } else if word == b"list".as_slice() {
         Ok(alone(Command::List, rest))
+    } else if word == b"script".as_slice() {
+        Ok(alone(Command::Script, rest))
     } else {
         read_edit_command(alloc, word, rest)
     }

@@ -1,4 +1,6 @@
 //! Laws of the definitions, each the contract of a function that does nothing.
+ghost use Rattle.desk_server.specs.Anew.{EditLinesReadBack, KeptTextsAreRules, ScriptsMakeAnew};
+ghost use Rattle.desk_server.specs.Anew.{WhateverIsScriptedIsMadeAnew};
 ghost use Rattle.desk_server.specs.Example.{PicturesOfOne};
 ghost use Rattle.desk_server.specs.OneLine.{DocumentsAreSound, OneLineWithoutBranch};
 ghost use Rattle.desk_server.specs.Plain.{PlainWithoutShortages};
@@ -36,4 +38,27 @@ pub fn shows_what_is_told()
 /// to be pending.
 pub fn pictures_of_one_bookmark()
     ensures { PicturesOfOne }
+{}
+
+/// The line of an edit, in a script that makes a document anew, asks for this edit.
+pub fn edit_lines_read_back()
+    ensures { EditLinesReadBack }
+{}
+
+/// The script that is written of a document makes it anew: each of its commands is accepted, and
+/// the last leaves the document but for its revision and the last ids.
+pub fn scripts_make_documents_anew()
+    ensures { ScriptsMakeAnew }
+{}
+
+/// Whatever a script says, the text that is kept is that of the document's rule, in lines of which
+/// none ends a text. Where none is kept the rule is the opening document's.
+pub fn kept_texts_are_rules()
+    ensures { KeptTextsAreRules }
+{}
+
+/// Whatever a script says, the script that is written in one of its sessions makes the document
+/// anew, where its start has few enough distinct squares and two revisions are left.
+pub fn whatever_is_scripted_is_made_anew()
+    ensures { WhateverIsScriptedIsMadeAnew }
 {}

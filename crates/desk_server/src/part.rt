@@ -1,9 +1,11 @@
 //! Parts of replies, and how they are written.
-ghost use Rattle.std.specs.Prelude.{◌≡◌, ◌+◌, OnOk, OnErr};
+ghost use Rattle.std.specs.Prelude.{◌≡◌, ◌+◌, ◌++◌, OnOk, OnErr};
 ghost use Rattle.script_lines.specs.Faults.{Wrote};
 ghost use Rattle.desk_server.specs.Told.{part_text, parts_text};
 
+use itoa::Buffer;
 use script_lines::{CountedWriter, Failed};
+use std::alloc::AllocError;
 use std::io::Write;
 use std::sync::ledger::Ledger;
 
@@ -42,6 +44,27 @@ pub(crate) fn tell_parts<W: Write, L: Ledger>(
 {
     for part in parts {
         tell_part(writer, *part)?;
+    }
+    Ok(())
+}
+
+// Adds a part to a text.
+fn push_part(text: &mut Vec<u8>, part: Part<'_>) -> Result<(), AllocError>
+    ensures { OnOk result (text.new.items ≡ text.old.items ++ part_text part.entry) }
+{
+    match part {
+        Part::Text(bytes) => text.extend_from_slice(bytes),
+        Part::Number(number) => text.extend_from_slice(Buffer::new().format(number).as_bytes()),
+        Part::Signed(number) => text.extend_from_slice(Buffer::new().format(number).as_bytes()),
+    }
+}
+
+/// Adds parts to a text, one after the other.
+pub(crate) fn push_parts(text: &mut Vec<u8>, parts: &[Part<'_>]) -> Result<(), AllocError>
+    ensures { OnOk result (text.new.items ≡ text.old.items ++ parts_text parts.now) }
+{
+    for part in parts {
+        push_part(text, *part)?;
     }
     Ok(())
 }

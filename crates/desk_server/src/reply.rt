@@ -6,17 +6,18 @@ ghost use Rattle.std.specs.Option.{option_map_or};
 ghost use Rattle.desk_core.specs.Cause.{cause_number};
 ghost use Rattle.desk_server.specs.Faults.{fault_of};
 ghost use Rattle.desk_server.specs.Reply.{accepted_text, polled_text, refused_text, unsettled_text};
+ghost use Rattle.desk_server.specs.Scripted.{scripted_text};
 ghost use Rattle.desk_server.specs.Told.{IsRefused, TellsPending, reply_text, ends};
 
 use crate::listing::tell_list;
 use crate::part::{Part, tell_parts};
-use desk_core::{Cause, Desk, EditFault, Refusal, Shown};
+use desk_core::{Cause, Desk, EditFault, Listing, Refusal, Shown};
 use script_lines::{CountedWriter, Failed};
 use std::io::Write;
 use std::sync::ledger::Ledger;
 
 /// What is replied to a command.
-#[derive(Clone, Copy, Debug, PartialEq, Eq)]
+#[derive(Debug, Drop)]
 pub enum Reply {
     /// An edit was made: the revision after it, and a number behind its word, if there is one.
     Accepted {
@@ -44,6 +45,10 @@ pub enum Reply {
     },
     /// What the document has.
     Listed,
+    /// The script that makes the document anew.
+    Scripted {
+        script: Listing<u8>,
+    },
     /// A refusal: its number and name, and its line or offset if it has one.
     Refused {
         number: u8,
@@ -52,6 +57,15 @@ pub enum Reply {
     },
     /// The script ends.
     Bye,
+}
+
+impl Reply {
+    /// Whether the script ends with it.
+    pub(crate) fn ends(&self) -> bool
+        ensures { result ≡ ends self.now }
+    {
+        matches!(self, Reply::Bye)
+    }
 }
 
 /// The reply to something refused.
@@ -214,12 +228,27 @@ fn tell_shown<W: Write, L: Ledger>(
     }
 }
 
+// Writes a script, and how many bytes it has.
+fn tell_scripted<W: Write, L: Ledger>(
+    writer: &mut CountedWriter<W, L>,
+    script: &[u8],
+) -> Result<(), Failed>
+    ensures bytes { Wrote writer.old.contents writer.new.contents result
+        (scripted_text script.now) }
+    ensures worked { OnOk result (writer.new.failures ≡ writer.old.failures) }
+    ensures failed { OnErr result (writer.new.failures ≡ writer.old.failures + 1) }
+{
+    let (word, size) = (Part::Text(b"scripted "), Part::Number(script.len() as u64));
+    tell_parts(writer, &[Part::Text(script), word, size, Part::Text(b"\n")])
+}
+
 fn tell<W: Write, L: Ledger>(
     writer: &mut CountedWriter<W, L>,
     desk: &Desk<'_>,
-    reply: Reply,
+    reply: &Reply,
 ) -> Result<(), Failed>
-    ensures bytes { Wrote writer.old.contents writer.new.contents result (reply_text desk.now reply) }
+    ensures bytes { Wrote writer.old.contents writer.new.contents result
+        (reply_text desk.now reply.now) }
     ensures worked { OnOk result (writer.new.failures ≡ writer.old.failures) }
     ensures failed { OnErr result (writer.new.failures ≡ writer.old.failures + 1) }
 {
@@ -228,18 +257,19 @@ fn tell<W: Write, L: Ledger>(
             revision,
             word,
             number,
-        } => tell_accepted(writer, revision, word, number),
+        } => tell_accepted(writer, *revision, word, *number),
         Reply::Settled => writer.tell(b"settled\n"),
         Reply::Working => writer.tell(b"working\n"),
-        Reply::Unsettled { pending, cause } => tell_unsettled(writer, pending, cause),
-        Reply::Shown { id } => tell_shown(writer, desk, id),
-        Reply::Polled { pending, cause } => tell_polled(writer, pending, cause),
+        Reply::Unsettled { pending, cause } => tell_unsettled(writer, *pending, *cause),
+        Reply::Shown { id } => tell_shown(writer, desk, *id),
+        Reply::Polled { pending, cause } => tell_polled(writer, *pending, *cause),
         Reply::Listed => tell_list(writer, desk),
+        Reply::Scripted { script } => tell_scripted(writer, script.as_slice()),
         Reply::Refused {
             number,
             name,
             place,
-        } => tell_refused(writer, number, name, place),
+        } => tell_refused(writer, *number, name, *place),
         Reply::Bye => writer.tell(b"bye\n"),
     }
 }
@@ -250,11 +280,12 @@ pub(crate) fn send<W: Write, L: Ledger>(
     desk: &Desk<'_>,
     reply: Reply,
 ) -> Result<(), Failed>
-    ensures bytes { Wrote writer.old.contents writer.new.contents result (reply_text desk.now reply) }
+    ensures bytes { Wrote writer.old.contents writer.new.contents result
+        (reply_text desk.now reply) }
     ensures worked { OnOk result (writer.new.failures ≡ writer.old.failures) }
     ensures failed { OnErr result (writer.new.failures ≡ writer.old.failures + 1) }
     ensures flushed { OnOk result (writer.new.flushed ≡ true) }
 {
-    tell(writer, desk, reply)?;
+    tell(writer, desk, &reply)?;
     writer.flush()
 }

@@ -5,9 +5,12 @@ ghost use Rattle.schedule.specs.Asked.{asked_of};
 ghost use Rattle.dependency_book.specs.BookState.{NothingOut, pending_of};
 ghost use Rattle.dependency_book.specs.Shown.{IsPending};
 ghost use Rattle.desk_core.specs.Looks.{LooksOn};
-ghost use Rattle.desk_server.specs.Answer.{Ask, Obey};
-ghost use Rattle.desk_server.specs.Answer.{edited, id_word, obeyed, polled, settled, started, taken};
-ghost use Rattle.desk_server.specs.Heard.{AsksFor, GivesBy, GivesOrLacks, Serves};
+ghost use Rattle.desk_events.specs.Wanted.{bookmark_in};
+ghost use Rattle.desk_server.specs.Answer.{Ask, Obey, edited, id_word, listed, obeyed, only};
+ghost use Rattle.desk_server.specs.Answer.{polled, scripted, settled, shown, started, taken};
+ghost use Rattle.desk_server.specs.Heard.{AsksFor, GivesBy, GivesOrLacks, KeepsText, Serves};
+ghost use Rattle.desk_server.specs.Heard.{KeepsTaken, TakesText, kept_text, session};
+ghost use Rattle.desk_server.specs.Reply.{working_text};
 ghost use Rattle.desk_server.specs.Jobs.{Carries, CarriesOn, DropsJobs};
 ghost use Rattle.desk_core.specs.Settling.{TellsCause};
 ghost use Rattle.desk_server.specs.Jobs.{IsDoneWith, KeepsCauses};
@@ -19,12 +22,15 @@ use crate::command::Command;
 use crate::format::Format;
 use crate::reply::{Reply, refused};
 use crate::request::Request;
+use crate::rule_text::RuleText;
+use crate::scripting::script_of;
 use desk_core::{
     Cause, Desk, Edit, EditFault, Onlooker, Plane, Polled, Post, Rule, Settling, Shown, settle_seen,
 };
 use multistate_macrocell::read_mc;
 use multistate_rle::read_rle;
 use plane_core::Loaded;
+use script_lines::Text;
 use std::alloc::Global;
 use std::sync::{Arc, Wait};
 
@@ -149,6 +155,48 @@ fn take(alloc: Global, desk: &mut Desk<'_>, format: Format, text: &[u8]) -> Repl
     }
 }
 
+// Takes what a text means, unless memory ran out for it.
+fn take_kept(alloc: Global, desk: &mut Desk<'_>, format: Format, text: &Text) -> Reply
+    ensures answer { TakesText format text.now result desk.old desk.new }
+    ensures same { text.now ≡ None → desk.new.plan ≡ desk.old.plan }
+    ensures jobs { DropsJobs desk.old desk.new }
+    ensures pending { TellsPending result desk.new }
+{
+    match text.bytes() {
+        Some(bytes) => take(alloc, desk, format, bytes),
+        None => refused(&EditFault::NoMemory),
+    }
+}
+
+// Keeps the text of a rule that was taken.
+fn keep(rule: &mut RuleText, format: Format, text: Text, is_taken: bool)
+    ensures { rule.new ≡ kept_text format is_taken text rule.old }
+{
+    if format == Format::Rule && is_taken {
+        rule.keep(text);
+    }
+}
+
+// Takes what a text means, and keeps it if that is a rule which is taken.
+fn take_text(
+    alloc: Global,
+    desk: &mut Desk<'_>,
+    rule: &mut RuleText,
+    format: Format,
+    text: Text,
+) -> Reply
+    ensures answer { TakesText format text result desk.old desk.new }
+    ensures kept { KeepsTaken format text (session desk.old rule.old) desk.new rule.new }
+    ensures jobs { DropsJobs desk.old desk.new }
+    ensures pending { TellsPending result desk.new }
+{
+    let revision = desk.document().revision();
+    let reply = take_kept(alloc, desk, format, &text);
+    let is_taken = desk.document().revision() != revision;
+    keep(rule, format, text, is_taken);
+    reply
+}
+
 // Gives up every job that is out.
 fn give_up(desk: &mut Desk<'_>)
     ensures plan { desk.new.plan ≡ desk.old.plan }
@@ -218,7 +266,7 @@ fn settle<P: Post, O: Onlooker>(
 fn work<P: Post>(rt: &impl Wait, desk: &mut Desk<'_>, post: &mut P) -> Reply
     requires { Carries (P.view post.old) desk.old }
     ensures answer { GivesBy (P.view post.old).is_prompt
-        (λ short. obeyed short desk.old.plan Command.Work) result desk.new }
+        (λ short. only desk.old.plan working_text) result desk.new }
     ensures silent { (P.view post.new).answers ≡ (P.view post.old).answers }
     ensures post { CarriesOn (P.view post.old) (P.view post.new) desk.new }
     ensures pending { TellsPending result desk.new }
@@ -239,7 +287,8 @@ fn show<P: Post, O: Onlooker>(
 ) -> Reply
     requires { Carries (P.view post.old) desk.old }
     ensures answer { GivesBy (P.view post.old).is_prompt
-        (λ short. obeyed short desk.old.plan (Command.Show id)) result desk.new }
+        (λ short. shown short desk.old.plan id (bookmark_in desk.old.plan.bookmarks id))
+        result desk.new }
     ensures at_once { ¬ IsPending desk.old id → (desk.new ≡ desk.old) × (post.new ≡ post.old) }
     ensures leaves { LeavesOver (P.view post.old) (P.view post.new) result desk.old desk.new }
     ensures post { CarriesOn (P.view post.old) (P.view post.new) desk.new }
@@ -277,8 +326,9 @@ fn poll<P: Post>(rt: &impl Wait, desk: &mut Desk<'_>, post: &mut P) -> Reply
 
 // Shows a bookmark as it is known now.
 fn peek(desk: &Desk<'_>, id: u64) -> Reply
-    ensures answer { GivesBy true (λ short. obeyed short desk.now.plan (Command.Peek id)) result
-        desk.now }
+    ensures answer { GivesBy true
+        (λ short. shown short desk.now.plan id (bookmark_in desk.now.plan.bookmarks id))
+        result desk.now }
     ensures pending { TellsPending result desk.now }
 {
     // What the desk shows is what starting over gives.
@@ -288,25 +338,38 @@ fn peek(desk: &Desk<'_>, id: u64) -> Reply
 
 // Lists what the document has.
 fn list(desk: &Desk<'_>) -> Reply
-    ensures answer { GivesBy true (λ short. obeyed short desk.now.plan Command.List) result
-        desk.now }
+    ensures answer { GivesBy true (λ short. listed short desk.now.plan) result desk.now }
     ensures pending { TellsPending result desk.now }
 {
     let _plan = desk.document();
     Reply::Listed
 }
 
+// Writes the document as a script that makes it anew.
+fn script(alloc: Global, desk: &Desk<'_>, rule: &RuleText) -> Reply
+    ensures answer { GivesBy true (λ short. scripted short (session desk.now rule.now)) result
+        desk.now }
+    ensures pending { TellsPending result desk.now }
+{
+    match script_of(alloc, desk.document(), rule) {
+        Ok(script) => Reply::Scripted { script },
+        Err(_) => refused(&EditFault::NoMemory),
+    }
+}
+
 fn obey<P: Post, O: Onlooker>(
     rt: &impl Wait,
+    alloc: Global,
     desk: &mut Desk<'_>,
+    rule: &RuleText,
     post: &mut P,
     command: Command,
     onlooker: &mut O,
     bell: &mut impl Bell,
 ) -> Reply
     requires { Carries (P.view post.old) desk.old }
-    ensures answer { GivesBy (P.view post.old).is_prompt (λ short. obeyed short desk.old.plan command)
-        result desk.new }
+    ensures answer { GivesBy (P.view post.old).is_prompt
+        (λ short. obeyed short (session desk.old rule.now) command) result desk.new }
     ensures leaves { TakesAnswers command
         → LeavesOver (P.view post.old) (P.view post.new) result desk.old desk.new }
     ensures post { CarriesOn (P.view post.old) (P.view post.new) desk.new }
@@ -322,6 +385,7 @@ fn obey<P: Post, O: Onlooker>(
         Command::Peek { id } => peek(desk, id),
         Command::Poll => poll(rt, desk, post),
         Command::List => list(desk),
+        Command::Script => script(alloc, desk, rule),
         Command::Quit => Reply::Bye,
     }
 }
@@ -332,13 +396,16 @@ pub(crate) fn serve<P: Post, O: Onlooker>(
     rt: &impl Wait,
     alloc: Global,
     desk: &mut Desk<'_>,
+    rule: &mut RuleText,
     post: &mut P,
     request: Request,
     onlooker: &mut O,
     bell: &mut impl Bell,
 ) -> Reply
     requires { Carries (P.view post.old) desk.old }
-    ensures answer { Serves (P.view post.old).is_prompt request result desk.old desk.new }
+    ensures answer { Serves (P.view post.old).is_prompt request result
+        (session desk.old rule.old) desk.new }
+    ensures kept { KeepsText request (session desk.old rule.old) desk.new rule.new }
     ensures leaves { (command : Command) → request ≡ Request.Obey command
         → TakesAnswers command
         → LeavesOver (P.view post.old) (P.view post.new) result desk.old desk.new }
@@ -348,11 +415,8 @@ pub(crate) fn serve<P: Post, O: Onlooker>(
         (P.view post.old) (P.view post.new) desk.old desk.new onlooker.old onlooker.new }
 {
     match request {
-        Request::Obey(command) => obey(rt, desk, post, command, onlooker, bell),
-        Request::Take { format, text } => match text.bytes() {
-            Some(bytes) => take(alloc, desk, format, bytes),
-            None => refused(&EditFault::NoMemory),
-        },
+        Request::Obey(command) => obey(rt, alloc, desk, rule, post, command, onlooker, bell),
+        Request::Take { format, text } => take_text(alloc, desk, rule, format, text),
         Request::Refuse(fault) => refused(&fault),
         Request::NoMemory => refused(&EditFault::NoMemory),
     }

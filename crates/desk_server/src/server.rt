@@ -7,7 +7,8 @@ ghost use Rattle.desk_server.specs.Watch.{NotesRun};
 
 use crate::bell::{Bell, Silent};
 use crate::heard::{Heard, listen};
-use crate::reply::{Reply, send};
+use crate::reply::send;
+use crate::rule_text::RuleText;
 use crate::serve::serve;
 use crate::watch::note;
 use desk_core::{Desk, Entries, Onlooker, Post, Unwatched};
@@ -60,6 +61,7 @@ fn answer_commands<R: Read, W: Write, L: Ledger, M: Ledger, P: Post, O: Onlooker
         → WriteStops (P.view post.old).is_prompt reader.old writer.old writer.new }
 {
     let mut missed = 0;
+    let mut rule = RuleText::none();
     reader.begin();
     'script: loop {
         let Ok(heard) = listen(alloc, reader, line) else {
@@ -72,11 +74,12 @@ fn answer_commands<R: Read, W: Write, L: Ledger, M: Ledger, P: Post, O: Onlooker
             }
             continue;
         };
-        let reply = serve(rt, alloc, desk, post, request, onlooker, bell);
+        let reply = serve(rt, alloc, desk, &mut rule, post, request, onlooker, bell);
+        let is_bye = reply.ends();
         if send(writer, desk, reply).is_err() {
             return Err(Device::Writer);
         }
-        if reply == Reply::Bye {
+        if is_bye {
             return Ok(missed);
         }
         note(onlooker, desk, &mut missed);

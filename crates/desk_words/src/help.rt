@@ -29,6 +29,7 @@ Commands of a script, one a line; blank lines and lines that begin with # are pa
   peek ID                   shows it as far as it is known
   poll                      takes what the workers have computed and lets them go on
   list                      lists the branches, interventions and bookmarks
+  script                    writes the document as a script that makes it anew
   quit                      ends the script
 
 Exit status:

@@ -49,3 +49,8 @@ pub returns-in-Quit-clause-looked : goal.returns-in-Quit-clause-looked
 returns-in-Quit-clause-looked g c = rw c.in-Quit.is (unwatched g.O.Onlooker.sees (Obey command.Quit) Bye
     (g.P.Post.view c.args.post.now) (g.P.Post.view c.args.post.now) c.args.desk.now c.args.desk.now c.args.onlooker.now
     (draws_none (Obey command.Quit) c.args.desk.now _ _ refl) (λ h. absurd h) (λ _. refl))
+
+pub returns-in-Script-clause-looked : goal.returns-in-Script-clause-looked
+returns-in-Script-clause-looked g c = rw c.in-Script.is (unwatched g.O.Onlooker.sees (Obey command.Script) c.script.result
+    (g.P.Post.view c.args.post.now) (g.P.Post.view c.args.post.now) c.args.desk.now c.args.desk.now c.args.onlooker.now
+    (draws_none (Obey command.Script) c.args.desk.now _ _ refl) (λ h. absurd h) (λ _. refl))

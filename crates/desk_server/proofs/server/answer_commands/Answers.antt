@@ -1,21 +1,23 @@
 use Rattle.std.proofs.Common.{◌≡◌, ◌≢◌, ◌∙◌, ◌+◌, ap, refl, rules, subst, sym}
-use Rattle.schedule.specs.Plan.{opening}
 use Rattle.script_lines.specs.Input.{FailsOrFull}
 use Rattle.script_lines.proofs.Shared.Told.{wrote_is_err, wrote_is_ok}
+use Rattle.desk_server.specs.Answer.{opening_session}
 use Rattle.desk_server.specs.Ending.{Works}
+use Rattle.desk_server.specs.Heard.{session}
 use Rattle.desk_server.specs.Told.{ends}
 use Rattle.desk_server.specs.Watch.{moment}
 use Rattle.desk_server.specs.declared.reply.Reply.TheVariants as reply
 use Rattle.desk_server.proofs.Jobs.{carries_further}
 use Rattle.desk_server.proofs.Noted.{notes_join, notes_none, notes_one, notes_same}
-use Rattle.desk_server.proofs.Rounds.{answers_none, answers_answers, answers_finishes, answers_stops, answers_breaks, begun, begun_watched, completed, stops_front, served, goes_on_silent, done_silent, goes_on_told, done_last, done_bye, stops_telling, works_then}
+use Rattle.desk_server.proofs.Rounds.{answers_none, answers_answers, answers_finishes, answers_stops, answers_breaks, begun, begun_watched, completed, stops_front, served, goes_on_silent, done_silent, goes_on_told, done_last, done_bye, stops_telling, works_then, opens, bye-ends, goes-on}
 use Rattle.desk_server.proofs.server.answer_commands.Goals as goal
 
 pub script-init : goal.script-init
 script-init g c = rw c.begin.ensures (record {
-  answered = answers_none _ (g.P.Post.view c.args.post.now).is_prompt _ _ _ (opening 0) c.args.desk.now.plan 1
+  answered = answers_none _ (g.P.Post.view c.args.post.now).is_prompt _ _ _ opening_session
+      (session c.args.desk.now c.none-rule.result) 1
       (notes_none g.O.Onlooker.sees (moment 0 (g.P.Post.view c.args.post.now) c.args.desk.now c.args.onlooker.now)) refl
-      c.requires.opening;
+      (opens c.args.desk.now c.none-rule.result c.requires.opening c.none-rule.ensures);
   post = record { limit = refl; kind = refl; carries = c.requires.carries };
   works = record { reads = refl; writes = refl; flushed = λ h. h };
 })
@@ -23,20 +25,22 @@ script-init g c = rw c.begin.ensures (record {
 pub returns-in_default-clause-noted : goal.returns-in_default-clause-noted
 returns-in_default-clause-noted g c =
     begun g.O.Onlooker.sees (g.P.Post.view c.args.post.now) c.args.desk.now c.args.onlooker.now
-    (moment c.script.missed (g.P.Post.view c.script.post) c.script.desk c.script.onlooker) _ _ _ _ _ c.requires.opening
-    c.script.invariant.answered
+    (moment c.script.missed (g.P.Post.view c.script.post) c.script.desk c.script.onlooker) _ _ _ _
+    (session c.script.desk c.script.rule) _ c.requires.opening c.script.invariant.answered
 
 pub returns-then-is_err-clause-noted : goal.returns-then-is_err-clause-noted
 returns-then-is_err-clause-noted g c =
     let h = c.script.invariant in
     let prompt = (g.P.Post.view c.args.post.now).is_prompt in
     let heard = c.in-Ok.ensures.heard in
-    let s = served prompt c.in-Ok.heard.request c.in-Some.request heard.asked c.script.desk c.serve-reply.new.desk
-    c.serve-reply.result c.in-Some.is heard.is (rw h.post.kind at c.serve-reply.ensures.answer) in
+    let s = served prompt c.in-Ok.heard.request c.in-Some.request heard.asked
+    (session c.script.desk c.script.rule) c.serve-reply.new.desk c.serve-reply.new.rule
+    c.serve-reply.result c.in-Some.is heard.is (rw h.post.kind at c.serve-reply.ensures.answer) c.serve-reply.ensures.kept in
     begun_watched g.O.Onlooker.sees (g.P.Post.view c.args.post.now) (g.P.Post.view c.serve-reply.new.post) c.args.desk.now
     c.serve-reply.new.desk c.args.onlooker.now c.serve-reply.new.onlooker
     (moment c.script.missed (g.P.Post.view c.script.post) c.script.desk c.script.onlooker) _ _ _ _ _ _ _ _ _
-    c.in-Some.request c.serve-reply.result c.requires.opening h.answered heard s (c.serve-reply.ensures.looked s.0 s.3)
+    c.in-Some.request c.serve-reply.result (session c.script.desk c.script.rule) c.serve-reply.new.rule c.requires.opening
+    h.answered heard s (c.serve-reply.ensures.looked s.0 s.3)
 
 pub returns-in_default-clause-read : goal.returns-in_default-clause-read
 returns-in_default-clause-read g c = λ _.
@@ -59,7 +63,7 @@ returns-then-last g c =
     let works : Works c.script.reader c.listen.new.reader c.script.writer c.script.writer = search rules in
     let finishes = answers_finishes _ _ _ _ _ _ _ _ _ _ _ _ _ _
     (notes_join g.O.Onlooker.sees _ _ _) h.answered
-    (done_silent _ (g.P.Post.view c.args.post.now).is_prompt _ _ _ _ _ c.script.desk _ _
+    (done_silent _ (g.P.Post.view c.args.post.now).is_prompt _ _ _ _ _ (session c.script.desk c.script.rule) _ _
     (notes_none g.O.Onlooker.sees (moment c.script.missed (g.P.Post.view c.script.post) c.script.desk c.script.onlooker)) c.in_default-request.is c.if-last.true heard) in
     let all = completed g.O.Onlooker.sees _ _ _ _ _ _ _ _ _ _ _ c.requires.opening finishes
     (works_then _ _ _ _ _ _ h.works works) in
@@ -73,7 +77,7 @@ script-preserved-in_default-request g c =
       answered =
           answers_answers _ _ _ _ _ _ _ _ _ _ _ _ _ _ _ _
           (notes_join g.O.Onlooker.sees _ _ _) h.answered
-          (goes_on_silent _ (g.P.Post.view c.args.post.now).is_prompt _ _ _ _ _ c.script.desk _ _
+          (goes_on_silent _ (g.P.Post.view c.args.post.now).is_prompt _ _ _ _ _ (session c.script.desk c.script.rule) _ _
           (notes_none g.O.Onlooker.sees (moment c.script.missed (g.P.Post.view c.script.post) c.script.desk c.script.onlooker)) c.in_default-request.is c.if-last.false c.in-Ok.ensures.heard);
       post = h.post;
       works = works_then _ _ _ _ _ _ h.works works;
@@ -87,26 +91,30 @@ returns-then-is_err-clause-write g c = λ _.
     let fails : c.send.new.writer.failures ≡ c.script.writer.failures + 1 = search rules in
     record {
       answered = stops_front _ _ _ _ _ (answers_stops _ _ _ _ _ _ _ _ _ _ _ _ h.answered
-          (stops_telling prompt _ _ _ _ _ _ c.script.desk c.serve-reply.new.desk _ _ c.in-Some.request c.serve-reply.result
-          heard (served prompt c.in-Ok.heard.request c.in-Some.request heard.asked c.script.desk c.serve-reply.new.desk
-          c.serve-reply.result c.in-Some.is heard.is (rw h.post.kind at c.serve-reply.ensures.answer))
+          (stops_telling prompt _ _ _ _ _ _ (session c.script.desk c.script.rule) c.serve-reply.new.desk
+          c.serve-reply.new.rule _ _ c.in-Some.request c.serve-reply.result
+          heard (served prompt c.in-Ok.heard.request c.in-Some.request heard.asked
+          (session c.script.desk c.script.rule) c.serve-reply.new.desk c.serve-reply.new.rule c.serve-reply.result c.in-Some.is heard.is
+          (rw h.post.kind at c.serve-reply.ensures.answer) c.serve-reply.ensures.kept)
           (wrote_is_err _ _ c.send.result _ (sym c.is_err.ensures.value ∙ c.if-is_err.true) c.send.ensures.bytes)));
       fails = fails ∙ ap (λ n. n + 1) h.works.writes;
     }
 
-pub returns-then-eq : goal.returns-then-eq
-returns-then-eq g c =
+pub returns-then-is_bye : goal.returns-then-is_bye
+returns-then-is_bye g c =
     let h = c.script.invariant in
     let prompt = (g.P.Post.view c.args.post.now).is_prompt in
     let heard = c.in-Ok.ensures.heard in
-    let bye : c.serve-reply.result ≡ reply.Bye = search rules in
-    let s = served prompt c.in-Ok.heard.request c.in-Some.request heard.asked c.script.desk c.serve-reply.new.desk
-    c.serve-reply.result c.in-Some.is heard.is (rw h.post.kind at c.serve-reply.ensures.answer) in
+    let bye = bye-ends c.serve-reply.result (sym c.ends-is_bye.ensures ∙ c.if-is_bye.true) in
+    let s = served prompt c.in-Ok.heard.request c.in-Some.request heard.asked
+    (session c.script.desk c.script.rule) c.serve-reply.new.desk c.serve-reply.new.rule
+    c.serve-reply.result c.in-Some.is heard.is (rw h.post.kind at c.serve-reply.ensures.answer) c.serve-reply.ensures.kept in
     let still = (c.serve-reply.ensures.looked s.0 s.3).bye (ap ends bye) in
     let works : Works c.script.reader c.listen.new.reader c.script.writer c.send.new.writer = search rules in
     let finishes = answers_finishes _ _ _ _ _ _ _ _ _ _ _ _ _ _
     (notes_join g.O.Onlooker.sees _ _ _) h.answered
-    (done_bye _ prompt _ _ _ _ _ _ c.script.desk c.serve-reply.new.desk _ _ c.in-Some.request c.serve-reply.result
+    (done_bye _ prompt _ _ _ _ _ _ (session c.script.desk c.script.rule) c.serve-reply.new.desk
+    c.serve-reply.new.rule _ _ c.in-Some.request c.serve-reply.result
     (notes_same g.O.Onlooker.sees c.script.missed (g.P.Post.view c.script.post) (g.P.Post.view c.serve-reply.new.post)
     c.script.desk c.script.onlooker c.serve-reply.new.onlooker still.0 still.1) bye heard s
     (wrote_is_ok _ _ c.send.result _ (sym c.is_err.ensures.value ∙ c.if-is_err.false) c.send.ensures.bytes)) in
@@ -119,13 +127,15 @@ returns-then-last-2 g c =
     let h = c.script.invariant in
     let prompt = (g.P.Post.view c.args.post.now).is_prompt in
     let heard = c.in-Ok.ensures.heard in
-    let other : c.serve-reply.result ≢ reply.Bye = search rules in
+    let other : c.serve-reply.result ≢ reply.Bye = goes-on c.serve-reply.result (sym c.ends-is_bye.ensures ∙ c.if-is_bye.false) in
     let works : Works c.script.reader c.listen.new.reader c.script.writer c.send.new.writer = search rules in
-    let s = served prompt c.in-Ok.heard.request c.in-Some.request heard.asked c.script.desk c.serve-reply.new.desk
-    c.serve-reply.result c.in-Some.is heard.is (rw h.post.kind at c.serve-reply.ensures.answer) in
+    let s = served prompt c.in-Ok.heard.request c.in-Some.request heard.asked
+    (session c.script.desk c.script.rule) c.serve-reply.new.desk c.serve-reply.new.rule
+    c.serve-reply.result c.in-Some.is heard.is (rw h.post.kind at c.serve-reply.ensures.answer) c.serve-reply.ensures.kept in
     let finishes = answers_finishes _ _ _ _ _ _ _ _ _ _ _ _ _ _
     (notes_join g.O.Onlooker.sees _ _ _) h.answered
-    (done_last _ prompt _ _ _ _ _ _ c.script.desk c.serve-reply.new.desk _ _ c.in-Some.request c.serve-reply.result other
+    (done_last _ prompt _ _ _ _ _ _ (session c.script.desk c.script.rule) c.serve-reply.new.desk
+    c.serve-reply.new.rule _ _ c.in-Some.request c.serve-reply.result other
     c.if-last-2.true heard s
     (notes_one g.O.Onlooker.sees
     (moment c.script.missed (g.P.Post.view c.script.post) c.script.desk c.script.onlooker)
@@ -142,15 +152,17 @@ script-preserved g c =
     let h = c.script.invariant in
     let prompt = (g.P.Post.view c.args.post.now).is_prompt in
     let heard = c.in-Ok.ensures.heard in
-    let other : c.serve-reply.result ≢ reply.Bye = search rules in
+    let other : c.serve-reply.result ≢ reply.Bye = goes-on c.serve-reply.result (sym c.ends-is_bye.ensures ∙ c.if-is_bye.false) in
     let works : Works c.script.reader c.listen.new.reader c.script.writer c.send.new.writer = search rules in
-    let s = served prompt c.in-Ok.heard.request c.in-Some.request heard.asked c.script.desk c.serve-reply.new.desk
-    c.serve-reply.result c.in-Some.is heard.is (rw h.post.kind at c.serve-reply.ensures.answer) in
+    let s = served prompt c.in-Ok.heard.request c.in-Some.request heard.asked
+    (session c.script.desk c.script.rule) c.serve-reply.new.desk c.serve-reply.new.rule
+    c.serve-reply.result c.in-Some.is heard.is (rw h.post.kind at c.serve-reply.ensures.answer) c.serve-reply.ensures.kept in
     record {
       answered =
           answers_answers _ _ _ _ _ _ _ _ _ _ _ _ _ _ _ _
           (notes_join g.O.Onlooker.sees _ _ _) h.answered
-          (goes_on_told _ prompt _ _ _ _ _ _ c.script.desk c.serve-reply.new.desk _ _ c.in-Some.request
+          (goes_on_told _ prompt _ _ _ _ _ _ (session c.script.desk c.script.rule) c.serve-reply.new.desk
+          c.serve-reply.new.rule _ _ c.in-Some.request
           c.serve-reply.result c.if-last-2.false other heard s
           (notes_one g.O.Onlooker.sees
           (moment c.script.missed (g.P.Post.view c.script.post) c.script.desk c.script.onlooker)

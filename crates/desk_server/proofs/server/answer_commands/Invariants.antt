@@ -1,6 +1,7 @@
 use Rattle.std.proofs.Common.{◌+◌}
-use Rattle.schedule.specs.Plan.{opening}
+use Rattle.desk_server.specs.Answer.{opening_session}
 use Rattle.desk_server.specs.Ending.{Works}
+use Rattle.desk_server.specs.Heard.{session}
 use Rattle.desk_server.specs.Jobs.{CarriesOn}
 use Rattle.desk_server.specs.Run.{Answers}
 use Rattle.desk_server.specs.Watch.{NotesEach, moment}
@@ -12,7 +13,7 @@ invariant-script g l = record {
       (moment 0 (g.P.Post.view l.fn.post) l.fn.desk l.fn.onlooker)
       (moment l.missed (g.P.Post.view l.post) l.desk l.onlooker))
       (g.P.Post.view l.fn.post).is_prompt l.fn.reader.ahead l.reader.ahead l.fn.writer.contents l.writer.contents
-      (opening 0) l.desk.plan 1 (l.reader.lines + 1);
+      opening_session (session l.desk l.rule) 1 (l.reader.lines + 1);
   post : CarriesOn (g.P.Post.view l.fn.post) (g.P.Post.view l.post) l.desk;
   works : Works {R = g.row.R.Denot} {W = g.row.W.Denot} l.fn.reader l.reader l.fn.writer l.writer;
 }

@@ -1,0 +1,121 @@
+-- What is written in each session of a script makes its document anew.
+use Rattle.std.proofs.Common.{◌<◌, ◌==◌, not, List, [], ◌∷◌, length, Bool, true, false, cond, arith}
+use Rattle.std.specs.Prelude.{⊤}
+use Rattle.std.specs.List.{AllByRecursion}
+use Rattle.basics.proofs.Shared.Lists.{all_append, all_so}
+use Rattle.text_lines.specs.Lines.{Ended, Line, lines_until}
+use Rattle.schedule.specs.declared.acts.Acts.TheVariants.{Once, Every}
+use Rattle.schedule.specs.declared.document.Intervention.{Intervention}
+use Rattle.schedule.specs.Asked.{Asked, ReplaceRule, ReplaceStart, AddBookmark, AddBranch, InsertIntervention}
+use Rattle.schedule.specs.Asked.{InsertRepeat}
+use Rattle.schedule.specs.Asked.{RemoveBookmark, RemoveBranch, RemoveIntervention, ChangeIntervention, ChangeRepeat}
+use Rattle.schedule.specs.Asked.{SetCells, MoveBookmark}
+use Rattle.schedule.specs.Change.{acting, changed, next_intervention}
+use Rattle.schedule.specs.Plan.{Plan, opening}
+use Rattle.schedule.proofs.Shared.Changed.{HasStates}
+use Rattle.schedule.proofs.Shared.Ids.{each_filter, each_map}
+use Rattle.document_replay.proofs.Shared.Made.{IsNumbered, made, numbered_opening, numbered_step, rows_few}
+use Rattle.desk_server.specs.Shortage.{Shortage}
+use Rattle.desk_server.specs.Answer.{Ask, Session, answer, opening_session, session_after}
+use Rattle.desk_server.specs.Script.{Between, asks, first_shortage, later_shortages}
+use Rattle.desk_server.specs.Anew.{HasText, IsCounted, IsMadeAnew, WhateverIsScriptedIsMadeAnew, sessions}
+use Rattle.desk_server.proofs.OneLine.{Fits, KeepsLimits, LineFits, SetsSome, Stays, all-map, answer-keeps, any-line}
+use Rattle.desk_server.proofs.OneLine.{asks-fit, limits-stay, opening-keeps}
+use Rattle.desk_server.proofs.Remade.{scripts-anew}
+use Rattle.desk_server.proofs.RuleTexts.{kept-texts}
+
+-- an intervention that can be written
+abbrev CanStand : Intervention → Type 0
+CanStand i = (0 < length i.cells) × IsCounted i.acts
+
+abbrev AllStand : Plan → Type 0
+AllStand p = AllByRecursion CanStand p.interventions
+
+stand-step : (p : Plan) (asked : Asked) → SetsSome asked → AllStand p → AllStand (changed p asked).plan
+stand-step p (InsertIntervention b generation cells) h k =
+    all_append CanStand p.interventions (next_intervention p b (Once generation) cells ∷ []) k ((h, tt), tt)
+stand-step p (ChangeIntervention id generation cells) h k =
+    each_map CanStand (λ (i : Intervention). i.id == id) (acting (Once generation) cells) p.interventions (λ i _. (h, tt)) k
+stand-step p (InsertRepeat b first every last cells) h k =
+    all_append CanStand p.interventions (next_intervention p b (Every first every last) cells ∷ []) k ((h.1, h.0), tt)
+stand-step p (ChangeRepeat id first every last cells) h k =
+    each_map CanStand (λ (i : Intervention). i.id == id) (acting (Every first every last) cells) p.interventions
+    (λ i _. (h.1, h.0)) k
+stand-step p (RemoveIntervention id) h k =
+    each_filter CanStand (λ (i : Intervention). not (i.id == id)) p.interventions k
+stand-step p (SetCells cells) h k = k
+stand-step p (ReplaceStart start) h k = k
+stand-step p (ReplaceRule rule) h k = k
+stand-step p (AddBookmark b generation view) h k = k
+stand-step p (MoveBookmark id generation) h k = k
+stand-step p (RemoveBookmark id) h k = k
+stand-step p (AddBranch parent generation) h k = k
+stand-step p (RemoveBranch b) h k = k
+
+-- what stays of a document that a script edits
+record IsKept (p : Plan) : Type 0 where
+  limits : KeepsLimits p
+  numbered : IsNumbered p
+  stand : AllStand p
+
+abbrev IsSuch : Asked → Type 0
+IsSuch asked = HasStates asked × SetsSome asked
+
+kept-stays : Stays IsKept IsSuch
+kept-stays = record {
+  step = λ p asked has k free. record {
+    limits = limits-stay.step p asked has.0 k.limits free;
+    numbered = numbered_step p asked k.numbered free;
+    stand = stand-step p asked has.1 k.stand;
+  };
+  rules = λ text rule is. (limits-stay.rules text rule is, tt);
+  starts = λ start. (tt, tt);
+}
+
+opening-kept : IsKept (opening 0)
+opening-kept = record { limits = opening-keeps; numbered = numbered_opening 0; stand = tt }
+
+-- so it is in each session
+sessions-keep : (s : Session) (asked : List Ask) (shortages : List Shortage) → AllByRecursion (Fits IsSuch) asked
+    → IsKept s.plan → AllByRecursion (λ (t : Session). IsKept t.plan) (sessions s asked shortages)
+sessions-keep s [] shortages fits k = (k, tt)
+sessions-keep s (ask ∷ rest) shortages fits k =
+    let after = answer (first_shortage shortages) s ask in (
+      k,
+      goes-on after.ends (sessions (session_after s ask after.plan) rest (later_shortages shortages))
+          (sessions-keep (session_after s ask after.plan) rest (later_shortages shortages) fits.1
+          (answer-keeps IsKept IsSuch kept-stays (first_shortage shortages) s ask fits.0 k)),
+    )
+  where
+    goes-on : (v : Bool) (later : List Session) → AllByRecursion (λ (t : Session). IsKept t.plan) later
+        → AllByRecursion (λ (t : Session). IsKept t.plan) (cond v [] later)
+    goes-on true later h = tt
+    goes-on false later h = h
+
+session-anew : (s : Session) → IsKept s.plan → HasText s.plan s.rule_text → IsMadeAnew s
+session-anew s k has few left =
+    let p = s.plan in
+    let rows = rows_few p k.numbered in
+    scripts-anew p s.rule_text k.limits.0 (made p k.numbered) (record {
+      cells = all_so CanStand (λ (i : Intervention). 0 < length i.cells) p.interventions (λ i h. h.0) k.stand;
+      distances = all_so CanStand (λ (i : Intervention). IsCounted i.acts) p.interventions (λ i h. h.1) k.stand;
+      start = few;
+      revision = omega (arith, left);
+      revisions = omega (arith, rows, left);
+    }) has
+
+all-anew : (ss : List Session) → AllByRecursion (λ (t : Session). IsKept t.plan) ss
+    → AllByRecursion (λ (t : Session). HasText t.plan t.rule_text) ss → AllByRecursion IsMadeAnew ss
+all-anew [] k h = tt
+all-anew (s ∷ ss) k h = (session-anew s k.0 h.0, all-anew ss k.1 h.1)
+
+pub scripted-anew : WhateverIsScriptedIsMadeAnew
+scripted-anew script shortages =
+    let lines = lines_until Ended script in
+    let asked = asks Ended Between 1 lines in
+    all-anew (sessions opening_session asked shortages)
+    (sessions-keep opening_session asked shortages
+    (asks-fit IsSuch Ended Between 1 lines
+    (all-map (λ (line : Line). ⊤) (LineFits IsSuch) lines (λ line e a said. (said.states, said.rows)) (any-line lines)))
+    opening-kept)
+    (kept-texts script shortages)

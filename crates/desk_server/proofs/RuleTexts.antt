@@ -1,0 +1,257 @@
+-- The text that is kept is that of the document's rule.
+use Rattle.std.proofs.Common.{◌≡◌, ◌∙◌, ℕ, ◌+◌, ◌==◌, List, [], ◌∷◌, ◌++◌, Bool, true, false, cond, codes, refl, sym}
+use Rattle.std.proofs.Common.{ap, subst, arith, append-nil, Option, Some, None, Ok}
+use Rattle.std.specs.Prelude.{⊤}
+use Rattle.std.specs.List.{AllByRecursion}
+use Rattle.std.proofs.lemmas.Bool.{cond-false}
+use Rattle.std.proofs.lemmas.List.Concat.{flat_map-append}
+use Rattle.basics.proofs.Shared.Lists.{all_append}
+use Rattle.text_lines.specs.LineEnds.{text_of_lines}
+use Rattle.text_lines.specs.Lines.{Ended, Line, NoLineFeed, full_line, last_line, lines_from, lines_until}
+use Rattle.text_lines.proofs.Shared.ByteRanges.{differs}
+use Rattle.text_lines.proofs.Shared.LineEnds.{no_line_feed-append}
+use Rattle.script_lines.specs.ScriptLine.{is_end, is_passed_over}
+use Rattle.multistate_rle.specs.Pattern.{pattern_of}
+use Rattle.multistate_macrocell.specs.Pattern as macrocells
+use Rattle.worlds.specs.World.{World}
+use Rattle.plane_core.specs.declared.loaded.Loaded.{Loaded}
+use Rattle.rule_tree.specs.declared.rule.Rule.{Rule as FileRule}
+use Rattle.rule_tree.specs.Rule.{rule_of}
+use Rattle.schedule.specs.Asked.{Asked, asked_of, ReplaceRule, ReplaceStart, AddBookmark, AddBranch}
+use Rattle.schedule.specs.Asked.{InsertIntervention, InsertRepeat, RemoveBookmark, RemoveBranch, RemoveIntervention}
+use Rattle.schedule.specs.Asked.{ChangeIntervention, ChangeRepeat, SetCells, MoveBookmark}
+use Rattle.schedule.specs.Change.{Changed, changed, refusal}
+use Rattle.schedule.specs.Plan.{Plan}
+use Rattle.desk_events.specs.Wanted.{bookmark_in}
+use Rattle.desk_server.specs.declared.fault.ScriptFault.TheVariants.{BadCommand, NoEnd}
+use Rattle.desk_server.specs.declared.format.Format.{Format}
+use Rattle.desk_server.specs.declared.format.Format.TheVariants as format
+use Rattle.desk_server.specs.declared.command.Command.TheVariants as command
+use Rattle.desk_server.specs.declared.command.Command.{Command}
+use Rattle.desk_server.specs.Command.{command_of, format_of}
+use Rattle.desk_server.specs.Faults.{of_macrocell, of_pattern, of_rule, of_script}
+use Rattle.desk_server.specs.Shortage.{Shortage}
+use Rattle.desk_server.specs.Answer.{Ask, Obey, Take, Refuse, Session, answer, edited, id_word, obeyed}
+use Rattle.desk_server.specs.Answer.{opening_session, refused, rule_text_after, session_after, started, taken}
+use Rattle.desk_server.specs.Script.{Between, InText, Place, asked_at, asked_by, asks, first_shortage}
+use Rattle.desk_server.specs.Script.{later_shortages, place_behind}
+use Rattle.desk_server.specs.Anew.{HasText, IsTextOf, KeptTextsAreRules, sessions}
+use Rattle.desk_server.proofs.OneLine.{Fits, LineFits, TakesNoRule, all-map, any-line, asks-fit, listed-keeps}
+use Rattle.desk_server.proofs.OneLine.{made-keeps, polled-keeps, scripted-keeps, settled-keeps, shown-keeps}
+use Rattle.desk_server.proofs.OneLine.{unless_fault-keeps, unless_memory-keeps}
+use Rattle.desk_server.proofs.Remade.{AreTextLines}
+use Rattle.desk_server.proofs.Replies.{rule-same}
+
+-- a text that is made of lines of which none ends it
+record IsText (text : List ℕ) : Type 0 where
+  lines : List (List ℕ)
+  is : text_of_lines lines ≡ text
+  are : AreTextLines lines
+
+-- a line that ends with its line feed
+record IsFull (line : Line) : Type 0 where
+  bytes : List ℕ
+  is : line ≡ full_line bytes
+  whole : NoLineFeed bytes
+
+-- each line does but the last, which may lack it
+abbrev AreFull : List Line → Type 0
+AreFull [] = ⊤
+AreFull (line ∷ []) = ⊤
+AreFull (line ∷ next ∷ rest) = IsFull line × AreFull (next ∷ rest)
+
+full-more : (bytes : List ℕ) (rest : List Line) → NoLineFeed bytes → AreFull rest → AreFull (full_line bytes ∷ rest)
+full-more bytes [] h more = tt
+full-more bytes (next ∷ rest) h more = (record { bytes = bytes; is = refl; whole = h }, more)
+
+last-full : (bytes : List ℕ) → AreFull (last_line Ended bytes)
+last-full [] = tt
+last-full (b ∷ bs) = tt
+
+from-full : (begun bytes : List ℕ) → NoLineFeed begun → AreFull (lines_from Ended begun bytes)
+from-full begun [] h = last-full begun
+from-full begun (b ∷ bs) h = either (b == 10) refl (from-full [] bs tt) (from-full (begun ++ b ∷ []) bs)
+  where
+    either : (v : Bool) → (b == 10) ≡ v → AreFull (lines_from Ended [] bs)
+        → (NoLineFeed (begun ++ b ∷ []) → AreFull (lines_from Ended (begun ++ b ∷ []) bs))
+        → AreFull (cond v (full_line begun ∷ lines_from Ended [] bs) (lines_from Ended (begun ++ b ∷ []) bs))
+    either true e ended on = full-more begun (lines_from Ended [] bs) h ended
+    either false e ended on = on (no_line_feed-append begun (b ∷ []) h (e, tt))
+
+-- a text that is asked to be taken is such a text
+abbrev AsksText : Ask → Type 0
+AsksText (Take f text) = IsText text
+AsksText _ = ⊤
+
+abbrev BeginsText : Place → Type 0
+BeginsText Between = ⊤
+BeginsText (InText at f text) = IsText text
+
+no-text : IsText []
+no-text = record { lines = []; is = refl; are = record { whole = tt; inside = tt } }
+
+text-more : (text : List ℕ) (line : Line) → IsText text → IsFull line → is_end line.says ≡ false → IsText (text ++ line.raw)
+text-more text line h full inside =
+    let ls : List (List ℕ) = h.lines ++ full.bytes ∷ [] in record {
+      lines = ls;
+      is = flat_map-append (λ (l : List ℕ). l ++ 10 ∷ []) h.lines (full.bytes ∷ [])
+          ∙ ap (λ v. text_of_lines h.lines ++ v) (append-nil (full.bytes ++ 10 ∷ []))
+          ∙ ap (λ v. v ++ (full.bytes ++ 10 ∷ [])) h.is ∙ ap (λ (l : Line). text ++ l.raw) (sym full.is);
+      are = record {
+        whole = all_append NoLineFeed h.lines (full.bytes ∷ []) h.are.whole (full.whole, tt);
+        inside = all_append (λ l. is_end (full_line l).says ≡ false) h.lines (full.bytes ∷ []) h.are.inside
+            (ap (λ (l : Line). is_end l.says) (sym full.is) ∙ inside, tt);
+      };
+    }
+
+rest-full : (line : Line) (rest : List Line) → AreFull (line ∷ rest) → AreFull rest
+rest-full line [] h = tt
+rest-full line (next ∷ rest) h = h.1
+
+asked-none : (n : ℕ) (c : Option Command) → AsksText (asked_by n c)
+asked-none n None = tt
+asked-none n (Some c) = tt
+
+unless-last : (at n : ℕ) (f : Format) (text : List ℕ) (line : Line) (rest : List Line) → AreFull (line ∷ rest)
+    → (IsFull line → AllByRecursion AsksText (asks Ended (InText at f text) n rest))
+    → AllByRecursion AsksText (asks Ended (InText at f text) n rest)
+unless-last at n f text line [] full more = (tt, tt)
+unless-last at n f text line (next ∷ rest) full more = more full.0
+
+asks-texts : (place : Place) (n : ℕ) (lines : List Line) → BeginsText place → AreFull lines
+    → AllByRecursion AsksText (asks Ended place n lines)
+asks-texts Between n [] begun full = tt
+asks-texts (InText at f text) n [] begun full = (tt, tt)
+asks-texts Between n (line ∷ rest) begun full =
+    between (is_passed_over line.says) (format_of line.says)
+    (λ place begun. asks-texts place (n + 1) rest begun (rest-full line rest full))
+  where
+    between : (passed : Bool) (o : Option Format)
+        → ((place : Place) → BeginsText place → AllByRecursion AsksText (asks Ended place (n + 1) rest))
+        → AllByRecursion AsksText
+        (cond passed (asks Ended Between (n + 1) rest)
+        (asked_at n line.says o ++ asks Ended (place_behind n o) (n + 1) rest))
+    between true o more = more Between tt
+    between false None more = (asked-none n (command_of line.says), more Between tt)
+    between false (Some f) more = more (InText n f []) no-text
+asks-texts (InText at f text) n (line ∷ rest) begun full =
+    inside (is_end line.says) refl (asks-texts Between (n + 1) rest tt (rest-full line rest full))
+    (λ goes_on. unless-last at (n + 1) f (text ++ line.raw) line rest full (λ whole.
+    asks-texts (InText at f (text ++ line.raw)) (n + 1) rest (text-more text line begun whole goes_on)
+    (rest-full line rest full)))
+  where
+    inside : (ends : Bool) → is_end line.says ≡ ends → AllByRecursion AsksText (asks Ended Between (n + 1) rest)
+        → (is_end line.says ≡ false → AllByRecursion AsksText (asks Ended (InText at f (text ++ line.raw)) (n + 1) rest))
+        → AllByRecursion AsksText
+        (cond ends (Take f text ∷ asks Ended Between (n + 1) rest)
+        (asks Ended (InText at f (text ++ line.raw)) (n + 1) rest))
+    inside true e ended on = (begun, ended)
+    inside false e ended on = on e
+
+-- where the rule stays, its text does
+text-same : (p q : Plan) (text : Option (List ℕ)) → q.rule ≡ p.rule → HasText p text → HasText q text
+text-same p q None same has = same ∙ has
+text-same p q (Some text) same has = subst (λ (r : FileRule). IsTextOf r text) (sym same) has
+
+rule-stays : (p : Plan) (asked : Asked) → TakesNoRule asked → (changed p asked).plan.rule ≡ p.rule
+rule-stays p (InsertIntervention b generation cells) h = refl
+rule-stays p (ChangeIntervention id generation cells) h = refl
+rule-stays p (InsertRepeat b first every last cells) h = refl
+rule-stays p (ChangeRepeat id first every last cells) h = refl
+rule-stays p (RemoveIntervention id) h = refl
+rule-stays p (SetCells cells) h = refl
+rule-stays p (ReplaceStart start) h = refl
+rule-stays p (ReplaceRule rule) h = absurd h
+rule-stays p (AddBookmark b generation view) h = refl
+rule-stays p (MoveBookmark id generation) h = refl
+rule-stays p (RemoveBookmark id) h = refl
+rule-stays p (AddBranch parent generation) h = refl
+rule-stays p (RemoveBranch b) h = refl
+
+-- what a command that takes no rule leaves has the same one
+command-rule : (short : Shortage) (s : Session) (c : Command) → Fits TakesNoRule (Obey c)
+    → (obeyed short s c).plan.rule ≡ s.plan.rule
+command-rule short s (command.Edit e) h =
+    let K : Plan → Type 0 = λ q. q.rule ≡ s.plan.rule in
+    unless_memory-keeps K short s.plan (edited s.plan (asked_of e)) refl
+    (made-keeps K s.plan (changed s.plan (asked_of e)) (id_word (asked_of e)) (λ (d : Changed). d.edited.id)
+    (refusal s.plan (asked_of e)) refl (λ free. rule-stays s.plan (asked_of e) h))
+command-rule short s command.Settle h = settled-keeps (λ q. q.rule ≡ s.plan.rule) short s.plan refl
+command-rule short s command.Work h = refl
+command-rule short s (command.Show id) h =
+    shown-keeps (λ q. q.rule ≡ s.plan.rule) short s.plan id (bookmark_in s.plan.bookmarks id) refl
+command-rule short s (command.Peek id) h =
+    shown-keeps (λ q. q.rule ≡ s.plan.rule) short s.plan id (bookmark_in s.plan.bookmarks id) refl
+command-rule short s command.Poll h = polled-keeps (λ q. q.rule ≡ s.plan.rule) short s.plan refl
+command-rule short s command.List h = listed-keeps (λ q. q.rule ≡ s.plan.rule) short s.plan refl
+command-rule short s command.Script h = scripted-keeps (λ q. q.rule ≡ s.plan.rule) short s refl
+command-rule short s command.Quit h = refl
+
+start-rule : (p : Plan) (generation : ℕ) (start : World) → (started p generation start).plan.rule ≡ p.rule
+start-rule p generation start =
+    made-keeps (λ q. q.rule ≡ p.rule) p (changed p (ReplaceStart start)) (codes " gen ") (λ (d : Changed). Some generation)
+    (refusal p (ReplaceStart start)) refl (λ free. refl)
+
+taken-text : (s : Session) (text : List ℕ) (rule : FileRule) → IsText text → rule_of text ≡ Ok rule
+    → HasText (changed s.plan (ReplaceRule rule)).plan
+    (rule_text_after s (Take format.Rule text) (changed s.plan (ReplaceRule rule)).plan)
+taken-text s text rule h means =
+    let q = (changed s.plan (ReplaceRule rule)).plan in
+    subst (HasText q) (sym (cond-false (s.plan.revision + 1 == s.plan.revision) s.rule_text (Some text)
+    (differs (s.plan.revision + 1) s.plan.revision (λ e. omega (arith, e)))))
+    (record { lines = h.lines; is = h.is; whole = h.are.whole; inside = h.are.inside; means = means })
+
+next-text : (short : Shortage) (s : Session) (ask : Ask) → Fits TakesNoRule ask → AsksText ask
+    → HasText s.plan s.rule_text
+    → HasText (answer short s ask).plan (rule_text_after s ask (answer short s ask).plan)
+next-text short s (Obey c) h text has =
+    text-same s.plan (obeyed short s c).plan s.rule_text (command-rule short s c h) has
+next-text short s (Take format.Rule text) h is has =
+    let K : Plan → Type 0 = λ q. HasText q (rule_text_after s (Take format.Rule text) q) in
+    let now : K s.plan = subst (HasText s.plan) (sym (rule-same s (Take format.Rule text))) has in
+    unless_memory-keeps K short s.plan (taken s.plan format.Rule text) now
+    (unless_fault-keeps K s.plan of_rule (λ (rule : FileRule). edited s.plan (ReplaceRule rule)) (rule_of text) now
+    (λ rule means. made-keeps K s.plan (changed s.plan (ReplaceRule rule)) (id_word (ReplaceRule rule))
+    (λ (d : Changed). d.edited.id) (refusal s.plan (ReplaceRule rule)) now (λ free. taken-text s text rule is means)))
+next-text short s (Take format.Rle text) h is has =
+    let K : Plan → Type 0 = λ q. q.rule ≡ s.plan.rule in
+    text-same s.plan (answer short s (Take format.Rle text)).plan s.rule_text
+    (unless_memory-keeps K short s.plan (taken s.plan format.Rle text) refl
+    (unless_fault-keeps K s.plan of_pattern (λ (l : Loaded). started s.plan l.generation l.plane) (pattern_of text) refl
+    (λ l means. start-rule s.plan l.generation l.plane))) has
+next-text short s (Take format.Macrocell text) h is has =
+    let K : Plan → Type 0 = λ q. q.rule ≡ s.plan.rule in
+    text-same s.plan (answer short s (Take format.Macrocell text)).plan s.rule_text
+    (unless_memory-keeps K short s.plan (taken s.plan format.Macrocell text) refl
+    (unless_fault-keeps K s.plan of_macrocell (λ (l : Loaded). started s.plan l.generation l.plane)
+    (macrocells.pattern_of text) refl (λ l means. start-rule s.plan l.generation l.plane))) has
+next-text short s (Refuse (BadCommand line)) h is has =
+    let K : Plan → Type 0 = λ q. q.rule ≡ s.plan.rule in
+    text-same s.plan (answer short s (Refuse (BadCommand line))).plan s.rule_text
+    (unless_memory-keeps K short s.plan (refused s.plan (of_script (BadCommand line))) refl refl) has
+next-text short s (Refuse (NoEnd line)) h is has = has
+
+sessions-texts : (s : Session) (asked : List Ask) (shortages : List Shortage)
+    → AllByRecursion (Fits TakesNoRule) asked → AllByRecursion AsksText asked → HasText s.plan s.rule_text
+    → AllByRecursion (λ (t : Session). HasText t.plan t.rule_text) (sessions s asked shortages)
+sessions-texts s [] shortages fits texts has = (has, tt)
+sessions-texts s (ask ∷ rest) shortages fits texts has =
+    let after = answer (first_shortage shortages) s ask in (
+      has,
+      goes-on after.ends (sessions (session_after s ask after.plan) rest (later_shortages shortages))
+          (sessions-texts (session_after s ask after.plan) rest (later_shortages shortages) fits.1 texts.1
+          (next-text (first_shortage shortages) s ask fits.0 texts.0 has)),
+    )
+  where
+    goes-on : (v : Bool) (later : List Session) → AllByRecursion (λ (t : Session). HasText t.plan t.rule_text) later
+        → AllByRecursion (λ (t : Session). HasText t.plan t.rule_text) (cond v [] later)
+    goes-on true later h = tt
+    goes-on false later h = h
+
+pub kept-texts : KeptTextsAreRules
+kept-texts script shortages =
+    let lines = lines_until Ended script in
+    sessions-texts opening_session (asks Ended Between 1 lines) shortages
+    (asks-fit TakesNoRule Ended Between 1 lines
+    (all-map (λ (line : Line). ⊤) (LineFits TakesNoRule) lines (λ line e a said. said.rule) (any-line lines)))
+    (asks-texts Between 1 lines tt (from-full [] script tt)) refl

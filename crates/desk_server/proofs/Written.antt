@@ -1,0 +1,276 @@
+-- The rows of a document can be written.
+use Rattle.std.proofs.Common.{◌≡◌, ℕ, zero, suc, ◌+◌, ◌-◌, ◌<◌, ◌≤◌, ◌^◌, ◌*◌, ◌==◌, ◌||◌, ◌&&◌, not, nat_lt, nat_le}
+use Rattle.std.proofs.Common.{ℤ, pos, List, [], ◌∷◌, ◌++◌, length, Bool, true, false, cond, refl, sym, subst, arith}
+use Rattle.std.proofs.Common.{codes, Option, Some, None, Ok, FitsSigned, w64}
+use Rattle.std.specs.Prelude.{IsTrue, flat_map}
+use Rattle.std.specs.Option.{ok_or, option_and_then, option_map}
+use Rattle.std.specs.List.{AllByRecursion, list_all, range_with_len}
+use Rattle.std.proofs.lemmas.Bool.{and_parts, ltb-true}
+use Rattle.std.proofs.lemmas.Bool.Decides.{nat_tests}
+use Rattle.std.proofs.Math.Nat.{le-mul_of_pos_right, mul-le-mul_left}
+use Rattle.std.proofs.lemmas.Int.{ints}
+use Rattle.basics.proofs.Shared.Lists.{all_append}
+use Rattle.worlds.specs.declared.cell.CellSet.{CellSet}
+use Rattle.worlds.specs.Range.{IsInside}
+use Rattle.bookmarks.specs.declared.view.View.{View}
+use Rattle.bookmarks.specs.declared.view.View.TheVariants as view
+use Rattle.bookmarks.specs.Within.{IsWithin, spans_plane}
+use Rattle.bookmarks.proofs.Places.{area, spanned}
+use Rattle.basics.specs.Results.{◌>>=◌}
+use Rattle.text_lines.specs.Lines.{says}
+use Rattle.text_lines.specs.RuleNames.{IsName, IsNameByte}
+use Rattle.text_lines.proofs.Shared.ByteRanges.{all_tested}
+use Rattle.rule_file.specs.declared.fault.RuleFault.TheVariants.{NoRuleLine}
+use Rattle.rule_file.specs.RuleFile.{NumberedLine, RuleFile, after, file_of, is_name, is_name_byte, named}
+use Rattle.rule_file.specs.RuleFile.{numbered_from, rule_name, section_of}
+use Rattle.rule_file.proofs.Shared.Readings.{then-ok}
+use Rattle.rule_tree.specs.declared.rule.Kind.{Kind}
+use Rattle.rule_tree.specs.NamedRule.{NamedRule}
+use Rattle.rule_tree.specs.Rule.{kind_of, name_of, rule_of, states_of}
+use Rattle.schedule.specs.declared.acts.Acts.{Acts}
+use Rattle.schedule.specs.declared.acts.Acts.TheVariants.{Once, Every}
+use Rattle.schedule.specs.declared.branch.Branch.{Branch}
+use Rattle.schedule.specs.declared.document.Bookmark.{Bookmark}
+use Rattle.schedule.specs.declared.document.Intervention.{Intervention}
+use Rattle.schedule.specs.Acts.{IsTimely, first_of}
+use Rattle.schedule.specs.Asked.{Asked}
+use Rattle.schedule.specs.Branches.{has_branch}
+use Rattle.schedule.specs.Ids.{bookmark_id, branch_id, has_id, intervention_id}
+use Rattle.schedule.specs.Plan.{Plan}
+use Rattle.schedule.specs.Sound.{AreMarked, AreNamed, ArePlaced, IsAllowed, IsForked, IsPlaced, IsSound, SetBelow}
+use Rattle.document_replay.specs.Replay.{add_all, add_bookmark, add_branch, add_intervention, bookmark_edits}
+use Rattle.document_replay.specs.Replay.{branch_edits, ids_between, insert, intervention_edits, row_edits}
+use Rattle.document_replay.specs.Replay.{skip_bookmark, skip_branch, skip_intervention}
+use Rattle.desk_server.specs.Anew.{AreWritten, CanBeWritten, HasText, IsCount, IsCounted, IsWritten, IsWrittenCell}
+use Rattle.desk_server.specs.Anew.{IsWrittenView}
+
+-- ids between others
+range-counts : (a n : ℕ) → (0 < n → a + n < 2 ^ 64) → AllByRecursion IsCount (range_with_len a n)
+range-counts a zero h = tt
+range-counts a (suc n) h =
+    let top = h (omega arith) in
+    (omega (arith, top), range-counts (a + 1) n (λ some. omega (arith, top)))
+
+between-counts : (last id : ℕ) → IsCount id → AllByRecursion IsCount (ids_between last id)
+between-counts last id h = range-counts (last + 1) (id - (last + 1)) (λ some. omega (arith, some, h))
+
+module _ {X : Type 0} (id : X → ℕ) (skip : ℕ → List Asked) (add : X → Asked)
+    (skips : (n : ℕ) → IsCount n → AllByRecursion IsWritten (skip n)) where
+  skipped : (ids : List ℕ) → AllByRecursion IsCount ids → AllByRecursion IsWritten (flat_map skip ids)
+  skipped [] h = tt
+  skipped (n ∷ ids) h = all_append IsWritten (skip n) (flat_map skip ids) (skips n h.0) (skipped ids h.1)
+
+  all-written : (last : ℕ) (xs : List X) → AllByRecursion (λ x. IsCount (id x) × IsWritten (add x)) xs
+      → AllByRecursion IsWritten (add_all id skip add last xs)
+  all-written last [] h = tt
+  all-written last (x ∷ xs) h =
+      all_append IsWritten (flat_map skip (ids_between last (id x))) (add x ∷ add_all id skip add (id x) xs)
+      (skipped (ids_between last (id x)) (between-counts last (id x) h.0.0)) (h.0.1, all-written (id x) xs h.1)
+
+-- a branch that is there
+listed : (branches : List Branch) (b last : ℕ) → AllByRecursion (λ (x : Branch). x.id ≤ last) branches
+    → has_id branch_id branches b ≡ true → b ≤ last
+listed [] b last given there = absurd (cc there)
+listed (x ∷ xs) b last given there = either (x.id == b) refl (listed xs b last given.1) there
+  where
+    either : (v : Bool) → (x.id == b) ≡ v → (has_id branch_id xs b ≡ true → b ≤ last)
+        → (v || has_id branch_id xs b) ≡ true → b ≤ last
+    either true e later h =
+        let low : x.id ≤ last = given.0 in
+        let same : x.id ≡ b = grind (arith, nat_tests) in omega (arith, low, same)
+    either false e later h = later h
+
+there-counts : (branches : List Branch) (b last : ℕ) → AllByRecursion (λ (x : Branch). x.id ≤ last) branches
+    → IsCount last → has_branch branches b ≡ true → IsCount b
+there-counts branches b last given small there = either (b == 0) refl there
+  where
+    either : (v : Bool) → (b == 0) ≡ v → (v || has_id branch_id branches b) ≡ true → IsCount b
+    either true e h = let same : b ≡ 0 = grind (arith, nat_tests) in omega (arith, same)
+    either false e h = let low = listed branches b last given h in omega (arith, low, small)
+
+-- cells that may be named
+cell-written : (n : ℕ) (c : CellSet) → n ≤ 256 → IsInside (2 ^ 60) c.x c.y → c.state < n → IsWrittenCell c
+cell-written n c few h low =
+    let left = h.left in let right = h.right in let top = h.top in let bottom = h.bottom in record {
+      x = grind (arith, ints);
+      y = grind (arith, ints);
+      state = omega (arith, few, low);
+    }
+
+named-cells : (cs : List CellSet) → AreNamed cs → AllByRecursion (λ (c : CellSet). IsInside (2 ^ 60) c.x c.y) cs
+named-cells [] h = tt
+named-cells (c ∷ cs) h = (h.0, named-cells cs h.1)
+
+cells-written : (n : ℕ) (cs : List CellSet) → n ≤ 256 → AllByRecursion (λ (c : CellSet). IsInside (2 ^ 60) c.x c.y) cs
+    → SetBelow n cs → AllByRecursion IsWrittenCell cs
+cells-written n [] few named below = tt
+cells-written n (c ∷ cs) few named below =
+    (cell-written n c few named.0 below.0, cells-written n cs few named.1 below.1)
+
+insert-written : (b : ℕ) (acts : Acts) (cs : List CellSet) → IsCount b → IsTimely acts → IsCounted acts → AreWritten cs
+    → IsWritten (insert b acts cs)
+insert-written b (Once generation) cs small timely counted cells = (small, omega (arith, timely), cells)
+insert-written b (Every first every last) cs small timely counted cells =
+    let low = timely.1 in
+    let near = timely.2 in
+    (small, omega (arith, low, near), counted, omega (arith, near), cells)
+
+-- a view within its limits
+sides : (w k : ℕ) → IsTrue (nat_lt 0 w && nat_lt 0 k && nat_le (w * k) 65536) → (w < 2 ^ 32) × (k < 2 ^ 32)
+sides w k h =
+    let few = area w k h in
+    let some = and_parts (nat_lt 0 w) (nat_lt 0 k) (and_parts (nat_lt 0 w && nat_lt 0 k) (nat_le (w * k) 65536) h).0 in
+    let wide : 1 ≤ w = ltb-true 0 w some.0 in
+    let high : 1 ≤ k = ltb-true 0 k some.1 in
+    let over : w ≤ w * k = le-mul_of_pos_right w high in
+    let across : k * 1 ≤ k * w = mul-le-mul_left k wide in
+    (omega (arith, few, over), omega (arith, few, across))
+
+signed-written : (z : ℤ) (n : ℕ) → IsTrue (spans_plane z n) → n < 2 ^ 32 → FitsSigned w64 z
+signed-written z n h small =
+    let span = spanned z n h in
+    let low = span.0 in
+    let high = span.1 in grind (arith, ints)
+
+view-written : (v : View) → IsWithin v → IsWrittenView v
+view-written view.Counts h = tt
+view-written view.Rle h = tt
+view-written view.Macrocell h = tt
+view-written (view.Window left top width height) h =
+    let side = sides width height h.0 in
+    let range = and_parts (spans_plane left width) (spans_plane top height) h.1 in
+    (signed-written left width range.0 side.0, signed-written top height range.1 side.1, side.0, side.1)
+
+-- the branches, bookmarks and interventions of a sound document
+module _ (p : Plan) (sound : IsSound p) (small : IsCount p.revision) where
+  last-branch : IsCount p.last_branch
+  last-branch = let low = sound.branches_sound.within in omega (arith, low, small)
+
+  placed-counts : (b g : ℕ) → IsPlaced p.branches b g → IsCount b
+  placed-counts b g h = there-counts p.branches b p.last_branch sound.branches_sound.given last-branch h.there
+
+  branch-one : (xs : List Branch) → AllByRecursion (IsForked p.branches) xs
+      → AllByRecursion (λ (x : Branch). x.id ≤ p.last_branch) xs
+      → AllByRecursion (λ (x : Branch). IsCount x.id × IsWritten (add_branch x)) xs
+  branch-one [] forked given = tt
+  branch-one (x ∷ xs) forked given =
+      let one = forked.0 in
+      let near = one.near in (
+        (omega (arith, given.0, last-branch), (placed-counts x.parent x.fork one.placed, omega (arith, near))),
+        branch-one xs forked.1 given.1,
+      )
+
+  bookmark-one : (xs : List Bookmark) → AllByRecursion (λ (b : Bookmark). b.id ≤ p.last_bookmark) xs
+      → AreMarked p.branches xs → AllByRecursion (λ (b : Bookmark). b.generation ≤ 2 ^ 60) xs
+      → AllByRecursion (λ (b : Bookmark). IsWithin b.view) xs
+      → AllByRecursion (λ (b : Bookmark). IsCount b.id × IsWritten (add_bookmark b)) xs
+  bookmark-one [] given placed near within = tt
+  bookmark-one (b ∷ bs) given placed near within =
+      let low = sound.bookmarks_within in (
+        (
+          omega (arith, given.0, low, small),
+          (placed-counts b.branch b.generation placed.0, omega (arith, near.0), view-written b.view within.0),
+        ),
+        bookmark-one bs given.1 placed.1 near.1 within.1,
+      )
+
+  intervention-one : (xs : List Intervention) → AllByRecursion (λ (i : Intervention). i.id ≤ p.last_intervention) xs
+      → ArePlaced p.branches xs → AllByRecursion (IsAllowed (states_of p.rule)) xs
+      → AllByRecursion (λ (i : Intervention). 0 < length i.cells) xs
+      → AllByRecursion (λ (i : Intervention). IsCounted i.acts) xs
+      → AllByRecursion (λ (i : Intervention). IsCount i.id × IsWritten (add_intervention i)) xs
+  intervention-one [] given placed allowed some counted = tt
+  intervention-one (i ∷ is) given placed allowed some counted =
+      let low = sound.interventions_within in
+      let one = allowed.0 in
+      let cells : AreWritten i.cells = record {
+        some = some.0;
+        each = cells-written (states_of p.rule) i.cells sound.few_states (named-cells i.cells one.named) one.below;
+      } in (
+        (
+          omega (arith, given.0, low, small),
+          insert-written i.branch i.acts i.cells (placed-counts i.branch (first_of i.acts) placed.0) one.timely counted.0 cells,
+        ),
+        intervention-one is given.1 placed.1 allowed.1 some.1 counted.1,
+      )
+
+  branches-written : AllByRecursion IsWritten (branch_edits p)
+  branches-written =
+      all-written branch_id skip_branch add_branch (λ n h. ((omega arith, omega arith), (h, tt))) 0 p.branches
+      (branch-one p.branches sound.branches_sound.forked sound.branches_sound.given)
+
+  bookmarks-written : AllByRecursion IsWritten (bookmark_edits p)
+  bookmarks-written =
+      all-written bookmark_id skip_bookmark add_bookmark (λ n h. ((omega arith, omega arith, tt), (h, tt))) 0 p.bookmarks
+      (bookmark-one p.bookmarks sound.bookmarks_given sound.branches_sound.bookmarks_placed sound.bookmarks_near
+      sound.views_within)
+
+  interventions-written : AllByRecursion (λ (i : Intervention). 0 < length i.cells) p.interventions
+      → AllByRecursion (λ (i : Intervention). IsCounted i.acts) p.interventions
+      → AllByRecursion IsWritten (intervention_edits p)
+  interventions-written some counted =
+      all-written intervention_id skip_intervention add_intervention
+      (λ n h. ((omega arith, omega arith, one-cell), (h, tt))) 0 p.interventions
+      (intervention-one p.interventions sound.interventions_given sound.branches_sound.interventions_placed
+      sound.interventions_allowed some counted)
+    where
+      one-cell : AreWritten (record { x = pos 0; y = pos 0; state = 0 } ∷ [])
+      one-cell = record { some = omega arith; each = (record { x = grind (arith, ints); y = grind (arith, ints); state = omega arith }, tt) }
+
+pub rows-written : (p : Plan) → IsSound p → CanBeWritten p → AllByRecursion IsWritten (row_edits p)
+rows-written p sound can =
+    let small = can.revision in
+    all_append IsWritten (branch_edits p ++ bookmark_edits p) (intervention_edits p)
+    (all_append IsWritten (branch_edits p) (bookmark_edits p) (branches-written p sound small)
+    (bookmarks-written p sound small)) (interventions-written p sound small can.cells can.distances)
+
+-- the name of a rule that a text means
+name_byte : (b : ℕ) → is_name_byte b ≡ true → IsNameByte b
+name_byte b h = record { low = grind (arith, nat_tests); high = grind (arith, nat_tests); other = λ e. grind (arith, nat_tests) }
+
+name-is : (name : List ℕ) → is_name name ≡ true → IsName name
+name-is name h =
+    let parts = and_parts (not (length name == 0)) (list_all is_name_byte name) h in
+    let some = parts.0 in record {
+      some = grind (arith, nat_tests);
+      bytes = all_tested IsNameByte is_name_byte name name_byte parts.1;
+    }
+
+if-named : (o : Option (List ℕ)) (name : List ℕ) → option_and_then (λ n. cond (is_name n) (Some n) None) o ≡ Some name
+    → is_name name ≡ true
+if-named None name h = absurd cc
+if-named (Some n) name h = either (is_name n) refl h
+  where
+    either : (v : Bool) → is_name n ≡ v → cond v (Some n) None ≡ Some name → is_name name ≡ true
+    either true e k = let same : n ≡ name = cc in subst (λ m. is_name m ≡ true) same e
+    either false e k = absurd cc
+
+line-named : (v : Bool) (o : Option (List ℕ)) (lines : List NumberedLine) (found : List ℕ × List NumberedLine)
+    → ((name : List ℕ) → o ≡ Some name → is_name name ≡ true) → (named lines ≡ Ok found → is_name found.0 ≡ true)
+    → cond v (named lines) (ok_or (option_map (λ name. (name, lines)) o) NoRuleLine) ≡ Ok found → is_name found.0 ≡ true
+line-named true o lines found here later h = later h
+line-named false None lines found here later h = absurd cc
+line-named false (Some name) lines found here later h =
+    let same : name ≡ found.0 = cc in subst (λ n. is_name n ≡ true) same (here name refl)
+
+named-is : (lines : List NumberedLine) (found : List ℕ × List NumberedLine) → named lines ≡ Ok found
+    → is_name found.0 ≡ true
+named-is [] found h = absurd cc
+named-is (line ∷ lines) found h =
+    line-named (length line.text == 0) (rule_name line.text) lines found
+    (λ name. if-named (after (codes "@RULE ") line.text) name) (named-is lines found) h
+
+rule-named : (text : List ℕ) (rule : NamedRule) → rule_of text ≡ Ok rule → IsName (name_of rule)
+rule-named text rule h =
+    let of : RuleFile → Kind → NamedRule = λ file kind. record { name = file.name; kind = kind } in
+    let file = then-ok (file_of text) (λ file. kind_of file.section >>= λ kind. Ok (of file kind)) rule h in
+    let kind = then-ok (kind_of file.0.section) (λ kind. Ok (of file.0 kind)) rule file.2 in
+    let found = then-ok (named (numbered_from 1 (says text)))
+    (λ found. section_of found.1 >>= λ section. Ok (record { name = found.0; section = section })) file.0 file.1 in
+    let section = then-ok (section_of found.0.1) (λ section. Ok (record { name = found.0.0; section = section })) file.0 found.2 in
+    let same : found.0.0 ≡ name_of rule = cc (section.2, kind.2) in
+    subst IsName same (name-is found.0.0 (named-is (numbered_from 1 (says text)) found.0 found.1))
+
+pub text-named : (p : Plan) (text : Option (List ℕ)) → HasText p text → IsName (name_of p.rule)
+text-named p None has = subst (λ (r : NamedRule). IsName (name_of r)) (sym has) (name-is (codes "still") refl)
+text-named p (Some text) has = rule-named text p.rule has.means
