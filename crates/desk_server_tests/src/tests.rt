@@ -2,6 +2,7 @@
 ghost use Rattle.std.specs.Prelude.{◌≡◌, ◌<◌, ◌≤◌};
 ghost use Rattle.desk_server.specs.Jobs.{IsFresh};
 
+mod anew;
 mod board;
 mod branches;
 mod devices;
