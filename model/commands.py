@@ -46,6 +46,7 @@ class Plain(enum.Enum):
     WORK = b"work"
     POLL = b"poll"
     LIST = b"list"
+    SCRIPT = b"script"
     QUIT = b"quit"
 
 

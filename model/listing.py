@@ -22,11 +22,12 @@ def _branch_line(id_: int, branch: Branch) -> str:
 
 
 def _intervention_line(id_: int, intervention: Intervention) -> str:
-    when = _acts_words(intervention.acts)
+    when = acts_words(intervention.acts)
     return f"intervention {id_} on {intervention.branch} {when} cells {len(intervention.cells)}"
 
 
-def _acts_words(acts: Acts) -> str:
+def acts_words(acts: Acts) -> str:
+    """When an intervention acts, in the words that add one."""
     if isinstance(acts, Every):
         return f"every {acts.distance} {acts.first} {acts.last}"
     return f"at {acts.first}"
@@ -34,10 +35,10 @@ def _acts_words(acts: Acts) -> str:
 
 def _bookmark_line(id_: int, bookmark: Bookmark, is_known: bool) -> str:
     where = f"on {bookmark.branch} at {bookmark.generation}"
-    return f"bookmark {id_} {where} {_view_words(bookmark.view)} {'current' if is_known else 'pending'}"
+    return f"bookmark {id_} {where} {view_words(bookmark.view)} {'current' if is_known else 'pending'}"
 
 
-def _view_words(view: View) -> str:
+def view_words(view: View) -> str:
     """A view in the words that `mark` takes."""
     if isinstance(view, Counts):
         return "counts"

@@ -13,6 +13,7 @@ from history import shown_by
 from listing import listed
 from refusals import Fault, Refused
 from rule_files import rule_of
+from scripted import scripted
 from texts import lines_of, words_of
 
 
@@ -133,6 +134,8 @@ def _plain(document: Document, ask: Plain, short: Shortage) -> After:
         return After(b"bye\n", document, ends=True)
     if ask is Plain.WORK:
         return After(b"working\n", document)
+    if ask is Plain.SCRIPT:
+        return After(Refused(Fault.NoMemory).told() if isinstance(short, Memory) else scripted(document), document)
     if ask is Plain.LIST:
         known = short.ids if isinstance(short, Known) else document.bookmarks.keys()
         return After(listed(document, known), document)

@@ -4,7 +4,7 @@ from __future__ import annotations
 import enum
 import re
 from dataclasses import dataclass
-from typing import Dict, Iterator, List, Union
+from typing import Dict, Iterator, List, Optional, Union
 
 from refusals import Fault, Refused
 from tables import Table, still_table, table_of
@@ -32,11 +32,13 @@ class Section:
 class Rule:
     """A named table or tree.
 
-    It keeps the next state of nine states once it was asked for it, since a table takes long to look up.
+    Its text is that of the file that it was read from, if it was read. It keeps the next state of nine states once it
+    was asked for it, since a table takes long to look up.
     """
 
-    def __init__(self, name: bytes, kind: Union[Table, Tree]) -> None:
+    def __init__(self, name: bytes, kind: Union[Table, Tree], text: Optional[bytes] = None) -> None:
         self.name = name
+        self.text = text
         self.kind = kind
         self.states = kind.states
         self._known: Dict[Around, int] = {}
@@ -58,7 +60,8 @@ def rule_of(text: bytes) -> Rule:
     name = _name_in(lines)
     section = _section_in(lines)
     is_table = section.kind is SectionKind.TABLE
-    return Rule(name, table_of(section.lines) if is_table else tree_of(section.opened, section.lines))
+    kind = table_of(section.lines) if is_table else tree_of(section.opened, section.lines)
+    return Rule(name, kind, text)
 
 
 def _name_in(lines: Iterator[NumberedLine]) -> bytes:

@@ -155,6 +155,7 @@ class _Writing:
             (6 * often, lambda: b"peek %d" % self.id_of(self.document.bookmarks)),
             (6 * often, lambda: b"poll"),
             (3 * often, lambda: b"list"),
+            (often, lambda: b"script"),
             (2, lambda: chance.choice((b"", b"# a comment", b" \t ", b"#"))),
         )
         weights, writers = zip(*pieces)

@@ -47,11 +47,18 @@ def laid(world: World, cells: Iterable[Cell]) -> World:
 
 def stepped(world: World, rule: NextState) -> World:
     """The next generation. A cell with nothing live at or around it stays empty, so it isn't asked for."""
-    state_at = world.get
+    at = world.get
     places = {(x + right, y + down) for x, y in world for right, down in OFFSETS}
     found = {}
-    for x, y in places:
-        state = rule.next_state(tuple([state_at((x + right, y + down), 0) for right, down in OFFSETS]))
+    for place in places:
+        x, y = place
+        west, east, north, south = x - 1, x + 1, y - 1, y + 1
+        # In the order of OFFSETS, written out, since most of the model's time goes by here.
+        around = (
+            at(place, 0), at((x, north), 0), at((east, north), 0), at((east, y), 0), at((east, south), 0),
+            at((x, south), 0), at((west, south), 0), at((west, y), 0), at((west, north), 0),
+        )  # fmt: skip
+        state = rule.next_state(around)
         if state:
-            found[x, y] = state
+            found[place] = state
     return found

@@ -56,6 +56,24 @@ class Documents(unittest.TestCase):
             "bookmark 1 current 10", "1 0 1 0 0", "bookmark 2 current 10", "0 1 0 0 0",
         )
 
+    def test_a_script_makes_the_document_anew_with_its_ids(self):
+        commands = (
+            "set 0 0 1\nset 1 0 1\nbranch 0 3\nbranch 0 4\nunbranch 1\nmark 2 counts\non 2 mark 7 window -2 0 5 1\n"
+            "at 1 set 1 0 0 2 0 1\ndrop 1\non 2 every 2 5 9 set 1 0 0 2 0 1\n"
+        )
+        script = (
+            RULE_X + "start mc\n[M2] (experiment desk)\n#R X\n#G 0\n1 1 1 0 0\n2 0 0 0 1\nend\n"
+            "branch 0 0\nunbranch 1\nbranch 0 4\non 0 mark 2 counts\non 2 mark 7 window -2 0 5 1\n"
+            "on 0 at 0 set 0 0 0\ndrop 1\non 2 every 2 5 9 set 1 0 0 2 0 1\n"
+        )
+        told = f"{script}scripted {len(script)}\n"
+        self.assertTrue(replied(RULE_X + commands + "script\n").endswith(f" intervention 2\n{told}"))
+        self.assertTrue(replied(script + "script\n").endswith(f" intervention 2\n{told}"))
+
+    def test_a_script_of_nothing_has_an_empty_start_alone(self):
+        script = "start mc\n[M2] (experiment desk)\n#R still\n#G 0\n1 0 0 0 0\nend\n"
+        self.assertEqual(replied("script\n"), f"{script}scripted {len(script)}\n")
+
     def test_the_last_mention_of_a_cell_wins(self):
         self.check(
             "set 0 0 1 0 0 0 1 0 0 1 0 1\nat 0 set 5 5 1\nat 0 set 5 5 0\nmark 0 counts\nshow 1\n",
