@@ -1,7 +1,8 @@
 #!/usr/bin/env python3
 """Gives the program random scripts, and compares its replies with those that the model says.
 
-    model/differ.py [--count 300] [--seed WORD] [--jobs 1] [--damaged] [--desk PROGRAM]
+    model/differ.py [--count 300] [--seed WORD] [--jobs 1] [--seconds 60] [--damaged]
+                    [--desk PROGRAM]
 
 The script n of a seed is that of `model/scripts.py SEED/n`, or with --damaged what changes of some bytes make of it.
 Where a run has few squares, its replies may tell of that in place of the plain ones. A script whose replies differ is
@@ -23,7 +24,6 @@ from scripts import damaged_script, is_small, random_script, words_of
 from worlds import BeyondTheModel
 
 ROOT = os.path.dirname(os.path.dirname(os.path.realpath(__file__)))
-SECONDS = 60
 # So many scripts that differ are shrunk, which takes some seconds each.
 MOST_SHRUNK = 5
 # Of squares that are said to be so few a script may run out.
@@ -39,11 +39,11 @@ class Verdict:
     is_beyond: bool = False
 
 
-def verdict_on(script: bytes, program: str) -> Verdict:
-    """Runs a script with the words that it names, and judges the replies."""
+def verdict_on(script: bytes, program: str, seconds: int) -> Verdict:
+    """Runs a script with the words that it names for some seconds at most, and judges the replies."""
     words = words_of(script)
     try:
-        done = subprocess.run([program, *words], input=script, capture_output=True, timeout=SECONDS, check=False)
+        done = subprocess.run([program, *words], input=script, capture_output=True, timeout=seconds, check=False)
         if done.returncode or done.stderr:
             return Verdict(f"status {done.returncode}, {done.stderr[:200]!r}")
         return Verdict(short_replies=judge(script, done.stdout, SQUARES if has_few_squares(words) else NOTHING))
@@ -52,7 +52,7 @@ def verdict_on(script: bytes, program: str) -> Verdict:
     except BeyondTheModel:
         return Verdict(is_beyond=True)
     except subprocess.TimeoutExpired:
-        return Verdict(f"it had not ended after {SECONDS} seconds")
+        return Verdict(f"it had not ended after {seconds} seconds")
 
 
 def has_few_squares(words: List[str]) -> bool:
@@ -76,7 +76,7 @@ def shrunk(script: bytes, differs: Callable[[bytes], bool]) -> bytes:
     return first + b"".join(lines)
 
 
-def verdict_on_damaged(script: bytes, program: str) -> Verdict:
+def verdict_on_damaged(script: bytes, program: str, seconds: int) -> Verdict:
     """The same of a script that may ask for more than the model, and so perhaps the program, can compute."""
     try:
         if not all(is_small(ask) for ask in asked_by(script) if isinstance(ask, Text)):
@@ -85,21 +85,22 @@ def verdict_on_damaged(script: bytes, program: str) -> Verdict:
             pass
     except BeyondTheModel:
         return Verdict(is_beyond=True)
-    return verdict_on(script, program)
+    return verdict_on(script, program, seconds)
 
 
 @dataclass(frozen=True)
 class Comparison:
-    """Which scripts are compared, and on which program."""
+    """Which scripts are compared, on which program, and how long one may take."""
 
     program: str
     is_damaged: bool
+    seconds: int
 
     def script(self, seed: str) -> bytes:
         return damaged_script(seed) if self.is_damaged else random_script(seed)
 
     def verdict(self, script: bytes) -> Verdict:
-        return (verdict_on_damaged if self.is_damaged else verdict_on)(script, self.program)
+        return (verdict_on_damaged if self.is_damaged else verdict_on)(script, self.program, self.seconds)
 
     def verdict_on_seed(self, seed: str) -> Verdict:
         return self.verdict(self.script(seed))
@@ -124,11 +125,12 @@ def main() -> int:
     words.add_argument("--first", type=int, default=0, help="the number of the first script")
     words.add_argument("--seed", default="1", help="any word, such as the name of a commit")
     words.add_argument("--jobs", type=int, default=1)
+    words.add_argument("--seconds", type=int, default=60, help="how long one script may take")
     words.add_argument("--damaged", action="store_true")
     words.add_argument("--desk", default=f"{ROOT}/crates/desk/out/desk")
     given = words.parse_args()
     seeds = [f"{given.seed}/{number}" for number in range(given.first, given.first + given.count)]
-    comparison = Comparison(given.desk, given.damaged)
+    comparison = Comparison(given.desk, given.damaged, given.seconds)
     failed = short = beyond = 0
     for seed, verdict in zip(seeds, comparison.verdicts(seeds, given.jobs)):
         if verdict.difference:

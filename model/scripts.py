@@ -127,7 +127,8 @@ class _Writing:
     def is_affordable(self, document: Document) -> bool:
         """Whether the model and the program come to an end with the document."""
         cells = len(document.start) + sum(len(it.cells) for it in document.interventions.values())
-        farthest = max(document.reach_of(branch) for branch in (0, *document.branches))
+        bookmarks, branches = document.bookmarks.values(), document.branches.values()
+        farthest = max([0, *(it.generation for it in bookmarks), *(it.fork for it in branches)])
         if self.is_tame:
             set_again = (cells + 1) * (document.marks_of_what_repeats() + 1)
             return _is_tame(document.rule) and cells <= MOST_STANDING and set_again <= MOST_SET_AGAIN
@@ -206,7 +207,7 @@ class _Writing:
     def cells(self) -> bytes:
         chance = self.chance
         count = chance.choice((1, 1, 2, 3, 5))
-        if chance.random() < 0.003:
+        if chance.random() < 0.0005:
             count = chance.choice((MOST_CELLS, MOST_CELLS + 1))
         return b" ".join(b"%d %d %d" % (self.coordinate(), self.coordinate(), self.state()) for _ in range(count))
 
@@ -278,9 +279,10 @@ class _Writing:
     def crowd(self) -> None:
         """As many branches, interventions or bookmarks as there may be, and a few more."""
         way = self.chance.random()
-        if way < 0.9:
+        # Of a crowd of thousands each edit copies all, which takes the model seconds.
+        if way < 0.98:
             many = [b"branch %d %d\n" % (self.branch(), 0) for _ in range(67)]
-        elif way < 0.95:
+        elif way < 0.99:
             many = [b"at 0 set 0 0 0\n"] * (MOST_INTERVENTIONS + 2)
         else:
             many = [b"mark 0 counts\n"] * (MOST_INTERVENTIONS + 2)
