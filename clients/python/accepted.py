@@ -18,7 +18,7 @@ from trouble import Trouble
 
 STARTS = ("start", "set")
 NAMES_STATES = ("start", "set", "at", "every", "change")
-LOOKS = ("settle", "work", "show", "peek", "poll", "list")
+LOOKS = ("settle", "work", "show", "peek", "poll", "list", "script")
 TEXTS = ("rule", "start rle", "start mc")
 NO_STATE = "set 0 0 0"
 # Edits of so many bytes are kept before it is first looked for needless ones.

@@ -10,7 +10,7 @@ from words import Cell, View, Window
 from .document import Bookmark, Branch, Document, File, Intervention
 
 # What says nothing of the document.
-PASSED_OVER = ("work", "settle", "show", "peek", "poll", "list")
+PASSED_OVER = ("work", "settle", "show", "peek", "poll", "list", "script")
 
 
 class Command(NamedTuple):
