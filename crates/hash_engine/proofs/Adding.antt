@@ -1,20 +1,17 @@
 -- Squares that are added on the way to results.
-use Rattle.std.proofs.Common.{◌≡◌, ℕ, suc, ◌-◌, ◌<◌, ◌^◌, min, List, [], ◌∷◌, length, map, get_or, sym, ◌∙◌, ap, subst, arith, lit<}
+use Rattle.std.proofs.Common.{◌≡◌, ℕ, suc, List, [], ◌∷◌, length, get_or, sym, ◌∙◌, ap, subst, arith, lit<}
 use Rattle.std.specs.Prelude.{All, Contains}
-use Rattle.std.proofs.lemmas.List.Elements.{All-nil, All-cons, All-weaker}
+use Rattle.std.proofs.lemmas.List.Elements.{All-nil, All-cons}
 use Rattle.worlds.specs.Square.{Square, one, four}
-use Rattle.square_table.specs.Squares.{Table, IsNumber, square_in, kids_at, IsSquareOf, Grows, GrowsBy}
+use Rattle.square_table.specs.Squares.{Table, kids_at, IsSquareOf, Grows, GrowsBy}
 use Rattle.square_table.specs.Made.{AreAmong, Adds}
 use Rattle.square_table.proofs.Shared.Growth.{Grows-same, Grows-then}
 use Rattle.square_table.proofs.Shared.Making.{Adds-joined}
-use Rattle.hash_life.specs.Result.{between, amid, middle, later, result}
-use Rattle.hash_life.specs.Puts.{nine_of, fours_of}
-use Rattle.hash_life.specs.Makes.{Makes}
-use Rattle.hash_life.proofs.Shared.InTwo.{OfParts, result-none, result-later}
-use Rattle.hash_life.proofs.Shared.Made.{Makes-itself, Makes-result, Makes-parts}
-use Rattle.hash_engine.specs.Standing.{StandsFor, StandForAll}
-use Rattle.hash_engine.specs.Adding.{AddsOfTwo, AddsOf, AddsFours, AddsFor}
-use Rattle.hash_engine.proofs.Standing.{StandsFor-itself, StandsFor-grows, StandForAll-grows, StandsFor-of_nine, quadrants, listed, fours_at}
+use Rattle.hash_life.specs.Result.{between, amid, middle}
+use Rattle.hash_life.specs.Puts.{nine_of}
+use Rattle.hash_engine.specs.Standing.{StandsFor}
+use Rattle.hash_engine.specs.Adding.{AddsOfTwo, AddsOf, AddsFours}
+use Rattle.hash_engine.proofs.Standing.{StandsFor-grows, StandForAll-grows, StandsFor-of_nine, quadrants, listed, fours_at}
 
 -- nothing is added
 pub Adds-none : (made : List Square) (t : Table) → Adds made t t
@@ -85,86 +82,3 @@ Adds-fours t u1 u2 u3 u4 nine count g1 s1 g2 s2 g3 s3 g4 s4 k ss are =
           (Adds-made u1 u2 _ k _ g2 s2 (λ n is. StandsFor-of_nine u1 u2 u2 k n nine ss 1 2 4 5 count (lit< tt) (lit< tt) (lit< tt) (lit< tt) (StandForAll-grows t u1 k nine ss g1 are) g2 (Grows-same u2) is))
           (more all _ t t u1 (each 0 (one 0) (omega arith)) (Adds-made t u1 _ k _ g1 s1 (λ n is. StandsFor-of_nine t u1 u1 k n nine ss 0 1 3 4 count (lit< tt) (lit< tt) (lit< tt) (lit< tt) are g1 (Grows-same u1) is)) (λ h. h)))) rows;
     }
-
--- nothing on the way
-pub AddsFor-none : (next : List ℕ → ℕ) (k generations : ℕ) (numbers : List ℕ) (t : Table) → AddsFor next k generations numbers t t
-AddsFor-none next k generations numbers t = record { among = λ all makes are. are }
-
--- what is on the way from one square
-way : (next : List ℕ → ℕ) (k generations n : ℕ) (rows : List (List ℕ)) (P : Square → Type 0) → All (λ i. Makes next k generations (square_in rows (suc (suc k)) i) P) (n ∷ []) → Makes next k generations (square_in rows (suc (suc k)) n) P
-way next k generations n rows P makes = makes 0 0 (omega arith)
-
-pub AddsFor-result : (next : List ℕ → ℕ) (k generations n : ℕ) (t u v : Table) (r : Square) → r ≡ result next k generations (square_in t.rows (suc (suc k)) n) →
-    AddsFor next k generations (n ∷ []) t u → Adds (r ∷ []) u v → AddsFor next k generations (n ∷ []) t v
-AddsFor-result next k generations n t u v r is before adds = record {
-  among = λ all makes are.
-      more all r t u v (subst (Contains all) (sym is) (Makes-result next k generations _ (Contains all) (way next k generations n t.rows (Contains all) makes))) adds (before.among all makes) are;
-}
-
-pub AddsFor-middle : (next : List ℕ → ℕ) (k generations n : ℕ) (t u : Table) → generations ≡ 0 → IsNumber t.rows (suc (suc k)) n → AddsOf (λ s. middle s ∷ []) t n u → AddsFor next k generations (n ∷ []) t u
-AddsFor-middle next k generations n t u none numbered adds =
-    let s = square_in t.rows (suc (suc k)) n in
-    let is : middle s ≡ result next k generations s = sym (ap (λ g. result next k g s) none ∙ result-none next k s) in
-    AddsFor-result next k generations n t t u (middle s) is (AddsFor-none next k generations (n ∷ []) t) (adds k s (StandsFor-itself t.rows (suc (suc k)) n numbered))
-
-pub AddsFor-later : (next : List ℕ → ℕ) (generations n : ℕ) (t u : Table) → 0 < generations → Adds (later next (square_in t.rows 2 n) ∷ []) t u → AddsFor next 0 generations (n ∷ []) t u
-AddsFor-later next generations n t u some adds =
-    AddsFor-result next 0 generations n t t u _ (sym (result-later next generations _ some)) (AddsFor-none next 0 generations (n ∷ []) t) adds
-
--- by numbers that stand for squares
-by_numbers : (next : List ℕ → ℕ) (rows : List (List ℕ)) (k generations : ℕ) (P : Square → Type 0) (ns : List ℕ) (ss : List Square) → StandForAll rows (suc (suc k)) ns ss → All (λ q. Makes next k generations q P) ss →
-    All (λ i. Makes next k generations (square_in rows (suc (suc k)) i) P) ns
-by_numbers next rows k generations P ns ss are makes = λ i d below.
-    subst (λ q. Makes next k generations q P) (sym (are.each i d (one 0) below).square) (makes i (one 0) (omega (arith, below, are.count)))
-
--- one square more of several
-pub AddsFor-turn : (next : List ℕ → ℕ) (k generations : ℕ) (numbers : List ℕ) (i number : ℕ) (t u v : Table) → i < length numbers →
-    ((e : ℕ) → square_in u.rows (suc (suc k)) number ≡ square_in t.rows (suc (suc k)) (get_or numbers i e)) →
-    AddsFor next k generations numbers t u → AddsFor next k generations (number ∷ []) u v → AddsFor next k generations numbers t v
-AddsFor-turn next k generations numbers i number t u v below same before now = record {
-  among = λ all makes are.
-      let P = λ (j : ℕ). Makes next k generations (square_in u.rows (suc (suc k)) j) (Contains all) in
-      now.among all (All-cons P number [] (subst (λ q. Makes next k generations q (Contains all)) (sym (same 0)) (makes i 0 below)) (All-nil P)) (before.among all makes are);
-}
-
--- the nine, their results, the four, and theirs
-module _ (next : List ℕ → ℕ) (k j generations first number : ℕ) (t : Table) (is_k : suc j ≡ k) (some : 0 < generations) (is_first : first ≡ min generations (2 ^ j)) where
-  square : Square
-  square = square_in t.rows (suc (suc (suc j))) number
-
-  lower : (P : Square → Type 0) → All (λ i. Makes next k generations (square_in t.rows (suc (suc k)) i) P) (number ∷ []) → Makes next (suc j) generations square P
-  unfolding square
-  lower P makes = subst (λ l. Makes next l generations (square_in t.rows (suc (suc l)) number) P) (sym is_k) (way next k generations number t.rows P makes)
-
-  parts_make : (P : Square → Type 0) → All (λ i. Makes next k generations (square_in t.rows (suc (suc k)) i) P) (number ∷ []) → OfParts next j first (generations - first) square (λ m q. Makes next j m q P)
-  parts_make P makes = Makes-parts next j generations first square P some is_first (lower P makes)
-
-  pub AddsFor-nine : (a : Table) → IsNumber t.rows (suc (suc (suc j))) number → AddsOf nine_of t number a → AddsFor next k generations (number ∷ []) t a
-  unfolding square
-  AddsFor-nine a numbered adds = record {
-    among = λ all makes are.
-        (adds (suc j) square (StandsFor-itself t.rows (suc (suc (suc j))) number numbered)).among all
-        (All-weaker _ _ (λ q. Makes-itself next j first q (Contains all)) (nine_of square) (parts_make (Contains all) makes).0) are;
-  }
-
-  pub AddsFor-of_nine : (a b : Table) (nine : List ℕ) → StandForAll a.rows (suc (suc j)) nine (nine_of (square_in t.rows (suc (suc (suc j))) number)) →
-      AddsFor next k generations (number ∷ []) t a → AddsFor next j first nine a b → AddsFor next k generations (number ∷ []) t b
-  unfolding square
-  AddsFor-of_nine a b nine stand before then = record {
-    among = λ all makes are. then.among all (by_numbers next a.rows j first (Contains all) nine _ stand (parts_make (Contains all) makes).0) (before.among all makes are);
-  }
-
-  pub AddsFor-fours : (b c : Table) (results : List ℕ) → StandForAll b.rows (suc j) results (map (result next j first) (nine_of (square_in t.rows (suc (suc (suc j))) number))) →
-      AddsFor next k generations (number ∷ []) t b → AddsFours b results c → AddsFor next k generations (number ∷ []) t c
-  unfolding square
-  AddsFor-fours b c results stand before adds = record {
-    among = λ all makes are.
-        (adds (suc j) _ stand).among all (All-weaker _ _ (λ q. Makes-itself next j (generations - first) q (Contains all)) _ (parts_make (Contains all) makes).1) (before.among all makes are);
-  }
-
-  pub AddsFor-of_fours : (c d : Table) (fours : List ℕ) → StandForAll c.rows (suc (suc j)) fours (fours_of (map (result next j first) (nine_of (square_in t.rows (suc (suc (suc j))) number)))) → AddsFor next k generations (number ∷ []) t c →
-      AddsFor next j (generations - first) fours c d → AddsFor next k generations (number ∷ []) t d
-  unfolding square
-  AddsFor-of_fours c d fours stand before then = record {
-    among = λ all makes are. then.among all (by_numbers next c.rows j (generations - first) (Contains all) fours _ stand (parts_make (Contains all) makes).1) (before.among all makes are);
-  }

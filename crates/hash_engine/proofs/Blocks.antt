@@ -1,105 +1,121 @@
--- Which squares are put to the rule on the way to results of several squares, and to that of one.
-use Rattle.std.proofs.Common.{◌≡◌, ℕ, suc, ◌+◌, ◌-◌, ◌<◌, ◌≤◌, ◌^◌, min, List, [], ◌∷◌, length, map, get_or, refl, sym, ◌∙◌, ap, subst, arith, inl, inr}
-use Rattle.std.specs.Prelude.{All, Contains}
-use Rattle.std.proofs.lemmas.Bool.{cases_eq}
+-- Which squares were put to the rule in a search by nothing that was remembered.
+use Rattle.std.proofs.Common.{◌≡◌, ℕ, zero, suc, ◌+◌, ◌-◌, ◌^◌, min, List, [], ◌∷◌, ◌++◌, length, map, get_or, refl, sym, ◌∙◌, ap, subst, arith}
+use Rattle.std.specs.Prelude.{All, Contains, ℤ}
 use Rattle.std.proofs.lemmas.List.{length-map}
-use Rattle.worlds.specs.Square.{Square}
-use Rattle.square_table.specs.Squares.{Table, square_in, first_number, Grows, AreDistinct}
+use Rattle.std.proofs.lemmas.List.Elements.{All-nil, All-cons, All-append, All-weaker, All-head, All-tail, All-contains, Contains-get_or, Contains-append_left, Contains-append_right}
+use Rattle.worlds.specs.World.{World}
+use Rattle.worlds.specs.Step.{nine_zeros}
+use Rattle.worlds.specs.Square.{Square, square_at}
+use Rattle.square_table.specs.Squares.{Table, square_in, first_number, AreDistinct}
+use Rattle.square_table.proofs.Shared.Numbers.{one_number}
 use Rattle.hash_life.specs.Result.{result}
-use Rattle.hash_life.specs.Puts.{nine_of, fours_of, Puts, PutsBlocks}
-use Rattle.hash_life.proofs.Shared.InTwo.{Puts-parts}
-use Rattle.hash_life.proofs.Shared.Put.{Puts-whole, Puts-weaker}
-use Rattle.hash_engine.specs.Standing.{StandForAll}
-use Rattle.hash_engine.specs.Memo.{IsRight, IsPut, HasPut}
-use Rattle.hash_engine.specs.Asked.{is_put, places_put, PutsOnly, PutsFirst, PutsOn}
+use Rattle.hash_life.specs.Puts.{nine_of, fours_of, Puts, Stands, PutsBlocks, AsksOnce}
+use Rattle.hash_life.proofs.Shared.Places.{what_is_put}
+use Rattle.hash_life.proofs.Shared.Put.{Puts-weaker}
+use Rattle.hash_engine.specs.Memo.{IsRight, IsPut}
+use Rattle.hash_engine.specs.Asked.{is_put, picked, places_put}
+use Rattle.hash_engine.specs.Search.{sought, Asks, IsCounted}
 use Rattle.hash_engine.specs.declared.memo.Memo.{Memo}
 use Rattle.hash_engine.proofs.Standing.{within}
-use Rattle.hash_engine.proofs.Picked.{All-picked, Contains-picked}
-use Rattle.hash_engine.proofs.Shared.Puts.{is_put-two, IsNumber-put, known-put}
-use Rattle.hash_engine.proofs.Put.{IsPut-grows, IsPut-before, HasPut-grows, one_way}
-use Rattle.hash_engine.proofs.Once.{by_numbers, only, block, blocks_differ}
+use Rattle.hash_engine.proofs.Picked.{picked-none, All-picked, Contains-picked, different-picked}
+use Rattle.hash_engine.proofs.Shared.Puts.{is_put-none, is_put-two, IsNumber-put, known-put}
 
--- by the squares that numbers stand for
-by_squares : (next : List ℕ → ℕ) (rows : List (List ℕ)) (k generations : ℕ) (P Q : Square → Type 0) (ns : List ℕ) (ss : List Square) → StandForAll rows (suc (suc k)) ns ss → ((s : Square) → P s → Q s) →
-    ((j e : ℕ) → j < length ns → Puts next k generations (square_in rows (suc (suc k)) (get_or ns j e)) P) → All (λ q. Puts next k generations q Q) ss
-by_squares next rows k generations P Q ns ss are so puts = λ i e below.
-    let there : i < length ns = omega (arith, below, are.count) in
-    subst (λ q. Puts next k generations q Q) (are.each i 0 e there).square (Puts-weaker next k generations _ P Q so (puts i 0 there))
+-- where P holds of each square that is put to the rule, there is a list of them
+record Listed (P : Square → Type 0) (Way : (Square → Type 0) → Type 0) : Type 0 where
+  those : List Square
+  way : Way (Contains those)
+  holds : All P those
 
--- the nine and then the four
-pub put_in_two : (next : List ℕ → ℕ) (k j generations first number : ℕ) (nine fours : List ℕ) (t a b c d e : Table) (m0 m1 m2 : Memo) → suc j ≡ k → 0 < generations → first ≡ min generations (2 ^ j) →
-    StandForAll a.rows (suc (suc j)) nine (nine_of (square_in t.rows (suc (suc (suc j))) number)) →
-    StandForAll c.rows (suc (suc j)) fours (fours_of (map (result next j first) (nine_of (square_in t.rows (suc (suc (suc j))) number)))) →
-    Grows t a → Grows b c → Grows d e → IsRight next t.rows m0 → IsRight next b.rows m1 → IsRight next d.rows m2 →
-    PutsOn next j first nine a m0 b m1 → PutsOn next j (generations - first) fours c m1 d m2 → PutsOn next k generations (number ∷ []) t m0 e m2
-put_in_two next k j generations first number nine fours t a b c d e m0 m1 m2 is_k some is_first are_nine are_fours ta bc de r0 r1 r2 puts then =
-    let level : 2 ^ k ≡ 2 ^ j + 2 ^ j = ap (λ l. 2 ^ l) (sym is_k) ∙ omega arith in
-    let s = square_in t.rows (suc (suc (suc j))) number in
-    let last : (q : Square) → IsPut d.rows m2.full.items q → IsPut e.rows m2.full.items q = λ q is. IsPut-grows d e m2.full.items q de is in
-    let since : (q : Square) → IsPut b.rows m1.full.items q → IsPut e.rows m2.full.items q = λ q is. last q (then.kept q (IsPut-grows b c m1.full.items q bc is)) in
-    let has_b : generations ≤ 2 ^ k → HasPut next t.rows m0 → HasPut next b.rows m1 = λ few has. puts.stays (omega (arith, is_first)) (HasPut-grows next t a m0 ta r0 has) in
-    let has_c : generations ≤ 2 ^ k → HasPut next t.rows m0 → HasPut next c.rows m1 = λ few has. HasPut-grows next b c m1 bc r1 (has_b few has) in
+list_all : (next : List ℕ → ℕ) (k n : ℕ) (P : Square → Type 0) → ((s : Square) → Puts next k n s P → Listed P (Puts next k n s)) →
+    (ss : List Square) → All (λ s. Puts next k n s P) ss → Listed P (λ Q. All (λ s. Puts next k n s Q) ss)
+list_all next k n P each [] puts = record { those = []; way = All-nil (λ s. Puts next k n s (Contains [])); holds = All-nil P }
+list_all next k n P each (s ∷ ss) puts =
+    let one = each s (All-head (λ q. Puts next k n q P) s ss puts) in
+    let more = list_all next k n P each ss (All-tail (λ q. Puts next k n q P) s ss puts) in
+    let both = one.those ++ more.those in
+    let left = λ (q : Square) (is : Contains one.those q). Contains-append_left one.those more.those q is in
+    let right = λ (q : Square) (is : Contains more.those q). Contains-append_right one.those more.those q is in
     record {
-      kept = λ q is. since q (puts.kept q (IsPut-grows t a m0.full.items q ta is));
-      among = λ all ways none.
-          let at : Puts next (suc j) generations s (Contains all) = subst (λ l. Puts next l generations (square_in t.rows (suc (suc l)) number) (Contains all)) (sym is_k) (ways 0 0 (omega arith)) in
-          let parts = Puts-parts next j generations first s (Contains all) some is_first at in
-          let one = puts.among all (by_numbers next a.rows j first (Contains all) nine _ are_nine parts.0) (λ q is. none q (IsPut-before next t a m0 q ta r0 is)) in
-          let two = then.among all (by_numbers next c.rows j (generations - first) (Contains all) fours _ are_fours parts.1) (λ q is. one q (IsPut-before next b c m1 q bc r1 is)) in
-          λ q is. two q (IsPut-before next d e m2 q de r2 is);
-      stays = λ few has. HasPut-grows next d e m2 de r2 (then.stays (omega (arith, is_first, few, level)) (has_c few has));
-      ways = λ few has.
-          let first_ways = by_squares next a.rows j first (IsPut b.rows m1.full.items) (IsPut e.rows m2.full.items) nine _ are_nine since (puts.ways (omega (arith, is_first)) (HasPut-grows next t a m0 ta r0 has)) in
-          let then_ways = by_squares next c.rows j (generations - first) (IsPut d.rows m2.full.items) (IsPut e.rows m2.full.items) fours _ are_fours last (then.ways (omega (arith, is_first, few, level)) (has_c few has)) in
-          let whole = Puts-whole next j generations first s (IsPut e.rows m2.full.items) some is_first (first_ways, then_ways) in
-          one_way next k generations number t.rows (IsPut e.rows m2.full.items) (subst (λ l. Puts next l generations (square_in t.rows (suc (suc l)) number) (IsPut e.rows m2.full.items)) is_k whole);
+      those = both;
+      way = All-cons (λ q. Puts next k n q (Contains both)) s ss (Puts-weaker next k n s (Contains one.those) (Contains both) left one.way)
+          (All-weaker _ _ (λ q. Puts-weaker next k n q (Contains more.those) (Contains both) right) ss more.way);
+      holds = All-append P one.those more.those one.holds more.holds;
     }
 
--- one square more of several
-pub put_turn : (next : List ℕ → ℕ) (k generations : ℕ) (numbers : List ℕ) (i number : ℕ) (t u v : Table) (m0 m1 m2 : Memo) → i < length numbers →
-    ((e : ℕ) → square_in u.rows (suc (suc k)) number ≡ square_in t.rows (suc (suc k)) (get_or numbers i e)) →
-    PutsFirst next k generations i numbers t m0 u m1 → PutsOn next k generations (number ∷ []) u m1 v m2 → PutsFirst next k generations (i + 1) numbers t m0 v m2
-put_turn next k generations numbers i number t u v m0 m1 m2 below same before now = record {
-  kept = λ s is. now.kept s (before.kept s is);
-  among = λ all puts none.
-      now.among all (only next k generations u.rows number (Contains all) (subst (λ q. Puts next k generations q (Contains all)) (sym (same 0)) (puts i 0 below))) (before.among all puts none);
-  stays = λ few has. now.stays few (before.stays few has);
-  ways = λ few has j e there. elim (cases_eq j i) [
-    | inl here ↦
-        subst (λ x. Puts next k generations (square_in t.rows (suc (suc k)) (get_or numbers x e)) (IsPut v.rows m2.full.items)) (sym here)
-        (subst (λ q. Puts next k generations q (IsPut v.rows m2.full.items)) (same e) (now.ways few (before.stays few has) 0 0 (omega arith)))
-    | inr other ↦ Puts-weaker next k generations _ (IsPut u.rows m1.full.items) (IsPut v.rows m2.full.items) now.kept (before.ways few has j e (omega (arith, there, other)))
-  ];
+listed : (next : List ℕ → ℕ) (k n : ℕ) (s : Square) (P : Square → Type 0) → Puts next k n s P → Listed P (Puts next k n s)
+unfolding Puts
+listed next k zero s P puts = record { those = []; way = tt; holds = All-nil P }
+listed next zero (suc n) s P puts = record {
+  those = s ∷ [];
+  way = Contains-get_or (s ∷ []) 0 s (omega arith);
+  holds = All-cons P s [] puts (All-nil P);
 }
-
--- all of them
-pub put_all : {next : List ℕ → ℕ} {k generations many : ℕ} {numbers : List ℕ} {t u : Table} {old new : Memo} → PutsFirst next k generations many numbers t old u new → length numbers ≤ many → PutsOn next k generations numbers t old u new
-put_all {next} {k} {generations} {many} {numbers} {t} {u} {old} {new} puts all = record {
-  kept = puts.kept;
-  among = puts.among;
-  stays = puts.stays;
-  ways = λ few has j e below. puts.ways few has j e (omega (arith, below, all));
-}
-
--- where nothing was put before, the squares that are put are those that are counted
-pub put_blocks : (next : List ℕ → ℕ) (k generations number base : ℕ) (t u : Table) (m0 m1 : Memo) → generations ≤ 2 ^ k → m0.full.items ≡ [] → HasPut next t.rows m0 →
-    IsRight next u.rows m1 → AreDistinct u.rows → base ≡ length (places_put u.rows m1) →
-    PutsOn next k generations (number ∷ []) t m0 u m1 → PutsBlocks next k generations (square_in t.rows (suc (suc k)) number) base
-unfolding places_put
-put_blocks next k generations number base t u m0 m1 few none has right distinct count puts =
-    let blocks = map (block u.rows) (places_put u.rows m1) in
-    let listed : (s : Square) → IsPut u.rows m1.full.items s → Contains blocks s = λ s is.
-    let inside = within u.rows 1 (first_number + is.place) is.numbered in
-    subst (Contains blocks) is.square
-    (Contains-picked (block u.rows) (is_put u.rows m1) (length u.rows) is.place (omega (arith, inside)) (is_put-two u.rows m1 is.place is.numbered is.known)) in
-    let nothing : (those : List Square) → PutsOnly those t m0 = λ those s is. let never = ap (λ known. get_or known is.place 0) none in absurd (omega (arith, never, is.known)) in
+listed next (suc k) (suc n) s P puts =
+    let m = min (suc n) (2 ^ k) in
+    let nine = list_all next k m P (λ q. listed next k m q P) (nine_of s) puts.0 in
+    let four = list_all next k (suc n - m) P (λ q. listed next k (suc n - m) q P) (fours_of (map (result next k m) (nine_of s))) puts.1 in
+    let both = nine.those ++ four.those in
+    let left = λ (q : Square) (is : Contains nine.those q). Contains-append_left nine.those four.those q is in
+    let right = λ (q : Square) (is : Contains four.those q). Contains-append_right nine.those four.those q is in
     record {
-      blocks = blocks;
-      count = length-map (places_put u.rows m1) (block u.rows) ∙ sym count;
-      different = blocks_differ next u.rows m1 right distinct;
-      all = Puts-weaker next k generations _ (IsPut u.rows m1.full.items) (Contains blocks) listed (puts.ways few has 0 0 (omega arith));
-      only = λ those way.
-          let put = puts.among those (only next k generations t.rows number (Contains those) way) (nothing those) in
-          All-picked (Contains those) (block u.rows) (is_put u.rows m1) (length u.rows)
-          (λ i below is. put (block u.rows i) (record { place = i; numbered = IsNumber-put next u.rows m1 i right is; known = known-put u.rows m1 i is; square = refl }));
+      those = both;
+      way = (
+        All-weaker _ _ (λ q. Puts-weaker next k m q (Contains nine.those) (Contains both) left) (nine_of s) nine.way,
+        All-weaker _ _ (λ q. Puts-weaker next k (suc n - m) q (Contains four.those) (Contains both) right) _ four.way,
+      );
+      holds = All-append P nine.those four.those nine.holds four.holds;
     }
+
+-- the squares that were put to the rule are those that are counted
+abbrev block : List (List ℕ) → ℕ → Square
+block rows i = square_in rows 2 (first_number + i)
+
+module _ (number : ℕ) {next : List ℕ → ℕ} {k generations base a b : ℕ} {t u : Table} {old new : Memo} (none : old.full.items ≡ [])
+    (counted : IsCounted next k generations t old) (right : IsRight next u.rows new) (distinct : AreDistinct u.rows)
+    (count : base ≡ length (places_put u.rows new)) (asks : Asks next (Puts next k generations (sought t k number)) t old a u new b) where
+  pub put_blocks : Puts next k generations (sought t k number) (IsPut u.rows new.full.items) →
+      PutsBlocks next k generations (sought t k number) base
+  unfolding places_put
+  put_blocks puts =
+      let blocks = map (block u.rows) (places_put u.rows new) in
+      let there : (s : Square) → IsPut u.rows new.full.items s → Contains blocks s = λ s is.
+      let inside = within u.rows 1 (first_number + is.place) is.numbered in
+      subst (Contains blocks) is.square (Contains-picked (block u.rows) (is_put u.rows new) (length u.rows) is.place
+      (omega (arith, inside)) (is_put-two u.rows new is.place is.numbered is.known)) in
+      record {
+        blocks = blocks;
+        count = length-map (places_put u.rows new) (block u.rows) ∙ sym count;
+        different = different-picked (block u.rows) (is_put u.rows new) (length u.rows) (λ i j below inside put_i put_j same.
+            let number_i = IsNumber-put next u.rows new i right put_i in
+            let number_j = IsNumber-put next u.rows new j right put_j in
+            let equal = one_number u.rows distinct 2 (first_number + i) (first_number + j) number_i number_j same in
+            absurd (omega (arith, equal, below)));
+        all = Puts-weaker next k generations _ (IsPut u.rows new.full.items) (Contains blocks) there puts;
+        only = λ those way.
+            let never = λ (s : Square) (is : IsPut t.rows old.full.items s).
+            let no = ap (λ known. get_or known is.place 0) none in absurd (omega (arith, no, is.known)) in
+            All-picked (Contains those) (block u.rows) (is_put u.rows new) (length u.rows) (λ i below is.
+            asks.among those way (λ s put. never s put) (block u.rows i)
+            (record { place = i; numbered = IsNumber-put next u.rows new i right is; known = known-put u.rows new i is; square = refl }));
+      }
+
+  no_places : length (places_put t.rows old) ≡ 0
+  unfolding places_put picked
+  no_places = ap length (picked-none (is_put t.rows old) 0 (length t.rows) (omega arith)
+      (λ i above below. is_put-none t.rows old i (ap (λ known. get_or known i 0) none)))
+
+  -- each was put once, and in a world where the square stands they do
+  pub asked_once : (w : World) (x y : ℤ) → next nine_zeros ≡ 0 → sought t k number ≡ square_at w (suc (suc k)) x y →
+      PutsBlocks next k generations (sought t k number) base → AsksOnce next w generations base a b
+  asked_once w x y quiet at blocks =
+      let stands = subst (λ s. Puts next k generations s (Stands next w generations)) (sym at)
+      (what_is_put next quiet w k generations x y counted.few) in
+      let those = listed next k generations (sought t k number) (Stands next w generations) stands in
+      record {
+        blocks = blocks.blocks;
+        count = blocks.count;
+        different = blocks.different;
+        stand = All-weaker (Contains those.those) (Stands next w generations)
+            (λ s is. All-contains (Stands next w generations) those.those s those.holds is) blocks.blocks (blocks.only those.those those.way);
+        four = (let all = asks.four in omega (arith, all, no_places, count));
+      }

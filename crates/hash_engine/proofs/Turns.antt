@@ -1,141 +1,112 @@
 -- A loop that writes results over squares.
-use Rattle.std.proofs.Common.{◌≡◌, ℕ, suc, ◌+◌, ◌<◌, ◌≤◌, List, [], ◌∷◌, length, map, get_or, refl, sym, ◌∙◌, ap, subst, arith, inl, inr}
+use Rattle.std.proofs.Common.{◌≡◌, ℕ, suc, ◌+◌, ◌<◌, ◌≤◌, List, length, get_or, refl, sym, ◌∙◌, ap, subst, arith, inl, inr}
 use Rattle.std.proofs.Math.ListN.{set}
-use Rattle.std.specs.Prelude.{All}
+use Rattle.std.specs.Prelude.{Contains}
 use Rattle.std.proofs.lemmas.Bool.{cases_eq}
-use Rattle.std.proofs.lemmas.List.{length-set, length-map, get_or-map, get_or_default, get_or-set_same, get_or-set_other}
-use Rattle.worlds.specs.Square.{Square, one}
-use Rattle.square_table.specs.Squares.{Table, square_in, Grows}
-use Rattle.square_table.proofs.Shared.Growth.{IsNumber-grows, square_in-grows}
-use Rattle.hash_life.specs.Result.{result}
+use Rattle.std.proofs.lemmas.List.{length-set, get_or_default, get_or-set_same, get_or-set_other}
+use Rattle.square_table.specs.Squares.{Table, IsNumber}
+use Rattle.square_table.proofs.Shared.Growth.{Grows-same, IsNumber-grows, square_in-grows}
 use Rattle.hash_life.specs.Puts.{Puts, IsBelow}
-use Rattle.hash_engine.specs.Standing.{StandsFor, StandForAll, IsReady}
 use Rattle.hash_life.specs.Makes.{Makes}
-use Rattle.square_table.specs.Made.{IsMade}
 use Rattle.hash_engine.specs.declared.memo.Memo.{Memo}
-use Rattle.hash_engine.specs.Adding.{AddsFor, HasWays}
-use Rattle.hash_engine.specs.Asked.{PutsFirst, PutsOn, AsksForMore}
-use Rattle.hash_engine.specs.Found.{IsSameRule, IsFound, AreFound, CanSeek, CanSeekAll, Stays}
-use Rattle.hash_engine.proofs.Adding.{AddsFor-turn}
-use Rattle.hash_engine.proofs.Computed.{IsRight-same}
-use Rattle.hash_engine.proofs.Once.{asked_turn}
-use Rattle.hash_engine.proofs.Blocks.{put_turn}
-use Rattle.hash_engine.proofs.Ways.{ways_more}
-use Rattle.hash_engine.proofs.Way.{Stays-then}
-use Rattle.hash_engine.proofs.Standing.{StandsFor-grows}
-
-IsReady-grows : (next : List ℕ → ℕ) (c : ℕ) (t u : Table) (k generations n : ℕ) → Grows t u → IsReady next c t.rows k generations n → IsReady next c u.rows k generations n
-IsReady-grows next c t u k generations n grows is = record {
-  numbered = IsNumber-grows t u (suc (suc k)) n grows is.numbered;
-  below = subst (λ s. Puts next k generations s (IsBelow c)) (sym (square_in-grows t u (suc (suc k)) n grows is.numbered)) is.below;
-}
-
--- the square whose turn it is, is ready still
-IsReady-turn : (m n : List ℕ → ℕ) (c d : ℕ) (t u : Table) (k generations : ℕ) (olds news : List ℕ) (i : ℕ) → IsSameRule m n c d → Grows t u → All (IsReady m c t.rows k generations) olds → i < length olds →
-    ((j e : ℕ) → i ≤ j → get_or news j e ≡ get_or olds j e) → (e : ℕ) → IsReady n d u.rows k generations (get_or news i e)
-IsReady-turn m n c d t u k generations olds news i same grows ready below rest e =
-    subst (IsReady n d u.rows k generations) (sym (rest i e (omega arith)))
-    (subst (λ f. IsReady f d u.rows k generations (get_or olds i e)) (sym same.meaning)
-    (subst (λ v. IsReady m v u.rows k generations (get_or olds i e)) (sym same.states) (IsReady-grows m c t u k generations _ grows (ready i e below))))
-
--- its cells are what they were
-square_in-turn : (next : List ℕ → ℕ) (c : ℕ) (t u : Table) (k generations : ℕ) (olds news : List ℕ) (i a : ℕ) → Grows t u → All (IsReady next c t.rows k generations) olds → i < length olds →
-    ((j e : ℕ) → i ≤ j → get_or news j e ≡ get_or olds j e) → (e : ℕ) → square_in u.rows (suc (suc k)) (get_or news i a) ≡ square_in t.rows (suc (suc k)) (get_or olds i e)
-square_in-turn next c t u k generations olds news i a grows ready below rest e =
-    ap (square_in u.rows (suc (suc k))) (rest i a (omega arith) ∙ get_or_default olds i a e below) ∙ square_in-grows t u (suc (suc k)) (get_or olds i e) grows (ready i e below).numbered
-
--- its result, by what it was
-result-turn : (m n : List ℕ → ℕ) (c d : ℕ) (t u : Table) (rows : List (List ℕ)) (k generations : ℕ) (olds news : List ℕ) (i r a : ℕ) → IsSameRule m n c d → Grows t u → All (IsReady m c t.rows k generations) olds → i < length olds →
-    ((j e : ℕ) → i ≤ j → get_or news j e ≡ get_or olds j e) → StandsFor rows (suc k) r (result n k generations (square_in u.rows (suc (suc k)) (get_or news i a))) →
-    (e : ℕ) → StandsFor rows (suc k) r (result m k generations (square_in t.rows (suc (suc k)) (get_or olds i e)))
-result-turn m n c d t u rows k generations olds news i r a same grows ready below rest is e =
-    subst (λ s. StandsFor rows (suc k) r (result m k generations s)) (square_in-turn m c t u k generations olds news i a grows ready below rest e)
-    (subst (λ f. StandsFor rows (suc k) r (result f k generations (square_in u.rows (suc (suc k)) (get_or news i a)))) same.meaning is)
-
--- one more is done
-done_more : (next : List ℕ → ℕ) (t u v : Table) (k generations : ℕ) (olds news : List ℕ) (i r : ℕ) → i < length news → Grows u v →
-    ((j d e : ℕ) → j < i → StandsFor u.rows (suc k) (get_or news j d) (result next k generations (square_in t.rows (suc (suc k)) (get_or olds j e)))) →
-    ((e : ℕ) → StandsFor v.rows (suc k) r (result next k generations (square_in t.rows (suc (suc k)) (get_or olds i e)))) →
-    (j d e : ℕ) → j < i + 1 → StandsFor v.rows (suc k) (get_or (set news i r) j d) (result next k generations (square_in t.rows (suc (suc k)) (get_or olds j e)))
-done_more next t u v k generations olds news i r there grows done last j d e below = elim (cases_eq j i) [
-  | inl here ↦
-      let is : get_or (set news i r) j d ≡ r = ap (λ x. get_or (set news i r) x d) here ∙ get_or-set_same news i r d there in
-      subst (λ x. StandsFor v.rows (suc k) (get_or (set news i r) j d) (result next k generations (square_in t.rows (suc (suc k)) (get_or olds x e)))) (sym here)
-      (subst (λ x. StandsFor v.rows (suc k) x (result next k generations (square_in t.rows (suc (suc k)) (get_or olds i e)))) (sym is) (last e))
-  | inr other ↦
-      subst (λ x. StandsFor v.rows (suc k) x (result next k generations (square_in t.rows (suc (suc k)) (get_or olds j e)))) (sym (get_or-set_other news i j r d other))
-      (StandsFor-grows u v (suc k) _ _ grows (done j d e (omega (arith, below, other))))
-]
-
-rest_more : (olds news : List ℕ) (i r : ℕ) → ((j e : ℕ) → i ≤ j → get_or news j e ≡ get_or olds j e) → (j e : ℕ) → i + 1 ≤ j → get_or (set news i r) j e ≡ get_or olds j e
-rest_more olds news i r rest j e above = get_or-set_other news i j r e (λ same. absurd (omega (arith, same, above))) ∙ rest j e (omega (arith, above))
+use Rattle.hash_engine.specs.Search.{CanSeek, CanSeekAll, sought, MakesAll, PutsAll, Keeps, Asks, IsCounted, IsFound, FirstAreFound, FindsForAll}
+use Rattle.hash_engine.specs.Memo.{IsRight}
+use Rattle.hash_engine.proofs.Finding.{IsFound-then}
+use Rattle.hash_engine.proofs.Keeping.{Keeps-then}
+use Rattle.hash_engine.proofs.Putting.{Asks-then}
 
 -- the first i of the squares have their results, and the others are as they were
-pub record AreDone (next : List ℕ → ℕ) (k generations i : ℕ) (olds news : List ℕ) (t u : Table) : Type 0 where
+pub record AreDone (next : List ℕ → ℕ) (k generations i : ℕ) (olds news : List ℕ) (t : Table) (old : Memo) (u : Table)
+    (new : Memo) : Type 0 where
   pub count : length news ≡ length olds
-  pub done : (j d e : ℕ) → j < i → StandsFor u.rows (suc k) (get_or news j d) (result next k generations (square_in t.rows (suc (suc k)) (get_or olds j e)))
-  pub ways : (j e : ℕ) → j < i → Makes next k generations (square_in t.rows (suc (suc k)) (get_or olds j e)) (IsMade u.rows)
+  pub found : FirstAreFound next (IsCounted next k generations t old) k generations i olds t u new news
   pub rest : (j d : ℕ) → i ≤ j → get_or news j d ≡ get_or olds j d
 
-pub AreDone-none : (next : List ℕ → ℕ) (k generations : ℕ) (olds : List ℕ) (t : Table) → AreDone next k generations 0 olds olds t t
-AreDone-none next k generations olds t = record { count = refl; done = λ j d e below. absurd (omega (arith, below)); ways = λ j e below. absurd (omega (arith, below)); rest = λ j d above. refl }
-
--- all are done
-StandForAll-done : (next : List ℕ → ℕ) (t u : Table) (k generations : ℕ) (olds news : List ℕ) (i : ℕ) (ss : List Square) → length olds ≤ i → length news ≡ length olds →
-    ((j d e : ℕ) → j < i → StandsFor u.rows (suc k) (get_or news j d) (result next k generations (square_in t.rows (suc (suc k)) (get_or olds j e)))) →
-    StandForAll t.rows (suc (suc k)) olds ss → StandForAll u.rows (suc k) news (map (result next k generations) ss)
-StandForAll-done next t u k generations olds news i ss all count done are = record {
-  count = count ∙ are.count ∙ sym (length-map ss (result next k generations));
-  each = λ j d e below.
-      let there : j < length olds = omega (arith, below, count) in
-      let inside : j < length ss = omega (arith, there, are.count) in
-      let cells = (are.each j 0 (one 0) there).square in
-      subst (StandsFor u.rows (suc k) (get_or news j d)) (sym (get_or-map (result next k generations) ss j (one 0) e inside))
-      (subst (λ s. StandsFor u.rows (suc k) (get_or news j d) (result next k generations s)) cells (done j d 0 (omega (arith, there, all))));
+pub AreDone-none : (next : List ℕ → ℕ) (k generations : ℕ) (olds : List ℕ) (t : Table) (memo : Memo) →
+    AreDone next k generations 0 olds olds t memo t memo
+AreDone-none next k generations olds t memo = record {
+  count = refl;
+  found = λ j d e below. absurd (omega (arith, below));
+  rest = λ j d above. refl;
 }
 
-pub AreDone-all : {next : List ℕ → ℕ} {k generations i : ℕ} {olds news : List ℕ} {t u : Table} → AreDone next k generations i olds news t u → length olds ≤ i → AreFound next k generations olds t u news
-AreDone-all {next} {k} {generations} {i} {olds} {news} {t} {u} are all = record {
-  squares = λ ss stand. StandForAll-done next t u k generations olds news i ss all are.count are.done stand;
-  ways = λ j e below. are.ways j e (omega (arith, below, all));
-}
+pub AreDone-all : {next : List ℕ → ℕ} {k generations i : ℕ} {olds news : List ℕ} {t u : Table} {old new : Memo} →
+    AreDone next k generations i olds news t old u new → length olds ≤ i → FindsForAll next k generations olds t old u new news
+AreDone-all are all = record { count = are.count; each = λ j d e below. are.found j d e (omega (arith, below, all)) }
 
 -- one square's turn
-module _ {R : Type 0} (meaning : R → List ℕ → ℕ) (states : R → ℕ) {old mid : R} {k ahead i : ℕ} {olds news : List ℕ} {t u : Table} {first before : Memo} (can : CanSeekAll (meaning old) (states old) t first k ahead olds)
-    (below : i < length olds) (so_far : Stays meaning states old mid k ahead olds t u before) (are : AreDone (meaning old) k ahead i olds news t u) where
-  same : (e : ℕ) → square_in u.rows (suc (suc k)) (get_or news i 0) ≡ square_in t.rows (suc (suc k)) (get_or olds i e)
-  same e = square_in-turn (meaning old) (states old) t u k ahead olds news i 0 so_far.grows can.ready below are.rest e
+module _ {next mid : List ℕ → ℕ} {c d k ahead i : ℕ} {olds news : List ℕ} {t u : Table} {first before : Memo}
+    (can : CanSeekAll next c t first k ahead olds) (below : i < length olds)
+    (keeps : Keeps next mid c d (MakesAll next k ahead olds t) t u before)
+    (done : AreDone next k ahead i olds news t first u before) where
+  numbered : IsNumber u.rows (suc (suc k)) (get_or news i 0)
+  numbered =
+      subst (IsNumber u.rows (suc (suc k))) (sym (done.rest i 0 (omega arith)))
+      (IsNumber-grows t u (suc (suc k)) _ keeps.grows (can.ready i 0 below).numbered)
 
-  pub turn_can : CanSeek (meaning mid) (states mid) u before k ahead (get_or news i 0)
+  -- its cells are what they were
+  same : (e : ℕ) → sought u k (get_or news i 0) ≡ sought t k (get_or olds i e)
+  same e =
+      ap (sought u k) (done.rest i 0 (omega arith) ∙ get_or_default olds i 0 e below)
+      ∙ square_in-grows t u (suc (suc k)) (get_or olds i e) keeps.grows (can.ready i e below).numbered
+
+  pub turn_can : CanSeek mid d u before k ahead (get_or news i 0)
   turn_can = record {
     low = can.low;
-    ready = IsReady-turn (meaning old) (meaning mid) (states old) (states mid) t u k ahead olds news i so_far.rule so_far.grows can.ready below are.rest 0;
-    right = IsRight-same (meaning old) (meaning mid) (states old) (states mid) u.rows before so_far.rule so_far.right;
+    ready = record {
+      numbered = numbered;
+      below =
+          subst (λ f. Puts f k ahead (sought u k (get_or news i 0)) (IsBelow d)) (sym keeps.rule.meaning)
+          (subst (λ n. Puts next k ahead (sought u k (get_or news i 0)) (IsBelow n)) (sym keeps.rule.states)
+          (subst (λ s. Puts next k ahead s (IsBelow c)) (sym (same 0)) (can.ready i 0 below).below));
+    };
+    right = subst (λ f. IsRight f u.rows before) (sym keeps.rule.meaning) keeps.right;
   }
 
-  pub turn_sought : {new : R} {v : Table} {after : Memo} → Stays meaning states mid new k ahead (get_or news i 0 ∷ []) u v after → Stays meaning states old new k ahead olds t v after
-  turn_sought {new} {v} {after} now =
-      let adds = subst (λ f. AddsFor f k ahead (get_or news i 0 ∷ []) u v) so_far.rule.meaning now.adds in
-      Stays-then meaning states so_far now (AddsFor-turn (meaning old) k ahead olds i (get_or news i 0) t u v below same so_far.adds adds)
+  module _ {new : List ℕ → ℕ} {e : ℕ} {v : Table} {after : Memo}
+      (now : Keeps mid new d e (Makes mid k ahead (sought u k (get_or news i 0))) u v after) where
+    pub turn_keeps : Keeps next new c e (MakesAll next k ahead olds t) t v after
+    turn_keeps =
+        Keeps-then keeps
+        (λ all ways. subst (λ f. Makes f k ahead (sought u k (get_or news i 0)) (Contains all)) (sym keeps.rule.meaning)
+        (subst (λ s. Makes next k ahead s (Contains all)) (sym (same 0)) (ways i 0 below)))
+        now
 
-  pub turn_done : {v : Table} {r : ℕ} → Grows u v → IsFound (meaning mid) k ahead (get_or news i 0) u v r → AreDone (meaning old) k ahead (i + 1) olds (set news i r) t v
-  turn_done {v} {r} grows found =
-      let stands = result-turn (meaning old) (meaning mid) (states old) (states mid) t u v.rows k ahead olds news i r 0 so_far.rule so_far.grows can.ready below are.rest found.square in
-      let ways = subst (λ f. HasWays f k ahead (get_or news i 0 ∷ []) u v) so_far.rule.meaning found.ways in
-      record {
-        count = length-set news i r ∙ are.count;
-        done = done_more (meaning old) t u v k ahead olds news i r (omega (arith, below, are.count)) grows are.done stands;
-        ways = ways_more (meaning old) k ahead olds i (get_or news i 0) t u v grows are.ways same ways;
-        rest = rest_more olds news i r are.rest;
+    module _ {a0 a1 a2 : ℕ} (asks : IsCounted next k ahead t first → Asks next (PutsAll next k ahead olds t) t first a0 u before a1)
+        (more : IsCounted mid k ahead u before → Asks mid (Puts mid k ahead (sought u k (get_or news i 0))) u before a1 v after a2) where
+      counted : IsCounted next k ahead t first → IsCounted next k ahead u before
+      counted is = record { few = is.few; has = (asks is).has }
+
+      now_asks : IsCounted next k ahead t first → Asks next (Puts next k ahead (sought u k (get_or news i 0))) u before a1 v after a2
+      now_asks is =
+          subst (λ f. IsCounted f k ahead u before → Asks f (Puts f k ahead (sought u k (get_or news i 0))) u before a1 v after a2)
+          keeps.rule.meaning more (counted is)
+
+      pub turn_asks : IsCounted next k ahead t first → Asks next (PutsAll next k ahead olds t) t first a0 v after a2
+      turn_asks is =
+          Asks-then (asks is)
+          (λ all ways. subst (λ s. Puts next k ahead s (Contains all)) (sym (same 0)) (ways i 0 below)) (now_asks is)
+
+      pub turn_done : {r : ℕ} → IsFound mid (IsCounted mid k ahead u before) k ahead (sought u k (get_or news i 0)) v after r →
+          AreDone next k ahead (i + 1) olds (set news i r) t first v after
+      turn_done {r} found = record {
+        count = length-set news i r ∙ done.count;
+        found = λ j d e early. elim (cases_eq j i) [
+          | inl here ↦
+              let C = IsCounted next k ahead t first in
+              let is = subst (λ f. IsFound f (IsCounted f k ahead u before) k ahead (sought u k (get_or news i 0)) v after r)
+              keeps.rule.meaning found in
+              let last : IsFound next C k ahead (sought u k (get_or news i 0)) v after r = IsFound-then (Grows-same v) counted (λ also q put. put) is in
+              let at : get_or (set news i r) j e ≡ r =
+              ap (λ x. get_or (set news i r) x e) here ∙ get_or-set_same news i r e (omega (arith, below, done.count)) in
+              subst (λ x. IsFound next C k ahead (sought t k (get_or olds x d)) v after (get_or (set news i r) j e)) (sym here)
+              (subst (λ x. IsFound next C k ahead (sought t k (get_or olds i d)) v after x) (sym at)
+              (subst (λ s. IsFound next C k ahead s v after r) (same d) last))
+          | inr other ↦
+              subst (λ x. IsFound next (IsCounted next k ahead t first) k ahead (sought t k (get_or olds j d)) v after x)
+              (sym (get_or-set_other news i j r e other))
+              (IsFound-then now.grows (λ is. is) (λ is. (now_asks is).kept) (done.found j d e (omega (arith, early, other))))
+        ];
+        rest = λ j e above.
+            get_or-set_other news i j r e (λ equal. absurd (omega (arith, equal, above))) ∙ done.rest j e (omega (arith, above));
       }
-
-  pub turn_put : {v : Table} {after : Memo} → PutsFirst (meaning old) k ahead i olds t first u before → PutsOn (meaning mid) k ahead (get_or news i 0 ∷ []) u before v after → PutsFirst (meaning old) k ahead (i + 1) olds t first v after
-  turn_put {v} {after} puts now =
-      let more = subst (λ f. PutsOn f k ahead (get_or news i 0 ∷ []) u before v after) so_far.rule.meaning now in
-      put_turn (meaning old) k ahead olds i (get_or news i 0) t u v first before after below same puts more
-
-  pub turn_asked : {v : Table} {after : Memo} {a0 a1 a2 : ℕ} → AsksForMore (meaning old) k ahead olds t u first before a0 a1 → AsksForMore (meaning mid) k ahead (get_or news i 0 ∷ []) u v before after a1 a2 →
-      AsksForMore (meaning old) k ahead olds t v first after a0 a2
-  turn_asked {v} {after} {a0} {a1} {a2} asks now =
-      let more = subst (λ f. AsksForMore f k ahead (get_or news i 0 ∷ []) u v before after a1 a2) so_far.rule.meaning now in
-      asked_turn (meaning old) k ahead olds i (get_or news i 0) t u v first before after a0 a1 a2 below same asks more

@@ -1,9 +1,9 @@
 -- Squares that are added to a table on the way to results.
-use Rattle.std.specs.Prelude.{ℕ, suc, ◌-◌, List, [], ◌∷◌, All, Contains}
+use Rattle.std.specs.Prelude.{ℕ, suc, ◌-◌, List, [], ◌∷◌, Contains}
 use Rattle.worlds.specs.Square as squares
 use Rattle.square_table.specs.declared.square.Square.{Square}
 use Rattle.square_table.specs.Squares.{Table, square_in, Grows, level_of, cells_of}
-use Rattle.square_table.specs.Made.{IsMade, AreAmong, Adds}
+use Rattle.square_table.specs.Made.{AreAmong, Adds}
 use Rattle.hash_life.specs.Result.{later}
 use Rattle.hash_life.specs.Puts.{fours_of}
 use Rattle.hash_life.specs.Makes.{Makes}
@@ -54,19 +54,6 @@ GiveFours t nine u = λ ns.
 -- r stands for the middle, one generation later, of the square of 4 by 4 cells with the number n
 abbrev pub GivesPut : (List ℕ → ℕ) → Table → ℕ → Table → ℕ → Type 0
 GivesPut next t n u = λ r. StandsFor u.rows 1 r (later next (square_in t.rows 2 n))
-
--- the table has no square more but those on the way to the results of these squares of level k + 2
-pub record AddsFor (next : List ℕ → ℕ) (k generations : ℕ) (numbers : List ℕ) (t u : Table)
-    : Type 0 where
-  pub among : (all : List squares.Square) →
-      All (λ i. Makes next k generations (square_in t.rows (suc (suc k)) i) (Contains all))
-      numbers →
-      AreAmong all t.rows → AreAmong all u.rows
-
--- all that is made on the way to the results of these squares of level k + 2 is in the later table
-abbrev pub HasWays : (List ℕ → ℕ) → ℕ → ℕ → List ℕ → Table → Table → Type 0
-HasWays next k generations numbers t u =
-    All (λ i. Makes next k generations (square_in t.rows (suc (suc k)) i) (IsMade u.rows)) numbers
 
 -- the one table with more rows, or none, of squares on the way to the root's result is the other
 pub record GrowsOnWay (next : List ℕ → ℕ) (generations : ℕ) (t : Table) (root : Square) (u : Table)

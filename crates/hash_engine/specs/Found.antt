@@ -1,20 +1,17 @@
 -- How a search for a result ends.
-use Rattle.std.specs.Prelude.{◌≡◌, ℕ, ℤ, suc, ◌+◌, ◌-◌, ◌^◌, ◌<◌, ◌≤◌, List, [], ◌∷◌, length, map, All, Result, Err}
+use Rattle.std.specs.Prelude.{◌≡◌, ℕ, ℤ, ◌+◌, ◌-◌, ◌^◌, ◌≤◌, List, length, Result, Err}
 use Rattle.worlds.specs.World.{World}
 use Rattle.worlds.specs.Stop.{CountsStop}
-use Rattle.worlds.specs.Square as squares
 use Rattle.worlds.specs.Square.{square_at}
 use Rattle.square_table.specs.declared.square.Square.{Square}
-use Rattle.square_table.specs.Squares.{Table, IsHeld, Grows, square_in, level_of, cells_of}
+use Rattle.square_table.specs.Squares.{Table, IsHeld, level_of, cells_of}
 use Rattle.square_table.specs.Made.{IsFull, IsMade}
 use Rattle.square_table.specs.declared.fault.TableFault.TheVariants.{NoRoom}
 use Rattle.hash_life.specs.Result.{result}
 use Rattle.hash_life.specs.Puts.{IsBelow, PutsBlocks, AsksOnce}
 use Rattle.hash_life.specs.Makes.{Makes}
-use Rattle.hash_engine.specs.Standing.{StandsFor, StandForAll, IsReady}
-use Rattle.hash_engine.specs.Memo.{IsRight, IsAnew}
+use Rattle.hash_engine.specs.Memo.{IsRight}
 use Rattle.hash_engine.specs.Asked.{places_of_four}
-use Rattle.hash_engine.specs.Adding.{AddsFor, HasWays}
 use Rattle.hash_engine.specs.declared.memo.Memo.{Memo}
 use Rattle.hash_engine.specs.declared.later.Found.{Found}
 use Rattle.hash_engine.specs.declared.fault.ResultFault.{ResultFault}
@@ -29,57 +26,6 @@ pub record IsSameRule (old_meaning new_meaning : List ℕ → ℕ) (old_count ne
 abbrev pub KeepsRule : {R : Type 0} → (R → List ℕ → ℕ) → (R → ℕ) → R → R → Type 0
 KeepsRule meaning states old new =
     IsSameRule (meaning old) (meaning new) (states old) (states new)
-
--- after a search, however it ends: rows of squares on the way alone are more, and the memo is right
-pub record Stays {R : Type 0} (meaning : R → List ℕ → ℕ) (states : R → ℕ) (old new : R)
-    (k generations : ℕ) (numbers : List ℕ) (t u : Table) (memo : Memo) : Type 0 where
-  pub grows : Grows t u
-  pub rule : KeepsRule meaning states old new
-  pub right : IsRight (meaning old) u.rows memo
-  pub adds : AddsFor (meaning old) k generations numbers t u
-
--- the result of the square of level k + 2 with this number can be sought
-pub record CanSeek (next : List ℕ → ℕ) (state_count : ℕ) (t : Table) (memo : Memo)
-    (k generations number : ℕ) : Type 0 where
-  pub low : k ≤ 61
-  pub ready : IsReady next state_count t.rows k generations number
-  pub right : IsRight next t.rows memo
-
--- those of the squares with these numbers can
-pub record CanSeekAll (next : List ℕ → ℕ) (state_count : ℕ) (t : Table) (memo : Memo)
-    (k generations : ℕ) (numbers : List ℕ) : Type 0 where
-  pub low : k ≤ 61
-  pub ready : All (IsReady next state_count t.rows k generations) numbers
-  pub right : IsRight next t.rows memo
-
--- that of a square of more than 4 by 4 cells can, one generation later or more
-pub record CanCompute (next : List ℕ → ℕ) (state_count : ℕ) (t : Table) (memo : Memo)
-    (k generations number : ℕ) : Type 0 where
-  pub some : 0 < generations
-  pub above : 0 < k
-  pub seek : CanSeek next state_count t memo k generations number
-
--- the square of 4 by 4 cells with this number can be put to the rule, and wasn't yet
-pub record CanPut (next : List ℕ → ℕ) (state_count : ℕ) (t : Table) (memo : Memo)
-    (generations number : ℕ) : Type 0 where
-  pub some : 0 < generations
-  pub ready : IsReady next state_count t.rows 0 generations number
-  pub anew : IsAnew next t.rows memo generations number
-
--- n is the number of the result of the square of level k + 2 with this number, and the later table
--- has all that is made on the way to it
-pub record IsFound (next : List ℕ → ℕ) (k generations number : ℕ) (t u : Table) (n : ℕ)
-    : Type 0 where
-  pub square : StandsFor u.rows (suc k) n
-      (result next k generations (square_in t.rows (suc (suc k)) number))
-  pub ways : HasWays next k generations (number ∷ []) t u
-
--- so each of these is of one of those
-pub record AreFound (next : List ℕ → ℕ) (k generations : ℕ) (numbers : List ℕ) (t u : Table)
-    (found : List ℕ) : Type 0 where
-  pub squares : (ss : List squares.Square) → StandForAll t.rows (suc (suc k)) numbers ss →
-      StandForAll u.rows (suc k) found (map (result next k generations) ss)
-  pub ways : HasWays next k generations numbers t u
 
 -- a square of the table whose result can be asked for: it has at least 4 by 4 cells, and their
 -- states are the rule's

@@ -3,3 +3,4 @@ pub mod Adding
 pub mod Memo
 pub mod Found
 pub mod Asked
+pub mod Search

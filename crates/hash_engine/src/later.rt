@@ -1,11 +1,11 @@
 //! Results of squares.
 
-ghost use Rattle.std.specs.Prelude.{◌≡◌, [], ◌∷◌, IfOk, OnOk, Err};
+ghost use Rattle.std.specs.Prelude.{◌≡◌, IfOk, OnOk, Err};
 ghost use Rattle.square_table.specs.Made.{IsFull};
 ghost use Rattle.hash_engine.specs.Adding.{GrowsOnWay};
-ghost use Rattle.hash_engine.specs.Asked.{AsksFour, StandOn, PutsOn};
-ghost use Rattle.hash_engine.specs.Found.{KeepsRule, Stays, CanBeAsked, CanSearch, CanSeek, CanSeekAll, CanCompute, CanPut, IsFound, AreFound, IsEnd, IsLater, Finds, AsksOnceFor};
+ghost use Rattle.hash_engine.specs.Found.{KeepsRule, CanBeAsked, CanSearch, IsEnd, IsLater, Finds, AsksOnceFor};
 ghost use Rattle.hash_engine.specs.Memo.{IsRight};
+ghost use Rattle.hash_engine.specs.Search.{CanSeek, CanSeekAll, CanCompute, CanPut, KeepsFor, KeepsForAll, FindsFor, FindsForAll, AsksFor, AsksForAll};
 
 use crate::counts::count_squares;
 use crate::fault::ResultFault;
@@ -37,16 +37,12 @@ fn put<Q: Ask>(
 ) -> Result<u32, TableFault>
     requires { CanPut (Q.meaning rule.old) (Q.state_count rule.old)
         table.old memo.old ahead number }
-    ensures stays { Stays Q.meaning Q.state_count rule.old rule.new 0 ahead (number ∷ [])
+    ensures keeps { KeepsFor Q.meaning Q.state_count rule.old rule.new 0 ahead number
         table.old table.new memo.new }
-    ensures found { IfOk result
-        (IsFound (Q.meaning rule.old) 0 ahead number table.old table.new) }
-    ensures four { OnOk result
-        (AsksFour 0 ahead Q.asks rule.old rule.new table.old memo.old table.new memo.new) }
-    ensures stand { OnOk result (StandOn (Q.meaning rule.old) 0 ahead (number ∷ [])
+    ensures found { IfOk result (FindsFor (Q.meaning rule.old) 0 ahead number
         table.old memo.old table.new memo.new) }
-    ensures put { OnOk result (PutsOn (Q.meaning rule.old) 0 ahead (number ∷ [])
-        table.old memo.old table.new memo.new) }
+    ensures asks { OnOk result (AsksFor Q.meaning Q.asks 0 ahead number
+        rule.old table.old memo.old rule.new table.new memo.new) }
     ensures full { result ≡ Err TableFault.NoRoom → IsFull table.new }
 {
     let made = parts::later(table, rule, number)?;
@@ -69,17 +65,13 @@ fn forward<Q: Ask, S: Stop>(
 ) -> Result<u32, ResultFault>
     requires { CanSeek (Q.meaning rule.old) (Q.state_count rule.old)
         table.old memo.old k ahead number }
-    ensures stays { Stays Q.meaning Q.state_count rule.old rule.new k ahead (number ∷ [])
+    ensures keeps { KeepsFor Q.meaning Q.state_count rule.old rule.new k ahead number
         table.old table.new memo.new }
     ensures end { IsEnd table.new (S.yes_count stop.old) (S.yes_count stop.new) result }
-    ensures found { IfOk result
-        (IsFound (Q.meaning rule.old) k ahead number table.old table.new) }
-    ensures four { OnOk result
-        (AsksFour k ahead Q.asks rule.old rule.new table.old memo.old table.new memo.new) }
-    ensures stand { OnOk result (StandOn (Q.meaning rule.old) k ahead (number ∷ [])
+    ensures found { IfOk result (FindsFor (Q.meaning rule.old) k ahead number
         table.old memo.old table.new memo.new) }
-    ensures put { OnOk result (PutsOn (Q.meaning rule.old) k ahead (number ∷ [])
-        table.old memo.old table.new memo.new) }
+    ensures asks { OnOk result (AsksFor Q.meaning Q.asks k ahead number
+        rule.old table.old memo.old rule.new table.new memo.new) }
 {
     if ahead == 0 {
         return Ok(parts::middle(table, number)?);
@@ -112,17 +104,13 @@ fn compute<Q: Ask, S: Stop>(
 ) -> Result<u32, ResultFault>
     requires { CanCompute (Q.meaning rule.old) (Q.state_count rule.old)
         table.old memo.old k ahead number }
-    ensures stays { Stays Q.meaning Q.state_count rule.old rule.new k ahead (number ∷ [])
+    ensures keeps { KeepsFor Q.meaning Q.state_count rule.old rule.new k ahead number
         table.old table.new memo.new }
     ensures end { IsEnd table.new (S.yes_count stop.old) (S.yes_count stop.new) result }
-    ensures found { IfOk result
-        (IsFound (Q.meaning rule.old) k ahead number table.old table.new) }
-    ensures four { OnOk result
-        (AsksFour k ahead Q.asks rule.old rule.new table.old memo.old table.new memo.new) }
-    ensures stand { OnOk result (StandOn (Q.meaning rule.old) k ahead (number ∷ [])
+    ensures found { IfOk result (FindsFor (Q.meaning rule.old) k ahead number
         table.old memo.old table.new memo.new) }
-    ensures put { OnOk result (PutsOn (Q.meaning rule.old) k ahead (number ∷ [])
-        table.old memo.old table.new memo.new) }
+    ensures asks { OnOk result (AsksFor Q.meaning Q.asks k ahead number
+        rule.old table.old memo.old rule.new table.new memo.new) }
 {
     let first = ahead.min(full(k - 1));
     let mut nine = parts::nine(table, number)?;
@@ -146,17 +134,13 @@ fn all_forward<Q: Ask, S: Stop>(
 ) -> Result<(), ResultFault>
     requires { CanSeekAll (Q.meaning rule.old) (Q.state_count rule.old)
         table.old memo.old k ahead numbers.old }
-    ensures stays { Stays Q.meaning Q.state_count rule.old rule.new k ahead numbers.old
+    ensures keeps { KeepsForAll Q.meaning Q.state_count rule.old rule.new k ahead numbers.old
         table.old table.new memo.new }
     ensures end { IsEnd table.new (S.yes_count stop.old) (S.yes_count stop.new) result }
-    ensures found { OnOk result
-        (AreFound (Q.meaning rule.old) k ahead numbers.old table.old table.new numbers.new) }
-    ensures four { OnOk result
-        (AsksFour k ahead Q.asks rule.old rule.new table.old memo.old table.new memo.new) }
-    ensures stand { OnOk result (StandOn (Q.meaning rule.old) k ahead numbers.old
-        table.old memo.old table.new memo.new) }
-    ensures put { OnOk result (PutsOn (Q.meaning rule.old) k ahead numbers.old
-        table.old memo.old table.new memo.new) }
+    ensures found { OnOk result (FindsForAll (Q.meaning rule.old) k ahead numbers.old
+        table.old memo.old table.new memo.new numbers.new) }
+    ensures asks { OnOk result (AsksForAll Q.meaning Q.asks k ahead numbers.old
+        rule.old table.old memo.old rule.new table.new memo.new) }
 {
     for number in numbers.iter_mut() {
         *number = forward(table, memo, rule, stop, k, ahead, *number)?;

@@ -1,6 +1,6 @@
 -- What is remembered stays right, and tells the result of the square that is asked for.
-use Rattle.std.proofs.Common.{◌≡◌, ℕ, suc, ◌+◌, ◌-◌, ◌<◌, ◌≤◌, ◌^◌, List, [], ◌∷◌, get_or, sym, subst, arith}
-use Rattle.square_table.specs.Squares.{Table, IsNumber, square_in, first_number, Grows}
+use Rattle.std.proofs.Common.{◌≡◌, ℕ, suc, ◌+◌, ◌-◌, ◌<◌, ◌≤◌, ◌^◌, List, get_or, sym, subst, arith}
+use Rattle.square_table.specs.Squares.{Table, IsNumber, first_number, Grows}
 use Rattle.square_table.specs.Made.{IsMade}
 use Rattle.square_table.proofs.Shared.Growth.{IsNumber-grows, square_in-grows}
 use Rattle.square_table.proofs.Shared.Making.{IsMade-grows}
@@ -9,7 +9,6 @@ use Rattle.hash_life.specs.Result.{result}
 use Rattle.hash_life.specs.Makes.{Makes}
 use Rattle.hash_life.proofs.Shared.Made.{Makes-weaker}
 use Rattle.hash_engine.specs.Standing.{StandsFor}
-use Rattle.hash_engine.specs.Adding.{HasWays}
 use Rattle.hash_engine.specs.Memo.{IsResult, AreKnown, IsRight}
 use Rattle.hash_engine.specs.declared.memo.Memo.{Memo}
 use Rattle.hash_engine.proofs.Standing.{StandsFor-grows}
@@ -22,16 +21,6 @@ IsResult-grows next t u k generations n r grows is =
       result = subst (λ s. StandsFor u.rows (suc k) r (result next k generations s)) (sym same) (StandsFor-grows t u (suc k) r _ grows is.result);
       made = subst (λ s. Makes next k generations s (IsMade u.rows)) (sym same) (Makes-weaker next k generations _ (IsMade t.rows) (IsMade u.rows) (λ q here. IsMade-grows t u q grows here) is.made);
     }
-
--- the result of a square that was there before it
-pub IsResult-made : (next : List ℕ → ℕ) (t u : Table) (k generations n r : ℕ) → Grows t u → IsNumber t.rows (suc (suc k)) n →
-    StandsFor u.rows (suc k) r (result next k generations (square_in t.rows (suc (suc k)) n)) → HasWays next k generations (n ∷ []) t u →
-    IsResult next u.rows k generations n r
-IsResult-made next t u k generations n r grows numbered stands ways = record {
-  numbered = IsNumber-grows t u (suc (suc k)) n grows numbered;
-  result = subst (λ s. StandsFor u.rows (suc k) r (result next k generations s)) (sym (square_in-grows t u (suc (suc k)) n grows numbered)) stands;
-  made = subst (λ s. Makes next k generations s (IsMade u.rows)) (sym (square_in-grows t u (suc (suc k)) n grows numbered)) (ways 0 0 (omega arith));
-}
 
 AreKnown-grows : (next : List ℕ → ℕ) (count : ℕ → ℕ) (t u : Table) (known : List ℕ) → Grows t u → AreKnown next count t.rows known → AreKnown next count u.rows known
 AreKnown-grows next count t u known grows are = record {

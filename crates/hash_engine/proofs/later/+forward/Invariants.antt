@@ -1,6 +1,5 @@
 use Rattle.std.proofs.Common.{◌≡◌, ◌+◌, ◌*◌}
-use Rattle.hash_engine.specs.Asked.{PutsFirst, AsksForMore}
-use Rattle.hash_engine.specs.Found.{Stays}
+use Rattle.hash_engine.specs.Search.{KeepsForAll, AsksForAll}
 use Rattle.hash_engine.proofs.Turns.{AreDone}
 use Rattle.hash_engine.proofs.later.+forward.Given as goal
 
@@ -15,9 +14,8 @@ decreases-forward g l = 3 * l.k + 2
 
 abbrev pub invariant-all_forward-loop-number : goal.invariant-all_forward-loop-number
 invariant-all_forward-loop-number g l = record {
-  stays : Stays g.Q.Ask.meaning g.Q.Ask.state_count l.fn.rule l.rule l.k l.ahead l.fn.numbers l.fn.table l.table l.memo;
+  keeps : KeepsForAll g.Q.Ask.meaning g.Q.Ask.state_count l.fn.rule l.rule l.k l.ahead l.fn.numbers l.fn.table l.table l.memo;
   went_on : g.S.Stop.yes_count l.stop ≡ g.S.Stop.yes_count l.fn.stop;
-  done : AreDone (g.Q.Ask.meaning l.fn.rule) l.k l.ahead l.number-index l.fn.numbers l.numbers l.fn.table l.table;
-  puts : PutsFirst (g.Q.Ask.meaning l.fn.rule) l.k l.ahead l.number-index l.fn.numbers l.fn.table l.fn.memo l.table l.memo;
-  asks : AsksForMore (g.Q.Ask.meaning l.fn.rule) l.k l.ahead l.fn.numbers l.fn.table l.table l.fn.memo l.memo (g.Q.Ask.asks l.fn.rule) (g.Q.Ask.asks l.rule);
+  done : AreDone (g.Q.Ask.meaning l.fn.rule) l.k l.ahead l.number-index l.fn.numbers l.numbers l.fn.table l.fn.memo l.table l.memo;
+  asks : AsksForAll g.Q.Ask.meaning g.Q.Ask.asks l.k l.ahead l.fn.numbers l.fn.rule l.fn.table l.fn.memo l.rule l.table l.memo;
 }

@@ -1,62 +1,69 @@
-use Rattle.std.proofs.Common.{◌<◌, arith, rules}
-use Rattle.hash_engine.proofs.Standing.{above}
-use Rattle.hash_engine.proofs.Shared.Memos.{IsRight-grows, IsResult-made}
-use Rattle.hash_engine.proofs.Computed.{base_below}
-use Rattle.hash_engine.proofs.Shared.Puts.{put_once}
-use Rattle.hash_engine.proofs.Put.{block_put}
-use Rattle.hash_engine.proofs.Adding.{AddsFor-later}
-use Rattle.hash_engine.proofs.Ways.{IsFound-put}
+use Rattle.std.proofs.Common.{ℕ, ◌<◌, List, [], ◌∷◌, sym, arith, rules}
+use Rattle.square_table.specs.Squares.{Table}
+use Rattle.square_table.specs.Made.{Adds}
+use Rattle.hash_life.specs.Result.{later}
+use Rattle.hash_life.specs.Puts.{IsBelow}
+use Rattle.hash_life.specs.Makes.{Makes}
+use Rattle.hash_life.proofs.Shared.InTwo.{Puts-itself, result-later}
+use Rattle.hash_engine.specs.Found.{IsSameRule}
+use Rattle.hash_engine.specs.Memo.{IsRight}
+use Rattle.hash_engine.specs.Search.{sought, Keeps}
+use Rattle.hash_engine.specs.declared.memo.Memo.{Memo}
+use Rattle.hash_engine.proofs.Standing.{above, StandsFor-itself}
+use Rattle.hash_engine.proofs.Shared.Memos.{IsRight-grows}
+use Rattle.hash_engine.proofs.Keeping.{Keeps-noted}
+use Rattle.hash_engine.proofs.Finding.{adds_result, IsFound-put, IsResult-found}
+use Rattle.hash_engine.proofs.Putting.{IsPut-noted, Asks-put}
 use Rattle.hash_engine.proofs.later.put.Goals as goal
 
 pub later-requires : goal.later-requires
 later-requires g c = record {
   numbered = c.requires.ready.numbered;
-  below = base_below (g.Q.Ask.meaning c.args.rule.now) _ _ _ _ c.requires.some c.requires.ready;
+  below = Puts-itself _ _ _ (IsBelow (g.Q.Ask.state_count c.args.rule.now)) c.requires.some c.requires.ready.below;
 }
 
-pub returns-in_err-made-clause-stays : goal.returns-in_err-made-clause-stays
-returns-in_err-made-clause-stays g c = record {
-  grows = c.later.ensures.adds.grows;
-  rule = c.later.ensures.rule;
-  right = IsRight-grows (g.Q.Ask.meaning c.args.rule.now) _ _ _ c.later.ensures.adds.grows c.requires.anew.right;
-  adds = AddsFor-later (g.Q.Ask.meaning c.args.rule.now) _ _ _ _ c.requires.some c.later.ensures.adds;
+-- the rule was asked, and the table has the square that came of it
+asked : (n : ℕ) {next new : List ℕ → ℕ} {c d ahead : ℕ} {t u : Table} {memo : Memo} → 0 < ahead → IsSameRule next new c d →
+    Adds (later next (sought t 0 n) ∷ []) t u → IsRight next t.rows memo →
+    Keeps next new c d (Makes next 0 ahead (sought t 0 n)) t u memo
+asked n {next} {new} {c} {d} {ahead} {t} {u} {memo} some rule adds right = record {
+  rule = rule;
+  grows = adds.grows;
+  right = IsRight-grows next t u memo adds.grows right;
+  adds = adds_result next 0 ahead (sought t 0 n) (sym (result-later next ahead (sought t 0 n) some)) adds;
 }
+
+pub returns-in_err-made-clause-keeps : goal.returns-in_err-made-clause-keeps
+returns-in_err-made-clause-keeps g c =
+    asked c.args.number c.requires.some c.later.ensures.rule c.later.ensures.adds c.requires.anew.right
 
 pub remember-requires-clause-number : goal.remember-requires-clause-number
 remember-requires-clause-number g c = above c.args.table.now.rows 1 c.args.number c.requires.ready.numbered
 
-pub returns-in_err-remember-clause-stays : goal.returns-in_err-remember-clause-stays
-returns-in_err-remember-clause-stays g c =
-    let next = g.Q.Ask.meaning c.args.rule.now in
-    let grows = c.in_ok-made.ensures.adds.grows in
+pub returns-in_err-remember-clause-keeps : goal.returns-in_err-remember-clause-keeps
+returns-in_err-remember-clause-keeps g c =
+    let made = c.in_ok-made.ensures in
     let numbered = c.requires.ready.numbered in
-    let found = IsFound-put next c.args.ahead c.args.number c.in_ok-made.made c.args.table.now c.later.new.table c.requires.some grows numbered c.in_ok-made.ensures.square in
-    record {
-      grows = grows;
-      rule = c.in_ok-made.ensures.rule;
-      right = c.remember.ensures.right next _ (IsRight-grows next _ _ _ grows c.requires.anew.right) (IsResult-made next _ _ _ _ _ _ grows numbered found.square found.ways);
-      adds = AddsFor-later next _ _ _ _ c.requires.some c.in_ok-made.ensures.adds;
-    }
+    let stands = StandsFor-itself c.args.table.now.rows 2 c.args.number numbered in
+    let keeps = asked c.args.number c.requires.some made.rule made.adds c.requires.anew.right in
+    let found = IsFound-put {Counted = ⊥} {memo = c.args.memo.now} c.requires.some keeps.grows stands made.square (λ no. absurd no) in
+    Keeps-noted c.remember.new.self keeps (c.remember.ensures.right _ _ keeps.right (IsResult-found keeps.grows numbered found))
 
 pub returns : goal.returns
 returns g c =
-    let next = g.Q.Ask.meaning c.args.rule.now in
-    let grows = c.in_ok-made.ensures.adds.grows in
+    let made = c.in_ok-made.ensures in
+    let some = c.requires.some in
     let numbered = c.requires.ready.numbered in
-    let right = IsRight-grows next c.args.table.now c.later.new.table c.args.memo.now grows c.requires.anew.right in
-    let found = IsFound-put next c.args.ahead c.args.number c.in_ok-made.made c.args.table.now c.later.new.table c.requires.some grows numbered c.in_ok-made.ensures.square in
-    let some : 0 < c.in_ok-made.made = omega (arith, above c.later.new.table.rows 0 c.in_ok-made.made c.in_ok-made.ensures.square.numbered) in
-    let once = put_once next _ _ _ _ _ _ _ _ _ c.requires.some grows numbered c.requires.anew.right c.requires.anew.anew some c.in_ok-remember.ensures.noted c.in_ok-made.ensures.asks in
+    let stands = StandsFor-itself c.args.table.now.rows 2 c.args.number numbered in
+    let keeps = asked c.args.number some made.rule made.adds c.requires.anew.right in
+    let noted = c.in_ok-remember.ensures.noted in
+    let positive : 0 < c.in_ok-made.made = omega (arith, above c.later.new.table.rows 0 c.in_ok-made.made made.square.numbered) in
+    let found = IsFound-put {Counted = ⊥} {memo = c.args.memo.now} some keeps.grows stands made.square (λ no. absurd no) in
     record {
-      stays = record {
-        grows = grows;
-        rule = c.in_ok-made.ensures.rule;
-        right = c.remember.ensures.right next _ right (IsResult-made next _ _ _ _ _ _ grows numbered found.square found.ways);
-        adds = AddsFor-later next _ _ _ _ c.requires.some c.in_ok-made.ensures.adds;
-      };
-      found = found;
-      four = once.four;
-      stand = once.stand;
-      put = block_put next _ _ _ _ _ _ _ c.requires.some some grows numbered c.requires.anew.right c.in_ok-remember.ensures.noted;
+      keeps = Keeps-noted c.remember.new.self keeps (c.remember.ensures.right _ _ keeps.right (IsResult-found keeps.grows numbered found));
+      found = IsFound-put some keeps.grows stands made.square (λ is. IsPut-noted _ _ some is.few keeps.grows numbered noted positive);
+      asks = λ is.
+          let anew = c.requires.anew.anew (let few = is.few in omega (arith, some, few)) in
+          Asks-put some is.few keeps.grows numbered c.requires.anew.right is.has anew noted positive made.asks;
       full = search rules;
     }

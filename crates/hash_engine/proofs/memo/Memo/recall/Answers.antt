@@ -2,7 +2,7 @@ use Rattle.std.proofs.Common.{◌^◌, ◌∙◌, sym, ap, get_or, subst}
 use Rattle.std.proofs.lemmas.Option.{IfSome_then}
 use Rattle.hash_engine.specs.Memo.{AreKnown, ArePut}
 use Rattle.hash_engine.proofs.Shared.Memos.{recalled}
-use Rattle.hash_engine.proofs.Put.{recalled_put}
+use Rattle.hash_engine.proofs.Putting.{recalled_put}
 use Rattle.hash_engine.proofs.memo.Memo.recall.Goals as goal
 
 pub returns-then-generations-full-clause-some : goal.returns-then-generations-full-clause-some

@@ -1,0 +1,131 @@
+-- How a result is found.
+use Rattle.std.proofs.Common.{◌≡◌, ℕ, suc, ◌<◌, List, [], ◌∷◌, length, map, get_or, sym, ◌∙◌, ap, subst, arith}
+use Rattle.std.specs.Prelude.{All, Contains}
+use Rattle.std.proofs.lemmas.List.{length-map, get_or-map}
+use Rattle.std.proofs.lemmas.List.Elements.{All-nil, All-cons}
+use Rattle.worlds.specs.Square.{Square, one}
+use Rattle.square_table.specs.Squares.{Table, IsNumber, square_in, Grows}
+use Rattle.square_table.specs.Made.{IsMade, AreAmong, Adds}
+use Rattle.square_table.proofs.Shared.Growth.{Grows-same, IsNumber-grows, square_in-grows}
+use Rattle.square_table.proofs.Shared.Making.{IsMade-grows}
+use Rattle.hash_life.specs.Result.{later, result}
+use Rattle.hash_life.specs.Result as hash_life
+use Rattle.hash_life.specs.Puts.{Puts}
+use Rattle.hash_life.specs.Makes.{Makes}
+use Rattle.hash_life.proofs.Shared.InTwo.{result-none, result-later}
+use Rattle.hash_life.proofs.Shared.Made.{Makes-none, Makes-last, Makes-weaker, Makes-result}
+use Rattle.hash_life.proofs.Shared.Put.{Puts-none, Puts-last, Puts-weaker}
+use Rattle.hash_engine.specs.Standing.{StandsFor, StandForAll}
+use Rattle.hash_engine.specs.Adding.{GivesOf}
+use Rattle.hash_engine.specs.Memo.{IsPut, IsResult, IsRemembered}
+use Rattle.hash_engine.specs.Search.{sought, Asks, IsCounted, IsFound, FindsForAll}
+use Rattle.hash_engine.specs.declared.memo.Memo.{Memo}
+use Rattle.hash_engine.proofs.Standing.{StandsFor-grows}
+use Rattle.hash_engine.proofs.Putting.{put_still, Asks-next, Asks-higher}
+
+-- a square that a number stands for is in the table
+pub made_of : {rows : List (List ℕ)} {k n : ℕ} {s : Square} → StandsFor rows (suc k) n s → IsMade rows s
+made_of {rows} {k} {n} {s} is = record { level = k; number = n; numbered = is.numbered; square = is.square }
+
+-- what adds the result alone adds what is on the way
+pub adds_result : (next : List ℕ → ℕ) (k generations : ℕ) (s : Square) {r : Square} {t u : Table} →
+    r ≡ result next k generations s → Adds (r ∷ []) t u → (all : List Square) →
+    Makes next k generations s (Contains all) → AreAmong all t.rows → AreAmong all u.rows
+adds_result next k generations s {r} {t} {u} is adds all way are =
+    let listed = subst (Contains all) (sym is) (Makes-result next k generations s (Contains all) way) in
+    adds.among all (All-cons (Contains all) r [] listed (All-nil (Contains all))) are
+
+-- for no generation it is the middle
+pub middle_result : (next : List ℕ → ℕ) (k : ℕ) {generations : ℕ} (s : Square) → generations ≡ 0 →
+    hash_life.middle s ≡ result next k generations s
+middle_result next k s none = sym (ap (λ g. result next k g s) none ∙ result-none next k s)
+
+pub IsFound-none : {next : List ℕ → ℕ} {Counted : Type 0} {k generations n r : ℕ} {s : Square} {t u : Table} {memo : Memo} →
+    generations ≡ 0 → Grows t u → StandsFor t.rows (suc (suc k)) n s → GivesOf hash_life.middle t n u r →
+    IsFound next Counted k generations s u memo r
+IsFound-none {next} {Counted} {k} {generations} {n} {r} {s} {t} {u} {memo} none grows stands gives =
+    let middle = subst (StandsFor u.rows (suc k) r) (sym (result-none next k s)) (gives k s stands) in
+    let whole = made_of (StandsFor-grows t u (suc (suc k)) n s grows stands) in
+    subst (λ g. IsFound next Counted k g s u memo r) (sym none) (record {
+      square = middle;
+      made = Makes-none next k s (IsMade u.rows) whole (made_of middle);
+      put = λ counted. Puts-none next k s (IsPut u.rows memo.full.items);
+    })
+
+-- for a square of 4 by 4 cells it is put to the rule
+pub IsFound-put : {next : List ℕ → ℕ} {Counted : Type 0} {generations n r : ℕ} {s : Square} {t u : Table} {memo : Memo} →
+    0 < generations → Grows t u → StandsFor t.rows 2 n s → StandsFor u.rows 1 r (later next s) →
+    (Counted → IsPut u.rows memo.full.items s) → IsFound next Counted 0 generations s u memo r
+IsFound-put {next} {Counted} {generations} {n} {r} {s} {t} {u} {memo} some grows stands found put =
+    let square = subst (StandsFor u.rows 1 r) (sym (result-later next generations s some)) found in
+    record {
+      square = square;
+      made = Makes-last next generations s (IsMade u.rows) (made_of (StandsFor-grows t u 2 n s grows stands)) (made_of square);
+      put = λ counted. Puts-last next generations s (IsPut u.rows memo.full.items) (put counted);
+    }
+
+-- it is found still in a table that grew, where more is put
+pub IsFound-then : {next : List ℕ → ℕ} {Counted Also : Type 0} {k generations n : ℕ} {s : Square} {u v : Table} {memo more : Memo} →
+    Grows u v → (Also → Counted) → (Also → (q : Square) → IsPut u.rows memo.full.items q → IsPut v.rows more.full.items q) →
+    IsFound next Counted k generations s u memo n → IsFound next Also k generations s v more n
+IsFound-then {next} {Counted} {Also} {k} {generations} {n} {s} {u} {v} {memo} {more} grows counts kept is = record {
+  square = StandsFor-grows u v (suc k) n _ grows is.square;
+  made = Makes-weaker next k generations s (IsMade u.rows) (IsMade v.rows) (λ q made. IsMade-grows u v q grows made) is.made;
+  put = λ also. Puts-weaker next k generations s (IsPut u.rows memo.full.items) (IsPut v.rows more.full.items) (kept also)
+      (is.put (counts also));
+}
+
+-- what is found is the result of the square in the table that it's found in
+pub IsResult-found : {next : List ℕ → ℕ} {Counted : Type 0} {k generations n r : ℕ} {t u : Table} {memo : Memo} →
+    Grows t u → IsNumber t.rows (suc (suc k)) n → IsFound next Counted k generations (sought t k n) u memo r →
+    IsResult next u.rows k generations n r
+IsResult-found {next} {Counted} {k} {generations} {n} {r} {t} {u} {memo} grows numbered is =
+    let same = sym (square_in-grows t u (suc (suc k)) n grows numbered) in
+    record {
+      numbered = IsNumber-grows t u (suc (suc k)) n grows numbered;
+      result = subst (λ s. StandsFor u.rows (suc k) r (result next k generations s)) same is.square;
+      made = subst (λ s. Makes next k generations s (IsMade u.rows)) same is.made;
+    }
+
+-- where numbers stand for squares, what is found for them is of these
+pub StandForAll-found : {next : List ℕ → ℕ} {k generations : ℕ} {numbers found : List ℕ} {ss : List Square} {t u : Table}
+    {old new : Memo} → StandForAll t.rows (suc (suc k)) numbers ss → FindsForAll next k generations numbers t old u new found →
+    StandForAll u.rows (suc k) found (map (result next k generations) ss)
+StandForAll-found {next} {k} {generations} {numbers} {found} {ss} {t} {u} are finds = record {
+  count = finds.count ∙ are.count ∙ sym (length-map ss (result next k generations));
+  each = λ j d e below.
+      let there : j < length numbers = omega (arith, below, finds.count) in
+      let inside : j < length ss = omega (arith, there, are.count) in
+      subst (StandsFor u.rows (suc k) (get_or found j d)) (sym (get_or-map (result next k generations) ss j (one 0) e inside))
+      (subst (λ s. StandsFor u.rows (suc k) (get_or found j d) (result next k generations s)) (are.each j 0 (one 0) there).square
+      (finds.each j 0 d there).square);
+}
+
+-- what holds of the squares holds by the numbers, and the other way round
+module _ {rows : List (List ℕ)} {level : ℕ} {numbers : List ℕ} {ss : List Square} (are : StandForAll rows level numbers ss)
+    (P : Square → Type 0) where
+  pub by_number : All P ss → All (λ n. P (square_in rows level n)) numbers
+  by_number holds = λ i d below.
+      subst P (sym (are.each i d (one 0) below).square) (holds i (one 0) (omega (arith, below, are.count)))
+
+  pub by_square : ((j d : ℕ) → j < length numbers → P (square_in rows level (get_or numbers j d))) → All P ss
+  by_square holds = λ i e below.
+      let there : i < length numbers = omega (arith, below, are.count) in
+      subst P (are.each i 0 e there).square (holds i 0 there)
+
+-- above level 2 it is remembered
+module _ {next : List ℕ → ℕ} {k generations n r : ℕ} {t u : Table} {old mid new : Memo} (high : 0 < k) (grows : Grows t u)
+    (numbered : IsNumber t.rows (suc (suc k)) n) (noted : IsRemembered k generations n r mid new) (some : 0 < r)
+    (found : IsFound next (IsCounted next k generations t old) k generations (sought t k n) u mid r) where
+  number : IsNumber u.rows (suc (suc k)) n
+  number = IsNumber-grows t u (suc (suc k)) n grows numbered
+
+  pub found_still : IsFound next (IsCounted next k generations t old) k generations (sought t k n) u new r
+  found_still = IsFound-then (Grows-same u) (λ is. is) (λ is s put. put_still u number noted some s put) found
+
+  pub asks_still : {a b : ℕ} → (IsCounted next k generations t old → Asks next (Puts next k generations (sought t k n)) t old a u mid b) →
+      IsCounted next k generations t old → Asks next (Puts next k generations (sought t k n)) t old a u new b
+  asks_still asks is =
+      let same = sym (square_in-grows t u (suc (suc k)) n grows numbered) in
+      let way = subst (λ s. Puts next k generations s (IsPut u.rows new.full.items)) same (found_still.put is) in
+      Asks-next (asks is) (Asks-higher high number noted some way (asks is).has)

@@ -1,0 +1,22 @@
+-- The square that a search begins with.
+use Rattle.std.proofs.Common.{◌≡◌, ℕ, suc, ◌<◌, List, sym, subst, arith}
+use Rattle.worlds.specs.Square.{Square, one, four}
+use Rattle.square_table.specs.Squares.{IsNumber, square_in}
+use Rattle.hash_life.specs.Puts.{IsBelow}
+use Rattle.hash_life.proofs.Shared.Below.{Keeps, Puts-below}
+use Rattle.hash_engine.specs.Standing.{IsReady}
+
+-- a square with states has some
+below_some : (c : ℕ) (s : Square) → IsBelow c s → 0 < c
+unfolding IsBelow
+below_some c (one s) is = omega (arith, is)
+below_some c (four nw ne sw se) is = below_some c nw is.0
+
+pub IsReady-root : (next : List ℕ → ℕ) (c : ℕ) → Keeps c next → (rows : List (List ℕ)) (level k generations n m : ℕ) →
+    level ≡ suc (suc k) → m ≡ n → IsNumber rows level n → IsBelow c (square_in rows level n) → IsReady next c rows k generations m
+IsReady-root next c keeps rows level k generations n m is same numbered below =
+    let states = subst (λ l. IsBelow c (square_in rows l n)) is below in
+    subst (λ x. IsReady next c rows k generations x) (sym same) (record {
+      numbered = subst (λ l. IsNumber rows l n) is numbered;
+      below = Puts-below c next keeps (below_some c _ states) k generations _ states;
+    })
