@@ -26,45 +26,43 @@ record Listed (P : Square → Type 0) (Way : (Square → Type 0) → Type 0) : T
   way : Way (Contains those)
   holds : All P those
 
+-- what follows of each of two lists holds of both
+both : {P : Square → Type 0} {Way More : (Square → Type 0) → Type 0} →
+    ((Q R : Square → Type 0) → ((s : Square) → Q s → R s) → Way Q → Way R) →
+    ((Q R : Square → Type 0) → ((s : Square) → Q s → R s) → More Q → More R) →
+    Listed P Way → Listed P More → Listed P (λ Q. Way Q × More Q)
+both {P} {Way} {More} way_weaker more_weaker one more = record {
+  those = one.those ++ more.those;
+  way = (
+    way_weaker (Contains one.those) _ (λ s is. Contains-append_left one.those more.those s is) one.way,
+    more_weaker (Contains more.those) _ (λ s is. Contains-append_right one.those more.those s is) more.way,
+  );
+  holds = All-append P one.those more.those one.holds more.holds;
+}
+
+all_weaker : (next : List ℕ → ℕ) (k n : ℕ) (ss : List Square) (P Q : Square → Type 0) → ((s : Square) → P s → Q s) →
+    All (λ s. Puts next k n s P) ss → All (λ s. Puts next k n s Q) ss
+all_weaker next k n ss P Q so puts = All-weaker _ _ (λ s. Puts-weaker next k n s P Q so) ss puts
+
 list_all : (next : List ℕ → ℕ) (k n : ℕ) (P : Square → Type 0) → ((s : Square) → Puts next k n s P → Listed P (Puts next k n s)) →
     (ss : List Square) → All (λ s. Puts next k n s P) ss → Listed P (λ Q. All (λ s. Puts next k n s Q) ss)
 list_all next k n P each [] puts = record { those = []; way = All-nil (λ s. Puts next k n s (Contains [])); holds = All-nil P }
 list_all next k n P each (s ∷ ss) puts =
     let one = each s (All-head (λ q. Puts next k n q P) s ss puts) in
-    let more = list_all next k n P each ss (All-tail (λ q. Puts next k n q P) s ss puts) in
-    let both = one.those ++ more.those in
-    let left = λ (q : Square) (is : Contains one.those q). Contains-append_left one.those more.those q is in
-    let right = λ (q : Square) (is : Contains more.those q). Contains-append_right one.those more.those q is in
-    record {
-      those = both;
-      way = All-cons (λ q. Puts next k n q (Contains both)) s ss (Puts-weaker next k n s (Contains one.those) (Contains both) left one.way)
-          (All-weaker _ _ (λ q. Puts-weaker next k n q (Contains more.those) (Contains both) right) ss more.way);
-      holds = All-append P one.those more.those one.holds more.holds;
-    }
+    let rest = list_all next k n P each ss (All-tail (λ q. Puts next k n q P) s ss puts) in
+    let two = both (Puts-weaker next k n s) (all_weaker next k n ss) one rest in
+    record { those = two.those; way = All-cons (λ q. Puts next k n q (Contains two.those)) s ss two.way.0 two.way.1; holds = two.holds }
 
 listed : (next : List ℕ → ℕ) (k n : ℕ) (s : Square) (P : Square → Type 0) → Puts next k n s P → Listed P (Puts next k n s)
 unfolding Puts
 listed next k zero s P puts = record { those = []; way = tt; holds = All-nil P }
-listed next zero (suc n) s P puts = record {
-  those = s ∷ [];
-  way = Contains-get_or (s ∷ []) 0 s (omega arith);
-  holds = All-cons P s [] puts (All-nil P);
-}
+listed next zero (suc n) s P puts =
+    record { those = s ∷ []; way = Contains-get_or (s ∷ []) 0 s (omega arith); holds = All-cons P s [] puts (All-nil P) }
 listed next (suc k) (suc n) s P puts =
     let m = min (suc n) (2 ^ k) in
-    let nine = list_all next k m P (λ q. listed next k m q P) (nine_of s) puts.0 in
-    let four = list_all next k (suc n - m) P (λ q. listed next k (suc n - m) q P) (fours_of (map (result next k m) (nine_of s))) puts.1 in
-    let both = nine.those ++ four.those in
-    let left = λ (q : Square) (is : Contains nine.those q). Contains-append_left nine.those four.those q is in
-    let right = λ (q : Square) (is : Contains four.those q). Contains-append_right nine.those four.those q is in
-    record {
-      those = both;
-      way = (
-        All-weaker _ _ (λ q. Puts-weaker next k m q (Contains nine.those) (Contains both) left) (nine_of s) nine.way,
-        All-weaker _ _ (λ q. Puts-weaker next k (suc n - m) q (Contains four.those) (Contains both) right) _ four.way,
-      );
-      holds = All-append P nine.those four.those nine.holds four.holds;
-    }
+    both (all_weaker next k m (nine_of s)) (all_weaker next k (suc n - m) (fours_of (map (result next k m) (nine_of s))))
+    (list_all next k m P (λ q. listed next k m q P) (nine_of s) puts.0)
+    (list_all next k (suc n - m) P (λ q. listed next k (suc n - m) q P) (fours_of (map (result next k m) (nine_of s))) puts.1)
 
 -- the squares that were put to the rule are those that are counted
 abbrev block : List (List ℕ) → ℕ → Square

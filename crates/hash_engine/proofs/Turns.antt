@@ -1,5 +1,5 @@
 -- A loop that writes results over squares.
-use Rattle.std.proofs.Common.{◌≡◌, ℕ, suc, ◌+◌, ◌<◌, ◌≤◌, List, length, get_or, refl, sym, ◌∙◌, ap, subst, arith, inl, inr}
+use Rattle.std.proofs.Common.{◌≡◌, ℕ, suc, ◌+◌, ◌<◌, ◌≤◌, List, length, get_or, sym, ◌∙◌, ap, subst, arith, inl, inr}
 use Rattle.std.proofs.Math.ListN.{set}
 use Rattle.std.specs.Prelude.{Contains}
 use Rattle.std.proofs.lemmas.Bool.{cases_eq}
@@ -21,14 +21,6 @@ pub record AreDone (next : List ℕ → ℕ) (k generations i : ℕ) (olds news 
   pub count : length news ≡ length olds
   pub found : FirstAreFound next (IsCounted next k generations t old) k generations i olds t u new news
   pub rest : (j d : ℕ) → i ≤ j → get_or news j d ≡ get_or olds j d
-
-pub AreDone-none : (next : List ℕ → ℕ) (k generations : ℕ) (olds : List ℕ) (t : Table) (memo : Memo) →
-    AreDone next k generations 0 olds olds t memo t memo
-AreDone-none next k generations olds t memo = record {
-  count = refl;
-  found = λ j d e below. absurd (omega (arith, below));
-  rest = λ j d above. refl;
-}
 
 pub AreDone-all : {next : List ℕ → ℕ} {k generations i : ℕ} {olds news : List ℕ} {t u : Table} {old new : Memo} →
     AreDone next k generations i olds news t old u new → length olds ≤ i → FindsForAll next k generations olds t old u new news

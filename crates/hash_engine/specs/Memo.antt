@@ -65,7 +65,8 @@ pub record IsNoted (i r : ℕ) (old new : List ℕ) : Type 0 where
   pub others : (j : ℕ) → j ≢ i → get_or new j 0 ≡ get_or old j 0
 
 -- of a square of level k + 2 this result is remembered, among those by the full counts where its
--- own is one; of the others no more than its own has changed, and only where it's by the other count
+-- own is one; of the others no more than its own has changed, and only where it's by the other
+-- count
 pub record IsRemembered (k generations n r : ℕ) (old new : Memo) : Type 0 where
   pub full : generations ≡ 2 ^ k → IsNoted (n - first_number) r old.full.items new.full.items
   pub other : generations ≢ 2 ^ k → new.full.items ≡ old.full.items

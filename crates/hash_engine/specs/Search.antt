@@ -75,12 +75,13 @@ pub record Asks (next : List ℕ → ℕ) (Way : (Square → Type 0) → Type 0)
 
 -- all that is put to the rule is remembered: no result is by more than a full count, and that of
 -- what was remembered was put
-pub record IsCounted (next : List ℕ → ℕ) (k generations : ℕ) (t : Table) (memo : Memo) : Type 0 where
+pub record IsCounted (next : List ℕ → ℕ) (k generations : ℕ) (t : Table) (memo : Memo)
+    : Type 0 where
   pub few : generations ≤ 2 ^ k
   pub has : HasPut next t.rows memo
 
--- n is the number of the result of the square s of level k + 2, all that is made on the way to it is
--- there, and what is put to the rule on it was put, where that is counted
+-- n is the number of the result of the square s of level k + 2, all that is made on the way to it
+-- is there, and what is put to the rule on it was put, where that is counted
 pub record IsFound (next : List ℕ → ℕ) (Counted : Type 0) (k generations : ℕ) (s : Square)
     (u : Table) (memo : Memo) (n : ℕ) : Type 0 where
   pub square : StandsFor u.rows (suc k) n (result next k generations s)

@@ -16,7 +16,8 @@ pub(crate) struct Counts {
     pub(crate) base: u32,
 }
 
-// Whether the square with this number has 4 by 4 cells: its quadrants have quadrants that are cells.
+// Whether the square with this number has 4 by 4 cells: its quadrants have quadrants that are
+// cells.
 fn is_four(table: &SquareTable<'_>, number: u32) -> bool
     requires above { first_number ≤ number }
     requires there { number < first_number + length table.now.rows }

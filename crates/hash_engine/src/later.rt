@@ -120,7 +120,8 @@ fn compute<Q: Ask, S: Stop>(
     Ok(table.join_numbers(fours)?)
 }
 
-// The results in place of squares of level k + 2: most are remembered, and found here without a call.
+// The results in place of squares of level k + 2: most are remembered, and found here without a
+// call.
 #[inline(always)]
 #[cycle(forward)]
 fn all_forward<Q: Ask, S: Stop>(
@@ -148,8 +149,8 @@ fn all_forward<Q: Ask, S: Stop>(
     Ok(())
 }
 
-/// The result of a square of level k + 2, as `result` finds it, by what is remembered of the table's
-/// squares under the rule.
+/// The result of a square of level k + 2, as `result` finds it, by what is remembered of the
+/// table's squares under the rule.
 ///
 /// What is found on the way is remembered, also where the search is refused or stopped.
 pub fn search<'a, Q: Ask, S: Stop>(
