@@ -18,7 +18,8 @@ use Rattle.desk_events.specs.Marks.{ComesBefore, bookmark_mark, is_mark, is_star
 use Rattle.dependency_book.specs.Needs.{IsLedTo, ViewIsNext}
 use Rattle.dependency_book.specs.Ready.{AreHeldBack, before_row, is_ready}
 use Rattle.dependency_book.specs.RowState.{is_known, known}
-use Rattle.dependency_book.specs.Rows.{ArrivalRow, TextRow, keys, place_in, state_at, mark_rank, bookmark_rank}
+use Rattle.dependency_book.specs.Rows.{ArrivalRow, TextRow, keys, place_in, state_at, bookmark_rank}
+use Rattle.document_marks.specs.AllMarks.{mark_rank}
 use Rattle.dependency_book.proofs.Outs.{ids_rise}
 use Rattle.dependency_book.proofs.Placed.{has_row, in_at, mark_at_place, mark_of, place_of-row, row_comes, row_follows, row_stands, stands_in}
 use Rattle.desk_events.proofs.Shared.Marks.{before_one, comes_le}

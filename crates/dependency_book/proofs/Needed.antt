@@ -22,12 +22,13 @@ use Rattle.desk_events.specs.Marks.{ComesBefore, bookmark_mark, forks_at, is_mar
 use Rattle.dependency_book.specs.Needs.{CanBeViewed, CanBeReached, IsLedTo, IsNotAfter, IsNextStep, StepIsNext, IsNextView}
 use Rattle.dependency_book.specs.Ready.{IsFirst, before_row, is_ready, place_ready, viewable, steppable}
 use Rattle.dependency_book.specs.RowState.{is_known, is_empty, job_of}
-use Rattle.dependency_book.specs.Rows.{ArrivalRow, TextRow, keys, place_in, mark_rank, bookmark_rank}
+use Rattle.dependency_book.specs.Rows.{ArrivalRow, TextRow, keys, place_in, bookmark_rank}
+use Rattle.document_marks.specs.AllMarks.{mark_rank}
 use Rattle.dependency_book.proofs.Found.{ready_is}
 use Rattle.dependency_book.proofs.Outs.{NoneOut, arrivals_none, texts_none, ids_rise}
 use Rattle.dependency_book.proofs.Placed.{StandsIn, has_row, in_at, mark_at_place, row_beside, row_comes, row_is, row_near, row_stands, stands_in, text_stands}
 use Rattle.desk_events.proofs.Shared.Marks.{before_one, bookmark_is_mark}
-use Rattle.dependency_book.proofs.Ranks.{rank_branches, rank_within}
+use Rattle.document_marks.proofs.Shared.Ranks.{rank_branches, rank_within}
 use Rattle.dependency_book.proofs.Standing.{IsNonDecreasingBy-ranked, get_or-any, has, place-has, rank-has, state_at-place, count_cons}
 use Rattle.desk_events.proofs.Shared.Tests.{either_way, clash, eq_true, false_lt, true_lt}
 

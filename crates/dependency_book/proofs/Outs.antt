@@ -19,8 +19,9 @@ use Rattle.dependency_book.specs.Jobs.{IsAnyOut, IsFirstOut}
 use Rattle.desk_events.specs.Needs.{step_to}
 use Rattle.desk_events.specs.Marks.{is_start, mark_at}
 use Rattle.dependency_book.specs.RowState.{any_out, job_of, state_map, has_number, named_by, either, row_for, lesser, number_of, least_out}
-use Rattle.dependency_book.specs.Rows.{keys, IsRanked, state_at, mark_rank, bookmark_rank}
-use Rattle.dependency_book.proofs.Ranks.{rank_zero}
+use Rattle.dependency_book.specs.Rows.{keys, IsRanked, state_at, bookmark_rank}
+use Rattle.document_marks.specs.AllMarks.{mark_rank}
+use Rattle.document_marks.proofs.Shared.Ranks.{rank_zero}
 use Rattle.desk_events.proofs.Shared.Marks.{start_is}
 use Rattle.dependency_book.proofs.Standing.{has, has-above, state_at-above}
 use Rattle.desk_events.proofs.Shared.Tests.{either_way, clash, true_eq, eq_true, eq_false, false_eq}

@@ -13,7 +13,8 @@ use Rattle.dependency_book.specs.Held.{IsHeld}
 use Rattle.desk_events.specs.Needs.{step_to}
 use Rattle.desk_events.specs.Marks.{is_start}
 use Rattle.dependency_book.specs.RowState.{OutsAreOf, job_of}
-use Rattle.dependency_book.specs.Rows.{keys, IsRanked, state_at, put, mark_rank, bookmark_rank}
+use Rattle.dependency_book.specs.Rows.{keys, IsRanked, state_at, put, bookmark_rank}
+use Rattle.document_marks.specs.AllMarks.{mark_rank}
 use Rattle.dependency_book.proofs.Outs.{ids_rise, out_at, out_for, start_absent}
 use Rattle.dependency_book.proofs.Standing.{has-above, state_at-above}
 use Rattle.desk_events.proofs.Shared.Tests.{either_way, true_eq, eq_true}

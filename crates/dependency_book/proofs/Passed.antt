@@ -17,7 +17,8 @@ use Rattle.dependency_book.specs.Cursor.{HasPassed, start}
 use Rattle.desk_events.specs.Marks.{bookmark_mark, is_start}
 use Rattle.dependency_book.specs.Ready.{NoneBefore, before_in, before_row, can_view, is_ready, place_ready, row_before, steppable, viewable}
 use Rattle.dependency_book.specs.RowState.{is_empty, is_known, job_of}
-use Rattle.dependency_book.specs.Rows.{ArrivalRow, TextRow, put, mark_rank, bookmark_rank, state_at}
+use Rattle.dependency_book.specs.Rows.{ArrivalRow, TextRow, put, bookmark_rank, state_at}
+use Rattle.document_marks.specs.AllMarks.{mark_rank}
 use Rattle.dependency_book.proofs.Putting.{with_arrival, with_text}
 use Rattle.desk_events.proofs.Shared.Tests.{either_way}
 

@@ -16,10 +16,11 @@ use Rattle.desk_events.specs.Wanted.{bookmark_in}
 use Rattle.dependency_book.specs.Held.{IsHeld}
 use Rattle.desk_events.specs.Marks.{ComesBefore, Precedes, forks_at, is_mark, is_start, mark_at}
 use Rattle.dependency_book.specs.Ready.{before_in, before_row, row_before}
-use Rattle.dependency_book.specs.Rows.{ArrivalRow, TextRow, keys, IsRanked, place_in, mark_rank, bookmark_rank}
+use Rattle.dependency_book.specs.Rows.{ArrivalRow, TextRow, keys, IsRanked, place_in, bookmark_rank}
+use Rattle.document_marks.specs.AllMarks.{mark_rank}
 use Rattle.desk_events.proofs.Shared.Listed.{found_any, none_listed}
 use Rattle.dependency_book.proofs.Outs.{ids_rise}
-use Rattle.dependency_book.proofs.Ranks.{above_start, has_mark, rank_branch, rank_generation, rank_is, rank_within}
+use Rattle.document_marks.proofs.Shared.Ranks.{above_start, has_mark, rank_branch, rank_generation, rank_is, rank_within}
 use Rattle.desk_events.proofs.Shared.Marks.{start_is, mark_placed, before_one}
 use Rattle.dependency_book.proofs.Standing.{IsNonDecreasingBy-ranked, has, rank_at, rank_rises, above_at, has-row, state_at-row, below_place, from_place, place-has, rank-has}
 use Rattle.desk_events.proofs.Shared.Tests.{either_way, clash, true_eq, false_eq, eq_true, eq_false, true_lt, false_lt}

@@ -15,7 +15,7 @@ use Rattle.desk_events.specs.declared.need.Need.{Need}
 use Rattle.desk_events.specs.declared.need.Need.TheVariants.{Step, View}
 use Rattle.dependency_book.specs.declared.row.RowState.{RowState}
 use Rattle.dependency_book.specs.declared.row.RowState.TheVariants.{Empty, Expected, Known}
-use Rattle.dependency_book.specs.AllMarks.{AreMarksOf}
+use Rattle.document_marks.specs.AllMarks.{AreMarksOf, mark_rank}
 use Rattle.dependency_book.specs.BookState.{BookState, arrival_row, text_row, row_of}
 use Rattle.dependency_book.specs.Held.{IsHeld, places_of}
 use Rattle.desk_events.specs.Needs.{is_need, step_to}
@@ -23,8 +23,8 @@ use Rattle.desk_events.specs.Marks.{bookmark_mark, is_mark, is_same, is_start, m
 use Rattle.dependency_book.specs.Puts.{CanBePut, Puts, can_change, missing}
 use Rattle.dependency_book.specs.Right.{IsRight}
 use Rattle.dependency_book.specs.RowState.{state_map, job_of}
-use Rattle.dependency_book.specs.Rows.{ArrivalRow, keys, state_at, put, mark_rank, bookmark_rank}
-use Rattle.dependency_book.proofs.Ranks.{apart, has_mark, rank_is}
+use Rattle.dependency_book.specs.Rows.{ArrivalRow, keys, state_at, put, bookmark_rank}
+use Rattle.document_marks.proofs.Shared.Ranks.{apart, has_mark, rank_is}
 use Rattle.desk_events.proofs.Shared.Marks.{same_mark}
 use Rattle.dependency_book.proofs.Standing.{has, keys-put, length-keys, state_at-put_same, state_at-put_other, place_in-keys, count-put}
 use Rattle.desk_events.proofs.Shared.Tests.{either_way, clash, true_eq, eq_true}

@@ -6,7 +6,8 @@ use Rattle.dependency_book.specs.declared.row.RowState.TheVariants.{Empty}
 use Rattle.desk_events.specs.Marks.{is_start}
 use Rattle.dependency_book.specs.Ready.{NoneBefore, is_ready}
 use Rattle.dependency_book.specs.RowState.{is_known}
-use Rattle.dependency_book.specs.Rows.{ArrivalRow, IsRanked, keys, mark_rank, place_in, state_at}
+use Rattle.dependency_book.specs.Rows.{ArrivalRow, IsRanked, keys, place_in, state_at}
+use Rattle.document_marks.specs.AllMarks.{mark_rank}
 use Rattle.dependency_book.proofs.Standing.{has, place-has, rank-has, state_at-above, state_at-place}
 use Rattle.desk_events.proofs.Shared.Tests.{either_way, false_eq, true_eq}
 

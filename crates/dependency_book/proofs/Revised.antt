@@ -7,7 +7,6 @@ use Rattle.worlds.specs.World.{World}
 use Rattle.schedule.specs.declared.branch.Branch.{Branch}
 use Rattle.schedule.specs.declared.document.Bookmark.{Bookmark}
 use Rattle.schedule.specs.declared.edit.Edited.{Edited}
-use Rattle.schedule.specs.declared.fault.EditFault.{EditFault}
 use Rattle.schedule.specs.Plan.{Plan}
 use Rattle.schedule.specs.Asked.{Asked}
 use Rattle.schedule.specs.Change.{Changed, change, changed, made, refusal, unless_refused}
@@ -20,7 +19,7 @@ use Rattle.dependency_book.specs.declared.row.RowState.TheVariants.{Empty, Known
 use Rattle.desk_events.specs.declared.mark.Mark.{Mark}
 use Rattle.desk_events.specs.declared.need.Need.{Need}
 use Rattle.desk_events.specs.declared.need.Need.TheVariants.{Step, View}
-use Rattle.dependency_book.specs.AllMarks.{AreMarksOf}
+use Rattle.document_marks.specs.AllMarks.{AreMarksOf, mark_rank}
 use Rattle.dependency_book.specs.BookState.{BookState, arrival_known, arrival_row, text_row, row_of, expected}
 use Rattle.desk_events.specs.Wanted.{bookmark_in}
 use Rattle.dependency_book.specs.Felt.{BookFeels}
@@ -32,9 +31,10 @@ use Rattle.dependency_book.specs.declared.room.Rows.{Rows}
 use Rattle.dependency_book.specs.Remade.{AreRemade, kept_at, remade_row}
 use Rattle.dependency_book.specs.Right.{IsRight}
 use Rattle.dependency_book.specs.RowState.{state_map, job_of}
-use Rattle.dependency_book.specs.Rows.{ArrivalRow, TextRow, keys, state_at, mark_rank, bookmark_rank}
+use Rattle.dependency_book.specs.Rows.{ArrivalRow, TextRow, keys, state_at, bookmark_rank}
 use Rattle.dependency_book.proofs.Followed.{MayBeFelt, stays_for, texts_stay}
-use Rattle.dependency_book.proofs.Ranks.{has_mark, rank_is}
+use Rattle.document_marks.proofs.Shared.Grown.{accepted, unrefused}
+use Rattle.document_marks.proofs.Shared.Ranks.{has_mark, rank_is}
 use Rattle.dependency_book.proofs.Remaking.{first_of, kept_for, keys-remade, state_at-remade, kept_at-first, kept_at-any}
 use Rattle.dependency_book.proofs.Standing.{has, state_at-above}
 use Rattle.desk_events.proofs.Shared.Tests.{either_way, true_eq}
@@ -279,15 +279,6 @@ edit_revises d asked felt marks free right is_felt sound are =
             record { own = h.own; entry = h.entry };
       },
     )
-
--- what an accepted edit made
-pub accepted : (o : Option EditFault) (c e : Changed) → unless_refused o c ≡ Ok e → c ≡ e
-accepted None c e h = cc
-accepted (Some fault) c e h = absurd cc
-
-pub unrefused : (o : Option EditFault) (c e : Changed) → unless_refused o c ≡ Ok e → o ≡ None
-unrefused None c e h = refl
-unrefused (Some fault) c e h = absurd cc
 
 -- the book of a document with other rows
 abbrev pub with_rows : BookState → Plan → List ArrivalRow → List TextRow → BookState

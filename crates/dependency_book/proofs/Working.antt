@@ -28,11 +28,12 @@ use Rattle.dependency_book.specs.Needs.{IsNext}
 use Rattle.dependency_book.specs.Puts.{CanBePut, Puts, can_change, filled_by, missing}
 use Rattle.dependency_book.specs.Right.{IsRight}
 use Rattle.dependency_book.specs.RowState.{job_of, has_number}
-use Rattle.dependency_book.specs.Rows.{keys, mark_rank, bookmark_rank}
+use Rattle.dependency_book.specs.Rows.{keys, bookmark_rank}
+use Rattle.document_marks.specs.AllMarks.{mark_rank}
 use Rattle.dependency_book.proofs.Outs.{numbered, none_at, out_at, out_for}
 use Rattle.dependency_book.proofs.Standing.{has, state_at-above}
 use Rattle.desk_events.proofs.Shared.Needs.{need_is, need_same}
-use Rattle.dependency_book.proofs.Ranks.{has_mark}
+use Rattle.document_marks.proofs.Shared.Ranks.{has_mark}
 use Rattle.desk_events.proofs.Shared.Tests.{either_way, clash, eq_true, eq_false}
 use Rattle.std.proofs.Common.{◌++◌}
 use Rattle.std.specs.Prelude.{IfSome, if◌then◌else◌, slice_get}

@@ -14,7 +14,8 @@ use Rattle.desk_events.specs.declared.need.Need.{Need}
 use Rattle.desk_events.specs.declared.need.Need.TheVariants.{Step, View}
 use Rattle.desk_events.specs.Marks.{is_start, mark_at}
 use Rattle.dependency_book.specs.RowState.{known, is_known, is_empty, job_of, state_map}
-use Rattle.dependency_book.specs.Rows.{ArrivalRow, TextRow, state_at, mark_rank, bookmark_rank}
+use Rattle.dependency_book.specs.Rows.{ArrivalRow, TextRow, state_at, bookmark_rank}
+use Rattle.document_marks.specs.AllMarks.{mark_rank}
 
 -- the table of entries that its jobs are of, the document, the entry of each number that was given,
 -- a row for each of the document's marks but the start, a row for each of its bookmarks, and how

@@ -4,7 +4,8 @@ use Rattle.schedule.specs.declared.document.Bookmark.{Bookmark}
 use Rattle.dependency_book.specs.BookState.{BookState}
 use Rattle.desk_events.specs.Marks.{bookmark_mark}
 use Rattle.dependency_book.specs.Right.{IsRight}
-use Rattle.dependency_book.specs.Rows.{ArrivalRow, mark_rank, place_in}
+use Rattle.dependency_book.specs.Rows.{ArrivalRow, place_in}
+use Rattle.document_marks.specs.AllMarks.{mark_rank}
 
 -- the places of bookmarks' marks among the rows
 abbrev pub places_of : List ArrivalRow → List Bookmark → List ℕ

@@ -1,4 +1,3 @@
-pub mod AllMarks
 pub mod BookState
 pub mod Called
 pub mod Core
@@ -21,4 +20,3 @@ pub mod Rows
 pub mod Said
 pub mod Shown
 pub mod ShownRows
-pub mod Size

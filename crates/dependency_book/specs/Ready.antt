@@ -7,7 +7,8 @@ use Rattle.schedule.specs.Ids.{branch_id}
 use Rattle.desk_events.specs.declared.mark.Mark.{Mark}
 use Rattle.desk_events.specs.Marks.{bookmark_mark, is_start, mark_at}
 use Rattle.dependency_book.specs.RowState.{is_empty, is_known}
-use Rattle.dependency_book.specs.Rows.{ArrivalRow, TextRow, mark_rank, state_at}
+use Rattle.dependency_book.specs.Rows.{ArrivalRow, TextRow, state_at}
+use Rattle.document_marks.specs.AllMarks.{mark_rank}
 
 -- whether what arrives at a mark is known, which has its row at this place; the start always is
 abbrev pub place_ready : List ArrivalRow → Mark → ℕ → Bool

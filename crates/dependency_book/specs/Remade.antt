@@ -7,10 +7,10 @@ use Rattle.dependency_book.specs.declared.row.RowState.TheVariants.{Empty}
 use Rattle.dependency_book.specs.declared.row.Row.{Row}
 use Rattle.desk_events.specs.declared.mark.Mark.{Mark}
 use Rattle.dependency_book.specs.declared.room.Rows.{Rows}
-use Rattle.dependency_book.specs.AllMarks.{AreMarksOf}
+use Rattle.document_marks.specs.AllMarks.{AreMarksOf, mark_rank}
 use Rattle.dependency_book.specs.Held.{places_of}
 use Rattle.dependency_book.specs.Kept.{mark_stays, bookmark_stays}
-use Rattle.dependency_book.specs.Rows.{ArrivalRow, TextRow, mark_rank, bookmark_rank}
+use Rattle.dependency_book.specs.Rows.{ArrivalRow, TextRow, bookmark_rank}
 
 -- what stands in the first row of a rank if its key passes a test, else nothing
 abbrev pub kept_at : {K V : Type 0} → (K → ℕ) → (K → Bool) → ℕ → List (Row K V) → RowState V

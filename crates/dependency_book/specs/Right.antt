@@ -4,7 +4,7 @@ use Rattle.revision_jobs.specs.declared.answer.Job.{Job}
 use Rattle.revision_jobs.specs.Entries.{IsOf}
 use Rattle.desk_events.specs.declared.need.Need.{Need}
 use Rattle.desk_events.specs.Right.{IsRight as IsRightCore}
-use Rattle.dependency_book.specs.AllMarks.{AreMarksOf}
+use Rattle.document_marks.specs.AllMarks.{AreMarksOf}
 use Rattle.dependency_book.specs.BookState.{BookState, expected}
 use Rattle.dependency_book.specs.Core.{core_of}
 use Rattle.dependency_book.specs.Rows.{keys}

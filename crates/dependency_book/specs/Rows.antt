@@ -1,5 +1,5 @@
 -- Rows, by rising ranks of their keys.
-use Rattle.std.specs.Prelude.{ℕ, suc, ◌+◌, ◌-◌, ◌*◌, ◌^◌, min, nat_lt, List, [], ◌∷◌, map, if◌then◌else◌, ◌==◌}
+use Rattle.std.specs.Prelude.{ℕ, suc, nat_lt, List, [], ◌∷◌, map, if◌then◌else◌, ◌==◌}
 use Rattle.worlds.specs.World.{World}
 use Rattle.schedule.specs.declared.document.Bookmark.{Bookmark}
 use Rattle.schedule.specs.Ids.{IdsRise}
@@ -7,10 +7,6 @@ use Rattle.dependency_book.specs.declared.row.RowState.{RowState}
 use Rattle.dependency_book.specs.declared.row.RowState.TheVariants.{Empty}
 use Rattle.dependency_book.specs.declared.row.Row.{Row}
 use Rattle.desk_events.specs.declared.mark.Mark.{Mark}
-
--- marks stand by their branches, and in a branch by their generations, which are below 2^64
-abbrev pub mark_rank : Mark → ℕ
-mark_rank m = m.branch * 2 ^ 64 + min m.generation (2 ^ 64 - 1)
 
 -- bookmarks stand by their ids
 abbrev pub bookmark_rank : Bookmark → ℕ

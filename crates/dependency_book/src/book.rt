@@ -7,7 +7,7 @@ ghost use Rattle.dependency_book.specs.Shown.{Shows};
 ghost use Rattle.dependency_book.specs.declared.row.RowState.TheVariants.{Empty};
 
 use crate::cursor::Cursor;
-use crate::marks::ArrivalRow;
+use crate::mark::ArrivalRow;
 use crate::need::{first_step, first_view};
 use crate::refusals::Refusals;
 use crate::row::place_in;

@@ -27,7 +27,6 @@ mod felt;
 mod filled;
 mod jobs;
 mod mark;
-mod marks;
 mod need;
 mod recall;
 mod refusals;

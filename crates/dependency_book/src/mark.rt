@@ -1,12 +1,17 @@
-//! Marks as keys of rows.
+//! The rows of marks.
 
+use crate::arrival::Arrival;
 use crate::felt::keeps_arrival;
-use crate::row::Ranked;
+use crate::row::{Ranked, Row};
 use desk_events::Mark;
+use document_marks::rank_of;
 use schedule::Document;
 
+/// A mark with what arrives there, or the job that is out for it.
+pub(crate) type ArrivalRow = Row<Mark, Arrival>;
+
 impl Ranked for Mark {
-    ghost use Rattle.dependency_book.specs.Rows.{mark_rank};
+    ghost use Rattle.document_marks.specs.AllMarks.{mark_rank};
     ghost use Rattle.dependency_book.specs.Kept.{mark_stays};
 
     ghost rank = { mark_rank };
@@ -14,7 +19,7 @@ impl Ranked for Mark {
     ghost stays = { mark_stays };
 
     fn rank(&self) -> u128 {
-        u128::from(self.branch) * (1 << 64) + u128::from(self.generation)
+        rank_of(*self)
     }
 
     fn stays(&self, document: &Document, felt: Option<Mark>, _was: &Mark) -> bool {

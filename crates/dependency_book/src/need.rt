@@ -3,9 +3,10 @@ ghost use Rattle.std.specs.Prelude.{◌≡◌, ◌<◌, length};
 ghost use Rattle.dependency_book.specs.Ready.{AreHeldBack, IsFirst, NoneBefore, before_row};
 ghost use Rattle.dependency_book.specs.Ready.{can_view, is_ready, place_ready, steppable};
 ghost use Rattle.dependency_book.specs.Ready.{viewable, waits};
-ghost use Rattle.dependency_book.specs.Rows.{ArrivalRow, IsRanked, mark_rank};
+ghost use Rattle.dependency_book.specs.Rows.{ArrivalRow, IsRanked};
+ghost use Rattle.document_marks.specs.AllMarks.{mark_rank};
 
-use crate::marks::ArrivalRow;
+use crate::mark::ArrivalRow;
 use crate::row::{Ranked, place_near};
 use crate::texts::TextRow;
 use desk_events::Mark;

@@ -1,22 +1,22 @@
 //! The rows of a document, made anew.
-ghost use Rattle.std.specs.Prelude.{◌≡◌, ◌≤◌, IfOk, [], length, vec_capacity};
+ghost use Rattle.std.specs.Prelude.{◌≡◌, ◌≤◌, ◌+◌, IfOk, [], length, vec_capacity};
 ghost use Rattle.dependency_book.specs.Held.{places_of};
 ghost use Rattle.dependency_book.specs.Remade.{AreRemade};
-ghost use Rattle.std.specs.List.{list_any};
-ghost use Rattle.schedule.specs.Acts.{repeats};
 ghost use Rattle.schedule.specs.Asked.{asked_of};
 ghost use Rattle.dependency_book.specs.Room.{HasRoom};
 ghost use Rattle.dependency_book.specs.RowState.{OutsAreOf};
-ghost use Rattle.dependency_book.specs.Rows.{IsRanked, bookmark_rank, mark_rank};
-ghost use Rattle.dependency_book.specs.Size.{asks_to_repeat, most_after, most_repeats, plan_size};
+ghost use Rattle.dependency_book.specs.Rows.{IsRanked, bookmark_rank};
+ghost use Rattle.document_marks.specs.AllMarks.{mark_rank};
+ghost use Rattle.document_marks.specs.MostMarks.{marks_at_most, marks_at_most_after};
 
-use crate::marks::{ArrivalRow, marks_of};
+use crate::mark::ArrivalRow;
 use crate::remade::remade;
 use crate::row::{Ranked, place_near};
 use crate::texts::TextRow;
 use desk_events::Mark;
+use document_marks::{marks_at_most_after, marks_of};
 use revision_jobs::Entries;
-use schedule::{Bookmark, Document, Edit, Intervention, MOST_MARKS};
+use schedule::{Bookmark, Document, Edit};
 use std::alloc::{AllocError, Global};
 
 /// The rows of a document, and where the marks of its bookmarks stand among them.
@@ -35,21 +35,18 @@ pub(crate) struct Room {
 }
 
 impl Room {
-    /// Room for the document after an edit: it has at most one more intervention, one more
-    /// bookmark and one more branch.
+    /// Room for the document after an edit, which has at most one more bookmark.
     pub(crate) fn beside(
         alloc: Global,
         document: &Document,
         edit: &Edit,
     ) -> Result<Room, AllocError>
-        ensures { IfOk result (λ room.
-            HasRoom room (most_after document.now (asked_of edit.now))) }
+        ensures { IfOk result (λ room. HasRoom room
+            (marks_at_most_after document.now (asked_of edit.now))
+            (length document.now.bookmarks + 1)) }
     {
-        let interventions = document.interventions().len() + 1;
+        let marks = marks_at_most_after(document, edit);
         let bookmarks = document.bookmarks().len() + 1;
-        let branches = document.branches().len() + 1;
-        let repeated = most_repeats(document, edit);
-        let marks = interventions + bookmarks + 2 * branches + repeated;
         Ok(Room {
             marks: Vec::with_capacity(alloc, marks)?,
             rows: Rows {
@@ -71,7 +68,8 @@ impl Room {
         texts: Vec<TextRow>,
         felt: Option<Mark>,
     ) -> Rows
-        requires room { HasRoom self (plan_size document.now) }
+        requires room { HasRoom self
+            (marks_at_most document.now) (length document.now.bookmarks) }
         requires ranked { IsRanked mark_rank arrivals.items × IsRanked bookmark_rank texts.items }
         requires own { OutsAreOf entries.now arrivals.items × OutsAreOf entries.now texts.items }
         ensures { AreRemade document.now arrivals.items texts.items felt result }
@@ -88,33 +86,6 @@ impl Room {
             places,
         }
     }
-}
-
-// At most how many marks repeating interventions make after an edit.
-fn most_repeats(document: &Document, edit: &Edit) -> usize
-    ensures { result ≡ most_repeats document.now (asked_of edit.now) }
-{
-    if has_repeats(document.interventions()) || asks_to_repeat(edit) {
-        MOST_MARKS as usize
-    } else {
-        0
-    }
-}
-
-// Whether one of the interventions repeats.
-fn has_repeats(interventions: &[Intervention]) -> bool
-    ensures { result ≡ list_any (λ i. repeats i.acts) interventions.now }
-{
-    interventions
-        .iter()
-        .any(|intervention| intervention.acts.repeats())
-}
-
-// Whether an edit makes an intervention that repeats.
-fn asks_to_repeat(edit: &Edit) -> bool
-    ensures { result ≡ asks_to_repeat (asked_of edit.now) }
-{
-    matches!(edit, Edit::InsertRepeat { .. } | Edit::ChangeRepeat { .. })
 }
 
 // Where the marks of bookmarks stand among rows. The places stand in the room, which is empty and

@@ -1,5 +1,6 @@
 use Rattle.std.proofs.Common.{◌∙◌, sym, ap, arith}
-use Rattle.dependency_book.specs.Rows.{ArrivalRow, mark_rank, place_in}
+use Rattle.dependency_book.specs.Rows.{ArrivalRow, place_in}
+use Rattle.document_marks.specs.AllMarks.{mark_rank}
 use Rattle.dependency_book.proofs.Readied.{ready_at, unready_at}
 use Rattle.desk_events.proofs.Shared.Tests.{eq_false}
 use Rattle.dependency_book.proofs.need.is_ready.Goals as goal

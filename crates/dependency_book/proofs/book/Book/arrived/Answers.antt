@@ -8,7 +8,8 @@ use Rattle.dependency_book.specs.Held.{IsHeld}
 use Rattle.dependency_book.specs.Inside.{state_of}
 use Rattle.desk_events.specs.Marks.{is_start}
 use Rattle.dependency_book.specs.RowState.{known}
-use Rattle.dependency_book.specs.Rows.{ArrivalRow, place_in, mark_rank}
+use Rattle.dependency_book.specs.Rows.{ArrivalRow, place_in}
+use Rattle.document_marks.specs.AllMarks.{mark_rank}
 use Rattle.dependency_book.proofs.Found.{ArrivedRow, arrived_row}
 use Rattle.desk_events.proofs.Shared.Tests.{clash}
 use Rattle.dependency_book.proofs.book.Book.arrived.Goals as goal

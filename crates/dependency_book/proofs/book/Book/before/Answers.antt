@@ -8,7 +8,8 @@ use Rattle.dependency_book.specs.Inside.{state_of}
 use Rattle.desk_events.specs.Marks.{ComesBefore}
 use Rattle.dependency_book.specs.Needs.{IsLedTo}
 use Rattle.dependency_book.specs.Ready.{before_row}
-use Rattle.dependency_book.specs.Rows.{ArrivalRow, place_in, mark_rank}
+use Rattle.dependency_book.specs.Rows.{ArrivalRow, place_in}
+use Rattle.document_marks.specs.AllMarks.{mark_rank}
 use Rattle.dependency_book.proofs.Found.{StepRow, step_row}
 use Rattle.dependency_book.proofs.book.Book.before.Goals as goal
 

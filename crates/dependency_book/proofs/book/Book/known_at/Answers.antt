@@ -4,9 +4,10 @@ use Rattle.worlds.specs.World.{World}
 use Rattle.dependency_book.specs.BookState.{BookState, arrival_known}
 use Rattle.dependency_book.specs.Inside.{state_of}
 use Rattle.desk_events.specs.Marks.{is_same}
-use Rattle.dependency_book.specs.Rows.{ArrivalRow, place_in, mark_rank}
+use Rattle.dependency_book.specs.Rows.{ArrivalRow, place_in}
+use Rattle.document_marks.specs.AllMarks.{mark_rank}
 use Rattle.dependency_book.proofs.Found.{arrival_at, arrival_unknown}
-use Rattle.dependency_book.proofs.Ranks.{same_true}
+use Rattle.document_marks.proofs.Shared.Ranks.{same_true}
 use Rattle.desk_events.proofs.Shared.Marks.{same_mark}
 use Rattle.desk_events.proofs.Shared.Tests.{clash}
 use Rattle.dependency_book.proofs.book.Book.known_at.Goals as goal

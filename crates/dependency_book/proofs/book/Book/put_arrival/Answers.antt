@@ -6,7 +6,8 @@ use Rattle.dependency_book.specs.Cursor.{IsKept, start}
 use Rattle.dependency_book.specs.Inside.{state_of}
 use Rattle.desk_events.specs.Needs.{step_to}
 use Rattle.dependency_book.specs.Puts.{CanBePut, Puts}
-use Rattle.dependency_book.specs.Rows.{ArrivalRow, mark_rank, put}
+use Rattle.dependency_book.specs.Rows.{ArrivalRow, put}
+use Rattle.document_marks.specs.AllMarks.{mark_rank}
 use Rattle.dependency_book.specs.RowState.{state_map}
 use Rattle.dependency_book.proofs.Passed.{passed_arrival}
 use Rattle.dependency_book.proofs.Putting.{arrival_held, arrival_puts, written}

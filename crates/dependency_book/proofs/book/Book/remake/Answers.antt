@@ -1,11 +1,13 @@
-use Rattle.std.proofs.Common.{◌≡◌, List, refl, sym, subst}
+use Rattle.std.proofs.Common.{◌≡◌, ℕ, ◌≤◌, List, refl, sym, subst, arith}
 use Rattle.schedule.specs.Asked.{asked_of}
 use Rattle.dependency_book.specs.BookState.{BookState}
 use Rattle.dependency_book.specs.Cursor.{HasPassed}
 use Rattle.dependency_book.specs.Inside.{state_of}
 use Rattle.dependency_book.specs.Felt.{BookFeels}
 use Rattle.dependency_book.specs.Kept.{KeepsUnfelt}
-use Rattle.dependency_book.proofs.Grown.{made_room}
+use Rattle.document_marks.proofs.Shared.Grown.{is_within}
+use Rattle.dependency_book.specs.declared.room.Room.{Room}
+use Rattle.dependency_book.specs.Room.{HasRoom}
 use Rattle.dependency_book.specs.RowState.{OutsAreOf}
 use Rattle.dependency_book.specs.Rows.{ArrivalRow, TextRow}
 use Rattle.dependency_book.proofs.Owned.{arrivals_own, texts_own}
@@ -14,11 +16,26 @@ use Rattle.dependency_book.proofs.Revised.{Revises, revises, with_rows}
 use Rattle.dependency_book.proofs.book.Book.remake.Goals.{After-self-1}
 use Rattle.dependency_book.proofs.book.Book.remake.Goals as goal
 
+-- room for more is room for fewer
+room_for : (room : Room) (marks bookmarks fewer less : ℕ) → HasRoom room marks bookmarks → fewer ≤ marks
+    → less ≤ bookmarks → HasRoom room fewer less
+room_for room marks bookmarks fewer less h few low = record {
+  no_marks = h.no_marks;
+  no_arrivals = h.no_arrivals;
+  no_texts = h.no_texts;
+  no_places = h.no_places;
+  marks = omega arith;
+  arrivals = omega arith;
+  texts = omega arith;
+  places = omega arith;
+}
+
 pub rows_of-rows-requires-clause-room : goal.rows_of-rows-requires-clause-room
 rows_of-rows-requires-clause-room c =
-    made_room c.in_ok-room.room c.self.inside.document c.make.new.self
-    (asked_of c.args.edit.now) c.in_ok-edited.edited c.self.invariant.held.right.core.sound c.in_ok-edited.ensures.ok
-    c.in_ok-room.ensures
+    let within =
+    is_within c.self.inside.document c.make.new.self (asked_of c.args.edit.now) c.in_ok-edited.edited
+    c.self.invariant.held.right.core.sound c.in_ok-edited.ensures.ok in
+    room_for c.in_ok-room.room _ _ _ _ c.in_ok-room.ensures within.marks within.bookmarks
 
 pub rows_of-rows-requires-clause-own : goal.rows_of-rows-requires-clause-own
 rows_of-rows-requires-clause-own c =

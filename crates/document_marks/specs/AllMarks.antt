@@ -1,12 +1,15 @@
 -- The marks of a document but the start as a list.
-use Rattle.std.specs.Prelude.{◌≡◌, ℕ, ◌+◌, ◌*◌, ◌^◌, ◌≤◌, max, not, length, List, filter, fold, false, ◌==◌, if◌then◌else◌}
+use Rattle.std.specs.Prelude.{◌≡◌, ℕ, ◌+◌, ◌*◌, ◌^◌, ◌≤◌, ◌-◌, max, min, not, length, List, filter, fold, false, ◌==◌, if◌then◌else◌}
 use Rattle.std.specs.List.{AllByRecursion, list_any}
 use Rattle.schedule.specs.Ids.{IdsRise}
 use Rattle.schedule.specs.Plan.{Plan}
 use Rattle.schedule.specs.Repeats.{repeat_marks}
 use Rattle.desk_events.specs.declared.mark.Mark.{Mark}
 use Rattle.desk_events.specs.Marks.{is_mark, is_same, is_start}
-use Rattle.dependency_book.specs.Rows.{mark_rank}
+
+-- marks stand by their branches, and in a branch by their generations, which are below 2^64
+abbrev pub mark_rank : Mark → ℕ
+mark_rank m = m.branch * 2 ^ 64 + min m.generation (2 ^ 64 - 1)
 
 -- marks without the start
 abbrev pub but_start : List Mark → List Mark

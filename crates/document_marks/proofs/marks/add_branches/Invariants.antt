@@ -1,8 +1,8 @@
 use Rattle.std.proofs.Common.{◌≡◌, ◌≤◌, ◌+◌, ◌*◌, ◌++◌, take, vec_len}
 use Rattle.std.specs.Prelude.{flat_map, vec_capacity}
-use Rattle.dependency_book.specs.AllMarks.{but_start}
+use Rattle.document_marks.specs.AllMarks.{but_start}
 use Rattle.desk_events.specs.Marks.{branch_marks}
-use Rattle.dependency_book.proofs.marks.add_branches.Given as goal
+use Rattle.document_marks.proofs.marks.add_branches.Given as goal
 
 abbrev pub invariant-loop-branch : goal.invariant-loop-branch
 invariant-loop-branch l = record {

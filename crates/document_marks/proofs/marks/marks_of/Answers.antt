@@ -2,11 +2,11 @@ use Rattle.std.proofs.Common.{◌≡◌, ◌∙◌, ◌++◌, length, map, ap, a
 use Rattle.std.specs.Prelude.{flat_map}
 use Rattle.std.proofs.lemmas.List.Filters.{dedup_is}
 use Rattle.schedule.specs.Repeats.{marks_within, repeat_marks}
-use Rattle.dependency_book.specs.AllMarks.{but_start, far_of}
+use Rattle.document_marks.specs.AllMarks.{but_start, far_of}
 use Rattle.desk_events.specs.Marks.{acting_marks, bookmark_mark, branch_marks, is_same}
-use Rattle.dependency_book.proofs.Marked.{AreMarksOf-once, few_acting, near_sorted}
-use Rattle.dependency_book.proofs.marks.marks_of.Goals as goal
-use Rattle.dependency_book.proofs.marks.marks_of.Goals.{After-interventions}
+use Rattle.document_marks.proofs.Marked.{AreMarksOf-once, few_acting, near_sorted}
+use Rattle.document_marks.proofs.marks.marks_of.Goals as goal
+use Rattle.document_marks.proofs.marks.marks_of.Goals.{After-interventions}
 
 -- the marks of branches and bookmarks
 found : (c : After-interventions) → c.add_bookmarks.new.marks.items

@@ -4,8 +4,7 @@ use Rattle.std.specs.Prelude.{◌==◌, ◌||◌}
 use Rattle.std.specs.List.{AllByRecursion, list_any}
 use Rattle.desk_events.specs.declared.mark.Mark.{Mark}
 use Rattle.desk_events.specs.Marks.{is_same, is_start, mark_at}
-use Rattle.dependency_book.specs.Rows.{mark_rank}
-use Rattle.dependency_book.proofs.Standing.{has}
+use Rattle.document_marks.specs.AllMarks.{mark_rank}
 use Rattle.desk_events.proofs.Shared.Tests.{either_way, clash, eq_true, eq_false}
 use Rattle.desk_events.proofs.Shared.Marks.{same_mark, start_is}
 
@@ -76,6 +75,6 @@ rank_test n m near =
 
 -- so marks that are near enough have a rank where one of them is its mark
 pub has_mark : (m : Mark) (ms : List Mark) → AllByRecursion (λ (n : Mark). n.generation ≤ 2 ^ 60) ms
-    → has mark_rank (mark_rank m) ms ≡ list_any (λ n. is_same n m) ms
+    → list_any (λ n. mark_rank n == mark_rank m) ms ≡ list_any (λ n. is_same n m) ms
 has_mark m [] near = refl
 has_mark m (n ∷ ms) near = ap₂ (λ a b. a || b) (rank_test n m near.0) (has_mark m ms near.1)

@@ -13,11 +13,11 @@ use Rattle.schedule.specs.Laws.{IsReach}
 use Rattle.schedule.specs.Plan.{Plan}
 use Rattle.schedule.specs.Sound.{IsSound}
 use Rattle.schedule.proofs.Shared.Reach.{reach-greatest}
-use Rattle.dependency_book.specs.AllMarks.{far_of}
+use Rattle.document_marks.specs.AllMarks.{far_of}
 use Rattle.desk_events.specs.declared.mark.Mark.{Mark}
 use Rattle.desk_events.specs.Marks.{bookmark_mark, branch_marks, is_start, mark_at}
 use Rattle.desk_events.proofs.Shared.Listed.{all_both, any_so, each_found, found_any, none_listed}
-use Rattle.dependency_book.proofs.Ranks.{above_start}
+use Rattle.document_marks.proofs.Shared.Ranks.{above_start}
 use Rattle.desk_events.proofs.Shared.Tests.{either_way, clash, eq_true, eq_false, true_eq, true_le, false_le, le_true, le_false, true_lt, false_lt}
 
 -- whether a mark reaches another: it is in the same branch, at the other or above

@@ -24,13 +24,12 @@ use Rattle.schedule.specs.Scratch.{acts_at}
 use Rattle.schedule.specs.Sound.{IsForked, IsPlaced, IsSound}
 use Rattle.schedule.proofs.Shared.Acts.{any-generations, few-generations}
 use Rattle.schedule.proofs.Shared.Ids.{length-filter_le}
-use Rattle.dependency_book.specs.AllMarks.{AreMarksOf, but_start, far_of}
+use Rattle.document_marks.specs.AllMarks.{AreMarksOf, but_start, far_of, mark_rank}
 use Rattle.desk_events.specs.declared.mark.Mark.{Mark}
 use Rattle.desk_events.specs.Marks.{acting_marks, acts_within, bookmark_mark, branch_marks, forks_at, is_mark, is_same, is_start, mark_at, stands_at}
-use Rattle.dependency_book.specs.Rows.{mark_rank}
-use Rattle.dependency_book.proofs.Ranks.{above_start, rank_test}
+use Rattle.document_marks.proofs.Shared.Ranks.{above_start, rank_test}
 use Rattle.desk_events.proofs.Shared.Marks.{same_mark}
-use Rattle.dependency_book.proofs.Reaching.{any_and, any_branches, any_map, far_near, far_reach, reaches}
+use Rattle.document_marks.proofs.Reaching.{any_and, any_branches, any_map, far_near, far_reach, reaches}
 use Rattle.desk_events.proofs.Shared.Tests.{either_way, false_eq, true_eq, true_le}
 
 -- marks are added one intervention after another

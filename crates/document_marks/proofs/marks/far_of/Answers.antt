@@ -4,14 +4,13 @@ use Rattle.std.specs.List.Sorted.{IsNonDecreasingBy}
 use Rattle.std.proofs.lemmas.List.{get_or-take, length-take-le}
 use Rattle.std.proofs.lemmas.List.Elements.{All-from_recursion, All-get_or}
 use Rattle.std.proofs.lemmas.List.Sorted.{IsPartitionPoint-from_clause, IsPartitionedBy-leb}
-use Rattle.dependency_book.specs.AllMarks.{far_of}
+use Rattle.document_marks.specs.AllMarks.{far_of, mark_rank}
 use Rattle.desk_events.specs.declared.mark.Mark.{Mark}
-use Rattle.dependency_book.specs.Rows.{mark_rank}
-use Rattle.dependency_book.proofs.Ranks.{rank_branch, rank_reaches}
-use Rattle.dependency_book.proofs.Reaching.{far_at, far_none}
+use Rattle.document_marks.proofs.Shared.Ranks.{rank_branch, rank_reaches}
+use Rattle.document_marks.proofs.Reaching.{far_at, far_none}
 use Rattle.desk_events.proofs.Shared.Tests.{either_way, false_le, false_lt, true_le, true_lt}
-use Rattle.dependency_book.proofs.marks.far_of.Goals as goal
-use Rattle.dependency_book.proofs.marks.far_of.Goals.{After-partition_point-end}
+use Rattle.document_marks.proofs.marks.far_of.Goals as goal
+use Rattle.document_marks.proofs.marks.far_of.Goals.{After-partition_point-end}
 
 -- marks before a place are of the branch or of lesser ones, and all from there on of greater ones
 record IsPlace (marks : List Mark) (b k : ℕ) : Type 0 where

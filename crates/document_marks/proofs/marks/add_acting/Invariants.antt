@@ -1,8 +1,8 @@
 use Rattle.std.proofs.Common.{◌≡◌, ◌≤◌, ◌+◌, ◌++◌, length, map, vec_len}
 use Rattle.std.specs.Prelude.{vec_capacity}
-use Rattle.dependency_book.specs.AllMarks.{but_start}
+use Rattle.document_marks.specs.AllMarks.{but_start}
 use Rattle.desk_events.specs.Marks.{mark_at}
-use Rattle.dependency_book.proofs.marks.add_acting.Given as goal
+use Rattle.document_marks.proofs.marks.add_acting.Given as goal
 
 abbrev pub invariant-loop-generation : goal.invariant-loop-generation
 invariant-loop-generation l = record {

@@ -1,8 +1,8 @@
 use Rattle.std.proofs.Common.{◌≡◌, ◌≤◌, ◌+◌, ◌++◌, take, map, vec_len}
 use Rattle.std.specs.Prelude.{vec_capacity}
-use Rattle.dependency_book.specs.AllMarks.{but_start}
+use Rattle.document_marks.specs.AllMarks.{but_start}
 use Rattle.desk_events.specs.Marks.{bookmark_mark}
-use Rattle.dependency_book.proofs.marks.add_bookmarks.Given as goal
+use Rattle.document_marks.proofs.marks.add_bookmarks.Given as goal
 
 abbrev pub invariant-loop-bookmark : goal.invariant-loop-bookmark
 invariant-loop-bookmark l = record {

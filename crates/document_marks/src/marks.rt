@@ -5,25 +5,20 @@ ghost use Rattle.std.specs.List.{AllByRecursion};
 ghost use Rattle.std.specs.List.Sorted.{IsNonDecreasingBy, IsPermutation};
 ghost use Rattle.schedule.specs.Acts.{generations_to};
 ghost use Rattle.schedule.specs.Repeats.{marks_within};
-ghost use Rattle.dependency_book.specs.AllMarks.{AreMarksOf, but_start, far_of};
+ghost use Rattle.document_marks.specs.AllMarks.{AreMarksOf, but_start, far_of, mark_rank};
 ghost use Rattle.desk_events.specs.Marks.{acting_marks, bookmark_mark, branch_marks, mark_at};
-ghost use Rattle.dependency_book.specs.Rows.{mark_rank};
-ghost use Rattle.dependency_book.specs.Size.{marks_at_most, plan_size};
+ghost use Rattle.document_marks.specs.MostMarks.{marks_at_most};
 
-use crate::arrival::Arrival;
-use crate::row::{Ranked, Row};
+use crate::rank::rank_of;
 use desk_events::Mark;
 use schedule::{Bookmark, Branch, Document, Intervention};
-
-/// A mark with what arrives there, or the job that is out for it.
-pub(crate) type ArrivalRow = Row<Mark, Arrival>;
 
 /// The marks of a document besides the start, each once, by rising branch and generation. They
 /// stand in the room, which is empty and has a place for each intervention, each bookmark and each
 /// generation at which something repeats, and two for each branch.
-pub(crate) fn marks_of(room: Vec<Mark>, document: &Document) -> Vec<Mark>
+pub fn marks_of(room: Vec<Mark>, document: &Document) -> Vec<Mark>
     requires empty { room.items ≡ [] }
-    requires room { marks_at_most (plan_size document.now) ≤ vec_capacity room }
+    requires room { marks_at_most document.now ≤ vec_capacity room }
     ensures { AreMarksOf document.now result.items }
 {
     let mut marks = room;
@@ -44,9 +39,9 @@ fn sort(marks: &mut Vec<Mark>)
     ensures capacity { vec_capacity marks.new ≡ vec_capacity marks.old }
     ensures sorted { IsNonDecreasingBy mark_rank marks.new.items }
 {
-    match marks.sort_by_key(|mark| mark.rank()) {
+    match marks.sort_by_key(|mark| rank_of(*mark)) {
         Ok(()) => {}
-        Err(_) => marks.sort_unstable_by_key(|mark| mark.rank()),
+        Err(_) => marks.sort_unstable_by_key(|mark| rank_of(*mark)),
     }
 }
 

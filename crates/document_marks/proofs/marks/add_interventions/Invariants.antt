@@ -1,9 +1,9 @@
 use Rattle.std.proofs.Common.{◌≡◌, ◌≤◌, ◌+◌, ◌++◌, take, vec_len}
 use Rattle.std.specs.Prelude.{flat_map, vec_capacity}
 use Rattle.schedule.specs.Repeats.{marks_within}
-use Rattle.dependency_book.specs.AllMarks.{but_start, far_of}
+use Rattle.document_marks.specs.AllMarks.{but_start, far_of}
 use Rattle.desk_events.specs.Marks.{acting_marks}
-use Rattle.dependency_book.proofs.marks.add_interventions.Given as goal
+use Rattle.document_marks.proofs.marks.add_interventions.Given as goal
 
 abbrev pub invariant-loop-intervention : goal.invariant-loop-intervention
 invariant-loop-intervention l = record {

@@ -1,7 +1,7 @@
 use Rattle.std.proofs.Common.{rules}
 use Rattle.std.proofs.lemmas.List.Sorted.{IsNonDecreasingBy-from_sort_by_key}
-use Rattle.dependency_book.specs.Rows.{mark_rank}
-use Rattle.dependency_book.proofs.marks.sort.Goals as goal
+use Rattle.document_marks.specs.AllMarks.{mark_rank}
+use Rattle.document_marks.proofs.marks.sort.Goals as goal
 
 pub returns-in-Ok-clause-sorted : goal.returns-in-Ok-clause-sorted
 returns-in-Ok-clause-sorted c =

@@ -2,12 +2,11 @@ use Rattle.std.proofs.Common.{◌≡◌, ℕ, ◌∙◌, ◌++◌, List, length,
 use Rattle.std.specs.Prelude.{vec_capacity}
 use Rattle.std.specs.List.Sorted.{IsNonDecreasingBy}
 use Rattle.std.proofs.lemmas.Grind.{common_steps}
-use Rattle.dependency_book.specs.AllMarks.{far_of}
+use Rattle.document_marks.specs.AllMarks.{far_of, mark_rank}
 use Rattle.desk_events.specs.declared.mark.Mark.{Mark}
-use Rattle.dependency_book.specs.Rows.{mark_rank}
-use Rattle.dependency_book.proofs.Marked.{long_added, marks_added, room_left}
-use Rattle.dependency_book.proofs.marks.add_interventions.Goals as goal
-use Rattle.dependency_book.proofs.marks.add_interventions.Goals.{After-deref-in-loop-intervention}
+use Rattle.document_marks.proofs.Marked.{long_added, marks_added, room_left}
+use Rattle.document_marks.proofs.marks.add_interventions.Goals as goal
+use Rattle.document_marks.proofs.marks.add_interventions.Goals.{After-deref-in-loop-intervention}
 
 -- the first marks are those that were there
 front : (n : _) (items was more : List Mark) → items ≡ was ++ more → n ≡ length was → take n items ≡ was

@@ -1,4 +1,4 @@
--- How much a document has, and how much it has at most after an edit.
+-- At most how many marks a document has besides the start, now and after an edit.
 use Rattle.std.specs.Prelude.{ℕ, ◌+◌, ◌*◌, length, Bool, true, false, ◌||◌, if◌then◌else◌}
 use Rattle.std.specs.List.{list_any}
 use Rattle.schedule.specs.declared.document.Intervention.{Intervention}
@@ -7,25 +7,11 @@ use Rattle.schedule.specs.Asked.{Asked, InsertIntervention, ChangeIntervention, 
 use Rattle.schedule.specs.Plan.{Plan}
 use Rattle.schedule.specs.Repeats.{most_marks, repeat_marks}
 
--- so many interventions, bookmarks and branches, and marks of interventions that repeat
-pub record Size : Type 0 where
-  pub interventions : ℕ
-  pub bookmarks : ℕ
-  pub branches : ℕ
-  pub repeated : ℕ
-
--- at most how many marks there are besides the start
-abbrev pub marks_at_most : Size → ℕ
-marks_at_most s = s.interventions + s.bookmarks + 2 * s.branches + s.repeated
-
--- how much a document has
-abbrev pub plan_size : Plan → Size
-plan_size p = record {
-  interventions = length p.interventions;
-  bookmarks = length p.bookmarks;
-  branches = length p.branches;
-  repeated = repeat_marks p;
-}
+-- at most how many marks there are: one for each intervention, each bookmark and each generation at
+-- which something repeats, and two for each branch
+abbrev pub marks_at_most : Plan → ℕ
+marks_at_most p =
+    length p.interventions + length p.bookmarks + 2 * length p.branches + repeat_marks p
 
 -- whether something may repeat in a document after an edit
 abbrev pub asks_to_repeat : Asked → Bool
@@ -49,11 +35,9 @@ most_repeats p asked =
     if list_any (λ (i : Intervention). repeats i.acts) p.interventions || asks_to_repeat asked
     then most_marks else 0
 
--- at most how much a document has after an edit
-abbrev pub most_after : Plan → Asked → Size
-most_after p asked = record {
-  interventions = length p.interventions + 1;
-  bookmarks = length p.bookmarks + 1;
-  branches = length p.branches + 1;
-  repeated = most_repeats p asked;
-}
+-- at most how many marks there are after an edit, with one more intervention, one more bookmark and
+-- one more branch
+abbrev pub marks_at_most_after : Plan → Asked → ℕ
+marks_at_most_after p asked =
+    (length p.interventions + 1) + (length p.bookmarks + 1) + 2 * (length p.branches + 1)
+    + most_repeats p asked

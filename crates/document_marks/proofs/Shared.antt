@@ -1,0 +1,3 @@
+-- Lemmas that other crates may cite.
+pub mod Grown
+pub mod Ranks

@@ -1,0 +1,2 @@
+pub mod AllMarks
+pub mod MostMarks

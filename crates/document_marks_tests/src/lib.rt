@@ -1,0 +1,5 @@
+//! Lists of marks, worked by hand.
+#![tactic(auto)]
+
+#[cfg(test)]
+mod tests;
