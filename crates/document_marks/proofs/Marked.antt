@@ -3,12 +3,14 @@ use Rattle.std.proofs.Common.{◌≡◌, ℕ, zero, suc, ◌+◌, ◌*◌, ◌<�
 use Rattle.std.specs.Prelude.{◌==◌, ◌&&◌, ◌||◌, flat_map}
 use Rattle.std.specs.List.{AllByRecursion, list_any, dedup, dedup_from}
 use Rattle.std.specs.List.Sorted.{IsNonDecreasingBy, IsPermutation}
+use Rattle.std.proofs.Math.Bool.{and-false, and_comm, and-or_distrib_left}
 use Rattle.std.proofs.lemmas.Bool.{and_parts}
 use Rattle.std.proofs.lemmas.Grind.{flat_map-append}
 use Rattle.std.proofs.lemmas.List.{append-nil, length-append, length-map, take_more}
 use Rattle.std.proofs.lemmas.List.Elements.{filter-append, recursion_from_All, All-from_recursion}
+use Rattle.std.proofs.lemmas.List.Filters.{All-dedup}
 use Rattle.std.proofs.lemmas.List.Folds.{list_any-append}
-use Rattle.std.proofs.lemmas.List.Sorted.{All-permutation, list_any-IsPermutation}
+use Rattle.std.proofs.lemmas.List.Sorted.{All-permutation, length_permutation, list_any-IsPermutation}
 use Rattle.std.proofs.lemmas.List.Sums.{sum_by-cons, sum_by_more, sum_by_more_le}
 use Rattle.std.proofs.lemmas.Map.Views.{any-filter_same}
 use Rattle.basics.proofs.Shared.Lists.{all_append, all_so}
@@ -142,17 +144,9 @@ never_fall (m ∷ ms) up = (
 
 -- each once
 
-all_kept : (P : Mark → Type 0) (k : Mark) (ms : List Mark) → P k → AllByRecursion P ms
-    → AllByRecursion P (dedup_from is_same k ms)
-all_kept P k [] here all = (here, tt)
-all_kept P k (m ∷ ms) here all =
-    either_way (is_same m k)
-    (λ hit. rw hit (all_kept P k ms here all.1))
-    (λ miss. rw miss (here, all_kept P m ms all.0 all.1))
-
 all_once : (P : Mark → Type 0) (ms : List Mark) → AllByRecursion P ms → AllByRecursion P (dedup is_same ms)
-all_once P [] all = tt
-all_once P (m ∷ ms) all = all_kept P m ms all.0 all.1
+all_once P ms all =
+    recursion_from_All P (dedup is_same ms) (All-dedup is_same P ms (All-from_recursion P ms all))
 
 above_all : (n : ℕ) (m : Mark) (ms : List Mark) → n < mark_rank m → AllByRecursion (λ x. mark_rank m ≤ mark_rank x) ms
     → AllByRecursion (λ x. n < mark_rank x) ms
@@ -171,7 +165,7 @@ rise_from k (m ∷ ms) low up fit =
     let le : mark_rank k ≤ mark_rank m = low.0 in
     let lt : mark_rank k < mark_rank m = omega (arith, other, le) in
     rw miss (
-      all_kept (λ x. mark_rank k < mark_rank x) m ms lt (above_all (mark_rank k) m ms lt up.0),
+      all_once (λ x. mark_rank k < mark_rank x) (m ∷ ms) (lt, above_all (mark_rank k) m ms lt up.0),
       rise_from m ms up.0 up.1 fit.1,
     ))
 
@@ -201,11 +195,19 @@ any_but : (q : Mark → Bool) (ms : List Mark) → ((k : Mark) → q k ≡ true 
     → list_any q (but_start ms) ≡ list_any q ms
 any_but q ms beside = any-filter_same q (λ k. not (is_start k)) true (λ k hit. rw (beside k hit) refl) ms
 
+-- the lists that are made one after another
+
+-- the marks at the ends of branches and at bookmarks
+abbrev pub ends_of : Plan → List Mark
+ends_of p = but_start (flat_map branch_marks p.branches) ++ but_start (map bookmark_mark p.bookmarks)
+
+-- those of interventions, as far as these marks go
+abbrev pub acts_of : Plan → List Mark → List Mark
+acts_of p marks = but_start (flat_map (acting_marks (far_of marks)) p.interventions)
+
 -- how far the marks of branches and bookmarks go
 
-module _ (p : Plan) (found sorted : List Mark) (sound : IsSound p)
-    (first : found ≡ but_start (flat_map branch_marks p.branches) ++ but_start (map bookmark_mark p.bookmarks))
-    (same : IsPermutation found sorted) where
+module _ (p : Plan) (sorted : List Mark) (sound : IsSound p) (same : IsPermutation (ends_of p) sorted) where
   reached_beside : (b g : ℕ) → 0 < g → (k : Mark) → reaches (mark_at b g) k ≡ true → is_start k ≡ false
   reached_beside b g up k hit =
       let parts = and_parts (k.branch == b) (nat_le g k.generation) hit in
@@ -218,8 +220,7 @@ module _ (p : Plan) (found sorted : List Mark) (sound : IsSound p)
       far_reach p b sorted sound there
       (λ g up.
       let q : Mark → Bool = reaches (mark_at b g) in
-      sym (list_any-IsPermutation q found sorted same)
-      ∙ ap (list_any q) first
+      sym (list_any-IsPermutation q (ends_of p) sorted same)
       ∙ list_any-append q (but_start (flat_map branch_marks p.branches)) (but_start (map bookmark_mark p.bookmarks))
       ∙ ap₂ (λ a b. a || b) (any_but q (flat_map branch_marks p.branches) (reached_beside b g up))
       (any_but q (map bookmark_mark p.bookmarks) (reached_beside b g up)))
@@ -247,19 +248,18 @@ module _ (p : Plan) (found sorted : List Mark) (sound : IsSound p)
   -- all are near enough
   fit_sorted : AllByRecursion IsFit sorted
   fit_sorted =
-      moved IsFit found sorted same
-      (subst (AllByRecursion IsFit) (sym first)
+      moved IsFit (ends_of p) sorted same
       (all_append IsFit (but_start (flat_map branch_marks p.branches)) (but_start (map bookmark_mark p.bookmarks))
       (fit_but (flat_map branch_marks p.branches) (near_branches p.branches p.branches sound.branches_sound.forked))
-      (fit_but (map bookmark_mark p.bookmarks) (near_bookmarks p.bookmarks sound.bookmarks_near))))
+      (fit_but (map bookmark_mark p.bookmarks) (near_bookmarks p.bookmarks sound.bookmarks_near)))
 
   pub near_sorted : AllByRecursion (λ (m : Mark). m.generation ≤ 2 ^ 60) sorted
   near_sorted = all_near sorted fit_sorted
 
   -- those of interventions too
-  pub fits : AllByRecursion IsFit (sorted ++ but_start (flat_map (acting_marks (far_of sorted)) p.interventions))
+  pub fits : AllByRecursion IsFit (sorted ++ acts_of p sorted)
   fits =
-      all_append IsFit sorted (but_start (flat_map (acting_marks (far_of sorted)) p.interventions)) fit_sorted
+      all_append IsFit sorted (acts_of p sorted) fit_sorted
       (fit_but (flat_map (acting_marks (far_of sorted)) p.interventions)
       (near_interventions (far_of sorted) p.interventions (λ b. far_near sorted b (2 ^ 60) near_sorted)))
 
@@ -301,11 +301,7 @@ module _ (p : Plan) (m : Mark) (sound : IsSound p) (beside : is_start m ≡ fals
       → list_any (λ n. is_same n m) (flat_map (acting_marks far) is)
       ≡ (nat_le m.generation (reach p m.branch) && list_any
       (λ (i : Intervention). acts_at i m.branch m.generation) is)
-  acts far [] same = sym (never (nat_le m.generation (reach p m.branch)))
-    where
-      never : (b : Bool) → (b && false) ≡ false
-      never true = refl
-      never false = refl
+  acts far [] same = sym (and-false (nat_le m.generation (reach p m.branch)))
   acts far (i ∷ is) same =
       list_any-append (λ n. is_same n m) (acting_marks far i) (flat_map (acting_marks far) is)
       ∙ ap₂ (λ a b. a || b)
@@ -314,45 +310,26 @@ module _ (p : Plan) (m : Mark) (sound : IsSound p) (beside : is_start m ≡ fals
       (λ hit.
       let as_far : far i.branch ≡ reach p m.branch = same.0 ∙ ap (reach p) (true_eq i.branch m.branch hit) in
       rw hit (ap (λ n. acts_on i.acts m.generation && nat_le m.generation n) as_far
-      ∙ turned (acts_on i.acts m.generation) (nat_le m.generation (reach p m.branch))))
-      (λ miss. rw miss (sym (nothing (nat_le m.generation (reach p m.branch))))))
+      ∙ and_comm (acts_on i.acts m.generation) (nat_le m.generation (reach p m.branch))))
+      (λ miss. rw miss (sym (and-false (nat_le m.generation (reach p m.branch))))))
       (acts far is same.1)
-      ∙ both (nat_le m.generation (reach p m.branch)) (acts_at i m.branch m.generation)
-      (list_any (λ (j : Intervention). acts_at j m.branch m.generation) is)
-    where
-      turned : (a b : Bool) → (a && b) ≡ (b && a)
-      turned true true = refl
-      turned true false = refl
-      turned false true = refl
-      turned false false = refl
+      ∙ sym (and-or_distrib_left (nat_le m.generation (reach p m.branch)) (acts_at i m.branch m.generation)
+      (list_any (λ (j : Intervention). acts_at j m.branch m.generation) is))
 
-      nothing : (b : Bool) → (b && false) ≡ false
-      nothing true = refl
-      nothing false = refl
-
-      both : (a b c : Bool) → ((a && b) || (a && c)) ≡ (a && (b || c))
-      both true b c = refl
-      both false b c = refl
-
-  pub marks_are : (found sorted all again : List Mark)
-      → found ≡ but_start (flat_map branch_marks p.branches) ++ but_start (map bookmark_mark p.bookmarks)
-      → IsPermutation found sorted
-      → all ≡ sorted ++ but_start (flat_map (acting_marks (far_of sorted)) p.interventions)
-      → IsPermutation all again
-      → list_any (λ n. is_same n m) (dedup is_same again) ≡ is_mark p m
-  marks_are found sorted all again first same second then_same =
+  pub marks_are : (sorted again : List Mark) → IsPermutation (ends_of p) sorted
+      → IsPermutation (sorted ++ acts_of p sorted) again → list_any (λ n. is_same n m) (dedup is_same again) ≡ is_mark p m
+  marks_are sorted again same then_same =
       let q : Mark → Bool = λ n. is_same n m in
       any_once q again
-      ∙ sym (list_any-IsPermutation q all again then_same)
-      ∙ ap (list_any q) second
-      ∙ list_any-append q sorted (but_start (flat_map (acting_marks (far_of sorted)) p.interventions))
+      ∙ sym (list_any-IsPermutation q (sorted ++ acts_of p sorted) again then_same)
+      ∙ list_any-append q sorted (acts_of p sorted)
       ∙ ap₂ (λ a b. a || b)
-      (sym (list_any-IsPermutation q found sorted same) ∙ ap (list_any q) first
+      (sym (list_any-IsPermutation q (ends_of p) sorted same)
       ∙ list_any-append q (but_start (flat_map branch_marks p.branches)) (but_start (map bookmark_mark p.bookmarks))
       ∙ ap₂ (λ a b. a || b) (any_but q (flat_map branch_marks p.branches) other_start ∙ forks)
       (any_but q (map bookmark_mark p.bookmarks) other_start ∙ any_map bookmark_mark q p.bookmarks))
       (any_but q (flat_map (acting_marks (far_of sorted)) p.interventions) other_start
-      ∙ acts (far_of sorted) p.interventions (far_each p found sorted sound first same))
+      ∙ acts (far_of sorted) p.interventions (far_each p sorted sound same))
       ∙ parted (is_start m) (list_any (λ x. forks_at x m) p.branches) (list_any (λ b. stands_at b m) p.bookmarks)
       (acts_within p m) beside
     where
@@ -361,36 +338,30 @@ module _ (p : Plan) (m : Mark) (sound : IsSound p) (beside : is_start m ≡ fals
       parted s false b c off = rw off refl
 
 -- those found in a document, in order and each once, are its marks
-pub AreMarksOf-once : (p : Plan) (found sorted all again once : List Mark) → IsSound p
-    → found ≡ but_start (flat_map branch_marks p.branches) ++ but_start (map bookmark_mark p.bookmarks)
-    → IsPermutation found sorted → length sorted ≡ length found
-    → all ≡ sorted ++ but_start (flat_map (acting_marks (far_of sorted)) p.interventions)
-    → IsPermutation all again → IsNonDecreasingBy mark_rank again → once ≡ dedup is_same again
-    → length once ≤ length all → AreMarksOf p once
-AreMarksOf-once p found sorted all again once sound first same long second then_same up left short =
-    let fit =
-    moved IsFit all again then_same
-    (subst (AllByRecursion IsFit) (sym second) (fits p found sorted sound first same)) in
+pub AreMarksOf-once : (p : Plan) (sorted again : List Mark) → IsSound p → IsPermutation (ends_of p) sorted
+    → IsPermutation (sorted ++ acts_of p sorted) again → IsNonDecreasingBy mark_rank again
+    → length (dedup is_same again) ≤ length again → AreMarksOf p (dedup is_same again)
+AreMarksOf-once p sorted again sound same then_same up short =
+    let fit = moved IsFit (sorted ++ acts_of p sorted) again then_same (fits p sorted sound same) in
     record {
-      rise = subst (IdsRise mark_rank) (sym left) (rise_once again (never_fall again up) fit);
-      near = subst (AllByRecursion IsNear) (sym left) (all_near (dedup is_same again) (all_once IsFit again fit));
-      above = subst (AllByRecursion (λ (m : Mark). is_start m ≡ false)) (sym left)
-          (all_beside (dedup is_same again) (all_once IsFit again fit));
-      are = λ m beside. ap (list_any (λ n. is_same n m)) left
-          ∙ marks_are p m sound beside found sorted all again first same second then_same;
+      rise = rise_once again (never_fall again up) fit;
+      near = all_near (dedup is_same again) (all_once IsFit again fit);
+      above = all_beside (dedup is_same again) (all_once IsFit again fit);
+      are = λ m beside. marks_are p m sound beside sorted again same then_same;
       few =
-          let a = ap length first ∙ length-append (but_start (flat_map branch_marks p.branches))
+          let all = length_permutation (sorted ++ acts_of p sorted) again then_same in
+          let ends = length_permutation (ends_of p) sorted same in
+          let a = length-append (but_start (flat_map branch_marks p.branches))
           (but_start (map bookmark_mark p.bookmarks)) in
-          let b = ap length second
-          ∙ length-append sorted (but_start (flat_map (acting_marks (far_of sorted)) p.interventions)) in
+          let b = length-append sorted (acts_of p sorted) in
           let forks = few_but (flat_map branch_marks p.branches) in
           let twice = two_each p.branches in
           let stand = few_but (map bookmark_mark p.bookmarks) in
           let stands = length-map p.bookmarks bookmark_mark in
           let act = few_but (flat_map (acting_marks (far_of sorted)) p.interventions) in
           let acts = few_each (far_of sorted) p.interventions in
-          let most = few_acting p found sorted sound first same in
-          omega (arith, a, b, forks, twice, stand, stands, act, acts, most, long, short);
+          let most = few_acting p sorted sound same in
+          omega (arith, short, all, ends, a, b, forks, twice, stand, stands, act, acts, most);
     }
   where
     few_but : (ms : List Mark) → length (but_start ms) ≤ length ms

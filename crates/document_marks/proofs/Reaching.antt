@@ -3,7 +3,9 @@ use Rattle.std.proofs.Common.{◌≡◌, ℕ, ◌<◌, ◌≤◌, ◌∙◌, Boo
 use Rattle.std.specs.Prelude.{◌==◌, ◌&&◌, ◌||◌, flat_map, fold, max, if◌then◌else◌}
 use Rattle.std.specs.Option.{option_map_or}
 use Rattle.std.specs.List.{AllByRecursion, list_any}
+use Rattle.std.proofs.Math.Bool.{or_assoc, or-false}
 use Rattle.std.proofs.lemmas.Bool.{and_parts, or_left, or_right}
+use Rattle.std.proofs.lemmas.Bool.Decides.{nat_tests}
 use Rattle.std.proofs.lemmas.List.Folds.{list_any_at, list_any_none}
 use Rattle.schedule.specs.declared.branch.Branch.{Branch}
 use Rattle.schedule.specs.declared.document.Bookmark.{Bookmark}
@@ -48,17 +50,15 @@ any_and true q xs = refl
 any_and false q [] = refl
 any_and false q (x ∷ xs) = any_and false q xs
 
--- a branch's marks
-pub any_branches : (q : Mark → Bool) (xs : List Branch) → list_any q (flat_map branch_marks xs) ≡ list_any
-    (λ (x : Branch). q (mark_at x.id x.fork) || q (mark_at x.parent x.fork)) xs
+-- whether a branch begins or leaves its parent at a mark that passes a test
+abbrev ends : (Mark → Bool) → Branch → Bool
+ends q x = q (mark_at x.id x.fork) || q (mark_at x.parent x.fork)
+
+pub any_branches : (q : Mark → Bool) (xs : List Branch)
+    → list_any q (flat_map branch_marks xs) ≡ list_any (ends q) xs
 any_branches q [] = refl
 any_branches q (x ∷ xs) = ap (λ b. q (mark_at x.id x.fork) || (q (mark_at x.parent x.fork) || b)) (any_branches q xs)
-    ∙ apart (q (mark_at x.id x.fork)) (q (mark_at x.parent x.fork))
-    (list_any (λ (y : Branch). q (mark_at y.id y.fork) || q (mark_at y.parent y.fork)) xs)
-  where
-    apart : (a b c : Bool) → (a || (b || c)) ≡ ((a || b) || c)
-    apart true b c = refl
-    apart false b c = refl
+    ∙ sym (or_assoc (q (mark_at x.id x.fork)) (q (mark_at x.parent x.fork)) (list_any (ends q) xs))
 
 -- the ends of branches and the bookmarks reach a mark of a branch that is there where the branch does
 
@@ -89,11 +89,10 @@ module _ (p : Plan) (m : Mark) (sound : IsSound p) (there : has_branch p.branche
     pub found : element_at branch_id p.branches x.id ≡ Some x
     pub low : (x.parent == m.branch) ≡ true → x.fork ≤ reach p m.branch
 
-  branch_low : list_any
-      (λ (x : Branch). reaches m (mark_at x.id x.fork) || reaches m (mark_at x.parent x.fork)) p.branches ≡ true
+  branch_low : list_any (ends (reaches m)) p.branches ≡ true
       → m.generation ≤ reach p m.branch
   branch_low any =
-      any_so (λ (x : Branch). reaches m (mark_at x.id x.fork) || reaches m (mark_at x.parent x.fork)) EndsLow p.branches
+      any_so (ends (reaches m)) EndsLow p.branches
       (λ x low hit.
       either_way (reaches m (mark_at x.id x.fork))
       (λ own. fork_low x low.found own)
@@ -118,7 +117,7 @@ module _ (p : Plan) (m : Mark) (sound : IsSound p) (there : has_branch p.branche
   -- the branch's own fork reaches what it is, if the branch is listed, as it is where it isn't 0
   own_fork : m.generation ≤ fork_of p.branches m.branch → (o : Option Branch)
       → element_at branch_id p.branches m.branch ≡ o
-      → list_any (λ (x : Branch). reaches m (mark_at x.id x.fork) || reaches m (mark_at x.parent x.fork)) p.branches
+      → list_any (ends (reaches m)) p.branches
       ≡ true
   own_fork le None none =
       let gone = none_listed branch_id p.branches m.branch none in
@@ -136,7 +135,7 @@ module _ (p : Plan) (m : Mark) (sound : IsSound p) (there : has_branch p.branche
       ap (λ (o : Option Branch). option_map_or (λ (y : Branch). y.fork) o 0) found in
       let named : (x.id == m.branch) ≡ true = found_id p.branches m.branch x found in
       found_any branch_id
-      (λ (y : Branch). reaches m (mark_at y.id y.fork) || reaches m (mark_at y.parent y.fork)) p.branches m.branch x
+      (ends (reaches m)) p.branches m.branch x
       found
       (or_left (reaches m (mark_at x.id x.fork)) (reaches m (mark_at x.parent x.fork))
       (rw (named, le_true m.generation x.fork (omega (arith, le, same))) refl))
@@ -150,12 +149,12 @@ module _ (p : Plan) (m : Mark) (sound : IsSound p) (there : has_branch p.branche
           (λ miss. found_id ys n x (rw miss at is))
 
   pub reached_by : m.generation ≤ reach p m.branch
-      → (list_any (λ (x : Branch). reaches m (mark_at x.id x.fork) || reaches m (mark_at x.parent x.fork)) p.branches
+      → (list_any (ends (reaches m)) p.branches
       || list_any (λ (b : Bookmark). reaches m (bookmark_mark b)) p.bookmarks) ≡ true
   reached_by le =
       let b = m.branch in
       let branches =
-      list_any (λ (x : Branch). reaches m (mark_at x.id x.fork) || reaches m (mark_at x.parent x.fork)) p.branches in
+      list_any (ends (reaches m)) p.branches in
       let bookmarks = list_any (λ (k : Bookmark). reaches m (bookmark_mark k)) p.bookmarks in
       elim greatest.is [
         | inl fork ↦ or_left branches bookmarks
@@ -174,7 +173,7 @@ module _ (p : Plan) (m : Mark) (sound : IsSound p) (there : has_branch p.branche
               | inr leaves ↦
                   or_left branches bookmarks
                   (any_also (λ (x : Branch). x.parent == b && x.fork == reach p b)
-                  (λ (x : Branch). reaches m (mark_at x.id x.fork) || reaches m (mark_at x.parent x.fork))
+                  (ends (reaches m))
                   p.branches
                   (λ x hit.
                   let parts = and_parts (x.parent == b) (x.fork == reach p b) hit in
@@ -189,12 +188,11 @@ module _ (p : Plan) (m : Mark) (sound : IsSound p) (there : has_branch p.branche
       (map bookmark_mark p.bookmarks)) ≡ nat_le m.generation (reach p m.branch)
   reach_is =
       ap₂ (λ a b. a || b) (any_branches (reaches m) p.branches) (any_map bookmark_mark (reaches m) p.bookmarks)
-      ∙ as_one (list_any
-      (λ (x : Branch). reaches m (mark_at x.id x.fork) || reaches m (mark_at x.parent x.fork)) p.branches || list_any
+      ∙ as_one (list_any (ends (reaches m)) p.branches || list_any
       (λ (b : Bookmark). reaches m (bookmark_mark b)) p.bookmarks) (nat_le m.generation (reach p m.branch))
       (λ any.
       either_way
-      (list_any (λ (x : Branch). reaches m (mark_at x.id x.fork) || reaches m (mark_at x.parent x.fork)) p.branches)
+      (list_any (ends (reaches m)) p.branches)
       (λ hit. le_true m.generation (reach p m.branch) (branch_low hit))
       (λ miss. le_true m.generation (reach p m.branch) (bookmark_low (rw miss at any))))
       (λ le. reached_by (true_le m.generation (reach p m.branch) le))
@@ -208,33 +206,17 @@ far_from n b marks = fold (λ far (m : Mark). if m.branch == b then max far m.ge
 -- they reach each generation of the branch up to there
 far_reaches : (n b g : ℕ) (marks : List Mark)
     → (nat_le g n || list_any (reaches (mark_at b g)) marks) ≡ nat_le g (far_from n b marks)
-far_reaches n b g [] = or_none (nat_le g n)
-  where
-    or_none : (t : Bool) → (t || false) ≡ t
-    or_none true = refl
-    or_none false = refl
+far_reaches n b g [] = or-false (nat_le g n)
 far_reaches n b g (m ∷ ms) =
     either_way (m.branch == b)
     (λ hit. rw hit
-    (regroup (nat_le g n) (nat_le g m.generation) (list_any (reaches (mark_at b g)) ms)
+    (sym (or_assoc (nat_le g n) (nat_le g m.generation) (list_any (reaches (mark_at b g)) ms))
     ∙ ap (λ t. t || list_any (reaches (mark_at b g)) ms) (up_to g n m.generation)
     ∙ far_reaches (max n m.generation) b g ms))
     (λ miss. rw miss (far_reaches n b g ms))
   where
-    regroup : (s t u : Bool) → (s || (t || u)) ≡ ((s || t) || u)
-    regroup true t u = refl
-    regroup false t u = refl
-
     up_to : (g n k : ℕ) → (nat_le g n || nat_le g k) ≡ nat_le g (max n k)
-    up_to g n k =
-        as_one (nat_le g n || nat_le g k) (nat_le g (max n k))
-        (λ any. le_true g (max n k) (either_way (nat_le g n)
-        (λ hit. let le = true_le g n hit in omega (arith, le))
-        (λ miss. let le = true_le g k (rw miss at any) in omega (arith, le))))
-        (λ le. let high = true_le g (max n k) le in
-        either_way (nat_le g n)
-        (λ hit. rw hit refl)
-        (λ miss. rw miss (le_true g k (let low = false_le g n miss in omega (arith, high, low)))))
+    up_to g n k = grind (arith, nat_tests)
 
 pub far-any : (marks : List Mark) (b g : ℕ) → 0 < g
     → list_any (reaches (mark_at b g)) marks ≡ nat_le g (far_of marks b)
@@ -244,16 +226,13 @@ far-any marks b g up = ap (λ t. t || list_any (reaches (mark_at b g)) marks) (s
 -- two numbers above which there are the same ones are one
 same_far : (m n : ℕ) → ((g : ℕ) → 0 < g → nat_le g m ≡ nat_le g n) → m ≡ n
 same_far m n same =
-    either_way (nat_lt m n)
-    (λ hit. let less = true_lt m n hit in
-    absurd (let le = true_le n m (same n (omega (arith, less)) ∙ le_true n n (omega arith)) in omega (arith, le, less)))
-    (λ miss.
-    let low = false_lt m n miss in
-    either_way (nat_lt n m)
-    (λ hit. let less = true_lt n m hit in
-    absurd (let le = true_le m n (sym (same m (omega (arith, less))) ∙ le_true m m (omega arith)) in
-    omega (arith, le, less)))
-    (λ none. let high = false_lt n m none in omega (arith, low, high)))
+    let le = far_le m n same in let ge = far_le n m (λ g up. sym (same g up)) in omega (arith, le, ge)
+  where
+    far_le : (m n : ℕ) → ((g : ℕ) → 0 < g → nat_le g m ≡ nat_le g n) → m ≤ n
+    far_le m n same =
+        either_way (nat_lt 0 m)
+        (λ hit. true_le m n (sym (same m (true_lt 0 m hit)) ∙ le_true m m (omega arith)))
+        (λ none. let low = false_lt 0 m none in omega (arith, low))
 
 -- marks go as far as one that no other of the branch is beyond
 pub far_at : (marks : List Mark) (b k : ℕ) (d : Mark) → k < length marks → (get_or marks k d).branch ≡ b
