@@ -1,7 +1,6 @@
 //! What is to be computed for a row.
 ghost use Rattle.std.specs.Prelude.{◌≡◌, IfOk, Some, IsSome};
 ghost use Rattle.std.specs.Arc.{arc_value};
-ghost use Rattle.schedule.specs.Scratch.{cells_at};
 ghost use Rattle.revision_jobs.specs.Value.{CanBeWorked};
 ghost use Rattle.dependency_book.specs.BookState.{arrival_known};
 ghost use Rattle.dependency_book.specs.Entered.{IsEntryOf, StepsTo};
@@ -13,8 +12,9 @@ use crate::book::Book;
 use crate::need::before_row;
 use crate::row::{Ranked, place_in};
 use desk_events::{Mark, Need};
+use edit_effects::cells_at;
 use revision_jobs::{Entry, Rendering, Step};
-use schedule::{CellSet, Intervention, Listing, Next, Plane};
+use schedule::{Listing, Next, Plane};
 use std::alloc::{AllocError, Global};
 use std::sync::Arc;
 
@@ -95,24 +95,6 @@ impl Book<'_> {
             None => unreachable!("what arrives at the mark is known"),
         }
     }
-}
-
-/// The cells that the interventions of a mark set, by rising id.
-pub(crate) fn cells_at(
-    alloc: Global,
-    interventions: &[Intervention],
-    mark: Mark,
-) -> Result<Listing<CellSet>, AllocError>
-    ensures { IfOk result (λ cells.
-        cells ≡ cells_at interventions.now mark.branch mark.generation) }
-{
-    let mut cells = Vec::new(alloc);
-    for intervention in interventions {
-        if intervention.acts_at(mark.branch, mark.generation) {
-            cells.extend_from_slice(intervention.cells.as_slice())?;
-        }
-    }
-    Ok(Listing::from_vec(cells))
 }
 
 // The same bytes.

@@ -4,41 +4,16 @@ ghost use Rattle.std.specs.Arc.{arc_value};
 ghost use Rattle.schedule.specs.Asked.{asked_of};
 ghost use Rattle.schedule.specs.Change.{first_refusal, refusals};
 ghost use Rattle.dependency_book.specs.BookState.{arrival_known};
-ghost use Rattle.desk_events.specs.Kept.{keeps_arrival, leaves_after};
 ghost use Rattle.dependency_book.specs.Felt.{BookFeels, BookIsUnfelt};
 ghost use Rattle.dependency_book.specs.Felt.{BookIsUnfeltAt, BookIsUnfeltWhere};
-ghost use Rattle.dependency_book.specs.Felt.{cells_after, inserted_cells, own_cells_after};
-ghost use Rattle.dependency_book.specs.Felt.{cells_if_at};
 
 use crate::book::Book;
-use crate::entered::cells_at;
 use crate::row::{Ranked, place_in};
-use crate::touched::{felt_from, touched_by};
 use desk_events::Mark;
-use schedule::{Acts, CellSet, Document, Edit, Intervention, Listing, Plane};
-use std::alloc::{AllocError, Global};
+use edit_effects::{felt_from, lays_alike, touched_by};
+use schedule::{Acts, Edit, Plane};
+use std::alloc::AllocError;
 use std::sync::Arc;
-
-/// Whether an edit that gives the document and is felt from a mark on keeps what arrives at another
-/// one.
-pub(crate) fn keeps_arrival(document: &Document, felt: Option<Mark>, mark: Mark) -> bool
-    ensures { result ≡ keeps_arrival document.now.branches felt mark }
-{
-    match felt {
-        None => true,
-        Some(from) => !document.is_felt(mark.branch, mark.generation, from.branch, from.generation),
-    }
-}
-
-/// Whether it leaves what leaves a mark.
-pub(crate) fn leaves_after(document: &Document, felt: Option<Mark>, mark: Mark) -> bool
-    ensures { result ≡ leaves_after document.now.branches felt mark }
-{
-    match felt {
-        Some(from) if from.branch == mark.branch => mark.generation < from.generation,
-        _ => keeps_arrival(document, felt, mark),
-    }
-}
 
 impl Book<'_> {
     /// The mark from which an edit that fits is felt, if it changes any pattern.
@@ -96,15 +71,10 @@ impl Book<'_> {
         ensures { IfOk result (λ unfelt.
             IsTrue unfelt ↔ BookIsUnfeltAt self.now (asked_of edit.now) mark) }
     {
-        let Some(plane) = self.known_at(mark) else {
-            return Ok(false);
-        };
-        let interventions = self.document.interventions();
-        let old = cells_at(self.alloc, interventions, mark)?;
-        let new = cells_after(self.alloc, interventions, edit, mark)?;
-        let before = plane.lay(old.as_slice())?;
-        let after = plane.lay(new.as_slice())?;
-        Ok(before.equals(&after))
+        match self.known_at(mark) {
+            Some(plane) => lays_alike(self.alloc, &self.document, edit, mark, plane),
+            None => Ok(false),
+        }
     }
 
     // What arrives at a mark, if it is known.
@@ -123,108 +93,5 @@ impl Book<'_> {
             },
             _ => None,
         }
-    }
-}
-
-// The cells that interventions set at a mark after an edit, by rising id.
-fn cells_after(
-    alloc: Global,
-    interventions: &[Intervention],
-    edit: &Edit,
-    mark: Mark,
-) -> Result<Listing<CellSet>, AllocError>
-    ensures { IfOk result (λ cells.
-        cells ≡ cells_after (asked_of edit.now) interventions.now mark) }
-{
-    let mut cells = Vec::new(alloc);
-    for intervention in interventions {
-        cells.extend_from_slice(own_cells_after(edit, intervention, mark))?;
-    }
-    cells.extend_from_slice(inserted_cells(edit, mark))?;
-    Ok(Listing::from_vec(cells))
-}
-
-// The cells that an intervention of the document before an edit sets at a mark after it.
-fn own_cells_after<'a>(edit: &'a Edit, intervention: &'a Intervention, mark: Mark) -> &'a [CellSet]
-    ensures { result.now ≡ own_cells_after (asked_of edit.now) intervention.now mark }
-{
-    match edit {
-        Edit::ChangeIntervention {
-            id,
-            generation,
-            cells,
-        } if *id == intervention.id => {
-            let acts = Acts::Once {
-                generation: *generation,
-            };
-            cells_if_at(intervention.branch, acts, cells, mark)
-        }
-        Edit::ChangeRepeat {
-            id,
-            first,
-            every,
-            last,
-            cells,
-        } if *id == intervention.id => {
-            let acts = Acts::Every {
-                first: *first,
-                every: *every,
-                last: *last,
-            };
-            cells_if_at(intervention.branch, acts, cells, mark)
-        }
-        Edit::RemoveIntervention { id } if *id == intervention.id => &[],
-        _ => cells_if_at(
-            intervention.branch,
-            intervention.acts,
-            &intervention.cells,
-            mark,
-        ),
-    }
-}
-
-// The cells that an edit's new intervention, if it inserts one, sets at a mark.
-fn inserted_cells(edit: &Edit, mark: Mark) -> &[CellSet]
-    ensures { result.now ≡ inserted_cells (asked_of edit.now) mark }
-{
-    match edit {
-        Edit::InsertIntervention {
-            branch,
-            generation,
-            cells,
-        } => cells_if_at(
-            *branch,
-            Acts::Once {
-                generation: *generation,
-            },
-            cells,
-            mark,
-        ),
-        Edit::InsertRepeat {
-            branch,
-            first,
-            every,
-            last,
-            cells,
-        } => {
-            let acts = Acts::Every {
-                first: *first,
-                every: *every,
-                last: *last,
-            };
-            cells_if_at(*branch, acts, cells, mark)
-        }
-        _ => &[],
-    }
-}
-
-// The cells where something acts in a branch at the mark, else none.
-fn cells_if_at(branch: u64, acts: Acts, cells: &Listing<CellSet>, mark: Mark) -> &[CellSet]
-    ensures { result.now ≡ cells_if_at branch acts cells.now mark }
-{
-    if branch == mark.branch && acts.acts_at(mark.generation) {
-        cells.as_slice()
-    } else {
-        &[]
     }
 }

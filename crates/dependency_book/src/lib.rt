@@ -38,7 +38,6 @@ mod rows;
 mod shown;
 mod text;
 mod texts;
-mod touched;
 
 pub use book::Book;
 pub use desk_events::{Mark, Need};

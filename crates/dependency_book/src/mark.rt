@@ -1,10 +1,10 @@
 //! The rows of marks.
 
 use crate::arrival::Arrival;
-use crate::felt::keeps_arrival;
 use crate::row::{Ranked, Row};
 use desk_events::Mark;
 use document_marks::rank_of;
+use edit_effects::keeps_arrival;
 use schedule::Document;
 
 /// A mark with what arrives there, or the job that is out for it.

@@ -2,10 +2,10 @@
 ghost use Rattle.std.specs.Prelude.{◌≡◌, count_by};
 ghost use Rattle.dependency_book.specs.BookState.{is_pending};
 
-use crate::felt::leaves_after;
 use crate::row::{Ranked, Row};
 use crate::text::Text;
 use desk_events::Mark;
+use edit_effects::leaves_after;
 use schedule::{Bookmark, Document};
 
 /// A bookmark with its text, or the job that is out for it.

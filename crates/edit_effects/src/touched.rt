@@ -20,7 +20,7 @@ fn added(branch: u64, acts: Acts) -> Touched
 }
 
 /// What an edit touches, if it is one of interventions.
-pub(crate) fn touched_by(document: &Document, edit: &Edit) -> Option<Touched>
+pub fn touched_by(document: &Document, edit: &Edit) -> Option<Touched>
     ensures { result ≡ touched_by document.now (asked_of edit.now) }
 {
     match edit {
@@ -126,7 +126,7 @@ fn begins_anew(edit: &Edit) -> bool
 }
 
 /// The mark from which an edit may be felt, if it may change any pattern.
-pub(crate) fn felt_from(document: &Document, edit: &Edit) -> Option<Mark>
+pub fn felt_from(document: &Document, edit: &Edit) -> Option<Mark>
     ensures { result ≡ felt_from document.now (asked_of edit.now) }
 {
     match touched_by(document, edit) {

@@ -1,8 +1,8 @@
 use Rattle.std.proofs.Common.{◌≡◌, take}
 use Rattle.std.specs.Prelude.{flat_map}
 use Rattle.schedule.specs.Asked.{asked_of}
-use Rattle.dependency_book.specs.Felt.{own_cells_after}
-use Rattle.dependency_book.proofs.felt.cells_after.Given as goal
+use Rattle.edit_effects.specs.CellsAfter.{own_cells_after}
+use Rattle.edit_effects.proofs.cells.cells_after.Given as goal
 
 abbrev pub invariant-loop-intervention : goal.invariant-loop-intervention
 invariant-loop-intervention l = l.cells.items ≡ flat_map (λ i. own_cells_after (asked_of l.edit) i l.mark)

@@ -1,6 +1,6 @@
 use Rattle.std.proofs.Common.{◌≡◌, take}
 use Rattle.schedule.specs.Scratch.{cells_at}
-use Rattle.dependency_book.proofs.entered.cells_at.Given as goal
+use Rattle.edit_effects.proofs.cells.cells_at.Given as goal
 
 abbrev pub invariant-loop-intervention : goal.invariant-loop-intervention
 invariant-loop-intervention l =
