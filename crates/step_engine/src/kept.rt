@@ -9,7 +9,9 @@ ghost use Rattle.step_engine.specs.Evolved.{CanEvolve, IsRoomSpent};
 ghost use Rattle.step_engine.specs.Kept.{IsPackedIn, StaysKept, SpendsNew};
 ghost use Rattle.step_engine.specs.Padded.{IsSquareOf};
 
+use crate::allowance::Allowance;
 use crate::evolved::EvolveFault;
+use crate::pace::Leap;
 use crate::padding::rooted;
 use crate::shared::no_squares;
 use bumpalo::Bump;
@@ -92,10 +94,9 @@ pub struct Engine<'a, R: Next> {
     table: SquareTable<'a>,
     memo: Memo,
     latest: Option<Packed<'a>>,
-    // How far a leap may go that begins the next way, 0 where none was made, and how many squares the
-    // leap before made.
+    // How far a leap may go that begins the next way, 0 where none was made.
     pace: u64,
-    made: u32,
+    allowance: Allowance,
 }
 
 impl<'a, R: Next> Model for Engine<'a, R> {
@@ -128,7 +129,7 @@ impl<'a, R: Next> Engine<'a, R> {
             memo: Memo::nothing(alloc),
             latest: None,
             pace: 0,
-            made: 0,
+            allowance: Allowance::new(),
         })
     }
 
@@ -188,8 +189,8 @@ impl<'a, R: Next> Engine<'a, R> {
         )
     }
 
-    /// The plane `generations` later, as `evolve` gives it. All squares are given up before, where as
-    /// many as the last leap made wouldn't fit twice more.
+    /// The plane `generations` later, as `evolve` gives it. All squares are given up before, where they
+    /// are more than the engine keeps.
     pub(crate) fn leap<S: Stop>(
         &mut self,
         plane: &Plane,
@@ -205,18 +206,14 @@ impl<'a, R: Next> Engine<'a, R> {
         ensures no_room { result ≡ Err EvolveFault.NoRoom →
             IsRoomSpent self.old.limit (R.meaning self.old.rule) plane.now generations }
     {
-        if self.is_nearly_full() {
+        let most = self.most();
+        if self.allowance.is_spent(self.table.len(), most) {
             self.give_up();
         }
         let before = self.table.len();
         let found = self.evolve(plane, generations, stop);
-        self.note_made(before);
+        self.note_leap(plane, generations, before);
         found
-    }
-
-    // Whether as many squares as the last leap made wouldn't fit twice more.
-    fn is_nearly_full(&self) -> bool {
-        u64::from(self.table.len()) + 2 * u64::from(self.made) > u64::from(self.most())
     }
 
     // Gives all squares and results up.
@@ -228,23 +225,29 @@ impl<'a, R: Next> Engine<'a, R> {
         self.memo.clear();
     }
 
-    // Notes how many squares a leap made, of which there were so many before, unless they were given
-    // up.
-    fn note_made(&mut self, before: u32)
+    // Notes a leap, before which there were so many squares, unless they were given up.
+    fn note_leap(&mut self, plane: &Plane, count: u64, before: u32)
         ensures { self.new ≡ self.old }
     {
         let after = self.table.len();
-        self.made = after.checked_sub(before).unwrap_or(after);
+        let made = after.checked_sub(before).unwrap_or(after);
+        let most = self.most();
+        self.allowance.note(plane, Leap { count, made }, most);
+    }
+
+    // How many squares there may be.
+    fn most(&self) -> u32 {
+        self.limit.min(MOST_SQUARES)
     }
 
     /// How many squares the leap before made.
     pub(crate) fn made(&self) -> u32 {
-        self.made
+        self.allowance.made()
     }
 
-    /// How many squares there may be.
-    pub(crate) fn most(&self) -> u32 {
-        self.limit.min(MOST_SQUARES)
+    /// How many squares the lengths of leaps go by.
+    pub(crate) fn measure(&self) -> u32 {
+        self.allowance.measure(self.most())
     }
 
     /// How far the leap may go that begins a way, 0 where none was made yet.

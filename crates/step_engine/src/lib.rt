@@ -13,6 +13,7 @@
 //! the level of the least square that holds them, and not with their distance.
 #![tactic(auto)]
 
+mod allowance;
 mod asked;
 mod engine;
 mod evolved;

@@ -83,7 +83,7 @@ impl<'a, R: Next> Engine<'a, R> {
                         count,
                         made: self.made(),
                     };
-                    length = paced(length, least, self.most(), last, leap);
+                    length = paced(length, least, self.measure(), last, leap);
                     last = leap;
                 }
                 Err(EvolveFault::NoRoom) if count > least => length = eased(count),
