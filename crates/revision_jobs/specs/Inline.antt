@@ -1,5 +1,5 @@
 -- What a post without threads is.
-use Rattle.std.specs.Prelude.{ℕ, [], Option, None, IfSome, true, false}
+use Rattle.std.specs.Prelude.{ℕ, Option, None, IfSome, true}
 use Rattle.revision_jobs.specs.declared.entries.Entries.{Entries}
 use Rattle.revision_jobs.specs.declared.answer.Job.{Job}
 use Rattle.revision_jobs.specs.Entries.{IsOf}

@@ -45,10 +45,11 @@ IsSent job before after Taken = after ≡ job.number + 1
 IsSent job before after (Full back) = (back ≡ job) × (after ≡ before)
 IsSent job before after (Closed back) = (back ≡ job) × (after ≡ before)
 
--- the answer's job is of the table, and that there was no room is said only where its entry has
--- none at the limit
+-- the answer's job is of the table, and was worked with this limit; that there was no room is said
+-- only where its entry has none at it
 pub record IsOwnAnswer (table : Entries) (limit : ℕ) (answer : JobResult) : Type 0 where
   pub own : IsOf table answer.job.place
+  pub named : answer.limit ≡ limit
   pub room : answer.outcome ≡ Err EvolveFault.NoRoom → HasNoRoom limit (entry_of answer.job.place)
 
 -- an answer that is given is of the table, and at the limit

@@ -1,6 +1,6 @@
 //! Jobs and their answers.
 ghost use Rattle.std.specs.Prelude.{◌≡◌, IfOk};
-ghost use Rattle.revision_jobs.specs.Answer.{IsRight, outcome_of};
+ghost use Rattle.revision_jobs.specs.Answer.{IsRight, outcome_of, result_in};
 
 use crate::entries::Place;
 use basics::Listing;
@@ -28,14 +28,26 @@ pub enum Outcome {
     Gave(EvolveFault),
 }
 
-/// The answer to a job. A value in it is the value of the job's entry, which is why `work`,
-/// `work_by` and `again` alone make answers.
+/// The answer to a job. A value in it is the value of the job's entry, and where it gave up for want
+/// of room, the entry has none at the limit that it was worked with. That is why `work`, `work_by` and
+/// `again` alone make answers.
 ///
-/// Contracts see the job, and the value or why there is none.
+/// Contracts see the job, the limit, and the value or why there is none.
 #[derive(Drop)]
 pub struct Answer {
     pub(crate) job: Job,
+    /// How many squares a step could keep when the job was worked.
+    pub(crate) limit: u32,
     pub(crate) outcome: Outcome,
+}
+
+/// The parts of an answer.
+#[derive(Drop)]
+pub struct Parts {
+    pub job: Job,
+    /// How many squares a step could keep when the job was worked.
+    pub limit: u32,
+    pub outcome: Outcome,
 }
 
 impl Model for Answer {
@@ -49,9 +61,13 @@ impl Model for Answer {
 
     ghost use Rattle.revision_jobs.specs.Answer.{IsRight, outcome_of};
 
-    ghost view = { λ answer. record { job = answer.job; outcome = outcome_of answer.outcome } };
+    ghost view = { λ answer. record {
+      job = answer.job;
+      limit = answer.limit;
+      outcome = outcome_of answer.outcome;
+    } };
 
-    ghost invariant = { λ answer. IsRight answer.job (outcome_of answer.outcome) };
+    ghost invariant = { λ answer. IsRight answer.job answer.limit (outcome_of answer.outcome) };
 }
 
 impl Job {
@@ -94,14 +110,28 @@ impl Answer {
         &self.job.place
     }
 
-    /// The job and what came of it.
-    pub fn into_parts(self) -> (Job, Outcome)
-        ensures job { result.0 ≡ self.job }
-        ensures outcome { outcome_of result.1 ≡ self.outcome }
-        ensures right { IsRight result.0 (outcome_of result.1) }
+    /// How many squares a step could keep when the job was worked.
+    pub fn limit(&self) -> u32
+        ensures { result ≡ self.now.limit }
     {
-        let Answer { job, outcome } = self;
-        (job, outcome)
+        self.limit
+    }
+
+    /// The job, what came of it, and the limit that it was worked with.
+    pub fn into_parts(self) -> Parts
+        ensures parts { result_in result ≡ self }
+        ensures right { IsRight result.job result.limit (outcome_of result.outcome) }
+    {
+        let Answer {
+            job,
+            limit,
+            outcome,
+        } = self;
+        Parts {
+            job,
+            limit,
+            outcome,
+        }
     }
 
     /// The same answer once more. It takes no memory: pattern and text are shared, which is refused
@@ -111,6 +141,7 @@ impl Answer {
     {
         Ok(Answer {
             job: self.job.again(),
+            limit: self.limit,
             outcome: self.outcome.again()?,
         })
     }

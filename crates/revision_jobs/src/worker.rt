@@ -23,6 +23,7 @@ use crate::answer::{Answer, Job, Outcome};
 use crate::entries::Entries;
 use crate::entry::{Entry, Rendering, Step};
 use crate::gate::Gate;
+use crate::kept::KeptEngine;
 use crate::laid::Laid;
 use basics::Listing;
 use bookmarks::render;
@@ -34,7 +35,7 @@ use std::sync::Arc;
 use step_engine::{Engine, EvolveFault};
 
 /// Works a job of this table's, between the gate's two calls. A step may keep at most `limit`
-/// squares, and never more than 16,777,216.
+/// squares, and never more than 16,777,216, and the answer names that limit.
 ///
 /// The answer has the value of the job's entry, or says why there is none: NoRoom where a step
 /// would need more squares, and so would a 4,096th of it, Stopped where the stop said yes, NoMemory
@@ -49,7 +50,8 @@ pub fn work<G: Gate, S: Stop>(
 ) -> Answer
     requires { IsOf entries.now job.place }
     ensures job { result.job ≡ job }
-    ensures right { IsRight result.job result.outcome }
+    ensures limit { result.limit ≡ limit }
+    ensures right { IsRight result.job result.limit result.outcome }
     ensures room { result.outcome ≡ Err EvolveFault.NoRoom → HasNoRoom limit (entry_of job.place) }
 
     // It gave up for a stop exactly where the stop said yes.
@@ -62,14 +64,19 @@ pub fn work<G: Gate, S: Stop>(
         Err(fault) => Outcome::Gave(fault),
     };
     gate.end(job.number);
-    Answer { job, outcome }
+    Answer {
+        job,
+        limit,
+        outcome,
+    }
 }
 
 /// Works a job as `work` does, by an engine for the rule of its entry, which keeps its squares and
-/// their results for later jobs. A step may keep as many squares as the engine may hold.
+/// their results for later jobs. A step may keep as many squares as the engine may hold, and the
+/// answer names that limit.
 pub fn work_by<G: Gate, S: Stop>(
     alloc: Global,
-    engine: &mut Engine<'_, Rule>,
+    engine: &mut KeptEngine<'_>,
     job: Job,
     entries: &Entries,
     gate: &mut G,
@@ -77,7 +84,8 @@ pub fn work_by<G: Gate, S: Stop>(
 ) -> Answer
     requires { CanServe engine.old.rule entries.now job }
     ensures job { result.job ≡ job }
-    ensures right { IsRight result.job result.outcome }
+    ensures limit { result.limit ≡ engine.old.limit }
+    ensures right { IsRight result.job result.limit result.outcome }
     ensures room { result.outcome ≡ Err EvolveFault.NoRoom →
         HasNoRoom engine.old.limit (entry_of job.place) }
     ensures stop { CountsStop result.outcome (Err EvolveFault.Stopped)
@@ -85,12 +93,16 @@ pub fn work_by<G: Gate, S: Stop>(
     ensures engine { engine.new ≡ engine.old }
 {
     gate.begin(job.number);
-    let outcome = match computed_by(alloc, engine, entries.at(&job.place), stop) {
+    let outcome = match computed_by(alloc, &mut engine.engine, entries.at(&job.place), stop) {
         Ok(outcome) => outcome,
         Err(fault) => Outcome::Gave(fault),
     };
     gate.end(job.number);
-    Answer { job, outcome }
+    Answer {
+        job,
+        limit: engine.limit,
+        outcome,
+    }
 }
 
 // The value of an entry, by an engine that is made for it.
