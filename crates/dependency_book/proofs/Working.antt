@@ -37,7 +37,7 @@ use Rattle.document_marks.proofs.Shared.Ranks.{has_mark}
 use Rattle.desk_events.proofs.Shared.Tests.{either_way, clash, eq_true, eq_false}
 use Rattle.std.proofs.Common.{◌++◌}
 use Rattle.std.specs.Prelude.{IfSome, if◌then◌else◌, slice_get}
-use Rattle.desk_events.specs.Core.{awaits, nothing, put}
+use Rattle.desk_events.specs.Core.{Answer, awaits, nothing, put}
 use Rattle.desk_events.specs.Entered.{IsEntryFrom}
 use Rattle.desk_events.specs.Entry.{value as core_value}
 use Rattle.desk_events.specs.Event.{CanIssue, IsTrueAnswer, after_event, answered as core_answered, cancelled as core_cancelled, cancels, collects, given_by as core_given, issues}
@@ -48,9 +48,8 @@ use Rattle.desk_events.proofs.Shared.Right as core
 use Rattle.dependency_book.specs.BookState.{given_of, with_refusal}
 use Rattle.dependency_book.specs.Called.{IsCancel, IsCollect, IsIssue}
 use Rattle.dependency_book.specs.Core.{core_of, plain_row}
-use Rattle.dependency_book.specs.Jobs.{result_of}
 use Rattle.dependency_book.specs.Right.{IsGiven}
-use Rattle.dependency_book.specs.Said.{answer_said, said, said_at, value_in}
+use Rattle.dependency_book.specs.Said.{said, said_at, value_in}
 use Rattle.dependency_book.proofs.Shared.Cores.{arrives_same, awaited, expected_state, expected_wants, once, put_core, same_core}
 use Rattle.std.proofs.Common.{map}
 use Rattle.std.proofs.lemmas.List.{map-append}
@@ -284,14 +283,18 @@ is_the_job d need place job out same =
 
 -- what the answer gives may stand in the row
 
+-- what an answer with this outcome says
+abbrev said_of : Job → Result Value EvolveFault → Answer
+said_of job outcome = record { number = job.number; value = value_in outcome }
+
 value_said : (e : Entry) → value e ≡ core_value (said e)
 value_said (entry.Step s) = refl
 value_said (entry.View r) = refl
 
 -- it is the value of the entry of its number
-answer_true : (d : BookState) (need : Need) (place : Place) (job : Job) (outcome : Result Value EvolveFault) → IsRight d
-    → expected d need ≡ numbered job.number place → entry_of place ≡ entry_of job.place → IsRightAnswer job outcome
-    → IsTrueAnswer d.entries (answer_said (result_of job outcome))
+answer_true : (d : BookState) (need : Need) (place : Place) (job : Job) {limit : ℕ} (outcome : Result Value EvolveFault) → IsRight d
+    → expected d need ≡ numbered job.number place → entry_of place ≡ entry_of job.place → IsRightAnswer job limit outcome
+    → IsTrueAnswer d.entries (said_of job outcome)
 answer_true d need place job (Err fault) right out same h = tt
 answer_true d need place job (Ok v) right out same h = record {
   entry = said_at place;
@@ -320,11 +323,11 @@ apart_row n (Known v) off k is = absurd cc
 
 collected_put : (d : BookState) (need : Need) (place : Place) (job : Job) (outcome : Result Value EvolveFault)
     → IsRight d → expected d need ≡ numbered job.number place
-    → after_event (core_of d) (collects (answer_said (result_of job outcome)))
+    → after_event (core_of d) (collects (said_of job outcome))
     ≡ put need (plain_row (given_by outcome)) (core_of d)
 collected_put d need place job outcome right out =
     let one : Job = record { number = job.number; place = place } in
-    let answer = answer_said (result_of job outcome) in
+    let answer = said_of job outcome in
     let given = plain_row (given_by outcome) in
     same_core d.plan d.plan d.entries d.entries (λ other. core_answered answer (plain_row (row_of d other)))
     (λ other. if is_need need other then given else plain_row (row_of d other)) refl refl
@@ -350,13 +353,13 @@ cancelled_put d need n place right out =
     (λ miss. uncancelled n (plain_row (row_of d other))
     (apart_row n (row_of d other) (other_number d need other one right out miss)) ∙ rw miss refl))
 
-pub may_stand : (d : BookState) (need : Need) (place : Place) (job : Job) (outcome : Result Value EvolveFault)
+pub may_stand : (d : BookState) (need : Need) (place : Place) (job : Job) {limit : ℕ} (outcome : Result Value EvolveFault)
     → IsRight d → expected d need ≡ numbered job.number place → entry_of place ≡ entry_of job.place
-    → IsRightAnswer job outcome → CanBePut d need (given_by outcome)
+    → IsRightAnswer job limit outcome → CanBePut d need (given_by outcome)
 may_stand d need place job outcome right out same h = record {
   there = expected_row d need (record { number = job.number; place = place }) right out;
   right = subst IsRightCore (collected_put d need place job outcome right out)
-      (core.collects_right (core_of d) (answer_said (result_of job outcome)) right.core
+      (core.collects_right (core_of d) (said_of job outcome) right.core
       (answer_true d need place job outcome right out same h));
   out = none_given d outcome;
 }
@@ -371,10 +374,10 @@ may_free d need n place right out = record {
 
 -- so an answer is collected, and a job cancelled
 
-collects_call : (d e : BookState) (need : Need) (place : Place) (job : Job) (outcome : Result Value EvolveFault)
+collects_call : (d e : BookState) (need : Need) (place : Place) (job : Job) {limit : ℕ} (outcome : Result Value EvolveFault)
     → IsRight d → expected d need ≡ numbered job.number place → entry_of place ≡ entry_of job.place
-    → IsRightAnswer job outcome → Puts need (given_by outcome) d e
-    → Calls (collects (answer_said (result_of job outcome))) (core_of d) (core_of e)
+    → IsRightAnswer job limit outcome → Puts need (given_by outcome) d e
+    → Calls (collects (said_of job outcome)) (core_of d) (core_of e)
 collects_call d e need place job outcome right out same h puts = record {
   can = tt;
   true_one = answer_true d need place job outcome right out same h;
@@ -385,10 +388,10 @@ collects_call d e need place job outcome right out same h puts = record {
       };
 }
 
-pub collect_is : (d e : BookState) (need : Need) (place : Place) (job : Job) (outcome : Result Value EvolveFault)
+pub collect_is : (d e : BookState) (need : Need) (place : Place) (job : Job) {limit : ℕ} (outcome : Result Value EvolveFault)
     → IsRight d → expected d need ≡ numbered job.number place → entry_of place ≡ entry_of job.place
-    → IsRightAnswer job outcome → Puts need (given_by outcome) d e
-    → IsCollect (result_of job outcome) d e (filled_by outcome)
+    → IsRightAnswer job limit outcome → Puts need (given_by outcome) d e
+    → IsCollect (record { job = job; limit = limit; outcome = outcome }) d e (filled_by outcome)
 collect_is d e need place job (Ok v) right out same h puts = collects_call d e need place job (Ok v) right out same h puts
 collect_is d e need place job (Err fault) right out same h puts =
     collects_call d e need place job (Err fault) right out same h puts
@@ -455,19 +458,21 @@ pub none_cancelled : (d : BookState) (n : ℕ) → ((need : Need) → has_number
 none_cancelled d n none need = sym (let off = none need in rw off refl)
 
 -- a job that found no room is a step's
-pub step_expects : (d : BookState) (need : Need) (place : Place) (job : Job) → IsRight d
-    → expected d need ≡ numbered job.number place → index_of place ≡ index_of job.place
-    → entry_of place ≡ entry_of job.place → ((limit : ℕ) × HasNoRoom limit (entry_of job.place)) → StepExpects d job
-step_expects d (Step b g) place job right out index same spent =
+pub step_expects : (d : BookState) (need : Need) (place : Place) (answer : JobResult) → IsRight d
+    → expected d need ≡ numbered answer.job.number place → index_of place ≡ index_of answer.job.place
+    → entry_of place ≡ entry_of answer.job.place → HasNoRoom answer.limit (entry_of answer.job.place)
+    → StepExpects d answer
+step_expects d (Step b g) place answer right out index same spent =
+    let job = answer.job in
     let m = mark_at b g in
     let can = expected_row d (Step b g) (record { number = job.number; place = place }) right out in
     let parts = and_parts (not (is_start m)) (is_mark d.plan m) can in
     let off : is_start m ≡ false = either_way (is_start m) (λ hit. clash (not (is_start m)) parts.0 (rw hit refl))
     (λ miss. miss) in
     record { mark = m; above = off; noted = parts.1; row = is_the_job d (Step b g) place job out index; spent = spent }
-step_expects d (View id) place job right out index same spent =
-    absurd (not_text (entry_of job.place) (bookmark_in d.plan.bookmarks id) spent.0 spent.1
-    (expected_wants d (View id) (record { number = job.number; place = place }) right out
+step_expects d (View id) place answer right out index same spent =
+    absurd (not_text (entry_of answer.job.place) (bookmark_in d.plan.bookmarks id) answer.limit spent
+    (expected_wants d (View id) (record { number = answer.job.number; place = place }) right out
     ∙ ap (λ e. Some (core_value (said e))) same))
   where
     not_text : (e : Entry) (o : Option Bookmark) (limit : ℕ) → HasNoRoom limit e → text_wanted d.plan o ≡ Some (core_value (said e))
@@ -477,18 +482,19 @@ step_expects d (View id) place job right out index same spent =
     not_text (entry.View r) o limit is h = is
 
 -- what came of an answer that a row expects
-pub filled_is : (d e : BookState) (need : Need) (place : Place) (job : Job) (outcome : Result Value EvolveFault)
+pub filled_is : (d e : BookState) (need : Need) (place : Place) (job : Job) {limit : ℕ} (outcome : Result Value EvolveFault)
     → IsRight d → expected d need ≡ numbered job.number place → index_of place ≡ index_of job.place
     → entry_of place ≡ entry_of job.place
-    → IsRightAnswer job outcome → Puts need (given_by outcome) d e
-    → IsFilled d e (record { job = job; outcome = outcome }) (filled_by outcome)
+    → IsRightAnswer job limit outcome → Puts need (given_by outcome) d e
+    → IsFilled d e (record { job = job; limit = limit; outcome = outcome }) (filled_by outcome)
 filled_is d e need place job (Ok v) right out same entry h puts =
     let state = expected_state d need (record { number = job.number; place = place }) out in
     let none : missing (row_of d need) ≡ 0 = ap missing state in
     let count : wanting_of e + missing (row_of d need) ≡ wanting_of d + 0 = puts.wanting in
     ((need, is_the_job d need place job out same), refl, omega (arith, none, count))
-filled_is d e need place job (Err fault) right out same entry h puts = (
+filled_is d e need place job {limit} (Err fault) right out same entry h puts = (
   (need, is_the_job d need place job out same),
   refl,
-  λ room. step_expects d need place job right out same entry (h.room (ap (λ f. Err f) room)),
+  λ room. step_expects d need place (record { job = job; limit = limit; outcome = Err fault }) right out same entry
+      (h.room (ap (λ f. Err f) room)),
 )

@@ -22,10 +22,6 @@ use Rattle.dependency_book.specs.Needs.{IsNext}
 use Rattle.dependency_book.specs.Rows.{keys}
 use Rattle.desk_events.specs.Needs.{step_to, is_need}
 
--- a job with what came of it
-abbrev pub result_of : Job → Result Value EvolveFault → JobResult
-result_of job outcome = record { job = job; outcome = outcome }
-
 -- whether a job that is out is this one: its number, at its place
 abbrev pub is_job : Job → Option Job → Bool
 is_job job None = false
@@ -61,14 +57,14 @@ pub record IsNextJob (d : BookState) (need : Need) (job : Job) : Type 0 where
 abbrev pub IsExpected : BookState → Job → Type 0
 IsExpected d job = (need : Need) × (is_job job (expected d need) ≡ true)
 
--- the row of a step expects the job, that of a mark of the document but the start, and the step has
--- no room at some limit
-pub record StepExpects (d : BookState) (job : Job) : Type 0 where
+-- the row of a step expects the job of an answer, that of a mark of the document but the start, and
+-- the step has no room at the limit that the job was worked with
+pub record StepExpects (d : BookState) (answer : JobResult) : Type 0 where
   pub mark : Mark
   pub above : is_start mark ≡ false
   pub noted : is_mark d.plan mark ≡ true
-  pub row : is_job job (expected d (step_to mark)) ≡ true
-  pub spent : (limit : ℕ) × HasNoRoom limit (entry_of job.place)
+  pub row : is_job answer.job (expected d (step_to mark)) ≡ true
+  pub spent : HasNoRoom answer.limit (entry_of answer.job.place)
 
 -- what came of an answer: a row was filled, and no more rows are empty; or it expects nothing any
 -- more because the job gave up, for want of room if it is a step's; or no row expects the job, and
@@ -79,7 +75,7 @@ IsFilled old new answer Row =
 IsFilled old new answer (Released fault) =
     IsExpected old answer.job
     × (answer.outcome ≡ Err fault)
-    × (fault ≡ EvolveFault.NoRoom → StepExpects old answer.job)
+    × (fault ≡ EvolveFault.NoRoom → StepExpects old answer)
 IsFilled old new answer NotExpected =
     ((need : Need) → is_job answer.job (expected old need) ≡ false) × (new ≡ old)
 

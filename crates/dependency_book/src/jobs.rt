@@ -1,12 +1,12 @@
 //! Jobs for the rows of a book, and what their answers change.
 ghost use Rattle.std.specs.Prelude.{◌≡◌, MatchOption, IfSome, OnErr, OnOk};
 ghost use Rattle.std.specs.Arc.{arc_value};
-ghost use Rattle.revision_jobs.specs.Answer.{IsRight as IsRightAnswer, outcome_of};
+ghost use Rattle.revision_jobs.specs.Answer.{IsRight as IsRightAnswer, outcome_of, result_in};
 ghost use Rattle.revision_jobs.specs.Entries.{IsOf};
 ghost use Rattle.revision_jobs.specs.Value.{pattern, text};
 ghost use Rattle.dependency_book.specs.declared.row.RowState.TheVariants.{Empty, Expected, Known};
 ghost use Rattle.dependency_book.specs.RowState.{state_map};
-ghost use Rattle.dependency_book.specs.Jobs.{answered, cancelled, given_by, result_of};
+ghost use Rattle.dependency_book.specs.Jobs.{answered, cancelled, given_by};
 ghost use Rattle.dependency_book.specs.Jobs.{IsAnyOut, IsFilled, IsFirstOut, IsForgotten};
 ghost use Rattle.dependency_book.specs.Jobs.{Expects, FreesOne, IsNextJob, NoneExpects, SameBook};
 ghost use Rattle.dependency_book.specs.Jobs.{SameDocument};
@@ -23,7 +23,7 @@ use crate::filled::Filled;
 use crate::row::{Ranked, RowState, any_out, least_out, lesser, put, raise_all, row_for};
 use crate::text::Text;
 use desk_events::{Mark, Need};
-use revision_jobs::{Answer, Job, Outcome, Place};
+use revision_jobs::{Answer, Job, Outcome, Parts, Place};
 use schedule::{Listing, Plane};
 use std::alloc::AllocError;
 use std::sync::Arc;
@@ -88,26 +88,27 @@ impl Book<'_> {
         ensures event { IsCollect answer self.old self.new result }
         ensures right { IsRight self.new }
     {
-        let (job, outcome) = answer.into_parts();
-        self.keep_fact(&job, &outcome);
-        let filled = self.take(job, outcome);
+        let parts = answer.into_parts();
+        self.keep_fact(&parts);
+        let filled = self.take(parts);
         if matches!(filled, Filled::Row) {
             self.recall_all();
         }
         filled
     }
 
-    // Puts an outcome in the row that expects the job, if one does.
-    fn take(&mut self, job: Job, outcome: Outcome) -> Filled
-        requires own { IsOf self.old.table job.place }
-        requires right { IsRightAnswer job (outcome_of outcome) }
-        ensures filled { IsFilled self.old self.new (result_of job (outcome_of outcome)) result }
-        ensures rows { (need : Need) → row_of self.new need
-            ≡ answered (result_of job (outcome_of outcome)) (row_of self.old need) }
+    // Puts what came of a job in the row that expects it, if one does.
+    fn take(&mut self, parts: Parts) -> Filled
+        requires own { IsOf self.old.table parts.job.place }
+        requires right { IsRightAnswer parts.job parts.limit (outcome_of parts.outcome) }
+        ensures filled { IsFilled self.old self.new (result_in parts) result }
+        ensures rows { (need : Need) →
+            row_of self.new need ≡ answered (result_in parts) (row_of self.old need) }
         ensures book { SameBook self.old self.new }
-        ensures event { IsCollect (result_of job (outcome_of outcome)) self.old self.new result }
+        ensures event { IsCollect (result_in parts) self.old self.new result }
         ensures right { IsRight self.new }
     {
+        let Parts { job, outcome, .. } = parts;
         match self.expecting(job.number) {
             Some((need, place)) if self.entries.same(place, &job.place) => {
                 self.fill_row(need, outcome)

@@ -14,23 +14,23 @@ use crate::book::Book;
 use crate::need::can_step;
 use crate::row::RowState;
 use desk_events::Mark;
-use revision_jobs::{Entry, Job, Outcome};
+use revision_jobs::{Entry, Job, Outcome, Parts};
 
 impl Book<'_> {
-    /// Keeps what came of a step, where the job is one that this book gave out. Where there is no
+    /// Keeps what came of a step, where its job is one that this book gave out. Where there is no
     /// memory for it nothing is kept.
-    pub(crate) fn keep_fact(&mut self, job: &Job, outcome: &Outcome)
-        requires own { IsOf self.old.table job.now.place }
-        requires right { IsRightAnswer job.now (outcome_of outcome.now) }
+    pub(crate) fn keep_fact(&mut self, parts: &Parts)
+        requires own { IsOf self.old.table parts.now.job.place }
+        requires right { IsRightAnswer parts.now.job parts.now.limit (outcome_of parts.now.outcome) }
         ensures { self.new ≡ self.old }
     {
-        let Outcome::Plane(plane) = outcome else {
+        let Outcome::Plane(plane) = &parts.outcome else {
             return;
         };
-        if !self.gave(job) {
+        if !self.gave(&parts.job) {
             return;
         }
-        let Entry::Step(step) = self.entries.at(&job.place) else {
+        let Entry::Step(step) = self.entries.at(&parts.job.place) else {
             return;
         };
         let _ = self.facts.keep(step, plane);

@@ -49,8 +49,7 @@ pub fn work<G: Gate, S: Stop>(
     limit: u32,
 ) -> Answer
     requires { IsOf entries.now job.place }
-    ensures job { result.job ≡ job }
-    ensures limit { result.limit ≡ limit }
+    ensures named { (result.job ≡ job) × (result.limit ≡ limit) }
     ensures right { IsRight result.job result.limit result.outcome }
     ensures room { result.outcome ≡ Err EvolveFault.NoRoom → HasNoRoom limit (entry_of job.place) }
 
@@ -83,8 +82,7 @@ pub fn work_by<G: Gate, S: Stop>(
     stop: &mut S,
 ) -> Answer
     requires { CanServe engine.old.rule entries.now job }
-    ensures job { result.job ≡ job }
-    ensures limit { result.limit ≡ engine.old.limit }
+    ensures named { (result.job ≡ job) × (result.limit ≡ engine.old.limit) }
     ensures right { IsRight result.job result.limit result.outcome }
     ensures room { result.outcome ≡ Err EvolveFault.NoRoom →
         HasNoRoom engine.old.limit (entry_of job.place) }

@@ -1,8 +1,8 @@
 use Rattle.std.proofs.Common.{◌≡◌, true, false, Option, None, Some, MatchOption, refl, sym, subst, rules}
 use Rattle.revision_jobs.specs.declared.answer.Job.{Job}
-use Rattle.revision_jobs.specs.Answer.{outcome_of}
+use Rattle.revision_jobs.specs.Answer.{outcome_of, result_in}
 use Rattle.dependency_book.specs.Called.{IsCollect}
-use Rattle.dependency_book.specs.Jobs.{result_of, IsFilled}
+use Rattle.dependency_book.specs.Jobs.{IsFilled}
 use Rattle.dependency_book.proofs.Working.{may_stand, put_answers, filled_is, collect_is, none_answered, none_numbered, elsewhere}
 use Rattle.dependency_book.proofs.book.Book.take.Goals as goal
 use Rattle.dependency_book.proofs.book.Book.take.Goals.{in_default-2, in_default}
@@ -16,33 +16,33 @@ not_true h = cc
 
 pub fill_row-requires : goal.fill_row-requires
 fill_row-requires c =
-    may_stand c.args.self.now c.in-Some.need c.in-Some.place.now c.args.job
-    (outcome_of c.args.outcome) c.expecting.ensures.right c.in-Some.ensures.row
+    may_stand c.args.self.now c.in-Some.need c.in-Some.place.now c.args.parts.job
+    (outcome_of c.args.parts.outcome) c.expecting.ensures.right c.in-Some.ensures.row
     (c.if-same.ensures.entry refl) c.requires.right
 
 pub returns-in-Some-clause-filled : goal.returns-in-Some-clause-filled
 returns-in-Some-clause-filled c =
     let d = c.args.self.now in
     let e = c.fill_row.new.self in
-    let job : Job = c.args.job in
-    let outcome = outcome_of c.args.outcome in
-    subst (IsFilled d e (result_of job outcome)) (sym c.fill_row.ensures.filled)
+    let job : Job = c.args.parts.job in
+    let outcome = outcome_of c.args.parts.outcome in
+    subst (IsFilled d e (result_in c.args.parts)) (sym c.fill_row.ensures.filled)
     (filled_is d e c.in-Some.need c.in-Some.place.now job outcome c.expecting.ensures.right c.in-Some.ensures.row
     (c.if-same.ensures.index.0 refl) (c.if-same.ensures.entry refl) c.requires.right c.fill_row.ensures.row)
 
 pub returns-in-Some-clause-rows : goal.returns-in-Some-clause-rows
 returns-in-Some-clause-rows c = λ other.
     put_answers c.args.self.now c.fill_row.new.self c.in-Some.need c.in-Some.place.now
-    (result_of c.args.job (outcome_of c.args.outcome)) c.expecting.ensures.right c.in-Some.ensures.row
+    (result_in c.args.parts) c.expecting.ensures.right c.in-Some.ensures.row
     (c.if-same.ensures.index.0 refl) c.fill_row.ensures.row other
 
 pub returns-in-Some-clause-event : goal.returns-in-Some-clause-event
 returns-in-Some-clause-event c =
     let d = c.args.self.now in
     let e = c.fill_row.new.self in
-    let job : Job = c.args.job in
-    let outcome = outcome_of c.args.outcome in
-    subst (IsCollect (result_of job outcome) d e) (sym c.fill_row.ensures.filled)
+    let job : Job = c.args.parts.job in
+    let outcome = outcome_of c.args.parts.outcome in
+    subst (IsCollect (result_in c.args.parts) d e) (sym c.fill_row.ensures.filled)
     (collect_is d e c.in-Some.need c.in-Some.place.now job outcome c.expecting.ensures.right c.in-Some.ensures.row
     (c.if-same.ensures.entry refl) c.requires.right c.fill_row.ensures.row)
 
@@ -51,8 +51,8 @@ returns-in-Some-clause-event c =
 pub returns : goal.returns
 returns c =
     let d = c.args.self.now in
-    let job : Job = c.args.job in
-    let answer = result_of job (outcome_of c.args.outcome) in
+    let job : Job = c.args.parts.job in
+    let answer = result_in c.args.parts in
     let right = c.expecting.ensures.right in
     elim c.match-expecting.branch [
       | in_default-2 w ↦
