@@ -21,11 +21,11 @@ pub record IsAccepted (old new : BookState) (answer : JobResult) : Type 0 where
   pub wanting : wanting_of new ≤ wanting_of old
 
 -- a row expects the job of an answer that says why there is no value: want of room only of a step
--- that has none at some limit
+-- that has none at the limit that the job was worked with
 pub record IsReleased (old : BookState) (answer : JobResult) (fault : EvolveFault) : Type 0 where
   pub expected : IsExpected old answer.job
   pub gave_up : answer.outcome ≡ Err fault
-  pub room : fault ≡ EvolveFault.NoRoom → StepExpects old answer.job
+  pub room : fault ≡ EvolveFault.NoRoom → StepExpects old answer
 
 -- no row expects the job of an answer, which is told with its number and the present revision, and
 -- nothing changes
