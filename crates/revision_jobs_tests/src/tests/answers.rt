@@ -24,7 +24,7 @@ fn worked(alloc: Global, entries: &Entries, number: u32, place: Place) -> Answer
 }
 
 fn plane_in(rt: &impl Abort, answer: Answer) -> Arc<Plane> {
-    let (_, outcome) = answer.into_parts();
+    let outcome = answer.into_parts().outcome;
     match outcome {
         Outcome::Plane(plane) => plane,
         Outcome::Text(_) => panic!(rt; "a text"),
@@ -33,7 +33,7 @@ fn plane_in(rt: &impl Abort, answer: Answer) -> Arc<Plane> {
 }
 
 fn text_in(rt: &impl Abort, answer: Answer) -> Arc<Listing<u8>> {
-    let (_, outcome) = answer.into_parts();
+    let outcome = answer.into_parts().outcome;
     match outcome {
         Outcome::Text(text) => text,
         Outcome::Plane(_) => panic!(rt; "a plane"),
@@ -135,6 +135,7 @@ fn answers_again(rt: HostRuntime) {
     let answer = worked(alloc, &entries, 7, place.share());
     let again = answer.again().expect(&rt, "memory");
     same(&rt, &again.number(), &7, &"number");
+    same(&rt, &again.limit(), &SQUARES, &"limit");
     assert!(rt; entries.same(again.place(), &place));
     let once = plane_in(&rt, answer);
     assert!(rt; once.equals(&plane_in(&rt, again)));
@@ -154,7 +155,7 @@ fn texts_again(rt: HostRuntime) {
 
 /// Stops the test where the answer isn't the refusal of this number.
 fn expect_gave(rt: &impl Abort, answer: Answer, number: u8) {
-    let (_, outcome) = answer.into_parts();
+    let outcome = answer.into_parts().outcome;
     match outcome {
         Outcome::Gave(fault) => same(rt, &fault.number(), &number, &"fault"),
         Outcome::Plane(_) => panic!(rt; "a plane"),

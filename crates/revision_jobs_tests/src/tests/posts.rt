@@ -36,9 +36,10 @@ fn received<P: Post>(rt: &impl Abort, post: &mut P) -> Option<u32>
 }
 
 fn number_of(rt: &impl Abort, answer: Answer) -> u32 {
-    let (job, outcome) = answer.into_parts();
+    let number = answer.number();
+    let outcome = answer.into_parts().outcome;
     match outcome {
-        Outcome::Plane(_) => job.number,
+        Outcome::Plane(_) => number,
         Outcome::Text(_) => panic!(rt; "a text"),
         Outcome::Gave(fault) => panic!(rt; "{fault:?}"),
     }
@@ -77,7 +78,7 @@ fn expect_gave<P: Post>(rt: &impl Abort, post: &mut P, number: u8)
     ensures { (P.view post.new).table ≡ (P.view post.old).table }
 {
     let outcome = match post.receive() {
-        Received::Answer(answer) => answer.into_parts().1,
+        Received::Answer(answer) => answer.into_parts().outcome,
         Received::Nothing => panic!(rt; "nothing"),
         Received::Ended => panic!(rt; "ended"),
     };

@@ -62,7 +62,7 @@ fn is_stopped_at(rt: &impl Abort, alloc: Global, entries: &Entries, place: Place
     let job = Job { number: 0, place };
     let answer = work(alloc, job, entries, &mut NoGate, &mut stop, SQUARES);
     let was_stopped = stop.left == 0;
-    let (_, outcome) = answer.into_parts();
+    let outcome = answer.into_parts().outcome;
     expect_outcome(rt, alloc, &outcome, was_stopped);
     was_stopped
 }
