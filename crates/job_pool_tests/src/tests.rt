@@ -83,9 +83,10 @@ fn received<P: Post>(rt: &impl Abort, post: &mut P) -> Answer {
 
 /// Stops the test where the answer isn't this text.
 fn expect_text(rt: &impl Abort, answer: Answer, wanted: &str) {
-    let (job, outcome) = answer.into_parts();
+    let number = answer.number();
+    let outcome = answer.into_parts().outcome;
     match outcome {
-        Outcome::Text(text) => same(rt, &text.as_slice(), &wanted.as_bytes(), &job.number),
+        Outcome::Text(text) => same(rt, &text.as_slice(), &wanted.as_bytes(), &number),
         Outcome::Plane(_) => panic!(rt; "a plane"),
         Outcome::Gave(fault) => panic!(rt; "{fault:?}"),
     }
@@ -283,7 +284,8 @@ fn stop_one<P: Post>(
     assert!(rt; is_taken(rt, post, 0, place), "taken");
     entries.raise(place);
     go_on.store(true, Ordering::SeqCst);
-    match received(rt, post).into_parts().1 {
+    let outcome = received(rt, post).into_parts().outcome;
+    match outcome {
         Outcome::Gave(fault) => Some(fault.number()),
         Outcome::Plane(_) => None,
         Outcome::Text(_) => None,
@@ -306,10 +308,11 @@ fn a_flag_stops_a_job_that_is_out(rt: HostRuntime) {
 
 /// Stops the test where the answer isn't a pattern of one cell, or of none for an odd number.
 fn expect_dot(rt: &impl Abort, answer: Answer) {
-    let (job, outcome) = answer.into_parts();
-    let wanted = if job.number % 2 == 0 { 1 } else { 0 };
+    let number = answer.number();
+    let wanted = if number % 2 == 0 { 1 } else { 0 };
+    let outcome = answer.into_parts().outcome;
     match outcome {
-        Outcome::Plane(plane) => same(rt, &plane.population(), &wanted, &job.number),
+        Outcome::Plane(plane) => same(rt, &plane.population(), &wanted, &number),
         Outcome::Text(_) => panic!(rt; "a text"),
         Outcome::Gave(fault) => panic!(rt; "{fault:?}"),
     }
