@@ -2,7 +2,6 @@
 ghost use Rattle.std.specs.Prelude.{◌↔◌, IfOk, IsTrue};
 ghost use Rattle.revision_jobs.specs.Serving.{HasRule, IsEngineFor, Serves};
 
-use crate::kept::KeptEngine;
 use basics::Listing;
 use bookmarks::View;
 use bumpalo::Bump;
@@ -10,6 +9,7 @@ use plane_core::{CellSet, Plane};
 use rule_tree::Rule;
 use std::alloc::{AllocError, Global};
 use std::sync::Arc;
+use step_engine::Engine;
 
 /// A pattern or a text that is to be computed. Both begin with the pattern `from`, on which the
 /// cells are laid in turn, so that the last mention of a cell wins. The cells lie in
@@ -63,11 +63,11 @@ impl Entry {
         alloc: Global,
         arena: &'a Bump,
         squares: u32,
-    ) -> Result<Option<KeptEngine<'a>>, AllocError>
+    ) -> Result<Option<Engine<'a, Rule>>, AllocError>
         ensures { IfOk result (λ engine. IsEngineFor squares self.now engine) }
     {
         match self {
-            Entry::Step(step) => Ok(Some(KeptEngine::new(alloc, arena, &*step.rule, squares)?)),
+            Entry::Step(step) => Ok(Some(Engine::new(alloc, arena, &*step.rule, squares)?)),
             Entry::View(_) => Ok(None),
         }
     }

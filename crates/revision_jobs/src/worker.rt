@@ -23,7 +23,6 @@ use crate::answer::{Answer, Job, Outcome};
 use crate::entries::Entries;
 use crate::entry::{Entry, Rendering, Step};
 use crate::gate::Gate;
-use crate::kept::KeptEngine;
 use crate::laid::Laid;
 use basics::Listing;
 use bookmarks::render;
@@ -75,7 +74,7 @@ pub fn work<G: Gate, S: Stop>(
 /// answer names that limit.
 pub fn work_by<G: Gate, S: Stop>(
     alloc: Global,
-    engine: &mut KeptEngine<'_>,
+    engine: &mut Engine<'_, Rule>,
     job: Job,
     entries: &Entries,
     gate: &mut G,
@@ -91,14 +90,14 @@ pub fn work_by<G: Gate, S: Stop>(
     ensures engine { engine.new ≡ engine.old }
 {
     gate.begin(job.number);
-    let outcome = match computed_by(alloc, &mut engine.engine, entries.at(&job.place), stop) {
+    let outcome = match computed_by(alloc, engine, entries.at(&job.place), stop) {
         Ok(outcome) => outcome,
         Err(fault) => Outcome::Gave(fault),
     };
     gate.end(job.number);
     Answer {
         job,
-        limit: engine.limit,
+        limit: engine.limit(),
         outcome,
     }
 }

@@ -140,6 +140,13 @@ impl<'a, R: Next> Engine<'a, R> {
         self.rule
     }
 
+    /// How many squares it may hold.
+    pub fn limit(&self) -> u32
+        ensures { result ≡ self.now.limit }
+    {
+        self.limit
+    }
+
     /// The plane `generations` later, as `evolve` gives it under the engine's rule, whatever the
     /// engine evolved before.
     ///
