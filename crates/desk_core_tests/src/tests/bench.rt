@@ -363,7 +363,7 @@ impl<'e> Bench<'e> {
     fn gave(&self, rt: &impl Abort, wanted: EvolveFault) {
         let last = self.answer.as_ref().expect(rt, "an answer");
         let answer = last.again().expect(rt, "memory");
-        let (_, outcome) = answer.into_parts();
+        let outcome = answer.into_parts().outcome;
         match outcome {
             Outcome::Gave(fault) => same(rt, &fault, &wanted, &"fault"),
             Outcome::Plane(_) => panic!(rt; "a plane"),
