@@ -2,7 +2,6 @@ pub mod Entering
 pub mod Followed
 pub mod Found
 pub mod Handed
-pub mod Merged
 pub mod Needed
 pub mod Passed
 pub mod Outs

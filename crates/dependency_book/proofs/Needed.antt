@@ -4,6 +4,9 @@ use Rattle.std.specs.Prelude.{◌==◌, ◌||◌, is_some, slice_get, count_by}
 use Rattle.std.specs.List.{list_any}
 use Rattle.std.specs.Option.{option_map_or}
 use Rattle.std.proofs.lemmas.Bool.{and_parts}
+use Rattle.std.proofs.lemmas.List.{get_or_default}
+use Rattle.ranked_rows.specs.Rows.{place_in}
+use Rattle.ranked_rows.proofs.Shared.Places.{never_falls}
 use Rattle.schedule.specs.declared.branch.Branch.{Branch}
 use Rattle.schedule.specs.declared.document.Bookmark.{Bookmark}
 use Rattle.schedule.specs.Branches.{element_at, fork_of, parent_of}
@@ -16,20 +19,19 @@ use Rattle.dependency_book.specs.declared.row.RowState.TheVariants.{Empty, Expec
 use Rattle.dependency_book.specs.declared.row.Row.{Row}
 use Rattle.desk_events.specs.declared.mark.Mark.{Mark}
 use Rattle.dependency_book.specs.BookState.{BookState, NothingOut, arrival_row, arrival_known, text_row, is_pending, pending_of, wanting_of}
-use Rattle.desk_events.specs.Wanted.{bookmark_in}
 use Rattle.dependency_book.specs.Held.{IsHeld, places_of}
 use Rattle.desk_events.specs.Marks.{ComesBefore, bookmark_mark, forks_at, is_mark, is_start}
 use Rattle.dependency_book.specs.Needs.{CanBeViewed, CanBeReached, IsLedTo, IsNotAfter, IsNextStep, StepIsNext, IsNextView}
 use Rattle.dependency_book.specs.Ready.{IsFirst, before_row, is_ready, place_ready, viewable, steppable}
 use Rattle.dependency_book.specs.RowState.{is_known, is_empty, job_of}
-use Rattle.dependency_book.specs.Rows.{ArrivalRow, TextRow, keys, place_in, bookmark_rank}
+use Rattle.dependency_book.specs.Rows.{ArrivalRow, TextRow, by_key, keys, bookmark_rank}
 use Rattle.document_marks.specs.AllMarks.{mark_rank}
 use Rattle.dependency_book.proofs.Found.{ready_is}
-use Rattle.dependency_book.proofs.Outs.{NoneOut, arrivals_none, texts_none, ids_rise}
-use Rattle.dependency_book.proofs.Placed.{StandsIn, has_row, in_at, mark_at_place, row_beside, row_comes, row_is, row_near, row_stands, stands_in, text_stands}
+use Rattle.dependency_book.proofs.Outs.{NoneOut, arrivals_none, texts_none}
+use Rattle.dependency_book.proofs.Placed.{MarkRow, in_at, mark_row, place_of_mark, row_beside, row_comes, row_is, row_near, row_stands, stands_in, text_stands}
 use Rattle.desk_events.proofs.Shared.Marks.{before_one, bookmark_is_mark}
 use Rattle.document_marks.proofs.Shared.Ranks.{rank_branches, rank_within}
-use Rattle.dependency_book.proofs.Standing.{IsNonDecreasingBy-ranked, get_or-any, has, place-has, rank-has, state_at-place, count_cons}
+use Rattle.dependency_book.proofs.Standing.{count_cons}
 use Rattle.desk_events.proofs.Shared.Tests.{either_way, clash, eq_true, false_lt, true_lt}
 
 empty_is : {V : Type 0} (s : RowState V) → is_empty s ≡ true → s ≡ Empty
@@ -47,33 +49,22 @@ option_at (x ∷ xs) (suc k) d low = option_at xs k d (omega (arith, low))
 row_for : Mark → ArrivalRow
 row_for m = record { key = m; state = Empty }
 
-row_has : (d : BookState) (places : List ℕ) (m : Mark) → IsHeld d places → is_start m ≡ false → is_mark d.plan m ≡ true
-    → has mark_rank (mark_rank m) (keys d.arrivals) ≡ true
-row_has d places m held off there = has_row d places m held off ∙ there
-
-key_at : (d : BookState) (places : List ℕ) (m : Mark) → IsHeld d places → is_start m ≡ false → is_mark d.plan m ≡ true
-    → (x : ArrivalRow) → (get_or d.arrivals (place_in mark_rank (mark_rank m) d.arrivals) x).key ≡ m
-key_at d places m held off there x = mark_at_place d places m x held (row_has d places m held off there)
-
 place_is : (d : BookState) (places : List ℕ) (m : Mark) → IsHeld d places → is_mark d.plan m ≡ true
-    → place_ready d.arrivals m (place_in mark_rank (mark_rank m) d.arrivals) ≡ is_some (arrival_known d m)
+    → place_ready d.arrivals m (place_of_mark d m) ≡ is_some (arrival_known d m)
 place_is d places m held there =
     either_way (is_start m)
     (λ hit. rw hit refl)
     (λ miss.
-    let n = mark_rank m in
-    let p = place_in mark_rank n d.arrivals in
-    let has_it : has mark_rank n (keys d.arrivals) ≡ true = row_has d places m held miss there in
-    let x = row_for m in
-    let low = place-has mark_rank n d.arrivals held.right.marks.rise has_it in
-    let at = rank-has mark_rank n d.arrivals x held.right.marks.rise has_it in
-    rw miss
-    (ap (λ (o : Option ArrivalRow). option_map_or (λ (r : ArrivalRow). is_known r.state) o false)
-    (option_at d.arrivals p x low)
-    ∙ ap is_known (sym (state_at-place mark_rank n d.arrivals x held.right.marks.rise low at))))
+    let f = mark_row d places m held miss there in
+    let p = place_of_mark d m in
+    let stands : is_known f.row.state ≡ is_some (arrival_known d m) = ap is_known (sym f.stands) in
+    ap (λ b. b || option_map_or (λ (r : ArrivalRow). is_known r.state) (slice_get d.arrivals p) false) miss
+    ∙ ap (λ (o : Option ArrivalRow). option_map_or (λ (r : ArrivalRow). is_known r.state) o false)
+    (option_at d.arrivals p f.row f.at.low)
+    ∙ ap (λ (r : ArrivalRow). is_known r.state) (f.at.is f.row) ∙ stands)
 
 place_at : (arrivals : List ArrivalRow) (rows : List TextRow) (k : ℕ) (x : TextRow) → k < length rows
-    → get_or (places_of arrivals (keys rows)) k 0 ≡ place_in mark_rank
+    → get_or (places_of arrivals (keys rows)) k 0 ≡ place_in (by_key mark_rank)
     (mark_rank (bookmark_mark (get_or rows k x).key)) arrivals
 place_at arrivals [] k x low = absurd (omega (arith, low))
 place_at arrivals (r ∷ rs) zero x low = refl
@@ -90,7 +81,7 @@ viewable_is : (d : BookState) (places : List ℕ) (k : ℕ) (x : TextRow) → Is
 viewable_is d places k x held low =
     let r = get_or d.texts k x in
     let m = bookmark_mark r.key in
-    let at : get_or places k 0 ≡ place_in mark_rank (mark_rank m) d.arrivals =
+    let at : get_or places k 0 ≡ place_of_mark d m =
     ap (λ ps. get_or ps k 0) (held.places ∙ ap (places_of d.arrivals) (sym held.right.bookmarks))
     ∙ place_at d.arrivals d.texts k x low in
     ap (λ b. is_empty r.state && b)
@@ -117,18 +108,21 @@ record ViewedAt (d : BookState) (places : List ℕ) (b : Bookmark) : Type 0 wher
 
 viewed_at : (d : BookState) (places : List ℕ) (b : Bookmark) → IsHeld d places → CanBeViewed d b → ViewedAt d places b
 viewed_at d places b held can =
-    let f = stands_in d.texts b.id b (ap (λ bs. bookmark_in bs b.id) held.right.bookmarks ∙ can.there) in
-    record { place = f.place; low = f.low; is = λ x. f.is x; can = λ x. shows d places b held can f x }
+    let f = stands_in d places b.id b held can.there in
+    let k = place_in (by_key bookmark_rank) b.id d.texts in
+    let is : (x : TextRow) → (get_or d.texts k x).key ≡ b =
+    λ x. ap (λ (r : TextRow). r.key) (f.at.is x) ∙ f.is in
+    record { place = k; low = f.at.low; is = is; can = λ x. shows k f.at.low x (is x) }
   where
-    shows : (d : BookState) (places : List ℕ) (b : Bookmark) → IsHeld d places → CanBeViewed d b
-        → (f : StandsIn d.texts b) → (x : TextRow) → viewable d.arrivals d.texts places f.place x ≡ true
-    shows d places b held can f x =
-        let r = get_or d.texts f.place x in
-        let empty : r.state ≡ Empty = sym (text_stands d places f.place x held f.low)
-        ∙ ap (λ (c : Bookmark). text_row d c.id) (f.is x) ∙ can.empty in
-        let arrived : has_arrived d r ≡ true = ap (λ (c : Bookmark). is_some (arrival_known d (bookmark_mark c)))
-        (f.is x) ∙ can.arrived in
-        viewable_is d places f.place x held f.low ∙ rw (empty, arrived) refl
+    shows : (k : ℕ) → k < length d.texts → (x : TextRow) → (get_or d.texts k x).key ≡ b
+        → viewable d.arrivals d.texts places k x ≡ true
+    shows k low x is =
+        let r = get_or d.texts k x in
+        let empty : r.state ≡ Empty = sym (text_stands d places k x held low)
+        ∙ ap (λ (c : Bookmark). text_row d c.id) is ∙ can.empty in
+        let arrived : has_arrived d r ≡ true = ap (λ (c : Bookmark). is_some (arrival_known d (bookmark_mark c))) is
+        ∙ can.arrived in
+        viewable_is d places k x held low ∙ rw (empty, arrived) refl
 
 -- a search among what equals the rows
 pub first_among : (arrivals rows : List ArrivalRow) (texts ts : List TextRow) (places ps : List ℕ) (o : Option ℕ)
@@ -154,7 +148,7 @@ view_next d places k x held is first =
           either_way (nat_lt f.place k)
           (λ hit. clash (viewable d.arrivals d.texts places f.place x) (f.can x)
           (first.2 f.place x (true_lt f.place k hit)))
-          (λ miss. let up = IsNonDecreasingBy-ranked bookmark_rank d.texts (ids_rise d places held) k f.place x
+          (λ miss. let up = never_falls (by_key bookmark_rank) d.texts held.ids_rise k f.place x
           (false_lt f.place k miss) f.low in omega (arith, up, at, named));
     }
 
@@ -219,28 +213,19 @@ record ReachedAt (d : BookState) (mark : Mark) : Type 0 where
 
 reached_at : (d : BookState) (places : List ℕ) (mark : Mark) → IsHeld d places → CanBeReached d mark → ReachedAt d mark
 reached_at d places mark held can =
-    record { place = k; low = low; is = is; can = λ x. shows x }
+    let f = mark_row d places mark held can.led.above can.led.is in
+    record { place = place_of_mark d mark; low = f.at.low; is = f.is; can = λ x. shows f x }
   where
-    k : ℕ
-    k = place_in mark_rank (mark_rank mark) d.arrivals
-
-    low : place_in mark_rank (mark_rank mark) d.arrivals < length d.arrivals
-    low = place-has mark_rank (mark_rank mark) d.arrivals held.right.marks.rise
-        (row_has d places mark held can.led.above can.led.is)
-
-    is : (x : ArrivalRow) → mark_of_row d (place_in mark_rank (mark_rank mark) d.arrivals) x ≡ mark
-    is x = key_at d places mark held can.led.above can.led.is x
-
-    shows : (x : ArrivalRow) → IsSteppable d (place_in mark_rank (mark_rank mark) d.arrivals) x
-    shows x =
-        let p = place_in mark_rank (mark_rank mark) d.arrivals in
-        let comes = subst (ComesBefore d.plan (before_at d p x)) (is x) (row_comes d places p x held low) in
+    shows : MarkRow d mark → (x : ArrivalRow) → IsSteppable d (place_of_mark d mark) x
+    shows f x =
+        let p = place_of_mark d mark in
+        let comes = subst (ComesBefore d.plan (before_at d p x)) (f.is x) (row_comes d places p x held f.at.low) in
         let one : before_at d p x ≡ can.led.before =
         before_one d.plan (before_at d p x) can.led.before mark held.right.core.sound comes can.led.comes in
         let ready : is_ready d.arrivals (before_at d p x) ≡ true = ready_is d (before_at d p x)
         ∙ ap (λ n. is_some (arrival_known d n)) one ∙ can.led.arrived in
-        let empty : (get_or d.arrivals p x).state ≡ Empty = sym (row_stands d places p x held low)
-        ∙ ap (arrival_row d) (is x) ∙ can.empty in
+        let empty : (get_or d.arrivals p x).state ≡ Empty = sym (row_stands d places p x held f.at.low)
+        ∙ ap (arrival_row d) (f.is x) ∙ can.empty in
         rw (empty, ready) refl
 
 -- of two marks that are near the one of the lesser rank isn't after the other
@@ -264,7 +249,7 @@ step_next d places k x held is first = record {
       (λ hit. clash (steppable d.plan.branches d.arrivals f.place x) (f.can x)
       (first.2 f.place x (true_lt f.place k hit)))
       (λ miss.
-      let up = IsNonDecreasingBy-ranked mark_rank d.arrivals held.right.marks.rise k f.place x
+      let up = never_falls (by_key mark_rank) d.arrivals held.marks_rise k f.place x
       (false_lt f.place k miss) f.low in
       let here : mark_rank x.key ≤ mark_rank other =
       subst (λ (m : Mark). mark_rank x.key ≤ mark_rank m) (f.is x)
@@ -387,10 +372,10 @@ row_known d places m n held below there low =
     (λ hit. rw hit refl)
     (λ miss.
     let x = row_for m in
-    let k = place_in mark_rank (mark_rank m) d.arrivals in
-    let fits = place-has mark_rank (mark_rank m) d.arrivals held.right.marks.rise
-    (row_has d places m held miss there) in
-    let is : mark_of_row d k x ≡ m = key_at d places m held miss there x in
+    let k = place_of_mark d m in
+    let f = mark_row d places m held miss there in
+    let fits = f.at.low in
+    let is : mark_of_row d k x ≡ m = f.is x in
     ready_is d m
     ∙ ap (λ n. is_some (arrival_known d n)) (sym is)
     ∙ ap is_known (row_stands d places k x held fits)
@@ -410,10 +395,10 @@ known_below d places held out none (suc n) k x under low =
     either_way (nat_lt j k)
     (λ hit. let less = true_lt j k hit in omega (arith, less, under))
     (λ miss.
-    let up = IsNonDecreasingBy-ranked mark_rank d.arrivals held.right.marks.rise k j y (false_lt j k miss) fits in
+    let up = never_falls (by_key mark_rank) d.arrivals held.marks_rise k j y (false_lt j k miss) fits in
     let here : mark_rank (mark_of_row d j y) ≡ mark_rank b = ap mark_rank is in
     let same : mark_rank (mark_of_row d k y) ≡ mark_rank m =
-    ap (λ (r : ArrivalRow). mark_rank r.key) (get_or-any d.arrivals k y x low) in
+    ap (λ (r : ArrivalRow). mark_rank r.key) (get_or_default d.arrivals k y x low) in
     absurd (omega (arith, up, here, same, lower))) in
     let ready = row_known d places b n held (known_below d places held out none n)
     (before_is d.plan b m comes) earlier in

@@ -14,7 +14,8 @@ use Rattle.desk_events.specs.declared.mark.Mark.{Mark}
 use Rattle.desk_events.specs.declared.need.Need.{Need}
 use Rattle.desk_events.specs.declared.need.Need.TheVariants.{Step, View}
 use Rattle.dependency_book.specs.BookState.{BookState, NothingOut, arrival_row, text_row, expected}
-use Rattle.dependency_book.specs.Held.{IsHeld}
+use Rattle.dependency_book.specs.Held.{IsHeld, places_of}
+use Rattle.dependency_book.specs.Right.{IsRight}
 use Rattle.dependency_book.specs.Jobs.{IsAnyOut, IsFirstOut}
 use Rattle.desk_events.specs.Needs.{step_to}
 use Rattle.desk_events.specs.Marks.{is_start, mark_at}
@@ -23,7 +24,7 @@ use Rattle.dependency_book.specs.Rows.{keys, IsRanked, state_at, bookmark_rank}
 use Rattle.document_marks.specs.AllMarks.{mark_rank}
 use Rattle.document_marks.proofs.Shared.Ranks.{rank_zero}
 use Rattle.desk_events.proofs.Shared.Marks.{start_is}
-use Rattle.dependency_book.proofs.Standing.{has, has-above, state_at-above}
+use Rattle.dependency_book.proofs.Standing.{each_stands, has, has-above, ranked_by, state_at-above}
 use Rattle.desk_events.proofs.Shared.Tests.{either_way, clash, true_eq, eq_true, eq_false, false_eq}
 
 pub job_of-map : {V W : Type 0} (f : V → W) (s : RowState V) → job_of (state_map f s) ≡ job_of s
@@ -47,20 +48,6 @@ out_for d id = job_of-map text (text_row d id)
 abbrev pub NoneOut : {K V : Type 0} → List (Row K V) → Type 0
 NoneOut rows = AllByRecursion (λ (r : Row _ _). job_of r.state ≡ None) rows
 
-none_out : {K V : Type 0} (rank : K → ℕ) (rows : List (Row K V)) → IsRanked rank rows
-    → ((k : K) → job_of (state_at rank (rank k) rows) ≡ None) → NoneOut rows
-none_out rank [] ranked none = tt
-none_out {K} {V} rank (r ∷ rs) ranked none = (
-  (let here = none r.key in rw (eq_true (rank r.key) (rank r.key) refl) at here),
-  none_out rank rs ranked.1 (λ k.
-      either_way (rank r.key == rank k)
-      (λ hit. ap job_of
-      (state_at-above rank (rank k) rs
-      (has-above rank (rank r.key) (rank k) (keys rs) ranked.0
-      (let is = true_eq (rank r.key) (rank k) hit in omega (arith, is)))))
-      (λ miss. let there = none k in rw miss at there)),
-)
-
 -- the start has no row
 no_start : (ms : List Mark) → AllByRecursion (λ (m : Mark). is_start m ≡ false) ms
     → has mark_rank (mark_rank (mark_at 0 0)) ms ≡ false
@@ -75,18 +62,27 @@ start_absent d places m held hit = ap (λ n. has mark_rank (mark_rank n) (keys d
 
 pub arrivals_none : (d : BookState) (places : List ℕ) → IsHeld d places → NothingOut d → NoneOut d.arrivals
 arrivals_none d places held out =
-    none_out mark_rank d.arrivals held.right.marks.rise
+    each_stands mark_rank (λ _ s. job_of s ≡ None) d.arrivals held.marks_rise
     (λ m.
     either_way (is_start m)
     (λ hit. ap job_of (state_at-above mark_rank (mark_rank m) d.arrivals (start_absent d places m held hit)))
     (λ miss. sym (out_at d m miss) ∙ out (step_to m)))
 
-pub ids_rise : (d : BookState) (places : List ℕ) → IsHeld d places → IsRanked bookmark_rank d.texts
-ids_rise d places held = subst (IdsRise bookmark_id) (sym held.right.bookmarks) held.right.core.sound.bookmarks_rise
+-- the ranks of its rows rise where a book is right
+pub held_by : (d : BookState) (places : List ℕ) → places ≡ places_of d.arrivals d.plan.bookmarks → IsRight d
+    → IsHeld d places
+held_by d places are right = record {
+  places = are;
+  right = right;
+  marks_rise = ranked_by mark_rank d.arrivals right.marks.rise;
+  ids_rise = ranked_by bookmark_rank d.texts
+      (subst (IdsRise bookmark_id) (sym right.bookmarks) right.core.sound.bookmarks_rise);
+}
 
 pub texts_none : (d : BookState) (places : List ℕ) → IsHeld d places → NothingOut d → NoneOut d.texts
 texts_none d places held out =
-    none_out bookmark_rank d.texts (ids_rise d places held) (λ b. sym (out_for d b.id) ∙ out (View b.id))
+    each_stands bookmark_rank (λ _ s. job_of s ≡ None) d.texts held.ids_rise
+    (λ b. sym (out_for d b.id) ∙ out (View b.id))
 
 -- the row that expects the job of a number
 
@@ -147,7 +143,7 @@ row_for-is rank n (r ∷ rs) key place ranked h =
     let miss : (rank r.key == g) ≡ false =
     either_way (rank r.key == g)
     (λ hit. clash (has rank g (keys rs)) f.there
-    (has-above rank (rank r.key) g (keys rs) ranked.0 (let is = true_eq (rank r.key) g hit in omega (arith, is))))
+    (has-above rank (rank r.key) g rs ranked.0 (let is = true_eq (rank r.key) g hit in omega (arith, is))))
     (λ off. off) in
     record { there = rw miss f.there; out = rw miss f.out })
 
@@ -164,7 +160,7 @@ expecting_none d n arrivals texts (View id) = ap (has_number n) (out_for d id)
 pub expecting_mark : (d : BookState) (places : List ℕ) (n : ℕ) (key : Mark) (place : Place) → IsHeld d places
     → row_for n d.arrivals ≡ Some (key, place) → expected d (step_to key) ≡ numbered n place
 expecting_mark d places n key place held is =
-    let f = row_for-is mark_rank n d.arrivals key place held.right.marks.rise is in
+    let f = row_for-is mark_rank n d.arrivals key place held.marks_rise is in
     either_way (is_start key)
     (λ hit. clash (has mark_rank (mark_rank key) (keys d.arrivals)) f.there (start_absent d places key held hit))
     (λ miss. out_at d key miss ∙ f.out)
@@ -172,7 +168,7 @@ expecting_mark d places n key place held is =
 pub expecting_text : (d : BookState) (places : List ℕ) (n : ℕ) (key : Bookmark) (place : Place) → IsHeld d places
     → row_for n d.texts ≡ Some (key, place) → expected d (View key.id) ≡ numbered n place
 expecting_text d places n key place held is =
-    out_for d key.id ∙ (row_for-is bookmark_rank n d.texts key place (ids_rise d places held) is).out
+    out_for d key.id ∙ (row_for-is bookmark_rank n d.texts key place held.ids_rise is).out
 
 -- the least number that is out
 

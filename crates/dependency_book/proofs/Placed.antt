@@ -1,80 +1,59 @@
 -- Marks and bookmarks by the places of their rows.
 use Rattle.std.proofs.Common.{◌≡◌, ℕ, zero, suc, ◌<◌, ◌≤◌, ◌^◌, ◌∙◌, true, false, nat_lt, List, [], ◌∷◌, length, get_or, refl, sym, ap, subst, arith, inl, inr, Option, None, Some}
-use Rattle.std.specs.Prelude.{◌==◌, ◌||◌, IfSome}
-use Rattle.std.specs.Option.{option_map_or}
+use Rattle.std.specs.Prelude.{◌==◌, ◌||◌, IfSome, is_some}
+use Rattle.std.specs.Option.{option_map, option_map_or}
 use Rattle.std.specs.List.{AllByRecursion}
+use Rattle.std.proofs.lemmas.Bool.{cond-false}
 use Rattle.schedule.specs.declared.branch.Branch.{Branch}
 use Rattle.schedule.specs.declared.document.Bookmark.{Bookmark}
 use Rattle.schedule.specs.Branches.{element_at, fork_of, parent_of}
-use Rattle.schedule.specs.Ids.{branch_id, has_id}
+use Rattle.schedule.specs.Ids.{IdsRise, branch_id, has_id}
 use Rattle.schedule.specs.Sound.{IsForked}
 use Rattle.schedule.proofs.Shared.Branches.{element_at-is}
+use Rattle.ranked_rows.specs.Rows.{place_in, row_at}
+use Rattle.ranked_rows.proofs.Shared.Places.{Stands, never_falls, rank_rises, row_there, stands}
 use Rattle.desk_events.specs.declared.mark.Mark.{Mark}
-use Rattle.dependency_book.specs.declared.row.Row.{Row}
+use Rattle.dependency_book.specs.declared.row.RowState.TheVariants.{Known}
 use Rattle.dependency_book.specs.BookState.{BookState, arrival_row, text_row}
 use Rattle.desk_events.specs.Wanted.{bookmark_in}
 use Rattle.dependency_book.specs.Held.{IsHeld}
 use Rattle.desk_events.specs.Marks.{ComesBefore, Precedes, forks_at, is_mark, is_start, mark_at}
 use Rattle.dependency_book.specs.Ready.{before_in, before_row, row_before}
-use Rattle.dependency_book.specs.Rows.{ArrivalRow, TextRow, keys, IsRanked, place_in, bookmark_rank}
+use Rattle.dependency_book.specs.Rows.{ArrivalRow, TextRow, by_key, keys, state_at, bookmark_rank}
 use Rattle.document_marks.specs.AllMarks.{mark_rank}
 use Rattle.desk_events.proofs.Shared.Listed.{found_any, none_listed}
-use Rattle.dependency_book.proofs.Outs.{ids_rise}
 use Rattle.document_marks.proofs.Shared.Ranks.{above_start, has_mark, rank_branch, rank_generation, rank_is, rank_within}
 use Rattle.desk_events.proofs.Shared.Marks.{start_is, mark_placed, before_one}
-use Rattle.dependency_book.proofs.Standing.{IsNonDecreasingBy-ranked, has, rank_at, rank_rises, above_at, has-row, state_at-row, below_place, from_place, place-has, rank-has}
-use Rattle.desk_events.proofs.Shared.Tests.{either_way, clash, true_eq, false_eq, eq_true, eq_false, true_lt, false_lt}
+use Rattle.dependency_book.proofs.Standing.{has, has_row_at, has_stands, key_row, state_at-row, state_in, state_row}
+use Rattle.desk_events.proofs.Shared.Tests.{either_way, clash, true_eq, false_eq, eq_true, true_lt, false_lt}
 
--- a row's own rank has its place
-pub place_of-row : {K V : Type 0} (rank : K → ℕ) (rows : List (Row K V)) (k : ℕ) (d : Row K V) → IsRanked rank rows
-    → k < length rows → place_in rank (rank_at rank rows k d) rows ≡ k
-place_of-row rank rows k d ranked low =
-    let n = rank_at rank rows k d in
-    let p = place_in rank n rows in
-    either_way (nat_lt k p)
-    (λ hit. absurd (let a = below_place rank n rows k d (true_lt k p hit) in omega (arith, a)))
-    (λ miss.
-    let le = false_lt k p miss in
-    either_way (nat_lt p k)
-    (λ hit. absurd
-    (let lt = true_lt p k hit in let a = rank_rises rank rows p k d ranked lt low in let b =
-    from_place rank n rows p d ranked (omega arith) (omega (arith, lt, low)) in omega (arith, a, b)))
-    (λ none. let ge = false_lt p k none in omega (arith, le, ge)))
+-- ranks of rows beside others
 
 -- a rank of a row that is below that of another isn't above that of the row before it
-pub before_le : {K V : Type 0} (rank : K → ℕ) (rows : List (Row K V)) (j n : ℕ) (d : Row K V) → IsRanked rank rows
-    → suc j < length rows → has rank n (keys rows) ≡ true → n < rank_at rank rows (suc j) d → n ≤ rank_at rank rows j d
-before_le rank rows j n d ranked low there less =
+before_le : {T : Type 0} (rank : T → ℕ) (rows : List T) (j n : ℕ) (r d : T) → IdsRise rank rows → suc j < length rows
+    → Stands rank n rows r → n < rank (get_or rows (suc j) d) → n ≤ rank (get_or rows j d)
+before_le rank rows j n r d rise low at less =
     let p = place_in rank n rows in
-    let at : rank_at rank rows p d ≡ n = rank-has rank n rows d ranked there in
-    let fits = place-has rank n rows ranked there in
+    let is : rank (get_or rows p d) ≡ n = ap rank (at.is d) ∙ at.ranked in
     either_way (nat_lt j p)
-    (λ hit.
-    absurd
-    (let up : rank_at rank rows (suc j) d ≤ rank_at rank rows p d =
-    IsNonDecreasingBy-ranked rank rows ranked (suc j) p d (let lt = true_lt j p hit in omega (arith, lt)) fits in
-    omega (arith, up, at, less)))
+    (λ hit. absurd
+    (let up : rank (get_or rows (suc j) d) ≤ rank (get_or rows p d) =
+    never_falls rank rows rise (suc j) p d (let lt = true_lt j p hit in omega (arith, lt)) at.low in
+    omega (arith, up, is, less)))
     (λ miss.
-    let up : rank_at rank rows p d ≤ rank_at rank rows j d =
-    IsNonDecreasingBy-ranked rank rows ranked p j d (false_lt j p miss) (omega (arith, low)) in
-    omega (arith, up, at))
+    let up : rank (get_or rows p d) ≤ rank (get_or rows j d) =
+    never_falls rank rows rise p j d (false_lt j p miss) (omega (arith, low)) in
+    omega (arith, up, is))
 
 -- and none is below that of the first
-pub first_least : {K V : Type 0} (rank : K → ℕ) (rows : List (Row K V)) (n : ℕ) (d : Row K V) → IsRanked rank rows
-    → has rank n (keys rows) ≡ true → n < rank_at rank rows 0 d → ⊥
-first_least rank rows n d ranked there less =
+first_least : {T : Type 0} (rank : T → ℕ) (rows : List T) (n : ℕ) (r d : T) → IdsRise rank rows → Stands rank n rows r
+    → n < rank (get_or rows 0 d) → ⊥
+first_least rank rows n r d rise at less =
     let p = place_in rank n rows in
-    let at : rank_at rank rows p d ≡ n = rank-has rank n rows d ranked there in
-    let up : rank_at rank rows 0 d ≤ rank_at rank rows p d =
-    IsNonDecreasingBy-ranked rank rows ranked 0 p d (omega arith) (place-has rank n rows ranked there) in
-    omega (arith, up, at, less)
-
--- what holds of each key holds of that at a place
-pub key_holds : {K V : Type 0} (P : K → Type 0) (rows : List (Row K V)) (k : ℕ) (d : Row K V)
-    → AllByRecursion P (keys rows) → k < length rows → P (get_or rows k d).key
-key_holds P [] k d all low = absurd (omega (arith, low))
-key_holds P (r ∷ rs) zero d all low = all.0
-key_holds P (r ∷ rs) (suc k) d all low = key_holds P rs k d all.1 (omega (arith, low))
+    let is : rank (get_or rows p d) ≡ n = ap rank (at.is d) ∙ at.ranked in
+    let up : rank (get_or rows 0 d) ≤ rank (get_or rows p d) =
+    never_falls rank rows rise 0 p d (omega arith) at.low in
+    omega (arith, up, is, less)
 
 -- marks by their rows
 
@@ -82,42 +61,73 @@ key_holds P (r ∷ rs) (suc k) d all low = key_holds P rs k d all.1 (omega (arit
 abbrev pub mark_of : List ArrivalRow → ℕ → ArrivalRow → Mark
 mark_of rows k x = (get_or rows k x).key
 
+-- what holds of each mark of the rows holds of that at a place
+row_holds : (P : Mark → Type 0) (rows : List ArrivalRow) (k : ℕ) (x : ArrivalRow) → AllByRecursion P (keys rows)
+    → k < length rows → P (mark_of rows k x)
+row_holds P [] k x all low = absurd (omega (arith, low))
+row_holds P (r ∷ rs) zero x all low = all.0
+row_holds P (r ∷ rs) (suc k) x all low = row_holds P rs k x all.1 (omega (arith, low))
+
 pub row_near : (d : BookState) (places : List ℕ) (k : ℕ) (x : ArrivalRow) → IsHeld d places → k < length d.arrivals
     → (mark_of d.arrivals k x).generation ≤ 2 ^ 60
 row_near d places k x held low =
-    key_holds (λ (m : Mark). m.generation ≤ 2 ^ 60) d.arrivals k x held.right.marks.near low
+    row_holds (λ (m : Mark). m.generation ≤ 2 ^ 60) d.arrivals k x held.right.marks.near low
 
 -- it isn't the start
 pub row_beside : (d : BookState) (places : List ℕ) (k : ℕ) (x : ArrivalRow) → IsHeld d places → k < length d.arrivals
     → is_start (mark_of d.arrivals k x) ≡ false
 row_beside d places k x held low =
-    key_holds (λ (m : Mark). is_start m ≡ false) d.arrivals k x held.right.marks.above low
+    row_holds (λ (m : Mark). is_start m ≡ false) d.arrivals k x held.right.marks.above low
 
 -- a mark besides the start has a row
 pub has_row : (d : BookState) (places : List ℕ) (m : Mark) → IsHeld d places → is_start m ≡ false
     → has mark_rank (mark_rank m) (keys d.arrivals) ≡ is_mark d.plan m
 has_row d places m held beside = has_mark m (keys d.arrivals) held.right.marks.near ∙ held.right.marks.are m beside
 
+-- the place of a mark's row
+abbrev pub place_of_mark : BookState → Mark → ℕ
+place_of_mark d m = place_in (by_key mark_rank) (mark_rank m) d.arrivals
+
+-- what stands at a mark besides the start stands in the row of its rank
+pub arrival_in : (d : BookState) (m : Mark) → is_start m ≡ false
+    → arrival_row d m ≡ state_in (row_at (by_key mark_rank) (mark_rank m) d.arrivals)
+arrival_in d m beside = cond-false (is_start m) (Known d.plan.start) (state_at mark_rank (mark_rank m) d.arrivals) beside
+    ∙ state_row mark_rank (mark_rank m) d.arrivals
+
+pub record MarkRow (d : BookState) (m : Mark) : Type 0 where
+  pub row : ArrivalRow
+  pub at : Stands (by_key mark_rank) (mark_rank m) d.arrivals row
+  pub is : (x : ArrivalRow) → mark_of d.arrivals (place_of_mark d m) x ≡ m
+  pub stands : arrival_row d m ≡ row.state
+
+pub mark_row : (d : BookState) (places : List ℕ) (m : Mark) → IsHeld d places → is_start m ≡ false
+    → is_mark d.plan m ≡ true → MarkRow d m
+mark_row d places m held beside there =
+    let f = has_stands mark_rank (mark_rank m) d.arrivals held.marks_rise
+    (has_row d places m held beside ∙ there) in
+    let at = f.1 in
+    record {
+      row = f.0;
+      at = at;
+      is = λ x. sym (rank_is m (mark_of d.arrivals (place_of_mark d m) x)
+          (row_near d places (place_of_mark d m) x held at.low)
+          (sym (ap (by_key mark_rank) (at.is x) ∙ at.ranked)));
+      stands = arrival_in d m beside ∙ ap state_in at.row;
+    }
+
 -- and a row has a mark
 pub row_is : (d : BookState) (places : List ℕ) (k : ℕ) (x : ArrivalRow) → IsHeld d places → k < length d.arrivals
     → is_mark d.plan (mark_of d.arrivals k x) ≡ true
-row_is d places k x held low = sym (has_row d places (mark_of d.arrivals k x) held (row_beside d places k x held low))
-    ∙ has-row mark_rank d.arrivals k x low
-
--- the row at the place of a mark is that of the mark
-pub mark_at_place : (d : BookState) (places : List ℕ) (m : Mark) (x : ArrivalRow) → IsHeld d places
-    → has mark_rank (mark_rank m) (keys d.arrivals) ≡ true
-    → mark_of d.arrivals (place_in mark_rank (mark_rank m) d.arrivals) x ≡ m
-mark_at_place d places m x held there =
-    let k = place_in mark_rank (mark_rank m) d.arrivals in
-    let low = place-has mark_rank (mark_rank m) d.arrivals held.right.marks.rise there in
-    sym (rank_is m (mark_of d.arrivals k x) (row_near d places k x held low)
-    (sym (rank-has mark_rank (mark_rank m) d.arrivals x held.right.marks.rise there)))
+row_is d places k x held low =
+    let m = mark_of d.arrivals k x in
+    sym (has_row d places m held (row_beside d places k x held low))
+    ∙ has_row_at mark_rank (mark_rank m) d.arrivals
+    ∙ ap is_some (row_there (by_key mark_rank) (mark_rank m) d.arrivals k x held.marks_rise low refl)
 
 pub row_stands : (d : BookState) (places : List ℕ) (k : ℕ) (x : ArrivalRow) → IsHeld d places → k < length d.arrivals
     → arrival_row d (mark_of d.arrivals k x) ≡ (get_or d.arrivals k x).state
 row_stands d places k x held low =
-    rw (row_beside d places k x held low) (state_at-row mark_rank d.arrivals k x held.right.marks.rise low)
+    rw (row_beside d places k x held low) (state_at-row mark_rank d.arrivals k x held.marks_rise low)
 
 -- the row before, or the start, precedes a row's mark where some mark of its branch is below it
 precedes_row : (d : BookState) (places : List ℕ) (k : ℕ) (x : ArrivalRow) (base : Mark) → IsHeld d places
@@ -137,27 +147,28 @@ precedes_row d places zero x base held low branch below is =
       between = λ g over less.
           either_way (is_mark d.plan (mark_at m.branch g))
           (λ there. absurd
-          (first_least mark_rank d.arrivals (mark_rank (mark_at m.branch g)) x held.right.marks.rise
-          (has_row d places (mark_at m.branch g) held (above_start (mark_at m.branch g) over) ∙ there)
+          (first_least (by_key mark_rank) d.arrivals (mark_rank (mark_at m.branch g)) _ x held.marks_rise
+          (mark_row d places (mark_at m.branch g) held (above_start (mark_at m.branch g) over) there).at
           (rank_within (mark_at m.branch g) m refl near less)))
           (λ none. none);
     })
     (λ miss. absurd
-    (first_least mark_rank d.arrivals (mark_rank base) x held.right.marks.rise (has_row d places base held miss ∙ is)
+    (first_least (by_key mark_rank) d.arrivals (mark_rank base) _ x held.marks_rise
+    (mark_row d places base held miss is).at
     (rank_within base m branch near below)))
 precedes_row d places (suc j) x base held low branch below is =
     let m = mark_of d.arrivals (suc j) x in
     let before = mark_of d.arrivals j x in
     let near = row_near d places (suc j) x held low in
-    let rises : mark_rank before < mark_rank m = rank_rises mark_rank d.arrivals j (suc j) x held.right.marks.rise
+    let rises : mark_rank before < mark_rank m = rank_rises (by_key mark_rank) d.arrivals j (suc j) x held.marks_rise
     (omega arith) low in
     let down : before.branch ≤ m.branch = rank_branch before m (omega (arith, rises)) in
     let up : base.branch ≤ before.branch =
     either_way (is_start base)
     (λ hit. let home : base.branch ≡ 0 = ap (λ (n : Mark). n.branch) (start_is base hit) in omega (arith, home))
     (λ miss. rank_branch base before
-    (before_le mark_rank d.arrivals j (mark_rank base) x held.right.marks.rise low
-    (has_row d places base held miss ∙ is) (rank_within base m branch near below))) in
+    (before_le (by_key mark_rank) d.arrivals j (mark_rank base) _ x held.marks_rise low
+    (mark_row d places base held miss is).at (rank_within base m branch near below))) in
     let same : before.branch ≡ m.branch = omega (arith, down, up, branch) in
     record {
       branch = same;
@@ -170,8 +181,8 @@ precedes_row d places (suc j) x base held low branch below is =
           absurd
           (let above : 0 < g = omega (arith, over) in
           let close : g ≤ 2 ^ 60 = omega (arith, less, near) in
-          let le = before_le mark_rank d.arrivals j (mark_rank n) x held.right.marks.rise low
-          (has_row d places n held (above_start n above) ∙ there) (rank_within n m refl near less) in
+          let le = before_le (by_key mark_rank) d.arrivals j (mark_rank n) _ x held.marks_rise low
+          (mark_row d places n held (above_start n above) there).at (rank_within n m refl near less) in
           let lt = rank_within before n same close over in
           omega (arith, le, lt)))
           (λ none. none);
@@ -240,7 +251,7 @@ pub row_follows : (d : BookState) (places : List ℕ) (j : ℕ) (x : ArrivalRow)
 row_follows d places j x held low same =
     let before = mark_of d.arrivals j x in
     let m = mark_of d.arrivals (suc j) x in
-    let rises : mark_rank before < mark_rank m = rank_rises mark_rank d.arrivals j (suc j) x held.right.marks.rise
+    let rises : mark_rank before < mark_rank m = rank_rises (by_key mark_rank) d.arrivals j (suc j) x held.marks_rise
     (omega arith) low in
     before_one d.plan (before_row d.plan.branches d.arrivals (suc j) x) before m held.right.core.sound
     (row_comes d places (suc j) x held low)
@@ -249,35 +260,43 @@ row_follows d places j x held low same =
 
 -- bookmarks by their rows
 
--- the bookmark at a place is that of its id
-pub bookmark_at : (rows : List TextRow) (k : ℕ) (x : TextRow) → IsRanked bookmark_rank rows → k < length rows
-    → bookmark_in (keys rows) (get_or rows k x).key.id ≡ Some (get_or rows k x).key
-bookmark_at [] k x ranked low = absurd (omega (arith, low))
-bookmark_at (r ∷ rs) zero x ranked low = rw (eq_true r.key.id r.key.id refl) refl
-bookmark_at (r ∷ rs) (suc k) x ranked low =
-    let up : r.key.id < (get_or rs k x).key.id = above_at bookmark_rank r.key.id rs k x ranked.0 (omega (arith, low)) in
-    rw (eq_false r.key.id (get_or rs k x).key.id (λ same. omega (arith, same, up)))
-    (bookmark_at rs k x ranked.1 (omega (arith, low)))
+-- the bookmark of an id is that of the id's row
+pub first_is : (bs : List Bookmark) (id : ℕ) → row_at bookmark_rank id bs ≡ bookmark_in bs id
+first_is [] id = refl
+first_is (b ∷ bs) id = either_way (b.id == id) (λ hit. rw hit refl) (λ miss. rw miss (first_is bs id))
 
+abbrev pub text_at : BookState → ℕ → Option TextRow
+text_at d id = row_at (by_key bookmark_rank) id d.texts
+
+pub bookmark_row : (d : BookState) (places : List ℕ) (id : ℕ) → IsHeld d places
+    → bookmark_in d.plan.bookmarks id ≡ option_map (λ (r : TextRow). r.key) (text_at d id)
+bookmark_row d places id held = sym (first_is d.plan.bookmarks id)
+    ∙ ap (row_at bookmark_rank id) (sym held.right.bookmarks) ∙ key_row bookmark_rank id d.texts
+
+-- the bookmark at a place is that of its id
 pub in_at : (d : BookState) (places : List ℕ) (k : ℕ) (x : TextRow) → IsHeld d places → k < length d.texts
     → bookmark_in d.plan.bookmarks (get_or d.texts k x).key.id ≡ Some (get_or d.texts k x).key
-in_at d places k x held low = ap (λ bs. bookmark_in bs (get_or d.texts k x).key.id) (sym held.right.bookmarks)
-    ∙ bookmark_at d.texts k x (ids_rise d places held) low
+in_at d places k x held low =
+    bookmark_row d places (get_or d.texts k x).key.id held
+    ∙ ap (option_map (λ (r : TextRow). r.key))
+    (row_there (by_key bookmark_rank) (get_or d.texts k x).key.id d.texts k x held.ids_rise low refl)
 
 pub text_stands : (d : BookState) (places : List ℕ) (k : ℕ) (x : TextRow) → IsHeld d places → k < length d.texts
     → text_row d (get_or d.texts k x).key.id ≡ (get_or d.texts k x).state
-text_stands d places k x held low = state_at-row bookmark_rank d.texts k x (ids_rise d places held) low
+text_stands d places k x held low = state_at-row bookmark_rank d.texts k x held.ids_rise low
 
 -- where a bookmark of the document stands
-pub record StandsIn (rows : List TextRow) (b : Bookmark) : Type 0 where
-  pub place : ℕ
-  pub low : place < length rows
-  pub is : (x : TextRow) → (get_or rows place x).key ≡ b
+pub record StandsIn (d : BookState) (id : ℕ) (b : Bookmark) : Type 0 where
+  pub row : TextRow
+  pub at : Stands (by_key bookmark_rank) id d.texts row
+  pub is : row.key ≡ b
 
-pub stands_in : (rows : List TextRow) (id : ℕ) (b : Bookmark) → bookmark_in (keys rows) id ≡ Some b → StandsIn rows b
-stands_in [] id b is = absurd cc
-stands_in (r ∷ rs) id b is =
-    either_way (r.key.id == id)
-    (λ hit. let one : Some r.key ≡ Some b = rw hit at is in record { place = 0; low = omega arith; is = λ x. cc })
-    (λ miss. let f = stands_in rs id b (rw miss at is) in let low = f.low in
-    record { place = suc f.place; low = omega (arith, low); is = λ x. f.is x })
+pub stands_in : (d : BookState) (places : List ℕ) (id : ℕ) (b : Bookmark) → IsHeld d places
+    → bookmark_in d.plan.bookmarks id ≡ Some b → StandsIn d id b
+stands_in d places id b held is = by_row (text_at d id) refl (sym (bookmark_row d places id held) ∙ is)
+  where
+    by_row : (o : Option TextRow) → text_at d id ≡ o → option_map (λ (r : TextRow). r.key) o ≡ Some b
+        → StandsIn d id b
+    by_row None found named = absurd cc
+    by_row (Some r) found named =
+        record { row = r; at = stands (by_key bookmark_rank) id d.texts r held.ids_rise found; is = cc }

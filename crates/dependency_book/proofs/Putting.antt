@@ -24,8 +24,10 @@ use Rattle.dependency_book.specs.Puts.{CanBePut, Puts, can_change, missing}
 use Rattle.dependency_book.specs.Right.{IsRight}
 use Rattle.dependency_book.specs.RowState.{state_map, job_of}
 use Rattle.dependency_book.specs.Rows.{ArrivalRow, keys, state_at, put, bookmark_rank}
+use Rattle.ranked_rows.specs.Rows.{place_in}
 use Rattle.document_marks.proofs.Shared.Ranks.{apart, has_mark, rank_is}
 use Rattle.desk_events.proofs.Shared.Marks.{same_mark}
+use Rattle.dependency_book.proofs.Outs.{held_by}
 use Rattle.dependency_book.proofs.Standing.{has, keys-put, length-keys, state_at-put_same, state_at-put_other, place_in-keys, count-put}
 use Rattle.desk_events.proofs.Shared.Tests.{either_way, clash, true_eq, eq_true}
 use Rattle.std.specs.Prelude.{IfSome, slice_get}
@@ -192,24 +194,26 @@ text_puts d id s bookmarks can =
 
 same_places : (xs ys : List ArrivalRow) (bs : List Bookmark) → keys xs ≡ keys ys → places_of xs bs ≡ places_of ys bs
 same_places xs ys bs same =
-    ap (λ (f : Bookmark → ℕ). map f bs) (λ i b. place_in-keys mark_rank (mark_rank (bookmark_mark b)) xs ys same i)
+    ap (λ (f : Bookmark → ℕ). map f bs)
+    (λ i b. (place_in-keys mark_rank (mark_rank (bookmark_mark b)) xs
+    ∙ ap (place_in mark_rank (mark_rank (bookmark_mark b))) same
+    ∙ sym (place_in-keys mark_rank (mark_rank (bookmark_mark b)) ys)) i)
 
 pub arrival_held : (d : BookState) (places : List ℕ) (m : Mark) (s : RowState World) → IsHeld d places
     → CanBePut d (step_to m) (state_map pattern s) → IsHeld (with_arrival d m s) places
-arrival_held d places m s held can = record {
-  places = held.places ∙ same_places d.arrivals (put mark_rank (mark_rank m) s d.arrivals) d.plan.bookmarks
-      (sym (keys-put mark_rank (mark_rank m) s d.arrivals));
-  right = put_right d (with_arrival d m s) (step_to m) (state_map pattern s) held.right can
-      (arrival_puts d m s held.right.marks can.there);
-}
+arrival_held d places m s held can =
+    held_by (with_arrival d m s) places
+    (held.places ∙ same_places d.arrivals (put mark_rank (mark_rank m) s d.arrivals) d.plan.bookmarks
+    (sym (keys-put mark_rank (mark_rank m) s d.arrivals)))
+    (put_right d (with_arrival d m s) (step_to m) (state_map pattern s) held.right can
+    (arrival_puts d m s held.right.marks can.there))
 
 pub text_held : (d : BookState) (places : List ℕ) (id : ℕ) (s : RowState (List ℕ)) → IsHeld d places
     → CanBePut d (View id) (state_map text s) → IsHeld (with_text d id s) places
-text_held d places id s held can = record {
-  places = held.places;
-  right = put_right d (with_text d id s) (View id) (state_map text s) held.right can
-      (text_puts d id s held.right.bookmarks can.there);
-}
+text_held d places id s held can =
+    held_by (with_text d id s) places held.places
+    (put_right d (with_text d id s) (View id) (state_map text s) held.right can
+    (text_puts d id s held.right.bookmarks can.there))
 
 -- a vector whose rows are all written is the rows that were written
 pub written : {K V : Type 0} {len : ℕ} {rows new now : List (Row K V)} (rank : K → ℕ) (n : ℕ) (s : RowState V)

@@ -1,5 +1,5 @@
 -- What stands after an edit is right, and just what the edit keeps.
-use Rattle.std.proofs.Common.{◌≡◌, ℕ, ◌∙◌, ◌^◌, ◌≤◌, Bool, true, false, ◌&&◌, List, [], ◌∷◌, map, refl, sym, ap, ap₂, subst, Option, None, Some, Ok, inl, inr}
+use Rattle.std.proofs.Common.{◌≡◌, ℕ, ◌∙◌, ◌^◌, ◌≤◌, Bool, true, false, ◌&&◌, List, [], ◌∷◌, refl, sym, ap, ap₂, subst, Option, None, Some, Ok, inl, inr}
 use Rattle.std.specs.Prelude.{if◌then◌else◌, ◌==◌}
 use Rattle.std.specs.List.{AllByRecursion}
 use Rattle.std.proofs.lemmas.Bool.{cond-false, cond-true}
@@ -28,14 +28,16 @@ use Rattle.dependency_book.specs.Kept.{KeepsRows, KeepsUnfelt, arrival_after, ar
 use Rattle.desk_events.specs.Kept.{keeps_arrival, keeps_text, stays_mark}
 use Rattle.desk_events.specs.Marks.{is_mark, is_start, mark_at}
 use Rattle.dependency_book.specs.declared.room.Rows.{Rows}
-use Rattle.dependency_book.specs.Remade.{AreRemade, kept_at, remade_row}
+use Rattle.dependency_book.specs.Remade.{AreRemade, kept_of, remade_rows}
+use Rattle.ranked_rows.specs.Rows.{row_at}
 use Rattle.dependency_book.specs.Right.{IsRight}
 use Rattle.dependency_book.specs.RowState.{state_map, job_of}
-use Rattle.dependency_book.specs.Rows.{ArrivalRow, TextRow, keys, state_at, bookmark_rank}
+use Rattle.dependency_book.specs.Rows.{ArrivalRow, TextRow, by_key, keys, state_at, bookmark_rank}
 use Rattle.dependency_book.proofs.Followed.{MayBeFelt, stays_for, texts_stay}
 use Rattle.document_marks.proofs.Shared.Grown.{accepted, unrefused}
 use Rattle.document_marks.proofs.Shared.Ranks.{has_mark, rank_is}
-use Rattle.dependency_book.proofs.Remaking.{first_of, kept_for, keys-remade, state_at-remade, kept_at-first, kept_at-any}
+use Rattle.dependency_book.proofs.Placed.{first_is}
+use Rattle.dependency_book.proofs.Remaking.{kept_for, keys-remade, state_at-remade, kept_at-first, kept_at-any}
 use Rattle.dependency_book.proofs.Standing.{has, state_at-above}
 use Rattle.desk_events.proofs.Shared.Tests.{either_way, true_eq}
 use Rattle.desk_events.specs.Core.{Core, Row as DeskRow, arrival_in, holds, nothing}
@@ -55,8 +57,8 @@ after_edit d q felt marks = record {
   table = d.table;
   plan = q;
   entries = d.entries;
-  arrivals = map (remade_row mark_rank (mark_stays q.branches felt) d.arrivals) marks;
-  texts = map (remade_row bookmark_rank (bookmark_stays q.branches felt) d.texts) q.bookmarks;
+  arrivals = remade_rows mark_rank (mark_stays q.branches felt) d.arrivals marks;
+  texts = remade_rows bookmark_rank (bookmark_stays q.branches felt) d.texts q.bookmarks;
   refused = d.refused;
 }
 
@@ -64,13 +66,15 @@ after_edit d q felt marks = record {
 
 -- what is kept for a key of a rank, where each key of that rank says the same
 kept_key : {K V : Type 0} (rank : K → ℕ) (keeps : K → Bool) (n : ℕ) (rows : List (Row K V)) (b : Bool) (ks : List K)
-    → AllByRecursion (λ k. rank k ≡ n → keeps k ≡ b) ks → kept_for rank (λ k was. keeps k) n rows (first_of rank n ks) ≡
-    (if has rank n ks && b then state_at rank n rows else Empty)
+    → AllByRecursion (λ k. rank k ≡ n → keeps k ≡ b) ks
+    → kept_for (λ k was. keeps k) (row_at (by_key rank) n rows) (row_at rank n ks)
+    ≡ (if has rank n ks && b then state_at rank n rows else Empty)
 kept_key rank keeps n rows b [] same = refl
 kept_key rank keeps n rows b (k ∷ ks) same =
     either_way (rank k == n)
     (λ hit. rw hit
-    (ap (λ t. kept_at rank (λ _. t) n rows) (same.0 (true_eq (rank k) n hit)) ∙ kept_at-any rank b n rows))
+    (ap (λ t. kept_of (λ _. t) (row_at (by_key rank) n rows)) (same.0 (true_eq (rank k) n hit))
+    ∙ kept_at-any rank b n rows))
     (λ miss. rw miss (kept_key rank keeps n rows b ks same.1))
 
 -- marks that are near enough have ranks of their own
@@ -122,13 +126,9 @@ arrivals_stay d q felt marks m was are =
 
 -- the bookmarks that stay
 
-first_is : (bs : List Bookmark) (id : ℕ) → first_of bookmark_rank id bs ≡ bookmark_in bs id
-first_is [] id = refl
-first_is (b ∷ bs) id = either_way (b.id == id) (λ hit. rw hit refl) (λ miss. rw miss (first_is bs id))
-
 kept_text : (branches : List Branch) (felt : Option Mark) (id : ℕ) (rows : List TextRow) (o : Option Bookmark)
-    → kept_for bookmark_rank (bookmark_stays branches felt) id rows o ≡ stays_for branches felt o
-    (first_of bookmark_rank id (keys rows)) (state_at bookmark_rank id rows)
+    → kept_for (bookmark_stays branches felt) (row_at (by_key bookmark_rank) id rows) o ≡ stays_for branches felt o
+    (row_at bookmark_rank id (keys rows)) (state_at bookmark_rank id rows)
 kept_text branches felt id rows None = refl
 kept_text branches felt id rows (Some b) = kept_at-first bookmark_rank (bookmark_stays branches felt b) id rows
 
@@ -141,7 +141,7 @@ texts_after d asked felt marks id so bookmarks =
     let branches = (changed d.plan asked).plan.branches in
     let s = text_row d id in
     state_at-remade bookmark_rank (bookmark_stays branches felt) d.texts id bs
-    ∙ ap (kept_for bookmark_rank (bookmark_stays branches felt) id d.texts) (first_is bs id)
+    ∙ ap (kept_for (bookmark_stays branches felt) (row_at (by_key bookmark_rank) id d.texts)) (first_is bs id)
     ∙ kept_text branches felt id d.texts (bookmark_in bs id)
     ∙ ap (λ o. stays_for branches felt (bookmark_in bs id) o s)
     (first_is (keys d.texts) id ∙ ap (λ ks. bookmark_in ks id) bookmarks)
@@ -299,9 +299,9 @@ pub revises : (d : BookState) (q : Plan) (asked : Asked) (edited : Edited) (arri
 revises d q asked edited arrivals texts felt rows right is marks bookmarks is_felt h =
     let made_of : with_rows d q rows.arrivals.items rows.texts.items ≡ after_edit d q felt h.marks =
     ap₂ (with_rows d q)
-    (h.arrivals_are ∙ ap (λ was. map (remade_row mark_rank (mark_stays q.branches felt) was) h.marks) marks)
+    (h.arrivals_are ∙ ap (λ was. remade_rows mark_rank (mark_stays q.branches felt) was h.marks) marks)
     (h.texts_are
-    ∙ ap (λ was. map (remade_row bookmark_rank (bookmark_stays q.branches felt) was) q.bookmarks) bookmarks) in
+    ∙ ap (λ was. remade_rows bookmark_rank (bookmark_stays q.branches felt) was q.bookmarks) bookmarks) in
     subst (Revises asked d) (sym made_of)
     (subst (λ (c : Changed). IsSound c.plan → AreMarksOf c.plan h.marks
     → Revises asked d (after_edit d c.plan felt h.marks))

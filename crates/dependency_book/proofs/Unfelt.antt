@@ -8,9 +8,7 @@ use Rattle.schedule.specs.Acts.{acts_on, generations_to}
 use Rattle.schedule.specs.Asked.{Asked}
 use Rattle.schedule.specs.Branches.{reach}
 use Rattle.schedule.specs.Change.{changed}
-use Rattle.schedule.specs.Plan.{Plan}
 use Rattle.schedule.proofs.Shared.Acts.{any-generations}
-use Rattle.desk_events.specs.declared.mark.Mark.{Mark}
 use Rattle.desk_events.specs.declared.touched.Touched.{Touched}
 use Rattle.dependency_book.specs.BookState.{BookState, arrival_known}
 use Rattle.dependency_book.specs.Felt.{BookIsUnfelt, BookIsUnfeltAt, BookIsUnfeltWhere}

@@ -30,7 +30,7 @@ use Rattle.dependency_book.specs.Right.{IsRight}
 use Rattle.dependency_book.specs.RowState.{job_of, has_number}
 use Rattle.dependency_book.specs.Rows.{keys, bookmark_rank}
 use Rattle.document_marks.specs.AllMarks.{mark_rank}
-use Rattle.dependency_book.proofs.Outs.{numbered, none_at, out_at, out_for}
+use Rattle.dependency_book.proofs.Outs.{held_by, numbered, none_at, out_at, out_for}
 use Rattle.dependency_book.proofs.Standing.{has, state_at-above}
 use Rattle.desk_events.proofs.Shared.Needs.{need_is, need_same}
 use Rattle.document_marks.proofs.Shared.Ranks.{has_mark}
@@ -159,7 +159,7 @@ kept_more {d} {places} {cursor} {issued} {facts} need job after next kept is =
     let held = kept.held in
     let passed = kept.passed in
     record {
-      held = record { places = held.places; right = more_right d need job held.right next };
+      held = held_by (more d job.place) places held.places (more_right d need job held.right next);
       passed = record { views = passed.views; steps = passed.steps };
       own = subst (AllByRecursion (IsOf d.table)) (sym is)
           (all_pushed (IsOf d.table) issued job.place kept.own next.own);
@@ -185,11 +185,11 @@ right_refused d right = record {
 
 pub kept_refused : {d : BookState} {places : List ℕ} {cursor : Cursor} {issued : List Place} {facts : List Fact}
     → IsKept d places cursor issued facts → IsKept (with_refusal d) places cursor issued facts
-kept_refused {d} kept =
+kept_refused {d} {places} kept =
     let held = kept.held in
     let passed = kept.passed in
     record {
-      held = record { places = held.places; right = right_refused d held.right };
+      held = held_by (with_refusal d) places held.places (right_refused d held.right);
       passed = record { views = passed.views; steps = passed.steps };
       own = kept.own;
       facts = kept.facts;

@@ -61,10 +61,13 @@ row_for n (r ∷ rs) = either (named_by n r.key (job_of r.state)) (row_for n rs)
 abbrev pub any_out : {K V : Type 0} → List (Row K V) → Bool
 any_out rows = list_any (λ r. is_some (job_of r.state)) rows
 
--- each job that rows expect has its entry in this table
+-- the job that a row expects, if there is one, has its entry in this table
+abbrev pub IsOutOf : {K V : Type 0} → Entries → Row K V → Type 0
+IsOutOf entries r = IfSome (job_of r.state) (λ job. IsOf entries job.place)
+
+-- so has each job that rows expect
 abbrev pub OutsAreOf : {K V : Type 0} → Entries → List (Row K V) → Type 0
-OutsAreOf entries rows =
-    AllByRecursion (λ r. IfSome (job_of r.state) (λ job. IsOf entries job.place)) rows
+OutsAreOf entries rows = AllByRecursion (IsOutOf entries) rows
 
 -- the lesser of two numbers, if there is any
 abbrev pub lesser : Option ℕ → Option ℕ → Option ℕ

@@ -1,5 +1,5 @@
 -- Rows, by rising ranks of their keys.
-use Rattle.std.specs.Prelude.{ℕ, suc, nat_lt, List, [], ◌∷◌, map, if◌then◌else◌, ◌==◌}
+use Rattle.std.specs.Prelude.{ℕ, List, [], ◌∷◌, map, if◌then◌else◌, ◌==◌}
 use Rattle.worlds.specs.World.{World}
 use Rattle.schedule.specs.declared.document.Bookmark.{Bookmark}
 use Rattle.schedule.specs.Ids.{IdsRise}
@@ -16,19 +16,18 @@ bookmark_rank b = b.id
 abbrev pub keys : {K V : Type 0} → List (Row K V) → List K
 keys rows = map (λ r. r.key) rows
 
+-- the rank of a row is that of its key
+abbrev pub by_key : {K V : Type 0} → (K → ℕ) → Row K V → ℕ
+by_key rank r = rank r.key
+
 -- the ranks of the keys rise
 abbrev pub IsRanked : {K V : Type 0} → (K → ℕ) → List (Row K V) → Type 0
-IsRanked rank rows = IdsRise rank (keys rows)
+IsRanked rank rows = IdsRise (by_key rank) rows
 
 -- what stands in the first row of a rank, and nothing where there is none
 abbrev pub state_at : {K V : Type 0} → (K → ℕ) → ℕ → List (Row K V) → RowState V
 state_at rank n [] = Empty
 state_at rank n (r ∷ rs) = if rank r.key == n then r.state else state_at rank n rs
-
--- how many rows stand before the first whose rank isn't below
-abbrev pub place_in : {K V : Type 0} → (K → ℕ) → ℕ → List (Row K V) → ℕ
-place_in rank n [] = 0
-place_in rank n (r ∷ rs) = if nat_lt (rank r.key) n then suc (place_in rank n rs) else 0
 
 -- the rows with this standing in the first of a rank
 abbrev pub put : {K V : Type 0} → (K → ℕ) → ℕ → RowState V → List (Row K V) → List (Row K V)

@@ -10,10 +10,10 @@ use crate::cursor::Cursor;
 use crate::mark::ArrivalRow;
 use crate::need::{first_step, first_view};
 use crate::refusals::Refusals;
-use crate::row::place_in;
 use crate::shown::Shown;
 use crate::texts::{TextRow, pending_count};
 use desk_events::{Mark, Need};
+use ranked_rows::get;
 use revision_jobs::{Entries, Place};
 use schedule::Document;
 use std::alloc::{AllocError, Global};
@@ -96,12 +96,12 @@ impl<'e> Book<'e> {
     pub fn shown(&self, id: u64) -> Shown<'_>
         ensures { Shows self.now id result }
     {
-        match self.texts.get(place_in(&self.texts, u128::from(id))) {
-            Some(row) if row.key.id == id => match row.state.known() {
+        match get(&self.texts, u128::from(id)) {
+            Some(row) => match row.state.known() {
                 Some(text) => Shown::Current(text.as_slice()),
                 None => Shown::Pending,
             },
-            _ => Shown::NoSuch,
+            None => Shown::NoSuch,
         }
     }
 

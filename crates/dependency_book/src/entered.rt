@@ -10,9 +10,10 @@ ghost use Rattle.dependency_book.specs.Right.{IsRight};
 
 use crate::book::Book;
 use crate::need::before_row;
-use crate::row::{Ranked, place_in};
+use crate::row::Key;
 use desk_events::{Mark, Need};
 use edit_effects::cells_at;
+use ranked_rows::{get, place_in};
 use revision_jobs::{Entry, Rendering, Step};
 use schedule::{Listing, Next, Plane};
 use std::alloc::{AllocError, Global};
@@ -67,7 +68,10 @@ impl Book<'_> {
         ensures entry { IfOk result (λ entry. IsEntryOf self.now (Need.View id) entry) }
         ensures right { IsRight self.now }
     {
-        let bookmark = self.texts[place_in(&self.texts, u128::from(id))].key;
+        let Some(row) = get(&self.texts, u128::from(id)) else {
+            unreachable!("a bookmark of the document has a row")
+        };
+        let bookmark = row.key;
         let mark = Mark::of(&bookmark);
         let rule = self.document.rule();
         let interventions = self.document.interventions();
@@ -86,14 +90,10 @@ impl Book<'_> {
         requires { IsSome (arrival_known self.now mark) }
         ensures { arrival_known self.now mark ≡ Some (arc_value result.now) }
     {
-        if mark.is_start() {
-            return self.document.start();
-        }
-        let row = &self.arrivals[place_in(&self.arrivals, mark.rank())];
-        match row.state.known() {
-            Some(arrival) => arrival.plane(),
-            None => unreachable!("what arrives at the mark is known"),
-        }
+        let Some(plane) = self.known_at(mark) else {
+            unreachable!("what arrives at the mark is known")
+        };
+        plane
     }
 }
 

@@ -8,9 +8,10 @@ ghost use Rattle.dependency_book.specs.Felt.{BookFeels, BookIsUnfelt};
 ghost use Rattle.dependency_book.specs.Felt.{BookIsUnfeltAt, BookIsUnfeltWhere};
 
 use crate::book::Book;
-use crate::row::{Ranked, place_in};
+use crate::row::Key;
 use desk_events::Mark;
 use edit_effects::{felt_from, lays_alike, touched_by};
+use ranked_rows::get;
 use schedule::{Acts, Edit, Plane};
 use std::alloc::AllocError;
 use std::sync::Arc;
@@ -77,8 +78,8 @@ impl Book<'_> {
         }
     }
 
-    // What arrives at a mark, if it is known.
-    fn known_at(&self, mark: Mark) -> Option<&Arc<Plane>>
+    /// What arrives at a mark, if it is known.
+    pub(crate) fn known_at(&self, mark: Mark) -> Option<&Arc<Plane>>
         ensures { MatchOption result
             (arrival_known self.now mark ≡ None)
             (λ plane. arrival_known self.now mark ≡ Some (arc_value plane.now)) }
@@ -86,12 +87,12 @@ impl Book<'_> {
         if mark.is_start() {
             return Some(self.document.start());
         }
-        match self.arrivals.get(place_in(&self.arrivals, mark.rank())) {
-            Some(row) if row.key == mark => match row.state.known() {
+        match get(&self.arrivals, mark.rank()) {
+            Some(row) => match row.state.known() {
                 Some(arrival) => Some(arrival.plane()),
                 None => None,
             },
-            _ => None,
+            None => None,
         }
     }
 }

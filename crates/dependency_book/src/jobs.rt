@@ -20,7 +20,7 @@ ghost use Rattle.dependency_book.specs.Puts.{CanBePut, Puts, filled_by};
 use crate::arrival::Arrival;
 use crate::book::Book;
 use crate::filled::Filled;
-use crate::row::{Ranked, RowState, any_out, least_out, lesser, put, raise_all, row_for};
+use crate::row::{Key, RowState, any_out, least_out, lesser, put, raise_all, row_for};
 use crate::text::Text;
 use desk_events::{Mark, Need};
 use revision_jobs::{Answer, Job, Outcome, Parts, Place};

@@ -7,9 +7,10 @@ ghost use Rattle.dependency_book.specs.Rows.{ArrivalRow, IsRanked};
 ghost use Rattle.document_marks.specs.AllMarks.{mark_rank};
 
 use crate::mark::ArrivalRow;
-use crate::row::{Ranked, place_near};
+use crate::row::Key;
 use crate::texts::TextRow;
 use desk_events::Mark;
+use ranked_rows::get_near;
 use schedule::Document;
 
 // Whether what arrives at a mark is known, whose row is at this place; the start always is.
@@ -81,9 +82,8 @@ fn is_ready(arrivals: &[ArrivalRow], mark: Mark, guess: usize) -> bool
     if mark.is_start() {
         return true;
     }
-    let rank = mark.rank();
-    match arrivals.get(place_near(arrivals, rank, guess)) {
-        Some(row) => row.key.rank() == rank && row.state.is_known(),
+    match get_near(arrivals, mark.rank(), guess) {
+        Some(row) => row.state.is_known(),
         None => false,
     }
 }

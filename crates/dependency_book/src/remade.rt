@@ -1,79 +1,72 @@
-//! Rows made anew from the keys of a document.
-ghost use Rattle.std.specs.Prelude.{◌≡◌, ◌≤◌, ◌⊎◌, [], length, map, vec_capacity};
-ghost use Rattle.schedule.specs.Ids.{IdsRise};
-ghost use Rattle.dependency_book.specs.Remade.{kept_at, remade_row};
-ghost use Rattle.dependency_book.specs.RowState.{OutsAreOf};
-ghost use Rattle.dependency_book.specs.Rows.{IsRanked, place_in, put};
-ghost use Rattle.dependency_book.specs.declared.row.RowState.TheVariants.{Empty};
+//! Rows made anew after an edit.
+ghost use Rattle.std.specs.Prelude.{◌≡◌, Bool, List, Option};
+ghost use Rattle.schedule.specs.declared.branch.Branch.{Branch};
+ghost use Rattle.desk_events.specs.declared.mark.Mark.{Mark};
 
-use crate::row::{Ranked, Row, RowState, raise_all};
+use crate::row::{Key, Row, RowState};
 use desk_events::Mark;
+use ranked_rows::Remakes;
 use revision_jobs::Entries;
 use schedule::Document;
 use std::mem;
 
-// The first place from `at` on at which a row's rank isn't below this one.
-fn place_from<K: Ranked, V>(rows: &[Row<K, V>], at: usize, rank: u128) -> usize
-    requires { at ≤ place_in K.rank rank rows.now × IsRanked K.rank rows.now }
-    ensures { result ≡ place_in K.rank rank rows.now }
-{
-    for place in at..rows.len() {
-        if rows[place].key.rank() >= rank {
-            return place;
+/// A key of rows, of which an edit keeps some.
+pub(crate) trait Keeps: Key {
+    ghost stays: { List Branch → Option Mark → Self → Self → Bool };
+
+    /// Whether what stood at the key as it was stays, after an edit that gives the document and is
+    /// felt from a mark on, if it changes any pattern.
+    fn stays(&self, document: &Document, felt: Option<Mark>, was: &Self) -> bool
+        ensures { result ≡ stays document.now.branches felt self.now was.now };
+}
+
+/// An edit that gives the document and is felt from a mark on, if it changes any pattern, in a book
+/// whose jobs are of the table. In the row of a key stands what stood in the old row of the same
+/// rank where it stays, else nothing. Whoever works a job that an old row expected and that doesn't
+/// stay is asked to stop.
+#[derive(Clone, Copy)]
+pub(crate) struct AfterEdit<'a> {
+    pub(crate) entries: &'a Entries,
+    pub(crate) document: &'a Document,
+    pub(crate) felt: Option<Mark>,
+}
+
+impl<'a, K: Keeps + Copy, V: Drop> Remakes<K, Row<K, V>> for AfterEdit<'a> {
+    ghost use Rattle.dependency_book.specs.Remade.{remade_row};
+    ghost use Rattle.dependency_book.specs.RowState.{IsOutOf};
+
+    ghost key_rank = { K.rank };
+
+    ghost made = { λ edit key old.
+        remade_row (K.stays edit.document.now.branches edit.felt) key old };
+
+    ghost may_go = { λ edit old. IsOutOf edit.entries.now old };
+
+    fn key_rank(&self, key: &K) -> u128 {
+        key.rank()
+    }
+
+    fn anew(&self, key: &K) -> Row<K, V> {
+        Row {
+            key: *key,
+            state: RowState::Empty,
         }
     }
-    rows.len()
-}
 
-// What stood in the row at the place of a key, if it stays. Then nothing stands there afterwards.
-fn taken<K: Ranked, V: Drop>(
-    rows: &mut [Row<K, V>],
-    place: usize,
-    key: &K,
-    document: &Document,
-    felt: Option<Mark>,
-) -> RowState<V>
-    requires { place ≡ place_in K.rank (K.rank key.now) rows.old × IsRanked K.rank rows.old }
-    ensures state { result ≡ kept_at K.rank (K.stays document.now.branches felt key.now)
-        (K.rank key.now) rows.old }
-    ensures rows { (rows.new ≡ put K.rank (K.rank key.now) Empty rows.old)
-        ⊎ (rows.new ≡ rows.old) }
-{
-    if place >= rows.len() || rows[place].key.rank() != key.rank() {
-        return RowState::Empty;
+    fn of_old(&self, key: &K, old: &mut Row<K, V>) -> Row<K, V> {
+        if key.stays(self.document, self.felt, &old.key) {
+            let state = mem::replace(&mut old.state, RowState::Empty);
+            Row { key: *key, state }
+        } else {
+            old.state.raise(self.entries);
+            Row {
+                key: *key,
+                state: RowState::Empty,
+            }
+        }
     }
-    if !key.stays(document, felt, &rows[place].key) {
-        return RowState::Empty;
-    }
-    mem::replace(&mut rows[place].state, RowState::Empty)
-}
 
-/// The rows of these keys: what stood in the old row of the same rank where it stays after an edit
-/// that gives the document, else nothing. They stand in the room, which is empty and has a place
-/// for each. Whoever works a job of the table that an old row expected and that doesn't stay is
-/// asked to stop.
-pub(crate) fn remade<K: Ranked + Copy, V: Drop>(
-    entries: &Entries,
-    room: Vec<Row<K, V>>,
-    keys: &[K],
-    old: Vec<Row<K, V>>,
-    document: &Document,
-    felt: Option<Mark>,
-) -> Vec<Row<K, V>>
-    requires room { room.items ≡ [] × length keys.now ≤ vec_capacity room }
-    requires ranked { IsRanked K.rank old.items × IdsRise K.rank keys.now }
-    requires own { OutsAreOf entries.now old.items }
-    ensures { result.items ≡ map
-        (remade_row K.rank (K.stays document.now.branches felt) old.items) keys.now }
-{
-    let mut rows = room;
-    let mut old = old;
-    let mut place = 0;
-    for key in keys {
-        place = place_from(&old, place, key.rank());
-        let state = taken(&mut old, place, key, document, felt);
-        rows.push_reserved(Row { key: *key, state });
+    fn gone(&self, old: &Row<K, V>) {
+        old.state.raise(self.entries);
     }
-    raise_all(entries, &old);
-    rows
 }

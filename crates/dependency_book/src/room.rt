@@ -10,11 +10,12 @@ ghost use Rattle.document_marks.specs.AllMarks.{mark_rank};
 ghost use Rattle.document_marks.specs.MostMarks.{marks_at_most, marks_at_most_after};
 
 use crate::mark::ArrivalRow;
-use crate::remade::remade;
-use crate::row::{Ranked, place_near};
+use crate::remade::AfterEdit;
+use crate::row::Key;
 use crate::texts::TextRow;
 use desk_events::Mark;
 use document_marks::{marks_at_most_after, marks_of};
+use ranked_rows::{place_near, remade};
 use revision_jobs::Entries;
 use schedule::{Bookmark, Document, Edit};
 use std::alloc::{AllocError, Global};
@@ -76,9 +77,14 @@ impl Room {
     {
         let Room { marks, rows } = self;
         let marks = marks_of(marks, document);
-        let arrivals = remade(entries, rows.arrivals, &marks, arrivals, document, felt);
         let bookmarks = document.bookmarks();
-        let texts = remade(entries, rows.texts, bookmarks, texts, document, felt);
+        let edit = AfterEdit {
+            entries,
+            document,
+            felt,
+        };
+        let arrivals = remade(&edit, rows.arrivals, &marks, arrivals);
+        let texts = remade(&edit, rows.texts, bookmarks, texts);
         let places = places_of(rows.places, &arrivals, bookmarks);
         Rows {
             arrivals,

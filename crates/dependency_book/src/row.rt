@@ -1,15 +1,13 @@
 //! Rows: what is known, or under way, of what stands at keys.
-ghost use Rattle.std.specs.Prelude.{◌≡◌, ℕ, Bool, List, Option, MatchOption, None, Some, is_some};
-ghost use Rattle.schedule.specs.declared.branch.Branch.{Branch};
-ghost use Rattle.desk_events.specs.declared.mark.Mark.{Mark};
+ghost use Rattle.std.specs.Prelude.{◌≡◌, ℕ, IfSome, MatchOption, None, Some, is_some};
+ghost use Rattle.revision_jobs.specs.Entries.{IsOf};
 ghost use Rattle.dependency_book.specs.RowState.{OutsAreOf, any_out, is_empty, is_known};
 ghost use Rattle.dependency_book.specs.RowState.{job_of, known};
 ghost use Rattle.dependency_book.specs.RowState.{least_out, lesser, number_of, row_for};
-ghost use Rattle.dependency_book.specs.Rows.{IsRanked, place_in, put};
+ghost use Rattle.dependency_book.specs.Rows.{IsRanked, put};
 
-use desk_events::Mark;
+use ranked_rows::{Ranked, place_in};
 use revision_jobs::{Entries, Job, Place};
-use schedule::Document;
 
 /// What stands in a row.
 #[derive(Drop)]
@@ -30,18 +28,21 @@ pub(crate) struct Row<K, V> {
 }
 
 /// A key of rows, which stand in the order of their keys' ranks.
-pub(crate) trait Ranked {
+pub(crate) trait Key {
     ghost rank: { Self → ℕ };
-
-    ghost stays: { List Branch → Option Mark → Self → Self → Bool };
 
     fn rank(&self) -> u128
         ensures { result ≡ rank self.now };
+}
 
-    /// Whether what stood at the key as it was stays, after an edit that gives the document and is
-    /// felt from a mark on, if it changes any pattern.
-    fn stays(&self, document: &Document, felt: Option<Mark>, was: &Self) -> bool
-        ensures { result ≡ stays document.now.branches felt self.now was.now };
+impl<K: Key, V> Ranked for Row<K, V> {
+    ghost use Rattle.dependency_book.specs.Rows.{by_key};
+
+    ghost rank = { by_key K.rank };
+
+    fn rank(&self) -> u128 {
+        self.key.rank()
+    }
 }
 
 impl<V> RowState<V> {
@@ -76,6 +77,15 @@ impl<V> RowState<V> {
         matches!(self, RowState::Expected(_))
     }
 
+    /// Asks whoever works the job that is out to stop, if one is.
+    pub(crate) fn raise(&self, entries: &Entries)
+        requires { IfSome (job_of self.now) (λ job. IsOf entries.now job.place) }
+    {
+        if let RowState::Expected(job) = self {
+            entries.raise(&job.place);
+        }
+    }
+
     // The number of the job that is out, if one is.
     fn number_out(&self) -> Option<u32>
         ensures { result ≡ number_of (job_of self.now) }
@@ -87,28 +97,8 @@ impl<V> RowState<V> {
     }
 }
 
-/// How many rows stand before the place of a rank.
-pub(crate) fn place_in<K: Ranked, V>(rows: &[Row<K, V>], rank: u128) -> usize
-    requires { IsRanked K.rank rows.now }
-    ensures { result ≡ place_in K.rank rank rows.now }
-{
-    rows.partition_point(|row| row.key.rank() < rank)
-}
-
-/// The same, where it may well be `guess`, which is looked at first.
-pub(crate) fn place_near<K: Ranked, V>(rows: &[Row<K, V>], rank: u128, guess: usize) -> usize
-    requires { IsRanked K.rank rows.now }
-    ensures { result ≡ place_in K.rank rank rows.now }
-{
-    if guess < rows.len() && rows[guess].key.rank() == rank {
-        guess
-    } else {
-        place_in(rows, rank)
-    }
-}
-
 /// Puts what stands in the row of a rank, if there is one.
-pub(crate) fn put<K: Ranked, V: Drop>(rows: &mut [Row<K, V>], rank: u128, state: RowState<V>)
+pub(crate) fn put<K: Key, V: Drop>(rows: &mut [Row<K, V>], rank: u128, state: RowState<V>)
     requires { IsRanked K.rank rows.old }
     ensures { rows.new ≡ put K.rank rank state rows.old }
 {
@@ -146,9 +136,7 @@ pub(crate) fn raise_all<K, V>(entries: &Entries, rows: &[Row<K, V>])
     requires { OutsAreOf entries.now rows.now }
 {
     for row in rows {
-        if let RowState::Expected(job) = &row.state {
-            entries.raise(&job.place);
-        }
+        row.state.raise(entries);
     }
 }
 

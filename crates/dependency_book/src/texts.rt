@@ -2,7 +2,8 @@
 ghost use Rattle.std.specs.Prelude.{◌≡◌, count_by};
 ghost use Rattle.dependency_book.specs.BookState.{is_pending};
 
-use crate::row::{Ranked, Row};
+use crate::remade::Keeps;
+use crate::row::{Key, Row};
 use crate::text::Text;
 use desk_events::Mark;
 use edit_effects::leaves_after;
@@ -11,17 +12,20 @@ use schedule::{Bookmark, Document};
 /// A bookmark with its text, or the job that is out for it.
 pub(crate) type TextRow = Row<Bookmark, Text>;
 
-impl Ranked for Bookmark {
+impl Key for Bookmark {
     ghost use Rattle.dependency_book.specs.Rows.{bookmark_rank};
-    ghost use Rattle.dependency_book.specs.Kept.{bookmark_stays};
 
     ghost rank = { bookmark_rank };
-
-    ghost stays = { bookmark_stays };
 
     fn rank(&self) -> u128 {
         u128::from(self.id)
     }
+}
+
+impl Keeps for Bookmark {
+    ghost use Rattle.dependency_book.specs.Kept.{bookmark_stays};
+
+    ghost stays = { bookmark_stays };
 
     fn stays(&self, document: &Document, felt: Option<Mark>, was: &Bookmark) -> bool {
         leaves_after(document, felt, Mark::of(self)) && was.generation == self.generation

@@ -51,6 +51,8 @@ opened_held table revision = record {
     bookmarks = refl;
     out = λ need job out. absurd (none_some job (sym (none_out table revision need) ∙ out));
   };
+  marks_rise = tt;
+  ids_rise = tt;
 }
   where
     none_some : (job : Job) → None ≡ Some job → ⊥

@@ -6,6 +6,7 @@ use Rattle.dependency_book.specs.BookState.{BookState, NothingOut, pending_of, w
 use Rattle.dependency_book.specs.Held.{places_of}
 use Rattle.dependency_book.specs.Right.{IsRight}
 use Rattle.dependency_book.specs.Rows.{ArrivalRow, TextRow}
+use Rattle.dependency_book.proofs.Outs.{held_by}
 use Rattle.dependency_book.proofs.Needed.{none_wanting}
 
 pub few_rows : (d : BookState) → IsRight d → length d.arrivals + length d.texts ≤ 20608
@@ -25,4 +26,5 @@ few_rows d right =
 
 -- where no job is out and something stands in every row
 pub none_pending : (d : BookState) → IsRight d → NothingOut d → wanting_of d ≡ 0 → pending_of d ≡ 0
-none_pending d right = none_wanting d (places_of d.arrivals d.plan.bookmarks) (record { places = refl; right = right })
+none_pending d right = none_wanting d (places_of d.arrivals d.plan.bookmarks)
+    (held_by d (places_of d.arrivals d.plan.bookmarks) refl right)

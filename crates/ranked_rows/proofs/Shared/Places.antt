@@ -77,6 +77,7 @@ row_there rank n (r ∷ rs) (suc k) d rise low is =
 
 -- the row of a rank has it, and stands at its place
 pub record Stands {T : Type 0} (rank : T → ℕ) (n : ℕ) (rows : List T) (r : T) : Type 0 where
+  pub row : row_at rank n rows ≡ Some r
   pub ranked : rank r ≡ n
   pub low : place_in rank n rows < length rows
   pub is : (d : T) → get_or rows (place_in rank n rows) d ≡ r
@@ -92,6 +93,7 @@ stands rank n (x ∷ rs) r rise is =
     let off : nat_lt (rank x) n ≡ false = grind (arith, nat_tests) in
     let at : place_in rank n (x ∷ rs) ≡ 0 = cond-false (nat_lt (rank x) n) (suc (place_in rank n rs)) 0 off in
     record {
+      row = is;
       ranked = ap rank (sym same) ∙ (grind (arith, nat_tests));
       low = omega (arith, at);
       is = λ d. ap (λ k. get_or (x ∷ rs) k d) at ∙ same;
@@ -105,6 +107,7 @@ stands rank n (x ∷ rs) r rise is =
     cond-true (nat_lt (rank x) n) (suc (place_in rank n rs)) 0 on in
     let low = f.low in
     record {
+      row = is;
       ranked = f.ranked;
       low = omega (arith, at, low);
       is = λ d. ap (λ k. get_or (x ∷ rs) k d) at ∙ f.is d;

@@ -8,16 +8,17 @@ use Rattle.dependency_book.specs.Inside.{state_of}
 use Rattle.desk_events.specs.Marks.{ComesBefore}
 use Rattle.dependency_book.specs.Needs.{IsLedTo}
 use Rattle.dependency_book.specs.Ready.{before_row}
-use Rattle.dependency_book.specs.Rows.{ArrivalRow, place_in}
+use Rattle.dependency_book.specs.Rows.{ArrivalRow, by_key}
+use Rattle.ranked_rows.specs.Rows.{place_in}
 use Rattle.document_marks.specs.AllMarks.{mark_rank}
 use Rattle.dependency_book.proofs.Found.{StepRow, step_row}
 use Rattle.dependency_book.proofs.book.Book.before.Goals as goal
 
 -- the row of the step, at the place that was found
 row_at : {d e : BookState} {places : List ℕ} {n k : ℕ} {rows : List ArrivalRow} (m : Mark) → d ≡ e → IsHeld d places
-    → IsLedTo e m → rows ≡ d.arrivals → n ≡ mark_rank m → k ≡ place_in mark_rank n rows → StepRow d m k
+    → IsLedTo e m → rows ≡ d.arrivals → n ≡ mark_rank m → k ≡ place_in (by_key mark_rank) n rows → StepRow d m k
 row_at {d} {e} {places} {n} {k} {rows} m same held led is rank at =
-    subst (StepRow d m) (sym (at ∙ ap₂ (place_in mark_rank) rank is))
+    subst (StepRow d m) (sym (at ∙ ap₂ (place_in (by_key mark_rank)) rank is))
     (step_row d places m held (subst (λ s. IsLedTo s m) (sym same) led))
 
 -- the mark before that of the row

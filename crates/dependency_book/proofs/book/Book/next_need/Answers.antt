@@ -4,6 +4,7 @@ use Rattle.desk_events.specs.declared.need.Need.{Need}
 use Rattle.dependency_book.specs.BookState.{BookState, NothingOut, pending_of}
 use Rattle.dependency_book.specs.Held.{places_of}
 use Rattle.dependency_book.specs.Needs.{IsNextView}
+use Rattle.dependency_book.proofs.Outs.{held_by}
 use Rattle.dependency_book.proofs.Needed.{none_pending}
 use Rattle.dependency_book.proofs.book.Book.next_need.Goals as goal
 
@@ -12,6 +13,6 @@ returns-in_err-next_step-clause-settled c =
     let d : BookState = c.next_step.new.self in
     subst (λ (o : Option Need). IfNone o (NothingOut d → pending_of d ≡ 0)) (sym c.from_residual.ensures)
     (none_pending d (places_of d.arrivals d.plan.bookmarks)
-    (record { places = refl; right = c.next_step.ensures.right })
+    (held_by d (places_of d.arrivals d.plan.bookmarks) refl c.next_step.ensures.right)
     (subst (λ (e : BookState). IsNextView e None) (sym c.next_step.ensures.same) c.in_default.ensures.next)
     c.in_err-next_step.ensures.next)

@@ -11,6 +11,7 @@ use Rattle.dependency_book.specs.Room.{HasRoom}
 use Rattle.dependency_book.specs.RowState.{OutsAreOf}
 use Rattle.dependency_book.specs.Rows.{ArrivalRow, TextRow}
 use Rattle.dependency_book.proofs.Owned.{arrivals_own, texts_own}
+use Rattle.dependency_book.proofs.Outs.{held_by}
 use Rattle.dependency_book.proofs.Passed.{passed_none}
 use Rattle.dependency_book.proofs.Revised.{Revises, revises, with_rows}
 use Rattle.dependency_book.proofs.book.Book.remake.Goals.{After-self-1}
@@ -66,7 +67,7 @@ invariant_of-self-2 c =
     (state_of c.self.inside) c.make.new.self c.rows_of-rows.result.arrivals.items c.rows_of-rows.result.texts.items in
     let places = c.rows_of-rows.result.places.items in
     record {
-      held = record { places = c.rows_of-rows.ensures.places_are; right = (made c).1 };
+      held = held_by e places c.rows_of-rows.ensures.places_are (made c).1;
       passed = subst (HasPassed e places) (sym c.start-self-inside.ensures) (passed_none e places);
       own = c.self.invariant.own;
       facts = c.self.invariant.facts;

@@ -1,54 +1,48 @@
-use Rattle.std.proofs.Common.{◌≡◌, ◌∙◌, ℕ, List, length, Some, refl, sym, ap, ap₂, subst, arith}
+use Rattle.std.proofs.Common.{◌≡◌, ◌∙◌, ℕ, List, Some, refl, sym, ap, ap₂, subst}
 use Rattle.std.specs.Prelude.{IsSome}
 use Rattle.worlds.specs.World.{World}
 use Rattle.rule_tree.specs.Rule.{name_of, states_of}
 use Rattle.schedule.specs.Scratch.{cells_at}
+use Rattle.ranked_rows.specs.Rows.{row_at}
 use Rattle.revision_jobs.specs.declared.entry.Rendering.{Rendering}
 use Rattle.desk_events.specs.declared.mark.Mark.{Mark}
 use Rattle.dependency_book.specs.BookState.{BookState, arrival_known}
 use Rattle.dependency_book.specs.Entered.{ViewsOf}
 use Rattle.dependency_book.specs.Held.{IsHeld}
 use Rattle.dependency_book.specs.Inside.{state_of}
-use Rattle.desk_events.specs.Marks.{bookmark_mark}
 use Rattle.dependency_book.specs.Needs.{ViewIsNext}
-use Rattle.dependency_book.specs.Rows.{TextRow, place_in, bookmark_rank}
-use Rattle.dependency_book.proofs.Found.{ViewRow, view_row, view_is}
+use Rattle.dependency_book.specs.Rows.{TextRow, bookmark_rank, by_key}
+use Rattle.dependency_book.proofs.Found.{ViewRow, has_view_row, view_row, view_is}
 use Rattle.dependency_book.proofs.book.Book.view_of.Goals as goal
 
--- the row of the view, at the place that was found
-row_at : {d e : BookState} {places : List ℕ} {n k : ℕ} {rows : List TextRow} (id : ℕ) → d ≡ e → IsHeld d places
-    → ViewIsNext e id → rows ≡ d.texts → n ≡ id → k ≡ place_in bookmark_rank n rows → ViewRow d id k
-row_at {d} {e} {places} {n} {k} {rows} id same held next is rank at =
-    subst (ViewRow d id) (sym (at ∙ ap₂ (place_in bookmark_rank) rank is))
-    (view_row d places id held (subst (λ s. ViewIsNext s id) (sym same) next))
+-- the row that was found is that of the view
+row_found : {d e : BookState} {places : List ℕ} {n : ℕ} {rows : List TextRow} {x : TextRow} (id : ℕ) → d ≡ e
+    → IsHeld d places → ViewIsNext e id → rows ≡ d.texts → n ≡ id → row_at (by_key bookmark_rank) n rows ≡ Some x
+    → ViewRow d id x
+row_found {d} {e} {places} {n} {rows} {x} id same held next is rank found =
+    view_row d places id x held (subst (λ s. ViewIsNext s id) (sym same) next)
+    (ap₂ (row_at (by_key bookmark_rank)) (sym rank) (sym is) ∙ found)
 
-pub index-requires : goal.index-requires
-index-requires c =
-    let d = state_of c.self.inside in
-    let row = row_at c.args.id c.self.view_is c.self.invariant.held c.requires c.deref.ensures.value c.from.ensures
-    c.place_in.ensures in
-    let low = row.low in
-    let len = c.deref.ensures.len in
-    let same : length c.deref.result.now ≡ length d.texts =
-    ap (λ (rows : List TextRow). length rows) c.deref.ensures.value in
-    omega (arith, low, len, same)
+pub unreachable-requires : goal.unreachable-requires
+unreachable-requires c =
+    has_view_row (state_of c.self.inside) c.self.inside.places.items c.args.id c.self.invariant.held
+    (subst (λ s. ViewIsNext s c.args.id) (sym c.self.view_is) c.requires)
+    (ap₂ (row_at (by_key bookmark_rank)) (sym c.from.ensures) (sym c.deref.ensures.value) ∙ c.in_default.ensures)
 
 pub arrived-requires : goal.arrived-requires
 arrived-requires c =
     let d = state_of c.self.inside in
-    let row = row_at c.args.id c.self.view_is c.self.invariant.held c.requires c.deref.ensures.value c.from.ensures
-    c.place_in.ensures in
-    let x : TextRow = c.index.result.now in
+    let row = row_found c.args.id c.self.view_is c.self.invariant.held c.requires c.deref.ensures.value c.from.ensures
+    c.in-Some.ensures in
     subst (λ (e : BookState). IsSome (arrival_known e c.of-mark.result)) c.self.view_is
-    (subst (λ (m : Mark). IsSome (arrival_known d m))
-    (ap (λ (r : TextRow). bookmark_mark r.key) (sym c.index.ensures) ∙ sym c.of-mark.ensures) (row.arrived x))
+    (subst (λ (m : Mark). IsSome (arrival_known d m)) (sym c.of-mark.ensures) row.arrived)
 
 pub returns-clause-entry : goal.returns-clause-entry
 returns-clause-entry c =
     let d = state_of c.self.inside in
-    let row = row_at c.args.id c.self.view_is c.self.invariant.held c.requires c.deref.ensures.value c.from.ensures
-    c.place_in.ensures in
-    let x : TextRow = c.index.result.now in
+    let row = row_found c.args.id c.self.view_is c.self.invariant.held c.requires c.deref.ensures.value c.from.ensures
+    c.in-Some.ensures in
+    let x : TextRow = c.in-Some.row.now in
     let g = x.key.generation in
     let r : Rendering =
     record {
@@ -60,8 +54,7 @@ returns-clause-entry c =
       generation = g;
     } in
     let h =
-    view_is d c.args.self.now c.self.inside.places.items c.args.id c.place_in.result x r c.self.view_is
-    c.self.invariant.held row c.index.ensures
+    view_is d c.args.self.now c.args.id x r c.self.view_is row
     (ap (arrival_known c.args.self.now) (sym c.of-mark.ensures) ∙ c.arrived.ensures
     ∙ ap (λ (w : World). Some w) (sym c.in_ok-try_clone.ensures)) refl
     (c.in_ok-cells_at.ensures
