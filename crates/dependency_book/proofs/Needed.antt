@@ -5,6 +5,7 @@ use Rattle.std.specs.List.{list_any}
 use Rattle.std.specs.Option.{option_map_or}
 use Rattle.std.proofs.lemmas.Bool.{and_parts}
 use Rattle.std.proofs.lemmas.List.{get_or_default}
+use Rattle.std.proofs.lemmas.List.Elements.{All-from_recursion, All-get_or}
 use Rattle.ranked_rows.specs.Rows.{place_in}
 use Rattle.ranked_rows.proofs.Shared.Places.{never_falls}
 use Rattle.schedule.specs.declared.branch.Branch.{Branch}
@@ -16,7 +17,6 @@ use Rattle.schedule.specs.Sound.{IsSound}
 use Rattle.schedule.proofs.Shared.Branches.{parents_before}
 use Rattle.dependency_book.specs.declared.row.RowState.{RowState}
 use Rattle.dependency_book.specs.declared.row.RowState.TheVariants.{Empty, Expected, Known}
-use Rattle.dependency_book.specs.declared.row.Row.{Row}
 use Rattle.desk_events.specs.declared.mark.Mark.{Mark}
 use Rattle.dependency_book.specs.BookState.{BookState, NothingOut, arrival_row, arrival_known, text_row, is_pending, pending_of, wanting_of}
 use Rattle.dependency_book.specs.Held.{IsHeld, places_of}
@@ -29,6 +29,7 @@ use Rattle.document_marks.specs.AllMarks.{mark_rank}
 use Rattle.dependency_book.proofs.Found.{ready_is}
 use Rattle.dependency_book.proofs.Outs.{NoneOut, arrivals_none, texts_none}
 use Rattle.dependency_book.proofs.Placed.{MarkRow, in_at, mark_row, place_of_mark, row_beside, row_comes, row_is, row_near, row_stands, stands_in, text_stands}
+use Rattle.desk_events.proofs.Shared.Listed.{found_any}
 use Rattle.desk_events.proofs.Shared.Marks.{before_one, bookmark_is_mark}
 use Rattle.document_marks.proofs.Shared.Ranks.{rank_branches, rank_within}
 use Rattle.dependency_book.proofs.Standing.{count_cons}
@@ -298,11 +299,10 @@ none_empty (r ∷ rs) f =
     let rest = none_empty rs (λ k x low. f (suc k) x (omega (arith, low))) in
     omega (arith, whole, here, rest)
 
-none_at_row : {V : Type 0} (rows : List (Row Mark V)) (k : ℕ) (x : Row Mark V) → NoneOut rows → k < length rows
+none_at : (rows : List ArrivalRow) (k : ℕ) (x : ArrivalRow) → NoneOut rows → k < length rows
     → job_of (get_or rows k x).state ≡ None
-none_at_row [] k x out low = absurd (omega (arith, low))
-none_at_row (r ∷ rs) zero x out low = out.0
-none_at_row (r ∷ rs) (suc k) x out low = none_at_row rs k x out.1 (omega (arith, low))
+none_at rows k x out low =
+    All-get_or (λ (r : ArrivalRow). job_of r.state ≡ None) rows k x low (All-from_recursion _ rows out)
 
 filled : {V : Type 0} (s : RowState V) (b : Bool) → job_of s ≡ None → b ≡ true → (is_empty s && b) ≡ false
     → is_known s ≡ true
@@ -316,15 +316,6 @@ forks_listed : (all : List Branch) (b : ℕ) → 0 < b → (a : Mark) → a.bran
     → a.generation ≡ fork_of all b → (is_start a || list_any (λ x. forks_at x a) all) ≡ true
 forks_listed all b up a parent fork = at (element_at branch_id all b) refl
   where
-    found : (xs : List Branch) (x : Branch) → element_at branch_id xs b ≡ Some x → forks_at x a ≡ true
-        → list_any (λ y. forks_at y a) xs ≡ true
-    found [] x is hit = absurd cc
-    found (y ∷ ys) x is hit =
-        either_way (y.id == b)
-        (λ here. let one : Some y ≡ Some x = rw here at is in let same : y ≡ x = cc in
-        rw (ap (λ z. forks_at z a) same ∙ hit) refl)
-        (λ off. either_way (forks_at y a) (λ here. rw here refl) (λ none. rw none (found ys x (rw off at is) hit)))
-
     at : (o : Option Branch) → element_at branch_id all b ≡ o → (is_start a || list_any (λ x. forks_at x a) all) ≡ true
     at None is =
         let branch : a.branch ≡ 0 =
@@ -340,7 +331,7 @@ forks_listed all b up a parent fork = at (element_at branch_id all b) refl
         let hit : forks_at x a ≡ true =
         either_way (x.id == a.branch) (λ own. rw (own, eq_true x.fork a.generation generation) refl)
         (λ off. rw (off, eq_true x.parent a.branch branch, eq_true x.fork a.generation generation) refl) in
-        let listed = found all x is hit in
+        let listed = found_any branch_id (λ y. forks_at y a) all b x is hit in
         either_way (is_start a) (λ start. rw start refl) (λ off. rw (off, listed) refl)
 
 before_is : (p : Plan) (a m : Mark) → ComesBefore p a m → is_mark p a ≡ true
@@ -402,7 +393,7 @@ known_below d places held out none (suc n) k x under low =
     absurd (omega (arith, up, here, same, lower))) in
     let ready = row_known d places b n held (known_below d places held out none n)
     (before_is d.plan b m comes) earlier in
-    filled (get_or d.arrivals k x).state (is_ready d.arrivals b) (none_at_row d.arrivals k x out low) ready
+    filled (get_or d.arrivals k x).state (is_ready d.arrivals b) (none_at d.arrivals k x out low) ready
     (either_way (steppable d.plan.branches d.arrivals k x)
     (λ hit. absurd (none m (can_be_reached d places k x held low hit))) (λ miss. miss))
 

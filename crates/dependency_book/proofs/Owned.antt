@@ -1,12 +1,11 @@
 -- Jobs that rows expect have their entries in the table.
-use Rattle.std.proofs.Common.{◌≡◌, None, Some, ℕ, zero, suc, ◌<◌, List, [], ◌∷◌, length, get_or, refl, sym, subst, arith, Option}
+use Rattle.std.proofs.Common.{◌≡◌, None, Some, ℕ, List, refl, sym, subst, Option}
 use Rattle.std.specs.Prelude.{IfSome}
 use Rattle.revision_jobs.specs.declared.answer.Job.{Job}
 use Rattle.revision_jobs.specs.declared.entries.Entries.{Entries}
 use Rattle.revision_jobs.specs.Entries.{IsOf}
 use Rattle.desk_events.specs.declared.need.Need.{Need}
 use Rattle.desk_events.specs.declared.need.Need.TheVariants.{View}
-use Rattle.dependency_book.specs.declared.row.Row.{Row}
 use Rattle.dependency_book.specs.BookState.{BookState, expected}
 use Rattle.dependency_book.specs.Held.{IsHeld}
 use Rattle.desk_events.specs.Needs.{step_to}
@@ -21,12 +20,6 @@ use Rattle.desk_events.proofs.Shared.Tests.{either_way}
 -- a job, if there is one, has its entry in a table
 abbrev pub IsOwn : Entries → Option Job → Type 0
 IsOwn entries o = IfSome o (λ job. IsOf entries job.place)
-
-pub own_at : {K V : Type 0} (entries : Entries) (rows : List (Row K V)) (k : ℕ) (x : Row K V) → OutsAreOf entries rows
-    → k < length rows → IsOwn entries (job_of (get_or rows k x).state)
-own_at entries [] k x own low = absurd (omega (arith, low))
-own_at entries (r ∷ rs) zero x own low = own.0
-own_at entries (r ∷ rs) (suc k) x own low = own_at entries rs k x own.1 (omega (arith, low))
 
 -- so has each job that is out
 

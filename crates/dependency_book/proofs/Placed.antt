@@ -4,6 +4,7 @@ use Rattle.std.specs.Prelude.{◌==◌, ◌||◌, IfSome, is_some}
 use Rattle.std.specs.Option.{option_map, option_map_or}
 use Rattle.std.specs.List.{AllByRecursion}
 use Rattle.std.proofs.lemmas.Bool.{cond-false}
+use Rattle.std.proofs.lemmas.List.Elements.{All-from_recursion, All-get_or}
 use Rattle.schedule.specs.declared.branch.Branch.{Branch}
 use Rattle.schedule.specs.declared.document.Bookmark.{Bookmark}
 use Rattle.schedule.specs.Branches.{element_at, fork_of, parent_of}
@@ -24,7 +25,7 @@ use Rattle.document_marks.specs.AllMarks.{mark_rank}
 use Rattle.desk_events.proofs.Shared.Listed.{found_any, none_listed}
 use Rattle.document_marks.proofs.Shared.Ranks.{above_start, has_mark, rank_branch, rank_generation, rank_is, rank_within}
 use Rattle.desk_events.proofs.Shared.Marks.{start_is, mark_placed, before_one}
-use Rattle.dependency_book.proofs.Standing.{has, has_row_at, has_stands, key_row, state_at-row, state_in, state_row}
+use Rattle.dependency_book.proofs.Standing.{all_keys, has, has_row_at, has_stands, key_row, state_at-row, state_in, state_row}
 use Rattle.desk_events.proofs.Shared.Tests.{either_way, clash, true_eq, false_eq, eq_true, true_lt, false_lt}
 
 -- ranks of rows beside others
@@ -64,9 +65,7 @@ mark_of rows k x = (get_or rows k x).key
 -- what holds of each mark of the rows holds of that at a place
 row_holds : (P : Mark → Type 0) (rows : List ArrivalRow) (k : ℕ) (x : ArrivalRow) → AllByRecursion P (keys rows)
     → k < length rows → P (mark_of rows k x)
-row_holds P [] k x all low = absurd (omega (arith, low))
-row_holds P (r ∷ rs) zero x all low = all.0
-row_holds P (r ∷ rs) (suc k) x all low = row_holds P rs k x all.1 (omega (arith, low))
+row_holds P rows k x all low = All-get_or (λ r. P r.key) rows k x low (All-from_recursion _ rows (all_keys P rows all))
 
 pub row_near : (d : BookState) (places : List ℕ) (k : ℕ) (x : ArrivalRow) → IsHeld d places → k < length d.arrivals
     → (mark_of d.arrivals k x).generation ≤ 2 ^ 60

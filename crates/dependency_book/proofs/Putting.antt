@@ -1,10 +1,7 @@
 -- Books in which something is put in a row.
-use Rattle.std.proofs.Common.{◌≡◌, ℕ, ◌≤◌, ◌^◌, ◌∙◌, true, false, not, List, [], ◌∷◌, ◌++◌, length, take, drop, append-nil, refl, sym, ap, subst, arith, Some}
+use Rattle.std.proofs.Common.{◌≡◌, ℕ, ◌≤◌, ◌^◌, ◌∙◌, true, false, not, List, refl, sym, ap, subst, arith, Some}
 use Rattle.std.specs.Prelude.{if◌then◌else◌, ◌==◌, map}
-use Rattle.std.specs.List.{AllByRecursion, list_any}
 use Rattle.std.proofs.lemmas.Bool.{and_parts}
-use Rattle.std.proofs.lemmas.List.{drop_all, take_all}
-use Rattle.dependency_book.specs.declared.row.Row.{Row}
 use Rattle.worlds.specs.World.{World}
 use Rattle.schedule.specs.declared.document.Bookmark.{Bookmark}
 use Rattle.schedule.specs.Plan.{Plan}
@@ -26,9 +23,9 @@ use Rattle.dependency_book.specs.RowState.{state_map, job_of}
 use Rattle.dependency_book.specs.Rows.{ArrivalRow, keys, state_at, put, bookmark_rank}
 use Rattle.ranked_rows.specs.Rows.{place_in}
 use Rattle.document_marks.proofs.Shared.Ranks.{apart, has_mark, rank_is}
-use Rattle.desk_events.proofs.Shared.Marks.{same_mark}
+use Rattle.desk_events.proofs.Shared.Marks.{mark_near, same_mark}
 use Rattle.dependency_book.proofs.Outs.{held_by}
-use Rattle.dependency_book.proofs.Standing.{has, keys-put, length-keys, state_at-put_same, state_at-put_other, place_in-keys, count-put}
+use Rattle.dependency_book.proofs.Standing.{has, keys-put, state_at-put_same, state_at-put_other, place_in-keys, count-put}
 use Rattle.desk_events.proofs.Shared.Tests.{either_way, clash, true_eq, eq_true}
 use Rattle.std.specs.Prelude.{IfSome, slice_get}
 use Rattle.revision_jobs.specs.Entries.{IsOf}
@@ -93,31 +90,20 @@ record HasRow (d : BookState) (m : Mark) : Type 0 where
   there : has mark_rank (mark_rank m) (keys d.arrivals) ≡ true
   near : m.generation ≤ 2 ^ 60
 
-near_listed : (m : Mark) (ks : List Mark) → AllByRecursion (λ (k : Mark). k.generation ≤ 2 ^ 60) ks
-    → list_any (λ k. is_same k m) ks ≡ true → m.generation ≤ 2 ^ 60
-near_listed m [] near there = absurd cc
-near_listed m (k ∷ ks) near there =
-    either_way (is_same k m)
-    (λ hit. subst (λ (n : Mark). n.generation ≤ 2 ^ 60) (same_mark k m hit) near.0)
-    (λ miss. near_listed m ks near.1 (rw miss at there))
-
-has_row : (d : BookState) (m : Mark) → AreMarksOf d.plan (keys d.arrivals) → can_change d.plan (step_to m) ≡ true
-    → HasRow d m
-has_row d m marks can =
+has_row : (d : BookState) (m : Mark) → IsRight d → can_change d.plan (step_to m) ≡ true → HasRow d m
+has_row d m right can =
     let parts = and_parts (not (is_start m)) (is_mark d.plan m) can in
     let off : is_start m ≡ false = either_way (is_start m) (λ hit. clash (not (is_start m)) parts.0 (rw hit refl))
     (λ miss. miss) in
-    let listed = marks.are m off ∙ parts.1 in
     record {
       off = off;
-      there = has_mark m (keys d.arrivals) marks.near ∙ listed;
-      near = near_listed m (keys d.arrivals) marks.near listed;
+      there = has_mark m (keys d.arrivals) right.marks.near ∙ right.marks.are m off ∙ parts.1;
+      near = mark_near d.plan m right.core.sound parts.1;
     }
 
-pub arrival_puts : (d : BookState) (m : Mark) (s : RowState World) → AreMarksOf d.plan (keys d.arrivals)
-    → can_change d.plan (step_to m) ≡ true → Puts (step_to m) (state_map pattern s) d (with_arrival d m s)
-arrival_puts d m s marks can =
-    let h = has_row d m marks can in
+pub arrival_puts : (d : BookState) (m : Mark) (s : RowState World) → IsRight d → can_change d.plan (step_to m) ≡ true → Puts (step_to m) (state_map pattern s) d (with_arrival d m s)
+arrival_puts d m s right can =
+    let h = has_row d m right can in
     record {
       book = record {
         document =
@@ -206,7 +192,7 @@ arrival_held d places m s held can =
     (held.places ∙ same_places d.arrivals (put mark_rank (mark_rank m) s d.arrivals) d.plan.bookmarks
     (sym (keys-put mark_rank (mark_rank m) s d.arrivals)))
     (put_right d (with_arrival d m s) (step_to m) (state_map pattern s) held.right can
-    (arrival_puts d m s held.right.marks can.there))
+    (arrival_puts d m s held.right can.there))
 
 pub text_held : (d : BookState) (places : List ℕ) (id : ℕ) (s : RowState (List ℕ)) → IsHeld d places
     → CanBePut d (View id) (state_map text s) → IsHeld (with_text d id s) places
@@ -214,20 +200,6 @@ text_held d places id s held can =
     held_by (with_text d id s) places held.places
     (put_right d (with_text d id s) (View id) (state_map text s) held.right can
     (text_puts d id s held.right.bookmarks can.there))
-
--- a vector whose rows are all written is the rows that were written
-pub written : {K V : Type 0} {len : ℕ} {rows new now : List (Row K V)} (rank : K → ℕ) (n : ℕ) (s : RowState V)
-    → now ≡ rows → length now ≡ len → new ≡ put rank n s now
-    → take len (new ++ drop (length new) rows) ≡ put rank n s rows
-written {K} {V} {len} {rows} {new} {now} rank n s same long is =
-    let count : length new ≡ length now = ap (λ (ys : List (Row K V)). length ys) is
-    ∙ length-keys (put rank n s now) now (keys-put rank n s now) in
-    let rest : drop (length new) rows ≡ [] =
-    drop_all (length new) rows (subst (λ (ys : List (Row K V)). length ys ≤ length new) same (omega (arith, count))) in
-    ap (λ (ys : List (Row K V)). take len (new ++ ys)) rest
-    ∙ ap (λ (ys : List (Row K V)). take len ys) (append-nil new)
-    ∙ take_all len new (omega (arith, count, long))
-    ∙ is ∙ ap (put rank n s) same
 
 -- what may be put for a view is no pattern, and for a step no text
 

@@ -198,40 +198,33 @@ kept_core asked felt old new keeps (View id) =
     ∙ text_kept_row new.plan.branches felt asked (bookmark_in old.plan.bookmarks id) (text_row old id)
 
 -- a job that is out afterwards was out for the same row before
-kept_out : (p : Plan) (asked : Asked) (felt : Option Mark) (d e : BookState) (need : Need) (job : Job)
-    → KeepsRows asked felt d e → expected e need ≡ Some job → expected d need ≡ Some job
-kept_out p asked felt d e (Step branch mark) job keeps out =
-    let m = mark_at branch mark in
-    let stays = stays_mark felt d.plan e.plan m in
-    let left = arrival_kept felt d.plan e.plan m (arrival_row d m) in
-    either_way (is_start m)
-    (λ hit. absurd
-    (let is : arrival_row e m ≡ Known e.plan.start = keeps.arrivals m
-    ∙ cond-true (is_start m) (Known e.plan.start) left hit in
-    let bad : None ≡ Some job = sym (ap (λ s. job_of (state_map pattern s)) is) ∙ out in cc))
-    (λ miss.
-    let is : arrival_row e m ≡ left = keeps.arrivals m
-    ∙ cond-false (is_start m) (Known e.plan.start) left miss in
-    either_way stays
-    (λ on.
-    let same : arrival_row e m ≡ arrival_row d m = is ∙ cond-true stays (arrival_row d m) Empty on in
-    sym (ap (λ s. job_of (state_map pattern s)) same) ∙ out)
-    (λ off. absurd
-    (let none : arrival_row e m ≡ Empty = is ∙ cond-false stays (arrival_row d m) Empty off in
-    let bad : None ≡ Some job = sym (ap (λ s. job_of (state_map pattern s)) none) ∙ out in cc)))
-kept_out p asked felt d e (View id) job keeps out = by_bookmark (bookmark_in d.plan.bookmarks id) refl
-  where
-    gone : text_row e id ≡ Empty → expected d (View id) ≡ Some job
-    gone none = absurd (let bad : None ≡ Some job = sym (ap (λ s. job_of (state_map text s)) none) ∙ out in cc)
 
-    by_bookmark : (o : Option Bookmark) → bookmark_in d.plan.bookmarks id ≡ o → expected d (View id) ≡ Some job
-    by_bookmark None is = gone (keeps.texts id ∙ rw is refl)
-    by_bookmark (Some b) is =
-        either_way (keeps_text e.plan.branches felt asked b)
-        (λ on.
-        let same : text_row e id ≡ text_row d id = keeps.texts id ∙ rw is (rw on refl) in
-        sym (ap (λ s. job_of (state_map text s)) same) ∙ out)
-        (λ off. gone (keeps.texts id ∙ rw is (rw off refl)))
+out_if : {V W : Type 0} (f : V → W) (stays : Bool) (s : RowState V) (job : Job)
+    → job_of (state_map f (if stays then s else Empty)) ≡ Some job → job_of (state_map f s) ≡ Some job
+out_if f true s job out = out
+out_if f false s job out = absurd cc
+
+out_arrival : (start stays : Bool) (w : World) (s : RowState World) (job : Job)
+    → job_of (state_map pattern (if start then Known w else if stays then s else Empty)) ≡ Some job
+    → job_of (state_map pattern s) ≡ Some job
+out_arrival true stays w s job out = absurd cc
+out_arrival false stays w s job out = out_if pattern stays s job out
+
+out_text : (branches : List Branch) (felt : Option Mark) (asked : Asked) (o : Option Bookmark) (s : RowState (List ℕ))
+    (job : Job) → job_of (state_map text (text_kept branches felt asked o s)) ≡ Some job
+    → job_of (state_map text s) ≡ Some job
+out_text branches felt asked None s job out = absurd cc
+out_text branches felt asked (Some b) s job out = out_if text (keeps_text branches felt asked b) s job out
+
+kept_out : (asked : Asked) (felt : Option Mark) (d e : BookState) (need : Need) (job : Job)
+    → KeepsRows asked felt d e → expected e need ≡ Some job → expected d need ≡ Some job
+kept_out asked felt d e (Step branch mark) job keeps out =
+    let m = mark_at branch mark in
+    out_arrival (is_start m) (stays_mark felt d.plan e.plan m) e.plan.start (arrival_row d m) job
+    (sym (ap (λ s. job_of (state_map pattern s)) (keeps.arrivals m)) ∙ out)
+kept_out asked felt d e (View id) job keeps out =
+    out_text e.plan.branches felt asked (bookmark_in d.plan.bookmarks id) (text_row d id) job
+    (sym (ap (λ s. job_of (state_map text s)) (keeps.texts id)) ∙ out)
 
 -- an edit keeps just this of a book, which is right afterwards
 abbrev pub Revises : Asked → BookState → BookState → Type 0
@@ -275,7 +268,7 @@ edit_revises d asked felt marks free right is_felt sound are =
         marks = subst (AreMarksOf q) (sym (keys-remade mark_rank (mark_stays q.branches felt) d.arrivals marks)) are;
         bookmarks = keys-remade bookmark_rank (bookmark_stays q.branches felt) d.texts q.bookmarks;
         out = λ need job out.
-            let h = right.out need job (kept_out d.plan asked felt d e need job keeps out) in
+            let h = right.out need job (kept_out asked felt d e need job keeps out) in
             record { own = h.own; entry = h.entry };
       },
     )

@@ -6,7 +6,7 @@ ghost use Rattle.dependency_book.specs.RowState.{job_of, known};
 ghost use Rattle.dependency_book.specs.RowState.{least_out, lesser, number_of, row_for};
 ghost use Rattle.dependency_book.specs.Rows.{IsRanked, put};
 
-use ranked_rows::{Ranked, place_in};
+use ranked_rows::{Ranked, find};
 use revision_jobs::{Entries, Job, Place};
 
 /// What stands in a row.
@@ -98,12 +98,11 @@ impl<V> RowState<V> {
 }
 
 /// Puts what stands in the row of a rank, if there is one.
-pub(crate) fn put<K: Key, V: Drop>(rows: &mut [Row<K, V>], rank: u128, state: RowState<V>)
-    requires { IsRanked K.rank rows.old }
-    ensures { rows.new ≡ put K.rank rank state rows.old }
+pub(crate) fn put<K: Key, V: Drop>(rows: &mut Vec<Row<K, V>>, rank: u128, state: RowState<V>)
+    requires { IsRanked K.rank rows.old.items }
+    ensures { rows.new.items ≡ put K.rank rank state rows.old.items }
 {
-    let place = place_in(rows, rank);
-    if place < rows.len() && rows[place].key.rank() == rank {
+    if let Some(place) = find(rows, rank) {
         rows[place].state = state;
     }
 }

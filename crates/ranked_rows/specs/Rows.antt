@@ -1,10 +1,14 @@
 -- Rows by rising rank, as a finite map from ranks.
-use Rattle.std.specs.Prelude.{ℕ, suc, nat_lt, List, [], ◌∷◌, map, Option, None, Some, if◌then◌else◌, ◌==◌}
+use Rattle.std.specs.Prelude.{◌≡◌, ℕ, suc, ◌<◌, nat_lt, List, [], ◌∷◌, length, map, find, Option, Some, slice_index_or, if◌then◌else◌, ◌==◌}
 
 -- the row of a rank, if there is one
 abbrev pub row_at : {T : Type 0} → (T → ℕ) → ℕ → List T → Option T
-row_at rank n [] = None
-row_at rank n (r ∷ rs) = if rank r == n then Some r else row_at rank n rs
+row_at rank n rows = find (λ r. rank r == n) rows
+
+-- it stands at this place
+abbrev pub IsAt : {T : Type 0} → (T → ℕ) → ℕ → List T → ℕ → Type 0
+IsAt {T} rank n rows place =
+    (place < length rows) × ((d : T) → row_at rank n rows ≡ Some (slice_index_or rows place d))
 
 -- how many rows stand before the first whose rank isn't below
 abbrev pub place_in : {T : Type 0} → (T → ℕ) → ℕ → List T → ℕ

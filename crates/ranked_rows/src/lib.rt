@@ -7,11 +7,11 @@
 //! once, side by side, and the rows stand in room that its caller gives.
 #![tactic(auto)]
 
-mod find;
 mod left;
+mod place;
 mod ranked;
 mod remake;
 
-pub use find::{get, get_near, place_in, place_near};
+pub use place::{find, get, get_near, place_in, place_near};
 pub use ranked::Ranked;
 pub use remake::{Remakes, remade};

@@ -1,35 +1,29 @@
-use Rattle.std.proofs.Common.{◌≡◌, ◌<◌, ◌∙◌, length, get_or, sym, ap, subst, arith}
-use Rattle.std.proofs.lemmas.List.{get_or_default}
+use Rattle.std.proofs.Common.{◌∙◌, get_or, sym, ap, subst}
+use Rattle.std.proofs.Math.ListN.{set}
 use Rattle.dependency_book.specs.declared.row.Row.{Row}
 use Rattle.dependency_book.specs.Rows.{by_key}
-use Rattle.ranked_rows.proofs.Shared.Places.{absent}
+use Rattle.ranked_rows.specs.Rows.{IsAt, row_at}
+use Rattle.ranked_rows.proofs.Shared.Places.{stands}
 use Rattle.dependency_book.proofs.Standing.{put_absent, put_there}
-use Rattle.dependency_book.proofs.row.put.Goals.{else-place-rows-via-then-place-rows+else-rank, else-place-rows-via-else-place-rows}
 use Rattle.dependency_book.proofs.row.put.Goals as goal
 
-pub returns-then-rank : goal.returns-then-rank
-returns-then-rank g c =
-    let rank = g.K.Key.rank in
-    let rows = c.args.rows.now in
-    let k = c.place_in-place.result in
-    let x = c.index-rows-place-then-rank.result in
-    let low = c.if-place-rows.true in
-    put_there rank c.args.rank c.args.state rows k x c.requires low
-    (ap (by_key rank) (get_or_default rows k x c.index-rows-place.result low) ∙ sym c.rank.ensures ∙ c.if-rank.true)
-
-pub returns-else-place-rows : goal.returns-else-place-rows
-returns-else-place-rows g c =
+pub returns-in-Some : goal.returns-in-Some
+returns-in-Some g c =
     let rank = g.K.Key.rank in
     let n = c.args.rank in
-    let rows = c.args.rows.now in
-    sym (put_absent rank n c.args.state rows
-    (absent (by_key rank) n rows c.requires
-    (subst (λ k. (d : Row g.row.K.Denot g.row.V.Denot) → k < length rows → by_key rank (get_or rows k d) ≡ n → ⊥)
-    c.place_in-place.ensures
-    (elim c.else-place-rows.branch [
-      | else-place-rows-via-then-place-rows+else-rank w ↦ λ d low is.
-          let k = c.place_in-place.result in
-          w.if-rank.false
-          (w.rank.ensures ∙ ap (by_key rank) (get_or_default rows k w.index-rows-place.result d low) ∙ is)
-      | else-place-rows-via-else-place-rows w ↦ λ d low is. omega (arith, low, w.if-place-rows.false)
-    ]))))
+    let rows = c.args.rows.now.items in
+    let k = c.in-Some.place in
+    let x = c.index_mut.result.now in
+    let at : IsAt (by_key rank) n rows k =
+    subst (λ ys. IsAt (by_key rank) n ys k) c.deref.ensures.value c.in-Some.ensures in
+    ap (λ (r : Row g.row.K.Denot g.row.V.Denot). set rows k (record { key = r.key; state = c.args.state }))
+    c.index_mut.ensures.value
+    ∙ put_there rank n c.args.state rows k x c.requires at.0
+    (stands (by_key rank) n rows (get_or rows k x) c.requires (at.1 x)).ranked
+
+pub returns-in_default : goal.returns-in_default
+returns-in_default g c =
+    let rank = g.K.Key.rank in
+    let rows = c.args.rows.now.items in
+    sym (put_absent rank c.args.rank c.args.state rows
+    (ap (row_at (by_key rank) c.args.rank) (sym c.deref.ensures.value) ∙ c.in_default.ensures))

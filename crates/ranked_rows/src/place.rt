@@ -1,7 +1,7 @@
 //! The row of a rank.
 ghost use Rattle.std.specs.Prelude.{◌≡◌, MatchOption, None, Some};
 ghost use Rattle.schedule.specs.Ids.{IdsRise};
-ghost use Rattle.ranked_rows.specs.Rows.{place_in, row_at};
+ghost use Rattle.ranked_rows.specs.Rows.{IsAt, place_in, row_at};
 
 use crate::ranked::Ranked;
 
@@ -25,13 +25,25 @@ pub fn place_near<T: Ranked>(rows: &[T], rank: u128, guess: usize) -> usize
     }
 }
 
+/// The place of the row of a rank, if there is one.
+pub fn find<T: Ranked>(rows: &[T], rank: u128) -> Option<usize>
+    requires { IdsRise T.rank rows.now }
+    ensures { MatchOption result (row_at T.rank rank rows.now ≡ None)
+        (λ place. IsAt T.rank rank rows.now place) }
+{
+    taken_by(rows, rank, place_in(rows, rank))
+}
+
 /// The row of a rank, if there is one.
 pub fn get<T: Ranked>(rows: &[T], rank: u128) -> Option<&T>
     requires { IdsRise T.rank rows.now }
     ensures { MatchOption result (row_at T.rank rank rows.now ≡ None)
         (λ row. row_at T.rank rank rows.now ≡ Some row.now) }
 {
-    row_of(rows, rank, place_in(rows, rank))
+    match find(rows, rank) {
+        Some(place) => Some(&rows[place]),
+        None => None,
+    }
 }
 
 /// The same, where it may well stand at the place `guess`, which is looked at first.
@@ -40,17 +52,21 @@ pub fn get_near<T: Ranked>(rows: &[T], rank: u128, guess: usize) -> Option<&T>
     ensures { MatchOption result (row_at T.rank rank rows.now ≡ None)
         (λ row. row_at T.rank rank rows.now ≡ Some row.now) }
 {
-    row_of(rows, rank, place_near(rows, rank, guess))
+    match taken_by(rows, rank, place_near(rows, rank, guess)) {
+        Some(place) => Some(&rows[place]),
+        None => None,
+    }
 }
 
-// The row at the place of a rank, if it has the rank.
-fn row_of<T: Ranked>(rows: &[T], rank: u128, place: usize) -> Option<&T>
+// The place of a rank, if a row of the rank stands there.
+fn taken_by<T: Ranked>(rows: &[T], rank: u128, place: usize) -> Option<usize>
     requires { place ≡ place_in T.rank rank rows.now × IdsRise T.rank rows.now }
     ensures { MatchOption result (row_at T.rank rank rows.now ≡ None)
-        (λ row. row_at T.rank rank rows.now ≡ Some row.now) }
+        (λ place. IsAt T.rank rank rows.now place) }
 {
-    match rows.get(place) {
-        Some(row) if row.rank() == rank => Some(row),
-        _ => None,
+    if place < rows.len() && rows[place].rank() == rank {
+        Some(place)
+    } else {
+        None
     }
 }

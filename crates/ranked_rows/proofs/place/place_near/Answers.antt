@@ -1,6 +1,6 @@
 use Rattle.std.proofs.Common.{◌∙◌, sym, ap}
 use Rattle.ranked_rows.proofs.Shared.Places.{place_of}
-use Rattle.ranked_rows.proofs.find.place_near.Goals as goal
+use Rattle.ranked_rows.proofs.place.place_near.Goals as goal
 
 pub returns-then-rank : goal.returns-then-rank
 returns-then-rank g c =

@@ -2,7 +2,7 @@ use Rattle.std.proofs.Common.{nat_lt, rules, arith}
 use Rattle.std.proofs.lemmas.Bool.Decides.{nat_tests}
 use Rattle.std.proofs.lemmas.List.Sorted.{IsPartitionPoint-from_clause, IsPartitionedBy-ltb}
 use Rattle.ranked_rows.proofs.Shared.Places.{parts, never_falls}
-use Rattle.ranked_rows.proofs.find.place_in.Goals as goal
+use Rattle.ranked_rows.proofs.place.place_in.Goals as goal
 
 pub returns : goal.returns
 returns g c =
