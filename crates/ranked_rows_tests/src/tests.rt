@@ -1,7 +1,7 @@
 //! Finding shelves, and making them anew.
 ghost use Rattle.schedule.specs.Ids.{IdsRise};
 
-use ranked_rows::{Ranked, Remakes, get, get_near, place_in, remade};
+use ranked_rows::{Ranked, Remakes, find, get, get_near, place_in, remade};
 use std::alloc::Global;
 use std::cell::Cell;
 use std::fmt::Debug;
@@ -23,6 +23,7 @@ impl Ranked for Shelf {
 }
 
 /// Moves to new shelves what weighs no more than a limit, and weighs what goes.
+#[derive(Drop)]
 struct Mover {
     limit: u32,
     gone: Cell<u32>,
@@ -70,6 +71,7 @@ fn finds(rt: &impl Abort, shelves: &[Shelf], mark: u32, place: usize, wanted: Op
 {
     let rank = u128::from(mark);
     same(rt, &place_in(shelves, rank), &place, &mark);
+    same(rt, &find(shelves, rank), &wanted.map(|_| place), &mark);
     same(rt, &get(shelves, rank).map(|s| s.load), &wanted, &mark);
     for guess in 0..5 {
         let near = get_near(shelves, rank, guess);
