@@ -5,6 +5,7 @@ use Rattle.std.specs.List.{list_any}
 use Rattle.std.specs.Option.{option_map_or}
 use Rattle.std.proofs.lemmas.Bool.{and_parts}
 use Rattle.std.proofs.lemmas.List.{get_or_default}
+use Rattle.std.proofs.lemmas.Option.{slice_get-get_or}
 use Rattle.std.proofs.lemmas.List.Elements.{All-from_recursion, All-get_or}
 use Rattle.ranked_rows.specs.Rows.{place_in}
 use Rattle.ranked_rows.proofs.Shared.Places.{never_falls}
@@ -28,7 +29,7 @@ use Rattle.dependency_book.specs.Rows.{ArrivalRow, TextRow, by_key, keys, bookma
 use Rattle.document_marks.specs.AllMarks.{mark_rank}
 use Rattle.dependency_book.proofs.Found.{ready_is}
 use Rattle.dependency_book.proofs.Outs.{NoneOut, arrivals_none, texts_none}
-use Rattle.dependency_book.proofs.Placed.{MarkRow, in_at, mark_row, place_of_mark, row_beside, row_comes, row_is, row_near, row_stands, stands_in, text_stands}
+use Rattle.dependency_book.proofs.Placed.{MarkRow, StandsIn, in_at, mark_row, place_of_mark, row_beside, row_comes, row_is, row_near, row_stands, stands_in, text_stands}
 use Rattle.desk_events.proofs.Shared.Listed.{found_any}
 use Rattle.desk_events.proofs.Shared.Marks.{before_one, bookmark_is_mark}
 use Rattle.document_marks.proofs.Shared.Ranks.{rank_branches, rank_within}
@@ -40,16 +41,11 @@ empty_is Empty h = refl
 empty_is (Expected job) h = absurd cc
 empty_is (Known v) h = absurd cc
 
--- the place of a bookmark's mark tells whether what arrives there is known
-option_at : {X : Type 0} (xs : List X) (k : ℕ) (d : X) → k < length xs → slice_get xs k ≡ Some (get_or xs k d)
-option_at [] k d low = absurd (omega (arith, low))
-option_at (x ∷ xs) zero d low = refl
-option_at (x ∷ xs) (suc k) d low = option_at xs k d (omega (arith, low))
-
 -- a row for a mark
 row_for : Mark → ArrivalRow
 row_for m = record { key = m; state = Empty }
 
+-- the place of a mark tells whether what arrives there is known
 place_is : (d : BookState) (places : List ℕ) (m : Mark) → IsHeld d places → is_mark d.plan m ≡ true
     → place_ready d.arrivals m (place_of_mark d m) ≡ is_some (arrival_known d m)
 place_is d places m held there =
@@ -61,7 +57,7 @@ place_is d places m held there =
     let stands : is_known f.row.state ≡ is_some (arrival_known d m) = ap is_known (sym f.stands) in
     ap (λ b. b || option_map_or (λ (r : ArrivalRow). is_known r.state) (slice_get d.arrivals p) false) miss
     ∙ ap (λ (o : Option ArrivalRow). option_map_or (λ (r : ArrivalRow). is_known r.state) o false)
-    (option_at d.arrivals p f.row f.at.low)
+    (slice_get-get_or d.arrivals p f.row f.at.low)
     ∙ ap (λ (r : ArrivalRow). is_known r.state) (f.at.is f.row) ∙ stands)
 
 place_at : (arrivals : List ArrivalRow) (rows : List TextRow) (k : ℕ) (x : TextRow) → k < length rows
@@ -100,30 +96,16 @@ can_be_viewed d places k x held low can =
       empty = text_stands d places k x held low ∙ empty_is r.state parts.0;
     }
 
--- where a bookmark that can be viewed stands
-record ViewedAt (d : BookState) (places : List ℕ) (b : Bookmark) : Type 0 where
-  pub place : ℕ
-  pub low : place < length d.texts
-  pub is : (x : TextRow) → (get_or d.texts place x).key ≡ b
-  pub can : (x : TextRow) → viewable d.arrivals d.texts places place x ≡ true
-
-viewed_at : (d : BookState) (places : List ℕ) (b : Bookmark) → IsHeld d places → CanBeViewed d b → ViewedAt d places b
-viewed_at d places b held can =
-    let f = stands_in d places b.id b held can.there in
-    let k = place_in (by_key bookmark_rank) b.id d.texts in
-    let is : (x : TextRow) → (get_or d.texts k x).key ≡ b =
-    λ x. ap (λ (r : TextRow). r.key) (f.at.is x) ∙ f.is in
-    record { place = k; low = f.at.low; is = is; can = λ x. shows k f.at.low x (is x) }
-  where
-    shows : (k : ℕ) → k < length d.texts → (x : TextRow) → (get_or d.texts k x).key ≡ b
-        → viewable d.arrivals d.texts places k x ≡ true
-    shows k low x is =
-        let r = get_or d.texts k x in
-        let empty : r.state ≡ Empty = sym (text_stands d places k x held low)
-        ∙ ap (λ (c : Bookmark). text_row d c.id) is ∙ can.empty in
-        let arrived : has_arrived d r ≡ true = ap (λ (c : Bookmark). is_some (arrival_known d (bookmark_mark c))) is
-        ∙ can.arrived in
-        viewable_is d places k x held low ∙ rw (empty, arrived) refl
+-- so can that of a bookmark that can be viewed, where it stands
+viewed_there : (d : BookState) (places : List ℕ) (b : Bookmark) → IsHeld d places → CanBeViewed d b
+    → (f : StandsIn d b.id b) → (x : TextRow) → viewable d.arrivals d.texts places f.place x ≡ true
+viewed_there d places b held can f x =
+    let r = get_or d.texts f.place x in
+    let empty : r.state ≡ Empty = sym (text_stands d places f.place x held f.low)
+    ∙ ap (λ (c : Bookmark). text_row d c.id) (f.is x) ∙ can.empty in
+    let arrived : has_arrived d r ≡ true = ap (λ (c : Bookmark). is_some (arrival_known d (bookmark_mark c))) (f.is x)
+    ∙ can.arrived in
+    viewable_is d places f.place x held f.low ∙ rw (empty, arrived) refl
 
 -- a search among what equals the rows
 pub first_among : (arrivals rows : List ArrivalRow) (texts ts : List TextRow) (places ps : List ℕ) (o : Option ℕ)
@@ -144,10 +126,10 @@ view_next d places k x held is first =
       named = named;
       can = can_be_viewed d places k x held first.0 (first.1 x);
       least = λ other can.
-          let f = viewed_at d places other held can in
+          let f = stands_in d places other.id other held can.there in
           let at : (get_or d.texts f.place x).key.id ≡ other.id = ap (λ (c : Bookmark). c.id) (f.is x) in
           either_way (nat_lt f.place k)
-          (λ hit. clash (viewable d.arrivals d.texts places f.place x) (f.can x)
+          (λ hit. clash (viewable d.arrivals d.texts places f.place x) (viewed_there d places other held can f x)
           (first.2 f.place x (true_lt f.place k hit)))
           (λ miss. let up = never_falls (by_key bookmark_rank) d.texts held.ids_rise k f.place x
           (false_lt f.place k miss) f.low in omega (arith, up, at, named));
@@ -157,9 +139,9 @@ view_next d places k x held is first =
 pub no_view : (d : BookState) (places : List ℕ) → IsHeld d places → IsFirst (viewable d.arrivals d.texts places)
     (length d.texts) None → IsNextView d None
 no_view d places held none b can =
-    let f = viewed_at d places b held can in
+    let f = stands_in d places b.id b held can.there in
     let x : TextRow = record { key = b; state = Empty } in
-    clash (viewable d.arrivals d.texts places f.place x) (f.can x) (none f.place x f.low)
+    clash (viewable d.arrivals d.texts places f.place x) (viewed_there d places b held can f x) (none f.place x f.low)
 
 -- the mark that can be reached
 
@@ -205,29 +187,19 @@ steps_there d places k x held is low can =
 pub next_led : (d : BookState) (mark : Mark) → StepIsNext d mark → IsLedTo d mark
 next_led d mark next = next.step.can.led
 
--- a mark that can be reached is that of a row which a step can be made to
-record ReachedAt (d : BookState) (mark : Mark) : Type 0 where
-  pub place : ℕ
-  pub low : place < length d.arrivals
-  pub is : (x : ArrivalRow) → mark_of_row d place x ≡ mark
-  pub can : (x : ArrivalRow) → IsSteppable d place x
-
-reached_at : (d : BookState) (places : List ℕ) (mark : Mark) → IsHeld d places → CanBeReached d mark → ReachedAt d mark
-reached_at d places mark held can =
-    let f = mark_row d places mark held can.led.above can.led.is in
-    record { place = place_of_mark d mark; low = f.at.low; is = f.is; can = λ x. shows f x }
-  where
-    shows : MarkRow d mark → (x : ArrivalRow) → IsSteppable d (place_of_mark d mark) x
-    shows f x =
-        let p = place_of_mark d mark in
-        let comes = subst (ComesBefore d.plan (before_at d p x)) (f.is x) (row_comes d places p x held f.at.low) in
-        let one : before_at d p x ≡ can.led.before =
-        before_one d.plan (before_at d p x) can.led.before mark held.right.core.sound comes can.led.comes in
-        let ready : is_ready d.arrivals (before_at d p x) ≡ true = ready_is d (before_at d p x)
-        ∙ ap (λ n. is_some (arrival_known d n)) one ∙ can.led.arrived in
-        let empty : (get_or d.arrivals p x).state ≡ Empty = sym (row_stands d places p x held f.at.low)
-        ∙ ap (arrival_row d) (f.is x) ∙ can.empty in
-        rw (empty, ready) refl
+-- and to the row of a mark that can be reached
+reached_there : (d : BookState) (places : List ℕ) (mark : Mark) → IsHeld d places → CanBeReached d mark → MarkRow d mark
+    → (x : ArrivalRow) → IsSteppable d (place_of_mark d mark) x
+reached_there d places mark held can f x =
+    let p = place_of_mark d mark in
+    let comes = subst (ComesBefore d.plan (before_at d p x)) (f.is x) (row_comes d places p x held f.at.low) in
+    let one : before_at d p x ≡ can.led.before =
+    before_one d.plan (before_at d p x) can.led.before mark held.right.core.sound comes can.led.comes in
+    let ready : is_ready d.arrivals (before_at d p x) ≡ true = ready_is d (before_at d p x)
+    ∙ ap (λ n. is_some (arrival_known d n)) one ∙ can.led.arrived in
+    let empty : (get_or d.arrivals p x).state ≡ Empty = sym (row_stands d places p x held f.at.low)
+    ∙ ap (arrival_row d) (f.is x) ∙ can.empty in
+    rw (empty, ready) refl
 
 -- of two marks that are near the one of the lesser rank isn't after the other
 not_after : (m n : Mark) → m.generation ≤ 2 ^ 60 → mark_rank m ≤ mark_rank n → IsNotAfter m n
@@ -245,16 +217,16 @@ pub step_next : (d : BookState) (places : List ℕ) (k : ℕ) (x : ArrivalRow) �
 step_next d places k x held is first = record {
   can = steps_there d places k x held is first.0 (first.1 x);
   first = λ other can.
-      let f = reached_at d places other held can in
-      either_way (nat_lt f.place k)
-      (λ hit. clash (steppable d.plan.branches d.arrivals f.place x) (f.can x)
-      (first.2 f.place x (true_lt f.place k hit)))
+      let f = mark_row d places other held can.led.above can.led.is in
+      let p = place_of_mark d other in
+      either_way (nat_lt p k)
+      (λ hit. clash (steppable d.plan.branches d.arrivals p x) (reached_there d places other held can f x)
+      (first.2 p x (true_lt p k hit)))
       (λ miss.
-      let up = never_falls (by_key mark_rank) d.arrivals held.marks_rise k f.place x
-      (false_lt f.place k miss) f.low in
+      let up = never_falls (by_key mark_rank) d.arrivals held.marks_rise k p x (false_lt p k miss) f.at.low in
       let here : mark_rank x.key ≤ mark_rank other =
       subst (λ (m : Mark). mark_rank x.key ≤ mark_rank m) (f.is x)
-      (subst (λ (r : ArrivalRow). mark_rank r.key ≤ mark_rank (mark_of_row d f.place x)) (sym is) up) in
+      (subst (λ (r : ArrivalRow). mark_rank r.key ≤ mark_rank (mark_of_row d p x)) (sym is) up) in
       not_after x.key other
       (subst (λ (r : ArrivalRow). r.key.generation ≤ 2 ^ 60) (sym is) (row_near d places k x held first.0)) here);
 }
@@ -263,9 +235,10 @@ step_next d places k x held is first = record {
 pub no_step : (d : BookState) (places : List ℕ) → IsHeld d places → IsFirst (steppable d.plan.branches d.arrivals)
     (length d.arrivals) None → IsNextStep d None
 no_step d places held none mark can =
-    let f = reached_at d places mark held can in
+    let f = mark_row d places mark held can.led.above can.led.is in
+    let p = place_of_mark d mark in
     let x = row_for mark in
-    clash (steppable d.plan.branches d.arrivals f.place x) (f.can x) (none f.place x f.low)
+    clash (steppable d.plan.branches d.arrivals p x) (reached_there d places mark held can f x) (none p x f.at.low)
 
 -- where nothing is needed and no job is out, nothing is pending
 

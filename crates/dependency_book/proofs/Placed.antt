@@ -286,9 +286,9 @@ text_stands d places k x held low = state_at-row bookmark_rank d.texts k x held.
 
 -- where a bookmark of the document stands
 pub record StandsIn (d : BookState) (id : ℕ) (b : Bookmark) : Type 0 where
-  pub row : TextRow
-  pub at : Stands (by_key bookmark_rank) id d.texts row
-  pub is : row.key ≡ b
+  pub place : ℕ
+  pub low : place < length d.texts
+  pub is : (x : TextRow) → (get_or d.texts place x).key ≡ b
 
 pub stands_in : (d : BookState) (places : List ℕ) (id : ℕ) (b : Bookmark) → IsHeld d places
     → bookmark_in d.plan.bookmarks id ≡ Some b → StandsIn d id b
@@ -298,4 +298,10 @@ stands_in d places id b held is = by_row (text_at d id) refl (sym (bookmark_row 
         → StandsIn d id b
     by_row None found named = absurd cc
     by_row (Some r) found named =
-        record { row = r; at = stands (by_key bookmark_rank) id d.texts r held.ids_rise found; is = cc }
+        let at = stands (by_key bookmark_rank) id d.texts r held.ids_rise found in
+        let same : r.key ≡ b = cc in
+        record {
+          place = place_in (by_key bookmark_rank) id d.texts;
+          low = at.low;
+          is = λ x. ap (λ (y : TextRow). y.key) (at.is x) ∙ same;
+        }

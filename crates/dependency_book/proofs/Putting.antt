@@ -1,6 +1,6 @@
 -- Books in which something is put in a row.
 use Rattle.std.proofs.Common.{◌≡◌, ℕ, ◌≤◌, ◌^◌, ◌∙◌, true, false, not, List, refl, sym, ap, subst, arith, Some}
-use Rattle.std.specs.Prelude.{if◌then◌else◌, ◌==◌, map}
+use Rattle.std.specs.Prelude.{if◌then◌else◌, ◌==◌, map, IfSome, slice_get, Option, None}
 use Rattle.std.proofs.lemmas.Bool.{and_parts}
 use Rattle.worlds.specs.World.{World}
 use Rattle.schedule.specs.declared.document.Bookmark.{Bookmark}
@@ -18,7 +18,7 @@ use Rattle.dependency_book.specs.Held.{IsHeld, places_of}
 use Rattle.desk_events.specs.Needs.{is_need, step_to}
 use Rattle.desk_events.specs.Marks.{bookmark_mark, is_mark, is_same, is_start, mark_at}
 use Rattle.dependency_book.specs.Puts.{CanBePut, Puts, can_change, missing}
-use Rattle.dependency_book.specs.Right.{IsRight}
+use Rattle.dependency_book.specs.Right.{IsRight, IsGiven}
 use Rattle.dependency_book.specs.RowState.{state_map, job_of}
 use Rattle.dependency_book.specs.Rows.{ArrivalRow, keys, state_at, put, bookmark_rank}
 use Rattle.ranked_rows.specs.Rows.{place_in}
@@ -27,18 +27,13 @@ use Rattle.desk_events.proofs.Shared.Marks.{mark_near, same_mark}
 use Rattle.dependency_book.proofs.Outs.{held_by}
 use Rattle.dependency_book.proofs.Standing.{has, keys-put, state_at-put_same, state_at-put_other, place_in-keys, count-put}
 use Rattle.desk_events.proofs.Shared.Tests.{either_way, clash, true_eq, eq_true}
-use Rattle.std.specs.Prelude.{IfSome, slice_get}
 use Rattle.revision_jobs.specs.Entries.{IsOf}
-use Rattle.desk_events.specs.Right.{IsRight as IsRightCore}
-use Rattle.dependency_book.specs.Right.{IsGiven}
-use Rattle.dependency_book.proofs.Shared.Cores.{put_core}
-use Rattle.std.specs.Prelude.{Option, None}
+use Rattle.desk_events.specs.Right.{IsRight as IsRightCore, Stands}
+use Rattle.dependency_book.proofs.Shared.Cores.{put_core, put_there}
 use Rattle.schedule.specs.Scratch.{arrival}
 use Rattle.desk_events.specs.Core.{holds}
-use Rattle.desk_events.specs.Right.{Stands}
 use Rattle.desk_events.specs.Wanted.{bookmark_in, text_wanted}
 use Rattle.dependency_book.specs.Core.{core_of}
-use Rattle.dependency_book.proofs.Shared.Cores.{put_there}
 
 -- a book in which something is put is right
 

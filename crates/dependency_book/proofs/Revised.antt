@@ -25,7 +25,7 @@ use Rattle.desk_events.specs.Wanted.{bookmark_in}
 use Rattle.dependency_book.specs.Felt.{BookFeels}
 use Rattle.desk_events.specs.Felt.{IsFelt}
 use Rattle.dependency_book.specs.Kept.{KeepsRows, KeepsUnfelt, arrival_after, arrival_kept, bookmark_stays, mark_stays, text_kept}
-use Rattle.desk_events.specs.Kept.{keeps_arrival, keeps_text, stays_mark}
+use Rattle.desk_events.specs.Kept.{keeps_arrival, keeps_text, stays_mark, keeps_bookmark}
 use Rattle.desk_events.specs.Marks.{is_mark, is_start, mark_at}
 use Rattle.dependency_book.specs.declared.room.Rows.{Rows}
 use Rattle.dependency_book.specs.Remade.{AreRemade, kept_of, remade_rows}
@@ -42,7 +42,6 @@ use Rattle.dependency_book.proofs.Standing.{has, state_at-above}
 use Rattle.desk_events.proofs.Shared.Tests.{either_way, true_eq}
 use Rattle.desk_events.specs.Core.{Core, Row as DeskRow, arrival_in, holds, nothing}
 use Rattle.desk_events.specs.Event.{MayBeAsked, after_edit as core_after_edit, after_event, edits, kept_row}
-use Rattle.desk_events.specs.Kept.{keeps_bookmark}
 use Rattle.desk_events.specs.Right.{IsRight as IsRightCore}
 use Rattle.desk_events.proofs.Shared.Right.{edits_right_on}
 use Rattle.dependency_book.specs.Called.{IsEdit}

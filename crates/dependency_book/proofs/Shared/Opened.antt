@@ -1,5 +1,5 @@
 -- A book of the opening document.
-use Rattle.std.proofs.Common.{◌≡◌, ℕ, false, refl, sym, arith, ◌∙◌, None, Some, []}
+use Rattle.std.proofs.Common.{◌≡◌, ℕ, false, refl, sym, arith, ◌∙◌, None, Some, [], subst}
 use Rattle.std.specs.Prelude.{◌||◌, nat_le, ◌&&◌}
 use Rattle.std.proofs.lemmas.Bool.{and_right, or_from}
 use Rattle.schedule.specs.Branches.{reach}
@@ -13,7 +13,6 @@ use Rattle.dependency_book.specs.BookState.{opened, row_of, expected}
 use Rattle.dependency_book.specs.Held.{IsHeld}
 use Rattle.desk_events.specs.Marks.{is_mark, is_start, mark_at}
 use Rattle.desk_events.proofs.Shared.Tests.{either_way}
-use Rattle.std.proofs.Common.{subst}
 use Rattle.desk_events.specs.Core as core
 use Rattle.desk_events.specs.Right.{IsRight as IsRightCore}
 use Rattle.desk_events.proofs.Shared.Opened.{opened_right}

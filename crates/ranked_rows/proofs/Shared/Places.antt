@@ -5,6 +5,7 @@ use Rattle.std.specs.List.{AllByRecursion}
 use Rattle.std.specs.List.Sorted.{IsNonDecreasingBy}
 use Rattle.std.proofs.lemmas.Bool.{cond-true, cond-false}
 use Rattle.std.proofs.lemmas.Bool.Decides.{nat_tests}
+use Rattle.std.proofs.lemmas.List.{get_or_default}
 use Rattle.schedule.specs.Ids.{IdsRise}
 use Rattle.ranked_rows.specs.Rows.{place_in, row_at}
 
@@ -56,13 +57,11 @@ parts rank n (r ∷ rs) (suc k) low before from =
 -- a row of the rank stands there
 pub place_of : {T : Type 0} (rank : T → ℕ) (n : ℕ) (rows : List T) (k : ℕ) (d : T) → IdsRise rank rows
     → k < length rows → rank (get_or rows k d) ≡ n → place_in rank n rows ≡ k
-place_of rank n [] k d rise low is = absurd (omega (arith, low))
-place_of rank n (r ∷ rs) zero d rise low is =
-    cond-false (nat_lt (rank r) n) (suc (place_in rank n rs)) 0 (grind (arith, nat_tests))
-place_of rank n (r ∷ rs) (suc k) d rise low is =
-    cond-true (nat_lt (rank r) n) (suc (place_in rank n rs)) 0
-    (let up = above_at rank (rank r) rs k d rise.0 (omega (arith, low)) in grind (arith, nat_tests))
-    ∙ ap (λ i. suc i) (place_of rank n rs k d rise.1 (omega (arith, low)) is)
+place_of rank n rows k d rise low is =
+    let here : (e : _) → rank (get_or rows k e) ≡ n = λ e. ap rank (get_or_default rows k e d low) ∙ is in
+    sym (parts rank n rows k (omega (arith, low))
+    (λ j e less. let up = rank_rises rank rows j k e rise less low in let at = here e in omega (arith, up, at))
+    (λ j e from fits. let up = never_falls rank rows rise k j e from fits in let at = here e in omega (arith, up, at)))
 
 -- and is the row of the rank
 pub row_there : {T : Type 0} (rank : T → ℕ) (n : ℕ) (rows : List T) (k : ℕ) (d : T) → IdsRise rank rows

@@ -21,24 +21,6 @@ row_at {d} {e} {places} {n} {k} {rows} m same held led is rank at =
     subst (StepRow d m) (sym (at ∙ ap₂ (place_in (by_key mark_rank)) rank is))
     (step_row d places m held (subst (λ s. IsLedTo s m) (sym same) led))
 
--- the mark before that of the row
-record Found (d e : BookState) (m n : Mark) : Type 0 where
-  pub comes : ComesBefore e.plan n m
-  pub arrived : IsSome (arrival_known e n)
-
-found : (d e : BookState) (m n : Mark) (k : ℕ) (x : ArrivalRow) (rows : List ArrivalRow) → d ≡ e → rows ≡ d.arrivals
-    → StepRow d m k → n ≡ before_row d.plan.branches rows k x → Found d e m n
-found d e m n k x rows same is row at =
-    let one : before_row d.plan.branches d.arrivals k x ≡ n =
-    ap (λ (rs : List ArrivalRow). before_row d.plan.branches rs k x) (sym is) ∙ sym at in
-    record {
-      comes = subst (λ (b : BookState). ComesBefore b.plan n m) same
-          (subst (λ (b : Mark). ComesBefore d.plan b m) one (row.comes x));
-      arrived =
-          subst (λ (b : BookState). IsSome (arrival_known b n)) same
-          (subst (λ (b : Mark). IsSome (arrival_known d b)) one (row.arrived x));
-    }
-
 pub before_row-requires : goal.before_row-requires
 before_row-requires c =
     let d = state_of c.self.inside in
@@ -56,6 +38,13 @@ returns c =
     let row = row_at m c.self.view_is c.self.invariant.held c.requires c.deref.ensures.value c.rank.ensures
     c.place_in-place.ensures in
     let x : ArrivalRow = record { key = m; state = Empty } in
-    let before = found d c.args.self.now m c.before_row.result c.place_in-place.result x c.deref-2.result.now
-    c.self.view_is c.deref-2.ensures.value row (c.before_row.ensures x) in
-    record { mark = before.comes; known = before.arrived }
+    let n = c.before_row.result in
+    let one : before_row d.plan.branches d.arrivals c.place_in-place.result x ≡ n =
+    ap (λ (rows : List ArrivalRow). before_row d.plan.branches rows c.place_in-place.result x)
+    (sym c.deref-2.ensures.value) ∙ sym (c.before_row.ensures x) in
+    record {
+      mark = subst (λ (e : BookState). ComesBefore e.plan n m) c.self.view_is
+          (subst (λ (b : Mark). ComesBefore d.plan b m) one (row.comes x));
+      known = subst (λ (e : BookState). IsSome (arrival_known e n)) c.self.view_is
+          (subst (λ (b : Mark). IsSome (arrival_known d b)) one (row.arrived x));
+    }
