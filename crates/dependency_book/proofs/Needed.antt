@@ -1,7 +1,7 @@
 -- What is needed next, by the rows.
 use Rattle.std.proofs.Common.{◌≡◌, ℕ, zero, suc, ◌<◌, ◌≤◌, ◌^◌, ◌∙◌, Bool, true, false, not, ◌&&◌, nat_lt, List, [], ◌∷◌, length, get_or, cond, refl, sym, ap, subst, arith, inl, inr, Option, None, Some}
 use Rattle.std.specs.Prelude.{◌==◌, ◌||◌, is_some, slice_get, count_by}
-use Rattle.std.specs.List.{list_any}
+use Rattle.std.specs.List.{AllByRecursion, list_any}
 use Rattle.std.specs.Option.{option_map_or}
 use Rattle.std.proofs.lemmas.Bool.{and_parts}
 use Rattle.std.proofs.lemmas.List.{get_or_default}
@@ -16,19 +16,20 @@ use Rattle.schedule.specs.Ids.{branch_id}
 use Rattle.schedule.specs.Plan.{Plan}
 use Rattle.schedule.specs.Sound.{IsSound}
 use Rattle.schedule.proofs.Shared.Branches.{parents_before}
+use Rattle.dependency_book.specs.declared.row.Row.{Row}
 use Rattle.dependency_book.specs.declared.row.RowState.{RowState}
 use Rattle.dependency_book.specs.declared.row.RowState.TheVariants.{Empty, Expected, Known}
 use Rattle.desk_events.specs.declared.mark.Mark.{Mark}
 use Rattle.dependency_book.specs.BookState.{BookState, NothingOut, arrival_row, arrival_known, text_row, is_pending, pending_of, wanting_of}
 use Rattle.dependency_book.specs.Held.{IsHeld, places_of}
 use Rattle.desk_events.specs.Marks.{ComesBefore, bookmark_mark, forks_at, is_mark, is_start}
-use Rattle.dependency_book.specs.Needs.{CanBeViewed, CanBeReached, IsLedTo, IsNotAfter, IsNextStep, StepIsNext, IsNextView}
+use Rattle.dependency_book.specs.Needs.{CanBeViewed, CanBeReached, IsLedTo, IsNotAfter, IsNextStep, IsNextView}
 use Rattle.dependency_book.specs.Ready.{IsFirst, before_row, is_ready, place_ready, viewable, steppable}
 use Rattle.dependency_book.specs.RowState.{is_known, is_empty, job_of}
 use Rattle.dependency_book.specs.Rows.{ArrivalRow, TextRow, by_key, keys, bookmark_rank}
 use Rattle.document_marks.specs.AllMarks.{mark_rank}
 use Rattle.dependency_book.proofs.Found.{ready_is}
-use Rattle.dependency_book.proofs.Outs.{NoneOut, arrivals_none, texts_none}
+use Rattle.dependency_book.proofs.Outs.{each_out}
 use Rattle.dependency_book.proofs.Placed.{MarkRow, StandsIn, in_at, mark_row, place_of_mark, row_beside, row_comes, row_is, row_near, row_stands, stands_in, text_stands}
 use Rattle.desk_events.proofs.Shared.Listed.{found_any}
 use Rattle.desk_events.proofs.Shared.Marks.{before_one, bookmark_is_mark}
@@ -183,10 +184,6 @@ pub steps_there : (d : BookState) (places : List ℕ) (k : ℕ) (x : ArrivalRow)
 steps_there d places k x held is low can =
     subst (λ (r : ArrivalRow). CanBeReached d r.key) (sym is) (can_be_reached d places k x held low can)
 
--- a step that is needed next leads to its mark
-pub next_led : (d : BookState) (mark : Mark) → StepIsNext d mark → IsLedTo d mark
-next_led d mark next = next.step.can.led
-
 -- and to the row of a mark that can be reached
 reached_there : (d : BookState) (places : List ℕ) (mark : Mark) → IsHeld d places → CanBeReached d mark → MarkRow d mark
     → (x : ArrivalRow) → IsSteppable d (place_of_mark d mark) x
@@ -245,6 +242,10 @@ no_step d places held none mark can =
 -- what an element adds to a count
 abbrev one_if : Bool → ℕ
 one_if b = cond b 1 0
+
+-- rows of which none expects a job
+abbrev NoneOut : {K V : Type 0} → List (Row K V) → Type 0
+NoneOut {K} {V} rows = AllByRecursion (λ (r : Row K V). job_of r.state ≡ None) rows
 
 -- where no job is out, what isn't known is empty
 unknown_empty : {V : Type 0} (s : RowState V) → job_of s ≡ None → not (is_known s) ≡ is_empty s
@@ -383,18 +384,18 @@ all_ready d places held out none k x low =
 pub none_pending : (d : BookState) (places : List ℕ) → IsHeld d places → IsNextView d None → IsNextStep d None
     → NothingOut d → pending_of d ≡ 0
 none_pending d places held views steps out =
-    pending_empty d.texts (texts_none d places held out)
+    pending_empty d.texts (each_out (λ o. o ≡ None) d places held out).texts
     ∙ none_empty d.texts (λ k x low.
     either_way (is_empty (get_or d.texts k x).state)
     (λ hit. absurd
     (views (get_or d.texts k x).key
     (can_be_viewed d places k x held low
     (viewable_is d places k x held low
-    ∙ rw (hit, all_ready d places held (arrivals_none d places held out) steps k x low) refl))))
+    ∙ rw (hit, all_ready d places held (each_out (λ o. o ≡ None) d places held out).arrivals steps k x low) refl))))
     (λ miss. miss))
 
 pub none_wanting : (d : BookState) (places : List ℕ) → IsHeld d places → NothingOut d → wanting_of d ≡ 0
     → pending_of d ≡ 0
 none_wanting d places held out none =
-    let same = pending_empty d.texts (texts_none d places held out) in
+    let same = pending_empty d.texts (each_out (λ o. o ≡ None) d places held out).texts in
     omega (arith, same, none)

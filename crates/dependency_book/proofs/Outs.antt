@@ -1,5 +1,5 @@
 -- Rows that expect jobs.
-use Rattle.std.proofs.Common.{◌≡◌, ℕ, ◌≤◌, ◌∙◌, true, false, List, [], ◌∷◌, refl, sym, ap, ap₂, subst, arith, Option, None, Some}
+use Rattle.std.proofs.Common.{◌≡◌, ℕ, suc, ◌<◌, ◌≤◌, ◌∙◌, true, false, List, [], ◌∷◌, length, get_or, refl, sym, ap, ap₂, subst, arith, Option, None, Some}
 use Rattle.std.specs.Prelude.{◌==◌, ◌||◌, IfSome, IsSome, is_some, min}
 use Rattle.std.specs.List.{AllByRecursion}
 use Rattle.schedule.specs.declared.document.Bookmark.{Bookmark}
@@ -13,19 +13,18 @@ use Rattle.dependency_book.specs.declared.row.Row.{Row}
 use Rattle.desk_events.specs.declared.mark.Mark.{Mark}
 use Rattle.desk_events.specs.declared.need.Need.{Need}
 use Rattle.desk_events.specs.declared.need.Need.TheVariants.{Step, View}
-use Rattle.dependency_book.specs.BookState.{BookState, NothingOut, arrival_row, text_row, expected}
+use Rattle.dependency_book.specs.BookState.{BookState, arrival_row, text_row, expected}
 use Rattle.dependency_book.specs.Held.{IsHeld, places_of}
 use Rattle.dependency_book.specs.Right.{IsRight}
 use Rattle.dependency_book.specs.Jobs.{IsAnyOut, IsFirstOut}
 use Rattle.desk_events.specs.Needs.{step_to}
 use Rattle.desk_events.specs.Marks.{is_start, mark_at}
 use Rattle.dependency_book.specs.RowState.{any_out, job_of, state_map, has_number, named_by, either, row_for, lesser, number_of, least_out}
-use Rattle.dependency_book.specs.Rows.{keys, IsRanked, state_at, bookmark_rank}
+use Rattle.dependency_book.specs.Rows.{ArrivalRow, TextRow, state_at, bookmark_rank}
 use Rattle.document_marks.specs.AllMarks.{mark_rank}
-use Rattle.document_marks.proofs.Shared.Ranks.{rank_zero}
-use Rattle.desk_events.proofs.Shared.Marks.{start_is}
-use Rattle.dependency_book.proofs.Standing.{each_stands, has, has-above, ranked_by, state_at-above}
-use Rattle.desk_events.proofs.Shared.Tests.{either_way, clash, true_eq, eq_true, eq_false, false_eq}
+use Rattle.dependency_book.proofs.Standing.{all_at, ranked_by}
+use Rattle.dependency_book.proofs.Placed.{mark_of, row_stands, text_stands}
+use Rattle.desk_events.proofs.Shared.Tests.{either_way, true_eq, eq_true, false_eq}
 
 pub job_of-map : {V W : Type 0} (f : V → W) (s : RowState V) → job_of (state_map f s) ≡ job_of s
 job_of-map f Empty = refl
@@ -43,30 +42,40 @@ none_at d m hit = job_of-map pattern (arrival_row d m) ∙ rw hit refl
 pub out_for : (d : BookState) (id : ℕ) → expected d (View id) ≡ job_of (text_row d id)
 out_for d id = job_of-map text (text_row d id)
 
--- rows of which none expects a job
+-- what holds of no job, and of what stands at each rank, holds of what is expected
+each_expected : (P : Option Job → Type 0) (d : BookState) → P None
+    → ((n : ℕ) → P (job_of (state_at mark_rank n d.arrivals)))
+    → ((n : ℕ) → P (job_of (state_at bookmark_rank n d.texts))) → (need : Need) → P (expected d need)
+each_expected P d none arrivals texts (Step branch mark) =
+    let m = mark_at branch mark in
+    either_way (is_start m) (λ hit. subst P (sym (none_at d m hit)) none)
+    (λ miss. subst P (sym (out_at d m miss)) (arrivals (mark_rank m)))
+each_expected P d none arrivals texts (View id) = subst P (sym (out_for d id)) (texts id)
 
-abbrev pub NoneOut : {K V : Type 0} → List (Row K V) → Type 0
-NoneOut rows = AllByRecursion (λ (r : Row _ _). job_of r.state ≡ None) rows
+-- the job that a row expects
 
--- the start has no row
-no_start : (ms : List Mark) → AllByRecursion (λ (m : Mark). is_start m ≡ false) ms
-    → has mark_rank (mark_rank (mark_at 0 0)) ms ≡ false
-no_start [] none = refl
-no_start (m ∷ ms) none = rw (eq_false (mark_rank m) 0 (λ zero. clash (is_start m) (rank_zero m zero) none.0))
-    (no_start ms none.1)
+out_in_row : (d : BookState) (places : List ℕ) (k : ℕ) (x : ArrivalRow) → IsHeld d places → k < length d.arrivals
+    → expected d (step_to (mark_of d.arrivals k x)) ≡ job_of (get_or d.arrivals k x).state
+out_in_row d places k x held low =
+    job_of-map pattern (arrival_row d (mark_of d.arrivals k x)) ∙ ap job_of (row_stands d places k x held low)
 
-pub start_absent : (d : BookState) (places : List ℕ) (m : Mark) → IsHeld d places → is_start m ≡ true
-    → has mark_rank (mark_rank m) (keys d.arrivals) ≡ false
-start_absent d places m held hit = ap (λ n. has mark_rank (mark_rank n) (keys d.arrivals)) (start_is m hit)
-    ∙ no_start (keys d.arrivals) held.right.marks.above
+out_in_text : (d : BookState) (places : List ℕ) (k : ℕ) (x : TextRow) → IsHeld d places → k < length d.texts
+    → expected d (View (get_or d.texts k x).key.id) ≡ job_of (get_or d.texts k x).state
+out_in_text d places k x held low = out_for d (get_or d.texts k x).key.id ∙ ap job_of (text_stands d places k x held low)
 
-pub arrivals_none : (d : BookState) (places : List ℕ) → IsHeld d places → NothingOut d → NoneOut d.arrivals
-arrivals_none d places held out =
-    each_stands mark_rank (λ _ s. job_of s ≡ None) d.arrivals held.marks_rise
-    (λ m.
-    either_way (is_start m)
-    (λ hit. ap job_of (state_at-above mark_rank (mark_rank m) d.arrivals (start_absent d places m held hit)))
-    (λ miss. sym (out_at d m miss) ∙ out (step_to m)))
+-- what holds of what each need expects holds of what each row does
+pub record EachOut (P : Option Job → Type 0) (d : BookState) : Type 0 where
+  pub arrivals : AllByRecursion (λ (r : ArrivalRow). P (job_of r.state)) d.arrivals
+  pub texts : AllByRecursion (λ (r : TextRow). P (job_of r.state)) d.texts
+
+pub each_out : (P : Option Job → Type 0) (d : BookState) (places : List ℕ) → IsHeld d places
+    → ((need : Need) → P (expected d need)) → EachOut P d
+each_out P d places held all = record {
+  arrivals = all_at (λ (r : ArrivalRow). P (job_of r.state)) d.arrivals
+      (λ k x low. subst P (out_in_row d places k x held low) (all (step_to (mark_of d.arrivals k x))));
+  texts = all_at (λ (r : TextRow). P (job_of r.state)) d.texts
+      (λ k x low. subst P (out_in_text d places k x held low) (all (View (get_or d.texts k x).key.id)));
+}
 
 -- the ranks of its rows rise where a book is right
 pub held_by : (d : BookState) (places : List ℕ) → places ≡ places_of d.arrivals d.plan.bookmarks → IsRight d
@@ -78,11 +87,6 @@ held_by d places are right = record {
   ids_rise = ranked_by bookmark_rank d.texts
       (subst (IdsRise bookmark_id) (sym right.bookmarks) right.core.sound.bookmarks_rise);
 }
-
-pub texts_none : (d : BookState) (places : List ℕ) → IsHeld d places → NothingOut d → NoneOut d.texts
-texts_none d places held out =
-    each_stands bookmark_rank (λ _ s. job_of s ≡ None) d.texts held.ids_rise
-    (λ b. sym (out_for d b.id) ∙ out (View b.id))
 
 -- the row that expects the job of a number
 
@@ -125,50 +129,43 @@ named_or {K} n k key (Some job) rest place h here later =
     (ap₂ numbered (true_eq job.number n hit) (ap (λ (p : K × Place). p.1) pair)))
     (λ miss. later (rw miss at h))
 
--- it is the row of its key's rank
-pub record ExpectsAt {K V : Type 0} (rank : K → ℕ) (n : ℕ) (rows : List (Row K V)) (key : K)
-    (place : Place) : Type 0 where
-  pub there : has rank (rank key) (keys rows) ≡ true
-  pub out : job_of (state_at rank (rank key) rows) ≡ numbered n place
+-- it is a row of that key
+pub record ExpectsAt {K V : Type 0} (n : ℕ) (rows : List (Row K V)) (key : K) (place : Place) : Type 0 where
+  pub at : ℕ
+  pub low : at < length rows
+  pub is : (x : Row K V) → (get_or rows at x).key ≡ key
+  pub out : (x : Row K V) → job_of (get_or rows at x).state ≡ numbered n place
 
-pub row_for-is : {K V : Type 0} (rank : K → ℕ) (n : ℕ) (rows : List (Row K V)) (key : K) (place : Place)
-    → IsRanked rank rows → row_for n rows ≡ Some (key, place) → ExpectsAt rank n rows key place
-row_for-is rank n [] key place ranked h = absurd cc
-row_for-is rank n (r ∷ rs) key place ranked h =
-    let g = rank key in
+row_for-is : {K V : Type 0} (n : ℕ) (rows : List (Row K V)) (key : K) (place : Place)
+    → row_for n rows ≡ Some (key, place) → ExpectsAt n rows key place
+row_for-is n [] key place h = absurd cc
+row_for-is n (r ∷ rs) key place h =
     named_or n r.key key (job_of r.state) (row_for n rs) place h
-    (λ same out. let hit = eq_true (rank r.key) g (ap rank same) in record { there = rw hit refl; out = rw hit out })
+    (λ same out. record { at = 0; low = omega arith; is = λ x. same; out = λ x. out })
     (λ later.
-    let f = row_for-is rank n rs key place ranked.1 later in
-    let miss : (rank r.key == g) ≡ false =
-    either_way (rank r.key == g)
-    (λ hit. clash (has rank g (keys rs)) f.there
-    (has-above rank (rank r.key) g rs ranked.0 (let is = true_eq (rank r.key) g hit in omega (arith, is))))
-    (λ off. off) in
-    record { there = rw miss f.there; out = rw miss f.out })
+    let f = row_for-is n rs key place later in
+    let low = f.low in
+    record { at = suc f.at; low = omega (arith, low); is = λ x. f.is x; out = λ x. f.out x })
 
 pub expecting_none : (d : BookState) (n : ℕ) → row_for n d.arrivals ≡ None → row_for n d.texts ≡ None → (need : Need)
     → has_number n (expected d need) ≡ false
-expecting_none d n arrivals texts (Step branch mark) =
-    let m = mark_at branch mark in
-    either_way (is_start m)
-    (λ hit. ap (has_number n) (none_at d m hit))
-    (λ miss. ap (has_number n) (out_at d m miss) ∙ row_for-none mark_rank n (mark_rank m) d.arrivals arrivals)
-expecting_none d n arrivals texts (View id) = ap (has_number n) (out_for d id)
-    ∙ row_for-none bookmark_rank n id d.texts texts
+expecting_none d n arrivals texts =
+    each_expected (λ o. has_number n o ≡ false) d refl (λ m. row_for-none mark_rank n m d.arrivals arrivals)
+    (λ m. row_for-none bookmark_rank n m d.texts texts)
 
 pub expecting_mark : (d : BookState) (places : List ℕ) (n : ℕ) (key : Mark) (place : Place) → IsHeld d places
     → row_for n d.arrivals ≡ Some (key, place) → expected d (step_to key) ≡ numbered n place
 expecting_mark d places n key place held is =
-    let f = row_for-is mark_rank n d.arrivals key place held.marks_rise is in
-    either_way (is_start key)
-    (λ hit. clash (has mark_rank (mark_rank key) (keys d.arrivals)) f.there (start_absent d places key held hit))
-    (λ miss. out_at d key miss ∙ f.out)
+    let f = row_for-is n d.arrivals key place is in
+    let x : ArrivalRow = record { key = key; state = Empty } in
+    ap (λ m. expected d (step_to m)) (sym (f.is x)) ∙ out_in_row d places f.at x held f.low ∙ f.out x
 
 pub expecting_text : (d : BookState) (places : List ℕ) (n : ℕ) (key : Bookmark) (place : Place) → IsHeld d places
     → row_for n d.texts ≡ Some (key, place) → expected d (View key.id) ≡ numbered n place
 expecting_text d places n key place held is =
-    out_for d key.id ∙ (row_for-is bookmark_rank n d.texts key place held.ids_rise is).out
+    let f = row_for-is n d.texts key place is in
+    let x : TextRow = record { key = key; state = Empty } in
+    ap (λ (b : Bookmark). expected d (View b.id)) (sym (f.is x)) ∙ out_in_text d places f.at x held f.low ∙ f.out x
 
 -- the least number that is out
 
@@ -250,22 +247,15 @@ least_has (r ∷ rs) n h =
 
 none_expected : (d : BookState) → least_out d.arrivals ≡ None → least_out d.texts ≡ None → (need : Need)
     → expected d need ≡ None
-none_expected d arrivals texts (Step branch mark) =
-    let m = mark_at branch mark in
-    either_way (is_start m) (λ hit. none_at d m hit)
-    (λ miss. out_at d m miss ∙ least_out-none mark_rank (mark_rank m) d.arrivals arrivals)
-none_expected d arrivals texts (View id) = out_for d id ∙ least_out-none bookmark_rank id d.texts texts
+none_expected d arrivals texts =
+    each_expected (λ o. o ≡ None) d refl (λ m. least_out-none mark_rank m d.arrivals arrivals)
+    (λ m. least_out-none bookmark_rank m d.texts texts)
 
 all_above : (d : BookState) (n : ℕ) → IfSome (least_out d.arrivals) (λ m. n ≤ m)
     × IfSome (least_out d.texts) (λ m. n ≤ m) → (need : Need) → IfSome (expected d need) (λ job. n ≤ job.number)
-all_above d n least (Step branch mark) =
-    let m = mark_at branch mark in
-    either_way (is_start m)
-    (λ hit. subst (λ (o : Option Job). IfSome o (λ job. n ≤ job.number)) (sym (none_at d m hit)) tt)
-    (λ miss. subst (λ (o : Option Job). IfSome o (λ job. n ≤ job.number)) (sym (out_at d m miss))
-    (each_above mark_rank (mark_rank m) d.arrivals n least.0))
-all_above d n least (View id) = subst (λ (o : Option Job). IfSome o (λ job. n ≤ job.number)) (sym (out_for d id))
-    (each_above bookmark_rank id d.texts n least.1)
+all_above d n least =
+    each_expected (λ o. IfSome o (λ job. n ≤ job.number)) d tt (λ m. each_above mark_rank m d.arrivals n least.0)
+    (λ m. each_above bookmark_rank m d.texts n least.1)
 
 first_of : (d : BookState) (places : List ℕ) (o : Option ℕ) → IsHeld d places
     → lesser (least_out d.arrivals) (least_out d.texts) ≡ o → IsFirstOut d o

@@ -1,5 +1,5 @@
 -- Rows by rising ranks of their keys: what stands at a rank, where its row is, and what is put there.
-use Rattle.std.proofs.Common.{◌≡◌, ℕ, zero, suc, ◌+◌, ◌<◌, ◌≤◌, ◌≢◌, ◌∙◌, Bool, true, false, cond, ◌++◌, List, [], ◌∷◌, length, get_or, nat_lt, refl, sym, ap, subst, arith, Option, None, Some}
+use Rattle.std.proofs.Common.{◌≡◌, ℕ, zero, suc, ◌+◌, ◌<◌, ◌≢◌, ◌∙◌, Bool, true, false, cond, ◌++◌, List, [], ◌∷◌, length, get_or, nat_lt, refl, sym, ap, subst, arith, Option, None, Some}
 use Rattle.std.specs.Prelude.{◌==◌, count_by, is_some}
 use Rattle.std.specs.Option.{option_map}
 use Rattle.std.specs.List.{list_any, AllByRecursion}
@@ -52,13 +52,6 @@ pub has_row_at : {K V : Type 0} (rank : K → ℕ) (n : ℕ) (rows : List (Row K
     → has rank n (keys rows) ≡ is_some (row_at (by_key rank) n rows)
 has_row_at rank n [] = refl
 has_row_at rank n (r ∷ rs) = either_way (rank r.key == n) (λ hit. rw hit refl) (λ miss. rw miss (has_row_at rank n rs))
-
-pub has-above : {K V : Type 0} (rank : K → ℕ) (n m : ℕ) (rows : List (Row K V))
-    → AllByRecursion (λ r. n < by_key rank r) rows → m ≤ n → has rank m (keys rows) ≡ false
-has-above rank n m [] all le = refl
-has-above rank n m (r ∷ rs) all le =
-    rw (eq_false (rank r.key) m (let up : n < rank r.key = all.0 in λ same. omega (arith, same, up, le)))
-    (has-above rank n m rs all.1 le)
 
 pub state_at-above : {K V : Type 0} (rank : K → ℕ) (n : ℕ) (rows : List (Row K V)) → has rank n (keys rows) ≡ false
     → state_at rank n rows ≡ Empty

@@ -10,7 +10,7 @@ use Rattle.dependency_book.specs.declared.room.Room.{Room}
 use Rattle.dependency_book.specs.Room.{HasRoom}
 use Rattle.dependency_book.specs.RowState.{OutsAreOf}
 use Rattle.dependency_book.specs.Rows.{ArrivalRow, TextRow}
-use Rattle.dependency_book.proofs.Owned.{arrivals_own, texts_own}
+use Rattle.dependency_book.proofs.Owned.{all_own}
 use Rattle.dependency_book.proofs.Outs.{held_by}
 use Rattle.dependency_book.proofs.Passed.{passed_none}
 use Rattle.dependency_book.proofs.Revised.{Revises, revises, with_rows}
@@ -45,8 +45,8 @@ rows_of-rows-requires-clause-own c =
     let arrivals : c.replace-arrivals.result.items ≡ d.arrivals = rw c.replace-arrivals.ensures.value refl in
     let texts : c.replace-texts.result.items ≡ d.texts = rw c.replace-texts.ensures.value refl in (
       subst (λ (rows : List ArrivalRow). OutsAreOf d.table rows) (sym arrivals)
-          (arrivals_own d places c.self.invariant.held),
-      subst (λ (rows : List TextRow). OutsAreOf d.table rows) (sym texts) (texts_own d places c.self.invariant.held),
+          (all_own d places c.self.invariant.held).arrivals,
+      subst (λ (rows : List TextRow). OutsAreOf d.table rows) (sym texts) (all_own d places c.self.invariant.held).texts,
     )
 
 -- what was made of the book
