@@ -5,7 +5,6 @@ pub mod Handed
 pub mod Needed
 pub mod Passed
 pub mod Outs
-pub mod Owned
 pub mod Placed
 pub mod Putting
 pub mod Readied

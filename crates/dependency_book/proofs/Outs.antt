@@ -6,6 +6,8 @@ use Rattle.schedule.specs.declared.document.Bookmark.{Bookmark}
 use Rattle.schedule.specs.Ids.{IdsRise, bookmark_id}
 use Rattle.revision_jobs.specs.declared.answer.Job.{Job}
 use Rattle.revision_jobs.specs.declared.entries.Place.{Place}
+use Rattle.revision_jobs.specs.declared.entries.Entries.{Entries}
+use Rattle.revision_jobs.specs.Entries.{IsOf}
 use Rattle.revision_jobs.specs.Value.{pattern, text}
 use Rattle.dependency_book.specs.declared.row.RowState.{RowState}
 use Rattle.dependency_book.specs.declared.row.RowState.TheVariants.{Empty, Expected, Known}
@@ -76,6 +78,19 @@ each_out P d places held all = record {
   texts = all_at (λ (r : TextRow). P (job_of r.state)) d.texts
       (λ k x low. subst P (out_in_text d places k x held low) (all (View (get_or d.texts k x).key.id)));
 }
+
+-- a job, if there is one, has its entry in a table
+abbrev pub IsOwn : Entries → Option Job → Type 0
+IsOwn entries o = IfSome o (λ job. IsOf entries job.place)
+
+-- so has each job that is out
+
+pub all_own : (d : BookState) (places : List ℕ) → IsHeld d places → EachOut (IsOwn d.table) d
+all_own d places held = each_out (IsOwn d.table) d places held (λ need. by_job need (expected d need) refl)
+  where
+    by_job : (need : Need) (o : Option Job) → expected d need ≡ o → IsOwn d.table o
+    by_job need None is = tt
+    by_job need (Some job) is = (held.right.out need job is).own
 
 -- the ranks of its rows rise where a book is right
 pub held_by : (d : BookState) (places : List ℕ) → places ≡ places_of d.arrivals d.plan.bookmarks → IsRight d

@@ -10,8 +10,7 @@ use Rattle.dependency_book.specs.declared.room.Room.{Room}
 use Rattle.dependency_book.specs.Room.{HasRoom}
 use Rattle.dependency_book.specs.RowState.{OutsAreOf}
 use Rattle.dependency_book.specs.Rows.{ArrivalRow, TextRow}
-use Rattle.dependency_book.proofs.Owned.{all_own}
-use Rattle.dependency_book.proofs.Outs.{held_by}
+use Rattle.dependency_book.proofs.Outs.{all_own, held_by}
 use Rattle.dependency_book.proofs.Passed.{passed_none}
 use Rattle.dependency_book.proofs.Revised.{Revises, revises, with_rows}
 use Rattle.dependency_book.proofs.book.Book.remake.Goals.{After-self-1}

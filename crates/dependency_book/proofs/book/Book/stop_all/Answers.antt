@@ -2,7 +2,7 @@ use Rattle.std.proofs.Common.{List, sym, subst}
 use Rattle.dependency_book.specs.Inside.{state_of}
 use Rattle.dependency_book.specs.RowState.{OutsAreOf}
 use Rattle.dependency_book.specs.Rows.{ArrivalRow, TextRow}
-use Rattle.dependency_book.proofs.Owned.{all_own}
+use Rattle.dependency_book.proofs.Outs.{all_own}
 use Rattle.dependency_book.proofs.book.Book.stop_all.Goals as goal
 
 pub raise_all-requires : goal.raise_all-requires
