@@ -1,5 +1,5 @@
 -- The marks of a document but the start as a list.
-use Rattle.std.specs.Prelude.{◌≡◌, ℕ, ◌+◌, ◌*◌, ◌^◌, ◌≤◌, ◌-◌, max, min, not, length, List, filter, fold, false, ◌==◌, if◌then◌else◌}
+use Rattle.std.specs.Prelude.{◌≡◌, ℕ, ◌+◌, ◌*◌, ◌^◌, ◌≤◌, ◌-◌, min, not, length, List, filter, false}
 use Rattle.std.specs.List.{AllByRecursion, list_any}
 use Rattle.schedule.specs.Ids.{IdsRise}
 use Rattle.schedule.specs.Plan.{Plan}
@@ -14,12 +14,6 @@ mark_rank m = m.branch * 2 ^ 64 + min m.generation (2 ^ 64 - 1)
 -- marks without the start
 abbrev pub but_start : List Mark → List Mark
 but_start = filter (λ m. not (is_start m))
-
--- how far these marks go in a branch: to the greatest generation of those that are in it, and to 0
--- where none is
-abbrev pub far_of : List Mark → ℕ → ℕ
-far_of marks b =
-    fold (λ far (m : Mark). if m.branch == b then max far m.generation else far) 0 marks
 
 -- marks are those of a document but the start, each once, and rise; so there are at most as many as
 -- interventions, bookmarks, ends of branches and generations at which something repeats

@@ -6,9 +6,9 @@
 //! the first, each once, by rising branch and generation.
 //!
 //! The list is made in room that its caller gives. How much an edit may need is known before it is
-//! made, so that a caller can refuse the edit where there is no memory. A list costs two sorts,
-//! and for each intervention of another branch than the last one's a search. No pattern is looked
-//! at.
+//! made, so that a caller can refuse the edit where there is no memory. A list costs a sort, and
+//! for each branch that has interventions a pass over the branches and bookmarks. No pattern is
+//! looked at.
 #![tactic(auto)]
 
 mod marks;

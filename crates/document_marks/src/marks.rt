@@ -1,11 +1,12 @@
 //! The marks of a document.
-ghost use Rattle.std.specs.Prelude.{◌≡◌, ◌≤◌, ◌+◌, ◌*◌, ◌^◌, ◌++◌, [], ◌∷◌, length, map, flat_map};
+ghost use Rattle.std.specs.Prelude.{◌≡◌, ◌≤◌, ◌+◌, ◌*◌, ◌++◌, [], length, map, flat_map};
 ghost use Rattle.std.specs.Prelude.{vec_len, vec_capacity};
-ghost use Rattle.std.specs.List.{AllByRecursion};
-ghost use Rattle.std.specs.List.Sorted.{IsNonDecreasingBy, IsPermutation};
+ghost use Rattle.std.specs.List.{All};
+ghost use Rattle.std.specs.List.Sorted.{IsPermutation, IsSortedByKey};
+ghost use Rattle.std.specs.Ordering.{nat_cmp};
 ghost use Rattle.schedule.specs.Acts.{generations_to};
-ghost use Rattle.schedule.specs.Repeats.{marks_within};
-ghost use Rattle.document_marks.specs.AllMarks.{AreMarksOf, but_start, far_of, mark_rank};
+ghost use Rattle.schedule.specs.Branches.{reach};
+ghost use Rattle.document_marks.specs.AllMarks.{AreMarksOf, but_start, mark_rank};
 ghost use Rattle.desk_events.specs.Marks.{acting_marks, bookmark_mark, branch_marks, mark_at};
 ghost use Rattle.document_marks.specs.MostMarks.{marks_at_most};
 
@@ -24,10 +25,10 @@ pub fn marks_of(room: Vec<Mark>, document: &Document) -> Vec<Mark>
     let mut marks = room;
     add_branches(&mut marks, document.branches());
     add_bookmarks(&mut marks, document.bookmarks());
+    add_interventions(&mut marks, document);
+    marks.retain(|mark| !mark.is_start());
     sort(&mut marks);
-    add_interventions(&mut marks, document.interventions());
-    sort(&mut marks);
-    marks.dedup();
+    marks.dedup_by_key(|mark| rank_of(*mark));
     marks
 }
 
@@ -35,9 +36,7 @@ pub fn marks_of(room: Vec<Mark>, document: &Document) -> Vec<Mark>
 // memory for that, all are sorted in place.
 fn sort(marks: &mut Vec<Mark>)
     ensures same { IsPermutation marks.old.items marks.new.items }
-    ensures len { vec_len marks.new ≡ vec_len marks.old }
-    ensures capacity { vec_capacity marks.new ≡ vec_capacity marks.old }
-    ensures sorted { IsNonDecreasingBy mark_rank marks.new.items }
+    ensures sorted { IsSortedByKey mark_rank nat_cmp marks.new.items }
 {
     match marks.sort_by_key(|mark| rank_of(*mark)) {
         Ok(()) => {}
@@ -45,113 +44,88 @@ fn sort(marks: &mut Vec<Mark>)
     }
 }
 
-// Adds a mark, but for the start.
-fn add(marks: &mut Vec<Mark>, mark: Mark)
-    requires { vec_len marks.old + 1 ≤ vec_capacity marks.old }
-    ensures marks { marks.new.items ≡ marks.old.items ++ but_start (mark ∷ []) }
-    ensures len { vec_len marks.new ≤ vec_len marks.old + 1 }
-    ensures capacity { vec_capacity marks.new ≡ vec_capacity marks.old }
-{
-    if !mark.is_start() {
-        marks.push_reserved(mark);
-    }
-}
-
 // Adds the marks at which branches begin and leave their parents.
 fn add_branches(marks: &mut Vec<Mark>, branches: &[Branch])
     requires { vec_len marks.old + 2 * length branches.now ≤ vec_capacity marks.old }
-    ensures marks { marks.new.items
-        ≡ marks.old.items ++ but_start (flat_map branch_marks branches.now) }
-    ensures len { vec_len marks.new ≤ vec_len marks.old + 2 * length branches.now }
+    ensures marks { marks.new.items ≡ marks.old.items ++ flat_map branch_marks branches.now }
+    ensures len { vec_len marks.new ≡ vec_len marks.old + 2 * length branches.now }
     ensures capacity { vec_capacity marks.new ≡ vec_capacity marks.old }
 {
     for branch in branches {
-        add(marks, Mark::at(branch.id, branch.fork));
-        add(marks, Mark::at(branch.parent, branch.fork));
+        marks.push_reserved(Mark::at(branch.id, branch.fork));
+        marks.push_reserved(Mark::at(branch.parent, branch.fork));
     }
 }
 
 // Adds the marks at which bookmarks stand.
 fn add_bookmarks(marks: &mut Vec<Mark>, bookmarks: &[Bookmark])
     requires { vec_len marks.old + length bookmarks.now ≤ vec_capacity marks.old }
-    ensures marks { marks.new.items
-        ≡ marks.old.items ++ but_start (map bookmark_mark bookmarks.now) }
-    ensures len { vec_len marks.new ≤ vec_len marks.old + length bookmarks.now }
+    ensures marks { marks.new.items ≡ marks.old.items ++ map bookmark_mark bookmarks.now }
+    ensures len { vec_len marks.new ≡ vec_len marks.old + length bookmarks.now }
     ensures capacity { vec_capacity marks.new ≡ vec_capacity marks.old }
 {
     for bookmark in bookmarks {
-        add(marks, Mark::of(bookmark));
+        marks.push_reserved(Mark::of(bookmark));
     }
 }
 
-// Adds the marks at which interventions act, as far as the marks before, which don't fall, go in
-// their branches.
-fn add_interventions(marks: &mut Vec<Mark>, interventions: &[Intervention])
-    requires room { vec_len marks.old + length interventions.now
-        + marks_within (far_of marks.old.items) interventions.now ≤ vec_capacity marks.old }
-    requires sorted { IsNonDecreasingBy mark_rank marks.old.items }
-    requires near { AllByRecursion (λ m. m.generation ≤ 2 ^ 60) marks.old.items }
+// Adds the marks at which interventions act, as far as their branches reach.
+fn add_interventions(marks: &mut Vec<Mark>, document: &Document)
+    requires { vec_len marks.old
+        + length (flat_map (acting_marks (reach document.now)) document.now.interventions)
+        ≤ vec_capacity marks.old }
     ensures { marks.new.items ≡ marks.old.items
-        ++ but_start (flat_map (acting_marks (far_of marks.old.items)) interventions.now) }
+        ++ flat_map (acting_marks (reach document.now)) document.now.interventions }
 {
-    let before = marks.len();
-    let mut reached = Reached {
+    let mut known = [Reached {
         branch: 0,
-        far: far_of(marks, 0),
-    };
-    for intervention in interventions {
-        reached = reached_in(&marks[..before], reached, intervention.branch);
-        add_acting(marks, intervention, reached.far);
+        far: document.reach(0),
+    }; PLACES];
+    for intervention in document.interventions() {
+        let far = reach_of(document, &mut known, intervention.branch);
+        add_acting(marks, intervention, far);
     }
 }
 
-// How far marks go in a branch.
+// How far a branch reaches.
 #[derive(Clone, Copy)]
 struct Reached {
     branch: u64,
     far: u64,
 }
 
-// How far these marks, which don't fall, go in a branch, where it is known of one.
-fn reached_in(marks: &[Mark], known: Reached, branch: u64) -> Reached
-    requires sorted { IsNonDecreasingBy mark_rank marks.now }
-    requires near { AllByRecursion (λ m. m.generation ≤ 2 ^ 60) marks.now }
-    requires known { known.far ≡ far_of marks.now known.branch }
-    ensures { (result.branch ≡ branch) × (result.far ≡ far_of marks.now branch) }
+// A place for branch 0 and for each other that a document may have.
+const PLACES: usize = 65;
+
+// How far a branch reaches. What was found out before is known; each branch has a place of its own
+// there, by how many ids are at most its own.
+fn reach_of(document: &Document, known: &mut [Reached], branch: u64) -> u64
+    requires { All (λ r. r.far ≡ reach document.now r.branch) known.old }
+    ensures reach { result ≡ reach document.now branch }
+    ensures known { All (λ r. r.far ≡ reach document.now r.branch) known.new }
 {
-    if known.branch == branch {
-        return known;
+    let place = document
+        .branches()
+        .partition_point(|other| other.id <= branch);
+    if place < known.len() && known[place].branch == branch {
+        return known[place].far;
     }
-    Reached {
-        branch,
-        far: far_of(marks, branch),
+    let far = document.reach(branch);
+    if place < known.len() {
+        known[place] = Reached { branch, far };
     }
+    far
 }
 
 // Adds the marks at which an intervention acts, up to a generation.
 fn add_acting(marks: &mut Vec<Mark>, intervention: &Intervention, far: u64)
     requires { vec_len marks.old + length (generations_to far intervention.now.acts)
         ≤ vec_capacity marks.old }
-    ensures marks { marks.new.items ≡ marks.old.items ++ but_start
-        (map (mark_at intervention.now.branch) (generations_to far intervention.now.acts)) }
-    ensures len { vec_len marks.new
-        ≤ vec_len marks.old + length (generations_to far intervention.now.acts) }
+    ensures marks { marks.new.items ≡ marks.old.items
+        ++ map (mark_at intervention.now.branch) (generations_to far intervention.now.acts) }
     ensures capacity { vec_capacity marks.new ≡ vec_capacity marks.old }
 {
     for generation in intervention.acts.generations_to(far) {
-        add(marks, Mark::at(intervention.branch, generation));
-    }
-}
-
-// How far these marks, which don't fall, go in a branch.
-fn far_of(marks: &[Mark], branch: u64) -> u64
-    requires sorted { IsNonDecreasingBy mark_rank marks.now }
-    requires near { AllByRecursion (λ m. m.generation ≤ 2 ^ 60) marks.now }
-    ensures { result ≡ far_of marks.now branch }
-{
-    let end = marks.partition_point(|mark| mark.branch <= branch);
-    match marks[..end].last() {
-        Some(mark) if mark.branch == branch => mark.generation,
-        _ => 0,
+        marks.push_reserved(Mark::at(intervention.branch, generation));
     }
 }

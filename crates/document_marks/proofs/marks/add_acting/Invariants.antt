@@ -1,12 +1,11 @@
-use Rattle.std.proofs.Common.{◌≡◌, ◌≤◌, ◌+◌, ◌++◌, length, map, vec_len}
+use Rattle.std.proofs.Common.{◌≡◌, ◌+◌, ◌++◌, length, map, vec_len}
 use Rattle.std.specs.Prelude.{vec_capacity}
-use Rattle.document_marks.specs.AllMarks.{but_start}
 use Rattle.desk_events.specs.Marks.{mark_at}
 use Rattle.document_marks.proofs.marks.add_acting.Given as goal
 
 abbrev pub invariant-loop-generation : goal.invariant-loop-generation
 invariant-loop-generation l = record {
-  items : l.marks.items ≡ l.fn.marks.items ++ but_start (map (mark_at l.intervention.branch) l.yielded);
-  len : vec_len l.marks ≤ vec_len l.fn.marks + length l.yielded;
+  items : l.marks.items ≡ l.fn.marks.items ++ map (mark_at l.intervention.branch) l.yielded;
+  len : vec_len l.marks ≡ vec_len l.fn.marks + length l.yielded;
   capacity : vec_capacity l.marks ≡ vec_capacity l.fn.marks;
 }

@@ -1,12 +1,11 @@
-use Rattle.std.proofs.Common.{◌≡◌, ◌≤◌, ◌+◌, ◌*◌, ◌++◌, take, vec_len}
+use Rattle.std.proofs.Common.{◌≡◌, ◌+◌, ◌*◌, ◌++◌, take, vec_len}
 use Rattle.std.specs.Prelude.{flat_map, vec_capacity}
-use Rattle.document_marks.specs.AllMarks.{but_start}
 use Rattle.desk_events.specs.Marks.{branch_marks}
 use Rattle.document_marks.proofs.marks.add_branches.Given as goal
 
 abbrev pub invariant-loop-branch : goal.invariant-loop-branch
 invariant-loop-branch l = record {
-  items : l.marks.items ≡ l.fn.marks.items ++ but_start (flat_map branch_marks (take l.branch-index l.branches));
-  len : vec_len l.marks ≤ vec_len l.fn.marks + 2 * l.branch-index;
+  items : l.marks.items ≡ l.fn.marks.items ++ flat_map branch_marks (take l.branch-index l.branches);
+  len : vec_len l.marks ≡ vec_len l.fn.marks + 2 * l.branch-index;
   capacity : vec_capacity l.marks ≡ vec_capacity l.fn.marks;
 }
