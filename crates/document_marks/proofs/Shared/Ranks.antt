@@ -2,6 +2,7 @@
 use Rattle.std.proofs.Common.{◌≡◌, ◌^◌, ◌<◌, ◌≤◌, ◌∙◌, true, false, List, [], ◌∷◌, refl, sym, ap, ap₂, subst, arith}
 use Rattle.std.specs.Prelude.{◌==◌, ◌||◌}
 use Rattle.std.specs.List.{AllByRecursion, list_any}
+use Rattle.std.proofs.lemmas.Bool.Decides.{nat_tests}
 use Rattle.desk_events.specs.declared.mark.Mark.{Mark}
 use Rattle.desk_events.specs.Marks.{is_same, is_start, mark_at}
 use Rattle.document_marks.specs.AllMarks.{mark_rank}
@@ -11,27 +12,14 @@ use Rattle.desk_events.proofs.Shared.Marks.{same_mark, start_is}
 -- whether two marks are one
 
 pub same_true : (m n : Mark) → m ≡ n → is_same m n ≡ true
-same_true m n one =
-    subst (λ k. is_same m k ≡ true) one
-    (rw (eq_true m.branch m.branch refl, eq_true m.generation m.generation refl) refl)
+same_true m n one = grind (arith, nat_tests)
 
 pub apart : (m n : Mark) → is_same m n ≡ false → m ≡ n → ⊥
 apart m n miss one = clash (is_same m n) (same_true m n one) miss
 
 -- a mark above generation 0 isn't the start
 pub above_start : (m : Mark) → 0 < m.generation → is_start m ≡ false
-above_start m up =
-    either_way (is_start m)
-    (λ hit. absurd
-    (let low : m.generation ≡ 0 = ap (λ (n : Mark). n.generation) (start_is m hit) in omega (arith, low, up)))
-    (λ miss. miss)
-
--- nor is one of another branch than 0
-pub beside_start : (m : Mark) → 0 < m.branch → is_start m ≡ false
-beside_start m up =
-    either_way (is_start m)
-    (λ hit. absurd (let low : m.branch ≡ 0 = ap (λ (n : Mark). n.branch) (start_is m hit) in omega (arith, low, up)))
-    (λ miss. miss)
+above_start m up = grind (arith, nat_tests)
 
 -- ranks go by branches, and in a branch by generations
 
@@ -54,10 +42,7 @@ rank_reaches m n same near le = omega (arith, same, near, le)
 
 -- only the start has rank 0
 pub rank_zero : (m : Mark) → mark_rank m ≡ 0 → is_start m ≡ true
-rank_zero m zero =
-    let b : m.branch ≡ 0 = omega (arith, zero) in
-    let g : m.generation ≡ 0 = omega (arith, zero) in
-    rw (eq_true m.branch 0 b, eq_true m.generation 0 g) refl
+rank_zero m zero = grind (arith, nat_tests)
 
 -- a mark that is near enough is the only one of its rank
 pub rank_is : (m n : Mark) → n.generation ≤ 2 ^ 60 → mark_rank m ≡ mark_rank n → m ≡ n
@@ -67,11 +52,7 @@ rank_is m n near same =
     ap₂ mark_at b g
 
 pub rank_test : (n m : Mark) → n.generation ≤ 2 ^ 60 → (mark_rank n == mark_rank m) ≡ is_same n m
-rank_test n m near =
-    either_way (is_same n m)
-    (λ hit. eq_true (mark_rank n) (mark_rank m) (ap mark_rank (same_mark n m hit)) ∙ sym hit)
-    (λ miss. eq_false (mark_rank n) (mark_rank m) (λ same. apart n m miss (sym (rank_is m n near (sym same))))
-    ∙ sym miss)
+rank_test n m near = grind (arith, nat_tests)
 
 -- so marks that are near enough have a rank where one of them is its mark
 pub has_mark : (m : Mark) (ms : List Mark) → AllByRecursion (λ (n : Mark). n.generation ≤ 2 ^ 60) ms
