@@ -4,7 +4,7 @@ use Rattle.std.specs.Prelude.{◌==◌, ◌&&◌, ◌||◌, flat_map}
 use Rattle.std.specs.List.{All, list_any, dedup, dedup_from}
 use Rattle.std.specs.List.Sorted.{IsPermutation, IsSortedByKey, IsStrictlySortedBy}
 use Rattle.std.specs.Ordering.{is_eq, nat_cmp, on}
-use Rattle.std.proofs.Math.Bool.{and-false, and_comm, and-or_distrib_left, and-or_distrib_right, or_assoc, or_self_left}
+use Rattle.std.proofs.Math.Bool.{and-false, and_comm, and-or_distrib_right, or_assoc, or_self_left}
 use Rattle.std.proofs.lemmas.Bool.{not-true}
 use Rattle.std.proofs.lemmas.Bool.Decides.{nat_tests}
 use Rattle.std.proofs.lemmas.Cmp.{nat_cmp_total, on_total, ranked}
@@ -94,9 +94,7 @@ module _ (p : Plan) (m : Mark) where
   in_branch : (b : ℕ) (gs : List ℕ)
       → list_any is_it (map (mark_at b) gs) ≡ (b == m.branch && list_any (λ g. g == m.generation) gs)
   in_branch b [] = sym (and-false (b == m.branch))
-  in_branch b (g ∷ gs) =
-      ap (λ t. (b == m.branch && g == m.generation) || t) (in_branch b gs)
-      ∙ sym (and-or_distrib_left (b == m.branch) (g == m.generation) (list_any (λ k. k == m.generation) gs))
+  in_branch b (g ∷ gs) = grind (arith, nat_tests, in_branch b gs)
 
   acts : (i : Intervention)
       → list_any is_it (acting_marks (reach p) i) ≡ (near && acts_at i m.branch m.generation)
@@ -114,10 +112,12 @@ module _ (p : Plan) (m : Mark) where
       ≡ (near && list_any (λ (i : Intervention). acts_at i m.branch m.generation) is)
   all_act [] = sym (and-false near)
   all_act (i ∷ is) =
-      list_any-append is_it (acting_marks (reach p) i) (flat_map (acting_marks (reach p)) is)
-      ∙ ap₂ (λ s t. s || t) (acts i) (all_act is)
-      ∙ sym (and-or_distrib_left near (acts_at i m.branch m.generation)
-      (list_any (λ (j : Intervention). acts_at j m.branch m.generation) is))
+      grind (
+        arith,
+        list_any-append is_it (acting_marks (reach p) i) (flat_map (acting_marks (reach p)) is),
+        acts i,
+        all_act is,
+      )
 
   gathered_are : is_start m ≡ false → list_any is_it (gathered p) ≡ is_mark p m
   gathered_are beside =

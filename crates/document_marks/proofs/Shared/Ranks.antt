@@ -1,13 +1,12 @@
 -- Marks by their ranks, and as tests tell them apart.
-use Rattle.std.proofs.Common.{◌≡◌, ◌^◌, ◌<◌, ◌≤◌, ◌∙◌, true, false, List, [], ◌∷◌, refl, sym, ap, ap₂, subst, arith}
+use Rattle.std.proofs.Common.{◌≡◌, ◌^◌, ◌<◌, ◌≤◌, true, false, List, [], ◌∷◌, refl, ap₂, arith}
 use Rattle.std.specs.Prelude.{◌==◌, ◌||◌}
 use Rattle.std.specs.List.{AllByRecursion, list_any}
 use Rattle.std.proofs.lemmas.Bool.Decides.{nat_tests}
 use Rattle.desk_events.specs.declared.mark.Mark.{Mark}
 use Rattle.desk_events.specs.Marks.{is_same, is_start, mark_at}
 use Rattle.document_marks.specs.AllMarks.{mark_rank}
-use Rattle.desk_events.proofs.Shared.Tests.{either_way, clash, eq_true, eq_false}
-use Rattle.desk_events.proofs.Shared.Marks.{same_mark, start_is}
+use Rattle.desk_events.proofs.Shared.Tests.{clash}
 
 -- whether two marks are one
 
