@@ -5,8 +5,8 @@
 #     DESK=PROGRAM ./test.sh    tests another one
 #
 # These are the scripts of examples/, hostile use, refused allocations, threads under stress, the line of progress, the
-# model's own tests and random scripts that are compared with it, the clients, and the program's first build. Each part says what it does, and
-# the last line counts all of them. The random scripts and runs are those of the present commit.
+# model's own tests and random scripts that are compared with it, the clients, and the program's first build. Each part
+# says what it does, and the last line counts all of them. The random scripts and runs are those of the present commit.
 cd "$(dirname "$0")" || exit 1
 DESK=$(realpath -m "${DESK:-crates/desk/out/desk}")
 export DESK PYTHONDONTWRITEBYTECODE=1
