@@ -31,11 +31,13 @@ struct Mover {
 
 impl Remakes<u32, Shelf> for Mover {
     ghost use Rattle.ranked_rows_tests.specs.Moved.{moved};
+    ghost use Rattle.std.specs.Option.{option_map};
     ghost use Rattle.std.specs.Prelude.{⊤};
 
     ghost key_rank = { λ mark. mark };
 
-    ghost made = { λ mover mark old. moved mover.limit mark old };
+    ghost made = { λ mover mark old.
+        record { mark = mark; load = moved mover.limit (option_map (λ shelf. shelf.load) old) } };
 
     ghost may_go = { λ mover old. ⊤ };
 
