@@ -10,8 +10,8 @@ use Rattle.square_table.proofs.Shared.Making.{Adds-joined}
 use Rattle.hash_life.specs.Result.{between, amid, middle}
 use Rattle.hash_life.specs.Puts.{nine_of}
 use Rattle.hash_engine.specs.Standing.{StandsFor}
-use Rattle.hash_engine.specs.Adding.{AddsOfTwo, AddsOf, AddsFours}
-use Rattle.hash_engine.proofs.Standing.{StandsFor-grows, StandForAll-grows, StandsFor-of_nine, quadrants, listed, fours_at}
+use Rattle.hash_engine.specs.Adding.{AddsFours}
+use Rattle.hash_engine.proofs.Standing.{StandForAll-grows, StandsFor-between, StandsFor-amid, StandsFor-middle, StandsFor-of_nine, quadrants, listed, fours_at}
 
 -- nothing is added
 pub Adds-none : (made : List Square) (t : Table) → Adds made t t
@@ -26,12 +26,16 @@ Adds-made t u kids k s grows step stands =
 more : (all : List Square) (s : Square) (t u v : Table) → Contains all s → Adds (s ∷ []) u v → (AreAmong all t.rows → AreAmong all u.rows) → AreAmong all t.rows → AreAmong all v.rows
 more all s t u v is adds before are = adds.among all (All-cons (Contains all) s [] is (All-nil (Contains all))) (before are)
 
--- the nine squares that overlap in one, of which five are made
-pub Adds-nine : (t u1 u2 u3 u4 u5 : Table) (k m : ℕ) (ks : List ℕ) (s : Square) → StandsFor t.rows (suc (suc k)) m s → ks ≡ kids_at t.rows m →
-    Grows t u1 → Grows u1 u2 → Grows u2 u3 → Grows u3 u4 → Grows u4 u5 →
-    AddsOfTwo between t (get_or ks 0 0) (get_or ks 1 0) u1 → AddsOfTwo amid u1 (get_or ks 0 0) (get_or ks 2 0) u2 → AddsOf (λ q. middle q ∷ []) u2 m u3 →
-    AddsOfTwo amid u3 (get_or ks 1 0) (get_or ks 3 0) u4 → AddsOfTwo between u4 (get_or ks 2 0) (get_or ks 3 0) u5 → Adds (nine_of s) t u5
-Adds-nine t u1 u2 u3 u4 u5 k m ks s whole is_k g1 g2 g3 g4 g5 north west centre east south =
+-- the nine squares that overlap in one, of which five are joined of quadrants of its quadrants
+pub Adds-nine : (t u1 u2 u3 u4 u5 : Table) (k m : ℕ) (ks ws xs ys zs : List ℕ) (s : Square) → StandsFor t.rows (suc (suc k)) m s
+    → ks ≡ kids_at t.rows m → ws ≡ kids_at t.rows (get_or ks 0 0) → xs ≡ kids_at t.rows (get_or ks 1 0)
+    → ys ≡ kids_at t.rows (get_or ks 2 0) → zs ≡ kids_at t.rows (get_or ks 3 0)
+    → Grows t u1 → GrowsBy (get_or ws 1 0 ∷ get_or xs 0 0 ∷ get_or ws 3 0 ∷ get_or xs 2 0 ∷ []) t u1
+    → Grows u1 u2 → GrowsBy (get_or ws 2 0 ∷ get_or ws 3 0 ∷ get_or ys 0 0 ∷ get_or ys 1 0 ∷ []) u1 u2
+    → Grows u2 u3 → GrowsBy (get_or ws 3 0 ∷ get_or xs 2 0 ∷ get_or ys 1 0 ∷ get_or zs 0 0 ∷ []) u2 u3
+    → Grows u3 u4 → GrowsBy (get_or xs 2 0 ∷ get_or xs 3 0 ∷ get_or zs 0 0 ∷ get_or zs 1 0 ∷ []) u3 u4
+    → Grows u4 u5 → GrowsBy (get_or ys 1 0 ∷ get_or zs 0 0 ∷ get_or ys 3 0 ∷ get_or zs 2 0 ∷ []) u4 u5 → Adds (nine_of s) t u5
+Adds-nine t u1 u2 u3 u4 u5 k m ks ws xs ys zs s whole is_k is_w is_x is_y is_z g1 s1 g2 s2 g3 s3 g4 s4 g5 s5 =
     let v = quadrants t.rows (suc k) m s whole in
     let nw = listed t.rows (suc k) m 0 ks v.a is_k v.nw in
     let ne = listed t.rows (suc k) m 1 ks v.b is_k v.ne in
@@ -40,24 +44,24 @@ Adds-nine t u1 u2 u3 u4 u5 k m ks s whole is_k g1 g2 g3 g4 g5 north west centre 
     let g12 = Grows-then t u1 u2 g1 g2 in
     let g13 = Grows-then t u2 u3 g12 g3 in
     let g14 = Grows-then t u3 u4 g13 g4 in
-    let of : nine_of s ≡ v.a ∷ between v.a v.b ∷ v.b ∷ amid v.a v.c ∷ middle (four v.a v.b v.c v.d) ∷ amid v.b v.d ∷ v.c ∷ between v.c v.d ∷ v.d ∷ [] = ap nine_of v.is in
+    let g15 = Grows-then t u4 u5 g14 g5 in
+    let of : nine_of s ≡ v.a ∷ between v.a v.b ∷ v.b ∷ amid v.a v.c ∷ middle (four v.a v.b v.c v.d) ∷ amid v.b v.d ∷ v.c
+        ∷ between v.c v.d ∷ v.d ∷ [] = ap nine_of v.is in
     record {
-      grows = Grows-then t u4 u5 g14 g5;
+      grows = g15;
       among = λ all made are.
           let each = subst (All (Contains all)) of made in
-          more all _ t u4 u5 (each 7 (one 0) (omega arith)) (south k v.c v.d (StandsFor-grows t u4 (suc k) _ v.c g14 sw) (StandsFor-grows t u4 (suc k) _ v.d g14 se))
-          (more all _ t u3 u4 (each 5 (one 0) (omega arith)) (east k v.b v.d (StandsFor-grows t u3 (suc k) _ v.b g13 ne) (StandsFor-grows t u3 (suc k) _ v.d g13 se))
-          (more all _ t u2 u3 (subst (λ q. Contains all (middle q)) (sym v.is) (each 4 (one 0) (omega arith))) (centre k s (StandsFor-grows t u2 (suc (suc k)) m s g12 whole))
-          (more all _ t u1 u2 (each 3 (one 0) (omega arith)) (west k v.a v.c (StandsFor-grows t u1 (suc k) _ v.a g1 nw) (StandsFor-grows t u1 (suc k) _ v.c g1 sw))
-          (more all _ t t u1 (each 1 (one 0) (omega arith)) (north k v.a v.b nw ne) (λ h. h))))) are;
+          more all _ t u4 u5 (each 7 (one 0) (omega arith))
+          (Adds-made u4 u5 _ k _ g5 s5 (λ n is. StandsFor-between t u5 k _ _ n ys zs v.c v.d is_y is_z g15 is sw se))
+          (more all _ t u3 u4 (each 5 (one 0) (omega arith))
+          (Adds-made u3 u4 _ k _ g4 s4 (λ n is. StandsFor-amid t u4 k _ _ n xs zs v.b v.d is_x is_z g14 is ne se))
+          (more all _ t u2 u3 (subst (λ q. Contains all (middle q)) (sym v.is) (each 4 (one 0) (omega arith)))
+          (Adds-made u2 u3 _ k _ g3 s3 (λ n is. StandsFor-middle t u3 k m n ks ws xs ys zs s is_k is_w is_x is_y is_z g13 is whole))
+          (more all _ t u1 u2 (each 3 (one 0) (omega arith))
+          (Adds-made u1 u2 _ k _ g2 s2 (λ n is. StandsFor-amid t u2 k _ _ n ws ys v.a v.c is_w is_y g12 is nw sw))
+          (more all _ t t u1 (each 1 (one 0) (omega arith))
+          (Adds-made t u1 _ k _ g1 s1 (λ n is. StandsFor-between t u1 k _ _ n ws xs v.a v.b is_w is_x g1 is nw ne)) (λ h. h))))) are;
     }
-
--- none of two, and none of one
-pub AddsOfTwo-none : (f : Square → Square → Square) (t : Table) (m n : ℕ) → AddsOfTwo f t m n t
-AddsOfTwo-none f t m n k a b first second = Adds-none (f a b ∷ []) t
-
-pub AddsOf-none : (f : Square → List Square) (t : Table) (n : ℕ) → AddsOf f t n t
-AddsOf-none f t n k s stands = Adds-none (f s) t
 
 -- four of nine, of which each is joined
 abbrev pub corner : List ℕ → ℕ → ℕ → ℕ → ℕ → List ℕ

@@ -9,13 +9,6 @@ use Rattle.hash_life.specs.Puts.{fours_of}
 use Rattle.hash_life.specs.Makes.{Makes}
 use Rattle.hash_engine.specs.Standing.{StandsFor, StandForAll}
 
--- whatever squares of a level m and n stand for, the table has no square more but f of these
-abbrev pub AddsOfTwo : (squares.Square → squares.Square → squares.Square) →
-    Table → ℕ → ℕ → Table → Type 0
-AddsOfTwo f t m n u =
-    (k : ℕ) (a b : squares.Square) → StandsFor t.rows (suc k) m a → StandsFor t.rows (suc k) n b →
-    Adds (f a b ∷ []) t u
-
 -- whatever square of 4 by 4 cells or more n stands for, the table has no square more but those of f
 abbrev pub AddsOf : (squares.Square → List squares.Square) → Table → ℕ → Table → Type 0
 AddsOf f t n u = (k : ℕ) (s : squares.Square) → StandsFor t.rows (suc (suc k)) n s → Adds (f s) t u
@@ -24,13 +17,6 @@ AddsOf f t n u = (k : ℕ) (s : squares.Square) → StandsFor t.rows (suc (suc k
 abbrev pub AddsFours : Table → List ℕ → Table → Type 0
 AddsFours t nine u =
     (k : ℕ) (ss : List squares.Square) → StandForAll t.rows k nine ss → Adds (fours_of ss) t u
-
--- whatever squares of a level m and n stand for, r stands for f of these
-abbrev pub GivesOfTwo : (squares.Square → squares.Square → squares.Square) →
-    Table → ℕ → ℕ → Table → ℕ → Type 0
-GivesOfTwo f t m n u = λ r.
-    (k : ℕ) (a b : squares.Square) → StandsFor t.rows (suc k) m a → StandsFor t.rows (suc k) n b →
-    StandsFor u.rows (suc k) r (f a b)
 
 -- whatever square of 4 by 4 cells or more n stands for, r stands for f of it
 abbrev pub GivesOf : (squares.Square → squares.Square) → Table → ℕ → Table → ℕ → Type 0

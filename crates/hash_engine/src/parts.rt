@@ -4,63 +4,18 @@ ghost use Rattle.std.specs.Prelude.{◌≡◌, ◌+◌, ℕ, suc, [], ◌∷◌,
 ghost use Rattle.worlds.specs.Square.{four};
 ghost use Rattle.square_table.specs.Squares.{IsNumber, square_in, Grows, kids_at};
 ghost use Rattle.square_table.specs.Made.{Adds, IsFull};
-ghost use Rattle.hash_life.specs.Result.{between, amid, middle, later};
+ghost use Rattle.hash_life.specs.Result.{middle, later};
 ghost use Rattle.hash_life.specs.Puts.{nine_of, IsBelow};
 ghost use Rattle.hash_engine.specs.Standing.{CanBePut, of_four};
-ghost use Rattle.hash_engine.specs.Adding.{AddsOfTwo, AddsOf, AddsFours, GivesOfTwo, GivesOf, GiveAllOf, GiveFours, GivesPut};
+ghost use Rattle.hash_engine.specs.Adding.{AddsOf, AddsFours, GivesOf, GiveAllOf, GiveFours, GivesPut};
 ghost use Rattle.hash_engine.specs.Found.{KeepsRule};
 
 use square_table::{SquareTable, TableFault};
 use worlds::{Around, Ask};
 
-// Guesses at the squares that `nine` makes, in its order.
-fn guesses(table: &SquareTable<'_>, number: u32) -> [u32; 5]
-    requires { (k : ℕ) × IsNumber table.now.rows (suc (suc k)) number }
-{
-    let [nw, ne, sw, se] = table.quadrants(number);
-    let [_, b, e, f] = table.quadrants(nw);
-    let [c, _, g, h] = table.quadrants(ne);
-    let [i, j, _, n] = table.quadrants(sw);
-    let [k, l, o, _] = table.quadrants(se);
-    [
-        table.guess([b, c, f, g]),
-        table.guess([e, f, i, j]),
-        table.guess([f, g, j, k]),
-        table.guess([g, h, k, l]),
-        table.guess([j, k, n, o]),
-    ]
-}
-
-// The square between two that stand side by side.
-fn between(table: &mut SquareTable<'_>, west: u32, east: u32, guess: u32) -> Result<u32, TableFault>
-    requires west { (k : ℕ) × IsNumber table.old.rows (suc k) west }
-    requires east { (k : ℕ) × IsNumber table.old.rows (suc k) east }
-    ensures grows { Grows table.old table.new }
-    ensures square { IfOk result (GivesOfTwo between table.old west east table.new) }
-    ensures adds { AddsOfTwo between table.old west east table.new }
-    ensures full { result ≡ Err TableFault.NoRoom → IsFull table.new }
-{
-    let [_, nw, _, sw] = table.quadrants(west);
-    let [ne, _, se, _] = table.quadrants(east);
-    table.join_guessed([nw, ne, sw, se], guess)
-}
-
-// The square between two that stand one above the other.
-fn amid(table: &mut SquareTable<'_>, north: u32, south: u32, guess: u32) -> Result<u32, TableFault>
-    requires north { (k : ℕ) × IsNumber table.old.rows (suc k) north }
-    requires south { (k : ℕ) × IsNumber table.old.rows (suc k) south }
-    ensures grows { Grows table.old table.new }
-    ensures square { IfOk result (GivesOfTwo amid table.old north south table.new) }
-    ensures adds { AddsOfTwo amid table.old north south table.new }
-    ensures full { result ≡ Err TableFault.NoRoom → IsFull table.new }
-{
-    let [_, _, nw, ne] = table.quadrants(north);
-    let [sw, se, _, _] = table.quadrants(south);
-    table.join_guessed([nw, ne, sw, se], guess)
-}
-
-// The square of half the side in the middle.
-fn centre(table: &mut SquareTable<'_>, number: u32, guess: u32) -> Result<u32, TableFault>
+/// The square of half the side in the middle.
+#[inline(never)]
+pub(crate) fn middle(table: &mut SquareTable<'_>, number: u32) -> Result<u32, TableFault>
     requires { (k : ℕ) × IsNumber table.old.rows (suc (suc k)) number }
     ensures grows { Grows table.old table.new }
     ensures square { IfOk result (GivesOf middle table.old number table.new) }
@@ -72,23 +27,11 @@ fn centre(table: &mut SquareTable<'_>, number: u32, guess: u32) -> Result<u32, T
     let [_, _, b, _] = table.quadrants(ne);
     let [_, c, _, _] = table.quadrants(sw);
     let [d, _, _, _] = table.quadrants(se);
-    table.join_guessed([a, b, c, d], guess)
+    table.join_numbers([a, b, c, d])
 }
 
-/// The square of half the side in the middle.
-#[inline(never)]
-pub(crate) fn middle(table: &mut SquareTable<'_>, number: u32) -> Result<u32, TableFault>
-    requires { (k : ℕ) × IsNumber table.old.rows (suc (suc k)) number }
-    ensures grows { Grows table.old table.new }
-    ensures square { IfOk result (GivesOf middle table.old number table.new) }
-    ensures adds { AddsOf (λ s. middle s ∷ []) table.old number table.new }
-    ensures full { result ≡ Err TableFault.NoRoom → IsFull table.new }
-{
-    let guess = 0;
-    centre(table, number, guess)
-}
-
-/// The nine squares of half the side that overlap in a square, by rows.
+/// The nine squares of half the side that overlap in a square, by rows. All that are made are looked
+/// for before the first is joined.
 pub(crate) fn nine(table: &mut SquareTable<'_>, number: u32) -> Result<[u32; 9], TableFault>
     requires { (k : ℕ) × IsNumber table.old.rows (suc (suc k)) number }
     ensures grows { Grows table.old table.new }
@@ -96,13 +39,21 @@ pub(crate) fn nine(table: &mut SquareTable<'_>, number: u32) -> Result<[u32; 9],
     ensures adds { AddsOf nine_of table.old number table.new }
     ensures full { result ≡ Err TableFault.NoRoom → IsFull table.new }
 {
-    let [north, west, middle, east, south] = guesses(table, number);
     let [nw, ne, sw, se] = table.quadrants(number);
-    let north = between(table, nw, ne, north)?;
-    let west = amid(table, nw, sw, west)?;
-    let centre = centre(table, number, middle)?;
-    let east = amid(table, ne, se, east)?;
-    let south = between(table, sw, se, south)?;
+    let [_, b, e, f] = table.quadrants(nw);
+    let [c, _, g, h] = table.quadrants(ne);
+    let [i, j, _, n] = table.quadrants(sw);
+    let [k, l, o, _] = table.quadrants(se);
+    let north = table.guess([b, c, f, g]);
+    let west = table.guess([e, f, i, j]);
+    let centre = table.guess([f, g, j, k]);
+    let east = table.guess([g, h, k, l]);
+    let south = table.guess([j, k, n, o]);
+    let north = table.join_guessed([b, c, f, g], north)?;
+    let west = table.join_guessed([e, f, i, j], west)?;
+    let centre = table.join_guessed([f, g, j, k], centre)?;
+    let east = table.join_guessed([g, h, k, l], east)?;
+    let south = table.join_guessed([j, k, n, o], south)?;
     Ok([nw, north, ne, west, centre, east, sw, south, se])
 }
 

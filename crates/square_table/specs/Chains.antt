@@ -55,6 +55,11 @@ pub record IsLast (rows : List Row) (heads : List ℕ) (bucket last : ℕ) : Typ
       → bucket_of (kids_of (slice_index_or rows i d)) (length heads) ≡ bucket
   pub ends : (i : ℕ) (d : Row) → last ≡ i + 1 → (slice_index_or rows i d).next ≡ 0
 
+-- the row at this place has these quadrants
+pub record IsRowOf (rows : List Row) (kids : List ℕ) (at : ℕ) : Type 0 where
+  pub there : at < length rows
+  pub kids_are : (d : Row) → kids_of (slice_index_or rows at d) ≡ kids
+
 -- no row has these quadrants
 pub record IsAbsent (rows : List Row) (kids : List ℕ) : Type 0 where
   pub absent : (i : ℕ) (d : Row) → i < length rows → kids_of (slice_index_or rows i d) ≡ kids → ⊥

@@ -1,6 +1,6 @@
 //! The rows of a table, and the chains of a hash table that lead to them.
-ghost use Rattle.std.specs.Prelude.{◌≡◌, ℕ, ◌+◌, ◌-◌, ◌^◌, ◌<◌, ◌≤◌, length, map, slice_index, slice_index_or, [], ◌∷◌, ◌++◌, OnOk, OnErr, IfOk, vec_len, IsTrue, ◌↔◌};
-ghost use Rattle.square_table.specs.Chains.{hash_of, bucket_of, kids_of, IsChained, IsAbsent, IsLast};
+ghost use Rattle.std.specs.Prelude.{◌≡◌, ℕ, ◌+◌, ◌-◌, ◌^◌, ◌<◌, ◌≤◌, length, map, slice_index, slice_index_or, [], ◌∷◌, ◌++◌, OnOk, OnErr, IfOk, IfErr, vec_len, IsTrue, ◌↔◌};
+ghost use Rattle.square_table.specs.Chains.{hash_of, bucket_of, kids_of, IsChained, IsAbsent, IsLast, IsRowOf};
 ghost use Rattle.square_table.specs.declared.chains.Row.{Row};
 
 use std::alloc::{AllocError, Global};
@@ -18,8 +18,8 @@ pub struct Row {
 
 // A mix of the four numbers: what is folded or shifted together less mixes worse.
 #[tactic(auto, unfolding(crate::specs::Chains::hash_of))]
-fn hash(kids: [u32; 4]) -> u64
-    ensures { result ≡ hash_of kids }
+fn hash(kids: &[u32; 4]) -> u64
+    ensures { result ≡ hash_of kids.now }
 {
     let nw = u64::from(kids[0]).wrapping_mul(0x9e37_79b9_7f4a_7c15);
     let ne = u64::from(kids[1]).wrapping_mul(0xd1b5_4a32_d192_ed03);
@@ -28,78 +28,72 @@ fn hash(kids: [u32; 4]) -> u64
     nw.wrapping_add(ne).wrapping_add(sw).wrapping_add(se) >> 32
 }
 
-// The chain on which a square stands, of so many.
+/// The chain on which a square stands, of so many.
 #[tactic(auto, unfolding(crate::specs::Chains::bucket_of))]
-fn bucket(kids: [u32; 4], count: usize) -> usize
+pub fn bucket(kids: &[u32; 4], count: usize) -> usize
     requires { 0 < count }
-    ensures value { result ≡ bucket_of kids count }
+    ensures value { result ≡ bucket_of kids.now count }
     ensures within { result < count }
 {
     hash(kids) as usize & (count - 1)
 }
 
 /// Whether two squares have the same quadrants.
-pub fn is_same(a: [u32; 4], b: [u32; 4]) -> bool
-    ensures { IsTrue result ↔ a ≡ b }
+pub fn is_same(a: &[u32; 4], b: &[u32; 4]) -> bool
+    ensures { IsTrue result ↔ a.now ≡ b.now }
 {
     a[0] == b[0] && a[1] == b[1] && a[2] == b[2] && a[3] == b[3]
 }
 
 /// The oldest row of the chain on which these quadrants stand, by its place and one more; 0 where
 /// that chain is empty.
-pub fn head(heads: &[u32], kids: [u32; 4]) -> u32
+pub fn head(heads: &[u32], kids: &[u32; 4]) -> u32
     requires { 0 < length heads.now }
-    ensures { result ≡ slice_index heads.now (bucket_of kids (length heads.now)) }
+    ensures { result ≡ slice_index heads.now (bucket_of kids.now (length heads.now)) }
 {
     heads[bucket(kids, heads.len())]
 }
 
-/// The place of the row of these quadrants and one more; 0 where there is none.
-pub fn find(rows: &[Row], heads: &[u32], kids: [u32; 4]) -> u32
-    requires { IsChained rows.now 0 heads.now }
-    ensures within { result ≤ length rows.now }
-    ensures absent { result ≡ 0 → IsAbsent rows.now kids }
-    ensures found { (i : ℕ) (d : Row) →
-        result ≡ i + 1 → kids_of (slice_index_or rows.now i d) ≡ kids }
-{
-    let mut at = head(heads, kids);
-    while at != 0 {
-        let row = rows[at as usize - 1];
-        if is_same(row.kids, kids) {
-            return at;
-        }
-        at = row.next;
-    }
-    0
-}
-
-// The last row of a chain, by its place and one more; 0 where the chain is empty.
-fn last(rows: &[Row], heads: &[u32], slot: usize) -> u32
+/// Looks along the chain of these quadrants for their row: Ok is its place, and Err the last row of the
+/// chain, by its place and one more, behind which it would go; 0 where the chain is empty.
+pub fn search(rows: &[Row], heads: &[u32], slot: usize, kids: &[u32; 4]) -> Result<u32, u32>
     requires chained { IsChained rows.now 0 heads.now }
-    requires slot { slot < length heads.now }
-    ensures { IsLast rows.now heads.now slot result }
+    requires slot { (slot < length heads.now) × (slot ≡ bucket_of kids.now (length heads.now)) }
+    ensures found { IfOk result (IsRowOf rows.now kids.now) }
+    ensures absent { IfErr result (λ _. IsAbsent rows.now kids.now) }
+    ensures last { IfErr result (IsLast rows.now heads.now slot) }
 {
     let mut last = 0;
     let mut at = heads[slot];
     while at != 0 {
+        let row = &rows[at as usize - 1];
+        if is_same(&row.kids, kids) {
+            return Ok(at - 1);
+        }
         last = at;
-        at = rows[at as usize - 1].next;
+        at = row.next;
     }
-    last
+    Err(last)
 }
 
-/// Adds a row for quadrants that have none, at the end of its chain: what was made first is asked for
-/// most, so that most look-ups read one row.
-pub fn insert(rows: &mut Vec<Row>, heads: &mut [u32], kids: [u32; 4]) -> Result<(), AllocError>
+/// Adds a row for quadrants that have none, behind the last row of its chain: what was made first is
+/// asked for most, so that most look-ups read one row.
+pub fn append(
+    rows: &mut Vec<Row>,
+    heads: &mut [u32],
+    slot: usize,
+    last: u32,
+    kids: [u32; 4],
+) -> Result<(), AllocError>
     requires chained { IsChained rows.old.items 0 heads.old }
     requires room { vec_len rows.old + 1 < 2 ^ 32 }
+    requires slot { (slot < length heads.old) × (slot ≡ bucket_of kids (length heads.old)) }
+    requires last { IsLast rows.old.items heads.old slot last }
     ensures chained { IsChained rows.new.items 0 heads.new }
     ensures count { length heads.new ≡ length heads.old }
     ensures ok { OnOk result (map kids_of rows.new.items ≡ map kids_of rows.old.items ++ kids ∷ []) }
     ensures err { OnErr result ((rows.new.items ≡ rows.old.items) × (heads.new ≡ heads.old)) }
 {
-    let slot = bucket(kids, heads.len());
-    let last = last(rows, heads, slot);
     rows.push(Row { kids, next: 0 })?;
     let added = rows.len() as u32;
     if last == 0 {
@@ -121,7 +115,7 @@ fn chain_all(rows: &mut [Row], heads: &mut [u32])
     let mut left = rows.len();
     while left > 0 {
         left -= 1;
-        let slot = bucket(rows[left].kids, heads.len());
+        let slot = bucket(&rows[left].kids, heads.len());
         rows[left].next = heads[slot];
         heads[slot] = left as u32 + 1;
     }

@@ -7,7 +7,7 @@ ghost use Rattle.square_table.specs.Made.{IsFull};
 ghost use Rattle.square_table.specs.Loading.{GrowsFrom};
 ghost use Rattle.square_table.specs.declared.square.Square.{Square};
 
-use crate::chains::{Row, chains, empty, find, head, insert, is_same, widen};
+use crate::chains::{Row, append, bucket, chains, empty, head, is_same, search, widen};
 use crate::fault::TableFault;
 use crate::square::Square;
 use bumpalo::Bump;
@@ -149,35 +149,6 @@ impl<'a> SquareTable<'a> {
         }
     }
 
-    // The number of the square of these quadrants, if it is there.
-    fn known(&self, kids: [u32; 4]) -> Option<u32>
-        ensures some { IfSome result (IsSquareOf self.now.rows kids) }
-        ensures none { IfNone result (Lacks self.now.rows kids) }
-    {
-        let at = find(&self.rows, &self.heads, kids);
-        if at == 0 {
-            return None;
-        }
-        Some(FIRST_NUMBER + (at - 1))
-    }
-
-    // Adds the row of quadrants that have none, and gives its number.
-    fn add(&mut self, kids: [u32; 4]) -> Result<u32, TableFault>
-        requires four { length kids ≡ 4 }
-        requires lacks { Lacks self.old.rows kids }
-        ensures table { OnOk result (self.new ≡ with_row self.old kids) }
-        ensures square { IfOk result (IsSquareOf self.new.rows kids) }
-        ensures unchanged { OnErr result (self.new ≡ self.old) }
-        ensures full { result ≡ Err TableFault.NoRoom → IsFull self.new }
-    {
-        if self.rows.len() >= self.limit as usize {
-            return Err(TableFault::NoRoom);
-        }
-        let number = FIRST_NUMBER + self.rows.len() as u32;
-        insert(&mut self.rows, &mut self.heads, kids)?;
-        Ok(number)
-    }
-
     /// The numbers of the quadrants nw, ne, sw and se of the square with this number.
     pub fn quadrants(&self, number: u32) -> [u32; 4]
         requires above { first_number ≤ number }
@@ -200,9 +171,17 @@ impl<'a> SquareTable<'a> {
         ensures full { result ≡ Err TableFault.NoRoom → IsFull self.new }
     {
         self.make_ready();
-        match self.known(kids) {
-            Some(number) => Ok(number),
-            None => self.add(kids),
+        let slot = bucket(&kids, self.heads.len());
+        match search(&self.rows, &self.heads, slot, &kids) {
+            Ok(at) => Ok(FIRST_NUMBER + at),
+            Err(last) => {
+                let count = self.rows.len() as u32;
+                if count >= self.limit {
+                    return Err(TableFault::NoRoom);
+                }
+                append(&mut self.rows, &mut self.heads, slot, last, kids)?;
+                Ok(FIRST_NUMBER + count)
+            }
         }
     }
 
@@ -213,7 +192,7 @@ impl<'a> SquareTable<'a> {
     pub fn guess(&self, kids: [u32; 4]) -> u32
         ensures { result < first_number + length self.now.rows }
     {
-        FIRST_NUMBER - 1 + head(&self.heads, kids)
+        FIRST_NUMBER - 1 + head(&self.heads, &kids)
     }
 
     /// As `join_numbers`, and sooner where the guess is right.
@@ -224,8 +203,10 @@ impl<'a> SquareTable<'a> {
         ensures unchanged { OnErr result (self.new ≡ self.old) }
         ensures full { result ≡ Err TableFault.NoRoom → IsFull self.new }
     {
-        let is_number = guess >= FIRST_NUMBER && guess - FIRST_NUMBER < self.len();
-        if is_number && is_same(self.quadrants(guess), kids) {
+        if let Some(at) = guess.checked_sub(FIRST_NUMBER)
+            && let Some(row) = self.rows.get(at as usize)
+            && is_same(&row.kids, &kids)
+        {
             return Ok(guess);
         }
         self.join_numbers(kids)

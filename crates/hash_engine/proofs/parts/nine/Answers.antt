@@ -1,59 +1,33 @@
-use Rattle.std.proofs.Common.{[], ◌∷◌, suc}
-use Rattle.square_table.proofs.Shared.Growth.{IsNumber-grows, Grows-same}
+use Rattle.std.proofs.Common.{refl, suc, inl}
+use Rattle.square_table.proofs.Shared.Growth.{Grows-same}
 use Rattle.hash_engine.proofs.Growth.{◌⟫◌}
-use Rattle.hash_life.specs.Result.{between, amid, middle}
-use Rattle.hash_engine.proofs.Standing.{is_there, quadrant_numbers, StandsFor-grows, StandForAll-nine_of}
-use Rattle.hash_engine.proofs.Adding.{Adds-nine, AddsOf-none, AddsOfTwo-none}
+use Rattle.hash_engine.proofs.Standing.{is_there, are_there, StandsFor-between, StandsFor-amid, StandsFor-middle, StandForAll-nine_of}
+use Rattle.hash_engine.proofs.Adding.{Adds-nine}
 use Rattle.hash_engine.proofs.parts.nine.Goals as goal
 
 pub quadrants-requires : goal.quadrants-requires
 quadrants-requires c = is_there _ (suc c.requires.0) _ c.requires.1
 
-pub between-requires-clause-west : goal.between-requires-clause-west
-between-requires-clause-west c =
-    let quadrants = quadrant_numbers _ (suc c.requires.0) _ _ c.quadrants.ensures c.requires.1 in
-    (c.requires.0, quadrants.nw)
+pub quadrants-requires-2 : goal.quadrants-requires-2
+quadrants-requires-2 c = (are_there _ _ _ c.quadrants.ensures c.requires).nw
 
-pub between-requires-clause-east : goal.between-requires-clause-east
-between-requires-clause-east c =
-    let quadrants = quadrant_numbers _ (suc c.requires.0) _ _ c.quadrants.ensures c.requires.1 in
-    (c.requires.0, quadrants.ne)
+pub quadrants-requires-3 : goal.quadrants-requires-3
+quadrants-requires-3 c = (are_there _ _ _ c.quadrants.ensures c.requires).ne
 
-pub amid-requires-clause-north : goal.amid-requires-clause-north
-amid-requires-clause-north c =
-    let quadrants = quadrant_numbers _ (suc c.requires.0) _ _ c.quadrants.ensures c.requires.1 in
-    (c.requires.0, IsNumber-grows c.args.table.now c.between.new.table _ _ (c.in_ok-north.ensures.grows) quadrants.nw)
+pub quadrants-requires-4 : goal.quadrants-requires-4
+quadrants-requires-4 c = (are_there _ _ _ c.quadrants.ensures c.requires).sw
 
-pub amid-requires-clause-south : goal.amid-requires-clause-south
-amid-requires-clause-south c =
-    let quadrants = quadrant_numbers _ (suc c.requires.0) _ _ c.quadrants.ensures c.requires.1 in
-    (c.requires.0, IsNumber-grows c.args.table.now c.between.new.table _ _ (c.in_ok-north.ensures.grows) quadrants.sw)
-
-pub centre-requires : goal.centre-requires
-centre-requires c = (c.requires.0, IsNumber-grows c.args.table.now c.amid.new.table _ _ (c.in_ok-north.ensures.grows ⟫ c.in_ok-west.ensures.grows) c.requires.1)
-
-pub amid-requires-2-clause-north : goal.amid-requires-2-clause-north
-amid-requires-2-clause-north c =
-    let quadrants = quadrant_numbers _ (suc c.requires.0) _ _ c.quadrants.ensures c.requires.1 in
-    (c.requires.0, IsNumber-grows c.args.table.now c.centre.new.table _ _ (c.in_ok-north.ensures.grows ⟫ c.in_ok-west.ensures.grows ⟫ c.in_ok-centre.ensures.grows) quadrants.ne)
-
-pub amid-requires-2-clause-south : goal.amid-requires-2-clause-south
-amid-requires-2-clause-south c =
-    let quadrants = quadrant_numbers _ (suc c.requires.0) _ _ c.quadrants.ensures c.requires.1 in
-    (c.requires.0, IsNumber-grows c.args.table.now c.centre.new.table _ _ (c.in_ok-north.ensures.grows ⟫ c.in_ok-west.ensures.grows ⟫ c.in_ok-centre.ensures.grows) quadrants.se)
-
-pub between-requires-2-clause-west : goal.between-requires-2-clause-west
-between-requires-2-clause-west c =
-    let quadrants = quadrant_numbers _ (suc c.requires.0) _ _ c.quadrants.ensures c.requires.1 in
-    (c.requires.0, IsNumber-grows c.args.table.now c.amid-2.new.table _ _ (c.in_ok-north.ensures.grows ⟫ c.in_ok-west.ensures.grows ⟫ c.in_ok-centre.ensures.grows ⟫ c.in_ok-east.ensures.grows) quadrants.sw)
-
-pub between-requires-2-clause-east : goal.between-requires-2-clause-east
-between-requires-2-clause-east c =
-    let quadrants = quadrant_numbers _ (suc c.requires.0) _ _ c.quadrants.ensures c.requires.1 in
-    (c.requires.0, IsNumber-grows c.args.table.now c.amid-2.new.table _ _ (c.in_ok-north.ensures.grows ⟫ c.in_ok-west.ensures.grows ⟫ c.in_ok-centre.ensures.grows ⟫ c.in_ok-east.ensures.grows) quadrants.se)
+pub quadrants-requires-5 : goal.quadrants-requires-5
+quadrants-requires-5 c = (are_there _ _ _ c.quadrants.ensures c.requires).se
 
 pub returns-clause-squares : goal.returns-clause-squares
 returns-clause-squares c = λ k s whole.
+    let t = c.args.table.now in
+    let ks = c.quadrants.ensures in
+    let ws = c.quadrants-2.ensures in
+    let xs = c.quadrants-3.ensures in
+    let ys = c.quadrants-4.ensures in
+    let zs = c.quadrants-5.ensures in
     let north = c.in_ok-north.ensures in
     let west = c.in_ok-west.ensures in
     let centre = c.in_ok-centre.ensures in
@@ -62,46 +36,65 @@ returns-clause-squares c = λ k s whole.
     let two = north.grows ⟫ west.grows in
     let three = two ⟫ centre.grows in
     let four = three ⟫ east.grows in
-    StandForAll-nine_of c.args.table.now k c.args.number _ _ _ _ _ c.between.new.table c.amid.new.table c.centre.new.table c.amid-2.new.table c.between-2.new.table c.quadrants.result s whole c.quadrants.ensures
-    (four ⟫ south.grows) (west.grows ⟫ centre.grows ⟫ east.grows ⟫ south.grows) (centre.grows ⟫ east.grows ⟫ south.grows) (east.grows ⟫ south.grows) south.grows
-    (λ a b first second. north.square k a b first second)
-    (λ a b first second. west.square k a b (StandsFor-grows _ _ _ _ a north.grows first) (StandsFor-grows _ _ _ _ b north.grows second))
-    (centre.square k s (StandsFor-grows _ _ _ _ s two whole))
-    (λ a b first second. east.square k a b (StandsFor-grows _ _ _ _ a three first) (StandsFor-grows _ _ _ _ b three second))
-    (λ a b first second. south.square k a b (StandsFor-grows _ _ _ _ a four first) (StandsFor-grows _ _ _ _ b four second))
+    let five = four ⟫ south.grows in
+    let more = east.grows ⟫ south.grows in
+    StandForAll-nine_of t k c.args.number _ _ _ _ _ c.join_guessed.new.self c.join_guessed-2.new.self c.join_guessed-3.new.self
+    c.join_guessed-4.new.self c.join_guessed-5.new.self c.quadrants.result s whole ks five
+    (west.grows ⟫ centre.grows ⟫ more) (centre.grows ⟫ more) more south.grows
+    (λ a b. StandsFor-between t _ k _ _ _ _ _ a b ws xs north.grows north.square)
+    (λ a b. StandsFor-amid t _ k _ _ _ _ _ a b ws ys two west.square)
+    (StandsFor-middle t _ k c.args.number _ _ _ _ _ _ s ks ws xs ys zs three centre.square whole)
+    (λ a b. StandsFor-amid t _ k _ _ _ _ _ a b xs zs four east.square)
+    (λ a b. StandsFor-between t _ k _ _ _ _ _ a b ys zs five south.square)
 
 pub returns-in_err-north-clause-adds : goal.returns-in_err-north-clause-adds
 returns-in_err-north-clause-adds c = λ k s whole.
-    Adds-nine c.args.table.now c.between.new.table c.between.new.table c.between.new.table c.between.new.table c.between.new.table k c.args.number c.quadrants.result s whole c.quadrants.ensures
-    c.between.ensures.grows (Grows-same c.between.new.table) (Grows-same c.between.new.table) (Grows-same c.between.new.table) (Grows-same c.between.new.table)
-    c.between.ensures.adds (AddsOfTwo-none amid c.between.new.table _ _) (AddsOf-none (λ q. middle q ∷ []) c.between.new.table c.args.number) (AddsOfTwo-none amid c.between.new.table _ _) (AddsOfTwo-none between c.between.new.table _ _)
+    Adds-nine c.args.table.now c.join_guessed.new.self c.join_guessed.new.self c.join_guessed.new.self c.join_guessed.new.self c.join_guessed.new.self
+    k c.args.number _ _ _ _ _ s whole c.quadrants.ensures c.quadrants-2.ensures c.quadrants-3.ensures
+    c.quadrants-4.ensures c.quadrants-5.ensures c.join_guessed.ensures.grows c.join_guessed.ensures.one
+    (Grows-same c.join_guessed.new.self) (inl refl) (Grows-same c.join_guessed.new.self) (inl refl)
+    (Grows-same c.join_guessed.new.self) (inl refl) (Grows-same c.join_guessed.new.self) (inl refl)
 
 pub returns-in_err-west-clause-adds : goal.returns-in_err-west-clause-adds
 returns-in_err-west-clause-adds c = λ k s whole.
-    Adds-nine c.args.table.now c.between.new.table c.amid.new.table c.amid.new.table c.amid.new.table c.amid.new.table k c.args.number c.quadrants.result s whole c.quadrants.ensures
-    c.between.ensures.grows c.amid.ensures.grows (Grows-same c.amid.new.table) (Grows-same c.amid.new.table) (Grows-same c.amid.new.table)
-    c.between.ensures.adds c.amid.ensures.adds (AddsOf-none (λ q. middle q ∷ []) c.amid.new.table c.args.number) (AddsOfTwo-none amid c.amid.new.table _ _) (AddsOfTwo-none between c.amid.new.table _ _)
+    Adds-nine c.args.table.now c.join_guessed.new.self c.join_guessed-2.new.self c.join_guessed-2.new.self c.join_guessed-2.new.self c.join_guessed-2.new.self
+    k c.args.number _ _ _ _ _ s whole c.quadrants.ensures c.quadrants-2.ensures c.quadrants-3.ensures
+    c.quadrants-4.ensures c.quadrants-5.ensures c.join_guessed.ensures.grows c.join_guessed.ensures.one
+    c.join_guessed-2.ensures.grows c.join_guessed-2.ensures.one (Grows-same c.join_guessed-2.new.self) (inl refl)
+    (Grows-same c.join_guessed-2.new.self) (inl refl) (Grows-same c.join_guessed-2.new.self) (inl refl)
 
 pub returns-in_err-centre-clause-adds : goal.returns-in_err-centre-clause-adds
 returns-in_err-centre-clause-adds c = λ k s whole.
-    Adds-nine c.args.table.now c.between.new.table c.amid.new.table c.centre.new.table c.centre.new.table c.centre.new.table k c.args.number c.quadrants.result s whole c.quadrants.ensures
-    c.between.ensures.grows c.amid.ensures.grows c.centre.ensures.grows (Grows-same c.centre.new.table) (Grows-same c.centre.new.table)
-    c.between.ensures.adds c.amid.ensures.adds c.centre.ensures.adds (AddsOfTwo-none amid c.centre.new.table _ _) (AddsOfTwo-none between c.centre.new.table _ _)
+    Adds-nine c.args.table.now c.join_guessed.new.self c.join_guessed-2.new.self c.join_guessed-3.new.self c.join_guessed-3.new.self c.join_guessed-3.new.self
+    k c.args.number _ _ _ _ _ s whole c.quadrants.ensures c.quadrants-2.ensures c.quadrants-3.ensures
+    c.quadrants-4.ensures c.quadrants-5.ensures c.join_guessed.ensures.grows c.join_guessed.ensures.one
+    c.join_guessed-2.ensures.grows c.join_guessed-2.ensures.one c.join_guessed-3.ensures.grows c.join_guessed-3.ensures.one
+    (Grows-same c.join_guessed-3.new.self) (inl refl) (Grows-same c.join_guessed-3.new.self) (inl refl)
 
 pub returns-in_err-east-clause-adds : goal.returns-in_err-east-clause-adds
 returns-in_err-east-clause-adds c = λ k s whole.
-    Adds-nine c.args.table.now c.between.new.table c.amid.new.table c.centre.new.table c.amid-2.new.table c.amid-2.new.table k c.args.number c.quadrants.result s whole c.quadrants.ensures
-    c.between.ensures.grows c.amid.ensures.grows c.centre.ensures.grows c.amid-2.ensures.grows (Grows-same c.amid-2.new.table)
-    c.between.ensures.adds c.amid.ensures.adds c.centre.ensures.adds c.amid-2.ensures.adds (AddsOfTwo-none between c.amid-2.new.table _ _)
+    Adds-nine c.args.table.now c.join_guessed.new.self c.join_guessed-2.new.self c.join_guessed-3.new.self c.join_guessed-4.new.self c.join_guessed-4.new.self
+    k c.args.number _ _ _ _ _ s whole c.quadrants.ensures c.quadrants-2.ensures c.quadrants-3.ensures
+    c.quadrants-4.ensures c.quadrants-5.ensures c.join_guessed.ensures.grows c.join_guessed.ensures.one
+    c.join_guessed-2.ensures.grows c.join_guessed-2.ensures.one c.join_guessed-3.ensures.grows c.join_guessed-3.ensures.one
+    c.join_guessed-4.ensures.grows c.join_guessed-4.ensures.one (Grows-same c.join_guessed-4.new.self) (inl refl)
 
 pub returns-in_err-south-clause-adds : goal.returns-in_err-south-clause-adds
 returns-in_err-south-clause-adds c = λ k s whole.
-    Adds-nine c.args.table.now c.between.new.table c.amid.new.table c.centre.new.table c.amid-2.new.table c.between-2.new.table k c.args.number c.quadrants.result s whole c.quadrants.ensures
-    c.between.ensures.grows c.amid.ensures.grows c.centre.ensures.grows c.amid-2.ensures.grows c.between-2.ensures.grows
-    c.between.ensures.adds c.amid.ensures.adds c.centre.ensures.adds c.amid-2.ensures.adds c.between-2.ensures.adds
+    Adds-nine c.args.table.now c.join_guessed.new.self c.join_guessed-2.new.self c.join_guessed-3.new.self c.join_guessed-4.new.self c.join_guessed-5.new.self
+    k c.args.number _ _ _ _ _ s whole c.quadrants.ensures c.quadrants-2.ensures c.quadrants-3.ensures
+    c.quadrants-4.ensures c.quadrants-5.ensures c.join_guessed.ensures.grows c.join_guessed.ensures.one
+    c.join_guessed-2.ensures.grows c.join_guessed-2.ensures.one c.join_guessed-3.ensures.grows c.join_guessed-3.ensures.one
+    c.join_guessed-4.ensures.grows c.join_guessed-4.ensures.one c.join_guessed-5.ensures.grows c.join_guessed-5.ensures.one
 
 pub returns-clause-adds : goal.returns-clause-adds
 returns-clause-adds c = λ k s whole.
-    Adds-nine c.args.table.now c.between.new.table c.amid.new.table c.centre.new.table c.amid-2.new.table c.between-2.new.table k c.args.number c.quadrants.result s whole c.quadrants.ensures
-    c.between.ensures.grows c.amid.ensures.grows c.centre.ensures.grows c.amid-2.ensures.grows c.between-2.ensures.grows
-    c.between.ensures.adds c.amid.ensures.adds c.centre.ensures.adds c.amid-2.ensures.adds c.between-2.ensures.adds
+    Adds-nine c.args.table.now c.join_guessed.new.self c.join_guessed-2.new.self c.join_guessed-3.new.self c.join_guessed-4.new.self c.join_guessed-5.new.self
+    k c.args.number _ _ _ _ _ s whole c.quadrants.ensures c.quadrants-2.ensures c.quadrants-3.ensures
+    c.quadrants-4.ensures c.quadrants-5.ensures c.join_guessed.ensures.grows c.join_guessed.ensures.one
+    c.join_guessed-2.ensures.grows c.join_guessed-2.ensures.one c.join_guessed-3.ensures.grows c.join_guessed-3.ensures.one
+    c.join_guessed-4.ensures.grows c.join_guessed-4.ensures.one c.join_guessed-5.ensures.grows c.join_guessed-5.ensures.one
+
+pub returns-clause-grows : goal.returns-clause-grows
+returns-clause-grows c =
+    c.in_ok-north.ensures.grows ⟫ c.in_ok-west.ensures.grows ⟫ c.in_ok-centre.ensures.grows ⟫ c.in_ok-east.ensures.grows ⟫ c.in_ok-south.ensures.grows

@@ -2,7 +2,7 @@ use Rattle.std.proofs.Common.{suc}
 use Rattle.std.proofs.lemmas.Result.{IfOk-weaker}
 use Rattle.hash_engine.proofs.Standing.{is_there, are_there, StandsFor-middle}
 use Rattle.hash_engine.proofs.Adding.{Adds-made}
-use Rattle.hash_engine.proofs.parts.centre.Goals as goal
+use Rattle.hash_engine.proofs.parts.middle.Goals as goal
 
 pub quadrants-requires : goal.quadrants-requires
 quadrants-requires c = is_there _ (suc c.requires.0) _ c.requires.1
@@ -21,13 +21,13 @@ quadrants-requires-5 c = (are_there _ _ _ c.quadrants.ensures c.requires).se
 
 pub returns-clause-square : goal.returns-clause-square
 returns-clause-square c =
-    IfOk-weaker c.join_guessed.result _ _
+    IfOk-weaker c.join_numbers.result _ _
     (λ n is k s whole. StandsFor-middle _ _ k c.args.number n _ _ _ _ _ s
-    c.quadrants.ensures c.quadrants-2.ensures c.quadrants-3.ensures c.quadrants-4.ensures c.quadrants-5.ensures c.join_guessed.ensures.grows is whole)
-    c.join_guessed.ensures.square
+    c.quadrants.ensures c.quadrants-2.ensures c.quadrants-3.ensures c.quadrants-4.ensures c.quadrants-5.ensures c.join_numbers.ensures.grows is whole)
+    c.join_numbers.ensures.square
 
 pub returns-clause-adds : goal.returns-clause-adds
 returns-clause-adds c = λ k s whole.
-    Adds-made c.args.table.now c.join_guessed.new.self _ k _ c.join_guessed.ensures.grows c.join_guessed.ensures.one
+    Adds-made c.args.table.now c.join_numbers.new.self _ k _ c.join_numbers.ensures.grows c.join_numbers.ensures.one
     (λ n is. StandsFor-middle _ _ k c.args.number n _ _ _ _ _ s
-    c.quadrants.ensures c.quadrants-2.ensures c.quadrants-3.ensures c.quadrants-4.ensures c.quadrants-5.ensures c.join_guessed.ensures.grows is whole)
+    c.quadrants.ensures c.quadrants-2.ensures c.quadrants-3.ensures c.quadrants-4.ensures c.quadrants-5.ensures c.join_numbers.ensures.grows is whole)
