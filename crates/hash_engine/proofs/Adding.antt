@@ -46,7 +46,7 @@ Adds-nine t u1 u2 u3 u4 u5 k m ks ws xs ys zs s whole is_k is_w is_x is_y is_z g
     let g14 = Grows-then t u3 u4 g13 g4 in
     let g15 = Grows-then t u4 u5 g14 g5 in
     let of : nine_of s ≡ v.a ∷ between v.a v.b ∷ v.b ∷ amid v.a v.c ∷ middle (four v.a v.b v.c v.d) ∷ amid v.b v.d ∷ v.c
-        ∷ between v.c v.d ∷ v.d ∷ [] = ap nine_of v.is in
+    ∷ between v.c v.d ∷ v.d ∷ [] = ap nine_of v.is in
     record {
       grows = g15;
       among = λ all made are.
