@@ -5,6 +5,7 @@ import itertools
 import math
 from collections import Counter
 from dataclasses import dataclass, field
+from functools import cached_property
 from typing import Dict, Iterator, List, Optional, Sequence, Tuple, Union
 
 from refusals import Fault, Refused
@@ -61,6 +62,11 @@ class Transition:
     def sets(self, assignment: Assignment) -> Tuple[States, ...]:
         return tuple([_admitted(entry, assignment) for entry in self.inputs])
 
+    @cached_property
+    def whole_sets(self) -> Tuple[States, ...]:
+        """The sets where nothing is assigned."""
+        return self.sets({})
+
     def given(self, assignment: Assignment) -> int:
         """The result; one that is a variable stands among the inputs too, and so is assigned."""
         return assignment[self.result] if isinstance(self.result, Variable) else self.result
@@ -80,7 +86,7 @@ class Table:
         for transition in self.transitions:
             # An assignment leaves fewer states to admit, so none is tried where the whole sets don't match. A bound
             # variable stands among the inputs, so that it can only have the value of one of them.
-            if self._matches(transition.sets({}), inputs):
+            if self._matches(transition.whole_sets, inputs):
                 for assignment in transition.assignments(frozenset(inputs)):
                     if self._matches(transition.sets(assignment), inputs):
                         return transition.given(assignment)

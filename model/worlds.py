@@ -6,13 +6,16 @@ from typing import Dict, Iterable, NamedTuple, Protocol, Tuple
 # The states of the live cells by their places. A cell that isn't among them has the state 0.
 World = Dict[Tuple[int, int], int]
 
-# The states of a cell and those around it: the cell itself, N, NE, E, SE, S, SW, W, NW.
-Around = Tuple[int, ...]
+# The states of a cell and those around it, a byte each: the cell itself, N, NE, E, SE, S, SW, W, NW.
+Around = bytes
 
 # Where these lie, seen from the cell. N is above it, which is y - 1.
 OFFSETS = ((0, 0), (0, -1), (1, -1), (1, 0), (1, 1), (0, 1), (-1, 1), (-1, 0), (-1, -1))
 
-NINE_ZEROS: Around = (0,) * 9
+# The same with what a state counts there in a number whose bytes are the nine states.
+WEIGHTS = tuple((right, down, 256**at) for at, (right, down) in enumerate(OFFSETS))
+
+NINE_ZEROS: Around = bytes(9)
 
 
 class BeyondTheModel(Exception):
@@ -47,18 +50,23 @@ def laid(world: World, cells: Iterable[Cell]) -> World:
 
 def stepped(world: World, rule: NextState) -> World:
     """The next generation. A cell with nothing live at or around it stays empty, so it isn't asked for."""
-    at = world.get
-    places = {(x + right, y + down) for x, y in world for right, down in OFFSETS}
     found = {}
-    for place in places:
-        x, y = place
-        west, east, north, south = x - 1, x + 1, y - 1, y + 1
-        # In the order of OFFSETS, written out, since most of the model's time goes by here.
-        around = (
-            at(place, 0), at((x, north), 0), at((east, north), 0), at((east, y), 0), at((east, south), 0),
-            at((x, south), 0), at((west, south), 0), at((west, y), 0), at((west, north), 0),
-        )  # fmt: skip
-        state = rule.next_state(around)
+    for place, states in _seen_from(world).items():
+        state = rule.next_state(states.to_bytes(len(OFFSETS), "little"))
         if state:
             found[place] = state
     return found
+
+
+def _seen_from(world: World) -> Dict[Tuple[int, int], int]:
+    """What each place with a live cell at or around it sees: the bytes of these, as one number.
+
+    It goes by the live cells, of which there are fewer than such places: most of the model's time goes by here.
+    """
+    seen: Dict[Tuple[int, int], int] = {}
+    at = seen.get
+    for (x, y), state in world.items():
+        for right, down, weight in WEIGHTS:
+            place = x - right, y - down
+            seen[place] = at(place, 0) + state * weight
+    return seen
