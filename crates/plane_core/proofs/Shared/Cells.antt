@@ -1,10 +1,11 @@
 -- The cells of squares: where a square is put on a world, and that squares with the same cells are equal.
-use Rattle.std.proofs.Common.{◌≡◌, ℕ, zero, suc, ◌+◌, ◌-◌, ◌<◌, ◌≤◌, ◌^◌, ◌⊎◌, refl, sym, ap, ap₂, ◌∙◌, arith, inl, inr, pow-suc, ℤ, pos, ◌+ℤ◌, ◌-ℤ◌, ◌≤ℤ◌}
-use Rattle.std.specs.Prelude.{unsigned_abs}
+use Rattle.std.proofs.Common.{◌≡◌, ℕ, zero, suc, ◌+◌, ◌-◌, ◌<◌, ◌≤◌, ◌^◌, ◌⊎◌, Bool, true, false, cond, refl, sym, ap, ap₂, ◌∙◌, arith, inl, inr, pow-suc, ℤ, pos, ◌+ℤ◌, ◌-ℤ◌, ◌≤ℤ◌}
+use Rattle.std.specs.Prelude.{nat_le, unsigned_abs}
 use Rattle.std.proofs.lemmas.Bool.{cases_lt, cond-true, cond-false, lt-leb, le-leb, false_from_ne_true}
 use Rattle.std.proofs.lemmas.Int.{ints, by_lt_z}
-use Rattle.worlds.specs.World.{World, Place, cell, put, cell-put, same_place, same_world}
+use Rattle.worlds.specs.World.{World, Place, blank, cell, cell-blank, put, cell-put, same_place, same_world}
 use Rattle.worlds.specs.Fill.{same_is, is_same}
+use Rattle.worlds.specs.Range.{AllBelow}
 use Rattle.worlds.specs.Square.{Square, one, four, empty_square, IsSquare, cell_in, put_square, square_at, IsIn}
 use Rattle.plane_core.specs.Laid.{IsClear}
 
@@ -69,22 +70,32 @@ unfolding empty_square IsSquare
 IsSquare-empty zero = omega arith
 IsSquare-empty (suc k) = let e = IsSquare-empty k in (e, e, e, e)
 
+-- what holds of the cell in each quadrant holds of the one that two tests choose
+in_all : (P : ℕ → Type 0) (b c : Bool) (p q r s : ℕ) → P p → P q → P r → P s →
+    P (cond b (cond c p q) (cond c r s))
+in_all P true true p q r s hp hq hr hs = hp
+in_all P true false p q r s hp hq hr hs = hq
+in_all P false true p q r s hp hq hr hs = hr
+in_all P false false p q r s hp hq hr hs = hs
+
 -- no cell of an empty square is live
 pub cell_in-empty : (k i j : ℕ) → cell_in k (empty_square k) i j ≡ 0
-unfolding empty_square
-cell_in-empty zero i j = cell_in-one 0 0 i j
+unfolding empty_square cell_in
+cell_in-empty zero i j = refl
 cell_in-empty (suc k) i j =
-    let e = empty_square k in
-    elim (cases_lt i (2 ^ k)) [
-      | inl x ↦ elim (cases_lt j (2 ^ k)) [
-        | inl y ↦ cell_in-nw k e e e e i j x y ∙ cell_in-empty k i j
-        | inr y ↦ cell_in-sw k e e e e i j x y ∙ cell_in-empty k i (j - 2 ^ k)
-      ]
-      | inr x ↦ elim (cases_lt j (2 ^ k)) [
-        | inl y ↦ cell_in-ne k e e e e i j x y ∙ cell_in-empty k (i - 2 ^ k) j
-        | inr y ↦ cell_in-se k e e e e i j x y ∙ cell_in-empty k (i - 2 ^ k) (j - 2 ^ k)
-      ]
-    ]
+    let e = cell_in-empty k in
+    in_all (λ n. n ≡ 0) (nat_le (2 ^ k) j) (nat_le (2 ^ k) i) _ _ _ _ (e _ _) (e _ _) (e _ _) (e _ _)
+
+-- the cells of a square are states
+cell_in-below : (k : ℕ) (t : Square) (i j : ℕ) → IsSquare k t → cell_in k t i j < 256
+unfolding IsSquare cell_in
+cell_in-below zero (one s) i j is = is
+cell_in-below zero (four a b c d) i j is = absurd is
+cell_in-below (suc k) (one s) i j is = absurd is
+cell_in-below (suc k) (four a b c d) i j is =
+    let at = λ (t : Square) (h : IsSquare k t) (i j : ℕ). cell_in-below k t i j h in
+    in_all (λ n. n < 256) (nat_le (2 ^ k) j) (nat_le (2 ^ k) i) _ _ _ _
+    (at d is.3 _ _) (at c is.2 _ _) (at b is.1 _ _) (at a is.0 _ _)
 
 -- two squares have the same cells
 abbrev pub SameCells : ℕ → Square → Square → Type 0
@@ -275,3 +286,31 @@ square_at-cells w (suc k) x y i j hi hj =
         | inr below ↦ cell_in-se k nw ne sw se i j far below ∙ square_at-cells w k (x +ℤ pos h) (y +ℤ pos h) (i - 2 ^ k) (j - 2 ^ k) (omega arith) (omega arith) ∙ ap₂ (cell w) (behind x h i far) (behind y h j below)
       ]
     ]
+
+-- the square of a world of states is a square
+pub square_at-IsSquare : (w : World) (k : ℕ) (x y : ℤ) → AllBelow 256 w → IsSquare k (square_at w k x y)
+unfolding square_at
+square_at-IsSquare w zero x y small = IsSquare-one (cell w x y) (small x y)
+square_at-IsSquare w (suc k) x y small =
+    let part = λ (x y : ℤ). square_at-IsSquare w k x y small in
+    IsSquare-parts k _ _ _ _ (part _ _) (part _ _) (part _ _) (part _ _)
+
+-- the states of the world of one square
+pub put_square-below : (k : ℕ) (s : Square) (l t : ℤ) → IsSquare k s → AllBelow 256 (put_square k s l t blank)
+put_square-below k s l t is x y =
+    elim (in_or_out (2 ^ k) l t x y) [
+      | inl h ↦
+          let at = offsets (2 ^ k) l t x y h in
+          let e = put_square-inside k s l t blank x y at.i at.j is at.ex at.ey at.hi at.hj in
+          omega (arith, e, cell_in-below k s at.i at.j is)
+      | inr out ↦ omega (arith, put_square-outside k s l t blank x y is out, cell-blank x y)
+    ]
+
+-- squares that stand for one world are one
+pub same_put : (k : ℕ) (s r : Square) (l t : ℤ) → IsSquare k s → IsSquare k r →
+    put_square k s l t blank ≡ put_square k r l t blank → s ≡ r
+same_put k s r l t is ir same =
+    let at = λ (u : Square) (iu : IsSquare k u) (i j : ℕ) (hi : i < 2 ^ k) (hj : j < 2 ^ k).
+    put_square-inside k u l t blank (l +ℤ pos i) (t +ℤ pos j) i j iu refl refl hi hj in
+    same_square k s r is ir (λ i j hi hj.
+    sym (at s is i j hi hj) ∙ ap (λ w. cell w (l +ℤ pos i) (t +ℤ pos j)) same ∙ at r ir i j hi hj)

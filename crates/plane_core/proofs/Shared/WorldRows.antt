@@ -1,70 +1,36 @@
 -- A world's rows, by its cells.
-use Rattle.std.proofs.Common.{◌≡◌, ◌∙◌, sym, ap, ap₂, refl, subst, ℕ, zero, suc, ◌+◌, ◌-◌, ◌<◌, ◌≤◌, ◌^◌, ◌&&◌, Bool, true, false, List, [], ◌∷◌, length, get_or, arith, inl, inr, ℤ, pos, ◌+ℤ◌, ◌≤ℤ◌, ◌<ℤ◌}
+use Rattle.std.proofs.Common.{◌≡◌, ◌∙◌, sym, ap, refl, subst, ℕ, suc, ◌+◌, ◌-◌, ◌<◌, ◌≤◌, ◌^◌, ◌&&◌, Bool, true, false, List, [], ◌∷◌, length, get_or, arith, inl, inr, ℤ, pos, ◌+ℤ◌, ◌≤ℤ◌, ◌<ℤ◌}
 use Rattle.std.specs.Prelude.{int_le, int_lt}
 use Rattle.std.specs.List.{AllByRecursion, list_all, position_or_len, range_with_len}
 use Rattle.std.proofs.lemmas.Bool.{and_from, and_parts, cases_lt}
 use Rattle.std.proofs.lemmas.Int.{ints}
 use Rattle.std.proofs.lemmas.List.FromFn.{get_or-range_with_len, length-range_with_len}
 use Rattle.std.proofs.lemmas.List.Sums.{fails_before_first, passes_at_first, position_or_len_is}
-use Rattle.worlds.specs.World.{Place, World, blank, cell, cell-blank, same_world}
+use Rattle.worlds.specs.World.{Place, World, blank, cell}
 use Rattle.worlds.specs.Range.{AllBelow, HasMargin}
 use Rattle.worlds.specs.Live.{by_place, cell-state_at, live, live-states}
 use Rattle.plane_core.specs.declared.row.SquareRow.{SquareRow}
-use Rattle.worlds.specs.Square.{Square, IsIn, IsSquare, cell_in, four, one, put_square, square_at}
+use Rattle.worlds.specs.Square.{Square, IsIn, IsSquare, square_at}
 use Rattle.plane_core.specs.Rows.{AreKept, AreRows, AreSquaresOf, Fits, IsLeastLevel, completed, edge_of, root_level, root_of, world_of_rows, written}
-use Rattle.plane_core.proofs.Shared.Cells.{IsSquare-one, IsSquare-parts, cell_in-ne, cell_in-nw, cell_in-one, cell_in-se, cell_in-sw, double, in_or_out, offsets}
-use Rattle.plane_core.proofs.Shared.Cells.{put_square-inside, put_square-outside, same_square, square_at-cells, square_at-suc, square_at-zero}
-use Rattle.plane_core.proofs.Shared.Roots.{kept-none, root-IsSquare, rooted, world-inside, world-none, world-outside}
+use Rattle.plane_core.proofs.Shared.Cells.{put_square-below, same_put, square_at-IsSquare}
+use Rattle.plane_core.proofs.Shared.Centring.{root-world}
+use Rattle.plane_core.proofs.Shared.Roots.{kept-none, root-Fits, root-IsSquare, rooted, world-none, world-root}
 use Rattle.plane_core.specs.Laws.{EmptyWorldHasOneRow, WorldsHaveRows}
 use Rattle.plane_core.specs.WorldRows.{holds_all, is_within, least_level, rows_of}
 use Rattle.plane_core.proofs.Shared.Tidy.{IsListed, listed}
 use Rattle.plane_core.proofs.Written.{squares-written}
 
--- the square of a world of states is a square
-pub square_at-IsSquare : (w : World) (k : ℕ) (x y : ℤ) → ((a b : ℤ) → cell w a b < 256) → IsSquare k (square_at w k x y)
-square_at-IsSquare w zero x y small = subst (IsSquare 0) (sym (square_at-zero w x y)) (IsSquare-one (cell w x y) (small x y))
-square_at-IsSquare w (suc k) x y small =
-    subst (IsSquare (suc k)) (sym (square_at-suc w k x y))
-    (IsSquare-parts k _ _ _ _ (square_at-IsSquare w k x y small) (square_at-IsSquare w k (x +ℤ pos (2 ^ k)) y small) (square_at-IsSquare w k x (y +ℤ pos (2 ^ k)) small) (square_at-IsSquare w k (x +ℤ pos (2 ^ k)) (y +ℤ pos (2 ^ k)) small))
-
--- the cells of a square are states
-cell_in-below : (k : ℕ) (t : Square) (i j : ℕ) → IsSquare k t → i < 2 ^ k → j < 2 ^ k → cell_in k t i j < 256
-unfolding IsSquare
-cell_in-below zero (one s) i j is hi hj = subst (λ n. n < 256) (sym (cell_in-one 0 s i j)) is
-cell_in-below zero (four a b c d) i j is hi hj = absurd is
-cell_in-below (suc k) (one s) i j is hi hj = absurd is
-cell_in-below (suc k) (four a b c d) i j is hi hj =
-    let twice = double k in
-    elim (cases_lt i (2 ^ k)) [
-      | inl near ↦ elim (cases_lt j (2 ^ k)) [
-        | inl above ↦ subst (λ n. n < 256) (sym (cell_in-nw k a b c d i j near above)) (cell_in-below k a i j is.0 near above)
-        | inr below ↦ subst (λ n. n < 256) (sym (cell_in-sw k a b c d i j near below)) (cell_in-below k c i (j - 2 ^ k) is.2 near (omega arith))
-      ]
-      | inr far ↦ elim (cases_lt j (2 ^ k)) [
-        | inl above ↦ subst (λ n. n < 256) (sym (cell_in-ne k a b c d i j far above)) (cell_in-below k b (i - 2 ^ k) j is.1 (omega arith) above)
-        | inr below ↦ subst (λ n. n < 256) (sym (cell_in-se k a b c d i j far below)) (cell_in-below k d (i - 2 ^ k) (j - 2 ^ k) is.3 (omega arith) (omega arith))
-      ]
-    ]
-
--- the states of a world of rows
-world-below : (rows : List SquareRow) → AreRows rows → (x y : ℤ) → cell (world_of_rows rows) x y < 256
-world-below rows valid x y =
-    let k = root_level rows in
-    let edge = edge_of k in
-    elim (in_or_out (2 ^ k) edge edge x y) [
-      | inl h ↦
-          let at = offsets (2 ^ k) edge edge x y h in
-          subst (λ n. n < 256) (sym (world-inside rows x y at.i at.j valid at.ex at.ey at.hi at.hj)) (cell_in-below k (root_of rows) at.i at.j (root-IsSquare rows valid) at.hi at.hj)
-      | inr out ↦ omega (arith, world-outside rows x y valid out)
-    ]
-
 -- the root of rows is the square of their world
-pub root-square_at : (rows : List SquareRow) → AreRows rows → square_at (world_of_rows rows) (root_level rows) (edge_of (root_level rows)) (edge_of (root_level rows)) ≡ root_of rows
+pub root-square_at : (rows : List SquareRow) → AreRows rows →
+    square_at (world_of_rows rows) (root_level rows) (edge_of (root_level rows)) (edge_of (root_level rows))
+    ≡ root_of rows
 root-square_at rows valid =
     let k = root_level rows in
-    let edge = edge_of k in
-    same_square k (square_at (world_of_rows rows) k edge edge) (root_of rows) (square_at-IsSquare (world_of_rows rows) k edge edge (world-below rows valid)) (root-IsSquare rows valid)
-    (λ i j hi hj. square_at-cells (world_of_rows rows) k edge edge i j hi hj ∙ world-inside rows (edge +ℤ pos i) (edge +ℤ pos j) i j valid refl refl hi hj)
+    let w = world_of_rows rows in
+    let is = root-IsSquare rows valid in
+    let small : AllBelow 256 w = subst (AllBelow 256) (sym (world-root rows)) (put_square-below k _ _ _ is) in
+    same_put k _ (root_of rows) (edge_of k) (edge_of k) (square_at-IsSquare w k _ _ small) is
+    (root-world w k (root-Fits rows valid) small ∙ world-root rows)
 
 -- what the test of a coordinate says
 within-left : (k : ℕ) (z : ℤ) → is_within k z ≡ true → edge_of k ≤ℤ z
@@ -204,25 +170,6 @@ least_level-good w margin =
       low = omega (arith, is);
       high = omega (arith, is, within);
     }
-
--- the square of a world in a root that holds it stands for the world
-root-world : (w : World) (k : ℕ) → Fits k w → AllBelow 256 w → put_square k (square_at w k (edge_of k) (edge_of k)) (edge_of k) (edge_of k) blank ≡ w
-root-world w k fits small =
-    let edge = edge_of k in
-    let t = square_at w k edge edge in
-    let is : IsSquare k t = square_at-IsSquare w k edge edge small in
-    same_world _ w (λ x y.
-    elim (in_or_out (2 ^ k) edge edge x y) [
-      | inl h ↦
-          let at = offsets (2 ^ k) edge edge x y h in
-          put_square-inside k t edge edge blank x y at.i at.j is at.ex at.ey at.hi at.hj
-          ∙ square_at-cells w k edge edge at.i at.j at.hi at.hj
-          ∙ ap₂ (cell w) (sym at.ex) (sym at.ey)
-      | inr out ↦
-          let dead : 0 < cell w x y → ⊥ = λ alive. out (fits x y alive) in
-          let none : cell w x y ≡ 0 = omega (arith, dead) in
-          put_square-outside k t edge edge blank x y is out ∙ cell-blank x y ∙ sym none
-    ])
 
 squares-by : (w : World) (k : ℕ) (rows : List SquareRow) → IsLeastLevel k w → IsListed k (square_at w k (edge_of k) (edge_of k)) rows → AllBelow 256 w → AreSquaresOf w (written rows)
 squares-by w k rows least own small =

@@ -1,9 +1,8 @@
-use Rattle.std.proofs.Common.{List, [], ◌∷◌, get_or, subst, arith, lit<}
+use Rattle.std.proofs.Common.{[], ◌∷◌, get_or, arith, lit<}
 use Rattle.std.proofs.lemmas.Result.{IfOk-weaker}
 use Rattle.worlds.specs.World.{World}
 use Rattle.worlds.specs.Lay.{lay}
-use Rattle.plane_core.specs.declared.row.SquareRow.{SquareRow}
-use Rattle.plane_core.specs.Part.{IsPart, Shows}
+use Rattle.plane_core.specs.Part.{Shows}
 use Rattle.plane_core.specs.Laid.{quadrant_of}
 use Rattle.plane_core.proofs.Shared.Adding.{Keeps-none, Keeps-then}
 use Rattle.plane_core.proofs.Laying.{each_of_four, goes_on, laid-four, laid-quadrant}
