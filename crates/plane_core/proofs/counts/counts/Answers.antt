@@ -1,10 +1,9 @@
-use Rattle.std.proofs.Common.{◌≡◌, ◌<◌, length, replicate, refl, sym, ap, subst, arith}
-use Rattle.std.proofs.lemmas.List.{length_push}
+use Rattle.std.proofs.Common.{◌≡◌, length, replicate, refl, sym, subst, arith}
 use Rattle.plane_core.specs.declared.counts.Tally.{Tally}
 use Rattle.plane_core.specs.Rows.{IsNumber, square_in, root_of}
 use Rattle.plane_core.specs.Counts.{Gains, HasRoom}
 use Rattle.plane_core.proofs.Shared.Roots.{rooted}
-use Rattle.plane_core.proofs.Counting.{room-root, tallied-root, popped-more, popped-room, tallied-more, tallied-all}
+use Rattle.plane_core.proofs.Counting.{room-root, tallied-root, popped-room, tallied-more, tallied-all}
 use Rattle.plane_core.proofs.counts.counts.Goals as goal
 
 pub add_square-requires-clause-number : goal.add_square-requires-clause-number
@@ -25,22 +24,11 @@ loop-times-init c =
     tallied-root rows empty new c.requires.rows refl (c.in_ok-from_elem.ensures.items_if_clones_equal (λ y h. h))
     (subst (λ k. Gains rows empty new 1 (square_in rows k (length rows))) c.root_level.ensures.level c.add_square.ensures)
 
-pub add_quadrants-requires-clause-more : goal.add_quadrants-requires-clause-more
-add_quadrants-requires-clause-more c =
-    let rows = c.args.rows.now in
-    let popped : Tally = record { counts = c.loop-times.tally.counts; times = c.pop.new.self } in
-    popped-more rows (root_of rows) c.loop-times.tally popped c.in-Some.times c.in-Some.ensures.items c.loop-times.invariant
-
 pub add_quadrants-requires-clause-room : goal.add_quadrants-requires-clause-room
 add_quadrants-requires-clause-room c =
     let rows = c.args.rows.now in
     let popped : Tally = record { counts = c.loop-times.tally.counts; times = c.pop.new.self } in
     popped-room rows (root_of rows) c.loop-times.tally popped c.in-Some.times refl c.in-Some.ensures.items c.loop-times.invariant
-
-pub loop-times-smaller : goal.loop-times-smaller
-loop-times-smaller c =
-    let less : length c.add_quadrants.new.tally.times.items < length c.loop-times.tally.times.items = omega (arith, c.add_quadrants.ensures.left, ap length c.in-Some.ensures.items, length_push c.pop.new.self.items c.in-Some.times) in
-    less
 
 pub loop-times-preserved : goal.loop-times-preserved
 loop-times-preserved c =

@@ -6,27 +6,6 @@ use Rattle.plane_core.specs.Measures.{joined, placed, kid_measures, AreMeasuresA
 use Rattle.plane_core.proofs.Shared.Measuring.{next_measured}
 use Rattle.plane_core.proofs.measures.measures_of_next.Goals as goal
 
-pub joined-upper-requires : goal.joined-upper-requires
-joined-upper-requires c =
-    let ne = ap (λ (m : Measures). m.population) c.placed-ne.ensures in
-    let a = c.measures_of_kid-4.ensures.few in let b = c.measures_of_kid.ensures.few in
-    omega arith
-
-pub joined-most-requires : goal.joined-most-requires
-joined-most-requires c =
-    let ne = ap (λ (m : Measures). m.population) c.placed-ne.ensures in let sw = ap (λ (m : Measures). m.population) c.placed-sw.ensures in
-    let upper = ap (λ (m : Measures). m.population) c.joined-upper.ensures in
-    let a = c.measures_of_kid-4.ensures.few in let b = c.measures_of_kid.ensures.few in let s = c.measures_of_kid-2.ensures.few in
-    omega arith
-
-pub joined-requires : goal.joined-requires
-joined-requires c =
-    let ne = ap (λ (m : Measures). m.population) c.placed-ne.ensures in let sw = ap (λ (m : Measures). m.population) c.placed-sw.ensures in
-    let se = ap (λ (m : Measures). m.population) c.placed-se.ensures in
-    let upper = ap (λ (m : Measures). m.population) c.joined-upper.ensures in let most = ap (λ (m : Measures). m.population) c.joined-most.ensures in
-    let a = c.measures_of_kid-4.ensures.few in let b = c.measures_of_kid.ensures.few in let s = c.measures_of_kid-2.ensures.few in let t = c.measures_of_kid-3.ensures.few in
-    omega arith
-
 pub returns : goal.returns
 returns c =
     let rows = c.args.rows.now in

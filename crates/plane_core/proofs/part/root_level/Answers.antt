@@ -1,10 +1,10 @@
-use Rattle.std.proofs.Common.{◌<◌, ◌≤◌, ◌-◌, subst, lit≤, length, sym, ap, ◌∙◌, inl, inr, arith}
+use Rattle.std.proofs.Common.{◌<◌, ◌-◌, length, sym, ap, ◌∙◌, inl, inr, arith}
 use Rattle.std.proofs.lemmas.Bool.{cases_lt}
 use Rattle.std.proofs.lemmas.List.{nil_from_length}
 use Rattle.std.proofs.lemmas.Option.{slice_get_within, get_or_from_slice_get, slice_get-get_or}
 use Rattle.plane_core.specs.declared.row.SquareRow.{SquareRow}
 use Rattle.plane_core.specs.Rows.{root_level, no_row}
-use Rattle.plane_core.proofs.Shared.Roots.{root_level-some, root_level-none, rooted}
+use Rattle.plane_core.proofs.Shared.Roots.{root_level-some, root_level-none}
 use Rattle.plane_core.proofs.part.root_level.Goals as goal
 
 pub returns-in-Some-clause-level : goal.returns-in-Some-clause-level
@@ -22,12 +22,3 @@ returns-in-None-clause-level c =
       | inl some ↦ let there = slice_get-get_or rows (length rows - 1) no_row (omega arith) in let none = c.in-None.ensures.value in absurd (cc)
       | inr none ↦ sym (ap root_level (nil_from_length rows (omega arith)) ∙ root_level-none)
     ]
-
-pub returns-in-Some-clause-low : goal.returns-in-Some-clause-low
-returns-in-Some-clause-low c = λ valid. subst (λ k. 1 ≤ k) (sym (returns-in-Some-clause-level c)) (rooted c.args.rows.now valid).low
-
-pub returns-in-Some-clause-high : goal.returns-in-Some-clause-high
-returns-in-Some-clause-high c = λ valid. subst (λ k. k ≤ 62) (sym (returns-in-Some-clause-level c)) (rooted c.args.rows.now valid).high
-
-pub returns-in-None-clause-high : goal.returns-in-None-clause-high
-returns-in-None-clause-high c = λ valid. lit≤ tt

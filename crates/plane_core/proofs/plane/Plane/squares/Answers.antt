@@ -14,7 +14,3 @@ pub returns-clause-squares : goal.returns-clause-squares
 returns-clause-squares c =
     IfOk-weaker c.written.result _ _ (λ found is.
     subst (AreSquaresOf c.args.self.now) (sym (is ∙ ap written c.deref.ensures.value)) (squares-written c.self.inside.rows.items c.args.self.now c.self.invariant.0 c.self.view_is)) c.written.ensures
-
-pub returns-clause-few : goal.returns-clause-few
-returns-clause-few c =
-    IfOk-weaker c.written.result _ _ (λ found is. subst (λ (rows : List SquareRow). length rows < 2 ^ 32) (sym (is ∙ ap written c.deref.ensures.value)) (few-written c.self.inside.rows.items c.self.invariant.1)) c.written.ensures
