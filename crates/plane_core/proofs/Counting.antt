@@ -332,10 +332,6 @@ held-popped rows t p n f counts times =
     = ap (λ (xs : List ℕ). sum_to (by xs w) (length xs)) times ∙ sum-push p.times.items w n in
     omega arith
 
--- the last of the rows that are left is taken off
-pub popped-more : (rows : List SquareRow) (root : Square) (t p : Tally) (n : ℕ) → t.times.items ≡ p.times.items ++ n ∷ [] → IsTallied rows root t → length p.times.items < length rows
-popped-more rows root t p n times is = let left = is.left in omega (arith, ap length times, length_push p.times.items n)
-
 pub popped-room : (rows : List SquareRow) (root : Square) (t p : Tally) (n : ℕ) → p.counts ≡ t.counts → t.times.items ≡ p.times.items ++ n ∷ [] → IsTallied rows root t → HasRoom rows p n (row_square rows (length p.times.items))
 popped-room rows root t p n counts times is =
     let e = held-popped rows t p n is_any counts times in

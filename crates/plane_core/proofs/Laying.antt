@@ -5,7 +5,6 @@ use Rattle.std.proofs.lemmas.Bool.{cases_lt, cases_eq, cond-true, cond-false, eq
 use Rattle.std.proofs.lemmas.Int.{ints}
 use Rattle.std.proofs.lemmas.List.{nil_from_length, get_or-set_same, get_or-set_other, length-set}
 use Rattle.std.proofs.lemmas.List.Elements.{All-nil, All-cons, All-append, All-head, All-tail}
-use Rattle.worlds.specs.Range.{CanBeLaid}
 use Rattle.worlds.specs.declared.cell.CellSet.{CellSet}
 use Rattle.worlds.specs.World.{World, Place, cell, cell-put, same_place, same_world}
 use Rattle.worlds.specs.Fill.{same_is, is_same}
@@ -16,7 +15,7 @@ use Rattle.plane_core.specs.declared.part.Part.{Part}
 use Rattle.plane_core.specs.declared.lay.Parts.{Parts}
 use Rattle.plane_core.specs.Rows.{IsNumber, square_in, row_at, root_level, edge_of, world_of_rows}
 use Rattle.plane_core.specs.Part.{Covers, IsPart, IsQuadrant, IsRoot, Shows, east, south, quadrant_at}
-use Rattle.plane_core.specs.Laid.{square_of, AreQuadrants, Keeps, IsAdded, AreThoseIn, AreParted, AreLaidStates, IsCellOf, IsLaid, IsPut, RootHolds, quadrant_of, renumbered}
+use Rattle.plane_core.specs.Laid.{square_of, AreQuadrants, Keeps, IsAdded, AreThoseIn, AreParted, AreLaidStates, IsCellOf, IsLaid, IsPut, quadrant_of, renumbered}
 use Rattle.plane_core.proofs.Shared.Sound.{IsNumber-level}
 use Rattle.plane_core.proofs.Shared.Cells.{in_or_out, offsets}
 use Rattle.plane_core.proofs.Shared.Roots.{root_level-some, world-outside, root-cells, root-side}
@@ -236,18 +235,3 @@ laid-world rows new p n cells root holds laid =
           world-outside new x y laid.keeps.valid (λ h. out (moved _ _ _ _ _ _ x y (ap (λ k. 2 ^ k) level) (ap edge_of level ∙ sym (edge _ root.x)) (ap edge_of level ∙ sym (edge _ root.y)) h))
           ∙ sym (lay-outside p cells w x y out holds ∙ root-outside rows p x y root out)
     ])
-
--- there is one root
-pub root-holds : (rows : List SquareRow) (root : Part) (cells : List CellSet) → IsRoot rows root → All (λ c. Covers root c.x c.y) cells → RootHolds rows cells
-root-holds rows root cells is all p root_p i d h =
-    moved _ _ _ _ _ _ _ _ (ap (λ k. 2 ^ k) (is.level ∙ sym root_p.level)) (is.x ∙ sym root_p.x) (is.y ∙ sym root_p.y) (all i d h)
-
--- a root of the greatest level holds each cell that can be laid
-pub high-holds : (rows : List SquareRow) (cells : List CellSet) → 62 ≤ root_level rows → All CanBeLaid cells → RootHolds rows cells
-high-holds rows cells high can p root i d h =
-    let at = (can i d h).0 in
-    let left = at.left in let right = at.right in let top = at.top in let bottom = at.bottom in
-    let most = root.part.on_plane.level in let level = root.level in
-    let is : 62 ≡ p.level = omega arith in
-    moved _ _ _ _ _ _ _ _ (ap (λ k. 2 ^ k) is) (ap edge_of (is ∙ level) ∙ sym root.x) (ap edge_of (is ∙ level) ∙ sym root.y)
-    (record { left = omega (arith, ints); right = omega (arith, ints); top = omega (arith, ints); bottom = omega (arith, ints) })

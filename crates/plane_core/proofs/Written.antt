@@ -1,5 +1,5 @@
 -- The rows that a plane keeps, and those that are written of it.
-use Rattle.std.proofs.Common.{◌≡◌, ap, refl, sym, subst, ℕ, zero, suc, List, [], ◌∷◌, length, get_or, ◌∙◌, arith}
+use Rattle.std.proofs.Common.{◌≡◌, ap, refl, sym, subst, ℕ, zero, suc, List, [], ◌∷◌, get_or, ◌∙◌, arith}
 use Rattle.worlds.specs.World.{World}
 use Rattle.worlds.specs.Square.{empty_square}
 use Rattle.plane_core.specs.declared.row.SquareRow.{SquareRow}
@@ -46,11 +46,3 @@ canonical-written (row ∷ rows) kept = record { valid = kept.valid; walked = ap
 -- what is written of the rows that a plane keeps are the rows of its world
 pub squares-written : (kept : List SquareRow) (w : World) → AreKept kept → world_of_rows kept ≡ w → AreSquaresOf w (written kept)
 squares-written kept w are is = record { canonical = canonical-written kept are; world = world-written kept ∙ is }
-
-pub written-none : (rows : List SquareRow) → length rows ≡ 0 → written rows ≡ empty_row ∷ []
-written-none [] h = refl
-written-none (row ∷ rows) h = absurd (omega (arith, h))
-
-pub written-some : (rows : List SquareRow) → (length rows ≡ 0 → ⊥) → written rows ≡ rows
-written-some [] h = absurd (h refl)
-written-some (row ∷ rows) h = refl
