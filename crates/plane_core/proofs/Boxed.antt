@@ -77,7 +77,4 @@ gathers-cell b w rows p cells is live box shows =
 
 -- those of the root are those of the world
 pub gathers-world : (b : Bounds) (rows : List SquareRow) (p : Part) (cells : List Cell) → IsRoot rows p → Gathers b (world_of_rows rows) (Covers p) [] cells → AreLiveWithin b (world_of_rows rows) cells
-gathers-world b rows p cells root all = record {
-  each = all.each (All-nil _);
-  once = λ x y box live. all.once x y (root-live rows p x y root live) box live;
-}
+gathers-world b rows p cells root all = grind (arith, All-nil, root-live)

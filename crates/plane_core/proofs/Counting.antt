@@ -113,16 +113,7 @@ tally-some (four nw ne sw se) = let some = tally-some nw in omega arith
 
 -- a square whose number is 0 adds nothing
 pub gains-none : (rows : List SquareRow) (t : Tally) (n k number : ℕ) → number ≡ 0 → length t.counts ≡ 256 → Gains rows t t n (square_in rows k number)
-gains-none rows t n k number e states =
-    let at : square_in rows k number ≡ square_in rows k 0 = ap (square_in rows k) e in
-    let nothing : (f : ℕ → ℕ) → f 0 ≡ 0 → n * tally f (square_in rows k number) ≡ 0 = λ f none. ap (λ a. n * a) (ap (tally f) (at ∙ square_in-none rows k) ∙ tally-empty f k none) ∙ mul-zero n in
-    record {
-      each = λ f none. let z = nothing f none in omega arith;
-      most = omega arith;
-      none = refl;
-      states = states;
-      left = refl;
-    }
+gains-none rows t n k number e states = grind (arith, square_in-none, tally-empty, mul-zero)
 
 -- a cell is counted
 pub gains-state : (rows : List SquareRow) (old new : Tally) (n k s : ℕ) → k ≡ 0 → (s ≡ 0 → ⊥) → IsNumber rows k s → length old.counts ≡ 256 → s < 256
@@ -201,10 +192,7 @@ quadrant rows i k q = square_in rows k (kid (get_or rows i no_row) q)
 
 pub row-tally : (rows : List SquareRow) (i k : ℕ) (f : ℕ → ℕ) (n : ℕ) → suc k ≡ (get_or rows i no_row).level
     → n * tally f (row_square rows i) ≡ n * tally f (quadrant rows i k 0) + n * tally f (quadrant rows i k 1) + n * tally f (quadrant rows i k 2) + n * tally f (quadrant rows i k 3)
-row-tally rows i k f n level =
-    ap (λ j. n * tally f (square_in rows j (suc i))) (sym level)
-    ∙ ap (λ (t : Square). n * tally f t) (square_in-row rows k i)
-    ∙ four-times n (tally f (quadrant rows i k 0)) (tally f (quadrant rows i k 1)) (tally f (quadrant rows i k 2)) (tally f (quadrant rows i k 3))
+row-tally rows i k f n level = grind (arith, square_in-row, four-times)
 
 -- what is known of the i-th row, which is the one behind those that are left
 pub record IsNext (rows : List SquareRow) (t : Tally) (n i : ℕ) : Type 0 where
@@ -243,15 +231,7 @@ first-more : (rows : List SquareRow) (i n : ℕ) (f : ℕ → ℕ) (q : ℕ) →
 first-more rows i n f q = ap (first rows i n f) (let up : q + 1 ≡ suc q = omega arith in up) ∙ sum-more (λ q. n * tally f (quadrant rows i ((get_or rows i no_row).level - 1) q)) q
 
 pub first-next : (rows : List SquareRow) (t a b : Tally) (n i q : ℕ) → GainsFirst rows t a n i q → Gains rows a b n (quadrant rows i ((get_or rows i no_row).level - 1) q) → GainsFirst rows t b n i (q + 1)
-first-next rows t a b n i q before next =
-    let la = before.left in let lb = next.left in
-    record {
-      each = λ f none. let e = first-more rows i n f q in let ea = before.each f none in let eb = next.each f none in omega arith;
-      most = let e = first-more rows i n is_any q in let ea = before.most in let eb = next.most in omega arith;
-      none = next.none ∙ before.none;
-      states = next.states;
-      left = omega arith;
-    }
+first-next rows t a b n i q before next = grind (arith, first-more)
 
 -- four quadrants are the square of the row
 first-four : (rows : List SquareRow) (i n : ℕ) (f : ℕ → ℕ) → suc ((get_or rows i no_row).level - 1) ≡ (get_or rows i no_row).level → first rows i n f 4 ≡ n * tally f (row_square rows i)
@@ -278,13 +258,7 @@ first-room rows t a n i q few next before =
     record { room = omega arith; states = before.states }
 
 pub first-all : (rows : List SquareRow) (t d : Tally) (n i q : ℕ) → q ≡ 4 → IsNext rows t n i → GainsFirst rows t d n i q → Gains rows t d n (row_square rows i)
-first-all rows t d n i q last next all = record {
-  each = λ f none. let e = first-four rows i n f next.level in let is = all.each f none in let same : first rows i n f q ≡ first rows i n f 4 = ap (first rows i n f) last in omega arith;
-  most = let e = first-four rows i n is_any next.level in let is = all.most in let same : first rows i n is_any q ≡ first rows i n is_any 4 = ap (first rows i n is_any) last in omega arith;
-  none = all.none;
-  states = all.states;
-  left = all.left;
-}
+first-all rows t d n i q last next all = grind (arith, first-four)
 
 -- before anything is added
 held-none : (rows : List SquareRow) (t : Tally) (n : ℕ) (f : ℕ → ℕ) → t.counts ≡ replicate 256 0 → t.times.items ≡ replicate n 0 → held rows f t ≡ 0
@@ -306,23 +280,12 @@ once : (n : ℕ) → 1 * n ≡ n
 once n = omega arith
 
 pub room-root : (rows : List SquareRow) (t : Tally) (n : ℕ) → AreRows rows → t.counts ≡ replicate 256 0 → t.times.items ≡ replicate n 0 → HasRoom rows t 1 (root_of rows)
-room-root rows t n valid counts times =
-    let nothing = held-none rows t n is_any counts times in
-    let few = root-few rows valid in
-    let own = once (tally is_any (root_of rows)) in
-    record { room = omega arith; states = ap length counts ∙ length-replicate {A = ℕ} 256 0 }
+room-root rows t n valid counts times = grind (arith, held-none, root-few, once, length-replicate)
 
 -- once the root is added
 pub tallied-root : (rows : List SquareRow) (t new : Tally) → AreRows rows → t.counts ≡ replicate 256 0 → t.times.items ≡ replicate (length rows) 0 → Gains rows t new 1 (root_of rows) → IsTallied rows (root_of rows) new
 tallied-root rows t new valid counts times gain =
-    let few = root-few rows valid in
-    record {
-      each = λ f none. let nothing = held-none rows t (length rows) f counts times in let own = once (tally f (root_of rows)) in let e = gain.each f none in omega arith;
-      most = let nothing = held-none rows t (length rows) is_any counts times in let own = once (tally is_any (root_of rows)) in let e = gain.most in omega arith;
-      none = gain.none ∙ ap (λ (xs : List ℕ). get_or xs 0 0) counts ∙ get_or-replicate 256 0 0 0 (omega arith);
-      states = gain.states;
-      left = omega (arith, gain.left, ap length times, length-replicate {A = ℕ} (length rows) 0);
-    }
+    grind (arith, root-few, held-none, once, get_or-replicate, length-replicate)
 
 held-popped : (rows : List SquareRow) (t p : Tally) (n : ℕ) (f : ℕ → ℕ) → p.counts ≡ t.counts → t.times.items ≡ p.times.items ++ n ∷ [] → held rows f t ≡ held rows f p + n * tally f (row_square rows (length p.times.items))
 held-popped rows t p n f counts times =
@@ -333,22 +296,11 @@ held-popped rows t p n f counts times =
     omega arith
 
 pub popped-room : (rows : List SquareRow) (root : Square) (t p : Tally) (n : ℕ) → p.counts ≡ t.counts → t.times.items ≡ p.times.items ++ n ∷ [] → IsTallied rows root t → HasRoom rows p n (row_square rows (length p.times.items))
-popped-room rows root t p n counts times is =
-    let e = held-popped rows t p n is_any counts times in
-    let most = is.most in
-    record { room = omega arith; states = ap length counts ∙ is.states }
+popped-room rows root t p n counts times is = grind (arith, held-popped)
 
 pub tallied-more : (rows : List SquareRow) (root : Square) (t p new : Tally) (n : ℕ) → p.counts ≡ t.counts → t.times.items ≡ p.times.items ++ n ∷ [] → IsTallied rows root t
     → Gains rows p new n (row_square rows (length p.times.items)) → IsTallied rows root new
-tallied-more rows root t p new n counts times is gain =
-    let left = is.left in let same = gain.left in
-    record {
-      each = λ f none. let e = held-popped rows t p n f counts times in let g = gain.each f none in let h = is.each f none in omega arith;
-      most = let e = held-popped rows t p n is_any counts times in let g = gain.most in let h = is.most in omega arith;
-      none = gain.none ∙ ap (λ (xs : List ℕ). get_or xs 0 0) counts ∙ is.none;
-      states = gain.states;
-      left = omega (arith, ap length times, length_push p.times.items n);
-    }
+tallied-more rows root t p new n counts times is gain = grind (arith, held-popped, length_push)
 
 -- a state that no live cell has
 absent : (w : World) (s : ℕ) (es : List (Place × ℕ)) → ((x y : ℤ) → 0 < cell w x y → cell w x y ≡ s → ⊥) → AllByRecursion (λ (e : Place × ℕ). (cell w e.0.1 e.0.0 ≡ e.1) × (0 < e.1)) es → count_by (λ (e : Place × ℕ). e.1 == s) es ≡ 0

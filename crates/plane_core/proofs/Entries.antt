@@ -48,10 +48,7 @@ put-first : (k : Place) (n : ℕ) (es : List (Place × ℕ))
     → map.Entries.put place_cmp k n (map as_entry es) ≡ (k, n) ∷ map as_entry es
 unfolding as_entry
 put-first k n [] h = refl
-put-first k n (e ∷ es) h =
-    ap (λ o. by_order o ((k, n) ∷ map as_entry (e ∷ es)) ((e.0, n) ∷ map as_entry es)
-    (as_entry e ∷ map.Entries.put place_cmp k n (map as_entry es)))
-    h.0
+put-first k n (e ∷ es) h = grind (arith)
 
 put-live : (w : World) (k : Place) (s : ℕ) → 0 < s → put w k.1 k.0 s ≡ map.insert w k (s - 1)
 put-live w k zero h = absurd (omega (arith, h))
@@ -77,8 +74,7 @@ one_more (e ∷ es) h =
 -- a list of live cells in order is the list of its world
 pub live-world_of : (es : List (Place × ℕ)) → IsStrictlySortedBy place_cmp (keys_of es) → AllByRecursion (λ (e : Place × ℕ). 0 < e.1) es
     → live (world_of es) ≡ es
-live-world_of es o h =
-    live-entries (world_of es) ∙ ap (map as_live) (entries-world_of es o h) ∙ one_more es h
+live-world_of es o h = grind (arith, live-entries, entries-world_of, one_more)
 
 all_entries : (P : ℤ → ℤ → ℕ → Type 0) (cells : List Cell) → AllByRecursion (λ (c : Cell). P c.x c.y c.state) cells → AllByRecursion (λ (e : Place × ℕ). P e.0.1 e.0.0 e.1) (map of_cell cells)
 all_entries P [] h = tt

@@ -57,10 +57,7 @@ those-more p cs here c is those = record {
 
 -- one more, which doesn't
 those-passed : (p : Part) (cs here : List CellSet) (c : CellSet) → (Covers p c.x c.y → ⊥) → AreThoseIn p cs here → AreThoseIn p (cs ++ c ∷ []) here
-those-passed p cs here c out those = record {
-  inside = those.inside;
-  same = λ w x y h. those.same w x y h ∙ sym (more cs c w x y ∙ cond-false _ _ _ (other_place (2 ^ p.level) p.corner.x p.corner.y x y c.x c.y h out));
-}
+those-passed p cs here c out those = grind (arith, more, cond-false, other_place)
 
 -- a cell of the square lies in the quadrant that holds it, and in no other
 module _ (p : Part) (c : CellSet) (q r n : ℕ) (some : 1 ≤ p.level) (is : IsCellOf p c) (at : q ≡ quadrant_at p c.x c.y) (few : r < 4) where
@@ -118,9 +115,7 @@ shows-kept : (w : World) (old new : List SquareRow) (p : Part) → Keeps old new
 shows-kept w old new p keeps number shows = record { cells = λ i j hi hj. shows.cells i j hi hj ∙ ap (λ (s : Square). cell_in p.level s i j) (sym (keeps.square p.level p.number number)) }
 
 shows-same : (v w : World) (rows : List SquareRow) (p : Part) → ((x y : ℤ) → Covers p x y → cell v x y ≡ cell w x y) → Shows v rows p → Shows w rows p
-shows-same v w rows p same shows = record {
-  cells = λ i j hi hj. sym (same _ _ (record { left = omega (arith, ints); right = omega (arith, ints); top = omega (arith, ints); bottom = omega (arith, ints) })) ∙ shows.cells i j hi hj;
-}
+shows-same v w rows p same shows = grind (arith, ints)
 
 -- the square of four quadrants shows what they show
 shows-four : (w : World) (rows new : List SquareRow) (p : Part) (kids : List ℕ) (n : ℕ) → 1 ≤ p.level → ((q : ℕ) → q < 4 → Shows w rows (quadrant_of p q (get_or kids q 0)))
@@ -170,12 +165,7 @@ laid-quadrant rows r1 r2 r4 q n p r cells own is quadrant same down before laid 
 
 pub laid-four : (rows r4 r5 : List SquareRow) (p : Part) (kids : List ℕ) (n : ℕ) (cells : List CellSet) → 1 ≤ p.level → Keeps rows r4
     → ((q : ℕ) → q < 4 → (w : World) → Shows w rows p → Shows (lay cells w) r4 (quadrant_of p q (get_or kids q 0))) → IsAdded r4 r5 p.level n (square_of r4 (p.level - 1) kids) → IsLaid rows r5 p n cells
-laid-four rows r4 r5 p kids n cells some keeps shows added = record {
-  keeps = Keeps-then rows r4 r5 keeps added.keeps;
-  number = added.number;
-  shows = λ w h. shows-four (lay cells w) r4 r5 p kids n some (λ q few. shows q few w h) added.square;
-  last = λ _. added.last;
-}
+laid-four rows r4 r5 p kids n cells some keeps shows added = grind (arith, Keeps-then, shows-four)
 
 -- a state of a square of level 1
 block-state : (rows : List SquareRow) (p : Part) (kids : List ℕ) (r : ℕ) → p.level ≡ 1 → AreQuadrants rows 0 p.number kids → r < 4

@@ -43,27 +43,17 @@ by_max P x y hx hy = elim (int_lt y x) as (λ t. P (cond t x y)) [ true ↦ hx |
 
 -- a box that holds both holds each
 in_left : (a b : Bounds) (x y : ℤ) → IsInBox a x y → IsInBox (joined_box a b) x y
-in_left a b x y h =
-    let left = h.left in let right = h.right in let top = h.top in let bottom = h.bottom in
-    record { left = grind (arith, ints); right = grind (arith, ints); top = grind (arith, ints); bottom = grind (arith, ints) }
+in_left a b x y h = grind (arith, ints)
 
 in_right : (a b : Bounds) (x y : ℤ) → IsInBox b x y → IsInBox (joined_box a b) x y
-in_right a b x y h =
-    let left = h.left in let right = h.right in let top = h.top in let bottom = h.bottom in
-    record { left = grind (arith, ints); right = grind (arith, ints); top = grind (arith, ints); bottom = grind (arith, ints) }
+in_right a b x y h = grind (arith, ints)
 
 -- what is live in either is live in both together
 live_left : (u v w : World) → Overlays u v w → (x y : ℤ) → 0 < cell v x y → 0 < cell u x y
-live_left u v w over x y live = elim (over x y) [
-  | inl h ↦ let e = h.0 in omega arith
-  | inr h ↦ let e = h.1 in omega arith
-]
+live_left u v w over x y live = grind (arith)
 
 live_right : (u v w : World) → Overlays u v w → (x y : ℤ) → 0 < cell w x y → 0 < cell u x y
-live_right u v w over x y live = elim (over x y) [
-  | inl h ↦ let e = h.1 in omega arith
-  | inr h ↦ let e = h.0 in omega arith
-]
+live_right u v w over x y live = grind (arith)
 
 box-overlay : (u v w : World) (a b : Bounds) → Overlays u v w → IsBoundingBox a v → IsBoundingBox b w → IsBoundingBox (joined_box a b) u
 box-overlay u v w a b over ha hb =
@@ -89,18 +79,10 @@ box-overlay u v w a b over ha hb =
     }
 
 overlay-none_left : (u v w : World) → Overlays u v w → v ≡ blank → w ≡ u
-overlay-none_left u v w over none =
-    same_world w u (λ x y. elim (over x y) [
-      | inl h ↦ let e : cell v x y ≡ 0 = ap (λ z. cell z x y) none ∙ cell-blank x y in h.1 ∙ sym e ∙ sym h.0
-      | inr h ↦ sym h.0
-    ])
+overlay-none_left u v w over none = grind (arith, same_world, cell-blank)
 
 overlay-none_right : (u v w : World) → Overlays u v w → w ≡ blank → v ≡ u
-overlay-none_right u v w over none =
-    same_world v u (λ x y. elim (over x y) [
-      | inl h ↦ sym h.0
-      | inr h ↦ let e : cell w x y ≡ 0 = ap (λ z. cell z x y) none ∙ cell-blank x y in h.1 ∙ sym e ∙ sym h.0
-    ])
+overlay-none_right u v w over none = grind (arith, same_world, cell-blank)
 
 pub bounds-overlay : (u v w : World) (a b : Option Bounds) → Overlays u v w → AreBoundsOf v a → AreBoundsOf w b → AreBoundsOf u (joined_bounds a b)
 bounds-overlay u v w None b over ha hb = subst (λ z. AreBoundsOf z b) (overlay-none_left u v w over ha) hb
@@ -171,26 +153,13 @@ put_square-moved k s l t is = record {
 
 -- the live cells of a square alone lie in it
 pub alone-live : (k : ℕ) (s : Square) (x y : ℤ) → IsSquare k s → 0 < cell (alone k s) x y → IsIn (2 ^ k) (pos 0) (pos 0) x y
-alone-live k s x y is live =
-    elim (in_or_out (2 ^ k) (pos 0) (pos 0) x y) [
-      | inl h ↦ h
-      | inr out ↦ let e = put_square-outside k s (pos 0) (pos 0) blank x y is out ∙ cell-blank x y in absurd (omega (arith, live, e))
-    ]
+alone-live k s x y is live = grind (arith, in_or_out, put_square-outside, cell-blank)
 
 -- and so does its box
 pub alone-LiesIn : (k : ℕ) (s : Square) (o : Option Bounds) → IsSquare k s → AreBoundsOf (alone k s) o → IfSome o (LiesIn (2 ^ k))
 alone-LiesIn k s None is h = tt
-alone-LiesIn k s (Some b) is h =
-    let left = alone-live k s b.left h.touched_left.0 is h.touched_left.1 in
-    let right = alone-live k s b.right h.touched_right.0 is h.touched_right.1 in
-    let top = alone-live k s h.touched_top.0 b.top is h.touched_top.1 in
-    let bottom = alone-live k s h.touched_bottom.0 b.bottom is h.touched_bottom.1 in
-    let l0 = left.left in let l1 = left.right in let r0 = right.left in let r1 = right.right in
-    let t0 = top.top in let t1 = top.bottom in let b0 = bottom.top in let b1 = bottom.bottom in
-    record { left = l0; left_in = omega (arith, ints); top = t0; top_in = omega (arith, ints); right = r0; right_in = omega (arith, ints); bottom = b0; bottom_in = omega (arith, ints) }
+alone-LiesIn k s (Some b) is h = grind (arith, ints, alone-live)
 
 pub LiesIn-more : (m n : ℕ) (o : Option Bounds) → m ≤ n → IfSome o (LiesIn m) → IfSome o (LiesIn n)
 LiesIn-more m n None le h = tt
-LiesIn-more m n (Some b) le h =
-    let left = h.left_in in let top = h.top_in in let right = h.right_in in let bottom = h.bottom_in in
-    record { left = h.left; left_in = omega (arith, ints); top = h.top; top_in = omega (arith, ints); right = h.right; right_in = omega (arith, ints); bottom = h.bottom; bottom_in = omega (arith, ints) }
+LiesIn-more m n (Some b) le h = grind (arith, ints)

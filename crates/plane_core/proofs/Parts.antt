@@ -38,13 +38,10 @@ module _ (h : ℕ) (l t x y : ℤ) where
   placed (suc (suc (suc (suc q)))) few is = absurd (omega (arith, few))
 
   pub found : (q : ℕ) → q ≡ place h l t x y → IsIn (h + h) l t x y → IsIn h (l +ℤ pos (east h q)) (t +ℤ pos (south h q)) x y
-  found q e is = subst (λ q. IsIn h (l +ℤ pos (east h q)) (t +ℤ pos (south h q)) x y) (sym e)
-      (let a = is.left in let b = is.right in let c = is.top in let d = is.bottom in
-      record { left = grind (arith, ints); right = grind (arith, ints); top = grind (arith, ints); bottom = grind (arith, ints) })
+  found q e is = grind (arith, ints)
 
 pub moved : (n m : ℕ) (l l' t t' x y : ℤ) → n ≡ m → l ≡ l' → t ≡ t' → IsIn n l t x y → IsIn m l' t' x y
-moved n m l l' t t' x y en el et is = let a = is.left in let b = is.right in let c = is.top in let d = is.bottom in
-    record { left = omega (arith, ints); right = omega (arith, ints); top = omega (arith, ints); bottom = omega (arith, ints) }
+moved n m l l' t t' x y en el et is = grind (arith, ints)
 
 -- what a quadrant covers is what its square covers there
 module _ (q : ℕ) (p r : Part) (some : 1 ≤ p.level) (few : q < 4) (is : IsQuadrant q p r) (x y : ℤ) where
@@ -57,9 +54,7 @@ module _ (q : ℕ) (p r : Part) (some : 1 ≤ p.level) (few : q < 4) (is : IsQua
       (moved _ _ _ _ _ _ x y (sym (root-side p.level some)) refl refl at.0, at.1)
 
   pub of_quadrant : Covers p x y → quadrant_at p x y ≡ q → Covers r x y
-  of_quadrant h e =
-      moved _ _ _ _ _ _ x y (sym half) (sym is.x) (sym is.y)
-      (found (2 ^ (p.level - 1)) p.corner.x p.corner.y x y q (sym e) (moved _ _ _ _ _ _ x y (root-side p.level some) refl refl h))
+  of_quadrant h e = grind (arith, moved, found, root-side)
 
 -- which quadrant holds a cell that lies so far to the right and down
 pub record IsSplit (h x y : ℕ) : Type 0 where
@@ -111,16 +106,10 @@ none-cell : (rows : List SquareRow) (k i j : ℕ) → cell_in k (square_in rows 
 none-cell rows k i j = ap (λ (s : Square). cell_in k s i j) (square_in-none rows k) ∙ cell_in-empty k i j
 
 pub kid-none : (rows : List SquareRow) (p : Part) (q : ℕ) → p.number ≡ 0 → IsKid rows p q 0
-kid-none rows p q none = record {
-  number = zero-IsNumber rows (p.level - 1);
-  cells = λ i j hi hj. ap (λ n. cell_in p.level (square_in rows p.level n) (east (2 ^ (p.level - 1)) q + i) (south (2 ^ (p.level - 1)) q + j)) none ∙ none-cell rows p.level _ _ ∙ sym (none-cell rows (p.level - 1) i j);
-}
+kid-none rows p q none = grind (arith, zero-IsNumber, none-cell)
 
 pub kid-row : (rows : List SquareRow) (p : Part) (q : ℕ) → IsPart rows p → 1 ≤ p.level → 0 < p.number → q < 4 → IsKid rows p q (kid (row_at rows p.number) q)
-kid-row rows p q is some live few = record {
-  number = number-kid rows p.level p.number q is.valid some live is.number few;
-  cells = λ i j hi hj. kid-cells rows p.level p.number q i j some live few hi hj;
-}
+kid-row rows p q is some live few = grind (arith, number-kid, kid-cells)
 
 -- the cells of the world that a square shows
 pub shows-cell : (w : World) (rows : List SquareRow) (p : Part) (x y : ℤ) → Shows w rows p → Covers p x y → (i : ℕ) × (j : ℕ) × (cell w x y ≡ cell_in p.level (square_in rows p.level p.number) i j)
@@ -128,9 +117,7 @@ shows-cell w rows p x y shows h = let at = offsets (2 ^ p.level) p.corner.x p.co
 
 -- no cell is live where the number is 0
 pub shows-none : (w : World) (rows : List SquareRow) (p : Part) (x y : ℤ) → p.number ≡ 0 → Shows w rows p → Covers p x y → cell w x y ≡ 0
-shows-none w rows p x y none shows h =
-    let at = shows-cell w rows p x y shows h in
-    at.2 ∙ ap (λ n. cell_in p.level (square_in rows p.level n) at.0 at.1) none ∙ none-cell rows p.level at.0 at.1
+shows-none w rows p x y none shows h = grind (arith, shows-cell, none-cell)
 
 -- one cell is its number
 pub state-cell : (rows : List SquareRow) (k n i j : ℕ) → k ≡ 0 → cell_in k (square_in rows k n) i j ≡ n
@@ -140,12 +127,7 @@ pub shows-state : (w : World) (rows : List SquareRow) (p : Part) (x y : ℤ) →
 shows-state w rows p x y is shows h = let at = shows-cell w rows p x y shows h in at.2 ∙ state-cell rows p.level p.number at.0 at.1 is
 
 pub shows-one : (w : World) (rows : List SquareRow) (p : Part) → p.level ≡ 0 → cell w p.corner.x p.corner.y ≡ p.number → Shows w rows p
-shows-one w rows p is state = record {
-  cells = λ i j hi hj.
-      let unit : 2 ^ p.level ≡ 1 = ap (λ k. 2 ^ k) is in
-      let ei : i ≡ 0 = omega arith in let ej : j ≡ 0 = omega arith in
-      ap₂ (cell w) (omega (arith, ints)) (omega (arith, ints)) ∙ state ∙ sym (state-cell rows p.level p.number i j is);
-}
+shows-one w rows p is state = grind (arith, ints, state-cell)
 
 -- a quadrant shows what its square shows
 pub shows-quadrant : (w : World) (rows : List SquareRow) (q : ℕ) (p r : Part) → r.level ≡ p.level - 1 → 1 ≤ p.level → IsQuadrant q p r → IsKid rows p q r.number → Shows w rows p → Shows w rows r
@@ -182,41 +164,11 @@ quadrant-IsPart rows q p r some is quadrant kid =
 
 -- the root shows the world
 pub is_root : (rows : List SquareRow) (p : Part) → AreRows rows → p.level ≡ root_level rows → p.number ≡ length rows → p.corner.x ≡ edge_of p.level → p.corner.y ≡ edge_of p.level → IsRoot rows p
-is_root rows p valid level number ex ey =
-    let root = rooted rows valid in
-    let low = root.low in let high = root.high in
-    let side = root-side p.level (omega arith) in
-    let half : 2 ^ (p.level - 1) ≤ 2 ^ 61 = pow_mono (let less : p.level - 1 ≤ 61 = omega arith in less) in
-    record {
-      part = record {
-        valid = valid;
-        number = subst (λ k. IsNumber rows k p.number) (sym level) (subst (λ n. IsNumber rows (root_level rows) n) (sym number) root.number);
-        on_plane = record {
-          level = omega arith;
-          across = record { low = omega (arith, ints); high = omega (arith, ints) };
-          down = record { low = omega (arith, ints); high = omega (arith, ints) };
-        };
-      };
-      low = omega arith;
-      level = level;
-      number = number;
-      x = ex ∙ ap edge_of level;
-      y = ey ∙ ap edge_of level;
-      shows = record {
-        cells = λ i j hi hj.
-            ap₂ (λ x y. cell (world_of_rows rows) (x +ℤ pos i) (y +ℤ pos j)) ex ey
-            ∙ sym (root-cells rows p.level i j valid (sym level) hi hj)
-            ∙ ap (λ n. cell_in p.level (square_in rows p.level n) i j) (sym number);
-      };
-    }
+is_root rows p valid level number ex ey = grind (arith, ints, rooted, root-side, pow_mono, root-cells)
 
 -- it covers each live cell
 pub root-live : (rows : List SquareRow) (p : Part) (x y : ℤ) → IsRoot rows p → 0 < cell (world_of_rows rows) x y → Covers p x y
 root-live rows p x y root live = moved _ _ _ _ _ _ x y (ap (λ k. 2 ^ k) (sym root.level)) (sym root.x) (sym root.y) (root-Fits rows root.part.valid x y live)
 
 pub root-outside : (rows : List SquareRow) (p : Part) (x y : ℤ) → IsRoot rows p → (Covers p x y → ⊥) → cell (world_of_rows rows) x y ≡ 0
-root-outside rows p x y root out =
-    elim (cases_lt 0 (cell (world_of_rows rows) x y)) [
-      | inl live ↦ absurd (out (root-live rows p x y root live))
-      | inr none ↦ omega arith
-    ]
+root-outside rows p x y root out = grind (arith, cases_lt, root-live)

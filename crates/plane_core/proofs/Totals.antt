@@ -1,5 +1,5 @@
 -- Sums over the live cells of a world, and what a square that is put there adds.
-use Rattle.std.proofs.Common.{◌≡◌, ℕ, zero, suc, ◌+◌, ◌*◌, ◌≤◌, ◌^◌, Bool, true, false, cond, List, [], ◌∷◌, map, length, Option, None, Some, refl, sym, ap, ◌∙◌, arith, zero-add, pow-suc, ℤ, pos, ◌+ℤ◌, ◌≤ℤ◌}
+use Rattle.std.proofs.Common.{◌≡◌, ℕ, zero, suc, ◌+◌, ◌*◌, ◌≤◌, ◌^◌, Bool, true, false, cond, List, [], ◌∷◌, map, length, Option, None, Some, refl, sym, ap, ◌∙◌, arith, zero-add, pow-suc, ℤ, pos, ◌+ℤ◌}
 use Rattle.std.specs.List.{sum_by}
 use Rattle.std.specs.declared.cmp.Ordering.TheVariants.{Less, Equal, Greater}
 use Rattle.std.proofs.lemmas.Int.{ints}
@@ -8,7 +8,7 @@ use Rattle.std.proofs.lemmas.Map.Views.{tells_apart}
 use Rattle.std.specs.FinMap as finite
 use Rattle.std.specs.FinMap.Entries.{by_order, find}
 use Rattle.std.specs.Ordering.{is_eq}
-use Rattle.worlds.specs.World.{World, Place, place_cmp, same_place, cell, cell-get, put, blank, cell-put, same_world, state_of, places_total, places_exact, put-suc, entries-blank}
+use Rattle.worlds.specs.World.{World, Place, place_cmp, cell, cell-get, put, blank, cell-put, same_world, state_of, places_total, places_exact, put-suc, entries-blank}
 use Rattle.worlds.specs.Live.{live, as_live, live-entries, population}
 use Rattle.worlds.specs.Square.{Square, one, four, empty_square, IsSquare, put_square, IsIn}
 use Rattle.plane_core.specs.Counts.{tally, is_live}
@@ -55,10 +55,7 @@ by_same false n h = refl
 
 -- a dead cell that is set to 0
 put-zero : (w : World) (x y : ℤ) → cell w x y ≡ 0 → put w x y 0 ≡ w
-put-zero w x y dead =
-    same_world (put w x y 0) w (λ x' y'.
-    cell-put w x y 0 x' y'
-    ∙ by_same (same_place (y', x') (y, x)) (cell w x' y') (λ e. ap (λ (p : Place). cell w p.1 p.0) (tells_apart places_exact (y', x') (y, x) e) ∙ dead))
+put-zero w x y dead = grind (arith, same_world, cell-put, by_same, tells_apart, places_exact)
 
 -- a dead cell is set
 pub total-put : (f : ℕ → ℕ) (w : World) (x y : ℤ) (s : ℕ) → f 0 ≡ 0 → cell w x y ≡ 0 → total f (put w x y s) ≡ f s + total f w
@@ -92,16 +89,7 @@ pub record FreeParts (k : ℕ) (l t : ℤ) (w : World) : Type 0 where
   pub se : IsFree k (l +ℤ pos (2 ^ k)) (t +ℤ pos (2 ^ k)) w
 
 pub free_parts : (k : ℕ) (l t : ℤ) (w : World) → IsFree (suc k) l t w → FreeParts k l t w
-free_parts k l t w free =
-    let n = 2 ^ k in
-    let twice = double k in
-    let part = λ (l' t' : ℤ) (a : l ≤ℤ l') (b : l' ≤ℤ (l +ℤ pos n)) (c : t ≤ℤ t') (d : t' ≤ℤ (t +ℤ pos n)) (x y : ℤ) (h : IsIn n l' t' x y). free x y (in_part n (2 ^ suc k) l t l' t' x y twice a b c d h) in
-    record {
-      nw = part l t (omega (arith, ints)) (omega (arith, ints)) (omega (arith, ints)) (omega (arith, ints));
-      ne = part (l +ℤ pos n) t (omega (arith, ints)) (omega (arith, ints)) (omega (arith, ints)) (omega (arith, ints));
-      sw = part l (t +ℤ pos n) (omega (arith, ints)) (omega (arith, ints)) (omega (arith, ints)) (omega (arith, ints));
-      se = part (l +ℤ pos n) (t +ℤ pos n) (omega (arith, ints)) (omega (arith, ints)) (omega (arith, ints)) (omega (arith, ints));
-    }
+free_parts k l t w free = grind (arith, ints, double, in_part)
 
 -- what is free stays so while a square beside it is put
 still_free : (k : ℕ) (s : Square) (l t l' t' : ℤ) (w : World) → IsSquare k s → ((x y : ℤ) → IsIn (2 ^ k) l' t' x y → IsIn (2 ^ k) l t x y → ⊥) → IsFree k l' t' w → IsFree k l' t' (put_square k s l t w)

@@ -15,12 +15,7 @@ use Rattle.plane_core.proofs.Shared.Sound.{IsNumber-level, square_in-row, row_of
 pub walks-known : (rows done : List SquareRow) (numbers : List (Option ℕ)) (k n m : ℕ) → 0 < k → 0 < n → IsNumber rows k n → Remembers rows done numbers → get_or numbers (n - 1) None ≡ Some m
     → Walks k (square_in rows k n) done done m
 walks-known rows done numbers zero n m hk hn h r e = absurd (omega (arith, hk))
-walks-known rows done numbers (suc k) n m hk hn h r e =
-    let at = IsNumber-level rows k n h hn in
-    let le : n ≤ length rows = at.0 in
-    let next : suc (n - 1) ≡ n = omega arith in
-    subst (λ i. Has (suc k) (square_in rows (suc k) i) done m) next
-    (subst (λ j. Has j (square_in rows j (suc (n - 1))) done m) at.1 (r.each (n - 1) m (omega arith) e))
+walks-known rows done numbers (suc k) n m hk hn h r e = grind (arith, IsNumber-level)
 
 -- the walk of a square, by those of its quadrants
 pub walks-four : (rows d0 d1 d2 d3 d4 d5 : List SquareRow) (k n a b c d m : ℕ) → 0 < k → 0 < n

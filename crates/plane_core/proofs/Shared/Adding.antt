@@ -20,25 +20,14 @@ pub Keeps-none : (rows : List SquareRow) → AreRows rows → length rows < 2 ^ 
 Keeps-none rows valid few = record { valid = valid; few = few; longer = omega arith; number = λ k n h. h; square = λ k n h. refl }
 
 pub Keeps-then : (a b c : List SquareRow) → Keeps a b → Keeps b c → Keeps a c
-Keeps-then a b c f g = record {
-  valid = g.valid;
-  few = g.few;
-  longer = (let one = f.longer in let two = g.longer in omega arith);
-  number = λ k n h. g.number k n (f.number k n h);
-  square = λ k n h. g.square k n (f.number k n h) ∙ f.square k n h;
-}
+Keeps-then a b c f g = grind (arith)
 
 pub Keeps-grown : (old new : List SquareRow) → Grows old new → AreRows old → AreRows new → length new < 2 ^ 32 → Keeps old new
 Keeps-grown old new g valid fits few = record { valid = fits; few = few; longer = Grows-length old new g; number = λ k n h. IsNumber-grown old new k n g h; square = λ k n h. square_in-grown old new k n g valid h }
 
 -- the square of numbers stays
 pub square_of-kept : (old new : List SquareRow) (k : ℕ) (kids : List ℕ) → Keeps old new → ((q : ℕ) → q < 4 → IsNumber old k (get_or kids q 0)) → square_of new k kids ≡ square_of old k kids
-square_of-kept old new k kids keeps h =
-    let nw = keeps.square k (get_or kids 0 0) (h 0 (lit< tt)) in
-    let ne = keeps.square k (get_or kids 1 0) (h 1 (lit< tt)) in
-    let sw = keeps.square k (get_or kids 2 0) (h 2 (lit< tt)) in
-    let se = keeps.square k (get_or kids 3 0) (h 3 (lit< tt)) in
-    λ i. four (nw i) (ne i) (sw i) (se i)
+square_of-kept old new k kids keeps h = grind (arith)
 
 module _ (rows : List SquareRow) (row : SquareRow) (k : ℕ) (valid : AreRows rows) (fits : IsRow rows row) (level : row.level ≡ suc k) (room : length rows + 1 < 2 ^ 32) where
   keeps_pushed : Keeps rows (rows ++ row ∷ [])
@@ -102,14 +91,7 @@ quadrants-none rows k = record {
 pub quadrants-row : (rows : List SquareRow) (level n : ℕ) → AreRows rows → 1 ≤ level → 0 < n → IsNumber rows level n → AreQuadrants rows (level - 1) n (row_at rows n).kids
 quadrants-row rows zero n valid low some h = absurd (omega (arith, low))
 quadrants-row rows level zero valid low some h = absurd (omega (arith, some))
-quadrants-row rows (suc k) (suc i) valid low some h =
-    let less : k ≡ suc k - 1 = omega arith in
-    let one_less : i ≡ suc i - 1 = omega arith in
-    let square : square_in rows (suc k) (suc i) ≡ square_of rows k (row_at rows (suc i)).kids = square_in-row rows k i ∙ ap (λ m. square_of rows k (get_or rows m no_row).kids) one_less in
-    record {
-      numbers = λ q hq. number-kid rows (suc k) (suc i) q valid (omega arith) (omega arith) h hq;
-      square = subst (λ j. square_in rows (suc j) (suc i) ≡ square_of rows j (row_at rows (suc i)).kids) less square;
-    }
+quadrants-row rows (suc k) (suc i) valid low some h = grind (arith, square_in-row, number-kid)
 
 -- the kids of a square with one quadrant, at its corner
 pub record AreCornerKids (rows : List SquareRow) (k corner n : ℕ) (kids : List ℕ) : Type 0 where
@@ -125,11 +107,7 @@ kid_numbers rows k a b c d (suc (suc (suc (suc q)))) ha hb hc hd h = absurd (ome
 
 -- where a root is added
 pub root_added : (old new : List SquareRow) (k n : ℕ) (s : Square) → IsAdded old new (suc k) n s → (root_level new ≡ suc k) × (square_in new (suc k) (length new) ≡ s)
-root_added old new k n s a =
-    let some : 0 < n = a.some in
-    let last : n ≡ length new = a.last in
-    let live : 0 < length new = omega (arith, some, last) in
-    (root_level-some new live ∙ ap (λ m. (row_at new m).level) (sym last) ∙ (IsNumber-level new k n a.number some).1, ap (square_in new (suc k)) (sym last) ∙ a.square)
+root_added old new k n s a = grind (arith, root_level-some, IsNumber-level)
 
 module _ (rows r1 r2 r3 r4 r5 : List SquareRow) (k : ℕ) (kids : List ℕ) (nw ne sw se n : ℕ) (valid : AreRows rows) (level : root_level rows ≡ suc k) (parts : AreQuadrants rows k (length rows) kids)
     (a1 : IsAdded rows r1 (suc k) nw (cornered k 3 (square_in rows k (get_or kids 0 0)))) (a2 : IsAdded r1 r2 (suc k) ne (cornered k 2 (square_in r1 k (get_or kids 1 0))))
@@ -142,14 +120,7 @@ module _ (rows r1 r2 r3 r4 r5 : List SquareRow) (k : ℕ) (kids : List ℕ) (nw 
   to_three = Keeps-then rows r2 r3 to_two a3.keeps
 
   raised_square : square_of r4 (suc k) (nw ∷ ne ∷ sw ∷ se ∷ []) ≡ centred k (square_in rows k (get_or kids 0 0)) (square_in rows k (get_or kids 1 0)) (square_in rows k (get_or kids 2 0)) (square_in rows k (get_or kids 3 0))
-  raised_square =
-      let two_four : Keeps r2 r4 = Keeps-then r2 r3 r4 a3.keeps a4.keeps in
-      let one_four : Keeps r1 r4 = Keeps-then r1 r2 r4 a2.keeps two_four in
-      let e0 : square_in r4 (suc k) nw ≡ cornered k 3 (square_in rows k (get_or kids 0 0)) = one_four.square (suc k) nw a1.number ∙ a1.square in
-      let e1 : square_in r4 (suc k) ne ≡ cornered k 2 (square_in rows k (get_or kids 1 0)) = two_four.square (suc k) ne a2.number ∙ a2.square ∙ ap (cornered k 2) (a1.keeps.square k (get_or kids 1 0) (parts.numbers 1 (lit< tt))) in
-      let e2 : square_in r4 (suc k) sw ≡ cornered k 1 (square_in rows k (get_or kids 2 0)) = a4.keeps.square (suc k) sw a3.number ∙ a3.square ∙ ap (cornered k 1) (to_two.square k (get_or kids 2 0) (parts.numbers 2 (lit< tt))) in
-      let e3 : square_in r4 (suc k) se ≡ cornered k 0 (square_in rows k (get_or kids 3 0)) = a4.square ∙ ap (cornered k 0) (to_three.square k (get_or kids 3 0) (parts.numbers 3 (lit< tt))) in
-      λ i. four (e0 i) (e1 i) (e2 i) (e3 i)
+  raised_square = grind (arith, to_three)
 
   is_raised : IsRaised rows r5
   is_raised =
@@ -186,18 +157,10 @@ raised rows r1 r2 r3 r4 r5 (suc k) kids nw ne sw se n valid low is parts a1 a2 a
 
 -- the kids of the square that has one quadrant, at its corner
 pub corner_kids : (rows : List SquareRow) (k corner n : ℕ) → IsNumber rows k n → corner < 4 → AreCornerKids rows k corner n (slice_set (0 ∷ 0 ∷ 0 ∷ 0 ∷ []) corner n)
-corner_kids rows k zero n h hc =
-    let z = zero-IsNumber rows k in let e = square_in-none rows k in
-    record { numbers = λ q hq. kid_numbers rows k n 0 0 0 q h z z z hq; square = λ i. four (square_in rows k n) (e i) (e i) (e i) }
-corner_kids rows k (suc zero) n h hc =
-    let z = zero-IsNumber rows k in let e = square_in-none rows k in
-    record { numbers = λ q hq. kid_numbers rows k 0 n 0 0 q z h z z hq; square = λ i. four (e i) (square_in rows k n) (e i) (e i) }
-corner_kids rows k (suc (suc zero)) n h hc =
-    let z = zero-IsNumber rows k in let e = square_in-none rows k in
-    record { numbers = λ q hq. kid_numbers rows k 0 0 n 0 q z z h z hq; square = λ i. four (e i) (e i) (square_in rows k n) (e i) }
-corner_kids rows k (suc (suc (suc zero))) n h hc =
-    let z = zero-IsNumber rows k in let e = square_in-none rows k in
-    record { numbers = λ q hq. kid_numbers rows k 0 0 0 n q z z z h hq; square = λ i. four (e i) (e i) (e i) (square_in rows k n) }
+corner_kids rows k zero n h hc = grind (arith, zero-IsNumber, square_in-none, kid_numbers)
+corner_kids rows k (suc zero) n h hc = grind (arith, zero-IsNumber, square_in-none, kid_numbers)
+corner_kids rows k (suc (suc zero)) n h hc = grind (arith, zero-IsNumber, square_in-none, kid_numbers)
+corner_kids rows k (suc (suc (suc zero))) n h hc = grind (arith, zero-IsNumber, square_in-none, kid_numbers)
 corner_kids rows k (suc (suc (suc (suc c)))) n h hc = absurd (omega (arith, hc))
 
 -- what follows from what holds of the value follows of it

@@ -3,7 +3,7 @@ use Rattle.std.proofs.Common.{◌≡◌, ℕ, zero, suc, ◌+◌, ◌-◌, ◌<�
 use Rattle.std.specs.Prelude.{nat_le, unsigned_abs}
 use Rattle.std.proofs.lemmas.Bool.{cases_lt, cond-true, cond-false, lt-leb, le-leb, false_from_ne_true}
 use Rattle.std.proofs.lemmas.Int.{ints, by_lt_z}
-use Rattle.worlds.specs.World.{World, Place, blank, cell, cell-blank, put, cell-put, same_place, same_world}
+use Rattle.worlds.specs.World.{World, blank, cell, cell-blank, put, cell-put, same_world}
 use Rattle.worlds.specs.Fill.{same_is, is_same}
 use Rattle.worlds.specs.Range.{AllBelow}
 use Rattle.worlds.specs.Square.{Square, one, four, empty_square, IsSquare, cell_in, put_square, square_at, IsIn}
@@ -129,19 +129,11 @@ same_square (suc k) (four a b c d) (four e f g h) ht hu same =
 
 -- a quadrant lies in its square
 pub in_part : (n m : ℕ) (l t l' t' x y : ℤ) → m ≡ n + n → l ≤ℤ l' → l' ≤ℤ (l +ℤ pos n) → t ≤ℤ t' → t' ≤ℤ (t +ℤ pos n) → IsIn n l' t' x y → IsIn m l t x y
-in_part n m l t l' t' x y twice a b c d h =
-    let left = h.left in let right = h.right in let top = h.top in let bottom = h.bottom in
-    record { left = omega (arith, ints); right = omega (arith, ints); top = omega (arith, ints); bottom = omega (arith, ints) }
+in_part n m l t l' t' x y twice a b c d h = grind (arith, ints)
 
 -- a place lies in a square, or it doesn't
 pub in_or_out : (n : ℕ) (l t x y : ℤ) → IsIn n l t x y ⊎ (IsIn n l t x y → ⊥)
-in_or_out n l t x y =
-    by_lt_z x l (λ k. inr (λ h. let g = h.left in absurd (omega (arith, ints)))) (λ a.
-    by_lt_z x (l +ℤ pos n) (λ b.
-    by_lt_z y t (λ k. inr (λ h. let g = h.top in absurd (omega (arith, ints)))) (λ c.
-    by_lt_z y (t +ℤ pos n) (λ d. inl (record { left = a; right = b; top = c; bottom = d }))
-    (λ k. inr (λ h. let g = h.bottom in absurd (omega (arith, ints))))))
-    (λ k. inr (λ h. let g = h.right in absurd (omega (arith, ints)))))
+in_or_out n l t x y = grind (arith, ints, by_lt_z)
 
 pub put_square-four : (k : ℕ) (nw ne sw se : Square) (l t : ℤ) (w : World)
     → put_square (suc k) (four nw ne sw se) l t w ≡ put_square k se (l +ℤ pos (2 ^ k)) (t +ℤ pos (2 ^ k)) (put_square k sw l (t +ℤ pos (2 ^ k)) (put_square k ne (l +ℤ pos (2 ^ k)) t (put_square k nw l t w)))
@@ -156,13 +148,7 @@ put_square-one k s l t w = refl
 pub put_square-outside : (k : ℕ) (s : Square) (l t : ℤ) (w : World) (x y : ℤ) → IsSquare k s → (IsIn (2 ^ k) l t x y → ⊥) → cell (put_square k s l t w) x y ≡ cell w x y
 unfolding IsSquare
 put_square-outside zero (one s) l t w x y is out =
-    ap (λ v. cell v x y) (put_square-one 0 s l t w)
-    ∙ cell-put w l t s x y
-    ∙ cond-false (same_place (y, x) (t, l)) s (cell w x y) (false_from_ne_true (same_place (y, x) (t, l)) (λ same.
-    let e : (y, x) ≡ (t, l) = same_is (y, x) (t, l) same in
-    let ey : y ≡ t = ap (λ (p : Place). p.0) e in
-    let ex : x ≡ l = ap (λ (p : Place). p.1) e in
-    out (record { left = omega (arith, ints); right = omega (arith, ints); top = omega (arith, ints); bottom = omega (arith, ints) })))
+    grind (arith, ints, put_square-one, cell-put, cond-false, false_from_ne_true, same_is)
 put_square-outside (suc k) (one s) l t w x y is out = absurd is
 put_square-outside zero (four nw ne sw se) l t w x y is out = absurd is
 put_square-outside (suc k) (four nw ne sw se) l t w x y is out =
@@ -179,10 +165,7 @@ pub put_square-inside : (k : ℕ) (s : Square) (l t : ℤ) (w : World) (x y : �
     → cell (put_square k s l t w) x y ≡ cell_in k s i j
 unfolding IsSquare
 put_square-inside zero (one s) l t w x y i j is ex ey hi hj =
-    ap (λ v. cell v x y) (put_square-one 0 s l t w)
-    ∙ cell-put w l t s x y
-    ∙ cond-true (same_place (y, x) (t, l)) s (cell w x y) (is_same (y, x) (t, l) (let hj' : j ≡ 0 = omega arith in omega (arith, ints)) (let hi' : i ≡ 0 = omega arith in omega (arith, ints)))
-    ∙ sym (cell_in-one 0 s i j)
+    grind (arith, ints, put_square-one, cell-put, cond-true, is_same, cell_in-one)
 put_square-inside (suc k) (one s) l t w x y i j is ex ey hi hj = absurd is
 put_square-inside zero (four nw ne sw se) l t w x y i j is ex ey hi hj = absurd is
 put_square-inside (suc k) (four nw ne sw se) l t w x y i j is ex ey hi hj =
@@ -228,12 +211,7 @@ pub record IsAway (n : ℕ) (l t x y : ℤ) : Type 0 where
   pub hj : j < n
 
 pub offsets : (n : ℕ) (l t x y : ℤ) → IsIn n l t x y → IsAway n l t x y
-offsets n l t x y h =
-    let at_x = offset l x h.left in
-    let at_y = offset t y h.top in
-    let right = h.right in let bottom = h.bottom in
-    let ex = at_x.1 in let ey = at_y.1 in
-    record { i = at_x.0; j = at_y.0; ex = ex; ey = ey; hi = omega (arith, ints); hj = omega (arith, ints) }
+offsets n l t x y h = grind (arith, ints, offset)
 
 -- an empty square is put where no cell is live
 pub put_square-clear : (k : ℕ) (l t : ℤ) (w : World) → IsClear (2 ^ k) l t w → put_square k (empty_square k) l t w ≡ w
@@ -266,8 +244,7 @@ at_origin x i h = let z : i ≡ 0 = omega arith in omega (arith, ints)
 
 -- it has the world's cells
 pub square_at-cells : (w : World) (k : ℕ) (x y : ℤ) (i j : ℕ) → i < 2 ^ k → j < 2 ^ k → cell_in k (square_at w k x y) i j ≡ cell w (x +ℤ pos i) (y +ℤ pos j)
-square_at-cells w zero x y i j hi hj =
-    ap (λ (t : Square). cell_in 0 t i j) (square_at-zero w x y) ∙ cell_in-one 0 (cell w x y) i j ∙ ap₂ (cell w) (at_origin x i hi) (at_origin y j hj)
+square_at-cells w zero x y i j hi hj = grind (arith, square_at-zero, cell_in-one, at_origin)
 square_at-cells w (suc k) x y i j hi hj =
     let h = 2 ^ k in
     let twice = double k in

@@ -1,5 +1,5 @@
 -- The root in the middle of a root, by its rows.
-use Rattle.std.proofs.Common.{◌≡◌, ℕ, zero, suc, ◌-◌, ◌<◌, ◌≤◌, ◌^◌, ◌==◌, Bool, true, false, cond, List, [], ◌∷◌, ◌++◌, length, get_or, Option, Some, None, refl, sym, ap, ◌∙◌, subst, arith, inl, inr, lit<, pow_mono}
+use Rattle.std.proofs.Common.{◌≡◌, ℕ, zero, suc, ◌-◌, ◌<◌, ◌≤◌, ◌^◌, ◌==◌, Bool, true, false, cond, List, [], ◌∷◌, ◌++◌, length, Option, Some, None, refl, sym, ap, ◌∙◌, subst, arith, inl, inr, lit<, pow_mono}
 use Rattle.std.specs.Prelude.{IfNone}
 use Rattle.std.proofs.lemmas.Bool.{cases_lt, cases_eq, and_parts, and_from, or_cases, or_left, or_right, eqb-true, eq-eqb, ne_eqb, cond-true, cond-false}
 use Rattle.std.proofs.lemmas.Int.{ints}
@@ -7,10 +7,10 @@ use Rattle.std.proofs.lemmas.List.{length_push, get_or_push, nil_from_length}
 use Rattle.worlds.specs.World.{World}
 use Rattle.plane_core.specs.declared.row.SquareRow.{SquareRow}
 use Rattle.worlds.specs.Square.{Square, one, four, empty_square, IsSquare}
-use Rattle.plane_core.specs.Rows.{no_row, row_at, kid, IsNumber, AreRows, square_in, root_level, world_of_rows, Fits, IsLeastLevel}
-use Rattle.plane_core.specs.Walks.{Has, AreWalked}
+use Rattle.plane_core.specs.Rows.{row_at, kid, IsNumber, AreRows, square_in, root_level, world_of_rows, Fits, IsLeastLevel}
+use Rattle.plane_core.specs.Walks.{AreWalked}
 use Rattle.plane_core.specs.Centre.{cornered, centred, is_passed, is_alone, NoneEmpty, AreFilled, IsCorner, IsCentre}
-use Rattle.plane_core.proofs.Shared.Numbering.{Grows, Grows-more, Has-empty, Has-one}
+use Rattle.plane_core.proofs.Shared.Numbering.{Grows-more, Has-empty, Has-one}
 use Rattle.plane_core.proofs.Shared.Sound.{row_of, IsNumber-level, IsNumber-from, IsNumber-state, IsNumber-before, IsNumber-last, square_in-none, square_in-state, square_in-row, square_in-grown, AreRows-push}
 use Rattle.plane_core.proofs.Shared.Roots.{rooted, root-IsSquare, root-Fits, root_level-none, root_level-some, root-side, square_in-IsSquare}
 use Rattle.plane_core.proofs.Shared.Cells.{nw_of, ne_of, sw_of, se_of}
@@ -25,10 +25,7 @@ IfNone_from (Some x) P p = tt
 
 -- walked rows have no row of an empty square
 pub walked-filled : (rows : List SquareRow) → AreWalked rows → AreFilled rows
-walked-filled rows w = record {
-  valid = w.valid;
-  none_empty = λ k n h e. Has-one k (square_in rows k n) rows n 0 (w.each k n h) (subst (λ (t : Square). Has k t rows 0) (sym e) (Has-empty k rows));
-}
+walked-filled rows w = grind (arith, Has-one, Has-empty)
 
 state_in_one : Square → ℕ
 state_in_one (one s) = s
@@ -42,42 +39,18 @@ state_empty n e = ap state_in_one e
 square_in-number : (rows : List SquareRow) (k n : ℕ) → 0 < n → square_in rows (suc k) n
     ≡ four (square_in rows k (kid (row_at rows n) 0)) (square_in rows k (kid (row_at rows n) 1)) (square_in rows k (kid (row_at rows n) 2)) (square_in rows k (kid (row_at rows n) 3))
 square_in-number rows k zero h = absurd (omega (arith, h))
-square_in-number rows k (suc i) h =
-    let less : i ≡ suc i - 1 = omega arith in
-    square_in-row rows k i
-    ∙ ap (λ m. four (square_in rows k (kid (get_or rows m no_row) 0)) (square_in rows k (kid (get_or rows m no_row) 1)) (square_in rows k (kid (get_or rows m no_row) 2)) (square_in rows k (kid (get_or rows m no_row) 3))) less
+square_in-number rows k (suc i) h = grind (arith, square_in-row)
 
 passed_square : (rows : List SquareRow) (k corner q inner n : ℕ) → (corner ≡ q → inner ≡ n) → is_passed corner q n ≡ true → square_in rows k n ≡ cond (corner == q) (square_in rows k inner) (empty_square k)
 passed_square rows k corner q inner n same h =
-    elim (cases_eq corner q) [
-      | inl e ↦ ap (square_in rows k) (sym (same e)) ∙ sym (cond-true (corner == q) (square_in rows k inner) (empty_square k) (eq-eqb corner q e))
-      | inr ne ↦
-          elim (or_cases (corner == q) (n == 0) h) [
-            | inl e ↦ absurd (ne (eqb-true corner q e))
-            | inr e ↦ ap (square_in rows k) (eqb-true n 0 e) ∙ square_in-none rows k ∙ sym (cond-false (corner == q) (square_in rows k inner) (empty_square k) (ne_eqb corner q ne))
-          ]
-    ]
+    grind (arith, cases_eq, cond-true, eq-eqb, or_cases, eqb-true, square_in-none, cond-false, ne_eqb)
 
 -- where the other kids are 0 the square has its live cells at the corner
 pub corner-alone : (rows : List SquareRow) (k n corner : ℕ) → AreRows rows → 0 < k → 0 < n → IsNumber rows k n → corner < 4 → is_alone corner (row_at rows n).kids ≡ true
     → IsCorner rows (k - 1) n corner (kid (row_at rows n) corner)
 corner-alone rows zero n corner valid hk hn h hc alone = absurd (omega (arith, hk))
 corner-alone rows (suc k) n corner valid hk hn h hc alone =
-    let row = row_at rows n in
-    let less : suc k - 1 ≡ k = omega arith in
-    let m = kid row corner in
-    let p0 = and_parts _ _ alone in
-    let p1 = and_parts _ _ p0.1 in
-    let p2 = and_parts _ _ p1.1 in
-    let nw = passed_square rows k corner 0 m (kid row 0) (λ e. ap (kid row) e) p0.0 in
-    let ne = passed_square rows k corner 1 m (kid row 1) (λ e. ap (kid row) e) p1.0 in
-    let sw = passed_square rows k corner 2 m (kid row 2) (λ e. ap (kid row) e) p2.0 in
-    let se = passed_square rows k corner 3 m (kid row 3) (λ e. ap (kid row) e) p2.1 in
-    let square : square_in rows (suc k) n ≡ cornered k corner (square_in rows k m) = square_in-number rows k n hn ∙ (λ i. four (nw i) (ne i) (sw i) (se i)) in
-    record {
-      names = number-kid rows (suc k) n corner valid hk hn h hc;
-      square = subst (λ j. square_in rows (suc j) n ≡ cornered j corner (square_in rows j m)) (sym less) square;
-    }
+    grind (arith, and_parts, passed_square, square_in-number, number-kid)
 
 -- an empty square has an empty one at its corner
 pub corner-none : (rows : List SquareRow) (k corner : ℕ) → IsNumber rows k 0 → IsCorner rows k 0 corner 0
@@ -99,10 +72,7 @@ corner-none rows k corner h =
 
 passed_from : (rows : List SquareRow) (k corner q n : ℕ) (s : Square) → NoneEmpty rows → IsNumber rows k n → square_in rows k n ≡ cond (corner == q) s (empty_square k) → is_passed corner q n ≡ true
 passed_from rows k corner q n s none h e =
-    elim (cases_eq corner q) [
-      | inl same ↦ or_left _ _ (eq-eqb corner q same)
-      | inr ne ↦ or_right _ _ (eq-eqb n 0 (none k n h (e ∙ cond-false (corner == q) s (empty_square k) (ne_eqb corner q ne))))
-    ]
+    grind (arith, cases_eq, or_left, eq-eqb, or_right, cond-false, ne_eqb)
 
 -- and only then
 pub corner-only : (rows : List SquareRow) (k n corner : ℕ) → AreRows rows → NoneEmpty rows → 0 < k → 0 < n → IsNumber rows k n → is_alone corner (row_at rows n).kids ≡ false
@@ -110,25 +80,11 @@ pub corner-only : (rows : List SquareRow) (k n corner : ℕ) → AreRows rows �
 unfolding nw_of ne_of sw_of se_of
 corner-only rows zero n corner valid none hk hn h other s e = absurd (omega (arith, hk))
 corner-only rows (suc k) n corner valid none hk hn h other s e =
-    let row = row_at rows n in
-    let less : suc k - 1 ≡ k = omega arith in
-    let number = λ (q : ℕ) (hq : q < 4). subst (λ j. IsNumber rows j (kid row q)) less (number-kid rows (suc k) n q valid hk hn h hq) in
-    let is : four (square_in rows k (kid row 0)) (square_in rows k (kid row 1)) (square_in rows k (kid row 2)) (square_in rows k (kid row 3)) ≡ cornered k corner s =
-    sym (square_in-number rows k n hn) ∙ subst (λ j. square_in rows (suc j) n ≡ cornered j corner s) less e in
-    let p0 = passed_from rows k corner 0 (kid row 0) s none (number 0 (lit< tt)) (ap nw_of is) in
-    let p1 = passed_from rows k corner 1 (kid row 1) s none (number 1 (lit< tt)) (ap ne_of is) in
-    let p2 = passed_from rows k corner 2 (kid row 2) s none (number 2 (lit< tt)) (ap sw_of is) in
-    let p3 = passed_from rows k corner 3 (kid row 3) s none (number 3 (lit< tt)) (ap se_of is) in
-    let alone : is_alone corner row.kids ≡ true = and_from _ _ p0 (and_from _ _ p1 (and_from _ _ p2 p3)) in
-    cc
+    grind (arith, number-kid, square_in-number, passed_from, and_from)
 
 -- a root of a level above 1 is a row
 pub rows-some : (rows : List SquareRow) → (root_level rows ≡ 1 → ⊥) → 0 < length rows
-rows-some rows high =
-    elim (cases_lt 0 (length rows)) [
-      | inl some ↦ some
-      | inr none ↦ absurd (high (ap root_level (nil_from_length rows (omega arith)) ∙ root_level-none))
-    ]
+rows-some rows high = grind (arith, cases_lt, nil_from_length, root_level-none)
 
 -- what fits a root fits a larger one
 fits_larger : (w : World) (j k : ℕ) → 1 ≤ j → j ≤ k → Fits j w → Fits k w
@@ -219,24 +175,10 @@ module _ (rows : List SquareRow) (k a b c d : ℕ) (valid : AreRows rows) (none 
       (record { low = omega arith; high = omega arith; kids = λ q hq. let less : suc k - 1 ≡ k = omega arith in subst (λ m. IsNumber rows m (kid (row_of (suc k) a b c d) q)) (sym less) (middle_kid q hq) })
 
   middle_level : root_level (rows ++ row_of (suc k) a b c d ∷ []) ≡ suc k
-  middle_level =
-      let row = row_of (suc k) a b c d in
-      let all = rows ++ row ∷ [] in
-      let count : length all - 1 ≡ length rows = omega (arith, length_push rows row) in
-      root_level-some all (omega (arith, length_push rows row)) ∙ ap (λ m. (get_or all m no_row).level) count ∙ ap (λ (r : SquareRow). r.level) (get_or_push rows row no_row (length rows) refl)
+  middle_level = grind (arith, length_push, root_level-some, get_or_push)
 
   middle_square : square_in (rows ++ row_of (suc k) a b c d ∷ []) (suc k) (suc (length rows)) ≡ four (square_in rows k a) (square_in rows k b) (square_in rows k c) (square_in rows k d)
-  middle_square =
-      let row = row_of (suc k) a b c d in
-      let all = rows ++ row ∷ [] in
-      let g : Grows rows all = Grows-more rows (row ∷ []) in
-      let nw = square_in-grown rows all k a g valid middle.nw.names in
-      let ne = square_in-grown rows all k b g valid middle.ne.names in
-      let sw = square_in-grown rows all k c g valid middle.sw.names in
-      let se = square_in-grown rows all k d g valid middle.se.names in
-      square_in-row all k (length rows)
-      ∙ ap (λ (r : SquareRow). four (square_in all k (kid r 0)) (square_in all k (kid r 1)) (square_in all k (kid r 2)) (square_in all k (kid r 3))) (get_or_push rows row no_row (length rows) refl)
-      ∙ (λ i. four (nw i) (ne i) (sw i) (se i))
+  middle_square = grind (arith, Grows-more, square_in-grown, square_in-row, get_or_push)
 
   middle_world : world_of_rows (rows ++ row_of (suc k) a b c d ∷ []) ≡ world_of_rows rows
   middle_world =
@@ -261,31 +203,16 @@ module _ (rows : List SquareRow) (k a b c d : ℕ) (valid : AreRows rows) (none 
       absurd (omega (arith, zero_is, some))
 
   none_before : (j i : ℕ) → i < length rows → IsNumber (rows ++ row_of (suc k) a b c d ∷ []) (suc j) (suc i) → square_in (rows ++ row_of (suc k) a b c d ∷ []) (suc j) (suc i) ≡ empty_square (suc j) → suc i ≡ 0
-  none_before j i lt h e =
-      let row = row_of (suc k) a b c d in
-      let all = rows ++ row ∷ [] in
-      let g : Grows rows all = Grows-more rows (row ∷ []) in
-      let old = IsNumber-before rows row j i lt h in
-      none (suc j) (suc i) old (sym (square_in-grown rows all (suc j) (suc i) g valid old) ∙ e)
+  none_before j i lt h e = grind (arith, Grows-more, IsNumber-before, square_in-grown)
 
   none_last : (j i : ℕ) → i ≡ length rows → IsNumber (rows ++ row_of (suc k) a b c d ∷ []) (suc j) (suc i) → square_in (rows ++ row_of (suc k) a b c d ∷ []) (suc j) (suc i) ≡ empty_square (suc j) → suc i ≡ 0
-  none_last j i last h e =
-      let row = row_of (suc k) a b c d in
-      let all = rows ++ row ∷ [] in
-      let level : suc k ≡ suc j = IsNumber-last rows row j i last h in
-      let here : square_in all (suc k) (suc (length rows)) ≡ empty_square (suc k) = subst (λ m. square_in all (suc m) (suc (length rows)) ≡ empty_square (suc m)) (let same : j ≡ k = omega (arith, level) in same)
-      (subst (λ m. square_in all (suc j) (suc m) ≡ empty_square (suc j)) last e) in
-      absurd (not_empty (sym middle_square ∙ here))
+  none_last j i last h e = grind (arith, IsNumber-last, not_empty, middle_square)
 
   middle_none : NoneEmpty (rows ++ row_of (suc k) a b c d ∷ [])
   middle_none zero n h e = state_empty n (sym (square_in-state (rows ++ row_of (suc k) a b c d ∷ []) n) ∙ e)
   middle_none (suc j) zero h e = refl
   middle_none (suc j) (suc i) h e =
-      let at = IsNumber-level (rows ++ row_of (suc k) a b c d ∷ []) j (suc i) h (omega arith) in
-      elim (cases_lt i (length rows)) [
-        | inl lt ↦ none_before j i lt h e
-        | inr ge ↦ none_last j i (omega (arith, at.0, length_push rows (row_of (suc k) a b c d))) h e
-      ]
+      grind (arith, IsNumber-level, cases_lt, none_before, none_last, length_push)
 
   -- the root in the middle is one of the same world
   is_centre : IsCentre rows (row_of (suc k) a b c d)

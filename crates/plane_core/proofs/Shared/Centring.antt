@@ -45,13 +45,7 @@ module _ (k : ℕ) (s : Square) (l t : ℤ) (w : World) (is : IsSquare k s) (fre
       (put_square-clear k _ _ _ on.ne ∙ put_square-clear k l t w (free_parts k l t w free).nw)
 
   put-se : put_square (suc k) (cornered k 3 s) l t w ≡ put_square k s (l +ℤ pos (2 ^ k)) (t +ℤ pos (2 ^ k)) w
-  put-se =
-      let e = empty_square k in
-      let on = puts_free k e e e l t w (IsSquare-empty k) (IsSquare-empty k) (IsSquare-empty k) free in
-      put_square-four k e e e s l t w
-      ∙ ap (put_square k s (l +ℤ pos (2 ^ k)) (t +ℤ pos (2 ^ k)))
-      (put_square-clear k _ _ _ on.sw ∙ put_square-clear k _ _ _ on.ne
-      ∙ put_square-clear k l t w (free_parts k l t w free).nw)
+  put-se = grind (arith, puts_free, IsSquare-empty, put_square-four, put_square-clear, free_parts)
 
 -- a root of a level
 abbrev pub root_world : ℕ → Square → World

@@ -1,5 +1,5 @@
 -- The measures of squares, row by row.
-use Rattle.std.proofs.Common.{◌≡◌, ℕ, zero, suc, ◌+◌, ◌-◌, ◌<◌, ◌≤◌, ◌^◌, List, length, get_or, take, Option, None, Some, refl, sym, ap, ap₂, ◌∙◌, subst, arith, inl, inr, lit<, pow_mono, ℤ, pos, ◌+ℤ◌}
+use Rattle.std.proofs.Common.{◌≡◌, ℕ, zero, suc, ◌+◌, ◌-◌, ◌<◌, ◌≤◌, ◌^◌, List, length, get_or, Option, None, Some, refl, sym, ap, ap₂, ◌∙◌, subst, arith, inl, inr, lit<, pow_mono, ℤ, pos, ◌+ℤ◌}
 use Rattle.std.specs.Prelude.{IfSome, IsNone, ◌↔◌}
 use Rattle.std.proofs.lemmas.Int.{ints}
 use Rattle.std.proofs.lemmas.List.{length-take-le, nil_from_length}
@@ -25,10 +25,7 @@ all_free k l t x y h = cell-blank x y
 
 -- how many live cells a square has, wherever it is put where no cell was live
 population-put_square : (k : ℕ) (s : Square) (l t : ℤ) (w : World) → IsSquare k s → IsFree k l t w → population (put_square k s l t w) ≡ tally is_live s + population w
-population-put_square k s l t w is free =
-    population-total (put_square k s l t w)
-    ∙ total-put_square is_live k s l t w refl is free
-    ∙ ap (λ n. tally is_live s + n) (sym (population-total w))
+population-put_square k s l t w is free = grind (arith, population-total, total-put_square)
 
 population-blank : population blank ≡ 0
 population-blank = population-total blank ∙ total-blank is_live
@@ -114,11 +111,7 @@ one-greatest s h = record {
 }
 
 one-blank : (h : 0 < 256) → alone 0 (one 0) ≡ blank
-one-blank h =
-    same_world (alone 0 (one 0)) blank (λ x y. elim (in_or_out (2 ^ 0) (pos 0) (pos 0) x y) [
-      | inl at ↦ ap₂ (cell (alone 0 (one 0))) (only_x x y at) (only_y x y at) ∙ cell-alone 0 h ∙ sym (cell-blank x y)
-      | inr out ↦ cell-beside 0 x y h out ∙ sym (cell-blank x y)
-    ])
+one-blank h = grind (arith, same_world, in_or_out, only_x, only_y, cell-alone, cell-blank, cell-beside)
 
 -- the measures of one cell
 pub measures-state : (s : ℕ) → s < 256 → AreMeasuresOf (alone 0 (one s)) (measures_of_state s)
@@ -180,12 +173,7 @@ known_by : (rows : List SquareRow) (all : List Measures) (k n : ℕ) → AreRows
 unfolding measures_in
 known_by rows all zero n valid known h listed = subst (λ (t : Square). AreMeasuresOf (alone 0 t) (measures_of_state n)) (sym (square_in-state rows n)) (measures-state n (state-IsNumber rows n h))
 known_by rows all (suc k) zero valid known h listed = subst (λ (t : Square). AreMeasuresOf (alone (suc k) t) no_measures) (sym (square_in-none rows (suc k))) (measures-empty (suc k))
-known_by rows all (suc k) (suc i) valid known h listed =
-    let within : suc i ≤ length all = listed (omega arith) in
-    let at = IsNumber-level rows k (suc i) h (omega arith) in
-    let less : suc i - 1 ≡ i = omega arith in
-    let level : (get_or rows i no_row).level ≡ suc k = ap (λ m. (get_or rows m no_row).level) (sym less) ∙ at.1 in
-    subst (λ j. AreMeasuresOf (alone j (square_in rows j (suc i))) (get_or all i no_measures)) level (known.each i (omega arith))
+known_by rows all (suc k) (suc i) valid known h listed = grind (arith, IsNumber-level)
 
 state_below : (rows : List SquareRow) (k n : ℕ) → IsNumber rows k n → k ≡ 0 → n < 256
 state_below rows k n h e = state-IsNumber rows n (subst (λ j. IsNumber rows j n) e h)
@@ -202,19 +190,7 @@ pub record IsKid (rows : List SquareRow) (i k n : ℕ) : Type 0 where
   pub listed : 1 ≤ k → n ≤ i
 
 pub kid_is : (rows : List SquareRow) (i k q : ℕ) → AreRows rows → i < length rows → k ≡ (get_or rows i no_row).level - 1 → q < 4 → IsKid rows i k (kid (get_or rows i no_row) q)
-kid_is rows i k q valid more ek hq =
-    let n = kid (get_or rows i no_row) q in
-    let row = valid i more in
-    let low : 1 ≤ (get_or rows i no_row).level = row.low in
-    let high : (get_or rows i no_row).level ≤ 62 = row.high in
-    let level : (get_or rows i no_row).level ≡ suc k = omega arith in
-    let early : IsNumber (take i rows) k n = subst (λ j. IsNumber (take i rows) j n) (sym ek) (row.kids q hq) in
-    record {
-      level = sym level;
-      high = omega arith;
-      number = kid_number rows k i valid more level q hq;
-      listed = λ h. omega (arith, number_listed (take i rows) k n h early, length-take-le i rows (omega arith));
-    }
+kid_is rows i k q valid more ek hq = grind (arith, kid_number, number_listed, length-take-le)
 
 pub kid_known : (rows : List SquareRow) (all : List Measures) (k q : ℕ) → AreRows rows → AreMeasured rows all → length all < length rows → k ≡ (get_or rows (length all) no_row).level - 1 → q < 4
     → IsKnown rows all k (kid (get_or rows (length all) no_row) q)

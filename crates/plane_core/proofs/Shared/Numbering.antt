@@ -39,11 +39,7 @@ Grows-back a b f g =
 
 -- rows that are the same are equal
 pub same_row-is : (a b : SquareRow) → same_row a b ≡ true → a ≡ b
-same_row-is a b h =
-    let parts = and_parts (eqb a.level b.level) (same_kids a.kids b.kids) h in
-    let levels : a.level ≡ b.level = eqb-true a.level b.level parts.0 in
-    let kids : a.kids ≡ b.kids = (bytes_eq-Decides a.kids b.kids).0 parts.1 in
-    (λ i. record { level = levels i; kids = kids i })
+same_row-is a b h = grind (arith, and_parts, eqb-true, bytes_eq-Decides)
 
 pub same_row-itself : (a : SquareRow) → same_row a a ≡ true
 same_row-itself a = and_from (eqb a.level a.level) (same_kids a.kids a.kids) (eq-eqb a.level a.level refl) ((bytes_eq-Decides a.kids a.kids).1 refl)
@@ -115,8 +111,7 @@ has_longer row rows e = absurd (omega (arith, ap length e, length_push rows row)
 numbered-kept : (b c c' : Bool) (row : SquareRow) (rows zs : List SquareRow) (m m' n : ℕ) → (c ≡ true → c' ≡ true) → (c ≡ true → m' ≡ m)
     → numbered b c row rows m ≡ record { rows = rows; number = n } → numbered b c' row (rows ++ zs) m' ≡ record { rows = rows ++ zs; number = n }
 numbered-kept true c c' row rows zs m m' n there same e = λ i. record { rows = rows ++ zs; number = (e i).number }
-numbered-kept false true c' row rows zs m m' n there same e =
-    ap (λ b. numbered false b row (rows ++ zs) m') (there refl) ∙ (let is : m' ≡ n = same refl ∙ ap (λ (r : Numbered). r.number) e in λ i. record { rows = rows ++ zs; number = is i })
+numbered-kept false true c' row rows zs m m' n there same e = grind (arith)
 numbered-kept false false c' row rows zs m m' n there same e = absurd (has_longer row rows (ap (λ (r : Numbered). r.rows) e))
 
 -- a row that has a number keeps it when others come behind
@@ -129,11 +124,7 @@ RowHas-kept row rows zs n h =
 pub Has-four : (k : ℕ) (nw ne sw se : Square) (rows : List SquareRow) (a b c d n : ℕ) → Has k nw rows a → Has k ne rows b → Has k sw rows c → Has k se rows d
     → RowHas (record { level = suc k; kids = a ∷ b ∷ c ∷ d ∷ [] }) rows n → Has (suc k) (four nw ne sw se) rows n
 unfolding number_square
-Has-four k nw ne sw se rows a b c d n ha hb hc hd hr =
-    let eb = ap (λ (z : Numbered). number_square k ne z.rows) ha ∙ hb in
-    let ec = ap (λ (z : Numbered). number_square k sw z.rows) eb ∙ hc in
-    let ed = ap (λ (z : Numbered). number_square k se z.rows) ec ∙ hd in
-    (λ i. number_row (record { level = suc k; kids = (ha i).number ∷ (eb i).number ∷ (ec i).number ∷ (ed i).number ∷ [] }) (ed i).rows) ∙ hr
+Has-four k nw ne sw se rows a b c d n ha hb hc hd hr = grind (arith)
 
 -- a square that has a number keeps it when others come behind
 pub Has-kept : (k : ℕ) (t : Square) (rows zs : List SquareRow) (n : ℕ) → Has k t rows n → Has k t (rows ++ zs) n
@@ -172,14 +163,8 @@ numbered-again : (b c : Bool) (row : SquareRow) (rows : List SquareRow) → same
     → RowHas row (numbered b c row rows (position_or_len (same_row row) rows + 1)).rows (numbered b c row rows (position_or_len (same_row row) rows + 1)).number
 unfolding number_row
 numbered-again true c row rows eb ec = ap (λ b. numbered b (list_any (same_row row) rows) row rows (position_or_len (same_row row) rows + 1)) eb
-numbered-again false true row rows eb ec =
-    ap (λ b. numbered b (list_any (same_row row) rows) row rows (position_or_len (same_row row) rows + 1)) eb
-    ∙ ap (λ c. numbered false c row rows (position_or_len (same_row row) rows + 1)) ec
-numbered-again false false row rows eb ec =
-    let all = rows ++ row ∷ [] in
-    ap (λ b. numbered b (list_any (same_row row) all) row all (position_or_len (same_row row) all + 1)) eb
-    ∙ ap (λ c. numbered false c row all (position_or_len (same_row row) all + 1)) (there_last row rows)
-    ∙ ap (λ n. numbered false true row all (n + 1)) (found_last row rows ec ∙ sym (not_found (same_row row) rows ec))
+numbered-again false true row rows eb ec = grind (arith)
+numbered-again false false row rows eb ec = grind (arith, there_last, found_last, not_found)
 
 -- `number_row`, by its tests
 pub number_row-is : (row : SquareRow) (rows : List SquareRow) → number_row row rows ≡ numbered (same_kids row.kids (0 ∷ 0 ∷ 0 ∷ 0 ∷ [])) (list_any (same_row row) rows) row rows (position_or_len (same_row row) rows + 1)
@@ -188,9 +173,7 @@ number_row-is row rows = refl
 
 -- a row that was numbered has its number
 pub RowHas-again : (row : SquareRow) (rows : List SquareRow) → RowHas row (number_row row rows).rows (number_row row rows).number
-RowHas-again row rows =
-    let is = number_row-is row rows in
-    subst (λ (r : Numbered). RowHas row r.rows r.number) (sym is) (numbered-again _ _ row rows refl refl)
+RowHas-again row rows = grind (arith, number_row-is, numbered-again)
 
 -- what has grown keeps the numbers
 pub Has-grown : (k : ℕ) (t : Square) (old new : List SquareRow) (n : ℕ) → Grows old new → Has k t old n → Has k t new n
@@ -248,10 +231,7 @@ by_there false row rows n = refl
 -- any other goes where an insertion puts it
 pub number_row-insert : (row : SquareRow) (rows : List SquareRow) → same_kids row.kids (0 ∷ 0 ∷ 0 ∷ 0 ∷ []) ≡ false
     → number_row row rows ≡ record { rows = cond (list_any (same_row row) rows) rows (rows ++ row ∷ []); number = position_or_len (same_row row) rows + 1 }
-number_row-insert row rows e =
-    number_row-is row rows
-    ∙ ap (λ b. numbered b (list_any (same_row row) rows) row rows (position_or_len (same_row row) rows + 1)) e
-    ∙ by_there (list_any (same_row row) rows) row rows (position_or_len (same_row row) rows + 1)
+number_row-insert row rows e = grind (arith, number_row-is, by_there)
 
 few_by : (b : Bool) (row : SquareRow) (rows : List SquareRow) (n : ℕ) → length rows < n → (b ≡ false → length rows + 1 < n) → length (cond b rows (rows ++ row ∷ [])) < n
 few_by true row rows n h g = h

@@ -5,7 +5,7 @@ use Rattle.worlds.specs.World.{cell, blank, cell-blank, same_world}
 use Rattle.worlds.specs.Range.{HasMargin}
 use Rattle.plane_core.specs.declared.row.SquareRow.{SquareRow}
 use Rattle.worlds.specs.Square.{Square, IsSquare, cell_in, put_square, IsIn}
-use Rattle.plane_core.specs.Rows.{Numbered, number_square, no_row, row_at, kid, IsNumber, AreRows, square_in, root_level, root_of, edge_of, world_of_rows, Fits, AreKept}
+use Rattle.plane_core.specs.Rows.{number_square, no_row, row_at, kid, IsNumber, AreRows, square_in, root_level, root_of, edge_of, world_of_rows, Fits, AreKept}
 use Rattle.plane_core.proofs.Shared.Numbering.{Has-empty}
 use Rattle.plane_core.proofs.Shared.Sound.{kid_number, square_in-none, square_in-state, square_in-row, state-IsNumber, IsNumber-level, IsNumber-from, AreRows-none}
 use Rattle.plane_core.proofs.Shared.Cells.{IsSquare-one, IsSquare-empty, IsSquare-parts, cell_in-empty, same_square, put_square-inside, put_square-outside, in_or_out, offsets, double}
@@ -38,12 +38,7 @@ pub record IsRoot (rows : List SquareRow) : Type 0 where
   pub number : IsNumber rows (root_level rows) (length rows)
 
 pub rooted : (rows : List SquareRow) → AreRows rows → IsRoot rows
-rooted [] valid =
-    record {
-      low = omega (arith, root_level-none);
-      high = omega (arith, root_level-none);
-      number = subst (λ k. IsNumber [] k 0) (sym root_level-none) (IsNumber-from [] 0 0 (λ live. absurd (omega (arith, live))));
-    }
+rooted [] valid = grind (arith, root_level-none, IsNumber-from)
 rooted (row ∷ others) valid =
     let rows : List SquareRow = row ∷ others in
     let n = length others in
@@ -70,31 +65,20 @@ world-root rows = refl
 -- each cell in the root's square
 pub world-inside : (rows : List SquareRow) (x y : ℤ) (i j : ℕ) → AreRows rows → x ≡ edge_of (root_level rows) +ℤ pos i → y ≡ edge_of (root_level rows) +ℤ pos j → i < 2 ^ root_level rows → j < 2 ^ root_level rows
     → cell (world_of_rows rows) x y ≡ cell_in (root_level rows) (root_of rows) i j
-world-inside rows x y i j valid ex ey hi hj =
-    ap (λ w. cell w x y) (world-root rows)
-    ∙ put_square-inside (root_level rows) (root_of rows) (edge_of (root_level rows)) (edge_of (root_level rows)) blank x y i j (root-IsSquare rows valid) ex ey hi hj
+world-inside rows x y i j valid ex ey hi hj = grind (arith, world-root, put_square-inside, root-IsSquare)
 
 -- and outside it
 pub world-outside : (rows : List SquareRow) (x y : ℤ) → AreRows rows → (IsIn (2 ^ root_level rows) (edge_of (root_level rows)) (edge_of (root_level rows)) x y → ⊥) → cell (world_of_rows rows) x y ≡ 0
-world-outside rows x y valid out =
-    ap (λ w. cell w x y) (world-root rows)
-    ∙ put_square-outside (root_level rows) (root_of rows) (edge_of (root_level rows)) (edge_of (root_level rows)) blank x y (root-IsSquare rows valid) out
-    ∙ cell-blank x y
+world-outside rows x y valid out = grind (arith, world-root, put_square-outside, root-IsSquare, cell-blank)
 
 -- the live cells lie in the root's square
 pub root-Fits : (rows : List SquareRow) → AreRows rows → Fits (root_level rows) (world_of_rows rows)
-root-Fits rows valid x y live =
-    elim (in_or_out (2 ^ root_level rows) (edge_of (root_level rows)) (edge_of (root_level rows)) x y) [
-      | inl h ↦ h
-      | inr out ↦ absurd (omega (arith, live, world-outside rows x y valid out))
-    ]
+root-Fits rows valid x y live = grind (arith, in_or_out, world-outside)
 
 -- the root's cells, by the world
 pub root-cells : (rows : List SquareRow) (k i j : ℕ) → AreRows rows → root_level rows ≡ k → i < 2 ^ k → j < 2 ^ k
     → cell_in k (square_in rows k (length rows)) i j ≡ cell (world_of_rows rows) (edge_of k +ℤ pos i) (edge_of k +ℤ pos j)
-root-cells rows k i j valid e =
-    subst (λ m. i < 2 ^ m → j < 2 ^ m → cell_in m (square_in rows m (length rows)) i j ≡ cell (world_of_rows rows) (edge_of m +ℤ pos i) (edge_of m +ℤ pos j)) e
-    (λ hi hj. sym (world-inside rows (edge_of (root_level rows) +ℤ pos i) (edge_of (root_level rows) +ℤ pos j) i j valid refl refl hi hj))
+root-cells rows k i j valid e = grind (arith, world-inside)
 
 -- a world has one list of rows
 pub kept-unique : (a b : List SquareRow) → AreKept a → AreKept b → world_of_rows a ≡ world_of_rows b → a ≡ b
@@ -130,13 +114,7 @@ world-none =
 
 -- a plane may keep no rows
 pub kept-none : AreKept []
-kept-none = record {
-  valid = AreRows-none;
-  walked =
-      ap (λ (t : Square). (number_square (root_level []) t []).rows) (square_in-none [] (root_level []))
-      ∙ ap (λ (r : Numbered). r.rows) (Has-empty (root_level []) []);
-  least = record { holds = root-Fits [] AreRows-none; least = λ j low fits. subst (λ k. k ≤ j) (sym root_level-none) low };
-}
+kept-none = grind (arith, AreRows-none, square_in-none, Has-empty, root-Fits, root_level-none)
 
 -- half of a root's side, and the side
 pub root-side : (k : ℕ) → 1 ≤ k → 2 ^ k ≡ 2 ^ (k - 1) + 2 ^ (k - 1)
@@ -145,11 +123,4 @@ root-side (suc k) h = let less : suc k - 1 ≡ k = omega arith in double k ∙ a
 
 -- the live cells lie in the range of planes
 pub margin : (rows : List SquareRow) → AreRows rows → HasMargin 0 (world_of_rows rows)
-margin rows valid x y live =
-    let h = root-Fits rows valid x y live in
-    let left = h.left in let right = h.right in let top = h.top in let bottom = h.bottom in
-    let root = rooted rows valid in
-    let low = root.low in let high = root.high in
-    let half : 2 ^ (root_level rows - 1) ≤ 2 ^ 61 = pow_mono (let less : root_level rows - 1 ≤ 61 = omega arith in less) in
-    let side = root-side (root_level rows) low in
-    record { left = omega (arith, ints); right = omega (arith, ints); top = omega (arith, ints); bottom = omega (arith, ints) }
+margin rows valid x y live = grind (arith, ints, root-Fits, rooted, pow_mono, root-side)

@@ -116,18 +116,7 @@ pub record IsSound (k : ℕ) (t : Square) (r : Numbered) : Type 0 where
 -- rows with one more
 pub AreRows-push : (rows : List SquareRow) (row : SquareRow) → AreRows rows → IsRow rows row → AreRows (rows ++ row ∷ [])
 AreRows-push rows row valid next i h =
-    elim (cases_lt i (length rows)) [
-      | inl lt ↦
-          let le : i ≤ length rows = omega arith in
-          let front : take i (rows ++ row ∷ []) ≡ take i rows = take-append-le i rows (row ∷ []) le in
-          let at : get_or (rows ++ row ∷ []) i no_row ≡ get_or rows i no_row = get_or_append_left rows (row ∷ []) no_row i lt in
-          subst (λ (r : SquareRow). IsRow (take i (rows ++ row ∷ [])) r) (sym at) (subst (λ (rs : List SquareRow). IsRow rs (get_or rows i no_row)) (sym front) (valid i lt))
-      | inr ge ↦
-          let last : length rows ≡ i = omega (arith, h, length_push rows row) in
-          let front : take i (rows ++ row ∷ []) ≡ rows = take_at rows (row ∷ []) i last in
-          let at : get_or (rows ++ row ∷ []) i no_row ≡ row = get_or_push rows row no_row i last in
-          subst (λ (r : SquareRow). IsRow (take i (rows ++ row ∷ [])) r) (sym at) (subst (λ (rs : List SquareRow). IsRow rs row) (sym front) next)
-    ]
+    grind (arith, cases_lt, take-append-le, get_or_append_left, length_push, take_at, get_or_push)
 
 -- the row of four numbers
 abbrev pub row_of : ℕ → ℕ → ℕ → ℕ → ℕ → SquareRow
@@ -137,12 +126,7 @@ row_of k a b c d = record { level = k; kids = a ∷ b ∷ c ∷ d ∷ [] }
 pub walks-quadrants : (k : ℕ) (nw ne sw se : Square) (d0 d1 d2 d3 d4 d5 : List SquareRow) (a b c d m : ℕ) → Walks k nw d0 d1 a → Walks k ne d1 d2 b → Walks k sw d2 d3 c → Walks k se d3 d4 d
     → (number_row (row_of (suc k) a b c d) d4).rows ≡ d5 → (number_row (row_of (suc k) a b c d) d4).number ≡ m → Walks (suc k) (four nw ne sw se) d0 d5 m
 unfolding number_square
-walks-quadrants k nw ne sw se d0 d1 d2 d3 d4 d5 a b c d m ha hb hc hd hr hm =
-    let eb = ap (λ (z : Numbered). number_square k ne z.rows) ha ∙ hb in
-    let ec = ap (λ (z : Numbered). number_square k sw z.rows) eb ∙ hc in
-    let ed = ap (λ (z : Numbered). number_square k se z.rows) ec ∙ hd in
-    (λ i. number_row (record { level = suc k; kids = (ha i).number ∷ (eb i).number ∷ (ec i).number ∷ (ed i).number ∷ [] }) (ed i).rows)
-    ∙ (λ i. record { rows = hr i; number = hm i })
+walks-quadrants k nw ne sw se d0 d1 d2 d3 d4 d5 a b c d m ha hb hc hd hr hm = grind (arith)
 
 pub Has-state : (rows done : List SquareRow) (s : ℕ) → Has 0 (square_in rows 0 s) done s
 unfolding number_square square_in
@@ -175,17 +159,10 @@ which_kid rows k a b c d kids (suc (suc (suc (suc q)))) h = absurd (omega (arith
 -- the square of a row
 quadrants : (rows new : List SquareRow) (k a b c d : ℕ) → Grows rows new → AreKids rows k a b c d
     → four (square_in new k a) (square_in new k b) (square_in new k c) (square_in new k d) ≡ four (square_in rows k a) (square_in rows k b) (square_in rows k c) (square_in rows k d)
-quadrants rows new k a b c d g kids =
-    let nw = square_in-grown rows new k a g kids.valid kids.nw in
-    let ne = square_in-grown rows new k b g kids.valid kids.ne in
-    let sw = square_in-grown rows new k c g kids.valid kids.sw in
-    let se = square_in-grown rows new k d g kids.valid kids.se in
-    λ j. four (nw j) (ne j) (sw j) (se j)
+quadrants rows new k a b c d g kids = grind (arith, square_in-grown)
 
 square_in-at : (rows : List SquareRow) (k i a b c d : ℕ) → get_or rows i no_row ≡ row_of (suc k) a b c d → square_in rows (suc k) (suc i) ≡ four (square_in rows k a) (square_in rows k b) (square_in rows k c) (square_in rows k d)
-square_in-at rows k i a b c d e =
-    square_in-row rows k i
-    ∙ ap (λ (row : SquareRow). four (square_in rows k (kid row 0)) (square_in rows k (kid row 1)) (square_in rows k (kid row 2)) (square_in rows k (kid row 3))) e
+square_in-at rows k i a b c d e = grind (arith, square_in-row)
 
 -- the square of four numbers has the number that their row has
 Has-kids : (rows new : List SquareRow) (k a b c d n : ℕ) → Grows rows new → AreKids rows k a b c d → RowHas (row_of (suc k) a b c d) new n
@@ -292,9 +269,7 @@ numbered-sound false false rows k a b c d kids high ex ey is =
 
 number_row-sound : (rows : List SquareRow) (k a b c d : ℕ) → AreKids rows k a b c d → k < 62
     → IsSound (suc k) (four (square_in rows k a) (square_in rows k b) (square_in rows k c) (square_in rows k d)) (number_row (row_of (suc k) a b c d) rows)
-number_row-sound rows k a b c d kids high =
-    subst (IsSound (suc k) (four (square_in rows k a) (square_in rows k b) (square_in rows k c) (square_in rows k d))) (sym (number_row-is (row_of (suc k) a b c d) rows))
-    (numbered-sound _ _ rows k a b c d kids high refl refl (number_row-is (row_of (suc k) a b c d) rows))
+number_row-sound rows k a b c d kids high = grind (arith, number_row-is, numbered-sound)
 
 -- the walks of four quadrants, each over the rows of the one before
 pub record AreSound (k : ℕ) (nw ne sw se : Square) (rows : List SquareRow) : Type 0 where
@@ -306,11 +281,7 @@ pub record AreSound (k : ℕ) (nw ne sw se : Square) (rows : List SquareRow) : T
 pub quadrants-sound : (k : ℕ) (nw ne sw se : Square) (rows : List SquareRow)
     → ((t : Square) (rows : List SquareRow) → AreRows rows → EachHas rows → IsSquare k t → IsSound k t (number_square k t rows))
     → AreRows rows → EachHas rows → IsSquare k nw × IsSquare k ne × IsSquare k sw × IsSquare k se → AreSound k nw ne sw se rows
-quadrants-sound k nw ne sw se rows sound valid each is =
-    let a = sound nw rows valid each is.0 in
-    let b = sound ne _ a.valid a.each is.1 in
-    let c = sound sw _ b.valid b.each is.2 in
-    record { nw_is = a; ne_is = b; sw_is = c; se_is = sound se _ c.valid c.each is.3 }
+quadrants-sound k nw ne sw se rows sound valid each is = grind (arith)
 
 -- what a walk gives stands for what was walked
 pub number_square-sound : (k : ℕ) (t : Square) (rows : List SquareRow) → AreRows rows → EachHas rows → IsSquare k t → k ≤ 62 → IsSound k t (number_square k t rows)

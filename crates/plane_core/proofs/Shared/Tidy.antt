@@ -19,11 +19,7 @@ abbrev pub LevelsUpTo : ℕ → List SquareRow → Type 0
 LevelsUpTo m rows = (i : ℕ) → i < length rows → (get_or rows i no_row).level ≤ m
 
 levels_push : (m : ℕ) (rows : List SquareRow) (row : SquareRow) → row.level ≤ m → LevelsUpTo m rows → LevelsUpTo m (rows ++ row ∷ [])
-levels_push m rows row low up i h =
-    elim (cases_lt i (length rows)) [
-      | inl lt ↦ subst (λ (r : SquareRow). r.level ≤ m) (sym (get_or_append_left rows (row ∷ []) no_row i lt)) (up i lt)
-      | inr ge ↦ subst (λ (r : SquareRow). r.level ≤ m) (sym (get_or_push rows row no_row i (omega (arith, h, length_push rows row)))) low
-    ]
+levels_push m rows row low up i h = grind (arith, cases_lt, get_or_append_left, get_or_push, length_push)
 
 numbered-levels : (b c : Bool) (row : SquareRow) (rows : List SquareRow) (n m : ℕ) → row.level ≤ m → LevelsUpTo m rows → LevelsUpTo m (numbered b c row rows n).rows
 numbered-levels true c row rows n m low up = up
@@ -57,9 +53,7 @@ numbered-last false true rows k x y z w up e live =
     let level : (get_or rows (position_or_len (same_row row) rows) no_row).level ≡ suc k = ap (λ (r : SquareRow). r.level) (found_at row rows e) in
     let low : (get_or rows (position_or_len (same_row row) rows) no_row).level ≤ k = up (position_or_len (same_row row) rows) within in
     absurd (omega arith)
-numbered-last false false rows k x y z w up e live =
-    let row = row_of (suc k) x y z w in
-    omega (arith, not_found (same_row row) rows e, length_push rows row)
+numbered-last false false rows k x y z w up e live = grind (arith, not_found, length_push)
 
 -- the row of a walked square is the last
 number_square-last : (k : ℕ) (t : Square) → 0 < (number_square (suc k) t []).number → IsSquare (suc k) t → (number_square (suc k) t []).number ≡ length (number_square (suc k) t []).rows
@@ -152,15 +146,7 @@ tidied rows done valid e =
 
 -- walked from the least root, rows may be kept
 pub kept-walked : (rows done : List SquareRow) → IsTidied rows done → IsLeastLevel (root_level rows) (world_of_rows rows) → AreKept done
-kept-walked rows done t least =
-    elim t.level [
-      | inl level ↦ record {
-        valid = t.walked.valid;
-        walked = t.walked.walked;
-        least = subst (λ k. IsLeastLevel k (world_of_rows done)) (sym level) (subst (IsLeastLevel (root_level rows)) (sym t.world) least);
-      }
-      | inr none ↦ subst AreKept (sym none) kept-none
-    ]
+kept-walked rows done t least = grind (arith, kept-none)
 
 -- what follows from what a clause says of the value in an `Ok`
 pub IfOk_then : {A E : Type 0} (r : Result A E) {P Q : A → Type 0} → IfOk r P → ((x : A) → P x → Q x) → IfOk r Q

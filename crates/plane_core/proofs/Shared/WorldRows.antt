@@ -53,9 +53,7 @@ abbrev Lies : ℕ → Place × ℕ → Type 0
 Lies k e = IsIn (2 ^ k) (edge_of k) (edge_of k) e.0.1 e.0.0
 
 lies-tested : (k : ℕ) (e : Place × ℕ) → (is_within k e.0.1 && is_within k e.0.0) ≡ true → Lies k e
-lies-tested k e h =
-    let both = and_parts (is_within k e.0.1) (is_within k e.0.0) h in
-    record { left = within-left k e.0.1 both.0; right = within-right k e.0.1 both.0; top = within-left k e.0.0 both.1; bottom = within-right k e.0.0 both.1 }
+lies-tested k e h = grind (arith, and_parts, within-left, within-right)
 
 tested-lies : (k : ℕ) (e : Place × ℕ) → Lies k e → (is_within k e.0.1 && is_within k e.0.0) ≡ true
 tested-lies k e h = and_from (is_within k e.0.1) (is_within k e.0.0) (within-from k e.0.1 h.left h.right) (within-from k e.0.0 h.top h.bottom)
@@ -129,10 +127,7 @@ rows_of-squares w rows are =
 
 -- a root of the greatest level holds the range of planes
 range-fits : (w : World) → HasMargin 0 w → Fits 62 w
-range-fits w margin x y alive =
-    let at = margin x y alive in
-    let left = at.left in let right = at.right in let top = at.top in let bottom = at.bottom in
-    record { left = omega (arith, ints); right = omega (arith, ints); top = omega (arith, ints); bottom = omega (arith, ints) }
+range-fits w margin x y alive = grind (arith, ints)
 
 -- a level that is least, and that rows may have
 record IsGoodLevel (k : ℕ) (w : World) : Type 0 where
