@@ -1,6 +1,6 @@
 -- The live cells of a world in the order of their places.
 use Rattle.std.specs.Prelude.{◌≡◌, ℕ, zero, suc, ◌+◌, ◌-◌, ◌<◌, ◌≤◌, Bool, true, false, cond, List, [], ◌∷◌, length, map, get_or, ℤ, pos, Option, Some, unwrap_or, All, count_by, IsPermutation, IsSortedByKey}
-use Rattle.std.proofs.Common.{refl, sym, ap, ◌∙◌, ap₂, subst, arith, Less, Equal, Greater}
+use Rattle.std.proofs.Common.{refl, sym, ap, ◌∙◌, ap₂, subst, arith, Less}
 use Rattle.std.proofs.lemmas.List.{get_or-map, length-map}
 use Rattle.std.proofs.lemmas.List.Elements.{All-get_or, All-weaker, recursion_from_All}
 use Rattle.std.proofs.lemmas.List.Sorted.{All-permutation, sum_by-IsPermutation}
@@ -31,8 +31,7 @@ as_entry e = (e.0, e.1 - 1)
 
 unwrap_or-cond : (b : Bool) (s n : ℕ) (o : Option ℕ) → n ≡ unwrap_or o 0
     → cond b s n ≡ unwrap_or (cond b (Some s) o) 0
-unwrap_or-cond true s n o h = refl
-unwrap_or-cond false s n o h = h
+unwrap_or-cond b s n o h = grind (arith)
 
 -- each state of that world
 pub cell-world_of : (es : List (Place × ℕ)) (x y : ℤ) → cell (world_of es) x y ≡ state_at es (y, x)
@@ -85,8 +84,7 @@ keys_of-cells [] = refl
 keys_of-cells (c ∷ cs) = ap (λ ps. place_of c ∷ ps) (keys_of-cells cs)
 
 listed_first : (b : Bool) (s n : ℕ) (o : Option ℕ) → 0 < s → (0 < n → 0 < unwrap_or o 0) → 0 < cond b 1 0 + n → 0 < unwrap_or (cond b (Some s) o) 0
-listed_first true s n o some more h = some
-listed_first false s n o some more h = more (omega (arith, h))
+listed_first b s n o some more h = grind (arith)
 
 -- a place at which a cell is counted has a state
 listed : (x y : ℤ) (cells : List Cell) → AllByRecursion (λ (c : Cell). 0 < c.state) cells → 0 < count_at x y cells → 0 < state_at (map of_cell cells) (y, x)
@@ -104,14 +102,10 @@ counted_twice p cells k d lt a b =
     omega (arith, one, two, all)
 
 earlier : (o : Ordering) → is_lt (ordering_reverse o) ≡ false → (is_eq o ≡ true → ⊥) → o ≡ Less
-earlier Less h other = refl
-earlier Equal h other = absurd (other refl)
-earlier Greater h other = cc
+earlier o h other = grind (arith)
 
 same_states : (n m : ℕ) → (0 < n → m ≡ n) → (0 < m → 0 < n) → n ≡ m
-same_states zero zero f g = refl
-same_states zero (suc m) f g = let none = g (omega arith) in absurd (omega (arith, none))
-same_states (suc n) m f g = sym (f (omega arith))
+same_states n m f g = grind (arith)
 
 no_cell : Cell
 no_cell = record { x = pos 0; y = pos 0; state = 0 }

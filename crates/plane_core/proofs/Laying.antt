@@ -1,12 +1,13 @@
 -- Cells laid on squares.
-use Rattle.std.proofs.Common.{◌≡◌, ℕ, zero, suc, ◌+◌, ◌-◌, ◌<◌, ◌≤◌, ◌^◌, false, cond, List, [], ◌∷◌, ◌++◌, length, get_or, slice_set, refl, sym, ap, ap₂, ◌∙◌, subst, arith, inl, inr, ℤ, pos, ◌+ℤ◌}
+use Rattle.std.proofs.Common.{◌≡◌, ℕ, suc, ◌+◌, ◌-◌, ◌<◌, ◌≤◌, ◌^◌, false, cond, List, [], ◌∷◌, ◌++◌, length, get_or, slice_set, refl, sym, ap, ap₂, ◌∙◌, subst, arith, inl, inr, ℤ, pos, ◌+ℤ◌}
 use Rattle.std.specs.Prelude.{All}
 use Rattle.std.proofs.lemmas.Bool.{cases_lt, cases_eq, cond-true, cond-false, eq-eqb, ne_eqb, false_from_ne_true}
+use Rattle.std.proofs.lemmas.Grind.{common_steps}
 use Rattle.std.proofs.lemmas.Int.{ints}
 use Rattle.std.proofs.lemmas.List.{nil_from_length, get_or-set_same, get_or-set_other, length-set}
 use Rattle.std.proofs.lemmas.List.Elements.{All-nil, All-cons, All-append, All-head, All-tail}
 use Rattle.worlds.specs.declared.cell.CellSet.{CellSet}
-use Rattle.worlds.specs.World.{World, Place, cell, cell-put, same_place, same_world}
+use Rattle.worlds.specs.World.{World, cell, cell-put, same_place, same_world}
 use Rattle.worlds.specs.Fill.{same_is, is_same}
 use Rattle.worlds.specs.Lay.{lay, lay-push}
 use Rattle.worlds.specs.Square.{Square, cell_in, IsIn}
@@ -24,17 +25,11 @@ use Rattle.plane_core.proofs.Parts.{moved, in_quadrant, of_quadrant, east-le, so
 
 -- the place of a cell inside a square isn't one outside
 pub other_place : (n : ℕ) (l t x y x' y' : ℤ) → IsIn n l t x y → (IsIn n l t x' y' → ⊥) → same_place (y, x) (y', x') ≡ false
-other_place n l t x y x' y' here out =
-    false_from_ne_true (same_place (y, x) (y', x')) (λ same.
-    let e : (y, x) ≡ (y', x') = same_is (y, x) (y', x') same in
-    out (subst (λ (p : Place). IsIn n l t p.1 p.0) e here))
+other_place n l t x y x' y' here out = grind (arith, ints, false_from_ne_true, same_is)
 
 -- nor the other way round
 pub outer_place : (n : ℕ) (l t x y x' y' : ℤ) → (IsIn n l t x y → ⊥) → IsIn n l t x' y' → same_place (y, x) (y', x') ≡ false
-outer_place n l t x y x' y' out here =
-    false_from_ne_true (same_place (y, x) (y', x')) (λ same.
-    let e : (y, x) ≡ (y', x') = same_is (y, x) (y', x') same in
-    out (subst (λ (p : Place). IsIn n l t p.1 p.0) (sym e) here))
+outer_place n l t x y x' y' out here = grind (arith, ints, false_from_ne_true, same_is)
 
 -- one more cell is laid
 more : (cs : List CellSet) (c : CellSet) (w : World) (x y : ℤ) → cell (lay (cs ++ c ∷ []) w) x y ≡ cond (same_place (y, x) (c.y, c.x)) c.state (cell (lay cs w) x y)
@@ -50,10 +45,7 @@ lay-outside p (c ∷ cs) w x y out all =
 
 -- one more of the cells, which lies in the square
 those-more : (p : Part) (cs here : List CellSet) (c : CellSet) → IsCellOf p c → AreThoseIn p cs here → AreThoseIn p (cs ++ c ∷ []) (here ++ c ∷ [])
-those-more p cs here c is those = record {
-  inside = All-append (IsCellOf p) here (c ∷ []) those.inside (All-cons (IsCellOf p) c [] is (All-nil _));
-  same = λ w x y h. more here c w x y ∙ ap (cond (same_place (y, x) (c.y, c.x)) c.state) (those.same w x y h) ∙ sym (more cs c w x y);
-}
+those-more p cs here c is those = grind (arith, common_steps, All-append, All-cons, All-nil, more)
 
 -- one more, which doesn't
 those-passed : (p : Part) (cs here : List CellSet) (c : CellSet) → (Covers p c.x c.y → ⊥) → AreThoseIn p cs here → AreThoseIn p (cs ++ c ∷ []) here
@@ -137,11 +129,7 @@ shows-four w rows new p kids n some shows square = record {
 
 -- what holds of each of four
 pub each_of_four : (P : ℕ → Type 0) → P 0 → P 1 → P 2 → P 3 → (q : ℕ) → q < 4 → P q
-each_of_four P a b c d zero h = a
-each_of_four P a b c d (suc zero) h = b
-each_of_four P a b c d (suc (suc zero)) h = c
-each_of_four P a b c d (suc (suc (suc zero))) h = d
-each_of_four P a b c d (suc (suc (suc (suc q)))) h = absurd (omega (arith, h))
+each_of_four P a b c d q h = grind (arith)
 
 -- a quadrant that is found and the one that is meant
 same_part : (q n : ℕ) (p r : Part) → IsQuadrant q p r → renumbered r n ≡ quadrant_of p q n

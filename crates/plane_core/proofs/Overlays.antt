@@ -157,9 +157,7 @@ alone-live k s x y is live = grind (arith, in_or_out, put_square-outside, cell-b
 
 -- and so does its box
 pub alone-LiesIn : (k : ℕ) (s : Square) (o : Option Bounds) → IsSquare k s → AreBoundsOf (alone k s) o → IfSome o (LiesIn (2 ^ k))
-alone-LiesIn k s None is h = tt
-alone-LiesIn k s (Some b) is h = grind (arith, ints, alone-live)
+alone-LiesIn k s o is h = grind (arith, ints, alone-live)
 
 pub LiesIn-more : (m n : ℕ) (o : Option Bounds) → m ≤ n → IfSome o (LiesIn m) → IfSome o (LiesIn n)
-LiesIn-more m n None le h = tt
-LiesIn-more m n (Some b) le h = grind (arith, ints)
+LiesIn-more m n o le h = grind (arith, ints)

@@ -1,7 +1,8 @@
 -- Squares that stand at places of a world, and their quadrants.
-use Rattle.std.proofs.Common.{◌≡◌, ℕ, zero, suc, ◌+◌, ◌-◌, ◌<◌, ◌≤◌, ◌^◌, cond, List, get_or, length, refl, sym, ap, ap₂, ◌∙◌, subst, arith, inl, inr, pow_mono, ℤ, pos, ◌+ℤ◌}
+use Rattle.std.proofs.Common.{◌≡◌, ℕ, zero, suc, ◌+◌, ◌-◌, ◌<◌, ◌≤◌, ◌^◌, cond, List, get_or, length, sym, ap, ap₂, ◌∙◌, subst, arith, inl, inr, pow_mono, ℤ, pos, ◌+ℤ◌}
 use Rattle.std.specs.Prelude.{int_le}
 use Rattle.std.proofs.lemmas.Bool.{cases_lt}
+use Rattle.std.proofs.lemmas.Grind.{common_steps}
 use Rattle.std.proofs.lemmas.Int.{ints}
 use Rattle.worlds.specs.World.{World, cell}
 use Rattle.worlds.specs.Square.{Square, four, cell_in, IsIn}
@@ -27,14 +28,10 @@ place h l t x y = cond (int_le (t +ℤ pos h) y) (cond (int_le (l +ℤ pos h) x)
 
 module _ (h : ℕ) (l t x y : ℤ) where
   pub placed : (q : ℕ) → q < 4 → IsIn h (l +ℤ pos (east h q)) (t +ℤ pos (south h q)) x y → IsIn (h + h) l t x y × (place h l t x y ≡ q)
-  placed zero few is = let a = is.left in let b = is.right in let c = is.top in let d = is.bottom in
-      (record { left = omega (arith, ints); right = omega (arith, ints); top = omega (arith, ints); bottom = omega (arith, ints) }, grind (arith, ints))
-  placed (suc zero) few is = let a = is.left in let b = is.right in let c = is.top in let d = is.bottom in
-      (record { left = omega (arith, ints); right = omega (arith, ints); top = omega (arith, ints); bottom = omega (arith, ints) }, grind (arith, ints))
-  placed (suc (suc zero)) few is = let a = is.left in let b = is.right in let c = is.top in let d = is.bottom in
-      (record { left = omega (arith, ints); right = omega (arith, ints); top = omega (arith, ints); bottom = omega (arith, ints) }, grind (arith, ints))
-  placed (suc (suc (suc zero))) few is = let a = is.left in let b = is.right in let c = is.top in let d = is.bottom in
-      (record { left = omega (arith, ints); right = omega (arith, ints); top = omega (arith, ints); bottom = omega (arith, ints) }, grind (arith, ints))
+  placed zero few is = grind (arith, ints)
+  placed (suc zero) few is = grind (arith, ints)
+  placed (suc (suc zero)) few is = grind (arith, ints)
+  placed (suc (suc (suc zero))) few is = grind (arith, ints)
   placed (suc (suc (suc (suc q)))) few is = absurd (omega (arith, few))
 
   pub found : (q : ℕ) → q ≡ place h l t x y → IsIn (h + h) l t x y → IsIn h (l +ℤ pos (east h q)) (t +ℤ pos (south h q)) x y
@@ -49,9 +46,7 @@ module _ (q : ℕ) (p r : Part) (some : 1 ≤ p.level) (few : q < 4) (is : IsQua
   half = ap (λ k. 2 ^ k) is.level
 
   pub in_quadrant : Covers r x y → Covers p x y × (quadrant_at p x y ≡ q)
-  in_quadrant h =
-      let at = placed (2 ^ (p.level - 1)) p.corner.x p.corner.y x y q few (moved _ _ _ _ _ _ x y half is.x is.y h) in
-      (moved _ _ _ _ _ _ x y (sym (root-side p.level some)) refl refl at.0, at.1)
+  in_quadrant h = grind (arith, ints, common_steps, moved, root-side)
 
   pub of_quadrant : Covers p x y → quadrant_at p x y ≡ q → Covers r x y
   of_quadrant h e = grind (arith, moved, found, root-side)
@@ -82,11 +77,7 @@ quadrant-split h x y hx hy =
 
 -- a cell of a quadrant
 pub quadrant-cell : (k q i j : ℕ) (f : ℕ → Square) → q < 4 → i < 2 ^ k → j < 2 ^ k → cell_in (suc k) (four (f 0) (f 1) (f 2) (f 3)) (east (2 ^ k) q + i) (south (2 ^ k) q + j) ≡ cell_in k (f q) i j
-quadrant-cell k zero i j f few hi hj = cell_in-nw k _ _ _ _ (0 + i) (0 + j) (omega arith) (omega arith) ∙ ap₂ (cell_in k (f 0)) (omega arith) (omega arith)
-quadrant-cell k (suc zero) i j f few hi hj = cell_in-ne k _ _ _ _ (2 ^ k + i) (0 + j) (omega arith) (omega arith) ∙ ap₂ (cell_in k (f 1)) (omega arith) (omega arith)
-quadrant-cell k (suc (suc zero)) i j f few hi hj = cell_in-sw k _ _ _ _ (0 + i) (2 ^ k + j) (omega arith) (omega arith) ∙ ap₂ (cell_in k (f 2)) (omega arith) (omega arith)
-quadrant-cell k (suc (suc (suc zero))) i j f few hi hj = cell_in-se k _ _ _ _ (2 ^ k + i) (2 ^ k + j) (omega arith) (omega arith) ∙ ap₂ (cell_in k (f 3)) (omega arith) (omega arith)
-quadrant-cell k (suc (suc (suc (suc q)))) i j f few hi hj = absurd (omega (arith, few))
+quadrant-cell k q i j f few hi hj = grind (arith, cell_in-nw, cell_in-ne, cell_in-sw, cell_in-se)
 
 -- the kids of a row name its quadrants
 kid-cells : (rows : List SquareRow) (k n q i j : ℕ) → 1 ≤ k → 0 < n → q < 4 → i < 2 ^ (k - 1) → j < 2 ^ (k - 1)

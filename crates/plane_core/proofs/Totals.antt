@@ -1,5 +1,5 @@
 -- Sums over the live cells of a world, and what a square that is put there adds.
-use Rattle.std.proofs.Common.{◌≡◌, ℕ, zero, suc, ◌+◌, ◌*◌, ◌≤◌, ◌^◌, Bool, true, false, cond, List, [], ◌∷◌, map, length, Option, None, Some, refl, sym, ap, ◌∙◌, arith, zero-add, pow-suc, ℤ, pos, ◌+ℤ◌}
+use Rattle.std.proofs.Common.{◌≡◌, ℕ, zero, suc, ◌+◌, ◌*◌, ◌≤◌, ◌^◌, Bool, true, cond, List, [], ◌∷◌, map, length, Option, None, Some, refl, sym, ap, ◌∙◌, arith, zero-add, pow-suc, ℤ, pos, ◌+ℤ◌}
 use Rattle.std.specs.List.{sum_by}
 use Rattle.std.specs.declared.cmp.Ordering.TheVariants.{Less, Equal, Greater}
 use Rattle.std.proofs.lemmas.Int.{ints}
@@ -43,15 +43,13 @@ sums-insert f k n (e ∷ es) h =
     ] h
 
 no_entry : (o : Option ℕ) → state_of o ≡ 0 → o ≡ None
-no_entry None h = refl
-no_entry (Some n) h = cc
+no_entry o h = grind (arith)
 
 get-dead : (w : World) (x y : ℤ) → cell w x y ≡ 0 → finite.get w (y, x) ≡ None
 get-dead w x y h = no_entry (finite.get w (y, x)) (sym (cell-get w x y) ∙ h)
 
 by_same : (b : Bool) (n : ℕ) → (b ≡ true → n ≡ 0) → cond b 0 n ≡ n
-by_same true n h = sym (h refl)
-by_same false n h = refl
+by_same b n h = grind (arith)
 
 -- a dead cell that is set to 0
 put-zero : (w : World) (x y : ℤ) → cell w x y ≡ 0 → put w x y 0 ≡ w
@@ -149,8 +147,7 @@ pub population-total : (w : World) → population w ≡ total is_live w
 population-total w = ap (λ (es : List (Place × ℕ)). length es) (live-entries w) ∙ sums-live_ones (finite.entries w) ∙ sym (total-sums is_live w)
 
 pub is_live-le : (s : ℕ) → is_live s ≤ 1
-is_live-le zero = omega arith
-is_live-le (suc s) = omega arith
+is_live-le s = grind (arith)
 
 fourfold : (a b c d n m : ℕ) → a ≤ n → b ≤ n → c ≤ n → d ≤ n → m ≡ 4 * n → a + b + c + d ≤ m
 fourfold a b c d n m h i j k e = omega arith

@@ -1,16 +1,15 @@
 -- The rows that a plane keeps, and those that are written of it.
-use Rattle.std.proofs.Common.{◌≡◌, ap, refl, sym, subst, ℕ, zero, suc, List, [], ◌∷◌, get_or, ◌∙◌, arith}
+use Rattle.std.proofs.Common.{◌≡◌, refl, ℕ, List, [], ◌∷◌, get_or, ◌∙◌, arith}
 use Rattle.worlds.specs.World.{World}
 use Rattle.worlds.specs.Square.{empty_square}
 use Rattle.plane_core.specs.declared.row.SquareRow.{SquareRow}
-use Rattle.plane_core.specs.Rows.{AreCanonical, AreKept, AreRows, AreSquaresOf, IsLeastLevel, IsRow, completed, empty_row, number_row, number_square, root_level, root_of, square_in, world_of_rows, written}
+use Rattle.plane_core.specs.Rows.{AreCanonical, AreKept, AreRows, AreSquaresOf, IsRow, completed, empty_row, number_row, number_square, root_level, root_of, square_in, world_of_rows, written}
 use Rattle.plane_core.proofs.Shared.Sound.{IsNumber-state}
 
 -- what is written stands for the same world
 pub world-written : (rows : List SquareRow) → world_of_rows (written rows) ≡ world_of_rows rows
 unfolding world_of_rows root_level square_in empty_square
-world-written [] = refl
-world-written (row ∷ rows) = refl
+world-written rows = grind (arith)
 
 level-empty : root_level (empty_row ∷ []) ≡ root_level []
 unfolding root_level
@@ -21,27 +20,17 @@ unfolding root_level square_in number_square number_row
 completed-empty = refl
 
 no_kid : (q : ℕ) → get_or empty_row.kids q 0 ≡ 0
-no_kid zero = refl
-no_kid (suc zero) = refl
-no_kid (suc (suc zero)) = refl
-no_kid (suc (suc (suc zero))) = refl
-no_kid (suc (suc (suc (suc q)))) = refl
+no_kid q = grind (arith)
 
 row-empty : IsRow [] empty_row
 row-empty = record { low = omega arith; high = omega arith; kids = λ q h. IsNumber-state [] (get_or empty_row.kids q 0) (omega (arith, no_kid q)) }
 
 rows-empty : AreRows (empty_row ∷ [])
-rows-empty zero h = row-empty
-rows-empty (suc i) h = absurd (omega (arith, h))
+rows-empty i h = grind (arith, row-empty)
 
 -- the rows that a plane keeps are those that are written, but for the empty square
 pub canonical-written : (rows : List SquareRow) → AreKept rows → AreCanonical (written rows)
-canonical-written [] kept = record {
-  valid = rows-empty;
-  walked = ap written completed-empty;
-  least = subst (λ k. IsLeastLevel k (world_of_rows (empty_row ∷ []))) (sym level-empty) (subst (IsLeastLevel (root_level [])) (sym (world-written [])) kept.least);
-}
-canonical-written (row ∷ rows) kept = record { valid = kept.valid; walked = ap written kept.walked; least = kept.least }
+canonical-written rows kept = grind (arith, rows-empty, completed-empty, level-empty, world-written)
 
 -- what is written of the rows that a plane keeps are the rows of its world
 pub squares-written : (kept : List SquareRow) (w : World) → AreKept kept → world_of_rows kept ≡ w → AreSquaresOf w (written kept)

@@ -72,11 +72,7 @@ unfolding empty_square
 empty_square-quadrants k = refl
 
 zeros : (rows : List SquareRow) (k q : ℕ) → q < 4 → IsNumber rows k (get_or (0 ∷ 0 ∷ 0 ∷ 0 ∷ []) q 0)
-zeros rows k zero h = zero-IsNumber rows k
-zeros rows k (suc zero) h = zero-IsNumber rows k
-zeros rows k (suc (suc zero)) h = zero-IsNumber rows k
-zeros rows k (suc (suc (suc zero))) h = zero-IsNumber rows k
-zeros rows k (suc (suc (suc (suc q)))) h = absurd (omega (arith, h))
+zeros rows k q h = grind (arith, zero-IsNumber)
 
 -- the quadrants of an empty square
 pub quadrants-none : (rows : List SquareRow) (k : ℕ) → AreQuadrants rows k 0 (0 ∷ 0 ∷ 0 ∷ 0 ∷ [])
@@ -99,11 +95,7 @@ pub record AreCornerKids (rows : List SquareRow) (k corner n : ℕ) (kids : List
   pub square : square_of rows k kids ≡ cornered k corner (square_in rows k n)
 
 pub kid_numbers : (rows : List SquareRow) (k a b c d q : ℕ) → IsNumber rows k a → IsNumber rows k b → IsNumber rows k c → IsNumber rows k d → q < 4 → IsNumber rows k (get_or (a ∷ b ∷ c ∷ d ∷ []) q 0)
-kid_numbers rows k a b c d zero ha hb hc hd h = ha
-kid_numbers rows k a b c d (suc zero) ha hb hc hd h = hb
-kid_numbers rows k a b c d (suc (suc zero)) ha hb hc hd h = hc
-kid_numbers rows k a b c d (suc (suc (suc zero))) ha hb hc hd h = hd
-kid_numbers rows k a b c d (suc (suc (suc (suc q)))) ha hb hc hd h = absurd (omega (arith, h))
+kid_numbers rows k a b c d q ha hb hc hd h = grind (arith)
 
 -- where a root is added
 pub root_added : (old new : List SquareRow) (k n : ℕ) (s : Square) → IsAdded old new (suc k) n s → (root_level new ≡ suc k) × (square_in new (suc k) (length new) ≡ s)
@@ -157,11 +149,7 @@ raised rows r1 r2 r3 r4 r5 (suc k) kids nw ne sw se n valid low is parts a1 a2 a
 
 -- the kids of the square that has one quadrant, at its corner
 pub corner_kids : (rows : List SquareRow) (k corner n : ℕ) → IsNumber rows k n → corner < 4 → AreCornerKids rows k corner n (slice_set (0 ∷ 0 ∷ 0 ∷ 0 ∷ []) corner n)
-corner_kids rows k zero n h hc = grind (arith, zero-IsNumber, square_in-none, kid_numbers)
-corner_kids rows k (suc zero) n h hc = grind (arith, zero-IsNumber, square_in-none, kid_numbers)
-corner_kids rows k (suc (suc zero)) n h hc = grind (arith, zero-IsNumber, square_in-none, kid_numbers)
-corner_kids rows k (suc (suc (suc zero))) n h hc = grind (arith, zero-IsNumber, square_in-none, kid_numbers)
-corner_kids rows k (suc (suc (suc (suc c)))) n h hc = absurd (omega (arith, hc))
+corner_kids rows k corner n h hc = grind (arith, zero-IsNumber, square_in-none, kid_numbers)
 
 -- what follows from what holds of the value follows of it
 pub IfOk_then : {T E : Type 0} (r : Result T E) (P Q : T → Type 0) → ((t : T) → P t → Q t) → IfOk r P → IfOk r Q

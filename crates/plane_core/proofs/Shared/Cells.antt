@@ -1,5 +1,5 @@
 -- The cells of squares: where a square is put on a world, and that squares with the same cells are equal.
-use Rattle.std.proofs.Common.{◌≡◌, ℕ, zero, suc, ◌+◌, ◌-◌, ◌<◌, ◌≤◌, ◌^◌, ◌⊎◌, Bool, true, false, cond, refl, sym, ap, ap₂, ◌∙◌, arith, inl, inr, pow-suc, ℤ, pos, ◌+ℤ◌, ◌-ℤ◌, ◌≤ℤ◌}
+use Rattle.std.proofs.Common.{◌≡◌, ℕ, zero, suc, ◌+◌, ◌-◌, ◌<◌, ◌≤◌, ◌^◌, ◌⊎◌, Bool, cond, refl, sym, ap, ap₂, ◌∙◌, arith, inl, inr, pow-suc, ℤ, pos, ◌+ℤ◌, ◌-ℤ◌, ◌≤ℤ◌}
 use Rattle.std.specs.Prelude.{nat_le, unsigned_abs}
 use Rattle.std.proofs.lemmas.Bool.{cases_lt, cond-true, cond-false, lt-leb, le-leb, false_from_ne_true}
 use Rattle.std.proofs.lemmas.Int.{ints, by_lt_z}
@@ -73,10 +73,7 @@ IsSquare-empty (suc k) = let e = IsSquare-empty k in (e, e, e, e)
 -- what holds of the cell in each quadrant holds of the one that two tests choose
 in_all : (P : ℕ → Type 0) (b c : Bool) (p q r s : ℕ) → P p → P q → P r → P s →
     P (cond b (cond c p q) (cond c r s))
-in_all P true true p q r s hp hq hr hs = hp
-in_all P true false p q r s hp hq hr hs = hq
-in_all P false true p q r s hp hq hr hs = hr
-in_all P false false p q r s hp hq hr hs = hs
+in_all P b c p q r s hp hq hr hs = grind (arith)
 
 -- no cell of an empty square is live
 pub cell_in-empty : (k i j : ℕ) → cell_in k (empty_square k) i j ≡ 0

@@ -1,5 +1,5 @@
 -- The root in the middle of a root, by its rows.
-use Rattle.std.proofs.Common.{◌≡◌, ℕ, zero, suc, ◌-◌, ◌<◌, ◌≤◌, ◌^◌, ◌==◌, Bool, true, false, cond, List, [], ◌∷◌, ◌++◌, length, Option, Some, None, refl, sym, ap, ◌∙◌, subst, arith, inl, inr, lit<, pow_mono}
+use Rattle.std.proofs.Common.{◌≡◌, ℕ, zero, suc, ◌-◌, ◌<◌, ◌≤◌, ◌^◌, ◌==◌, Bool, true, false, cond, List, [], ◌∷◌, ◌++◌, length, Option, refl, sym, ap, ◌∙◌, subst, arith, inl, inr, lit<, pow_mono}
 use Rattle.std.specs.Prelude.{IfNone}
 use Rattle.std.proofs.lemmas.Bool.{cases_lt, cases_eq, and_parts, and_from, or_cases, or_left, or_right, eqb-true, eq-eqb, ne_eqb, cond-true, cond-false}
 use Rattle.std.proofs.lemmas.Int.{ints}
@@ -20,8 +20,7 @@ use Rattle.plane_core.proofs.Shared.Centring.{root_world, centred-world, fits-co
 
 -- what holds holds where there is nothing
 pub IfNone_from : {A : Type 0} (o : Option A) (P : Type 0) → P → IfNone o P
-IfNone_from None P p = p
-IfNone_from (Some x) P p = tt
+IfNone_from o P p = grind (arith)
 
 -- walked rows have no row of an empty square
 pub walked-filled : (rows : List SquareRow) → AreWalked rows → AreFilled rows
@@ -48,8 +47,7 @@ passed_square rows k corner q inner n same h =
 -- where the other kids are 0 the square has its live cells at the corner
 pub corner-alone : (rows : List SquareRow) (k n corner : ℕ) → AreRows rows → 0 < k → 0 < n → IsNumber rows k n → corner < 4 → is_alone corner (row_at rows n).kids ≡ true
     → IsCorner rows (k - 1) n corner (kid (row_at rows n) corner)
-corner-alone rows zero n corner valid hk hn h hc alone = absurd (omega (arith, hk))
-corner-alone rows (suc k) n corner valid hk hn h hc alone =
+corner-alone rows k n corner valid hk hn h hc alone =
     grind (arith, and_parts, passed_square, square_in-number, number-kid)
 
 -- an empty square has an empty one at its corner
@@ -78,8 +76,7 @@ passed_from rows k corner q n s none h e =
 pub corner-only : (rows : List SquareRow) (k n corner : ℕ) → AreRows rows → NoneEmpty rows → 0 < k → 0 < n → IsNumber rows k n → is_alone corner (row_at rows n).kids ≡ false
     → (s : Square) → square_in rows (suc (k - 1)) n ≡ cornered (k - 1) corner s → ⊥
 unfolding nw_of ne_of sw_of se_of
-corner-only rows zero n corner valid none hk hn h other s e = absurd (omega (arith, hk))
-corner-only rows (suc k) n corner valid none hk hn h other s e =
+corner-only rows k n corner valid none hk hn h other s e =
     grind (arith, number-kid, square_in-number, passed_from, and_from)
 
 -- a root of a level above 1 is a row
@@ -156,23 +153,13 @@ centred-empty k = refl
 
 module _ (rows : List SquareRow) (k a b c d : ℕ) (valid : AreRows rows) (none : NoneEmpty rows) (ek : root_level rows ≡ suc (suc k)) (some : 0 < length rows) (middle : HasMiddle rows k a b c d) where
   root-centred : square_in rows (suc (suc k)) (length rows) ≡ centred k (square_in rows k a) (square_in rows k b) (square_in rows k c) (square_in rows k d)
-  root-centred =
-      square_in-number rows (suc k) (length rows) some
-      ∙ (let nw = middle.nw.square in let ne = middle.ne.square in let sw = middle.sw.square in let se = middle.se.square in λ i. four (nw i) (ne i) (sw i) (se i))
+  root-centred = grind (arith, square_in-number)
 
   middle_kid : (q : ℕ) → q < 4 → IsNumber rows k (kid (row_of (suc k) a b c d) q)
-  middle_kid zero h = middle.nw.names
-  middle_kid (suc zero) h = middle.ne.names
-  middle_kid (suc (suc zero)) h = middle.sw.names
-  middle_kid (suc (suc (suc zero))) h = middle.se.names
-  middle_kid (suc (suc (suc (suc q)))) h = absurd (omega (arith, h))
+  middle_kid q h = grind (arith)
 
   middle_valid : AreRows (rows ++ row_of (suc k) a b c d ∷ [])
-  middle_valid =
-      let root = rooted rows valid in
-      let high = root.high in
-      AreRows-push rows (row_of (suc k) a b c d) valid
-      (record { low = omega arith; high = omega arith; kids = λ q hq. let less : suc k - 1 ≡ k = omega arith in subst (λ m. IsNumber rows m (kid (row_of (suc k) a b c d) q)) (sym less) (middle_kid q hq) })
+  middle_valid = grind (arith, AreRows-push, rooted, middle_kid)
 
   middle_level : root_level (rows ++ row_of (suc k) a b c d ∷ []) ≡ suc k
   middle_level = grind (arith, length_push, root_level-some, get_or_push)
@@ -182,25 +169,14 @@ module _ (rows : List SquareRow) (k a b c d : ℕ) (valid : AreRows rows) (none 
 
   middle_world : world_of_rows (rows ++ row_of (suc k) a b c d ∷ []) ≡ world_of_rows rows
   middle_world =
-      let row = row_of (suc k) a b c d in
-      let all = rows ++ row ∷ [] in
-      let s = λ (n : ℕ). square_in rows k n in
-      let count : length all ≡ suc (length rows) = omega (arith, length_push rows row) in
-      world-put all (suc k) (four (s a) (s b) (s c) (s d)) middle_level (ap (square_in all (suc k)) count ∙ middle_square)
-      ∙ sym (centred-world k (s a) (s b) (s c) (s d)
-      (square_in-IsSquare rows k a valid middle.nw.names) (square_in-IsSquare rows k b valid middle.ne.names) (square_in-IsSquare rows k c valid middle.sw.names) (square_in-IsSquare rows k d valid middle.se.names))
-      ∙ sym (world-put rows (suc (suc k)) (centred k (s a) (s b) (s c) (s d)) ek root-centred)
+      grind (arith, length_push, world-put, middle_level, middle_square, centred-world, square_in-IsSquare, root-centred)
 
   root_number : IsNumber rows (suc (suc k)) (length rows)
   root_number = subst (λ m. IsNumber rows m (length rows)) ek (rooted rows valid).number
 
   not_empty : four (square_in rows k a) (square_in rows k b) (square_in rows k c) (square_in rows k d) ≡ empty_square (suc k) → ⊥
   unfolding nw_of ne_of sw_of se_of empty_square
-  not_empty e =
-      let nw = ap nw_of e in let ne = ap ne_of e in let sw = ap sw_of e in let se = ap se_of e in
-      let root_empty : square_in rows (suc (suc k)) (length rows) ≡ empty_square (suc (suc k)) = root-centred ∙ (λ i. centred k (nw i) (ne i) (sw i) (se i)) ∙ centred-empty k in
-      let zero_is = none (suc (suc k)) (length rows) root_number root_empty in
-      absurd (omega (arith, zero_is, some))
+  not_empty e = grind (arith, root-centred, centred-empty, root_number)
 
   none_before : (j i : ℕ) → i < length rows → IsNumber (rows ++ row_of (suc k) a b c d ∷ []) (suc j) (suc i) → square_in (rows ++ row_of (suc k) a b c d ∷ []) (suc j) (suc i) ≡ empty_square (suc j) → suc i ≡ 0
   none_before j i lt h e = grind (arith, Grows-more, IsNumber-before, square_in-grown)

@@ -53,11 +53,7 @@ root_world k s = put_square k s (edge_of k) (edge_of k) blank
 
 module _ (k : ℕ) (a b c d : Square) (ia : IsSquare k a) (ib : IsSquare k b) (ic : IsSquare k c) (id : IsSquare k d) where
   centred-IsSquare : IsSquare (suc (suc k)) (centred k a b c d)
-  centred-IsSquare =
-      let e = IsSquare-empty k in
-      let part = λ (p q r s : Square). IsSquare-parts k p q r s in
-      IsSquare-parts (suc k) _ _ _ _ (part _ _ _ _ e e e ia) (part _ _ _ _ e e ib e) (part _ _ _ _ e ic e e)
-      (part _ _ _ _ id e e e)
+  centred-IsSquare = grind (arith, IsSquare-empty, IsSquare-parts)
 
   -- the square in the middle stands for the same world
   pub centred-world : root_world (suc (suc k)) (centred k a b c d) ≡ root_world (suc k) (four a b c d)

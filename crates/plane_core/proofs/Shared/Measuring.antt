@@ -1,5 +1,5 @@
 -- The measures of squares, row by row.
-use Rattle.std.proofs.Common.{◌≡◌, ℕ, zero, suc, ◌+◌, ◌-◌, ◌<◌, ◌≤◌, ◌^◌, List, length, get_or, Option, None, Some, refl, sym, ap, ap₂, ◌∙◌, subst, arith, inl, inr, lit<, pow_mono, ℤ, pos, ◌+ℤ◌}
+use Rattle.std.proofs.Common.{◌≡◌, ℕ, zero, suc, ◌+◌, ◌-◌, ◌<◌, ◌≤◌, ◌^◌, List, length, get_or, Option, refl, sym, ap₂, ◌∙◌, subst, arith, inl, inr, lit<, pow_mono, ℤ, pos, ◌+ℤ◌}
 use Rattle.std.specs.Prelude.{IfSome, IsNone, ◌↔◌}
 use Rattle.std.proofs.lemmas.Int.{ints}
 use Rattle.std.proofs.lemmas.List.{length-take-le, nil_from_length}
@@ -179,8 +179,7 @@ state_below : (rows : List SquareRow) (k n : ℕ) → IsNumber rows k n → k �
 state_below rows k n h e = state-IsNumber rows n (subst (λ j. IsNumber rows j n) e h)
 
 number_listed : (rows : List SquareRow) (k n : ℕ) → 1 ≤ k → IsNumber rows k n → n ≤ length rows
-number_listed rows k zero low h = omega arith
-number_listed rows k (suc n) low h = number_within rows k (suc n) low (omega arith) h
+number_listed rows k n low h = grind (arith, number_within)
 
 -- what the number of a kid of the i-th row names
 pub record IsKid (rows : List SquareRow) (i k n : ℕ) : Type 0 where
@@ -254,5 +253,4 @@ none_measured rows none = subst (λ (rs : List SquareRow). AreMeasuresOf (world_
 
 -- there are no bounds just where no cell is live
 pub none-blank : (w : World) (o : Option Bounds) → AreBoundsOf w o → IsNone o ↔ (w ≡ blank)
-none-blank w None h = (λ none. h, λ e. refl)
-none-blank w (Some b) h = (λ none. cc, λ e. let dead : cell w b.left h.touched_left.0 ≡ 0 = ap (λ v. cell v b.left h.touched_left.0) e ∙ cell-blank b.left h.touched_left.0 in absurd (omega (arith, h.touched_left.1, dead)))
+none-blank w o h = grind (arith, cell-blank)

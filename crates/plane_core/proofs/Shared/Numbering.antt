@@ -82,9 +82,7 @@ abbrev pub RowHas : SquareRow → List SquareRow → ℕ → Type 0
 RowHas row rows n = number_row row rows ≡ record { rows = rows; number = n }
 
 numbered-grows : (b c : Bool) (row : SquareRow) (rows : List SquareRow) (n : ℕ) → Grows rows (numbered b c row rows n).rows
-numbered-grows true c row rows n = Grows-none rows
-numbered-grows false true row rows n = Grows-none rows
-numbered-grows false false row rows n = Grows-more rows (row ∷ [])
+numbered-grows b c row rows n = grind (arith, Grows-none, Grows-more)
 
 pub number_row-grows : (row : SquareRow) (rows : List SquareRow) → Grows rows (number_row row rows).rows
 unfolding number_row
@@ -110,9 +108,7 @@ has_longer row rows e = absurd (omega (arith, ap length e, length_push rows row)
 
 numbered-kept : (b c c' : Bool) (row : SquareRow) (rows zs : List SquareRow) (m m' n : ℕ) → (c ≡ true → c' ≡ true) → (c ≡ true → m' ≡ m)
     → numbered b c row rows m ≡ record { rows = rows; number = n } → numbered b c' row (rows ++ zs) m' ≡ record { rows = rows ++ zs; number = n }
-numbered-kept true c c' row rows zs m m' n there same e = λ i. record { rows = rows ++ zs; number = (e i).number }
-numbered-kept false true c' row rows zs m m' n there same e = grind (arith)
-numbered-kept false false c' row rows zs m m' n there same e = absurd (has_longer row rows (ap (λ (r : Numbered). r.rows) e))
+numbered-kept b c c' row rows zs m m' n there same e = grind (arith, has_longer)
 
 -- a row that has a number keeps it when others come behind
 pub RowHas-kept : (row : SquareRow) (rows zs : List SquareRow) (n : ℕ) → RowHas row rows n → RowHas row (rows ++ zs) n
@@ -162,9 +158,7 @@ Has-kept (suc k) (four nw ne sw se) rows zs n h =
 numbered-again : (b c : Bool) (row : SquareRow) (rows : List SquareRow) → same_kids row.kids (0 ∷ 0 ∷ 0 ∷ 0 ∷ []) ≡ b → list_any (same_row row) rows ≡ c
     → RowHas row (numbered b c row rows (position_or_len (same_row row) rows + 1)).rows (numbered b c row rows (position_or_len (same_row row) rows + 1)).number
 unfolding number_row
-numbered-again true c row rows eb ec = ap (λ b. numbered b (list_any (same_row row) rows) row rows (position_or_len (same_row row) rows + 1)) eb
-numbered-again false true row rows eb ec = grind (arith)
-numbered-again false false row rows eb ec = grind (arith, there_last, found_last, not_found)
+numbered-again b c row rows eb ec = grind (arith, there_last, found_last, not_found)
 
 -- `number_row`, by its tests
 pub number_row-is : (row : SquareRow) (rows : List SquareRow) → number_row row rows ≡ numbered (same_kids row.kids (0 ∷ 0 ∷ 0 ∷ 0 ∷ [])) (list_any (same_row row) rows) row rows (position_or_len (same_row row) rows + 1)
@@ -225,8 +219,7 @@ pub number_row-empty : (row : SquareRow) (rows : List SquareRow) → same_kids r
 number_row-empty row rows e = number_row-is row rows ∙ ap (λ b. numbered b (list_any (same_row row) rows) row rows (position_or_len (same_row row) rows + 1)) e
 
 by_there : (b : Bool) (row : SquareRow) (rows : List SquareRow) (n : ℕ) → numbered false b row rows n ≡ record { rows = cond b rows (rows ++ row ∷ []); number = n }
-by_there true row rows n = refl
-by_there false row rows n = refl
+by_there b row rows n = grind (arith)
 
 -- any other goes where an insertion puts it
 pub number_row-insert : (row : SquareRow) (rows : List SquareRow) → same_kids row.kids (0 ∷ 0 ∷ 0 ∷ 0 ∷ []) ≡ false
@@ -234,8 +227,7 @@ pub number_row-insert : (row : SquareRow) (rows : List SquareRow) → same_kids 
 number_row-insert row rows e = grind (arith, number_row-is, by_there)
 
 few_by : (b : Bool) (row : SquareRow) (rows : List SquareRow) (n : ℕ) → length rows < n → (b ≡ false → length rows + 1 < n) → length (cond b rows (rows ++ row ∷ [])) < n
-few_by true row rows n h g = h
-few_by false row rows n h g = let k = g refl in omega (arith, length_push rows row)
+few_by b row rows n h g = grind (arith, length_push)
 
 -- after an insertion there are as many rows as before, or as the place that it gave
 pub few_more : (row : SquareRow) (rows : List SquareRow) (n : ℕ) → length rows < n → position_or_len (same_row row) rows + 1 < n → length (cond (list_any (same_row row) rows) rows (rows ++ row ∷ [])) < n

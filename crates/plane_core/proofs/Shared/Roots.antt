@@ -28,8 +28,7 @@ root_level-none = refl
 
 pub root_level-some : (rows : List SquareRow) → 0 < length rows → root_level rows ≡ (row_at rows (length rows)).level
 unfolding root_level
-root_level-some [] h = absurd (omega (arith, h))
-root_level-some (row ∷ rows) h = let less : suc (length rows) - 1 ≡ length rows = omega arith in ap (λ m. (get_or (row ∷ rows) m no_row).level) (sym less)
+root_level-some rows h = grind (arith)
 
 -- the root's level and number
 pub record IsRoot (rows : List SquareRow) : Type 0 where

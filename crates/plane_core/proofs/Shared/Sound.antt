@@ -74,8 +74,7 @@ kid_number rows k i valid h level q hq =
 
 pub square_in-none : (rows : List SquareRow) (k : ℕ) → square_in rows k 0 ≡ empty_square k
 unfolding square_in empty_square
-square_in-none rows zero = refl
-square_in-none rows (suc k) = refl
+square_in-none rows k = grind (arith)
 
 pub square_in-state : (rows : List SquareRow) (s : ℕ) → square_in rows 0 s ≡ one s
 unfolding square_in
@@ -150,11 +149,7 @@ empty_square-four k = refl
 
 -- each of the kids is a number
 which_kid : (rows : List SquareRow) (k a b c d : ℕ) → AreKids rows k a b c d → (q : ℕ) → q < 4 → IsNumber rows k (kid (row_of (suc k) a b c d) q)
-which_kid rows k a b c d kids zero h = kids.nw
-which_kid rows k a b c d kids (suc zero) h = kids.ne
-which_kid rows k a b c d kids (suc (suc zero)) h = kids.sw
-which_kid rows k a b c d kids (suc (suc (suc zero))) h = kids.se
-which_kid rows k a b c d kids (suc (suc (suc (suc q)))) h = absurd (omega (arith, h))
+which_kid rows k a b c d kids q h = grind (arith)
 
 -- the square of a row
 quadrants : (rows new : List SquareRow) (k a b c d : ℕ) → Grows rows new → AreKids rows k a b c d

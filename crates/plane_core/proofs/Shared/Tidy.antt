@@ -3,7 +3,7 @@ use Rattle.std.proofs.Common.{◌≡◌, ℕ, zero, suc, ◌+◌, ◌-◌, ◌<�
 use Rattle.std.proofs.lemmas.Bool.{cases_lt}
 use Rattle.std.proofs.lemmas.List.{length_push, get_or_append_left, get_or_push}
 use Rattle.std.specs.List.{list_any, position_or_len}
-use Rattle.std.specs.Prelude.{Result, Ok, Err, IfOk}
+use Rattle.std.specs.Prelude.{Result, IfOk}
 use Rattle.worlds.specs.World.{blank, cell-blank}
 use Rattle.plane_core.specs.declared.row.SquareRow.{SquareRow}
 use Rattle.worlds.specs.Square.{Square, one, four, empty_square, IsSquare, put_square}
@@ -22,9 +22,7 @@ levels_push : (m : ℕ) (rows : List SquareRow) (row : SquareRow) → row.level 
 levels_push m rows row low up i h = grind (arith, cases_lt, get_or_append_left, get_or_push, length_push)
 
 numbered-levels : (b c : Bool) (row : SquareRow) (rows : List SquareRow) (n m : ℕ) → row.level ≤ m → LevelsUpTo m rows → LevelsUpTo m (numbered b c row rows n).rows
-numbered-levels true c row rows n m low up = up
-numbered-levels false true row rows n m low up = up
-numbered-levels false false row rows n m low up = levels_push m rows row low up
+numbered-levels b c row rows n m low up = grind (arith, levels_push)
 
 pub number_square-levels : (k : ℕ) (t : Square) (rows : List SquareRow) (m : ℕ) → k ≤ m → LevelsUpTo m rows → LevelsUpTo m (number_square k t rows).rows
 unfolding number_square number_row
@@ -150,5 +148,4 @@ kept-walked rows done t least = grind (arith, kept-none)
 
 -- what follows from what a clause says of the value in an `Ok`
 pub IfOk_then : {A E : Type 0} (r : Result A E) {P Q : A → Type 0} → IfOk r P → ((x : A) → P x → Q x) → IfOk r Q
-IfOk_then (Ok x) h f = f x h
-IfOk_then (Err e) h f = tt
+IfOk_then r h f = grind (arith)
