@@ -48,12 +48,9 @@ no_entry o h = grind (arith)
 get-dead : (w : World) (x y : ℤ) → cell w x y ≡ 0 → finite.get w (y, x) ≡ None
 get-dead w x y h = no_entry (finite.get w (y, x)) (sym (cell-get w x y) ∙ h)
 
-by_same : (b : Bool) (n : ℕ) → (b ≡ true → n ≡ 0) → cond b 0 n ≡ n
-by_same b n h = grind (arith)
-
 -- a dead cell that is set to 0
 put-zero : (w : World) (x y : ℤ) → cell w x y ≡ 0 → put w x y 0 ≡ w
-put-zero w x y dead = grind (arith, same_world, cell-put, by_same, tells_apart, places_exact)
+put-zero w x y dead = grind (arith, same_world, cell-put, tells_apart, places_exact)
 
 -- a dead cell is set
 pub total-put : (f : ℕ → ℕ) (w : World) (x y : ℤ) (s : ℕ) → f 0 ≡ 0 → cell w x y ≡ 0 → total f (put w x y s) ≡ f s + total f w

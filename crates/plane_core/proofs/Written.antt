@@ -25,12 +25,9 @@ no_kid q = grind (arith)
 row-empty : IsRow [] empty_row
 row-empty = record { low = omega arith; high = omega arith; kids = λ q h. IsNumber-state [] (get_or empty_row.kids q 0) (omega (arith, no_kid q)) }
 
-rows-empty : AreRows (empty_row ∷ [])
-rows-empty i h = grind (arith, row-empty)
-
 -- the rows that a plane keeps are those that are written, but for the empty square
 pub canonical-written : (rows : List SquareRow) → AreKept rows → AreCanonical (written rows)
-canonical-written rows kept = grind (arith, rows-empty, completed-empty, level-empty, world-written)
+canonical-written rows kept = grind (arith, completed-empty, level-empty, world-written, row-empty)
 
 -- what is written of the rows that a plane keeps are the rows of its world
 pub squares-written : (kept : List SquareRow) (w : World) → AreKept kept → world_of_rows kept ≡ w → AreSquaresOf w (written kept)

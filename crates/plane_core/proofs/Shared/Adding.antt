@@ -94,9 +94,6 @@ pub record AreCornerKids (rows : List SquareRow) (k corner n : ℕ) (kids : List
   pub numbers : (q : ℕ) → q < 4 → IsNumber rows k (get_or kids q 0)
   pub square : square_of rows k kids ≡ cornered k corner (square_in rows k n)
 
-pub kid_numbers : (rows : List SquareRow) (k a b c d q : ℕ) → IsNumber rows k a → IsNumber rows k b → IsNumber rows k c → IsNumber rows k d → q < 4 → IsNumber rows k (get_or (a ∷ b ∷ c ∷ d ∷ []) q 0)
-kid_numbers rows k a b c d q ha hb hc hd h = grind (arith)
-
 -- where a root is added
 pub root_added : (old new : List SquareRow) (k n : ℕ) (s : Square) → IsAdded old new (suc k) n s → (root_level new ≡ suc k) × (square_in new (suc k) (length new) ≡ s)
 root_added old new k n s a = grind (arith, root_level-some, IsNumber-level)
@@ -149,7 +146,7 @@ raised rows r1 r2 r3 r4 r5 (suc k) kids nw ne sw se n valid low is parts a1 a2 a
 
 -- the kids of the square that has one quadrant, at its corner
 pub corner_kids : (rows : List SquareRow) (k corner n : ℕ) → IsNumber rows k n → corner < 4 → AreCornerKids rows k corner n (slice_set (0 ∷ 0 ∷ 0 ∷ 0 ∷ []) corner n)
-corner_kids rows k corner n h hc = grind (arith, zero-IsNumber, square_in-none, kid_numbers)
+corner_kids rows k corner n h hc = grind (arith, zero-IsNumber, square_in-none)
 
 -- what follows from what holds of the value follows of it
 pub IfOk_then : {T E : Type 0} (r : Result T E) (P Q : T → Type 0) → ((t : T) → P t → Q t) → IfOk r P → IfOk r Q

@@ -155,11 +155,8 @@ module _ (rows : List SquareRow) (k a b c d : ℕ) (valid : AreRows rows) (none 
   root-centred : square_in rows (suc (suc k)) (length rows) ≡ centred k (square_in rows k a) (square_in rows k b) (square_in rows k c) (square_in rows k d)
   root-centred = grind (arith, square_in-number)
 
-  middle_kid : (q : ℕ) → q < 4 → IsNumber rows k (kid (row_of (suc k) a b c d) q)
-  middle_kid q h = grind (arith)
-
   middle_valid : AreRows (rows ++ row_of (suc k) a b c d ∷ [])
-  middle_valid = grind (arith, AreRows-push, rooted, middle_kid)
+  middle_valid = grind (arith, AreRows-push, rooted)
 
   middle_level : root_level (rows ++ row_of (suc k) a b c d ∷ []) ≡ suc k
   middle_level = grind (arith, length_push, root_level-some, get_or_push)

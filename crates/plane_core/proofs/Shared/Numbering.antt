@@ -155,11 +155,6 @@ Has-kept (suc k) (four nw ne sw se) rows zs n h =
     has_from : (k : ℕ) (t : Square) (from rows : List SquareRow) → from ≡ rows → (number_square k t from).rows ≡ rows → Has k t rows (number_square k t from).number
     has_from k t from rows e f = ap (number_square k t) (sym e) ∙ (λ i. record { rows = f i; number = (number_square k t from).number })
 
-numbered-again : (b c : Bool) (row : SquareRow) (rows : List SquareRow) → same_kids row.kids (0 ∷ 0 ∷ 0 ∷ 0 ∷ []) ≡ b → list_any (same_row row) rows ≡ c
-    → RowHas row (numbered b c row rows (position_or_len (same_row row) rows + 1)).rows (numbered b c row rows (position_or_len (same_row row) rows + 1)).number
-unfolding number_row
-numbered-again b c row rows eb ec = grind (arith, there_last, found_last, not_found)
-
 -- `number_row`, by its tests
 pub number_row-is : (row : SquareRow) (rows : List SquareRow) → number_row row rows ≡ numbered (same_kids row.kids (0 ∷ 0 ∷ 0 ∷ 0 ∷ [])) (list_any (same_row row) rows) row rows (position_or_len (same_row row) rows + 1)
 unfolding number_row
@@ -167,7 +162,7 @@ number_row-is row rows = refl
 
 -- a row that was numbered has its number
 pub RowHas-again : (row : SquareRow) (rows : List SquareRow) → RowHas row (number_row row rows).rows (number_row row rows).number
-RowHas-again row rows = grind (arith, number_row-is, numbered-again)
+RowHas-again row rows = grind (arith, number_row-is, there_last, found_last, not_found)
 
 -- what has grown keeps the numbers
 pub Has-grown : (k : ℕ) (t : Square) (old new : List SquareRow) (n : ℕ) → Grows old new → Has k t old n → Has k t new n

@@ -18,11 +18,9 @@ use Rattle.plane_core.proofs.Shared.Roots.{rooted, root-IsSquare, root_level-som
 abbrev pub LevelsUpTo : ℕ → List SquareRow → Type 0
 LevelsUpTo m rows = (i : ℕ) → i < length rows → (get_or rows i no_row).level ≤ m
 
-levels_push : (m : ℕ) (rows : List SquareRow) (row : SquareRow) → row.level ≤ m → LevelsUpTo m rows → LevelsUpTo m (rows ++ row ∷ [])
-levels_push m rows row low up i h = grind (arith, cases_lt, get_or_append_left, get_or_push, length_push)
-
 numbered-levels : (b c : Bool) (row : SquareRow) (rows : List SquareRow) (n m : ℕ) → row.level ≤ m → LevelsUpTo m rows → LevelsUpTo m (numbered b c row rows n).rows
-numbered-levels b c row rows n m low up = grind (arith, levels_push)
+numbered-levels b c row rows n m low up =
+    grind (arith, cases_lt, get_or_append_left, get_or_push, length_push)
 
 pub number_square-levels : (k : ℕ) (t : Square) (rows : List SquareRow) (m : ℕ) → k ≤ m → LevelsUpTo m rows → LevelsUpTo m (number_square k t rows).rows
 unfolding number_square number_row
