@@ -3,7 +3,7 @@ use Rattle.std.proofs.Common.{◌≡◌, refl, ℕ, List, [], ◌∷◌, get_or,
 use Rattle.worlds.specs.World.{World}
 use Rattle.worlds.specs.Square.{empty_square}
 use Rattle.plane_core.specs.declared.row.SquareRow.{SquareRow}
-use Rattle.plane_core.specs.Rows.{AreCanonical, AreKept, AreRows, AreSquaresOf, IsRow, completed, empty_row, number_row, number_square, root_level, root_of, square_in, world_of_rows, written}
+use Rattle.plane_core.specs.Rows.{AreCanonical, AreKept, AreSquaresOf, IsRow, completed, empty_row, number_row, number_square, root_level, root_of, square_in, world_of_rows, written}
 use Rattle.plane_core.proofs.Shared.Sound.{IsNumber-state}
 
 -- what is written stands for the same world

@@ -1,6 +1,5 @@
-use Rattle.std.proofs.Common.{◌-◌, length, sym, ap, subst, ◌∙◌, arith, lit<}
-use Rattle.plane_core.specs.Rows.{IsNumber, kid, row_at}
-use Rattle.plane_core.proofs.Shared.Centres.{IfNone_from, NoCorner, HasMiddle, least-one, least-nw, least-ne, least-sw, least-se, rows-some, root-kid, centre-is}
+use Rattle.std.proofs.Common.{◌-◌, sym, ap, ◌∙◌, arith}
+use Rattle.plane_core.proofs.Shared.Centres.{HasMiddle, least-one, least-nw, least-ne, least-sw, least-se, rows-some, root-kid, centre-is}
 use Rattle.plane_core.proofs.centre.centre.Goals as goal
 
 pub returns-then-level-eq1-clause-none : goal.returns-then-level-eq1-clause-none
@@ -13,44 +12,28 @@ pub bounds-rows-rows : goal.bounds-rows-rows
 bounds-rows-rows c = let some = rows-some c.args.rows.now (λ e. c.if-level-eq1.false (c.root_level-level.ensures.level ∙ e)) in omega arith
 
 pub inner-requires-clause-number : goal.inner-requires-clause-number
-inner-requires-clause-number c =
-    subst (λ k. IsNumber c.args.rows.now (k - 1) (kid (row_at c.args.rows.now (length c.args.rows.now)) 0)) (sym c.root_level-level.ensures.level)
-    (root-kid c.args.rows.now 0 c.requires.rows.valid (λ e. c.if-level-eq1.false (c.root_level-level.ensures.level ∙ e)) (lit< tt))
+inner-requires-clause-number c = grind (arith, root-kid)
 
 pub inner-requires-2-clause-number : goal.inner-requires-2-clause-number
-inner-requires-2-clause-number c =
-    subst (λ k. IsNumber c.args.rows.now (k - 1) (kid (row_at c.args.rows.now (length c.args.rows.now)) 1)) (sym c.root_level-level.ensures.level)
-    (root-kid c.args.rows.now 1 c.requires.rows.valid (λ e. c.if-level-eq1.false (c.root_level-level.ensures.level ∙ e)) (lit< tt))
+inner-requires-2-clause-number c = grind (arith, root-kid)
 
 pub inner-requires-3-clause-number : goal.inner-requires-3-clause-number
-inner-requires-3-clause-number c =
-    subst (λ k. IsNumber c.args.rows.now (k - 1) (kid (row_at c.args.rows.now (length c.args.rows.now)) 2)) (sym c.root_level-level.ensures.level)
-    (root-kid c.args.rows.now 2 c.requires.rows.valid (λ e. c.if-level-eq1.false (c.root_level-level.ensures.level ∙ e)) (lit< tt))
+inner-requires-3-clause-number c = grind (arith, root-kid)
 
 pub inner-requires-4-clause-number : goal.inner-requires-4-clause-number
-inner-requires-4-clause-number c =
-    subst (λ k. IsNumber c.args.rows.now (k - 1) (kid (row_at c.args.rows.now (length c.args.rows.now)) 3)) (sym c.root_level-level.ensures.level)
-    (root-kid c.args.rows.now 3 c.requires.rows.valid (λ e. c.if-level-eq1.false (c.root_level-level.ensures.level ∙ e)) (lit< tt))
+inner-requires-4-clause-number c = grind (arith, root-kid)
 
 pub returns-in_err-nw-clause-none : goal.returns-in_err-nw-clause-none
-returns-in_err-nw-clause-none c =
-    IfNone_from c.from_residual.result _ (least-nw c.args.rows.now c.requires.rows.valid (λ e. c.if-level-eq1.false (c.root_level-level.ensures.level ∙ e))
-    (subst (λ k. NoCorner c.args.rows.now ((k - 1) - 1) 0 3) c.root_level-level.ensures.level c.in_err-nw.ensures.none))
+returns-in_err-nw-clause-none c = grind (arith, least-nw)
 
 pub returns-in_err-ne-clause-none : goal.returns-in_err-ne-clause-none
-returns-in_err-ne-clause-none c =
-    IfNone_from c.from_residual-in_err-ne.result _ (least-ne c.args.rows.now c.requires.rows.valid (λ e. c.if-level-eq1.false (c.root_level-level.ensures.level ∙ e))
-    (subst (λ k. NoCorner c.args.rows.now ((k - 1) - 1) 1 2) c.root_level-level.ensures.level c.in_err-ne.ensures.none))
+returns-in_err-ne-clause-none c = grind (arith, least-ne)
 
 pub returns-in_err-sw-clause-none : goal.returns-in_err-sw-clause-none
-returns-in_err-sw-clause-none c =
-    IfNone_from c.from_residual-in_err-sw.result _ (least-sw c.args.rows.now c.requires.rows.valid (λ e. c.if-level-eq1.false (c.root_level-level.ensures.level ∙ e))
-    (subst (λ k. NoCorner c.args.rows.now ((k - 1) - 1) 2 1) c.root_level-level.ensures.level c.in_err-sw.ensures.none))
+returns-in_err-sw-clause-none c = grind (arith, least-sw)
 
 pub returns-in_err-se-clause-none : goal.returns-in_err-se-clause-none
-returns-in_err-se-clause-none c =
-    IfNone_from c.from_residual-in_err-se.result _ (least-se c.args.rows.now c.requires.rows.valid (λ e. c.if-level-eq1.false (c.root_level-level.ensures.level ∙ e))
-    (subst (λ k. NoCorner c.args.rows.now ((k - 1) - 1) 3 0) c.root_level-level.ensures.level c.in_err-se.ensures.none))
+returns-in_err-se-clause-none c = grind (arith, least-se)
 
 pub returns-clause-some : goal.returns-clause-some
 returns-clause-some c =

@@ -1,6 +1,5 @@
-use Rattle.std.proofs.Common.{◌≡◌, ◌∙◌, ◌+◌, ◌-◌, ◌≤◌, get_or, length, ◌<◌, ◌^◌, set, refl, ap, arith}
+use Rattle.std.proofs.Common.{◌≡◌, ◌∙◌, ◌+◌, ◌-◌, ◌≤◌, get_or, length, ◌<◌, set, refl, ap, arith}
 use Rattle.std.proofs.lemmas.Grind.{get_or_default_zero}
-use Rattle.plane_core.specs.Rows.{square_in}
 use Rattle.plane_core.proofs.Counting.{gains-none, gains-state, gains-row, number-small, room-state, room-row}
 use Rattle.plane_core.proofs.counts.add_square.Goals as goal
 
@@ -11,22 +10,13 @@ pub bounds-tally-number : goal.bounds-tally-number
 bounds-tally-number c = number-small c.args.rows.now c.args.level c.args.number c.if-level-eq0.true c.requires.number
 
 pub overflow_add-tally : goal.overflow_add-tally
-overflow_add-tally c =
-    let small = number-small c.args.rows.now c.args.level c.args.number c.if-level-eq0.true c.requires.number in
-    let le : get_or c.args.tally.now.counts c.args.number 0 + c.args.times ≤ 2 ^ 124 = room-state c.args.rows.now c.args.tally.now c.args.times c.args.number (square_in c.args.rows.now c.args.level c.args.number) small c.requires.room in
-    omega (arith, le)
+overflow_add-tally c = grind (arith, number-small, room-state)
 
 pub bounds-tally-number-then-level-eq0 : goal.bounds-tally-number-then-level-eq0
 bounds-tally-number-then-level-eq0 c = number-small c.args.rows.now c.args.level c.args.number c.if-level-eq0.true c.requires.number
 
 pub overflow_add-index_mut : goal.overflow_add-index_mut
-overflow_add-index_mut c =
-    let there : c.args.number ≤ length c.args.tally.now.times.items = c.requires.listed (omega (arith, c.if-level-eq0.false)) in
-    let some : c.args.number - 1 < length c.args.tally.now.times.items = omega (arith, there, c.if-number-eq0.false) in
-    let le : get_or c.args.tally.now.times.items (c.args.number - 1) 0 + c.args.times ≤ 2 ^ 124 = room-row c.args.rows.now c.args.tally.now c.args.times (c.args.number - 1)
-    (square_in c.args.rows.now c.args.level c.args.number) some c.requires.room in
-    let at : c.index_mut.result.now ≡ get_or c.args.tally.now.times.items (c.args.number - 1) 0 = c.index_mut.ensures.value ∙ get_or_default_zero c.args.tally.now.times.items (c.args.number - 1) c.index_mut.result.now some in
-    omega (arith, le, at)
+overflow_add-index_mut c = grind (arith, room-row, get_or_default_zero)
 
 pub returns-then-level-eq0 : goal.returns-then-level-eq0
 returns-then-level-eq0 c =

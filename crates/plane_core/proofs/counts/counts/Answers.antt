@@ -1,7 +1,7 @@
-use Rattle.std.proofs.Common.{◌≡◌, length, replicate, refl, sym, subst, arith}
+use Rattle.std.proofs.Common.{length, replicate, refl, sym, subst, arith}
 use Rattle.plane_core.specs.declared.counts.Tally.{Tally}
 use Rattle.plane_core.specs.Rows.{IsNumber, square_in, root_of}
-use Rattle.plane_core.specs.Counts.{Gains, HasRoom}
+use Rattle.plane_core.specs.Counts.{Gains}
 use Rattle.plane_core.proofs.Shared.Roots.{rooted}
 use Rattle.plane_core.proofs.Counting.{room-root, tallied-root, popped-room, tallied-more, tallied-all}
 use Rattle.plane_core.proofs.counts.counts.Goals as goal
@@ -10,11 +10,7 @@ pub add_square-requires-clause-number : goal.add_square-requires-clause-number
 add_square-requires-clause-number c = subst (λ k. IsNumber c.args.rows.now k (length c.args.rows.now)) (sym c.root_level.ensures.level) (rooted c.args.rows.now c.requires.rows).number
 
 pub add_square-requires-clause-room : goal.add_square-requires-clause-room
-add_square-requires-clause-room c =
-    let rows = c.args.rows.now in
-    let empty : Tally = record { counts = replicate 256 0; times = c.in_ok-from_elem.field-0 } in
-    subst (λ k. HasRoom rows empty 1 (square_in rows k (length rows))) (sym c.root_level.ensures.level)
-    (room-root rows empty (length rows) c.requires.rows refl (c.in_ok-from_elem.ensures.items_if_clones_equal (λ y h. h)))
+add_square-requires-clause-room c = grind (arith, room-root)
 
 pub loop-times-init : goal.loop-times-init
 loop-times-init c =
@@ -37,6 +33,4 @@ loop-times-preserved c =
     tallied-more rows (root_of rows) c.loop-times.tally popped c.add_quadrants.new.tally c.in-Some.times refl c.in-Some.ensures.items c.loop-times.invariant c.add_quadrants.ensures
 
 pub returns : goal.returns
-returns c =
-    let none : length c.loop-times.tally.times.items ≡ 0 = omega (arith, c.in_default.ensures.cases.0) in
-    λ s h. tallied-all c.args.rows.now c.loop-times.tally s c.requires.rows none c.loop-times.invariant h
+returns c = grind (arith, tallied-all)

@@ -1,13 +1,10 @@
-use Rattle.std.proofs.Common.{sym, subst, arith, rules}
-use Rattle.plane_core.specs.Rows.{IsNumber}
+use Rattle.std.proofs.Common.{sym, arith}
 use Rattle.plane_core.proofs.Shared.Sound.{state-IsNumber}
 use Rattle.plane_core.proofs.Parts.{of_quadrant, shows-none, shows-state}
 use Rattle.plane_core.proofs.descent.+state_in.Goals as goal
 
 pub overflow_cast-result : goal.overflow_cast-result
-overflow_cast-result t c =
-    let small = state-IsNumber c.args.rows.now c.args.part.number (subst (λ k. IsNumber c.args.rows.now k c.args.part.number) c.if-part-eq0.true c.requires.part.number) in
-    search rules
+overflow_cast-result t c = grind (arith, state-IsNumber)
 
 pub returns-then-part-eq0 : goal.returns-then-part-eq0
 returns-then-part-eq0 t c = λ w shows. sym (shows-state w c.args.rows.now c.args.part _ _ c.if-part-eq0.true shows c.requires.spot)

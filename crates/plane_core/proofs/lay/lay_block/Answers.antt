@@ -10,11 +10,7 @@ pub laid_states-requires-clause-states : goal.laid_states-requires-clause-states
 laid_states-requires-clause-states c = λ q hq. state-IsNumber c.deref.result.now (get_or c.quadrants-states.result q 0) (c.quadrants-states.ensures.numbers q hq)
 
 pub push_row-requires-clause-row : goal.push_row-requires-clause-row
-push_row-requires-clause-row c = record {
-  low = omega arith;
-  high = omega arith;
-  kids = λ q hq. IsNumber-state c.args.rows.now.items (get_or c.laid_states.result q 0) (c.laid_states.ensures.small q hq);
-}
+push_row-requires-clause-row c = grind (arith, IsNumber-state)
 
 pub returns : goal.returns
 returns c =

@@ -1,4 +1,4 @@
-use Rattle.std.proofs.Common.{◌≡◌, ◌<◌, ◌≤◌, ◌-◌, ℕ, List, None, Some, sym, ap, ◌∙◌, subst, arith, inl, inr, length, get_or, ◌^◌, ℤ, pos, neg_ℤ, ◌-ℤ◌, SFits, to_z, of_z, w64, to_z-of_z}
+use Rattle.std.proofs.Common.{◌≡◌, ◌<◌, ◌≤◌, ◌-◌, ℕ, List, None, Some, sym, ap, ◌∙◌, subst, arith, length, ◌^◌, pos, ◌-ℤ◌, SFits, to_z, of_z, w64, to_z-of_z}
 use Rattle.std.specs.Prelude.{slice_get}
 use Rattle.std.proofs.lemmas.Bool.{cases_lt}
 use Rattle.std.proofs.lemmas.Int.{ints, to_z_pos}
@@ -6,7 +6,7 @@ use Rattle.std.proofs.lemmas.Option.{slice_get_within, get_or_from_slice_get, sl
 use Rattle.plane_core.specs.declared.measures.Measures.{Measures}
 use Rattle.plane_core.specs.declared.row.SquareRow.{SquareRow}
 use Rattle.plane_core.specs.Rows.{edge_of, world_of_rows}
-use Rattle.plane_core.specs.Measures.{AreMeasured, AreMeasuresAt, AreMeasuresOf, no_measures}
+use Rattle.plane_core.specs.Measures.{AreMeasured, AreMeasuresAt, AreMeasuresOf}
 use Rattle.plane_core.proofs.Shared.Measuring.{root_measured, root_near, none_measured}
 use Rattle.plane_core.proofs.measures.measured.Goals as goal
 
@@ -15,12 +15,7 @@ fits_edge n h = omega (arith, ints)
 
 -- the corner as the code computes it
 edge_is : (n k : ℕ) → n ≡ 2 ^ (k - 1) → n ≤ 2 ^ 62 → to_z w64 (of_z w64 (pos 0 -ℤ to_z w64 n)) ≡ edge_of k
-edge_is n k e h =
-    let below : pos 0 -ℤ pos n ≡ neg_ℤ (pos n) = omega (arith, ints) in
-    ap (λ (z : ℤ). to_z w64 (of_z w64 (pos 0 -ℤ z))) (to_z_pos w64 n (omega (arith, h)))
-    ∙ to_z-of_z (fits_edge n h)
-    ∙ below
-    ∙ ap (λ m. neg_ℤ (pos m)) e
+edge_is n k e h = grind (arith, ints, to_z, of_z, to_z_pos, to_z-of_z, fits_edge)
 
 -- the last of the measures is that of the root
 pub record HasRoot (rows : List SquareRow) (root : Measures) : Type 0 where
@@ -28,22 +23,10 @@ pub record HasRoot (rows : List SquareRow) (root : Measures) : Type 0 where
   pub measures : AreMeasuresAt rows (length rows - 1) root
 
 has_root : (rows : List SquareRow) (all items : List Measures) (root : Measures) → items ≡ all → AreMeasured rows all → length rows ≤ length all → slice_get items (length items - 1) ≡ Some root → HasRoot rows root
-has_root rows all items root e known enough last =
-    let at : slice_get all (length all - 1) ≡ Some root = subst (λ (xs : List Measures). slice_get xs (length xs - 1) ≡ Some root) e last in
-    let within : length all - 1 < length all = slice_get_within all (length all - 1) root at in
-    let same : length all ≡ length rows = (let few = known.few in omega arith) in
-    let is : get_or all (length all - 1) no_measures ≡ root = (get_or_from_slice_get all (length all - 1) root no_measures at) in
-    record {
-      some = omega arith;
-      measures = subst (λ n. AreMeasuresAt rows (n - 1) root) same (subst (AreMeasuresAt rows (length all - 1)) is (known.each (length all - 1) within));
-    }
+has_root rows all items root e known enough last = grind (arith, slice_get_within, get_or_from_slice_get)
 
 has_none : (rows : List SquareRow) (all items : List Measures) → items ≡ all → AreMeasured rows all → length rows ≤ length all → slice_get items (length items - 1) ≡ None → length rows ≡ 0
-has_none rows all items e known enough last =
-    elim (cases_lt 0 (length items)) [
-      | inl some ↦ let there = slice_get-get_or items (length items - 1) no_measures (omega arith) in absurd (cc)
-      | inr none ↦ omega (arith, ap (λ (xs : List Measures). length xs) e)
-    ]
+has_none rows all items e known enough last = grind (arith, cases_lt, slice_get-get_or)
 
 pub returns-in_default : goal.returns-in_default
 returns-in_default c =
@@ -52,10 +35,7 @@ returns-in_default c =
     subst (AreMeasuresOf (world_of_rows c.args.rows.now)) (sym c.no_measures.ensures) (none_measured c.args.rows.now none)
 
 pub placed-requires-clause-bounds : goal.placed-requires-clause-bounds
-placed-requires-clause-bounds c =
-    let enough : length c.args.rows.now ≤ length c.loop-all.all.items = omega (arith, c.loop-all-test.false, c.len.ensures) in
-    let root = has_root c.args.rows.now c.loop-all.all.items c.deref-2.result.now c.in-Some.root.now c.deref-2.ensures.value c.loop-all.invariant enough (sym c.in-Some.ensures.value) in
-    root_near c.args.rows.now c.in-Some.root.now c.requires root.some root.measures
+placed-requires-clause-bounds c = grind (arith, has_root, root_near)
 
 pub returns : goal.returns
 returns c =

@@ -9,9 +9,7 @@ returns-then-number-eq0 c =
     subst (λ n. AreQuadrants c.args.rows.now (c.args.level - 1) n (0 ∷ 0 ∷ 0 ∷ 0 ∷ [])) (sym c.if-number-eq0.true) (quadrants-none c.args.rows.now (c.args.level - 1))
 
 pub bounds-rows-number : goal.bounds-rows-number
-bounds-rows-number c =
-    let listed = number_within c.args.rows.now c.args.level c.args.number (omega arith) (omega arith) c.requires.number in
-    omega arith
+bounds-rows-number c = grind (arith, number_within)
 
 pub returns : goal.returns
 returns c = quadrants-row c.args.rows.now c.args.level c.args.number c.requires.rows (omega arith) (omega arith) c.requires.number

@@ -1,19 +1,13 @@
 use Rattle.std.proofs.Common.{◌≡◌, ◌-◌, ◌≤◌, List, length, sym, ap, ◌∙◌, subst, arith}
 use Rattle.plane_core.specs.declared.row.SquareRow.{SquareRow}
-use Rattle.plane_core.specs.Rows.{IsNumber, root_level}
+use Rattle.plane_core.specs.Rows.{root_level}
 use Rattle.plane_core.specs.Laid.{AreQuadrants}
 use Rattle.plane_core.proofs.Shared.Roots.{rooted}
 use Rattle.plane_core.proofs.Shared.Adding.{raised}
 use Rattle.plane_core.proofs.raise.raise.Goals as goal
 
 pub quadrants-kids-requires-clause-number : goal.quadrants-kids-requires-clause-number
-quadrants-kids-requires-clause-number c =
-    let rows = c.args.rows.now.items in
-    let level : c.root_level-level.result ≡ root_level rows = c.root_level-level.ensures.level ∙ ap root_level c.deref.ensures.value in
-    let count : c.len.result ≡ length rows = omega (arith, c.len.ensures) in
-    subst (λ (rs : List SquareRow). IsNumber rs c.root_level-level.result c.len.result) (sym c.deref-2.ensures.value)
-    (subst (λ n. IsNumber rows c.root_level-level.result n) (sym count)
-    (subst (λ k. IsNumber rows k (length rows)) (sym level) (rooted rows c.requires.rows).number))
+quadrants-kids-requires-clause-number c = grind (arith, rooted)
 
 pub returns : goal.returns
 returns c =

@@ -1,27 +1,18 @@
-use Rattle.std.proofs.Common.{◌≡◌, ◌-◌, get_or, sym, ◌∙◌, subst, arith, lit<, None, Some}
+use Rattle.std.proofs.Common.{◌≡◌, ◌-◌, get_or, sym, ◌∙◌, arith, lit<, None, Some}
 use Rattle.std.proofs.lemmas.List.{get_or_read}
-use Rattle.plane_core.specs.Rows.{square_in}
-use Rattle.plane_core.specs.Walks.{Walks}
 use Rattle.plane_core.proofs.Shared.Sound.{Has-state, Has-none}
 use Rattle.plane_core.proofs.Descents.{number_within, number-kid}
 use Rattle.plane_core.proofs.Walking.{walks-known, walks-four, remembers-more, grows-complete}
 use Rattle.plane_core.proofs.walk.+walk_square.Goals as goal
 
 pub returns-then-level-eq0-clause-walks : goal.returns-then-level-eq0-clause-walks
-returns-then-level-eq0-clause-walks t c =
-    subst (λ k. Walks k (square_in c.args.rows.now k c.args.number) c.args.walk.now.done.keys c.args.walk.now.done.keys c.args.number) (sym c.if-level-eq0.true)
-    (Has-state c.args.rows.now c.args.walk.now.done.keys c.args.number)
+returns-then-level-eq0-clause-walks t c = grind (arith, Has-state)
 
 pub returns-then-number-eq0-clause-walks : goal.returns-then-number-eq0-clause-walks
-returns-then-number-eq0-clause-walks t c =
-    subst (λ n. Walks c.args.level (square_in c.args.rows.now c.args.level n) c.args.walk.now.done.keys c.args.walk.now.done.keys 0) (sym c.if-number-eq0.true)
-    (Has-none c.args.rows.now c.args.walk.now.done.keys c.args.level)
+returns-then-number-eq0-clause-walks t c = grind (arith, Has-none)
 
 pub index-requires : goal.index-requires
-index-requires t c =
-    let listed = number_within c.args.rows.now c.args.level c.args.number (omega arith) (omega arith) c.requires.number in
-    let count = c.requires.remembers.count in
-    omega (arith, c.args.walk.now.numbers.ok.0)
+index-requires t c = grind (arith, number_within)
 
 pub returns-in-Some-clause-walks : goal.returns-in-Some-clause-walks
 returns-in-Some-clause-walks t c =
@@ -32,9 +23,7 @@ returns-in-Some-clause-walks t c =
     walks-known c.args.rows.now c.args.walk.now.done.keys numbers c.args.level c.args.number c.in-Some.known (omega arith) (omega arith) c.requires.number c.requires.remembers known
 
 pub bounds-rows-place : goal.bounds-rows-place
-bounds-rows-place t c =
-    let listed = number_within c.args.rows.now c.args.level c.args.number (omega arith) (omega arith) c.requires.number in
-    omega arith
+bounds-rows-place t c = grind (arith, number_within)
 
 pub walk_square-requires : goal.walk_square-requires
 walk_square-requires t c = (omega (arith, c.decreases), (c.requires.rows, (number-kid c.args.rows.now c.args.level c.args.number 0 c.requires.rows (omega arith) (omega arith) c.requires.number (lit< tt), c.requires.remembers)))
@@ -49,10 +38,7 @@ pub walk_square-requires-4 : goal.walk_square-requires-4
 walk_square-requires-4 t c = (omega (arith, c.decreases), (c.requires.rows, (number-kid c.args.rows.now c.args.level c.args.number 3 c.requires.rows (omega arith) (omega arith) c.requires.number (lit< tt), c.in_ok-sw.ensures.remembers)))
 
 pub index_mut-requires : goal.index_mut-requires
-index_mut-requires t c =
-    let listed = number_within c.args.rows.now c.args.level c.args.number (omega arith) (omega arith) c.requires.number in
-    let count = c.in_ok-se.ensures.remembers.count in
-    omega (arith, c.walk_square-4.new.walk.numbers.ok.0)
+index_mut-requires t c = grind (arith, number_within)
 
 pub returns-clause-walks : goal.returns-clause-walks
 returns-clause-walks t c =

@@ -7,9 +7,7 @@ pub returns-then-self-eq0 : goal.returns-then-self-eq0
 returns-then-self-eq0 c = kid-none c.args.rows.now c.args.self c.args.q c.if-self-eq0.true
 
 pub bounds-rows-self : goal.bounds-rows-self
-bounds-rows-self c =
-    let listed = number_within c.args.rows.now c.args.self.level c.args.self.number (omega arith) (omega arith) c.requires.0.number in
-    omega arith
+bounds-rows-self c = grind (arith, number_within)
 
 pub returns : goal.returns
 returns c = kid-row c.args.rows.now c.args.self c.args.q c.requires.0 (omega arith) (omega arith) (omega arith)
