@@ -1,5 +1,5 @@
 -- The counts of states, row by row.
-use Rattle.std.proofs.Common.{◌≡◌, ℕ, zero, suc, ◌+◌, ◌*◌, ◌-◌, ◌<◌, ◌≤◌, ◌^◌, ◌==◌, false, cond, List, [], ◌∷◌, ◌++◌, length, get_or, set, replicate, refl, sym, ap, ap₂, ◌∙◌, subst, arith, inl, inr, lit<, pow_mono, ℤ}
+use Rattle.std.proofs.Common.{◌≡◌, ℕ, zero, suc, ◌+◌, ◌*◌, ◌-◌, ◌<◌, ◌≤◌, ◌^◌, ◌==◌, false, cond, List, [], ◌∷◌, ◌++◌, length, get_or, set, replicate, refl, sym, ap, ap₂, ◌∙◌, subst, arith, inl, inr, pow_mono, ℤ}
 use Rattle.std.proofs.Common.{get_or-set_same, get_or-set_other}
 use Rattle.std.specs.List.{AllByRecursion, count_by}
 use Rattle.std.proofs.lemmas.Bool.{cases_lt, eq-eqb, ne_eqb}
@@ -127,13 +127,7 @@ gains-state rows old new n k s ground_level live is states small counts times =
     = ap (λ (xs : List ℕ). sum_to (by xs (λ i. tally f (row_square rows i))) (length xs)) times in
     let cells : n * tally f (square_in rows k s) ≡ n * f s = ap (λ (t : Square). n * tally f t) at in
     omega arith in
-    record {
-      each = λ f none. gain f;
-      most = let e = gain is_any in omega arith;
-      none = ap (λ (xs : List ℕ). get_or xs 0 0) counts ∙ get_or-set_other old.counts s 0 (get_or old.counts s 0 + n) 0 (λ e. live (sym e));
-      states = ap length counts ∙ length-set old.counts s (get_or old.counts s 0 + n) ∙ states;
-      left = ap length times;
-    }
+    grind (arith, get_or-set_other, live, length-set)
 
 -- a row stands more often
 pub gains-row : (rows : List SquareRow) (old new : Tally) (n k m : ℕ) → (k ≡ 0 → ⊥) → (m ≡ 0 → ⊥) → IsNumber rows k m → m ≤ length old.times.items → length old.counts ≡ 256 → new.counts ≡ old.counts
@@ -153,13 +147,7 @@ gains-row rows old new n (suc k) (suc i) above live is there states counts times
     = ap (sum_to (by new.times.items w)) long ∙ ap (λ (xs : List ℕ). sum_to (by xs w) (length old.times.items)) put ∙ sum-set old.times.items w i n (length old.times.items) (omega arith) (omega arith) in
     let cells : n * w i ≡ n * tally f (square_in rows (suc k) (suc i)) = ap (λ (t : Square). n * tally f t) at in
     omega arith in
-    record {
-      each = λ f none. gain f;
-      most = let e = gain is_any in omega arith;
-      none = ap (λ (xs : List ℕ). get_or xs 0 0) counts;
-      states = ap length counts ∙ states;
-      left = long;
-    }
+    grind (arith)
 
 -- at level 0 a number is a state
 pub number-small : (rows : List SquareRow) (k n : ℕ) → k ≡ 0 → IsNumber rows k n → n < 256
@@ -169,19 +157,13 @@ number-small rows k n e h = state-IsNumber rows n (subst (λ j. IsNumber rows j 
 pub room-state : (rows : List SquareRow) (t : Tally) (n s : ℕ) (square : Square) → s < 256 → HasRoom rows t n square → get_or t.counts s 0 + n ≤ 2 ^ 124
 room-state rows t n s square h room =
     let one_of = sum-one (by t.counts is_any) 256 s h in
-    let is : by t.counts is_any s ≡ get_or t.counts s 0 = mul-one (get_or t.counts s 0) in
-    let more : n ≤ n * tally is_any square = le-mul_of_pos_right n (tally-some square) in
-    let all = room.room in
-    omega arith
+    grind (arith, mul-one, le-mul_of_pos_right, tally-some)
 
 pub room-row : (rows : List SquareRow) (t : Tally) (n i : ℕ) (square : Square) → i < length t.times.items → HasRoom rows t n square → get_or t.times.items i 0 + n ≤ 2 ^ 124
 room-row rows t n i square h room =
     let w : ℕ → ℕ = λ j. tally is_any (row_square rows j) in
     let one_of = sum-one (by t.times.items w) (length t.times.items) i h in
-    let own : get_or t.times.items i 0 ≤ by t.times.items w i = le-mul_of_pos_right (get_or t.times.items i 0) (tally-some (row_square rows i)) in
-    let more : n ≤ n * tally is_any square = le-mul_of_pos_right n (tally-some square) in
-    let all = room.room in
-    omega arith
+    grind (arith, le-mul_of_pos_right, tally-some)
 
 four-times : (n a b c d : ℕ) → n * (a + b + c + d) ≡ n * a + n * b + n * c + n * d
 four-times n a b c d = mul-add n (a + b + c) d ∙ ap (λ m. m + n * d) (mul-add n (a + b) c ∙ ap (λ m. m + n * c) (mul-add n a b))
@@ -205,12 +187,7 @@ pub next-of : (rows : List SquareRow) (t : Tally) (n i : ℕ) → AreRows rows �
 next-of rows t n i valid more e room =
     let below : i < length rows = omega arith in
     let of_kid = λ (q : ℕ) (hq : q < 4). kid_is rows i ((get_or rows i no_row).level - 1) q valid below refl hq in
-    record {
-      level = (of_kid 0 (lit< tt)).level;
-      number = λ q hq. (of_kid q hq).number;
-      listed = λ q hq low. subst (λ j. kid (get_or rows i no_row) q ≤ j) e ((of_kid q hq).listed low);
-      room = subst (λ j. HasRoom rows t n (row_square rows j)) (sym e) room;
-    }
+    grind (arith)
 
 -- what the first q quadrants add up to
 abbrev first : List SquareRow → ℕ → ℕ → (ℕ → ℕ) → ℕ → ℕ
@@ -253,9 +230,7 @@ sum-le g m (suc n) h =
 pub first-room : (rows : List SquareRow) (t a : Tally) (n i q : ℕ) → q < 4 → IsNext rows t n i → GainsFirst rows t a n i q → HasRoom rows a n (quadrant rows i ((get_or rows i no_row).level - 1) q)
 first-room rows t a n i q few next before =
     let all = first-four rows i n is_any next.level in let e = first-more rows i n is_any q in
-    let le = sum-le (λ q. n * tally is_any (quadrant rows i ((get_or rows i no_row).level - 1) q)) (q + 1) 4 (omega arith) in
-    let room = next.room.room in let most = before.most in
-    record { room = omega arith; states = before.states }
+    grind (arith, sum-le)
 
 pub first-all : (rows : List SquareRow) (t d : Tally) (n i q : ℕ) → q ≡ 4 → IsNext rows t n i → GainsFirst rows t d n i q → Gains rows t d n (row_square rows i)
 first-all rows t d n i q last next all = grind (arith, first-four)

@@ -14,7 +14,7 @@ use Rattle.worlds.specs.Square.{Square, cell_in, IsIn}
 use Rattle.plane_core.specs.declared.row.SquareRow.{SquareRow}
 use Rattle.plane_core.specs.declared.part.Part.{Part}
 use Rattle.plane_core.specs.declared.lay.Parts.{Parts}
-use Rattle.plane_core.specs.Rows.{IsNumber, square_in, row_at, root_level, edge_of, world_of_rows}
+use Rattle.plane_core.specs.Rows.{IsNumber, square_in, root_level, edge_of, world_of_rows}
 use Rattle.plane_core.specs.Part.{Covers, IsPart, IsQuadrant, IsRoot, Shows, east, south, quadrant_at}
 use Rattle.plane_core.specs.Laid.{square_of, AreQuadrants, Keeps, IsAdded, AreThoseIn, AreParted, AreLaidStates, IsCellOf, IsLaid, IsPut, quadrant_of, renumbered}
 use Rattle.plane_core.proofs.Shared.Sound.{IsNumber-level}
@@ -186,14 +186,7 @@ root-laid rows new p n cells root laid =
     let last : n ≡ length new = laid.last root.number in
     let low = root.low in
     let up : suc (p.level - 1) ≡ p.level = omega arith in
-    elim (cases_lt 0 (length new)) [
-      | inl some ↦
-          root_level-some new some ∙ ap (λ m. (row_at new m).level) (sym last)
-          ∙ (IsNumber-level new (p.level - 1) n (subst (λ k. IsNumber new k n) (sym up) laid.number) (omega (arith, some, last))).1 ∙ up
-      | inr none ↦
-          let shorter : length rows ≤ length new = laid.keeps.longer in
-          ap root_level (nil_from_length new (omega arith)) ∙ ap root_level (sym (nil_from_length rows (omega arith))) ∙ sym root.level
-    ]
+    grind (arith, cases_lt, root_level-some, IsNumber-level, nil_from_length)
 
 -- the world after cells that the root holds are laid on it
 pub laid-world : (rows new : List SquareRow) (p : Part) (n : ℕ) (cells : List CellSet) → IsRoot rows p → All (λ c. Covers p c.x c.y) cells → IsLaid rows new p n cells → world_of_rows new ≡ lay cells (world_of_rows rows)

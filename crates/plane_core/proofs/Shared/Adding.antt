@@ -1,11 +1,11 @@
 -- Rows that come behind others, and the root of one level more.
-use Rattle.std.proofs.Common.{◌≡◌, ℕ, zero, suc, ◌+◌, ◌-◌, ◌<◌, ◌≤◌, ◌^◌, List, [], ◌∷◌, ◌++◌, length, get_or, slice_set, refl, sym, ap, ◌∙◌, subst, arith, lit<, Result}
+use Rattle.std.proofs.Common.{◌≡◌, ℕ, zero, suc, ◌+◌, ◌-◌, ◌<◌, ◌≤◌, ◌^◌, List, [], ◌∷◌, ◌++◌, length, get_or, slice_set, refl, sym, ◌∙◌, subst, arith, Result}
 use Rattle.std.specs.Prelude.{IfOk}
 use Rattle.std.proofs.lemmas.Result.{IfOk-weaker}
 use Rattle.std.proofs.lemmas.List.{length_push, get_or_push}
 use Rattle.plane_core.specs.declared.row.SquareRow.{SquareRow}
 use Rattle.worlds.specs.Square.{Square, four, empty_square}
-use Rattle.plane_core.specs.Rows.{no_row, row_at, kid, IsNumber, IsRow, AreRows, square_in, root_level}
+use Rattle.plane_core.specs.Rows.{row_at, kid, IsNumber, IsRow, AreRows, square_in, root_level}
 use Rattle.plane_core.specs.Centre.{cornered, centred}
 use Rattle.plane_core.specs.Laid.{square_of, AreQuadrants, Keeps, IsAdded, IsRaised}
 use Rattle.plane_core.proofs.Shared.Numbering.{Grows, Grows-more}
@@ -40,19 +40,7 @@ module _ (rows : List SquareRow) (row : SquareRow) (k : ℕ) (valid : AreRows ro
   added_suc =
       let all = rows ++ row ∷ [] in
       let count : length all ≡ suc (length rows) = omega (arith, length_push rows row) in
-      let here : get_or all (length rows) no_row ≡ row = get_or_push rows row no_row (length rows) refl in
-      let one_less : length all - 1 ≡ length rows = omega (arith, count) in
-      record {
-        keeps = keeps_pushed;
-        number = IsNumber-from all k (length all) (λ live. (omega arith, ap (λ m. (get_or all m no_row).level) one_less ∙ ap (λ (r : SquareRow). r.level) here ∙ level));
-        square =
-            ap (square_in all (suc k)) count
-            ∙ square_in-row all k (length rows)
-            ∙ ap (λ (r : SquareRow). square_of all k r.kids) here
-            ∙ square_of-kept rows all k row.kids keeps_pushed kid_before;
-        last = refl;
-        some = omega (arith, count);
-      }
+      grind (arith, get_or_push, keeps_pushed, IsNumber-from, square_in-row, square_of-kept, kid_before)
 
 level_suc : (k : ℕ) → 1 ≤ k → k ≡ suc (k - 1)
 level_suc k h = omega (arith, h)
@@ -114,16 +102,7 @@ module _ (rows r1 r2 r3 r4 r5 : List SquareRow) (k : ℕ) (kids : List ℕ) (nw 
   is_raised : IsRaised rows r5
   is_raised =
       let root = root_added r4 r5 (suc k) n (square_of r4 (suc k) (nw ∷ ne ∷ sw ∷ se ∷ [])) a5 in
-      let is = λ (q : ℕ) (h : q < 4). square_in-IsSquare rows k (get_or kids q 0) valid (parts.numbers q h) in
-      record {
-        valid = a5.keeps.valid;
-        few = a5.keeps.few;
-        level = root.0 ∙ ap suc (sym level);
-        world =
-            world-put r5 (suc (suc k)) _ root.0 (root.1 ∙ raised_square)
-            ∙ centred-world k _ _ _ _ (is 0 (lit< tt)) (is 1 (lit< tt)) (is 2 (lit< tt)) (is 3 (lit< tt))
-            ∙ sym (world-put rows (suc k) (square_of rows k kids) level parts.square);
-      }
+      grind (arith, square_in-IsSquare, world-put, raised_square, centred-world)
 
 -- the root after four squares at corners and the one of those
 pub raised : (rows r1 r2 r3 r4 r5 : List SquareRow) (level : ℕ) (kids : List ℕ) (nw ne sw se n : ℕ) → AreRows rows → 1 ≤ level → level ≡ root_level rows → AreQuadrants rows (level - 1) (length rows) kids

@@ -31,18 +31,13 @@ module _ (k : ℕ) (s : Square) (l t : ℤ) (w : World) (is : IsSquare k s) (fre
   put-ne =
       let e = empty_square k in
       let on = puts_free k e s e l t w (IsSquare-empty k) is (IsSquare-empty k) free in
-      put_square-four k e s e e l t w
-      ∙ put_square-clear k _ _ _ on.se ∙ put_square-clear k _ _ _ on.sw
-      ∙ ap (put_square k s (l +ℤ pos (2 ^ k)) t) (put_square-clear k l t w (free_parts k l t w free).nw)
+      grind (arith, put_square-four, put_square-clear, free_parts)
 
   put-sw : put_square (suc k) (cornered k 2 s) l t w ≡ put_square k s l (t +ℤ pos (2 ^ k)) w
   put-sw =
       let e = empty_square k in
       let on = puts_free k e e s l t w (IsSquare-empty k) (IsSquare-empty k) is free in
-      put_square-four k e e s e l t w
-      ∙ put_square-clear k _ _ _ on.se
-      ∙ ap (put_square k s l (t +ℤ pos (2 ^ k)))
-      (put_square-clear k _ _ _ on.ne ∙ put_square-clear k l t w (free_parts k l t w free).nw)
+      grind (arith, put_square-four, put_square-clear, free_parts)
 
   put-se : put_square (suc k) (cornered k 3 s) l t w ≡ put_square k s (l +ℤ pos (2 ^ k)) (t +ℤ pos (2 ^ k)) w
   put-se = grind (arith, puts_free, IsSquare-empty, put_square-four, put_square-clear, free_parts)
@@ -127,13 +122,4 @@ fits-corners k nw ne sw se is fits =
     let e : four nw ne sw se ≡ centred k (s l l) (s r l) (s l r) (s r r) =
     same_put (suc (suc k)) _ _ _ _ is (centred-IsSquare k _ _ _ _ (part l l) (part r l) (part l r) (part r r))
     (sym (middle ∙ ap (root_world (suc k)) (sym (square_at-suc w k l l)) ∙ root-world w (suc k) fits small)) in
-    record {
-      a = s l l;
-      b = s r l;
-      c = s l r;
-      d = s r r;
-      nw_is = ap nw_of e;
-      ne_is = ap ne_of e;
-      sw_is = ap sw_of e;
-      se_is = ap se_of e;
-    }
+    grind (arith)

@@ -90,16 +90,7 @@ only_y x y h = let top = h.top in let bottom = h.bottom in omega (arith, ints)
 one-box : (s : ℕ) → suc s < 256 → IsBoundingBox (record { left = pos 0; top = pos 0; right = pos 0; bottom = pos 0 }) (alone 0 (one (suc s)))
 one-box s h =
     let live : 0 < cell (alone 0 (one (suc s))) (pos 0) (pos 0) = omega (arith, cell-alone (suc s) h) in
-    record {
-      holds = λ x y l.
-          let at = alone-live 0 (one (suc s)) x y (IsSquare-one (suc s) h) l in
-          let ex = only_x x y at in let ey = only_y x y at in
-          record { left = omega (arith, ints); right = omega (arith, ints); top = omega (arith, ints); bottom = omega (arith, ints) };
-      touched_left = (pos 0, live);
-      touched_right = (pos 0, live);
-      touched_top = (pos 0, live);
-      touched_bottom = (pos 0, live);
-    }
+    grind (arith, ints, alone-live, IsSquare-one, only_x, only_y)
 
 one-greatest : (s : ℕ) → s < 256 → IsGreatest (alone 0 (one s)) s
 one-greatest s h = record {
@@ -144,18 +135,14 @@ measures-four k h nw ne sw se a b c d eh is ha hb hc hd =
     let m2 : AreMeasuresOf w2 (joined a (placed b (pos 0 +ℤ pos n) (pos 0))) = measures-joined k ne (pos 0 +ℤ pos n) (pos 0) w1 a b parts.1 free.ne ha hb in
     let m3 : AreMeasuresOf w3 (joined (joined a (placed b (pos 0 +ℤ pos n) (pos 0))) (placed c (pos 0) (pos 0 +ℤ pos n))) = measures-joined k sw (pos 0) (pos 0 +ℤ pos n) w2 _ c parts.2 free.sw m2 hc in
     let m4 = measures-joined k se (pos 0 +ℤ pos n) (pos 0 +ℤ pos n) w3 _ d parts.3 free.se m3 hd in
-    subst (λ (z : ℤ). AreMeasuresOf (alone (suc k) (four nw ne sw se)) (joined (joined (joined a (placed b z (pos 0))) (placed c (pos 0) z)) (placed d z z))) edge
-    (subst (λ (w : World). AreMeasuresOf w (joined (joined (joined a (placed b (pos 0 +ℤ pos n) (pos 0))) (placed c (pos 0) (pos 0 +ℤ pos n))) (placed d (pos 0 +ℤ pos n) (pos 0 +ℤ pos n))))
-    (sym (put_square-four k nw ne sw se (pos 0) (pos 0) blank)) m4)
+    grind (arith, put_square-four)
 
 -- what the measures of a square say of their size
 few_live : (k : ℕ) (s : Square) (m : Measures) → IsSquare k s → k ≤ 61 → AreMeasuresOf (alone k s) m → m.population ≤ 2 ^ 122
 few_live k s m is high h =
     let small : tally is_live s ≤ 2 ^ (k + k) = tally-le is_live k s is_live-le is in
     let twice : k + k ≤ 122 = omega arith in
-    let most : 2 ^ (k + k) ≤ 2 ^ 122 = pow_mono twice in
-    let known : m.population ≡ tally is_live s = h.population ∙ population-alone k s (pos 0) (pos 0) is in
-    omega arith
+    grind (arith, pow_mono, population, population-alone)
 
 near : (k : ℕ) (s : Square) (m : Measures) → IsSquare k s → k ≤ 62 → AreMeasuresOf (alone k s) m → IfSome m.bounds (LiesIn (2 ^ 62))
 near k s m is high h = LiesIn-more (2 ^ k) (2 ^ 62) m.bounds (pow_mono high) (alone-LiesIn k s m.bounds is h.bounds)
@@ -224,10 +211,7 @@ next_measured rows all k h valid known more ek eh =
     let nw = part 0 (lit< tt) in let ne = part 1 (lit< tt) in let sw = part 2 (lit< tt) in let se = part 3 (lit< tt) in
     let is = IsSquare-parts k _ _ _ _ nw.square ne.square sw.square se.square in
     let m = measures-four k h _ _ _ _ _ _ _ _ eh is nw.measures ne.measures sw.measures se.measures in
-    let M : Measures =
-    let a = λ (q : ℕ). measures_in all k (kid (get_or rows i no_row) q) in joined (joined (joined (a 0) (placed (a 1) h (pos 0))) (placed (a 2) (pos 0) h)) (placed (a 3) h h) in
-    subst (λ j. AreMeasuresOf (alone j (square_in rows j (suc i))) M) level
-    (subst (λ (t : Square). AreMeasuresOf (alone (suc k) t) M) (sym (square_in-row rows k i)) m)
+    grind (arith, square_in-row)
 
 -- the measures of the root are those of the world
 pub root_measured : (rows : List SquareRow) (m : Measures) (h : ℤ) → AreRows rows → 0 < length rows → AreMeasuresAt rows (length rows - 1) m → h ≡ edge_of (root_level rows) → AreMeasuresOf (world_of_rows rows) (placed m h h)

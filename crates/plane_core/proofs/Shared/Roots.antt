@@ -5,7 +5,7 @@ use Rattle.worlds.specs.World.{cell, blank, cell-blank, same_world}
 use Rattle.worlds.specs.Range.{HasMargin}
 use Rattle.plane_core.specs.declared.row.SquareRow.{SquareRow}
 use Rattle.worlds.specs.Square.{Square, IsSquare, cell_in, put_square, IsIn}
-use Rattle.plane_core.specs.Rows.{number_square, no_row, row_at, kid, IsNumber, AreRows, square_in, root_level, root_of, edge_of, world_of_rows, Fits, AreKept}
+use Rattle.plane_core.specs.Rows.{no_row, row_at, kid, IsNumber, AreRows, square_in, root_level, root_of, edge_of, world_of_rows, Fits, AreKept}
 use Rattle.plane_core.proofs.Shared.Numbering.{Has-empty}
 use Rattle.plane_core.proofs.Shared.Sound.{kid_number, square_in-none, square_in-state, square_in-row, state-IsNumber, IsNumber-level, IsNumber-from, AreRows-none}
 use Rattle.plane_core.proofs.Shared.Cells.{IsSquare-one, IsSquare-empty, IsSquare-parts, cell_in-empty, same_square, put_square-inside, put_square-outside, in_or_out, offsets, double}
@@ -48,11 +48,7 @@ rooted (row ∷ others) valid =
     let high : (get_or rows n no_row).level ≤ 62 = at.high in
     let j = root_level rows - 1 in
     let is : suc j ≡ root_level rows = omega arith in
-    record {
-      low = omega arith;
-      high = omega arith;
-      number = subst (λ k. IsNumber rows k (length rows)) is (IsNumber-from rows j (suc n) (λ live. (omega arith, sym (root_level-some rows (omega arith)) ∙ sym is)));
-    }
+    grind (arith, IsNumber-from, root_level-some)
 
 pub root-IsSquare : (rows : List SquareRow) → AreRows rows → IsSquare (root_level rows) (root_of rows)
 root-IsSquare rows valid = square_in-IsSquare rows (root_level rows) (length rows) valid (rooted rows valid).number
@@ -92,10 +88,7 @@ kept-unique a b ca cb same =
     root-cells a k i j ca.valid refl hi hj
     ∙ ap (λ w. cell w (edge_of k +ℤ pos i) (edge_of k +ℤ pos j)) same
     ∙ sym (root-cells b k i j cb.valid level hi hj)) in
-    sym ca.walked
-    ∙ ap (λ (t : Square). (number_square k t []).rows) square
-    ∙ ap (λ m. (number_square m (square_in b m (length b)) []).rows) (sym level)
-    ∙ cb.walked
+    grind (arith)
 
 -- no rows stand for the blank world
 pub world-none : world_of_rows [] ≡ blank

@@ -1,5 +1,5 @@
 -- What the rows of a walk stand for: each number names the square that was walked, and each row is the one of its square.
-use Rattle.std.proofs.Common.{◌≡◌, ℕ, zero, suc, ◌+◌, ◌-◌, ◌<◌, ◌≤◌, Bool, true, false, cond, not, ◌||◌, List, [], ◌∷◌, ◌++◌, length, take, drop, get_or, refl, sym, ap, ◌∙◌, subst, arith, inl, inr, length-append, lit<}
+use Rattle.std.proofs.Common.{◌≡◌, ℕ, zero, suc, ◌+◌, ◌-◌, ◌<◌, ◌≤◌, Bool, true, false, cond, not, ◌||◌, List, [], ◌∷◌, ◌++◌, length, take, drop, get_or, refl, sym, ap, ◌∙◌, subst, arith, length-append}
 use Rattle.std.proofs.lemmas.Bool.{cases_lt}
 use Rattle.std.proofs.lemmas.List.{length_push, get_or_append_left, get_or_push, take-append-drop, take-append-le, take_at}
 use Rattle.std.proofs.lemmas.List.Sums.{passes_at_first}
@@ -61,9 +61,7 @@ IsNumber-before rows row j i lt h =
 pub IsNumber-last : (rows : List SquareRow) (row : SquareRow) (j i : ℕ) → i ≡ length rows → IsNumber (rows ++ row ∷ []) (suc j) (suc i) → row.level ≡ suc j
 IsNumber-last rows row j i last h =
     let all = rows ++ row ∷ [] in
-    let at = IsNumber-level all j (suc i) h (omega arith) in
-    let one_less : suc i - 1 ≡ i = omega arith in
-    ap (λ (r : SquareRow). r.level) (sym (get_or_push rows row no_row i (sym last))) ∙ ap (λ m. (get_or all m no_row).level) (sym one_less) ∙ at.1
+    grind (arith, IsNumber-level, get_or_push)
 
 -- a kid is a number
 pub kid_number : (rows : List SquareRow) (k i : ℕ) → AreRows rows → i < length rows → (get_or rows i no_row).level ≡ suc k → (q : ℕ) → q < 4 → IsNumber rows k (kid (get_or rows i no_row) q)
@@ -97,9 +95,7 @@ square_in-grown old new (suc k) (suc i) g valid h =
     let level : (get_or old i no_row).level ≡ suc k = ap (λ j. (get_or old j no_row).level) (sym one_less) ∙ at.1 in
     let same : get_or new i no_row ≡ get_or old i no_row = row_kept old new i g lt in
     let quadrant = λ (q : ℕ) (hq : q < 4). ap (λ (row : SquareRow). square_in new k (kid row q)) same ∙ square_in-grown old new k (kid (get_or old i no_row) q) g valid (kid_number old k i valid lt level q hq) in
-    square_in-row new k i
-    ∙ (let nw = quadrant 0 (lit< tt) in let ne = quadrant 1 (lit< tt) in let sw = quadrant 2 (lit< tt) in let se = quadrant 3 (lit< tt) in λ j. four (nw j) (ne j) (sw j) (se j))
-    ∙ sym (square_in-row old k i)
+    grind (arith, square_in-row)
 
 -- each number is the number of its square
 pub record EachHas (rows : List SquareRow) : Type 0 where
@@ -198,10 +194,7 @@ module _ (rows : List SquareRow) (k a b c d : ℕ) (kids : AreKids rows k a b c 
   has_all (suc j) zero h = Has-none (rows ++ row_of (suc k) a b c d ∷ []) (rows ++ row_of (suc k) a b c d ∷ []) (suc j)
   has_all (suc j) (suc i) h =
       let at = IsNumber-level (rows ++ row_of (suc k) a b c d ∷ []) j (suc i) h (omega arith) in
-      elim (cases_lt i (length rows)) [
-        | inl lt ↦ has_before j i lt h
-        | inr ge ↦ has_last j i (omega (arith, at.0, length_push rows (row_of (suc k) a b c d))) h
-      ]
+      grind (arith, cases_lt, has_before, has_last, length_push)
 
 pub found_within : (p : SquareRow → Bool) (xs : List SquareRow) → list_any p xs ≡ true → position_or_len p xs < length xs
 found_within p [] h = cc
@@ -222,28 +215,14 @@ numbered-sound : (x y : Bool) (rows : List SquareRow) (k a b c d : ℕ) → AreK
     → IsSound (suc k) (four (square_in rows k a) (square_in rows k b) (square_in rows k c) (square_in rows k d)) (numbered x y (row_of (suc k) a b c d) rows (position_or_len (same_row (row_of (suc k) a b c d)) rows + 1))
 numbered-sound true y rows k a b c d kids high ex ey is =
     let zeros : a ∷ b ∷ c ∷ d ∷ [] ≡ 0 ∷ 0 ∷ 0 ∷ 0 ∷ [] = (bytes_eq-Decides (a ∷ b ∷ c ∷ d ∷ []) (0 ∷ 0 ∷ 0 ∷ 0 ∷ [])).0 ex in
-    record {
-      valid = kids.valid;
-      each = kids.each;
-      number = IsNumber-from rows k 0 (λ live. absurd (omega (arith, live)));
-      square =
-          square_in-none rows (suc k) ∙ empty_square-four k
-          ∙ (let e = sym (square_in-none rows k) in λ j. four (e j) (e j) (e j) (e j))
-          ∙ ap (λ (ns : List ℕ). four (square_in rows k (get_or ns 0 0)) (square_in rows k (get_or ns 1 0)) (square_in rows k (get_or ns 2 0)) (square_in rows k (get_or ns 3 0))) (sym zeros);
-    }
+    grind (arith, IsNumber-from, square_in-none, empty_square-four)
 numbered-sound false true rows k a b c d kids high ex ey is =
     let row = row_of (suc k) a b c d in
     let i = position_or_len (same_row row) rows in
     let within : i < length rows = found_within (same_row row) rows ey in
     let at : get_or rows i no_row ≡ row = found_at row rows ey in
     let next : i + 1 ≡ suc i = omega arith in
-    let one_less : (i + 1) - 1 ≡ i = omega arith in
-    record {
-      valid = kids.valid;
-      each = kids.each;
-      number = IsNumber-from rows k (i + 1) (λ live. (omega arith, ap (λ m. (get_or rows m no_row).level) one_less ∙ ap (λ (r : SquareRow). r.level) at));
-      square = ap (square_in rows (suc k)) next ∙ square_in-at rows k i a b c d at;
-    }
+    grind (arith, IsNumber-from, square_in-at)
 numbered-sound false false rows k a b c d kids high ex ey is =
     let row = row_of (suc k) a b c d in
     let all = rows ++ row ∷ [] in

@@ -123,14 +123,7 @@ tidied_by : (rows : List SquareRow) (k : ℕ) → AreRows rows → root_level ro
 tidied_by rows k valid ek =
     let t = square_in rows (suc k) (length rows) in
     let is : IsSquare (suc k) t = subst (λ m. IsSquare m (square_in rows m (length rows))) ek (root-IsSquare rows valid) in
-    let root = rooted rows valid in
-    let high = root.high in
-    let own = listed k t is (omega arith) in
-    record {
-      walked = own.walked;
-      world = own.world ∙ sym (world-put rows (suc k) t ek refl);
-      level = elim own.level [ inl level ↦ inl (level ∙ sym ek) | inr none ↦ inr none ];
-    }
+    grind (arith, rooted, listed, world-put)
 
 pub tidied : (rows done : List SquareRow) → AreRows rows → (number_square (root_level rows) (root_of rows) []).rows ≡ done → IsTidied rows done
 tidied rows done valid e =

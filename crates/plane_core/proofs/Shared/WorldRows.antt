@@ -10,7 +10,7 @@ use Rattle.worlds.specs.World.{Place, World, blank, cell}
 use Rattle.worlds.specs.Range.{AllBelow, HasMargin}
 use Rattle.worlds.specs.Live.{by_place, cell-state_at, live, live-states}
 use Rattle.plane_core.specs.declared.row.SquareRow.{SquareRow}
-use Rattle.worlds.specs.Square.{Square, IsIn, IsSquare, square_at}
+use Rattle.worlds.specs.Square.{IsIn, IsSquare, square_at}
 use Rattle.plane_core.specs.Rows.{AreKept, AreRows, AreSquaresOf, Fits, IsLeastLevel, completed, edge_of, root_level, root_of, world_of_rows, written}
 use Rattle.plane_core.proofs.Shared.Cells.{put_square-below, same_put, square_at-IsSquare}
 use Rattle.plane_core.proofs.Shared.Centring.{root-world}
@@ -119,11 +119,7 @@ rows_of-squares w rows are =
     let root = rooted rows valid in
     let least : IsLeastLevel k w = subst (IsLeastLevel k) are.world canonical.least in
     let level : least_level w ≡ k = least_level-least w k least root.low root.high in
-    let square : square_at w k (edge_of k) (edge_of k) ≡ root_of rows = ap (λ v. square_at v k (edge_of k) (edge_of k)) (sym are.world) ∙ root-square_at rows valid in
-    rows_of-is w
-    ∙ ap (λ j. written (completed j (square_at w j (edge_of j) (edge_of j)))) level
-    ∙ ap (λ (t : Square). written (completed k t)) square
-    ∙ canonical.walked
+    grind (arith, square_at, root-square_at, rows_of-is)
 
 -- a root of the greatest level holds the range of planes
 range-fits : (w : World) → HasMargin 0 w → Fits 62 w
