@@ -30,14 +30,17 @@ pub levels : (neighbors : Neighbors) → length (places_of neighbors) ≡ depth_
 levels neighbors = grind arith
 
 -- the root leads to a state
-pub root-leads : (head : TreeHead) (depths entries : List ℕ) (root : ℕ) → AreKept head depths entries → length depths ≡ head.node_count → head.node_count ≡ root + 1 → leads head.states (nodes_in head.states (root + 1) entries) root (places_of head.neighbors) ≡ true
+pub root-leads : (head : TreeHead) (depths entries : List ℕ) (root : ℕ) → AreKept head depths entries → length depths ≡ head.node_count
+    → head.node_count ≡ root + 1 → leads head.states (nodes_in head.states (root + 1) entries) root (places_of head.neighbors) ≡ true
 root-leads head depths entries root kept whole last =
     let at : head.node_count - 1 ≡ root = omega (arith, last) in
     let deep : length (places_of head.neighbors) ≡ slice_index depths root = levels head.neighbors ∙ sym (kept.rooted whole) ∙ ap (slice_index depths) at in
     rw (← last, ← whole) (kept.leading root (places_of head.neighbors) (omega (arith, whole, last)) deep)
 
 -- such a tree is one that a file may have
-pub kept-tree : (head : TreeHead) (depths entries : List ℕ) (root : ℕ) → IsTreeHead head → AreKept head depths entries → length depths ≡ head.node_count → head.node_count ≡ root + 1 → next (tree_of_kept head.states head.neighbors root entries) nine_zeros ≡ 0 → IsKeptTree head.states head.neighbors root entries
+pub kept-tree : (head : TreeHead) (depths entries : List ℕ) (root : ℕ) → IsTreeHead head → AreKept head depths entries
+    → length depths ≡ head.node_count → head.node_count ≡ root + 1 → next (tree_of_kept head.states head.neighbors root entries) nine_zeros ≡ 0
+    → IsKeptTree head.states head.neighbors root entries
 kept-tree head depths entries root limits kept whole last still =
     let tree = tree_of_kept head.states head.neighbors root entries in
     let quiet : (next tree nine_zeros == 0) ≡ true = search (rules, tests) in

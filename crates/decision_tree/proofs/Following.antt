@@ -15,7 +15,9 @@ pub record Step (n count : ℕ) (entries : List ℕ) (number : ℕ) (inputs : Li
   pub leading : leads n (nodes_in n count entries) (slice_index entries place) (drop (k + 1) inputs) ≡ true
   pub found : follow (nodes_in n count entries) (slice_index entries place) (drop (k + 1) inputs) ≡ follow (nodes_in n count entries) number (drop k inputs)
 
-pub one_step : (n count : ℕ) (entries : List ℕ) (number : ℕ) (inputs : List ℕ) (k place : ℕ) → length entries ≡ count * n → leads n (nodes_in n count entries) number (drop k inputs) ≡ true → k < length inputs → get_or inputs k 0 < n → place ≡ number * n + get_or inputs k 0 → Step n count entries number inputs k place
+pub one_step : (n count : ℕ) (entries : List ℕ) (number : ℕ) (inputs : List ℕ) (k place : ℕ) → length entries ≡ count * n
+    → leads n (nodes_in n count entries) number (drop k inputs) ≡ true → k < length inputs → get_or inputs k 0 < n
+    → place ≡ number * n + get_or inputs k 0 → Step n count entries number inputs k place
 one_step n count entries number inputs k place filled leading more low at =
     let nodes = nodes_in n count entries in
     let input = get_or inputs k 0 in

@@ -18,6 +18,8 @@ pub head_from-none : (last : ℕ) (d : Described) (lines : List NumberedLine) �
 head_from-none last d [] = λ h. absurd cc
 head_from-none last d (line ∷ lines) = by (descriptor_of line.text) (λ e. head_from-none last e lines)
   where
-    by : (o : Option (Descriptor × List ℕ)) → ((e : Described) → WantsNone (head_from last e lines)) → WantsNone (option_map_or (λ x. ok_or (describe d x.0 x.1) (BadTree line.number) >>= λ e. head_from last e lines) o (ok_or (head_of d) (BadTree line.number) >>= λ head. Ok (head, line ∷ lines)))
+    by : (o : Option (Descriptor × List ℕ)) → ((e : Described) → WantsNone (head_from last e lines))
+        → WantsNone (option_map_or (λ x. ok_or (describe d x.0 x.1) (BadTree line.number) >>= λ e. head_from last e lines) o
+        (ok_or (head_of d) (BadTree line.number) >>= λ head. Ok (head, line ∷ lines)))
     by None rest = some-none (head_of d) line.number (λ (head : TreeHead). Ok (head, line ∷ lines)) (λ head h. absurd cc)
     by (Some x) rest = some-none (describe d x.0 x.1) line.number (λ e. head_from last e lines) rest

@@ -45,7 +45,8 @@ same-said head depths entries n ns limits kept h =
     }
 
 -- whether it is the next node is the same of a node as it is kept, and if it is, it is kept as it is
-next-kept : (head : TreeHead) (depths entries : List ℕ) (n : ℕ) (ns : List ℕ) → IsTreeHead head → AreKept head depths entries → is_next head depths (record { depth = saturated n; entries = map saturated ns }) ≡ is_next head depths (record { depth = n; entries = ns })
+next-kept : (head : TreeHead) (depths entries : List ℕ) (n : ℕ) (ns : List ℕ) → IsTreeHead head → AreKept head depths entries
+    → is_next head depths (record { depth = saturated n; entries = map saturated ns }) ≡ is_next head depths (record { depth = n; entries = ns })
 next-kept head depths entries n ns limits kept =
     by (is_next head depths (record { depth = saturated n; entries = map saturated ns })) (is_next head depths (record { depth = n; entries = ns })) refl refl
   where
@@ -61,9 +62,15 @@ if_next nodes number node b = ok_or (option_map (λ x. nodes ++ x ∷ []) (cond 
 
 -- what some numbers say behind nodes
 abbrev with_numbers : TreeHead → List Node → ℕ → Option (List ℕ) → Result (List Node) RuleFault
-with_numbers head nodes number read = ok_or (option_map (λ node. nodes ++ node ∷ []) (option_and_then (λ numbers. option_and_then (λ node. cond (is_next head (map (λ n. n.depth) nodes) node) (Some node) None) (node_from numbers)) read)) (BadTree number)
+with_numbers head nodes number read = ok_or (option_map (λ node. nodes ++ node ∷ [])
+    (option_and_then (λ numbers. option_and_then (λ node. cond (is_next head (map (λ n. n.depth) nodes) node) (Some node) None) (node_from numbers))
+    read)) (BadTree number)
 
-with_kept : (head : TreeHead) (depths entries : List ℕ) (number : ℕ) (read : Option (List ℕ)) (depth : ℕ) (node : List ℕ) → IsTreeHead head → AreKept head depths entries → Some (depth ∷ node) ≡ option_map (map saturated) read → (b : Bool) → is_next head depths (record { depth = depth; entries = node }) ≡ b → with_numbers head (nodes_of head.states depths entries) number read ≡ if_next (nodes_of head.states depths entries) number (record { depth = depth; entries = node }) b
+with_kept : (head : TreeHead) (depths entries : List ℕ) (number : ℕ) (read : Option (List ℕ)) (depth : ℕ) (node : List ℕ) → IsTreeHead head
+    → AreKept head depths entries → Some (depth ∷ node) ≡ option_map (map saturated) read → (b : Bool)
+    → is_next head depths (record { depth = depth; entries = node }) ≡ b
+    → with_numbers head (nodes_of head.states depths entries) number read ≡ if_next (nodes_of head.states depths entries) number
+    (record { depth = depth; entries = node }) b
 with_kept head depths entries number None depth node limits kept h b next = absurd cc
 with_kept head depths entries number (Some []) depth node limits kept h b next = absurd cc
 with_kept head depths entries number (Some (n ∷ ns)) depth node limits kept h b next =
@@ -82,11 +89,18 @@ with_kept head depths entries number (Some (n ∷ ns)) depth node limits kept h 
     by false k depth_is node_is = refl
 
 -- a line whose numbers are the next node, as they are kept
-pub line-taken : (head : TreeHead) (depths entries : List ℕ) (line : NumberedLine) (depth : ℕ) (node : List ℕ) → IsTreeHead head → AreKept head depths entries → Some (depth ∷ node) ≡ option_map (map saturated) (numbers_in (words line.text)) → is_next head depths (record { depth = depth; entries = node }) ≡ true → with_line head (nodes_of head.states depths entries) line ≡ Ok (nodes_of head.states depths entries ++ record { depth = depth; entries = node } ∷ [])
+pub line-taken : (head : TreeHead) (depths entries : List ℕ) (line : NumberedLine) (depth : ℕ) (node : List ℕ) → IsTreeHead head
+    → AreKept head depths entries → Some (depth ∷ node) ≡ option_map (map saturated) (numbers_in (words line.text))
+    → is_next head depths (record { depth = depth; entries = node }) ≡ true
+    → with_line head (nodes_of head.states depths entries) line ≡ Ok (nodes_of head.states depths entries ++ record { depth = depth; entries = node }
+    ∷ [])
 line-taken head depths entries line depth node limits kept h next = with_kept head depths entries line.number (numbers_in (words line.text)) depth node limits kept h true next
 
 -- one whose numbers aren't
-pub line-refused : (head : TreeHead) (depths entries : List ℕ) (line : NumberedLine) (depth : ℕ) (node : List ℕ) → IsTreeHead head → AreKept head depths entries → Some (depth ∷ node) ≡ option_map (map saturated) (numbers_in (words line.text)) → is_next head depths (record { depth = depth; entries = node }) ≡ false → with_line head (nodes_of head.states depths entries) line ≡ Err (BadTree line.number)
+pub line-refused : (head : TreeHead) (depths entries : List ℕ) (line : NumberedLine) (depth : ℕ) (node : List ℕ) → IsTreeHead head
+    → AreKept head depths entries → Some (depth ∷ node) ≡ option_map (map saturated) (numbers_in (words line.text))
+    → is_next head depths (record { depth = depth; entries = node }) ≡ false
+    → with_line head (nodes_of head.states depths entries) line ≡ Err (BadTree line.number)
 line-refused head depths entries line depth node limits kept h next = with_kept head depths entries line.number (numbers_in (words line.text)) depth node limits kept h false next
 
 -- the end of the lines, where all nodes are there

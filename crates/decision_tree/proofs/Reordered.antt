@@ -52,7 +52,9 @@ last-too : (last final : ℕ) (lines : List NumberedLine) (d : Described) → Gi
 last-too last final [] d = λ head h. absurd cc
 last-too last final (line ∷ lines) d = by_found (descriptor_of line.text) (λ e. last-too last final lines e)
   where
-    by_found : (o : Option (Descriptor × List ℕ)) → ((e : Described) → GivesToo (head_from last e lines) (head_from final e lines)) → GivesToo (head_by d line.number (line ∷ lines) (λ e. head_from last e lines) o) (head_by d line.number (line ∷ lines) (λ e. head_from final e lines) o)
+    by_found : (o : Option (Descriptor × List ℕ)) → ((e : Described) → GivesToo (head_from last e lines) (head_from final e lines))
+        → GivesToo (head_by d line.number (line ∷ lines) (λ e. head_from last e lines) o)
+        (head_by d line.number (line ∷ lines) (λ e. head_from final e lines) o)
     by_found o later head h = grind (arith, later)
 
 two_swapped : (last final : ℕ) (o p : Option (Descriptor × List ℕ)) (d : Described) (m n : ℕ) (rest some others : List NumberedLine) (ends : List NumberedLine) (more : List NumberedLine) → is_some o ≡ true → is_some p ≡ true
@@ -61,14 +63,17 @@ two_swapped last final None p d m n rest some others ends more h k = absurd cc
 two_swapped last final (Some x) None d m n rest some others ends more h k = absurd cc
 two_swapped last final (Some x) (Some y) d m n rest some others ends more h k = swapped (λ f. head_from last f rest) (λ f. head_from final f rest) (last-too last final rest) m n d x.0 y.0 x.1 y.1
 
-head_from-swapped : (last final : ℕ) (front rest : List NumberedLine) (line next : NumberedLine) (d : Described) → list_all is_descriptor front ≡ true → is_descriptor line ≡ true → is_descriptor next ≡ true → GivesToo (head_from last d (front ++ line ∷ next ∷ rest)) (head_from final d (front ++ next ∷ line ∷ rest))
+head_from-swapped : (last final : ℕ) (front rest : List NumberedLine) (line next : NumberedLine) (d : Described) → list_all is_descriptor front ≡ true
+    → is_descriptor line ≡ true → is_descriptor next ≡ true → GivesToo (head_from last d (front ++ line ∷ next ∷ rest))
+    (head_from final d (front ++ next ∷ line ∷ rest))
 head_from-swapped last final [] rest line next d h k l = two_swapped last final (descriptor_of line.text) (descriptor_of next.text) d line.number next.number rest (line ∷ next ∷ rest) (next ∷ line ∷ rest) (next ∷ rest) (line ∷ rest) k l
 head_from-swapped last final (first ∷ front) rest line next d h k l =
     let parts = and_parts (is_descriptor first) (list_all is_descriptor front) h in
     by_found (descriptor_of first.text) parts.0 (λ e. head_from-swapped last final front rest line next e parts.1 k l)
   where
     by_found : (o : Option (Descriptor × List ℕ)) → is_some o ≡ true → ((e : Described) → GivesToo (head_from last e (front ++ line ∷ next ∷ rest)) (head_from final e (front ++ next ∷ line ∷ rest)))
-        → GivesToo (head_by d first.number (first ∷ (front ++ line ∷ next ∷ rest)) (λ e. head_from last e (front ++ line ∷ next ∷ rest)) o) (head_by d first.number (first ∷ (front ++ next ∷ line ∷ rest)) (λ e. head_from final e (front ++ next ∷ line ∷ rest)) o)
+        → GivesToo (head_by d first.number (first ∷ (front ++ line ∷ next ∷ rest)) (λ e. head_from last e (front ++ line ∷ next ∷ rest)) o)
+        (head_by d first.number (first ∷ (front ++ next ∷ line ∷ rest)) (λ e. head_from final e (front ++ next ∷ line ∷ rest)) o)
     by_found o is later z h = grind (arith, is, later)
 
 pub descriptors-swapped : DescriptorsInAnyOrder
@@ -77,4 +82,5 @@ descriptors-swapped section front line next rest tree h k l =
     let final = last_number section.opened (front ++ next ∷ line ∷ rest) in
     then_too (head_from last undescribed (front ++ line ∷ next ∷ rest)) (head_from final undescribed (front ++ next ∷ line ∷ rest)) (after_head last) (after_head final)
     (head_from-swapped last final front rest line next undescribed h k l)
-    (λ found. then_too (nodes_from last found.0 [] found.1) (nodes_from final found.0 [] found.1) (λ nodes. if_quiescent (tree_from found.0 nodes)) (λ nodes. if_quiescent (tree_from found.0 nodes)) (nodes_from-too last final found.0 found.1 found.1 [] refl) (λ nodes t is. is)) tree
+    (λ found. then_too (nodes_from last found.0 [] found.1) (nodes_from final found.0 [] found.1) (λ nodes. if_quiescent (tree_from found.0 nodes))
+    (λ nodes. if_quiescent (tree_from found.0 nodes)) (nodes_from-too last final found.0 found.1 found.1 [] refl) (λ nodes t is. is)) tree

@@ -166,7 +166,9 @@ default_kept : (o : Named) (rows : List Row) → has_row (id_of o) rows ≡ true
 default_kept (number s) rows has = rw has refl
 default_kept flag rows has = rw has refl
 
-default_other : (s t : Named) → bytes_eq (id_of s) (id_of t) ≡ false → (rows : List Row) → (has_row (id_of t) (with_default rows (rule_in s)) ≡ has_row (id_of t) rows) × (one_of (id_of t) (with_default rows (rule_in s)) ≡ one_of (id_of t) rows)
+default_other : (s t : Named) → bytes_eq (id_of s) (id_of t) ≡ false → (rows : List Row)
+    → (has_row (id_of t) (with_default rows (rule_in s)) ≡ has_row (id_of t) rows)
+    × (one_of (id_of t) (with_default rows (rule_in s)) ≡ one_of (id_of t) rows)
 unfolding default_row
 default_other s t other rows = go (has_row (id_of s) rows) refl
   where

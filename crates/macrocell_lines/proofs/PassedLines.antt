@@ -11,7 +11,9 @@ ok_first : (read : Result MacrocellText McFault) (f : MacrocellText → Result M
 ok_first (Ok first) f last h = (first, refl, h)
 ok_first (Err fault) f last h = absurd (cc)
 
-lines-push : (number : ℕ) (said : MacrocellText) (lines : List (List ℕ)) (line : List ℕ) (before after : MacrocellText) → after_lines number said lines ≡ Ok before → after_line (number + length lines) before line ≡ Ok after → after_lines number said (lines ++ line ∷ []) ≡ Ok after
+lines-push : (number : ℕ) (said : MacrocellText) (lines : List (List ℕ)) (line : List ℕ) (before after : MacrocellText)
+    → after_lines number said lines ≡ Ok before → after_line (number + length lines) before line ≡ Ok after
+    → after_lines number said (lines ++ line ∷ []) ≡ Ok after
 lines-push number said [] line before after h k =
     let same : said ≡ before = cc in
     let here : number ≡ number + 0 = omega arith in
@@ -41,7 +43,9 @@ next-line (suc k) (first ∷ lines) rest line h =
     }
 
 -- one more line is passed
-pub passed-more : (number : ℕ) (lines rest : List (List ℕ)) (line : List ℕ) (before after : MacrocellText) → 1 ≤ number → drop (number - 1) lines ≡ line ∷ rest → after_lines 2 nothing_said (take (number - 1) lines) ≡ Ok before → after_line (number + 1) before line ≡ Ok after → after_lines 2 nothing_said (take (number + 1 - 1) lines) ≡ Ok after
+pub passed-more : (number : ℕ) (lines rest : List (List ℕ)) (line : List ℕ) (before after : MacrocellText) → 1 ≤ number
+    → drop (number - 1) lines ≡ line ∷ rest → after_lines 2 nothing_said (take (number - 1) lines) ≡ Ok before
+    → after_line (number + 1) before line ≡ Ok after → after_lines 2 nothing_said (take (number + 1 - 1) lines) ≡ Ok after
 passed-more number lines rest line before after low h passed k =
     let next = next-line (number - 1) lines rest line h in
     let same : number + 1 - 1 ≡ number - 1 + 1 = omega arith in
@@ -57,7 +61,10 @@ left-more number lines rest line low h =
     ap (λ n. drop n lines) same ∙ next.left
 
 -- memory runs out at a node
-pub wants-there : (number : ℕ) (lines rest : List (List ℕ)) (line : List ℕ) (before : MacrocellText) (node : Node) → 1 ≤ number → drop (number - 1) lines ≡ line ∷ rest → after_lines 2 nothing_said (take (number - 1) lines) ≡ Ok before → after_line (number + 1) before line ≡ Ok (record before { nodes = before.nodes ++ node ∷ [] }) → BeginsWithNodes (after_lines 2 nothing_said) lines
+pub wants-there : (number : ℕ) (lines rest : List (List ℕ)) (line : List ℕ) (before : MacrocellText) (node : Node) → 1 ≤ number
+    → drop (number - 1) lines ≡ line ∷ rest → after_lines 2 nothing_said (take (number - 1) lines) ≡ Ok before
+    → after_line (number + 1) before line ≡ Ok (record before { nodes = before.nodes ++ node ∷ [] })
+    → BeginsWithNodes (after_lines 2 nothing_said) lines
 wants-there number lines rest line before node low h passed k = record {
   count = number + 1 - 1;
   said = record before { nodes = before.nodes ++ node ∷ [] };

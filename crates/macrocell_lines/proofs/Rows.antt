@@ -56,7 +56,8 @@ with_front-cons front row None = refl
 with_front-cons front row (Some rows) = ap Some (sym (append_assoc front (row ∷ []) rows))
 
 -- one more row is read
-pub drawn-more : (y : ℕ) (rows text : List ℕ) (texts : List (List ℕ)) (row : ℕ) → y < 8 → length rows ≡ 8 → row_of text ≡ Some row → with_front (take (y + 1) (set rows y row)) (rows_of (8 - (y + 1)) texts) ≡ with_front (take y rows) (rows_of (8 - y) (text ∷ texts))
+pub drawn-more : (y : ℕ) (rows text : List ℕ) (texts : List (List ℕ)) (row : ℕ) → y < 8 → length rows ≡ 8 → row_of text ≡ Some row
+    → with_front (take (y + 1) (set rows y row)) (rows_of (8 - (y + 1)) texts) ≡ with_front (take y rows) (rows_of (8 - y) (text ∷ texts))
 drawn-more y rows text texts row inside long is =
     let within : y < length rows = omega arith in
     let less : 8 - (y + 1) ≡ 8 - y - 1 = omega arith in

@@ -128,7 +128,8 @@ room-node : (nodes : List Node) (node : Node) → length nodes < 16777216 → (c
 room-node nodes node h = let below : nat_lt (length nodes) 16777216 ≡ true = grind (arith, nat_tests) in rw below refl
 
 -- a bitmap that is written reads back
-pub bitmap-taken : (number : ℕ) (said : MacrocellText) (bitmap : bitmaps.Bitmap) → length said.nodes < 16777216 → IsBitmap bitmap.rows → after_line number said (rows_text bitmap.rows) ≡ Ok (record said { nodes = said.nodes ++ Bitmap bitmap ∷ [] })
+pub bitmap-taken : (number : ℕ) (said : MacrocellText) (bitmap : bitmaps.Bitmap) → length said.nodes < 16777216 → IsBitmap bitmap.rows
+    → after_line number said (rows_text bitmap.rows) ≡ Ok (record said { nodes = said.nodes ++ Bitmap bitmap ∷ [] })
 bitmap-taken number said bitmap room h =
     let long = h.long in
     let starts = rows-start bitmap.rows (omega arith) in

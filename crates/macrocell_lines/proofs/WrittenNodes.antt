@@ -33,7 +33,9 @@ after_line-digit number said b bs h =
     rw (differs b 35 (λ e. omega arith)) refl
 
 -- a line of five numbers is taken as the node that these say
-line-taken : (number : ℕ) (said : MacrocellText) (line : List ℕ) (five : FiveNumbers) (node : Node) → IsNumberLine line → five_numbers line ≡ Some five → quartered number said.nodes five ≡ Ok node → after_line number said line ≡ Ok (record said { nodes = said.nodes ++ node ∷ [] })
+line-taken : (number : ℕ) (said : MacrocellText) (line : List ℕ) (five : FiveNumbers) (node : Node) → IsNumberLine line
+    → five_numbers line ≡ Some five → quartered number said.nodes five ≡ Ok node
+    → after_line number said line ≡ Ok (record said { nodes = said.nodes ++ node ∷ [] })
 line-taken number said line five node starts is taken =
     ap (after_line number said) starts.is
     ∙ after_line-digit number said starts.digit starts.rest starts.is_digit
@@ -64,7 +66,8 @@ square_of-quadrants : (nodes : List Node) (level nw ne sw se : ℕ) → AreQuadr
 square_of-quadrants nodes level nw ne sw se h =
     rw (child_of-child nodes level nw h.nw_child) (rw (child_of-child nodes level ne h.ne_child) (rw (child_of-child nodes level sw h.sw_child) (rw (child_of-child nodes level se h.se_child) refl)))
 
-quartered-square : (number : ℕ) (nodes : List Node) (level nw ne sw se : ℕ) → AreQuadrants nodes level nw ne sw se → length nodes < 16777216 → quartered number nodes (record { level = level; nw = nw; ne = ne; sw = sw; se = se }) ≡ Ok (Square level nw ne sw se)
+quartered-square : (number : ℕ) (nodes : List Node) (level nw ne sw se : ℕ) → AreQuadrants nodes level nw ne sw se → length nodes < 16777216
+    → quartered number nodes (record { level = level; nw = nw; ne = ne; sw = sw; se = se }) ≡ Ok (Square level nw ne sw se)
 quartered-square number nodes level nw ne sw se h room =
     let low = h.low in
     let high = h.high in
@@ -121,7 +124,9 @@ node-taken number said (Square level nw ne sw se) room h =
 node-taken number said (Bitmap bitmap) room h = bitmap-taken number said bitmap room h
 
 -- so do all
-pub nodes-taken : (number : ℕ) (heading : Heading) (nodes others : List Node) → length nodes + length others ≤ 16777216 → EachFollows nodes others → after_lines number (record { heading = heading; nodes = nodes }) (map node_line others) ≡ Ok (record { heading = heading; nodes = nodes ++ others })
+pub nodes-taken : (number : ℕ) (heading : Heading) (nodes others : List Node) → length nodes + length others ≤ 16777216 → EachFollows nodes others
+    → after_lines number (record { heading = heading; nodes = nodes }) (map node_line others) ≡ Ok
+    (record { heading = heading; nodes = nodes ++ others })
 nodes-taken number heading nodes [] few h = ap (λ nodes. Ok (record { heading = heading; nodes = nodes })) (sym (append-nil nodes))
 nodes-taken number heading nodes (node ∷ others) few h =
     ap (λ read. read >>= λ more. after_lines (number + 1) more (map node_line others)) (node-taken number (record { heading = heading; nodes = nodes }) node (omega arith) h.0)

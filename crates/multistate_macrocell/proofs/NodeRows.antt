@@ -29,7 +29,8 @@ cells_square rows numbers a b c d =
     ∙ ap₂ (λ (s t : Square). four (one a) (one b) s t) (square_in-state rows c) (square_in-state rows d)
 
 -- that row stands for the square of the node
-pub cells-added : (rows new : List SquareRow) (numbers : List ℕ) (node : Node) (a b c d n : ℕ) → node ≡ Cells a b c d → Adds rows new 1 n (square_of_row rows (row_of 1 a b c d)) → Adds rows new (level_of node) n (square_by rows numbers node)
+pub cells-added : (rows new : List SquareRow) (numbers : List ℕ) (node : Node) (a b c d n : ℕ) → node ≡ Cells a b c d
+    → Adds rows new 1 n (square_of_row rows (row_of 1 a b c d)) → Adds rows new (level_of node) n (square_by rows numbers node)
 cells-added rows new numbers node a b c d n is adds =
     subst (λ (v : Node). Adds rows new (level_of v) n (square_by rows numbers v)) (sym is)
     (subst (λ (t : Square). Adds rows new 1 n t) (cells_square rows numbers a b c d) adds)

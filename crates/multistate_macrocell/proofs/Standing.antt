@@ -92,7 +92,8 @@ pub next-follows : (rows : List SquareRow) (nodes : List Node) (numbers : List �
 next-follows rows nodes numbers place node are stand at = can_follow rows nodes numbers place node stand (follows-at [] nodes place node are.each at)
 
 -- the square of the next node, by rows and by nodes
-square_is : (rows : List SquareRow) (nodes : List Node) (numbers : List ℕ) (place k : ℕ) (node : Node) → Stand rows nodes numbers place → Follows (take place nodes) node → level_of node ≡ suc k → square_by rows numbers node ≡ square_of (square_named nodes k) node
+square_is : (rows : List SquareRow) (nodes : List Node) (numbers : List ℕ) (place k : ℕ) (node : Node) → Stand rows nodes numbers place
+    → Follows (take place nodes) node → level_of node ≡ suc k → square_by rows numbers node ≡ square_of (square_named nodes k) node
 unfolding square_of
 square_is rows nodes numbers place k (Cells a b c d) stand h e = refl
 square_is rows nodes numbers place zero (Quartered level a b c d) stand h e = absurd (let low = h.low in omega arith)
@@ -117,7 +118,9 @@ unfolding square_named
 named-node nodes k i node at = ap (λ found. option_map_or (square_of (square_named nodes k)) found (empty_square (suc k))) at
 
 -- the rows with those of the next node
-module _ (rows new : List SquareRow) (nodes : List Node) (numbers : List ℕ) (place n : ℕ) (node : Node) (are : AreNodes nodes) (stand : Stand rows nodes numbers place) (at : slice_get nodes place ≡ Some node) (adds : Adds rows new (level_of node) n (square_by rows numbers node)) where
+module _ (rows new : List SquareRow) (nodes : List Node) (numbers : List ℕ) (place n : ℕ) (node : Node) (are : AreNodes nodes)
+    (stand : Stand rows nodes numbers place) (at : slice_get nodes place ≡ Some node)
+    (adds : Adds rows new (level_of node) n (square_by rows numbers node)) where
   follows : Follows (take place nodes) node
   follows = follows-at [] nodes place node are.each at
 
@@ -185,7 +188,8 @@ pub world-nodes-root : (nodes : List Node) (root : Node) → slice_get nodes (le
 unfolding world_of_nodes
 world-nodes-root nodes root at = ap (λ found. option_map_or (λ root. world_of_root nodes (level_of root) (length nodes)) found blank) at
 
-root_stands : (rows : List SquareRow) (nodes : List Node) (numbers : List ℕ) (root : Node) (i k : ℕ) → Stand rows nodes numbers (length nodes) → length nodes ≡ suc i → slice_get nodes i ≡ Some root → level_of root ≡ suc k → world_of_rows rows ≡ world_of_nodes nodes
+root_stands : (rows : List SquareRow) (nodes : List Node) (numbers : List ℕ) (root : Node) (i k : ℕ) → Stand rows nodes numbers (length nodes)
+    → length nodes ≡ suc i → slice_get nodes i ≡ Some root → level_of root ≡ suc k → world_of_rows rows ≡ world_of_nodes nodes
 root_stands rows nodes numbers root i k stand long at level =
     let less : length nodes - 1 ≡ i = omega arith in
     let here : slice_get nodes (length nodes - 1) ≡ Some root = ap (slice_get nodes) less ∙ at in

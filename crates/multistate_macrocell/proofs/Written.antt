@@ -42,7 +42,8 @@ joined old level a b c d =
     apart_five old level (32 ∷ a) (32 ∷ b) (32 ∷ c) (32 ∷ d) (10 ∷ [])
     ∙ ap (λ line. old ++ line) (sym (together_five level (32 ∷ a) (32 ∷ b) (32 ∷ c) (32 ∷ d) (10 ∷ [])))
 
-pub row_line-joined : (old : List ℕ) (row : SquareRow) → (old ++ decimal row.level ++ 32 ∷ decimal (kid row 0) ++ 32 ∷ decimal (kid row 1) ++ 32 ∷ decimal (kid row 2) ++ 32 ∷ decimal (kid row 3)) ++ 10 ∷ [] ≡ old ++ (row_line row ++ 10 ∷ [])
+pub row_line-joined : (old : List ℕ) (row : SquareRow) → (old ++ decimal row.level ++ 32 ∷ decimal (kid row 0) ++ 32 ∷ decimal (kid row 1) ++ 32
+    ∷ decimal (kid row 2) ++ 32 ∷ decimal (kid row 3)) ++ 10 ∷ [] ≡ old ++ (row_line row ++ 10 ∷ [])
 unfolding row_line
 row_line-joined old row = joined old (decimal row.level) (decimal (kid row 0)) (decimal (kid row 1)) (decimal (kid row 2)) (decimal (kid row 3))
 

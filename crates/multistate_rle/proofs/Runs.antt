@@ -80,7 +80,9 @@ after_gap : (n s gap : ℕ) (ts : List Token) → 0 < s → (gap ≡ 0 → joine
 after_gap n s zero ts h k = k refl
 after_gap n s (suc gap) ts h k = joined-other n (suc gap) s 0 ts (λ e. omega (arith, h, e))
 
-after_way : (n s rows : ℕ) (left : ℤ) (from to : Place) (ts : List Token) → 0 < s → (rows ≡ 0 → distance from.1 to.1 ≡ 0 → joined n s ts ≡ Run n s ∷ ts) → joined n s (way_by rows left from to ++ ts) ≡ Run n s ∷ (way_by rows left from to ++ ts)
+after_way : (n s rows : ℕ) (left : ℤ) (from to : Place) (ts : List Token) → 0 < s
+    → (rows ≡ 0 → distance from.1 to.1 ≡ 0 → joined n s ts ≡ Run n s ∷ ts)
+    → joined n s (way_by rows left from to ++ ts) ≡ Run n s ∷ (way_by rows left from to ++ ts)
 after_way n s zero left from to ts h k = after_gap n s (distance from.1 to.1) ts h (k refl)
 after_way n s (suc rows) left from to ts h k = refl
 

@@ -72,7 +72,8 @@ lies_within origin strip inside =
     }
 
 -- one cell more
-pub side_by_side-more : (first cell : CellSet) (k : ℕ) (new cells old : List CellSet) → new ≡ cells ++ cell ∷ [] → cells ≡ old ++ side_by_side first k → cell.x ≡ first.x +ℤ pos k → cell.y ≡ first.y → cell.state ≡ first.state → new ≡ old ++ side_by_side first (k + 1)
+pub side_by_side-more : (first cell : CellSet) (k : ℕ) (new cells old : List CellSet) → new ≡ cells ++ cell ∷ [] → cells ≡ old ++ side_by_side first k
+    → cell.x ≡ first.x +ℤ pos k → cell.y ≡ first.y → cell.state ≡ first.state → new ≡ old ++ side_by_side first (k + 1)
 side_by_side-more first cell k new cells old pushed before x y state =
     let last : CellSet = record { x = first.x +ℤ pos k; y = first.y; state = first.state } in
     pushed

@@ -56,7 +56,8 @@ seen-behind view before rest other names same =
 
 -- a line that opens no section, in place of another that says the same
 pub section-alike : (lines : List NumberedLine) (n : ℕ) (text other : List ℕ) (more : List NumberedLine) → opens_section text ≡ false → opens_section other ≡ false → trim (without_comment text) ≡ trim (without_comment other)
-    → (section_lines (lines ++ record { number = n; text = text } ∷ more) ≡ section_lines (lines ++ record { number = n; text = other } ∷ more)) × (section_of (lines ++ record { number = n; text = text } ∷ more) ≡ section_of (lines ++ record { number = n; text = other } ∷ more))
+    → (section_lines (lines ++ record { number = n; text = text } ∷ more) ≡ section_lines (lines ++ record { number = n; text = other } ∷ more))
+    × (section_of (lines ++ record { number = n; text = text } ∷ more) ≡ section_of (lines ++ record { number = n; text = other } ∷ more))
 section-alike [] n text other more closed also same = (rw (closed, also, same) refl, rw (section_kind-none text closed, section_kind-none other also) refl)
 section-alike (line ∷ lines) n text other more closed also same = let rest = section-alike lines n text other more closed also same in (
   ap (λ behind. cond (opens_section line.text) [] (said line ++ behind)) rest.0,
@@ -85,7 +86,9 @@ say_same-behind n m text lines others same = record { in_open = lines-by (opens_
     lines-by false [] = same.in_open
     lines-by false (b ∷ bs) = ap (λ rest. (b ∷ bs) ∷ rest) same.in_open
 
-    section-by : (name : List ℕ) (kind : Option SectionKind) → say (with_section name (option_map_or (λ kind. Ok (record { kind = kind; opened = n; lines = section_lines lines })) kind (section_of lines))) ≡ say (with_section name (option_map_or (λ kind. Ok (record { kind = kind; opened = m; lines = section_lines others })) kind (section_of others)))
+    section-by : (name : List ℕ) (kind : Option SectionKind) → say (with_section name
+        (option_map_or (λ kind. Ok (record { kind = kind; opened = n; lines = section_lines lines })) kind (section_of lines))) ≡ say
+        (with_section name (option_map_or (λ kind. Ok (record { kind = kind; opened = m; lines = section_lines others })) kind (section_of others)))
     section-by name None = same.in_next name
     section-by name (Some kind) = ap (λ lines. Ok (record { name = name; kind = kind; lines = lines })) same.in_open
 

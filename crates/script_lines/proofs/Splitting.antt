@@ -61,7 +61,9 @@ words-from begun [] h = ap (filter is_word) (slice_split-no_space begun [] h) �
 words-from begun (b ∷ bs) h = by_space (b == 32) refl (words-from [] bs tt) (λ k. words-from (begun ++ b ∷ []) bs (no_space-push begun b h k))
   where
     by_space : (v : Bool) → (b == 32) ≡ v → words bs ≡ words_from [] bs → ((b == 32) ≡ false → words ((begun ++ b ∷ []) ++ bs) ≡ words_from (begun ++ b ∷ []) bs) → words (begun ++ b ∷ bs) ≡ words_from begun (b ∷ bs)
-    by_space true k rest more = ap (filter is_word) (slice_split-no_space begun (b ∷ bs) h) ∙ rw k (filter-word (begun ++ []) (slice_split (λ b. b == 32) bs) ∙ ap (λ w. word w ++ words bs) (append-nil begun) ∙ ap (λ ws. word begun ++ ws) rest)
+    by_space true k rest more = ap (filter is_word) (slice_split-no_space begun (b ∷ bs) h)
+        ∙ rw k (filter-word (begun ++ []) (slice_split (λ b. b == 32) bs) ∙ ap (λ w. word w ++ words bs) (append-nil begun)
+        ∙ ap (λ ws. word begun ++ ws) rest)
     by_space false k rest more = ap words (sym (append_assoc begun (b ∷ []) bs)) ∙ more k ∙ rw k refl
 
 -- ---- runs of spaces cut to one
@@ -75,11 +77,15 @@ words_from-squash : (after : Bool) (begun bs : List ℕ) → IsBegun after begun
 words_from-squash after begun [] h = refl
 words_from-squash after begun (b ∷ bs) h = by_space (b == 32) refl (λ v w i. words_from-squash v w bs i)
   where
-    at_space : (v : Bool) → IsBegun v begun → (b == 32) ≡ true → ((v : Bool) (w : List ℕ) → IsBegun v w → words_from w (squash v bs) ≡ words_from w bs) → words_from begun (cond v (squash true bs) (b ∷ squash true bs)) ≡ word begun ++ words_from [] bs
+    at_space : (v : Bool) → IsBegun v begun → (b == 32) ≡ true → ((v : Bool) (w : List ℕ) → IsBegun v w
+        → words_from w (squash v bs) ≡ words_from w bs) → words_from begun (cond v (squash true bs) (b ∷ squash true bs)) ≡ word begun
+        ++ words_from [] bs
     at_space true e k rest = rest true begun e ∙ ap (λ w. words_from w bs) e ∙ ap (λ w. word w ++ words_from [] bs) (sym e)
     at_space false e k rest = rw k (ap (λ ws. word begun ++ ws) (rest true [] refl))
 
-    by_space : (v : Bool) → (b == 32) ≡ v → ((v : Bool) (w : List ℕ) → IsBegun v w → words_from w (squash v bs) ≡ words_from w bs) → words_from begun (cond (b == 32) (cond after (squash true bs) (b ∷ squash true bs)) (b ∷ squash false bs)) ≡ cond (b == 32) (word begun ++ words_from [] bs) (words_from (begun ++ b ∷ []) bs)
+    by_space : (v : Bool) → (b == 32) ≡ v → ((v : Bool) (w : List ℕ) → IsBegun v w → words_from w (squash v bs) ≡ words_from w bs)
+        → words_from begun (cond (b == 32) (cond after (squash true bs) (b ∷ squash true bs)) (b ∷ squash false bs)) ≡ cond (b == 32)
+        (word begun ++ words_from [] bs) (words_from (begun ++ b ∷ []) bs)
     by_space true k rest = rw k (at_space after h k rest)
     by_space false k rest = rw k (rw k (rest false (begun ++ b ∷ []) tt))
 
@@ -123,11 +129,18 @@ join-words_from true begun [] h e = absurd (cc)
 join-words_from false begun [] h e = ap (join_with_byte 32) (word-some begun h) ∙ sym (append-nil begun)
 join-words_from after begun (b ∷ bs) h e = by_space (b == 32) refl (λ v w i f. join-words_from v w bs i f)
   where
-    at_space : (v : Bool) → IsInWord v begun → ends_in_space true bs ≡ false → b ≡ 32 → ((v : Bool) (w : List ℕ) → IsInWord v w → ends_in_space v bs ≡ false → join_with_byte 32 (words_from w bs) ≡ w ++ squash v bs) → join_with_byte 32 (word begun ++ words_from [] bs) ≡ begun ++ cond v (squash true bs) (b ∷ squash true bs)
+    at_space : (v : Bool) → IsInWord v begun → ends_in_space true bs ≡ false → b ≡ 32
+        → ((v : Bool) (w : List ℕ) → IsInWord v w → ends_in_space v bs ≡ false → join_with_byte 32 (words_from w bs) ≡ w ++ squash v bs)
+        → join_with_byte 32 (word begun ++ words_from [] bs) ≡ begun ++ cond v (squash true bs) (b ∷ squash true bs)
     at_space true n f k rest = ap (λ w. join_with_byte 32 (word w ++ words_from [] bs)) n ∙ rest true [] refl f ∙ ap (λ w. w ++ squash true bs) (sym n)
-    at_space false n f k rest = ap (λ ws. join_with_byte 32 (ws ++ words_from [] bs)) (word-some begun n) ∙ join-more begun (words_from [] bs) (words_from-solid bs f) ∙ ap (λ t. begun ++ 32 ∷ t) (rest true [] refl f) ∙ ap (λ c. begun ++ c ∷ squash true bs) (sym k)
+    at_space false n f k rest = ap (λ ws. join_with_byte 32 (ws ++ words_from [] bs)) (word-some begun n)
+        ∙ join-more begun (words_from [] bs) (words_from-solid bs f) ∙ ap (λ t. begun ++ 32 ∷ t) (rest true [] refl f)
+        ∙ ap (λ c. begun ++ c ∷ squash true bs) (sym k)
 
-    by_space : (v : Bool) → (b == 32) ≡ v → ((v : Bool) (w : List ℕ) → IsInWord v w → ends_in_space v bs ≡ false → join_with_byte 32 (words_from w bs) ≡ w ++ squash v bs) → join_with_byte 32 (cond (b == 32) (word begun ++ words_from [] bs) (words_from (begun ++ b ∷ []) bs)) ≡ begun ++ cond (b == 32) (cond after (squash true bs) (b ∷ squash true bs)) (b ∷ squash false bs)
+    by_space : (v : Bool) → (b == 32) ≡ v → ((v : Bool) (w : List ℕ) → IsInWord v w → ends_in_space v bs ≡ false
+        → join_with_byte 32 (words_from w bs) ≡ w ++ squash v bs) → join_with_byte 32
+        (cond (b == 32) (word begun ++ words_from [] bs) (words_from (begun ++ b ∷ []) bs)) ≡ begun
+        ++ cond (b == 32) (cond after (squash true bs) (b ∷ squash true bs)) (b ∷ squash false bs)
     by_space true k rest = rw k (at_space after h (ap (λ v. ends_in_space v bs) (sym k) ∙ e) (eqb-true b 32 k) rest)
     by_space false k rest = rw k (rest false (begun ++ b ∷ []) (push_not_nil begun b) (ap (λ v. ends_in_space v bs) (sym k) ∙ e) ∙ append_assoc begun (b ∷ []) (squash false bs))
 

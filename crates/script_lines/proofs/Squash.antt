@@ -14,7 +14,9 @@ squash-push_from : (after : Bool) (bs : List ℕ) (b : ℕ) → squash after (bs
 squash-push_from after [] b = refl
 squash-push_from after (c ∷ cs) b = by_space (c == 32) after (λ v. squash-push_from v cs b)
   where
-    by_space : (v after : Bool) → ((v : Bool) → squash v (cs ++ b ∷ []) ≡ squash v cs ++ squash (ends_in_space v cs) (b ∷ [])) → cond v (cond after (squash true (cs ++ b ∷ [])) (c ∷ squash true (cs ++ b ∷ []))) (c ∷ squash false (cs ++ b ∷ [])) ≡ cond v (cond after (squash true cs) (c ∷ squash true cs)) (c ∷ squash false cs) ++ squash (ends_in_space v cs) (b ∷ [])
+    by_space : (v after : Bool) → ((v : Bool) → squash v (cs ++ b ∷ []) ≡ squash v cs ++ squash (ends_in_space v cs) (b ∷ []))
+        → cond v (cond after (squash true (cs ++ b ∷ [])) (c ∷ squash true (cs ++ b ∷ []))) (c ∷ squash false (cs ++ b ∷ [])) ≡ cond v
+        (cond after (squash true cs) (c ∷ squash true cs)) (c ∷ squash false cs) ++ squash (ends_in_space v cs) (b ∷ [])
     by_space true true rest = rest true
     by_space true false rest = ap (λ t. c ∷ t) (rest true)
     by_space false after rest = ap (λ t. c ∷ t) (rest false)
@@ -97,7 +99,9 @@ squash-trim_end after (b ∷ bs) = by_space (b == 32) refl (λ v. squash-trim_en
     at_space true k rest = gone_space (trim_end bs) k ∙ rest true
     at_space false k rest = kept_space (trim_end bs) refl k ∙ ap (before_end b) (rest true)
 
-    by_space : (v : Bool) → (b == 32) ≡ v → ((v : Bool) → squash v (trim_end bs) ≡ trim_end (squash v bs)) → squash after (before_end b (trim_end bs)) ≡ trim_end (cond (b == 32) (cond after (squash true bs) (b ∷ squash true bs)) (b ∷ squash false bs))
+    by_space : (v : Bool) → (b == 32) ≡ v → ((v : Bool) → squash v (trim_end bs) ≡ trim_end (squash v bs))
+        → squash after (before_end b (trim_end bs)) ≡ trim_end (cond (b == 32) (cond after (squash true bs) (b ∷ squash true bs))
+        (b ∷ squash false bs))
     by_space true k rest = at_space after k rest ∙ ap (λ v. trim_end (cond v (cond after (squash true bs) (b ∷ squash true bs)) (b ∷ squash false bs))) (sym k)
     by_space false k rest = other after (trim_end bs) refl k ∙ ap (before_end b) (rest false) ∙ ap (λ v. trim_end (cond v (cond after (squash true bs) (b ∷ squash true bs)) (b ∷ squash false bs))) (sym k)
 

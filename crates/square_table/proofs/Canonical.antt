@@ -71,7 +71,9 @@ within_walk (suc k) (four nw ne sw se) rows m c low is below old =
       level = low;
       states = λ first q hq.
           let none : k ≡ 0 = omega (arith, first) in
-          four_below a.number b.number d.number e.number c q (number-state k nw rows c none is.0 below.0) (number-state k ne a.rows c none is.1 below.1) (number-state k sw b.rows c none is.2 below.2) (number-state k se d.rows c none is.3 below.3) hq;
+          four_below a.number b.number d.number e.number c q (number-state k nw rows c none is.0 below.0)
+          (number-state k ne a.rows c none is.1 below.1) (number-state k sw b.rows c none is.2 below.2)
+          (number-state k se d.rows c none is.3 below.3) hq;
     } in
     within_numbered m c _ _ (row_of (suc k) a.number b.number d.number e.number) e.rows _ row in_e
 

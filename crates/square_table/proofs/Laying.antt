@@ -124,7 +124,8 @@ pub quadrants_of : (rows : List (List ℕ)) (k j n : ℕ) (kids : List ℕ) → 
 quadrants_of rows k j n kids e h is = subst (AreNumbers rows j) (sym is) (AreNumbers-quadrants rows j n (subst (λ l. IsNumber rows l n) e h))
 
 -- quadrants on which a quadtree is laid are those of the square on which it is laid
-pub laid-joined : (t : Quadtree) (old new last : Table) (k j m n : ℕ) (kids all : List ℕ) → k ≡ suc j → kids ≡ kids_at old.rows m → AreLaidAs t old.rows j kids new.rows all → Grows new last → IsSquareOf last.rows all n → IsLaidAs t old.rows k m last.rows n
+pub laid-joined : (t : Quadtree) (old new last : Table) (k j m n : ℕ) (kids all : List ℕ) → k ≡ suc j → kids ≡ kids_at old.rows m
+    → AreLaidAs t old.rows j kids new.rows all → Grows new last → IsSquareOf last.rows all n → IsLaidAs t old.rows k m last.rows n
 laid-joined t old new last k j m n kids all e is are grows joined =
     let numbers = AreNumbers-grows new last j all grows are.numbers in
     let found : square_in last.rows (suc j) n ≡ laid t (square_in old.rows (suc j) m) =
@@ -168,8 +169,10 @@ laid-quadrant t old new k q n kids few size are grows is =
     at_quadrant : (r : ℕ) → IsLaidAs t old.rows k (get_or kids r 0) new.rows (get_or (set kids r n) r 0) → Other r → r < 4 → AreLaidAs (in_quadrant r t) old.rows k kids new.rows (set kids r n)
     at_quadrant zero this other few = laid-four t keep keep keep old.rows new.rows k kids (set kids 0 n) this (other 1 (λ e. omega (arith, e)) are.ne) (other 2 (λ e. omega (arith, e)) are.sw) (other 3 (λ e. omega (arith, e)) are.se)
     at_quadrant (suc zero) this other few = laid-four keep t keep keep old.rows new.rows k kids (set kids 1 n) (other 0 (λ e. omega (arith, e)) are.nw) this (other 2 (λ e. omega (arith, e)) are.sw) (other 3 (λ e. omega (arith, e)) are.se)
-    at_quadrant (suc (suc zero)) this other few = laid-four keep keep t keep old.rows new.rows k kids (set kids 2 n) (other 0 (λ e. omega (arith, e)) are.nw) (other 1 (λ e. omega (arith, e)) are.ne) this (other 3 (λ e. omega (arith, e)) are.se)
-    at_quadrant (suc (suc (suc zero))) this other few = laid-four keep keep keep t old.rows new.rows k kids (set kids 3 n) (other 0 (λ e. omega (arith, e)) are.nw) (other 1 (λ e. omega (arith, e)) are.ne) (other 2 (λ e. omega (arith, e)) are.sw) this
+    at_quadrant (suc (suc zero)) this other few = laid-four keep keep t keep old.rows new.rows k kids (set kids 2 n)
+        (other 0 (λ e. omega (arith, e)) are.nw) (other 1 (λ e. omega (arith, e)) are.ne) this (other 3 (λ e. omega (arith, e)) are.se)
+    at_quadrant (suc (suc (suc zero))) this other few = laid-four keep keep keep t old.rows new.rows k kids (set kids 3 n)
+        (other 0 (λ e. omega (arith, e)) are.nw) (other 1 (λ e. omega (arith, e)) are.ne) (other 2 (λ e. omega (arith, e)) are.sw) this
     at_quadrant (suc (suc (suc (suc r)))) this other few = absurd (omega (arith, few))
 
 -- four quadtrees laid one after the other

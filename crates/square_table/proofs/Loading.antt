@@ -173,7 +173,8 @@ IsLoadedAt-grows squares t u i n grows at = record {
   square = square_in-grows t u _ n grows at.number ∙ at.square;
 }
 
-pub AreLoaded-more : (squares : List SquareRow) (t u : Table) (numbers : List ℕ) (n : ℕ) → Grows t u → length numbers < length squares → AreLoaded squares t.rows numbers → IsLoadedAt squares u.rows (length numbers) n → AreLoaded squares u.rows (numbers ++ n ∷ [])
+pub AreLoaded-more : (squares : List SquareRow) (t u : Table) (numbers : List ℕ) (n : ℕ) → Grows t u → length numbers < length squares
+    → AreLoaded squares t.rows numbers → IsLoadedAt squares u.rows (length numbers) n → AreLoaded squares u.rows (numbers ++ n ∷ [])
 AreLoaded-more squares t u numbers n grows more known at = record {
   few = omega (arith, more, length_push numbers n);
   each = λ i h. elim (cases_lt i (length numbers)) [
@@ -235,7 +236,8 @@ next_found squares blanks numbers rows i k q next hq =
     let is = kid_is squares i k q next.valid next.more next.level hq in
     record { level = omega (arith, is.level, next.levels i next.more); listed = λ h. omega (arith, next.at, is.listed h) }
 
-next_same : (squares : List SquareRow) (blanks numbers : List ℕ) (rows : List (List ℕ)) (i k q : ℕ) → IsNext squares blanks numbers rows i k → q < 4 → IsSameSquare squares rows k (next_kid squares i q) (number_in blanks numbers k (next_kid squares i q))
+next_same : (squares : List SquareRow) (blanks numbers : List ℕ) (rows : List (List ℕ)) (i k q : ℕ) → IsNext squares blanks numbers rows i k → q < 4
+    → IsSameSquare squares rows k (next_kid squares i q) (number_in blanks numbers k (next_kid squares i q))
 next_same squares blanks numbers rows i k q next hq =
     let found = next_found squares blanks numbers rows i k q next hq in
     same_square squares rows blanks numbers k _ found.level next.blank next.known (kid_is squares i k q next.valid next.more next.level hq).number found.listed
@@ -283,7 +285,8 @@ next_joined squares blanks numbers kids t u i k n next e grows is =
 next_level : (squares : List SquareRow) (blanks numbers : List ℕ) (rows : List (List ℕ)) (i k : ℕ) → IsNext squares blanks numbers rows i k → suc k ≡ (get_or squares i no_row).level
 next_level squares blanks numbers rows i k next = (kid_is squares i k 0 next.valid next.more next.level (lit< tt)).level
 
-pub next_grows : (squares : List SquareRow) (blanks numbers kids : List ℕ) (t u : Table) (i k : ℕ) → IsNext squares blanks numbers t.rows i k → kids ≡ next_kids squares blanks numbers i k → Grows t u → GrowsBy kids t u → GrowsFrom 0 squares t u
+pub next_grows : (squares : List SquareRow) (blanks numbers kids : List ℕ) (t u : Table) (i k : ℕ) → IsNext squares blanks numbers t.rows i k
+    → kids ≡ next_kids squares blanks numbers i k → Grows t u → GrowsBy kids t u → GrowsFrom 0 squares t u
 next_grows squares blanks numbers kids t u i k next e grows step =
     GrowsFrom-joined 0 squares kids t u grows step
     (λ c q some below hq.
@@ -292,7 +295,8 @@ next_grows squares blanks numbers kids t u i k next e grows step =
     (λ all n empty rows is. IsAmong-for all u.rows k n _ (next_joined squares blanks numbers kids t u i k n next e grows is)
     (subst (λ l. Contains all (listed.square_in squares l (suc i))) (sym (next_level squares blanks numbers t.rows i k next)) (rows i next.more)))
 
-pub next_loaded : (squares : List SquareRow) (blanks numbers kids : List ℕ) (t u : Table) (i k n : ℕ) → IsNext squares blanks numbers t.rows i k → kids ≡ next_kids squares blanks numbers i k → Grows t u → IsSquareOf u.rows kids n → AreLoaded squares u.rows (numbers ++ n ∷ [])
+pub next_loaded : (squares : List SquareRow) (blanks numbers kids : List ℕ) (t u : Table) (i k n : ℕ) → IsNext squares blanks numbers t.rows i k
+    → kids ≡ next_kids squares blanks numbers i k → Grows t u → IsSquareOf u.rows kids n → AreLoaded squares u.rows (numbers ++ n ∷ [])
 next_loaded squares blanks numbers kids t u i k n next e grows is =
     let joined = next_joined squares blanks numbers kids t u i k n next e grows is in
     let level = next_level squares blanks numbers t.rows i k next in

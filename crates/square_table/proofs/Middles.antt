@@ -24,7 +24,9 @@ laid_se {l} {x} {y} {k} {other} {nw} {ne} {sw} {se} {se'} h q px py laid = recor
       let m = 2 ^ (l - 1) in
       let v = l - 1 in
       let w = at_from x y k other x' y' in
-      split y' m (λ s. cond s (cond (nat_lt x' m) (at nw v x' y') (at ne v (x' - m) y')) (cond (nat_lt x' m) (at sw v x' (y' - m)) (at se' v (x' - m) (y' - m))) ≡ option_or w (cond s (cond (nat_lt x' m) (at nw v x' y') (at ne v (x' - m) y')) (cond (nat_lt x' m) (at sw v x' (y' - m)) (at se v (x' - m) (y' - m)))))
+      split y' m (λ s. cond s (cond (nat_lt x' m) (at nw v x' y') (at ne v (x' - m) y'))
+      (cond (nat_lt x' m) (at sw v x' (y' - m)) (at se' v (x' - m) (y' - m))) ≡ option_or w
+      (cond s (cond (nat_lt x' m) (at nw v x' y') (at ne v (x' - m) y')) (cond (nat_lt x' m) (at sw v x' (y' - m)) (at se v (x' - m) (y' - m)))))
       (λ below. none_or (at_from_north other k x y x' y' (omega (arith, py, below))))
       (λ above. split x' m (λ b. cond b (at sw v x' (y' - m)) (at se' v (x' - m) (y' - m)) ≡ option_or w (cond b (at sw v x' (y' - m)) (at se v (x' - m) (y' - m))))
       (λ left. none_or (at_from_west other k x y x' y' (omega (arith, px, left))))

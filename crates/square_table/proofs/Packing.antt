@@ -82,7 +82,8 @@ has_sound rows packed k n m packing high is has =
 
 -- four squares that are walked are those that their numbers name
 four_named : (rows : List (List ℕ)) (packed : Packed) (old : List SquareRow) (k : ℕ) (kids all : List ℕ) → IsPacking rows packed → k ≤ 62 → AreNumbers rows k kids → WalksFour rows k kids old packed.squares.items all
-    → four (listed.square_in packed.squares.items k (get_or all 0 0)) (listed.square_in packed.squares.items k (get_or all 1 0)) (listed.square_in packed.squares.items k (get_or all 2 0)) (listed.square_in packed.squares.items k (get_or all 3 0)) ≡ square_of rows k kids
+    → four (listed.square_in packed.squares.items k (get_or all 0 0)) (listed.square_in packed.squares.items k (get_or all 1 0))
+    (listed.square_in packed.squares.items k (get_or all 2 0)) (listed.square_in packed.squares.items k (get_or all 3 0)) ≡ square_of rows k kids
 four_named rows packed old k kids all packing high are w =
     let new = packed.squares.items in
     let g3 : Grows w.third new = walked_grows k _ w.third new _ w.se in
@@ -211,7 +212,8 @@ module _ (rows : List (List ℕ)) (mid new : Packed) (level n m : ℕ) (all : Li
         known = updates.2 s.number (ne_eqb n s.number other) ∙ s.known;
       }
 
-  seen_last : listed.square_in new.squares.items level m ≡ square_in rows level n → (i : ℕ) → i ≡ length mid.squares.items → new.squares.items ≡ mid.squares.items ++ row_by level all ∷ [] → m ≡ length mid.squares.items + 1 → IsSeen rows new i
+  seen_last : listed.square_in new.squares.items level m ≡ square_in rows level n → (i : ℕ) → i ≡ length mid.squares.items
+      → new.squares.items ≡ mid.squares.items ++ row_by level all ∷ [] → m ≡ length mid.squares.items + 1 → IsSeen rows new i
   seen_last named i place more count =
       let old = mid.squares.items in
       let last = new.squares.items in
@@ -302,7 +304,8 @@ pub root_new : (rows : List (List ℕ)) (level k : ℕ) (kids all : List ℕ) (o
 root_new rows level k kids all old done e none w = root_missing level k all done _ e (four_levels rows k kids all old done none w) refl
 
 -- and the last of those that the walk completes
-pub rows_packed : (rows : List (List ℕ)) (level k : ℕ) (kids all : List ℕ) (old mid new : List SquareRow) → level ≡ suc k → old ≡ [] → WalksFour rows k kids old mid all → (number_row (row_by level all) mid).rows ≡ new → completed level (square_of rows k kids) ≡ new
+pub rows_packed : (rows : List (List ℕ)) (level k : ℕ) (kids all : List ℕ) (old mid new : List SquareRow) → level ≡ suc k → old ≡ []
+    → WalksFour rows k kids old mid all → (number_row (row_by level all) mid).rows ≡ new → completed level (square_of rows k kids) ≡ new
 rows_packed rows zero k kids all old mid new e none w er = absurd (omega (arith, e))
 rows_packed rows (suc l) k kids all old mid new e none w er =
     let same : k ≡ l = omega (arith, e) in

@@ -54,7 +54,9 @@ AllBelow-iterate c zero next w quiet below h = h
 AllBelow-iterate c (suc n) next w quiet below h = AllBelow-step c next (iterate n (step next) w) quiet below (AllBelow-iterate c n next w quiet below h)
 
 -- what can evolve so long can go on after some of the generations
-pub CanEvolve-later : (c before count n : ℕ) (next : List ℕ → ℕ) (w : World) → next nine_zeros ≡ 0 → ((states : List ℕ) → AreNineBelow c states → next states < c) → before + count ≤ n → CanEvolve c n w → CanEvolve c count (iterate before (step next) w)
+pub CanEvolve-later : (c before count n : ℕ) (next : List ℕ → ℕ) (w : World) → next nine_zeros ≡ 0
+    → ((states : List ℕ) → AreNineBelow c states → next states < c) → before + count ≤ n → CanEvolve c n w
+    → CanEvolve c count (iterate before (step next) w)
 CanEvolve-later c before count n next w quiet below within can = record {
   below = AllBelow-iterate c before next w quiet below can.below;
   few = (let few = can.few in omega (arith, few, within));

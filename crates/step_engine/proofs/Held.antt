@@ -121,8 +121,10 @@ made-there all rows found s is =
     (found.each (is.number - first_number) is.level (omega (arith, is.numbered.0, is.numbered.1)) (subst (IsNumber rows (suc is.level)) (sym place) is.numbered))
 
 -- the squares of a table are different ones, and have all that is made of its root and on the way
-pub reported : (all : List Square) (next : List ℕ → ℕ) (w : World) (k n : ℕ) (rows : List (List ℕ)) (root : ℕ) (report : Report) → AreDistinct rows → AreAmong all rows → report.squares ≡ length rows → report.fours ≡ length (places_of_four rows) →
-    IsNumber rows (suc (suc k)) root → square_in rows (suc (suc k)) root ≡ square_at w (suc (suc k)) (edge (suc (suc k))) (edge (suc (suc k))) → Makes next k n (square_in rows (suc (suc k)) root) (IsMade rows) → AreReported all next w k n report
+pub reported : (all : List Square) (next : List ℕ → ℕ) (w : World) (k n : ℕ) (rows : List (List ℕ)) (root : ℕ) (report : Report) → AreDistinct rows
+    → AreAmong all rows → report.squares ≡ length rows → report.fours ≡ length (places_of_four rows) →
+    IsNumber rows (suc (suc k)) root → square_in rows (suc (suc k)) root ≡ square_at w (suc (suc k)) (edge (suc (suc k))) (edge (suc (suc k)))
+    → Makes next k n (square_in rows (suc (suc k)) root) (IsMade rows) → AreReported all next w k n report
 unfolding places_of_four
 reported all next w k n rows root report distinct among is_many is_fours numbered is makes =
     let found = first_rows all rows distinct among (length rows) (omega arith) in

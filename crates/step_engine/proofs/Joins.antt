@@ -192,7 +192,8 @@ blanked t t1 square s k n e seen arg some is saw is_arg number held grows held_s
     }
 
 -- what holds within the square with empty ones round it, by the number of the square
-within-blanked : (P : squares.Square → Type 0) (t t1 : Table) (square : Square) (k n e : ℕ) → IsBlanked t t1 square k n e → HoldsWithin P (padded (level_of square - 1) (cells_of t square)) → HoldsWithin P (padded k (square_in t1.rows (suc k) n))
+within-blanked : (P : squares.Square → Type 0) (t t1 : Table) (square : Square) (k n e : ℕ) → IsBlanked t t1 square k n e
+    → HoldsWithin P (padded (level_of square - 1) (cells_of t square)) → HoldsWithin P (padded k (square_in t1.rows (suc k) n))
 within-blanked P t t1 square k n e is within =
     subst (λ q. HoldsWithin P (padded k q)) (sym is.cells) (subst (λ j. HoldsWithin P (padded j (cells_of t square))) (sym is.less) within)
 
@@ -233,7 +234,8 @@ padded-centred w t square some centred =
     subst (λ j. IsCentred w j (padded k (cells_of t square))) above_it (subst (λ q. IsCentred w (suc (suc k)) (padded k q)) (sym whole) (IsCentred-padded w k _ _ _ _ old))
 
 -- one turn of the loop that pads
-pub padded-among : (w : World) (all : List squares.Square) (t u : Table) (square : Square) (level : ℕ) → 1 ≤ level_of square → level_of square + 1 ≤ level → IsCentred w (level_of square) (cells_of t square) → HasStart all w level → AddsPadded t square u
+pub padded-among : (w : World) (all : List squares.Square) (t u : Table) (square : Square) (level : ℕ) → 1 ≤ level_of square
+    → level_of square + 1 ≤ level → IsCentred w (level_of square) (cells_of t square) → HasStart all w level → AddsPadded t square u
     → AreAmong all t.rows → AreAmong all u.rows
 padded-among w all t u square level some low centred start adds =
     let at = (padded-centred w t square some centred).square in

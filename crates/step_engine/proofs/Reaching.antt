@@ -19,9 +19,13 @@ stays next w quiet x y h live =
 LiesWithin-step : (far : ℕ) (next : List ℕ → ℕ) (w : World) → next nine_zeros ≡ 0 → LiesWithin far w → LiesWithin (suc far) (step next w)
 LiesWithin-step far next w quiet h x y live = record {
   left = by_lt_z x (neg_ℤ (pos (suc far))) (λ (low : x <ℤ neg_ℤ (pos (suc far))). absurd (stays next w quiet x y (λ dx dy near l. let k = (h _ _ l).left in let m = near.right in omega (arith, ints)) live)) (λ k. k);
-  right = by_lt_z x (neg_ℤ (pos (suc far)) +ℤ pos (suc far + suc far)) (λ k. k) (λ (high : (neg_ℤ (pos (suc far)) +ℤ pos (suc far + suc far)) ≤ℤ x). absurd (stays next w quiet x y (λ dx dy near l. let k = (h _ _ l).right in let m = near.left in omega (arith, ints)) live));
+  right = by_lt_z x (neg_ℤ (pos (suc far)) +ℤ pos (suc far + suc far)) (λ k. k)
+      (λ (high : (neg_ℤ (pos (suc far)) +ℤ pos (suc far + suc far)) ≤ℤ x). absurd
+      (stays next w quiet x y (λ dx dy near l. let k = (h _ _ l).right in let m = near.left in omega (arith, ints)) live));
   top = by_lt_z y (neg_ℤ (pos (suc far))) (λ (low : y <ℤ neg_ℤ (pos (suc far))). absurd (stays next w quiet x y (λ dx dy near l. let k = (h _ _ l).top in let m = near.bottom in omega (arith, ints)) live)) (λ k. k);
-  bottom = by_lt_z y (neg_ℤ (pos (suc far)) +ℤ pos (suc far + suc far)) (λ k. k) (λ (high : (neg_ℤ (pos (suc far)) +ℤ pos (suc far + suc far)) ≤ℤ y). absurd (stays next w quiet x y (λ dx dy near l. let k = (h _ _ l).bottom in let m = near.top in omega (arith, ints)) live));
+  bottom = by_lt_z y (neg_ℤ (pos (suc far)) +ℤ pos (suc far + suc far)) (λ k. k)
+      (λ (high : (neg_ℤ (pos (suc far)) +ℤ pos (suc far + suc far)) ≤ℤ y). absurd
+      (stays next w quiet x y (λ dx dy near l. let k = (h _ _ l).bottom in let m = near.top in omega (arith, ints)) live));
 }
 
 -- what lies within some way lies within a longer one

@@ -116,7 +116,8 @@ searching all next w n t u v root adds rooted way grows are =
     grows.among all (subst (λ j. Makes next j n (cells_of u root) (Contains all)) less (subst (λ s. Makes next adds.k n s (Contains all)) square way.way)) (adds.among all way.start are)
 
 -- all that it goes through is reported
-pub searched : (all : List squares.Square) (next : List ℕ → ℕ) (w : World) (n : ℕ) (t u v : Table) (root : Square) (report : Report) (adds : AddsStart w n t u) → IsRooted w n u root → Grows u v → Makes next (level_of root - 2) n (cells_of u root) (IsMade v.rows) →
+pub searched : (all : List squares.Square) (next : List ℕ → ℕ) (w : World) (n : ℕ) (t u v : Table) (root : Square) (report : Report)
+    (adds : AddsStart w n t u) → IsRooted w n u root → Grows u v → Makes next (level_of root - 2) n (cells_of u root) (IsMade v.rows) →
     AreDistinct v.rows → AreAmong all v.rows → report.squares ≡ length v.rows → report.fours ≡ length (places_of_four v.rows) → AreReported all next w adds.k n report
 searched all next w n t u v root report adds rooted grows makes distinct among is_many is_fours =
     let at = rooted.level adds.k adds.root in
@@ -162,7 +163,8 @@ start-spent limit most next w n t u adds new is_most full =
     spent limit most next w n t u u adds new is_most adds.grows.limit full (λ all way. adds.among all way.start)
 
 -- and one that was filled by it
-pub search-spent : (limit most : ℕ) (next : List ℕ → ℕ) (w : World) (n : ℕ) (t u v : Table) (root : Square) → AddsStart w n t u → IsRooted w n u root → GrowsOnWay next n u root v → t ≡ record { rows = []; limit = most } → most ≡ min limit 16777216 → IsFull v → IsRoomSpent limit next w n
+pub search-spent : (limit most : ℕ) (next : List ℕ → ℕ) (w : World) (n : ℕ) (t u v : Table) (root : Square) → AddsStart w n t u → IsRooted w n u root
+    → GrowsOnWay next n u root v → t ≡ record { rows = []; limit = most } → most ≡ min limit 16777216 → IsFull v → IsRoomSpent limit next w n
 search-spent limit most next w n t u v root adds rooted grows new is_most full =
     spent limit most next w n t u v adds new is_most (grows.grows.limit ∙ adds.grows.limit) full (λ all way. searching all next w n t u v root adds rooted way grows)
 

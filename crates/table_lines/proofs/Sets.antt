@@ -35,7 +35,8 @@ nothing = rising_none _ (λ s h.
 bit-set : (n t i : ℕ) → t < 64 → (bit_at (bit_or n (1 * 2 ^ t % 2 ^ 64)) i == 1) ≡ ((i == t) || (bit_at n i == 1))
 bit-set n t i h = grind (arith, nat_tests, bit_at_set_same w64 n t h, bit_at_set_other w64 n t h)
 
-pub inserted : (words : List ℕ) (t word : ℕ) → length words ≡ 4 → t < 256 → word ≡ bit_or (get_or words (t / 64) 0) (1 * 2 ^ (t % 64) % 2 ^ 64) → rising (is_bit_set (set words (t / 64) word)) ≡ rising (λ s. (s == t) || has (rising (is_bit_set words)) s)
+pub inserted : (words : List ℕ) (t word : ℕ) → length words ≡ 4 → t < 256 → word ≡ bit_or (get_or words (t / 64) 0) (1 * 2 ^ (t % 64) % 2 ^ 64)
+    → rising (is_bit_set (set words (t / 64) word)) ≡ rising (λ s. (s == t) || has (rising (is_bit_set words)) s)
 inserted words t word four h is = rising-agree _ _ (λ s l.
     let bit = bit-set (get_or words (t / 64) 0) (t % 64) (s % 64) (omega arith) in
     grind (arith, nat_tests, get_or-set_at {X = ℕ}, get_or-set_other {A = ℕ}, bit, has-rising (is_bit_set words) s l))

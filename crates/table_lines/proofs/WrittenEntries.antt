@@ -98,7 +98,8 @@ entry-read : (n number : ℕ) (variables : Variables) (sets : List (List ℕ)) (
 entry-read n number variables sets (State s) low are is = grind (arith, nat_tests, number_of-decimal s (omega (arith, is)))
 entry-read n number variables sets (OneOf v) low are is = rw (are.named v.number is.0, is.1)
 
-pub entries-read : (n number : ℕ) (variables : Variables) (sets : List (List ℕ)) (entries : List Entry) → n ≤ 256 → AreNamed variables sets → AllByRecursion (IsEntryOf n sets) entries → each (entry_of n variables number) (map entry_text entries) ≡ Ok entries
+pub entries-read : (n number : ℕ) (variables : Variables) (sets : List (List ℕ)) (entries : List Entry) → n ≤ 256 → AreNamed variables sets
+    → AllByRecursion (IsEntryOf n sets) entries → each (entry_of n variables number) (map entry_text entries) ≡ Ok entries
 entries-read n number variables sets [] low are h = refl
 entries-read n number variables sets (e ∷ entries) low are h = rw (entry-read n number variables sets e low are h.0, entries-read n number variables sets entries low are h.1)
 

@@ -27,7 +27,9 @@ all_admit-sets (e ∷ entries) [] = refl
 all_admit-sets (e ∷ entries) (s ∷ states) = ap (λ b. has (admitted e) s && b) (all_admit-sets entries states)
 
 -- a transition matches, if the sets of one of its expanded transitions have the states
-matches-sets : (table : Table) (around : List ℕ) (t : Transition) → matches table around t ≡ list_any (λ sets. all_have (take 1 (sets_of t) ++ sets) (inputs_of table.neighborhood around)) (distinct same_sets (arrangements table.symmetry (drop 1 (sets_of t))))
+matches-sets : (table : Table) (around : List ℕ) (t : Transition) → matches table around t ≡ list_any
+    (λ sets. all_have (take 1 (sets_of t) ++ sets) (inputs_of table.neighborhood around))
+    (distinct same_sets (arrangements table.symmetry (drop 1 (sets_of t))))
 matches-sets table around t =
     let inputs = inputs_of table.neighborhood around in
     let has_them : List (List ℕ) → Bool = λ sets. all_have (take 1 (sets_of t) ++ sets) inputs in
@@ -39,7 +41,9 @@ matches-sets table around t =
     ∙ sym (any-distinct same_sets same_sets_decides has_them (arrangements table.symmetry (drop 1 (sets_of t))))
 
 -- rows of one result give it, if one of them matches
-one_result : (row : List (List ℕ) → Expanded) (result : ℕ) (inputs : List ℕ) → ((sets : List (List ℕ)) → (row sets).result ≡ result) → (lists : List (List (List ℕ))) → first_match (map row lists) inputs ≡ cond (list_any (λ sets. all_have (row sets).inputs inputs) lists) (Some result) None
+one_result : (row : List (List ℕ) → Expanded) (result : ℕ) (inputs : List ℕ) → ((sets : List (List ℕ)) → (row sets).result ≡ result)
+    → (lists : List (List (List ℕ))) → first_match (map row lists) inputs ≡ cond (list_any (λ sets. all_have (row sets).inputs inputs) lists)
+    (Some result) None
 one_result row result inputs e [] = refl
 one_result row result inputs e (x ∷ lists) = grind (arith, e x, one_result row result inputs e lists)
 
@@ -49,15 +53,20 @@ first_match-append (x ∷ xs) ys inputs = grind (arith, first_match-append xs ys
 
 first_match-one : (table : Table) (around : List ℕ) (t : Transition) → first_match (expanded_one table.symmetry t) (inputs_of table.neighborhood around) ≡ cond (matches table around t) (Some (given t.result)) None
 first_match-one table around t =
-    one_result (λ others. record { inputs = take 1 (sets_of t) ++ others; result = given t.result }) (given t.result) (inputs_of table.neighborhood around) (λ others. refl) (distinct same_sets (arrangements table.symmetry (drop 1 (sets_of t))))
+    one_result (λ others. record { inputs = take 1 (sets_of t) ++ others; result = given t.result }) (given t.result)
+    (inputs_of table.neighborhood around) (λ others. refl) (distinct same_sets (arrangements table.symmetry (drop 1 (sets_of t))))
     ∙ ap (λ b. cond b (Some (given t.result)) None) (sym (matches-sets table around t))
 
-first_match-all : (table : Table) (around : List ℕ) (ts : List Transition) → first_match (flat_map (expanded_one table.symmetry) ts) (inputs_of table.neighborhood around) ≡ option_map (λ (u : Transition). given u.result) (find (matches table around) ts)
+first_match-all : (table : Table) (around : List ℕ) (ts : List Transition)
+    → first_match (flat_map (expanded_one table.symmetry) ts) (inputs_of table.neighborhood around) ≡ option_map (λ (u : Transition). given u.result)
+    (find (matches table around) ts)
 first_match-all table around [] = refl
 first_match-all table around (t ∷ ts) =
     rw (first_match-append, first_match-one table around t, first_match-all table around ts) (grind arith)
 
-first_result-expanded : (table : Table) (around : List ℕ) (ts : List Transition) → unwrap_or (first_match (flat_map (expanded_of table.symmetry) ts) (inputs_of table.neighborhood around)) (slice_index around 0) ≡ first_result table around ts
+first_result-expanded : (table : Table) (around : List ℕ) (ts : List Transition)
+    → unwrap_or (first_match (flat_map (expanded_of table.symmetry) ts) (inputs_of table.neighborhood around)) (slice_index around 0) ≡ first_result
+    table around ts
 first_result-expanded table around [] = refl
 first_result-expanded table around (t ∷ ts) =
     rw (first_match-append, first_match-all table around (assignments t), ← first_result-expanded table around ts) (grind arith)

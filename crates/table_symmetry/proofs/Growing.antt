@@ -24,7 +24,9 @@ module _ {X : Type 0} (g : X → List Expanded) where
   more front xs k d h = rw (take_more xs k d h, flat_map-append, append-nil, append_assoc)
 
   -- too many in a part are too many in all
-  pub too_long : (fault : RuleFault) (front rows : List Expanded) (xs : List X) (k : ℕ) (d : X) → k < length xs → rows ≡ front ++ flat_map g (take k xs) → IsTooLong fault (length rows + length (g (get_or xs k d))) → IsTooLong fault (length front + length (flat_map g xs))
+  pub too_long : (fault : RuleFault) (front rows : List Expanded) (xs : List X) (k : ℕ) (d : X) → k < length xs
+      → rows ≡ front ++ flat_map g (take k xs) → IsTooLong fault (length rows + length (g (get_or xs k d)))
+      → IsTooLong fault (length front + length (flat_map g xs))
   too_long fault front rows xs k d h e (inl wanted) = inl wanted
   too_long fault front rows xs k d h e (inr (many, beyond)) = inr (many, omega (arith, length-flat_map-take g xs k d h, ap length e ∙ length-append front (flat_map g (take k xs)), beyond))
 

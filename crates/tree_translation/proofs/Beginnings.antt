@@ -51,7 +51,8 @@ module _ (table : Table) (rows : List Expanded) (count : ℕ) (some : 0 < table.
   rows-for : (inputs : List ℕ) → length inputs ≡ depth → rows_give (order_of table.neighborhood) rows inputs ≡ table_rule.next table (states_for inputs)
   rows-for inputs long = ap (rows_give (order_of table.neighborhood) rows) (sym (inputs-for inputs long)) ∙ rows-next table rows are (states_for inputs)
 
-  two-nodes : (i j : ℕ) → i < count → j < count → StartsApart table.states depth (λ k inputs. rows_give (order_of table.neighborhood) rows inputs) (start_at needed.starts i) (start_at needed.starts j) → NeedTwoNodes table (start_at needed.starts i).inputs (start_at needed.starts j).inputs
+  two-nodes : (i j : ℕ) → i < count → j < count → StartsApart table.states depth (λ k inputs. rows_give (order_of table.neighborhood) rows inputs)
+      (start_at needed.starts i) (start_at needed.starts j) → NeedTwoNodes table (start_at needed.starts i).inputs (start_at needed.starts j).inputs
   two-nodes i j li lj (inl longer) = inl longer
   two-nodes i j li lj (inr differ) =
       let one = (start_at needed.starts i).inputs ++ differ.rest in

@@ -35,7 +35,8 @@ Does-append states layers nodes more list number some does = record {
 }
 
 -- the first result that is left is a state, as the input is
-first-below : (layer : Layer) (states state : ℕ) (list : List ℕ) → IsLayer layer states → All (λ n. n < length layer.tails.items) list → state < states → unwrap_or (first_some (λ number. cond (lets layer number state) (Some (rest_at layer number)) None) list) state < states
+first-below : (layer : Layer) (states state : ℕ) (list : List ℕ) → IsLayer layer states → All (λ n. n < length layer.tails.items) list
+    → state < states → unwrap_or (first_some (λ number. cond (lets layer number state) (Some (rest_at layer number)) None) list) state < states
 first-below layer states state [] fits inside low = low
 first-below layer states state (number ∷ list) fits inside low =
     grind (arith, fits.rests number none (inside 0 0 (omega arith)), first-below layer states state list fits (λ k d l. inside (suc k) d (omega (arith, l))) low)
@@ -49,7 +50,9 @@ leaves-below states layer list leaf fits inside leaves =
     grind (arith, nat_tests, leaves.width, leaves.each k, first-below layer states k list fits inside, get_or_default leaf k d 0 l))
 
 -- a node of these entries does what the list does at the last input
-pub Does-leaf : (states : ℕ) (layer : Layer) (nodes : List Entries) (list leaf : List ℕ) (number : ℕ) → IsLayer layer states → All (λ n. n < length layer.tails.items) list → AreLeaves states layer list leaf → node_at nodes number ≡ leaf → Does states (layer ∷ []) nodes list number
+pub Does-leaf : (states : ℕ) (layer : Layer) (nodes : List Entries) (list leaf : List ℕ) (number : ℕ) → IsLayer layer states
+    → All (λ n. n < length layer.tails.items) list → AreLeaves states layer list leaf → node_at nodes number ≡ leaf
+    → Does states (layer ∷ []) nodes list number
 Does-leaf states layer nodes list leaf number fits inside leaves at = record {
   leading = λ inputs long. subst (λ xs. leads states nodes number xs ≡ true) (firsts-all 0 1 inputs long)
       (leads-node states nodes number leaf (slice_index inputs 0) [] at leaves.width (leaves-below states layer list leaf fits inside leaves));
@@ -58,7 +61,9 @@ Does-leaf states layer nodes list leaf number fits inside leaves at = record {
 }
 
 -- behind an input the tails that are left have the outcome
-pub outcome-left : (layer next : Layer) (deeper : List Layer) (list left : List ℕ) (state : ℕ) (inputs : List ℕ) → length inputs ≡ suc (length deeper) → ((f : ℕ → Option ℕ) → first_some f left ≡ first_some (λ number. cond (lets layer number state) (f (rest_at layer number)) None) list) → outcome (next ∷ deeper) left inputs ≡ outcome (layer ∷ next ∷ deeper) list (state ∷ inputs)
+pub outcome-left : (layer next : Layer) (deeper : List Layer) (list left : List ℕ) (state : ℕ) (inputs : List ℕ) → length inputs ≡ suc (length deeper)
+    → ((f : ℕ → Option ℕ) → first_some f left ≡ first_some (λ number. cond (lets layer number state) (f (rest_at layer number)) None) list)
+    → outcome (next ∷ deeper) left inputs ≡ outcome (layer ∷ next ∷ deeper) list (state ∷ inputs)
 outcome-left layer next deeper list left state inputs long same = grind (arith, same (λ number. result_of (next ∷ deeper) number inputs))
 
 -- what an entry of a node leads to does what is left behind its state
@@ -68,7 +73,9 @@ pub record BranchAt (states : ℕ) (layer next : Layer) (deeper : List Layer) (n
   pub does : Does states (next ∷ deeper) nodes left number
 
 -- then the node does what the list does
-pub Does-branch : (states : ℕ) (layer next : Layer) (deeper : List Layer) (nodes : List Entries) (list entries : List ℕ) (number : ℕ) → length entries ≡ states → ((s : ℕ) → s < states → BranchAt states layer next deeper nodes list s (slice_index entries s)) → node_at nodes number ≡ entries → Does states (layer ∷ next ∷ deeper) nodes list number
+pub Does-branch : (states : ℕ) (layer next : Layer) (deeper : List Layer) (nodes : List Entries) (list entries : List ℕ) (number : ℕ)
+    → length entries ≡ states → ((s : ℕ) → s < states → BranchAt states layer next deeper nodes list s (slice_index entries s))
+    → node_at nodes number ≡ entries → Does states (layer ∷ next ∷ deeper) nodes list number
 Does-branch states layer next deeper nodes list entries number wide each at = record { leading = leading; follows = follows }
   where
     leading : (inputs : List ℕ) → length inputs ≡ suc (suc (length deeper)) → leads states nodes number inputs ≡ true

@@ -76,13 +76,17 @@ module _ (place : Option ℕ) (rows : List Expanded) (lasts : List ℕ) (sets mo
   }
 
 -- once all rows are there, it is the layer of the rows
-pub IsLayerOf-all : (place : Option ℕ) (rows : List Expanded) (lasts : List ℕ) (layer : Layer) (sets : List (Option (List ℕ))) (tails : List Tail) (numbers : List ℕ) (n : ℕ) → layer.sets.items ≡ sets → layer.tails.items ≡ tails → n ≡ length rows → AreTails place rows lasts sets tails numbers n → IsLayerOf place rows lasts layer numbers
+pub IsLayerOf-all : (place : Option ℕ) (rows : List Expanded) (lasts : List ℕ) (layer : Layer) (sets : List (Option (List ℕ))) (tails : List Tail)
+    (numbers : List ℕ) (n : ℕ) → layer.sets.items ≡ sets → layer.tails.items ≡ tails → n ≡ length rows
+    → AreTails place rows lasts sets tails numbers n → IsLayerOf place rows lasts layer numbers
 IsLayerOf-all place rows lasts layer sets tails numbers n same_sets same all h =
     let whole : AreTails place rows lasts layer.sets.items layer.tails.items numbers (length rows) = rw (same_sets, same, ← all) h in
     record { count = whole.count; inside = whole.inside; few = whole.few_tails; asks = whole.asks; leaves = whole.leaves }
 
 -- it fits each count that is above what is left of the rows
-pub IsLayer-all : (place : Option ℕ) (rows : List Expanded) (lasts : List ℕ) (layer : Layer) (sets : List (Option (List ℕ))) (tails : List Tail) (numbers : List ℕ) (n count : ℕ) → layer.sets.items ≡ sets → layer.tails.items ≡ tails → All (λ last. last < count) lasts → AreTails place rows lasts sets tails numbers n → IsLayer layer count
+pub IsLayer-all : (place : Option ℕ) (rows : List Expanded) (lasts : List ℕ) (layer : Layer) (sets : List (Option (List ℕ))) (tails : List Tail)
+    (numbers : List ℕ) (n count : ℕ) → layer.sets.items ≡ sets → layer.tails.items ≡ tails → All (λ last. last < count) lasts
+    → AreTails place rows lasts sets tails numbers n → IsLayer layer count
 IsLayer-all place rows lasts layer sets tails numbers n count same_sets same below h =
     let all : AreTails place rows lasts layer.sets.items layer.tails.items numbers n = rw (same_sets, same) h in
     record { sets = all.asking; rests = all.leaving count below }
@@ -91,7 +95,9 @@ abbrev none_row : Expanded
 none_row = record { inputs = []; result = 0 }
 
 -- no layers, where the numbers are the results
-pub AreLayersOf-none : (states : ℕ) (rows : List Expanded) (numbers : List ℕ) → length numbers ≡ length rows → ((k : ℕ) (d : Expanded) → k < length rows → get_or numbers k 0 ≡ (get_or rows k d).result) → All (λ (row : Expanded). row.result < states) rows → AreLayersOf states [] rows [] numbers
+pub AreLayersOf-none : (states : ℕ) (rows : List Expanded) (numbers : List ℕ) → length numbers ≡ length rows
+    → ((k : ℕ) (d : Expanded) → k < length rows → get_or numbers k 0 ≡ (get_or rows k d).result) → All (λ (row : Expanded). row.result < states) rows
+    → AreLayersOf states [] rows [] numbers
 AreLayersOf-none states rows numbers count each below = record {
   depth = refl;
   fit = tt;

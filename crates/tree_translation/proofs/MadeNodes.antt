@@ -178,7 +178,8 @@ list_all-below : (n : ℕ) (xs : List ℕ) → All (λ s. s < n) xs → list_all
 list_all-below n xs low = list_all-from_AllPass (λ s. nat_lt s n) xs (λ k d l. grind (arith, nat_tests, low k d l))
 
 -- a node that does what a list does begins where the list is left
-IsBegun-left : (states : ℕ) (layers : List Layer) (nodes : List Node) (input : ℕ) (list : List ℕ) (number : ℕ) (give : List ℕ → ℕ) → IsLeft states layers give input list → IsNumberOf states layers nodes input list number → IsBegun states (length layers) give nodes number
+IsBegun-left : (states : ℕ) (layers : List Layer) (nodes : List Node) (input : ℕ) (list : List ℕ) (number : ℕ) (give : List ℕ → ℕ)
+    → IsLeft states layers give input list → IsNumberOf states layers nodes input list number → IsBegun states (length layers) give nodes number
 IsBegun-left states layers nodes input list number give left is = record {
   beginning = left.beginning;
   long = left.long ∙ sym is.at;
@@ -204,7 +205,9 @@ module _ (layers : List Layer) (input : ℕ) (here : Layer) (behind : List Layer
   many-behind there = omega (arith, length-drop input layers, ap length from)
 
 -- a node of these entries does what the list does
-does-made : (states : ℕ) (layers : List Layer) (nodes : List Node) (input : ℕ) (list entries : List ℕ) (number : ℕ) → Fit states layers → AreTailsAt layers input list → AreEntries states layers nodes input list entries → node_at (entries_in nodes) number ≡ entries → Does states (drop input layers) (entries_in nodes) list number
+does-made : (states : ℕ) (layers : List Layer) (nodes : List Node) (input : ℕ) (list entries : List ℕ) (number : ℕ) → Fit states layers
+    → AreTailsAt layers input list → AreEntries states layers nodes input list entries → node_at (entries_in nodes) number ≡ entries
+    → Does states (drop input layers) (entries_in nodes) list number
 does-made states layers nodes input list entries number fit tails are at = by (drop input layers) refl
   where
     by : (ls : List Layer) → drop input layers ≡ ls → Does states ls (entries_in nodes) list number
@@ -224,7 +227,9 @@ does-made states layers nodes input list entries number fit tails are at = by (d
         }) at
 
 -- the number of a node of these entries
-number-made : (states : ℕ) (layers : List Layer) (nodes : List Node) (node : Node) (input : ℕ) (list : List ℕ) (number : ℕ) → Fit states layers → AreTailsAt layers input list → node.input ≡ input → AreEntries states layers nodes input list node.entries → IsStored nodes node number → IsNumberOf states layers nodes input list number
+number-made : (states : ℕ) (layers : List Layer) (nodes : List Node) (node : Node) (input : ℕ) (list : List ℕ) (number : ℕ) → Fit states layers
+    → AreTailsAt layers input list → node.input ≡ input → AreEntries states layers nodes input list node.entries → IsStored nodes node number
+    → IsNumberOf states layers nodes input list number
 number-made states layers nodes node input list number fit tails same are stored = record {
   inside = stored.inside;
   at = stored.input ∙ same;
@@ -232,7 +237,9 @@ number-made states layers nodes node input list number fit tails same are stored
 }
 
 -- behind a state a list of tails is left
-IsLeft-behind : (states : ℕ) (layers : List Layer) (give : List ℕ → ℕ) (input : ℕ) (list left : List ℕ) (s : ℕ) → input + 1 < length layers → s < states → ((d : Layer) → LeftOf (slice_index_or layers input d) s list left) → IsLeft states layers give input list → IsLeft states layers give (input + 1) left
+IsLeft-behind : (states : ℕ) (layers : List Layer) (give : List ℕ → ℕ) (input : ℕ) (list left : List ℕ) (s : ℕ) → input + 1 < length layers
+    → s < states → ((d : Layer) → LeftOf (slice_index_or layers input d) s list left) → IsLeft states layers give input list
+    → IsLeft states layers give (input + 1) left
 IsLeft-behind states layers give input list left s more under is before = record {
   beginning = before.beginning ++ s ∷ [];
   long = length-append before.beginning (s ∷ []) ∙ omega (arith, before.long);
@@ -253,7 +260,9 @@ IsLeft-behind states layers give input list left s more under is before = record
         (sym (outcome-left here next deeper list left s rest (omega (arith, long, many)) (rw (layer-here layers input here (next ∷ deeper) from) at (is here))))
 
 -- what came for the lists behind earlier states, and then for the one behind this state
-pub Grows-behind : (states : ℕ) (layers : List Layer) (input : ℕ) (list left : List ℕ) (s : ℕ) (old mid new : Found) → input + 1 < length layers → s < states → ((d : Layer) → LeftOf (slice_index_or layers input d) s list left) → Grows states layers input (input + 1) list old mid → Grows states layers (input + 1) (input + 1) left mid new → Grows states layers input (input + 1) list old new
+pub Grows-behind : (states : ℕ) (layers : List Layer) (input : ℕ) (list left : List ℕ) (s : ℕ) (old mid new : Found) → input + 1 < length layers
+    → s < states → ((d : Layer) → LeftOf (slice_index_or layers input d) s list left) → Grows states layers input (input + 1) list old mid
+    → Grows states layers (input + 1) (input + 1) left mid new → Grows states layers input (input + 1) list old new
 Grows-behind states layers input list left s old mid new more under is first second = record {
   known = second.known;
   more = first.more ++ second.more;
@@ -263,7 +272,9 @@ Grows-behind states layers input list left s old mid new more under is first sec
 }
 
 -- too many are needed behind a state: then they are needed
-pub NeedsTooMany-behind : (states : ℕ) (layers : List Layer) (input : ℕ) (list left : List ℕ) (s : ℕ) (old mid : Found) → input + 1 < length layers → s < states → ((d : Layer) → LeftOf (slice_index_or layers input d) s list left) → Grows states layers input (input + 1) list old mid → NeedsTooMany states layers (input + 1) left mid → NeedsTooMany states layers input list old
+pub NeedsTooMany-behind : (states : ℕ) (layers : List Layer) (input : ℕ) (list left : List ℕ) (s : ℕ) (old mid : Found) → input + 1 < length layers
+    → s < states → ((d : Layer) → LeftOf (slice_index_or layers input d) s list left) → Grows states layers input (input + 1) list old mid
+    → NeedsTooMany states layers (input + 1) left mid → NeedsTooMany states layers input list old
 NeedsTooMany-behind states layers input list left s old mid more under is first large give begun before =
     large give (first.begun give begun before) (IsLeft-behind states layers give input list left s more under is before)
 
@@ -278,7 +289,9 @@ pub record IsMade (states : ℕ) (layers : List Layer) (input : ℕ) (list : Lis
   pub grows : Grows states layers input input list old new
   pub last : All (λ (n : Node). input < n.input) old.nodes.keys → number + 1 ≡ length new.nodes.keys
 
-module _ (states : ℕ) (layers : List Layer) (room input : ℕ) (list : List ℕ) (old mid : Found) (node : Node) (fit : AreFit states layers room) (tails : AreTailsAt layers input list) (grown : Grows states layers input (input + 1) list old mid) (are : AreEntries states layers mid.nodes.keys input list node.entries) (same : node.input ≡ input) where
+module _ (states : ℕ) (layers : List Layer) (room input : ℕ) (list : List ℕ) (old mid : Found) (node : Node) (fit : AreFit states layers room)
+    (tails : AreTailsAt layers input list) (grown : Grows states layers input (input + 1) list old mid)
+    (are : AreEntries states layers mid.nodes.keys input list node.entries) (same : node.input ≡ input) where
   abbrev before : List Node
   before = mid.nodes.keys
 
@@ -314,7 +327,10 @@ module _ (states : ℕ) (layers : List Layer) (room input : ℕ) (list : List �
       subst (NeedStarts states (length layers) (λ k inputs. give inputs) 1) (length-append before (node ∷ []) ∙ omega (arith, full.all))
       (nodes-needed states (length layers) give after (nodes-with full.apart) (begun-with give begun left))
 
-  module _ (new : Found) (number : ℕ) (key : Listed) (key_input : key.input ≡ input) (key_list : key.numbers.items ≡ list) (stored : IsStored new.nodes.keys node number) (put : IsGrownBy mid.nodes.keys node new.nodes.keys) (apart : IsDistinct same_node new.nodes.keys) (few : length new.nodes.keys ≤ node_limit) (numbers : (q : Listed) → get same_listed new.numbers q ≡ cond (same_listed key q) (Some number) (get same_listed mid.numbers q)) where
+  module _ (new : Found) (number : ℕ) (key : Listed) (key_input : key.input ≡ input) (key_list : key.numbers.items ≡ list)
+      (stored : IsStored new.nodes.keys node number) (put : IsGrownBy mid.nodes.keys node new.nodes.keys)
+      (apart : IsDistinct same_node new.nodes.keys) (few : length new.nodes.keys ≤ node_limit)
+      (numbers : (q : Listed) → get same_listed new.numbers q ≡ cond (same_listed key q) (Some number) (get same_listed mid.numbers q)) where
     -- what the node brings
     record Brings : Type 0 where
       more : List Node

@@ -19,7 +19,8 @@ spread-runs from place n [] before =
 spread-runs from place n (m ∷ numbers) before =
     by (n == m) refl (spread-runs from (place + 1) m numbers (omega arith)) (spread-runs (place + 1) (place + 1) m numbers (omega arith))
   where
-    by : (b : Bool) → (n == m) ≡ b → spread_from from (runs_from (place + 1) (m ∷ numbers)) ≡ replicate (place + 1 - from) m ++ m ∷ numbers → spread_from (place + 1) (runs_from (place + 1) (m ∷ numbers)) ≡ replicate (place + 1 - (place + 1)) m ++ m ∷ numbers
+    by : (b : Bool) → (n == m) ≡ b → spread_from from (runs_from (place + 1) (m ∷ numbers)) ≡ replicate (place + 1 - from) m ++ m ∷ numbers
+        → spread_from (place + 1) (runs_from (place + 1) (m ∷ numbers)) ≡ replicate (place + 1 - (place + 1)) m ++ m ∷ numbers
         → spread_from from (if b then runs_from (place + 1) (m ∷ numbers) else (record { number = n; until = place + 1 } ∷ runs_from (place + 1) (m ∷ numbers))) ≡ replicate (place - from) n ++ n ∷ m ∷ numbers
     by true same earlier later =
         let equal : n ≡ m = eqb-true n m same in

@@ -48,7 +48,8 @@ module _ (layer : Layer) (state : ℕ) (passed : List ℕ) (marks : List Bool) (
   }
 
   -- a tail of which something else is left
-  pub found-more : number < length layer.tails.items → lets layer number state ≡ true → rest_at layer number < length marks → IsFound layer state (passed ++ number ∷ []) (set marks (rest_at layer number) true) (found ++ rest_at layer number ∷ [])
+  pub found-more : number < length layer.tails.items → lets layer number state ≡ true → rest_at layer number < length marks
+      → IsFound layer state (passed ++ number ∷ []) (set marks (rest_at layer number) true) (found ++ rest_at layer number ∷ [])
   found-more there e inside = record {
     left = λ f. grind (arith, known.left f, first_some-push f found (rest_at layer number), first_some-push (asked_behind layer state f) passed number);
     rests = λ count fits. All-push (λ n. n < count) found (rest_at layer number) (known.rests count fits) (fits.rests number (record { set = 0; rest = 0 }) there);

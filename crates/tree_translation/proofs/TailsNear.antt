@@ -13,7 +13,9 @@ use Rattle.tree_translation.specs.Translation.{LeftOf, asked_behind, first_some}
 use Rattle.tree_translation.proofs.TailsLeft.{first_some-push}
 
 -- what a tail lets the input be, by the tail and the set that are read
-pub lets-read : (layer : Layer) (number : ℕ) (tail : Tail) (set : Option (List ℕ)) → All (λ (t : Tail). t.set < length layer.sets.items) layer.tails.items → number < length layer.tails.items → tail ≡ get_or layer.tails.items number tail → set ≡ get_or layer.sets.items tail.set set
+pub lets-read : (layer : Layer) (number : ℕ) (tail : Tail) (set : Option (List ℕ))
+    → All (λ (t : Tail). t.set < length layer.sets.items) layer.tails.items → number < length layer.tails.items
+    → tail ≡ get_or layer.tails.items number tail → set ≡ get_or layer.sets.items tail.set set
     → (state : ℕ) → allows set state ≡ lets layer number state
 lets-read layer number tail set sets inside is there state =
     let none : Tail = record { set = 0; rest = 0 } in

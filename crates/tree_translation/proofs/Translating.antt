@@ -22,7 +22,8 @@ use Rattle.std.proofs.lemmas.List.{get_or_default}
 use Rattle.tree_translation.proofs.NodeLists.{firsts, firsts-all}
 
 -- functions that agree place by place give the same first answer
-first_some-pairs : {X Y : Type 0} (f : X → Option ℕ) (g : Y → Option ℕ) (xs : List X) (ys : List Y) → length xs ≡ length ys → ((k : ℕ) (d : X) (e : Y) → k < length ys → f (slice_index_or xs k d) ≡ g (slice_index_or ys k e)) → first_some f xs ≡ first_some g ys
+first_some-pairs : {X Y : Type 0} (f : X → Option ℕ) (g : Y → Option ℕ) (xs : List X) (ys : List Y) → length xs ≡ length ys
+    → ((k : ℕ) (d : X) (e : Y) → k < length ys → f (slice_index_or xs k d) ≡ g (slice_index_or ys k e)) → first_some f xs ≡ first_some g ys
 first_some-pairs f g [] [] count each = refl
 first_some-pairs f g [] (y ∷ ys) count each = absurd (omega (arith, count))
 first_some-pairs f g (x ∷ xs) [] count each = absurd (omega (arith, count))
@@ -30,13 +31,15 @@ first_some-pairs f g (x ∷ xs) (y ∷ ys) count each =
     λ i. option_or (each 0 x y (omega arith) i) (first_some-pairs f g xs ys (omega (arith, count)) (λ k d e l. each (suc k) d e (omega (arith, l))) i)
 
 -- what the tails of rows do, the rows do
-pub rows-outcome : (states : ℕ) (order : List (Option ℕ)) (rows : List Expanded) (layers : List Layer) (numbers inputs : List ℕ) → AreLayersOf states order rows layers numbers → length inputs ≡ length order → outcome layers numbers inputs ≡ rows_give order rows inputs
+pub rows-outcome : (states : ℕ) (order : List (Option ℕ)) (rows : List Expanded) (layers : List Layer) (numbers inputs : List ℕ)
+    → AreLayersOf states order rows layers numbers → length inputs ≡ length order → outcome layers numbers inputs ≡ rows_give order rows inputs
 rows-outcome states order rows layers numbers inputs are long =
     ap (λ o. unwrap_or o (last_of inputs)) (first_some-pairs (λ n. result_of layers n inputs) (λ (row : Expanded). cond (all_allow (asked order row.inputs) inputs) (Some row.result) None) numbers rows are.count
     (λ k d e l. ap (λ n. result_of layers n inputs) (get_or_default numbers k d 0 (omega (arith, l, are.count))) ∙ are.stand k e l inputs long))
 
 -- what the root does, the rows do
-pub DoesRows-root : (states : ℕ) (order : List (Option ℕ)) (rows : List Expanded) (layers : List Layer) (numbers : List ℕ) (nodes : List Entries) → AreLayersOf states order rows layers numbers → Does states layers nodes numbers (length nodes - 1) → DoesRows states order rows nodes
+pub DoesRows-root : (states : ℕ) (order : List (Option ℕ)) (rows : List Expanded) (layers : List Layer) (numbers : List ℕ) (nodes : List Entries)
+    → AreLayersOf states order rows layers numbers → Does states layers nodes numbers (length nodes - 1) → DoesRows states order rows nodes
 DoesRows-root states order rows layers numbers nodes are does = record {
   leading = λ inputs long. does.leading inputs (long ∙ sym are.depth);
   follows = λ inputs long low. does.follows inputs (long ∙ sym are.depth) low ∙ rows-outcome states order rows layers numbers inputs are long;
@@ -84,7 +87,9 @@ first-alike neighborhood (row ∷ rows) around full =
     (by (all_have row.inputs (table_rule.inputs_of neighborhood around)))
   where
     by : (b : Bool)
-        → option_or (cond b (Some row.result) None) (first_match rows (table_rule.inputs_of neighborhood around)) ≡ option_map (λ (r : Expanded). r.result) (cond b (Some row) (find (λ (r : Expanded). all_have r.inputs (table_rule.inputs_of neighborhood around)) rows))
+        → option_or (cond b (Some row.result) None) (first_match rows (table_rule.inputs_of neighborhood around)) ≡ option_map
+        (λ (r : Expanded). r.result) (cond b (Some row) (find (λ (r : Expanded). all_have r.inputs (table_rule.inputs_of neighborhood around))
+        rows))
     by b = grind arith
 
 -- what the rows of a table give is its next state
@@ -119,11 +124,14 @@ some-nodes table nodes some does = by (places_of (neighbors_of table.neighborhoo
     by (input ∷ inputs) more led = omega (arith, none-past nodes (length nodes - 1) table.states some (leads-width table.states nodes (length nodes - 1) input inputs led))
 
 -- the tree that is kept has these nodes
-pub kept-for : (table : Table) (nodes : List Entries) (count : ℕ) (entries : List ℕ) → 1 ≤ count → nodes_in table.states count entries ≡ nodes → tree_of_kept table.states (neighbors_of table.neighborhood) (count - 1) entries ≡ tree_for table nodes
+pub kept-for : (table : Table) (nodes : List Entries) (count : ℕ) (entries : List ℕ) → 1 ≤ count → nodes_in table.states count entries ≡ nodes
+    → tree_of_kept table.states (neighbors_of table.neighborhood) (count - 1) entries ≡ tree_for table nodes
 kept-for table nodes count entries some same = let again : count - 1 + 1 ≡ count = omega (arith, some) in rw (again, same)
 
 -- it may be kept
-pub may-keep : (table : Table) (nodes : List Entries) (count : ℕ) (entries : List ℕ) → 2 ≤ table.states → table.states ≤ 256 → 1 ≤ count → length entries ≡ count * table.states → nodes_in table.states count entries ≡ nodes → is_sound (tree_for table nodes) ≡ true → IsKeptTree table.states (neighbors_of table.neighborhood) (count - 1) entries
+pub may-keep : (table : Table) (nodes : List Entries) (count : ℕ) (entries : List ℕ) → 2 ≤ table.states → table.states ≤ 256 → 1 ≤ count
+    → length entries ≡ count * table.states → nodes_in table.states count entries ≡ nodes → is_sound (tree_for table nodes) ≡ true
+    → IsKeptTree table.states (neighbors_of table.neighborhood) (count - 1) entries
 may-keep table nodes count entries least most some filled same sound =
     let again : count - 1 + 1 ≡ count = omega (arith, some) in
     record { at_least = least; at_most = most; filled = rw again filled; sound = ap is_sound (kept-for table nodes count entries some same) ∙ sound }

@@ -19,7 +19,8 @@ list_all-follows p q [] h f = refl
 list_all-follows p q (x ∷ xs) h f = grind (arith, f x, list_all-follows p q xs)
 
 -- a node of n entries leads on where each of them does
-pub leads-node : (n : ℕ) (nodes : List Entries) (number : ℕ) (node : List ℕ) (input : ℕ) (inputs : List ℕ) → node_at nodes number ≡ node → length node ≡ n → list_all (λ entry. leads n nodes entry inputs) node ≡ true → leads n nodes number (input ∷ inputs) ≡ true
+pub leads-node : (n : ℕ) (nodes : List Entries) (number : ℕ) (node : List ℕ) (input : ℕ) (inputs : List ℕ) → node_at nodes number ≡ node
+    → length node ≡ n → list_all (λ entry. leads n nodes entry inputs) node ≡ true → leads n nodes number (input ∷ inputs) ≡ true
 leads-node n nodes number node input inputs at width all = rw at (grind (arith, nat_tests))
 
 -- more nodes change nothing for those before
@@ -59,7 +60,9 @@ pub entry-below : (n : ℕ) (depths node : List ℕ) (depth k : ℕ) → k < len
 entry-below n depths node depth k inside more h = is-below depths depth (slice_index node k) (AllPass-from_list_all _ node (fits-high n depths node depth more h) k 0 inside)
 
 -- the same of one more node, whose entries fit
-leads-fitting : (n : ℕ) (depths : List ℕ) (nodes : List Entries) (depth : ℕ) (node inputs : List ℕ) → 0 < n → length nodes ≡ length depths → Leading n depths nodes → length node ≡ n → do_entries_fit n depths (record { depth = depth; entries = node }) ≡ true → length inputs ≡ depth → leads n (nodes ++ node ∷ []) (length depths) inputs ≡ true
+leads-fitting : (n : ℕ) (depths : List ℕ) (nodes : List Entries) (depth : ℕ) (node inputs : List ℕ) → 0 < n → length nodes ≡ length depths
+    → Leading n depths nodes → length node ≡ n → do_entries_fit n depths (record { depth = depth; entries = node }) ≡ true → length inputs ≡ depth
+    → leads n (nodes ++ node ∷ []) (length depths) inputs ≡ true
 leads-fitting n depths nodes depth node [] some count leading width fits long =
     let more : depth ≢ 1 = λ one. absurd (omega (arith, one, long)) in
     let below : IsBelow depths depth (slice_index node 0) = entry-below n depths node depth 0 (omega arith) more fits in
@@ -74,7 +77,9 @@ leads-fitting n depths nodes depth node (input ∷ second ∷ inputs) some count
     leads-append n nodes (node ∷ []) k (second ∷ inputs) some (leading k (second ∷ inputs) below.earlier (omega (arith, below.less, long)))))
 
 -- the same of all, with one more node whose entries fit
-pub leading-push : (n : ℕ) (depths : List ℕ) (nodes : List Entries) (depth : ℕ) (node : List ℕ) → 0 < n → length nodes ≡ length depths → Leading n depths nodes → length node ≡ n → do_entries_fit n depths (record { depth = depth; entries = node }) ≡ true → Leading n (depths ++ depth ∷ []) (nodes ++ node ∷ [])
+pub leading-push : (n : ℕ) (depths : List ℕ) (nodes : List Entries) (depth : ℕ) (node : List ℕ) → 0 < n → length nodes ≡ length depths
+    → Leading n depths nodes → length node ≡ n → do_entries_fit n depths (record { depth = depth; entries = node }) ≡ true
+    → Leading n (depths ++ depth ∷ []) (nodes ++ node ∷ [])
 leading-push n depths nodes depth node some count leading width fits number inputs l long =
     below_more (λ k. length inputs ≡ slice_index (depths ++ depth ∷ []) k → leads n (nodes ++ node ∷ []) k inputs ≡ true) (length depths)
     (λ k h e. leads-append n nodes (node ∷ []) k inputs some (leading k inputs h (e ∙ get_or_append_left depths (depth ∷ []) 0 k h)))

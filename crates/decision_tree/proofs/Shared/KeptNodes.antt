@@ -32,7 +32,8 @@ nodes_in-push n zero entries node filled width = grind (arith, common_steps, nil
 nodes_in-push n (suc count) entries node filled width =
     grind (arith, common_steps, nodes_in-push n count (drop n entries) node, take-append-le n entries node, drop-append-le n entries node)
 
-pub nodes_of-push : (n : ℕ) (depths entries : List ℕ) (depth : ℕ) (node : List ℕ) → length entries ≡ length depths * n → length node ≡ n → nodes_of n (depths ++ depth ∷ []) (entries ++ node) ≡ nodes_of n depths entries ++ record { depth = depth; entries = node } ∷ []
+pub nodes_of-push : (n : ℕ) (depths entries : List ℕ) (depth : ℕ) (node : List ℕ) → length entries ≡ length depths * n → length node ≡ n
+    → nodes_of n (depths ++ depth ∷ []) (entries ++ node) ≡ nodes_of n depths entries ++ record { depth = depth; entries = node } ∷ []
 nodes_of-push n [] entries depth node filled width = grind (arith, common_steps, nil_from_length entries, take_all n node)
 nodes_of-push n (d ∷ depths) entries depth node filled width =
     grind (arith, common_steps, nodes_of-push n depths (drop n entries) depth node, take-append-le n entries node, drop-append-le n entries node)

@@ -34,16 +34,19 @@ LeavesToo head left read = (others : List NumberedLine) × (texts left ≡ texts
 abbrev with_lines : List NumberedLine → Result TreeHead RuleFault → Result Found RuleFault
 with_lines lines read = read >>= λ head. Ok (head, lines)
 
-left_all : (o : Option TreeHead) (d e : RuleFault) (lines others : List NumberedLine) (head : TreeHead) (left : List NumberedLine) → texts lines ≡ texts others → with_lines lines (ok_or o d) ≡ Ok (head, left) → LeavesToo head left (with_lines others (ok_or o e))
+left_all : (o : Option TreeHead) (d e : RuleFault) (lines others : List NumberedLine) (head : TreeHead) (left : List NumberedLine)
+    → texts lines ≡ texts others → with_lines lines (ok_or o d) ≡ Ok (head, left) → LeavesToo head left (with_lines others (ok_or o e))
 left_all (Some h) d e lines others head left same is =
     let pair = same_value {A = Found} (h, lines) (head, left) is in
     (others, ap (λ (p : Found). texts p.1) (sym pair) ∙ same, ap (λ (p : Found). with_lines others (Ok p.0)) pair)
 left_all None d e lines others head left same is = absurd cc
 
-left_later : (r q : Result Described RuleFault) (f g : Described → Result Found RuleFault) (head : TreeHead) (left : List NumberedLine) → GivesToo r q → ((d : Described) → f d ≡ Ok (head, left) → LeavesToo head left (g d)) → (r >>= f) ≡ Ok (head, left) → LeavesToo head left (q >>= g)
+left_later : (r q : Result Described RuleFault) (f g : Described → Result Found RuleFault) (head : TreeHead) (left : List NumberedLine) → GivesToo r q
+    → ((d : Described) → f d ≡ Ok (head, left) → LeavesToo head left (g d)) → (r >>= f) ≡ Ok (head, left) → LeavesToo head left (q >>= g)
 left_later r q f g head left both later h = grind (arith, both, later)
 
-head_from-too : (last final : ℕ) (lines others : List NumberedLine) (d : Described) (head : TreeHead) (left : List NumberedLine) → texts lines ≡ texts others → head_from last d lines ≡ Ok (head, left) → LeavesToo head left (head_from final d others)
+head_from-too : (last final : ℕ) (lines others : List NumberedLine) (d : Described) (head : TreeHead) (left : List NumberedLine)
+    → texts lines ≡ texts others → head_from last d lines ≡ Ok (head, left) → LeavesToo head left (head_from final d others)
 head_from-too last final [] others d head left same h = absurd cc
 head_from-too last final (line ∷ lines) [] d head left same h = absurd cc
 head_from-too last final (line ∷ lines) (other ∷ others) d head left same h =
@@ -83,7 +86,8 @@ tree-too last final (Err e) q tree both h = absurd cc
 tree-too last final (Ok found) q tree both h =
     let too = both found.0 found.1 refl in
     ap (λ p. p >>= after_head final) too.2
-    ∙ then_too (nodes_from last found.0 [] found.1) (nodes_from final found.0 [] too.0) (λ nodes. if_quiescent (tree_from found.0 nodes)) (λ nodes. if_quiescent (tree_from found.0 nodes)) (nodes_from-too last final found.0 found.1 too.0 [] too.1) (λ nodes t k. k) tree h
+    ∙ then_too (nodes_from last found.0 [] found.1) (nodes_from final found.0 [] too.0) (λ nodes. if_quiescent (tree_from found.0 nodes))
+    (λ nodes. if_quiescent (tree_from found.0 nodes)) (nodes_from-too last final found.0 found.1 too.0 [] too.1) (λ nodes t k. k) tree h
 
 pub tree_of-renumbered : NumbersDoNotMatter
 tree_of-renumbered section other tree same h =

@@ -105,7 +105,10 @@ found-enough : (last : ℕ) (d : Described) (lines : List NumberedLine) (found :
 found-enough last d [] found enough h = absurd cc
 found-enough last d (line ∷ lines) found enough h = by (descriptor_of line.text) h (λ e. found-enough last e lines found)
   where
-    by : (o : Option (Descriptor × List ℕ)) → option_map_or (λ x. ok_or (describe d x.0 x.1) (BadTree line.number) >>= λ e. head_from last e lines) o (ok_or (head_of d) (BadTree line.number) >>= λ head. Ok (head, line ∷ lines)) ≡ Ok found → ((e : Described) → AreEnough e → head_from last e lines ≡ Ok found → (1 ≤ found.0.node_count) × (2 ≤ found.0.states)) → (1 ≤ found.0.node_count) × (2 ≤ found.0.states)
+    by : (o : Option (Descriptor × List ℕ)) → option_map_or (λ x. ok_or (describe d x.0 x.1) (BadTree line.number) >>= λ e. head_from last e lines) o
+        (ok_or (head_of d) (BadTree line.number) >>= λ head. Ok (head, line ∷ lines)) ≡ Ok found
+        → ((e : Described) → AreEnough e → head_from last e lines ≡ Ok found → (1 ≤ found.0.node_count) × (2 ≤ found.0.states))
+        → (1 ≤ found.0.node_count) × (2 ≤ found.0.states)
     by None ok rest = grind (arith, enough.some, enough.two)
     by (Some x) ok rest =
         let e = then-ok (ok_or (describe d x.0 x.1) (BadTree line.number)) (λ e. head_from last e lines) found ok in

@@ -41,14 +41,18 @@ nodes-line n h =
     (named_value-decimal 61 (codes "num_nodes") n (refl, (refl, (refl, (refl, (refl, (refl, (refl, (refl, (refl, tt))))))))) h)
 
 -- one descriptor after another
-head-step : (last : ℕ) (d e : Described) (line : NumberedLine) (lines : List NumberedLine) (x : Descriptor) (value : List ℕ) → descriptor_of line.text ≡ Some (x, value) → describe d x value ≡ Some e → head_from last d (line ∷ lines) ≡ head_from last e lines
+head-step : (last : ℕ) (d e : Described) (line : NumberedLine) (lines : List NumberedLine) (x : Descriptor) (value : List ℕ)
+    → descriptor_of line.text ≡ Some (x, value) → describe d x value ≡ Some e → head_from last d (line ∷ lines) ≡ head_from last e lines
 head-step last d e line lines x value is said = rw (is, said)
 
 -- and the line behind them
 head-end : (last : ℕ) (d : Described) (head : TreeHead) (line : NumberedLine) (lines : List NumberedLine) → descriptor_of line.text ≡ None → head_of d ≡ Some head → head_from last d (line ∷ lines) ≡ Ok (head, line ∷ lines)
 head-end last d head line lines is said = rw (is, said)
 
-neighbors-step : (last : ℕ) (states : ℕ) (neighbors : Neighbors) (number : ℕ) (lines : List NumberedLine) → head_from last (record undescribed { states = Some states }) (record { number = number; text = codes "num_neighbors=" ++ neighbors_text neighbors } ∷ lines) ≡ head_from last (record { states = Some states; neighbors = Some neighbors; node_count = None }) lines
+neighbors-step : (last : ℕ) (states : ℕ) (neighbors : Neighbors) (number : ℕ) (lines : List NumberedLine)
+    → head_from last (record undescribed { states = Some states }) (record
+    { number = number; text = codes "num_neighbors=" ++ neighbors_text neighbors } ∷ lines) ≡ head_from last
+    (record { states = Some states; neighbors = Some neighbors; node_count = None }) lines
 neighbors-step last states Four number lines = refl
 neighbors-step last states Eight number lines = refl
 
@@ -78,7 +82,9 @@ all-wide p (n ∷ ns) low h = grind (arith, low n, all-wide p ns low)
 fits-low : (head : TreeHead) (depths : List ℕ) (node : Node) → IsTreeHead head → length depths < head.node_count → do_entries_fit head.states depths node ≡ true → AllByRecursion IsWide node.entries
 fits-low head depths node limits room h = by (node.depth == 1) h
   where
-    by : (v : Bool) → cond v (list_all (λ state. nat_lt state head.states) node.entries) (list_all (λ number. nat_lt number (length depths) && (slice_index depths number + 1 == node.depth)) node.entries) ≡ true → AllByRecursion IsWide node.entries
+    by : (v : Bool) → cond v (list_all (λ state. nat_lt state head.states) node.entries)
+        (list_all (λ number. nat_lt number (length depths) && (slice_index depths number + 1 == node.depth)) node.entries) ≡ true
+        → AllByRecursion IsWide node.entries
     by true h = all-wide _ node.entries (λ n k. grind (arith, nat_tests, k, limits.at_most)) h
     by false h = all-wide _ node.entries (λ n k. grind (arith, nat_tests, k, limits.few, room)) h
 
@@ -89,7 +95,9 @@ node-wide head nodes node limits low h =
     (omega (arith, low, limits.few), fits-low head depths node limits is.room is.fits)
 
 -- all nodes read back, one behind another
-nodes-taken : (last number : ℕ) (head : TreeHead) (nodes others : List Node) → IsTreeHead head → length nodes + length others ≡ head.node_count → EachIsNext head nodes others → AllByRecursion (λ node. node.depth ≤ head.node_count) others → nodes_from last head nodes (numbered_from number (map node_line others)) ≡ Ok (nodes ++ others)
+nodes-taken : (last number : ℕ) (head : TreeHead) (nodes others : List Node) → IsTreeHead head → length nodes + length others ≡ head.node_count
+    → EachIsNext head nodes others → AllByRecursion (λ node. node.depth ≤ head.node_count) others
+    → nodes_from last head nodes (numbered_from number (map node_line others)) ≡ Ok (nodes ++ others)
 nodes-taken last number head nodes [] limits all h low =
     let is : (length nodes == head.node_count) ≡ true = grind (arith, nat_tests) in
     rw (is, append-nil nodes)
@@ -100,7 +108,9 @@ nodes-taken last number head nodes (node ∷ others) limits all h low =
     ∙ ap Ok (append_assoc nodes (node ∷ []) others)
 
 -- the head that is written reads back
-head-taken : (last number : ℕ) (head : TreeHead) (node : Node) (others : List Node) → IsTreeHead head → AllByRecursion IsWide (node.depth ∷ node.entries) → head_from last undescribed (numbered_from number (written_lines head (node ∷ others))) ≡ Ok (head, numbered_from (number + 1 + 1 + 1) (map node_line (node ∷ others)))
+head-taken : (last number : ℕ) (head : TreeHead) (node : Node) (others : List Node) → IsTreeHead head
+    → AllByRecursion IsWide (node.depth ∷ node.entries) → head_from last undescribed (numbered_from number (written_lines head (node ∷ others))) ≡ Ok
+    (head, numbered_from (number + 1 + 1 + 1) (map node_line (node ∷ others)))
 head-taken last number head node others limits wide =
     let behind = numbered_from (number + 1 + 1 + 1) (map node_line (node ∷ others)) in
     let third : NumberedLine = record { number = number + 1 + 1; text = codes "num_nodes=" ++ decimal head.node_count } in
@@ -111,11 +121,14 @@ head-taken last number head node others limits wide =
     (ap (option_map (λ n. record undescribed { states = Some n }))
     (within-read least_states most_states head.states (omega (arith, limits.at_most)) limits.at_least limits.at_most))
     ∙ neighbors-step last head.states head.neighbors (number + 1) (third ∷ behind)
-    ∙ head-step last (record { states = Some head.states; neighbors = Some head.neighbors; node_count = None }) (record { states = Some head.states; neighbors = Some head.neighbors; node_count = Some head.node_count }) third behind descriptor.Nodes (decimal head.node_count)
+    ∙ head-step last (record { states = Some head.states; neighbors = Some head.neighbors; node_count = None })
+    (record { states = Some head.states; neighbors = Some head.neighbors; node_count = Some head.node_count }) third behind descriptor.Nodes
+    (decimal head.node_count)
     (nodes-line head.node_count (omega (arith, limits.few)))
     (ap (option_map (λ n. record { states = Some head.states; neighbors = Some head.neighbors; node_count = Some n }))
     (within-read 1 most_nodes head.node_count (omega (arith, limits.few)) limits.some limits.few))
-    ∙ head-end last (record { states = Some head.states; neighbors = Some head.neighbors; node_count = Some head.node_count }) head (record { number = number + 1 + 1 + 1; text = node_line node }) (numbered_from (number + 1 + 1 + 1 + 1) (map node_line others))
+    ∙ head-end last (record { states = Some head.states; neighbors = Some head.neighbors; node_count = Some head.node_count }) head
+    (record { number = number + 1 + 1 + 1; text = node_line node }) (numbered_from (number + 1 + 1 + 1 + 1) (map node_line others))
     (numbers-undescribed node.depth node.entries wide) refl
 
 -- what is written means the tree

@@ -25,7 +25,8 @@ unfolding IsBelow
 next_cell c next keeps some s1 s2 s3 s4 s5 s6 s7 s8 s9 h1 h2 h3 h4 h5 h6 h7 h8 h9 =
     keeps _ (record {
       nine = refl;
-      below = All-nine (λ s. s < c) _ _ _ _ _ _ _ _ _ (state c s1 some h1) (state c s2 some h2) (state c s3 some h3) (state c s4 some h4) (state c s5 some h5) (state c s6 some h6) (state c s7 some h7) (state c s8 some h8) (state c s9 some h9);
+      below = All-nine (λ s. s < c) _ _ _ _ _ _ _ _ _ (state c s1 some h1) (state c s2 some h2) (state c s3 some h3) (state c s4 some h4)
+          (state c s5 some h5) (state c s6 some h6) (state c s7 some h7) (state c s8 some h8) (state c s9 some h9);
     })
 
 IsBelow-middle : (u : ℕ) (s : Square) → IsBelow u s → IsBelow u (middle s)
@@ -53,7 +54,8 @@ IsBelow-nine_of : (u : ℕ) (s : Square) → IsBelow u s → All (IsBelow u) (ni
 unfolding IsBelow
 IsBelow-nine_of u (one s) is = All-nil (IsBelow u)
 IsBelow-nine_of u (four nw ne sw se) is =
-    All-nine (IsBelow u) _ _ _ _ _ _ _ _ _ is.0 (IsBelow-between u nw ne is.0 is.1) is.1 (IsBelow-amid u nw sw is.0 is.2) (IsBelow-middle u (four nw ne sw se) is) (IsBelow-amid u ne se is.1 is.3) is.2 (IsBelow-between u sw se is.2 is.3) is.3
+    All-nine (IsBelow u) _ _ _ _ _ _ _ _ _ is.0 (IsBelow-between u nw ne is.0 is.1) is.1 (IsBelow-amid u nw sw is.0 is.2)
+    (IsBelow-middle u (four nw ne sw se) is) (IsBelow-amid u ne se is.1 is.3) is.2 (IsBelow-between u sw se is.2 is.3) is.3
 
 IsBelow-fours_of : (u : ℕ) (ss : List Square) → All (IsBelow u) ss → All (IsBelow u) (fours_of ss)
 unfolding IsBelow

@@ -39,7 +39,8 @@ Makes-last next zero s P is found = (is, found)
 Makes-last next (suc n) s P is found = (is, found)
 
 -- and, where it holds of what is made by the nine, and by the four, of all
-pub Makes-whole : (next : List ℕ → ℕ) (k n first : ℕ) (s : Square) (P : Square → Type 0) → 0 < n → first ≡ min n (2 ^ k) → P s → P (result next (suc k) n s) → OfParts next k first (n - first) s (λ m q. Makes next k m q P) → Makes next (suc k) n s P
+pub Makes-whole : (next : List ℕ → ℕ) (k n first : ℕ) (s : Square) (P : Square → Type 0) → 0 < n → first ≡ min n (2 ^ k) → P s
+    → P (result next (suc k) n s) → OfParts next k first (n - first) s (λ m q. Makes next k m q P) → Makes next (suc k) n s P
 unfolding Makes
 Makes-whole next k zero first s P some is whole found parts = absurd (omega (arith, some))
 Makes-whole next k (suc n) first s P some is whole found parts =

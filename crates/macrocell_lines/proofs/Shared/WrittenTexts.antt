@@ -34,7 +34,9 @@ name-taken name h = rw (trim-blank name (name-visible name h.bytes)) (rw (no-col
 digits-visible : (n : ℕ) → n < 2 ^ 64 → AllByRecursion IsVisible (decimal n)
 digits-visible n h = let numeral = decimal-numeral n h in all_so IsDigit IsVisible (decimal n) digit-visible numeral.digits
 
-generation-taken : (name : List ℕ) (generation : ℕ) → generation < 2 ^ 64 → after_line 3 (record { heading = record { rule_name = name; generation = 0 }; nodes = [] }) (codes "#G " ++ decimal generation) ≡ Ok (record { heading = record { rule_name = name; generation = generation }; nodes = [] })
+generation-taken : (name : List ℕ) (generation : ℕ) → generation < 2 ^ 64
+    → after_line 3 (record { heading = record { rule_name = name; generation = 0 }; nodes = [] }) (codes "#G " ++ decimal generation) ≡ Ok
+    (record { heading = record { rule_name = name; generation = generation }; nodes = [] })
 generation-taken name generation h =
     let numeral = decimal-numeral generation h in
     rw (trim-blank (decimal generation) (digits-visible generation h)) (rw (number_in-decimal generation h) refl)
@@ -63,7 +65,8 @@ written-lines name generation nodes h small are =
       ),
     )
 
-lines-taken : (name : List ℕ) (generation : ℕ) (nodes : List Node) → IsName name → generation < 2 ^ 64 → AreNodes nodes → said_by (written_lines name generation nodes) ≡ Ok (record { heading = record { rule_name = name; generation = generation }; nodes = nodes })
+lines-taken : (name : List ℕ) (generation : ℕ) (nodes : List Node) → IsName name → generation < 2 ^ 64 → AreNodes nodes
+    → said_by (written_lines name generation nodes) ≡ Ok (record { heading = record { rule_name = name; generation = generation }; nodes = nodes })
 lines-taken name generation nodes h small are =
     let few = are.few in
     ap (λ read. read >>= λ said. after_lines 3 said ((codes "#G " ++ decimal generation) ∷ map node_line nodes)) (name-taken name h)

@@ -30,7 +30,8 @@ last_line-ended : (seen : List ℕ) → seen ≢ [] → last_line Ended seen ≡
 last_line-ended [] n = absurd (n refl)
 last_line-ended (b ∷ bs) n = refl
 
-taken_line : (old new : Ahead) (before after : Option (List ℕ)) (kept : KeptLine) (seen : List ℕ) → NoLineFeed seen → Grows before after (raw_of found.Line seen) → TakesLine found.Line old new seen kept → TakesInto found.Line old new kept before after
+taken_line : (old new : Ahead) (before after : Option (List ℕ)) (kept : KeptLine) (seen : List ℕ) → NoLineFeed seen
+    → Grows before after (raw_of found.Line seen) → TakesLine found.Line old new seen kept → TakesInto found.Line old new kept before after
 taken_line old new before after kept seen h g t = (
   record {
     line = full_line seen;
@@ -42,7 +43,8 @@ taken_line old new before after kept seen h g t = (
   g,
 )
 
-taken_last : (old new : Ahead) (before after : Option (List ℕ)) (kept : KeptLine) (seen : List ℕ) → NoLineFeed seen → Grows before after (raw_of found.Last seen) → TakesLine found.Last old new seen kept → TakesInto found.Last old new kept before after
+taken_last : (old new : Ahead) (before after : Option (List ℕ)) (kept : KeptLine) (seen : List ℕ) → NoLineFeed seen
+    → Grows before after (raw_of found.Last seen) → TakesLine found.Last old new seen kept → TakesInto found.Last old new kept before after
 taken_last old new before after kept seen h g t = (
   record {
     line = record { says = trim seen; raw = seen };
@@ -60,7 +62,8 @@ taken_last old new before after kept seen h g t = (
         ∙ ap (λ m. record { says = trim seen; raw = seen } ∷ lines_until Ended m) (sym f) ∙ ap (λ s. record { says = trim seen; raw = seen } ∷ lines_until s more) (sym e)
 
 -- what was read of a line is a line of the script
-pub takes_into : (found : Found) (old new : Ahead) (before after : Option (List ℕ)) (kept : KeptLine) (seen : List ℕ) → NoLineFeed seen → Grows before after (raw_of found seen) → TakesLine found old new seen kept → TakesInto found old new kept before after
+pub takes_into : (found : Found) (old new : Ahead) (before after : Option (List ℕ)) (kept : KeptLine) (seen : List ℕ) → NoLineFeed seen
+    → Grows before after (raw_of found seen) → TakesLine found old new seen kept → TakesInto found old new kept before after
 takes_into found.Line old new before after kept seen h g t = taken_line old new before after kept seen h g t
 takes_into found.Last old new before after kept seen h g t = taken_last old new before after kept seen h g t
 takes_into found.End old new before after kept seen h g t = (t.1, t.2)
@@ -130,7 +133,8 @@ is_text-cut (Some xs) (Some ys) bs raw g i =
     ap (take (length xs)) g ∙ take-append-le (length xs) xs raw short ∙ take-length xs ∙ i
 
 -- a line that does not end the text is the text's
-pub text_goes_on : (old mid new : Ahead) (before after : Option (List ℕ)) (kept : KeptLine) (n m k : ℕ) → (t : LineTaken false mid new kept) → Grows before after t.line.raw → is_end t.line.says ≡ false → k ≡ m + 1 → TextSoFar old mid before n m → TextSoFar old new after n k
+pub text_goes_on : (old mid new : Ahead) (before after : Option (List ℕ)) (kept : KeptLine) (n m k : ℕ) → (t : LineTaken false mid new kept)
+    → Grows before after t.line.raw → is_end t.line.says ≡ false → k ≡ m + 1 → TextSoFar old mid before n m → TextSoFar old new after n k
 text_goes_on old mid new before after kept n m k t g other e so = record {
   lines = so.lines ++ t.line ∷ [];
   taken = subst (Takes old new) (sym (raw_bytes-push so.lines t.line)) (takes_then old mid new (raw_bytes so.lines) t.line.raw so.taken t.taken);
@@ -142,7 +146,8 @@ text_goes_on old mid new before after kept n m k t g other e so = record {
 }
 
 -- the line that ends the text
-pub text_ends : (last : Bool) (old mid new : Ahead) (before after : Option (List ℕ)) (kept : KeptLine) (n m k : ℕ) → (t : LineTaken last mid new kept) → Grows before after t.line.raw → is_end t.line.says ≡ true → k ≡ m + 1 → TextSoFar old mid before n m
+pub text_ends : (last : Bool) (old mid new : Ahead) (before after : Option (List ℕ)) (kept : KeptLine) (n m k : ℕ) → (t : LineTaken last mid new kept)
+    → Grows before after t.line.raw → is_end t.line.says ≡ true → k ≡ m + 1 → TextSoFar old mid before n m
     → TextTaken last (option_map (take (len_of before)) after) old new n k
 text_ends last old mid new before after kept n m k t g ends e so = record {
   lines = so.lines;
@@ -168,12 +173,14 @@ text_stops old mid new text n m so e = (
 )
 
 -- the script's last line does not end the text
-pub text_stops_last : (old mid new : Ahead) (before : Option (List ℕ)) (kept : KeptLine) (n m : ℕ) → (t : LineTaken true mid new kept) → is_end t.line.says ≡ false → TextSoFar old mid before n m → NoEndAmong Ended old new × IsAtEnd new.bytes
+pub text_stops_last : (old mid new : Ahead) (before : Option (List ℕ)) (kept : KeptLine) (n m : ℕ) → (t : LineTaken true mid new kept)
+    → is_end t.line.says ≡ false → TextSoFar old mid before n m → NoEndAmong Ended old new × IsAtEnd new.bytes
 text_stops_last old mid new before kept n m t other so = (
   record {
     bytes = raw_bytes so.lines ++ t.line.raw;
     taken = takes_then old mid new (raw_bytes so.lines) t.line.raw so.taken t.taken;
-    inside = subst NoneEnds (sym (so.law Ended t.line.raw ∙ ap (λ v. so.lines ++ lines_until Ended v) (sym (append-nil t.line.raw)) ∙ ap (λ ls. so.lines ++ ls) (t.law Ended [] (refl, refl)))) (none_ends-push so.lines t.line so.inside other);
+    inside = subst NoneEnds (sym (so.law Ended t.line.raw ∙ ap (λ v. so.lines ++ lines_until Ended v) (sym (append-nil t.line.raw))
+        ∙ ap (λ ls. so.lines ++ ls) (t.law Ended [] (refl, refl)))) (none_ends-push so.lines t.line so.inside other);
   },
   t.at_end refl,
 )
@@ -188,21 +195,32 @@ text_breaks old mid new text n m so s = record {
 
 -- ---- the same by what was found
 
-pub text_goes_on_at : (it : Found) (old mid new : Ahead) (before after : Option (List ℕ)) (kept : KeptLine) (n m k : ℕ) → it ≢ found.End → it ≢ found.Last → TakesInto it mid new kept before after → ((says : List ℕ) → Says kept says → false ≡ is_end says) → k ≡ next_number it m → TextSoFar old mid before n m → TextSoFar old new after n k
+pub text_goes_on_at : (it : Found) (old mid new : Ahead) (before after : Option (List ℕ)) (kept : KeptLine) (n m k : ℕ) → it ≢ found.End
+    → it ≢ found.Last → TakesInto it mid new kept before after → ((says : List ℕ) → Says kept says → false ≡ is_end says) → k ≡ next_number it m
+    → TextSoFar old mid before n m → TextSoFar old new after n k
 text_goes_on_at found.Line old mid new before after kept n m k x y t other e so = text_goes_on old mid new before after kept n m k t.0 t.1 (sym (other t.0.line.says t.0.says)) e so
 text_goes_on_at found.Last old mid new before after kept n m k x y t other e so = absurd (y refl)
 text_goes_on_at found.End old mid new before after kept n m k x y t other e so = absurd (x refl)
 
-pub text_ends_at : (it : Found) (last : Bool) (old mid new : Ahead) (before after final : Option (List ℕ)) (kept : KeptLine) (n m k : ℕ) → it ≢ found.End → (it ≡ found.Last → last ≡ true) → (it ≡ found.Line → last ≡ false) → final ≡ option_map (take (len_of before)) after → TakesInto it mid new kept before after
+pub text_ends_at : (it : Found) (last : Bool) (old mid new : Ahead) (before after final : Option (List ℕ)) (kept : KeptLine) (n m k : ℕ)
+    → it ≢ found.End → (it ≡ found.Last → last ≡ true) → (it ≡ found.Line → last ≡ false) → final ≡ option_map (take (len_of before)) after
+    → TakesInto it mid new kept before after
     → ((says : List ℕ) → Says kept says → true ≡ is_end says) → k ≡ next_number it m → TextSoFar old mid before n m → TextTaken last final old new n k
-text_ends_at found.Line last old mid new before after final kept n m k x y z f t ends e so = subst (λ v. TextTaken v final old new n k) (sym (z refl)) (subst (λ v. TextTaken false v old new n k) (sym f) (text_ends false old mid new before after kept n m k t.0 t.1 (sym (ends t.0.line.says t.0.says)) e so))
-text_ends_at found.Last last old mid new before after final kept n m k x y z f t ends e so = subst (λ v. TextTaken v final old new n k) (sym (y refl)) (subst (λ v. TextTaken true v old new n k) (sym f) (text_ends true old mid new before after kept n m k t.0 t.1 (sym (ends t.0.line.says t.0.says)) e so))
+text_ends_at found.Line last old mid new before after final kept n m k x y z f t ends e so = subst (λ v. TextTaken v final old new n k) (sym (z refl))
+    (subst (λ v. TextTaken false v old new n k) (sym f) (text_ends false old mid new before after kept n m k t.0 t.1
+    (sym (ends t.0.line.says t.0.says)) e so))
+text_ends_at found.Last last old mid new before after final kept n m k x y z f t ends e so = subst (λ v. TextTaken v final old new n k) (sym (y refl))
+    (subst (λ v. TextTaken true v old new n k) (sym f) (text_ends true old mid new before after kept n m k t.0 t.1 (sym (ends t.0.line.says t.0.says))
+    e so))
 text_ends_at found.End last old mid new before after final kept n m k x y z f t ends e so = absurd (x refl)
 
-pub text_stops_at : (it : Found) (old mid new : Ahead) (before after : Option (List ℕ)) (kept : KeptLine) (n m : ℕ) → it ≡ found.End → TakesInto it mid new kept before after → TextSoFar old mid before n m → NoEndAmong Ended old new × IsAtEnd new.bytes
+pub text_stops_at : (it : Found) (old mid new : Ahead) (before after : Option (List ℕ)) (kept : KeptLine) (n m : ℕ) → it ≡ found.End
+    → TakesInto it mid new kept before after → TextSoFar old mid before n m → NoEndAmong Ended old new × IsAtEnd new.bytes
 text_stops_at it old mid new before after kept n m e t so = text_stops old mid new before n m so (subst (λ v. TakesInto v mid new kept before after) e t)
 
-pub text_stops_last_at : (it : Found) (old mid new : Ahead) (before after : Option (List ℕ)) (kept : KeptLine) (n m : ℕ) → it ≡ found.Last → TakesInto it mid new kept before after → ((says : List ℕ) → Says kept says → false ≡ is_end says) → TextSoFar old mid before n m → NoEndAmong Ended old new × IsAtEnd new.bytes
+pub text_stops_last_at : (it : Found) (old mid new : Ahead) (before after : Option (List ℕ)) (kept : KeptLine) (n m : ℕ) → it ≡ found.Last
+    → TakesInto it mid new kept before after → ((says : List ℕ) → Says kept says → false ≡ is_end says) → TextSoFar old mid before n m
+    → NoEndAmong Ended old new × IsAtEnd new.bytes
 text_stops_last_at it old mid new before after kept n m e t other so =
     let u : TakesInto found.Last mid new kept before after = subst (λ v. TakesInto v mid new kept before after) e t in
     text_stops_last old mid new before kept n m u.0 (sym (other u.0.line.says u.0.says)) so

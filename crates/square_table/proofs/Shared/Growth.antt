@@ -35,7 +35,12 @@ square_in-grows t u k n grows h =
 
 pub kids_at-grows : (t u : Table) (n : ℕ) → Grows t u → first_number ≤ n → n < first_number + length t.rows → kids_at u.rows n ≡ kids_at t.rows n
 kids_at-grows t u n grows above there =
-    (grown (λ rows. (n < first_number + length rows) × (kids_at rows n ≡ kids_at t.rows n)) (λ rows row g. let size = one_longer rows row in (omega (arith, g.0, size), kept_row rows row (n - first_number) (omega (arith, above, g.0)) ∙ g.1)) t u grows (there, refl)).1
+    (grown (λ rows. (n < first_number + length rows) × (kids_at rows n ≡ kids_at t.rows n))
+    (λ rows row g. let size = one_longer rows row in (
+      omega (arith, g.0, size),
+      kept_row rows row (n - first_number) (omega (arith, above, g.0))
+          ∙ g.1,
+    )) t u grows (there, refl)).1
 
 pub AreNumbers-grows : (t u : Table) (k : ℕ) (kids : List ℕ) → Grows t u → AreNumbers t.rows k kids → AreNumbers u.rows k kids
 AreNumbers-grows t u k kids grows are = record {

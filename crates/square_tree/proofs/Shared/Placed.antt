@@ -162,7 +162,9 @@ laid_nw {l} {x} {y} {k} {other} {nw} {ne} {sw} {se} {nw'} h q px py laid = recor
       let m = 2 ^ (l - 1) in
       let v = l - 1 in
       let w = at_from x y k other x' y' in
-      split y' m (λ s. cond s (cond (nat_lt x' m) (at nw' v x' y') (at ne v (x' - m) y')) (cond (nat_lt x' m) (at sw v x' (y' - m)) (at se v (x' - m) (y' - m))) ≡ option_or w (cond s (cond (nat_lt x' m) (at nw v x' y') (at ne v (x' - m) y')) (cond (nat_lt x' m) (at sw v x' (y' - m)) (at se v (x' - m) (y' - m)))))
+      split y' m (λ s. cond s (cond (nat_lt x' m) (at nw' v x' y') (at ne v (x' - m) y'))
+      (cond (nat_lt x' m) (at sw v x' (y' - m)) (at se v (x' - m) (y' - m))) ≡ option_or w
+      (cond s (cond (nat_lt x' m) (at nw v x' y') (at ne v (x' - m) y')) (cond (nat_lt x' m) (at sw v x' (y' - m)) (at se v (x' - m) (y' - m)))))
       (λ below. split x' m (λ b. cond b (at nw' v x' y') (at ne v (x' - m) y') ≡ option_or w (cond b (at nw v x' y') (at ne v (x' - m) y')))
       (λ left. laid.says x' y')
       (λ right. none_or (at_from_east other k x y x' y' h (omega (arith, px, right)))))
@@ -178,7 +180,9 @@ laid_ne {l} {x} {y} {k} {other} {nw} {ne} {sw} {se} {ne'} h q px py laid = recor
       let m = 2 ^ (l - 1) in
       let v = l - 1 in
       let w = at_from x y k other x' y' in
-      split y' m (λ s. cond s (cond (nat_lt x' m) (at nw v x' y') (at ne' v (x' - m) y')) (cond (nat_lt x' m) (at sw v x' (y' - m)) (at se v (x' - m) (y' - m))) ≡ option_or w (cond s (cond (nat_lt x' m) (at nw v x' y') (at ne v (x' - m) y')) (cond (nat_lt x' m) (at sw v x' (y' - m)) (at se v (x' - m) (y' - m)))))
+      split y' m (λ s. cond s (cond (nat_lt x' m) (at nw v x' y') (at ne' v (x' - m) y'))
+      (cond (nat_lt x' m) (at sw v x' (y' - m)) (at se v (x' - m) (y' - m))) ≡ option_or w
+      (cond s (cond (nat_lt x' m) (at nw v x' y') (at ne v (x' - m) y')) (cond (nat_lt x' m) (at sw v x' (y' - m)) (at se v (x' - m) (y' - m)))))
       (λ below. split x' m (λ b. cond b (at nw v x' y') (at ne' v (x' - m) y') ≡ option_or w (cond b (at nw v x' y') (at ne v (x' - m) y')))
       (λ left. none_or (at_from_west other k x y x' y' (omega (arith, px, left))))
       (λ right. laid.says (x' - m) y' ∙ ap (λ o. option_or o (at ne v (x' - m) y')) (at_from_move_x other k x y x' y' m px right)))
@@ -194,7 +198,9 @@ laid_sw {l} {x} {y} {k} {other} {nw} {ne} {sw} {se} {sw'} h q px py laid = recor
       let m = 2 ^ (l - 1) in
       let v = l - 1 in
       let w = at_from x y k other x' y' in
-      split y' m (λ s. cond s (cond (nat_lt x' m) (at nw v x' y') (at ne v (x' - m) y')) (cond (nat_lt x' m) (at sw' v x' (y' - m)) (at se v (x' - m) (y' - m))) ≡ option_or w (cond s (cond (nat_lt x' m) (at nw v x' y') (at ne v (x' - m) y')) (cond (nat_lt x' m) (at sw v x' (y' - m)) (at se v (x' - m) (y' - m)))))
+      split y' m (λ s. cond s (cond (nat_lt x' m) (at nw v x' y') (at ne v (x' - m) y'))
+      (cond (nat_lt x' m) (at sw' v x' (y' - m)) (at se v (x' - m) (y' - m))) ≡ option_or w
+      (cond s (cond (nat_lt x' m) (at nw v x' y') (at ne v (x' - m) y')) (cond (nat_lt x' m) (at sw v x' (y' - m)) (at se v (x' - m) (y' - m)))))
       (λ below. none_or (at_from_north other k x y x' y' (omega (arith, py, below))))
       (λ above. split x' m (λ b. cond b (at sw' v x' (y' - m)) (at se v (x' - m) (y' - m)) ≡ option_or w (cond b (at sw v x' (y' - m)) (at se v (x' - m) (y' - m))))
       (λ left. laid.says x' (y' - m) ∙ ap (λ o. option_or o (at sw v x' (y' - m))) (at_from_move_y other k x y x' y' m py above))

@@ -26,7 +26,9 @@ quarter_of : (k : ℕ) (nw ne sw se : Quadtree) (d x y : ℕ) → HasLevel k (qu
 quarter_of k nw ne sw se d x y h =
     let n = k - 1 in
     let m = 2 ^ n in
-    let pick : (s e : Bool) → nat_lt (y - d) m ≡ s → nat_lt (x - d) m ≡ e → at (quad nw ne sw se) k (x - d) (y - d) ≡ cond s (cond e (at nw n (x - d) (y - d)) (at ne n (x - d - m) (y - d))) (cond e (at sw n (x - d) (y - d - m)) (at se n (x - d - m) (y - d - m))) =
+    let pick : (s e : Bool) → nat_lt (y - d) m ≡ s → nat_lt (x - d) m ≡ e
+    → at (quad nw ne sw se) k (x - d) (y - d) ≡ cond s (cond e (at nw n (x - d) (y - d)) (at ne n (x - d - m) (y - d)))
+    (cond e (at sw n (x - d) (y - d - m)) (at se n (x - d - m) (y - d - m))) =
     λ s e p q. ap₂ (λ a b. cond a (cond b (at nw n (x - d) (y - d)) (at ne n (x - d - m) (y - d))) (cond b (at sw n (x - d) (y - d - m)) (at se n (x - d - m) (y - d - m)))) p q in
     let same_x : d + m ≤ x → x - d - m ≡ x - (d + m) = λ p. omega (arith, p) in
     let same_y : d + m ≤ y → y - d - m ≡ y - (d + m) = λ p. omega (arith, p) in
@@ -46,7 +48,9 @@ quarter_of k nw ne sw se d x y h =
     (at_from_west se n (d + m) (d + m) x y left))
     (λ right. in_se
     (at_from_south nw n d d x y h.1 below) (at_from_south ne n (d + m) d x y h.2 below) (at_from_east sw n d (d + m) x y h.3 right)
-    (guarded _ (nat_lt x d || nat_lt y d) _ _ (λ off. ap₂ (λ c r. at se n c r) (sym (same_x right)) (sym (same_y below)) ∙ sym (pick false false (grind (arith, nat_tests, below, off)) (grind (arith, nat_tests, right, off)))) (grind (arith, nat_tests, right, below)))))
+    (guarded _ (nat_lt x d || nat_lt y d) _ _ (λ off. ap₂ (λ c r. at se n c r) (sym (same_x right)) (sym (same_y below))
+    ∙ sym (pick false false (grind (arith, nat_tests, below, off)) (grind (arith, nat_tests, right, off))))
+    (grind (arith, nat_tests, right, below)))))
 
 none : {n a b : Option ℕ} → n ≡ None → a ≡ option_or n b → a ≡ b
 none {n} {a} {b} e p = p ∙ ap (λ o. option_or o b) e
@@ -115,7 +119,8 @@ pub partly_sw : {l k d : ℕ} {nw ne sw se t u v : Quadtree} → HasLevel k (qua
 partly_sw {k = k} {d = d} {nw = nw} {ne = ne} {sw = sw} {se = se} h before p = record { level = p.level; says = λ x y. more (each_says (quarter_of k nw ne sw se d x y h)).of_sw (before.says x y) (p.says x y) }
 
 -- of the last one
-pub partly_se : {l k d : ℕ} {nw ne sw se t u v : Quadtree} → HasLevel k (quad nw ne sw se) → IsPartlyLaid l d d k (quad nw ne sw se) t u → IsPartlyLaid l (d + 2 ^ (k - 1)) (d + 2 ^ (k - 1)) (k - 1) se u v → IsPartlyLaid l d d k (quad nw ne sw se) t v
+pub partly_se : {l k d : ℕ} {nw ne sw se t u v : Quadtree} → HasLevel k (quad nw ne sw se) → IsPartlyLaid l d d k (quad nw ne sw se) t u
+    → IsPartlyLaid l (d + 2 ^ (k - 1)) (d + 2 ^ (k - 1)) (k - 1) se u v → IsPartlyLaid l d d k (quad nw ne sw se) t v
 partly_se {k = k} {d = d} {nw = nw} {ne = ne} {sw = sw} {se = se} h before p = record { level = p.level; says = λ x y. more (each_says (quarter_of k nw ne sw se d x y h)).of_se (before.says x y) (p.says x y) }
 
 -- a square reaches as far as its quadrants are wide

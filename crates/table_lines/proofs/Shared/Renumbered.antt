@@ -46,7 +46,8 @@ abbrev texts : List NumberedLine → List (List ℕ)
 texts lines = map (λ line. line.text) lines
 
 -- what comes of a line, by what it is
-kind-too : {A : Type 0} (descriptor defines : Bool) (d e : RuleFault) (r q s t : Result A RuleFault) → GivesToo r q → GivesToo s t → GivesToo (if descriptor then Err d else (if defines then r else s)) (if descriptor then Err e else (if defines then q else t))
+kind-too : {A : Type 0} (descriptor defines : Bool) (d e : RuleFault) (r q s t : Result A RuleFault) → GivesToo r q → GivesToo s t
+    → GivesToo (if descriptor then Err d else (if defines then r else s)) (if descriptor then Err e else (if defines then q else t))
 kind-too descriptor defines d e r q s t first second y h = grind arith
 
 transitions_of-too : (head : Head) (lines others : List NumberedLine) (variables : Variables) → texts lines ≡ texts others → GivesToo (transitions_of head variables lines) (transitions_of head variables others)

@@ -38,7 +38,9 @@ definition-plain n number set few wide is =
     let printed : (b : ℕ) → IsDigit b → IsPrinted b = λ b h. visible-printed b (digit-visible b h) in
     record {
       is_line = line-between 118 (codes "ar v" ++ decimal number ++ set_text set) (omega arith, omega arith)
-          (all_append IsPrinted (codes "ar v" ++ decimal number) (set_text set) (all_append IsPrinted (codes "ar v") (decimal number) (printed-tested (codes "ar v") refl) (decimal-each IsPrinted printed number wide)) (all_so IsVisible IsPrinted (set_text set) visible-printed visible))
+          (all_append IsPrinted (codes "ar v" ++ decimal number) (set_text set)
+          (all_append IsPrinted (codes "ar v") (decimal number) (printed-tested (codes "ar v") refl) (decimal-each IsPrinted printed number wide))
+          (all_so IsVisible IsPrinted (set_text set) visible-printed visible))
           (ends-append (codes "var " ++ name) (set_text set) (ends-append (codes "={" ++ listed set) (codes "}") (ends-visible (codes "}") (omega arith) (visible-tested (codes "}") refl))));
       plain = all_append IsPlain (codes "var " ++ name) (set_text set) (refl, (refl, (refl, (refl, (refl, decimal-each IsPlain digit-plain number wide))))) plain;
       some = omega arith;

@@ -144,7 +144,9 @@ union-singles : (set : List ℕ) → rising (has set) ≡ set → union (singles
 union-singles set h = rising-agree (λ s. list_any (λ single. has single s) (singles set)) (has set) (λ s _. has-singles set s) ∙ h
 
 -- a definition that is written defines its set
-defined-read : (head : Head) (variables : Variables) (line number : ℕ) (set : List ℕ) → head.states ≤ 256 → IsWide number → IsSet head.states set → variables_after head variables (record { number = line; text = definition_line number set }) ≡ Ok (with_definition variables (variable_name number) set)
+defined-read : (head : Head) (variables : Variables) (line number : ℕ) (set : List ℕ) → head.states ≤ 256 → IsWide number → IsSet head.states set
+    → variables_after head variables (record { number = line; text = definition_line number set }) ≡ Ok
+    (with_definition variables (variable_name number) set)
 defined-read head variables line number set few wide is =
     let low = set-wide head.states set few is.below in
     rw (definition-read number set wide is.some low, members-read variables line set low, below-singles head.states set, is.below, union-singles set is.rising)

@@ -46,5 +46,6 @@ pub number_of-decimal : (n : ℕ) → IsWide n → number_of (decimal n) ≡ Som
 number_of-decimal n h = let is = (decimal_is_IsNumeral n h).0 in number_of-digits (decimal n) is.0 is.1 ∙ ap (λ m. Some m) (decimal-value n h)
 
 -- a digit more, where a number past `most` stands at `most`
-pub digits_value_more_min : (most : ℕ) (bs : List ℕ) (i : ℕ) → i < length bs → is_ascii_digit (get_or bs i 0) ≡ true → min most (digits_value 10 (take (i + 1) bs)) ≡ min (min (min most (digits_value 10 (take i bs)) * 10) most + (get_or bs i 0 - 48)) most
+pub digits_value_more_min : (most : ℕ) (bs : List ℕ) (i : ℕ) → i < length bs → is_ascii_digit (get_or bs i 0) ≡ true
+    → min most (digits_value 10 (take (i + 1) bs)) ≡ min (min (min most (digits_value 10 (take i bs)) * 10) most + (get_or bs i 0 - 48)) most
 digits_value_more_min most bs i h digit = omega (arith, digit_value_digit (get_or bs i 0) (search (rules, tests)), digits_value_more 10 bs i h)

@@ -53,7 +53,8 @@ strip-append xs [] h k = rw append-nil h
 strip-append xs (y ∷ ys) h k = strip-behind xs y ys ∙ ap (λ r. xs ++ r) k
 
 -- blanks at the ends of a line change nothing of what a text says
-pub says-between_blanks : (front line back ys : List ℕ) → AllByRecursion IsBlank front → AllByRecursion IsBlank back → NoLineFeed line → strip_carriage_return line ≡ line → says ((front ++ (line ++ back)) ++ 10 ∷ ys) ≡ says (line ++ 10 ∷ ys)
+pub says-between_blanks : (front line back ys : List ℕ) → AllByRecursion IsBlank front → AllByRecursion IsBlank back → NoLineFeed line
+    → strip_carriage_return line ≡ line → says ((front ++ (line ++ back)) ++ 10 ∷ ys) ≡ says (line ++ 10 ∷ ys)
 says-between_blanks front line back ys h k one unended =
     let within = one-line IsBlank (λ b k. grind (arith, nat_tests)) in
     let stays = strip-none IsBlank (λ b k. grind (arith, nat_tests)) in

@@ -20,7 +20,8 @@ set_states-requires-clause-held c =
     let size : length c.deref_mut.result.now ≡ c.args.width * c.args.height = search rules in
     subst (λ (ds : List Cell). All (IsIn (to_z w64 (of_z w64 c.args.left)) (to_z w64 (of_z w64 c.args.top)) c.args.width (length c.deref_mut.result.now)) ds) (sym c.deref.ensures.value)
     (All-weaker (IsLiveWithin _ w) (IsIn (to_z w64 (of_z w64 c.args.left)) (to_z w64 (of_z w64 c.args.top)) c.args.width (length c.deref_mut.result.now)) (λ c' h.
-    is_in (to_z w64 (of_z w64 c.args.left)) (to_z w64 (of_z w64 c.args.top)) c.args.width c.args.height (length c.deref_mut.result.now) _ c' size refl refl (omega (arith, ints)) (omega (arith, ints)) h.inside) cells c.in_ok-cells.ensures.each)
+    is_in (to_z w64 (of_z w64 c.args.left)) (to_z w64 (of_z w64 c.args.top)) c.args.width c.args.height (length c.deref_mut.result.now) _ c' size refl
+    refl (omega (arith, ints)) (omega (arith, ints)) h.inside) cells c.in_ok-cells.ensures.each)
 
 pub returns : goal.returns
 returns c =

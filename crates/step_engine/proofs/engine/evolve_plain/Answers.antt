@@ -42,5 +42,6 @@ returns-clause-plane g c =
     c.in_ok-plane.ensures
     ∙ elim c.loop-test.branch [
       | else-loop-test w ↦ c.loop.invariant.stepped ∙ ap (λ n. iterate n f c.args.plane.now) (omega arith)
-      | then-loop-test+else-poll+in_ok-next_generation+in-None w ↦ still-iterate f c.args.plane.now c.loop.now c.loop.counter c.args.generations (omega arith) c.loop.invariant.stepped (rw w.in-None.is at w.in_ok-next_generation.ensures.still)
+      | then-loop-test+else-poll+in_ok-next_generation+in-None w ↦ still-iterate f c.args.plane.now c.loop.now c.loop.counter c.args.generations
+          (omega arith) c.loop.invariant.stepped (rw w.in-None.is at w.in_ok-next_generation.ensures.still)
     ]

@@ -48,31 +48,52 @@ returns-clause-padded c =
 
 pub returns-in_err-nw-clause-adds : goal.returns-in_err-nw-clause-adds
 returns-in_err-nw-clause-adds c =
-    let is = blanked c.args.table.now c.blank.new.self c.args.square c.in_ok-blank.field-0 (level_of c.args.square - 1) c.number.result c.number-empty.result c.level.result (c.level.result - 1) c.requires.level.0 refl c.level.ensures refl c.number.ensures
+    let is = blanked c.args.table.now c.blank.new.self c.args.square c.in_ok-blank.field-0 (level_of c.args.square - 1) c.number.result
+    c.number-empty.result c.level.result (c.level.result - 1) c.requires.level.0 refl c.level.ensures refl c.number.ensures
     c.requires.held c.in_ok-blank.ensures.grows c.in_ok-blank.ensures.square.held c.in_ok-blank.ensures.square.level c.in_ok-blank.ensures.square.cells c.number-empty.ensures in
-    corners-padded c.args.table.now c.blank.new.self c.join_numbers.new.self c.join_numbers.new.self c.join_numbers.new.self c.join_numbers.new.self c.args.square (level_of c.args.square - 1) c.number.result c.number-empty.result c.quadrants.result is c.quadrants.ensures c.join_numbers.ensures.grows c.join_numbers.ensures.one (Grows-same c.join_numbers.new.self) (inl refl) (Grows-same c.join_numbers.new.self) (inl refl) (Grows-same c.join_numbers.new.self) (inl refl)
+    corners-padded c.args.table.now c.blank.new.self c.join_numbers.new.self c.join_numbers.new.self c.join_numbers.new.self c.join_numbers.new.self
+    c.args.square (level_of c.args.square - 1) c.number.result c.number-empty.result c.quadrants.result is c.quadrants.ensures
+    c.join_numbers.ensures.grows c.join_numbers.ensures.one (Grows-same c.join_numbers.new.self) (inl refl) (Grows-same c.join_numbers.new.self)
+    (inl refl) (Grows-same c.join_numbers.new.self) (inl refl)
 
 pub returns-in_err-ne-clause-adds : goal.returns-in_err-ne-clause-adds
 returns-in_err-ne-clause-adds c =
-    let is = blanked c.args.table.now c.blank.new.self c.args.square c.in_ok-blank.field-0 (level_of c.args.square - 1) c.number.result c.number-empty.result c.level.result (c.level.result - 1) c.requires.level.0 refl c.level.ensures refl c.number.ensures
+    let is = blanked c.args.table.now c.blank.new.self c.args.square c.in_ok-blank.field-0 (level_of c.args.square - 1) c.number.result
+    c.number-empty.result c.level.result (c.level.result - 1) c.requires.level.0 refl c.level.ensures refl c.number.ensures
     c.requires.held c.in_ok-blank.ensures.grows c.in_ok-blank.ensures.square.held c.in_ok-blank.ensures.square.level c.in_ok-blank.ensures.square.cells c.number-empty.ensures in
-    corners-padded c.args.table.now c.blank.new.self c.join_numbers.new.self c.join_numbers-2.new.self c.join_numbers-2.new.self c.join_numbers-2.new.self c.args.square (level_of c.args.square - 1) c.number.result c.number-empty.result c.quadrants.result is c.quadrants.ensures c.join_numbers.ensures.grows c.join_numbers.ensures.one c.join_numbers-2.ensures.grows c.join_numbers-2.ensures.one (Grows-same c.join_numbers-2.new.self) (inl refl) (Grows-same c.join_numbers-2.new.self) (inl refl)
+    corners-padded c.args.table.now c.blank.new.self c.join_numbers.new.self c.join_numbers-2.new.self c.join_numbers-2.new.self
+    c.join_numbers-2.new.self c.args.square (level_of c.args.square - 1) c.number.result c.number-empty.result c.quadrants.result is
+    c.quadrants.ensures c.join_numbers.ensures.grows c.join_numbers.ensures.one c.join_numbers-2.ensures.grows c.join_numbers-2.ensures.one
+    (Grows-same c.join_numbers-2.new.self) (inl refl) (Grows-same c.join_numbers-2.new.self) (inl refl)
 
 pub returns-in_err-sw-clause-adds : goal.returns-in_err-sw-clause-adds
 returns-in_err-sw-clause-adds c =
-    let is = blanked c.args.table.now c.blank.new.self c.args.square c.in_ok-blank.field-0 (level_of c.args.square - 1) c.number.result c.number-empty.result c.level.result (c.level.result - 1) c.requires.level.0 refl c.level.ensures refl c.number.ensures
+    let is = blanked c.args.table.now c.blank.new.self c.args.square c.in_ok-blank.field-0 (level_of c.args.square - 1) c.number.result
+    c.number-empty.result c.level.result (c.level.result - 1) c.requires.level.0 refl c.level.ensures refl c.number.ensures
     c.requires.held c.in_ok-blank.ensures.grows c.in_ok-blank.ensures.square.held c.in_ok-blank.ensures.square.level c.in_ok-blank.ensures.square.cells c.number-empty.ensures in
-    corners-padded c.args.table.now c.blank.new.self c.join_numbers.new.self c.join_numbers-2.new.self c.join_numbers-3.new.self c.join_numbers-3.new.self c.args.square (level_of c.args.square - 1) c.number.result c.number-empty.result c.quadrants.result is c.quadrants.ensures c.join_numbers.ensures.grows c.join_numbers.ensures.one c.join_numbers-2.ensures.grows c.join_numbers-2.ensures.one c.join_numbers-3.ensures.grows c.join_numbers-3.ensures.one (Grows-same c.join_numbers-3.new.self) (inl refl)
+    corners-padded c.args.table.now c.blank.new.self c.join_numbers.new.self c.join_numbers-2.new.self c.join_numbers-3.new.self
+    c.join_numbers-3.new.self c.args.square (level_of c.args.square - 1) c.number.result c.number-empty.result c.quadrants.result is
+    c.quadrants.ensures c.join_numbers.ensures.grows c.join_numbers.ensures.one c.join_numbers-2.ensures.grows c.join_numbers-2.ensures.one
+    c.join_numbers-3.ensures.grows c.join_numbers-3.ensures.one (Grows-same c.join_numbers-3.new.self) (inl refl)
 
 pub returns-in_err-se-clause-adds : goal.returns-in_err-se-clause-adds
 returns-in_err-se-clause-adds c =
-    let is = blanked c.args.table.now c.blank.new.self c.args.square c.in_ok-blank.field-0 (level_of c.args.square - 1) c.number.result c.number-empty.result c.level.result (c.level.result - 1) c.requires.level.0 refl c.level.ensures refl c.number.ensures
+    let is = blanked c.args.table.now c.blank.new.self c.args.square c.in_ok-blank.field-0 (level_of c.args.square - 1) c.number.result
+    c.number-empty.result c.level.result (c.level.result - 1) c.requires.level.0 refl c.level.ensures refl c.number.ensures
     c.requires.held c.in_ok-blank.ensures.grows c.in_ok-blank.ensures.square.held c.in_ok-blank.ensures.square.level c.in_ok-blank.ensures.square.cells c.number-empty.ensures in
-    corners-padded c.args.table.now c.blank.new.self c.join_numbers.new.self c.join_numbers-2.new.self c.join_numbers-3.new.self c.join_numbers-4.new.self c.args.square (level_of c.args.square - 1) c.number.result c.number-empty.result c.quadrants.result is c.quadrants.ensures c.join_numbers.ensures.grows c.join_numbers.ensures.one c.join_numbers-2.ensures.grows c.join_numbers-2.ensures.one c.join_numbers-3.ensures.grows c.join_numbers-3.ensures.one c.join_numbers-4.ensures.grows c.join_numbers-4.ensures.one
+    corners-padded c.args.table.now c.blank.new.self c.join_numbers.new.self c.join_numbers-2.new.self c.join_numbers-3.new.self
+    c.join_numbers-4.new.self c.args.square (level_of c.args.square - 1) c.number.result c.number-empty.result c.quadrants.result is
+    c.quadrants.ensures c.join_numbers.ensures.grows c.join_numbers.ensures.one c.join_numbers-2.ensures.grows c.join_numbers-2.ensures.one
+    c.join_numbers-3.ensures.grows c.join_numbers-3.ensures.one c.join_numbers-4.ensures.grows c.join_numbers-4.ensures.one
 
 pub returns-clause-adds : goal.returns-clause-adds
 returns-clause-adds c =
-    let is = blanked c.args.table.now c.blank.new.self c.args.square c.in_ok-blank.field-0 (level_of c.args.square - 1) c.number.result c.number-empty.result c.level.result (c.level.result - 1) c.requires.level.0 refl c.level.ensures refl c.number.ensures
+    let is = blanked c.args.table.now c.blank.new.self c.args.square c.in_ok-blank.field-0 (level_of c.args.square - 1) c.number.result
+    c.number-empty.result c.level.result (c.level.result - 1) c.requires.level.0 refl c.level.ensures refl c.number.ensures
     c.requires.held c.in_ok-blank.ensures.grows c.in_ok-blank.ensures.square.held c.in_ok-blank.ensures.square.level c.in_ok-blank.ensures.square.cells c.number-empty.ensures in
-    whole-padded c.args.table.now c.blank.new.self c.join_numbers.new.self c.join_numbers-2.new.self c.join_numbers-3.new.self c.join_numbers-4.new.self c.args.square (level_of c.args.square - 1) c.number.result c.number-empty.result c.quadrants.result is c.quadrants.ensures c.join_numbers.ensures.grows c.join_numbers.ensures.one c.join_numbers-2.ensures.grows c.join_numbers-2.ensures.one c.join_numbers-3.ensures.grows c.join_numbers-3.ensures.one c.join_numbers-4.ensures.grows c.join_numbers-4.ensures.one
-    c.join_numbers-5.new.self c.in_ok-nw.nw c.in_ok-ne.ne c.in_ok-sw.sw c.in_ok-se.se c.in_ok-nw.ensures.square c.in_ok-ne.ensures.square c.in_ok-sw.ensures.square c.in_ok-se.ensures.square c.join_numbers-5.ensures.grows c.join_numbers-5.ensures.one
+    whole-padded c.args.table.now c.blank.new.self c.join_numbers.new.self c.join_numbers-2.new.self c.join_numbers-3.new.self
+    c.join_numbers-4.new.self c.args.square (level_of c.args.square - 1) c.number.result c.number-empty.result c.quadrants.result is
+    c.quadrants.ensures c.join_numbers.ensures.grows c.join_numbers.ensures.one c.join_numbers-2.ensures.grows c.join_numbers-2.ensures.one
+    c.join_numbers-3.ensures.grows c.join_numbers-3.ensures.one c.join_numbers-4.ensures.grows c.join_numbers-4.ensures.one
+    c.join_numbers-5.new.self c.in_ok-nw.nw c.in_ok-ne.ne c.in_ok-sw.sw c.in_ok-se.se c.in_ok-nw.ensures.square c.in_ok-ne.ensures.square
+    c.in_ok-sw.ensures.square c.in_ok-se.ensures.square c.join_numbers-5.ensures.grows c.join_numbers-5.ensures.one

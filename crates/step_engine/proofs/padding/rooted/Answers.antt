@@ -15,7 +15,8 @@ returns-in_err-start-clause-adds c = AddsStart-loaded c.args.plane.now c.args.ge
 pub returns-clause-root : goal.returns-clause-root
 returns-clause-root c =
     IfOk-weaker c.with_room.result _ _
-    (λ root is. IsRooted-widened c.args.plane.now c.args.generations c.room_level-level.result (c.room_level-level.result + 2) c.start.new.table c.with_room.new.table _ root refl c.room_level-level.ensures c.in_ok-start.ensures.square.centred is)
+    (λ root is. IsRooted-widened c.args.plane.now c.args.generations c.room_level-level.result (c.room_level-level.result + 2) c.start.new.table
+    c.with_room.new.table _ root refl c.room_level-level.ensures c.in_ok-start.ensures.square.centred is)
     c.with_room.ensures.widened
 
 pub returns-clause-adds : goal.returns-clause-adds

@@ -9,7 +9,9 @@ use Rattle.step_engine.proofs.Joins.{IsCentred-again, padded-among}
 use Rattle.step_engine.proofs.padding.with_room.Goals as goal
 
 -- one square more round the last
-round : (t u v : Table) (first last : Square) (level : ℕ) → 1 ≤ level_of last → level_of last + 1 ≤ level → ((w : World) → IsCentred w (level_of first) (cells_of t first) → IsCentred w (level_of last) (cells_of u last)) → AddsRound t first level u → AddsPadded u last v → AddsRound t first level v
+round : (t u v : Table) (first last : Square) (level : ℕ) → 1 ≤ level_of last → level_of last + 1 ≤ level
+    → ((w : World) → IsCentred w (level_of first) (cells_of t first) → IsCentred w (level_of last) (cells_of u last)) → AddsRound t first level u
+    → AddsPadded u last v → AddsRound t first level v
 round t u v first last level some low centred before adds = record {
   grows = Grows-then t u v before.grows adds.grows;
   among = λ w all at start are. padded-among w all u v last level some low (centred w at) start adds (before.among w all at start are);

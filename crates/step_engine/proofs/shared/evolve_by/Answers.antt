@@ -35,7 +35,8 @@ returns-in_err-root-clause-no_room g c = λ h.
 pub returns-in_err-found-clause-no_room : goal.returns-in_err-found-clause-no_room
 returns-in_err-found-clause-no_room g c = λ h.
     let full : IsFull c.result.new.table = search rules in
-    search-spent c.args.limit _ (g.Q.Ask.meaning c.args.rule.now) c.args.plane.now c.args.generations c.in_ok-table.table c.rooted.new.table c.result.new.table _ c.rooted.ensures.adds c.in_ok-root.ensures.root c.result.ensures.grows c.in_ok-table.ensures refl full
+    search-spent c.args.limit _ (g.Q.Ask.meaning c.args.rule.now) c.args.plane.now c.args.generations c.in_ok-table.table c.rooted.new.table
+    c.result.new.table _ c.rooted.ensures.adds c.in_ok-root.ensures.root c.result.ensures.grows c.in_ok-table.ensures refl full
 
 pub returns-clause-evolved : goal.returns-clause-evolved
 returns-clause-evolved g c =
@@ -52,7 +53,9 @@ returns-clause-evolved g c =
         k = adds.k;
         root = adds.root;
         held = λ all way. searched all next c.args.plane.now c.args.generations c.in_ok-table.table c.rooted.new.table c.result.new.table _ _ adds c.in_ok-root.ensures.root c.result.ensures.grows.grows counts.made c.len.ensures.distinct
-            (searching all next c.args.plane.now c.args.generations c.in_ok-table.table c.rooted.new.table c.result.new.table _ adds c.in_ok-root.ensures.root way c.result.ensures.grows (none-among all c.in_ok-table.table _ c.in_ok-table.ensures)) c.len.ensures.count counts.fours;
+            (searching all next c.args.plane.now c.args.generations c.in_ok-table.table c.rooted.new.table c.result.new.table _ adds
+            c.in_ok-root.ensures.root way c.result.ensures.grows (none-among all c.in_ok-table.table _ c.in_ok-table.ensures)) c.len.ensures.count
+            counts.fours;
         put = all-put next c.args.plane.now c.args.generations c.in_ok-table.table c.rooted.new.table _ _ adds c.in_ok-root.ensures.root counts.put;
       };
     }

@@ -26,7 +26,8 @@ loop-state-preserved c =
       | else-state-eq0 w ↦ ap (λ v. v.items) w.words-is ∙ c.loop-state.invariant.words w.if-state-eq0.false
     ] in
     let column = column_tells c.args.rows.now c.args.place state words c.in_ok-column.column.items ready (rw (c.deref-in-loop-state.ensures.value, c.from-in-loop-state.ensures) at c.in_ok-column.ensures) in record {
-      columns = AreRight-more (TellsRows c.args.rows.now c.args.place) [] c.in_ok-column.column.items c.loop-state.columns.items c.push.new.self.items state column (rw c.from_vec.ensures at c.in_ok-push.ensures.items) c.loop-state.invariant.columns;
+      columns = AreRight-more (TellsRows c.args.rows.now c.args.place) [] c.in_ok-column.column.items c.loop-state.columns.items c.push.new.self.items
+          state column (rw c.from_vec.ensures at c.in_ok-push.ensures.items) c.loop-state.invariant.columns;
       words = λ ne. let quarter : (state + 1) / 64 ≡ state / 64 = omega arith in rw quarter ready;
       unions = λ ne. unions (goal.at.loop-state-preserved c).After-from-in-loop-state;
     }

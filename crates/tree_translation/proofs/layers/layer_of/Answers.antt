@@ -12,10 +12,14 @@ pub loop-row-preserved : goal.loop-row-preserved
 loop-row-preserved c =
     let same = c.into_iter-row-iterator.ensures.into_iter_gives in
     let tail : Tail = record { set = c.in_ok-set.set; rest = c.in-Some.rest.now } in
-    let turn = zip_turn c.args.rows.now c.args.rests.now c.loop-row.yielded c.into_iter-row-iterator.result c.loop-row.row-iterator c.next.new.self (Some (c.in-Some.row, c.in-Some.rest)) (ap (λ z. z.a.rest.now) same ∙ ap (λ z. z.rest.now) c.zip-row-items.ensures.first ∙ c.iter.ensures.rest) (ap (λ z. z.b.rest.now) same ∙ c.zip-row-items.ensures.second.0) c.loop-row.yielded_by (c.in-Some.row, c.in-Some.rest) refl c.in-Some.ensures.steps in
+    let turn = zip_turn c.args.rows.now c.args.rests.now c.loop-row.yielded c.into_iter-row-iterator.result c.loop-row.row-iterator c.next.new.self
+    (Some (c.in-Some.row, c.in-Some.rest)) (ap (λ z. z.a.rest.now) same ∙ ap (λ z. z.rest.now) c.zip-row-items.ensures.first
+    ∙ c.iter.ensures.rest) (ap (λ z. z.b.rest.now) same ∙ c.zip-row-items.ensures.second.0) c.loop-row.yielded_by (c.in-Some.row, c.in-Some.rest)
+    refl c.in-Some.ensures.steps in
     let stored = c.in_ok-number.ensures.stored in
     let asked = c.in_ok-set.ensures.stored in
-    let next : IsNextTail c.args.place c.args.rows.now c.args.rests.now c.loop-row.sets.keys c.number_in.new.keys.keys c.loop-row.tails.keys c.number_in-in-loop-row.new.keys.keys (length c.loop-row.yielded) c.in_ok-number.number c.asked.result tail = record {
+    let next : IsNextTail c.args.place c.args.rows.now c.args.rests.now c.loop-row.sets.keys c.number_in.new.keys.keys c.loop-row.tails.keys
+    c.number_in-in-loop-row.new.keys.keys (length c.loop-row.yielded) c.in_ok-number.number c.asked.result tail = record {
       set_grown = grown-insert_key same_asked c.loop-row.sets.keys c.number_in.new.keys.keys c.asked.result c.in_ok-set.ensures.grown;
       set_inside = slice_get_within c.number_in.new.keys.keys c.in_ok-set.set asked.0 asked.1;
       set_there = get_or_from_slice_get c.number_in.new.keys.keys c.in_ok-set.set asked.0 None asked.1 ∙ asked-same c.asked.result asked.0 asked.2;
@@ -26,19 +30,26 @@ loop-row-preserved c =
       asks = λ d. c.asked.ensures ∙ ap (λ row. asked_at c.args.place row.inputs) (turn.2 d);
       leaves = turn.3 0;
     } in
-    let more = AreTails-more c.args.place c.args.rows.now c.args.rests.now c.loop-row.sets.keys c.number_in.new.keys.keys c.loop-row.tails.keys c.number_in-in-loop-row.new.keys.keys c.loop-row.numbers.items (length c.loop-row.yielded) c.in_ok-number.number c.asked.result tail c.loop-row.invariant next in
+    let more = AreTails-more c.args.place c.args.rows.now c.args.rests.now c.loop-row.sets.keys c.number_in.new.keys.keys c.loop-row.tails.keys
+    c.number_in-in-loop-row.new.keys.keys c.loop-row.numbers.items (length c.loop-row.yielded) c.in_ok-number.number c.asked.result tail
+    c.loop-row.invariant next in
     rw (c.in_ok-push.ensures.items, length_push c.loop-row.yielded (c.in-Some.row, c.in-Some.rest)) more
 
 pub returns-clause-rows : goal.returns-clause-rows
 returns-clause-rows c =
     let same = c.into_iter-row-iterator.ensures.into_iter_gives in
-    let all = zip_end c.args.rows.now c.args.rests.now c.loop-row.yielded c.into_iter-row-iterator.result c.loop-row.row-iterator c.next.new.self None (ap (λ z. z.a.rest.now) same ∙ ap (λ z. z.rest.now) c.zip-row-items.ensures.first ∙ c.iter.ensures.rest) (ap (λ z. z.b.rest.now) same ∙ c.zip-row-items.ensures.second.0) c.loop-row.yielded_by refl c.in-None.ensures.steps in
+    let all = zip_end c.args.rows.now c.args.rests.now c.loop-row.yielded c.into_iter-row-iterator.result c.loop-row.row-iterator c.next.new.self None
+    (ap (λ z. z.a.rest.now) same ∙ ap (λ z. z.rest.now) c.zip-row-items.ensures.first ∙ c.iter.ensures.rest)
+    (ap (λ z. z.b.rest.now) same ∙ c.zip-row-items.ensures.second.0) c.loop-row.yielded_by refl c.in-None.ensures.steps in
     let sets : c.in_ok-sets.sets.items ≡ c.loop-row.sets.keys = search rules in
     let keys : c.in_ok-tails.tails.items ≡ c.loop-row.tails.keys = search rules in
-    IsLayerOf-all c.args.place c.args.rows.now c.args.rests.now (record { sets = c.in_ok-sets.sets; tails = c.in_ok-tails.tails }) c.loop-row.sets.keys c.loop-row.tails.keys c.loop-row.numbers.items (length c.loop-row.yielded) sets keys (omega (arith, all, c.requires.rests)) c.loop-row.invariant
+    IsLayerOf-all c.args.place c.args.rows.now c.args.rests.now (record { sets = c.in_ok-sets.sets; tails = c.in_ok-tails.tails })
+    c.loop-row.sets.keys c.loop-row.tails.keys c.loop-row.numbers.items (length c.loop-row.yielded) sets keys
+    (omega (arith, all, c.requires.rests)) c.loop-row.invariant
 
 pub returns-clause-layer : goal.returns-clause-layer
 returns-clause-layer c = λ count below.
     let sets : c.in_ok-sets.sets.items ≡ c.loop-row.sets.keys = search rules in
     let keys : c.in_ok-tails.tails.items ≡ c.loop-row.tails.keys = search rules in
-    IsLayer-all c.args.place c.args.rows.now c.args.rests.now (record { sets = c.in_ok-sets.sets; tails = c.in_ok-tails.tails }) c.loop-row.sets.keys c.loop-row.tails.keys c.loop-row.numbers.items (length c.loop-row.yielded) count sets keys below c.loop-row.invariant
+    IsLayer-all c.args.place c.args.rows.now c.args.rests.now (record { sets = c.in_ok-sets.sets; tails = c.in_ok-tails.tails }) c.loop-row.sets.keys
+    c.loop-row.tails.keys c.loop-row.numbers.items (length c.loop-row.yielded) count sets keys below c.loop-row.invariant

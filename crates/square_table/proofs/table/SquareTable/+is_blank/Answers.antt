@@ -15,7 +15,11 @@ pub quadrants-kids-requires-clause-there : goal.quadrants-kids-requires-clause-t
 quadrants-kids-requires-clause-there t c = (above_zero c.args.self.now.rows c.args.level c.args.number (omega (arith, c.if-level-eq0.false)) c.requires).1
 
 pub is_blank-requires : goal.is_blank-requires
-is_blank-requires t c = (omega (arith, c.decreases, c.if-level-eq0.false), (quadrant_numbers c.args.self.now.rows c.args.level c.args.number c.quadrants-kids.result (omega (arith, c.if-level-eq0.false)) c.requires c.quadrants-kids.ensures).nw)
+is_blank-requires t c = (
+  omega (arith, c.decreases, c.if-level-eq0.false),
+  (quadrant_numbers c.args.self.now.rows c.args.level c.args.number c.quadrants-kids.result (omega (arith, c.if-level-eq0.false)) c.requires
+      c.quadrants-kids.ensures).nw,
+)
 
 pub returns-then-eq : goal.returns-then-eq
 returns-then-eq t c = λ is.

@@ -32,7 +32,8 @@ returns-clause-laid g t c =
     let inner = in_corner c.args.corner (c.args.level - 1 - c.args.tree_level) tree in
     let numbers = quadrants_of c.args.self.now.rows c.args.level (c.args.level - 1) c.args.number c.quadrants-kids.result (omega (arith, low)) c.requires.number.0 c.quadrants-kids.ensures in
     let size : length c.quadrants-kids.result ≡ 4 = search rules in
-    joined-laid c.join_numbers.result (in_quadrant c.args.corner inner) (in_corner c.args.corner (c.args.level - c.args.tree_level) tree) c.args.self.now c.lay_corner.new.self c.join_numbers.new.self c.args.level c.args.number c.quadrants-kids.result _
+    joined-laid c.join_numbers.result (in_quadrant c.args.corner inner) (in_corner c.args.corner (c.args.level - c.args.tree_level) tree)
+    c.args.self.now c.lay_corner.new.self c.join_numbers.new.self c.args.level c.args.number c.quadrants-kids.result _
     low (ap (λ d. in_corner c.args.corner d tree) up) c.quadrants-kids.ensures
     (laid-quadrant inner c.args.self.now c.lay_corner.new.self (c.args.level - 1) c.args.corner _ c.quadrants-kids.result c.requires.number.1 size numbers c.in_ok-kids.ensures.grows c.in_ok-kids.ensures.laid)
     c.join_numbers.ensures.grows c.join_numbers.ensures.square

@@ -42,5 +42,6 @@ is_blank-requires c =
 
 pub returns-then-eq : goal.returns-then-eq
 returns-then-eq c = λ is.
-    padded_by c.args.self.now.rows c.args.whole c.quadrants-nw.result c.quadrants-ne.result c.quadrants-sw.result c.quadrants-se.result c.requires.level c.quadrants-nw.ensures c.quadrants-ne.ensures c.quadrants-sw.ensures c.quadrants-se.ensures
+    padded_by c.args.self.now.rows c.args.whole c.quadrants-nw.result c.quadrants-ne.result c.quadrants-sw.result c.quadrants-se.result
+    c.requires.level c.quadrants-nw.ensures c.quadrants-ne.ensures c.quadrants-sw.ensures c.quadrants-se.ensures
     ((bytes_eq-Decides _ _).0 (sym c.eq.ensures ∙ c.if-eq.true)) (c.is_blank.ensures is)

@@ -62,7 +62,9 @@ grows rows t u v k root is e first second =
 
 pub returns-in_err-blanks-clause-grows : goal.returns-in_err-blanks-clause-grows
 returns-in_err-blanks-clause-grows c =
-    grows c.args.squares.now c.args.self.now c.blanks.new.self c.blanks.new.self _ c.in-Some.root.now (last c.args.squares.now c.in-Some.root.now (sym c.in-Some.ensures.value)) refl c.in_err-blanks.ensures.grows (GrowsFrom-same 0 c.args.squares.now c.blanks.new.self)
+    grows c.args.squares.now c.args.self.now c.blanks.new.self c.blanks.new.self _ c.in-Some.root.now
+    (last c.args.squares.now c.in-Some.root.now (sym c.in-Some.ensures.value)) refl c.in_err-blanks.ensures.grows
+    (GrowsFrom-same 0 c.args.squares.now c.blanks.new.self)
 
 pub returns-in_err-numbers-clause-grows : goal.returns-in_err-numbers-clause-grows
 returns-in_err-numbers-clause-grows c =
@@ -81,10 +83,12 @@ levels rows blanks seen k valid level count same = (valid.0, subst (λ n. Levels
 
 pub load_rows-requires-clause-squares : goal.load_rows-requires-clause-squares
 load_rows-requires-clause-squares c =
-    levels c.args.squares.now c.in_ok-blanks.blanks.items c.deref.result.now c.in-Some.root.now.level c.requires (last c.args.squares.now c.in-Some.root.now (sym c.in-Some.ensures.value)).level c.in_ok-blanks.ensures.count c.deref.ensures.value
+    levels c.args.squares.now c.in_ok-blanks.blanks.items c.deref.result.now c.in-Some.root.now.level c.requires
+    (last c.args.squares.now c.in-Some.root.now (sym c.in-Some.ensures.value)).level c.in_ok-blanks.ensures.count c.deref.ensures.value
 
 -- the number that was loaded last is that of the root
-root : (rows : List SquareRow) (table : List (List ℕ)) (numbers : List ℕ) (n k : ℕ) → 0 < length rows → k ≡ root_level rows → length numbers ≡ length rows → AreLoaded rows table numbers → n ≡ get_or numbers (length rows - 1) n → square_in table k n ≡ root_of rows
+root : (rows : List SquareRow) (table : List (List ℕ)) (numbers : List ℕ) (n k : ℕ) → 0 < length rows → k ≡ root_level rows
+    → length numbers ≡ length rows → AreLoaded rows table numbers → n ≡ get_or numbers (length rows - 1) n → square_in table k n ≡ root_of rows
 root rows table numbers n k some level count known read =
     let i = length rows - 1 in
     let last_is : suc i ≡ length rows = omega (arith, some) in
@@ -101,5 +105,6 @@ returns-clause-square c =
       held = c.in_ok-square.ensures.held;
       level = c.in_ok-square.ensures.level ∙ is.level;
       cells = ap₂ (square_in c.load_rows.new.self.rows) c.in_ok-square.ensures.level c.in_ok-square.ensures.number
-          ∙ root c.args.squares.now c.load_rows.new.self.rows c.in_ok-numbers.numbers.items c.index-number.result.now c.in-Some.root.now.level is.some is.level c.in_ok-numbers.ensures.count c.in_ok-numbers.ensures.loaded c.index-number.ensures;
+          ∙ root c.args.squares.now c.load_rows.new.self.rows c.in_ok-numbers.numbers.items c.index-number.result.now c.in-Some.root.now.level is.some
+          is.level c.in_ok-numbers.ensures.count c.in_ok-numbers.ensures.loaded c.index-number.ensures;
     }

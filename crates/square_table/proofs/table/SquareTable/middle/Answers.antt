@@ -33,7 +33,9 @@ pub quadrants-requires-4-clause-there : goal.quadrants-requires-4-clause-there
 quadrants-requires-4-clause-there c = (above_zero c.args.self.now.rows (c.args.whole.level - 1) _ (below c.args.whole.level c.requires.level) c.requires.numbers.se).1
 
 -- the four that meet in the middle
-numbers : (rows : List (List ℕ)) (level : ℕ) (kids a b c d : List ℕ) → 2 ≤ level → AreNumbers rows (level - 1) kids → a ≡ kids_at rows (get_or kids 0 0) → b ≡ kids_at rows (get_or kids 1 0) → c ≡ kids_at rows (get_or kids 2 0) → d ≡ kids_at rows (get_or kids 3 0)
+numbers : (rows : List (List ℕ)) (level : ℕ) (kids a b c d : List ℕ) → 2 ≤ level → AreNumbers rows (level - 1) kids
+    → a ≡ kids_at rows (get_or kids 0 0) → b ≡ kids_at rows (get_or kids 1 0) → c ≡ kids_at rows (get_or kids 2 0)
+    → d ≡ kids_at rows (get_or kids 3 0)
     → AreNumbers rows (level - 1 - 1) (get_or a 3 0 ∷ get_or b 2 0 ∷ get_or c 1 0 ∷ get_or d 0 0 ∷ [])
 numbers rows level kids a b c d low are ea eb ec ed =
     let k = level - 1 in

@@ -19,7 +19,8 @@ returns-then-eq c =
     let neighborhoods : a.head.neighborhood ≡ b.head.neighborhood = same_true neighborhood.the_type (search rules) _ _ second.0 in
     let symmetries : a.head.symmetry ≡ b.head.symmetry = same_true symmetry.the_type (search rules) _ _ second.1 in
     let heads : a.head ≡ b.head = λ i. record { states = states i; neighborhood = neighborhoods i; symmetry = symmetries i } in
-    let same = slice_eq-Decides {E = same_transition} same_transition-decides a.transitions b.transitions c.eq-then-eq.result (c.eq-then-eq.ensures ∙ (λ i. pointwise same_transition (c.as_slice.ensures i) (c.as_slice-then-eq.ensures i))) in (
+    let same = slice_eq-Decides {E = same_transition} same_transition-decides a.transitions b.transitions c.eq-then-eq.result
+    (c.eq-then-eq.ensures ∙ (λ i. pointwise same_transition (c.as_slice.ensures i) (c.as_slice-then-eq.ensures i))) in (
       λ h. sym c.self.view_is ∙ (λ i. headed (heads i) (same.0 h i)) ∙ c.other.view_is,
       λ e. same.1 (ap (λ (t : Table). t.transitions) (c.self.view_is ∙ e ∙ sym c.other.view_is)),
     )
