@@ -7,10 +7,12 @@
 //! are closed and the workers are joined: each goes on until there are no jobs, and drops what
 //! nobody waits for.
 //!
-//! Steps and views go through a queue each, of 16 jobs, and a bell is rung for each job. Who hears
-//! it looks for a view first. A worker that has just worked a step of many cells looks for the next
-//! step a while before it listens for the bell: its engine has the squares of that line, and another
-//! worker would have to make them anew.
+//! Steps and views go through a queue each, of 16 jobs, and bells call the workers: the first worker
+//! has one, and all others have another. The first alone is called for a step, unless another step
+//! is out or it may be at a view: so its engine has the squares of the line, which another worker
+//! would have to make anew. The others are called for views, and the first too where each of them
+//! may have a job. Who has just worked a step of many cells looks for the next one a while before it
+//! listens; else a worker that hears a call looks for a view first, unless the call is for a step.
 //!
 //! A worker keeps an engine, with its squares and their results, from one job to the next as long
 //! as the rule stays the same, so so many workers may keep so many times as many squares.
@@ -19,6 +21,7 @@
 
 mod answer_rule;
 mod answers;
+mod bells;
 mod crew;
 mod fault;
 mod inbox;

@@ -4,10 +4,10 @@ ghost use Rattle.revision_jobs.specs.Entries.{IsOf};
 ghost use Rattle.job_queue.specs.Ends.{IsOffered, new_sender};
 ghost use Rattle.job_queue.specs.Slips.{floor_of};
 
+use crate::bells::Bells;
 use crate::sent::SentJobs;
-use crossbeam_channel::Sender;
 use job_queue::JobSender;
-use revision_jobs::{Entries, Entry, Job, Sent};
+use revision_jobs::{Entries, Entry, Job, Place, Sent};
 use std::marker::Model;
 use std::snapshot::Snapshot;
 use std::sync::Wait;
@@ -19,7 +19,7 @@ pub(crate) struct Outbox<'a> {
     entries: &'a Entries,
     steps: JobSender,
     views: JobSender,
-    bell: Sender<()>,
+    bells: Bells,
     sent: SentJobs,
     floor: u64,
 }
@@ -45,7 +45,7 @@ impl<'a> Outbox<'a> {
         entries: &'a Entries,
         steps: JobSender,
         views: JobSender,
-        bell: Sender<()>,
+        bells: Bells,
     ) -> Outbox<'a>
         requires steps { steps ≡ new_sender entries.now }
         requires views { views ≡ new_sender entries.now }
@@ -55,7 +55,7 @@ impl<'a> Outbox<'a> {
             entries,
             steps,
             views,
-            bell,
+            bells,
             sent: SentJobs::none(),
             floor: 0,
         }
@@ -104,15 +104,33 @@ impl<'a> Outbox<'a> {
         ensures table { self.new.table ≡ self.old.table }
         ensures sent { IsOffered job self.old.sent self.new.sent result }
     {
-        let sent = match self.entries.at(&job.place) {
-            Entry::Step(_) => self.offer_step(rt, job),
-            Entry::View(_) => self.offer_view(rt, job),
-        };
-        if let Sent::Taken = &sent {
-            // Where the bell takes no more calls, workers look often enough for every job.
-            let _ = self.bell.try_send(rt, ());
+        match self.entries.at(&job.place) {
+            Entry::Step(_) => {
+                let sent = self.offer_step(rt, job);
+                if let Sent::Taken = &sent {
+                    self.bells.call_for_step(rt);
+                }
+                sent
+            }
+            Entry::View(_) => {
+                let sent = self.offer_view(rt, job);
+                if let Sent::Taken = &sent {
+                    self.bells.call_for_view(rt);
+                }
+                sent
+            }
         }
-        sent
+    }
+
+    /// Notes that a job of this place was answered.
+    pub(crate) fn note_answer(&mut self, place: &Place)
+        requires { IsOf self.old.table place.now }
+        ensures { self.new ≡ self.old }
+    {
+        match self.entries.at(place) {
+            Entry::Step(_) => self.bells.note_step(),
+            Entry::View(_) => self.bells.note_view(),
+        }
     }
 
     /// One more than the number that was sent last, 0 before any.

@@ -81,12 +81,18 @@ impl<'a, R: Wait> Post for PoolPost<'a, R> {
 
     fn receive(&mut self) -> Received {
         let received = self.back.receive(self.rt);
+        if let Received::Answer(answer) = &received {
+            self.jobs.note_answer(answer.place());
+        }
         self.history.note_received(&received);
         received
     }
 
     fn try_receive(&mut self) -> Received {
         let received = self.back.try_receive(self.rt);
+        if let Received::Answer(answer) = &received {
+            self.jobs.note_answer(answer.place());
+        }
         self.history.note_received(&received);
         received
     }
