@@ -1,4 +1,4 @@
-//! The end of a post to which its jobs go: steps and views in queues of their own, and a bell.
+//! The end of a post to which its jobs go: steps and views in queues of their own, and bells.
 ghost use Rattle.std.specs.Prelude.{◌≡◌, ◌≤◌};
 ghost use Rattle.revision_jobs.specs.Entries.{IsOf};
 ghost use Rattle.job_queue.specs.Ends.{IsOffered, new_sender};
@@ -12,8 +12,8 @@ use std::marker::Model;
 use std::snapshot::Snapshot;
 use std::sync::Wait;
 
-/// Where the jobs of a post go. The bell is rung once for each. Contracts see the table of its
-/// jobs, and the slips of those that it sent.
+/// Where the jobs of a post go. Workers are called for each. Contracts see the table of its jobs, and
+/// the slips of those that it sent.
 #[derive(Drop)]
 pub(crate) struct Outbox<'a> {
     entries: &'a Entries,
@@ -95,7 +95,7 @@ impl<'a> Outbox<'a> {
         sent
     }
 
-    /// Offers a job to the queue of its kind, and rings the bell where it is taken. It is Full only
+    /// Offers a job to the queue of its kind, and calls workers where it is taken. It is Full only
     /// where that queue held 16 jobs at a moment of the call, and Closed where no worker is left;
     /// then the job comes back.
     pub(crate) fn offer<R: Wait>(&mut self, rt: &R, job: Job) -> Sent
