@@ -67,7 +67,6 @@ gathers-cell b w rows p cells is live box shows =
     record {
       each = λ all. All-append (IsLiveWithin b w) cells (c ∷ []) all (All-cons (IsLiveWithin b w) c [] (record { inside = box; live = live; state = shows-state w rows p c.x c.y is shows here }) (All-nil _));
       once = λ x y h inside some.
-          let left = h.left in let right = h.right in let top = h.top in let bottom = h.bottom in
           count-push x y cells c ∙ ap (λ n. count_at x y cells + n) (cond-true _ 1 0 (is_same (y, x) (c.y, c.x) (omega (arith, ints)) (omega (arith, ints))));
       others = λ x y out.
           count-push x y cells c

@@ -282,7 +282,6 @@ absent : (w : World) (s : ℕ) (es : List (Place × ℕ)) → ((x y : ℤ) → 0
 absent w s [] none known = refl
 absent w s (e ∷ es) none known =
     let is : cell w e.0.1 e.0.0 ≡ e.1 = known.0.0 in
-    let live : 0 < e.1 = known.0.1 in
     let other : e.1 ≡ s → ⊥ = λ h. none e.0.1 e.0.0 (omega arith) (is ∙ h) in
     let test : (e.1 == s) ≡ false = ne_eqb e.1 s other in
     sum_by-cons (λ (d : Place × ℕ). cond (d.1 == s) 1 0) e es

@@ -93,7 +93,6 @@ laid-more p cs c old new q one is at there laid =
           ∙ elim (cases_eq r q) [
             | inl same ↦
                 let here = (in_own p c q r 0 some is at few same).0 in
-                let left = here.left in let right = here.right in let top = here.top in let bottom = here.bottom in
                 cond-true _ _ _ (is_same (part.corner.y, part.corner.x) (c.y, c.x) (omega (arith, ints)) (omega (arith, ints))) ∙ sym (set r same)
             | inr other ↦
                 cond-false _ _ _ (other_place (2 ^ part.level) part.corner.x part.corner.y part.corner.x part.corner.y c.x c.y own (in_no_other p c q r 0 some is at few other))
@@ -183,8 +182,6 @@ laid-block rows new p kids states n cells is one few parts laid added =
 -- the root's level stays
 root-laid : (rows new : List SquareRow) (p : Part) (n : ℕ) (cells : List CellSet) → IsRoot rows p → IsLaid rows new p n cells → root_level new ≡ p.level
 root-laid rows new p n cells root laid =
-    let last : n ≡ length new = laid.last root.number in
-    let low = root.low in
     let up : suc (p.level - 1) ≡ p.level = omega arith in
     grind (arith, cases_lt, root_level-some, IsNumber-level, nil_from_length)
 

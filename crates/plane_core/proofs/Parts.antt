@@ -126,7 +126,6 @@ shows-quadrant w rows q p r level some is kid shows = record {
   cells = λ i j hi hj.
       let h = 2 ^ (p.level - 1) in
       let a = east-le h q in let b = south-le h q in let twice = root-side p.level some in
-      let ex = is.x in let ey = is.y in
       let half : 2 ^ r.level ≡ h = ap (λ k. 2 ^ k) level in
       ap₂ (cell w) (omega (arith, ints)) (omega (arith, ints))
       ∙ shows.cells (east h q + i) (south h q + j) (omega arith) (omega arith)
@@ -142,7 +141,6 @@ quadrant-IsPart rows q p r some is quadrant kid =
     let ex = quadrant.x in let ey = quadrant.y in let level = quadrant.level in
     let half : 2 ^ r.level ≡ h = ap (λ k. 2 ^ k) level in
     let low = is.on_plane.across.low in let high = is.on_plane.across.high in let top = is.on_plane.down.low in let bottom = is.on_plane.down.high in
-    let most = is.on_plane.level in
     record {
       valid = is.valid;
       number = subst (λ k. IsNumber rows k r.number) (sym level) kid.number;

@@ -1,5 +1,5 @@
 -- A walk over rows, step by step.
-use Rattle.std.proofs.Common.{◌≡◌, ℕ, zero, suc, ◌-◌, ◌<◌, ◌≤◌, ◌^◌, List, length, get_or, Option, Some, None, sym, ap, ◌∙◌, subst, arith, inl, inr, get_or-set_same, get_or-set_other}
+use Rattle.std.proofs.Common.{◌≡◌, ℕ, zero, suc, ◌-◌, ◌<◌, ◌^◌, List, length, get_or, Option, Some, None, sym, ap, ◌∙◌, subst, arith, inl, inr, get_or-set_same, get_or-set_other}
 use Rattle.std.proofs.lemmas.Bool.{cases_eq}
 use Rattle.std.proofs.Math.ListN.{set}
 use Rattle.std.proofs.lemmas.List.{length-set}
@@ -44,7 +44,6 @@ pub remembers-more : (rows d0 d4 d5 : List SquareRow) (numbers : List (Option �
 remembers-more rows d0 d4 d5 numbers zero n m hk hn h r g few walks = absurd (omega (arith, hk))
 remembers-more rows d0 d4 d5 numbers (suc k) n m hk hn h r g few walks =
     let at = IsNumber-level rows k n h hn in
-    let le : n ≤ length rows = at.0 in
     let has : Has (suc k) (square_in rows (suc k) n) d5 m = subst (λ (z : Numbered). Has (suc k) (square_in rows (suc k) n) z.rows z.number) walks (Has-again (suc k) (square_in rows (suc k) n) d0) in
     record {
       few = few;

@@ -110,7 +110,6 @@ same_square (suc k) (one s) u ht hu same = absurd ht
 same_square (suc k) (four a b c d) (one s) ht hu same = absurd hu
 same_square (suc k) (four a b c d) (four e f g h) ht hu same =
     let n = 2 ^ k in
-    let twice = double k in
     let back = λ (i : ℕ). let is : (n + i) - n ≡ i = omega arith in is in
     let nw = same_square k a e ht.0 hu.0 (λ i j x y. sym (cell_in-nw k a b c d i j x y) ∙ same i j (omega arith) (omega arith) ∙ cell_in-nw k e f g h i j x y) in
     let ne = same_square k b f ht.1 hu.1 (λ i j x y.
@@ -167,7 +166,6 @@ put_square-inside (suc k) (one s) l t w x y i j is ex ey hi hj = absurd is
 put_square-inside zero (four nw ne sw se) l t w x y i j is ex ey hi hj = absurd is
 put_square-inside (suc k) (four nw ne sw se) l t w x y i j is ex ey hi hj =
     let n = 2 ^ k in
-    let twice = double k in
     ap (λ v. cell v x y) (put_square-four k nw ne sw se l t w)
     ∙ elim (cases_lt i n) [
       | inl lx ↦ elim (cases_lt j n) [
@@ -244,7 +242,6 @@ pub square_at-cells : (w : World) (k : ℕ) (x y : ℤ) (i j : ℕ) → i < 2 ^ 
 square_at-cells w zero x y i j hi hj = grind (arith, square_at-zero, cell_in-one, at_origin)
 square_at-cells w (suc k) x y i j hi hj =
     let h = 2 ^ k in
-    let twice = double k in
     let nw = square_at w k x y in
     let ne = square_at w k (x +ℤ pos h) y in
     let sw = square_at w k x (y +ℤ pos h) in

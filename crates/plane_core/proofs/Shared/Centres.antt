@@ -196,7 +196,6 @@ pub centre-is : (rows : List SquareRow) (k a b c d : ℕ) → AreRows rows → N
 centre-is rows zero a b c d valid none high ek middle = absurd (let root = rooted rows valid in let low = root.low in let two = two_below (root_level rows) low high in omega arith)
 centre-is rows (suc k) a b c d valid none high ek middle =
     let less : suc k - 1 ≡ k = omega arith in
-    let low = (rooted rows valid).low in
     let level : root_level rows ≡ suc (suc k) = omega arith in
     is_centre rows k a b c d valid none level (rows-some rows high) (subst (λ j. HasMiddle rows j a b c d) less middle)
 

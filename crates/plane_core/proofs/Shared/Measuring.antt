@@ -62,8 +62,6 @@ measures-joined k s l t w a b is free ha hb =
     let v = put_square k s l t blank in
     let whole : population u ≡ tally is_live s + population w = population-put_square k s l t w is free in
     let part : population v ≡ tally is_live s = population-alone k s l t is in
-    let pa : a.population ≡ population w = ha.population in
-    let pb : b.population ≡ population v = put.population in
     record {
       population = omega arith;
       greatest = greatest-overlay u w v a.greatest b.greatest over ha.greatest put.greatest;
@@ -128,7 +126,6 @@ measures-four k h nw ne sw se a b c d eh is ha hb hc hd =
     let n = 2 ^ k in
     let parts = IsSquare-four k nw ne sw se is in
     let free = puts_free k nw ne sw (pos 0) (pos 0) blank parts.0 parts.1 parts.2 (all_free (suc k) (pos 0) (pos 0)) in
-    let edge : pos 0 +ℤ pos n ≡ h = omega (arith, ints) in
     let w1 = alone k nw in
     let w2 = put_square k ne (pos 0 +ℤ pos n) (pos 0) w1 in
     let w3 = put_square k sw (pos 0) (pos 0 +ℤ pos n) w2 in
@@ -204,9 +201,7 @@ pub next_measured : (rows : List SquareRow) (all : List Measures) (k : ℕ) (h :
     (placed (measures_in all k (kid (get_or rows (length all) no_row) 3)) h h))
 next_measured rows all k h valid known more ek eh =
     let i = length all in
-    let row = valid i more in
-    let low : 1 ≤ (get_or rows i no_row).level = row.low in
-    let level : suc k ≡ (get_or rows i no_row).level = omega arith in
+    let level : suc k ≡ (get_or rows i no_row).level = (let row = valid i more in omega (arith, row.low)) in
     let part = λ (q : ℕ) (hq : q < 4). kid_known rows all k q valid known more ek hq in
     let nw = part 0 (lit< tt) in let ne = part 1 (lit< tt) in let sw = part 2 (lit< tt) in let se = part 3 (lit< tt) in
     let is = IsSquare-parts k _ _ _ _ nw.square ne.square sw.square se.square in

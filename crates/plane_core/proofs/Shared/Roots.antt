@@ -16,7 +16,6 @@ square_in-IsSquare rows zero n valid h = subst (IsSquare 0) (sym (square_in-stat
 square_in-IsSquare rows (suc k) zero valid h = subst (IsSquare (suc k)) (sym (square_in-none rows (suc k))) (IsSquare-empty (suc k))
 square_in-IsSquare rows (suc k) (suc i) valid h =
     let at = IsNumber-level rows k (suc i) h (omega arith) in
-    let le : suc i ≤ length rows = at.0 in
     let one_less : suc i - 1 ≡ i = omega arith in
     let level : (get_or rows i no_row).level ≡ suc k = ap (λ m. (get_or rows m no_row).level) (sym one_less) ∙ at.1 in
     let part = λ (q : ℕ) (hq : q < 4). square_in-IsSquare rows k (kid (get_or rows i no_row) q) valid (kid_number rows k i valid (omega arith) level q hq) in
@@ -44,8 +43,6 @@ rooted (row ∷ others) valid =
     let at = valid n (omega arith) in
     let less : suc n - 1 ≡ n = omega arith in
     let level : root_level rows ≡ (get_or rows n no_row).level = root_level-some rows (omega arith) ∙ ap (λ m. (get_or rows m no_row).level) less in
-    let low : 1 ≤ (get_or rows n no_row).level = at.low in
-    let high : (get_or rows n no_row).level ≤ 62 = at.high in
     let j = root_level rows - 1 in
     let is : suc j ≡ root_level rows = omega arith in
     grind (arith, IsNumber-from, root_level-some)

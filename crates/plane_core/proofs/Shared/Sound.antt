@@ -3,7 +3,6 @@ use Rattle.std.proofs.Common.{◌≡◌, ℕ, zero, suc, ◌+◌, ◌-◌, ◌<�
 use Rattle.std.proofs.lemmas.Bool.{cases_lt}
 use Rattle.std.proofs.lemmas.List.{length_push, get_or_append_left, get_or_push, take-append-drop, take-append-le, take_at}
 use Rattle.std.proofs.lemmas.List.Sums.{passes_at_first}
-use Rattle.std.proofs.lemmas.Slice.Eq.{bytes_eq-Decides}
 use Rattle.std.specs.List.{list_any, position_or_len}
 use Rattle.plane_core.specs.declared.row.SquareRow.{SquareRow}
 use Rattle.worlds.specs.Square.{Square, one, four, empty_square, IsSquare}
@@ -43,7 +42,6 @@ pub IsNumber-grown : (old new : List SquareRow) (k n : ℕ) → Grows old new �
 IsNumber-grown old new zero n g h = IsNumber-state new n (state-IsNumber old n h)
 IsNumber-grown old new (suc k) n g h = IsNumber-from new k n (λ live.
     let at = IsNumber-level old k n h live in
-    let le : n ≤ length old = at.0 in
     let longer : length old ≤ length new = Grows-length old new g in
     (omega arith, ap (λ (row : SquareRow). row.level) (row_kept old new (n - 1) g (omega arith)) ∙ at.1))
 
@@ -59,9 +57,7 @@ IsNumber-before rows row j i lt h =
 
 -- and the number of that row is of its level
 pub IsNumber-last : (rows : List SquareRow) (row : SquareRow) (j i : ℕ) → i ≡ length rows → IsNumber (rows ++ row ∷ []) (suc j) (suc i) → row.level ≡ suc j
-IsNumber-last rows row j i last h =
-    let all = rows ++ row ∷ [] in
-    grind (arith, IsNumber-level, get_or_push)
+IsNumber-last rows row j i last h = grind (arith, IsNumber-level, get_or_push)
 
 -- a kid is a number
 pub kid_number : (rows : List SquareRow) (k i : ℕ) → AreRows rows → i < length rows → (get_or rows i no_row).level ≡ suc k → (q : ℕ) → q < 4 → IsNumber rows k (kid (get_or rows i no_row) q)
@@ -89,7 +85,6 @@ square_in-grown old new zero n g valid h = square_in-state new n ∙ sym (square
 square_in-grown old new (suc k) zero g valid h = square_in-none new (suc k) ∙ sym (square_in-none old (suc k))
 square_in-grown old new (suc k) (suc i) g valid h =
     let at = IsNumber-level old k (suc i) h (omega arith) in
-    let le : suc i ≤ length old = at.0 in
     let lt : i < length old = omega arith in
     let one_less : suc i - 1 ≡ i = omega arith in
     let level : (get_or old i no_row).level ≡ suc k = ap (λ j. (get_or old j no_row).level) (sym one_less) ∙ at.1 in
@@ -214,7 +209,6 @@ numbered-sound : (x y : Bool) (rows : List SquareRow) (k a b c d : ℕ) → AreK
     → number_row (row_of (suc k) a b c d) rows ≡ numbered x y (row_of (suc k) a b c d) rows (position_or_len (same_row (row_of (suc k) a b c d)) rows + 1)
     → IsSound (suc k) (four (square_in rows k a) (square_in rows k b) (square_in rows k c) (square_in rows k d)) (numbered x y (row_of (suc k) a b c d) rows (position_or_len (same_row (row_of (suc k) a b c d)) rows + 1))
 numbered-sound true y rows k a b c d kids high ex ey is =
-    let zeros : a ∷ b ∷ c ∷ d ∷ [] ≡ 0 ∷ 0 ∷ 0 ∷ 0 ∷ [] = (bytes_eq-Decides (a ∷ b ∷ c ∷ d ∷ []) (0 ∷ 0 ∷ 0 ∷ 0 ∷ [])).0 ex in
     grind (arith, IsNumber-from, square_in-none, empty_square-four)
 numbered-sound false true rows k a b c d kids high ex ey is =
     let row = row_of (suc k) a b c d in

@@ -47,7 +47,6 @@ numbered-last false true rows k x y z w up e live =
     let row = row_of (suc k) x y z w in
     let within : position_or_len (same_row row) rows < length rows = found_within (same_row row) rows e in
     let level : (get_or rows (position_or_len (same_row row) rows) no_row).level ≡ suc k = ap (λ (r : SquareRow). r.level) (found_at row rows e) in
-    let low : (get_or rows (position_or_len (same_row row) rows) no_row).level ≤ k = up (position_or_len (same_row row) rows) within in
     absurd (omega arith)
 numbered-last false false rows k x y z w up e live = grind (arith, not_found, length_push)
 
@@ -128,7 +127,6 @@ tidied_by rows k valid ek =
 pub tidied : (rows done : List SquareRow) → AreRows rows → (number_square (root_level rows) (root_of rows) []).rows ≡ done → IsTidied rows done
 tidied rows done valid e =
     let root = rooted rows valid in
-    let low = root.low in
     let k = root_level rows - 1 in
     let is : root_level rows ≡ suc k = omega arith in
     subst (IsTidied rows) (subst (λ m. (number_square m (square_in rows m (length rows)) []).rows ≡ done) is e) (tidied_by rows k valid is)

@@ -1,10 +1,10 @@
 -- A world's rows, by its cells.
-use Rattle.std.proofs.Common.{◌≡◌, ◌∙◌, sym, ap, refl, subst, ℕ, suc, ◌+◌, ◌-◌, ◌<◌, ◌≤◌, ◌^◌, ◌&&◌, Bool, true, false, List, [], ◌∷◌, length, get_or, arith, inl, inr, ℤ, pos, ◌+ℤ◌, ◌≤ℤ◌, ◌<ℤ◌}
+use Rattle.std.proofs.Common.{◌≡◌, ◌∙◌, sym, ap, refl, subst, ℕ, suc, ◌+◌, ◌-◌, ◌<◌, ◌≤◌, ◌^◌, ◌&&◌, Bool, true, false, List, [], ◌∷◌, get_or, arith, inl, inr, ℤ, pos, ◌+ℤ◌, ◌≤ℤ◌, ◌<ℤ◌}
 use Rattle.std.specs.Prelude.{int_le, int_lt}
 use Rattle.std.specs.List.{AllByRecursion, list_all, position_or_len, range_with_len}
 use Rattle.std.proofs.lemmas.Bool.{and_from, and_parts, cases_lt}
 use Rattle.std.proofs.lemmas.Int.{ints}
-use Rattle.std.proofs.lemmas.List.FromFn.{get_or-range_with_len, length-range_with_len}
+use Rattle.std.proofs.lemmas.List.FromFn.{get_or-range_with_len}
 use Rattle.std.proofs.lemmas.List.Sums.{fails_before_first, passes_at_first, position_or_len_is}
 use Rattle.worlds.specs.World.{Place, World, blank, cell}
 use Rattle.worlds.specs.Range.{AllBelow, HasMargin}
@@ -97,7 +97,6 @@ least_level-is w = refl
 pub least_level-least : (w : World) (k : ℕ) → IsLeastLevel k w → 1 ≤ k → k ≤ 62 → least_level w ≡ k
 least_level-least w k least low high =
     let levels = range_with_len 1 62 in
-    let long : length levels ≡ 62 = length-range_with_len 1 62 in
     let at : (i : ℕ) → i < 62 → get_or levels i 0 ≡ 1 + i = λ i h. get_or-range_with_len 1 62 i 0 h in
     let last : 1 + (k - 1) ≡ k = omega arith in
     let found : position_or_len (holds_all w) levels ≡ k - 1 =
@@ -137,7 +136,6 @@ least_level-good w margin =
     let levels = range_with_len 1 62 in
     let p = holds_all w in
     let n = position_or_len p levels in
-    let long : length levels ≡ 62 = length-range_with_len 1 62 in
     let at : (i : ℕ) → i < 62 → get_or levels i 0 ≡ 1 + i = λ i h. get_or-range_with_len 1 62 i 0 h in
     let last : p (get_or levels 61 0) ≡ true = ap p (at 61 (omega arith)) ∙ fits-holds w 62 (range-fits w margin) in
     let not_before : (j : ℕ) → j < n → p (get_or levels j 0) ≡ false = λ j h. fails_before_first p levels j 0 h in
@@ -180,7 +178,6 @@ squares-by w k rows least own small =
 pub squares-rows_of : WorldsHaveRows
 squares-rows_of w margin small =
     let good = least_level-good w margin in
-    let low = good.low in
     let k = least_level w - 1 in
     let up : suc k ≡ least_level w = omega arith in
     let least : IsLeastLevel (suc k) w = subst (λ j. IsLeastLevel j w) (sym up) good.least in

@@ -14,7 +14,6 @@ returns-then-part-eq0-2 t c = λ w shows. sym (shows-none w c.args.rows.now c.ar
 
 pub state_in-requires : goal.state_in-requires
 state_in-requires t c =
-    let level = c.quadrant.ensures.place.level in
     let here = of_quadrant c.quadrant_at.result c.args.part c.quadrant.result (omega arith) c.quadrant_at.ensures.few c.quadrant.ensures.place _ _ c.requires.spot (sym c.quadrant_at.ensures.quadrant) in
     (omega (arith, c.decreases), (c.quadrant.ensures.part, here))
 

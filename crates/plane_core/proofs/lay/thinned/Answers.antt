@@ -1,5 +1,5 @@
-use Rattle.std.proofs.Common.{◌∙◌, sym, ap, subst, arith}
-use Rattle.plane_core.specs.Rows.{AreRows, world_of_rows}
+use Rattle.std.proofs.Common.{sym, subst, arith}
+use Rattle.plane_core.specs.Rows.{AreRows}
 use Rattle.plane_core.proofs.Shared.Tidy.{tidied}
 use Rattle.plane_core.proofs.lay.thinned.Goals as goal
 
@@ -8,8 +8,4 @@ returns c =
     let old = c.deref.result.now in
     let valid = subst AreRows (sym c.deref.ensures.value) c.requires.rows.0 in
     let left = tidied old c.in_ok-rows.field-0.items valid c.in_ok-rows.ensures.rows in
-    let few = c.in_ok-rows.ensures.few in
-    record {
-      rows = (left.walked.valid, omega (arith, few));
-      world = left.world ∙ ap world_of_rows c.deref.ensures.value;
-    }
+    grind (arith)

@@ -18,7 +18,6 @@ pub returns-in-Some-clause-walks : goal.returns-in-Some-clause-walks
 returns-in-Some-clause-walks t c =
     let numbers = c.args.walk.now.numbers.items in
     let listed = number_within c.args.rows.now c.args.level c.args.number (omega arith) (omega arith) c.requires.number in
-    let count = c.requires.remembers.count in
     let known : get_or numbers (c.args.number - 1) None ≡ Some c.in-Some.known = sym (get_or_read numbers (c.args.number - 1) c.index.result.now (omega arith) c.index.ensures None) ∙ c.in-Some.is in
     walks-known c.args.rows.now c.args.walk.now.done.keys numbers c.args.level c.args.number c.in-Some.known (omega arith) (omega arith) c.requires.number c.requires.remembers known
 

@@ -5,7 +5,6 @@ use Rattle.plane_core.proofs.within.is_apart.Goals as goal
 pub returns-clause-apart : goal.returns-clause-apart
 returns-clause-apart c = λ t x y h box.
     let at = moved _ c.side-side.result _ _ _ _ x y (sym c.side-side.ensures.value) refl refl h in
-    let top = at.top in let bottom = at.bottom in let low = box.top in let high = box.bottom in
     c.misses-2.ensures.apart t y (search rules) (search rules) (search rules) (search rules)
 
 pub returns-clause-near : goal.returns-clause-near

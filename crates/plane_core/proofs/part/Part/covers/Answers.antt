@@ -10,6 +10,5 @@ returns c =
           moved c.side-side.result (2 ^ p.level) p.corner.x p.corner.x p.corner.y p.corner.y x y c.side-side.ensures.value refl refl
           (record { left = search (rules, across.0); right = search (rules, across.1); top = search (rules, down.0); bottom = search (rules, down.1) })),
       λ h. (let at = moved (2 ^ p.level) c.side-side.result p.corner.x p.corner.x p.corner.y p.corner.y x y (sym c.side-side.ensures.value) refl refl h in
-          let top = at.top in let bottom = at.bottom in
           c.spans-2.ensures.1 (search rules, search rules)),
     )
