@@ -2,9 +2,7 @@ pub mod Shared
 pub mod Totals
 pub mod Overlays
 pub mod Counting
-pub mod Descents
 pub mod Walking
-pub mod Validity
 pub mod Laying
 pub mod Entries
 pub mod Written

@@ -12,9 +12,7 @@ use Rattle.plane_core.specs.Rows.{IsNumber, AreRows, square_in, row_at, kid, no_
 use Rattle.plane_core.specs.Part.{Covers, IsPart, Shows, IsKid, IsQuadrant, IsRoot, east, south, quadrant_at}
 use Rattle.plane_core.proofs.Shared.Cells.{cell_in-nw, cell_in-ne, cell_in-sw, cell_in-se, cell_in-empty, cell_in-one, offsets}
 use Rattle.plane_core.proofs.Shared.Roots.{root-cells, root-side, rooted, root-Fits}
-use Rattle.plane_core.proofs.Shared.Sound.{square_in-none, square_in-row, square_in-state}
-use Rattle.plane_core.proofs.Shared.Centres.{zero-IsNumber}
-use Rattle.plane_core.proofs.Descents.{number-kid}
+use Rattle.plane_core.proofs.Shared.Sound.{square_in-none, square_in-row, square_in-state, zero-IsNumber, number-kid}
 
 pub east-le : (h q : ℕ) → east h q ≤ h
 east-le h q = grind (arith)

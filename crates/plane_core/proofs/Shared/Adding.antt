@@ -9,12 +9,10 @@ use Rattle.plane_core.specs.Rows.{row_at, kid, IsNumber, IsRow, AreRows, square_
 use Rattle.plane_core.specs.Centre.{cornered, centred}
 use Rattle.plane_core.specs.Laid.{square_of, AreQuadrants, Keeps, IsAdded, IsRaised}
 use Rattle.plane_core.proofs.Shared.Numbering.{Grows, Grows-more}
-use Rattle.plane_core.proofs.Shared.Sound.{IsNumber-level, IsNumber-from, IsNumber-grown, Grows-length, square_in-none, square_in-row, square_in-grown, AreRows-push}
+use Rattle.plane_core.proofs.Shared.Sound.{IsNumber-level, IsNumber-from, IsNumber-grown, Grows-length, square_in-none, square_in-row, square_in-grown, AreRows-push, zero-IsNumber, number-kid}
 use Rattle.plane_core.proofs.Shared.Roots.{root_level-some, square_in-IsSquare}
 use Rattle.plane_core.proofs.Shared.Tidy.{world-put}
 use Rattle.plane_core.proofs.Shared.Centring.{centred-world}
-use Rattle.plane_core.proofs.Shared.Centres.{zero-IsNumber}
-use Rattle.plane_core.proofs.Descents.{number-kid}
 
 pub Keeps-none : (rows : List SquareRow) → AreRows rows → length rows < 2 ^ 32 → Keeps rows rows
 Keeps-none rows valid few = record { valid = valid; few = few; longer = omega arith; number = λ k n h. h; square = λ k n h. refl }

@@ -1,6 +1,5 @@
 -- The root in the middle of a root, by its rows.
-use Rattle.std.proofs.Common.{◌≡◌, ℕ, zero, suc, ◌-◌, ◌<◌, ◌≤◌, ◌^◌, ◌==◌, Bool, true, false, cond, List, [], ◌∷◌, ◌++◌, length, Option, refl, sym, ap, ◌∙◌, subst, arith, inl, inr, lit<, pow_mono}
-use Rattle.std.specs.Prelude.{IfNone}
+use Rattle.std.proofs.Common.{◌≡◌, ℕ, zero, suc, ◌-◌, ◌<◌, ◌≤◌, ◌^◌, ◌==◌, Bool, true, false, cond, List, [], ◌∷◌, ◌++◌, length, refl, sym, ap, ◌∙◌, subst, arith, inl, inr, pow_mono}
 use Rattle.std.proofs.lemmas.Bool.{cases_lt, cases_eq, and_parts, and_from, or_cases, or_left, or_right, eqb-true, eq-eqb, ne_eqb, cond-true, cond-false}
 use Rattle.std.proofs.lemmas.Int.{ints}
 use Rattle.std.proofs.lemmas.List.{length_push, get_or_push, nil_from_length}
@@ -11,16 +10,11 @@ use Rattle.plane_core.specs.Rows.{row_at, kid, IsNumber, AreRows, square_in, roo
 use Rattle.plane_core.specs.Walks.{AreWalked}
 use Rattle.plane_core.specs.Centre.{cornered, centred, is_passed, is_alone, NoneEmpty, AreFilled, IsCorner, IsCentre}
 use Rattle.plane_core.proofs.Shared.Numbering.{Grows-more, Has-empty, Has-one}
-use Rattle.plane_core.proofs.Shared.Sound.{row_of, IsNumber-level, IsNumber-from, IsNumber-state, IsNumber-before, IsNumber-last, square_in-none, square_in-state, square_in-row, square_in-grown, AreRows-push}
+use Rattle.plane_core.proofs.Shared.Sound.{row_of, IsNumber-level, IsNumber-before, IsNumber-last, square_in-none, square_in-state, square_in-row, square_in-grown, AreRows-push, number-kid}
 use Rattle.plane_core.proofs.Shared.Roots.{rooted, root-IsSquare, root-Fits, root_level-none, root_level-some, root-side, square_in-IsSquare}
 use Rattle.plane_core.proofs.Shared.Cells.{nw_of, ne_of, sw_of, se_of}
 use Rattle.plane_core.proofs.Shared.Tidy.{world-put}
-use Rattle.plane_core.proofs.Descents.{number-kid}
 use Rattle.plane_core.proofs.Shared.Centring.{root_world, centred-world, fits-corners, HasCorners}
-
--- what holds holds where there is nothing
-pub IfNone_from : {A : Type 0} (o : Option A) (P : Type 0) → P → IfNone o P
-IfNone_from o P p = grind (arith)
 
 -- walked rows have no row of an empty square
 pub walked-filled : (rows : List SquareRow) → AreWalked rows → AreFilled rows
@@ -198,8 +192,3 @@ centre-is rows (suc k) a b c d valid none high ek middle =
     let less : suc k - 1 ≡ k = omega arith in
     let level : root_level rows ≡ suc (suc k) = omega arith in
     is_centre rows k a b c d valid none level (rows-some rows high) (subst (λ j. HasMiddle rows j a b c d) less middle)
-
--- 0 is a number of every level
-pub zero-IsNumber : (rows : List SquareRow) (k : ℕ) → IsNumber rows k 0
-zero-IsNumber rows zero = IsNumber-state rows 0 (lit< tt)
-zero-IsNumber rows (suc k) = IsNumber-from rows k 0 (λ live. absurd (omega (arith, live)))

@@ -13,8 +13,7 @@ use Rattle.worlds.specs.Square.{Square, one, four, empty_square, IsSquare, put_s
 use Rattle.plane_core.specs.Rows.{no_row, kid, IsNumber, AreRows, square_in, root_level, root_of, edge_of, world_of_rows}
 use Rattle.plane_core.specs.Measures.{AreBoundsOf, AreMeasuresOf, no_measures, measures_of_state, placed, joined, alone, measures_in, AreMeasuresAt, AreMeasured, LiesIn}
 use Rattle.plane_core.proofs.Shared.Cells.{put_square-four, IsSquare-one, IsSquare-four, IsSquare-parts, cell_in-one, in_or_out, put_square-clear, put_square-inside, put_square-outside}
-use Rattle.plane_core.proofs.Shared.Sound.{kid_number, square_in-none, square_in-state, square_in-row, state-IsNumber, IsNumber-level}
-use Rattle.plane_core.proofs.Descents.{number_within}
+use Rattle.plane_core.proofs.Shared.Sound.{kid_number, square_in-none, square_in-state, square_in-row, state-IsNumber, IsNumber-level, number-listed}
 use Rattle.plane_core.proofs.Shared.Roots.{square_in-IsSquare, world-root, root_level-some, root-IsSquare, rooted, world-none}
 use Rattle.plane_core.specs.Counts.{tally, is_live}
 use Rattle.plane_core.proofs.Totals.{total-blank, total-put_square, population-total, tally-le, is_live-le, IsFree, puts_free}
@@ -163,7 +162,7 @@ state_below : (rows : List SquareRow) (k n : ℕ) → IsNumber rows k n → k �
 state_below rows k n h e = state-IsNumber rows n (subst (λ j. IsNumber rows j n) e h)
 
 number_listed : (rows : List SquareRow) (k n : ℕ) → 1 ≤ k → IsNumber rows k n → n ≤ length rows
-number_listed rows k n low h = grind (arith, number_within)
+number_listed rows k n low h = grind (arith, number-listed)
 
 -- what the number of a kid of the i-th row names
 pub record IsKid (rows : List SquareRow) (i k n : ℕ) : Type 0 where

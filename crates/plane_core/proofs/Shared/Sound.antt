@@ -27,6 +27,22 @@ pub state-IsNumber : (rows : List SquareRow) (s : ℕ) → IsNumber rows 0 s →
 unfolding IsNumber
 state-IsNumber rows s h = h
 
+-- 0 is a number of every level
+pub zero-IsNumber : (rows : List SquareRow) (k : ℕ) → IsNumber rows k 0
+zero-IsNumber rows zero = IsNumber-state rows 0 (omega arith)
+zero-IsNumber rows (suc k) = IsNumber-from rows k 0 (λ live. absurd (omega (arith, live)))
+
+-- a number of a level above 0, by its row
+pub number-listed : (rows : List SquareRow) (k n : ℕ) → 0 < k → 0 < n → IsNumber rows k n →
+    (n ≤ length rows) × ((row_at rows n).level ≡ k)
+number-listed rows zero n hk hn h = absurd (omega (arith, hk))
+number-listed rows (suc k) n hk hn h = IsNumber-level rows k n h hn
+
+pub listed-number : (rows : List SquareRow) (k n : ℕ) → 0 < k → n ≤ length rows →
+    (row_at rows n).level ≡ k → IsNumber rows k n
+listed-number rows zero n hk le e = absurd (omega (arith, hk))
+listed-number rows (suc k) n hk le e = IsNumber-from rows k n (λ live. (le, e))
+
 -- a row stays where it is
 pub row_kept : (old new : List SquareRow) (i : ℕ) → Grows old new → i < length old → get_or new i no_row ≡ get_or old i no_row
 row_kept old new i g h = ap (λ (rows : List SquareRow). get_or rows i no_row) g.is ∙ get_or_append_left old g.more no_row i h
@@ -65,6 +81,11 @@ kid_number rows k i valid h level q hq =
     let row = get_or rows i no_row in
     let below : row.level - 1 ≡ k = omega (arith, level) in
     IsNumber-grown (take i rows) rows k (kid row q) (Grows-take rows i) (subst (λ j. IsNumber (take i rows) j (kid row q)) below ((valid i h).kids q hq))
+
+-- a kid of a row that a number names is a number of one level less
+pub number-kid : (rows : List SquareRow) (k n q : ℕ) → AreRows rows → 0 < k → 0 < n → IsNumber rows k n → q < 4 → IsNumber rows (k - 1) (kid (row_at rows n) q)
+number-kid rows zero n q valid hk hn h hq = absurd (omega (arith, hk))
+number-kid rows (suc k) n q valid hk hn h hq = grind (arith, IsNumber-level, kid_number)
 
 pub square_in-none : (rows : List SquareRow) (k : ℕ) → square_in rows k 0 ≡ empty_square k
 unfolding square_in empty_square

@@ -1,14 +1,13 @@
 use Rattle.std.proofs.Common.{arith}
 use Rattle.std.proofs.lemmas.Bool.{ltb-true, lt-ltb, eqb-true, eq-eqb}
-use Rattle.plane_core.proofs.Shared.Sound.{IsNumber-state, state-IsNumber}
-use Rattle.plane_core.proofs.Validity.{number-listed, listed-number, zero-number}
+use Rattle.plane_core.proofs.Shared.Sound.{IsNumber-state, state-IsNumber, zero-IsNumber, number-listed, listed-number}
 use Rattle.plane_core.proofs.valid.is_number.Goals as goal
 
 pub returns-then-level-eq0 : goal.returns-then-level-eq0
 returns-then-level-eq0 c = grind (arith, IsNumber-state, ltb-true, lt-ltb, state-IsNumber)
 
 pub returns-then-number-eq0 : goal.returns-then-number-eq0
-returns-then-number-eq0 c = grind (arith, zero-number)
+returns-then-number-eq0 c = grind (arith, zero-IsNumber)
 
 pub returns-then-place-rows : goal.returns-then-place-rows
 returns-then-place-rows c = grind (arith, number-listed)

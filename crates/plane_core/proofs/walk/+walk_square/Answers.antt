@@ -1,7 +1,6 @@
 use Rattle.std.proofs.Common.{◌≡◌, ◌-◌, get_or, sym, ◌∙◌, arith, lit<, None, Some}
 use Rattle.std.proofs.lemmas.List.{get_or_read}
-use Rattle.plane_core.proofs.Shared.Sound.{Has-state, Has-none}
-use Rattle.plane_core.proofs.Descents.{number_within, number-kid}
+use Rattle.plane_core.proofs.Shared.Sound.{Has-state, Has-none, number-listed, number-kid}
 use Rattle.plane_core.proofs.Walking.{walks-known, walks-four, remembers-more, grows-complete}
 use Rattle.plane_core.proofs.walk.+walk_square.Goals as goal
 
@@ -12,17 +11,17 @@ pub returns-then-number-eq0-clause-walks : goal.returns-then-number-eq0-clause-w
 returns-then-number-eq0-clause-walks t c = grind (arith, Has-none)
 
 pub index-requires : goal.index-requires
-index-requires t c = grind (arith, number_within)
+index-requires t c = grind (arith, number-listed)
 
 pub returns-in-Some-clause-walks : goal.returns-in-Some-clause-walks
 returns-in-Some-clause-walks t c =
     let numbers = c.args.walk.now.numbers.items in
-    let listed = number_within c.args.rows.now c.args.level c.args.number (omega arith) (omega arith) c.requires.number in
+    let listed = number-listed c.args.rows.now c.args.level c.args.number (omega arith) (omega arith) c.requires.number in
     let known : get_or numbers (c.args.number - 1) None ≡ Some c.in-Some.known = sym (get_or_read numbers (c.args.number - 1) c.index.result.now (omega arith) c.index.ensures None) ∙ c.in-Some.is in
     walks-known c.args.rows.now c.args.walk.now.done.keys numbers c.args.level c.args.number c.in-Some.known (omega arith) (omega arith) c.requires.number c.requires.remembers known
 
 pub bounds-rows-place : goal.bounds-rows-place
-bounds-rows-place t c = grind (arith, number_within)
+bounds-rows-place t c = grind (arith, number-listed)
 
 pub walk_square-requires : goal.walk_square-requires
 walk_square-requires t c = (omega (arith, c.decreases), (c.requires.rows, (number-kid c.args.rows.now c.args.level c.args.number 0 c.requires.rows (omega arith) (omega arith) c.requires.number (lit< tt), c.requires.remembers)))
@@ -37,7 +36,7 @@ pub walk_square-requires-4 : goal.walk_square-requires-4
 walk_square-requires-4 t c = (omega (arith, c.decreases), (c.requires.rows, (number-kid c.args.rows.now c.args.level c.args.number 3 c.requires.rows (omega arith) (omega arith) c.requires.number (lit< tt), c.in_ok-sw.ensures.remembers)))
 
 pub index_mut-requires : goal.index_mut-requires
-index_mut-requires t c = grind (arith, number_within)
+index_mut-requires t c = grind (arith, number-listed)
 
 pub returns-clause-walks : goal.returns-clause-walks
 returns-clause-walks t c =
