@@ -13,7 +13,7 @@ use Rattle.plane_core.specs.declared.row.SquareRow.{SquareRow}
 use Rattle.plane_core.specs.declared.counts.Tally.{Tally}
 use Rattle.plane_core.specs.Rows.{no_row, kid, IsNumber, AreRows, square_in, root_level, root_of, edge_of, world_of_rows}
 use Rattle.plane_core.specs.Counts.{tally, is_state, is_any, cells_with, row_square, sum_to, held, HasRoom, Gains, IsTallied}
-use Rattle.plane_core.proofs.Shared.Sound.{square_in-none, square_in-state, square_in-row, state-IsNumber, IsNumber-level}
+use Rattle.plane_core.proofs.Shared.Sound.{square_in-none, square_in-state, square_in-row, state-IsNumber, number-listed}
 use Rattle.plane_core.proofs.Shared.Roots.{rooted, root-IsSquare, world-root}
 use Rattle.plane_core.proofs.Totals.{total, total-blank, total-put_square, tally-le, tally-empty}
 use Rattle.plane_core.proofs.Shared.Measuring.{kid_is}
@@ -52,28 +52,30 @@ sum-one g (suc n) j h =
 abbrev by : List ℕ → (ℕ → ℕ) → ℕ → ℕ
 by xs w i = get_or xs i 0 * w i
 
--- one number of the list is greater by v
-sum-apart : (xs : List ℕ) (w : ℕ → ℕ) (j v n : ℕ) → n ≤ j → sum_to (by (set xs j v) w) n ≡ sum_to (by xs w) n
-sum-apart xs w j v n h = sum-same _ _ n (λ i lt. ap (λ a. a * w i) (get_or-set_other xs j i v 0 (λ e. absurd (omega (arith, h, lt, e)))))
-
-sum-set : (xs : List ℕ) (w : ℕ → ℕ) (j v n : ℕ) → j < n → j < length xs → sum_to (by (set xs j (get_or xs j 0 + v)) w) n ≡ sum_to (by xs w) n + v * w j
-sum-set xs w j v zero h long = absurd (omega (arith, h))
-sum-set xs w j v (suc n) h long =
-    let new = set xs j (get_or xs j 0 + v) in
-    let e = sum-more (by new w) n in
-    let d = sum-more (by xs w) n in
+-- one of the numbers is greater by v
+sum-change : (g h : ℕ → ℕ) (n j v : ℕ) → j < n → ((i : ℕ) → (i ≡ j → ⊥) → h i ≡ g i) → h j ≡ g j + v →
+    sum_to h n ≡ sum_to g n + v
+sum-change g h zero j v lt other here = absurd (omega (arith, lt))
+sum-change g h (suc n) j v lt other here =
+    let e = sum-more h n in
+    let d = sum-more g n in
     elim (cases_lt j n) [
-      | inl before ↦
-          let rest = sum-set xs w j v n before long in
-          let last : by new w n ≡ by xs w n = ap (λ a. a * w n) (get_or-set_other xs j n (get_or xs j 0 + v) 0 (λ same. absurd (omega (arith, before, same)))) in
-          omega arith
-      | inr here ↦
+      | inl below ↦
+          let last = other n (λ same. absurd (omega (arith, below, same))) in
+          omega (arith, sum-change g h n j v below other here)
+      | inr above ↦
           let same : j ≡ n = omega arith in
-          let rest : sum_to (by new w) n ≡ sum_to (by xs w) n = sum-apart xs w j (get_or xs j 0 + v) n (omega arith) in
-          let at : by new w j ≡ by xs w j + v * w j = ap (λ a. a * w j) (get_or-set_same xs j (get_or xs j 0 + v) 0 long) ∙ add-mul (get_or xs j 0) v (w j) in
-          let last : by new w n ≡ by xs w n + v * w j = subst (λ m. by new w m ≡ by xs w m + v * w j) same at in
-          omega arith
+          let last : h n ≡ g n + v = subst (λ m. h m ≡ g m + v) same here in
+          omega (arith, sum-same h g n (λ i before. other i (λ is. absurd (omega (arith, before, is, same)))))
     ]
+
+sum-set : (xs : List ℕ) (w : ℕ → ℕ) (j v n : ℕ) → j < n → j < length xs →
+    sum_to (by (set xs j (get_or xs j 0 + v)) w) n ≡ sum_to (by xs w) n + v * w j
+sum-set xs w j v n h long =
+    let new = get_or xs j 0 + v in
+    sum-change (by xs w) (by (set xs j new) w) n j (v * w j) h
+    (λ i other. ap (λ a. a * w i) (get_or-set_other xs j i new 0 other))
+    (ap (λ a. a * w j) (get_or-set_same xs j new 0 long) ∙ add-mul (get_or xs j 0) v (w j))
 
 -- a list with one number more
 sum-push : (xs : List ℕ) (w : ℕ → ℕ) (v : ℕ) → sum_to (by (xs ++ v ∷ []) w) (length (xs ++ v ∷ [])) ≡ sum_to (by xs w) (length xs) + v * w (length xs)
@@ -90,21 +92,11 @@ sum-replicate w n m h = sum-zero _ m (λ i lt. ap (λ a. a * w i) (get_or-replic
 
 -- the counts of one state alone
 sum-state : (xs : List ℕ) (s n : ℕ) → s < n → sum_to (by xs (is_state s)) n ≡ get_or xs s 0
-sum-state xs s zero h = absurd (omega (arith, h))
-sum-state xs s (suc n) h =
-    let e = sum-more (by xs (is_state s)) n in
-    elim (cases_lt s n) [
-      | inl before ↦
-          let rest = sum-state xs s n before in
-          let last : by xs (is_state s) n ≡ 0 = ap (λ b. get_or xs n 0 * cond b 1 0) (ne_eqb n s (λ same. absurd (omega (arith, before, same)))) ∙ mul-zero (get_or xs n 0) in
-          omega arith
-      | inr here ↦
-          let same : n ≡ s = omega arith in
-          let rest : sum_to (by xs (is_state s)) n ≡ 0 = sum-zero _ n (λ i lt. ap (λ b. get_or xs i 0 * cond b 1 0) (ne_eqb i s (λ is. absurd (omega (arith, lt, same, is)))) ∙ mul-zero (get_or xs i 0)) in
-          let last : by xs (is_state s) n ≡ get_or xs n 0 = ap (λ b. get_or xs n 0 * cond b 1 0) (eq-eqb n s same) ∙ mul-one (get_or xs n 0) in
-          let at : get_or xs n 0 ≡ get_or xs s 0 = ap (λ i. get_or xs i 0) same in
-          omega arith
-    ]
+sum-state xs s n h =
+    let all = sum-change (λ _. 0) (by xs (is_state s)) n s (get_or xs s 0) h
+    (λ i other. ap (λ b. get_or xs i 0 * cond b 1 0) (ne_eqb i s other) ∙ mul-zero (get_or xs i 0))
+    (ap (λ b. get_or xs s 0 * cond b 1 0) (eq-eqb s s refl) ∙ mul-one (get_or xs s 0) ∙ omega arith) in
+    omega (arith, all, sum-zero (λ _. 0) n (λ i lt. refl))
 
 -- a square has a cell
 tally-some : (t : Square) → 1 ≤ tally is_any t
@@ -132,20 +124,19 @@ gains-state rows old new n k s ground_level live is states small counts times =
 -- a row stands more often
 pub gains-row : (rows : List SquareRow) (old new : Tally) (n k m : ℕ) → (k ≡ 0 → ⊥) → (m ≡ 0 → ⊥) → IsNumber rows k m → m ≤ length old.times.items → length old.counts ≡ 256 → new.counts ≡ old.counts
     → new.times.items ≡ set old.times.items (m - 1) (get_or old.times.items (m - 1) 0 + n) → Gains rows old new n (square_in rows k m)
-gains-row rows old new n zero m above live is there states counts times = absurd (above refl)
-gains-row rows old new n (suc k) zero above live is there states counts times = absurd (live refl)
-gains-row rows old new n (suc k) (suc i) above live is there states counts times =
-    let less : suc i - 1 ≡ i = omega arith in
-    let level : (get_or rows i no_row).level ≡ suc k = ap (λ j. (get_or rows j no_row).level) (sym less) ∙ (IsNumber-level rows k (suc i) is (omega arith)).1 in
-    let at : row_square rows i ≡ square_in rows (suc k) (suc i) = ap (λ j. square_in rows j (suc i)) level in
-    let put : new.times.items ≡ set old.times.items i (get_or old.times.items i 0 + n) = times ∙ ap (λ j. set old.times.items j (get_or old.times.items j 0 + n)) less in
-    let long : length new.times.items ≡ length old.times.items = ap length put ∙ length-set old.times.items i (get_or old.times.items i 0 + n) in
-    let gain : (f : ℕ → ℕ) → held rows f new ≡ held rows f old + n * tally f (square_in rows (suc k) (suc i)) = λ f.
+gains-row rows old new n k m above live is there states counts times =
+    let i = m - 1 in
+    let up : suc i ≡ m = omega arith in
+    let level = (number-listed rows k m (omega arith) (omega arith) is).1 in
+    let at : row_square rows i ≡ square_in rows k m = ap₂ (square_in rows) level up in
+    let long : length new.times.items ≡ length old.times.items = ap length times ∙ length-set _ i _ in
+    let gain : (f : ℕ → ℕ) → held rows f new ≡ held rows f old + n * tally f (square_in rows k m) = λ f.
     let w : ℕ → ℕ = λ j. tally f (row_square rows j) in
-    let first : sum_to (by new.counts f) 256 ≡ sum_to (by old.counts f) 256 = ap (λ (xs : List ℕ). sum_to (by xs f) 256) counts in
-    let second : sum_to (by new.times.items w) (length new.times.items) ≡ sum_to (by old.times.items w) (length old.times.items) + n * w i
-    = ap (sum_to (by new.times.items w)) long ∙ ap (λ (xs : List ℕ). sum_to (by xs w) (length old.times.items)) put ∙ sum-set old.times.items w i n (length old.times.items) (omega arith) (omega arith) in
-    let cells : n * w i ≡ n * tally f (square_in rows (suc k) (suc i)) = ap (λ (t : Square). n * tally f t) at in
+    let first = ap (λ (xs : List ℕ). sum_to (by xs f) 256) counts in
+    let second = ap (λ (xs : List ℕ). sum_to (by xs w) (length new.times.items)) times in
+    let grown = sum-set old.times.items w i n (length new.times.items) (omega arith) (omega arith) in
+    let same = ap (sum_to (by old.times.items w)) long in
+    let cells : n * w i ≡ n * tally f (square_in rows k m) = ap (λ (t : Square). n * tally f t) at in
     omega arith in
     grind (arith)
 

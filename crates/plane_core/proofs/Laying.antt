@@ -126,10 +126,6 @@ shows-four w rows new p kids n some shows square = record {
       ∙ ap (λ (s : Square). cell_in p.level s i j) (sym square);
 }
 
--- what holds of each of four
-pub each_of_four : (P : ℕ → Type 0) → P 0 → P 1 → P 2 → P 3 → (q : ℕ) → q < 4 → P q
-each_of_four P a b c d q h = grind (arith)
-
 -- a quadrant that is found and the one that is meant
 same_part : (q n : ℕ) (p r : Part) → IsQuadrant q p r → renumbered r n ≡ quadrant_of p q n
 same_part q n p r is = λ i. record { level = is.level i; number = n; corner = record { x = is.x i; y = is.y i } }

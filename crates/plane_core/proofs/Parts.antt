@@ -1,5 +1,5 @@
 -- Squares that stand at places of a world, and their quadrants.
-use Rattle.std.proofs.Common.{◌≡◌, ℕ, zero, suc, ◌+◌, ◌-◌, ◌<◌, ◌≤◌, ◌^◌, cond, List, get_or, length, sym, ap, ap₂, ◌∙◌, subst, arith, inl, inr, pow_mono, ℤ, pos, ◌+ℤ◌}
+use Rattle.std.proofs.Common.{◌≡◌, ℕ, suc, ◌+◌, ◌-◌, ◌<◌, ◌≤◌, ◌^◌, cond, List, length, sym, ap, ap₂, ◌∙◌, subst, arith, inl, inr, pow_mono, ℤ, pos, ◌+ℤ◌}
 use Rattle.std.specs.Prelude.{int_le}
 use Rattle.std.proofs.lemmas.Bool.{cases_lt}
 use Rattle.std.proofs.lemmas.Grind.{common_steps}
@@ -8,11 +8,11 @@ use Rattle.worlds.specs.World.{World, cell}
 use Rattle.worlds.specs.Square.{Square, four, cell_in, IsIn}
 use Rattle.plane_core.specs.declared.row.SquareRow.{SquareRow}
 use Rattle.plane_core.specs.declared.part.Part.{Part}
-use Rattle.plane_core.specs.Rows.{IsNumber, AreRows, square_in, row_at, kid, no_row, root_level, edge_of, world_of_rows}
+use Rattle.plane_core.specs.Rows.{IsNumber, AreRows, square_in, row_at, kid, root_level, edge_of, world_of_rows}
 use Rattle.plane_core.specs.Part.{Covers, IsPart, Shows, IsKid, IsQuadrant, IsRoot, east, south, quadrant_at}
 use Rattle.plane_core.proofs.Shared.Cells.{cell_in-nw, cell_in-ne, cell_in-sw, cell_in-se, cell_in-empty, cell_in-one, offsets}
 use Rattle.plane_core.proofs.Shared.Roots.{root-cells, root-side, rooted, root-Fits}
-use Rattle.plane_core.proofs.Shared.Sound.{square_in-none, square_in-row, square_in-state, zero-IsNumber, number-kid}
+use Rattle.plane_core.proofs.Shared.Sound.{each_of_four, square_in-number, square_in-none, square_in-state, zero-IsNumber, number-kid}
 
 pub east-le : (h q : ℕ) → east h q ≤ h
 east-le h q = grind (arith)
@@ -26,11 +26,12 @@ place h l t x y = cond (int_le (t +ℤ pos h) y) (cond (int_le (l +ℤ pos h) x)
 
 module _ (h : ℕ) (l t x y : ℤ) where
   pub placed : (q : ℕ) → q < 4 → IsIn h (l +ℤ pos (east h q)) (t +ℤ pos (south h q)) x y → IsIn (h + h) l t x y × (place h l t x y ≡ q)
-  placed zero few is = grind (arith, ints)
-  placed (suc zero) few is = grind (arith, ints)
-  placed (suc (suc zero)) few is = grind (arith, ints)
-  placed (suc (suc (suc zero))) few is = grind (arith, ints)
-  placed (suc (suc (suc (suc q)))) few is = absurd (omega (arith, few))
+  placed q few is =
+      let by = λ (q : ℕ). IsIn h (l +ℤ pos (east h q)) (t +ℤ pos (south h q)) x y → place h l t x y ≡ q in (
+        grind (arith, ints),
+        each_of_four by (λ is. grind (arith, ints)) (λ is. grind (arith, ints))
+            (λ is. grind (arith, ints)) (λ is. grind (arith, ints)) q few is,
+      )
 
   pub found : (q : ℕ) → q ≡ place h l t x y → IsIn (h + h) l t x y → IsIn h (l +ℤ pos (east h q)) (t +ℤ pos (south h q)) x y
   found q e is = grind (arith, ints)
@@ -80,15 +81,11 @@ quadrant-cell k q i j f few hi hj = grind (arith, cell_in-nw, cell_in-ne, cell_i
 -- the kids of a row name its quadrants
 kid-cells : (rows : List SquareRow) (k n q i j : ℕ) → 1 ≤ k → 0 < n → q < 4 → i < 2 ^ (k - 1) → j < 2 ^ (k - 1)
     → cell_in k (square_in rows k n) (east (2 ^ (k - 1)) q + i) (south (2 ^ (k - 1)) q + j) ≡ cell_in (k - 1) (square_in rows (k - 1) (kid (row_at rows n) q)) i j
-kid-cells rows zero n q i j some live few = absurd (omega (arith, some))
-kid-cells rows (suc k) zero q i j some live few = absurd (omega (arith, live))
-kid-cells rows (suc k) (suc m) q i j some live few =
-    let less : k ≡ suc k - 1 = omega arith in
-    let same : m ≡ suc m - 1 = omega arith in
-    subst (λ h. i < 2 ^ h → j < 2 ^ h → cell_in (suc k) (square_in rows (suc k) (suc m)) (east (2 ^ h) q + i) (south (2 ^ h) q + j) ≡ cell_in h (square_in rows h (kid (row_at rows (suc m)) q)) i j) less (λ hi hj.
-    ap (λ (s : Square). cell_in (suc k) s (east (2 ^ k) q + i) (south (2 ^ k) q + j)) (square_in-row rows k m)
-    ∙ quadrant-cell k q i j (λ q. square_in rows k (kid (get_or rows m no_row) q)) few hi hj
-    ∙ ap (λ m. cell_in k (square_in rows k (kid (get_or rows m no_row) q)) i j) same)
+kid-cells rows k n q i j some live few hi hj =
+    let up : suc (k - 1) ≡ k = omega arith in
+    let at = square_in-number rows (k - 1) n live in
+    let cells = quadrant-cell (k - 1) q i j (λ q. square_in rows (k - 1) (kid (row_at rows n) q)) few hi hj in
+    grind (arith)
 
 -- no cell of the square 0 is live
 none-cell : (rows : List SquareRow) (k i j : ℕ) → cell_in k (square_in rows k 0) i j ≡ 0

@@ -9,7 +9,7 @@ use Rattle.worlds.specs.Square.{Square}
 use Rattle.plane_core.specs.Rows.{Numbered, number_row, square_in, IsNumber, kid, no_row, row_at}
 use Rattle.plane_core.specs.Walks.{Has, Walks, Remembers}
 use Rattle.plane_core.proofs.Shared.Numbering.{Grows, Has-grown, Has-again, number_row-grows}
-use Rattle.plane_core.proofs.Shared.Sound.{IsNumber-level, square_in-row, row_of, walks-quadrants}
+use Rattle.plane_core.proofs.Shared.Sound.{IsNumber-level, square_in-number, row_of, walks-quadrants}
 
 -- a row whose number is remembered isn't walked
 pub walks-known : (rows done : List SquareRow) (numbers : List (Option ℕ)) (k n m : ℕ) → 0 < k → 0 < n → IsNumber rows k n → Remembers rows done numbers → get_or numbers (n - 1) None ≡ Some m
@@ -24,19 +24,14 @@ pub walks-four : (rows d0 d1 d2 d3 d4 d5 : List SquareRow) (k n a b c d m : ℕ)
     → Walks (k - 1) (square_in rows (k - 1) (kid (row_at rows n) 2)) d2 d3 c
     → Walks (k - 1) (square_in rows (k - 1) (kid (row_at rows n) 3)) d3 d4 d
     → (number_row (row_of k a b c d) d4).rows ≡ d5 → (number_row (row_of k a b c d) d4).number ≡ m → Walks k (square_in rows k n) d0 d5 m
-walks-four rows d0 d1 d2 d3 d4 d5 zero n a b c d m hk hn = absurd (omega (arith, hk))
-walks-four rows d0 d1 d2 d3 d4 d5 (suc k) zero a b c d m hk hn = absurd (omega (arith, hn))
-walks-four rows d0 d1 d2 d3 d4 d5 (suc k) (suc i) a b c d m hk hn =
-    let less : k ≡ suc k - 1 = omega arith in
-    let one_less : i ≡ suc i - 1 = omega arith in
-    let P : ℕ → ℕ → Type 0 = λ j p.
-    Walks j (square_in rows j (kid (get_or rows p no_row) 0)) d0 d1 a
-    → Walks j (square_in rows j (kid (get_or rows p no_row) 1)) d1 d2 b
-    → Walks j (square_in rows j (kid (get_or rows p no_row) 2)) d2 d3 c
-    → Walks j (square_in rows j (kid (get_or rows p no_row) 3)) d3 d4 d
-    → (number_row (row_of (suc k) a b c d) d4).rows ≡ d5 → (number_row (row_of (suc k) a b c d) d4).number ≡ m → Walks (suc k) (square_in rows (suc k) (suc i)) d0 d5 m in
-    let here : P k i = λ ha hb hc hd hr hm. subst (λ (t : Square). Walks (suc k) t d0 d5 m) (sym (square_in-row rows k i)) (walks-quadrants k _ _ _ _ d0 d1 d2 d3 d4 d5 a b c d m ha hb hc hd hr hm) in
-    subst (λ p. P (suc k - 1) p) one_less (subst (λ j. P j i) less here)
+walks-four rows d0 d1 d2 d3 d4 d5 k n a b c d m hk hn ha hb hc hd hr hm =
+    let up : suc (k - 1) ≡ k = omega arith in
+    let P : ℕ → Type 0 = λ j. (number_row (row_of j a b c d) d4).rows ≡ d5 →
+    (number_row (row_of j a b c d) d4).number ≡ m → Walks j (square_in rows j n) d0 d5 m in
+    let here : P (suc (k - 1)) = λ hr hm.
+    subst (λ (t : Square). Walks (suc (k - 1)) t d0 d5 m) (sym (square_in-number rows (k - 1) n hn))
+    (walks-quadrants (k - 1) _ _ _ _ d0 d1 d2 d3 d4 d5 a b c d m ha hb hc hd hr hm) in
+    subst P up here hr hm
 
 -- one more row is remembered
 pub remembers-more : (rows d0 d4 d5 : List SquareRow) (numbers : List (Option ℕ)) (k n m : ℕ) → 0 < k → 0 < n → IsNumber rows k n → Remembers rows d4 numbers → Grows d4 d5 → length d5 < 2 ^ 32 → Walks k (square_in rows k n) d0 d5 m

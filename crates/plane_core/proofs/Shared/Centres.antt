@@ -10,7 +10,7 @@ use Rattle.plane_core.specs.Rows.{row_at, kid, IsNumber, AreRows, square_in, roo
 use Rattle.plane_core.specs.Walks.{AreWalked}
 use Rattle.plane_core.specs.Centre.{cornered, centred, is_passed, is_alone, NoneEmpty, AreFilled, IsCorner, IsCentre}
 use Rattle.plane_core.proofs.Shared.Numbering.{Grows-more, Has-empty, Has-one}
-use Rattle.plane_core.proofs.Shared.Sound.{row_of, IsNumber-level, IsNumber-before, IsNumber-last, square_in-none, square_in-state, square_in-row, square_in-grown, AreRows-push, number-kid}
+use Rattle.plane_core.proofs.Shared.Sound.{square_in-number, row_of, IsNumber-level, IsNumber-before, IsNumber-last, square_in-none, square_in-state, square_in-row, square_in-grown, AreRows-push, number-kid}
 use Rattle.plane_core.proofs.Shared.Roots.{rooted, root-IsSquare, root-Fits, root_level-none, root_level-some, root-side, square_in-IsSquare}
 use Rattle.plane_core.proofs.Shared.Cells.{nw_of, ne_of, sw_of, se_of}
 use Rattle.plane_core.proofs.Shared.Tidy.{world-put}
@@ -27,12 +27,6 @@ state_in_one (four a b c d) = 0
 state_empty : (n : ℕ) → one n ≡ empty_square 0 → n ≡ 0
 unfolding empty_square state_in_one
 state_empty n e = ap state_in_one e
-
--- the square of a number above 0
-square_in-number : (rows : List SquareRow) (k n : ℕ) → 0 < n → square_in rows (suc k) n
-    ≡ four (square_in rows k (kid (row_at rows n) 0)) (square_in rows k (kid (row_at rows n) 1)) (square_in rows k (kid (row_at rows n) 2)) (square_in rows k (kid (row_at rows n) 3))
-square_in-number rows k zero h = absurd (omega (arith, h))
-square_in-number rows k (suc i) h = grind (arith, square_in-row)
 
 passed_square : (rows : List SquareRow) (k corner q inner n : ℕ) → (corner ≡ q → inner ≡ n) → is_passed corner q n ≡ true → square_in rows k n ≡ cond (corner == q) (square_in rows k inner) (empty_square k)
 passed_square rows k corner q inner n same h =

@@ -7,8 +7,13 @@ use Rattle.std.specs.List.{list_any, position_or_len}
 use Rattle.plane_core.specs.declared.row.SquareRow.{SquareRow}
 use Rattle.worlds.specs.Square.{Square, one, four, empty_square, IsSquare}
 use Rattle.plane_core.specs.Rows.{Numbered, numbered, number_row, number_square, same_row, same_kids, no_row, row_at, kid, IsNumber, IsRow, AreRows, square_in}
+use Rattle.plane_core.specs.Laid.{square_of}
 use Rattle.plane_core.specs.Walks.{Has, Walks}
 use Rattle.plane_core.proofs.Shared.Numbering.{Grows, Grows-more, Grows-then, RowHas, Has-grown, Has-four, Has-empty, RowHas-again, number_row-is, number_square-grows, same_row-is, not_found}
+
+-- what holds of each of four
+pub each_of_four : (P : ℕ → Type 0) → P 0 → P 1 → P 2 → P 3 → (q : ℕ) → q < 4 → P q
+each_of_four P a b c d q h = grind (arith)
 
 -- the row of a number of a level above 0
 pub IsNumber-level : (rows : List SquareRow) (k n : ℕ) → IsNumber rows (suc k) n → 0 < n → (n ≤ length rows) × ((row_at rows n).level ≡ suc k)
@@ -99,6 +104,12 @@ pub square_in-row : (rows : List SquareRow) (k i : ℕ) → square_in rows (suc 
     ≡ four (square_in rows k (kid (get_or rows i no_row) 0)) (square_in rows k (kid (get_or rows i no_row) 1)) (square_in rows k (kid (get_or rows i no_row) 2)) (square_in rows k (kid (get_or rows i no_row) 3))
 unfolding square_in
 square_in-row rows k i = refl
+
+-- the square of a number above 0
+pub square_in-number : (rows : List SquareRow) (k n : ℕ) → 0 < n →
+    square_in rows (suc k) n ≡ square_of rows k (row_at rows n).kids
+square_in-number rows k zero h = absurd (omega (arith, h))
+square_in-number rows k (suc i) h = grind (arith, square_in-row)
 
 -- the square of a number stays when rows come behind
 pub square_in-grown : (old new : List SquareRow) (k n : ℕ) → Grows old new → AreRows old → IsNumber old k n → square_in new k n ≡ square_in old k n

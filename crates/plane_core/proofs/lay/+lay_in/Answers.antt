@@ -5,7 +5,8 @@ use Rattle.worlds.specs.Lay.{lay}
 use Rattle.plane_core.specs.Part.{Shows}
 use Rattle.plane_core.specs.Laid.{quadrant_of}
 use Rattle.plane_core.proofs.Shared.Adding.{Keeps-none, Keeps-then}
-use Rattle.plane_core.proofs.Laying.{each_of_four, goes_on, laid-four, laid-quadrant}
+use Rattle.plane_core.proofs.Shared.Sound.{each_of_four}
+use Rattle.plane_core.proofs.Laying.{goes_on, laid-four, laid-quadrant}
 use Rattle.plane_core.proofs.lay.+lay_in.Goals as goal
 
 pub lay_in-requires : goal.lay_in-requires
