@@ -34,9 +34,7 @@ gathers-next b w q p r f g h some few is first next = record {
         | inl before ↦
             next.others x y (λ here. let e = (in_quadrant q p r some few is x y here).1 in absurd (omega (arith, before, e)))
             ∙ first.once x y (at.0, before) box live
-        | inr after ↦
-            next.once x y (of_quadrant q p r some few is x y at.0 (omega (arith, after, at.1))) box live
-            ∙ ap (λ n. n + 1) (first.others x y (λ here. absurd (omega (arith, after, here.1))))
+        | inr after ↦ grind (arith, of_quadrant)
       ];
   others = λ x y out.
       next.others x y (λ here. let at = in_quadrant q p r some few is x y here in let e = at.1 in out (at.0, omega arith))

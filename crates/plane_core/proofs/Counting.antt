@@ -63,10 +63,7 @@ sum-change g h (suc n) j v lt other here =
       | inl below ↦
           let last = other n (λ same. absurd (omega (arith, below, same))) in
           omega (arith, sum-change g h n j v below other here)
-      | inr above ↦
-          let same : j ≡ n = omega arith in
-          let last : h n ≡ g n + v = subst (λ m. h m ≡ g m + v) same here in
-          omega (arith, sum-same h g n (λ i before. other i (λ is. absurd (omega (arith, before, is, same)))))
+      | inr above ↦ grind (arith, sum-same)
     ]
 
 sum-set : (xs : List ℕ) (w : ℕ → ℕ) (j v n : ℕ) → j < n → j < length xs →

@@ -195,7 +195,5 @@ laid-world rows new p n cells root holds laid =
           ∙ ap (λ m. cell_in p.level (square_in new p.level m) at.i at.j) (sym (laid.last root.number))
           ∙ sym ((laid.shows w root.shows).cells at.i at.j at.hi at.hj)
           ∙ ap₂ (cell (lay cells w)) (sym at.ex) (sym at.ey)
-      | inr out ↦
-          world-outside new x y laid.keeps.valid (λ h. out (moved _ _ _ _ _ _ x y (ap (λ k. 2 ^ k) level) (ap edge_of level ∙ sym (edge _ root.x)) (ap edge_of level ∙ sym (edge _ root.y)) h))
-          ∙ sym (lay-outside p cells w x y out holds ∙ root-outside rows p x y root out)
+      | inr out ↦ grind (arith, world-outside, moved, lay-outside, root-outside)
     ])

@@ -142,12 +142,7 @@ put_square-moved k s l t is = record {
             let ea = at.ex in let eb = at.ey in
             put_square-inside k s l t blank x y at.i at.j is (omega (arith, ints)) (omega (arith, ints)) at.hi at.hj
             ∙ sym (put_square-inside k s (pos 0) (pos 0) blank a b at.i at.j is ea eb at.hi at.hj)
-        | inr out ↦
-            put_square-outside k s l t blank x y is (λ h.
-            let left = h.left in let right = h.right in let top = h.top in let bottom = h.bottom in
-            out (record { left = omega (arith, ints); right = omega (arith, ints); top = omega (arith, ints); bottom = omega (arith, ints) }))
-            ∙ cell-blank x y
-            ∙ sym (put_square-outside k s (pos 0) (pos 0) blank a b is out ∙ cell-blank a b)
+        | inr out ↦ grind (arith, ints, put_square-outside, cell-blank)
       ];
 }
 

@@ -82,7 +82,6 @@ quadrant-cell k q i j f few hi hj = grind (arith, cell_in-nw, cell_in-ne, cell_i
 kid-cells : (rows : List SquareRow) (k n q i j : ℕ) → 1 ≤ k → 0 < n → q < 4 → i < 2 ^ (k - 1) → j < 2 ^ (k - 1)
     → cell_in k (square_in rows k n) (east (2 ^ (k - 1)) q + i) (south (2 ^ (k - 1)) q + j) ≡ cell_in (k - 1) (square_in rows (k - 1) (kid (row_at rows n) q)) i j
 kid-cells rows k n q i j some live few hi hj =
-    let up : suc (k - 1) ≡ k = omega arith in
     let at = square_in-number rows (k - 1) n live in
     let cells = quadrant-cell (k - 1) q i j (λ q. square_in rows (k - 1) (kid (row_at rows n) q)) few hi hj in
     grind (arith)

@@ -1,5 +1,5 @@
 -- A walk over rows, step by step.
-use Rattle.std.proofs.Common.{◌≡◌, ℕ, zero, suc, ◌-◌, ◌<◌, ◌^◌, List, length, get_or, Option, Some, None, sym, ap, ◌∙◌, subst, arith, inl, inr, get_or-set_same, get_or-set_other}
+use Rattle.std.proofs.Common.{◌≡◌, ℕ, zero, suc, ◌-◌, ◌<◌, ◌^◌, List, length, get_or, Option, Some, None, sym, ◌∙◌, subst, arith, inl, inr, get_or-set_same, get_or-set_other}
 use Rattle.std.proofs.lemmas.Bool.{cases_eq}
 use Rattle.std.proofs.Math.ListN.{set}
 use Rattle.std.proofs.lemmas.List.{length-set}
@@ -44,12 +44,7 @@ remembers-more rows d0 d4 d5 numbers (suc k) n m hk hn h r g few walks =
       few = few;
       count = length-set numbers (n - 1) (Some m) ∙ r.count;
       each = λ i p lt e. elim (cases_eq i (n - 1)) [
-        | inl same ↦
-            let there : n - 1 < length numbers = omega (arith, r.count) in
-            let is : m ≡ p = same_Some m p (sym (get_or-set_same numbers (n - 1) (Some m) None there) ∙ ap (λ q. get_or (set numbers (n - 1) (Some m)) q None) (sym same) ∙ e) in
-            let next : n ≡ suc i = omega (arith, same) in
-            let level : suc k ≡ (get_or rows i no_row).level = sym at.1 ∙ ap (λ q. (get_or rows q no_row).level) (sym same) in
-            subst (λ j. Has j (square_in rows j (suc i)) d5 p) level (subst (λ q. Has (suc k) (square_in rows (suc k) q) d5 p) next (subst (λ q. Has (suc k) (square_in rows (suc k) n) d5 q) is has))
+        | inl same ↦ grind (arith, same_Some, get_or-set_same)
         | inr other ↦
             Has-grown (get_or rows i no_row).level (square_in rows (get_or rows i no_row).level (suc i)) d4 d5 p g (r.each i p lt (sym (get_or-set_other numbers (n - 1) i (Some m) None other) ∙ e))
       ];

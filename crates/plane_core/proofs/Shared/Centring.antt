@@ -91,9 +91,7 @@ root-world w k fits small =
           let at = offsets (2 ^ k) edge edge x y h in
           put_square-inside k t edge edge blank x y at.i at.j is at.ex at.ey at.hi at.hj
           ∙ square_at-cells w k edge edge at.i at.j at.hi at.hj ∙ ap₂ (cell w) (sym at.ex) (sym at.ey)
-      | inr out ↦
-          let dead : 0 < cell w x y → ⊥ = λ alive. out (fits x y alive) in
-          omega (arith, dead, put_square-outside k t edge edge blank x y is out, cell-blank x y)
+      | inr out ↦ grind (arith, put_square-outside, cell-blank)
     ])
 
 -- the quadrants of a centred square

@@ -200,7 +200,6 @@ pub next_measured : (rows : List SquareRow) (all : List Measures) (k : ℕ) (h :
     (placed (measures_in all k (kid (get_or rows (length all) no_row) 3)) h h))
 next_measured rows all k h valid known more ek eh =
     let i = length all in
-    let level : suc k ≡ (get_or rows i no_row).level = (let row = valid i more in omega (arith, row.low)) in
     let part = λ (q : ℕ) (hq : q < 4). kid_known rows all k q valid known more ek hq in
     let nw = part 0 (lit< tt) in let ne = part 1 (lit< tt) in let sw = part 2 (lit< tt) in let se = part 3 (lit< tt) in
     let is = IsSquare-parts k _ _ _ _ nw.square ne.square sw.square se.square in

@@ -7,7 +7,7 @@ use Rattle.std.specs.Prelude.{Result, IfOk}
 use Rattle.worlds.specs.World.{blank, cell-blank}
 use Rattle.plane_core.specs.declared.row.SquareRow.{SquareRow}
 use Rattle.worlds.specs.Square.{Square, one, four, empty_square, IsSquare, put_square}
-use Rattle.plane_core.specs.Rows.{Numbered, numbered, number_row, number_square, same_row, no_row, row_at, AreRows, square_in, root_level, root_of, edge_of, world_of_rows, IsLeastLevel, AreKept}
+use Rattle.plane_core.specs.Rows.{Numbered, numbered, number_row, number_square, same_row, no_row, AreRows, square_in, root_level, root_of, edge_of, world_of_rows, IsLeastLevel, AreKept}
 use Rattle.plane_core.specs.Walks.{AreWalked}
 use Rattle.plane_core.proofs.Shared.Numbering.{Has-empty, not_found}
 use Rattle.plane_core.proofs.Shared.Sound.{IsSound, EachHas-none, AreRows-none, number_square-sound, IsNumber-level, square_in-none, found_within, found_at, row_of}
@@ -93,23 +93,7 @@ listed k t is high =
     let r = number_square (suc k) t [] in
     let sound : IsSound (suc k) t r = number_square-sound (suc k) t [] AreRows-none EachHas-none is high in
     elim (cases_lt 0 r.number) [
-      | inl live ↦
-          let last : r.number ≡ length r.rows = number_square-last k t live is in
-          let at = IsNumber-level r.rows k r.number sound.number live in
-          let some : 0 < length r.rows = omega arith in
-          let level : root_level r.rows ≡ suc k = root_level-some r.rows some ∙ ap (λ n. (row_at r.rows n).level) (sym last) ∙ at.1 in
-          let square : square_in r.rows (suc k) (length r.rows) ≡ t = ap (square_in r.rows (suc k)) (sym last) ∙ sound.square in
-          record {
-            walked = record {
-              valid = sound.valid;
-              each = sound.each.has;
-              walked =
-                  ap (λ m. (number_square m (square_in r.rows m (length r.rows)) []).rows) level
-                  ∙ ap (λ (s : Square). (number_square (suc k) s []).rows) square;
-            };
-            world = world-put r.rows (suc k) t level square;
-            level = inl level;
-          }
+      | inl live ↦ grind (arith, number_square-last, IsNumber-level, root_level-some, world-put)
       | inr none ↦
           let zero_is : r.number ≡ 0 = omega arith in
           let t_empty : t ≡ empty_square (suc k) = sym sound.square ∙ ap (square_in r.rows (suc k)) zero_is ∙ square_in-none r.rows (suc k) in

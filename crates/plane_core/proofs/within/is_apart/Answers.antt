@@ -1,10 +1,8 @@
-use Rattle.std.proofs.Common.{◌^◌, sym, refl, ap, ◌∙◌, rules}
-use Rattle.plane_core.proofs.Parts.{moved}
+use Rattle.std.proofs.Common.{◌^◌, ap, ◌∙◌, rules}
 use Rattle.plane_core.proofs.within.is_apart.Goals as goal
 
 pub returns-clause-apart : goal.returns-clause-apart
 returns-clause-apart c = λ t x y h box.
-    let at = moved _ c.side-side.result _ _ _ _ x y (sym c.side-side.ensures.value) refl refl h in
     c.misses-2.ensures.apart t y (search rules) (search rules) (search rules) (search rules)
 
 pub returns-clause-near : goal.returns-clause-near
