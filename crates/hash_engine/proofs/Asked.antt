@@ -1,5 +1,5 @@
 -- Four by four cells by the numbers of their squares.
-use Rattle.std.proofs.Common.{◌≡◌, ℕ, ◌<◌, List, [], ◌∷◌, get_or, refl, sym, ◌∙◌, ap, subst}
+use Rattle.std.proofs.Common.{◌≡◌, ℕ, ◌<◌, List, [], ◌∷◌, get_or, refl, sym, ◌∙◌, ap, subst, arith}
 use Rattle.worlds.specs.Square.{Square, one, four}
 use Rattle.square_table.specs.Squares.{IsNumber, square_in, kids_at, IsSquareOf}
 use Rattle.hash_engine.specs.Standing.{StandsFor, of_four}
@@ -18,15 +18,7 @@ square_of_quadrants rows n = refl
 pub square_of_sixteen : (rows : List (List ℕ)) (n : ℕ) (ks a b c d : List ℕ) → ks ≡ kids_at rows n →
     a ≡ kids_at rows (get_or ks 0 0) → b ≡ kids_at rows (get_or ks 1 0) → c ≡ kids_at rows (get_or ks 2 0) → d ≡ kids_at rows (get_or ks 3 0) →
     square_in rows 2 n ≡ four (of_four a) (of_four b) (of_four c) (of_four d)
-square_of_sixteen rows n ks a b c d is is_a is_b is_c is_d =
-    let nw = square_of_states rows _ a is_a in
-    let ne = square_of_states rows _ b is_b in
-    let sw = square_of_states rows _ c is_c in
-    let se = square_of_states rows _ d is_d in
-    let made : four (square_in rows 1 (get_or ks 0 0)) (square_in rows 1 (get_or ks 1 0)) (square_in rows 1 (get_or ks 2 0)) (square_in rows 1 (get_or ks 3 0)) ≡ four (of_four a) (of_four b) (of_four c) (of_four d) = cc in
-    square_of_quadrants rows n
-    ∙ ap (λ ls. four (square_in rows 1 (get_or ls 0 0)) (square_in rows 1 (get_or ls 1 0)) (square_in rows 1 (get_or ls 2 0)) (square_in rows 1 (get_or ls 3 0))) (sym is)
-    ∙ made
+square_of_sixteen rows n ks a b c d is is_a is_b is_c is_d = grind (arith, square_of_quadrants, square_of_states)
 
 cell_stands : (rows : List (List ℕ)) (s : ℕ) → s < 256 → StandsFor rows 0 s (one s)
 unfolding IsNumber square_in

@@ -31,14 +31,12 @@ made_of {rows} {k} {n} {s} is = record { level = k; number = n; numbered = is.nu
 pub adds_result : (next : List ℕ → ℕ) (k generations : ℕ) (s : Square) {r : Square} {t u : Table} →
     r ≡ result next k generations s → Adds (r ∷ []) t u → (all : List Square) →
     Makes next k generations s (Contains all) → AreAmong all t.rows → AreAmong all u.rows
-adds_result next k generations s {r} {t} {u} is adds all way are =
-    let listed = subst (Contains all) (sym is) (Makes-result next k generations s (Contains all) way) in
-    adds.among all (All-cons (Contains all) r [] listed (All-nil (Contains all))) are
+adds_result next k generations s {r} {t} {u} is adds all way are = grind (arith, Makes-result, All-cons, All-nil)
 
 -- for no generation it is the middle
 pub middle_result : (next : List ℕ → ℕ) (k : ℕ) {generations : ℕ} (s : Square) → generations ≡ 0 →
     hash_life.middle s ≡ result next k generations s
-middle_result next k s none = sym (ap (λ g. result next k g s) none ∙ result-none next k s)
+middle_result next k s none = grind (arith, result-none)
 
 pub IsFound-none : {next : List ℕ → ℕ} {Counted : Type 0} {k generations n r : ℕ} {s : Square} {t u : Table} {memo : Memo} →
     generations ≡ 0 → Grows t u → StandsFor t.rows (suc (suc k)) n s → GivesOf hash_life.middle t n u r →
@@ -68,24 +66,21 @@ IsFound-put {next} {Counted} {generations} {n} {r} {s} {t} {u} {memo} some grows
 pub IsFound-then : {next : List ℕ → ℕ} {Counted Also : Type 0} {k generations n : ℕ} {s : Square} {u v : Table} {memo more : Memo} →
     Grows u v → (Also → Counted) → (Also → (q : Square) → IsPut u.rows memo.full.items q → IsPut v.rows more.full.items q) →
     IsFound next Counted k generations s u memo n → IsFound next Also k generations s v more n
-IsFound-then {next} {Counted} {Also} {k} {generations} {n} {s} {u} {v} {memo} {more} grows counts kept is = record {
-  square = StandsFor-grows u v (suc k) n _ grows is.square;
-  made = Makes-weaker next k generations s (IsMade u.rows) (IsMade v.rows) (λ q made. IsMade-grows u v q grows made) is.made;
-  put = λ also. Puts-weaker next k generations s (IsPut u.rows memo.full.items) (IsPut v.rows more.full.items) (kept also)
-      (is.put (counts also));
-}
+IsFound-then {next} {Counted} {Also} {k} {generations} {n} {s} {u} {v} {memo} {more} grows counts kept is =
+    grind (
+      arith,
+      StandsFor-grows u v (suc k) n,
+      Makes-weaker next k generations s (IsMade u.rows) (IsMade v.rows),
+      IsMade-grows u v,
+      Puts-weaker next k generations s (IsPut u.rows memo.full.items) (IsPut v.rows more.full.items),
+    )
 
 -- what is found is the result of the square in the table that it's found in
 pub IsResult-found : {next : List ℕ → ℕ} {Counted : Type 0} {k generations n r : ℕ} {t u : Table} {memo : Memo} →
     Grows t u → IsNumber t.rows (suc (suc k)) n → IsFound next Counted k generations (sought t k n) u memo r →
     IsResult next u.rows k generations n r
 IsResult-found {next} {Counted} {k} {generations} {n} {r} {t} {u} {memo} grows numbered is =
-    let same = sym (square_in-grows t u (suc (suc k)) n grows numbered) in
-    record {
-      numbered = IsNumber-grows t u (suc (suc k)) n grows numbered;
-      result = subst (λ s. StandsFor u.rows (suc k) r (result next k generations s)) same is.square;
-      made = subst (λ s. Makes next k generations s (IsMade u.rows)) same is.made;
-    }
+    grind (arith, IsNumber-grows t u (suc (suc k)) n grows, square_in-grows t u (suc (suc k)) n grows)
 
 -- where numbers stand for squares, what is found for them is of these
 pub StandForAll-found : {next : List ℕ → ℕ} {k generations : ℕ} {numbers found : List ℕ} {ss : List Square} {t u : Table}
@@ -105,13 +100,10 @@ StandForAll-found {next} {k} {generations} {numbers} {found} {ss} {t} {u} are fi
 module _ {rows : List (List ℕ)} {level : ℕ} {numbers : List ℕ} {ss : List Square} (are : StandForAll rows level numbers ss)
     (P : Square → Type 0) where
   pub by_number : All P ss → All (λ n. P (square_in rows level n)) numbers
-  by_number holds = λ i d below.
-      subst P (sym (are.each i d (one 0) below).square) (holds i (one 0) (omega (arith, below, are.count)))
+  by_number holds i d below = grind (arith, are.each i d (one 0), holds i (one 0))
 
   pub by_square : ((j d : ℕ) → j < length numbers → P (square_in rows level (get_or numbers j d))) → All P ss
-  by_square holds = λ i e below.
-      let there : i < length numbers = omega (arith, below, are.count) in
-      subst P (are.each i 0 e there).square (holds i 0 there)
+  by_square holds i e below = grind (arith, are.each i 0 e, holds i 0)
 
 -- above level 2 it is remembered
 module _ {next : List ℕ → ℕ} {k generations n r : ℕ} {t u : Table} {old mid new : Memo} (high : 0 < k) (grows : Grows t u)

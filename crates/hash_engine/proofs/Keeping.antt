@@ -1,5 +1,5 @@
 -- What a search keeps, step by step.
-use Rattle.std.proofs.Common.{ℕ, List, refl, ◌∙◌, subst}
+use Rattle.std.proofs.Common.{ℕ, List, refl, ◌∙◌, subst, arith}
 use Rattle.std.specs.Prelude.{Contains}
 use Rattle.worlds.specs.Square.{Square}
 use Rattle.square_table.specs.Squares.{Table, Grows}
@@ -8,6 +8,7 @@ use Rattle.hash_engine.specs.declared.memo.Memo.{Memo}
 use Rattle.hash_engine.specs.Memo.{IsRight}
 use Rattle.hash_engine.specs.Search.{Keeps}
 use Rattle.hash_engine.proofs.Growth.{◌⟫◌}
+use Rattle.square_table.proofs.Shared.Growth.{Grows-then}
 use Rattle.hash_engine.proofs.Shared.Memos.{IsRight-grows}
 
 -- the table alone grew
@@ -39,12 +40,7 @@ pub Keeps-then : {next mid new : List ℕ → ℕ} {c d e : ℕ} {Way Rest : (Sq
     {t u v : Table} {memo more : Memo} → Keeps next mid c d Way t u memo →
     ((all : List Square) → Way (Contains all) → Rest (Contains all)) → Keeps mid new d e Rest u v more →
     Keeps next new c e Way t v more
-Keeps-then {next} {mid} {new} {c} {d} {e} {Way} {Rest} {t} {u} {v} {memo} {more} keeps rest then = record {
-  rule = record { meaning = then.rule.meaning ∙ keeps.rule.meaning; states = then.rule.states ∙ keeps.rule.states };
-  grows = keeps.grows ⟫ then.grows;
-  right = subst (λ f. IsRight f v.rows more) keeps.rule.meaning then.right;
-  adds = λ all way are. then.adds all (rest all way) (keeps.adds all way are);
-}
+Keeps-then {next} {mid} {new} {c} {d} {e} {Way} {Rest} {t} {u} {v} {memo} {more} keeps rest then = grind (arith, Grows-then)
 
 -- and then more was remembered
 pub Keeps-noted : {next new : List ℕ → ℕ} {c d : ℕ} {Way : (Square → Type 0) → Type 0} {t u : Table} {memo : Memo}

@@ -11,10 +11,7 @@ use Rattle.hash_engine.specs.Asked.{picked}
 pub picked-same : (p q : ℕ → Bool) (n : ℕ) → ((i : ℕ) → i < n → p i ≡ q i) → picked p n ≡ picked q n
 unfolding picked
 picked-same p q zero same = refl
-picked-same p q (suc n) same =
-    let rest = picked-same p q n (λ i below. same i (omega (arith, below))) in
-    let here = same n (omega arith) in
-    cc
+picked-same p q (suc n) same = grind (arith, picked-same p q n)
 
 -- a test that no number from m on passes
 pub picked-none : (p : ℕ → Bool) (m n : ℕ) → m ≤ n → ((i : ℕ) → m ≤ i → i < n → p i ≡ false) → picked p n ≡ picked p m
@@ -29,8 +26,7 @@ picked-none p m (suc n) few none = elim (cases_eq m (suc n)) [
 ]
 
 longer : (b : Bool) (n : ℕ) (xs ys : List ℕ) → length xs ≡ suc (length ys) → length (cond b (n ∷ xs) xs) ≡ suc (length (cond b (n ∷ ys) ys))
-longer true n xs ys more = ap suc more
-longer false n xs ys more = more
+longer b n xs ys more = grind arith
 
 -- a test that one number more passes
 pub picked-more : (p q : ℕ → Bool) (j n : ℕ) → j < n → p j ≡ false → q j ≡ true → ((i : ℕ) → i ≢ j → p i ≡ q i) → length (picked q n) ≡ suc (length (picked p n))
@@ -50,8 +46,7 @@ picked-more p q j (suc n) below was is others = elim (cases_eq j n) [
 
 -- what holds of each number that passes
 All-cond : {X : Type 0} (P : X → Type 0) (f : ℕ → X) (b : Bool) (n : ℕ) (xs : List ℕ) → (b ≡ true → P (f n)) → All P (map f xs) → All P (map f (cond b (n ∷ xs) xs))
-All-cond P f true n xs here rest = All-cons P (f n) (map f xs) (here refl) rest
-All-cond P f false n xs here rest = rest
+All-cond P f b n xs here rest = grind (arith, All-cons)
 
 pub All-picked : {X : Type 0} (P : X → Type 0) (f : ℕ → X) (p : ℕ → Bool) (n : ℕ) → ((i : ℕ) → i < n → p i ≡ true → P (f i)) → All P (map f (picked p n))
 unfolding picked
@@ -77,8 +72,7 @@ Contains-picked f p (suc n) i below is = elim (cases_eq i n) [
 
 -- what differs for different numbers that pass
 different-cond : {X : Type 0} (f : ℕ → X) (b : Bool) (n : ℕ) (xs : List ℕ) → (b ≡ true → All (λ t. f n ≢ t) (map f xs)) → AllPairs (λ s t. s ≢ t) (map f xs) → AllPairs (λ s t. s ≢ t) (map f (cond b (n ∷ xs) xs))
-different-cond f true n xs here rest = AllPairs-cons (λ s t. s ≢ t) (f n) (map f xs) (here refl) rest
-different-cond f false n xs here rest = rest
+different-cond f b n xs here rest = grind (arith, AllPairs-cons)
 
 pub different-picked : {X : Type 0} (f : ℕ → X) (p : ℕ → Bool) (n : ℕ) → ((i j : ℕ) → j < i → i < n → p i ≡ true → p j ≡ true → f i ≢ f j) → AllPairs (λ s t. s ≢ t) (map f (picked p n))
 unfolding picked
@@ -90,8 +84,8 @@ different-picked f p (suc n) differ =
 -- one number more
 pub count-passed : (p : ℕ → Bool) (n : ℕ) → p n ≡ true → length (picked p (n + 1)) ≡ length (picked p n) + 1
 unfolding picked
-count-passed p n is = ap (λ m. length (picked p m)) (add-one n) ∙ ap (λ b. length (cond b (n ∷ picked p n) (picked p n))) is ∙ sym (add-one (length (picked p n)))
+count-passed p n is = simp add-one (grind arith)
 
 pub count-failed : (p : ℕ → Bool) (n : ℕ) → p n ≡ false → length (picked p (n + 1)) ≡ length (picked p n)
 unfolding picked
-count-failed p n is = ap (λ m. length (picked p m)) (add-one n) ∙ ap (λ b. length (cond b (n ∷ picked p n) (picked p n))) is
+count-failed p n is = simp add-one (grind arith)

@@ -32,20 +32,12 @@ was_number : (next : List ℕ → ℕ) (count : ℕ → ℕ) (t u : Table) (know
     IsNumber t.rows (suc (suc k)) (first_number + i)
 was_number next count t u known i k grows are some number =
     let h = are.right i some in
-    let then = IsNumber-grows t u (suc (suc h.0)) (first_number + i) grows h.1.numbered in
-    let level = one_level u.rows (suc (suc h.0)) (suc (suc k)) (first_number + i) then number in
-    subst (λ l. IsNumber t.rows l (first_number + i)) level h.1.numbered
+    grind (arith, IsNumber-grows t u (suc (suc h.0)), one_level u.rows (suc (suc h.0)) (suc (suc k)))
 
 pub IsPut-before : (next : List ℕ → ℕ) (t u : Table) (memo : Memo) (s : Square) → Grows t u → IsRight next t.rows memo →
     IsPut u.rows memo.full.items s → IsPut t.rows memo.full.items s
 IsPut-before next t u memo s grows right is =
-    let number = was_number next (λ k. 2 ^ k) t u memo.full.items is.place 0 grows right.full is.known is.numbered in
-    record {
-      place = is.place;
-      numbered = number;
-      known = is.known;
-      square = sym (square_in-grows t u 2 (first_number + is.place) grows number) ∙ is.square;
-    }
+    grind (arith, was_number next (λ k. 2 ^ k) t u memo.full.items is.place 0, square_in-grows)
 
 -- the ways to what is known
 ArePut-grows : (next : List ℕ → ℕ) (count : ℕ → ℕ) (t u : Table) (full known : List ℕ) → Grows t u →
@@ -70,11 +62,7 @@ pub recalled_put : (next : List ℕ → ℕ) (count : ℕ → ℕ) (rows : List 
     Puts next k generations (square_in rows (suc (suc k)) n) (IsPut rows full)
 recalled_put next count rows full known k generations n r asked high some is are number few =
     let place : first_number + (n - first_number) ≡ n = omega (arith, high) in
-    let there : 0 < get_or known (n - first_number) 0 = omega (arith, some, is) in
-    let at = subst (IsNumber rows (suc (suc k))) (sym place) number in
-    let puts = are (n - first_number) k there at (omega (arith, asked, few)) in
-    subst (λ g. Puts next k g (square_in rows (suc (suc k)) n) (IsPut rows full)) (sym asked)
-    (subst (λ m. Puts next k (count k) (square_in rows (suc (suc k)) m) (IsPut rows full)) place puts)
+    grind (arith, are (n - first_number) k)
 
 -- the table alone grew
 pub Asks-grown : {next : List ℕ → ℕ} {Way : (Square → Type 0) → Type 0} {t u : Table} {memo : Memo} {asks : ℕ} →
@@ -90,12 +78,7 @@ Asks-grown {next} {Way} {t} {u} {memo} {asks} grows right has = record {
 pub Asks-then : {next : List ℕ → ℕ} {Way Rest : (Square → Type 0) → Type 0} {t u v : Table} {old mid new : Memo} {a b c : ℕ} →
     Asks next Way t old a u mid b → ((all : List Square) → Way (Contains all) → Rest (Contains all)) →
     Asks next Rest u mid b v new c → Asks next Way t old a v new c
-Asks-then first rest then = record {
-  four = omega (arith, first.four, then.four);
-  has = then.has;
-  kept = λ s is. then.kept s (first.kept s is);
-  among = λ all way only. then.among all (rest all way) (first.among all way only);
-}
+Asks-then first rest then = grind arith
 
 pub Asks-next : {next : List ℕ → ℕ} {Way : (Square → Type 0) → Type 0} {t u v : Table} {old mid new : Memo} {a b c : ℕ} →
     Asks next Way t old a u mid b → Asks next Way u mid b v new c → Asks next Way t old a v new c
@@ -108,47 +91,33 @@ module _ (u : Table) {k generations n r : ℕ} {old new : Memo} (number : IsNumb
   place = omega (arith, above u.rows (suc k) n number)
 
   known_still : (i : ℕ) → 0 < get_or old.full.items i 0 → 0 < get_or new.full.items i 0
-  known_still i known = elim (cases_eq i (n - first_number)) [
-    | inl here ↦ elim (cases_eq generations (2 ^ k)) [
-      | inl by ↦ (let noted = (is.full by).here in let same = ap (λ j. get_or new.full.items j 0) here in omega (arith, noted, same, some))
-      | inr not ↦ (let same = ap (λ ks. get_or ks i 0) (is.other not) in omega (arith, same, known))
-    ]
-    | inr apart ↦ (let same = others k generations n r old new i is apart in omega (arith, same, known))
-  ]
+  known_still i known = grind (arith, cases_eq i (n - first_number), cases_eq generations (2 ^ k), others)
 
   pub put_still : (s : Square) → IsPut u.rows old.full.items s → IsPut u.rows new.full.items s
-  put_still s put = record { place = put.place; numbered = put.numbered; known = known_still put.place put.known; square = put.square }
+  put_still s put =
+      record { place = put.place; numbered = put.numbered; known = known_still put.place put.known; square = put.square }
 
   -- which results are the same, and which is the one
   which : (count : ℕ → ℕ) (known more : List ℕ) →
       (generations ≡ count k → (j : ℕ) → j ≢ n - first_number → get_or more j 0 ≡ get_or known j 0) →
       (generations ≢ count k → more ≡ known) → (i : ℕ) →
       (get_or more i 0 ≡ get_or known i 0) ⊎ ((i ≡ n - first_number) × (generations ≡ count k))
-  which count known more noted same i = elim (cases_eq generations (count k)) [
-    | inl by ↦ elim (cases_eq i (n - first_number)) [
-      | inl here ↦ inr (here, by)
-      | inr apart ↦ inl (noted by i apart)
-    ]
-    | inr not ↦ inl (ap (λ ks. get_or ks i 0) (same not))
-  ]
+  which count known more noted same i = grind (arith, cases_eq generations (count k), cases_eq i (n - first_number))
 
   module _ (next : List ℕ → ℕ) (way : Puts next k generations (sought u k n) (IsPut u.rows new.full.items)) where
     ArePut-noted : (count : ℕ → ℕ) (known more : List ℕ) →
         ((i : ℕ) → (get_or more i 0 ≡ get_or known i 0) ⊎ ((i ≡ n - first_number) × (generations ≡ count k))) →
         ArePut next count u.rows old.full.items known → ArePut next count u.rows new.full.items more
-    ArePut-noted count known more either are i l there at few = elim (either i) [
-      | inl same ↦
-          Puts-weaker next l (count l) _ (IsPut u.rows old.full.items) (IsPut u.rows new.full.items) put_still
-          (are i l (omega (arith, same, there)) at few)
-      | inr here ↦
-          let P = IsPut u.rows new.full.items in
-          let at_n : n ≡ first_number + i = omega (arith, place, here.0) in
-          let levels = one_level u.rows (suc (suc k)) (suc (suc l)) _ (subst (IsNumber u.rows (suc (suc k))) at_n number) at in
-          let level : k ≡ l = omega (arith, levels) in
-          subst (λ j. Puts next j (count j) (sought u j (first_number + i)) P) level
-          (subst (λ g. Puts next k g (sought u k (first_number + i)) P) here.1
-          (subst (λ m. Puts next k generations (sought u k m) P) at_n way))
-    ]
+    ArePut-noted count known more either are i l there at few =
+        grind (
+          arith,
+          either i,
+          are i l,
+          put_still,
+          place,
+          one_level u.rows (suc (suc k)) (suc (suc l)),
+          Puts-weaker next l (count l) (sought u l (first_number + i)) (IsPut u.rows old.full.items) (IsPut u.rows new.full.items),
+        )
 
     HasPut-noted : HasPut next u.rows old → HasPut next u.rows new
     HasPut-noted has = record {
@@ -180,14 +149,16 @@ module _ (u : Table) {k generations n r : ℕ} {old new : Memo} (number : IsNumb
 -- above level 2 it isn't one of a square that is put to the rule
 same_put : (u : Table) {k generations n r : ℕ} {old new : Memo} → 0 < k → IsNumber u.rows (suc (suc k)) n →
     IsRemembered k generations n r old new → (i : ℕ) → is_put u.rows new i ≡ is_put u.rows old i
-same_put u {k = zero} some number is i = absurd (omega (arith, some))
-same_put u {k = suc k} {generations} {n} {r} {old} {new} some number is i = elim (cases_eq i (n - first_number)) [
-  | inl here ↦
-      let place : n ≡ first_number + i = omega (arith, above u.rows (suc (suc k)) n number, here) in
-      let at = subst (IsNumber u.rows (suc (suc (suc k)))) place number in
-      is_put-more u.rows new k i at ∙ sym (is_put-more u.rows old k i at)
-  | inr apart ↦ is_put-agrees u.rows old new i (others (suc k) generations n r old new i is apart)
-]
+same_put u {k} {generations} {n} {r} {old} {new} some number is i =
+    grind (
+      arith,
+      cases_eq i (n - first_number),
+      above u.rows (suc k) n number,
+      is_put-more u.rows new (k - 1) i,
+      is_put-more u.rows old (k - 1) i,
+      is_put-agrees,
+      others k generations n r old new i is,
+    )
 
 pub Asks-higher : {next : List ℕ → ℕ} {Way : (Square → Type 0) → Type 0} {k generations n r a : ℕ} {u : Table} {old new : Memo} →
     0 < k → IsNumber u.rows (suc (suc k)) n → IsRemembered k generations n r old new → 0 < r →

@@ -15,8 +15,4 @@ below_some c (four nw ne sw se) is = below_some c nw is.0
 pub IsReady-root : (next : List ℕ → ℕ) (c : ℕ) → Keeps c next → (rows : List (List ℕ)) (level k generations n m : ℕ) →
     level ≡ suc (suc k) → m ≡ n → IsNumber rows level n → IsBelow c (square_in rows level n) → IsReady next c rows k generations m
 IsReady-root next c keeps rows level k generations n m is same numbered below =
-    let states = subst (λ l. IsBelow c (square_in rows l n)) is below in
-    subst (λ x. IsReady next c rows k generations x) (sym same) (record {
-      numbered = subst (λ l. IsNumber rows l n) is numbered;
-      below = Puts-below c next keeps (below_some c _ states) k generations _ states;
-    })
+    grind (arith, Puts-below c next keeps (below_some c (square_in rows level n) below) k generations (square_in rows level n))

@@ -1,5 +1,5 @@
 -- Numbers that stand for squares.
-use Rattle.std.proofs.Common.{◌≡◌, ℕ, zero, suc, ◌+◌, ◌<◌, ◌≤◌, List, [], ◌∷◌, length, get_or, refl, sym, ◌∙◌, ap, ap₂, subst, arith}
+use Rattle.std.proofs.Common.{◌≡◌, ℕ, zero, suc, ◌+◌, ◌<◌, ◌≤◌, List, [], ◌∷◌, length, get_or, refl, sym, ◌∙◌, ap, ap₂, subst, arith, drop, drop-cons, length-drop}
 use Rattle.worlds.specs.Square.{Square, one, four}
 use Rattle.square_table.specs.Squares.{Table, IsNumber, square_in, kids_at, kid_at, first_number, IsSquareOf, Grows, AreNumbers}
 use Rattle.square_table.proofs.Shared.Growth.{AreNumbers-quadrants, IsNumber-grows, square_in-grows, IsNumber-joined, square_in-joined}
@@ -27,10 +27,7 @@ pub StandsFor-itself : (rows : List (List ℕ)) (k n : ℕ) → IsNumber rows k 
 StandsFor-itself rows k n is = record { numbered = is; square = refl }
 
 pub StandsFor-grows : (t u : Table) (k n : ℕ) (s : Square) → Grows t u → StandsFor t.rows k n s → StandsFor u.rows k n s
-StandsFor-grows t u k n s grows is = record {
-  numbered = IsNumber-grows t u k n grows is.numbered;
-  square = square_in-grows t u k n grows is.numbered ∙ is.square;
-}
+StandsFor-grows t u k n s grows is = grind (arith, IsNumber-grows t u k n grows, square_in-grows t u k n grows)
 
 pub StandForAll-grows : (t u : Table) (k : ℕ) (ns : List ℕ) (ss : List Square) → Grows t u → StandForAll t.rows k ns ss → StandForAll u.rows k ns ss
 StandForAll-grows t u k ns ss grows are = record { count = are.count; each = λ j d e below. StandsFor-grows t u k _ _ grows (are.each j d e below) }
@@ -65,15 +62,7 @@ quadrants rows k n s is = record {
 pub StandsFor-joined : (rows : List (List ℕ)) (k : ℕ) (kids : List ℕ) (n : ℕ) (a b c d : Square) → IsSquareOf rows kids n →
     StandsFor rows k (get_or kids 0 0) a → StandsFor rows k (get_or kids 1 0) b → StandsFor rows k (get_or kids 2 0) c → StandsFor rows k (get_or kids 3 0) d →
     StandsFor rows (suc k) n (four a b c d)
-StandsFor-joined rows k kids n a b c d is nw ne sw se =
-    let e = nw.square in
-    let f = ne.square in
-    let g = sw.square in
-    let h = se.square in
-    record {
-      numbered = IsNumber-joined rows k kids n is (record { nw = nw.numbered; ne = ne.numbered; sw = sw.numbered; se = se.numbered });
-      square = square_in-joined rows k kids n is ∙ cc;
-    }
+StandsFor-joined rows k kids n a b c d is nw ne sw se = grind (arith, IsNumber-joined, square_in-joined)
 
 -- the square that four of an older table make
 pub joined_later : (t u : Table) (k : ℕ) (kids : List ℕ) (n : ℕ) (a b c d : Square) → Grows t u → IsSquareOf u.rows kids n →

@@ -33,8 +33,7 @@ module _ {next mid : List ℕ → ℕ} {c d k ahead i : ℕ} {olds news : List �
     (done : AreDone next k ahead i olds news t first u before) where
   numbered : IsNumber u.rows (suc (suc k)) (get_or news i 0)
   numbered =
-      subst (IsNumber u.rows (suc (suc k))) (sym (done.rest i 0 (omega arith)))
-      (IsNumber-grows t u (suc (suc k)) _ keeps.grows (can.ready i 0 below).numbered)
+      grind (arith, done.rest i 0, IsNumber-grows t u (suc (suc k)) (get_or olds i 0) keeps.grows, can.ready i 0)
 
   -- its cells are what they were
   same : (e : ℕ) → sought u k (get_or news i 0) ≡ sought t k (get_or olds i e)

@@ -14,6 +14,7 @@ use square_table::{SquareTable, TableFault};
 use worlds::{Around, Ask};
 
 /// The square of half the side in the middle.
+#[tactic(auto, unfolding(square_table::specs::Squares::IsNumber))]
 #[inline(never)]
 pub(crate) fn middle(table: &mut SquareTable<'_>, number: u32) -> Result<u32, TableFault>
     requires { (k : ℕ) × IsNumber table.old.rows (suc (suc k)) number }
@@ -32,6 +33,7 @@ pub(crate) fn middle(table: &mut SquareTable<'_>, number: u32) -> Result<u32, Ta
 
 /// The nine squares of half the side that overlap in a square, by rows. All that are made are looked
 /// for before the first is joined.
+#[tactic(auto, unfolding(square_table::specs::Squares::IsNumber))]
 pub(crate) fn nine(table: &mut SquareTable<'_>, number: u32) -> Result<[u32; 9], TableFault>
     requires { (k : ℕ) × IsNumber table.old.rows (suc (suc k)) number }
     ensures grows { Grows table.old table.new }
@@ -77,6 +79,7 @@ pub(crate) fn fours(table: &mut SquareTable<'_>, nine: [u32; 9]) -> Result<[u32;
 }
 
 // The states of a square of level 1.
+#[tactic(auto, unfolding(square_table::specs::Squares::IsNumber))]
 fn states(table: &SquareTable<'_>, number: u32) -> [u8; 4]
     requires { IsNumber table.now.rows 1 number }
     ensures { result ≡ kids_at table.now.rows number }
@@ -107,6 +110,7 @@ fn ask_four<Q: Ask>(rule: &mut Q, nw: [u8; 4], ne: [u8; 4], sw: [u8; 4], se: [u8
 }
 
 /// The four cells in the middle of a square of level 2 one generation later.
+#[tactic(auto, unfolding(square_table::specs::Squares::IsNumber))]
 pub(crate) fn later<Q: Ask>(
     table: &mut SquareTable<'_>,
     rule: &mut Q,

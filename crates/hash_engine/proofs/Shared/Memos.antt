@@ -15,17 +15,17 @@ use Rattle.hash_engine.proofs.Standing.{StandsFor-grows}
 
 IsResult-grows : (next : List ℕ → ℕ) (t u : Table) (k generations n r : ℕ) → Grows t u → IsResult next t.rows k generations n r → IsResult next u.rows k generations n r
 IsResult-grows next t u k generations n r grows is =
-    let same = square_in-grows t u (suc (suc k)) n grows is.numbered in
-    record {
-      numbered = IsNumber-grows t u (suc (suc k)) n grows is.numbered;
-      result = subst (λ s. StandsFor u.rows (suc k) r (result next k generations s)) (sym same) (StandsFor-grows t u (suc k) r _ grows is.result);
-      made = subst (λ s. Makes next k generations s (IsMade u.rows)) (sym same) (Makes-weaker next k generations _ (IsMade t.rows) (IsMade u.rows) (λ q here. IsMade-grows t u q grows here) is.made);
-    }
+    grind (
+      arith,
+      square_in-grows t u (suc (suc k)) n grows,
+      IsNumber-grows t u (suc (suc k)) n grows,
+      StandsFor-grows t u (suc k) r,
+      Makes-weaker next k generations,
+      IsMade-grows t u,
+    )
 
 AreKnown-grows : (next : List ℕ → ℕ) (count : ℕ → ℕ) (t u : Table) (known : List ℕ) → Grows t u → AreKnown next count t.rows known → AreKnown next count u.rows known
-AreKnown-grows next count t u known grows are = record {
-  right = λ i some. let h = are.right i some in (h.0, IsResult-grows next t u h.0 (count h.0) _ _ grows h.1);
-}
+AreKnown-grows next count t u known grows are = record { right = λ i some. let h = are.right i some in (h.0, IsResult-grows next t u h.0 (count h.0) _ _ grows h.1) }
 
 pub IsRight-grows : (next : List ℕ → ℕ) (t u : Table) (memo : Memo) → Grows t u → IsRight next t.rows memo → IsRight next u.rows memo
 IsRight-grows next t u memo grows right = record {
@@ -38,10 +38,5 @@ pub recalled : (next : List ℕ → ℕ) (count : ℕ → ℕ) (rows : List (Lis
     AreKnown next count rows known → IsNumber rows (suc (suc k)) n → IsResult next rows k generations n r
 recalled next count rows known k generations n r asked high some is are number =
     let place : first_number + (n - first_number) ≡ n = omega (arith, high) in
-    let there : 0 < get_or known (n - first_number) 0 = omega (arith, some, is) in
-    let h = are.right (n - first_number) there in
-    let found : IsResult next rows h.0 (count h.0) n (get_or known (n - first_number) 0) = subst (λ m. IsResult next rows h.0 (count h.0) m (get_or known (n - first_number) 0)) place h.1 in
-    let found_r : IsResult next rows h.0 (count h.0) n r = subst (λ v. IsResult next rows h.0 (count h.0) n v) is found in
-    let levels = one_level rows (suc (suc h.0)) (suc (suc k)) n found_r.numbered number in
-    let level : h.0 ≡ k = omega (arith, levels) in
-    subst (λ g. IsResult next rows k g n r) (sym asked) (subst (λ j. IsResult next rows j (count j) n r) level found_r)
+    let h = are.right (n - first_number) (omega (arith, some, is)) in
+    grind (arith, one_level rows (suc (suc h.0)) (suc (suc k)) n)

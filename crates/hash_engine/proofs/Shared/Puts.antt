@@ -48,10 +48,7 @@ two_of rows (suc k) n number four = let other = is_four-more rows k n number in 
 -- what is put to the rule is a square of level 2
 pub IsNumber-put : (next : List ℕ → ℕ) (rows : List (List ℕ)) (memo : Memo) (i : ℕ) → IsRight next rows memo → is_put rows memo i ≡ true → IsNumber rows 2 (first_number + i)
 unfolding is_put
-IsNumber-put next rows memo i right is =
-    let both = and_parts (is_four rows (first_number + i)) (nat_lt 0 (get_or memo.full.items i 0)) is in
-    let h = right.full.right i (ltb-true 0 (get_or memo.full.items i 0) both.1) in
-    two_of rows h.0 (first_number + i) h.1.numbered both.0
+IsNumber-put next rows memo i right is = grind (arith, right.full.right, and_parts, ltb-true, two_of)
 
 pub known-put : (rows : List (List ℕ)) (memo : Memo) (i : ℕ) → is_put rows memo i ≡ true → 0 < get_or memo.full.items i 0
 unfolding is_put
@@ -59,21 +56,16 @@ known-put rows memo i is = ltb-true 0 (get_or memo.full.items i 0) (and_parts (i
 
 -- a place with no row
 is_put-new : (next : List ℕ → ℕ) (rows more : List (List ℕ)) (memo : Memo) (i : ℕ) → IsRight next rows memo → length rows ≤ i → is_put more memo i ≡ false
-is_put-new next rows more memo i right new = elim (cases_lt 0 (get_or memo.full.items i 0)) [
-  | inl some ↦ (let h = right.full.right i some in let there = within rows (suc h.0) (first_number + i) h.1.numbered in absurd (omega (arith, there, new)))
-  | inr none ↦ is_put-none more memo i (omega (arith, none))
-]
+is_put-new next rows more memo i right new = grind (arith, right.full.right, within, is_put-none, cases_lt)
 
 by_level : (t u : Table) (memo : Memo) (k i : ℕ) → Grows t u → IsNumber t.rows (suc (suc k)) (first_number + i) → 0 < get_or memo.full.items i 0 → is_put u.rows memo i ≡ is_put t.rows memo i
-by_level t u memo zero i grows number some = is_put-two u.rows memo i (IsNumber-grows t u 2 (first_number + i) grows number) some ∙ sym (is_put-two t.rows memo i number some)
+by_level t u memo zero i grows number some =
+    grind (arith, is_put-two, IsNumber-grows t u 2 (first_number + i))
 by_level t u memo (suc k) i grows number some =
-    is_put-more u.rows memo k i (IsNumber-grows t u (suc (suc (suc k))) (first_number + i) grows number) ∙ sym (is_put-more t.rows memo k i number)
+    grind (arith, is_put-more, IsNumber-grows t u (suc (suc (suc k))) (first_number + i))
 
 is_put-grows : (next : List ℕ → ℕ) (t u : Table) (memo : Memo) (i : ℕ) → Grows t u → IsRight next t.rows memo → is_put u.rows memo i ≡ is_put t.rows memo i
-is_put-grows next t u memo i grows right = elim (cases_lt 0 (get_or memo.full.items i 0)) [
-  | inl some ↦ (let h = right.full.right i some in by_level t u memo h.0 i grows h.1.numbered some)
-  | inr none ↦ (let empty : get_or memo.full.items i 0 ≡ 0 = omega (arith, none) in is_put-none u.rows memo i empty ∙ sym (is_put-none t.rows memo i empty))
-]
+is_put-grows next t u memo i grows right = grind (arith, right.full.right, by_level, is_put-none, cases_lt)
 
 pub is_put-agrees : (rows : List (List ℕ)) (old new : Memo) (i : ℕ) → get_or new.full.items i 0 ≡ get_or old.full.items i 0 → is_put rows new i ≡ is_put rows old i
 unfolding is_put
@@ -91,7 +83,4 @@ count-grows next t u memo grows right =
 
 -- what is remembered elsewhere
 pub others : (k generations n r : ℕ) (old new : Memo) (i : ℕ) → IsRemembered k generations n r old new → i ≢ n - first_number → get_or new.full.items i 0 ≡ get_or old.full.items i 0
-others k generations n r old new i is other = elim (cases_eq generations (2 ^ k)) [
-  | inl full ↦ (is.full full).others i other
-  | inr part ↦ ap (λ known. get_or known i 0) (is.other part)
-]
+others k generations n r old new i is other = grind (arith, cases_eq generations (2 ^ k))

@@ -9,21 +9,6 @@ use Rattle.hash_engine.proofs.Standing.{is_there, quadrant_numbers}
 use Rattle.hash_engine.proofs.Adding.{Adds-made}
 use Rattle.hash_engine.proofs.parts.later.Goals as goal
 
-pub quadrants-requires : goal.quadrants-requires
-quadrants-requires g c = is_there _ 1 _ c.requires.numbered
-
-pub states-requires : goal.states-requires
-states-requires g c = (quadrant_numbers _ 1 _ _ c.quadrants.ensures c.requires.numbered).nw
-
-pub states-requires-2 : goal.states-requires-2
-states-requires-2 g c = (quadrant_numbers _ 1 _ _ c.quadrants.ensures c.requires.numbered).ne
-
-pub states-requires-3 : goal.states-requires-3
-states-requires-3 g c = (quadrant_numbers _ 1 _ _ c.quadrants.ensures c.requires.numbered).sw
-
-pub states-requires-4 : goal.states-requires-4
-states-requires-4 g c = (quadrant_numbers _ 1 _ _ c.quadrants.ensures c.requires.numbered).se
-
 pub ask_four-requires : goal.ask_four-requires
 ask_four-requires g c =
     let sixteen = square_of_sixteen c.args.table.now.rows c.args.number _ _ _ _ _ c.quadrants.ensures c.states.ensures c.states-2.ensures c.states-3.ensures c.states-4.ensures in
